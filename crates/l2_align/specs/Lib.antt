@@ -1,0 +1,4 @@
+pub mod Alignment
+pub mod Laws
+pub mod Runs
+pub mod Table

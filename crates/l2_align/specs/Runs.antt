@@ -1,0 +1,54 @@
+-- Runs of initial alignment control: the table folded over a list of inputs, the first input first.
+use Rattle.std.specs.Prelude.{◌≡◌, ◌≢◌, ℕ, ◌+◌, Bool, true, false, IsTrue, IsFalse, Option, Some, List, [], ◌∷◌, ◌++◌, ⊤}
+use Rattle.l2_align.specs.declared.align.State.{State}
+use Rattle.l2_align.specs.declared.signals.AlignIn.{AlignIn}
+use Rattle.l2_align.specs.declared.signals.AlignOut.{AlignOut}
+use Rattle.l2_align.specs.declared.signals.Monitor.{Monitor}
+use Rattle.l2_align.specs.declared.signals.Start.{Start}
+use Rattle.l2_align.specs.declared.signals.Timer.{Timer}
+use Rattle.l2_align.specs.Alignment.{Alignment, initial}
+use Rattle.l2_align.specs.Table.{row}
+
+-- the machine after these inputs
+abbrev pub after : Alignment → List AlignIn → Alignment
+after a [] = a
+after a (input ∷ inputs) = after (row a input).next inputs
+
+-- what the input is answered that follows these, the machine being new at first
+abbrev pub told_at : List AlignIn → AlignIn → AlignOut
+told_at past input = (row (after initial past) input).out
+
+-- T4 is started
+abbrev pub starts_t4 : Option Start → Bool
+starts_t4 (Some (Start.T4 _)) = true
+starts_t4 _ = false
+
+-- T4 runs on over these inputs: none of them is an abort, none stops T4 and none starts it
+abbrev pub RunsUnbroken : Alignment → List AlignIn → Type 0
+RunsUnbroken a [] = ⊤
+RunsUnbroken a (input ∷ inputs) =
+    (input ≢ AlignIn.Abort) × ((row a input).out.stop ≢ Some Timer.T4) × IsFalse (starts_t4 (row a input).out.start) × RunsUnbroken (row a input).next inputs
+
+-- T4 was started among these inputs, and after its last start no abort came
+pub record HasProved (a : Alignment) (inputs : List AlignIn) : Type 0 where
+  pub before : List AlignIn
+  pub starting : AlignIn
+  pub since : List AlignIn
+  pub split : inputs ≡ before ++ starting ∷ since
+  pub started : IsTrue (starts_t4 (row (after a before) starting).out.start)
+  pub unbroken : RunsUnbroken (row (after a before) starting).next since
+
+-- the machine is proving, and stays so over these inputs
+abbrev pub StaysProving : Alignment → List AlignIn → Type 0
+StaysProving a [] = a.state ≡ State.Proving
+StaysProving a (input ∷ inputs) = (a.state ≡ State.Proving) × StaysProving (row a input).next inputs
+
+-- an abort counts where it turns the monitor off; one that comes while another waits is ignored
+abbrev pub counted : AlignIn → Monitor → ℕ
+counted AlignIn.Abort Monitor.Off = 1
+counted _ _ = 0
+
+-- how many aborts count
+abbrev pub aborts_among : Alignment → List AlignIn → ℕ
+aborts_among a [] = 0
+aborts_among a (input ∷ inputs) = counted input (row a input).out.monitor + aborts_among (row a input).next inputs

@@ -1,0 +1,271 @@
+//! The machine: its state, and the rows of its table as the arms of one `match`.
+
+ghost use Rattle.std.specs.Prelude.{◌≡◌, true};
+ghost use Rattle.l2_align.specs.Alignment.{initial};
+ghost use Rattle.l2_align.specs.Table.{row, aborted, aligned, asking, fallen_back, first_proving, idle, nothing, proving, seeking, sending, shortened};
+
+use crate::signals::{AlignIn, AlignOut, End, Monitor, Send, Start, Status, Timer};
+use std::marker::Model;
+
+/// Where initial alignment stands (Q.703 7.3), as the contracts see it.
+#[derive(Clone, Copy, Debug, PartialEq, Eq)]
+pub enum State {
+    /// No alignment is under way.
+    Idle,
+    /// Nothing was heard from the far end yet.
+    NotAligned,
+    /// The far end is heard, and not known to be aligned.
+    Aligned,
+    /// Both ends are aligned, and the link is tried for errors.
+    Proving,
+}
+
+/// Initial alignment control of one end of a link: a state and four values. It's a few octets and takes no memory.
+#[derive(Debug, Drop)]
+pub struct Align {
+    state: State,
+    local: bool,
+    short: bool,
+    aborts: u8,
+    pending: bool,
+}
+
+impl Model for Align {
+    ghost use Rattle.l2_align.specs.Alignment.{Alignment};
+
+    ghost Value = { Alignment };
+
+    ghost view = { λ a. record {
+      state = a.state;
+      local = a.local;
+      short = a.short;
+      aborts = a.aborts;
+      pending = a.pending;
+    } };
+}
+
+// Q.703 7.4: a normal proving period, 2^16 octet times.
+const NORMAL_PROVING: u32 = 65_536;
+
+// Q.703 7.4: an emergency proving period, 2^12 octet times.
+const EMERGENCY_PROVING: u32 = 4_096;
+
+// Q.703 7.3: the abort at which alignment isn't possible.
+const LAST_ABORT: u8 = 5;
+
+// An ignored input's answer, on which the others build.
+const NOTHING: AlignOut = AlignOut {
+    send: None,
+    stop: None,
+    start: None,
+    monitor: Monitor::Keep,
+    end: None,
+};
+
+impl Align {
+    /// An idle machine, all values cleared.
+    pub fn new() -> Align
+        ensures { result ≡ initial }
+    {
+        Align {
+            state: State::Idle,
+            local: false,
+            short: false,
+            aborts: 0,
+            pending: false,
+        }
+    }
+
+    /// Carries out the row of the table for this state and this input, or ignores it where there is none
+    /// (Q.703 7.3).
+    pub fn input(&mut self, event: AlignIn) -> AlignOut
+        ensures out { result ≡ (row self.old event).out }
+        ensures next { self.new ≡ (row self.old event).next }
+    {
+        match (self.state, event) {
+            (State::Idle, AlignIn::Emergency) => self.note_emergency(),
+            (State::Idle, AlignIn::Start) => self.seek(),
+            (State::NotAligned, AlignIn::Emergency) => self.note_emergency(),
+            (State::NotAligned, AlignIn::Heard(Status::OutOfAlignment | Status::Normal)) => {
+                self.align(self.local)
+            }
+            (State::NotAligned, AlignIn::Heard(Status::Emergency)) => self.align(true),
+            (State::NotAligned, AlignIn::T2) => self.go_idle(Timer::T2, Some(End::NotPossible)),
+            (State::Aligned, AlignIn::Emergency) => self.ask_emergency(),
+            (State::Aligned, AlignIn::Heard(Status::Normal)) => self.leave_aligned(self.short),
+            (State::Aligned, AlignIn::Heard(Status::Emergency)) => self.leave_aligned(true),
+            (State::Aligned, AlignIn::Heard(Status::OutOfService) | AlignIn::T3) => {
+                self.go_idle(Timer::T3, Some(End::NotPossible))
+            }
+            (State::Proving, AlignIn::Emergency) => self.turn_to_emergency(),
+            (State::Proving, AlignIn::Heard(Status::Emergency)) => self.shorten(),
+            (State::Proving, AlignIn::Heard(Status::OutOfAlignment)) => self.fall_back(),
+            (State::Proving, AlignIn::Heard(Status::OutOfService)) => {
+                self.go_idle(Timer::T4, Some(End::NotPossible))
+            }
+            (State::Proving, AlignIn::Abort) if !self.pending => self.count_abort(),
+            (State::Proving, AlignIn::Good) if self.pending => self.prove(),
+            (State::Proving, AlignIn::T4) if self.pending => self.prove(),
+            (State::Proving, AlignIn::T4) => self.go_idle(Timer::T4, Some(End::Complete)),
+            (State::NotAligned, AlignIn::Stop) => self.go_idle(Timer::T2, None),
+            (State::Aligned, AlignIn::Stop) => self.go_idle(Timer::T3, None),
+            (State::Proving, AlignIn::Stop) => self.go_idle(Timer::T4, None),
+            _ => NOTHING,
+        }
+    }
+
+    // Emergency was asked for before anything was heard.
+    fn note_emergency(&mut self) -> AlignOut
+        ensures out { result ≡ nothing }
+        ensures next { self.new ≡ record self.old { local = true } }
+    {
+        self.local = true;
+        NOTHING
+    }
+
+    // From Idle: SIO goes out until something is heard.
+    fn seek(&mut self) -> AlignOut
+        ensures out { result ≡ (seeking self.old).out }
+        ensures next { self.new ≡ (seeking self.old).next }
+    {
+        self.state = State::NotAligned;
+        AlignOut {
+            send: Some(Send::OutOfAlignment),
+            start: Some(Start::T2),
+            ..NOTHING
+        }
+    }
+
+    // From NotAligned: the far end was heard.
+    fn align(&mut self, short: bool) -> AlignOut
+        ensures out { result ≡ (aligned (record self.old { short = short })).out }
+        ensures next { self.new ≡ (aligned (record self.old { short = short })).next }
+    {
+        self.state = State::Aligned;
+        self.short = short;
+        AlignOut {
+            send: Some(if self.local {
+                Send::Emergency
+            } else {
+                Send::Normal
+            }),
+            stop: Some(Timer::T2),
+            start: Some(Start::T3),
+            ..NOTHING
+        }
+    }
+
+    // Emergency was asked for while aligned.
+    fn ask_emergency(&mut self) -> AlignOut
+        ensures out { result ≡ (asking self.old).out }
+        ensures next { self.new ≡ (asking self.old).next }
+    {
+        self.local = true;
+        self.short = true;
+        AlignOut {
+            send: Some(Send::Emergency),
+            ..NOTHING
+        }
+    }
+
+    // From Aligned: the first proving period.
+    fn leave_aligned(&mut self, short: bool) -> AlignOut
+        ensures out { result ≡ (first_proving (record self.old { short = short })).out }
+        ensures next { self.new ≡ (first_proving (record self.old { short = short })).next }
+    {
+        self.short = short;
+        self.aborts = 0;
+        AlignOut {
+            stop: Some(Timer::T3),
+            ..self.prove()
+        }
+    }
+
+    // Emergency was asked for while proving.
+    fn turn_to_emergency(&mut self) -> AlignOut
+        ensures out { result ≡ (sending Send.Emergency (shortened (record self.old { local = true }))).out }
+        ensures next { self.new ≡ (shortened (record self.old { local = true })).next }
+    {
+        self.local = true;
+        AlignOut {
+            send: Some(Send::Emergency),
+            ..self.shorten()
+        }
+    }
+
+    // The proving period becomes that of emergency, if it isn't yet.
+    fn shorten(&mut self) -> AlignOut
+        ensures out { result ≡ (shortened self.old).out }
+        ensures next { self.new ≡ (shortened self.old).next }
+    {
+        if self.short {
+            return NOTHING;
+        }
+        self.short = true;
+        self.prove()
+    }
+
+    // The far end lost its alignment.
+    fn fall_back(&mut self) -> AlignOut
+        ensures out { result ≡ (fallen_back self.old).out }
+        ensures next { self.new ≡ (fallen_back self.old).next }
+    {
+        self.state = State::Aligned;
+        self.pending = false;
+        AlignOut {
+            stop: Some(Timer::T4),
+            start: Some(Start::T3),
+            monitor: Monitor::Off,
+            ..NOTHING
+        }
+    }
+
+    // The monitor broke off the proving period.
+    fn count_abort(&mut self) -> AlignOut
+        ensures out { result ≡ (aborted self.old).out }
+        ensures next { self.new ≡ (aborted self.old).next }
+    {
+        if self.aborts >= LAST_ABORT - 1 {
+            return self.go_idle(Timer::T4, Some(End::NotPossible));
+        }
+        self.aborts += 1;
+        self.pending = true;
+        AlignOut {
+            monitor: Monitor::Off,
+            ..NOTHING
+        }
+    }
+
+    // A proving period begins, the first or anew.
+    fn prove(&mut self) -> AlignOut
+        ensures out { result ≡ (proving self.old).out }
+        ensures next { self.new ≡ (proving self.old).next }
+    {
+        self.state = State::Proving;
+        self.pending = false;
+        let (octet_times, monitor) = if self.short {
+            (EMERGENCY_PROVING, Monitor::Emergency)
+        } else {
+            (NORMAL_PROVING, Monitor::Normal)
+        };
+        AlignOut {
+            start: Some(Start::T4 { octet_times }),
+            monitor,
+            ..NOTHING
+        }
+    }
+
+    // Every way back to Idle: all values are cleared.
+    fn go_idle(&mut self, running: Timer, end: Option<End>) -> AlignOut
+        ensures out { result ≡ (idle running end).out }
+        ensures next { self.new ≡ (idle running end).next }
+    {
+        *self = Align::new();
+        AlignOut {
+            stop: Some(running),
+            monitor: Monitor::Off,
+            end,
+            ..NOTHING
+        }
+    }
+}

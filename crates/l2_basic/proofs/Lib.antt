@@ -1,0 +1,4 @@
+pub mod Bits
+pub mod Line
+pub mod Runs
+pub mod Way

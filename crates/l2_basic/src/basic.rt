@@ -1,0 +1,217 @@
+//! The control: what is sent next, and what a heard unit does.
+ghost use Rattle.std.specs.Prelude.{◌≡◌};
+ghost use Rattle.l2_basic.specs.Basic.{has_abnormal_bsn};
+
+use l2_units::Header;
+use l2_window::{ControlFault, HeardPart, Sending, Window, number_after};
+use std::marker::Model;
+
+/// Basic error control of one end, in one life of its link.
+///
+/// Contracts see the FSN last accepted, the indicator bits sent, whether a retransmission was asked
+/// for, the cursor, and of the last two units whether their BSN or FIB was abnormal.
+#[derive(Debug, Drop)]
+pub struct Basic {
+    /// The FSN last accepted, below 128: the BSN of each unit sent.
+    accepted: u8,
+    bib: bool,
+    fib: bool,
+    /// No unit came whose FIB is the BIB since a retransmission was asked for.
+    asked: bool,
+    /// The place of the unacknowledged message that is due; all before it need no sending now.
+    cursor: usize,
+    /// Whether the last unit heard, and the one before it, had an abnormal BSN; `fibs` likewise.
+    bsns: (bool, bool),
+    fibs: (bool, bool),
+}
+
+impl Model for Basic {
+    ghost use Rattle.std.specs.Prelude.{◌<◌};
+    ghost use Rattle.l2_basic.specs.Basic.{BasicState};
+
+    ghost Value = { BasicState };
+
+    ghost view = { λ b. record { accepted = b.accepted; bib = b.bib; fib = b.fib; asked = b.asked; cursor = b.cursor; bsns = b.bsns; fibs = b.fibs } };
+
+    ghost invariant = { λ b. b.accepted < 128 };
+}
+
+impl Basic {
+    ghost use Rattle.std.specs.Prelude.{◌≡◌, ◌-◌, ◌<◌, ◌&&◌, not, if◌then◌else◌};
+    ghost use Rattle.l2_basic.specs.Basic.{start, same, told_fault, is_repeated, is_successor, IsHead, IsNext, Hears};
+
+    /// The control at the beginning of a link's life: FSN 127 counts as accepted, both indicator
+    /// bits are 1 (Q.703 5.2.1).
+    pub fn new() -> Basic
+        ensures { result ≡ start }
+    {
+        Basic {
+            accepted: 127,
+            bib: true,
+            fib: true,
+            asked: false,
+            cursor: 0,
+            bsns: (false, false),
+            fibs: (false, false),
+        }
+    }
+
+    /// The FSN last accepted, 0 to 127; 127 at the beginning.
+    pub fn accepted(&self) -> u8
+        ensures value { result ≡ self.now.accepted }
+        ensures in_range { result < 128 }
+    {
+        self.accepted
+    }
+
+    /// What is sent next: a message that waits for retransmission, else the first unsent one where
+    /// fewer than 127 are unacknowledged, else a FISU.
+    pub fn next(&mut self, window: &mut Window) -> Sending
+        ensures { IsNext self.old self.new window.old window.new result }
+    {
+        if let Some(number) = window.unacked_at(self.cursor) {
+            let head = self.head(number_after(window.last(), self.cursor + 1));
+            self.cursor += 1;
+            return Sending::Message { number, head };
+        }
+        match window.send() {
+            Ok((number, fsn)) => {
+                self.cursor = window.unacked_len();
+                Sending::Message {
+                    number,
+                    head: self.head(fsn),
+                }
+            }
+            Err(_) => Sending::Fill {
+                head: self.head(number_after(window.last(), window.unacked_len())),
+            },
+        }
+    }
+
+    /// The header of a unit with this FSN.
+    fn head(&self, fsn: u8) -> Header
+        requires { fsn < 128 }
+        ensures { IsHead self.now fsn result }
+    {
+        Header {
+            bsn: self.accepted,
+            bib: self.bib,
+            fsn,
+            fib: self.fib,
+        }
+    }
+
+    /// What a heard unit with this header does; `is_msu` tells an MSU from a FISU.
+    ///
+    /// A unit with an abnormal BSN or FIB does nothing, but the second within three units is told
+    /// as a fault.
+    pub fn heard(&mut self, window: &mut Window, head: Header, is_msu: bool) -> HeardPart
+        ensures { Hears head is_msu self.old self.new window.old window.new result }
+    {
+        let abnormal_bsn = is_abnormal_bsn(window, head);
+        let abnormal_fib = self.is_abnormal_fib(abnormal_bsn, head);
+        let fault = self.told(abnormal_bsn, abnormal_fib);
+        if abnormal_bsn || abnormal_fib {
+            return HeardPart {
+                acked: 0,
+                accept: false,
+                asked: false,
+                resend: false,
+                fault,
+            };
+        }
+        let acked = match window.ack(head.bsn) {
+            Ok(acked) => acked,
+            Err(_) => unreachable!(),
+        };
+        let resend = self.answer(acked, head.bib);
+        let (accept, asked) = self.take(head, is_msu);
+        HeardPart {
+            acked,
+            accept,
+            asked,
+            resend,
+            fault,
+        }
+    }
+
+    /// Whether the FIB, of a unit whose BSN is or isn't abnormal, begins a retransmission that
+    /// nobody asked for (Q.703 5.3.2).
+    fn is_abnormal_fib(&self, abnormal_bsn: bool, head: Header) -> bool
+        ensures { result ≡ (not abnormal_bsn && (not (same head.fib self.now.bib) && not self.now.asked)) }
+    {
+        !abnormal_bsn && head.fib != self.bib && !self.asked
+    }
+
+    /// Remembers whether the unit's BSN or FIB is abnormal. The second abnormal one of a kind in
+    /// three consecutive units is a fault (Q.703 5.3.1, 5.3.2).
+    fn told(&mut self, abnormal_bsn: bool, abnormal_fib: bool) -> Option<ControlFault>
+        ensures fault { result ≡ told_fault abnormal_bsn abnormal_fib self.old }
+        ensures state { self.new ≡ record self.old { bsns = (abnormal_bsn, self.old.bsns.0); fibs = (abnormal_fib, self.old.fibs.0) } }
+    {
+        let second_bsn = abnormal_bsn && (self.bsns.0 || self.bsns.1);
+        let second_fib = abnormal_fib && (self.fibs.0 || self.fibs.1);
+        self.bsns = (abnormal_bsn, self.bsns.0);
+        self.fibs = (abnormal_fib, self.fibs.0);
+        if second_bsn {
+            return Some(ControlFault::Bsn);
+        }
+        second_fib.then_some(ControlFault::Fib)
+    }
+
+    /// What so many acknowledged messages and the BIB heard mean for retransmission: whether one
+    /// starts (Q.703 5.3.1, 5.3.2).
+    fn answer(&mut self, acked: u8, bib: bool) -> bool
+        ensures resend { result ≡ not (same bib self.old.fib) }
+        ensures state { self.new ≡ record self.old {
+          fib = (if result then bib else self.old.fib);
+          cursor = (if result then 0 else self.old.cursor - acked);
+        } }
+    {
+        if bib != self.fib {
+            self.fib = bib;
+            self.cursor = 0;
+            return true;
+        }
+        self.cursor = self.cursor.saturating_sub(usize::from(acked));
+        false
+    }
+
+    /// Signal unit sequence control (Q.703 5.2.2): whether the unit is accepted, and whether a
+    /// retransmission is asked for.
+    fn take(&mut self, head: Header, is_msu: bool) -> (bool, bool)
+        ensures accept { result.0 ≡ (same head.fib self.old.bib && (is_msu && is_successor self.old head)) }
+        ensures asked { result.1 ≡ (same head.fib self.old.bib
+            && (not (is_repeated self.old head) && not (is_msu && is_successor self.old head))) }
+        ensures state { self.new ≡ record self.old {
+          accepted = (if result.0 then head.fsn else self.old.accepted);
+          bib = (if result.1 then not self.old.bib else self.old.bib);
+          asked = (if same head.fib self.old.bib then result.1 else self.old.asked);
+        } }
+    {
+        // 5.2.2: sent before the far end heard what was asked of it.
+        if head.fib != self.bib {
+            return (false, false);
+        }
+        self.asked = false;
+        if head.fsn == self.accepted {
+            return (false, false);
+        }
+        if is_msu && head.fsn == number_after(self.accepted, 1) {
+            self.accepted = head.fsn;
+            return (true, false);
+        }
+        // 5.2.4: a negative acknowledgement.
+        self.bib = !self.bib;
+        self.asked = true;
+        (false, true)
+    }
+}
+
+/// Whether the BSN is neither the number last acknowledged nor that of an unacknowledged message
+/// (Q.703 5.3.1).
+fn is_abnormal_bsn(window: &Window, head: Header) -> bool
+    ensures { result ≡ has_abnormal_bsn window.now head }
+{
+    window.distance(head.bsn).is_none()
+}

@@ -1,0 +1,3 @@
+pub mod BitLemmas
+pub mod DivisionLemmas
+pub mod SealedTextLemmas

@@ -1,0 +1,4 @@
+pub mod LineBits
+pub mod CheckBits
+pub mod Register
+pub mod SealedText

@@ -1,0 +1,4 @@
+pub mod Lasting
+pub mod Rows
+pub mod Running
+pub mod Sending

@@ -1,0 +1,5 @@
+pub mod Values
+pub mod Table
+pub mod Runs
+pub mod Since
+pub mod Laws

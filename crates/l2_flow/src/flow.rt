@@ -1,0 +1,86 @@
+ghost use Rattle.std.specs.Prelude.{◌≡◌, if◌then◌else◌};
+ghost use Rattle.l2_flow.specs.Values.{cleared};
+ghost use Rattle.l2_flow.specs.Table.{row_of};
+
+use crate::input::FlowIn;
+use crate::output::TimerAct::{Keep, Start, Stop};
+use crate::output::{Failure, FlowOut, TimerAct};
+use std::marker::Model;
+
+/// Flow control of one link: which ends are busy, and whether T7 runs.
+#[derive(Debug, Drop)]
+pub struct Flow {
+    busy: bool,
+    far_busy: bool,
+    t7_runs: bool,
+}
+
+impl Model for Flow {
+    ghost use Rattle.l2_flow.specs.Values.{Values};
+
+    ghost Value = { Values };
+
+    ghost view = { λ f. record { busy = f.busy; far_busy = f.far_busy; t7_runs = f.t7_runs } };
+}
+
+impl Flow {
+    /// No end is busy and no timer runs.
+    pub fn new() -> Self
+        ensures { result ≡ cleared }
+    {
+        Flow {
+            busy: false,
+            far_busy: false,
+            t7_runs: false,
+        }
+    }
+
+    /// Carries out the row of the table at the head of the crate; an input without a row is ignored.
+    pub fn input(&mut self, input: FlowIn) -> FlowOut
+        ensures tells { result ≡ (row_of self.old input).out }
+        ensures leaves { self.new ≡ (row_of self.old input).next }
+    {
+        match input {
+            FlowIn::Busy if !self.busy => {
+                self.busy = true;
+                FlowOut::SEND_BUSY
+            }
+            FlowIn::Ease if self.busy => {
+                self.busy = false;
+                FlowOut::timers(Stop, Keep, Keep)
+            }
+            FlowIn::T5 if self.busy => FlowOut::SEND_BUSY,
+            FlowIn::HeardBusy => {
+                // Q.703 9.3: the first B alone starts T6, each starts T7 anew.
+                let t6 = started_if(!self.far_busy);
+                self.far_busy = true;
+                FlowOut::timers(Keep, t6, started_if(self.t7_runs))
+            }
+            FlowIn::Acked { more } => {
+                self.far_busy = false;
+                self.t7_runs = more;
+                FlowOut::timers(Keep, Stop, if more { Start } else { Stop })
+            }
+            FlowIn::Sent if !self.t7_runs => {
+                self.t7_runs = true;
+                FlowOut::timers(Keep, Keep, Start)
+            }
+            FlowIn::T6 => FlowOut::failed(Failure::T6),
+            FlowIn::T7 => FlowOut::failed(Failure::T7),
+            FlowIn::Reset => {
+                *self = Flow::new();
+                FlowOut::timers(Stop, Stop, Stop)
+            }
+            FlowIn::Busy | FlowIn::Ease | FlowIn::T5 | FlowIn::Sent => {
+                FlowOut::timers(Keep, Keep, Keep)
+            }
+        }
+    }
+}
+
+/// A timer that is started on a condition, and else left alone.
+fn started_if(condition: bool) -> TimerAct
+    ensures { result ≡ (if condition then TimerAct.Start else TimerAct.Keep) }
+{
+    if condition { Start } else { Keep }
+}

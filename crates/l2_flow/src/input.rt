@@ -1,0 +1,23 @@
+/// What flow control is told.
+#[derive(Clone, Copy, Debug, PartialEq, Eq)]
+pub enum FlowIn {
+    /// This end is busy: it withholds its acknowledgements.
+    Busy,
+    /// This end is no longer busy.
+    Ease,
+    /// T5 has ended.
+    T5,
+    /// A status indication B (busy) was received.
+    HeardBusy,
+    /// A received unit acknowledged a message or asked for retransmission (own). `more`: unacknowledged
+    /// messages are left.
+    Acked { more: bool },
+    /// A message signal unit was sent.
+    Sent,
+    /// T6 has ended.
+    T6,
+    /// T7 has ended.
+    T7,
+    /// The link has left service, or begins anew.
+    Reset,
+}

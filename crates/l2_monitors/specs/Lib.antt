@@ -1,0 +1,3 @@
+pub mod Marks
+pub mod Suerm
+pub mod Aerm

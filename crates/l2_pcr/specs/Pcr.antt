@@ -1,0 +1,121 @@
+-- Error control by preventive cyclic retransmission (Q.703 6), over the lists of a window.
+use Rattle.std.specs.Prelude.{◌≡◌, ◌≢◌, ℕ, ◌+◌, ◌-◌, ◌%◌, ◌<◌, ◌≤◌, Bool, true, false, not, ◌&&◌, ◌||◌, ◌==◌, nat_lt, nat_le, if◌then◌else◌, Some, None, [], drop, length, slice_get}
+use Rattle.l2_units.specs.declared.unit.Header.{Header}
+use Rattle.l2_window.specs.Window.{WindowState, Sends, fsn_at, last_fsn, distance_to}
+use Rattle.l2_window.specs.Control.{IsMessageAnd, IsFillAnd}
+use Rattle.l2_window.specs.declared.control.Sending.{Sending}
+use Rattle.l2_window.specs.declared.control.HeardPart.{HeardPart}
+use Rattle.l2_window.specs.declared.control.ControlFault.TheVariants.{Bsn}
+
+-- what contracts see of one end's control, beside its window
+pub record PcrState : Type 0 where
+  -- so many unacknowledged messages, or so many octets of them, force a retransmission (6.4.2)
+  pub n1 : ℕ
+  pub n2 : ℕ
+  -- the FSN last accepted: it is sent as BSN
+  pub accepted : ℕ
+  -- the place of the unacknowledged message that is next in the cycle
+  pub place : ℕ
+  -- a forced cycle goes on
+  pub forced : Bool
+  -- whether the last unit heard, and the one before it, had an abnormal BSN
+  pub bsns : Bool × Bool
+
+-- at the beginning of a link's life
+abbrev pub start : ℕ → ℕ → PcrState
+start n1 n2 = record {
+  n1 = n1;
+  n2 = n2;
+  accepted = 127;
+  place = 0;
+  forced = false;
+  bsns = (false, false);
+}
+
+-- the header of each unit sent: the BSN is the FSN last accepted, the indicator bits are always 1 (6)
+pub record IsHead (state : PcrState) (number : ℕ) (head : Header) : Type 0 where
+  pub bsn : head.bsn ≡ state.accepted
+  pub bib : head.bib ≡ true
+  pub fsn : head.fsn ≡ number
+  pub fib : head.fib ≡ true
+
+-- What is sent next.
+
+-- a place in the cycle of so many messages: past the last comes the first
+abbrev pub round : ℕ → ℕ → ℕ
+round messages place = if nat_lt place messages then place else 0
+
+-- (6.4.1) N1 messages are unacknowledged, or messages of N2 octets
+abbrev pub is_over_a_limit : PcrState → WindowState → ℕ → Bool
+is_over_a_limit state window octets = nat_le state.n1 (length window.unacked) || nat_le state.n2 octets
+
+-- (6.4.1) there is something to send again, and a forced cycle goes on or starts now
+abbrev pub is_forced : PcrState → WindowState → ℕ → Bool
+is_forced state window octets = nat_lt 0 (length window.unacked) && (state.forced || is_over_a_limit state window octets)
+
+-- where the cycle is; a forced one starts with the oldest message (own)
+abbrev pub cycle_place : Bool → PcrState → WindowState → ℕ
+cycle_place starts state window = if starts then 0 else round (length window.unacked) state.place
+
+-- the unacknowledged message at this place is sent again, and the next one is due
+pub record Repeats (place : ℕ) (forced : Bool) (old new : PcrState) (window window' : WindowState) (message : ℕ) (head : Header) : Type 0 where
+  pub at_place : slice_get window.unacked place ≡ Some message
+  pub header : IsHead old (fsn_at window place) head
+  pub moves_on : new ≡ record old { place = round (length window.unacked) (place + 1); forced = forced }
+  pub same_window : window' ≡ window
+
+-- the first unsent message is sent for the first time
+pub record SendsNew (old new : PcrState) (window window' : WindowState) (message : ℕ) (head : Header) : Type 0 where
+  pub first_unsent : Sends message window window'
+  pub header : IsHead old (fsn_at window (length window.unacked)) head
+  pub same_control : new ≡ old
+
+-- a FISU with the FSN of the last message sent
+pub record Fills (old new : PcrState) (window window' : WindowState) (head : Header) : Type 0 where
+  pub header : IsHead old (last_fsn window) head
+  pub same_control : new ≡ old
+  pub same_window : window' ≡ window
+
+pub record IsNext (octets : ℕ) (old new : PcrState) (window window' : WindowState) (sending : Sending) : Type 0 where
+  -- (6.4.1) a forced cycle sends all unacknowledged messages, and ends with the last
+  pub forced : is_forced old window octets ≡ true → let place = cycle_place (not old.forced) old window in IsMessageAnd sending (Repeats place (nat_lt (place + 1) (length window.unacked)) old new window window')
+  -- (6.3.2) else new messages go first, with at most 127 unacknowledged
+  pub sends : is_forced old window octets ≡ false → window.unsent ≢ [] → length window.unacked < 127 → IsMessageAnd sending (SendsNew old new window window')
+  -- (6.3.2) with no new one the unacknowledged ones are sent cyclically
+  pub cyclic : is_forced old window octets ≡ false → window.unsent ≡ [] → 0 < length window.unacked → IsMessageAnd sending (Repeats (cycle_place false old window) false old new window window')
+  pub full : is_forced old window octets ≡ false → 127 ≤ length window.unacked → IsMessageAnd sending (Repeats (cycle_place false old window) false old new window window')
+  pub idle : is_forced old window octets ≡ false → window.unsent ≡ [] → window.unacked ≡ [] → IsFillAnd sending (Fills old new window window')
+
+-- What a heard FISU or MSU does.
+
+-- (6.3.1) neither the number last acknowledged nor that of an unacknowledged message
+abbrev pub has_abnormal_bsn : WindowState → Header → Bool
+has_abnormal_bsn window head = nat_lt (length window.unacked) (distance_to window head.bsn)
+
+-- (6.2.2) an MSU is accepted with the number after the one last accepted, whatever its indicator
+-- bits are, and nothing is ever asked for
+abbrev pub is_accepted : PcrState → WindowState → Header → Bool → Bool
+is_accepted state window head is_msu =
+    not (has_abnormal_bsn window head) && (is_msu && (head.fsn == (state.accepted + 1) % 128))
+
+-- two of three consecutive units: this one and one of the two before it
+abbrev pub is_second : Bool → Bool × Bool → Bool
+is_second abnormal before = abnormal && (before.0 || before.1)
+
+pub record Hears (head : Header) (is_msu : Bool) (old new : PcrState) (window window' : WindowState) (part : HeardPart) : Type 0 where
+  -- (6.3.1) the messages up to the BSN are acknowledged, and only they
+  pub acked : part.acked ≡ (if has_abnormal_bsn window head then 0 else distance_to window head.bsn)
+  pub acknowledges : window' ≡ record window { last = if has_abnormal_bsn window head then window.last else head.bsn; unacked = drop part.acked window.unacked }
+  -- (6.2.2) the FSN of an accepted message is the BSN from now on
+  pub accept : part.accept ≡ is_accepted old window head is_msu
+  pub accepted : new.accepted ≡ (if part.accept then head.fsn else old.accepted)
+  pub asked : part.asked ≡ false
+  pub resend : part.resend ≡ false
+  -- the cycle goes on at the message that was due, or with the oldest where that one left
+  pub place : new.place ≡ (if has_abnormal_bsn window head then old.place else round (length window'.unacked) (old.place - part.acked))
+  -- a forced cycle ends where none of its messages is left
+  pub forced : new.forced ≡ (if has_abnormal_bsn window head then old.forced else old.forced && nat_lt (old.place - part.acked) (length window'.unacked))
+  -- two abnormal ones in three consecutive units are told
+  pub fault : part.fault ≡ (if is_second (has_abnormal_bsn window head) old.bsns then Some Bsn else None)
+  pub bsns : new.bsns ≡ (has_abnormal_bsn window head, old.bsns.0)
+  pub limits : (new.n1 ≡ old.n1) × (new.n2 ≡ old.n2)

@@ -1,0 +1,30 @@
+-- Laws above the table, over all lists of inputs from a link out of service.
+use Rattle.std.specs.Prelude.{◌≡◌, ◌⊎◌, Some, List, ◌∷◌, ◌++◌}
+use Rattle.l2_state.specs.declared.link_state.State.{State}
+use Rattle.l2_state.specs.declared.signals.Cause.{Cause}
+use Rattle.l2_state.specs.declared.signals.StateIn.{StateIn}
+use Rattle.l2_state.specs.declared.signals.Told.{Told}
+use Rattle.l2_state.specs.Runs.{after, told_at}
+
+-- a FISU or an MSU was heard
+abbrev pub IsFisuOrMsu : StateIn → Type 0
+IsFisuOrMsu input = (input ≡ StateIn.Fisu) ⊎ (input ≡ StateIn.Msu)
+
+-- Up is told only from Ready, at a FISU or an MSU
+abbrev pub UpOnlyFromReady : Type 0
+UpOnlyFromReady =
+    (past : List StateIn) (input : StateIn) → told_at past input ≡ Some Told.Up → (after State.OutOfService past ≡ State.Ready) × IsFisuOrMsu input
+
+-- a Start is among these inputs
+pub record HasStart (inputs : List StateIn) : Type 0 where
+  pub before : List StateIn
+  pub since : List StateIn
+  pub split : inputs ≡ before ++ StateIn.Start ∷ since
+
+-- between two inputs that tell Down there is a Start
+abbrev pub StartBetweenDowns : Type 0
+StartBetweenDowns =
+    (past : List StateIn) (first : StateIn) (between : List StateIn) (second : StateIn) (c d : Cause) →
+    told_at past first ≡ Some (Told.Down c) →
+    told_at (past ++ first ∷ between) second ≡ Some (Told.Down d) →
+    HasStart between

@@ -1,0 +1,42 @@
+//! Whole runs, in the trade's words.
+
+use crate::link_state::LinkState;
+use crate::signals::{Cause, Sending, StateIn, StateOut, Status, Switch, Told};
+
+#[test]
+fn up_then_out_of_alignment(rt: HostRuntime) {
+    let mut link = LinkState::new();
+    let start = link.input(StateIn::Start);
+    assert_eq!(rt; start.alignment, Some(Switch::Start));
+    let complete = link.input(StateIn::Complete);
+    assert_eq!(rt; complete.send, Some(Sending::FillIn));
+    assert_eq!(rt; complete.t1, Some(Switch::Start));
+    assert!(rt; complete.new_suerm);
+    let heard = link.input(StateIn::Fisu);
+    assert_eq!(rt; heard.told, Some(Told::Up));
+    assert_eq!(rt; heard.send, Some(Sending::Traffic));
+    let lost = link.input(StateIn::Heard(Status::OutOfAlignment));
+    assert_eq!(rt; lost.told, Some(Told::Down(Cause::Status)));
+    assert_eq!(rt; Cause::Status.number(), 7);
+    let ignored = StateOut {
+        send: None,
+        t1: None,
+        alignment: None,
+        new_suerm: false,
+        told: None,
+        paused: false,
+    };
+    let again = link.input(StateIn::Heard(Status::OutOfAlignment));
+    assert_eq!(rt; again, ignored);
+}
+
+#[test]
+fn processor_outage_in_service(rt: HostRuntime) {
+    let mut link = LinkState::new();
+    link.input(StateIn::Start);
+    link.input(StateIn::Complete);
+    link.input(StateIn::Fisu);
+    assert!(rt; link.input(StateIn::Heard(Status::ProcessorOutage)).paused);
+    assert!(rt; link.input(StateIn::T1).paused);
+    assert!(rt; !link.input(StateIn::Msu).paused);
+}

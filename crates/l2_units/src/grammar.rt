@@ -1,0 +1,51 @@
+//! What the grammar tells of a unit, and a law that speaks of definitions alone.
+ghost use Rattle.std.specs.Prelude.{◌≡◌, ◌↔◌, IsTrue};
+ghost use Rattle.l2_units.specs.Grammar.{IsUnit, IsTheTextOf, head_of};
+ghost use Rattle.l2_units.specs.declared.unit.Unit.{Unit as SignalUnit};
+
+use super::unit::{Header, Unit};
+
+/// The header that a unit of any kind has.
+pub fn header_in(unit: &Unit) -> Header
+    ensures { result ≡ head_of unit.now }
+{
+    match unit {
+        Unit::Fisu { head } => *head,
+        Unit::Msu { head, .. } => *head,
+    }
+}
+
+/// Whether both units have the same header and the same body.
+pub fn same_unit(unit: &Unit, other: &Unit) -> bool
+    ensures { IsTrue result ↔ (unit.now ≡ other.now) }
+{
+    match (unit, other) {
+        (Unit::Fisu { head: a }, Unit::Fisu { head: b }) => same_head(a, b),
+        (Unit::Msu { head: a, body: x }, Unit::Msu { head: b, body: y }) => {
+            if !same_head(a, b) {
+                return false;
+            }
+            x.as_slice() == y.as_slice()
+        }
+        _ => false,
+    }
+}
+
+/// Whether both headers have the same numbers and indicators.
+#[tactic(auto, using(crate::proofs::Texts::same_header))]
+fn same_head(head: &Header, other: &Header) -> bool
+    ensures { IsTrue result ↔ (head.now ≡ other.now) }
+{
+    if head.bsn != other.bsn || head.fsn != other.fsn {
+        return false;
+    }
+    if head.bib != other.bib {
+        return false;
+    }
+    head.fib == other.fib
+}
+
+/// The text of a unit stands for that unit, and for no other.
+pub fn one_text()
+    ensures { (unit : SignalUnit) → IsUnit unit → IsTheTextOf unit }
+{}

@@ -1,0 +1,31 @@
+//! The signal units of a signalling link, as whole octets (ITU-T Q.703 2).
+//!
+//! A unit here is the text between two flags without its two check octets: the header with the
+//! sequence numbers and indicator bits, the length indicator, and what the length indicator counts.
+//! [`read`] takes octets apart, [`write`] puts a unit together; both follow one grammar.
+//!
+//! This crate never looks at flags, inserted zeros or check bits, never acts on what a unit says,
+//! and takes no memory.
+//!
+//! | octet | bits, lowest first | field (Q.703 2.2, 2.3) |
+//! |---|---|---|
+//! | 0 | 7 | BSN, backward sequence number |
+//! |   | 1 | BIB, backward indicator bit |
+//! | 1 | 7 | FSN, forward sequence number |
+//! |   | 1 | FIB, forward indicator bit |
+//! | 2 | 6 | LI, length indicator: the octets that follow, or 63 where they are 63 or more |
+//! |   | 2 | spare: sent as 0, not looked at when read (own) |
+//! | 3.. |  | a FISU has none; an MSU has its SIO and SIF, 3 to 273 octets |
+#![tactic(auto)]
+
+mod grammar;
+mod reading;
+#[cfg(test)]
+mod tests;
+mod unit;
+mod writing;
+
+pub use grammar::{header_in, one_text, same_unit};
+pub use reading::{UnitFault, read};
+pub use unit::{Header, LONGEST_BODY, LONGEST_UNIT, SHORTEST_BODY, Unit};
+pub use writing::write;

@@ -1,0 +1,4 @@
+pub mod Control
+pub mod Fault
+pub mod Stored
+pub mod Window

@@ -1,0 +1,57 @@
+//! What the error controls of Q.703 5 and 6 answer.
+ghost use Rattle.std.specs.Prelude.{◌≡◌, ◌+◌, ◌%◌, ◌<◌, ◌≤◌};
+ghost use Rattle.l2_window.specs.Control.{fault_number};
+
+use l2_units::Header;
+
+/// What is sent next.
+#[derive(Clone, Copy, Debug, PartialEq, Eq)]
+pub enum Sending {
+    /// An MSU: the message with this number of the caller's, under this header.
+    Message { number: u64, head: Header },
+    /// A FISU.
+    Fill { head: Header },
+}
+
+/// What a heard unit means to the end that hears it.
+#[derive(Clone, Copy, Debug, PartialEq, Eq)]
+pub struct HeardPart {
+    /// How many messages it acknowledged, at most 127.
+    pub acked: u8,
+    /// Whether its message is accepted.
+    pub accept: bool,
+    /// Whether it makes this end ask for retransmission.
+    pub asked: bool,
+    /// Whether it asks this end for retransmission.
+    pub resend: bool,
+    /// The fault of the link that it tells, if any.
+    pub fault: Option<ControlFault>,
+}
+
+/// Why the error control finds the link faulty.
+#[derive(Clone, Copy, Debug, PartialEq, Eq)]
+pub enum ControlFault {
+    /// Two abnormal BSNs in three consecutive units (Q.703 5.3.1).
+    Bsn = 2,
+    /// Two abnormal FIBs in three consecutive units (Q.703 5.3.2).
+    Fib = 3,
+}
+
+impl ControlFault {
+    /// The fault's number: 2 BSN, 3 FIB.
+    pub fn number(self) -> u8
+        ensures { result ≡ fault_number self }
+    {
+        self as u8
+    }
+}
+
+/// The sequence number so many places after this one, cyclically from 0 to 127.
+pub fn number_after(number: u8, places: usize) -> u8
+    requires number { number < 128 }
+    requires places { places ≤ 128 }
+    ensures value { result ≡ (number + places) % 128 }
+    ensures in_range { result < 128 }
+{
+    ((usize::from(number) + places) % 128) as u8
+}

@@ -1,0 +1,35 @@
+//! The messages of one signalling link as the error controls of ITU-T Q.703 number them (5.2, 5.3).
+//!
+//! A [`Window`] has the FSN last acknowledged, the messages sent and not acknowledged, and those
+//! not yet sent. Messages are numbers of the caller's; the window gives them FSNs from 0 to 127,
+//! cyclically, and keeps no FSN: each follows from the place.
+//!
+//! ```text
+//!   acknowledged |  unacknowledged, at most 127   |  unsent
+//!   .. 124 | 125 | 126 | 127 |  0  |  1  |  2  |  |  m4  m5  ..
+//!           last   m-1   m0    m1    m2    m3
+//!                 place 0 ..          last place
+//! ```
+//!
+//! Readers: [`Window::last`], [`Window::unacked_len`], [`Window::unsent_len`],
+//! [`Window::unacked_at`], [`Window::distance`]. Inputs: [`Window::push`], [`Window::send`],
+//! [`Window::ack`], [`Window::pop`], [`Window::reset`].
+//!
+//! Both error controls work on a window and answer the same types, [`Sending`] and [`HeardPart`]:
+//! these stand here too.
+//!
+//! This crate reads no clock, does no IO, takes no lock, and knows of a unit its header alone. Only
+//! [`Window::new`], [`Window::reserve`] and [`Window::push`] take memory.
+#![tactic(auto)]
+
+mod control;
+mod fault;
+mod law;
+#[cfg(test)]
+mod tests;
+mod window;
+
+pub use control::{ControlFault, HeardPart, Sending, number_after};
+pub use fault::WindowFault;
+pub use law::{numbers_never_mislead, numbers_tell_places};
+pub use window::{MOST_UNACKED, NoMemory, Window};

@@ -1,0 +1,3 @@
+pub mod FigureLemmas
+pub mod PairLemmas
+pub mod PlayLemmas

@@ -1,0 +1,113 @@
+-- THE PAIR: two ends and the units under way between them on their link.
+use Rattle.std.specs.Prelude.{◌≡◌, ℕ, Bool, ◌^◌, nat_lt, nat_le, ◌≤◌, List, [], ◌∷◌, ◌++◌, length, if◌then◌else◌}
+use Rattle.l2_units.specs.declared.unit.Unit.{Unit as SignalUnit}
+use Rattle.set_events.specs.declared.event.Actor.{Actor}
+use Rattle.set_events.specs.declared.event.Actor.TheVariants.{User, Terminal}
+use Rattle.set_events.specs.declared.event.Event.{Event}
+use Rattle.set_events.specs.declared.event.Event.TheVariants.{Offer as OfferEvent, Find as FindEvent, Next, Heard as HeardEvent, Up as UpEvent}
+use Rattle.set_events.specs.declared.answer.Answer.{Answer}
+use Rattle.set_events.specs.declared.answer.Answer.TheVariants.{Accepted, Found, Sent, Heard, Done, Refused}
+use Rattle.set_core.specs.Set.{LinkSet, new_set}
+use Rattle.set_core.specs.Step.{step}
+use Rattle.mtpbank.specs.declared.script.End.{End}
+use Rattle.mtpbank.specs.declared.script.End.TheVariants.{A, B}
+use Rattle.mtpbank.specs.declared.script.ScriptLine.{ScriptLine}
+use Rattle.mtpbank.specs.declared.script.ScriptLine.TheVariants.{Together, Offer, Emit, Find, Hear}
+use Rattle.mtpbank.specs.declared.shown.Shown.{Shown}
+use Rattle.mtpbank.specs.declared.shown.Shown.TheVariants.{Up, Answered}
+
+-- both ends, and the units under way to each
+pub record Pair : Type 0 where
+  pub a : LinkSet
+  pub b : LinkSet
+  pub to_a : List SignalUnit
+  pub to_b : List SignalUnit
+
+abbrev pub new_pair : ℕ → Pair
+new_pair links = record { a = new_set links; b = new_set links; to_a = []; to_b = [] }
+
+abbrev pub at_end : Pair → End → LinkSet
+at_end p A = p.a
+at_end p B = p.b
+
+abbrev pub with_end : Pair → End → LinkSet → Pair
+with_end p A set = record p { a = set }
+with_end p B set = record p { b = set }
+
+-- a unit sent by an end joins the line to the other
+abbrev pub joined : Pair → End → SignalUnit → Pair
+joined p A unit = record p { to_b = p.to_b ++ unit ∷ [] }
+joined p B unit = record p { to_a = p.to_a ++ unit ∷ [] }
+
+-- A set after an event: by its step, with the entry put last.
+
+abbrev pub answer_to : LinkSet → Event → Answer
+answer_to set event = (step set.links set.state event).answer
+
+abbrev pub after : LinkSet → Actor → Event → LinkSet
+after set who event = record {
+  links = set.links;
+  state = (step set.links set.state event).state;
+  history = set.history ++ record { who = who; event = event; answer = answer_to set event } ∷ [];
+}
+
+-- a set with 2^48 entries takes no more
+abbrev pub is_full : LinkSet → Bool
+is_full set = nat_le (2 ^ 48) (length set.history)
+
+-- What a line of the script does: it shows something and the pair goes on, it can't be done, or a history is full.
+pub data Outcome : Type 0 where
+  shows : Shown → Pair → Outcome
+  impossible : Outcome
+  exhausted : Outcome
+
+-- one event at an end
+abbrev pub acts : Pair → End → Actor → Event → Outcome
+acts p end who event =
+    if is_full (at_end p end) then exhausted
+    else shows (Answered (answer_to (at_end p end) event)) (with_end p end (after (at_end p end) who event))
+
+-- a unit that an end sent joins the line
+abbrev pub with_sent : Pair → End → Shown → Pair
+with_sent p end (Answered (Sent unit)) = joined p end unit
+with_sent p end (Answered (Accepted number)) = p
+with_sent p end (Answered (Found fate)) = p
+with_sent p end (Answered (Heard report)) = p
+with_sent p end (Answered Done) = p
+with_sent p end (Answered (Refused why)) = p
+with_sent p end Up = p
+
+abbrev pub sends_on : End → Outcome → Outcome
+sends_on end (shows s p) = shows s (with_sent p end s)
+sends_on end impossible = impossible
+sends_on end exhausted = exhausted
+
+-- an end whose link isn't up brings it up, and so it goes on
+abbrev pub rises : LinkSet → ℕ → (LinkSet → Outcome) → Outcome
+rises set link next =
+    if is_full set then exhausted
+    else (if set.state.up then impossible else next (after set (Terminal link) (UpEvent link)))
+
+-- both ends come up, a first, and nothing is under way
+abbrev pub rise_together : Pair → ℕ → Outcome
+rise_together p link = rises p.a link (λ a. rises p.b link (λ b. shows Up (record { a = a; b = b; to_a = []; to_b = [] })))
+
+-- what needs a link of the pair
+abbrev pub has_link : Pair → ℕ → Bool
+has_link p link = nat_lt link p.a.links
+
+abbrev pub done_on : Pair → ℕ → Outcome → Outcome
+done_on p link outcome = if has_link p link then outcome else impossible
+
+-- THE STEP OF THE PAIR
+abbrev pub carried_out : Pair → ScriptLine → Outcome
+carried_out p (Together link) = done_on p link (rise_together p link)
+carried_out p (Offer end body) = acts p end (User 0) (OfferEvent body)
+carried_out p (Emit end link) = done_on p link (sends_on end (acts p end (Terminal link) (Next link)))
+carried_out p (Find end number) = acts p end (User 0) (FindEvent number)
+carried_out p (Hear end link unit) = done_on p link (acts p end (Terminal link) (HeardEvent link unit))
+
+-- Both ends have the same links, and few of them.
+pub record IsPair (p : Pair) : Type 0 where
+  pub same : p.b.links ≡ p.a.links
+  pub few : p.a.links ≤ 16

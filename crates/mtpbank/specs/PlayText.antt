@@ -1,0 +1,82 @@
+-- THE TEXT OF `play`: from the octets that are read to the octets that are printed and the answer.
+use Rattle.std.specs.Prelude.{ℕ, Bool, true, ◌==◌, nat_lt, suc, List, [], ◌∷◌, ◌++◌, length, Option, Some, None, if◌then◌else◌}
+use Rattle.mtpbank.specs.declared.fault.Fault.{Fault}
+use Rattle.mtpbank.specs.declared.fault.Fault.TheVariants.{Text, Step, Exhausted}
+use Rattle.mtpbank.specs.declared.script.ScriptLine.{ScriptLine}
+use Rattle.mtpbank.specs.declared.script.Values.{Values}
+use Rattle.mtpbank.specs.Script.{line_of, first_line}
+use Rattle.mtpbank.specs.Pair.{Pair, Outcome, shows, impossible, exhausted, new_pair, carried_out}
+use Rattle.mtpbank.specs.Texts.{shown_text, ends_text}
+
+-- The lines of a text: each ends in LF (10), which the last may lack.
+
+abbrev pub onto_first : ℕ → List (List ℕ) → List (List ℕ)
+onto_first octet [] = (octet ∷ []) ∷ []
+onto_first octet (line ∷ lines) = (octet ∷ line) ∷ lines
+
+abbrev pub lines_of : List ℕ → List (List ℕ)
+lines_of [] = []
+lines_of (octet ∷ octets) = if octet == 10 then [] ∷ lines_of octets else onto_first octet (lines_of octets)
+
+-- What is printed in all, and the fault that it ends with, if any.
+pub record Played : Type 0 where
+  pub printed : List ℕ
+  pub fault : Option Fault
+
+-- A line prints this and leaves a pair, if one is made yet; or it ends the script with a fault.
+pub data LineOutcome : Type 0 where
+  prints : List ℕ → Option Pair → LineOutcome
+  stops : Fault → LineOutcome
+
+-- an empty line, or one that begins with # (35)
+abbrev pub is_remark : List ℕ → Bool
+is_remark [] = true
+is_remark (octet ∷ octets) = octet == 35
+
+-- the first line that is no remark makes the pair
+abbrev pub opened : ℕ → Option Values → LineOutcome
+opened n None = stops (Text n)
+opened n (Some values) = prints [] (Some (new_pair values.links))
+
+-- each further one is carried out
+abbrev pub shown : ℕ → Outcome → LineOutcome
+shown n (shows s p) = prints (shown_text s) (Some p)
+shown n impossible = stops (Step n)
+shown n exhausted = stops Exhausted
+
+abbrev pub asked : ℕ → Pair → Option ScriptLine → LineOutcome
+asked n p None = stops (Text n)
+asked n p (Some line) = shown n (carried_out p line)
+
+abbrev pub read_line : ℕ → Option Pair → List ℕ → LineOutcome
+read_line n None text = opened n (first_line text)
+read_line n (Some p) text = asked n p (line_of text)
+
+-- the line of this number: one of over 4,096 octets is unreadable, a remark prints nothing
+abbrev pub on_line : ℕ → Option Pair → List ℕ → LineOutcome
+on_line n pair text =
+    if nat_lt 4096 (length text) then stops (Text n)
+    else (if is_remark text then prints [] pair else read_line n pair text)
+
+-- how the ends stand when the script has ended
+abbrev pub at_the_end : Option Pair → List ℕ
+at_the_end None = []
+at_the_end (Some p) = ends_text p
+
+-- what is printed before goes in front
+abbrev pub behind : List ℕ → Played → Played
+behind printed p = record { printed = printed ++ p.printed; fault = p.fault }
+
+-- a line, and what goes on from the pair that it leaves
+abbrev pub goes_on : LineOutcome → (Option Pair → Played) → Played
+goes_on (prints printed pair) next = behind printed (next pair)
+goes_on (stops fault) next = record { printed = []; fault = Some fault }
+
+-- the lines from this number on
+abbrev pub play_lines : ℕ → Option Pair → List (List ℕ) → Played
+play_lines n pair [] = record { printed = at_the_end pair; fault = None }
+play_lines n pair (line ∷ lines) = goes_on (on_line n pair line) (λ next. play_lines (suc n) next lines)
+
+-- THE TEXT
+abbrev pub play_text : List ℕ → Played
+play_text input = play_lines 1 None (lines_of input)

@@ -1,0 +1,27 @@
+//! Why a run of the program failed.
+
+use thiserror::Error;
+
+/// Why a run of the program failed; each shows the line that the program prints. What was printed
+/// before it stays printed.
+#[derive(Clone, Copy, Debug, Drop, PartialEq, Eq, Error)]
+pub enum Fault {
+    /// The line of this number, counted from 1, is unreadable.
+    #[error("fault line {line} text")]
+    Text { line: u64 },
+    /// What the line of this number, counted from 1, asks for can't be done.
+    #[error("fault line {line} step")]
+    Step { line: u64 },
+    /// Memory is wanted.
+    #[error("fault memory")]
+    Memory,
+    /// A history is full.
+    #[error("fault exhausted")]
+    Exhausted,
+    /// The input couldn't be read, or has more than 2^24 octets.
+    #[error("fault read")]
+    Read,
+    /// The output couldn't be written.
+    #[error("fault write")]
+    Write,
+}

@@ -1,0 +1,63 @@
+//! `mtpbank`: a bank of signalling terminals for Signalling System No. 7.
+//!
+//! The program is a thin edge: it reads its words and its input, hands them to functions over
+//! values, and prints what they give. `play` walks two ends of a link through a script.
+#![tactic(auto)]
+
+mod device;
+mod fault;
+mod figures;
+mod opening;
+mod pair;
+mod play;
+mod player;
+mod reading;
+mod script;
+mod shown;
+mod step_fault;
+#[cfg(test)]
+mod tests;
+mod texts;
+mod words;
+
+use device::{Reader, Writer};
+use fault::Fault;
+use std::io;
+use std::process::ExitCode;
+use words::{Words, WordsFault, words_of};
+
+/// The status of a fault of input, memory, reading or writing.
+const FAULT: u8 = 1;
+
+fn main(rt: HostRuntime) -> io::Result<ExitCode> {
+    let alloc = rt.alloc();
+    let given: Vec<String> = std::env::args(&rt)?.skip(1).collect(alloc)?;
+    let mut words = Vec::new(alloc);
+    for word in &given {
+        words.push(word.as_str())?;
+    }
+    match words_of(alloc, &words) {
+        Ok(Words::Play) => played(&rt),
+        Err(WordsFault::Words(error)) => {
+            error.print(&rt)?;
+            Ok(ExitCode::from(error.exit_code() as u8))
+        }
+        Err(WordsFault::NoMemory) => told(&rt, Fault::Memory),
+    }
+}
+
+/// Plays the script on standard input.
+fn played(rt: &HostRuntime) -> io::Result<ExitCode> {
+    let mut source = Reader::new(rt.reader());
+    let mut sink = Writer::new(io::writer(rt));
+    match play::play(rt.alloc(), &mut source, &mut sink) {
+        Ok(()) => Ok(ExitCode::SUCCESS),
+        Err(fault) => told(rt, fault),
+    }
+}
+
+/// Tells a fault in one line on standard error.
+fn told(rt: &HostRuntime, fault: Fault) -> io::Result<ExitCode> {
+    rt.eprintln(fault)?;
+    Ok(ExitCode::from(FAULT))
+}

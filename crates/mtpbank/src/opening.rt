@@ -1,0 +1,133 @@
+//! The first line of a script: `set links=L method=W a=X b=Y sio=HH`.
+ghost use Rattle.std.specs.Prelude.{◌≡◌, ◌+◌, ◌^◌, ◌<◌, IfOk, MatchOption, None, Some, codes, take, drop, length};
+ghost use Rattle.std.specs.Option.{option_and_then, option_map, option_copied};
+ghost use Rattle.mtpbank.specs.Figures.{number_below as number_in_range};
+ghost use Rattle.mtpbank.specs.Script.{value_in, links_of as links_in, code_of as code_in, sio_of as sio_in, six_words as six_words_in, values_of as values_in, fitting, first_line};
+ghost use Rattle.mtpbank.specs.Opened.{six_of, IsOpening, IsMadeOf};
+
+use super::figures::{number_of, octet_of};
+use super::reading::{cut, is_word};
+use super::script::{Opening, Values};
+use set_events::{Method, SetConfig};
+
+/// The words of the first line.
+#[derive(Clone, Copy)]
+struct SixWords<'a> {
+    kind: &'a [u8],
+    links: &'a [u8],
+    method: &'a [u8],
+    code_a: &'a [u8],
+    code_b: &'a [u8],
+    sio: &'a [u8],
+}
+
+/// What the first line says; `None`: it's unreadable.
+pub(crate) fn opening_of(text: &[u8]) -> Option<Opening>
+    ensures { MatchOption result (first_line text.now ≡ None) (IsOpening text.now) }
+{
+    ends_of(values_of(six_words(text)?)?)
+}
+
+/// The values that the six words give.
+fn values_of(words: SixWords<'_>) -> Option<Values>
+    ensures { result ≡ values_in (six_of words.entry) }
+{
+    if !is_word(words.kind, b"set") || !is_word(words.method, b"method=basic") {
+        return None;
+    }
+    let links = links_of(words.links)?;
+    let code_a = code_of(b"a=", words.code_a)?;
+    let code_b = code_of(b"b=", words.code_b)?;
+    let sio = sio_of(words.sio)?;
+    Some(Values {
+        links,
+        code_a,
+        code_b,
+        sio,
+    })
+}
+
+/// The configurations of both ends, if these values fit.
+fn ends_of(values: Values) -> Option<Opening>
+    ensures { MatchOption result (fitting values ≡ None) (IsMadeOf values) }
+{
+    let Values {
+        links,
+        code_a,
+        code_b,
+        sio,
+    } = values;
+    let Ok(a) = SetConfig::new(0, links, code_a, code_b, sio, Method::Basic) else {
+        return None;
+    };
+    let Ok(b) = SetConfig::new(0, links, code_b, code_a, sio, Method::Basic) else {
+        return None;
+    };
+    Some(Opening { a, b })
+}
+
+/// The six words of a line; the sixth may hold spaces.
+fn six_words(text: &[u8]) -> Option<SixWords<'_>>
+    ensures { MatchOption result (six_words_in text.now ≡ None) (λ words. six_words_in text.now ≡ Some (six_of words)) }
+{
+    let (kind, words) = cut(text);
+    let (links, words) = cut(words?);
+    let (method, words) = cut(words?);
+    let (code_a, words) = cut(words?);
+    let (code_b, words) = cut(words?);
+    let sio = words?;
+    Some(SixWords {
+        kind,
+        links,
+        method,
+        code_a,
+        code_b,
+        sio,
+    })
+}
+
+/// The value of a word NAME=VALUE with this name and its sign.
+fn value_in_word<'a>(name: &[u8], word: &'a [u8]) -> Option<&'a [u8]>
+    ensures { option_copied result ≡ value_in name.now word.now }
+{
+    if word.len() < name.len() {
+        return None;
+    }
+    let (front, back) = word.split_at(name.len());
+    if is_word(front, name) {
+        Some(back)
+    } else {
+        None
+    }
+}
+
+/// `links=L`, L below 256.
+fn links_of(word: &[u8]) -> Option<u8>
+    ensures { result ≡ links_in word.now }
+{
+    let number = number_of(value_in_word(b"links=", word)?)?;
+    if number < 256 {
+        Some(number as u8)
+    } else {
+        None
+    }
+}
+
+/// A point code below 65,536 behind a name and its sign.
+fn code_of(name: &[u8], word: &[u8]) -> Option<u16>
+    ensures { result ≡ code_in name.now word.now }
+{
+    let number = number_of(value_in_word(name, word)?)?;
+    if number < 65_536 {
+        Some(number as u16)
+    } else {
+        None
+    }
+}
+
+/// `sio=HH`
+fn sio_of(word: &[u8]) -> Option<u8>
+    ensures { result ≡ sio_in word.now }
+{
+    octet_of(value_in_word(b"sio=", word)?)
+}

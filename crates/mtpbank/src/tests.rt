@@ -1,0 +1,395 @@
+//! Scripts with what they print, and devices that fail.
+//!
+//! The expected lines are worked out by hand from Q.703 2 to 5 and the script's rules.
+ghost use Rattle.std.specs.Prelude.{◌≡◌, ◌≤◌, ◌<◌, Some};
+
+use super::device::{DeviceFault, Sink, Source};
+use super::fault::Fault;
+use super::play::play;
+use super::words::{Words, WordsFault, words_of};
+use std::alloc::{AllocError, Global};
+use std::test::Fail;
+
+const OPENING: &[u8] = b"set links=1 method=basic a=2 b=1 sio=80\n";
+
+/// A text that is read in pieces.
+#[derive(Drop)]
+struct Text<'a> {
+    rest: &'a [u8],
+    piece: usize,
+    /// How many reads succeed.
+    reads: u32,
+    failed: bool,
+    ghost moves: { 0 < piece },
+}
+
+impl Source for Text<'_> {
+    ghost left = { λ s. Some s.rest.now };
+
+    ghost has_failed = { λ s. s.failed };
+
+    fn read(&mut self, buffer: &mut [u8]) -> Result<usize, DeviceFault> {
+        if self.reads == 0 {
+            self.failed = true;
+            return Err(DeviceFault);
+        }
+        self.reads -= 1;
+        let count = self.rest.len().min(buffer.len()).min(self.piece);
+        let (piece, rest) = self.rest.split_at(count);
+        buffer[..count].copy_from_slice(piece);
+        self.rest = rest;
+        Ok(count)
+    }
+}
+
+/// What is written, in memory.
+#[derive(Drop)]
+struct Page {
+    octets: Vec<u8>,
+    /// How many octets a write takes at most.
+    piece: usize,
+    /// How many writes succeed.
+    writes: u32,
+    failed: bool,
+}
+
+impl Sink for Page {
+    ghost written = { λ s. Some s.octets.items };
+
+    ghost has_failed = { λ s. s.failed };
+
+    fn write(&mut self, octets: &[u8]) -> Result<usize, DeviceFault> {
+        if self.writes == 0 {
+            self.failed = true;
+            return Err(DeviceFault);
+        }
+        self.writes -= 1;
+        let count = octets.len().min(self.piece);
+        match self.octets.extend_from_slice(&octets[..count]) {
+            Ok(()) => Ok(count),
+            Err(_) => {
+                self.failed = true;
+                Err(DeviceFault)
+            }
+        }
+    }
+}
+
+/// Plays a script in pieces of this many octets; the devices take this many calls.
+fn run_of(
+    alloc: Global,
+    script: &[u8],
+    piece: usize,
+    reads: u32,
+    writes: u32,
+) -> (Page, Result<(), Fault>)
+    requires { 0 < piece }
+{
+    let mut text = Text {
+        rest: script,
+        piece,
+        reads,
+        failed: false,
+    };
+    let mut page = Page {
+        octets: Vec::new(alloc),
+        piece,
+        writes,
+        failed: false,
+    };
+    let end = play(alloc, &mut text, &mut page);
+    (page, end)
+}
+
+/// The script behind the opening line, whole.
+fn script_of(alloc: Global, lines: &[u8]) -> Result<Vec<u8>, AllocError> {
+    let mut script = Vec::from_slice(alloc, OPENING)?;
+    script.extend_from_slice(lines)?;
+    Ok(script)
+}
+
+const FIRST_MESSAGE: &[u8] = b"together 0
+offer a 8501800030
+emit a 0
+emit a 0
+hear a 0 80ff00
+find a 0
+";
+
+const FIRST_PRINTED: &[u8] = b"up
+accepted 0
+sent ff80058501800030156e
+sent ff8000f38c
+heard acked=1 took=nothing asked=0 resend=0 fault=0
+found acked 0
+end a accepted=1 waiting=0 unacked=0 acked=1 held=0 parked=0 back=0 discarded=0
+end b accepted=0 waiting=0 unacked=0 acked=0 held=0 parked=0 back=0 discarded=0
+";
+
+#[test]
+fn one_message_is_sent_and_acknowledged(rt: HostRuntime) -> Result<(), Fail> {
+    let script = script_of(rt.alloc(), FIRST_MESSAGE)?;
+    let (page, end) = run_of(rt.alloc(), &script, 4096, 1000, 1000);
+    assert_eq!(rt; page.octets.as_slice(), FIRST_PRINTED);
+    assert!(rt; end == Ok(()));
+    Ok(())
+}
+
+#[test]
+fn the_pieces_of_the_input_change_nothing(rt: HostRuntime) -> Result<(), Fail> {
+    let script = script_of(rt.alloc(), FIRST_MESSAGE)?;
+    for piece in [1, 2, 7, 64] {
+        let (page, end) = run_of(rt.alloc(), &script, piece, 1000, 1000);
+        assert_eq!(rt; page.octets.as_slice(), FIRST_PRINTED);
+        assert!(rt; end == Ok(()));
+    }
+    Ok(())
+}
+
+#[test]
+fn a_reader_fails_in_mid_stream(rt: HostRuntime) -> Result<(), Fail> {
+    let script = script_of(rt.alloc(), FIRST_MESSAGE)?;
+    // Sixty octets are read, one at a time: the opening line, `together 0` and the begin of an offer.
+    let (page, end) = run_of(rt.alloc(), &script, 1, 60, 1000);
+    assert_eq!(rt; page.octets.as_slice(), b"up\n".as_slice());
+    assert!(rt; end == Err(Fault::Read));
+    Ok(())
+}
+
+#[test]
+fn a_writer_fails_at_each_call(rt: HostRuntime) -> Result<(), Fail> {
+    let script = script_of(rt.alloc(), FIRST_MESSAGE)?;
+    for writes in 0..8u32 {
+        let (page, end) = run_of(rt.alloc(), &script, 4096, 1000, writes);
+        assert!(rt; end == Err(Fault::Write));
+        assert!(rt; page.failed);
+        assert!(rt; FIRST_PRINTED.starts_with(&page.octets));
+    }
+    let (page, end) = run_of(rt.alloc(), &script, 4096, 1000, 8);
+    assert!(rt; end == Ok(()));
+    assert!(rt; !page.failed);
+    Ok(())
+}
+
+/// 128 offers, of which 127 are sent; a BSN that acknowledges none, one that acknowledges all.
+#[test]
+fn the_window_holds_127(rt: HostRuntime) -> Result<(), Fail> {
+    let mut script = script_of(rt.alloc(), b"together 0\n")?;
+    for _ in 0..128u8 {
+        script.extend_from_slice(b"offer a 8501800030\n")?;
+    }
+    for _ in 0..128u8 {
+        script.extend_from_slice(b"emit a 0\n")?;
+    }
+    script.extend_from_slice(b"hear a 0 ffff00\nhear a 0 feff00\nemit a 0\n")?;
+    let (page, end) = run_of(rt.alloc(), &script, 4096, 1000, 1000);
+    assert!(rt; end == Ok(()));
+    assert!(rt;
+        page.octets.ends_with(
+            b"sent fffe05850180003078f9
+sent fffe0027e6
+heard acked=0 took=nothing asked=0 resend=0 fault=0
+heard acked=127 took=nothing asked=0 resend=0 fault=0
+sent ffff058501800030ad66
+end a accepted=128 waiting=0 unacked=1 acked=127 held=0 parked=0 back=0 discarded=0
+end b accepted=0 waiting=0 unacked=0 acked=0 held=0 parked=0 back=0 discarded=0
+"
+        )
+    );
+    Ok(())
+}
+
+/// With no link up the 1,025th offer of one stream is refused; another stream's is not.
+#[test]
+fn a_stream_is_full_at_1024(rt: HostRuntime) -> Result<(), Fail> {
+    let mut script = script_of(rt.alloc(), b"")?;
+    for _ in 0..1025u16 {
+        script.extend_from_slice(b"offer a 8501800030\n")?;
+    }
+    script.extend_from_slice(b"offer a 8501800040\n")?;
+    let (page, end) = run_of(rt.alloc(), &script, 4096, 1000, 2000);
+    assert!(rt; end == Ok(()));
+    assert!(rt;
+        page.octets.ends_with(
+            b"accepted 1023
+refused 4
+accepted 1024
+end a accepted=1025 waiting=0 unacked=0 acked=0 held=0 parked=1025 back=0 discarded=0
+end b accepted=0 waiting=0 unacked=0 acked=0 held=0 parked=0 back=0 discarded=0
+"
+        )
+    );
+    Ok(())
+}
+
+/// Bodies of 273 and 274 octets, of 4, and one with the management's service indicator.
+#[test]
+fn lengths_of_bodies(rt: HostRuntime) -> Result<(), Fail> {
+    let mut script = script_of(rt.alloc(), b"together 0\noffer a 8501800030")?;
+    for _ in 0..268u16 {
+        script.extend_from_slice(b"00")?;
+    }
+    script.extend_from_slice(b"\nemit a 0\noffer a 8501800030")?;
+    for _ in 0..269u16 {
+        script.extend_from_slice(b"00")?;
+    }
+    script.extend_from_slice(b"\noffer a 85018000\noffer a 8001800030\noffer a\nfind a 9\n")?;
+    let (page, end) = run_of(rt.alloc(), &script, 4096, 1000, 1000);
+    assert!(rt; end == Ok(()));
+    assert!(rt;
+        page.octets
+            .starts_with(b"up\naccepted 0\nsent ff803f8501800030000000")
+    );
+    assert!(rt;
+        page.octets.ends_with(
+            b"00009fd4
+refused 2
+refused 1
+refused 3
+refused 1
+refused 8
+end a accepted=1 waiting=0 unacked=1 acked=0 held=0 parked=0 back=0 discarded=0
+end b accepted=0 waiting=0 unacked=0 acked=0 held=0 parked=0 back=0 discarded=0
+"
+        )
+    );
+    Ok(())
+}
+
+/// Each line, behind the opening line, is unreadable.
+#[test]
+fn unreadable_lines(rt: HostRuntime) -> Result<(), Fail> {
+    for line in [
+        b"offer c 00".as_slice(),
+        b"offer a 000",
+        b"offer a 0g",
+        b"offer a ",
+        b"offer  a 00",
+        b" offer a 00",
+        b"emit a 00",
+        b"emit a 01",
+        b"emit a",
+        b"emit a 18446744073709551616",
+        b"find a +1",
+        b"hear a 0 80ff",
+        b"hear a 0 80ff0585",
+        b"together 0\r",
+        b"together \xc3\xa9",
+        b"set links=1 method=basic a=2 b=1 sio=80",
+        b"arrive b 0",
+        b"Together 0",
+    ] {
+        let mut script = script_of(rt.alloc(), line)?;
+        script.extend_from_slice(b"\n")?;
+        let (page, end) = run_of(rt.alloc(), &script, 4096, 1000, 1000);
+        assert!(rt; end == Err(Fault::Text { line: 2 }));
+        assert!(rt; page.octets.is_empty());
+    }
+    Ok(())
+}
+
+/// Each first line is unreadable.
+#[test]
+fn unreadable_first_lines(rt: HostRuntime) {
+    for line in [
+        b"together 0".as_slice(),
+        b"set links=0 method=basic a=2 b=1 sio=80",
+        b"set links=2 method=basic a=2 b=1 sio=80",
+        b"set links=300 method=basic a=2 b=1 sio=80",
+        b"set links=1 method=cyclic:2:1000 a=2 b=1 sio=80",
+        b"set links=1 method=basic a=16384 b=1 sio=80",
+        b"set links=1 method=basic a=2 b=70000 sio=80",
+        b"set links=1 method=basic a=2 b=1 sio=81",
+        b"set links=1 method=basic a=2 b=1 sio=8",
+        b"set links=1 method=basic a=2 b=1 sio=80 ",
+        b"set links=1 method=basic a=2 b=1",
+        b"set links=01 method=basic a=2 b=1 sio=80",
+    ] {
+        let (page, end) = run_of(rt.alloc(), line, 4096, 1000, 1000);
+        assert!(rt; end == Err(Fault::Text { line: 1 }));
+        assert!(rt; page.octets.is_empty());
+    }
+}
+
+/// What can't be done: a link that the pair hasn't, and one that is up already.
+#[test]
+fn impossible_steps(rt: HostRuntime) -> Result<(), Fail> {
+    for line in [b"together 1".as_slice(), b"emit a 256", b"hear b 1 ffff00"] {
+        let script = script_of(rt.alloc(), line)?;
+        let (_, end) = run_of(rt.alloc(), &script, 4096, 1000, 1000);
+        assert!(rt; end == Err(Fault::Step { line: 2 }));
+    }
+    let script = script_of(rt.alloc(), b"together 0\n\n# once more\ntogether 0\n")?;
+    let (page, end) = run_of(rt.alloc(), &script, 4096, 1000, 1000);
+    assert!(rt; end == Err(Fault::Step { line: 5 }));
+    assert_eq!(rt; page.octets.as_slice(), b"up\n".as_slice());
+    Ok(())
+}
+
+/// Remarks and empty lines print nothing, before the first line too; the last line may lack its LF.
+#[test]
+fn remarks_print_nothing(rt: HostRuntime) -> Result<(), Fail> {
+    for script in [b"".as_slice(), b"\n", b"# nothing", b"# \xc3\xa9\r\n\n"] {
+        let (page, end) = run_of(rt.alloc(), script, 4096, 1000, 1000);
+        assert!(rt; end == Ok(()));
+        assert!(rt; page.octets.is_empty());
+    }
+    let mut script = Vec::from_slice(rt.alloc(), b"# two ends\n\n")?;
+    script.extend_from_slice(OPENING)?;
+    script.extend_from_slice(b"emit a 0")?;
+    let (page, end) = run_of(rt.alloc(), &script, 4096, 1000, 1000);
+    assert!(rt; end == Ok(()));
+    assert!(rt; page.octets.starts_with(b"refused 5\nend a accepted=0 "));
+    Ok(())
+}
+
+/// A line of 4,096 octets is read, one of 4,097 isn't.
+#[test]
+fn the_longest_line(rt: HostRuntime) -> Result<(), Fail> {
+    let mut script = script_of(rt.alloc(), b"")?;
+    for _ in 0..4096u16 {
+        script.push(b'#')?;
+    }
+    let (_, end) = run_of(rt.alloc(), &script, 4096, 1000, 1000);
+    assert!(rt; end == Ok(()));
+    script.push(b'#')?;
+    let (_, end) = run_of(rt.alloc(), &script, 4096, 1000, 1000);
+    assert!(rt; end == Err(Fault::Text { line: 2 }));
+    Ok(())
+}
+
+#[test]
+fn words_of_the_command_line(rt: HostRuntime) {
+    assert!(rt; matches!(words_of(rt.alloc(), &["play"]), Ok(Words::Play)));
+    assert!(rt; matches!(words_of(rt.alloc(), &["units"]), Err(WordsFault::Words(_))));
+    assert!(rt; matches!(words_of(rt.alloc(), &[]), Err(WordsFault::Words(_))));
+    assert!(rt;
+        matches!(
+            words_of(rt.alloc(), &["play", "it"]),
+            Err(WordsFault::Words(_))
+        )
+    );
+}
+
+#[test]
+fn faults_show_the_line_that_is_printed(rt: HostRuntime) -> Result<(), Fail> {
+    assert_eq!(rt;
+        Fault::Text { line: 2 }.to_string(rt.alloc())?.as_str(),
+        "fault line 2 text"
+    );
+    assert_eq!(rt;
+        Fault::Step { line: 7 }.to_string(rt.alloc())?.as_str(),
+        "fault line 7 step"
+    );
+    assert_eq!(rt;
+        Fault::Memory.to_string(rt.alloc())?.as_str(),
+        "fault memory"
+    );
+    assert_eq!(rt;
+        Fault::Exhausted.to_string(rt.alloc())?.as_str(),
+        "fault exhausted"
+    );
+    assert_eq!(rt; Fault::Read.to_string(rt.alloc())?.as_str(), "fault read");
+    assert_eq!(rt; Fault::Write.to_string(rt.alloc())?.as_str(), "fault write");
+    Ok(())
+}

@@ -1,0 +1,30 @@
+-- Which configurations are refused, and what one that is made holds.
+use Rattle.std.specs.Prelude.{◌≡◌, ℕ, ◌==◌, ◌%◌, ◌&&◌, nat_lt, Option, None, Some, if◌then◌else◌}
+use Rattle.set_events.specs.declared.config.SetConfig.{SetConfig}
+use Rattle.set_events.specs.declared.config.Method.{Method}
+use Rattle.set_events.specs.declared.config.Method.TheVariants.{Basic, Cyclic as CyclicMethod}
+use Rattle.set_events.specs.declared.config.ConfigFault.{ConfigFault}
+use Rattle.set_events.specs.declared.config.ConfigFault.TheVariants.{Links, PointCode, Sio, Cyclic}
+
+-- the cyclic method isn't there yet
+abbrev pub method_fault : Method → Option ConfigFault
+method_fault Basic = None
+method_fault (CyclicMethod n1 n2) = Some Cyclic
+
+-- the first fault of these values, in the order of the refusals
+abbrev pub fault_of : ℕ → ℕ → ℕ → ℕ → Method → Option ConfigFault
+fault_of links opc dpc sio method =
+    if links == 1
+    then (if nat_lt opc 16384 && nat_lt dpc 16384
+    then (if sio % 16 == 0 then method_fault method else Some Sio)
+    else Some PointCode)
+    else Some Links
+
+-- the configuration holds these values
+pub record IsConfigOf (config : SetConfig) (set links opc dpc sio : ℕ) (method : Method) : Type 0 where
+  pub set_is : config.set ≡ set
+  pub links_is : config.links ≡ links
+  pub opc_is : config.opc ≡ opc
+  pub dpc_is : config.dpc ≡ dpc
+  pub sio_is : config.sio ≡ sio
+  pub method_is : config.method ≡ method

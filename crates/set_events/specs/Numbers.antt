@@ -1,0 +1,29 @@
+-- The numbers of refusals and faults.
+use Rattle.std.specs.Prelude.{ℕ}
+use Rattle.set_events.specs.declared.answer.Refusal.{Refusal as SetRefusal}
+use Rattle.set_events.specs.declared.answer.Refusal.TheVariants.{TooShort, TooLong, Reserved, StreamFull, NotUp, NotDown, UnknownNumber, NoSuchLink}
+use Rattle.set_events.specs.declared.answer.ControlFault.{ControlFault}
+use Rattle.set_events.specs.declared.answer.ControlFault.TheVariants.{Bsn, Fib}
+use Rattle.set_events.specs.declared.config.ConfigFault.{ConfigFault}
+use Rattle.set_events.specs.declared.config.ConfigFault.TheVariants.{Links, PointCode, Sio, Cyclic}
+
+abbrev pub refusal_number : SetRefusal → ℕ
+refusal_number TooShort = 1
+refusal_number TooLong = 2
+refusal_number Reserved = 3
+refusal_number StreamFull = 4
+refusal_number NotUp = 5
+refusal_number NotDown = 6
+refusal_number UnknownNumber = 8
+refusal_number NoSuchLink = 10
+
+-- the causes of a failed link that a heard unit can show
+abbrev pub fault_number : ControlFault → ℕ
+fault_number Bsn = 2
+fault_number Fib = 3
+
+abbrev pub config_fault_number : ConfigFault → ℕ
+config_fault_number Links = 1
+config_fault_number PointCode = 2
+config_fault_number Sio = 3
+config_fault_number Cyclic = 4

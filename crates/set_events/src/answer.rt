@@ -1,0 +1,154 @@
+//! What a set answers.
+ghost use Rattle.std.specs.Prelude.{◌≡◌, ◌↔◌, IsTrue};
+ghost use Rattle.set_events.specs.Numbers.{refusal_number, fault_number};
+
+use l2_units::{Unit, same_unit};
+
+/// Where a message stands: in exactly one of these places.
+#[derive(Clone, Copy, Debug, PartialEq, Eq)]
+pub enum Fate {
+    /// To be sent on this link for the first time.
+    Waiting { link: u8 },
+    /// Sent on this link and not acknowledged.
+    Unacked { link: u8 },
+    /// Acknowledged on this link.
+    Acked { link: u8 },
+    /// No link can take it: it waits for one.
+    Parked,
+}
+
+/// What became of an accepted body that was heard.
+#[derive(Clone, Copy, Debug, PartialEq, Eq)]
+pub enum Took {
+    /// The unit brought no accepted body.
+    Nothing,
+    /// A message for users.
+    Message,
+    /// An order of the signalling network management.
+    Order,
+    /// A body of the management that is no order known here.
+    Ignored,
+}
+
+/// A fault of the link that the error control found (Q.703 5.3).
+#[derive(Clone, Copy, Debug, PartialEq, Eq)]
+pub enum ControlFault {
+    /// Abnormal backward sequence numbers. Its number is 2.
+    Bsn,
+    /// Abnormal forward indicator bits. Its number is 3.
+    Fib,
+}
+
+impl ControlFault {
+    /// The number of this cause of a failed link.
+    pub fn number(self) -> u8
+        ensures { result ≡ fault_number self }
+    {
+        match self {
+            ControlFault::Bsn => 2,
+            ControlFault::Fib => 3,
+        }
+    }
+}
+
+/// What a heard unit did.
+#[derive(Clone, Copy, Debug, PartialEq, Eq)]
+pub struct Report {
+    /// How many messages it acknowledged, 0 to 127.
+    pub acked: u8,
+    /// What became of its body.
+    pub took: Took,
+    /// This end now asks for retransmission.
+    pub asked: bool,
+    /// The far end asks for retransmission.
+    pub resend: bool,
+    /// The fault that it showed, if any.
+    pub fault: Option<ControlFault>,
+}
+
+/// Why an event was refused. It has no other effect than its entry.
+///
+/// An event that names a link answers 10 before anything else; for an offer the order is 1 to 4.
+#[derive(Clone, Copy, Debug, PartialEq, Eq)]
+pub enum Refusal {
+    /// 1: a body of fewer than 5 octets, the SIO and the label (own).
+    TooShort,
+    /// 2: a body of more than 273 octets.
+    TooLong,
+    /// 3: service indicator 0, which is the management's.
+    Reserved,
+    /// 4: 1,024 messages of the stream are still unsent.
+    StreamFull,
+    /// 5: the link isn't up.
+    NotUp,
+    /// 6: the link is up.
+    NotDown,
+    /// 8: no message has this number.
+    UnknownNumber,
+    /// 10: the set has no such link.
+    NoSuchLink,
+}
+
+impl Refusal {
+    /// The refusal's number.
+    pub fn number(self) -> u8
+        ensures { result ≡ refusal_number self }
+    {
+        match self {
+            Refusal::TooShort => 1,
+            Refusal::TooLong => 2,
+            Refusal::Reserved => 3,
+            Refusal::StreamFull => 4,
+            Refusal::NotUp => 5,
+            Refusal::NotDown => 6,
+            Refusal::UnknownNumber => 8,
+            Refusal::NoSuchLink => 10,
+        }
+    }
+}
+
+/// What a set answers to an event.
+#[derive(Clone, Debug, Drop, PartialEq, Eq)]
+pub enum Answer {
+    /// The offered message was accepted under this number.
+    Accepted { number: u64 },
+    /// Where the message stands.
+    Found { fate: Fate },
+    /// The next unit to send.
+    Sent { unit: Unit },
+    /// What the heard unit did.
+    Heard { report: Report },
+    /// Done, with nothing to tell.
+    Done,
+    /// Refused.
+    Refused { why: Refusal },
+}
+
+impl Answer {
+    /// Whether both answers are the same.
+    pub fn same(&self, other: &Answer) -> bool
+        ensures { IsTrue result ↔ (self.now ≡ other.now) }
+    {
+        match (self, other) {
+            (Answer::Accepted { number: a }, Answer::Accepted { number: b }) => *a == *b,
+            (Answer::Found { fate: a }, Answer::Found { fate: b }) => *a == *b,
+            (Answer::Sent { unit: a }, Answer::Sent { unit: b }) => same_unit(a, b),
+            (Answer::Heard { report: a }, Answer::Heard { report: b }) => *a == *b,
+            (Answer::Done, Answer::Done) => true,
+            (Answer::Refused { why: a }, Answer::Refused { why: b }) => *a == *b,
+            _ => false,
+        }
+    }
+}
+
+/// How many of the users' messages stand in each place.
+#[derive(Clone, Copy, Debug, PartialEq, Eq)]
+pub struct Counts {
+    pub waiting: u64,
+    pub unacked: u64,
+    pub acked: u64,
+    pub held: u64,
+    pub parked: u64,
+    pub back: u64,
+    pub discarded: u64,
+}

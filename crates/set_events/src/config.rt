@@ -1,0 +1,118 @@
+//! What a set is opened with.
+ghost use Rattle.std.specs.Prelude.{◌≡◌, ◌<◌, ◌%◌, ◌^◌};
+ghost use Rattle.std.proofs.Props.{props};
+ghost use Rattle.set_events.specs.declared.config.Method.TheVariants.{Basic};
+
+use thiserror::Error;
+
+/// How a link's messages are kept safe.
+#[derive(Clone, Copy, Debug, PartialEq, Eq)]
+pub enum Method {
+    /// Basic error correction (Q.703 5): retransmission where it's asked for.
+    Basic,
+    /// Preventive cyclic retransmission (Q.703 6).
+    Cyclic {
+        /// Unacknowledged messages that force a cycle, 1 to 127.
+        n1: u8,
+        /// Octets of unacknowledged bodies that force a cycle, 1 to 34,671.
+        n2: u32,
+    },
+}
+
+/// Why a configuration is refused. The first that applies, in this order, is answered.
+#[derive(Clone, Copy, Debug, Drop, PartialEq, Eq, Error)]
+pub enum ConfigFault {
+    /// 1: a set has one link, until sets of several links come.
+    #[error("a set has one link")]
+    Links,
+    /// 2: a point code over 16,383.
+    #[error("a point code has 14 bits")]
+    PointCode,
+    /// 3: the service indicator, the low four bits of the SIO, isn't 0.
+    #[error("the service indicator of the management is 0")]
+    Sio,
+    /// 4: the cyclic method, until it comes.
+    #[error("the cyclic method isn't there")]
+    Cyclic,
+}
+
+/// What a set is opened with. Whoever holds one holds a configuration in range.
+#[derive(Clone, Copy, Debug, PartialEq, Eq)]
+pub struct SetConfig {
+    /// The set's own number.
+    pub set: u16,
+    /// How many links it has: 1, until sets of several links come.
+    pub links: u8,
+    /// Its own point code, 0 to 16,383.
+    pub opc: u16,
+    /// The far end's point code, 0 to 16,383.
+    pub dpc: u16,
+    /// The SIO of the management's orders; its service indicator is 0.
+    pub sio: u8,
+    /// How messages are kept safe: the basic method, until the cyclic one comes.
+    pub method: Method,
+    pub ghost one_link: { links ≡ 1 },
+    pub ghost opc_in_range: { opc < 2 ^ 14 },
+    pub ghost dpc_in_range: { dpc < 2 ^ 14 },
+    pub ghost management: { sio % 16 ≡ 0 },
+    pub ghost basic: { method ≡ Basic } by { Prim.hlevel props },
+}
+
+impl SetConfig {
+    ghost use Rattle.std.specs.Prelude.{◌≡◌, None, Some, MatchResult};
+    ghost use Rattle.set_events.specs.Config.{IsConfigOf, fault_of};
+
+    /// A configuration of these values.
+    ///
+    /// Refusals, in this order: 1 [`ConfigFault::Links`], 2 [`ConfigFault::PointCode`],
+    /// 3 [`ConfigFault::Sio`], 4 [`ConfigFault::Cyclic`].
+    pub fn new(
+        set: u16,
+        links: u8,
+        opc: u16,
+        dpc: u16,
+        sio: u8,
+        method: Method,
+    ) -> Result<SetConfig, ConfigFault>
+        ensures ok { MatchResult result (λ config. fault_of links opc dpc sio method ≡ None) (λ fault. fault_of links opc dpc sio method ≡ Some fault) }
+        ensures made { MatchResult result (λ config. IsConfigOf config set links opc dpc sio method) (λ fault. Unit {0}) }
+    {
+        if links != 1 {
+            return Err(ConfigFault::Links);
+        }
+        if opc > 16_383 || dpc > 16_383 {
+            return Err(ConfigFault::PointCode);
+        }
+        if sio % 16 != 0 {
+            return Err(ConfigFault::Sio);
+        }
+        match method {
+            Method::Basic => Ok(SetConfig {
+                set,
+                links,
+                opc,
+                dpc,
+                sio,
+                method,
+            }),
+            Method::Cyclic { .. } => Err(ConfigFault::Cyclic),
+        }
+    }
+}
+
+impl ConfigFault {
+    ghost use Rattle.std.specs.Prelude.{◌≡◌};
+    ghost use Rattle.set_events.specs.Numbers.{config_fault_number};
+
+    /// The refusal's number.
+    pub fn number(self) -> u8
+        ensures { result ≡ config_fault_number self }
+    {
+        match self {
+            ConfigFault::Links => 1,
+            ConfigFault::PointCode => 2,
+            ConfigFault::Sio => 3,
+            ConfigFault::Cyclic => 4,
+        }
+    }
+}

@@ -1,0 +1,75 @@
+//! Who asks something of a set, and what.
+ghost use Rattle.std.specs.Prelude.{◌≡◌, ◌↔◌, IfOk, IsTrue};
+
+use super::body::Body;
+use l2_units::{Unit, same_unit};
+use std::alloc::AllocError;
+
+/// Who made an entry of the history.
+#[derive(Clone, Copy, Debug, PartialEq, Eq)]
+pub enum Actor {
+    /// A user of the set, 0 to 63.
+    User(u16),
+    /// The terminal of a link, 0 to 15.
+    Terminal(u8),
+}
+
+impl Actor {
+    /// Whether both are the same user or the same terminal.
+    pub fn same(self, other: Actor) -> bool
+        ensures { IsTrue result ↔ (self ≡ other) }
+    {
+        self == other
+    }
+}
+
+/// What is asked of a set.
+#[derive(Debug, Drop)]
+pub enum Event {
+    /// A user offers a message.
+    Offer { body: Body },
+    /// A user asks where the message of this number stands.
+    Find { number: u64 },
+    /// A link's terminal asks for the next unit to send.
+    Next { link: u8 },
+    /// A link's terminal heard this unit.
+    Heard { link: u8, unit: Unit },
+    /// A link's terminal tells that the link is aligned and in service.
+    Up { link: u8 },
+}
+
+impl Event {
+    /// An equal event; it fails only where memory is wanted.
+    pub fn try_copy(&self) -> Result<Event, AllocError>
+        ensures { IfOk result (λ copy. copy ≡ self.now) }
+    {
+        match self {
+            Event::Offer { body } => Ok(Event::Offer {
+                body: body.try_copy()?,
+            }),
+            Event::Find { number } => Ok(Event::Find { number: *number }),
+            Event::Next { link } => Ok(Event::Next { link: *link }),
+            Event::Heard { link, unit } => match unit.clone() {
+                Ok(unit) => Ok(Event::Heard { link: *link, unit }),
+                Err(_) => unreachable!(),
+            },
+            Event::Up { link } => Ok(Event::Up { link: *link }),
+        }
+    }
+
+    /// Whether both events are the same.
+    pub fn same(&self, other: &Event) -> bool
+        ensures { IsTrue result ↔ (self.now ≡ other.now) }
+    {
+        match (self, other) {
+            (Event::Offer { body: a }, Event::Offer { body: b }) => a.same(b),
+            (Event::Find { number: a }, Event::Find { number: b }) => *a == *b,
+            (Event::Next { link: a }, Event::Next { link: b }) => *a == *b,
+            (Event::Heard { link: a, unit: u }, Event::Heard { link: b, unit: v }) => {
+                *a == *b && same_unit(u, v)
+            }
+            (Event::Up { link: a }, Event::Up { link: b }) => *a == *b,
+            _ => false,
+        }
+    }
+}

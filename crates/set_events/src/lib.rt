@@ -1,0 +1,20 @@
+//! What is asked of a link set, what it answers, and the entries of its history.
+//!
+//! Plain data: this crate decides nothing, waits for nothing and knows no rule of the standard but
+//! the lengths and ranges that its types keep. A body is a list of octets to every contract, so two
+//! events, answers or entries are equal exactly where a reader of them sees the same.
+#![tactic(auto)]
+
+mod answer;
+mod body;
+mod config;
+mod event;
+mod history;
+#[cfg(test)]
+mod tests;
+
+pub use answer::{Answer, ControlFault, Counts, Fate, Refusal, Report, Took};
+pub use body::Body;
+pub use config::{ConfigFault, Method, SetConfig};
+pub use event::{Actor, Event};
+pub use history::Entry;

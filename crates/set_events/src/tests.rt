@@ -1,0 +1,79 @@
+//! What the contracts leave to be seen: that calls succeed, and the numbers that users meet.
+use super::*;
+use l2_units::read;
+use std::test::Fail;
+
+#[test]
+fn an_entry_and_its_copy_are_the_same(rt: HostRuntime) -> Result<(), Fail> {
+    let body = Body::from_slice(rt.alloc(), &[0x85, 1, 0x80, 0, 0x30])?;
+    assert_eq!(rt; body.len(), 5);
+    let offer = Entry {
+        who: Actor::User(3),
+        event: Event::Offer { body },
+        answer: Answer::Accepted { number: 7 },
+    };
+    let copy = offer.try_copy()?;
+    assert!(rt; offer.same(&copy));
+    let other = Entry {
+        who: Actor::User(4),
+        event: copy.event,
+        answer: copy.answer,
+    };
+    assert!(rt; !offer.same(&other));
+    Ok(())
+}
+
+#[test]
+fn each_event_is_copied(rt: HostRuntime) -> Result<(), Fail> {
+    let unit = read(&[0xFF, 0xFF, 0]).map_err(|_| "no unit")?;
+    for event in [
+        Event::Find { number: 3 },
+        Event::Next { link: 0 },
+        Event::Heard { link: 0, unit },
+        Event::Up { link: 0 },
+    ] {
+        let copy = event.try_copy()?;
+        assert!(rt; event.same(&copy));
+    }
+    Ok(())
+}
+
+#[test]
+fn a_body_gives_its_octets_back(rt: HostRuntime) -> Result<(), Fail> {
+    let octets = [0x85, 1, 0x80, 0, 0x30].to_vec(rt.alloc())?;
+    let body = Body::from_vec(octets);
+    assert_eq!(rt; body.octets(), [0x85, 1, 0x80, 0, 0x30].as_slice());
+    let octets = body.into_vec();
+    assert_eq!(rt; octets.as_slice(), [0x85, 1, 0x80, 0, 0x30].as_slice());
+    Ok(())
+}
+
+#[test]
+fn answers_differ_by_what_they_tell(rt: HostRuntime) {
+    let first = Answer::Accepted { number: 0 };
+    assert!(rt; !first.same(&Answer::Accepted { number: 1 }));
+    assert!(rt; !first.same(&Answer::Done));
+    assert!(rt; Actor::Terminal(0).same(Actor::Terminal(0)));
+    assert!(rt; !Actor::Terminal(0).same(Actor::User(0)));
+}
+
+#[test]
+fn refusals_have_the_numbers_that_are_printed(rt: HostRuntime) {
+    assert_eq!(rt; Refusal::TooShort.number(), 1);
+    assert_eq!(rt; Refusal::NoSuchLink.number(), 10);
+    assert_eq!(rt; ControlFault::Bsn.number(), 2);
+    assert_eq!(rt; ConfigFault::Cyclic.number(), 4);
+}
+
+#[test]
+fn configurations_out_of_range_are_refused(rt: HostRuntime) {
+    let two = SetConfig::new(0, 2, 1, 1, 0x80, Method::Basic);
+    assert!(rt; two.err() == Some(ConfigFault::Links));
+    let code = SetConfig::new(0, 1, 16_384, 1, 0x81, Method::Basic);
+    assert!(rt; code.err() == Some(ConfigFault::PointCode));
+    let sio = SetConfig::new(0, 1, 16_383, 0, 0x81, Method::Basic);
+    assert!(rt; sio.err() == Some(ConfigFault::Sio));
+    let cyclic = SetConfig::new(0, 1, 2, 1, 0x80, Method::Cyclic { n1: 2, n2: 1000 });
+    assert!(rt; cyclic.err() == Some(ConfigFault::Cyclic));
+    assert!(rt; SetConfig::new(0, 1, 16_383, 0, 0x80, Method::Basic).is_ok());
+}
