@@ -1,3 +1,14 @@
 pub mod BitLemmas
 pub mod DivisionLemmas
 pub mod SealedTextLemmas
+pub mod OctetLemmas
+pub mod StuffingLemmas
+pub mod UnstuffingLemmas
+pub mod ContentLemmas
+pub mod LineLemmas
+pub mod FlagLemmas
+pub mod CountingLemmas
+pub mod DeframingLemmas
+pub mod RunLemmas
+pub mod MarkLemmas
+pub mod SlowLemmas

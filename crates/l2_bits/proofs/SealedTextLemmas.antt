@@ -1,12 +1,15 @@
 -- The sealed text of octets
-use Rattle.std.proofs.Common.{◌≡◌, ℕ, ◌/◌, ◌%◌, ◌^◌, ◌<◌, Bool, List, [], ◌∷◌, ◌++◌, length, take, drop, refl, ap, sym, ◌∙◌, arith, append_assoc, append-nil}
+use Rattle.std.proofs.Common.{◌≡◌, ℕ, ◌+◌, ◌-◌, ◌/◌, ◌%◌, ◌^◌, ◌<◌, Bool, List, [], ◌∷◌, ◌++◌, length, take, drop, All, refl, ap, sym, ◌∙◌, arith, append_assoc, append-nil, length-append}
 use Rattle.std.proofs.lemmas.List.{take_at, drop_at, length-take-le, length-drop, take-append-drop, same_from_push}
+use Rattle.std.proofs.lemmas.List.Elements.{All-append, All-cons, All-nil}
 use Rattle.std.proofs.Math.Nat.{mod-eq_of_lt}
+use Rattle.std.proofs.Math.Seq.{take-append_seam}
 use Rattle.l2_bits.specs.LineBits.{bits_of, number_of, line_bits}
 use Rattle.l2_bits.specs.CheckBits.{check_bits}
 use Rattle.l2_bits.specs.SealedText.{sealed_text, check_octets, IsSealed}
 use Rattle.l2_bits.proofs.BitLemmas.{length-bits_of, number_of-bits_of, number_of_below, bits_of-number_of, bits_of-add}
 use Rattle.l2_bits.proofs.DivisionLemmas.{length-check_bits}
+use Rattle.l2_bits.proofs.OctetLemmas.{IsOctet}
 
 -- the check octets, from two numbers whose bits are the check bits
 check_octets_of : (octets : List ℕ) (low high : ℕ)
@@ -84,3 +87,22 @@ without_two a b i j k l same =
 pub one_content : (a b : List ℕ) → sealed_text a ≡ sealed_text b → a ≡ b
 unfolding sealed_text check_octets
 one_content a b same = without_two a b _ _ _ _ same
+
+pub length-sealed_text : (octets : List ℕ) → length (sealed_text octets) ≡ length octets + 2
+unfolding sealed_text check_octets
+length-sealed_text octets = length-append octets _
+
+-- the octets stand before the last two of their sealed text
+pub sealed_front : (octets text : List ℕ) → text ≡ sealed_text octets → take (length text - 2) text ≡ octets
+unfolding sealed_text
+sealed_front octets text is =
+    let front : length text - 2 ≡ length octets = omega (arith, ap length is, length-sealed_text octets) in
+    rw (front, is) (take-append_seam octets (check_octets octets))
+
+-- all octets of a sealed text are octets
+pub check_in_range : (octets : List ℕ) → All IsOctet octets → All IsOctet (sealed_text octets)
+check_in_range octets in_range =
+    let is = sealed_meets_check octets in
+    rw is.followed
+    (All-append IsOctet octets (is.low ∷ is.high ∷ []) in_range
+    (All-cons IsOctet is.low (is.high ∷ []) is.low_in_range (All-cons IsOctet is.high [] is.high_in_range (All-nil IsOctet))))

@@ -2,3 +2,9 @@ pub mod LineBits
 pub mod CheckBits
 pub mod Register
 pub mod SealedText
+pub mod Flags
+pub mod Stuffing
+pub mod Contents
+pub mod OctetCounting
+pub mod Marks
+pub mod Deframing

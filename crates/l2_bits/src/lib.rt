@@ -1,21 +1,38 @@
-//! Error detection on a signalling link: the sixteen check bits that end each signal unit (ITU-T Q.703
-//! (07/96) section 4.2), over the order of bits on the line (section 2.4).
+//! The bits of a signalling link (ITU-T Q.703 (07/96)): flags (section 3.1), zero insertion (3.2), check
+//! bits (4.2), and octet counting where alignment is lost (4.1), over the order of bits on the line (2.4).
 //!
 //! The crate is pure: no time, no IO, no lock, and it takes no memory.
 //!
-//! - `check_of` gives the check bits of the octets between the opening flag and the check bits.
-//! - `seal` gives the octets with their two check octets behind them.
-//! - `one_sealed_text` is a law about that text: the octets determine it, and it determines them.
+//! To the line: `seal` gives the octets of a signal unit with their two check octets behind them
+//! (`check_of` gives those alone), `stuff_into` appends their text to the bits of the line, and
+//! `flag_into` a flag. From the line: a `Deframer` takes its bits one by one and gives a `Mark` where a
+//! signal unit ends, a good one or a damaged one, or where octet counting tells an error.
 //!
 //! ```text
-//! flag | BSN BIB | FSN FIB | LI | body, 0 to 273 octets | check bits | flag
-//!       \_____________ octets, at most 276 ____________/ \ 2 octets /
-//!       \_______________________ sealed text _______________________/
+//! octets   BSN BIB | FSN FIB | LI | body, 0 to 273 octets | check bits
+//!          \_____________ octets, at most 276 ____________/ \ 2 octets /
+//!          \_______________________ sealed text _______________________/
+//! line     flag | text: the bits of a sealed text, a zero inserted after each five ones | flag | ..
 //! ```
+//!
+//! The definitions stand in `specs/`: they speak of whole lists of bits, without register, counter or
+//! mode. `one_sealed_text`, `one_text`, `one_mark` and `octet_counting` are laws about them.
 #![tactic(auto)]
 
 mod check;
+mod content;
+mod deframing;
+mod flags;
+mod marks;
 mod sealed_text;
+mod shift;
+#[cfg(test)]
+mod slow;
+mod stuffing;
 
 pub use check::check_of;
+pub use deframing::Deframer;
+pub use flags::flag_into;
+pub use marks::{Mark, octet_counting, one_mark};
 pub use sealed_text::{one_sealed_text, seal};
+pub use stuffing::{one_text, stuff_into};
