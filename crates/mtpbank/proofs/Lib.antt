@@ -1,3 +1,4 @@
 pub mod FigureLemmas
 pub mod PairLemmas
 pub mod PlayLemmas
+pub mod PrintLemmas

@@ -4,5 +4,6 @@ pub mod Opened
 pub mod Pair
 pub mod PlayText
 pub mod Playing
+pub mod Printing
 pub mod Script
 pub mod Texts

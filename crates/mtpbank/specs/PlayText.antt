@@ -7,6 +7,7 @@ use Rattle.mtpbank.specs.declared.script.Values.{Values}
 use Rattle.mtpbank.specs.Script.{line_of, first_line}
 use Rattle.mtpbank.specs.Pair.{Pair, Outcome, shows, impossible, exhausted, new_pair, carried_out}
 use Rattle.mtpbank.specs.Texts.{shown_text, ends_text}
+use Rattle.mtpbank.specs.Printing.{Printed, behind}
 
 -- The lines of a text: each ends in LF (10), which the last may lack.
 
@@ -17,11 +18,6 @@ onto_first octet (line ∷ lines) = (octet ∷ line) ∷ lines
 abbrev pub lines_of : List ℕ → List (List ℕ)
 lines_of [] = []
 lines_of (octet ∷ octets) = if octet == 10 then [] ∷ lines_of octets else onto_first octet (lines_of octets)
-
--- What is printed in all, and the fault that it ends with, if any.
-pub record Played : Type 0 where
-  pub printed : List ℕ
-  pub fault : Option Fault
 
 -- A line prints this and leaves a pair, if one is made yet; or it ends the script with a fault.
 pub data LineOutcome : Type 0 where
@@ -63,20 +59,16 @@ abbrev pub at_the_end : Option Pair → List ℕ
 at_the_end None = []
 at_the_end (Some p) = ends_text p
 
--- what is printed before goes in front
-abbrev pub behind : List ℕ → Played → Played
-behind printed p = record { printed = printed ++ p.printed; fault = p.fault }
-
 -- a line, and what goes on from the pair that it leaves
-abbrev pub goes_on : LineOutcome → (Option Pair → Played) → Played
+abbrev pub goes_on : LineOutcome → (Option Pair → Printed) → Printed
 goes_on (prints printed pair) next = behind printed (next pair)
 goes_on (stops fault) next = record { printed = []; fault = Some fault }
 
 -- the lines from this number on
-abbrev pub play_lines : ℕ → Option Pair → List (List ℕ) → Played
+abbrev pub play_lines : ℕ → Option Pair → List (List ℕ) → Printed
 play_lines n pair [] = record { printed = at_the_end pair; fault = None }
 play_lines n pair (line ∷ lines) = goes_on (on_line n pair line) (λ next. play_lines (suc n) next lines)
 
 -- THE TEXT
-abbrev pub play_text : List ℕ → Played
+abbrev pub play_text : List ℕ → Printed
 play_text input = play_lines 1 None (lines_of input)

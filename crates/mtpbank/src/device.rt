@@ -1,5 +1,5 @@
 //! What the program reads from and writes to.
-ghost use Rattle.std.specs.Prelude.{◌≡◌, ◌≤◌, Bool, List, ℕ, Option, Some, None, true, IfOk, OnOk, OnErr, length};
+ghost use Rattle.std.specs.Prelude.{◌≡◌, ◌<◌, ◌≤◌, Bool, List, ℕ, Option, Some, None, true, IfOk, OnOk, OnErr, length};
 ghost use Rattle.std.specs.Io.KnownBytes.{ReadConsumes, WriteAppends};
 
 use std::io::{Read, Write};
@@ -36,6 +36,7 @@ pub trait Sink {
     /// is a failure.
     fn write(&mut self, octets: &[u8]) -> Result<usize, DeviceFault>
         ensures within { IfOk result (λ n. n ≤ length octets.now) }
+        ensures moves { IfOk result (λ n. 0 < length octets.now → 0 < n) }
         ensures octets { WriteAppends (written self.old) (written self.new) result octets.now }
         ensures sound { OnOk result (has_failed self.new ≡ has_failed self.old) }
         ensures failed { OnErr result (has_failed self.new ≡ true) };
@@ -108,8 +109,8 @@ impl<W: Write> Sink for Writer<W> {
 
     fn write(&mut self, octets: &[u8]) -> Result<usize, DeviceFault> {
         match self.inner.write(octets) {
-            Ok(count) => Ok(count),
-            Err(_) => {
+            Ok(count) if count > 0 || octets.is_empty() => Ok(count),
+            _ => {
                 self.failed = true;
                 Err(DeviceFault)
             }

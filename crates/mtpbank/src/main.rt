@@ -11,6 +11,8 @@ mod opening;
 mod pair;
 mod play;
 mod player;
+mod printer;
+mod printing;
 mod reading;
 mod script;
 mod shown;
@@ -18,6 +20,7 @@ mod step_fault;
 #[cfg(test)]
 mod tests;
 mod texts;
+mod whole_line;
 mod words;
 
 use device::{Reader, Writer};

@@ -1,14 +1,11 @@
 //! A script under way: the line that is being read, and the pair.
 
-use super::device::Sink;
 use super::fault::Fault;
-use super::opening::opening_of;
 use super::pair::Pair;
-use super::reading::line_of;
-use super::script::End;
-use super::step_fault::StepFault;
-use super::texts::{end_text, shown_text};
+use super::printer::Printer;
+use super::whole_line::{add_ends, end_line};
 use std::alloc::Global;
+use std::marker::Model;
 
 /// The most octets of a line, without its LF.
 const LONGEST_LINE: usize = 4096;
@@ -25,9 +22,25 @@ pub(crate) struct Player {
     pair: Option<Pair>,
 }
 
+impl Model for Player {
+    ghost use Rattle.mtpbank.specs.Playing.{Reading, IsReading};
+
+    ghost Value = { Reading };
+
+    ghost view = { λ p. record { line = p.line; text = p.text.items; pair = p.pair } };
+
+    ghost invariant = { λ p. IsReading p.text.items };
+}
+
 impl Player {
+    ghost use Rattle.std.specs.Prelude.{◌≡◌, ◌≢◌, ◌+◌, ◌<◌, ◌≤◌, ◌^◌, [], ◌∷◌, None};
+    ghost use Rattle.mtpbank.specs.Printing.{ReadsOrStops};
+    ghost use Rattle.mtpbank.specs.Playing.{text_from as text_at};
+
     /// Before the first octet.
-    pub(crate) fn new(alloc: Global) -> Player {
+    pub(crate) fn new(alloc: Global) -> Player
+        ensures { result ≡ record { line = 1; text = []; pair = None } }
+    {
         Player {
             alloc,
             line: 1,
@@ -36,116 +49,83 @@ impl Player {
         }
     }
 
-    /// Reads these octets, and carries out each line that ends in them.
-    pub(crate) fn feed<W: Sink>(&mut self, octets: &[u8], sink: &mut W) -> Result<(), Fault> {
-        for octet in octets {
-            self.take(*octet, sink)?;
+    /// Reads one octet.
+    fn take(&mut self, octet: u8, out: &mut Vec<u8>) -> Result<(), Fault>
+        requires { self.old.line + 1 < 2 ^ 64 }
+        ensures reads { ReadsOrStops result (text_at self.old) (octet ∷ []) out.old.items out.new.items (text_at self.new) }
+        ensures line { self.new.line ≤ self.old.line + 1 }
+    {
+        if octet == b'\n' {
+            self.end_line(out)
+        } else {
+            self.add(octet, out)
         }
-        Ok(())
     }
 
-    /// Reads one octet.
-    fn take<W: Sink>(&mut self, octet: u8, sink: &mut W) -> Result<(), Fault> {
-        if octet == b'\n' {
-            self.end_line(sink)?;
-            self.text.clear();
-            self.line = self.line.saturating_add(1);
-            return Ok(());
+    /// Reads the LF that ends a line.
+    fn end_line(&mut self, out: &mut Vec<u8>) -> Result<(), Fault>
+        requires { self.old.line + 1 < 2 ^ 64 }
+        ensures reads { ReadsOrStops result (text_at self.old) (10 ∷ []) out.old.items out.new.items (text_at self.new) }
+        ensures line { self.new.line ≤ self.old.line + 1 }
+    {
+        match end_line(self.alloc, &mut self.pair, &self.text, self.line, out) {
+            Ok(()) => {
+                self.text.clear();
+                self.line += 1;
+                Ok(())
+            }
+            Err(fault) => Err(fault),
         }
+    }
+
+    /// Reads an octet that ends no line.
+    fn add(&mut self, octet: u8, out: &mut Vec<u8>) -> Result<(), Fault>
+        requires { octet ≢ 10 }
+        ensures reads { ReadsOrStops result (text_at self.old) (octet ∷ []) out.old.items out.new.items (text_at self.new) }
+        ensures line { self.new.line ≤ self.old.line + 1 }
+    {
+        let _ = out;
         if self.text.len() >= LONGEST_LINE {
             return Err(Fault::Text { line: self.line });
         }
-        match self.text.push(octet) {
-            Ok(()) => Ok(()),
-            Err(_) => Err(Fault::Memory),
-        }
-    }
-
-    /// The input has ended: the last line may lack its LF, and both ends are told.
-    pub(crate) fn end<W: Sink>(mut self, sink: &mut W) -> Result<(), Fault> {
-        if !self.text.is_empty() {
-            self.end_line(sink)?;
-        }
-        let Some(pair) = &self.pair else {
-            return Ok(());
+        let Ok(()) = self.text.push(octet) else {
+            return Err(Fault::Memory);
         };
-        for end in [End::A, End::B] {
-            match end_text(self.alloc, end, pair.counts(end)) {
-                Ok(text) => write_all(sink, &text)?,
-                Err(_) => return Err(Fault::Memory),
+        Ok(())
+    }
+}
+
+impl Printer for Player {
+    ghost use Rattle.mtpbank.specs.Playing.{text_from as text_of_rest};
+
+    ghost text_from = { text_of_rest };
+
+    ghost so_far = { λ p. p.line };
+
+    fn read(&mut self, octets: &[u8], out: &mut Vec<u8>) -> Result<(), Fault> {
+        for octet in octets {
+            match self.take(*octet, out) {
+                Ok(()) => (),
+                Err(fault) => return Err(fault),
             }
         }
         Ok(())
     }
 
-    /// Carries out the line that was read.
-    fn end_line<W: Sink>(&mut self, sink: &mut W) -> Result<(), Fault> {
-        if is_remark(&self.text) {
-            return Ok(());
+    /// The last line may lack its LF; both ends are told.
+    fn end(self, out: &mut Vec<u8>) -> Result<(), Fault> {
+        let Player {
+            alloc,
+            line,
+            text,
+            mut pair,
+        } = self;
+        if text.is_empty() {
+            return add_ends(alloc, &pair, out);
         }
-        match &mut self.pair {
-            None => {
-                self.pair = Some(opened(self.alloc, &self.text, self.line)?);
-                Ok(())
-            }
-            Some(pair) => carried_out(self.alloc, pair, &self.text, self.line, sink),
-        }
-    }
-}
-
-/// Whether the line is empty or begins with `#`.
-fn is_remark(text: &[u8]) -> bool {
-    match text {
-        [] => true,
-        [first, ..] => *first == b'#',
-    }
-}
-
-/// The pair that the first line asks for.
-fn opened(alloc: Global, text: &[u8], line: u64) -> Result<Pair, Fault> {
-    let Some(opening) = opening_of(text) else {
-        return Err(Fault::Text { line });
-    };
-    match Pair::new(alloc, &opening) {
-        Ok(pair) => Ok(pair),
-        Err(_) => Err(Fault::Memory),
-    }
-}
-
-/// Carries out a line after the first, and writes what it prints.
-fn carried_out<W: Sink>(
-    alloc: Global,
-    pair: &mut Pair,
-    text: &[u8],
-    line: u64,
-    sink: &mut W,
-) -> Result<(), Fault> {
-    let asked = match line_of(alloc, text) {
-        Ok(Some(asked)) => asked,
-        Ok(None) => return Err(Fault::Text { line }),
-        Err(_) => return Err(Fault::Memory),
-    };
-    let shown = match pair.carried_out(&asked) {
-        Ok(shown) => shown,
-        Err(StepFault::Impossible) => return Err(Fault::Step { line }),
-        Err(StepFault::Memory) => return Err(Fault::Memory),
-        Err(StepFault::Exhausted) => return Err(Fault::Exhausted),
-    };
-    match shown_text(alloc, &shown) {
-        Ok(text) => write_all(sink, &text),
-        Err(_) => Err(Fault::Memory),
-    }
-}
-
-/// Writes all these octets.
-fn write_all<W: Sink>(sink: &mut W, octets: &[u8]) -> Result<(), Fault> {
-    let mut written: usize = 0;
-    while written < octets.len() {
-        match sink.write(&octets[written..]) {
-            Ok(0) => return Err(Fault::Write),
-            Ok(count) => written += count,
-            Err(_) => return Err(Fault::Write),
+        match end_line(alloc, &mut pair, &text, line, out) {
+            Ok(()) => add_ends(alloc, &pair, out),
+            Err(fault) => Err(fault),
         }
     }
-    Ok(())
 }

@@ -51,6 +51,7 @@ struct Page {
     /// How many writes succeed.
     writes: u32,
     failed: bool,
+    ghost moves: { 0 < piece },
 }
 
 impl Sink for Page {
@@ -159,15 +160,18 @@ fn a_reader_fails_in_mid_stream(rt: HostRuntime) -> Result<(), Fail> {
 #[test]
 fn a_writer_fails_at_each_call(rt: HostRuntime) -> Result<(), Fail> {
     let script = script_of(rt.alloc(), FIRST_MESSAGE)?;
-    for writes in 0..8u32 {
-        let (page, end) = run_of(rt.alloc(), &script, 4096, 1000, writes);
+    let all = FIRST_PRINTED.len();
+    // One octet a call: so many were written, and nothing after the call that failed.
+    for writes in 0..all {
+        let (page, end) = run_of(rt.alloc(), &script, 1, 1000, writes as u32);
         assert!(rt; end == Err(Fault::Write));
         assert!(rt; page.failed);
+        assert_eq!(rt; page.octets.len(), writes);
         assert!(rt; FIRST_PRINTED.starts_with(&page.octets));
     }
-    let (page, end) = run_of(rt.alloc(), &script, 4096, 1000, 8);
+    let (page, end) = run_of(rt.alloc(), &script, 1, 1000, all as u32);
     assert!(rt; end == Ok(()));
-    assert!(rt; !page.failed);
+    assert_eq!(rt; page.octets.as_slice(), FIRST_PRINTED);
     Ok(())
 }
 
