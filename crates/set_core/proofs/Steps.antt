@@ -8,11 +8,11 @@ use Rattle.l2_units.proofs.Texts.{same_header}
 use Rattle.l2_units.specs.declared.unit.Header.{Header}
 use Rattle.l2_units.specs.declared.unit.Unit.TheVariants.{Fisu, Msu}
 use Rattle.set_events.specs.declared.answer.Answer.TheVariants.{Sent, Done, Accepted}
-use Rattle.set_events.specs.declared.answer.Refusal.TheVariants.{StreamFull, NoSuchLink}
+use Rattle.set_events.specs.declared.answer.Refusal.TheVariants.{StreamFull, NotUp, NoSuchLink}
 use Rattle.set_events.specs.declared.answer.Fate.{Fate}
 use Rattle.set_events.specs.declared.answer.Fate.TheVariants.{Waiting, Unacked, Parked}
 use Rattle.set_core.specs.Set.{Row, Rows, turned, unack, wait, unsent, stream_of, service_indicator, is_unsent, is_waiting, is_unacked}
-use Rattle.set_core.specs.Step.{offered, sends, hears, rises, on_link, in_service, header_of, offer_refusal, heard_back}
+use Rattle.set_core.specs.Step.{Outcome, refused, offered, sends, hears, rises, on_link, in_service, header_of, offer_refusal, heard_back}
 use Rattle.set_core.specs.Stand.{rows_from, fate_at, service_refusal}
 use Rattle.set_core.proofs.Marked.{length-rows_from, one_more, count_unacked, waiting_rows, turn_sent, turn_acked, move_parked, unsent_rows, acked_at, unacked_at, waiting_at, where_at, below, between, past}
 
@@ -125,11 +125,20 @@ offer_by_count s body n e short long management =
 abbrev pub marked_rows : Bool → ℕ → ℕ → List (List ℕ) → Rows
 marked_rows up a s bs = record { rows = rows_from up a s 0 bs; up = up; acked = a }
 
+-- an event that isn't refused is carried out
+decided : (on up : Bool) (s : Rows) (outcome : Outcome) → (if on then (if up then None else Some NotUp) else Some NoSuchLink) ≡ None → (if on then (if up then outcome else refused s NotUp) else refused s NoSuchLink) ≡ outcome
+decided true true s outcome e = refl
+decided true false s outcome e = cc
+decided false up s outcome e = cc
+
+pub in_use : (links link : ℕ) (s : Rows) (outcome : Outcome) → service_refusal links link s.up ≡ None → on_link links link s (in_service s outcome) ≡ outcome
+in_use links link s outcome e = decided (nat_lt link links) s.up s outcome e
+
 pub heard_step : (links link : ℕ) (up : Bool) (a s d r : ℕ) (bs : List (List ℕ)) → links ≡ 1 → service_refusal links link up ≡ None → a ≤ s → s ≤ length bs → (((s - a < d) × (r ≡ 0)) ⊎ ((d ≤ s - a) × (r ≡ d)))
-    → on_link links link (marked_rows up a s bs) (in_service (marked_rows up a s bs) (hears d link (marked_rows up a s bs))) ≡ record { answer = heard_back r; state = marked_rows up (a + r) s bs }
+    → hears d link (marked_rows up a s bs) ≡ record { answer = heard_back r; state = marked_rows up (a + r) s bs }
 heard_step links link up a s d r bs one free o w h =
     let on = served link up (rw one at free) in
-    rw (one, on.0, on.1) (hears_all a s d r bs o w h)
+    rw (on.0, on.1) (hears_all a s d r bs o w h)
 
 pub fill_step : (links link : ℕ) (up : Bool) (a s : ℕ) (bs : List (List ℕ)) (h : Header) → links ≡ 1 → service_refusal links link up ≡ None → a ≤ s → s ≤ length bs → ((s ≡ length bs) ⊎ (s - a ≡ 127)) → h ≡ header_of ((s % 128 + 127) % 128)
     → on_link links link (marked_rows up a s bs) (in_service (marked_rows up a s bs) (sends (wait link (rows_from up a s 0 bs)) link (marked_rows up a s bs) (length (unack link (rows_from up a s 0 bs))))) ≡ record { answer = Sent (Fisu h); state = marked_rows up a s bs }

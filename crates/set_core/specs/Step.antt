@@ -4,13 +4,13 @@ use Rattle.std.specs.Prelude.{◌≡◌, ◌<◌, ℕ, true, false, ◌==◌, �
 use Rattle.std.proofs.Common.{arith}
 use Rattle.set_core.specs.Set.{Row, Rows, LinkSet, unack, wait, is_unacked, is_waiting, is_parked, unsent, stream_of, service_indicator, turned, moved, place}
 use Rattle.l2_units.specs.declared.unit.Header.{Header}
-use Rattle.l2_units.specs.declared.unit.Unit.TheVariants.{Fisu, Msu}
-use Rattle.l2_units.specs.Grammar.{head_of}
+use Rattle.l2_units.specs.declared.unit.Unit.{Unit as SignalUnit}
+use Rattle.l2_units.specs.declared.unit.Unit.TheVariants.{Fisu, Lssu, Msu}
 use Rattle.set_events.specs.declared.answer.Fate.{Fate}
 use Rattle.set_events.specs.declared.answer.Fate.TheVariants.{Waiting, Unacked, Acked, Parked}
 use Rattle.set_events.specs.declared.answer.Took.TheVariants.{Nothing}
 use Rattle.set_events.specs.declared.answer.Refusal.{Refusal as SetRefusal}
-use Rattle.set_events.specs.declared.answer.Refusal.TheVariants.{TooShort, TooLong, Reserved, StreamFull, NotUp, NotDown, UnknownNumber, NoSuchLink}
+use Rattle.set_events.specs.declared.answer.Refusal.TheVariants.{TooShort, TooLong, Reserved, StreamFull, NotUp, NotDown, UnknownNumber, Nothing as NothingToDo, NoSuchLink}
 use Rattle.set_events.specs.declared.answer.Answer.{Answer}
 use Rattle.set_events.specs.declared.answer.Answer.TheVariants.{Accepted, Found, Sent, Heard as HeardBack, Done, Refused}
 use Rattle.set_events.specs.declared.event.Actor.{Actor}
@@ -83,6 +83,12 @@ hears d link s =
     then record { answer = heard_back d; state = record s { rows = turned (is_unacked link) (Acked link) d s.rows; acked = s.acked + d } }
     else record { answer = heard_back 0; state = s }
 
+-- the error control hears messages and fill-in units; a link status signal unit is the link's own affair and is refused 9
+abbrev pub hears_unit : SignalUnit → ℕ → Rows → Outcome
+hears_unit (Fisu head) link s = hears (distance s.acked head.bsn) link s
+hears_unit (Lssu head status) link s = refused s NothingToDo
+hears_unit (Msu head body) link s = hears (distance s.acked head.bsn) link s
+
 -- Up. The error control starts anew, and what was parked waits for the link.
 abbrev pub rises : ℕ → Rows → Outcome
 rises link s =
@@ -103,7 +109,7 @@ abbrev pub step : ℕ → Rows → Event → Outcome
 step links s (Offer body) = offered (offer_refusal s body) s body
 step links s (Find number) = found (place number s.rows) s
 step links s (Next link) = on_link links link s (in_service s (sends (wait link s.rows) link s (length (unack link s.rows))))
-step links s (Heard link unit) = on_link links link s (in_service s (hears (distance s.acked (head_of unit).bsn) link s))
+step links s (Heard link unit) = on_link links link s (in_service s (hears_unit unit link s))
 step links s (Up link) = on_link links link s (rises link s)
 
 -- a set answered this event of this actor so: by the step, with the entry put last

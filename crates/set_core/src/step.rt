@@ -2,12 +2,12 @@
 ghost use Rattle.std.specs.Prelude.{◌≡◌, ◌==◌, ◌<◌, ◌≤◌, IfOk, IfErr, OnErr, count_by, length, None};
 ghost use Rattle.set_core.specs.Set.{stream_of as stream_in};
 ghost use Rattle.set_core.specs.Stand.{IsMarked, rows_of, service_refusal};
-ghost use Rattle.set_core.specs.Step.{step, header_of as header_for, offer_refusal, distance as distance_of};
+ghost use Rattle.set_core.specs.Step.{step, header_of as header_for, offer_refusal, hears, distance as distance_of};
 
 use super::fault::SetFault;
 use super::marks::{Marks, place_in};
 use arrayvec::ArrayVec;
-use l2_units::{Header, LONGEST_BODY, Unit, header_in};
+use l2_units::{Header, LONGEST_BODY, Unit};
 use set_events::{Answer, Body, Event, Refusal, Report, Took};
 
 /// The fewest octets of an offered body: the SIO and a label (own).
@@ -175,7 +175,7 @@ fn body_of(body: &Body) -> ArrayVec<u8, 273>
     }
 }
 
-/// A unit was heard: a reasonable BSN acknowledges.
+/// A unit was heard: a message or a fill-in unit acknowledges, a link status signal unit is refused.
 fn heard(marks: &mut Marks, bodies: &[Body], link: u8, unit: &Unit) -> Answer
     requires { IsMarked marks.old bodies.now }
     ensures step { step marks.old.links (rows_of marks.old bodies.now) (Event.Heard link unit.now) ≡ record { answer = result; state = rows_of marks.new bodies.now } }
@@ -185,7 +185,26 @@ fn heard(marks: &mut Marks, bodies: &[Body], link: u8, unit: &Unit) -> Answer
     if let Some(why) = out_of_service(*marks, link) {
         return Answer::Refused { why };
     }
-    let mut acked = distance(marks.acked, header_in(unit).bsn);
+    match unit {
+        Unit::Fisu { head } | Unit::Msu { head, .. } => {
+            acknowledged(marks, bodies, link, head.bsn)
+        }
+        Unit::Lssu { .. } => Answer::Refused {
+            why: Refusal::Nothing,
+        },
+    }
+}
+
+/// A BSN was heard on a link in service: a reasonable one acknowledges.
+fn acknowledged(marks: &mut Marks, bodies: &[Body], link: u8, bsn: u8) -> Answer
+    requires marked { IsMarked marks.old bodies.now }
+    requires in_service { service_refusal marks.old.links link marks.old.up ≡ None }
+    requires number { bsn < 128 }
+    ensures hears { hears (distance_of marks.old.acked bsn) link (rows_of marks.old bodies.now) ≡ record { answer = result; state = rows_of marks.new bodies.now } }
+    ensures links { marks.new.links ≡ marks.old.links }
+    ensures marked { IsMarked marks.new bodies.now }
+{
+    let mut acked = distance(marks.acked, bsn);
     if acked as usize > marks.sent - marks.acked {
         acked = 0;
     }

@@ -85,6 +85,8 @@ pub enum Refusal {
     NotDown,
     /// 8: no message has this number.
     UnknownNumber,
+    /// 9: there is nothing to do: a link status signal unit was heard while the link is up.
+    Nothing,
     /// 10: the set has no such link.
     NoSuchLink,
 }
@@ -102,6 +104,7 @@ impl Refusal {
             Refusal::NotUp => 5,
             Refusal::NotDown => 6,
             Refusal::UnknownNumber => 8,
+            Refusal::Nothing => 9,
             Refusal::NoSuchLink => 10,
         }
     }
