@@ -1,5 +1,5 @@
 -- THE TEXT OF `play`: from the octets that are read to the octets that are printed and the answer.
-use Rattle.std.specs.Prelude.{ℕ, Bool, true, ◌==◌, nat_lt, suc, List, [], ◌∷◌, ◌++◌, length, Option, Some, None, if◌then◌else◌}
+use Rattle.std.specs.Prelude.{ℕ, Bool, true, ◌==◌, nat_lt, suc, List, [], ◌∷◌, length, Option, Some, None, if◌then◌else◌}
 use Rattle.mtpbank.specs.declared.fault.Fault.{Fault}
 use Rattle.mtpbank.specs.declared.fault.Fault.TheVariants.{Text, Step, Exhausted}
 use Rattle.mtpbank.specs.declared.script.ScriptLine.{ScriptLine}

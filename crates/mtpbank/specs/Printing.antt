@@ -1,5 +1,5 @@
 -- A text that is printed while another is read: what calls print, and what the devices give and take.
-use Rattle.std.specs.Prelude.{◌≡◌, ℕ, ◌^◌, ◌≤◌, Bool, true, ◌⊎◌, List, [], ◌∷◌, ◌++◌, length, Option, Some, None, Result, MatchResult}
+use Rattle.std.specs.Prelude.{◌≡◌, ℕ, ◌+◌, ◌^◌, ◌≤◌, Bool, true, ◌⊎◌, List, [], ◌∷◌, ◌++◌, length, Option, Some, None, Result, MatchResult, IfErr}
 use Rattle.std.specs.Io.KnownBytes.{Appends}
 use Rattle.mtpbank.specs.declared.fault.Fault.{Fault}
 use Rattle.mtpbank.specs.declared.fault.Fault.TheVariants.{Text, Step, Memory, Exhausted, Read, Write}
@@ -13,14 +13,20 @@ pub record Printed : Type 0 where
 abbrev pub behind : List ℕ → Printed → Printed
 behind printed p = record { printed = printed ++ p.printed; fault = p.fault }
 
--- the text ends with this fault after what was printed; where a device failed or memory was wanted, that is a prefix of it
-abbrev pub EndsIn : Fault → Printed → List ℕ → Type 0
-EndsIn (Text n) text printed = text ≡ record { printed = printed; fault = Some (Text n) }
-EndsIn (Step n) text printed = text ≡ record { printed = printed; fault = Some (Step n) }
-EndsIn Memory text printed = (more : List ℕ) × (text.printed ≡ printed ++ more)
-EndsIn Exhausted text printed = text ≡ record { printed = printed; fault = Some Exhausted }
-EndsIn Read text printed = (more : List ℕ) × (text.printed ≡ printed ++ more)
-EndsIn Write text printed = (more : List ℕ) × (text.printed ≡ printed ++ more)
+-- In what follows IsIt tells which text is meant.
+
+-- what was printed is the beginning of the text
+abbrev pub IsBegun : (Printed → Type 0) → List ℕ → Type 0
+IsBegun IsIt printed = (text : Printed) → IsIt text → (more : List ℕ) × (text.printed ≡ printed ++ more)
+
+-- the fault is that of the text, of which all was printed; where a device failed or memory was wanted, it was begun
+abbrev pub EndsIn : Fault → (Printed → Type 0) → List ℕ → Type 0
+EndsIn (Text n) IsIt printed = IsIt (record { printed = printed; fault = Some (Text n) })
+EndsIn (Step n) IsIt printed = IsIt (record { printed = printed; fault = Some (Step n) })
+EndsIn Memory IsIt printed = IsBegun IsIt printed
+EndsIn Exhausted IsIt printed = IsIt (record { printed = printed; fault = Some Exhausted })
+EndsIn Read IsIt printed = IsBegun IsIt printed
+EndsIn Write IsIt printed = IsBegun IsIt printed
 
 -- a fault of the text or of memory, and none of a device
 abbrev pub IsOfText : Fault → Type 0
@@ -31,29 +37,37 @@ IsOfText Exhausted = Unit {0}
 IsOfText Read = ⊥
 IsOfText Write = ⊥
 
--- In what follows a text is told by what is printed for each list of octets that may be left to read.
+-- In what follows HasRead tells of an input's octets and what they have printed that a printer has come so far, and
+-- IsText which text an input has. An input has at most 2^24 octets.
 
 -- these octets were read, and what they print was added
-pub record Reads (old : List ℕ → Printed) (octets before after : List ℕ) (new : List ℕ → Printed) : Type 0 where
+pub record Reads (HadRead : List ℕ → List ℕ → Type 0) (octets before after : List ℕ) (HasRead : List ℕ → List ℕ → Type 0) : Type 0 where
   pub printed : List ℕ
   pub added : after ≡ before ++ printed
-  pub goes_on : (left : List ℕ) → old (octets ++ left) ≡ behind printed (new left)
+  pub goes_on : (past lines : List ℕ) → length past + length octets ≤ 2 ^ 24 → HadRead past lines → HasRead (past ++ octets) (lines ++ printed)
 
--- among these octets the text ended with a fault, after what was added
-pub record Stops (fault : Fault) (old : List ℕ → Printed) (octets before after : List ℕ) : Type 0 where
+-- these octets ended the text with a fault, whatever follows
+pub record Stops (IsText : List ℕ → Printed → Type 0) (fault : Fault) (HadRead : List ℕ → List ℕ → Type 0) (octets before after : List ℕ) : Type 0 where
   pub printed : List ℕ
   pub added : after ≡ before ++ printed
-  pub ends : (left : List ℕ) → EndsIn fault (old (octets ++ left)) printed
   pub of_text : IsOfText fault
+  pub ends : (past lines : List ℕ) → length past + length octets ≤ 2 ^ 24 → HadRead past lines
+      → (left : List ℕ) → EndsIn fault (IsText (past ++ (octets ++ left))) (lines ++ printed)
 
-abbrev pub ReadsOrStops : Result (Unit {0}) Fault → (List ℕ → Printed) → List ℕ → List ℕ → List ℕ → (List ℕ → Printed) → Type 0
-ReadsOrStops result old octets before after new = MatchResult result (λ done. Reads old octets before after new) (λ fault. Stops fault old octets before after)
+abbrev pub ReadsOrStops : (List ℕ → Printed → Type 0) → Result (Unit {0}) Fault → (List ℕ → List ℕ → Type 0) → List ℕ → List ℕ → List ℕ → (List ℕ → List ℕ → Type 0) → Type 0
+ReadsOrStops IsText result HadRead octets before after HasRead =
+    MatchResult result (λ done. Reads HadRead octets before after HasRead) (λ fault. Stops IsText fault HadRead octets before after)
+
+-- the text was printed to its end, or a fault ended it
+abbrev pub IsEnd : Result (Unit {0}) Fault → (Printed → Type 0) → List ℕ → Type 0
+IsEnd result IsIt printed = MatchResult result (λ done. IsIt (record { printed = printed; fault = None })) (λ fault. EndsIn fault IsIt printed)
 
 -- nothing is left to read, and what the text prints then was added
-pub record Ends (result : Result (Unit {0}) Fault) (text : Printed) (before after : List ℕ) : Type 0 where
+pub record Ends (IsText : List ℕ → Printed → Type 0) (result : Result (Unit {0}) Fault) (HadRead : List ℕ → List ℕ → Type 0) (before after : List ℕ) : Type 0 where
   pub printed : List ℕ
   pub added : after ≡ before ++ printed
-  pub ends : MatchResult result (λ done. text ≡ record { printed = printed; fault = None }) (λ fault. EndsIn fault text printed × IsOfText fault)
+  pub of_text : IfErr result IsOfText
+  pub ends : (past lines : List ℕ) → length past ≤ 2 ^ 24 → HadRead past lines → IsEnd result (IsText past) (lines ++ printed)
 
 -- The same onto what was written, where that is known.
 
@@ -66,25 +80,33 @@ pub record Writes (result : Result (Unit {0}) Fault) (octets : List ℕ) (old ne
   pub ends : MatchResult result (λ done. more ≡ []) (λ fault. fault ≡ Write)
 
 -- these octets were read, and what they print was written
-pub record Passes (old : List ℕ → Printed) (octets : List ℕ) (before after : Option (List ℕ)) (new : List ℕ → Printed) : Type 0 where
+pub record Passes (HadRead : List ℕ → List ℕ → Type 0) (octets : List ℕ) (before after : Option (List ℕ)) (HasRead : List ℕ → List ℕ → Type 0) : Type 0 where
   pub printed : List ℕ
   pub added : Appends before after printed
-  pub goes_on : (left : List ℕ) → old (octets ++ left) ≡ behind printed (new left)
+  pub goes_on : (past lines : List ℕ) → length past + length octets ≤ 2 ^ 24 → HadRead past lines → HasRead (past ++ octets) (lines ++ printed)
 
 -- among these octets the text ended with a fault, after what was written
-pub record Breaks (fault : Fault) (old : List ℕ → Printed) (octets : List ℕ) (before after : Option (List ℕ)) : Type 0 where
+pub record Breaks (IsText : List ℕ → Printed → Type 0) (fault : Fault) (HadRead : List ℕ → List ℕ → Type 0) (octets : List ℕ) (before after : Option (List ℕ)) : Type 0 where
   pub printed : List ℕ
   pub added : Appends before after printed
-  pub ends : (left : List ℕ) → EndsIn fault (old (octets ++ left)) printed
+  pub ends : (past lines : List ℕ) → length past + length octets ≤ 2 ^ 24 → HadRead past lines
+      → (left : List ℕ) → EndsIn fault (IsText (past ++ (octets ++ left))) (lines ++ printed)
 
-abbrev pub PassesOrBreaks : Result (Unit {0}) Fault → (List ℕ → Printed) → List ℕ → Option (List ℕ) → Option (List ℕ) → (List ℕ → Printed) → Type 0
-PassesOrBreaks result old octets before after new = MatchResult result (λ done. Passes old octets before after new) (λ fault. Breaks fault old octets before after)
+abbrev pub PassesOrBreaks : (List ℕ → Printed → Type 0) → Result (Unit {0}) Fault → (List ℕ → List ℕ → Type 0) → List ℕ → Option (List ℕ) → Option (List ℕ) → (List ℕ → List ℕ → Type 0) → Type 0
+PassesOrBreaks IsText result HadRead octets before after HasRead =
+    MatchResult result (λ done. Passes HadRead octets before after HasRead) (λ fault. Breaks IsText fault HadRead octets before after)
+
+-- nothing is left to read, and what the text prints then was written
+pub record Closes (IsText : List ℕ → Printed → Type 0) (result : Result (Unit {0}) Fault) (HadRead : List ℕ → List ℕ → Type 0) (before after : Option (List ℕ)) : Type 0 where
+  pub printed : List ℕ
+  pub added : Appends before after printed
+  pub ends : (past lines : List ℕ) → length past ≤ 2 ^ 24 → HadRead past lines → IsEnd result (IsText past) (lines ++ printed)
 
 -- all of a text was written, or, where a device failed or memory was wanted, a prefix of it
-pub record Prints (result : Result (Unit {0}) Fault) (text : Printed) (old new : Option (List ℕ)) : Type 0 where
+pub record Prints (result : Result (Unit {0}) Fault) (IsIt : Printed → Type 0) (old new : Option (List ℕ)) : Type 0 where
   pub printed : List ℕ
   pub added : Appends old new printed
-  pub ends : MatchResult result (λ done. text ≡ record { printed = printed; fault = None }) (λ fault. EndsIn fault text printed)
+  pub ends : IsEnd result IsIt printed
 
 -- a fault of a device is answered only where that device has failed
 abbrev pub IsDevices : Fault → Type 0 → Type 0 → Type 0

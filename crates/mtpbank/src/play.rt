@@ -1,7 +1,7 @@
 //! `mtpbank play`: a script of two ends, line by line.
 ghost use Rattle.std.specs.Prelude.{◌≡◌, ◌≤◌, ◌^◌, true, length, IfErr, IfSome, OnOk};
 ghost use Rattle.mtpbank.specs.Printing.{Prints, IsDevices, HasFailed};
-ghost use Rattle.mtpbank.specs.PlayText.{play_text};
+ghost use Rattle.mtpbank.specs.Playing.{IsPlayText};
 
 use super::device::{Sink, Source};
 use super::fault::Fault;
@@ -14,7 +14,7 @@ use std::alloc::Global;
 /// Ends with the first fault; what was printed before it stays printed. An input beyond 2^24 octets
 /// or 2^24 read calls is [`Fault::Read`], after the lines that end before that.
 pub fn play<S: Source, W: Sink>(alloc: Global, source: &mut S, sink: &mut W) -> Result<(), Fault>
-    ensures text { IfSome (S.left source.old) (λ input. Prints result (play_text input) (W.written sink.old) (W.written sink.new)) }
+    ensures text { IfSome (S.left source.old) (λ input. Prints result (IsPlayText input) (W.written sink.old) (W.written sink.new)) }
     ensures bounded { IfSome (S.left source.old) (λ input. OnOk result (length input ≤ 2 ^ 24)) }
     ensures devices { IfSome (S.left source.old) (λ input. IfErr result (λ fault. IsDevices fault (HasFailed (S.has_failed source.new) input) (W.has_failed sink.new ≡ true))) }
 {

@@ -33,9 +33,8 @@ impl Model for Player {
 }
 
 impl Player {
-    ghost use Rattle.std.specs.Prelude.{◌≡◌, ◌≢◌, ◌+◌, ◌<◌, ◌≤◌, ◌^◌, [], ◌∷◌, None};
-    ghost use Rattle.mtpbank.specs.Printing.{ReadsOrStops};
-    ghost use Rattle.mtpbank.specs.Playing.{text_from as text_at};
+    ghost use Rattle.std.specs.Prelude.{◌≡◌, ◌≢◌, [], ◌∷◌, None};
+    ghost use Rattle.mtpbank.specs.Playing.{AdvancesOrHalts, Finishes};
 
     /// Before the first octet.
     pub(crate) fn new(alloc: Global) -> Player
@@ -51,9 +50,7 @@ impl Player {
 
     /// Reads one octet.
     fn take(&mut self, octet: u8, out: &mut Vec<u8>) -> Result<(), Fault>
-        requires { self.old.line + 1 < 2 ^ 64 }
-        ensures reads { ReadsOrStops result (text_at self.old) (octet ∷ []) out.old.items out.new.items (text_at self.new) }
-        ensures line { self.new.line ≤ self.old.line + 1 }
+        ensures { AdvancesOrHalts result self.old (octet ∷ []) out.old.items out.new.items self.new }
     {
         if octet == b'\n' {
             self.end_line(out)
@@ -64,14 +61,12 @@ impl Player {
 
     /// Reads the LF that ends a line.
     fn end_line(&mut self, out: &mut Vec<u8>) -> Result<(), Fault>
-        requires { self.old.line + 1 < 2 ^ 64 }
-        ensures reads { ReadsOrStops result (text_at self.old) (10 ∷ []) out.old.items out.new.items (text_at self.new) }
-        ensures line { self.new.line ≤ self.old.line + 1 }
+        ensures { AdvancesOrHalts result self.old (10 ∷ []) out.old.items out.new.items self.new }
     {
         match end_line(self.alloc, &mut self.pair, &self.text, self.line, out) {
             Ok(()) => {
                 self.text.clear();
-                self.line += 1;
+                self.line = self.line.saturating_add(1);
                 Ok(())
             }
             Err(fault) => Err(fault),
@@ -81,8 +76,7 @@ impl Player {
     /// Reads an octet that ends no line.
     fn add(&mut self, octet: u8, out: &mut Vec<u8>) -> Result<(), Fault>
         requires { octet ≢ 10 }
-        ensures reads { ReadsOrStops result (text_at self.old) (octet ∷ []) out.old.items out.new.items (text_at self.new) }
-        ensures line { self.new.line ≤ self.old.line + 1 }
+        ensures { AdvancesOrHalts result self.old (octet ∷ []) out.old.items out.new.items self.new }
     {
         let _ = out;
         if self.text.len() >= LONGEST_LINE {
@@ -93,16 +87,11 @@ impl Player {
         };
         Ok(())
     }
-}
 
-impl Printer for Player {
-    ghost use Rattle.mtpbank.specs.Playing.{text_from as text_of_rest};
-
-    ghost text_from = { text_of_rest };
-
-    ghost so_far = { λ p. p.line };
-
-    fn read(&mut self, octets: &[u8], out: &mut Vec<u8>) -> Result<(), Fault> {
+    /// Reads these octets.
+    fn read_all(&mut self, octets: &[u8], out: &mut Vec<u8>) -> Result<(), Fault>
+        ensures { AdvancesOrHalts result self.old octets.now out.old.items out.new.items self.new }
+    {
         for octet in octets {
             match self.take(*octet, out) {
                 Ok(()) => (),
@@ -112,8 +101,10 @@ impl Printer for Player {
         Ok(())
     }
 
-    /// The last line may lack its LF; both ends are told.
-    fn end(self, out: &mut Vec<u8>) -> Result<(), Fault> {
+    /// The input has ended: the last line may lack its LF, and both ends are told.
+    fn finish(self, out: &mut Vec<u8>) -> Result<(), Fault>
+        ensures { Finishes result self out.old.items out.new.items }
+    {
         let Player {
             alloc,
             line,
@@ -127,5 +118,25 @@ impl Printer for Player {
             Ok(()) => add_ends(alloc, &pair, out),
             Err(fault) => Err(fault),
         }
+    }
+}
+
+impl Printer for Player {
+    ghost use Rattle.mtpbank.specs.Playing.{HasPlayed, IsPlayText, one_play_text, play_begun};
+
+    ghost is_text = { IsPlayText };
+
+    ghost has_read = { λ player past lines. HasPlayed past lines player };
+
+    ghost one_text = { one_play_text };
+
+    ghost begun = { play_begun };
+
+    fn read(&mut self, octets: &[u8], out: &mut Vec<u8>) -> Result<(), Fault> {
+        self.read_all(octets, out)
+    }
+
+    fn end(self, out: &mut Vec<u8>) -> Result<(), Fault> {
+        self.finish(out)
     }
 }

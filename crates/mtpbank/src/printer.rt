@@ -1,6 +1,6 @@
 //! A text that is printed while another is read.
-ghost use Rattle.std.specs.Prelude.{◌+◌, ◌<◌, ◌≤◌, ◌^◌, ℕ, List, [], length};
-ghost use Rattle.mtpbank.specs.Printing.{Printed, ReadsOrStops, Ends};
+ghost use Rattle.std.specs.Prelude.{◌≡◌, ◌++◌, ℕ, List};
+ghost use Rattle.mtpbank.specs.Printing.{Printed, ReadsOrStops, Ends, IsBegun};
 
 use super::fault::Fault;
 
@@ -8,19 +8,23 @@ use super::fault::Fault;
 ///
 /// Where memory is wanted or the text has ended with a fault, nothing more is to be read.
 pub(crate) trait Printer {
-    /// What is printed from here on, with these octets left to read.
-    ghost text_from: { Self → List ℕ → Printed };
+    /// Which text an input has.
+    ghost is_text: { List ℕ → Printed → Type 0 };
 
-    /// A number that no more octets were read than.
-    ghost so_far: { Self → ℕ };
+    /// The printer has read these octets, and they have printed these.
+    ghost has_read: { Self → List ℕ → List ℕ → Type 0 };
 
     /// Reads these octets, and appends what they print.
     fn read(&mut self, octets: &[u8], out: &mut Vec<u8>) -> Result<(), Fault>
-        requires room { so_far self.old + length octets.now < 2 ^ 64 }
-        ensures reads { ReadsOrStops result (text_from self.old) octets.now out.old.items out.new.items (text_from self.new) }
-        ensures so_far { so_far self.new ≤ so_far self.old + length octets.now };
+        ensures { ReadsOrStops is_text result (has_read self.old) octets.now out.old.items out.new.items (has_read self.new) };
 
     /// The octets have ended: appends what is printed then.
     fn end(self, out: &mut Vec<u8>) -> Result<(), Fault>
-        ensures { Ends result (text_from self []) out.old.items out.new.items };
+        ensures { Ends is_text result (has_read self) out.old.items out.new.items };
+
+    /// An input has one text at most.
+    ghost one_text: { (input : List ℕ) (a b : Printed) → is_text input a → is_text input b → a ≡ b };
+
+    /// What was printed is the beginning of the text, whatever follows.
+    ghost begun: { (past lines : List ℕ) (printer : Self) → has_read printer past lines → (left : List ℕ) → IsBegun (is_text (past ++ left)) lines };
 }

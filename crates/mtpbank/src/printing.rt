@@ -2,7 +2,7 @@
 ghost use Rattle.std.specs.Prelude.{◌≡◌, ◌+◌, ◌<◌, ◌≤◌, ◌^◌, true, [], take, length, IfErr, IfOk, IfSome, OnOk, OnErr, MatchResult};
 ghost use Rattle.std.specs.Io.KnownBytes.{ReadConsumes};
 ghost use Rattle.mtpbank.specs.declared.fault.Fault.TheVariants.{Read as ReadFault};
-ghost use Rattle.mtpbank.specs.Printing.{Writes, PassesOrBreaks, Prints, IsDevices, HasFailed};
+ghost use Rattle.mtpbank.specs.Printing.{Writes, PassesOrBreaks, Closes, Prints, IsDevices, HasFailed};
 
 use super::device::{Sink, Source};
 use super::fault::Fault;
@@ -25,8 +25,8 @@ pub(crate) fn print_all<P: Printer + Drop, S: Source, W: Sink>(
     source: &mut S,
     sink: &mut W,
 ) -> Result<(), Fault>
-    requires { P.so_far printer ≤ 2 ^ 32 }
-    ensures text { IfSome (S.left source.old) (λ input. Prints result (P.text_from printer input) (W.written sink.old) (W.written sink.new)) }
+    requires { P.has_read printer [] [] }
+    ensures text { IfSome (S.left source.old) (λ input. Prints result (P.is_text input) (W.written sink.old) (W.written sink.new)) }
     ensures bounded { IfSome (S.left source.old) (λ input. OnOk result (length input ≤ 2 ^ 24)) }
     ensures devices { IfSome (S.left source.old) (λ input. IfErr result (λ fault. IsDevices fault (HasFailed (S.has_failed source.new) input) (W.has_failed sink.new ≡ true))) }
 {
@@ -69,10 +69,8 @@ fn pass<P: Printer, W: Sink>(
     octets: &[u8],
     sink: &mut W,
 ) -> Result<(), Fault>
-    requires { P.so_far printer.old + length octets.now < 2 ^ 64 }
-    ensures passes { PassesOrBreaks result (P.text_from printer.old) octets.now (W.written sink.old) (W.written sink.new) (P.text_from printer.new) }
+    ensures passes { PassesOrBreaks P.is_text result (P.has_read printer.old) octets.now (W.written sink.old) (W.written sink.new) (P.has_read printer.new) }
     ensures failed { IfErr result (λ fault. IsDevices fault ⊥ (W.has_failed sink.new ≡ true)) }
-    ensures so_far { P.so_far printer.new ≤ P.so_far printer.old + length octets.now }
 {
     let mut out = Vec::new(alloc);
     let read = printer.read(octets, &mut out);
@@ -84,13 +82,15 @@ fn pass<P: Printer, W: Sink>(
 
 /// Writes what is printed when the octets have ended.
 fn end<P: Printer + Drop, W: Sink>(alloc: Global, printer: P, sink: &mut W) -> Result<(), Fault>
-    ensures prints { Prints result (P.text_from printer []) (W.written sink.old) (W.written sink.new) }
+    ensures closes { Closes P.is_text result (P.has_read printer) (W.written sink.old) (W.written sink.new) }
     ensures failed { IfErr result (λ fault. IsDevices fault ⊥ (W.has_failed sink.new ≡ true)) }
 {
     let mut out = Vec::new(alloc);
     let ended = printer.end(&mut out);
-    write_all(sink, &out)?;
-    ended
+    match write_all(sink, &out) {
+        Ok(()) => ended,
+        Err(fault) => Err(fault),
+    }
 }
 
 /// Writes all these octets.

@@ -1,10 +1,7 @@
-use Rattle.std.proofs.Common.{◌+◌, ◌≤◌}
 use Rattle.mtpbank.proofs.PrintLemmas.{Under}
 use Rattle.mtpbank.proofs.printing.print_all.Given as goal
 
 abbrev pub invariant-loop : goal.invariant-loop
 invariant-loop g l =
-    Under (g.P.Printer.text_from l.initial.printer) (g.P.Printer.text_from l.printer)
-    (g.S.Source.left l.initial.source) (g.S.Source.left l.source)
-    (g.W.Sink.written l.initial.sink) (g.W.Sink.written l.sink)
-    l.left l.counter (g.P.Printer.so_far l.initial.printer) (g.P.Printer.so_far l.printer)
+    Under (g.P.Printer.has_read l.printer) (g.S.Source.left l.initial.source) (g.S.Source.left l.source)
+    (g.W.Sink.written l.initial.sink) (g.W.Sink.written l.sink) l.left l.counter

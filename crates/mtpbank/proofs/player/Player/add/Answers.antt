@@ -1,12 +1,12 @@
 use Rattle.std.proofs.Common.{arith, ◌≡◌, ◌+◌, ◌≤◌, ◌∷◌, [], length, length-append}
-use Rattle.mtpbank.proofs.PlayLemmas.{open_push, stops_long}
+use Rattle.mtpbank.proofs.PlayLemmas.{open_push, halts_long}
 use Rattle.mtpbank.proofs.player.Player.add.Goals as goal
 
 -- src/player.rt:89:13
-pub returns-then-len-ge-LONGEST_LINE-clause-reads :
-    goal.returns-then-len-ge-LONGEST_LINE-clause-reads
-returns-then-len-ge-LONGEST_LINE-clause-reads c =
-    rw (← c.self.view_is) (stops_long _ c.args.octet c.args.out.now.items c.self.invariant.is_open c.requires (omega (arith, c.if-len-ge-LONGEST_LINE.true, c.len.ensures)))
+pub returns-then-len-ge-LONGEST_LINE :
+    goal.returns-then-len-ge-LONGEST_LINE
+returns-then-len-ge-LONGEST_LINE c =
+    rw (← c.self.view_is) (halts_long _ c.args.octet c.args.out.now.items c.self.invariant.is_open c.requires (omega (arith, c.if-len-ge-LONGEST_LINE.true, c.len.ensures)))
 
 -- src/player.rt:82:5
 pub invariant_of-self-2 : goal.invariant_of-self-2
