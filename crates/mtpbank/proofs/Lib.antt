@@ -1,3 +1,5 @@
 pub mod FigureLemmas
 pub mod PairLemmas
 pub mod PlayLemmas
+pub mod ReaderLemmas
+pub mod UnitsLemmas

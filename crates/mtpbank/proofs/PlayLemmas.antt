@@ -5,7 +5,7 @@ use Rattle.std.proofs.lemmas.Bool.Decides.{nat_tests}
 use Rattle.std.proofs.Math.Seq.{take-add}
 use Rattle.std.specs.Io.KnownBytes.{Appends, Keeps}
 use Rattle.mtpbank.specs.declared.fault.Fault.{Fault}
-use Rattle.mtpbank.specs.declared.fault.Fault.TheVariants.{Text, Step, Memory, Exhausted, Read, Write}
+use Rattle.mtpbank.specs.declared.fault.Fault.TheVariants.{Text, Step, Octet, Memory, Exhausted, Read, Write}
 use Rattle.mtpbank.specs.Pair.{Pair}
 use Rattle.mtpbank.specs.PlayText.{Played, LineOutcome, behind, goes_on, lines_of, onto_first, play_lines, on_line}
 use Rattle.mtpbank.specs.Playing.{Reading, IsOpen, text_from, Tells, EndsIn, Reads, Stops, LinePrints}
@@ -89,6 +89,7 @@ reads_end old before after pair new o l e f g = record {
 told : (fault : Fault) (outcome : LineOutcome) (next : Option Pair → Played) → Tells fault outcome → EndsIn fault (goes_on outcome next) []
 told (Text n) outcome next e = ap (λ (o : LineOutcome). goes_on o next) e
 told (Step n) outcome next e = ap (λ (o : LineOutcome). goes_on o next) e
+told (Octet place) outcome next e = absurd e
 told Memory outcome next e = ((goes_on outcome next).printed, refl)
 told Exhausted outcome next e = ap (λ (o : LineOutcome). goes_on o next) e
 told Read outcome next e = absurd e
@@ -134,6 +135,7 @@ stops_long old c before o h long = record {
 ends_behind : (fault : Fault) (played : Played) (p q : List ℕ) → EndsIn fault played q → EndsIn fault (behind p played) (p ++ q)
 ends_behind (Text n) played p q e = ap (λ (x : Played). behind p x) e
 ends_behind (Step n) played p q e = ap (λ (x : Played). behind p x) e
+ends_behind (Octet place) played p q e = absurd e
 ends_behind Memory played p q e = (e.0, ap (λ (x : List ℕ). p ++ x) e.1 ∙ sym (append_assoc p q e.0))
 ends_behind Exhausted played p q e = ap (λ (x : Played). behind p x) e
 ends_behind Read played p q e = (e.0, ap (λ (x : List ℕ). p ++ x) e.1 ∙ sym (append_assoc p q e.0))

@@ -6,3 +6,5 @@ pub mod PlayText
 pub mod Playing
 pub mod Script
 pub mod Texts
+pub mod UnitsReading
+pub mod UnitsText

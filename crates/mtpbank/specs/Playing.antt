@@ -2,7 +2,7 @@
 use Rattle.std.specs.Prelude.{◌≡◌, ℕ, ◌≤◌, ◌≢◌, List, [], ◌∷◌, ◌++◌, length, Option, Some, None, Result, MatchResult}
 use Rattle.std.specs.Io.KnownBytes.{Appends}
 use Rattle.mtpbank.specs.declared.fault.Fault.{Fault}
-use Rattle.mtpbank.specs.declared.fault.Fault.TheVariants.{Text, Step, Memory, Exhausted, Read, Write}
+use Rattle.mtpbank.specs.declared.fault.Fault.TheVariants.{Text, Step, Octet, Memory, Exhausted, Read, Write}
 use Rattle.mtpbank.specs.Pair.{Pair}
 use Rattle.mtpbank.specs.PlayText.{Played, LineOutcome, stops, prints, behind, lines_of, play_lines, on_line}
 
@@ -30,6 +30,7 @@ text_from r left = play_lines r.line r.pair (lines_of (r.text ++ left))
 abbrev pub Tells : Fault → LineOutcome → Type 0
 Tells (Text n) outcome = outcome ≡ stops (Text n)
 Tells (Step n) outcome = outcome ≡ stops (Step n)
+Tells (Octet place) outcome = ⊥
 Tells Memory outcome = Unit {0}
 Tells Exhausted outcome = outcome ≡ stops Exhausted
 Tells Read outcome = ⊥
@@ -51,6 +52,7 @@ pub record Reads (old : Reading) (octets before after : List ℕ) (new : Reading
 abbrev pub EndsIn : Fault → Played → List ℕ → Type 0
 EndsIn (Text n) played printed = played ≡ record { printed = printed; fault = Some (Text n) }
 EndsIn (Step n) played printed = played ≡ record { printed = printed; fault = Some (Step n) }
+EndsIn (Octet place) played printed = ⊥
 EndsIn Memory played printed = (more : List ℕ) × (played.printed ≡ printed ++ more)
 EndsIn Exhausted played printed = played ≡ record { printed = printed; fault = Some Exhausted }
 EndsIn Read played printed = (more : List ℕ) × (played.printed ≡ printed ++ more)

@@ -5,8 +5,10 @@
 #![tactic(auto)]
 
 mod device;
+mod digit;
 mod fault;
 mod figures;
+mod marked_line;
 mod opening;
 mod pair;
 mod play;
@@ -18,6 +20,10 @@ mod step_fault;
 #[cfg(test)]
 mod tests;
 mod texts;
+mod unit_lines;
+mod units_reading;
+#[cfg(test)]
+mod units_tests;
 mod words;
 
 use device::{Reader, Writer};
