@@ -1,6 +1,6 @@
 -- A reader of digits under way, octet by octet of its input.
-use Rattle.std.proofs.Common.{refl, arith, ◌≡◌, ◌∙◌, ap, sym, ◌<◌, ◌≤◌, [], ◌∷◌, length, ℕ, ◌+◌, ◌*◌, ◌^◌, Bool, true, false, nat_lt, ◌||◌, List, ◌++◌, drop, drop-cons, slice_index_or, suc, Option, Some, None, append_assoc, append-nil, length-append, Result, Ok, Err}
-use Rattle.std.proofs.lemmas.Grind.{common_steps, flat_map-append}
+use Rattle.std.proofs.Common.{refl, arith, ◌≡◌, ◌∙◌, ap, sym, ◌<◌, ◌≤◌, [], ◌∷◌, length, ℕ, ◌+◌, ◌*◌, ◌^◌, Bool, true, false, nat_lt, ◌||◌, List, ◌++◌, drop, drop-cons, slice_index_or, suc, Option, Some, None, append_assoc, append-nil, length-append, Err}
+use Rattle.std.proofs.lemmas.Grind.{flat_map-append}
 use Rattle.std.proofs.lemmas.Bool.Decides.{nat_tests}
 use Rattle.std.specs.Option.{option_to_list, option_map, is_some}
 use Rattle.l2_bits.specs.declared.marks.Mark.{Mark}
@@ -8,14 +8,14 @@ use Rattle.l2_bits.specs.LineBits.{bits_of, line_bits}
 use Rattle.l2_bits.proofs.BitLemmas.{length-bits_of}
 use Rattle.l2_bits.proofs.OctetLemmas.{length-line_bits}
 use Rattle.mtpbank.specs.declared.fault.Fault.{Fault}
-use Rattle.mtpbank.specs.declared.fault.Fault.TheVariants.{Text, Step, Octet, Memory, Exhausted, Read, Write}
+use Rattle.mtpbank.specs.declared.fault.Fault.TheVariants.{Octet, Memory}
 use Rattle.mtpbank.specs.declared.digit.Digit.{Digit}
 use Rattle.mtpbank.specs.declared.units_reading.UnitsReader.{UnitsReader}
 use Rattle.mtpbank.specs.Figures.{hex_value}
 use Rattle.mtpbank.specs.PlayText.{Played}
 use Rattle.mtpbank.specs.UnitsText.{IsUnitsText, is_blank, readable, values_of, paired, left_over, octets_in, fault_place, marks_text, counts_of, counts_text, with_end}
-use Rattle.mtpbank.specs.UnitsReading.{IsLine, Feeds, Breaks, HasRead, IsBegun, EndsIn, Reads, Stops, Ends}
-use Rattle.mtpbank.proofs.UnitsLemmas.{line_begins}
+use Rattle.mtpbank.specs.UnitsReading.{Feeds, Breaks, HasRead, IsBegun, Reads, Stops, Ends}
+use Rattle.mtpbank.proofs.UnitsLemmas.{line_begins, one_text}
 
 -- Digits.
 
@@ -153,6 +153,13 @@ printed_begins (Some place) marks printed more e = (more, e)
 printed_begins None marks printed more e =
     (more ++ counts_text (counts_of marks), ap (λ (xs : List ℕ). xs ++ counts_text (counts_of marks)) e ∙ append_assoc printed more (counts_text (counts_of marks)))
 
+-- a second digit's octet stands behind those of the past, whatever follows
+second_bits : (past left : List ℕ) (c h v : ℕ) → readable past ≡ past → hex_value c ≡ Some v → left_over (values_of past) ≡ Some h
+    → line_bits (octets_in (past ++ c ∷ left)) ≡ line_bits (paired (values_of past)) ++ (bits_of 8 (16 * h + v) ++ line_bits (paired (values_of (readable left))))
+second_bits past left c h v all value odd =
+    rw (readable_front past (c ∷ left) all, digit_front c v left value, digit_values past (readable left) c v value, paired_odd (values_of past) (values_of (readable left)) h v odd)
+    (flat_map-append (bits_of 8) (paired (values_of past)) ((16 * h + v) ∷ paired (values_of (readable left))))
+
 -- want of memory at an octet's second digit
 pub stops_second : (old : UnitsReader) (c h v : ℕ) (before after : List ℕ) → hex_value c ≡ Some v → option_map (λ (digit : Digit). digit.value) old.high ≡ Some h → Breaks old.line (bits_of 8 (16 * h + v)) before after → Stops Memory old (c ∷ []) before after
 stops_second old c h v before after value high_is breaks = record {
@@ -160,14 +167,9 @@ stops_second old c h v before after value high_is breaks = record {
   added = breaks.added;
   ends = λ past lines fits has left played text.
       let odd : left_over (values_of past) ≡ Some h = sym has.digit ∙ high_is in
-      let front : readable (past ++ c ∷ left) ≡ past ++ c ∷ readable left =
-      readable_front past (c ∷ left) has.all_readable ∙ ap (λ (cs : List ℕ). past ++ cs) (digit_front c v left value) in
-      let octets : octets_in (past ++ c ∷ left) ≡ paired (values_of past) ++ (16 * h + v) ∷ paired (values_of (readable left)) =
-      ap (λ (cs : List ℕ). paired (values_of cs)) front ∙ ap paired (digit_values past (readable left) c v value)
-      ∙ paired_odd (values_of past) (values_of (readable left)) h v odd in
-      let bits : line_bits (octets_in (past ++ c ∷ left)) ≡ line_bits (paired (values_of past)) ++ (bits_of 8 (16 * h + v) ++ line_bits (paired (values_of (readable left)))) =
-      ap line_bits octets ∙ flat_map-append (bits_of 8) (paired (values_of past)) ((16 * h + v) ∷ paired (values_of (readable left))) in
-      let begins = breaks.begins (line_bits (paired (values_of past))) lines (few_bits past (16 * h + v) (omega (arith, fits))) has.line (line_bits (paired (values_of (readable left)))) text.marks (rw bits at text.are) in
+      let begins =
+      breaks.begins (line_bits (paired (values_of past))) lines (few_bits past (16 * h + v) (omega (arith, fits))) has.line (line_bits (paired (values_of (readable left)))) text.marks
+      (rw (second_bits past left c h v has.all_readable value odd) at text.are) in
       let rest = printed_begins (fault_place (past ++ c ∷ left)) text.marks (lines ++ breaks.printed) begins.0 begins.1 in
       (rest.0, ap (λ (p : Played). p.printed) text.played_is ∙ rest.1);
 }
@@ -213,31 +215,6 @@ ends_left reader before some = record {
     go None e past all left = cc
     go (Some digit) e past all left = ends_at past (Some digit.value) all left
 
-pub ends_memory : (reader : UnitsReader) (before after : List ℕ) → after ≡ before → Ends (Err Memory) reader before after
-ends_memory reader before after same = record {
-  printed = [];
-  added = same ∙ sym (append-nil before);
-  ends = λ past lines fits has played text.
-      let bits : line_bits (octets_in past) ≡ line_bits (paired (values_of past)) ++ [] = ap (λ (cs : List ℕ). line_bits (paired (values_of cs))) has.all_readable ∙ sym (append-nil (line_bits (paired (values_of past)))) in
-      let begins = line_begins (line_bits (paired (values_of past))) [] lines reader.line has.line text.marks (rw bits at text.are) in
-      let rest = printed_begins (fault_place past) text.marks lines begins.0 begins.1 in
-      (rest.0, ap (λ (p : Played). p.printed) text.played_is ∙ rw (append-nil lines) rest.1);
-}
-
-pub ends_well : (reader : UnitsReader) (before after : List ℕ) → reader.high ≡ None → after ≡ before ++ counts_text reader.line.counts → Ends (Ok tt) reader before after
-ends_well reader before after high added = record {
-  printed = counts_text reader.line.counts;
-  added = added;
-  ends = λ past lines fits has.
-      let left : None ≡ left_over (values_of past) = sym (ap (option_map (λ (digit : Digit). digit.value)) high) ∙ has.digit in
-      let place : fault_place past ≡ None = ends_at past None has.all_readable left in
-      record {
-        marks = has.line.marks;
-        are = rw has.all_readable has.line.are;
-        played_is = rw (place, has.line.printed, has.line.counted) refl;
-      };
-}
-
 -- Octets one after another.
 
 pub reads_none : (reader : UnitsReader) (before : List ℕ) → Reads reader [] before before reader
@@ -255,8 +232,8 @@ reads_then a b d c cs x y z f g = record {
       let past_is : (past ++ c ∷ []) ++ cs ≡ past ++ c ∷ cs = append_assoc past (c ∷ []) cs in
       let lines_are : (lines ++ f.printed) ++ g.printed ≡ lines ++ (f.printed ++ g.printed) = append_assoc lines f.printed g.printed in
       rw (← past_is, ← lines_are)
-          (g.goes_on (past ++ c ∷ []) (lines ++ f.printed) (omega (arith, fits, length-append past (c ∷ [])))
-          (f.goes_on past lines (omega (arith, fits)) has));
+      (g.goes_on (past ++ c ∷ []) (lines ++ f.printed) (omega (arith, fits, length-append past (c ∷ [])))
+      (f.goes_on past lines (omega (arith, fits)) has));
 }
 
 pub reads_stops : (fault : Fault) (a b : UnitsReader) (c : ℕ) (cs : List ℕ) (x y z : List ℕ) → Reads a (c ∷ []) x y b → Stops fault b cs y z → Stops fault a (c ∷ cs) x z
@@ -267,8 +244,8 @@ reads_stops fault a b c cs x y z f g = record {
       let past_is : (past ++ c ∷ []) ++ (cs ++ left) ≡ past ++ c ∷ (cs ++ left) = append_assoc past (c ∷ []) (cs ++ left) in
       let lines_are : (lines ++ f.printed) ++ g.printed ≡ lines ++ (f.printed ++ g.printed) = append_assoc lines f.printed g.printed in
       rw (← past_is, ← lines_are)
-          (g.ends (past ++ c ∷ []) (lines ++ f.printed) (omega (arith, fits, length-append past (c ∷ [])))
-          (f.goes_on past lines (omega (arith, fits)) has) left);
+      (g.ends (past ++ c ∷ []) (lines ++ f.printed) (omega (arith, fits, length-append past (c ∷ [])))
+      (f.goes_on past lines (omega (arith, fits)) has) left);
 }
 
 pub stops_more : (fault : Fault) (a : UnitsReader) (c : ℕ) (cs : List ℕ) (x z : List ℕ) → Stops fault a (c ∷ []) x z → Stops fault a (c ∷ cs) x z
@@ -280,3 +257,42 @@ stops_more fault a c cs x z stops = record {
 
 pub drop_step : (xs : List ℕ) (i d : ℕ) → i < length xs → drop i xs ≡ slice_index_or xs i d ∷ drop (i + 1) xs
 drop_step xs i d h = let next : suc i ≡ i + 1 = omega arith in drop-cons xs i d h ∙ ap (λ (n : ℕ). slice_index_or xs i d ∷ drop n xs) next
+
+-- Beginnings.
+
+paired_begins : (vs ws : List ℕ) → (more : List ℕ) × (paired (vs ++ ws) ≡ paired vs ++ more)
+paired_begins [] ws = (paired ws, refl)
+paired_begins (high ∷ []) ws = (paired (high ∷ ws), refl)
+paired_begins (high ∷ low ∷ vs) ws =
+    let rest = paired_begins vs ws in (rest.0, ap (λ (octets : List ℕ). (16 * high + low) ∷ octets) rest.1)
+
+past_bits : (past left : List ℕ) → readable past ≡ past → (more : List Bool) × (line_bits (octets_in (past ++ left)) ≡ line_bits (paired (values_of past)) ++ more)
+past_bits past left all =
+    let rest = paired_begins (values_of past) (values_of (readable left)) in (
+      line_bits rest.0,
+      rw (readable_front past left all, values_front past (readable left), rest.1) (flat_map-append (bits_of 8) (paired (values_of past)) rest.0),
+    )
+
+pub has_begun : (past lines left : List ℕ) (reader : UnitsReader) → HasRead past lines reader → IsBegun (past ++ left) lines
+has_begun past lines left reader has = λ played text.
+    let bits = past_bits past left has.all_readable in
+    let begins = line_begins (line_bits (paired (values_of past))) bits.0 lines reader.line has.line text.marks (rw bits.1 at text.are) in
+    let rest = printed_begins (fault_place (past ++ left)) text.marks lines begins.0 begins.1 in
+    (rest.0, ap (λ (p : Played). p.printed) text.played_is ∙ rest.1)
+
+pub text_begins : (input : List ℕ) (played : Played) → IsUnitsText input played → IsBegun input played.printed
+text_begins input played text = λ other again.
+    ([], ap (λ (p : Played). p.printed) (one_text input other played again text) ∙ sym (append-nil played.printed))
+
+pub front_begins : (input printed more : List ℕ) → IsBegun input (printed ++ more) → IsBegun input printed
+front_begins input printed more begins = λ played text.
+    let rest = begins played text in (more ++ rest.0, rest.1 ∙ append_assoc printed more rest.0)
+
+pub ends_memory : (reader : UnitsReader) (before after : List ℕ) → after ≡ before → Ends (Err Memory) reader before after
+ends_memory reader before after same = record {
+  printed = [];
+  added = same ∙ sym (append-nil before);
+  ends = λ past lines fits has.
+      let here : past ++ [] ≡ past = append-nil past in
+      rw (append-nil lines) (rw here at (has_begun past lines [] reader has));
+}

@@ -1,6 +1,6 @@
 -- A line under way, bit by bit.
-use Rattle.std.proofs.Common.{refl, arith, ◌≡◌, ◌∙◌, ap, sym, ◌<◌, ◌≤◌, [], ◌∷◌, length, ℕ, ◌+◌, ◌^◌, Bool, true, false, List, ◌++◌, Option, Some, None, append_assoc, append-nil, length-append, Result, Ok, Err, MatchResult, if◌then◌else◌}
-use Rattle.std.proofs.lemmas.Grind.{common_steps, flat_map-append}
+use Rattle.std.proofs.Common.{refl, arith, ◌≡◌, ◌∙◌, ap, sym, ◌<◌, ◌≤◌, [], ◌∷◌, length, ℕ, ◌+◌, ◌^◌, Bool, List, ◌++◌, Option, Some, None, append_assoc, append-nil, length-append, Result, Ok, Err, MatchResult, if◌then◌else◌}
+use Rattle.std.proofs.lemmas.Grind.{flat_map-append}
 use Rattle.std.specs.Option.{option_to_list}
 use Rattle.std.specs.Result.{is_ok}
 use Rattle.l2_bits.specs.declared.marks.Mark.{Mark}
@@ -32,8 +32,8 @@ more_marks past (bit ∷ bits) left marks all are whole =
     let rest = more_marks (past ++ bit ∷ []) bits left are.1 whole.1 are.3 whole.3 in (
       rest.0,
       whole.4 ∙ ap (λ (mark : Option Mark). option_to_list mark ++ whole.1) (mark_alone past bit whole.0 are.0 whole.2 are.2)
-      ∙ ap (λ (later : List Mark). option_to_list are.0 ++ later) rest.1
-      ∙ sym (append_assoc (option_to_list are.0) are.1 rest.0) ∙ ap (λ (front : List Mark). front ++ rest.0) (sym are.4),
+          ∙ ap (λ (later : List Mark). option_to_list are.0 ++ later) rest.1
+          ∙ sym (append_assoc (option_to_list are.0) are.1 rest.0) ∙ ap (λ (front : List Mark). front ++ rest.0) (sym are.4),
     )
 
 pub line_begins : (bits left : List Bool) (lines : List ℕ) (line : MarkedLine) → IsLine bits lines line → Begins (bits ++ left) lines
@@ -97,8 +97,8 @@ feeds_then a b c bit bits x y z f g = record {
       let bits_are : (past ++ bit ∷ []) ++ bits ≡ past ++ bit ∷ bits = append_assoc past (bit ∷ []) bits in
       let lines_are : (lines ++ f.printed) ++ g.printed ≡ lines ++ (f.printed ++ g.printed) = append_assoc lines f.printed g.printed in
       rw (← bits_are, ← lines_are)
-          (g.goes_on (past ++ bit ∷ []) (lines ++ f.printed) (omega (arith, fits, length-append past (bit ∷ [])))
-          (f.goes_on past lines (omega (arith, fits)) is));
+      (g.goes_on (past ++ bit ∷ []) (lines ++ f.printed) (omega (arith, fits, length-append past (bit ∷ [])))
+      (f.goes_on past lines (omega (arith, fits)) is));
 }
 
 pub feeds_breaks : (a b : MarkedLine) (bit : Bool) (bits : List Bool) (x y z : List ℕ) → Feeds a (bit ∷ []) x y b → Breaks b bits y z → Breaks a (bit ∷ bits) x z
@@ -109,8 +109,8 @@ feeds_breaks a b bit bits x y z f g = record {
       let bits_are : (past ++ bit ∷ []) ++ (bits ++ left) ≡ past ++ bit ∷ (bits ++ left) = append_assoc past (bit ∷ []) (bits ++ left) in
       let lines_are : (lines ++ f.printed) ++ g.printed ≡ lines ++ (f.printed ++ g.printed) = append_assoc lines f.printed g.printed in
       rw (← bits_are, ← lines_are)
-          (g.begins (past ++ bit ∷ []) (lines ++ f.printed) (omega (arith, fits, length-append past (bit ∷ [])))
-          (f.goes_on past lines (omega (arith, fits)) is) left);
+      (g.begins (past ++ bit ∷ []) (lines ++ f.printed) (omega (arith, fits, length-append past (bit ∷ [])))
+      (f.goes_on past lines (omega (arith, fits)) is) left);
 }
 
 pub breaks_more : (a : MarkedLine) (bit : Bool) (bits : List Bool) (x z : List ℕ) → Breaks a (bit ∷ []) x z → Breaks a (bit ∷ bits) x z

@@ -1,6 +1,7 @@
 -- What a reader of `units` under way stands for, and what calls on it print.
-use Rattle.std.specs.Prelude.{◌≡◌, ℕ, ◌+◌, ◌≤◌, ◌<◌, ◌^◌, Bool, List, [], ◌∷◌, ◌++◌, length, Option, Some, None, Result, MatchResult}
+use Rattle.std.specs.Prelude.{◌≡◌, ℕ, ◌+◌, ◌≤◌, ◌<◌, ◌^◌, Bool, List, [], ◌++◌, length, Option, Some, None, Result, MatchResult}
 use Rattle.std.specs.Option.{option_map}
+use Rattle.std.specs.Io.KnownBytes.{Appends}
 use Rattle.l2_bits.specs.declared.marks.Mark.{Mark}
 use Rattle.l2_bits.specs.LineBits.{line_bits}
 use Rattle.l2_bits.specs.Marks.{AreMarks}
@@ -63,6 +64,19 @@ EndsIn (Text line) input printed = ⊥
 EndsIn (Step line) input printed = ⊥
 EndsIn Exhausted input printed = ⊥
 
+-- what was printed so far begins the text, whatever follows
+abbrev pub PrintedBegins : Type 0
+PrintedBegins =
+    (past lines left : List ℕ) (reader : UnitsReader) → HasRead past lines reader → IsBegun (past ++ left) lines
+
+-- so does all that a text prints
+abbrev pub TextBegins : Type 0
+TextBegins = (input : List ℕ) (played : Played) → IsUnitsText input played → IsBegun input played.printed
+
+-- and each shorter beginning
+abbrev pub FrontBegins : Type 0
+FrontBegins = (input printed more : List ℕ) → IsBegun input (printed ++ more) → IsBegun input printed
+
 -- these octets were read, and what they print was added; an input has at most 2^24 octets
 pub record Reads (old : UnitsReader) (octets before after : List ℕ) (new : UnitsReader) : Type 0 where
   pub printed : List ℕ
@@ -83,3 +97,9 @@ pub record Ends (result : Result (Unit {0}) Fault) (old : UnitsReader) (before a
   pub added : after ≡ before ++ printed
   pub ends : (past lines : List ℕ) → length past ≤ 2 ^ 24 → HasRead past lines old
       → MatchResult result (λ done. IsUnitsText past (record { printed = lines ++ printed; fault = None })) (λ fault. EndsIn fault past (lines ++ printed))
+
+-- all of the input's text was written, or, where a device failed or memory was wanted, its beginning
+pub record Prints (result : Result (Unit {0}) Fault) (input : List ℕ) (old new : Option (List ℕ)) : Type 0 where
+  pub printed : List ℕ
+  pub added : Appends old new printed
+  pub ends : MatchResult result (λ done. IsUnitsText input (record { printed = printed; fault = None })) (λ fault. EndsIn fault input printed)

@@ -10,7 +10,6 @@ use Rattle.l2_units.specs.declared.unit.Header.{Header}
 use Rattle.l2_units.specs.declared.unit.Unit.{Unit as SignalUnit}
 use Rattle.l2_units.specs.declared.unit.Unit.TheVariants.{Fisu, Lssu, Msu}
 use Rattle.l2_units.specs.Grammar.{unit_of}
-use Rattle.mtpbank.specs.declared.fault.Fault.{Fault}
 use Rattle.mtpbank.specs.declared.fault.Fault.TheVariants.{Octet}
 use Rattle.mtpbank.specs.declared.unit_lines.MarkCounts.{MarkCounts}
 use Rattle.mtpbank.specs.Figures.{hex_value, hex_text}

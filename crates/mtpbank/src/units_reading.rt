@@ -8,7 +8,7 @@
 //! ```
 ghost use Rattle.std.specs.Prelude.{◌≡◌, [], ◌∷◌, MatchResult};
 ghost use Rattle.mtpbank.specs.UnitsText.{is_blank as is_blank_in};
-ghost use Rattle.mtpbank.specs.UnitsReading.{HasRead, Reads, Stops, Ends};
+ghost use Rattle.mtpbank.specs.UnitsReading.{HasRead, Reads, Stops, Ends, PrintedBegins, TextBegins, FrontBegins};
 
 use super::digit::{Digit, digit_of};
 use super::fault::Fault;
@@ -102,3 +102,12 @@ fn is_blank(c: u8) -> bool
 {
     matches!(c, b' ' | b'\t' | b'\r' | b'\n')
 }
+
+/// Laws over the definitions alone: what was printed so far begins the text of the input, whatever
+/// follows; so does all that a text prints, and each shorter beginning. With them a caller that can't
+/// write any more, or can't read on, knows what it has written.
+pub fn a_beginning_is_printed()
+    ensures printed { PrintedBegins }
+    ensures text { TextBegins }
+    ensures front { FrontBegins }
+{}

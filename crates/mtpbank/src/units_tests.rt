@@ -9,7 +9,7 @@ use std::test::Fail;
 fn read_by(alloc: Global, input: &[u8], piece: usize) -> Result<(Vec<u8>, Option<Fault>), Fail> {
     let mut reader = UnitsReader::new(alloc);
     let mut out = Vec::new(alloc);
-    for octets in input.chunks(piece) {
+    for octets in input.chunks(piece.max(1)) {
         if let Err(fault) = reader.read(octets, &mut out) {
             return Ok((out, Some(fault)));
         }
@@ -42,10 +42,15 @@ fn each_kind_of_unit_has_its_line(rt: HostRuntime) -> Result<(), Fail> {
     prints(&rt, rt.alloc(), FISU, fill_in, None)?;
     let status = b"good lssu bsn=127 bib=1 fsn=127 fib=1 status=0\nend good=1 bad=0 sixteen=0\n";
     prints(&rt, rt.alloc(), b"7edff70d003831f703", status, None)?;
-    let message = b"good msu bsn=127 bib=1 fsn=0 fib=1 body=8501800030\n";
-    let (printed, ended) = read_by(rt.alloc(), b"7edf010b0a030001602adcfc00", 4096)?;
-    assert_eq!(rt; &printed[..message.len()], message.as_slice());
-    assert!(rt; ended.is_none());
+    let message =
+        b"good msu bsn=127 bib=1 fsn=0 fib=1 body=8501800030\nend good=1 bad=0 sixteen=0\n";
+    prints(
+        &rt,
+        rt.alloc(),
+        b"7edf010b0a030001602adcfc00",
+        message,
+        None,
+    )?;
     let other = b"good lssu bsn=5 bib=0 fsn=6 fib=1 status=5\nend good=1 bad=0 sixteen=0\n";
     prints(&rt, rt.alloc(), b"7e0586020500d7447e", other, None)?;
     let no_unit = b"good fault=3\nend good=1 bad=0 sixteen=0\n";

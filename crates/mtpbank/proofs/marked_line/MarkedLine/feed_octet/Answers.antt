@@ -1,4 +1,4 @@
-use Rattle.std.proofs.Common.{◌≡◌, ◌-◌, ℕ, arith}
+use Rattle.std.proofs.Common.{◌≡◌, ◌-◌, arith}
 use Rattle.l2_bits.proofs.BitLemmas.{bits_of-zero, bits_of_place}
 use Rattle.mtpbank.proofs.UnitsLemmas.{feeds_none, feeds_then, feeds_breaks, breaks_more}
 use Rattle.mtpbank.proofs.marked_line.MarkedLine.feed_octet.Goals as goal
