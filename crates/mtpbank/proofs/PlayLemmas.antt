@@ -1,13 +1,14 @@
 -- A script under way, octet by octet.
 use Rattle.std.proofs.Common.{refl, arith, ◌≡◌, ◌≢◌, ◌∙◌, ap, sym, ◌<◌, ◌≤◌, [], ◌∷◌, length, ℕ, suc, ◌+◌, ◌^◌, true, false, nat_lt, ◌==◌, List, ◌++◌, Option, Some, None, Result, Ok, Err, MatchResult, append_assoc, append-nil, add-one, length-append}
 use Rattle.std.proofs.lemmas.Bool.Decides.{nat_tests}
+use Rattle.mtpbank.proofs.PrintLemmas.{begun_of_end}
 use Rattle.mtpbank.specs.declared.fault.Fault.{Fault}
-use Rattle.mtpbank.specs.declared.fault.Fault.TheVariants.{Text, Step, Memory, Exhausted, Read, Write}
+use Rattle.mtpbank.specs.declared.fault.Fault.TheVariants.{Text, Step, Octet, Memory, Exhausted, Read, Write}
 use Rattle.mtpbank.specs.Pair.{Pair}
 use Rattle.set_core.specs.Set.{counts_of}
 use Rattle.mtpbank.specs.declared.script.End.TheVariants.{A, B}
 use Rattle.mtpbank.specs.Texts.{end_text, ends_text}
-use Rattle.mtpbank.specs.Printing.{Printed, behind, EndsIn, IsOfText, ReadsOrStops, Ends}
+use Rattle.mtpbank.specs.Printing.{Printed, behind, IsBegun, EndsIn, IsOfText, ReadsOrStops, Ends}
 use Rattle.mtpbank.specs.PlayText.{LineOutcome, prints, goes_on, lines_of, onto_first, play_lines, on_line, at_the_end, play_text}
 use Rattle.mtpbank.specs.Playing.{Reading, IsOpen, text_from, Tells, Does, Faults, Advances, Halts, AdvancesOrHalts, Finishes, HasPlayed, IsPlayText}
 
@@ -76,6 +77,7 @@ ends_a_line old before after pair new o l few e f g = record {
 told : (fault : Fault) (outcome : LineOutcome) (next : Option Pair → Printed) → Tells fault outcome → Faults fault (goes_on outcome next) []
 told (Text n) outcome next e = ap (λ (o : LineOutcome). goes_on o next) e
 told (Step n) outcome next e = ap (λ (o : LineOutcome). goes_on o next) e
+told (Octet place) outcome next e = absurd e
 told Memory outcome next e = ((goes_on outcome next).printed, refl)
 told Exhausted outcome next e = ap (λ (o : LineOutcome). goes_on o next) e
 told Read outcome next e = absurd e
@@ -84,6 +86,7 @@ told Write outcome next e = absurd e
 told_of_text : (fault : Fault) (outcome : LineOutcome) → Tells fault outcome → IsOfText fault
 told_of_text (Text n) outcome e = tt
 told_of_text (Step n) outcome e = tt
+told_of_text (Octet place) outcome e = tt
 told_of_text Memory outcome e = tt
 told_of_text Exhausted outcome e = tt
 told_of_text Read outcome e = e
@@ -136,6 +139,7 @@ behind_twice p q text = ap (λ (x : List ℕ). record { printed = x; fault = tex
 faults_behind : (fault : Fault) (text : Printed) (p q : List ℕ) → Faults fault text q → Faults fault (behind p text) (p ++ q)
 faults_behind (Text n) text p q e = ap (λ (x : Printed). behind p x) e
 faults_behind (Step n) text p q e = ap (λ (x : Printed). behind p x) e
+faults_behind (Octet place) text p q e = e
 faults_behind Memory text p q e = (e.0, ap (λ (x : List ℕ). p ++ x) e.1 ∙ sym (append_assoc p q e.0))
 faults_behind Exhausted text p q e = ap (λ (x : Printed). behind p x) e
 faults_behind Read text p q e = e
@@ -229,6 +233,7 @@ begins_to_play = record { counted = omega arith; goes_on = λ left. refl }
 of_fault : (fault : Fault) (text : Printed) (printed : List ℕ) → Faults fault text printed → IsOfText fault
 of_fault (Text n) text printed e = tt
 of_fault (Step n) text printed e = tt
+of_fault (Octet place) text printed e = tt
 of_fault Memory text printed e = tt
 of_fault Exhausted text printed e = tt
 of_fault Read text printed e = e
@@ -237,6 +242,7 @@ of_fault Write text printed e = e
 ends_in : (fault : Fault) (whole text : Printed) (lines printed : List ℕ) → whole ≡ behind lines text → Faults fault text printed → EndsIn fault (λ (t : Printed). t ≡ whole) (lines ++ printed)
 ends_in (Text n) whole text lines printed e f = sym (e ∙ ap (λ (t : Printed). behind lines t) f)
 ends_in (Step n) whole text lines printed e f = sym (e ∙ ap (λ (t : Printed). behind lines t) f)
+ends_in (Octet place) whole text lines printed e f = absurd f
 ends_in Memory whole text lines printed e f = λ t is. (f.0, ap (λ (x : Printed). x.printed) (is ∙ e) ∙ ap (λ (x : List ℕ). lines ++ x) f.1 ∙ sym (append_assoc lines printed f.0))
 ends_in Exhausted whole text lines printed e f = sym (e ∙ ap (λ (t : Printed). behind lines t) f)
 ends_in Read whole text lines printed e f = absurd f
@@ -245,37 +251,57 @@ ends_in Write whole text lines printed e f = absurd f
 few_lines : (line past more : ℕ) → line ≤ 1 + past → past + more ≤ 2 ^ 24 → line + more < 2 ^ 64
 few_lines line past more h k = omega (arith, h, k)
 
+-- what was printed is the beginning of the text
+begun_to_play : (past lines : List ℕ) (r : Reading) → HasPlayed past lines r → (left : List ℕ) → IsBegun (IsPlayText (past ++ left)) lines
+begun_to_play past lines r has left text is = ((text_from r left).printed, ap (λ (t : Printed). t.printed) (is ∙ has.goes_on left))
+
+has_advanced : (old new : Reading) (octets before after : List ℕ) (f : Advances old octets before after new) (past lines : List ℕ) → length past + length octets ≤ 2 ^ 24 → HasPlayed past lines old → HasPlayed (past ++ octets) (lines ++ f.printed) new
+has_advanced old new octets before after f past lines fits has = record {
+  counted = omega (arith, f.counted, has.counted, length-append past octets);
+  goes_on = λ left.
+      ap (λ (x : List ℕ). play_text x) (append_assoc past octets left) ∙ has.goes_on (octets ++ left)
+      ∙ ap (λ (t : Printed). behind lines t) (f.goes_on (few_lines old.line (length past) (length octets) has.counted fits) left)
+      ∙ behind_twice lines f.printed (text_from new left);
+}
+
+one_play_text : (whole a b : Printed) → a ≡ whole → b ≡ whole → a ≡ b
+one_play_text whole a b p q = p ∙ sym q
+
 pub play_reads : (result : Result (Unit {0}) Fault) (old new : Reading) (octets before after : List ℕ) → AdvancesOrHalts result old octets before after new
     → ReadsOrStops IsPlayText result (λ past lines. HasPlayed past lines old) octets before after (λ past lines. HasPlayed past lines new)
 play_reads (Ok done) old new octets before after f = record {
   printed = f.printed;
   added = f.added;
-  goes_on = λ past lines fits has. record {
-    counted = omega (arith, f.counted, has.counted, length-append past octets);
-    goes_on = λ left.
-        ap (λ (x : List ℕ). play_text x) (append_assoc past octets left) ∙ has.goes_on (octets ++ left)
-        ∙ ap (λ (t : Printed). behind lines t) (f.goes_on (few_lines old.line (length past) (length octets) has.counted fits) left)
-        ∙ behind_twice lines f.printed (text_from new left);
-  };
+  goes_on = has_advanced old new octets before after f;
+  begun = λ past lines fits has left. rw (← append_assoc past octets left) (begun_to_play (past ++ octets) (lines ++ f.printed) new (has_advanced old new octets before after f past lines fits has) left);
 }
-play_reads (Err fault) old new octets before after f = record {
-  printed = f.printed;
-  added = f.added;
-  of_text = f.of_text;
-  ends = λ past lines fits has left.
-      ends_in fault (play_text (past ++ (octets ++ left))) (text_from old (octets ++ left)) lines f.printed (has.goes_on (octets ++ left)) (f.ends (few_lines old.line (length past) (length octets) has.counted fits) left);
-}
+play_reads (Err fault) old new octets before after f =
+    let ends : (past lines : List ℕ) → length past + length octets ≤ 2 ^ 24 → HasPlayed past lines old → (left : List ℕ) → EndsIn fault (IsPlayText (past ++ (octets ++ left))) (lines ++ f.printed) =
+    λ past lines fits has left.
+    ends_in fault (play_text (past ++ (octets ++ left))) (text_from old (octets ++ left)) lines f.printed (has.goes_on (octets ++ left)) (f.ends (few_lines old.line (length past) (length octets) has.counted fits) left) in record {
+      printed = f.printed;
+      added = f.added;
+      of_text = f.of_text;
+      ends = ends;
+      begun = λ past lines fits has left. begun_of_end fault (IsPlayText (past ++ (octets ++ left))) (lines ++ f.printed) (one_play_text (play_text (past ++ (octets ++ left)))) (ends past lines fits has left);
+    }
 
 pub play_ends : (result : Result (Unit {0}) Fault) (old : Reading) (before after : List ℕ) → Finishes result old before after → Ends IsPlayText result (λ past lines. HasPlayed past lines old) before after
-play_ends (Ok done) old before after f = record {
-  printed = f.printed;
-  added = f.added;
-  of_text = tt;
-  ends = λ past lines fits has. sym (rw (append-nil past) at (has.goes_on []) ∙ ap (λ (t : Printed). behind lines t) f.ends);
-}
-play_ends (Err fault) old before after f = record {
-  printed = f.printed;
-  added = f.added;
-  of_text = of_fault fault (text_from old []) f.printed f.ends;
-  ends = λ past lines fits has. ends_in fault _ (text_from old []) lines f.printed (rw (append-nil past) at (has.goes_on [])) f.ends;
-}
+play_ends (Ok done) old before after f =
+    let ends : (past lines : List ℕ) → HasPlayed past lines old → record { printed = lines ++ f.printed; fault = None } ≡ play_text past =
+    λ past lines has. sym (rw (append-nil past) at (has.goes_on []) ∙ ap (λ (t : Printed). behind lines t) f.ends) in record {
+      printed = f.printed;
+      added = f.added;
+      of_text = tt;
+      ends = λ past lines fits has. ends past lines has;
+      begun = λ past lines fits has text is. ([], ap (λ (t : Printed). t.printed) (is ∙ sym (ends past lines has)) ∙ sym (append-nil (lines ++ f.printed)));
+    }
+play_ends (Err fault) old before after f =
+    let ends : (past lines : List ℕ) → HasPlayed past lines old → EndsIn fault (IsPlayText past) (lines ++ f.printed) =
+    λ past lines has. ends_in fault (play_text past) (text_from old []) lines f.printed (rw (append-nil past) at (has.goes_on [])) f.ends in record {
+      printed = f.printed;
+      added = f.added;
+      of_text = of_fault fault (text_from old []) f.printed f.ends;
+      ends = λ past lines fits has. ends past lines has;
+      begun = λ past lines fits has. begun_of_end fault (IsPlayText past) (lines ++ f.printed) (one_play_text (play_text past)) (ends past lines has);
+    }

@@ -5,7 +5,7 @@ use Rattle.std.proofs.Math.Seq.{take-add}
 use Rattle.std.specs.Io.KnownBytes.{Appends, Keeps, Consumes, IsAtEnd}
 use Rattle.std.proofs.KnownBytes.{Appends-trans, Appends-nil, Consumes-trans, Consumes-nil, Consumes-whole}
 use Rattle.mtpbank.specs.declared.fault.Fault.{Fault}
-use Rattle.mtpbank.specs.declared.fault.Fault.TheVariants.{Text, Step, Memory, Exhausted, Read, Write}
+use Rattle.mtpbank.specs.declared.fault.Fault.TheVariants.{Text, Step, Octet, Memory, Exhausted, Read, Write}
 use Rattle.mtpbank.specs.Printing.{Printed, IsBegun, EndsIn, IsOfText, Ends, ReadsOrStops, IsEnd, Writes, Passes, Breaks, PassesOrBreaks, Closes, Prints, IsDevices}
 
 -- what is written after what was written
@@ -30,9 +30,10 @@ front_of_piece buffer few count h =
 -- Beginnings.
 
 -- what was printed before a fault is a beginning of the text
-begun_of_end : (fault : Fault) (IsIt : Printed → Type 0) (printed : List ℕ) → ((a b : Printed) → IsIt a → IsIt b → a ≡ b) → EndsIn fault IsIt printed → IsBegun IsIt printed
+pub begun_of_end : (fault : Fault) (IsIt : Printed → Type 0) (printed : List ℕ) → ((a b : Printed) → IsIt a → IsIt b → a ≡ b) → EndsIn fault IsIt printed → IsBegun IsIt printed
 begun_of_end (Text n) IsIt printed one e text is = ([], ap (λ (t : Printed). t.printed) (one text _ is e) ∙ sym (append-nil printed))
 begun_of_end (Step n) IsIt printed one e text is = ([], ap (λ (t : Printed). t.printed) (one text _ is e) ∙ sym (append-nil printed))
+begun_of_end (Octet place) IsIt printed one e text is = ([], ap (λ (t : Printed). t.printed) (one text _ is e) ∙ sym (append-nil printed))
 begun_of_end Memory IsIt printed one e text is = e text is
 begun_of_end Exhausted IsIt printed one e text is = ([], ap (λ (t : Printed). t.printed) (one text _ is e) ∙ sym (append-nil printed))
 begun_of_end Read IsIt printed one e text is = e text is
@@ -47,6 +48,7 @@ shorter IsIt lines printed written rest e b text is =
 of_text_devices : (fault : Fault) (R W : Type 0) → IsOfText fault → IsDevices fault R W
 of_text_devices (Text n) R W h = tt
 of_text_devices (Step n) R W h = tt
+of_text_devices (Octet place) R W h = tt
 of_text_devices Memory R W h = tt
 of_text_devices Exhausted R W h = tt
 of_text_devices Read R W h = absurd h
@@ -64,46 +66,35 @@ all_written before after a b printed e f w =
 some_written : (before after : List ℕ) (a b : Option (List ℕ)) (printed : List ℕ) (fault : Fault) → before ≡ [] → after ≡ before ++ printed → (w : Writes (Err fault) after a b) → printed ≡ w.written ++ w.more
 some_written before after a b printed fault e f w = ap (λ (x : List ℕ). x ++ printed) (sym e) ∙ sym f ∙ w.split
 
-module _ (IsText : List ℕ → Printed → Type 0) (one : (input : List ℕ) (a b : Printed) → IsText input a → IsText input b → a ≡ b) where
+module _ (IsText : List ℕ → Printed → Type 0) where
   pub passes : (result : Result (Unit {0}) Fault) (HadRead HasRead : List ℕ → List ℕ → Type 0) (octets before after : List ℕ) (a b : Option (List ℕ)) → before ≡ [] → ReadsOrStops IsText result HadRead octets before after HasRead → Writes (Ok tt) after a b → PassesOrBreaks IsText result HadRead octets a b HasRead
-  passes (Ok done) HadRead HasRead octets before after a b e r w = record { printed = r.printed; added = all_written before after a b r.printed e r.added w; goes_on = r.goes_on }
+  passes (Ok done) HadRead HasRead octets before after a b e r w = record { printed = r.printed; added = all_written before after a b r.printed e r.added w; goes_on = r.goes_on; begun = r.begun }
   passes (Err fault) HadRead HasRead octets before after a b e r w = record { printed = r.printed; added = all_written before after a b r.printed e r.added w; ends = r.ends }
 
   pub breaks : (result : Result (Unit {0}) Fault) (fault : Fault) (HadRead HasRead : List ℕ → List ℕ → Type 0) (octets before after : List ℕ) (a b : Option (List ℕ)) → before ≡ []
-      → ((past lines : List ℕ) → HasRead past lines → (left : List ℕ) → IsBegun (IsText (past ++ left)) lines)
       → ReadsOrStops IsText result HadRead octets before after HasRead → Writes (Err fault) after a b → Breaks IsText fault HadRead octets a b
-  breaks (Ok done) fault HadRead HasRead octets before after a b e begun r w = rw w.ends (record {
+  breaks (Ok done) fault HadRead HasRead octets before after a b e r w = rw w.ends (record {
     printed = w.written;
     added = w.added;
     ends = λ past lines fits had left.
-        shorter (IsText (past ++ (octets ++ left))) lines r.printed w.written w.more (some_written before after a b r.printed fault e r.added w)
-        (rw (← append_assoc past octets left) (begun (past ++ octets) (lines ++ r.printed) (r.goes_on past lines fits had) left));
+        shorter (IsText (past ++ (octets ++ left))) lines r.printed w.written w.more (some_written before after a b r.printed fault e r.added w) (r.begun past lines fits had left);
   })
-  breaks (Err other) fault HadRead HasRead octets before after a b e begun r w = rw w.ends (record {
+  breaks (Err other) fault HadRead HasRead octets before after a b e r w = rw w.ends (record {
     printed = w.written;
     added = w.added;
     ends = λ past lines fits had left.
-        shorter (IsText (past ++ (octets ++ left))) lines r.printed w.written w.more (some_written before after a b r.printed fault e r.added w)
-        (begun_of_end other (IsText (past ++ (octets ++ left))) (lines ++ r.printed) (one (past ++ (octets ++ left))) (r.ends past lines fits had left));
+        shorter (IsText (past ++ (octets ++ left))) lines r.printed w.written w.more (some_written before after a b r.printed fault e r.added w) (r.begun past lines fits had left);
   })
 
   pub closes : (result : Result (Unit {0}) Fault) (HadRead : List ℕ → List ℕ → Type 0) (before after : List ℕ) (a b : Option (List ℕ)) → before ≡ [] → Ends IsText result HadRead before after → Writes (Ok tt) after a b → Closes IsText result HadRead a b
   closes result HadRead before after a b e r w = record { printed = r.printed; added = all_written before after a b r.printed e r.added w; ends = r.ends }
 
   pub breaks_off : (result : Result (Unit {0}) Fault) (fault : Fault) (HadRead : List ℕ → List ℕ → Type 0) (before after : List ℕ) (a b : Option (List ℕ)) → before ≡ [] → Ends IsText result HadRead before after → Writes (Err fault) after a b → Closes IsText (Err fault) HadRead a b
-  breaks_off (Ok done) fault HadRead before after a b e r w = rw w.ends (record {
+  breaks_off result fault HadRead before after a b e r w = rw w.ends (record {
     printed = w.written;
     added = w.added;
     ends = λ past lines fits had.
-        shorter (IsText past) lines r.printed w.written w.more (some_written before after a b r.printed fault e r.added w)
-        (λ text is. ([], ap (λ (t : Printed). t.printed) (one past text _ is (r.ends past lines fits had)) ∙ sym (append-nil (lines ++ r.printed))));
-  })
-  breaks_off (Err other) fault HadRead before after a b e r w = rw w.ends (record {
-    printed = w.written;
-    added = w.added;
-    ends = λ past lines fits had.
-        shorter (IsText past) lines r.printed w.written w.more (some_written before after a b r.printed fault e r.added w)
-        (begun_of_end other (IsText past) (lines ++ r.printed) (one past) (r.ends past lines fits had));
+        shorter (IsText past) lines r.printed w.written w.more (some_written before after a b r.printed fault e r.added w) (r.begun past lines fits had);
   })
 
 -- the fault of a text is none of a device
@@ -118,22 +109,24 @@ devices_of_ends IsText (Err fault) HadRead before after W r = of_text_devices fa
 -- A source that is read piece by piece.
 
 -- some octets were read, what they print was written, and so many may still be read
-pub record Under (HasRead : List ℕ → List ℕ → Type 0) (source0 source sink0 sink : Option (List ℕ)) (left counter : ℕ) : Type 0 where
+pub record Under (IsText : List ℕ → Printed → Type 0) (HasRead : List ℕ → List ℕ → Type 0) (source0 source sink0 sink : Option (List ℕ)) (left counter : ℕ) : Type 0 where
   pub octets : List ℕ
   pub printed : List ℕ
   pub consumed : Consumes source0 source octets
   pub added : Appends sink0 sink printed
   pub has : HasRead octets printed
+  pub begun : (rest : List ℕ) → IsBegun (IsText (octets ++ rest)) printed
   pub count : length octets + left ≡ 2 ^ 24
   pub calls : counter ≤ length octets
 
-pub under_start : (HasRead : List ℕ → List ℕ → Type 0) (source sink : Option (List ℕ)) → HasRead [] [] → Under HasRead source source sink sink (2 ^ 24) 0
-under_start HasRead source sink has = record {
+pub under_start : (IsText : List ℕ → Printed → Type 0) (HasRead : List ℕ → List ℕ → Type 0) (source sink : Option (List ℕ)) → HasRead [] [] → Under IsText HasRead source source sink sink (2 ^ 24) 0
+under_start IsText HasRead source sink has = record {
   octets = [];
   printed = [];
   consumed = Consumes-nil source;
   added = Appends-nil sink;
   has = has;
+  begun = λ rest text is. (text.printed, refl);
   count = refl;
   calls = omega arith;
 }
@@ -147,15 +140,15 @@ read_front (Some x) (Some y) octets P c h = subst P (sym c) (h y)
 pub is_long : (s0 s1 : Option (List ℕ)) (octets : List ℕ) → Consumes s0 s1 octets → 2 ^ 24 ≤ length octets → IfSome s0 (λ input. 2 ^ 24 ≤ length input)
 is_long s0 s1 octets c h = read_front s0 s1 octets (λ input. 2 ^ 24 ≤ length input) c (λ rest. omega (arith, h, length-append octets rest))
 
-module _ (IsText : List ℕ → Printed → Type 0) (Had Has : List ℕ → List ℕ → Type 0) (s0 s1 s2 w0 w1 w2 : Option (List ℕ)) (left counter : ℕ) (u : Under Had s0 s1 w0 w1 left counter) where
+module _ (IsText : List ℕ → Printed → Type 0) (Had Has : List ℕ → List ℕ → Type 0) (s0 s1 s2 w0 w1 w2 : Option (List ℕ)) (left counter : ℕ) (u : Under IsText Had s0 s1 w0 w1 left counter) where
   -- the reader failed
-  pub read_failed : ((past lines : List ℕ) → Had past lines → (rest : List ℕ) → IsBegun (IsText (past ++ rest)) lines) → IfSome s0 (λ input. Prints (Err Read) (IsText input) w0 w1)
-  read_failed begun = read_front s0 s1 u.octets (λ input. Prints (Err Read) (IsText input) w0 w1) u.consumed
-      (λ rest. record { printed = u.printed; added = u.added; ends = begun u.octets u.printed u.has rest })
+  pub read_failed : IfSome s0 (λ input. Prints (Err Read) (IsText input) w0 w1)
+  read_failed = read_front s0 s1 u.octets (λ input. Prints (Err Read) (IsText input) w0 w1) u.consumed
+      (λ rest. record { printed = u.printed; added = u.added; ends = u.begun rest })
 
   -- a piece was passed
-  pub piece_passed : (few count : ℕ) (buffer : List ℕ) → few ≡ count → count ≤ length buffer → Consumes s1 s2 (take count buffer) → Passes Had (take few buffer) w1 w2 Has → 0 < count → count ≤ left
-      → Under Has s0 s2 w0 w2 (left - count) (counter + 1)
+  pub piece_passed : (few count : ℕ) (buffer : List ℕ) → few ≡ count → count ≤ length buffer → Consumes s1 s2 (take count buffer) → Passes IsText Had (take few buffer) w1 w2 Has → 0 < count → count ≤ left
+      → Under IsText Has s0 s2 w0 w2 (left - count) (counter + 1)
   piece_passed few count buffer e h c p some enough =
       let long : length (take few buffer) ≡ count = rw e (grind (arith, common_steps)) in record {
         octets = u.octets ++ take few buffer;
@@ -163,6 +156,7 @@ module _ (IsText : List ℕ → Printed → Type 0) (Had Has : List ℕ → List
         consumed = Consumes-trans s0 s1 s2 u.octets (take few buffer) u.consumed (rw e c);
         added = Appends-trans w0 w1 w2 u.printed p.printed u.added p.added;
         has = p.goes_on u.octets u.printed (omega (arith, u.count, long, enough)) u.has;
+        begun = λ rest. rw (append_assoc u.octets (take few buffer) rest) (p.begun u.octets u.printed (omega (arith, u.count, long, enough)) u.has rest);
         count = omega (arith, u.count, long, enough, length-append u.octets (take few buffer));
         calls = omega (arith, u.calls, long, some, length-append u.octets (take few buffer));
       }
@@ -177,12 +171,11 @@ module _ (IsText : List ℕ → Printed → Type 0) (Had Has : List ℕ → List
   short_piece few buffer h = let short : length (take few buffer) ≤ few = grind (arith, common_steps) in omega (arith, u.count, short, h)
 
   -- one octet more came than may be read
-  pub piece_too_much : (few count : ℕ) (buffer : List ℕ) → few ≤ count → few ≤ left → Consumes s1 s2 (take count buffer) → Passes Had (take few buffer) w1 w2 Has
-      → ((past lines : List ℕ) → Has past lines → (rest : List ℕ) → IsBegun (IsText (past ++ rest)) lines) → IfSome s0 (λ input. Prints (Err Read) (IsText input) w0 w2)
-  piece_too_much few count buffer h k c p begun = with_front few count buffer (λ input. Prints (Err Read) (IsText input) w0 w2) h c (λ rest. record {
+  pub piece_too_much : (few count : ℕ) (buffer : List ℕ) → few ≤ count → few ≤ left → Consumes s1 s2 (take count buffer) → Passes IsText Had (take few buffer) w1 w2 Has → IfSome s0 (λ input. Prints (Err Read) (IsText input) w0 w2)
+  piece_too_much few count buffer h k c p = with_front few count buffer (λ input. Prints (Err Read) (IsText input) w0 w2) h c (λ rest. record {
     printed = u.printed ++ p.printed;
     added = Appends-trans w0 w1 w2 u.printed p.printed u.added p.added;
-    ends = rw (← append_assoc u.octets (take few buffer) rest) (begun (u.octets ++ take few buffer) (u.printed ++ p.printed) (p.goes_on u.octets u.printed (short_piece few buffer k) u.has) rest);
+    ends = p.begun u.octets u.printed (short_piece few buffer k) u.has rest;
   })
 
   -- a fault among the octets of a piece

@@ -1,4 +1,5 @@
 pub mod Carried
+pub mod CommandLine
 pub mod Figures
 pub mod Opened
 pub mod Pair
@@ -7,3 +8,5 @@ pub mod Playing
 pub mod Printing
 pub mod Script
 pub mod Texts
+pub mod UnitsReading
+pub mod UnitsText

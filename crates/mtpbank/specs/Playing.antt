@@ -1,10 +1,9 @@
 -- What a script under way stands for, and what a whole line of it prints.
 use Rattle.std.specs.Prelude.{◌≡◌, ℕ, ◌≤◌, ◌≢◌, List, [], ◌∷◌, ◌++◌, ◌+◌, ◌<◌, ◌^◌, length, Option, Some, None, Result, MatchResult}
-use Rattle.std.proofs.Common.{ap, sym, ◌∙◌}
 use Rattle.mtpbank.specs.declared.fault.Fault.{Fault}
-use Rattle.mtpbank.specs.declared.fault.Fault.TheVariants.{Text, Step, Memory, Exhausted, Read, Write}
+use Rattle.mtpbank.specs.declared.fault.Fault.TheVariants.{Text, Step, Octet, Memory, Exhausted, Read, Write}
 use Rattle.mtpbank.specs.Pair.{Pair}
-use Rattle.mtpbank.specs.Printing.{Printed, behind, IsBegun, IsOfText}
+use Rattle.mtpbank.specs.Printing.{Printed, behind, IsOfText}
 use Rattle.mtpbank.specs.PlayText.{LineOutcome, stops, prints, lines_of, play_lines, play_text}
 
 -- the number of the line that is being read, its octets so far, and the pair, if it's made yet
@@ -31,6 +30,7 @@ text_from r left = play_lines r.line r.pair (lines_of (r.text ++ left))
 abbrev pub Tells : Fault → LineOutcome → Type 0
 Tells (Text n) outcome = outcome ≡ stops (Text n)
 Tells (Step n) outcome = outcome ≡ stops (Step n)
+Tells (Octet place) outcome = ⊥
 Tells Memory outcome = Unit {0}
 Tells Exhausted outcome = outcome ≡ stops Exhausted
 Tells Read outcome = ⊥
@@ -56,17 +56,11 @@ pub record HasPlayed (past lines : List ℕ) (r : Reading) : Type 0 where
 abbrev pub IsPlayText : List ℕ → Printed → Type 0
 IsPlayText input text = text ≡ play_text input
 
--- an input has one text, and what was printed is its beginning
-pub one_play_text : (input : List ℕ) (a b : Printed) → IsPlayText input a → IsPlayText input b → a ≡ b
-one_play_text input a b p q = p ∙ sym q
-
-pub play_begun : (past lines : List ℕ) (r : Reading) → HasPlayed past lines r → (left : List ℕ) → IsBegun (IsPlayText (past ++ left)) lines
-play_begun past lines r has left text is = ((text_from r left).printed, ap (λ (t : Printed). t.printed) (is ∙ has.goes_on left))
-
 -- the fault is that of what is printed from here on; want of memory leaves its beginning
 abbrev pub Faults : Fault → Printed → List ℕ → Type 0
 Faults (Text n) text printed = text ≡ record { printed = printed; fault = Some (Text n) }
 Faults (Step n) text printed = text ≡ record { printed = printed; fault = Some (Step n) }
+Faults (Octet place) text printed = ⊥
 Faults Memory text printed = (more : List ℕ) × (text.printed ≡ printed ++ more)
 Faults Exhausted text printed = text ≡ record { printed = printed; fault = Some Exhausted }
 Faults Read text printed = ⊥

@@ -12,6 +12,10 @@ pub enum Fault {
     /// What the line of this number, counted from 1, asks for can't be done.
     #[error("fault line {line} step")]
     Step { line: u64 },
+    /// This octet of the input, counted from 0, is neither a hexadecimal digit nor skipped; or the
+    /// input ends here with a digit left over.
+    #[error("fault octet {place}")]
+    Octet { place: u64 },
     /// Memory is wanted.
     #[error("fault memory")]
     Memory,

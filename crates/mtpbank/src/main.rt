@@ -1,12 +1,15 @@
 //! `mtpbank`: a bank of signalling terminals for Signalling System No. 7.
 //!
 //! The program is a thin edge: it reads its words and its input, hands them to functions over
-//! values, and prints what they give. `play` walks two ends of a link through a script.
+//! values, and prints what they give. `units` tells what a signalling terminal sees of a line's octets;
+//! `play` walks two ends of a link through a script.
 #![tactic(auto)]
 
 mod device;
+mod digit;
 mod fault;
 mod figures;
+mod marked_line;
 mod opening;
 mod pair;
 mod play;
@@ -20,6 +23,11 @@ mod step_fault;
 #[cfg(test)]
 mod tests;
 mod texts;
+mod unit_lines;
+mod units;
+mod units_reading;
+#[cfg(test)]
+mod units_tests;
 mod whole_line;
 mod words;
 
@@ -40,6 +48,7 @@ fn main(rt: HostRuntime) -> io::Result<ExitCode> {
         words.push(word.as_str())?;
     }
     match words_of(alloc, &words) {
+        Ok(Words::Units) => seen(&rt),
         Ok(Words::Play) => played(&rt),
         Err(WordsFault::Words(error)) => {
             error.print(&rt)?;
@@ -54,6 +63,16 @@ fn played(rt: &HostRuntime) -> io::Result<ExitCode> {
     let mut source = Reader::new(rt.reader());
     let mut sink = Writer::new(io::writer(rt));
     match play::play(rt.alloc(), &mut source, &mut sink) {
+        Ok(()) => Ok(ExitCode::SUCCESS),
+        Err(fault) => told(rt, fault),
+    }
+}
+
+/// Tells what a signalling terminal sees of the digits on standard input.
+fn seen(rt: &HostRuntime) -> io::Result<ExitCode> {
+    let mut source = Reader::new(rt.reader());
+    let mut sink = Writer::new(io::writer(rt));
+    match units::units(rt.alloc(), &mut source, &mut sink) {
         Ok(()) => Ok(ExitCode::SUCCESS),
         Err(fault) => told(rt, fault),
     }

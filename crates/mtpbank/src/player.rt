@@ -122,15 +122,11 @@ impl Player {
 }
 
 impl Printer for Player {
-    ghost use Rattle.mtpbank.specs.Playing.{HasPlayed, IsPlayText, one_play_text, play_begun};
+    ghost use Rattle.mtpbank.specs.Playing.{HasPlayed, IsPlayText};
 
     ghost is_text = { IsPlayText };
 
     ghost has_read = { λ player past lines. HasPlayed past lines player };
-
-    ghost one_text = { one_play_text };
-
-    ghost begun = { play_begun };
 
     fn read(&mut self, octets: &[u8], out: &mut Vec<u8>) -> Result<(), Fault> {
         self.read_all(octets, out)

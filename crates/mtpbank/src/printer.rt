@@ -1,6 +1,6 @@
 //! A text that is printed while another is read.
-ghost use Rattle.std.specs.Prelude.{◌≡◌, ◌++◌, ℕ, List};
-ghost use Rattle.mtpbank.specs.Printing.{Printed, ReadsOrStops, Ends, IsBegun};
+ghost use Rattle.std.specs.Prelude.{ℕ, List};
+ghost use Rattle.mtpbank.specs.Printing.{Printed, ReadsOrStops, Ends};
 
 use super::fault::Fault;
 
@@ -21,10 +21,4 @@ pub(crate) trait Printer {
     /// The octets have ended: appends what is printed then.
     fn end(self, out: &mut Vec<u8>) -> Result<(), Fault>
         ensures { Ends is_text result (has_read self) out.old.items out.new.items };
-
-    /// An input has one text at most.
-    ghost one_text: { (input : List ℕ) (a b : Printed) → is_text input a → is_text input b → a ≡ b };
-
-    /// What was printed is the beginning of the text, whatever follows.
-    ghost begun: { (past lines : List ℕ) (printer : Self) → has_read printer past lines → (left : List ℕ) → IsBegun (is_text (past ++ left)) lines };
 }

@@ -6,6 +6,7 @@ ghost use Rattle.std.specs.Prelude.{◌≡◌, ◌≤◌, ◌<◌, Some};
 use super::device::{DeviceFault, Sink, Source};
 use super::fault::Fault;
 use super::play::play;
+use super::units::units;
 use super::words::{Words, WordsFault, words_of};
 use std::alloc::{AllocError, Global};
 use std::test::Fail;
@@ -173,6 +174,54 @@ fn a_writer_fails_at_each_call(rt: HostRuntime) -> Result<(), Fail> {
     assert!(rt; end == Ok(()));
     assert_eq!(rt; page.octets.as_slice(), FIRST_PRINTED);
     Ok(())
+}
+
+/// Reads digits in pieces of this many octets, and writes so too.
+fn seen_of(alloc: Global, digits: &[u8], piece: usize, writes: u32) -> (Page, Result<(), Fault>)
+    requires { 0 < piece }
+{
+    let mut text = Text {
+        rest: digits,
+        piece,
+        reads: 1000,
+        failed: false,
+    };
+    let mut page = Page {
+        octets: Vec::new(alloc),
+        piece,
+        writes,
+        failed: false,
+    };
+    let end = units(alloc, &mut text, &mut page);
+    (page, end)
+}
+
+/// Seven ones begin octet counting; 256 bits later two marks were given, and a good unit ends it.
+const COUNTED: &[u8] = b"ff00000000000000000000000000000000000000000000000000000000000000007edff705f8beaf1f";
+
+const COUNTED_PRINTED: &[u8] = b"sixteen
+sixteen
+good fisu bsn=127 bib=1 fsn=127 fib=1
+end good=1 bad=0 sixteen=2
+";
+
+#[test]
+fn octets_are_counted_whatever_the_pieces(rt: HostRuntime) {
+    for piece in [4096, 1, 7] {
+        let (page, end) = seen_of(rt.alloc(), COUNTED, piece, 1000);
+        assert_eq!(rt; page.octets.as_slice(), COUNTED_PRINTED);
+        assert!(rt; end == Ok(()));
+    }
+}
+
+#[test]
+fn a_writer_of_marks_fails_at_each_call(rt: HostRuntime) {
+    for writes in 0..COUNTED_PRINTED.len() {
+        let (page, end) = seen_of(rt.alloc(), COUNTED, 1, writes as u32);
+        assert!(rt; end == Err(Fault::Write));
+        assert_eq!(rt; page.octets.len(), writes);
+        assert!(rt; COUNTED_PRINTED.starts_with(&page.octets));
+    }
 }
 
 /// 128 offers, of which 127 are sent; a BSN that acknowledges none, one that acknowledges all.
@@ -365,7 +414,8 @@ fn the_longest_line(rt: HostRuntime) -> Result<(), Fail> {
 #[test]
 fn words_of_the_command_line(rt: HostRuntime) {
     assert!(rt; matches!(words_of(rt.alloc(), &["play"]), Ok(Words::Play)));
-    assert!(rt; matches!(words_of(rt.alloc(), &["units"]), Err(WordsFault::Words(_))));
+    assert!(rt; matches!(words_of(rt.alloc(), &["units"]), Ok(Words::Units)));
+    assert!(rt; matches!(words_of(rt.alloc(), &["run"]), Err(WordsFault::Words(_))));
     assert!(rt; matches!(words_of(rt.alloc(), &[]), Err(WordsFault::Words(_))));
     assert!(rt;
         matches!(

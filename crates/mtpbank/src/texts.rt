@@ -95,7 +95,7 @@ fn took_text(took: Took) -> &'static str
 }
 
 /// 1 for yes and 0 for no.
-fn bit(yes: bool) -> u8
+pub(crate) fn bit(yes: bool) -> u8
     ensures { result ≡ bit_of yes }
 {
     if yes { 1 } else { 0 }

@@ -1,11 +1,18 @@
 //! The words of the command line.
+ghost use Rattle.std.specs.Prelude.{◌≡◌, IfOk, Some, map};
+ghost use Rattle.std.specs.Option.{option_map};
+ghost use Rattle.clap.specs.Words.{app_of, subcommand_of};
+ghost use Rattle.mtpbank.specs.CommandLine.{program, name_of};
 
+use clap::error::ErrorKind;
 use clap::Command;
 use std::alloc::{AllocError, Global};
 
 /// What the command line asks for.
 #[derive(Clone, Copy, Debug, PartialEq, Eq)]
 pub enum Words {
+    /// Tell what a signalling terminal sees of the digits on standard input.
+    Units,
     /// Play a script of two ends from standard input.
     Play,
 }
@@ -26,19 +33,35 @@ impl From<AllocError> for WordsFault {
 }
 
 /// What these words, those after the program's name, ask for.
-pub fn words_of(alloc: Global, words: &[&str]) -> Result<Words, WordsFault> {
-    let command = command(alloc)?;
-    match command.try_get_matches_from(words) {
-        Ok(matches) => match matches.subcommand() {
-            Some(_) => Ok(Words::Play),
-            None => Err(WordsFault::NoMemory),
-        },
-        Err(error) => Err(WordsFault::Words(error)),
+///
+/// 1 [`WordsFault::NoMemory`] may come before the other; 2 [`WordsFault::Words`] where no
+/// subcommand is there, where it isn't one of the program's, and where words follow that it
+/// doesn't take.
+pub fn words_of(alloc: Global, words: &[&str]) -> Result<Words, WordsFault>
+    ensures { IfOk result (λ found. option_map (λ p. p.0) (subcommand_of program (map (λ s. s.now) words.now)) ≡ Some (name_of found)) }
+{
+    let mut command = command(alloc)?;
+    let matches = match command.try_get_matches_from_mut(words) {
+        Ok(matches) => matches,
+        Err(error) => return Err(WordsFault::Words(error)),
+    };
+    match matches.subcommand() {
+        Some(("units", _)) => Ok(Words::Units),
+        Some(("play", _)) => Ok(Words::Play),
+        _ => Err(WordsFault::Words(command.error(
+            ErrorKind::MissingSubcommand,
+            "a subcommand is wanted",
+        )?)),
     }
 }
 
 /// The words that the program knows.
-fn command<'a>(alloc: Global) -> Result<Command<'a>, AllocError> {
+fn command<'a>(alloc: Global) -> Result<Command<'a>, AllocError>
+    ensures { IfOk result (λ command. app_of command ≡ program) }
+{
+    let units = Command::new(alloc, "units")
+        .about("Reads the octets of a line as hexadecimal digits and tells what a signalling terminal sees")
+        .after_help(UNITS_HELP);
     let play = Command::new(alloc, "play")
         .about("Plays a script of two ends of a link from standard input, line by line")
         .after_help(PLAY_HELP);
@@ -47,8 +70,19 @@ fn command<'a>(alloc: Global) -> Result<Command<'a>, AllocError> {
         .about("A proved bank of signalling terminals for Signalling System No. 7")
         .no_binary_name(true)
         .subcommand_required(true)
+        .subcommand(units)?
         .subcommand(play)
 }
+
+const UNITS_HELP: &str = "\
+Two digits are an octet of the line, fed lowest bit first; spaces, tabs, CR and LF are skipped.
+Each line of the output is a mark:
+  good fisu|lssu|msu ..   a unit with right check bits, and what it holds
+  good fault=N            right check bits, but no unit: 1 too short, 2 too long, 3 a wrong length indicator
+  bad                     a damaged unit
+  sixteen                 sixteen octets counted without a good unit
+and the last one counts them. Another character, or a digit left over at the end, is a fault, one line on
+standard error, with status 1; what was printed before it stays.";
 
 const PLAY_HELP: &str = "\
 The script's first line that isn't empty and doesn't begin with # is

@@ -5,5 +5,5 @@ use Rattle.mtpbank.proofs.printing.pass.Goals as goal
 -- src/printing.rt:66:1
 pub returns-clause-passes : goal.returns-clause-passes
 returns-clause-passes g c =
-    breaks g.P.Printer.is_text g.met.P.Printer.one_text _ c.in-Err.fault _ _ c.args.octets.now _ _ _ _ c.new-out.ensures.items
-    (λ past lines has left. g.met.P.Printer.begun past lines _ has left) c.read-read.ensures (rw (← c.deref.ensures.value) c.in-Err.ensures.writes)
+    breaks g.P.Printer.is_text _ c.in-Err.fault _ _ c.args.octets.now _ _ _ _ c.new-out.ensures.items
+    c.read-read.ensures (rw (← c.deref.ensures.value) c.in-Err.ensures.writes)

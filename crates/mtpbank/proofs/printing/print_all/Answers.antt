@@ -14,4 +14,3 @@ pub returns-then-count-left-clause-text : goal.returns-then-count-left-clause-te
 returns-then-count-left-clause-text g c =
     piece_too_much g.P.Printer.is_text _ _ _ _ _ _ _ _ _ _ c.loop.invariant _ _ _
     (grind (arith, common_steps, c.min.ensures)) (grind (arith, common_steps, c.min.ensures)) c.in-Ok.ensures.octets.0 c.in-Ok-pass.ensures.passes
-    (λ past lines has rest. g.met.P.Printer.begun past lines _ has rest)
