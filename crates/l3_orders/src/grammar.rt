@@ -1,0 +1,9 @@
+//! A law that speaks of the grammar alone.
+ghost use Rattle.std.specs.Prelude.{ℕ};
+ghost use Rattle.l3_orders.specs.Grammar.{IsEnvelope, IsOrder, IsTheTextOf};
+ghost use Rattle.l3_orders.specs.declared.order.Order.{Order as AnyOrder};
+
+/// The text of an order stands for that order, and for no other.
+pub fn one_text()
+    ensures { (order : AnyOrder) (sio dpc opc : ℕ) → IsOrder order → IsEnvelope sio dpc opc → IsTheTextOf order sio dpc opc }
+{}
