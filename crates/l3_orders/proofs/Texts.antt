@@ -1,12 +1,12 @@
 -- A body stands for one order at most, and the grammar read from the left finds it.
-use Rattle.std.proofs.Common.{refl, arith, ◌≡◌, ◌∙◌, ap, subst, sym, ◌<◌, ◌≤◌, ◌^◌, ◌⊎◌, inl, inr, ℕ, ◌+◌, ◌*◌, ◌/◌, ◌%◌, ◌==◌, Bool, true, false, cond, Option, Some, None, Result, Ok, Err, IfOk, List, [], ◌∷◌, ◌++◌, length, get_or, eq-eqb}
+use Rattle.std.proofs.Common.{refl, arith, ◌≡◌, ◌∙◌, ap, subst, sym, ◌<◌, ◌^◌, ◌⊎◌, inl, inr, ℕ, ◌+◌, ◌*◌, ◌/◌, ◌%◌, ◌==◌, Bool, true, false, cond, Option, Some, None, Result, Ok, Err, IfOk, List, [], ◌∷◌, ◌++◌, get_or, eq-eqb}
 use Rattle.std.proofs.lemmas.Bool.Decides.{nat_tests}
 use Rattle.std.proofs.lemmas.Option.{same_Some, none-some, cond_some}
 use Rattle.std.specs.Result.{result_ok}
 use Rattle.l3_orders.specs.declared.order.Order.{Order}
 use Rattle.l3_orders.specs.declared.reading.OrderFault.{OrderFault}
 use Rattle.l3_orders.specs.declared.order.Order.TheVariants.{Coo, Coa, Cbd, Cba, Eco, Eca}
-use Rattle.l3_orders.specs.Grammar.{label_number, label, four_octets, heading_of, link_of, content_with, IsOrder, IsEnvelope, StandsFor, text_with, order_with, order_of}
+use Rattle.l3_orders.specs.Grammar.{label_number, label, heading_of, link_of, content_with, IsOrder, StandsFor, order_with, order_of}
 
 -- the SLC stands in the high half of the label's last octet
 slc_in : (dpc opc slc : ℕ) → dpc < 2 ^ 14 → opc < 2 ^ 14 → slc < 16 → label_number dpc opc slc / 0x1000000 % 256 / 16 ≡ slc

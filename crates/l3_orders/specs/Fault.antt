@@ -1,5 +1,5 @@
 -- Which bodies are refused as an order, and why.
-use Rattle.std.specs.Prelude.{ℕ, Bool, ◌+◌, ◌%◌, ◌==◌, ◌||◌, not, nat_lt, Option, Some, None, List, length, slice_index, drop, if◌then◌else◌}
+use Rattle.std.specs.Prelude.{ℕ, Bool, ◌%◌, ◌==◌, ◌||◌, not, nat_lt, Option, Some, None, List, length, slice_index, drop, if◌then◌else◌}
 use Rattle.l3_orders.specs.Grammar.{heading}
 use Rattle.l3_orders.specs.declared.reading.OrderFault.{OrderFault}
 use Rattle.l3_orders.specs.declared.reading.OrderFault.TheVariants.{NotManagement, Unknown, Length}

@@ -1,5 +1,5 @@
 use Rattle.std.proofs.Common.{rules, arith, ℕ, List, slice_index, Fits, w8, ◌<◌}
-use Rattle.l3_orders.proofs.Texts.{found_stands, only_that}
+use Rattle.l3_orders.proofs.Texts.{found_stands}
 use Rattle.l3_orders.proofs.reading.read_order.Goals as goal
 
 octet : (octets : List ℕ) (i : ℕ) → Fits w8 (slice_index octets i) → slice_index octets i < 256

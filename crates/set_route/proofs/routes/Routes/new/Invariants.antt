@@ -1,0 +1,8 @@
+use Rattle.std.proofs.Common.{◌≡◌, ◌<◌, ◌%◌, ℕ, get_or, length}
+use Rattle.set_route.specs.Routing.{new_stream}
+use Rattle.set_route.specs.declared.stream.Stream.{Stream}
+use Rattle.set_route.proofs.Places.{FirstAre}
+use Rattle.set_route.proofs.routes.Routes.new.Given as goal
+
+abbrev pub invariant-loop-number : goal.invariant-loop-number
+invariant-loop-number l = FirstAre l.links l.number l.stream-items
