@@ -1,2 +1,3 @@
-pub mod Places
+pub mod Alone
 pub mod Lowest
+pub mod Places

@@ -1,8 +1,9 @@
 -- The lowest link that is up.
-use Rattle.std.proofs.Common.{refl, arith, ◌≡◌, ◌≢◌, ◌∙◌, ap, sym, subst, ◌<◌, ◌≤◌, ℕ, zero, suc, ◌+◌, Bool, true, false, Option, Some, None, List, [], ◌∷◌, length, get_or}
+use Rattle.std.proofs.Common.{refl, arith, ◌≡◌, ◌≢◌, ◌∙◌, ap, ◌<◌, ℕ, zero, suc, ◌+◌, Bool, true, false, cond, Option, Some, None, List, [], ◌∷◌, length, nat_lt}
 use Rattle.std.proofs.lemmas.Option.{none-some, same_Some}
 use Rattle.std.proofs.lemmas.Bool.{false≢true}
-use Rattle.std.specs.List.{slice_get}
+use Rattle.std.proofs.lemmas.Bool.Decides.{nat_tests}
+use Rattle.std.specs.List.{slice_get, position, position_or_len}
 use Rattle.std.specs.Option.{option_map}
 use Rattle.set_route.specs.Target.{target_of, IsTarget}
 
@@ -27,15 +28,25 @@ target_is [] = λ link e. none-some true e
 target_is (true ∷ rest) = (refl, λ lower below. absurd (omega (arith, below)))
 target_is (false ∷ rest) = after_one rest (target_of rest) (target_is rest)
 
--- a link that is up where no lower one is
-pub target_at : (up : List Bool) (link : ℕ) → link < length up → get_or up link false ≡ true → ((k : ℕ) → k < link → get_or up k false ≡ false) → target_of up ≡ Some link
-target_at [] link below is none = absurd (omega (arith, below))
-target_at (true ∷ rest) zero below is none = refl
-target_at (true ∷ rest) (suc n) below is none = absurd (false≢true (sym (none 0 (omega arith))))
-target_at (false ∷ rest) zero below is none = absurd (false≢true is)
-target_at (false ∷ rest) (suc n) below is none = ap (option_map suc) (target_at rest n (omega (arith, below)) is (λ k lower. none (suc k) (omega (arith, lower))))
+-- the first place in the list that is true
+first_by : (first : Bool) (n : ℕ) → cond first (Some (suc n)) None ≡ option_map suc (cond first (Some n) None)
+first_by true n = refl
+first_by false n = refl
 
-pub no_target : (up : List Bool) → ((k : ℕ) → k < length up → get_or up k false ≡ false) → target_of up ≡ None
-no_target [] none = refl
-no_target (true ∷ rest) none = absurd (false≢true (sym (none 0 (omega arith))))
-no_target (false ∷ rest) none = ap (option_map suc) (no_target rest (λ k below. none (suc k) (omega (arith, below))))
+both_later : (n m : ℕ) → nat_lt (1 + n) (suc m) ≡ nat_lt n m
+both_later n m = grind (arith, nat_tests)
+
+none_before : (m : ℕ) → nat_lt 0 (suc m) ≡ true
+none_before m = grind (arith, nat_tests)
+
+one_later : (n m : ℕ) → cond (nat_lt (1 + n) (suc m)) (Some (1 + n)) None ≡ option_map suc (cond (nat_lt n m) (Some n) None)
+one_later n m =
+    let e : 1 + n ≡ suc n = omega arith in
+    ap (λ (b : Bool). cond b (Some (1 + n)) None) (both_later n m)
+    ∙ ap (λ (k : ℕ). cond (nat_lt n m) (Some k) None) e
+    ∙ first_by (nat_lt n m) n
+
+pub target_at : (up : List Bool) → position (λ is_up. is_up) up ≡ target_of up
+target_at [] = refl
+target_at (true ∷ rest) = ap (λ (b : Bool). cond b (Some 0) None) (none_before (length rest))
+target_at (false ∷ rest) = one_later (position_or_len (λ (is_up : Bool). is_up) rest) (length rest) ∙ ap (option_map suc) (target_at rest)

@@ -1,5 +1,5 @@
 -- What holds of every set is kept by each call.
-use Rattle.std.proofs.Common.{refl, arith, ◌≡◌, ◌∙◌, ap, sym, ◌<◌, ◌≤◌, ℕ, zero, suc, ◌%◌, ◌==◌, Bool, true, false, not, ◌&&◌, ◌||◌, cond, Option, Some, None, IfSome, List, [], ◌∷◌, map, length, get_or, set, All, ◌+◌, ◌++◌, take, drop, length-append, length-drop, subst, below_more, get_or-set_other, get_or-set_same}
+use Rattle.std.proofs.Common.{refl, arith, ◌≡◌, ◌∙◌, ap, sym, ◌<◌, ◌≤◌, ℕ, zero, suc, ◌%◌, ◌==◌, Bool, true, false, not, ◌&&◌, cond, Option, Some, None, IfSome, List, [], ◌∷◌, map, length, get_or, set, All, ◌+◌, ◌++◌, take, drop, length-append, length-drop, subst, below_more, get_or-set_other, get_or-set_same}
 use Rattle.std.proofs.lemmas.List.{length-map, length-set, length-take, get_or_default, take_all, drop_all, append-nil}
 use Rattle.std.proofs.lemmas.List.Edits.{map_over_more}
 use Rattle.std.proofs.lemmas.List.Elements.{All-map, All-cons}
@@ -7,7 +7,7 @@ use Rattle.std.proofs.lemmas.List.FromFn.{fill_by_all}
 use Rattle.set_route.specs.declared.place.Place.{Place}
 use Rattle.set_route.specs.declared.place.Place.TheVariants.{On, Nowhere}
 use Rattle.set_route.specs.declared.stream.Stream.{Stream}
-use Rattle.set_route.specs.Routing.{Routing, IsRouting, IsPlaceOf, stream_numbers, new_stream, new_routing, used_at, accepted, is_nowhere, stream_raised, raised, place_on, place_settled, stream_settled, settled}
+use Rattle.set_route.specs.Routing.{Routing, IsRouting, IsPlaceOf, stream_numbers, new_stream, new_routing, used_at, accepted, place_raised, stream_raised, raised, place_on, place_settled, stream_settled, settled}
 
 -- a stream runs on a link of the set
 abbrev pub IsThere : ℕ → Stream → Type 0
@@ -45,27 +45,23 @@ all_done f xs ys i long past so_far =
     let most : length xs ≤ i = omega (arith, long) in
     so_far ∙ ap (λ zs. map f zs ++ drop i xs) (take_all i xs most) ∙ ap (λ zs. map f xs ++ zs) (drop_all i xs most) ∙ append-nil (map f xs)
 
--- Up.
-raised_by : (b : Bool) (link : ℕ) (s : Stream) → (cond b (record s { place = On link }) s).home ≡ s.home
-raised_by true link s = refl
-raised_by false link s = refl
+chosen : (b : Bool) (links : ℕ) (one other : Place) → IsPlaceOf links one → IsPlaceOf links other → IsPlaceOf links (cond b one other)
+chosen true links one other p q = p
+chosen false links one other p q = q
 
-raised_to : (b : Bool) (links link : ℕ) (s : Stream) → link < links → IsThere links s → IsThere links (cond b (record s { place = On link }) s)
-raised_to true links link s below there = below
-raised_to false links link s below there = there
+-- Up.
+raised_to : (links link home : ℕ) (used : Bool) (place : Place) → link < links → IsPlaceOf links place → IsPlaceOf links (place_raised link home used place)
+raised_to links link home used (On l) below there = chosen ((home == link) && not used) links (On link) (On l) below there
+raised_to links link home used Nowhere below there = below
 
 pub raised_sound : (link : ℕ) (r : Routing) → link < r.links → IsRouting r → IsRouting (raised link r)
 raised_sound link r below sound =
-    routing_kept (stream_raised link) r (λ s. raised_by _ link s) (λ s there. raised_to _ r.links link s below there) sound
+    routing_kept (stream_raised link) r (λ s. refl) (λ s there. raised_to r.links link s.home s.used s.place below there) sound
 
 -- A link settled.
 settled_on : (links : ℕ) (target : Option ℕ) → IfSome target (λ to. to < links) → IsPlaceOf links (place_on target)
 settled_on links (Some link) below = below
 settled_on links None below = tt
-
-chosen : (b : Bool) (links : ℕ) (one other : Place) → IsPlaceOf links one → IsPlaceOf links other → IsPlaceOf links (cond b one other)
-chosen true links one other p q = p
-chosen false links one other p q = q
 
 settled_to : (links link : ℕ) (target : Option ℕ) (place : Place) → IfSome target (λ to. to < links) → IsPlaceOf links place → IsPlaceOf links (place_settled link target place)
 settled_to links link target (On l) below there = chosen (l == link) links (place_on target) (On l) (settled_on links target below) there
@@ -110,8 +106,8 @@ pub first_more : (links number : ℕ) (streams : List Stream) (s : Stream) → F
 first_more links number streams s first below is = record {
   long = length-set streams number s ∙ first.long;
   each = below_more (λ (k : ℕ). get_or (set streams number s) k (new_stream 0) ≡ new_stream (k % links)) number
-  (λ k lower. get_or-set_other streams number k s (new_stream 0) (λ same. omega (arith, same, lower)) ∙ first.each k lower)
-  (get_or-set_same streams number s (new_stream 0) (omega (arith, first.long, below)) ∙ is);
+      (λ k lower. get_or-set_other streams number k s (new_stream 0) (λ same. omega (arith, same, lower)) ∙ first.each k lower)
+      (get_or-set_same streams number s (new_stream 0) (omega (arith, first.long, below)) ∙ is);
 }
 
 pub new_is : (links number : ℕ) (streams : List Stream) → 16 ≤ number → FirstAre links number streams → streams ≡ map (λ s. new_stream (s % links)) stream_numbers

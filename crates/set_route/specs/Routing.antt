@@ -1,5 +1,5 @@
 -- THE MODEL OF PLACES: where the streams of a set run.
-use Rattle.std.specs.Prelude.{◌≡◌, ℕ, suc, zero, ◌+◌, ◌%◌, ◌==◌, ◌<◌, ◌≤◌, Bool, true, false, not, ◌&&◌, ◌||◌, Option, Some, None, List, [], ◌∷◌, map, slice_index_or, All, if◌then◌else◌}
+use Rattle.std.specs.Prelude.{◌≡◌, ℕ, suc, zero, ◌%◌, ◌==◌, ◌<◌, ◌≤◌, Bool, true, false, not, ◌&&◌, ◌||◌, Option, Some, None, List, [], ◌∷◌, map, slice_index_or, All, if◌then◌else◌}
 use Rattle.std.specs.List.{range_with_len}
 use Rattle.set_route.specs.declared.place.Place.{Place}
 use Rattle.set_route.specs.declared.place.Place.TheVariants.{On, Nowhere}
@@ -28,6 +28,10 @@ new_routing links = record { links = links; streams = map (λ s. new_stream (s %
 abbrev pub place_of : ℕ → Routing → Place
 place_of stream routing = slice_index_or (map (λ s. s.place) routing.streams) stream Nowhere
 
+-- whether a message of the stream was ever accepted
+abbrev pub has_messages : ℕ → Routing → Bool
+has_messages stream routing = slice_index_or (map (λ s. s.used) routing.streams) stream false
+
 -- Offer: a message of the stream was accepted.
 abbrev pub used_at : ℕ → List Stream → List Stream
 used_at stream [] = []
@@ -38,12 +42,12 @@ abbrev pub accepted : ℕ → Routing → Routing
 accepted stream routing = record routing { streams = used_at stream routing.streams }
 
 -- Up: a stream that runs nowhere, or that has this home and had no message yet, runs on the link.
-abbrev pub is_nowhere : Place → Bool
-is_nowhere (On link) = false
-is_nowhere Nowhere = true
+abbrev pub place_raised : ℕ → ℕ → Bool → Place → Place
+place_raised link home used (On l) = if (home == link) && not used then On link else On l
+place_raised link home used Nowhere = On link
 
 abbrev pub stream_raised : ℕ → Stream → Stream
-stream_raised link s = if is_nowhere s.place || ((s.home == link) && not s.used) then record s { place = On link } else s
+stream_raised link s = record s { place = place_raised link s.home s.used s.place }
 
 abbrev pub raised : ℕ → Routing → Routing
 raised link routing = record routing { streams = map (stream_raised link) routing.streams }
@@ -79,3 +83,15 @@ pub record IsRouting (routing : Routing) : Type 0 where
   pub at_most_16 : routing.links ≤ 16
   pub homes : map (λ s. s.home) routing.streams ≡ map (λ s. s % routing.links) stream_numbers
   pub there : All (λ s. IsPlaceOf routing.links s.place) routing.streams
+
+-- LAW: a call moves just the streams that it names. Here is all that one stream sees of each call.
+pub record MovesAlone (routing : Routing) (stream : ℕ) : Type 0 where
+  pub raised_place : (link : ℕ) → place_of stream (raised link routing) ≡ place_raised link (stream % routing.links) (has_messages stream routing) (place_of stream routing)
+  pub raised_messages : (link : ℕ) → has_messages stream (raised link routing) ≡ has_messages stream routing
+  pub settled_place : (link : ℕ) (target : Option ℕ) → place_of stream (settled link target routing) ≡ place_settled link target (place_of stream routing)
+  pub settled_messages : (link : ℕ) (target : Option ℕ) → has_messages stream (settled link target routing) ≡ has_messages stream routing
+  pub accepted_place : (other : ℕ) → place_of stream (accepted other routing) ≡ place_of stream routing
+  pub accepted_messages : (other : ℕ) → has_messages stream (accepted other routing) ≡ ((stream == other) || has_messages stream routing)
+
+abbrev pub StreamsMoveAlone : Type 0
+StreamsMoveAlone = (routing : Routing) (stream : ℕ) → IsRouting routing → stream < 16 → MovesAlone routing stream

@@ -20,6 +20,7 @@
 //! IO, takes no lock and takes no memory.
 #![tactic(auto)]
 
+mod laws;
 mod place;
 mod routes;
 mod stream;
@@ -27,6 +28,7 @@ mod target_link;
 #[cfg(test)]
 mod tests;
 
+pub use laws::streams_move_alone;
 pub use place::Place;
 pub use routes::{MOST_LINKS, Routes, STREAMS};
 pub use target_link::target;

@@ -1,6 +1,6 @@
-use Rattle.std.proofs.Common.{◌≡◌, ℕ, ◌∙◌, List, ap}
+use Rattle.std.proofs.Common.{◌∙◌, List, ap}
 use Rattle.set_route.specs.declared.stream.Stream.{Stream}
-use Rattle.set_route.specs.Routing.{Routing, accepted}
+use Rattle.set_route.specs.Routing.{accepted}
 use Rattle.set_route.proofs.Places.{accepted_is, accepted_kept}
 use Rattle.set_route.proofs.routes.Routes.accepted.Goals as goal
 

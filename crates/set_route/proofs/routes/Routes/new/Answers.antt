@@ -1,6 +1,5 @@
-use Rattle.std.proofs.Common.{◌≡◌, List, ap}
+use Rattle.std.proofs.Common.{List, ap}
 use Rattle.set_route.specs.declared.stream.Stream.{Stream}
-use Rattle.set_route.specs.Routing.{Routing, new_stream}
 use Rattle.set_route.proofs.Places.{first_more, new_is, new_kept}
 use Rattle.set_route.proofs.routes.Routes.new.Goals as goal
 

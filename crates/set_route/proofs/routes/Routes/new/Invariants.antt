@@ -1,6 +1,3 @@
-use Rattle.std.proofs.Common.{◌≡◌, ◌<◌, ◌%◌, ℕ, get_or, length}
-use Rattle.set_route.specs.Routing.{new_stream}
-use Rattle.set_route.specs.declared.stream.Stream.{Stream}
 use Rattle.set_route.proofs.Places.{FirstAre}
 use Rattle.set_route.proofs.routes.Routes.new.Given as goal
 

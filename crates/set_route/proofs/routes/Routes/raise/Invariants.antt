@@ -1,5 +1,5 @@
 use Rattle.std.proofs.Common.{◌≡◌, ◌++◌, map, take, drop}
-use Rattle.set_route.specs.Routing.{stream_raised, stream_settled}
+use Rattle.set_route.specs.Routing.{stream_raised}
 use Rattle.set_route.proofs.routes.Routes.raise.Given as goal
 
 abbrev pub invariant-loop-stream : goal.invariant-loop-stream

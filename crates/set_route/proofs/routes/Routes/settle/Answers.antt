@@ -1,5 +1,5 @@
-use Rattle.std.proofs.Common.{◌≡◌, ℕ, ap, arith, rules}
-use Rattle.set_route.specs.Routing.{Routing, stream_raised, stream_settled, new_stream}
+use Rattle.std.proofs.Common.{ap}
+use Rattle.set_route.specs.Routing.{Routing, stream_settled}
 use Rattle.set_route.proofs.Places.{sixteen, one_more, settled_kept}
 use Rattle.set_route.proofs.routes.Routes.settle.Goals as goal
 
