@@ -1,12 +1,12 @@
--- A body stands for one order at most, and the grammar read from the left finds it.
-use Rattle.std.proofs.Common.{refl, arith, ◌≡◌, ◌∙◌, ap, subst, sym, ◌<◌, ◌^◌, ◌⊎◌, inl, inr, ℕ, ◌+◌, ◌*◌, ◌/◌, ◌%◌, ◌==◌, Bool, true, false, cond, Option, Some, None, Result, Ok, Err, IfOk, List, [], ◌∷◌, ◌++◌, get_or, eq-eqb}
+-- The grammar read from the left finds the order that a body stands for.
+use Rattle.std.proofs.Common.{refl, arith, ◌≡◌, ◌∙◌, ap, subst, sym, ◌<◌, ◌^◌, ◌⊎◌, inl, inr, ℕ, ◌+◌, ◌*◌, ◌/◌, ◌%◌, ◌==◌, Bool, true, false, cond, Option, Some, None, Result, Ok, Err, IfOk, List, [], ◌∷◌, ◌++◌, get_or, eq-eqb, All, zero, suc}
 use Rattle.std.proofs.lemmas.Bool.Decides.{nat_tests}
 use Rattle.std.proofs.lemmas.Option.{same_Some, none-some, cond_some}
 use Rattle.std.specs.Result.{result_ok}
 use Rattle.l3_orders.specs.declared.order.Order.{Order}
 use Rattle.l3_orders.specs.declared.reading.OrderFault.{OrderFault}
 use Rattle.l3_orders.specs.declared.order.Order.TheVariants.{Coo, Coa, Cbd, Cba, Eco, Eca}
-use Rattle.l3_orders.specs.Grammar.{label_number, label, heading_of, link_of, content_with, IsOrder, StandsFor, order_with, order_of}
+use Rattle.l3_orders.specs.Grammar.{label_number, label, heading_of, link_of, content_with, IsOrder, StandsFor, order_with, order_of, IsOneGrammar}
 
 -- the SLC stands in the high half of the label's last octet
 slc_in : (dpc opc slc : ℕ) → dpc < 2 ^ 14 → opc < 2 ^ 14 → slc < 16 → label_number dpc opc slc / 0x1000000 % 256 / 16 ≡ slc
@@ -33,10 +33,6 @@ stands_is octets (Eco link) s =
     rw (s.is, is_management s.sio s.envelope.management, slc_in s.dpc s.opc link s.envelope.to s.envelope.from s.fits) refl
 stands_is octets (Eca link) s =
     rw (s.is, is_management s.sio s.envelope.management, slc_in s.dpc s.opc link s.envelope.to s.envelope.from s.fits) refl
-
--- a body stands for one order at most
-pub same_order : (octets : List ℕ) (one other : Order) → StandsFor octets one → StandsFor octets other → one ≡ other
-same_order octets one other p q = same_Some one other (sym (stands_is octets one p) ∙ stands_is octets other q)
 
 -- Which order a body stands for, from its octets.
 
@@ -151,6 +147,10 @@ pub found_stands : (octets : List ℕ) (result : Result Order OrderFault) → Ea
 found_stands octets (Ok order) each e = read_stands octets order each (sym e)
 found_stands octets (Err fault) each e = tt
 
-pub only_that : (octets : List ℕ) (result : Result Order OrderFault) (order : Order) → result_ok result ≡ order_of octets → StandsFor octets order → result ≡ Ok order
-only_that octets (Ok other) order e stands = ap Ok (same_Some other order (e ∙ stands_is octets order stands))
-only_that octets (Err fault) order e stands = absurd (none-some order (e ∙ stands_is octets order stands))
+octet_at : (octets : List ℕ) → All (λ octet. octet < 256) octets → EachOctet octets
+octet_at [] all i = omega arith
+octet_at (octet ∷ rest) all zero = all 0 0 (omega arith)
+octet_at (octet ∷ rest) all (suc n) = octet_at rest (λ k d below. all (suc k) d (omega (arith, below))) n
+
+pub one_grammar : IsOneGrammar
+one_grammar octets order all = (λ is. read_stands octets order (octet_at octets all) is, λ stands. stands_is octets order stands)

@@ -1,5 +1,5 @@
 -- The grammar of changeover and changeback orders (Q.704 15.2 to 15.6): which bodies stand for which order.
-use Rattle.std.specs.Prelude.{◌≡◌, ℕ, ◌+◌, ◌*◌, ◌/◌, ◌%◌, ◌^◌, ◌==◌, ◌<◌, Option, Some, None, List, [], ◌∷◌, ◌++◌, if◌then◌else◌}
+use Rattle.std.specs.Prelude.{◌≡◌, ◌↔◌, ℕ, ◌+◌, ◌*◌, ◌/◌, ◌%◌, ◌^◌, ◌==◌, ◌<◌, Option, Some, None, List, [], ◌∷◌, ◌++◌, All, if◌then◌else◌}
 use Rattle.l3_orders.specs.declared.order.Order.{Order}
 use Rattle.l3_orders.specs.declared.order.Order.TheVariants.{Coo, Coa, Cbd, Cba, Eco, Eca}
 
@@ -108,6 +108,10 @@ order_of (sio ∷ a ∷ b ∷ []) = None
 order_of (sio ∷ a ∷ []) = None
 order_of (sio ∷ []) = None
 order_of [] = None
+
+-- LAW: read from the left or as a relation, the grammar says the same of whole octets
+abbrev pub IsOneGrammar : Type 0
+IsOneGrammar = (octets : List ℕ) (order : Order) → All (λ octet. octet < 256) octets → (order_of octets ≡ Some order) ↔ StandsFor octets order
 
 -- the text of an order stands for it, and for no other
 pub record IsTheTextOf (order : Order) (sio dpc opc : ℕ) : Type 0 where

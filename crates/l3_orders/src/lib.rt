@@ -41,7 +41,7 @@ mod reading;
 mod tests;
 mod writing;
 
-pub use grammar::one_text;
+pub use grammar::{one_grammar, one_text};
 pub use order::Order;
 pub use reading::{OrderFault, read_order};
 pub use writing::write_order;

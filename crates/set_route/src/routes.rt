@@ -12,7 +12,7 @@ pub const MOST_LINKS: u8 = 16;
 /// Where each of a set's 16 streams runs.
 ///
 /// Contracts see how many links the set has, and for each stream its home, whether a message of it
-/// was ever accepted, and where it runs. It's 65 octets, and takes no memory.
+/// was ever accepted, and where it runs. It's a few octets a stream, and takes no memory.
 #[derive(Debug, Drop)]
 pub struct Routes {
     links: u8,
