@@ -9,6 +9,7 @@ pub fn target(up: &[bool]) -> Option<u8>
     requires { length up.now ≤ 16 }
     ensures exact { result ≡ target_of up.now }
     ensures lowest { IsTarget up.now result }
+    ensures below { IfSome result (λ link. link < length up.now) }
 {
     let link = first_up(up)?;
     Some(link as u8)
