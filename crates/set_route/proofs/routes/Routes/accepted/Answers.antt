@@ -1,0 +1,13 @@
+use Rattle.std.proofs.Common.{◌∙◌, List, ap}
+use Rattle.set_route.specs.declared.stream.Stream.{Stream}
+use Rattle.set_route.specs.Routing.{accepted}
+use Rattle.set_route.proofs.Places.{accepted_is, accepted_kept}
+use Rattle.set_route.proofs.routes.Routes.accepted.Goals as goal
+
+pub invariant_of-self : goal.invariant_of-self
+invariant_of-self c = accepted_kept c.self.inside.links c.args.stream c.from.result c.self.inside.streams _ c.self.invariant c.from.ensures c.requires
+
+pub returns : goal.returns
+returns c =
+    ap (λ (xs : List Stream). record { links = c.self.inside.links; streams = xs }) (accepted_is c.self.inside.links c.args.stream c.from.result c.self.inside.streams _ c.self.invariant c.from.ensures c.requires)
+    ∙ ap (accepted c.args.stream) c.self.view_is
