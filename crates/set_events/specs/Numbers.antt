@@ -1,7 +1,7 @@
 -- The numbers of refusals and faults.
 use Rattle.std.specs.Prelude.{ℕ}
 use Rattle.set_events.specs.declared.answer.Refusal.{Refusal as SetRefusal}
-use Rattle.set_events.specs.declared.answer.Refusal.TheVariants.{TooShort, TooLong, Reserved, StreamFull, NotUp, NotDown, UnknownNumber, NoSuchLink}
+use Rattle.set_events.specs.declared.answer.Refusal.TheVariants.{TooShort, TooLong, Reserved, StreamFull, NotUp, NotDown, UnknownNumber, Nothing, NoSuchLink}
 use Rattle.set_events.specs.declared.answer.ControlFault.{ControlFault}
 use Rattle.set_events.specs.declared.answer.ControlFault.TheVariants.{Bsn, Fib}
 use Rattle.set_events.specs.declared.config.ConfigFault.{ConfigFault}
@@ -15,6 +15,7 @@ refusal_number StreamFull = 4
 refusal_number NotUp = 5
 refusal_number NotDown = 6
 refusal_number UnknownNumber = 8
+refusal_number Nothing = 9
 refusal_number NoSuchLink = 10
 
 -- the causes of a failed link that a heard unit can show

@@ -2,6 +2,7 @@
 ghost use Rattle.std.specs.Prelude.{◌≡◌, ◌↔◌, IsTrue};
 ghost use Rattle.set_events.specs.Numbers.{refusal_number, fault_number};
 
+use arrayvec::ArrayVec;
 use l2_units::{Unit, same_unit};
 
 /// Where a message stands: in exactly one of these places.
@@ -85,6 +86,8 @@ pub enum Refusal {
     NotDown,
     /// 8: no message has this number.
     UnknownNumber,
+    /// 9: there is nothing to take.
+    Nothing,
     /// 10: the set has no such link.
     NoSuchLink,
 }
@@ -102,6 +105,7 @@ impl Refusal {
             Refusal::NotUp => 5,
             Refusal::NotDown => 6,
             Refusal::UnknownNumber => 8,
+            Refusal::Nothing => 9,
             Refusal::NoSuchLink => 10,
         }
     }
@@ -112,6 +116,8 @@ impl Refusal {
 pub enum Answer {
     /// The offered message was accepted under this number.
     Accepted { number: u64 },
+    /// The message that was taken: SIO and SIF, as it was heard.
+    Taken { body: ArrayVec<u8, 273> },
     /// Where the message stands.
     Found { fate: Fate },
     /// The next unit to send.
@@ -131,6 +137,7 @@ impl Answer {
     {
         match (self, other) {
             (Answer::Accepted { number: a }, Answer::Accepted { number: b }) => *a == *b,
+            (Answer::Taken { body: a }, Answer::Taken { body: b }) => a.as_slice() == b.as_slice(),
             (Answer::Found { fate: a }, Answer::Found { fate: b }) => *a == *b,
             (Answer::Sent { unit: a }, Answer::Sent { unit: b }) => same_unit(a, b),
             (Answer::Heard { report: a }, Answer::Heard { report: b }) => *a == *b,
