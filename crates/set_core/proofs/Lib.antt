@@ -1,3 +1,2 @@
-pub mod Marked
-pub mod Readers
-pub mod Steps
+pub mod Choosing
+pub mod Rows
