@@ -1,2 +1,4 @@
 pub mod Choosing
+pub mod Order
 pub mod Rows
+pub mod Sending
