@@ -1,12 +1,12 @@
 -- Octets stand for one unit at most.
-use Rattle.std.proofs.Common.{refl, arith, ◌≡◌, ◌∙◌, ap, subst, sym, ◌<◌, ◌≤◌, ◌^◌, [], ◌∷◌, length, ℕ, ◌+◌, ◌*◌, ◌/◌, ◌%◌, Bool, true, false, List, ◌++◌, drop, take, ◌-◌, slice_index, nat_le, ◌==◌, Some}
+use Rattle.std.proofs.Common.{refl, arith, ◌≡◌, ◌∙◌, ap, subst, sym, ◌<◌, ◌≤◌, ◌^◌, [], ◌∷◌, length, ℕ, ◌+◌, ◌*◌, ◌/◌, ◌%◌, Bool, true, false, List, drop, take, ◌-◌, slice_index, nat_le, ◌==◌, Some}
 use Rattle.std.proofs.lemmas.Bool.Decides.{nat_tests}
 use Rattle.std.proofs.Props.{props}
 use Rattle.std.proofs.lemmas.Grind.{common_steps}
 use Rattle.l2_units.specs.declared.unit.Header.{Header}
 use Rattle.l2_units.specs.declared.unit.Unit.{Unit as SignalUnit}
-use Rattle.l2_units.specs.declared.unit.Unit.TheVariants.{Fisu, Msu}
-use Rattle.l2_units.specs.Grammar.{StandsFor, header_text, sequence_octet, text_with, length_indicator, unit_of, unit_with, header_in}
+use Rattle.l2_units.specs.declared.unit.Unit.TheVariants.{Fisu, Lssu, Msu}
+use Rattle.l2_units.specs.Grammar.{StandsFor, IsBodyOf, header_text, sequence_octet, octets_with, length_indicator, unit_of, unit_with, header_in, head_of}
 
 -- a header of these fields
 header : (bsn : ℕ) → bsn < 2 ^ 7 → Bool → (fsn : ℕ) → fsn < 2 ^ 7 → Bool → Header
@@ -58,31 +58,15 @@ same_head a b e f =
     (same_number a.fsn b.fsn a.fib b.fib a.fsn_in_range b.fsn_in_range f)
     (same_indicator a.fsn b.fsn a.fib b.fib a.fsn_in_range b.fsn_in_range f)
 
--- octets stand for one unit at most
-pub same_unit : (octets : List ℕ) (u v : SignalUnit) → StandsFor octets u → StandsFor octets v → u ≡ v
-same_unit octets (Fisu a) (Fisu b) p q =
-    let e : text_with p.1.0 (Fisu a) ≡ text_with q.1.0 (Fisu b) = sym p.1.2 ∙ q.1.2 in
-    ap Fisu (same_head a b (cc) (cc))
-same_unit octets (Fisu a) (Msu b c) p q =
-    let e : text_with p.1.0 (Fisu a) ≡ text_with q.1.0 (Msu b c) = sym p.1.2 ∙ q.1.2 in
-    let n : length c.items ≡ 0 = ap length (ap (drop 3) (sym e)) in absurd (omega (arith, n, q.0.0))
-same_unit octets (Msu a c) (Fisu b) p q =
-    let e : text_with p.1.0 (Msu a c) ≡ text_with q.1.0 (Fisu b) = sym p.1.2 ∙ q.1.2 in
-    let n : length c.items ≡ 0 = ap length (ap (drop 3) e) in absurd (omega (arith, n, p.0.0))
-same_unit octets (Msu a c) (Msu b d) p q =
-    let e : text_with p.1.0 (Msu a c) ≡ text_with q.1.0 (Msu b d) = sym p.1.2 ∙ q.1.2 in
-    let bodies : c.items ≡ d.items = ap (drop 3) e in
-    ap (λ (h : Header). Msu h c) (same_head a b (cc) (cc))
-    ∙ ap (λ (items : List ℕ). Msu b (record { items = items })) bodies
-
--- octets whose first two are this header's and whose third has the length indicator of the rest stand for a unit of that body
-pub text_stands : (octets body : List ℕ) (h : Header) → header_text h ≡ slice_index octets 0 ∷ slice_index octets 1 ∷ [] → 3 ≤ length octets → slice_index octets 2 < 256 → body ≡ drop 3 octets → slice_index octets 2 % 64 ≡ length_indicator body → (spare : ℕ) × (spare < 4) × (octets ≡ header_text h ++ (length_indicator body + 64 * spare) ∷ body)
-text_stands (x ∷ y ∷ z ∷ rest) body h e n small b m =
-    let third : length_indicator body + 64 * (z / 64) ≡ z = omega (arith, m) in
-    (z / 64, omega arith, cc (third, b, e))
-text_stands [] body h e n small b m = absurd (omega (arith, n))
-text_stands (x ∷ []) body h e n small b m = absurd (omega (arith, n))
-text_stands (x ∷ y ∷ []) body h e n small b m = absurd (omega (arith, n))
+-- octets whose first two are this header's and whose third has the length indicator of the rest stand for a unit whose body the rest is
+pub text_stands : (octets rest : List ℕ) (h : Header) (unit : SignalUnit) → header_text h ≡ slice_index octets 0 ∷ slice_index octets 1 ∷ [] → 3 ≤ length octets → slice_index octets 2 < 256 → rest ≡ drop 3 octets → slice_index octets 2 % 64 ≡ length_indicator rest → head_of unit ≡ h → IsBodyOf unit rest → StandsFor octets unit
+text_stands (x ∷ y ∷ z ∷ octets) rest h unit e n small r m u is =
+    let third : length_indicator rest + 64 * (z / 64) ≡ z = omega (arith, m) in
+    let whole : x ∷ y ∷ z ∷ octets ≡ octets_with (z / 64) h rest = cc (third, r, e) in
+    record { spare = z / 64; body = rest; two_bits = omega (arith, small); body_is = is; octets_are = rw u whole }
+text_stands [] rest h unit e n small r m u is = absurd (omega (arith, n))
+text_stands (x ∷ []) rest h unit e n small r m u is = absurd (omega (arith, n))
+text_stands (x ∷ y ∷ []) rest h unit e n small r m u is = absurd (omega (arith, n))
 
 -- the slice from the fourth octet on
 pub rest_is : (octets : List ℕ) → 3 ≤ length octets → take (length octets - 3) (drop 3 octets) ≡ drop 3 octets
@@ -90,11 +74,6 @@ rest_is (x ∷ y ∷ z ∷ rest) n = grind (arith, common_steps)
 rest_is [] n = absurd (omega (arith, n))
 rest_is (x ∷ []) n = absurd (omega (arith, n))
 rest_is (x ∷ y ∷ []) n = absurd (omega (arith, n))
-
--- octets with no more than three octets are a FISU's, where the length indicator is 0
-pub fisu_stands : (octets rest : List ℕ) (h : Header) → header_text h ≡ slice_index octets 0 ∷ slice_index octets 1 ∷ [] → 3 ≤ length octets → slice_index octets 2 < 256 → rest ≡ drop 3 octets → slice_index octets 2 % 64 ≡ length_indicator rest → length rest ≡ 0 → StandsFor octets (Fisu h)
-fisu_stands octets [] h e n small b m z = (tt, text_stands octets [] h e n small b m)
-fisu_stands octets (x ∷ rest) h e n small b m z = absurd (omega (arith, z))
 
 -- The unit that the grammar read from the left gives is the one that the octets stand for.
 header_in_text : (x y : ℕ) → x < 256 → y < 256 → header_text (header_in x y) ≡ x ∷ y ∷ []
@@ -117,16 +96,32 @@ header_again h =
 third_is : (body : List ℕ) (spare : ℕ) → ((length_indicator body + 64 * spare) % 64 == length_indicator body) ≡ true
 third_is body spare = let e : (length_indicator body + 64 * spare) % 64 ≡ length_indicator body = omega arith in rw e (grind (arith, nat_tests))
 
-unit_with_body : (h : Header) (body : List ℕ) → 3 ≤ length body → length body ≤ 273 → unit_with h body ≡ Some (Msu h (record { items = body }))
-unit_with_body h [] p q = absurd (omega arith)
-unit_with_body h (x ∷ body) p q =
-    let low : nat_le 2 (length body) ≡ true = grind (arith, nat_tests) in
-    let high : nat_le (length body) 272 ≡ true = grind (arith, nat_tests) in
-    rw (low, high) refl
+-- octets that stand with a body are read as that body
+read_with : (spare : ℕ) (h : Header) (body : List ℕ) → unit_of (octets_with spare h body) ≡ unit_with h body
+read_with spare h body = rw (third_is body spare, header_again h) refl
+
+status_read : (h : Header) (status : ℕ) (field : List ℕ) → IsBodyOf (Lssu h status) field → unit_with h field ≡ Some (Lssu h status)
+status_read h status [] is = absurd (omega (arith, is.0))
+status_read h status (x ∷ []) is = ap (λ (n : ℕ). Some (Lssu h n)) is.2
+status_read h status (x ∷ y ∷ []) is = ap (λ (n : ℕ). Some (Lssu h n)) is.2
+status_read h status (x ∷ y ∷ z ∷ field) is = absurd (omega (arith, is.1))
+
+message_read : (h : Header) (body : List ℕ) → 3 ≤ length body → length body ≤ 273 → unit_with h body ≡ Some (Msu h (record { items = body }))
+message_read h (x ∷ y ∷ z ∷ body) p q = let high : nat_le (length body) 270 ≡ true = grind (arith, nat_tests) in rw high refl
+message_read h [] p q = absurd (omega (arith, p))
+message_read h (x ∷ []) p q = absurd (omega (arith, p))
+message_read h (x ∷ y ∷ []) p q = absurd (omega (arith, p))
+
+body_read : (unit : SignalUnit) (field : List ℕ) → IsBodyOf unit field → unit_with (head_of unit) field ≡ Some unit
+body_read (Fisu h) field is = ap (unit_with h) is
+body_read (Lssu h status) field is = status_read h status field is
+body_read (Msu h body) field is = rw (sym is.0) (message_read h field is.1 is.2)
 
 -- the grammar read from the left gives the unit that octets stand for
 pub stands_is : (octets : List ℕ) (unit : SignalUnit) → StandsFor octets unit → unit_of octets ≡ Some unit
-stands_is octets (Fisu h) stands =
-    rw (stands.1.2, third_is [] stands.1.0) (ap (λ (x : Header). Some (Fisu x)) (header_again h))
-stands_is octets (Msu h body) stands =
-    rw (stands.1.2, third_is body.items stands.1.0, header_again h) (unit_with_body h body.items stands.0.0 stands.0.1)
+stands_is octets unit stands =
+    ap unit_of stands.octets_are ∙ read_with stands.spare (head_of unit) stands.body ∙ body_read unit stands.body stands.body_is
+
+-- octets stand for one unit at most
+pub same_unit : (octets : List ℕ) (u v : SignalUnit) → StandsFor octets u → StandsFor octets v → u ≡ v
+same_unit octets u v p q = let e : Some u ≡ Some v = sym (stands_is octets u p) ∙ stands_is octets v q in cc e

@@ -1,9 +1,9 @@
 -- The grammar of signal units (Q.703 2.2, 2.3): which octets stand for which unit.
 use Rattle.std.proofs.Common.{arith}
-use Rattle.std.specs.Prelude.{◌≡◌, ℕ, Bool, ◌+◌, ◌*◌, ◌%◌, ◌^◌, ◌==◌, ◌&&◌, nat_le, ◌<◌, ◌≤◌, Option, Some, None, List, [], ◌∷◌, ◌++◌, length, min, if◌then◌else◌}
+use Rattle.std.specs.Prelude.{◌≡◌, ℕ, Bool, ◌+◌, ◌*◌, ◌%◌, ◌^◌, ◌==◌, nat_le, ◌<◌, ◌≤◌, Option, Some, None, List, [], ◌∷◌, ◌++◌, length, min, slice_index, if◌then◌else◌}
 use Rattle.l2_units.specs.declared.unit.Header.{Header}
 use Rattle.l2_units.specs.declared.unit.Unit.{Unit as SignalUnit}
-use Rattle.l2_units.specs.declared.unit.Unit.TheVariants.{Fisu, Msu}
+use Rattle.l2_units.specs.declared.unit.Unit.TheVariants.{Fisu, Lssu, Msu}
 
 pub mod_128 : (n : ℕ) → n % 128 < 2 ^ 7
 mod_128 n = omega arith
@@ -16,35 +16,49 @@ sequence_octet number indicator = number + (if indicator then 128 else 0)
 abbrev pub header_text : Header → List ℕ
 header_text head = sequence_octet head.bsn head.bib ∷ sequence_octet head.fsn head.fib ∷ []
 
--- what the length indicator counts
-abbrev pub body_of : SignalUnit → List ℕ
-body_of (Fisu head) = []
-body_of (Msu head body) = body.items
-
 abbrev pub head_of : SignalUnit → Header
 head_of (Fisu head) = head
+head_of (Lssu head status) = head
 head_of (Msu head body) = head
+
+-- the values that a unit of its kind can have: three bits of status, 3 to 273 octets
+abbrev pub IsUnit : SignalUnit → Type 0
+IsUnit (Fisu head) = Unit {0}
+IsUnit (Lssu head status) = status < 8
+IsUnit (Msu head body) = (3 ≤ length body.items) × (length body.items ≤ 273)
+
+-- what may stand behind the length indicator: nothing; a status field of one or two octets, read by the low three bits
+-- of its first (own); the SIO and SIF themselves
+abbrev pub IsBodyOf : SignalUnit → List ℕ → Type 0
+IsBodyOf (Fisu head) field = field ≡ []
+IsBodyOf (Lssu head status) field = (1 ≤ length field) × (length field ≤ 2) × (slice_index field 0 % 8 ≡ status)
+IsBodyOf (Msu head body) field = (field ≡ body.items) × (3 ≤ length field) × (length field ≤ 273)
 
 -- the length indicator of a body: its length, or 63 where that is 63 or more (Q.703 2.3.3)
 abbrev pub length_indicator : List ℕ → ℕ
 length_indicator body = min (length body) 63
 
--- the body has the length that its kind of unit has
-abbrev pub IsUnit : SignalUnit → Type 0
-IsUnit (Fisu head) = Unit {0}
-IsUnit (Msu head body) = (3 ≤ length body.items) × (length body.items ≤ 273)
+-- a header and a body, with these spare bits beside the length indicator
+abbrev pub octets_with : ℕ → Header → List ℕ → List ℕ
+octets_with spare head body = header_text head ++ (length_indicator body + 64 * spare) ∷ body
 
--- the octets of a unit with these spare bits beside the length indicator
-abbrev pub text_with : ℕ → SignalUnit → List ℕ
-text_with spare unit = header_text (head_of unit) ++ (length_indicator (body_of unit) + 64 * spare) ∷ body_of unit
+-- THE GRAMMAR: octets stand for a unit if they are its header, any spare bits, and what may be its body
+pub record StandsFor (octets : List ℕ) (unit : SignalUnit) : Type 0 where
+  pub spare : ℕ
+  pub body : List ℕ
+  pub two_bits : spare < 4
+  pub body_is : IsBodyOf unit body
+  pub octets_are : octets ≡ octets_with spare (head_of unit) body
+
+-- the body that is sent: a status field has one octet, whose spare bits are 0 (own)
+abbrev pub body_of : SignalUnit → List ℕ
+body_of (Fisu head) = []
+body_of (Lssu head status) = status ∷ []
+body_of (Msu head body) = body.items
 
 -- a unit as it is sent: spare bits 0
 abbrev pub text : SignalUnit → List ℕ
-text unit = text_with 0 unit
-
--- THE GRAMMAR: octets stand for a unit if they are its text with some spare bits
-abbrev pub StandsFor : List ℕ → SignalUnit → Type 0
-StandsFor octets unit = IsUnit unit × ((spare : ℕ) × (spare < 4) × (octets ≡ text_with spare unit))
+text unit = octets_with 0 (head_of unit) (body_of unit)
 
 -- The grammar read from the left: which unit octets stand for, if any.
 
@@ -61,8 +75,10 @@ header_in backward forward = record {
 
 abbrev pub unit_with : Header → List ℕ → Option SignalUnit
 unit_with head [] = Some (Fisu head)
-unit_with head (octet ∷ body) =
-    if nat_le 2 (length body) && nat_le (length body) 272 then Some (Msu head (record { items = octet ∷ body })) else None
+unit_with head (first ∷ []) = Some (Lssu head (first % 8))
+unit_with head (first ∷ second ∷ []) = Some (Lssu head (first % 8))
+unit_with head (first ∷ second ∷ third ∷ body) =
+    if nat_le (length body) 270 then Some (Msu head (record { items = first ∷ second ∷ third ∷ body })) else None
 
 abbrev pub unit_of : List ℕ → Option SignalUnit
 unit_of (backward ∷ forward ∷ third ∷ body) =

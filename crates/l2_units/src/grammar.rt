@@ -11,16 +11,20 @@ pub fn header_in(unit: &Unit) -> Header
 {
     match unit {
         Unit::Fisu { head } => *head,
+        Unit::Lssu { head, .. } => *head,
         Unit::Msu { head, .. } => *head,
     }
 }
 
-/// Whether both units have the same header and the same body.
+/// Whether both units are of the same kind and have the same header and the same status or body.
 pub fn same_unit(unit: &Unit, other: &Unit) -> bool
     ensures { IsTrue result ↔ (unit.now ≡ other.now) }
 {
     match (unit, other) {
         (Unit::Fisu { head: a }, Unit::Fisu { head: b }) => same_head(a, b),
+        (Unit::Lssu { head: a, status: x }, Unit::Lssu { head: b, status: y }) => {
+            *x == *y && same_head(a, b)
+        }
         (Unit::Msu { head: a, body: x }, Unit::Msu { head: b, body: y }) => {
             if !same_head(a, b) {
                 return false;

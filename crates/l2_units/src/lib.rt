@@ -15,7 +15,7 @@
 //! |   | 1 | FIB, forward indicator bit |
 //! | 2 | 6 | LI, length indicator: the octets that follow, or 63 where they are 63 or more |
 //! |   | 2 | spare: sent as 0, not looked at when read (own) |
-//! | 3.. |  | a FISU has none; an MSU has its SIO and SIF, 3 to 273 octets |
+//! | 3.. |  | a FISU has none; an LSSU has its status field, 1 or 2 octets, the status in the low 3 bits of the first; an MSU has its SIO and SIF, 3 to 273 octets |
 #![tactic(auto)]
 
 mod grammar;

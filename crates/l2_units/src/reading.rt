@@ -36,7 +36,8 @@ impl UnitFault {
 ///
 /// Refusals, in this order: 1 [`UnitFault::Short`] under 3 octets, 2 [`UnitFault::Long`] over 276,
 /// 3 [`UnitFault::Length`] where the length indicator isn't that of what follows. The two spare
-/// bits beside the length indicator aren't looked at (own).
+/// bits beside the length indicator aren't looked at (own). A status field of one or two octets is
+/// read by the low three bits of its first (own).
 pub fn read(octets: &[u8]) -> Result<Unit, UnitFault>
     ensures found { IfOk result (λ unit. StandsFor octets.now unit) }
     ensures only { (unit : SignalUnit) → StandsFor octets.now unit → result ≡ Ok unit }
@@ -56,7 +57,10 @@ pub fn read(octets: &[u8]) -> Result<Unit, UnitFault>
     let head = header_of(*backward, *forward);
     match rest.len() {
         0 => Ok(Unit::Fisu { head }),
-        1 | 2 => Err(UnitFault::Length),
+        1 | 2 => Ok(Unit::Lssu {
+            head,
+            status: rest[0] % 8,
+        }),
         _ => Ok(Unit::Msu {
             head,
             body: body_of(rest),

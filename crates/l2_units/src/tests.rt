@@ -30,8 +30,23 @@ fn indicator_bits_stand_above_the_numbers(rt: HostRuntime) -> Result<(), Fail> {
 #[test]
 fn a_wrong_length_indicator_is_refused(rt: HostRuntime) -> Result<(), Fail> {
     assert!(rt; read(&[0xFF, 0xFF, 3, 0x85, 1]).err() == Some(UnitFault::Length));
-    assert!(rt; read(&[0xFF, 0xFF, 2, 5, 0]).err() == Some(UnitFault::Length));
+    assert!(rt; read(&[0xFF, 0xFF, 2, 5]).err() == Some(UnitFault::Length));
     assert!(rt; read(&[0xFF, 0xFF, 1]).err() == Some(UnitFault::Length));
+    Ok(())
+}
+
+/// A field of two octets is read by its first, and sent as one octet with its spare bits 0.
+#[test]
+fn an_lssu_is_read_by_three_bits(rt: HostRuntime) -> Result<(), Fail> {
+    let busy = read(&[0xFF, 0xFF, 2, 5, 0]).map_err(|_| "no unit")?;
+    let head = header_in(&busy);
+    assert!(rt; busy == Unit::Lssu { head, status: 5 });
+    assert_eq!(rt; write(&busy).as_slice(), [0xFF, 0xFF, 1, 5].as_slice());
+    let spare = read(&[0xFF, 0xFF, 0xC1, 0xFD]).map_err(|_| "no unit")?;
+    assert!(rt; same_unit(&busy, &spare));
+    let out_of_alignment = read(&[0xFF, 0xFF, 1, 0]).map_err(|_| "no unit")?;
+    assert!(rt; out_of_alignment == Unit::Lssu { head, status: 0 });
+    assert!(rt; !same_unit(&busy, &out_of_alignment));
     Ok(())
 }
 

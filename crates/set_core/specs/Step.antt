@@ -5,7 +5,7 @@ use Rattle.set_core.specs.Set.{LinkState, State, LinkSet, with_link, is_up, unac
 use Rattle.set_core.specs.Control.{Choice, again, first, fill, start_of, choice_of, fsn_of, head_of, control_after, part_of, control_heard}
 use Rattle.l2_units.specs.declared.unit.Header.{Header}
 use Rattle.l2_units.specs.declared.unit.Unit.{Unit as SignalUnit}
-use Rattle.l2_units.specs.declared.unit.Unit.TheVariants.{Fisu, Msu}
+use Rattle.l2_units.specs.declared.unit.Unit.TheVariants.{Fisu, Lssu, Msu}
 use Rattle.l2_units.specs.Grammar.{head_of as header_in}
 use Rattle.l2_window.specs.declared.control.HeardPart.{HeardPart}
 use Rattle.l2_window.specs.declared.control.ControlFault.{ControlFault as FaultFound}
@@ -110,11 +110,13 @@ next number s link = sends (choice_of (octets_in (unack number s.rows)) link.con
 -- HEARD.
 abbrev pub is_msu : SignalUnit → Bool
 is_msu (Fisu head) = false
+is_msu (Lssu head status) = false
 is_msu (Msu head body) = true
 
 -- the body that the control accepted, if any
 abbrev pub brought : Bool → SignalUnit → Option (List ℕ)
 brought accept (Fisu head) = None
+brought accept (Lssu head status) = None
 brought accept (Msu head body) = if accept then Some body.items else None
 
 -- the management's bodies, of service indicator 0, are none of the users' (Q.704 14.2.1)
@@ -153,9 +155,15 @@ hears part head unit number s link = record {
   });
 }
 
-abbrev pub heard : SignalUnit → ℕ → State → LinkState → Outcome
-heard unit number s link =
+abbrev pub controls : SignalUnit → ℕ → State → LinkState → Outcome
+controls unit number s link =
     hears (part_of link.control (window_of number link s.rows) (header_in unit) (is_msu unit)) (header_in unit) unit number s link
+
+-- a link status signal unit is the terminal's own affair, not the error control's: there is nothing to do
+abbrev pub heard : SignalUnit → ℕ → State → LinkState → Outcome
+heard (Fisu head) number s link = controls (Fisu head) number s link
+heard (Lssu head status) number s link = refused s Nothing
+heard (Msu head body) number s link = controls (Msu head body) number s link
 
 -- UP. The error control starts anew, and what was parked waits for the link.
 abbrev pub rises : ℕ → State → LinkState → Outcome

@@ -79,6 +79,31 @@ fn nothing_runs_before_the_link_is_up(rt: HostRuntime) -> Result<(), Fail> {
     Ok(())
 }
 
+/// A link status signal unit says nothing to the error control; the link's own refusals come first.
+#[test]
+fn an_lssu_is_refused_while_the_link_is_up(rt: HostRuntime) -> Result<(), Fail> {
+    let mut set = set_of_one_link(rt.alloc())?;
+    let busy = heard(&[0xFF, 0xFF, 1, 5])?;
+    let not_up = Answer::Refused {
+        why: Refusal::NotUp,
+    };
+    assert!(rt; set.apply(TERMINAL, &busy) == Ok(not_up));
+    assert!(rt; set.apply(TERMINAL, &Event::Up { link: 0 }) == Ok(Answer::Done));
+    let nothing = Answer::Refused {
+        why: Refusal::Nothing,
+    };
+    assert!(rt; set.apply(TERMINAL, &busy) == Ok(nothing));
+    let elsewhere = Event::Heard {
+        link: 1,
+        unit: read(&[0xFF, 0xFF, 1, 5]).map_err(|_| "no unit")?,
+    };
+    let no_link = Answer::Refused {
+        why: Refusal::NoSuchLink,
+    };
+    assert!(rt; set.apply(TERMINAL, &elsewhere) == Ok(no_link));
+    Ok(())
+}
+
 /// The refusals that a script can't show: a link that the set hasn't, and one that is up already.
 #[test]
 fn refusals_in_their_order(rt: HostRuntime) -> Result<(), Fail> {

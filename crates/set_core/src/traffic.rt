@@ -61,7 +61,8 @@ fn body_of(body: &Body) -> ArrayVec<u8, LONGEST_BODY>
     }
 }
 
-/// A unit was heard: it acknowledges, may bring a body, and may ask for retransmission.
+/// A unit was heard: a FISU or MSU acknowledges, may bring a body, and may ask for retransmission.
+/// An LSSU is refused, since the error control has nothing to do with it.
 ///
 /// Room for the body is made first, so a fault leaves everything as it was.
 pub(crate) fn heard(
@@ -85,6 +86,11 @@ pub(crate) fn heard(
 {
     if let Some(why) = link.out_of_service(number) {
         return Ok(Answer::Refused { why });
+    }
+    if let Unit::Lssu { .. } = unit {
+        return Ok(Answer::Refused {
+            why: Refusal::Nothing,
+        });
     }
     make_room(inbox, unit)?;
     let messages = unacknowledged(&link.window);

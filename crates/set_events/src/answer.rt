@@ -86,7 +86,8 @@ pub enum Refusal {
     NotDown,
     /// 8: no message has this number.
     UnknownNumber,
-    /// 9: there is nothing to take.
+    /// 9: there is nothing to take, or nothing to do: a link status signal unit was heard while the
+    /// link is up.
     Nothing,
     /// 10: the set has no such link.
     NoSuchLink,

@@ -26,11 +26,16 @@ fn an_entry_and_its_copy_are_the_same(rt: HostRuntime) -> Result<(), Fail> {
 #[test]
 fn each_event_is_copied(rt: HostRuntime) -> Result<(), Fail> {
     let unit = read(&[0xFF, 0xFF, 0]).map_err(|_| "no unit")?;
+    let status = read(&[0xFF, 0xFF, 1, 3]).map_err(|_| "no unit")?;
     for event in [
         Event::Take,
         Event::Find { number: 3 },
         Event::Next { link: 0 },
         Event::Heard { link: 0, unit },
+        Event::Heard {
+            link: 0,
+            unit: status,
+        },
         Event::Up { link: 0 },
     ] {
         let copy = event.try_copy()?;
@@ -61,6 +66,7 @@ fn answers_differ_by_what_they_tell(rt: HostRuntime) {
 #[test]
 fn refusals_have_the_numbers_that_are_printed(rt: HostRuntime) {
     assert_eq!(rt; Refusal::TooShort.number(), 1);
+    assert_eq!(rt; Refusal::Nothing.number(), 9);
     assert_eq!(rt; Refusal::NoSuchLink.number(), 10);
     assert_eq!(rt; ControlFault::Bsn.number(), 2);
     assert_eq!(rt; ConfigFault::Cyclic.number(), 4);
