@@ -1,4 +1,5 @@
 pub mod Choosing
+pub mod Hearing
 pub mod Order
 pub mod Rows
 pub mod Sending

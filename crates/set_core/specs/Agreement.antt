@@ -1,5 +1,6 @@
 -- THE AGREEMENT of what a set of one link keeps with the rows that it stands for.
-use Rattle.std.specs.Prelude.{◌≡◌, ℕ, Bool, true, false, ◌==◌, ◌+◌, ◌*◌, ◌%◌, ◌≤◌, List, [], ◌∷◌, length, Option, None, Some, if◌then◌else◌}
+use Rattle.std.specs.Prelude.{◌≡◌, ℕ, Bool, true, false, ◌==◌, ◌+◌, ◌*◌, ◌%◌, ◌≤◌, List, [], ◌∷◌, length, map, Option, None, Some, if◌then◌else◌}
+use Rattle.arrayvec.specs.declared.array_vec.ArrayVec.{ArrayVec}
 use Rattle.set_events.specs.declared.answer.Refusal.{Refusal as SetRefusal}
 use Rattle.set_events.specs.declared.answer.Refusal.TheVariants.{NotUp, NoSuchLink}
 use Rattle.set_core.specs.declared.link.Link.{Link}
@@ -42,6 +43,10 @@ pub record Agrees (link : Link) (rows : List Row) : Type 0 where
 pub record IsCounted (entries : ℕ) (link : Link) : Type 0 where
   pub acked : link.acked ≤ 127 * entries
   pub accepted : link.accepted ≤ entries
+
+-- the octets of the bodies in the inbox
+abbrev pub bodies_in : List (ArrayVec ℕ 273 (Unit {0})) → List (List ℕ)
+bodies_in inbox = map (λ body. body.items) inbox
 
 -- what is kept stands for this state
 abbrev pub state_of : Link → List Row → List (List ℕ) → State

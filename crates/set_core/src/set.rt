@@ -27,14 +27,14 @@ pub struct SetCore {
 }
 
 impl Model for SetCore {
-    ghost use Rattle.std.specs.Prelude.{map, length};
+    ghost use Rattle.std.specs.Prelude.{length};
     ghost use Rattle.set_core.specs.Set.{LinkSet};
 
     ghost Value = { LinkSet };
 
-    ghost use Rattle.set_core.specs.Agreement.{state_of, Agrees, IsCounted};
+    ghost use Rattle.set_core.specs.Agreement.{state_of, bodies_in, Agrees, IsCounted};
 
-    ghost view = { λ s. record { state = state_of s.link s.rows.items (map (λ body. body.items) s.inbox.items); history = s.history.items } };
+    ghost view = { λ s. record { state = state_of s.link s.rows.items (bodies_in s.inbox.items); history = s.history.items } };
 
     ghost invariant = { λ s. Agrees s.link s.rows.items × IsCounted (length s.history.items) s.link };
 }

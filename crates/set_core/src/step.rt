@@ -1,6 +1,6 @@
 //! What an event does to a set. Each function is a case of the set's step.
-ghost use Rattle.std.specs.Prelude.{◌≡◌, ◌+◌, ◌<◌, ◌≤◌, ◌^◌, ◌==◌, ◌%◌, ℕ, List, map, length, IfOk, IfErr, OnErr};
-ghost use Rattle.set_core.specs.Agreement.{Agrees, state_of, link_of};
+ghost use Rattle.std.specs.Prelude.{◌≡◌, ◌+◌, ◌<◌, ◌≤◌, ◌^◌, ◌==◌, ◌%◌, ℕ, List, length, IfOk, IfErr, OnErr};
+ghost use Rattle.set_core.specs.Agreement.{Agrees, state_of, link_of, bodies_in};
 ghost use Rattle.set_core.specs.Set.{count_up, numbers};
 ghost use Rattle.set_core.specs.Step.{step, offer_refusal};
 
@@ -27,7 +27,7 @@ pub(crate) fn answered(
     requires agrees { Agrees link.old rows.old.items }
     requires acked { link.old.acked < 2 ^ 63 }
     requires accepted { link.old.accepted < 2 ^ 63 }
-    ensures ok { IfOk result (λ answer. step (state_of link.old rows.old.items (map (λ body. body.items) inbox.old.items)) event.now ≡ record { answer = answer; state = state_of link.new rows.new.items (map (λ body. body.items) inbox.new.items) }) }
+    ensures ok { IfOk result (λ answer. step (state_of link.old rows.old.items (bodies_in inbox.old.items)) event.now ≡ record { answer = answer; state = state_of link.new rows.new.items (bodies_in inbox.new.items) }) }
     ensures err { OnErr result (link_of link.new ≡ link_of link.old) }
     ensures err_rows { OnErr result (rows.new.items ≡ rows.old.items) }
     ensures err_inbox { OnErr result (inbox.new.items ≡ inbox.old.items) }
@@ -90,7 +90,7 @@ fn refusal_of(rows: &[Row], body: &Body) -> Option<Refusal>
 
 /// The oldest message of the inbox is taken.
 fn taken(inbox: &mut Inbox) -> Answer
-    ensures { (link : Link) (rows : List Row) → step (state_of link rows (map (λ body. body.items) inbox.old.items)) Event.Take ≡ record { answer = result; state = state_of link rows (map (λ body. body.items) inbox.new.items) } }
+    ensures { (link : Link) (rows : List Row) → step (state_of link rows (bodies_in inbox.old.items)) Event.Take ≡ record { answer = result; state = state_of link rows (bodies_in inbox.new.items) } }
 {
     match inbox.pop_front() {
         Some(body) => Answer::Taken { body },

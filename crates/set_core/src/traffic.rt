@@ -1,8 +1,8 @@
 //! What a link's terminal does to a set: the next unit is sent, a unit was heard, the link comes up.
-ghost use Rattle.std.specs.Prelude.{◌≡◌, ◌+◌, ◌<◌, ◌≤◌, ◌^◌, ℕ, List, map, true, length, Some, IfOk, IfErr, OnErr, OnOk};
+ghost use Rattle.std.specs.Prelude.{◌≡◌, ◌+◌, ◌<◌, ◌≤◌, ◌^◌, ℕ, List, true, length, Some, IfOk, IfErr, OnErr, OnOk};
 ghost use Rattle.std.specs.VecDeque.{deque_len, deque_capacity};
 ghost use Rattle.set_events.specs.declared.event.Event.TheVariants.{Next, Heard, Up};
-ghost use Rattle.set_core.specs.Agreement.{Agrees, state_of, link_of};
+ghost use Rattle.set_core.specs.Agreement.{Agrees, state_of, link_of, bodies_in};
 ghost use Rattle.set_core.specs.Set.{service_indicator as indicator_of};
 ghost use Rattle.set_core.specs.Step.{step, is_msu as is_message, brought, took_of, inbox_with, report_of as report_for, fault_of as fault_for};
 
@@ -75,7 +75,7 @@ pub(crate) fn heard(
     requires agrees { Agrees link.old rows.old.items }
     requires acked { link.old.acked < 2 ^ 63 }
     requires accepted { link.old.accepted < 2 ^ 63 }
-    ensures ok { IfOk result (λ answer. step (state_of link.old rows.old.items (map (λ body. body.items) inbox.old.items)) (Heard number unit.now) ≡ record { answer = answer; state = state_of link.new rows.new.items (map (λ body. body.items) inbox.new.items) }) }
+    ensures ok { IfOk result (λ answer. step (state_of link.old rows.old.items (bodies_in inbox.old.items)) (Heard number unit.now) ≡ record { answer = answer; state = state_of link.new rows.new.items (bodies_in inbox.new.items) }) }
     ensures err { OnErr result (link_of link.new ≡ link_of link.old) }
     ensures err_rows { OnErr result (rows.new.items ≡ rows.old.items) }
     ensures err_inbox { OnErr result (inbox.new.items ≡ inbox.old.items) }
@@ -131,7 +131,7 @@ fn make_room(inbox: &mut Inbox, unit: &Unit) -> Result<(), SetFault>
 fn take_in(inbox: &mut Inbox, accept: bool, unit: &Unit) -> Took
     requires { is_message unit.now ≡ true → deque_len inbox.old < deque_capacity inbox.old }
     ensures took { result ≡ took_of (brought accept unit.now) }
-    ensures inbox { map (λ body. body.items) inbox.new.items ≡ inbox_with (brought accept unit.now) (map (λ body. body.items) inbox.old.items) }
+    ensures inbox { bodies_in inbox.new.items ≡ inbox_with (brought accept unit.now) (bodies_in inbox.old.items) }
 {
     let Unit::Msu { body, .. } = unit else {
         return Took::Nothing;
