@@ -276,7 +276,7 @@ all_counted (x ∷ rows) =
     omega (arith, all_counted rows, one_place x.fate, length_if (waits x.fate) x (standing waits rows), length_if (was_sent x.fate) x (standing was_sent rows),
     length_if (was_acked x.fate) x (standing was_acked rows), length_if (is_parked x.fate) x (standing is_parked rows))
 
-shorter : (test : Fate → Bool) (xs : List Row) → length (standing test xs) ≤ length xs
+pub shorter : (test : Fate → Bool) (xs : List Row) → length (standing test xs) ≤ length xs
 shorter test [] = omega arith
 shorter test (y ∷ xs) = elim (test y.fate) as (λ b. length (cond b (y ∷ standing test xs) (standing test xs)) ≤ suc (length xs)) [ true ↦ omega (arith, shorter test xs) | false ↦ omega (arith, shorter test xs) ]
 
