@@ -223,8 +223,8 @@ one_more link i ms rows rows' h e n f =
       numbered = rw (e, turned_numbers (is_unacked link) (Acked link) 1 rows, turned_length (is_unacked link) (Acked link) 1 rows) n;
       first = one_more_by link (length (drop (i + 1) ms)) (get_or ms i 0) (drop (i + 1) ms) rows rows' e f';
       turns = ap (λ (xs : List Row). turned (is_unacked link) (Acked link) (length (drop (i + 1) ms)) xs) e
-      ∙ turned_more (is_unacked link) (Acked link) refl (length (drop (i + 1) ms)) rows
-      ∙ ap (λ (xs : List ℕ). turned (is_unacked link) (Acked link) (length xs) rows) (sym d);
+          ∙ turned_more (is_unacked link) (Acked link) refl (length (drop (i + 1) ms)) rows
+          ∙ ap (λ (xs : List ℕ). turned (is_unacked link) (Acked link) (length xs) rows) (sym d);
     }
 
 -- What is found under a number.
@@ -273,8 +273,15 @@ one_place Parked = refl
 pub all_counted : (rows : List Row) → length (standing waits rows) + length (standing was_sent rows) + length (standing was_acked rows) + length (standing is_parked rows) ≡ length rows
 all_counted [] = refl
 all_counted (x ∷ rows) =
-    omega (arith, all_counted rows, one_place x.fate, length_if (waits x.fate) x (standing waits rows), length_if (was_sent x.fate) x (standing was_sent rows),
-    length_if (was_acked x.fate) x (standing was_acked rows), length_if (is_parked x.fate) x (standing is_parked rows))
+    omega (
+      arith,
+      all_counted rows,
+      one_place x.fate,
+      length_if (waits x.fate) x (standing waits rows),
+      length_if (was_sent x.fate) x (standing was_sent rows),
+      length_if (was_acked x.fate) x (standing was_acked rows),
+      length_if (is_parked x.fate) x (standing is_parked rows),
+    )
 
 pub shorter : (test : Fate → Bool) (xs : List Row) → length (standing test xs) ≤ length xs
 shorter test [] = omega arith

@@ -65,14 +65,15 @@ pub record Chosen (o : ℕ) (control control' : Control) (w : WindowState) (r : 
 chosen_roomy : (o : ℕ) (control control' : Control) (w : WindowState) (r : ℕ) (w' : WindowState) (x : Sending) → IsChosen o control control' (roomy w r) w' x → Chosen o control control' w r w' x
 chosen_roomy o control control' w r w' x h = record {
   sent =
-    let s : IsSent (choice_of o control (roomy w r)) (head_of control (fsn_of (choice_of o control (roomy w r)) (roomy w r))) (roomy w r) w' x = h.sent in
-    let s' : IsSent (choice_of o control w) (head_of control (fsn_of (choice_of o control w) (roomy w r))) (roomy w r) w' x = subst_choice s in
-    subst_fsn s';
+      let s : IsSent (choice_of o control (roomy w r)) (head_of control (fsn_of (choice_of o control (roomy w r)) (roomy w r))) (roomy w r) w' x = h.sent in
+      let s' : IsSent (choice_of o control w) (head_of control (fsn_of (choice_of o control w) (roomy w r))) (roomy w r) w' x = subst_choice s in
+      subst_fsn s';
   after = h.after ∙ ap (λ (ch : Choice). control_after ch o control (roomy w r)) (choice_room o control w r) ∙ after_room (choice_of o control w) o control w r;
 }
   where
     subst_choice : IsSent (choice_of o control (roomy w r)) (head_of control (fsn_of (choice_of o control (roomy w r)) (roomy w r))) (roomy w r) w' x → IsSent (choice_of o control w) (head_of control (fsn_of (choice_of o control w) (roomy w r))) (roomy w r) w' x
     subst_choice s = subst (λ (ch : Choice). IsSent ch (head_of control (fsn_of ch (roomy w r))) (roomy w r) w' x) (choice_room o control w r) s
+
     subst_fsn : IsSent (choice_of o control w) (head_of control (fsn_of (choice_of o control w) (roomy w r))) (roomy w r) w' x → IsSent (choice_of o control w) (head_of control (fsn_of (choice_of o control w) w)) (roomy w r) w' x
     subst_fsn s = subst (λ (n : ℕ). IsSent (choice_of o control w) (head_of control n) (roomy w r) w' x) (fsn_room (choice_of o control w) w r) s
 

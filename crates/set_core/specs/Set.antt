@@ -9,7 +9,7 @@ use Rattle.set_events.specs.declared.config.Method.{Method}
 use Rattle.set_events.specs.declared.history.Entry.{Entry}
 use Rattle.set_core.specs.declared.control.Control.{Control}
 use Rattle.set_core.specs.declared.row.Row.{Row}
-use Rattle.set_core.specs.Control.{start_of}
+use Rattle.set_core.specs.Control.{start_of, accepted_of}
 
 -- A message is a Row: its number, its body (a list of octets), and its fate, the one place where it stands.
 
@@ -160,10 +160,17 @@ abbrev pub count_up : ℕ → ℕ → List ℕ
 count_up k zero = []
 count_up k (suc n) = k ∷ count_up (suc k) n
 
--- the numbers 0, 1, .. stand in one row each, and at most 127 messages of a link are unacknowledged
+-- the FSN that each link's control last accepted is that of its whole number: the first body accepted has FSN 0
+abbrev pub AreCounted : List LinkState → Type 0
+AreCounted [] = Unit {0}
+AreCounted (link ∷ links) = (accepted_of link.control ≡ (link.accepted + 127) % 128) × AreCounted links
+
+-- the numbers 0, 1, .. stand in one row each; at most 127 messages of a link are unacknowledged; the BSNs are those
+-- of the bodies that were accepted
 pub record IsSound (s : State) : Type 0 where
   pub numbered : numbers s.rows ≡ count_up 0 (length s.rows)
   pub window : (link : ℕ) → length (unack link s.rows) ≤ 127
+  pub counted : AreCounted s.links
 
 -- What the readers tell.
 

@@ -173,7 +173,7 @@ rises number s link =
     else record {
       answer = Done;
       state = with_link number (record link { up = true; acked = 0; accepted = 0; control = start_of link.method })
-      (record s { rows = moved is_parked (Waiting number) s.rows });
+          (record s { rows = moved is_parked (Waiting number) s.rows });
     }
 
 -- THE STEP

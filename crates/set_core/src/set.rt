@@ -119,8 +119,8 @@ impl SetCore {
         &self.history
     }
 
-    /// A law: the numbers 0, 1, .. stand in one row each, and no link has more than 127
-    /// unacknowledged messages.
+    /// A law: the numbers 0, 1, .. stand in one row each, no link has more than 127 unacknowledged
+    /// messages, and the BSN that a link sends is the number of the body it last accepted.
     pub fn is_sound(&self)
         ensures { IsSound self.now.state }
     {

@@ -262,11 +262,7 @@ fn a_lost_message_is_asked_for(rt: HostRuntime) -> Result<(), Fail> {
 #[test]
 fn two_abnormal_units_in_three_are_a_fault(rt: HostRuntime) -> Result<(), Fail> {
     let mut set = set_in_service(rt.alloc(), Method::Basic)?;
-    for (backward, fault) in [
-        (0x85, None),
-        (0xFF, None),
-        (0x85, Some(ControlFault::Bsn)),
-    ] {
+    for (backward, fault) in [(0x85, None), (0xFF, None), (0x85, Some(ControlFault::Bsn))] {
         let heard = arrived(&mut set, unit_of(&[backward, 0xFF, 0])?)?;
         assert!(rt; heard.fault == fault);
     }
@@ -335,9 +331,11 @@ fn is_accepted(alloc: Global, set: &mut SetCore, index: u16) -> Result<bool, Fai
     let message = offered(alloc, &numbered(index))?;
     match set.apply(USER, &message) {
         Ok(Answer::Accepted { .. }) => Ok(true),
-        Ok(Answer::Refused {
-            why: Refusal::StreamFull,
-        }) => Ok(false),
+        Ok(
+            Answer::Refused {
+                why: Refusal::StreamFull,
+            },
+        ) => Ok(false),
         _ => Err(Fail::from("no answer to an offer")),
     }
 }
@@ -346,9 +344,11 @@ fn is_accepted(alloc: Global, set: &mut SetCore, index: u16) -> Result<bool, Fai
 fn is_taken(set: &mut SetCore, index: u16) -> Result<bool, Fail> {
     match set.apply(USER, &Event::Take) {
         Ok(Answer::Taken { body }) if body.as_slice() == numbered(index).as_slice() => Ok(true),
-        Ok(Answer::Refused {
-            why: Refusal::Nothing,
-        }) => Ok(false),
+        Ok(
+            Answer::Refused {
+                why: Refusal::Nothing,
+            },
+        ) => Ok(false),
         _ => Err(Fail::from("another message was taken")),
     }
 }

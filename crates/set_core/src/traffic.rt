@@ -192,11 +192,7 @@ fn fault_of(fault: FaultFound) -> ControlFault
 /// The link is in service from now on: its error control starts anew, and what was parked waits.
 ///
 /// Room in its window is made first, so a fault leaves everything as it was.
-pub(crate) fn raised(
-    link: &mut Link,
-    rows: &mut Vec<Row>,
-    number: u8,
-) -> Result<Answer, SetFault>
+pub(crate) fn raised(link: &mut Link, rows: &mut Vec<Row>, number: u8) -> Result<Answer, SetFault>
     requires { Agrees link.old rows.old.items }
     ensures ok { IfOk result (λ answer. (inbox : List (List ℕ)) → step (state_of link.old rows.old.items inbox) (Up number) ≡ record { answer = answer; state = state_of link.new rows.new.items inbox }) }
     ensures err { OnErr result (link_of link.new ≡ link_of link.old) }

@@ -7,5 +7,5 @@ invariant-loop-row l = record {
   last : l.window.last ≡ l.initial.window.last;
   unacked : l.window.unacked ≡ l.initial.window.unacked;
   unsent : l.window.unsent ≡ l.initial.window.unsent ++ numbers (take l.row-index l.rows);
-  room : length l.rows ≤ l.window.room + l.row-index
+  room : length l.rows ≤ l.window.room + l.row-index;
 }

@@ -8,5 +8,5 @@ invariant-loop-number l = record {
   numbered : numbers_of l.rows.items ≡ count_up 0 (length l.rows.items);
   first : take (length (drop l.number-index l.numbers)) (numbers_of (unack l.link l.rows.items)) ≡ drop l.number-index l.numbers;
   rows : turned (is_unacked l.link) (Acked l.link) (length (drop l.number-index l.numbers)) l.rows.items ≡ turned (is_unacked l.link) (Acked l.link) (length l.numbers) l.initial.rows.items;
-  octets : l.octets + octets_in (unack l.link l.rows.items) ≡ octets_in (unack l.link l.initial.rows.items)
+  octets : l.octets + octets_in (unack l.link l.rows.items) ≡ octets_in (unack l.link l.initial.rows.items);
 }
