@@ -1,5 +1,5 @@
 -- What each error control sends next is its choice.
-use Rattle.std.proofs.Common.{refl, arith, ◌≡◌, ◌≢◌, ◌∙◌, ap, sym, ◌<◌, ◌≤◌, [], length, ℕ, ◌+◌, ◌%◌, Bool, true, false, not, nat_lt}
+use Rattle.std.proofs.Common.{refl, arith, ◌≡◌, ◌≢◌, ap, ◌<◌, ◌≤◌, [], length, ℕ, Bool, true, false, nat_lt}
 use Rattle.std.proofs.lemmas.Bool.{ltb-true}
 use Rattle.std.proofs.lemmas.Bool.Decides.{nat_tests}
 use Rattle.std.proofs.lemmas.List.{nil_from_length}

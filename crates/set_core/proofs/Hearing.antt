@@ -1,8 +1,8 @@
 -- What a heard unit does, told of the rows.
-use Rattle.std.proofs.Common.{refl, arith, ◌≡◌, ◌∙◌, ap, sym, subst, ◌<◌, ◌≤◌, [], ◌∷◌, length, ℕ, zero, suc, ◌+◌, ◌-◌, ◌%◌, Bool, true, false, not, ◌&&◌, nat_lt, List, ◌++◌, map, take, drop, Some, None, ◌==◌}
+use Rattle.std.proofs.Common.{refl, arith, ◌≡◌, ◌∙◌, ap, sym, subst, ◌<◌, ◌≤◌, [], ◌∷◌, length, ℕ, zero, suc, ◌+◌, ◌%◌, Bool, true, false, not, ◌&&◌, nat_lt, List, take, drop, ◌==◌}
 use Rattle.std.specs.Prelude.{if◌then◌else◌}
 use Rattle.std.proofs.lemmas.Bool.Decides.{nat_tests}
-use Rattle.std.proofs.lemmas.List.{length-map, length-drop, length-take-le}
+use Rattle.std.proofs.lemmas.List.{length-drop, length-take-le}
 use mir.Val.{bool_byte}
 use Rattle.set_events.specs.declared.answer.Report.{Report}
 use Rattle.l2_units.specs.declared.unit.Header.{Header}
@@ -21,8 +21,8 @@ use Rattle.set_core.specs.declared.control.Control.TheVariants.{Basic, Cyclic}
 use Rattle.set_core.specs.declared.link.Link.{Link}
 use Rattle.set_core.specs.declared.row.Row.{Row}
 use Rattle.set_core.specs.Control.{accepted_of, is_processed, is_accepted, acked_by, part_of, window_heard, control_heard, IsHeard}
-use Rattle.set_core.specs.Set.{LinkState, State, standing, turned, numbers, octets_in, unack, wait, is_waiting, is_unacked, window_of, count_up}
-use Rattle.set_core.specs.Step.{Outcome, controls, heard, hears, is_msu, brought, took_of, inbox_with, report_of, one_if}
+use Rattle.set_core.specs.Set.{LinkState, State, turned, numbers, octets_in, unack, wait, is_waiting, is_unacked, window_of}
+use Rattle.set_core.specs.Step.{controls, heard, hears, is_msu, brought, took_of, inbox_with, report_of, one_if}
 use Rattle.set_core.specs.Agreement.{Agrees, AreFit, IsInOrder, link_of, state_of}
 use Rattle.set_core.proofs.Rows.{turned_numbers, turned_length, turned_fit, turned_other, turned_left}
 use Rattle.set_core.proofs.Order.{order_acked}

@@ -1,17 +1,17 @@
 -- A new message is one more row.
-use Rattle.std.proofs.Common.{refl, arith, ◌≡◌, ◌∙◌, ap, sym, subst, ◌<◌, ◌≤◌, [], ◌∷◌, length, ℕ, zero, suc, ◌+◌, Bool, true, false, List, ◌++◌, map, nat_lt, nat_le, Option, Some, None, ◌==◌}
+use Rattle.std.proofs.Common.{refl, arith, ◌≡◌, ◌∙◌, ap, sym, subst, ◌≤◌, [], ◌∷◌, length, ℕ, zero, suc, ◌+◌, Bool, true, false, List, ◌++◌, nat_lt, Option, Some, None}
 use Rattle.std.specs.Prelude.{if◌then◌else◌}
 use Rattle.std.proofs.lemmas.Bool.Decides.{nat_tests}
 use Rattle.std.proofs.lemmas.List.{append-nil, length-append, map-append}
 use Rattle.std.proofs.lemmas.List.Elements.{filter-append}
 use Rattle.l2_window.specs.Window.{WindowState}
 use Rattle.set_events.specs.declared.answer.Fate.{Fate}
-use Rattle.set_events.specs.declared.answer.Fate.TheVariants.{Waiting, Unacked, Acked, Parked}
+use Rattle.set_events.specs.declared.answer.Fate.TheVariants.{Waiting, Parked}
 use Rattle.set_events.specs.declared.answer.Refusal.{Refusal as SetRefusal}
-use Rattle.set_events.specs.declared.answer.Refusal.TheVariants.{TooShort, TooLong, Reserved, StreamFull}
+use Rattle.set_events.specs.declared.answer.Refusal.TheVariants.{TooShort, TooLong}
 use Rattle.set_core.specs.declared.link.Link.{Link}
 use Rattle.set_core.specs.declared.row.Row.{Row}
-use Rattle.set_core.specs.Set.{standing, numbers, octets_in, unack, wait, is_waiting, is_unacked, is_parked, count_up}
+use Rattle.set_core.specs.Set.{standing, numbers, octets_in, wait, is_waiting, is_unacked, is_parked, count_up}
 use Rattle.set_core.specs.Step.{offer_refusal}
 use Rattle.set_core.specs.Agreement.{Agrees, AreFit}
 use Rattle.set_core.proofs.Order.{order_offered}

@@ -1,12 +1,12 @@
 -- On a link unacknowledged messages stand before those that wait, and each kind of row keeps its order.
-use Rattle.std.proofs.Common.{refl, arith, ◌≡◌, ◌∙◌, ap, sym, [], ◌∷◌, length, ℕ, zero, suc, ◌+◌, Bool, true, false, List, ◌++◌, map, drop, ◌==◌, ◌≤◌}
+use Rattle.std.proofs.Common.{refl, ◌≡◌, ◌∙◌, ap, sym, [], ◌∷◌, ℕ, zero, suc, Bool, true, false, List, ◌++◌, map, drop}
 use Rattle.std.proofs.lemmas.List.{append-nil}
 use Rattle.std.proofs.lemmas.List.Elements.{filter-append}
 use Rattle.set_events.specs.declared.answer.Fate.{Fate}
 use Rattle.set_events.specs.declared.answer.Fate.TheVariants.{Waiting, Unacked, Acked, Parked}
 use Rattle.set_core.specs.declared.row.Row.{Row}
-use Rattle.set_core.specs.Set.{standing, turned, numbers, octets_in, unack, wait, is_waiting, is_unacked, is_parked, count_up}
-use Rattle.set_core.specs.Agreement.{IsInOrder, AreFit}
+use Rattle.set_core.specs.Set.{standing, turned, unack, is_waiting, is_unacked}
+use Rattle.set_core.specs.Agreement.{IsInOrder}
 use Rattle.set_core.proofs.Rows.{with_fate, turned_left}
 
 -- a message that waits isn't unacknowledged

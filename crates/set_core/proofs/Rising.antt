@@ -1,5 +1,5 @@
 -- The link comes up: all that was parked waits.
-use Rattle.std.proofs.Common.{refl, arith, ◌≡◌, ◌∙◌, ap, sym, subst, ◌<◌, ◌≤◌, [], ◌∷◌, length, ℕ, zero, suc, ◌+◌, ◌%◌, Bool, true, false, List, ◌++◌, map, cond}
+use Rattle.std.proofs.Common.{refl, arith, ◌≡◌, ◌∙◌, ap, sym, ◌≤◌, [], ◌∷◌, length, ℕ, suc, Bool, true, false, List, map}
 use Rattle.std.proofs.lemmas.List.{length-map}
 use Rattle.l2_window.specs.Window.{WindowState}
 use Rattle.set_events.specs.declared.answer.Fate.{Fate}
@@ -10,7 +10,7 @@ use Rattle.set_core.specs.declared.control.Control.{Control}
 use Rattle.set_core.specs.declared.link.Link.{Link}
 use Rattle.set_core.specs.declared.row.Row.{Row}
 use Rattle.set_core.specs.Control.{start_of, accepted_of}
-use Rattle.set_core.specs.Set.{standing, moved, numbers, octets_in, unack, wait, is_waiting, is_unacked, is_parked, count_up}
+use Rattle.set_core.specs.Set.{standing, moved, numbers, octets_in, unack, wait, is_waiting, is_unacked, is_parked}
 use Rattle.set_core.specs.Agreement.{Agrees, AreFit}
 use Rattle.set_core.proofs.Rows.{with_fate, all_moved, shorter}
 use Rattle.set_core.proofs.Order.{none_unacked, order_waiting}

@@ -1,13 +1,13 @@
 -- Rows that are looked up by their number, and rows that turn.
-use Rattle.std.proofs.Common.{refl, arith, ◌≡◌, ◌≢◌, ◌∙◌, ap, sym, ◌<◌, ◌≤◌, [], ◌∷◌, length, ℕ, zero, suc, ◌+◌, ◌-◌, Bool, true, false, not, List, ◌++◌, map, take, drop, cond, Option, Some, None, ◌==◌, get_or, slice_index_or, slice_set}
+use Rattle.std.proofs.Common.{refl, arith, ◌≡◌, ◌≢◌, ◌∙◌, ap, sym, ◌<◌, ◌≤◌, [], ◌∷◌, length, ℕ, zero, suc, ◌+◌, ◌-◌, Bool, true, false, not, List, ◌++◌, map, take, drop, cond, Some, None, ◌==◌, get_or, slice_set}
 use Rattle.std.specs.Prelude.{slice_get}
 use Rattle.std.proofs.lemmas.Bool.Decides.{nat_tests}
 use Rattle.std.proofs.lemmas.List.{append-nil, drop_all, take_all, take_more, length-map, length-take-le, drop_more, get_or_at, set_at, length-append, append_assoc, map-append}
 use Rattle.set_events.specs.declared.answer.Fate.{Fate}
 use Rattle.set_events.specs.declared.answer.Fate.TheVariants.{Waiting, Unacked, Acked, Parked}
 use Rattle.set_core.specs.declared.row.Row.{Row}
-use Rattle.set_core.specs.Set.{standing, turned, moved, numbers, octets_in, place, unack, wait, is_waiting, is_unacked, is_parked, count_up, waits, was_sent, was_acked, counts_of, total_of}
-use Rattle.set_core.specs.Agreement.{IsInOrder, AreFit}
+use Rattle.set_core.specs.Set.{standing, turned, moved, numbers, octets_in, place, unack, is_unacked, is_parked, count_up, waits, was_sent, was_acked}
+use Rattle.set_core.specs.Agreement.{AreFit}
 
 -- the row with another fate
 abbrev pub with_fate : Row → Fate → Row

@@ -1,5 +1,5 @@
 -- What a choice of the control sends, told of the rows.
-use Rattle.std.proofs.Common.{refl, arith, ◌≡◌, ◌∙◌, ap, sym, subst, ◌*◌, Option, ◌<◌, ◌≤◌, [], ◌∷◌, length, ℕ, zero, suc, ◌+◌, ◌%◌, Bool, true, false, not, ◌&&◌, nat_lt, List, ◌++◌, map, drop, Some, None, get_or, slice_set, ◌==◌}
+use Rattle.std.proofs.Common.{refl, arith, ◌≡◌, ◌∙◌, ap, sym, subst, ◌*◌, ◌<◌, ◌≤◌, [], ◌∷◌, length, ℕ, zero, suc, ◌+◌, ◌%◌, Bool, true, false, not, ◌&&◌, nat_lt, List, ◌++◌, drop, Some, None, get_or, slice_set, ◌==◌}
 use Rattle.std.specs.Prelude.{slice_get, if◌then◌else◌}
 use Rattle.std.proofs.lemmas.Bool.{ltb-true}
 use Rattle.std.proofs.lemmas.Bool.Decides.{nat_tests}
@@ -18,11 +18,11 @@ use Rattle.set_core.specs.declared.control.Control.{Control}
 use Rattle.set_core.specs.declared.control.Control.TheVariants.{Basic, Cyclic}
 use Rattle.set_core.specs.declared.link.Link.{Link}
 use Rattle.set_core.specs.declared.row.Row.{Row}
-use Rattle.set_core.specs.Control.{Choice, again, first, fill, choice_of, fsn_of, head_of, control_after, accepted_of, IsChosen, IsSent, has_new}
-use Rattle.set_core.specs.Set.{LinkState, State, standing, turned, numbers, octets_in, unack, wait, is_waiting, is_unacked, window_of, count_up}
+use Rattle.set_core.specs.Control.{Choice, again, first, fill, choice_of, fsn_of, head_of, control_after, accepted_of, IsChosen, IsSent}
+use Rattle.set_core.specs.Set.{LinkState, standing, turned, numbers, octets_in, unack, wait, is_waiting, is_unacked, window_of}
 use Rattle.set_core.specs.Step.{Outcome, refused, sends, next, in_service}
 use Rattle.set_core.specs.Agreement.{Agrees, AreFit, IsInOrder, link_of, state_of, service_refusal}
-use Rattle.set_core.proofs.Rows.{with_fate, First, first_standing, any_standing, place_within, row_there, row_set, turns_first, turned_numbers, turned_length, turned_fit, turned_other, turned_left, turned_first, octets-append, row_of_number, row_of_first}
+use Rattle.set_core.proofs.Rows.{with_fate, first_standing, any_standing, place_within, row_there, row_set, turns_first, turned_numbers, turned_length, turned_fit, turned_other, turned_left, octets-append, row_of_number, row_of_first}
 use Rattle.set_core.proofs.Order.{waiting_unsent, sent_last, order_sent}
 
 -- The window with some room, which no choice looks at.

@@ -1,4 +1,4 @@
-use Rattle.std.proofs.Common.{◌≡◌, ◌+◌, ◌<◌, ◌^◌, ℕ, take, drop, length}
+use Rattle.std.proofs.Common.{◌≡◌, ◌+◌, take, drop, length}
 use Rattle.set_events.specs.declared.answer.Fate.TheVariants.{Acked}
 use Rattle.set_core.specs.Set.{numbers as numbers_of, octets_in, turned, unack, count_up, is_unacked}
 use Rattle.set_core.proofs.row.acknowledge.Given as goal

@@ -1,7 +1,6 @@
-use Rattle.std.proofs.Common.{arith, ◌≡◌, ◌∙◌, ap, sym, ◌+◌, length, slice_set}
+use Rattle.std.proofs.Common.{arith, ◌≡◌, ◌∙◌, ap, length, slice_set}
 use Rattle.set_events.specs.declared.answer.Fate.TheVariants.{Acked}
 use Rattle.set_core.specs.declared.row.Row.{Row}
-use Rattle.set_core.specs.Set.{octets_in, unack}
 use Rattle.set_core.proofs.Rows.{acknowledging, with_fate}
 use Rattle.set_core.proofs.row.acknowledge_first.Goals as goal
 

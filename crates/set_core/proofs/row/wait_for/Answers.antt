@@ -1,4 +1,4 @@
-use Rattle.std.proofs.Common.{arith, ◌≡◌, ◌∙◌, ap, sym, length}
+use Rattle.std.proofs.Common.{arith, ◌≡◌, ap, length}
 use Rattle.set_events.specs.declared.answer.Fate.TheVariants.{Waiting}
 use Rattle.set_core.proofs.Rows.{one_waits, all_wait}
 use Rattle.set_core.proofs.row.wait_for.Goals as goal

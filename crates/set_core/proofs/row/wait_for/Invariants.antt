@@ -1,4 +1,4 @@
-use Rattle.std.proofs.Common.{◌≡◌, ◌++◌, take, drop, map, length}
+use Rattle.std.proofs.Common.{◌≡◌, ◌++◌, take, drop, map}
 use Rattle.set_events.specs.declared.answer.Fate.TheVariants.{Waiting}
 use Rattle.set_core.specs.declared.row.Row.{Row}
 use Rattle.set_core.proofs.Rows.{with_fate}

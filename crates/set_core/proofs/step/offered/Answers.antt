@@ -1,4 +1,4 @@
-use Rattle.std.proofs.Common.{arith, ◌≡◌, ◌≤◌, ◌∙◌, ap, sym, ℕ, List, None, length, ◌++◌, ◌∷◌, []}
+use Rattle.std.proofs.Common.{arith, ◌≡◌, ◌≤◌, ◌∙◌, ap, sym, List, None, length, ◌++◌, ◌∷◌, []}
 use Rattle.set_core.specs.declared.row.Row.{Row}
 use Rattle.set_core.specs.Step.{offer_refusal}
 use Rattle.set_core.proofs.Offering.{same_agrees, offered_fits, offered_agrees}

@@ -1,4 +1,4 @@
-use Rattle.std.proofs.Common.{arith, ◌≡◌, ◌≤◌, ◌∙◌, ap, sym, subst, ℕ, Bool, true, length, List, map, ◌+◌, ◌-◌, take}
+use Rattle.std.proofs.Common.{arith, ◌≡◌, ◌≤◌, ◌∙◌, ap, sym, subst, ℕ, Bool, true, length, List, ◌+◌, ◌-◌, take}
 use Rattle.arrayvec.specs.declared.array_vec.ArrayVec.{ArrayVec}
 use Rattle.l2_units.specs.declared.unit.Header.{Header}
 use Rattle.l2_units.specs.Grammar.{head_of}
@@ -6,7 +6,7 @@ use Rattle.set_events.specs.declared.answer.Fate.TheVariants.{Acked}
 use Rattle.set_events.specs.declared.answer.Took.{Took}
 use Rattle.set_core.specs.Control.{IsHeard}
 use Rattle.set_core.specs.Set.{turned, is_unacked, unack, octets_in}
-use Rattle.set_core.specs.Step.{is_msu, brought, took_of, inbox_with, report_of, heard, one_if}
+use Rattle.set_core.specs.Step.{is_msu, brought, inbox_with, report_of, heard, one_if}
 use Rattle.set_core.specs.Agreement.{state_of, link_of, bodies_in}
 use Rattle.set_core.proofs.Sending.{served, in_service_is}
 use Rattle.set_core.proofs.Hearing.{few_acked, unit_done, unit_kept, heard_is, one_byte, turned_front}

@@ -1,4 +1,4 @@
-use Rattle.std.proofs.Common.{arith, ◌≡◌, ◌∙◌, ap, sym, subst, ◌<◌, ◌≤◌, ℕ, length, List, slice_set, None, true, false}
+use Rattle.std.proofs.Common.{arith, ◌≡◌, ◌∙◌, ap, sym, subst, ℕ, length, List, slice_set, true}
 use Rattle.std.specs.Prelude.{if◌then◌else◌}
 use Rattle.l2_units.specs.declared.unit.Unit.TheVariants.{Msu}
 use Rattle.l2_window.specs.declared.control.Sending.{Sending}
@@ -7,7 +7,7 @@ use Rattle.set_events.specs.declared.answer.Fate.TheVariants.{Unacked}
 use Rattle.set_core.specs.declared.row.Row.{Row}
 use Rattle.set_core.specs.Control.{IsChosen}
 use Rattle.set_core.specs.Set.{is_unacked}
-use Rattle.set_core.specs.Agreement.{Agrees, state_of}
+use Rattle.set_core.specs.Agreement.{state_of}
 use Rattle.set_core.specs.Step.{next}
 use Rattle.set_core.proofs.Rows.{with_fate}
 use Rattle.set_core.proofs.Sending.{served, message_sent, MessageSent, fill_sent, in_service_is, link_sent}

@@ -1,4 +1,4 @@
-use Rattle.std.proofs.Common.{arith, ◌≡◌, ◌∙◌, ap, sym, ℕ, List, [], ◌++◌}
+use Rattle.std.proofs.Common.{arith, ◌≡◌, ◌∙◌, ap, ℕ, List, [], ◌++◌}
 use Rattle.l2_window.specs.Window.{WindowState}
 use Rattle.set_core.specs.Set.{numbers}
 use Rattle.set_core.proofs.Rising.{no_unacked, no_waiting, risen}

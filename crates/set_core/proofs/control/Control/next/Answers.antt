@@ -1,4 +1,3 @@
-use Rattle.std.proofs.Common.{sym}
 use Rattle.set_core.proofs.Choosing.{basic_chosen, cyclic_chosen}
 use Rattle.set_core.proofs.control.Control.next.Goals as goal
 
