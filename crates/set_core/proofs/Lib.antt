@@ -1,3 +1,7 @@
-pub mod Marked
-pub mod Readers
-pub mod Steps
+pub mod Choosing
+pub mod Hearing
+pub mod Offering
+pub mod Order
+pub mod Rising
+pub mod Rows
+pub mod Sending

@@ -1,28 +1,53 @@
 -- THE SET MODEL: what a set of links holds, as one list of rows. Read this file first.
-use Rattle.std.specs.Prelude.{◌≡◌, ℕ, Bool, true, false, not, ◌==◌, ◌&&◌, ◌+◌, ◌%◌, ◌/◌, ◌≤◌, List, [], ◌∷◌, ◌++◌, length, filter, map, find, suc, zero, Option, slice_index, if◌then◌else◌}
+use Rattle.std.specs.Prelude.{◌≡◌, ℕ, Bool, true, false, not, ◌==◌, ◌&&◌, ◌+◌, ◌%◌, ◌/◌, ◌≤◌, List, [], ◌∷◌, ◌++◌, length, filter, map, find, suc, zero, Option, None, Some, slice_index, slice_get, slice_set, if◌then◌else◌}
 use Rattle.std.specs.Option.{option_map}
+use Rattle.l2_window.specs.Window.{WindowState}
 use Rattle.set_events.specs.declared.answer.Fate.{Fate}
 use Rattle.set_events.specs.declared.answer.Fate.TheVariants.{Waiting, Unacked, Acked, Parked}
 use Rattle.set_events.specs.declared.answer.Counts.{Counts}
+use Rattle.set_events.specs.declared.config.Method.{Method}
 use Rattle.set_events.specs.declared.history.Entry.{Entry}
+use Rattle.set_core.specs.declared.control.Control.{Control}
+use Rattle.set_core.specs.declared.row.Row.{Row}
+use Rattle.set_core.specs.Control.{start_of, accepted_of}
 
--- a message: its number, its octets, and where it stands
-pub record Row : Type 0 where
-  pub number : ℕ
-  pub body : List ℕ
-  pub fate : Fate
+-- A message is a Row: its number, its body (a list of octets), and its fate, the one place where it stands.
 
--- the rows in the order of queueing; whether the link is up; how many of its messages were acknowledged since its last Up
-pub record Rows : Type 0 where
-  pub rows : List Row
+-- a link: how its messages are kept safe, whether it is up, and of its present life
+pub record LinkState : Type 0 where
+  pub method : Method
   pub up : Bool
+  -- how many of its messages were acknowledged, and how many of the far end's bodies were accepted, as whole numbers
   pub acked : ℕ
+  pub accepted : ℕ
+  -- the error control: indicator bits, cursor or place in the cycle, and the memory of faults
+  pub control : Control
 
--- a set: how many links it has, its rows, and all that was ever asked and answered
+-- the rows in the order of queueing; the links, by their numbers; the messages heard for users, oldest first
+pub record State : Type 0 where
+  pub rows : List Row
+  pub links : List LinkState
+  pub inbox : List (List ℕ)
+
+-- a set: what it holds, and all that was ever asked and answered
 pub record LinkSet : Type 0 where
-  pub links : ℕ
-  pub state : Rows
+  pub state : State
   pub history : List Entry
+
+-- how many links a set has
+abbrev pub link_count : State → ℕ
+link_count s = length s.links
+
+-- the link changes, and nothing else does
+abbrev pub with_link : ℕ → LinkState → State → State
+with_link number link s = record s { links = slice_set s.links number link }
+
+abbrev pub link_is_up : Option LinkState → Bool
+link_is_up None = false
+link_is_up (Some link) = link.up
+
+abbrev pub is_up : ℕ → State → Bool
+is_up number s = link_is_up (slice_get s.links number)
 
 -- The filters of the rows.
 
@@ -81,6 +106,24 @@ unack link rows = standing (is_unacked link) rows
 abbrev pub wait : ℕ → List Row → List Row
 wait link rows = standing (is_waiting link) rows
 
+abbrev pub numbers : List Row → List ℕ
+numbers rows = map (λ row. row.number) rows
+
+-- The window of a link, as its rows give it: the message at place i of the unacknowledged ones has FSN acked + i
+-- modulo 128 (Q.703 2.2), so the FSN before it, last acknowledged, is acked - 1.
+abbrev pub window_of : ℕ → LinkState → List Row → WindowState
+window_of number link rows = record {
+  last = (link.acked + 127) % 128;
+  unacked = numbers (unack number rows);
+  unsent = numbers (wait number rows);
+  room = 0;
+}
+
+-- the octets of the bodies of these messages
+abbrev pub octets_in : List Row → ℕ
+octets_in [] = 0
+octets_in (row ∷ rows) = length row.body + octets_in rows
+
 -- the SLS, which is the message's stream: the high four bits of the last octet of the label (Q.704 15.2)
 abbrev pub stream_of : List ℕ → ℕ
 stream_of body = slice_index body 4 / 16
@@ -117,10 +160,17 @@ abbrev pub count_up : ℕ → ℕ → List ℕ
 count_up k zero = []
 count_up k (suc n) = k ∷ count_up (suc k) n
 
--- the numbers 0, 1, .. stand in one row each, and at most 127 messages of a link are unacknowledged
-pub record IsSound (s : Rows) : Type 0 where
-  pub numbered : map (λ row. row.number) s.rows ≡ count_up 0 (length s.rows)
+-- the FSN that each link's control last accepted is that of its whole number: the first body accepted has FSN 0
+abbrev pub AreCounted : List LinkState → Type 0
+AreCounted [] = Unit {0}
+AreCounted (link ∷ links) = (accepted_of link.control ≡ (link.accepted + 127) % 128) × AreCounted links
+
+-- the numbers 0, 1, .. stand in one row each; at most 127 messages of a link are unacknowledged; the BSNs are those
+-- of the bodies that were accepted
+pub record IsSound (s : State) : Type 0 where
+  pub numbered : numbers s.rows ≡ count_up 0 (length s.rows)
   pub window : (link : ℕ) → length (unack link s.rows) ≤ 127
+  pub counted : AreCounted s.links
 
 -- What the readers tell.
 
@@ -144,6 +194,10 @@ counts_of rows = record {
 abbrev pub total_of : Counts → ℕ
 total_of c = c.waiting + c.unacked + c.acked + c.held + c.parked + c.back + c.discarded
 
--- a set that nothing was asked of
-abbrev pub new_set : ℕ → LinkSet
-new_set links = record { links = links; state = record { rows = []; up = false; acked = 0 }; history = [] }
+-- a link that never was up
+abbrev pub new_link : Method → LinkState
+new_link method = record { method = method; up = false; acked = 0; accepted = 0; control = start_of method }
+
+-- a set of one link that nothing was asked of
+abbrev pub new_set : Method → LinkSet
+new_set method = record { state = record { rows = []; links = new_link method ∷ []; inbox = [] }; history = [] }

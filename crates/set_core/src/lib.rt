@@ -7,7 +7,7 @@
 //! This crate reads no clock, waits for nothing, takes no lock and does no IO. Links, users and
 //! terminals are numbers to it.
 //!
-//! Where a message can stand, on the one link of the first path:
+//! Where a message can stand, on one link:
 //!
 //! ```text
 //!             Offer                Up              Next            Heard
@@ -16,16 +16,20 @@
 //!             Offer on a link that is up
 //! ```
 //!
-//! The step is thin until the error controls come: a heard unit acknowledges and brings nothing, an
-//! abnormal BSN changes nothing, and nothing is sent again.
+//! Each link has a window (`l2_window`) and an error control (`l2_basic` or `l2_pcr`), which choose
+//! what is sent and say what a heard unit means. An accepted message goes to the inbox, from which
+//! users take it; an accepted body of the management is ignored until orders come.
 #![tactic(auto)]
 
+mod control;
 mod fault;
-mod marks;
+mod link;
+mod row;
 mod set;
 mod step;
 #[cfg(test)]
 mod tests;
+mod traffic;
 
 pub use fault::SetFault;
 pub use set::SetCore;

@@ -1,58 +1,59 @@
-//! The set: its messages, and the history of all that was asked and answered.
-ghost use Rattle.std.specs.Prelude.{◌≡◌, ◌≤◌, ◌^◌, ◌↔◌, IfOk, OnErr, length};
+//! The set: its links and messages, and the history of all that was asked and answered.
+ghost use Rattle.std.specs.Prelude.{◌≡◌};
 
 use super::fault::SetFault;
-use super::marks::{Marks, counts_in, place_in};
+use super::link::{LINKS, Link};
+use super::row::{Row, counts_in, place_in};
 use super::step::answered;
-use set_events::{Actor, Answer, Body, Counts, Entry, Event, Fate, SetConfig};
+use super::traffic::Inbox;
+use set_events::{Actor, Answer, Counts, Entry, Event, Fate, SetConfig};
 use std::alloc::Global;
+use std::collections::VecDeque;
 use std::marker::Model;
 
 /// The most entries of a history, 2^48.
 const LONGEST_HISTORY: usize = 0x1_0000_0000_0000;
 
-/// One set of links. Contracts see how many links it has, its rows and its history.
+/// One set of links. Contracts see its rows, its links, its inbox and its history.
 ///
-/// Readers: [`SetCore::place_of`], [`SetCore::counts`], [`SetCore::history`]. The one input:
-/// [`SetCore::apply`].
+/// Readers: [`SetCore::place_of`], [`SetCore::counts`], [`SetCore::history`], [`SetCore::links`].
+/// The one input: [`SetCore::apply`].
 #[derive(Drop)]
 pub struct SetCore {
-    marks: Marks,
-    bodies: Vec<Body>,
+    link: Link,
+    rows: Vec<Row>,
+    inbox: Inbox,
     history: Vec<Entry>,
 }
 
 impl Model for SetCore {
+    ghost use Rattle.std.specs.Prelude.{length};
     ghost use Rattle.set_core.specs.Set.{LinkSet};
 
     ghost Value = { LinkSet };
 
-    ghost use Rattle.set_core.specs.Stand.{rows_of, IsMarked};
+    ghost use Rattle.set_core.specs.Agreement.{state_of, bodies_in, Agrees, IsCounted};
 
-    ghost view = { λ s. record { links = s.marks.links; state = rows_of s.marks s.bodies.items; history = s.history.items } };
+    ghost view = { λ s. record { state = state_of s.link s.rows.items (bodies_in s.inbox.items); history = s.history.items } };
 
-    ghost invariant = { λ s. IsMarked s.marks s.bodies.items };
+    ghost invariant = { λ s. Agrees s.link s.rows.items × IsCounted (length s.history.items) s.link };
 }
 
 impl SetCore {
     ghost use Rattle.std.specs.Prelude.{◌≡◌, ◌<◌, ◌≤◌, ◌^◌, ◌↔◌, IfOk, OnErr, length};
-    ghost use Rattle.set_core.specs.Set.{new_set, place, counts_of, total_of, IsSound};
+    ghost use Rattle.set_core.specs.Set.{new_set, link_count, place, counts_of, total_of, IsSound};
     ghost use Rattle.set_core.specs.Step.{IsStep, IsActor};
 
     /// A set as this configuration has it: no messages, no link up, no history.
     ///
-    /// It takes no memory as long as a set has one link.
+    /// Fault: 1 [`SetFault::NoMemory`], only where memory was refused.
     pub fn new(alloc: Global, config: &SetConfig) -> Result<SetCore, SetFault>
-        ensures { IfOk result (λ set. set ≡ new_set config.now.links) }
+        ensures { IfOk result (λ set. set ≡ new_set config.now.method) }
     {
         Ok(SetCore {
-            marks: Marks {
-                links: config.links,
-                up: false,
-                acked: 0,
-                sent: 0,
-            },
-            bodies: Vec::new(alloc),
+            link: Link::new(alloc, config.method)?,
+            rows: Vec::new(alloc),
+            inbox: VecDeque::new(alloc),
             history: Vec::new(alloc),
         })
     }
@@ -74,7 +75,7 @@ impl SetCore {
         }
         let kept = event.try_copy()?;
         self.history.reserve(1)?;
-        let answer = answered(&mut self.marks, &mut self.bodies, event)?;
+        let answer = answered(&mut self.link, &mut self.rows, &mut self.inbox, event)?;
         let entry = Entry {
             who,
             event: kept,
@@ -88,17 +89,18 @@ impl SetCore {
 
     /// How many links the set has, 1 to 16.
     pub fn links(&self) -> u8
-        ensures links { result ≡ self.now.links }
-        ensures few { (1 ≤ self.now.links) × (self.now.links ≤ 16) }
+        ensures links { result ≡ link_count self.now.state }
+        ensures few { (1 ≤ result) × (result ≤ 16) }
     {
-        self.marks.links
+        let _ = &self.link;
+        LINKS
     }
 
     /// Where the message of this number stands; none has it: `None`.
     pub fn place_of(&self, number: u64) -> Option<Fate>
         ensures { result ≡ place number self.now.state.rows }
     {
-        place_in(self.marks, &self.bodies, number)
+        place_in(&self.rows, number)
     }
 
     /// How many messages stand in each place; each message stands in one.
@@ -107,7 +109,7 @@ impl SetCore {
         ensures all { total_of result ≡ length self.now.state.rows }
         ensures few { total_of result < 2 ^ 64 }
     {
-        counts_in(self.marks, &self.bodies)
+        counts_in(&self.rows)
     }
 
     /// All that was asked and answered, in order.
@@ -117,12 +119,12 @@ impl SetCore {
         &self.history
     }
 
-    /// A law: the numbers 0, 1, .. stand in one row each, and no link has more than 127
-    /// unacknowledged messages.
+    /// A law: the numbers 0, 1, .. stand in one row each, no link has more than 127 unacknowledged
+    /// messages, and the BSN that a link sends is the number of the body it last accepted.
     pub fn is_sound(&self)
         ensures { IsSound self.now.state }
     {
-        let _ = &self.marks;
+        let _ = &self.link;
     }
 }
 

@@ -2,14 +2,9 @@
 use Rattle.std.specs.Prelude.{◌≡◌, ℕ, ◌==◌, ◌%◌, ◌&&◌, nat_lt, Option, None, Some, if◌then◌else◌}
 use Rattle.set_events.specs.declared.config.SetConfig.{SetConfig}
 use Rattle.set_events.specs.declared.config.Method.{Method}
-use Rattle.set_events.specs.declared.config.Method.TheVariants.{Basic, Cyclic as CyclicMethod}
 use Rattle.set_events.specs.declared.config.ConfigFault.{ConfigFault}
-use Rattle.set_events.specs.declared.config.ConfigFault.TheVariants.{Links, PointCode, Sio, Cyclic}
-
--- the cyclic method isn't there yet
-abbrev pub method_fault : Method → Option ConfigFault
-method_fault Basic = None
-method_fault (CyclicMethod n1 n2) = Some Cyclic
+use Rattle.set_events.specs.declared.config.ConfigFault.TheVariants.{Links, PointCode, Sio}
+use Rattle.set_events.specs.Method.{method_fault}
 
 -- the first fault of these values, in the order of the refusals
 abbrev pub fault_of : ℕ → ℕ → ℕ → ℕ → Method → Option ConfigFault

@@ -1,2 +1,3 @@
 pub mod Config
+pub mod Method
 pub mod Numbers

@@ -2,6 +2,7 @@
 ghost use Rattle.std.specs.Prelude.{◌≡◌, ◌↔◌, IsTrue};
 ghost use Rattle.set_events.specs.Numbers.{refusal_number, fault_number};
 
+use arrayvec::ArrayVec;
 use l2_units::{Unit, same_unit};
 
 /// Where a message stands: in exactly one of these places.
@@ -85,7 +86,8 @@ pub enum Refusal {
     NotDown,
     /// 8: no message has this number.
     UnknownNumber,
-    /// 9: there is nothing to do: a link status signal unit was heard while the link is up.
+    /// 9: there is nothing to take, or nothing to do: a link status signal unit was heard while the
+    /// link is up.
     Nothing,
     /// 10: the set has no such link.
     NoSuchLink,
@@ -115,6 +117,8 @@ impl Refusal {
 pub enum Answer {
     /// The offered message was accepted under this number.
     Accepted { number: u64 },
+    /// The message that was taken: SIO and SIF, as it was heard.
+    Taken { body: ArrayVec<u8, 273> },
     /// Where the message stands.
     Found { fate: Fate },
     /// The next unit to send.
@@ -134,6 +138,7 @@ impl Answer {
     {
         match (self, other) {
             (Answer::Accepted { number: a }, Answer::Accepted { number: b }) => *a == *b,
+            (Answer::Taken { body: a }, Answer::Taken { body: b }) => a.as_slice() == b.as_slice(),
             (Answer::Found { fate: a }, Answer::Found { fate: b }) => *a == *b,
             (Answer::Sent { unit: a }, Answer::Sent { unit: b }) => same_unit(a, b),
             (Answer::Heard { report: a }, Answer::Heard { report: b }) => *a == *b,

@@ -1,9 +1,15 @@
 //! What a set is opened with.
-ghost use Rattle.std.specs.Prelude.{◌≡◌, ◌<◌, ◌%◌, ◌^◌};
+ghost use Rattle.std.specs.Prelude.{◌≡◌, ◌<◌, ◌%◌, ◌^◌, true};
 ghost use Rattle.std.proofs.Props.{props};
-ghost use Rattle.set_events.specs.declared.config.Method.TheVariants.{Basic};
+ghost use Rattle.set_events.specs.Method.{is_method};
 
 use thiserror::Error;
+
+/// The most messages that can be unacknowledged (Q.703 5.2.2).
+const MOST_MESSAGES: u8 = 127;
+
+/// The most octets that their bodies can have.
+const MOST_OCTETS: u32 = 34_671;
 
 /// How a link's messages are kept safe.
 #[derive(Clone, Copy, Debug, PartialEq, Eq)]
@@ -31,8 +37,8 @@ pub enum ConfigFault {
     /// 3: the service indicator, the low four bits of the SIO, isn't 0.
     #[error("the service indicator of the management is 0")]
     Sio,
-    /// 4: the cyclic method, until it comes.
-    #[error("the cyclic method isn't there")]
+    /// 4: a limit of the cyclic method out of its range.
+    #[error("a cycle is forced by 1 to 127 messages or by 1 to 34671 octets")]
     Cyclic,
 }
 
@@ -49,13 +55,13 @@ pub struct SetConfig {
     pub dpc: u16,
     /// The SIO of the management's orders; its service indicator is 0.
     pub sio: u8,
-    /// How messages are kept safe: the basic method, until the cyclic one comes.
+    /// How messages are kept safe; the limits of the cyclic method are in their ranges.
     pub method: Method,
     pub ghost one_link: { links ≡ 1 },
     pub ghost opc_in_range: { opc < 2 ^ 14 },
     pub ghost dpc_in_range: { dpc < 2 ^ 14 },
     pub ghost management: { sio % 16 ≡ 0 },
-    pub ghost basic: { method ≡ Basic } by { Prim.hlevel props },
+    pub ghost limits_in_range: { is_method method ≡ true } by { Prim.hlevel props },
 }
 
 impl SetConfig {
@@ -86,17 +92,17 @@ impl SetConfig {
         if sio % 16 != 0 {
             return Err(ConfigFault::Sio);
         }
-        match method {
-            Method::Basic => Ok(SetConfig {
-                set,
-                links,
-                opc,
-                dpc,
-                sio,
-                method,
-            }),
-            Method::Cyclic { .. } => Err(ConfigFault::Cyclic),
+        if !is_in_range(method) {
+            return Err(ConfigFault::Cyclic);
         }
+        Ok(SetConfig {
+            set,
+            links,
+            opc,
+            dpc,
+            sio,
+            method,
+        })
     }
 }
 
@@ -113,6 +119,18 @@ impl ConfigFault {
             ConfigFault::PointCode => 2,
             ConfigFault::Sio => 3,
             ConfigFault::Cyclic => 4,
+        }
+    }
+}
+
+/// Whether the limits of the cyclic method, if it is that, can be met.
+fn is_in_range(method: Method) -> bool
+    ensures { result ≡ is_method method }
+{
+    match method {
+        Method::Basic => true,
+        Method::Cyclic { n1, n2 } => {
+            (1..=MOST_MESSAGES).contains(&n1) && (1..=MOST_OCTETS).contains(&n2)
         }
     }
 }

@@ -28,6 +28,8 @@ impl Actor {
 pub enum Event {
     /// A user offers a message.
     Offer { body: Body },
+    /// A user takes the oldest message that was heard for users.
+    Take,
     /// A user asks where the message of this number stands.
     Find { number: u64 },
     /// A link's terminal asks for the next unit to send.
@@ -47,6 +49,7 @@ impl Event {
             Event::Offer { body } => Ok(Event::Offer {
                 body: body.try_copy()?,
             }),
+            Event::Take => Ok(Event::Take),
             Event::Find { number } => Ok(Event::Find { number: *number }),
             Event::Next { link } => Ok(Event::Next { link: *link }),
             Event::Heard { link, unit } => match unit.clone() {
@@ -63,6 +66,7 @@ impl Event {
     {
         match (self, other) {
             (Event::Offer { body: a }, Event::Offer { body: b }) => a.same(b),
+            (Event::Take, Event::Take) => true,
             (Event::Find { number: a }, Event::Find { number: b }) => *a == *b,
             (Event::Next { link: a }, Event::Next { link: b }) => *a == *b,
             (Event::Heard { link: a, unit: u }, Event::Heard { link: b, unit: v }) => {

@@ -28,6 +28,7 @@ fn each_event_is_copied(rt: HostRuntime) -> Result<(), Fail> {
     let unit = read(&[0xFF, 0xFF, 0]).map_err(|_| "no unit")?;
     let status = read(&[0xFF, 0xFF, 1, 3]).map_err(|_| "no unit")?;
     for event in [
+        Event::Take,
         Event::Find { number: 3 },
         Event::Next { link: 0 },
         Event::Heard { link: 0, unit },
@@ -79,7 +80,11 @@ fn configurations_out_of_range_are_refused(rt: HostRuntime) {
     assert!(rt; code.err() == Some(ConfigFault::PointCode));
     let sio = SetConfig::new(0, 1, 16_383, 0, 0x81, Method::Basic);
     assert!(rt; sio.err() == Some(ConfigFault::Sio));
-    let cyclic = SetConfig::new(0, 1, 2, 1, 0x80, Method::Cyclic { n1: 2, n2: 1000 });
-    assert!(rt; cyclic.err() == Some(ConfigFault::Cyclic));
+    for (n1, n2) in [(0, 1000), (128, 1000), (2, 0), (2, 34_672)] {
+        let cyclic = SetConfig::new(0, 1, 2, 1, 0x80, Method::Cyclic { n1, n2 });
+        assert!(rt; cyclic.err() == Some(ConfigFault::Cyclic));
+    }
+    let cyclic = SetConfig::new(0, 1, 2, 1, 0x80, Method::Cyclic { n1: 127, n2: 34_671 });
+    assert!(rt; cyclic.is_ok());
     assert!(rt; SetConfig::new(0, 1, 16_383, 0, 0x80, Method::Basic).is_ok());
 }
