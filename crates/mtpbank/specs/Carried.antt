@@ -1,17 +1,19 @@
 -- What a call that carries out a line gave, beside what the definition says.
-use Rattle.std.specs.Prelude.{◌≡◌, true, false, ℕ, Result, MatchResult}
+use Rattle.std.specs.Prelude.{◌≡◌, ◌≤◌, true, false, ℕ, suc, List, ◌++◌, length, take, drop, slice_get, Option, Some, None, Result, MatchResult}
 use Rattle.set_events.specs.declared.answer.Answer.{Answer}
 use Rattle.set_events.specs.declared.event.Actor.{Actor}
 use Rattle.set_events.specs.declared.event.Actor.TheVariants.{Terminal}
 use Rattle.set_events.specs.declared.event.Event.{Event}
 use Rattle.set_events.specs.declared.event.Event.TheVariants.{Up as UpEvent}
-use Rattle.set_core.specs.Set.{LinkSet}
+use Rattle.set_core.specs.Set.{LinkSet, is_up}
 use Rattle.set_core.specs.declared.fault.SetFault.{SetFault}
 use Rattle.set_core.specs.declared.fault.SetFault.TheVariants.{NoMemory, Exhausted as SetExhausted}
 use Rattle.mtpbank.specs.declared.shown.Shown.{Shown}
 use Rattle.mtpbank.specs.declared.step_fault.StepFault.{StepFault}
 use Rattle.mtpbank.specs.declared.step_fault.StepFault.TheVariants.{Impossible, Memory, Exhausted}
-use Rattle.mtpbank.specs.Pair.{Pair, Outcome, shows, impossible, exhausted, is_full, answer_to, after}
+use Rattle.l2_units.specs.declared.unit.Unit.{Unit as SignalUnit}
+use Rattle.mtpbank.specs.declared.script.End.{End}
+use Rattle.mtpbank.specs.Pair.{Pair, Outcome, shows, impossible, exhausted, is_full, answer_to, after, line_to, with_line}
 
 abbrev pub StepFaultOf : SetFault → StepFault → Type 0
 StepFaultOf NoMemory fault = fault ≡ Memory
@@ -41,15 +43,32 @@ abbrev pub Applies : Result Answer StepFault → LinkSet → Actor → Event →
 Applies result old who event new = MatchResult result (λ answer. IsAnswered old who event answer new) (λ fault. FailsAt fault old)
 
 -- a link that comes up at one set
-abbrev pub FailsToRise : StepFault → LinkSet → Type 0
-FailsToRise Impossible set = (is_full set ≡ false) × (set.state.up ≡ true)
-FailsToRise Memory set = Unit {0}
-FailsToRise Exhausted set = is_full set ≡ true
+abbrev pub FailsToRise : StepFault → LinkSet → ℕ → Type 0
+FailsToRise Impossible set link = (is_full set ≡ false) × (is_up link set.state ≡ true)
+FailsToRise Memory set link = Unit {0}
+FailsToRise Exhausted set link = is_full set ≡ true
 
 pub record IsRisen (old : LinkSet) (link : ℕ) (new : LinkSet) : Type 0 where
   pub room : is_full old ≡ false
-  pub down : old.state.up ≡ false
+  pub down : is_up link old.state ≡ false
   pub set_is : new ≡ after old (Terminal link) (UpEvent link)
 
 abbrev pub Rises : Result (Unit {0}) StepFault → LinkSet → ℕ → LinkSet → Type 0
-Rises result old link new = MatchResult result (λ done. IsRisen old link new) (λ fault. FailsToRise fault old)
+Rises result old link new = MatchResult result (λ done. IsRisen old link new) (λ fault. FailsToRise fault old link)
+
+-- a unit that is taken out of a line
+pub record Leaves (line : List SignalUnit) (place : ℕ) (unit : SignalUnit) (rest : List SignalUnit) : Type 0 where
+  pub there : slice_get line place ≡ Some unit
+  pub rest_is : rest ≡ take place line ++ drop (suc place) line
+
+abbrev pub IsTakenOut : Option SignalUnit → List SignalUnit → ℕ → List SignalUnit → Type 0
+IsTakenOut None line place rest = (length line ≤ place) × (rest ≡ line)
+IsTakenOut (Some unit) line place rest = Leaves line place unit rest
+
+pub record LeavesTo (old : Pair) (end : End) (place : ℕ) (unit : SignalUnit) (new : Pair) : Type 0 where
+  pub there : slice_get (line_to old end) place ≡ Some unit
+  pub rest_is : new ≡ with_line old end (take place (line_to old end) ++ drop (suc place) (line_to old end))
+
+abbrev pub IsTakenFrom : Option SignalUnit → Pair → End → ℕ → Pair → Type 0
+IsTakenFrom None old end place new = (length (line_to old end) ≤ place) × (new ≡ old)
+IsTakenFrom (Some unit) old end place new = LeavesTo old end place unit new

@@ -11,8 +11,8 @@ six_of w = record { kind = w.kind.now; links = w.links.now; method = w.method.no
 -- both ends are made of these values
 pub record IsMadeOf (values : Values) (opening : Opening) : Type 0 where
   pub fit : fitting values ≡ Some values
-  pub links_a : opening.a.links ≡ values.links
-  pub links_b : opening.b.links ≡ values.links
+  pub method_a : opening.a.method ≡ values.method
+  pub method_b : opening.b.method ≡ values.method
 
 -- both ends are made of the values of the first line
 pub record IsOpening (text : List ℕ) (opening : Opening) : Type 0 where

@@ -1,20 +1,21 @@
 -- THE PAIR: two ends and the units under way between them on their link.
-use Rattle.std.specs.Prelude.{◌≡◌, ℕ, Bool, ◌^◌, nat_lt, nat_le, ◌≤◌, List, [], ◌∷◌, ◌++◌, length, if◌then◌else◌}
+use Rattle.std.specs.Prelude.{◌≡◌, ℕ, Bool, ◌^◌, nat_lt, nat_le, suc, List, [], ◌∷◌, ◌++◌, length, take, drop, if◌then◌else◌}
 use Rattle.l2_units.specs.declared.unit.Unit.{Unit as SignalUnit}
 use Rattle.set_events.specs.declared.event.Actor.{Actor}
 use Rattle.set_events.specs.declared.event.Actor.TheVariants.{User, Terminal}
 use Rattle.set_events.specs.declared.event.Event.{Event}
-use Rattle.set_events.specs.declared.event.Event.TheVariants.{Offer as OfferEvent, Find as FindEvent, Next, Heard as HeardEvent, Up as UpEvent}
+use Rattle.set_events.specs.declared.event.Event.TheVariants.{Offer as OfferEvent, Take as TakeEvent, Find as FindEvent, Next, Heard as HeardEvent, Up as UpEvent}
 use Rattle.set_events.specs.declared.answer.Answer.{Answer}
-use Rattle.set_events.specs.declared.answer.Answer.TheVariants.{Accepted, Found, Sent, Heard, Done, Refused}
-use Rattle.set_core.specs.Set.{LinkSet, new_set}
+use Rattle.set_events.specs.declared.answer.Answer.TheVariants.{Accepted, Taken, Found, Sent, Heard, Done, Refused}
+use Rattle.set_events.specs.declared.config.Method.{Method}
+use Rattle.set_core.specs.Set.{LinkSet, new_set, link_count, is_up}
 use Rattle.set_core.specs.Step.{step}
 use Rattle.mtpbank.specs.declared.script.End.{End}
 use Rattle.mtpbank.specs.declared.script.End.TheVariants.{A, B}
 use Rattle.mtpbank.specs.declared.script.ScriptLine.{ScriptLine}
-use Rattle.mtpbank.specs.declared.script.ScriptLine.TheVariants.{Together, Offer, Emit, Find, Hear}
+use Rattle.mtpbank.specs.declared.script.ScriptLine.TheVariants.{Together, Offer, Take, Emit, Arrive, Lose, Find, Hear}
 use Rattle.mtpbank.specs.declared.shown.Shown.{Shown}
-use Rattle.mtpbank.specs.declared.shown.Shown.TheVariants.{Up, Answered}
+use Rattle.mtpbank.specs.declared.shown.Shown.TheVariants.{Up, Lost, Answered}
 
 -- both ends, and the units under way to each
 pub record Pair : Type 0 where
@@ -23,8 +24,9 @@ pub record Pair : Type 0 where
   pub to_a : List SignalUnit
   pub to_b : List SignalUnit
 
-abbrev pub new_pair : ℕ → Pair
-new_pair links = record { a = new_set links; b = new_set links; to_a = []; to_b = [] }
+-- both ends have one method
+abbrev pub new_pair : Method → Pair
+new_pair method = record { a = new_set method; b = new_set method; to_a = []; to_b = [] }
 
 abbrev pub at_end : Pair → End → LinkSet
 at_end p A = p.a
@@ -42,12 +44,11 @@ joined p B unit = record p { to_a = p.to_a ++ unit ∷ [] }
 -- A set after an event: by its step, with the entry put last.
 
 abbrev pub answer_to : LinkSet → Event → Answer
-answer_to set event = (step set.links set.state event).answer
+answer_to set event = (step set.state event).answer
 
 abbrev pub after : LinkSet → Actor → Event → LinkSet
 after set who event = record {
-  links = set.links;
-  state = (step set.links set.state event).state;
+  state = (step set.state event).state;
   history = set.history ++ record { who = who; event = event; answer = answer_to set event } ∷ [];
 }
 
@@ -71,11 +72,13 @@ acts p end who event =
 abbrev pub with_sent : Pair → End → Shown → Pair
 with_sent p end (Answered (Sent unit)) = joined p end unit
 with_sent p end (Answered (Accepted number)) = p
+with_sent p end (Answered (Taken body)) = p
 with_sent p end (Answered (Found fate)) = p
 with_sent p end (Answered (Heard report)) = p
 with_sent p end (Answered Done) = p
 with_sent p end (Answered (Refused why)) = p
 with_sent p end Up = p
+with_sent p end Lost = p
 
 abbrev pub sends_on : End → Outcome → Outcome
 sends_on end (shows s p) = shows s (with_sent p end s)
@@ -86,7 +89,29 @@ sends_on end exhausted = exhausted
 abbrev pub rises : LinkSet → ℕ → (LinkSet → Outcome) → Outcome
 rises set link next =
     if is_full set then exhausted
-    else (if set.state.up then impossible else next (after set (Terminal link) (UpEvent link)))
+    else (if is_up link set.state then impossible else next (after set (Terminal link) (UpEvent link)))
+
+-- the units under way to an end
+abbrev pub line_to : Pair → End → List SignalUnit
+line_to p A = p.to_a
+line_to p B = p.to_b
+
+abbrev pub with_line : Pair → End → List SignalUnit → Pair
+with_line p A line = record p { to_a = line }
+with_line p B line = record p { to_b = line }
+
+-- the front of the line arrives: it is heard where the link is up, and lost where it isn't
+abbrev pub arrives : Pair → End → ℕ → List SignalUnit → Outcome
+arrives p end link [] = impossible
+arrives p end link (unit ∷ line) =
+    if is_up link (at_end p end).state
+    then acts (with_line p end line) end (Terminal link) (HeardEvent link unit)
+    else shows Lost (with_line p end line)
+
+-- the unit at a place of the line is lost
+abbrev pub loses : Pair → End → ℕ → List SignalUnit → Outcome
+loses p end place line =
+    if nat_lt place (length line) then shows Lost (with_line p end (take place line ++ drop (suc place) line)) else impossible
 
 -- both ends come up, a first, and nothing is under way
 abbrev pub rise_together : Pair → ℕ → Outcome
@@ -94,7 +119,7 @@ rise_together p link = rises p.a link (λ a. rises p.b link (λ b. shows Up (rec
 
 -- what needs a link of the pair
 abbrev pub has_link : Pair → ℕ → Bool
-has_link p link = nat_lt link p.a.links
+has_link p link = nat_lt link (link_count p.a.state)
 
 abbrev pub done_on : Pair → ℕ → Outcome → Outcome
 done_on p link outcome = if has_link p link then outcome else impossible
@@ -103,11 +128,9 @@ done_on p link outcome = if has_link p link then outcome else impossible
 abbrev pub carried_out : Pair → ScriptLine → Outcome
 carried_out p (Together link) = done_on p link (rise_together p link)
 carried_out p (Offer end body) = acts p end (User 0) (OfferEvent body)
+carried_out p (Take end) = acts p end (User 0) TakeEvent
 carried_out p (Emit end link) = done_on p link (sends_on end (acts p end (Terminal link) (Next link)))
+carried_out p (Arrive end link) = done_on p link (arrives p end link (line_to p end))
+carried_out p (Lose end link place) = done_on p link (loses p end place (line_to p end))
 carried_out p (Find end number) = acts p end (User 0) (FindEvent number)
 carried_out p (Hear end link unit) = done_on p link (acts p end (Terminal link) (HeardEvent link unit))
-
--- Both ends have the same links, and few of them.
-pub record IsPair (p : Pair) : Type 0 where
-  pub same : p.b.links ≡ p.a.links
-  pub few : p.a.links ≤ 16

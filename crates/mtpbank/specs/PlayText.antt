@@ -32,7 +32,7 @@ is_remark (octet ∷ octets) = octet == 35
 -- the first line that is no remark makes the pair
 abbrev pub opened : ℕ → Option Values → LineOutcome
 opened n None = stops (Text n)
-opened n (Some values) = prints [] (Some (new_pair values.links))
+opened n (Some values) = prints [] (Some (new_pair values.method))
 
 -- each further one is carried out
 abbrev pub shown : ℕ → Outcome → LineOutcome

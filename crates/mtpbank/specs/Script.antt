@@ -5,13 +5,14 @@ use Rattle.std.specs.List.{position_or_len, before_first, after_first}
 use Rattle.std.specs.Str.{bytes_eq}
 use Rattle.l2_units.specs.Grammar.{unit_of}
 use Rattle.set_events.specs.Config.{fault_of}
-use Rattle.set_events.specs.declared.config.Method.TheVariants.{Basic}
+use Rattle.set_events.specs.declared.config.Method.{Method}
+use Rattle.set_events.specs.declared.config.Method.TheVariants.{Basic, Cyclic}
 use Rattle.mtpbank.specs.Figures.{number_of, number_below, octet_of, octets_of}
 use Rattle.mtpbank.specs.declared.script.End.{End}
 use Rattle.mtpbank.specs.declared.script.End.TheVariants.{A, B}
 use Rattle.mtpbank.specs.declared.script.ScriptLine.{ScriptLine}
 use Rattle.mtpbank.specs.declared.script.Values.{Values}
-use Rattle.mtpbank.specs.declared.script.ScriptLine.TheVariants.{Together, Offer, Emit, Find, Hear}
+use Rattle.mtpbank.specs.declared.script.ScriptLine.TheVariants.{Together, Offer, Take, Emit, Arrive, Lose, Find, Hear}
 
 -- Words.
 
@@ -48,7 +49,11 @@ body_of (Some word) = some_octets word
 abbrev pub offer_line : List ℕ → Option ScriptLine
 offer_line words = option_and_then (λ end. option_map (Offer end) (body_of (other_words words))) (end_of (first_word words))
 
--- emit END LINK, find END NUMBER
+-- take END
+abbrev pub take_line : List ℕ → Option ScriptLine
+take_line words = option_map Take (end_of words)
+
+-- emit END LINK, arrive END LINK, find END NUMBER
 abbrev pub last_number : Option (List ℕ) → Option ℕ
 last_number None = None
 last_number (Some word) = number_of word
@@ -56,8 +61,19 @@ last_number (Some word) = number_of word
 abbrev pub emit_line : List ℕ → Option ScriptLine
 emit_line words = option_and_then (λ end. option_map (Emit end) (last_number (other_words words))) (end_of (first_word words))
 
+abbrev pub arrive_line : List ℕ → Option ScriptLine
+arrive_line words = option_and_then (λ end. option_map (Arrive end) (last_number (other_words words))) (end_of (first_word words))
+
 abbrev pub find_line : List ℕ → Option ScriptLine
 find_line words = option_and_then (λ end. option_map (Find end) (last_number (other_words words))) (end_of (first_word words))
+
+-- lose END LINK PLACE
+abbrev pub link_and_place : End → Option (List ℕ) → Option ScriptLine
+link_and_place end None = None
+link_and_place end (Some words) = option_and_then (λ link. option_map (Lose end link) (last_number (other_words words))) (number_of (first_word words))
+
+abbrev pub lose_line : List ℕ → Option ScriptLine
+lose_line words = option_and_then (λ end. link_and_place end (other_words words)) (end_of (first_word words))
 
 -- hear END LINK HEX: the octets of a unit, without check octets
 abbrev pub last_unit : End → ℕ → Option (List ℕ) → Option ScriptLine
@@ -76,10 +92,13 @@ line_by word None = None
 line_by word (Some words) =
     if bytes_eq word (codes "together") then together_line words
     else (if bytes_eq word (codes "offer") then offer_line words
+    else (if bytes_eq word (codes "take") then take_line words
     else (if bytes_eq word (codes "emit") then emit_line words
+    else (if bytes_eq word (codes "arrive") then arrive_line words
+    else (if bytes_eq word (codes "lose") then lose_line words
     else (if bytes_eq word (codes "find") then find_line words
     else (if bytes_eq word (codes "hear") then hear_line words
-    else None))))
+    else None)))))))
 
 -- what a line after the first asks for; None: it's unreadable
 abbrev pub line_of : List ℕ → Option ScriptLine
@@ -115,19 +134,34 @@ code_of name word = option_and_then (number_below (2 ^ 16)) (value_in name word)
 abbrev pub sio_of : List ℕ → Option ℕ
 sio_of word = option_and_then octet_of (value_in (codes "sio=") word)
 
--- the cyclic method isn't there yet
+-- the limits of the cyclic method, N1:N2
+abbrev pub is_colon : ℕ → Bool
+is_colon c = c == 58
+
+abbrev pub limits_of : List ℕ → Option Method
+limits_of word =
+    if nat_lt (position_or_len is_colon word) (length word)
+    then option_and_then (λ n1. option_map (Cyclic n1) (number_below (2 ^ 32) (after_first is_colon word))) (number_below (2 ^ 8) (before_first is_colon word))
+    else None
+
+-- method=basic or method=cyclic:N1:N2
+abbrev pub method_of : List ℕ → Option Method
+method_of word =
+    if bytes_eq word (codes "method=basic") then Some Basic
+    else option_and_then limits_of (value_in (codes "method=cyclic:") word)
+
 abbrev pub values_of : SixWords → Option Values
 values_of w =
-    if bytes_eq w.kind (codes "set") && bytes_eq w.method (codes "method=basic")
-    then option_and_then (λ links. option_and_then (λ a. option_and_then (λ b. option_map (λ sio.
-    record { links = links; code_a = a; code_b = b; sio = sio })
-    (sio_of w.sio)) (code_of (codes "b=") w.code_b)) (code_of (codes "a=") w.code_a)) (links_of w.links)
+    if bytes_eq w.kind (codes "set")
+    then option_and_then (λ links. option_and_then (λ method. option_and_then (λ a. option_and_then (λ b. option_map (λ sio.
+    record { links = links; method = method; code_a = a; code_b = b; sio = sio })
+    (sio_of w.sio)) (code_of (codes "b=") w.code_b)) (code_of (codes "a=") w.code_a)) (method_of w.method)) (links_of w.links)
     else None
 
 -- values of which both ends can be made
 abbrev pub fitting : Values → Option Values
 fitting v =
-    if is_none (fault_of v.links v.code_a v.code_b v.sio Basic) && is_none (fault_of v.links v.code_b v.code_a v.sio Basic)
+    if is_none (fault_of v.links v.code_a v.code_b v.sio v.method) && is_none (fault_of v.links v.code_b v.code_a v.sio v.method)
     then Some v else None
 
 -- what the first line says; None: it's unreadable

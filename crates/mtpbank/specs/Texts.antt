@@ -11,12 +11,12 @@ use Rattle.set_events.specs.declared.answer.ControlFault.{ControlFault}
 use Rattle.set_events.specs.declared.answer.Report.{Report}
 use Rattle.set_events.specs.declared.answer.Counts.{Counts}
 use Rattle.set_events.specs.declared.answer.Answer.{Answer}
-use Rattle.set_events.specs.declared.answer.Answer.TheVariants.{Accepted, Found, Sent, Heard, Done, Refused}
+use Rattle.set_events.specs.declared.answer.Answer.TheVariants.{Accepted, Taken, Found, Sent, Heard, Done, Refused}
 use Rattle.set_core.specs.Set.{counts_of, total_of}
 use Rattle.mtpbank.specs.declared.script.End.{End}
 use Rattle.mtpbank.specs.declared.script.End.TheVariants.{A, B}
 use Rattle.mtpbank.specs.declared.shown.Shown.{Shown}
-use Rattle.mtpbank.specs.declared.shown.Shown.TheVariants.{Up, Answered}
+use Rattle.mtpbank.specs.declared.shown.Shown.TheVariants.{Up, Lost, Answered}
 use Rattle.mtpbank.specs.Figures.{hex_text}
 use Rattle.mtpbank.specs.Pair.{Pair}
 
@@ -48,6 +48,7 @@ report_text r =
 -- a sent unit is printed with its check octets
 abbrev pub answer_text : Answer → List ℕ
 answer_text (Accepted number) = codes "accepted " ++ (decimal number ++ codes "\n")
+answer_text (Taken body) = codes "taken " ++ (hex_text body.items ++ codes "\n")
 answer_text (Found fate) = fate_text fate
 answer_text (Sent unit) = codes "sent " ++ (hex_text (sealed_text (text unit)) ++ codes "\n")
 answer_text (Heard report) = report_text report
@@ -56,6 +57,7 @@ answer_text (Refused why) = codes "refused " ++ (decimal (refusal_number why) ++
 
 abbrev pub shown_text : Shown → List ℕ
 shown_text Up = codes "up\n"
+shown_text Lost = codes "lost\n"
 shown_text (Answered answer) = answer_text answer
 
 abbrev pub end_name : End → List ℕ

@@ -1,8 +1,8 @@
 //! The first line of a script: `set links=L method=W a=X b=Y sio=HH`.
-ghost use Rattle.std.specs.Prelude.{◌≡◌, ◌+◌, ◌^◌, ◌<◌, IfOk, MatchOption, None, Some, codes, take, drop, length};
-ghost use Rattle.std.specs.Option.{option_and_then, option_map, option_copied};
+ghost use Rattle.std.specs.Prelude.{◌≡◌, ◌+◌, ◌^◌, ◌<◌, IfOk, MatchOption, None, Some, codes, position, take, drop, length};
+ghost use Rattle.std.specs.Option.{option_and_then, option_map, option_copied, ForSome};
 ghost use Rattle.mtpbank.specs.Figures.{number_below as number_in_range};
-ghost use Rattle.mtpbank.specs.Script.{value_in, links_of as links_in, code_of as code_in, sio_of as sio_in, six_words as six_words_in, values_of as values_in, fitting, first_line};
+ghost use Rattle.mtpbank.specs.Script.{is_colon, limits_of as limits_in, method_of as method_in, value_in, links_of as links_in, code_of as code_in, sio_of as sio_in, six_words as six_words_in, values_of as values_in, fitting, first_line};
 ghost use Rattle.mtpbank.specs.Opened.{six_of, IsOpening, IsMadeOf};
 
 use super::figures::{number_of, octet_of};
@@ -32,15 +32,17 @@ pub(crate) fn opening_of(text: &[u8]) -> Option<Opening>
 fn values_of(words: SixWords<'_>) -> Option<Values>
     ensures { result ≡ values_in (six_of words.entry) }
 {
-    if !is_word(words.kind, b"set") || !is_word(words.method, b"method=basic") {
+    if !is_word(words.kind, b"set") {
         return None;
     }
     let links = links_of(words.links)?;
+    let method = method_of(words.method)?;
     let code_a = code_of(b"a=", words.code_a)?;
     let code_b = code_of(b"b=", words.code_b)?;
     let sio = sio_of(words.sio)?;
     Some(Values {
         links,
+        method,
         code_a,
         code_b,
         sio,
@@ -53,14 +55,15 @@ fn ends_of(values: Values) -> Option<Opening>
 {
     let Values {
         links,
+        method,
         code_a,
         code_b,
         sio,
     } = values;
-    let Ok(a) = SetConfig::new(0, links, code_a, code_b, sio, Method::Basic) else {
+    let Ok(a) = SetConfig::new(0, links, code_a, code_b, sio, method) else {
         return None;
     };
-    let Ok(b) = SetConfig::new(0, links, code_b, code_a, sio, Method::Basic) else {
+    let Ok(b) = SetConfig::new(0, links, code_b, code_a, sio, method) else {
         return None;
     };
     Some(Opening { a, b })
@@ -111,6 +114,41 @@ fn links_of(word: &[u8]) -> Option<u8>
     } else {
         None
     }
+}
+
+/// `method=basic` or `method=cyclic:N1:N2`
+fn method_of(word: &[u8]) -> Option<Method>
+    ensures { result ≡ method_in word.now }
+{
+    if is_word(word, b"method=basic") {
+        return Some(Method::Basic);
+    }
+    limits_of(value_in_word(b"method=cyclic:", word)?)
+}
+
+/// `N1:N2`, N1 below 256, N2 below 2^32.
+fn limits_of(word: &[u8]) -> Option<Method>
+    ensures { result ≡ limits_in word.now }
+{
+    let colon = colon_in(word)?;
+    let n1 = number_of(&word[..colon])?;
+    let n2 = number_of(&word[colon + 1..])?;
+    if n1 < 256 && n2 < 0x1_0000_0000 {
+        Some(Method::Cyclic {
+            n1: n1 as u8,
+            n2: n2 as u32,
+        })
+    } else {
+        None
+    }
+}
+
+/// The place of the first colon.
+fn colon_in(word: &[u8]) -> Option<usize>
+    ensures place { result ≡ position is_colon word.now }
+    ensures within { ForSome result (λ place. place < length word.now) }
+{
+    word.iter().position(|c| *c == b':')
 }
 
 /// A point code below 65,536 behind a name and its sign.

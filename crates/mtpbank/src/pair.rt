@@ -1,7 +1,8 @@
 //! Two ends, and the units under way between them.
 ghost use Rattle.std.specs.Prelude.{◌≡◌, ◌<◌};
 ghost use Rattle.set_core.specs.Step.{IsActor};
-ghost use Rattle.mtpbank.specs.Carried.{Applies, Rises};
+ghost use Rattle.set_core.specs.Set.{link_count};
+ghost use Rattle.mtpbank.specs.Carried.{Applies, Rises, IsTakenOut};
 
 use super::script::{End, Opening, ScriptLine};
 use super::shown::Shown;
@@ -30,21 +31,23 @@ impl Model for Pair {
 
     ghost use Rattle.std.specs.Prelude.{◌≡◌};
 
-    ghost invariant = { λ p. p.b.links ≡ p.a.links };
+    ghost use Rattle.set_core.specs.Set.{link_count};
+
+    ghost invariant = { λ p. link_count p.b.state ≡ link_count p.a.state };
 }
 
 impl Pair {
     ghost use Rattle.std.specs.Prelude.{◌≡◌, ◌<◌, ◌^◌, IfOk, IfErr, IfSome, OnOk, MatchOption, true, false};
     ghost use Rattle.set_core.specs.Step.{IsActor};
-    ghost use Rattle.mtpbank.specs.Pair.{new_pair, carried_out as carried_out_in, acts as acts_in, with_sent as with_sent_in, sends_on, done_on, has_link, rise_together, at_end};
-    ghost use Rattle.set_core.specs.Set.{counts_of, total_of};
-    ghost use Rattle.mtpbank.specs.Carried.{IsCarriedOut};
+    ghost use Rattle.mtpbank.specs.Pair.{new_pair, carried_out as carried_out_in, acts as acts_in, with_sent as with_sent_in, sends_on, arrives, loses, line_to, done_on, has_link, rise_together, at_end};
+    ghost use Rattle.set_core.specs.Set.{counts_of, total_of, is_up as is_up_in};
+    ghost use Rattle.mtpbank.specs.Carried.{IsCarriedOut, IsTakenFrom};
     ghost use Rattle.set_events.specs.declared.event.Event.TheVariants.{Next as NextEvent, Heard as HeardEvent};
 
     /// The pair of these configurations: no messages, no link up, nothing under way.
     pub(crate) fn new(alloc: Global, opening: &Opening) -> Result<Pair, SetFault>
-        requires { opening.now.b.links ≡ opening.now.a.links }
-        ensures { IfOk result (λ pair. pair ≡ new_pair opening.now.a.links) }
+        requires { opening.now.b.method ≡ opening.now.a.method }
+        ensures { IfOk result (λ pair. pair ≡ new_pair opening.now.a.method) }
     {
         Ok(Pair {
             a: SetCore::new(alloc, &opening.a)?,
@@ -68,7 +71,10 @@ impl Pair {
                 };
                 self.acts(*end, Actor::User(0), &event)
             }
+            ScriptLine::Take { end } => self.acts(*end, Actor::User(0), &Event::Take),
             ScriptLine::Emit { end, link } => self.emit(*end, *link),
+            ScriptLine::Arrive { end, link } => self.arrive(*end, *link),
+            ScriptLine::Lose { end, link, place } => self.lose(*end, *link, *place),
             ScriptLine::Find { end, number } => {
                 let event = Event::Find { number: *number };
                 self.acts(*end, Actor::User(0), &event)
@@ -139,6 +145,55 @@ impl Pair {
         Ok(())
     }
 
+    /// The front of the line to the end arrives: it's heard where the link is up there, else lost.
+    fn arrive(&mut self, end: End, link: u64) -> Result<Shown, StepFault>
+        ensures { IsCarriedOut result (done_on self.old link (arrives self.old end link (line_to self.old end))) self.new }
+    {
+        let Some(link) = self.link_of(link) else {
+            return Err(StepFault::Impossible);
+        };
+        let Some(unit) = self.taken_from(end, 0) else {
+            return Err(StepFault::Impossible);
+        };
+        if !self.is_up(end, link) {
+            return Ok(Shown::Lost);
+        }
+        self.acts(end, Actor::Terminal(link), &Event::Heard { link, unit })
+    }
+
+    /// The unit at this place of the line to the end is lost.
+    fn lose(&mut self, end: End, link: u64, place: u64) -> Result<Shown, StepFault>
+        ensures { IsCarriedOut result (done_on self.old link (loses self.old end place (line_to self.old end))) self.new }
+    {
+        if self.link_of(link).is_none() {
+            return Err(StepFault::Impossible);
+        }
+        match self.taken_from(end, place) {
+            Some(_) => Ok(Shown::Lost),
+            None => Err(StepFault::Impossible),
+        }
+    }
+
+    /// Takes the unit at this place out of the line to the end, if there is one.
+    fn taken_from(&mut self, end: End, place: u64) -> Option<Unit>
+        ensures { IsTakenFrom result self.old end place self.new }
+    {
+        match end {
+            End::A => taken_out(&mut self.to_a, place),
+            End::B => taken_out(&mut self.to_b, place),
+        }
+    }
+
+    /// Whether the link is up at this end.
+    fn is_up(&self, end: End, link: u8) -> bool
+        ensures { result ≡ is_up_in link (at_end self.now end).state }
+    {
+        match end {
+            End::A => self.a.is_up(link),
+            End::B => self.b.is_up(link),
+        }
+    }
+
     /// The end hears this unit.
     fn hear(&mut self, end: End, link: u64, unit: &Unit) -> Result<Shown, StepFault>
         ensures { IsCarriedOut result (done_on self.old link (acts_in self.old end (Actor.Terminal link) (HeardEvent link unit.now))) self.new }
@@ -172,21 +227,32 @@ impl Pair {
 fn applied(set: &mut SetCore, who: Actor, event: &Event) -> Result<Answer, StepFault>
     requires { IsActor who }
     ensures applies { Applies result set.old who event.now set.new }
-    ensures links { set.new.links ≡ set.old.links }
+    ensures links { link_count set.new.state ≡ link_count set.old.state }
 {
     Ok(set.apply(who, event)?)
 }
 
 /// The link of a set comes up, if it isn't.
 fn rise(set: &mut SetCore, link: u8) -> Result<(), StepFault>
-    requires known { link < set.old.links }
+    requires known { link < link_count set.old.state }
     requires few { link < 16 }
     ensures rises { Rises result set.old link set.new }
-    ensures links { set.new.links ≡ set.old.links }
+    ensures links { link_count set.new.state ≡ link_count set.old.state }
 {
     match applied(set, Actor::Terminal(link), &Event::Up { link })? {
         Answer::Done => Ok(()),
         _ => Err(StepFault::Impossible),
+    }
+}
+
+/// Takes the unit at this place out of a line, if there is one.
+fn taken_out(line: &mut Vec<Unit>, place: u64) -> Option<Unit>
+    ensures { IsTakenOut result line.old.items place line.new.items }
+{
+    if place < line.len() as u64 {
+        Some(line.remove(place as usize))
+    } else {
+        None
     }
 }
 

@@ -3,7 +3,7 @@ ghost use Rattle.std.specs.Prelude.{◌≡◌, [], ◌∷◌, ◌^◌, IfOk, Mat
 ghost use Rattle.std.specs.Option.{option_and_then, option_map, option_copied, ForSome};
 ghost use Rattle.std.specs.Str.{bytes_eq};
 ghost use Rattle.mtpbank.specs.Figures.{number_below};
-ghost use Rattle.mtpbank.specs.Script.{is_space, first_word, other_words, end_of as end_in, some_octets as octets_in, together_line as together_in, offer_line as offer_in, emit_line as emit_in, find_line as find_in, hear_line as hear_in, line_of as line_in, body_of as body_in, last_number as number_in, last_unit as unit_in, link_and_unit as link_and_unit_in};
+ghost use Rattle.mtpbank.specs.Script.{is_space, first_word, other_words, end_of as end_in, some_octets as octets_in, together_line as together_in, offer_line as offer_in, take_line as take_in, emit_line as emit_in, arrive_line as arrive_in, lose_line as lose_in, link_and_place as link_and_place_in, find_line as find_in, hear_line as hear_in, line_of as line_in, body_of as body_in, last_number as number_in, last_unit as unit_in, link_and_unit as link_and_unit_in};
 
 use super::figures::{number_of, octets_of};
 use super::script::{End, ScriptLine};
@@ -23,8 +23,14 @@ pub(crate) fn line_of(alloc: Global, text: &[u8]) -> Result<Option<ScriptLine>, 
         Ok(together_line(words))
     } else if is_word(word, b"offer") {
         offer_line(alloc, words)
+    } else if is_word(word, b"take") {
+        Ok(take_line(words))
     } else if is_word(word, b"emit") {
         Ok(emit_line(words))
+    } else if is_word(word, b"arrive") {
+        Ok(arrive_line(words))
+    } else if is_word(word, b"lose") {
+        Ok(lose_line(words))
     } else if is_word(word, b"find") {
         Ok(find_line(words))
     } else if is_word(word, b"hear") {
@@ -125,6 +131,14 @@ fn last_number(word: Option<&[u8]>) -> Option<u64>
     number_of(word?)
 }
 
+/// `take END`
+fn take_line(words: &[u8]) -> Option<ScriptLine>
+    ensures { result ≡ take_in words.now }
+{
+    let end = end_of(words)?;
+    Some(ScriptLine::Take { end })
+}
+
 /// `emit END LINK`
 fn emit_line(words: &[u8]) -> Option<ScriptLine>
     ensures { result ≡ emit_in words.now }
@@ -133,6 +147,35 @@ fn emit_line(words: &[u8]) -> Option<ScriptLine>
     let end = end_of(word)?;
     let link = last_number(words)?;
     Some(ScriptLine::Emit { end, link })
+}
+
+/// `arrive END LINK`
+fn arrive_line(words: &[u8]) -> Option<ScriptLine>
+    ensures { result ≡ arrive_in words.now }
+{
+    let (word, words) = cut(words);
+    let end = end_of(word)?;
+    let link = last_number(words)?;
+    Some(ScriptLine::Arrive { end, link })
+}
+
+/// `lose END LINK PLACE`
+fn lose_line(words: &[u8]) -> Option<ScriptLine>
+    ensures { result ≡ lose_in words.now }
+{
+    let (word, words) = cut(words);
+    let end = end_of(word)?;
+    link_and_place(end, words?)
+}
+
+/// The link and the place of the unit that is lost.
+fn link_and_place(end: End, words: &[u8]) -> Option<ScriptLine>
+    ensures { result ≡ link_and_place_in end (Some words.now) }
+{
+    let (word, words) = cut(words);
+    let link = number_of(word)?;
+    let place = last_number(words)?;
+    Some(ScriptLine::Lose { end, link, place })
 }
 
 /// `find END NUMBER`

@@ -2,7 +2,7 @@
 ghost use Rattle.std.specs.Prelude.{◌≡◌};
 
 use l2_units::Unit;
-use set_events::{Body, SetConfig};
+use set_events::{Body, Method, SetConfig};
 
 /// An end of the pair.
 #[derive(Clone, Copy, Debug, PartialEq, Eq)]
@@ -18,8 +18,14 @@ pub enum ScriptLine {
     Together { link: u64 },
     /// A user of the end offers a message.
     Offer { end: End, body: Body },
+    /// A user of the end takes the oldest message that was heard for users.
+    Take { end: End },
     /// The end sends its next unit, which joins the line to the other end.
     Emit { end: End, link: u64 },
+    /// The front of the line to the end arrives.
+    Arrive { end: End, link: u64 },
+    /// The unit at this place of the line to the end, counted from 0, is lost.
+    Lose { end: End, link: u64, place: u64 },
     /// A user of the end asks where a message stands.
     Find { end: End, number: u64 },
     /// The end hears this unit, wherever it comes from.
@@ -31,6 +37,8 @@ pub enum ScriptLine {
 pub struct Values {
     /// How many links there are.
     pub links: u8,
+    /// How both ends keep messages safe.
+    pub method: Method,
     /// The point code of end a.
     pub code_a: u16,
     /// The point code of end b.

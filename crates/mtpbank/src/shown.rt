@@ -7,6 +7,8 @@ use set_events::Answer;
 pub enum Shown {
     /// The link came up at both ends.
     Up,
+    /// A unit was lost.
+    Lost,
     /// The end answered.
     Answered(Answer),
 }

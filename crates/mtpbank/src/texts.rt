@@ -20,6 +20,7 @@ pub(crate) fn shown_text(alloc: Global, shown: &Shown) -> Result<Vec<u8>, AllocE
 {
     match shown {
         Shown::Up => Vec::from_slice(alloc, b"up\n"),
+        Shown::Lost => Vec::from_slice(alloc, b"lost\n"),
         Shown::Answered(answer) => answer_text(alloc, answer),
     }
 }
@@ -30,6 +31,7 @@ fn answer_text(alloc: Global, answer: &Answer) -> Result<Vec<u8>, AllocError>
 {
     match answer {
         Answer::Accepted { number } => with_number(alloc, "accepted ", *number),
+        Answer::Taken { body } => taken_text(alloc, body.as_slice()),
         Answer::Found { fate } => fate_text(alloc, *fate),
         Answer::Sent { unit } => sent_text(alloc, unit),
         Answer::Heard { report } => report_text(alloc, report),
@@ -55,6 +57,16 @@ fn fate_text(alloc: Global, fate: Fate) -> Result<Vec<u8>, AllocError>
         Fate::Acked { link } => with_number(alloc, "found acked ", link as u64),
         Fate::Parked => Vec::from_slice(alloc, b"found parked\n"),
     }
+}
+
+/// The text of a message that was taken.
+fn taken_text(alloc: Global, body: &[u8]) -> Result<Vec<u8>, AllocError>
+    ensures { IfOk result (λ text. text.items ≡ codes "taken " ++ (hex_text body.now ++ codes "\n")) }
+{
+    let mut text = Vec::from_slice(alloc, b"taken ")?;
+    push_hex(&mut text, body)?;
+    text.push(b'\n')?;
+    Ok(text)
 }
 
 /// The text of a sent unit, with its check octets.

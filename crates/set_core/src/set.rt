@@ -16,7 +16,8 @@ const LONGEST_HISTORY: usize = 0x1_0000_0000_0000;
 
 /// One set of links. Contracts see its rows, its links, its inbox and its history.
 ///
-/// Readers: [`SetCore::place_of`], [`SetCore::counts`], [`SetCore::history`], [`SetCore::links`].
+/// Readers: [`SetCore::place_of`], [`SetCore::counts`], [`SetCore::history`], [`SetCore::links`],
+/// [`SetCore::is_up`].
 /// The one input: [`SetCore::apply`].
 #[derive(Drop)]
 pub struct SetCore {
@@ -41,7 +42,7 @@ impl Model for SetCore {
 
 impl SetCore {
     ghost use Rattle.std.specs.Prelude.{◌≡◌, ◌<◌, ◌≤◌, ◌^◌, ◌↔◌, IfOk, OnErr, length};
-    ghost use Rattle.set_core.specs.Set.{new_set, link_count, place, counts_of, total_of, IsSound};
+    ghost use Rattle.set_core.specs.Set.{new_set, link_count, is_up as is_up_in, place, counts_of, total_of, IsSound};
     ghost use Rattle.set_core.specs.Step.{IsStep, IsActor};
 
     /// A set as this configuration has it: no messages, no link up, no history.
@@ -94,6 +95,13 @@ impl SetCore {
     {
         let _ = &self.link;
         LINKS
+    }
+
+    /// Whether this link of the set is up.
+    pub fn is_up(&self, link: u8) -> bool
+        ensures { result ≡ is_up_in link self.now.state }
+    {
+        link < LINKS && self.link.up
     }
 
     /// Where the message of this number stands; none has it: `None`.
