@@ -37,7 +37,7 @@ pub enum Unit {
     },
     /// Link status signal unit: tells how the terminal at its sender stands. LI 1 or 2.
     ///
-    /// The status is 0 to 7, three bits (Q.703 2.3.12, 11.1): 0 out of alignment (O), 1 normal
+    /// The status is 0 to 7, three bits (Q.703 11.1): 0 out of alignment (O), 1 normal
     /// alignment (N), 2 emergency alignment (E), 3 out of service (OS), 4 processor outage (PO),
     /// 5 busy (B); 6 and 7 mean nothing.
     Lssu {
