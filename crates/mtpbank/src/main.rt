@@ -9,6 +9,8 @@ mod device;
 mod digit;
 mod fault;
 mod figures;
+#[cfg(test)]
+mod link_tests;
 mod marked_line;
 mod opening;
 mod pair;

@@ -30,7 +30,6 @@ impl Model for Pair {
     ghost view = { λ p. record { a = p.a; b = p.b; to_a = p.to_a.items; to_b = p.to_b.items } };
 
     ghost use Rattle.std.specs.Prelude.{◌≡◌};
-
     ghost use Rattle.set_core.specs.Set.{link_count};
 
     ghost invariant = { λ p. link_count p.b.state ≡ link_count p.a.state };

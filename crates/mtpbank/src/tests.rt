@@ -45,8 +45,8 @@ impl Source for Text<'_> {
 
 /// What is written, in memory.
 #[derive(Drop)]
-struct Page {
-    octets: Vec<u8>,
+pub(crate) struct Page {
+    pub(crate) octets: Vec<u8>,
     /// How many octets a write takes at most.
     piece: usize,
     /// How many writes succeed.
@@ -78,7 +78,7 @@ impl Sink for Page {
 }
 
 /// Plays a script in pieces of this many octets; the devices take this many calls.
-fn run_of(
+pub(crate) fn run_of(
     alloc: Global,
     script: &[u8],
     piece: usize,
@@ -197,7 +197,8 @@ fn seen_of(alloc: Global, digits: &[u8], piece: usize, writes: u32) -> (Page, Re
 }
 
 /// Seven ones begin octet counting; 256 bits later two marks were given, and a good unit ends it.
-const COUNTED: &[u8] = b"ff00000000000000000000000000000000000000000000000000000000000000007edff705f8beaf1f";
+const COUNTED: &[u8] =
+    b"ff00000000000000000000000000000000000000000000000000000000000000007edff705f8beaf1f";
 
 const COUNTED_PRINTED: &[u8] = b"sixteen
 sixteen
@@ -329,7 +330,13 @@ fn unreadable_lines(rt: HostRuntime) -> Result<(), Fail> {
         b"together 0\r",
         b"together \xc3\xa9",
         b"set links=1 method=basic a=2 b=1 sio=80",
-        b"arrive b 0",
+        b"arrive b",
+        b"take",
+        b"take c",
+        b"take a ",
+        b"lose a 0",
+        b"lose a 0 0 0",
+        b"down a 0",
         b"Together 0",
     ] {
         let mut script = script_of(rt.alloc(), line)?;
@@ -349,7 +356,11 @@ fn unreadable_first_lines(rt: HostRuntime) {
         b"set links=0 method=basic a=2 b=1 sio=80",
         b"set links=2 method=basic a=2 b=1 sio=80",
         b"set links=300 method=basic a=2 b=1 sio=80",
-        b"set links=1 method=cyclic:2:1000 a=2 b=1 sio=80",
+        b"set links=1 method=cyclic:2 a=2 b=1 sio=80",
+        b"set links=1 method=cyclic:0:1000 a=2 b=1 sio=80",
+        b"set links=1 method=cyclic:128:1000 a=2 b=1 sio=80",
+        b"set links=1 method=cyclic:2:34672 a=2 b=1 sio=80",
+        b"set links=1 method=cyclic:02:1000 a=2 b=1 sio=80",
         b"set links=1 method=basic a=16384 b=1 sio=80",
         b"set links=1 method=basic a=2 b=70000 sio=80",
         b"set links=1 method=basic a=2 b=1 sio=81",
@@ -367,7 +378,14 @@ fn unreadable_first_lines(rt: HostRuntime) {
 /// What can't be done: a link that the pair hasn't, and one that is up already.
 #[test]
 fn impossible_steps(rt: HostRuntime) -> Result<(), Fail> {
-    for line in [b"together 1".as_slice(), b"emit a 256", b"hear b 1 ffff00"] {
+    for line in [
+        b"together 1".as_slice(),
+        b"emit a 256",
+        b"hear b 1 ffff00",
+        b"arrive b 0",
+        b"arrive b 1",
+        b"lose a 0 0",
+    ] {
         let script = script_of(rt.alloc(), line)?;
         let (_, end) = run_of(rt.alloc(), &script, 4096, 1000, 1000);
         assert!(rt; end == Err(Fault::Step { line: 2 }));

@@ -15,11 +15,7 @@ use std::alloc::Global;
 /// character that is neither a digit nor skipped, or the end of the input where a digit is left
 /// over. An input beyond 2^24 octets or 2^24 read calls is [`Fault::Read`], after the marks of the
 /// octets before that.
-pub fn units<S: Source, W: Sink>(
-    alloc: Global,
-    source: &mut S,
-    sink: &mut W,
-) -> Result<(), Fault>
+pub fn units<S: Source, W: Sink>(alloc: Global, source: &mut S, sink: &mut W) -> Result<(), Fault>
     ensures text { IfSome (S.left source.old) (λ input. Prints result (IsUnitsText input) (W.written sink.old) (W.written sink.new)) }
     ensures bounded { IfSome (S.left source.old) (λ input. OnOk result (length input ≤ 2 ^ 24)) }
     ensures devices { IfSome (S.left source.old) (λ input. IfErr result (λ fault. IsDevices fault (HasFailed (S.has_failed source.new) input) (W.has_failed sink.new ≡ true))) }

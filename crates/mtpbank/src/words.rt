@@ -4,8 +4,8 @@ ghost use Rattle.std.specs.Option.{option_map};
 ghost use Rattle.clap.specs.Words.{app_of, subcommand_of};
 ghost use Rattle.mtpbank.specs.CommandLine.{program, name_of};
 
-use clap::error::ErrorKind;
 use clap::Command;
+use clap::error::ErrorKind;
 use std::alloc::{AllocError, Global};
 
 /// What the command line asks for.
@@ -60,7 +60,9 @@ fn command<'a>(alloc: Global) -> Result<Command<'a>, AllocError>
     ensures { IfOk result (λ command. app_of command ≡ program) }
 {
     let units = Command::new(alloc, "units")
-        .about("Reads the octets of a line as hexadecimal digits and tells what a signalling terminal sees")
+        .about(
+            "Reads the octets of a line as hexadecimal digits and tells what a signalling terminal sees",
+        )
         .after_help(UNITS_HELP);
     let play = Command::new(alloc, "play")
         .about("Plays a script of two ends of a link from standard input, line by line")
@@ -86,11 +88,14 @@ standard error, with status 1; what was printed before it stays.";
 
 const PLAY_HELP: &str = "\
 The script's first line that isn't empty and doesn't begin with # is
-  set links=1 method=basic a=X b=Y sio=HH    point codes of the ends, SIO in hexadecimal
-and each further line is one of
+  set links=1 method=W a=X b=Y sio=HH    point codes of the ends, SIO in hexadecimal
+with the method basic or cyclic:N1:N2 (so many messages or octets force a cycle), and each further line is one of
   together L          the link comes up at both ends
   offer E HEX         a user of end E (a or b) offers a message, SIO and SIF in hexadecimal
+  take E              a user of end E takes the oldest message that was heard
   emit E L            end E sends its next unit on link L; it joins the line to the other end
+  arrive E L          the front of the line to end E arrives there
+  lose E L P          the unit at place P of the line to end E, from 0, is lost
   hear E L HEX        end E hears these octets of a unit, without check octets
   find E N            a user of end E asks where message N stands
 

@@ -84,7 +84,17 @@ fn configurations_out_of_range_are_refused(rt: HostRuntime) {
         let cyclic = SetConfig::new(0, 1, 2, 1, 0x80, Method::Cyclic { n1, n2 });
         assert!(rt; cyclic.err() == Some(ConfigFault::Cyclic));
     }
-    let cyclic = SetConfig::new(0, 1, 2, 1, 0x80, Method::Cyclic { n1: 127, n2: 34_671 });
+    let cyclic = SetConfig::new(
+        0,
+        1,
+        2,
+        1,
+        0x80,
+        Method::Cyclic {
+            n1: 127,
+            n2: 34_671,
+        },
+    );
     assert!(rt; cyclic.is_ok());
     assert!(rt; SetConfig::new(0, 1, 16_383, 0, 0x80, Method::Basic).is_ok());
 }

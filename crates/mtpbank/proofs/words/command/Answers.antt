@@ -13,6 +13,6 @@ returns c =
     let itself_is : app_of c.subcommand_required.result ≡ record { top = program_itself; subs = [] } = search rules in
     IfOk-weaker c.subcommand-2.result _ _
     (λ command added.
-        added.shape (search rules)
-        ∙ ap₂ with_subcommand (c.in_ok-subcommand.ensures.shape (search rules) ∙ ap₂ with_subcommand itself_is units_is) play_is)
+    added.shape (search rules)
+    ∙ ap₂ with_subcommand (c.in_ok-subcommand.ensures.shape (search rules) ∙ ap₂ with_subcommand itself_is units_is) play_is)
     c.subcommand-2.ensures
