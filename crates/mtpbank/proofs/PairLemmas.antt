@@ -7,7 +7,6 @@ use Rattle.l2_units.specs.declared.unit.Unit.TheVariants.{Fisu, Lssu, Msu}
 use Rattle.set_events.specs.declared.answer.Fate.{Fate}
 use Rattle.set_events.specs.declared.answer.Refusal.{Refusal as SetRefusal}
 use Rattle.set_events.specs.declared.answer.Refusal.TheVariants.{NotDown}
-use Rattle.set_events.specs.declared.answer.Answer.{Answer}
 use Rattle.set_events.specs.declared.answer.Answer.TheVariants.{Done, Refused}
 use Rattle.set_core.specs.Set.{LinkState, State, is_up, link_is_up, place}
 use Rattle.set_core.specs.Step.{Outcome as SetOutcome, step, refused, offered, offer_refusal, taken, found, with_known, heard, rises}

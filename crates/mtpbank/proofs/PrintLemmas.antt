@@ -1,12 +1,12 @@
 -- What is printed and written, piece after piece.
-use Rattle.std.proofs.Common.{refl, arith, ◌≡◌, ◌∙◌, ap, sym, ◌<◌, ◌≤◌, [], ◌∷◌, length, ℕ, ◌+◌, ◌-◌, ◌^◌, List, ◌++◌, take, drop, Option, Some, None, Result, Ok, Err, IfErr, IfSome, OnOk, subst, length-append, append_assoc, append-nil, take-append-drop}
+use Rattle.std.proofs.Common.{refl, arith, ◌≡◌, ◌∙◌, ap, sym, ◌<◌, ◌≤◌, [], length, ℕ, ◌+◌, ◌-◌, ◌^◌, List, ◌++◌, take, drop, Option, Some, None, Result, Ok, Err, IfErr, IfSome, OnOk, subst, length-append, append_assoc, append-nil, take-append-drop}
 use Rattle.std.proofs.lemmas.Grind.{common_steps}
 use Rattle.std.proofs.Math.Seq.{take-add}
-use Rattle.std.specs.Io.KnownBytes.{Appends, Keeps, Consumes, IsAtEnd}
+use Rattle.std.specs.Io.KnownBytes.{Appends, Consumes, IsAtEnd}
 use Rattle.std.proofs.KnownBytes.{Appends-trans, Appends-nil, Consumes-trans, Consumes-nil, Consumes-whole}
 use Rattle.mtpbank.specs.declared.fault.Fault.{Fault}
 use Rattle.mtpbank.specs.declared.fault.Fault.TheVariants.{Text, Step, Octet, Memory, Exhausted, Read, Write}
-use Rattle.mtpbank.specs.Printing.{Printed, IsBegun, EndsIn, IsOfText, Ends, ReadsOrStops, IsEnd, Writes, Passes, Breaks, PassesOrBreaks, Closes, Prints, IsDevices}
+use Rattle.mtpbank.specs.Printing.{Printed, IsBegun, EndsIn, IsOfText, Ends, ReadsOrStops, Writes, Passes, Breaks, PassesOrBreaks, Closes, Prints, IsDevices}
 
 -- what is written after what was written
 pub appends_more : (a b c : Option (List ℕ)) (xs ys zs : List ℕ) → Appends a b xs → Appends b c ys → zs ≡ xs ++ ys → Appends a c zs

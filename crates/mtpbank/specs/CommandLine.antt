@@ -1,6 +1,6 @@
 -- THE COMMAND LINE: the words behind the program's name, as the library that reads them defines it.
-use Rattle.std.specs.Prelude.{ℕ, true, List, [], ◌∷◌, codes}
-use Rattle.clap.specs.Words.{App, Shape, new_app, with_subcommand}
+use Rattle.std.specs.Prelude.{ℕ, true, List, [], codes}
+use Rattle.clap.specs.Words.{App, Shape, with_subcommand}
 use Rattle.clap.specs.Simple.{new_shape}
 use Rattle.mtpbank.specs.declared.words.Words.{Words}
 use Rattle.mtpbank.specs.declared.words.Words.TheVariants.{Units, Play}

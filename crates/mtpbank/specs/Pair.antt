@@ -1,5 +1,5 @@
 -- THE PAIR: two ends and the units under way between them on their link.
-use Rattle.std.specs.Prelude.{◌≡◌, ℕ, Bool, ◌^◌, nat_lt, nat_le, suc, List, [], ◌∷◌, ◌++◌, length, take, drop, if◌then◌else◌}
+use Rattle.std.specs.Prelude.{ℕ, Bool, ◌^◌, nat_lt, nat_le, suc, List, [], ◌∷◌, ◌++◌, length, take, drop, if◌then◌else◌}
 use Rattle.l2_units.specs.declared.unit.Unit.{Unit as SignalUnit}
 use Rattle.set_events.specs.declared.event.Actor.{Actor}
 use Rattle.set_events.specs.declared.event.Actor.TheVariants.{User, Terminal}

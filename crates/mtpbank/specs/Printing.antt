@@ -1,5 +1,5 @@
 -- A text that is printed while another is read: what calls print, and what the devices give and take.
-use Rattle.std.specs.Prelude.{◌≡◌, ℕ, ◌+◌, ◌^◌, ◌≤◌, Bool, true, ◌⊎◌, List, [], ◌∷◌, ◌++◌, length, Option, Some, None, Result, MatchResult, IfErr}
+use Rattle.std.specs.Prelude.{◌≡◌, ℕ, ◌+◌, ◌^◌, ◌≤◌, Bool, true, ◌⊎◌, List, [], ◌++◌, length, Option, Some, None, Result, MatchResult, IfErr}
 use Rattle.std.specs.Io.KnownBytes.{Appends}
 use Rattle.mtpbank.specs.declared.fault.Fault.{Fault}
 use Rattle.mtpbank.specs.declared.fault.Fault.TheVariants.{Text, Step, Octet, Memory, Exhausted, Read, Write}

@@ -1,4 +1,3 @@
-use Rattle.std.proofs.Common.{◌≡◌}
 use Rattle.mtpbank.proofs.PrintLemmas.{breaks_off}
 use Rattle.mtpbank.proofs.printing.end.Goals as goal
 

@@ -1,4 +1,3 @@
-use Rattle.std.proofs.Common.{◌≡◌}
 use Rattle.mtpbank.proofs.PrintLemmas.{breaks}
 use Rattle.mtpbank.proofs.printing.pass.Goals as goal
 

@@ -1,4 +1,4 @@
-use Rattle.std.proofs.Common.{arith, ◌≡◌}
+use Rattle.std.proofs.Common.{arith}
 use Rattle.std.proofs.lemmas.Grind.{common_steps}
 use Rattle.mtpbank.proofs.PrintLemmas.{piece_too_much, piece_broke}
 use Rattle.mtpbank.proofs.printing.print_all.Goals as goal

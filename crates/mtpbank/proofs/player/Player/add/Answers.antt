@@ -1,4 +1,4 @@
-use Rattle.std.proofs.Common.{arith, ◌≡◌, ◌+◌, ◌≤◌, ◌∷◌, [], length, length-append}
+use Rattle.std.proofs.Common.{arith, ◌∷◌, [], length-append}
 use Rattle.mtpbank.proofs.PlayLemmas.{open_push, halts_long}
 use Rattle.mtpbank.proofs.player.Player.add.Goals as goal
 

@@ -1,4 +1,4 @@
-use Rattle.std.proofs.Common.{refl, arith, ◌≡◌, ◌+◌}
+use Rattle.std.proofs.Common.{refl, arith}
 use Rattle.std.proofs.lemmas.Grind.{common_steps}
 use Rattle.mtpbank.proofs.PlayLemmas.{ends_a_line, halts_line}
 use Rattle.mtpbank.proofs.player.Player.end_line.Goals as goal

@@ -1,4 +1,4 @@
-use Rattle.std.proofs.Common.{sym, ◌∙◌, ◌≡◌}
+use Rattle.std.proofs.Common.{sym}
 use Rattle.mtpbank.proofs.PlayLemmas.{nothing_read, something_read, ends_none, ends_line, halts_last}
 use Rattle.mtpbank.proofs.player.Player.finish.Goals as goal
 

@@ -1,4 +1,4 @@
-use Rattle.std.proofs.Common.{arith, ◌≡◌, ◌+◌, ℕ, List, ◌∷◌, [], ◌++◌, take, drop, subst}
+use Rattle.std.proofs.Common.{arith, ◌+◌, ℕ, List, drop, subst}
 use Rattle.std.proofs.lemmas.Grind.{common_steps}
 use Rattle.mtpbank.specs.Playing.{Halts}
 use Rattle.mtpbank.proofs.PlayLemmas.{halts_more}
