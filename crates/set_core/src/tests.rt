@@ -353,29 +353,57 @@ fn is_taken(set: &mut SetCore, index: u16) -> Result<bool, Fail> {
     }
 }
 
-/// Every seventh unit of both directions is lost; each message is taken once, in order.
-fn lossy_run(rt: &HostRuntime, method: Method) -> Result<(), Fail> {
-    let mut a = set_in_service(rt.alloc(), method)?;
-    let mut b = set_in_service(rt.alloc(), method)?;
-    let mut accepted: u16 = 0;
-    let mut taken: u16 = 0;
-    for round in 0..16_000u32 {
-        if accepted < MESSAGES && is_accepted(rt.alloc(), &mut a, accepted)? {
-            accepted += 1;
-        }
-        carried(&mut a, &mut b, round % 7 == 3)?;
-        carried(&mut b, &mut a, round % 7 == 6)?;
-        if taken < MESSAGES && is_taken(&mut b, taken)? {
-            taken += 1;
-        }
+/// How many messages an end's user has offered and taken.
+#[derive(Clone, Copy, Drop)]
+struct Traffic {
+    accepted: u16,
+    taken: u16,
+}
+
+/// The user of an end offers the next message and takes the next one, as far as they go.
+fn user_turn(alloc: Global, set: &mut SetCore, so_far: Traffic) -> Result<Traffic, Fail> {
+    let Traffic {
+        mut accepted,
+        mut taken,
+    } = so_far;
+    if accepted < MESSAGES && is_accepted(alloc, set, accepted)? {
+        accepted += 1;
     }
-    if accepted < MESSAGES || taken < MESSAGES || is_taken(&mut b, MESSAGES)? {
+    if taken < MESSAGES && is_taken(set, taken)? {
+        taken += 1;
+    }
+    Ok(Traffic { accepted, taken })
+}
+
+/// Everything was offered, taken once, and acknowledged.
+fn is_done(set: &mut SetCore, so_far: Traffic) -> Result<(), Fail> {
+    if so_far.accepted < MESSAGES || so_far.taken < MESSAGES || is_taken(set, MESSAGES)? {
         return Err(Fail::from("some messages are missing"));
     }
-    if a.counts().acked != u64::from(MESSAGES) {
+    if set.counts().acked != u64::from(MESSAGES) {
         return Err(Fail::from("some messages aren't acknowledged"));
     }
     Ok(())
+}
+
+/// Both ends send; every seventh unit of both directions is lost; each message is taken at the other
+/// end once, in order.
+fn lossy_run(rt: &HostRuntime, method: Method) -> Result<(), Fail> {
+    let mut a = set_in_service(rt.alloc(), method)?;
+    let mut b = set_in_service(rt.alloc(), method)?;
+    let mut at_a = Traffic {
+        accepted: 0,
+        taken: 0,
+    };
+    let mut at_b = at_a;
+    for round in 0..16_000u32 {
+        at_a = user_turn(rt.alloc(), &mut a, at_a)?;
+        at_b = user_turn(rt.alloc(), &mut b, at_b)?;
+        carried(&mut a, &mut b, round % 7 == 3)?;
+        carried(&mut b, &mut a, round % 7 == 6)?;
+    }
+    is_done(&mut a, at_a)?;
+    is_done(&mut b, at_b)
 }
 
 #[test]
