@@ -120,7 +120,7 @@ end b accepted=0 waiting=0 unacked=0 acked=0 held=0 parked=0 back=0 discarded=0
     prints(&rt, rt.alloc(), script, lines);
 }
 
-/// Where the link isn't up at the end, a unit that arrives is lost; nothing is left to arrive then.
+/// The last of two units under way is lost, then the first; a place with no unit is impossible.
 #[test]
 fn a_unit_is_lost_where_nothing_is_under_way(rt: HostRuntime) -> Result<(), Fail> {
     let script = b"set links=1 method=basic a=2 b=1 sio=80
