@@ -8,8 +8,8 @@ use Rattle.set_events.specs.declared.answer.Fate.{Fate}
 use Rattle.set_events.specs.declared.answer.Refusal.{Refusal as SetRefusal}
 use Rattle.set_events.specs.declared.answer.Refusal.TheVariants.{NotDown}
 use Rattle.set_events.specs.declared.answer.Answer.TheVariants.{Done, Refused}
-use Rattle.set_core.specs.Set.{LinkState, State, is_up, link_is_up, place}
-use Rattle.set_core.specs.Step.{Outcome as SetOutcome, step, refused, offered, offer_refusal, taken, found, with_known, heard, rises}
+use Rattle.set_step.specs.Set.{LinkState, State, is_up, link_is_up, place}
+use Rattle.set_step.specs.Step.{Outcome as SetOutcome, step, refused, offered, offer_refusal, taken, found, with_known, heard, rises}
 use Rattle.set_events.specs.declared.event.Event.{Event}
 use Rattle.set_events.specs.declared.event.Actor.TheVariants.{Terminal}
 use Rattle.set_events.specs.declared.event.Event.TheVariants.{Offer, Take, Find, Next, Heard, Up}

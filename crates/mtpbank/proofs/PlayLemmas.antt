@@ -5,7 +5,7 @@ use Rattle.mtpbank.proofs.PrintLemmas.{begun_of_end}
 use Rattle.mtpbank.specs.declared.fault.Fault.{Fault}
 use Rattle.mtpbank.specs.declared.fault.Fault.TheVariants.{Text, Step, Octet, Memory, Exhausted, Read, Write}
 use Rattle.mtpbank.specs.Pair.{Pair}
-use Rattle.set_core.specs.Set.{counts_of}
+use Rattle.set_step.specs.Set.{counts_of}
 use Rattle.mtpbank.specs.declared.script.End.TheVariants.{A, B}
 use Rattle.mtpbank.specs.Texts.{end_text, ends_text}
 use Rattle.mtpbank.specs.Printing.{Printed, behind, IsBegun, EndsIn, IsOfText, ReadsOrStops, Ends}

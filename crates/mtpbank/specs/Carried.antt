@@ -5,9 +5,10 @@ use Rattle.set_events.specs.declared.event.Actor.{Actor}
 use Rattle.set_events.specs.declared.event.Actor.TheVariants.{Terminal}
 use Rattle.set_events.specs.declared.event.Event.{Event}
 use Rattle.set_events.specs.declared.event.Event.TheVariants.{Up as UpEvent}
-use Rattle.set_core.specs.Set.{LinkSet, is_up}
-use Rattle.set_core.specs.declared.fault.SetFault.{SetFault}
-use Rattle.set_core.specs.declared.fault.SetFault.TheVariants.{NoMemory, Exhausted as SetExhausted}
+use Rattle.set_step.specs.Set.{is_up}
+use Rattle.set_core.specs.History.{LinkSet}
+use Rattle.set_step.specs.declared.fault.SetFault.{SetFault}
+use Rattle.set_step.specs.declared.fault.SetFault.TheVariants.{NoMemory, Exhausted as SetExhausted}
 use Rattle.mtpbank.specs.declared.shown.Shown.{Shown}
 use Rattle.mtpbank.specs.declared.step_fault.StepFault.{StepFault}
 use Rattle.mtpbank.specs.declared.step_fault.StepFault.TheVariants.{Impossible, Memory, Exhausted}

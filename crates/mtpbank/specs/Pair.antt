@@ -8,8 +8,9 @@ use Rattle.set_events.specs.declared.event.Event.TheVariants.{Offer as OfferEven
 use Rattle.set_events.specs.declared.answer.Answer.{Answer}
 use Rattle.set_events.specs.declared.answer.Answer.TheVariants.{Accepted, Taken, Found, Sent, Heard, Done, Refused}
 use Rattle.set_events.specs.declared.config.Method.{Method}
-use Rattle.set_core.specs.Set.{LinkSet, new_set, link_count, is_up}
-use Rattle.set_core.specs.Step.{step}
+use Rattle.set_step.specs.Set.{new_link, link_count, is_up}
+use Rattle.set_core.specs.History.{LinkSet}
+use Rattle.set_step.specs.Step.{step}
 use Rattle.mtpbank.specs.declared.script.End.{End}
 use Rattle.mtpbank.specs.declared.script.End.TheVariants.{A, B}
 use Rattle.mtpbank.specs.declared.script.ScriptLine.{ScriptLine}
@@ -23,6 +24,10 @@ pub record Pair : Type 0 where
   pub b : LinkSet
   pub to_a : List SignalUnit
   pub to_b : List SignalUnit
+
+-- a set of one link that nothing was asked of
+abbrev pub new_set : Method → LinkSet
+new_set method = record { state = record { rows = []; links = new_link method ∷ []; inbox = [] }; history = [] }
 
 -- both ends have one method
 abbrev pub new_pair : Method → Pair

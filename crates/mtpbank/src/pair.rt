@@ -1,7 +1,7 @@
 //! Two ends, and the units under way between them.
 ghost use Rattle.std.specs.Prelude.{◌≡◌, ◌<◌};
-ghost use Rattle.set_core.specs.Step.{IsActor};
-ghost use Rattle.set_core.specs.Set.{link_count};
+ghost use Rattle.set_core.specs.History.{IsActor};
+ghost use Rattle.set_step.specs.Set.{link_count};
 ghost use Rattle.mtpbank.specs.Carried.{Applies, Rises, IsTakenOut};
 
 use super::script::{End, Opening, ScriptLine};
@@ -30,16 +30,16 @@ impl Model for Pair {
     ghost view = { λ p. record { a = p.a; b = p.b; to_a = p.to_a.items; to_b = p.to_b.items } };
 
     ghost use Rattle.std.specs.Prelude.{◌≡◌};
-    ghost use Rattle.set_core.specs.Set.{link_count};
+    ghost use Rattle.set_step.specs.Set.{link_count};
 
     ghost invariant = { λ p. link_count p.b.state ≡ link_count p.a.state };
 }
 
 impl Pair {
     ghost use Rattle.std.specs.Prelude.{◌≡◌, ◌<◌, ◌^◌, IfOk, IfErr, IfSome, OnOk, MatchOption, true, false};
-    ghost use Rattle.set_core.specs.Step.{IsActor};
+    ghost use Rattle.set_core.specs.History.{IsActor};
     ghost use Rattle.mtpbank.specs.Pair.{new_pair, carried_out as carried_out_in, acts as acts_in, with_sent as with_sent_in, sends_on, arrives, loses, line_to, done_on, has_link, rise_together, at_end};
-    ghost use Rattle.set_core.specs.Set.{counts_of, total_of, is_up as is_up_in};
+    ghost use Rattle.set_step.specs.Set.{counts_of, total_of, is_up as is_up_in};
     ghost use Rattle.mtpbank.specs.Carried.{IsCarriedOut, IsTakenFrom};
     ghost use Rattle.set_events.specs.declared.event.Event.TheVariants.{Next as NextEvent, Heard as HeardEvent};
 

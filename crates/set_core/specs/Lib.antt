@@ -1,4 +1,1 @@
-pub mod Agreement
-pub mod Control
-pub mod Set
-pub mod Step
+pub mod History

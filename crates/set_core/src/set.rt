@@ -1,60 +1,51 @@
-//! The set: its links and messages, and the history of all that was asked and answered.
+//! The set: what it holds, and the history of all that was asked and answered.
 ghost use Rattle.std.specs.Prelude.{◌≡◌};
 
-use super::fault::SetFault;
-use super::link::{LINKS, Link};
-use super::row::{Row, counts_in, place_in};
-use super::step::answered;
-use super::traffic::Inbox;
 use set_events::{Actor, Answer, Counts, Entry, Event, Fate, SetConfig};
+use set_step::{Core, Numbered, SetFault};
 use std::alloc::Global;
-use std::collections::VecDeque;
 use std::marker::Model;
 
 /// The most entries of a history, 2^48.
 const LONGEST_HISTORY: usize = 0x1_0000_0000_0000;
 
-/// One set of links. Contracts see its rows, its links, its inbox and its history.
+/// One set of links. Contracts see what it holds and its history.
 ///
 /// Readers: [`SetCore::place_of`], [`SetCore::counts`], [`SetCore::history`], [`SetCore::links`],
-/// [`SetCore::is_up`].
+/// [`SetCore::is_up`], [`SetCore::unacked_at`].
 /// The one input: [`SetCore::apply`].
 #[derive(Drop)]
 pub struct SetCore {
-    link: Link,
-    rows: Vec<Row>,
-    inbox: Inbox,
+    core: Core,
     history: Vec<Entry>,
 }
 
 impl Model for SetCore {
     ghost use Rattle.std.specs.Prelude.{length};
-    ghost use Rattle.set_core.specs.Set.{LinkSet};
+    ghost use Rattle.set_core.specs.History.{LinkSet};
 
     ghost Value = { LinkSet };
 
-    ghost use Rattle.set_core.specs.Agreement.{state_of, bodies_in, Agrees, IsCounted};
+    ghost use Rattle.set_step.specs.Set.{AreFew};
 
-    ghost view = { λ s. record { state = state_of s.link s.rows.items (bodies_in s.inbox.items); history = s.history.items } };
+    ghost view = { λ s. record { state = s.core; history = s.history.items } };
 
-    ghost invariant = { λ s. Agrees s.link s.rows.items × IsCounted (length s.history.items) s.link };
+    ghost invariant = { λ s. AreFew (length s.history.items) s.core };
 }
 
 impl SetCore {
     ghost use Rattle.std.specs.Prelude.{◌≡◌, ◌<◌, ◌≤◌, ◌^◌, ◌↔◌, IfOk, OnErr, length};
-    ghost use Rattle.set_core.specs.Set.{new_set, link_count, is_up as is_up_in, place, counts_of, total_of, IsSound};
-    ghost use Rattle.set_core.specs.Step.{IsStep, IsActor};
+    ghost use Rattle.set_step.specs.Set.{link_count, is_up as is_up_in, place, counts_of, total_of, unacked_in, IsSound};
+    ghost use Rattle.set_core.specs.History.{new_set, IsStep, IsActor};
 
     /// A set as this configuration has it: no messages, no link up, no history.
     ///
     /// Fault: 1 [`SetFault::NoMemory`], only where memory was refused.
     pub fn new(alloc: Global, config: &SetConfig) -> Result<SetCore, SetFault>
-        ensures { IfOk result (λ set. set ≡ new_set config.now.method) }
+        ensures { IfOk result (λ set. set ≡ new_set config.now) }
     {
         Ok(SetCore {
-            link: Link::new(alloc, config.method)?,
-            rows: Vec::new(alloc),
-            inbox: VecDeque::new(alloc),
+            core: Core::new(alloc, config)?,
             history: Vec::new(alloc),
         })
     }
@@ -76,7 +67,7 @@ impl SetCore {
         }
         let kept = event.try_copy()?;
         self.history.reserve(1)?;
-        let answer = answered(&mut self.link, &mut self.rows, &mut self.inbox, event)?;
+        let answer = self.core.apply(event)?;
         let entry = Entry {
             who,
             event: kept,
@@ -93,22 +84,21 @@ impl SetCore {
         ensures links { result ≡ link_count self.now.state }
         ensures few { (1 ≤ result) × (result ≤ 16) }
     {
-        let _ = &self.link;
-        LINKS
+        self.core.links()
     }
 
     /// Whether this link of the set is up.
     pub fn is_up(&self, link: u8) -> bool
         ensures { result ≡ is_up_in link self.now.state }
     {
-        link < LINKS && self.link.up
+        self.core.is_up(link)
     }
 
     /// Where the message of this number stands; none has it: `None`.
     pub fn place_of(&self, number: u64) -> Option<Fate>
         ensures { result ≡ place number self.now.state.rows }
     {
-        place_in(&self.rows, number)
+        self.core.place_of(number)
     }
 
     /// How many messages stand in each place; each message stands in one.
@@ -117,7 +107,16 @@ impl SetCore {
         ensures all { total_of result ≡ length self.now.state.rows }
         ensures few { total_of result < 2 ^ 64 }
     {
-        counts_in(&self.rows)
+        self.core.counts()
+    }
+
+    /// The message at this place of the link's unacknowledged ones, the oldest at 0: the number of
+    /// its row, and the FSN that it carries. Past the last one, or on a link that the set hasn't:
+    /// `None`.
+    pub fn unacked_at(&self, link: u8, place: u8) -> Option<Numbered>
+        ensures { result ≡ unacked_in self.now.state link place }
+    {
+        self.core.unacked_at(link, place)
     }
 
     /// All that was asked and answered, in order.
@@ -132,7 +131,7 @@ impl SetCore {
     pub fn is_sound(&self)
         ensures { IsSound self.now.state }
     {
-        let _ = &self.link;
+        self.core.is_sound();
     }
 }
 

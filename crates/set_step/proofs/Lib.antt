@@ -1,0 +1,10 @@
+pub mod Bounds
+pub mod Choosing
+pub mod Gaining
+pub mod Hearing
+pub mod Numbering
+pub mod Offering
+pub mod Order
+pub mod Rising
+pub mod Rows
+pub mod Sending

@@ -1,0 +1,4 @@
+pub mod Agreement
+pub mod Control
+pub mod Set
+pub mod Step
