@@ -8,7 +8,7 @@ use Rattle.set_events.specs.declared.event.Event.TheVariants.{Offer as OfferEven
 use Rattle.set_events.specs.declared.answer.Answer.{Answer}
 use Rattle.set_events.specs.declared.answer.Answer.TheVariants.{Accepted, Taken, Found, Sent, Heard, Done, Refused}
 use Rattle.set_events.specs.declared.config.Method.{Method}
-use Rattle.set_step.specs.Set.{new_link, link_count, is_up}
+use Rattle.set_step.specs.Set.{State, new_link, link_count, is_up}
 use Rattle.set_core.specs.History.{LinkSet}
 use Rattle.set_step.specs.Step.{step}
 use Rattle.mtpbank.specs.declared.script.End.{End}
@@ -26,8 +26,11 @@ pub record Pair : Type 0 where
   pub to_b : List SignalUnit
 
 -- a set of one link that nothing was asked of
+abbrev pub opened_by : Method → State
+opened_by method = record { rows = []; links = new_link method ∷ []; inbox = [] }
+
 abbrev pub new_set : Method → LinkSet
-new_set method = record { state = record { rows = []; links = new_link method ∷ []; inbox = [] }; history = [] }
+new_set method = record { opening = opened_by method; state = opened_by method; history = [] }
 
 -- both ends have one method
 abbrev pub new_pair : Method → Pair
@@ -53,6 +56,7 @@ answer_to set event = (step set.state event).answer
 
 abbrev pub after : LinkSet → Actor → Event → LinkSet
 after set who event = record {
+  opening = set.opening;
   state = (step set.state event).state;
   history = set.history ++ record { who = who; event = event; answer = answer_to set event } ∷ [];
 }

@@ -1,1 +1,3 @@
+pub mod Gaining
 pub mod History
+pub mod Keeping

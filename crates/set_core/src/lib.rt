@@ -3,13 +3,23 @@
 //! A [`SetCore`] is what a set holds (`set_step`) and a history. [`SetCore::apply`] is the one call
 //! that changes it: an event of an actor in, an answer back, and one entry at the end of the history.
 //!
+//! ```text
+//! opening --entry 0--> state --entry 1--> state -- .. --entry n-1--> what the set holds
+//!           who, event, answer              each answer is that of the step at the state before it
+//! ```
+//!
+//! Whoever has the configuration and the history can replay it: [`audit`] does.
+//!
 //! This crate reads no clock, waits for nothing, takes no lock and does no IO. Links, users and
 //! terminals are numbers to it.
 #![tactic(auto)]
 
+mod auditing;
 mod set;
+mod tally;
 #[cfg(test)]
 mod tests;
 
+pub use auditing::audit;
 pub use set::SetCore;
 pub use set_step::{Numbered, SetFault};

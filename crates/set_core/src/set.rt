@@ -1,7 +1,8 @@
 //! The set: what it holds, and the history of all that was asked and answered.
 ghost use Rattle.std.specs.Prelude.{◌≡◌};
 
-use set_events::{Actor, Answer, Counts, Entry, Event, Fate, SetConfig};
+use super::tally::Tally;
+use set_events::{Actor, Answer, Books, Counts, Entry, Event, Fate, SetConfig};
 use set_step::{Core, Numbered, SetFault};
 use std::alloc::Global;
 use std::marker::Model;
@@ -9,34 +10,40 @@ use std::marker::Model;
 /// The most entries of a history, 2^48.
 const LONGEST_HISTORY: usize = 0x1_0000_0000_0000;
 
-/// One set of links. Contracts see what it holds and its history.
+/// One set of links. Contracts see what it held when it was opened, what it holds, and its history.
 ///
-/// Readers: [`SetCore::place_of`], [`SetCore::counts`], [`SetCore::history`], [`SetCore::links`],
-/// [`SetCore::is_up`], [`SetCore::unacked_at`].
+/// Readers: [`SetCore::place_of`], [`SetCore::counts`], [`SetCore::books`], [`SetCore::history`],
+/// [`SetCore::config`], [`SetCore::links`], [`SetCore::is_up`], [`SetCore::unacked_at`].
 /// The one input: [`SetCore::apply`].
+///
+/// Of every value it holds that the history is legal, that it leads from the opening to what the set
+/// holds, and that the tally is the history's; [`SetCore::replays`] and the readers say so.
 #[derive(Drop)]
 pub struct SetCore {
+    config: SetConfig,
     core: Core,
+    tally: Tally,
     history: Vec<Entry>,
 }
 
 impl Model for SetCore {
-    ghost use Rattle.std.specs.Prelude.{length};
     ghost use Rattle.set_core.specs.History.{LinkSet};
 
     ghost Value = { LinkSet };
 
-    ghost use Rattle.set_step.specs.Set.{AreFew};
+    ghost use Rattle.set_step.specs.Set.{new_state};
+    ghost use Rattle.set_core.specs.Keeping.{IsKept};
 
-    ghost view = { λ s. record { state = s.core; history = s.history.items } };
+    ghost view = { λ s. record { opening = new_state s.config; state = s.core; history = s.history.items } };
 
-    ghost invariant = { λ s. AreFew (length s.history.items) s.core };
+    ghost invariant = { λ s. IsKept (new_state s.config) s.core s.tally s.history.items };
 }
 
 impl SetCore {
     ghost use Rattle.std.specs.Prelude.{◌≡◌, ◌<◌, ◌≤◌, ◌^◌, ◌↔◌, IfOk, OnErr, length};
-    ghost use Rattle.set_step.specs.Set.{link_count, is_up as is_up_in, place, counts_of, total_of, unacked_in, IsSound};
-    ghost use Rattle.set_core.specs.History.{new_set, IsStep, IsActor};
+    ghost use Rattle.set_step.specs.Set.{new_state, link_count, is_up as is_up_in, place, counts_of, total_of, unacked_in, IsSound};
+    ghost use Rattle.set_core.specs.Gaining.{BooksGain, AreBounded};
+    ghost use Rattle.set_core.specs.History.{new_set, IsStep, IsActor, IsLegal, after, books_of};
 
     /// A set as this configuration has it: no messages, no link up, no history.
     ///
@@ -45,13 +52,16 @@ impl SetCore {
         ensures { IfOk result (λ set. set ≡ new_set config.now) }
     {
         Ok(SetCore {
+            config: *config,
             core: Core::new(alloc, config)?,
+            tally: Tally::new(),
             history: Vec::new(alloc),
         })
     }
 
     /// What the set answers to this event of this actor. The answer and what the set holds then are
-    /// those of its step, and the entry stands last in the history.
+    /// those of its step, and the entry stands last in the history. The books gain a call of the
+    /// actor, and the message if one was accepted.
     ///
     /// Refusals are answers. Faults: 2 [`SetFault::Exhausted`] exactly where the history has 2^48
     /// entries, tested first; 1 [`SetFault::NoMemory`] only where memory was refused. After a fault
@@ -59,6 +69,8 @@ impl SetCore {
     pub fn apply(&mut self, who: Actor, event: &Event) -> Result<Answer, SetFault>
         requires { IsActor who }
         ensures ok { IfOk result (λ answer. IsStep self.old who event.now answer self.new) }
+        ensures gains { IfOk result (λ answer. BooksGain (books_of self.old.opening self.old.history) who event.now answer (books_of self.new.opening self.new.history)) }
+        ensures bounded { IfOk result (λ answer. AreBounded (books_of self.new.opening self.new.history)) }
         ensures exhausted { (result ≡ Err SetFault.Exhausted) ↔ (2 ^ 48 ≤ length self.old.history) }
         ensures err { OnErr result (self.new ≡ self.old) }
     {
@@ -68,6 +80,7 @@ impl SetCore {
         let kept = event.try_copy()?;
         self.history.reserve(1)?;
         let answer = self.core.apply(event)?;
+        self.tally.count(who, event, &answer);
         let entry = Entry {
             who,
             event: kept,
@@ -77,6 +90,13 @@ impl SetCore {
             Ok(()) => Ok(answer),
             Err(_) => unreachable!(),
         }
+    }
+
+    /// The configuration that the set was opened with.
+    pub fn config(&self) -> &SetConfig
+        ensures { new_state result.now ≡ self.now.opening }
+    {
+        &self.config
     }
 
     /// How many links the set has, 1 to 16.
@@ -119,11 +139,35 @@ impl SetCore {
         self.core.unacked_at(link, place)
     }
 
+    /// What the history adds up to. The messages stand in the places that [`SetCore::counts`] tells.
+    pub fn books(&self) -> Books
+        ensures value { result ≡ books_of self.now.opening self.now.history }
+        ensures bounded { AreBounded result }
+        ensures placed { total_of (counts_of self.now.state.rows) ≡ result.messages }
+    {
+        Books {
+            user_calls: self.tally.user_calls,
+            term_calls: self.tally.term_calls,
+            messages: self.tally.messages,
+            octets: self.tally.octets,
+            acknowledged: self.core.counts().acked,
+        }
+    }
+
     /// All that was asked and answered, in order.
     pub fn history(&self) -> &[Entry]
         ensures { result.now ≡ self.now.history }
     {
         &self.history
+    }
+
+    /// A law: the history is legal, and what the set holds is what it leads to.
+    pub fn replays(&self)
+        ensures legal { IsLegal self.now.opening self.now.history }
+        ensures agrees { self.now.state ≡ after self.now.opening self.now.history }
+        ensures short { length self.now.history ≤ 2 ^ 48 }
+    {
+        let _ = &self.core;
     }
 
     /// A law: the numbers 0, 1, .. stand in one row each, no link has more than 127 unacknowledged

@@ -2,7 +2,7 @@
 use super::*;
 use l2_units::{Unit, header_in, read};
 use set_events::{
-    Actor, Answer, Body, ControlFault, Event, Fate, Method, Refusal, Report, SetConfig, Took,
+    Actor, Answer, Body, ControlFault, Entry, Event, Fate, Method, Refusal, Report, SetConfig, Took,
 };
 use std::alloc::Global;
 use std::test::Fail;
@@ -14,13 +14,18 @@ const TERMINAL: Actor = Actor::Terminal(0);
 /// A message of stream 3, as the worked situations have it.
 const MESSAGE: [u8; 5] = [0x85, 1, 0x80, 0, 0x30];
 
-fn set_by(alloc: Global, method: Method) -> Result<SetCore, Fail> {
-    let config = SetConfig::new(0, 1, 2, 1, 0x80, method).map_err(|_| "refused")?;
-    Ok(SetCore::new(alloc, &config).map_err(|_| "no memory")?)
+fn config_by(method: Method) -> Result<SetConfig, Fail> {
+    match SetConfig::new(0, 1, 2, 1, 0x80, method) {
+        Ok(config) => Ok(config),
+        Err(_) => Err(Fail::from("refused")),
+    }
 }
 
-fn set_of_one_link(alloc: Global) -> Result<SetCore, Fail> {
-    set_by(alloc, Method::Basic)
+fn set_by(alloc: Global, method: Method) -> Result<SetCore, Fail> {
+    match SetCore::new(alloc, &config_by(method)?) {
+        Ok(set) => Ok(set),
+        Err(_) => Err(Fail::from("no memory")),
+    }
 }
 
 /// A set whose link is up.
@@ -50,7 +55,10 @@ fn arrived(set: &mut SetCore, unit: Unit) -> Result<Report, Fail> {
 
 /// A unit without check octets.
 fn unit_of(octets: &[u8]) -> Result<Unit, Fail> {
-    Ok(read(octets).map_err(|_| "no unit")?)
+    match read(octets) {
+        Ok(unit) => Ok(unit),
+        Err(_) => Err(Fail::from("no unit")),
+    }
 }
 
 /// A report of nothing but these.
@@ -73,58 +81,194 @@ fn offered(alloc: Global, octets: &[u8]) -> Result<Event, Fail> {
 fn heard(octets: &[u8]) -> Result<Event, Fail> {
     Ok(Event::Heard {
         link: 0,
-        unit: read(octets).map_err(|_| "no unit")?,
+        unit: unit_of(octets)?,
     })
+}
+
+/// The set answers this event of its user, or of the link's terminal, so.
+fn answers(set: &mut SetCore, event: &Event, wanted: &Answer) -> Result<(), Fail> {
+    let who = match event {
+        Event::Offer { .. } | Event::Take | Event::Find { .. } => USER,
+        _ => TERMINAL,
+    };
+    match set.apply(who, event) {
+        Ok(answer) if answer.same(wanted) => Ok(()),
+        _ => Err(Fail::from("another answer")),
+    }
+}
+
+/// The set refuses this event so.
+fn refuses(set: &mut SetCore, event: &Event, why: Refusal) -> Result<(), Fail> {
+    answers(set, event, &Answer::Refused { why })
+}
+
+fn comes_up(set: &mut SetCore) -> Result<(), Fail> {
+    answers(set, &Event::Up { link: 0 }, &Answer::Done)
+}
+
+/// The set sends a unit of these octets next.
+fn sends(set: &mut SetCore, octets: &[u8]) -> Result<(), Fail> {
+    if emitted(set)? == unit_of(octets)? {
+        Ok(())
+    } else {
+        Err(Fail::from("another unit was sent"))
+    }
+}
+
+/// The set hears a unit of these octets, and reports so.
+fn hears(set: &mut SetCore, octets: &[u8], wanted: Report) -> Result<(), Fail> {
+    if arrived(set, unit_of(octets)?)? == wanted {
+        Ok(())
+    } else {
+        Err(Fail::from("another report"))
+    }
+}
+
+/// The set accepts the message of the worked situations, under this number.
+fn accepts(alloc: Global, set: &mut SetCore, number: u64) -> Result<(), Fail> {
+    answers(
+        set,
+        &offered(alloc, &MESSAGE)?,
+        &Answer::Accepted { number },
+    )
 }
 
 /// One message is offered, sent and acknowledged.
 #[test]
 fn a_message_is_sent_and_acknowledged(rt: HostRuntime) -> Result<(), Fail> {
-    let mut set = set_of_one_link(rt.alloc())?;
-    let up = set.apply(TERMINAL, &Event::Up { link: 0 });
-    assert!(rt; up == Ok(Answer::Done));
-    let message = offered(rt.alloc(), &[0x85, 1, 0x80, 0, 0x30])?;
-    assert!(rt; set.apply(USER, &message) == Ok(Answer::Accepted { number: 0 }));
+    let mut set = set_by(rt.alloc(), Method::Basic)?;
+    comes_up(&mut set)?;
+    accepts(rt.alloc(), &mut set, 0)?;
     assert!(rt; set.place_of(0) == Some(Fate::Waiting { link: 0 }));
-    let sent = set.apply(TERMINAL, &Event::Next { link: 0 });
-    let wanted = read(&[0xFF, 0x80, 5, 0x85, 1, 0x80, 0, 0x30]).map_err(|_| "no unit")?;
-    assert!(rt; sent == Ok(Answer::Sent { unit: wanted }));
+    sends(&mut set, &[0xFF, 0x80, 5, 0x85, 1, 0x80, 0, 0x30])?;
     assert!(rt; set.place_of(0) == Some(Fate::Unacked { link: 0 }));
-    let fill_in = set.apply(TERMINAL, &Event::Next { link: 0 });
-    let wanted = read(&[0xFF, 0x80, 0]).map_err(|_| "no unit")?;
-    assert!(rt; fill_in == Ok(Answer::Sent { unit: wanted }));
-    let report = Report {
-        acked: 1,
-        took: Took::Nothing,
-        asked: false,
-        resend: false,
-        fault: None,
-    };
-    assert!(rt; set.apply(TERMINAL, &heard(&[0x80, 0xFF, 0])?) == Ok(Answer::Heard { report }));
+    assert!(rt; set.unacked_at(0, 0) == Some(Numbered { number: 0, fsn: 0 }));
+    sends(&mut set, &[0xFF, 0x80, 0])?;
+    hears(
+        &mut set,
+        &[0x80, 0xFF, 0],
+        report(1, Took::Nothing, false, false),
+    )?;
     assert!(rt; set.place_of(0) == Some(Fate::Acked { link: 0 }));
+    assert!(rt; set.unacked_at(0, 0).is_none());
     assert!(rt; set.counts().acked == 1);
     assert_eq!(rt; set.history().len(), 5);
-    set.is_sound();
     assert_eq!(rt; set.links(), 1);
+    Ok(())
+}
+
+/// The books of that history, and the laws of the set.
+#[test]
+fn the_books_of_one_message(rt: HostRuntime) -> Result<(), Fail> {
+    let mut set = set_by(rt.alloc(), Method::Basic)?;
+    comes_up(&mut set)?;
+    accepts(rt.alloc(), &mut set, 0)?;
+    let too_short = offered(rt.alloc(), &[0x85, 1, 0x80, 0])?;
+    refuses(&mut set, &too_short, Refusal::TooShort)?;
+    emitted(&mut set)?;
+    emitted(&mut set)?;
+    hears(
+        &mut set,
+        &[0x80, 0xFF, 0],
+        report(1, Took::Nothing, false, false),
+    )?;
+    let books = set.books();
+    assert_eq!(rt; books.messages, 1);
+    assert_eq!(rt; books.octets, 5);
+    assert_eq!(rt; books.acknowledged, 1);
+    assert_eq!(rt; books.user_calls[0], 2);
+    assert_eq!(rt; books.user_calls[63], 0);
+    assert_eq!(rt; books.term_calls[0], 4);
+    assert_eq!(rt; set.config().opc, 2);
+    set.is_sound();
+    set.replays();
+    Ok(())
+}
+
+/// Whether a set by this method could have these entries as its history.
+fn is_legal(alloc: Global, entries: &[Entry]) -> Result<bool, Fail> {
+    match audit(alloc, &config_by(Method::Basic)?, entries) {
+        Ok(is_legal) => Ok(is_legal),
+        Err(_) => Err(Fail::from("not audited")),
+    }
+}
+
+/// These entries, with the message that got number 1 told as number 2.
+fn with_another_number(alloc: Global, entries: &[Entry]) -> Result<Vec<Entry>, Fail> {
+    let mut copies = Vec::new(alloc);
+    for entry in entries {
+        let mut copy = entry.try_copy()?;
+        if copy.answer == (Answer::Accepted { number: 1 }) {
+            copy.answer = Answer::Accepted { number: 2 };
+        }
+        copies.reserve(1)?;
+        copies.push_reserved(copy);
+    }
+    Ok(copies)
+}
+
+/// A history of thirteen entries is legal; with one number changed it isn't.
+#[test]
+fn a_history_is_audited(rt: HostRuntime) -> Result<(), Fail> {
+    let mut set = set_in_service(rt.alloc(), Method::Basic)?;
+    for number in 0..4u64 {
+        accepts(rt.alloc(), &mut set, number)?;
+        emitted(&mut set)?;
+    }
+    hears(
+        &mut set,
+        &[0x82, 0xFF, 0],
+        report(3, Took::Nothing, false, false),
+    )?;
+    for number in 0..3u64 {
+        let found = Answer::Found {
+            fate: Fate::Acked { link: 0 },
+        };
+        answers(&mut set, &Event::Find { number }, &found)?;
+    }
+    assert_eq!(rt; set.history().len(), 13);
+    assert!(rt; is_legal(rt.alloc(), set.history())?);
+    let changed = with_another_number(rt.alloc(), set.history())?;
+    assert!(rt; !is_legal(rt.alloc(), &changed)?);
+    Ok(())
+}
+
+/// A history of one entry: this actor looked for message 0 and was told so.
+fn is_legal_find(alloc: Global, who: Actor, answer: Answer) -> Result<bool, Fail> {
+    let entry = Entry {
+        who,
+        event: Event::Find { number: 0 },
+        answer,
+    };
+    is_legal(alloc, &[entry])
+}
+
+/// What a new set answers is legal, and nothing else is, nor an actor out of range.
+#[test]
+fn a_new_set_knows_no_number(rt: HostRuntime) -> Result<(), Fail> {
+    assert!(rt; is_legal(rt.alloc(), &[])?);
+    let unknown = Answer::Refused {
+        why: Refusal::UnknownNumber,
+    };
+    assert!(rt; is_legal_find(rt.alloc(), Actor::User(63), unknown)?);
+    let found = Answer::Found { fate: Fate::Parked };
+    assert!(rt; !is_legal_find(rt.alloc(), USER, found)?);
+    let unknown = Answer::Refused {
+        why: Refusal::UnknownNumber,
+    };
+    assert!(rt; !is_legal_find(rt.alloc(), Actor::User(64), unknown)?);
     Ok(())
 }
 
 /// Before the link's first Up a message is parked, and nothing is sent or heard.
 #[test]
 fn nothing_runs_before_the_link_is_up(rt: HostRuntime) -> Result<(), Fail> {
-    let mut set = set_of_one_link(rt.alloc())?;
-    let message = offered(rt.alloc(), &[0x85, 1, 0x80, 0, 0x30])?;
-    assert!(rt; set.apply(USER, &message) == Ok(Answer::Accepted { number: 0 }));
+    let mut set = set_by(rt.alloc(), Method::Basic)?;
+    accepts(rt.alloc(), &mut set, 0)?;
     assert!(rt; set.place_of(0) == Some(Fate::Parked));
-    let not_up = Answer::Refused {
-        why: Refusal::NotUp,
-    };
-    assert!(rt; set.apply(TERMINAL, &Event::Next { link: 0 }) == Ok(not_up));
-    let not_up = Answer::Refused {
-        why: Refusal::NotUp,
-    };
-    assert!(rt; set.apply(TERMINAL, &heard(&[0xFF, 0xFF, 0])?) == Ok(not_up));
-    assert!(rt; set.apply(TERMINAL, &Event::Up { link: 0 }) == Ok(Answer::Done));
+    refuses(&mut set, &Event::Next { link: 0 }, Refusal::NotUp)?;
+    refuses(&mut set, &heard(&[0xFF, 0xFF, 0])?, Refusal::NotUp)?;
+    comes_up(&mut set)?;
     assert!(rt; set.place_of(0) == Some(Fate::Waiting { link: 0 }));
     Ok(())
 }
@@ -132,45 +276,26 @@ fn nothing_runs_before_the_link_is_up(rt: HostRuntime) -> Result<(), Fail> {
 /// A link status signal unit says nothing to the error control; the link's own refusals come first.
 #[test]
 fn an_lssu_is_refused_while_the_link_is_up(rt: HostRuntime) -> Result<(), Fail> {
-    let mut set = set_of_one_link(rt.alloc())?;
+    let mut set = set_by(rt.alloc(), Method::Basic)?;
     let busy = heard(&[0xFF, 0xFF, 1, 5])?;
-    let not_up = Answer::Refused {
-        why: Refusal::NotUp,
-    };
-    assert!(rt; set.apply(TERMINAL, &busy) == Ok(not_up));
-    assert!(rt; set.apply(TERMINAL, &Event::Up { link: 0 }) == Ok(Answer::Done));
-    let nothing = Answer::Refused {
-        why: Refusal::Nothing,
-    };
-    assert!(rt; set.apply(TERMINAL, &busy) == Ok(nothing));
+    refuses(&mut set, &busy, Refusal::NotUp)?;
+    comes_up(&mut set)?;
+    refuses(&mut set, &busy, Refusal::Nothing)?;
     let elsewhere = Event::Heard {
         link: 1,
-        unit: read(&[0xFF, 0xFF, 1, 5]).map_err(|_| "no unit")?,
+        unit: unit_of(&[0xFF, 0xFF, 1, 5])?,
     };
-    let no_link = Answer::Refused {
-        why: Refusal::NoSuchLink,
-    };
-    assert!(rt; set.apply(TERMINAL, &elsewhere) == Ok(no_link));
-    Ok(())
+    refuses(&mut set, &elsewhere, Refusal::NoSuchLink)
 }
 
 /// The refusals that a script can't show: a link that the set hasn't, and one that is up already.
 #[test]
 fn refusals_in_their_order(rt: HostRuntime) -> Result<(), Fail> {
-    let mut set = set_of_one_link(rt.alloc())?;
-    let no_link = Answer::Refused {
-        why: Refusal::NoSuchLink,
-    };
-    assert!(rt; set.apply(TERMINAL, &Event::Next { link: 1 }) == Ok(no_link));
-    assert!(rt; set.apply(TERMINAL, &Event::Up { link: 0 }) == Ok(Answer::Done));
-    let not_down = Answer::Refused {
-        why: Refusal::NotDown,
-    };
-    assert!(rt; set.apply(TERMINAL, &Event::Up { link: 0 }) == Ok(not_down));
-    let unknown = Answer::Refused {
-        why: Refusal::UnknownNumber,
-    };
-    assert!(rt; set.apply(USER, &Event::Find { number: 9 }) == Ok(unknown));
+    let mut set = set_by(rt.alloc(), Method::Basic)?;
+    refuses(&mut set, &Event::Next { link: 1 }, Refusal::NoSuchLink)?;
+    comes_up(&mut set)?;
+    refuses(&mut set, &Event::Up { link: 0 }, Refusal::NotDown)?;
+    refuses(&mut set, &Event::Find { number: 9 }, Refusal::UnknownNumber)?;
     assert!(rt; set.place_of(9).is_none());
     Ok(())
 }
@@ -180,7 +305,7 @@ fn refusals_in_their_order(rt: HostRuntime) -> Result<(), Fail> {
 /// Run with each allocation failing in turn (tools/refuse-memory); with memory it passes as it is.
 #[test]
 fn a_refused_growth_changes_nothing(rt: HostRuntime) -> Result<(), Fail> {
-    let mut set = set_of_one_link(rt.alloc())?;
+    let mut set = set_by(rt.alloc(), Method::Basic)?;
     let Ok(body) = Body::from_slice(rt.alloc(), &[0x85, 1, 0x80, 0, 0x30]) else {
         return Ok(());
     };
@@ -207,55 +332,71 @@ fn a_refused_growth_changes_nothing(rt: HostRuntime) -> Result<(), Fail> {
 #[test]
 fn the_window_is_full_at_127(rt: HostRuntime) -> Result<(), Fail> {
     let mut set = set_in_service(rt.alloc(), Method::Basic)?;
-    for _ in 0..128u8 {
-        let message = offered(rt.alloc(), &MESSAGE)?;
-        assert!(rt; set.apply(USER, &message).is_ok());
+    for number in 0..128u64 {
+        accepts(rt.alloc(), &mut set, number)?;
     }
     for fsn in 0..127u8 {
         assert_eq!(rt; header_in(&emitted(&mut set)?).fsn, fsn);
     }
-    assert!(rt; emitted(&mut set)? == unit_of(&[0xFF, 0xFE, 0])?);
-    let none = arrived(&mut set, unit_of(&[0xFF, 0xFF, 0])?)?;
-    assert!(rt; none == report(0, Took::Nothing, false, false));
-    let all = arrived(&mut set, unit_of(&[0xFE, 0xFF, 0])?)?;
-    assert!(rt; all == report(127, Took::Nothing, false, false));
-    let last = unit_of(&[0xFF, 0xFF, 5, 0x85, 1, 0x80, 0, 0x30])?;
-    assert!(rt; emitted(&mut set)? == last);
-    assert!(rt; set.place_of(127) == Some(Fate::Unacked { link: 0 }));
+    sends(&mut set, &[0xFF, 0xFE, 0])?;
+    hears(
+        &mut set,
+        &[0xFF, 0xFF, 0],
+        report(0, Took::Nothing, false, false),
+    )?;
+    hears(
+        &mut set,
+        &[0xFE, 0xFF, 0],
+        report(127, Took::Nothing, false, false),
+    )?;
+    sends(&mut set, &[0xFF, 0xFF, 5, 0x85, 1, 0x80, 0, 0x30])?;
+    assert!(rt;
+        set.unacked_at(0, 0)
+            == Some(Numbered {
+                number: 127,
+                fsn: 127
+            })
+    );
     Ok(())
 }
 
-/// The first of two messages is lost: the far end asks for it, and gets it again.
+/// An end whose first message was lost on the line: it offered two and sent both.
+fn end_that_sent_two(alloc: Global) -> Result<SetCore, Fail> {
+    let mut set = set_in_service(alloc, Method::Basic)?;
+    for number in 0..2u64 {
+        accepts(alloc, &mut set, number)?;
+    }
+    sends(&mut set, &[0xFF, 0x80, 5, 0x85, 1, 0x80, 0, 0x30])?;
+    sends(&mut set, &[0xFF, 0x81, 5, 0x85, 1, 0x80, 0, 0x30])?;
+    Ok(set)
+}
+
+/// The far end asks for it: the message is sent again, with the indicator bit turned.
+#[test]
+fn a_lost_message_is_sent_again(rt: HostRuntime) -> Result<(), Fail> {
+    let mut set = end_that_sent_two(rt.alloc())?;
+    hears(
+        &mut set,
+        &[0x7F, 0xFF, 0],
+        report(0, Took::Nothing, false, true),
+    )?;
+    sends(&mut set, &[0xFF, 0, 5, 0x85, 1, 0x80, 0, 0x30])
+}
+
+/// An end that gets the second message first asks for retransmission, and takes the first one then.
 #[test]
 fn a_lost_message_is_asked_for(rt: HostRuntime) -> Result<(), Fail> {
-    let mut a = set_in_service(rt.alloc(), Method::Basic)?;
-    let mut b = set_in_service(rt.alloc(), Method::Basic)?;
-    for _ in 0..2u8 {
-        let message = offered(rt.alloc(), &MESSAGE)?;
-        assert!(rt; a.apply(USER, &message).is_ok());
-    }
-    assert!(rt; emitted(&mut a)? == unit_of(&[0xFF, 0x80, 5, 0x85, 1, 0x80, 0, 0x30])?);
-    let second = emitted(&mut a)?;
-    assert!(rt; second == unit_of(&[0xFF, 0x81, 5, 0x85, 1, 0x80, 0, 0x30])?);
-    let asks = arrived(&mut b, second)?;
-    assert!(rt; asks == report(0, Took::Nothing, true, false));
-    let negative = emitted(&mut b)?;
-    assert!(rt; negative == unit_of(&[0x7F, 0xFF, 0])?);
-    let resends = arrived(&mut a, negative)?;
-    assert!(rt; resends == report(0, Took::Nothing, false, true));
-    let again = emitted(&mut a)?;
-    assert!(rt; again == unit_of(&[0xFF, 0, 5, 0x85, 1, 0x80, 0, 0x30])?);
-    let accepts = arrived(&mut b, again)?;
-    assert!(rt; accepts == report(0, Took::Message, false, false));
-    match b.apply(USER, &Event::Take) {
+    let mut set = set_in_service(rt.alloc(), Method::Basic)?;
+    let second = [0xFF, 0x81, 5, 0x85, 1, 0x80, 0, 0x30];
+    hears(&mut set, &second, report(0, Took::Nothing, true, false))?;
+    sends(&mut set, &[0x7F, 0xFF, 0])?;
+    let again = [0xFF, 0, 5, 0x85, 1, 0x80, 0, 0x30];
+    hears(&mut set, &again, report(0, Took::Message, false, false))?;
+    match set.apply(USER, &Event::Take) {
         Ok(Answer::Taken { body }) => assert!(rt; body.as_slice() == MESSAGE.as_slice()),
         _ => return Err(Fail::from("nothing taken")),
     }
-    let empty = Answer::Refused {
-        why: Refusal::Nothing,
-    };
-    assert!(rt; b.apply(USER, &Event::Take) == Ok(empty));
-    Ok(())
+    refuses(&mut set, &Event::Take, Refusal::Nothing)
 }
 
 /// Two abnormal BSNs, or FIBs, in three units are a fault of the link; it stays up.
@@ -278,15 +419,17 @@ fn two_abnormal_units_in_three_are_a_fault(rt: HostRuntime) -> Result<(), Fail> 
 #[test]
 fn a_forced_cycle_goes_before_new_messages(rt: HostRuntime) -> Result<(), Fail> {
     let mut set = set_in_service(rt.alloc(), Method::Cyclic { n1: 2, n2: 1000 })?;
-    for _ in 0..3u8 {
-        let message = offered(rt.alloc(), &MESSAGE)?;
-        assert!(rt; set.apply(USER, &message).is_ok());
+    for number in 0..3u64 {
+        accepts(rt.alloc(), &mut set, number)?;
     }
     for fsn in [0, 1, 0, 1, 0] {
         assert_eq!(rt; header_in(&emitted(&mut set)?).fsn, fsn);
     }
-    let heard = arrived(&mut set, unit_of(&[0x80, 0xFF, 0])?)?;
-    assert!(rt; heard == report(1, Took::Nothing, false, false));
+    hears(
+        &mut set,
+        &[0x80, 0xFF, 0],
+        report(1, Took::Nothing, false, false),
+    )?;
     for fsn in [1, 2] {
         assert_eq!(rt; header_in(&emitted(&mut set)?).fsn, fsn);
     }
@@ -297,13 +440,9 @@ fn a_forced_cycle_goes_before_new_messages(rt: HostRuntime) -> Result<(), Fail> 
 #[test]
 fn a_management_body_goes_to_no_user(rt: HostRuntime) -> Result<(), Fail> {
     let mut set = set_in_service(rt.alloc(), Method::Basic)?;
-    let order = unit_of(&[0xFF, 0x80, 7, 0x80, 1, 0x80, 0, 0x30, 0x11, 5])?;
-    let heard = arrived(&mut set, order)?;
-    assert!(rt; heard == report(0, Took::Ignored, false, false));
-    let nothing = Answer::Refused {
-        why: Refusal::Nothing,
-    };
-    assert!(rt; set.apply(USER, &Event::Take) == Ok(nothing));
+    let order = [0xFF, 0x80, 7, 0x80, 1, 0x80, 0, 0x30, 0x11, 5];
+    hears(&mut set, &order, report(0, Took::Ignored, false, false))?;
+    refuses(&mut set, &Event::Take, Refusal::Nothing)?;
     assert_eq!(rt; header_in(&emitted(&mut set)?).bsn, 0);
     Ok(())
 }

@@ -7,6 +7,7 @@
 
 mod answer;
 mod body;
+mod books;
 mod config;
 mod event;
 mod history;
@@ -15,6 +16,7 @@ mod tests;
 
 pub use answer::{Answer, ControlFault, Counts, Fate, Refusal, Report, Took};
 pub use body::Body;
+pub use books::Books;
 pub use config::{ConfigFault, Method, SetConfig};
 pub use event::{Actor, Event};
 pub use history::Entry;

@@ -1,0 +1,24 @@
+-- What every set keeps: its history is legal, it holds what the step holds after it, and its tally is that history's.
+use Rattle.std.specs.Prelude.{◌≡◌, ◌≤◌, ◌*◌, ◌^◌, List, length}
+use Rattle.set_events.specs.declared.history.Entry.{Entry}
+use Rattle.set_core.specs.declared.tally.Tally.{Tally}
+use Rattle.set_step.specs.Set.{State, AreFew, counts_of, total_of}
+use Rattle.set_core.specs.History.{IsLegal, after, is_user, is_terminal, calls_from, messages_of, octets_in_all}
+
+-- the running sums are those of the history
+pub record IsTally (tally : Tally) (history : List Entry) : Type 0 where
+  pub user_calls : tally.user_calls ≡ calls_from is_user 0 64 history
+  pub term_calls : tally.term_calls ≡ calls_from is_terminal 0 16 history
+  pub messages : tally.messages ≡ messages_of history
+  pub octets : tally.octets ≡ octets_in_all history
+
+pub record IsKept (opening state : State) (tally : Tally) (history : List Entry) : Type 0 where
+  pub legal : IsLegal opening history
+  pub agrees : state ≡ after opening history
+  pub counted : IsTally tally history
+  -- each accepted message stands in one place
+  pub placed : total_of (counts_of state.rows) ≡ messages_of history
+  -- the bounds
+  pub short : length history ≤ 2 ^ 48
+  pub octets : octets_in_all history ≤ 273 * length history
+  pub few : AreFew (length history) state

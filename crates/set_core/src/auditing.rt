@@ -1,0 +1,47 @@
+//! Whether a list of entries is the history of a set.
+ghost use Rattle.std.specs.Prelude.{◌≡◌, ◌<◌, ◌^◌, ◌↔◌, length, IfOk, IsTrue};
+ghost use Rattle.set_step.specs.Set.{new_state};
+ghost use Rattle.set_core.specs.History.{IsActor, IsLegal};
+
+use set_events::{Actor, Entry, SetConfig};
+use set_step::{Core, SetFault};
+use std::alloc::Global;
+
+/// The most entries of a history, 2^48.
+const LONGEST_HISTORY: usize = 0x1_0000_0000_0000;
+
+/// Whether these entries, in order, are a legal history of a set that is opened with this
+/// configuration: each is of an actor in range, and has the answer that such a set gives then. They
+/// are replayed once, from the first to the one that no set makes.
+///
+/// Faults: 2 [`SetFault::Exhausted`] exactly where there are more than 2^48, tested first;
+/// 1 [`SetFault::NoMemory`] only where memory was refused.
+pub fn audit(alloc: Global, config: &SetConfig, entries: &[Entry]) -> Result<bool, SetFault>
+    ensures legal { IfOk result (λ is_legal. IsTrue is_legal ↔ IsLegal (new_state config.now) entries.now) }
+    ensures exhausted { (result ≡ Err SetFault.Exhausted) ↔ (2 ^ 48 < length entries.now) }
+{
+    if entries.len() > LONGEST_HISTORY {
+        return Err(SetFault::Exhausted);
+    }
+    let mut core = Core::new(alloc, config)?;
+    for entry in entries {
+        if !is_actor(entry.who) {
+            return Ok(false);
+        }
+        let answer = core.apply(&entry.event)?;
+        if !answer.same(&entry.answer) {
+            return Ok(false);
+        }
+    }
+    Ok(true)
+}
+
+/// Whether such an actor can ask: a user below 64, a terminal below 16.
+fn is_actor(who: Actor) -> bool
+    ensures { IsTrue result ↔ IsActor who }
+{
+    match who {
+        Actor::User(number) => number < 64,
+        Actor::Terminal(link) => link < 16,
+    }
+}

@@ -1,0 +1,81 @@
+//! What a set adds up as its history grows.
+ghost use Rattle.std.specs.Prelude.{◌≡◌, ◌+◌, ◌<◌, ◌≤◌, ◌^◌, ℕ, [], slice_index};
+ghost use Rattle.set_core.specs.Gaining.{users_after, terminals_after};
+ghost use Rattle.set_core.specs.History.{IsActor};
+ghost use Rattle.set_core.specs.Keeping.{IsTally};
+ghost use Rattle.set_step.specs.Step.{messages_in, octets_of, octets_offered as octets_offered_by};
+
+use set_events::{Actor, Answer, Event};
+
+/// The books of a history, but for what is acknowledged, which is read off the set.
+#[derive(Clone, Copy, Debug)]
+pub struct Tally {
+    /// How many entries each user made.
+    pub(crate) user_calls: [u64; 64],
+    /// How many entries the terminal of each link made.
+    pub(crate) term_calls: [u64; 16],
+    /// How many messages were accepted.
+    pub(crate) messages: u64,
+    /// The octets of their bodies.
+    pub(crate) octets: u64,
+}
+
+impl Tally {
+    /// The tally of an empty history.
+    pub(crate) fn new() -> Tally
+        ensures { IsTally result [] }
+    {
+        Tally {
+            user_calls: [0; 64],
+            term_calls: [0; 16],
+            messages: 0,
+            octets: 0,
+        }
+    }
+
+    /// Counts an entry: a call of the actor, and the message that it accepted, if any.
+    pub(crate) fn count(&mut self, who: Actor, event: &Event, answer: &Answer)
+        requires actor { IsActor who }
+        requires user_calls { (n : ℕ) → slice_index self.old.user_calls n < 2 ^ 63 }
+        requires term_calls { (n : ℕ) → slice_index self.old.term_calls n < 2 ^ 63 }
+        requires messages { self.old.messages < 2 ^ 63 }
+        requires octets { self.old.octets < 2 ^ 63 }
+        requires body { octets_of event.now answer.now ≤ 273 }
+        ensures user_calls { self.new.user_calls ≡ users_after who self.old.user_calls }
+        ensures term_calls { self.new.term_calls ≡ terminals_after who self.old.term_calls }
+        ensures messages { self.new.messages ≡ self.old.messages + messages_in answer.now }
+        ensures octets { self.new.octets ≡ self.old.octets + octets_of event.now answer.now }
+    {
+        self.count_call(who);
+        if let Answer::Accepted { .. } = answer {
+            self.messages += 1;
+            self.octets += octets_offered(event);
+        }
+    }
+
+    /// Counts a call of this actor.
+    fn count_call(&mut self, who: Actor)
+        requires actor { IsActor who }
+        requires user_calls { (n : ℕ) → slice_index self.old.user_calls n < 2 ^ 63 }
+        requires term_calls { (n : ℕ) → slice_index self.old.term_calls n < 2 ^ 63 }
+        ensures user_calls { self.new.user_calls ≡ users_after who self.old.user_calls }
+        ensures term_calls { self.new.term_calls ≡ terminals_after who self.old.term_calls }
+        ensures messages { self.new.messages ≡ self.old.messages }
+        ensures octets { self.new.octets ≡ self.old.octets }
+    {
+        match who {
+            Actor::User(number) => self.user_calls[usize::from(number)] += 1,
+            Actor::Terminal(link) => self.term_calls[usize::from(link)] += 1,
+        }
+    }
+}
+
+/// The octets of an offered body; of another event none.
+fn octets_offered(event: &Event) -> u64
+    ensures { result ≡ octets_offered_by event.now }
+{
+    match event {
+        Event::Offer { body } => body.len() as u64,
+        _ => 0,
+    }
+}
