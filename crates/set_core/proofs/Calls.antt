@@ -1,11 +1,14 @@
 -- The calls of actors, entry by entry.
-use Rattle.std.proofs.Common.{refl, arith, ◌≡◌, ◌∙◌, ap, ◌<◌, ◌≤◌, [], ◌∷◌, length, ℕ, zero, suc, ◌+◌, Bool, true, false, List, ◌++◌, ◌==◌, All, replicate, slice_index}
+use Rattle.std.proofs.Common.{refl, arith, ◌≡◌, ◌∙◌, ap, ◌<◌, ◌≤◌, [], ◌∷◌, length, ℕ, zero, suc, ◌+◌, Bool, true, false, List, ◌++◌, ◌==◌, All, replicate, slice_index, ◌*◌, sum}
 use Rattle.std.specs.Prelude.{if◌then◌else◌}
 use Rattle.std.proofs.lemmas.Bool.Decides.{nat_tests}
 use Rattle.set_events.specs.declared.event.Actor.{Actor}
 use Rattle.set_events.specs.declared.history.Entry.{Entry}
-use Rattle.set_core.specs.Gaining.{one_more}
-use Rattle.set_core.specs.History.{calls_of, calls_from}
+use Rattle.set_events.specs.declared.event.Actor.TheVariants.{User, Terminal}
+use Rattle.std.proofs.lemmas.List.Sums.{sum_by-set}
+use Rattle.std.proofs.lemmas.List.Folds.{sum_by-replicate}
+use Rattle.set_core.specs.Gaining.{one_more, users_after, terminals_after}
+use Rattle.set_core.specs.History.{IsActor, is_user, is_terminal, calls_of, calls_from}
 
 pub none_yet : (is_it : ℕ → Actor → Bool) (k n : ℕ) → calls_from is_it k n [] ≡ replicate n 0
 unfolding calls_from
@@ -62,3 +65,22 @@ module _ (is_it : ℕ → Actor → Bool) (history : List Entry) (entry : Entry)
   its_own m h k (suc n) (suc j) e q =
       let other : (m == k) ≡ false = grind (arith, nat_tests, e) in
       rw (none_of k (h k ∙ other), its_own m h (suc k) n j (omega (arith, e)) (omega (arith, q))) refl
+
+-- The sum of all calls.
+pub length-calls : (is_it : ℕ → Actor → Bool) (k n : ℕ) (history : List Entry) → length (calls_from is_it k n history) ≡ n
+unfolding calls_from
+length-calls is_it k zero history = refl
+length-calls is_it k (suc n) history = ap suc (length-calls is_it (suc k) n history)
+
+sum_more : (number : ℕ) (calls : List ℕ) → number < length calls → sum (one_more number calls) ≡ sum calls + 1
+sum_more number calls h = omega (arith, sum_by-set (λ n. n) calls number (slice_index calls number + 1) 0 h)
+
+pub sums_more : (who : Actor) (users terminals : List ℕ) → length users ≡ 64 → length terminals ≡ 16 → IsActor who → sum (users_after who users) + sum (terminals_after who terminals) ≡ sum users + sum terminals + 1
+sums_more (User number) users terminals u t a = omega (arith, sum_more number users (omega (arith, u, a)))
+sums_more (Terminal link) users terminals u t a = omega (arith, sum_more link terminals (omega (arith, t, a)))
+
+pub no_calls : sum (calls_from is_user 0 64 []) + sum (calls_from is_terminal 0 16 []) ≡ 0
+no_calls =
+    let users : sum (calls_from is_user 0 64 []) ≡ 64 * 0 = ap sum (none_yet is_user 0 64) ∙ sum_by-replicate (λ n. n) 64 0 in
+    let terminals : sum (calls_from is_terminal 0 16 []) ≡ 16 * 0 = ap sum (none_yet is_terminal 0 16) ∙ sum_by-replicate (λ n. n) 16 0 in
+    omega (arith, users, terminals)

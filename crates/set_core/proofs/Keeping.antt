@@ -1,5 +1,5 @@
 -- What a set keeps, entry by entry.
-use Rattle.std.proofs.Common.{refl, arith, ◌≡◌, ◌∙◌, ap, sym, subst, ◌<◌, ◌≤◌, ◌^◌, [], ◌∷◌, length, ℕ, ◌+◌, List, ◌++◌, ◌↔◌}
+use Rattle.std.proofs.Common.{refl, arith, ◌≡◌, ◌∙◌, ap, sym, subst, ◌<◌, ◌≤◌, ◌^◌, [], ◌∷◌, length, ℕ, ◌+◌, sum, List, ◌++◌, ◌↔◌}
 use Rattle.std.proofs.lemmas.List.{length-append}
 use Rattle.set_events.specs.declared.answer.Answer.{Answer}
 use Rattle.set_events.specs.declared.answer.Answer.TheVariants.{Accepted}
@@ -13,7 +13,7 @@ use Rattle.set_step.specs.Step.{Outcome, Gains, step, messages_in, octets_of}
 use Rattle.set_core.specs.Gaining.{BooksGain, AreBounded, users_after, terminals_after}
 use Rattle.set_core.specs.History.{IsActor, IsLegal, after, books_of, is_user, is_terminal, calls_from, messages_of, octets_in_all}
 use Rattle.set_core.specs.Keeping.{IsTally, IsKept}
-use Rattle.set_core.proofs.Calls.{all_few, others, its_own}
+use Rattle.set_core.proofs.Calls.{all_few, others, its_own, length-calls, sums_more}
 
 pub legal_more : (s : State) (history : List Entry) (entry : Entry) → IsLegal s history → IsActor entry.who → entry.answer ≡ (step (after s history) entry.event).answer → IsLegal s (history ++ entry ∷ [])
 legal_more s [] entry l a e = (a, e, tt)
@@ -55,6 +55,16 @@ terminals_more history entry a = go entry.who refl a
     go (User number) e a = others is_terminal history entry 0 16 (λ i g. ap (is_terminal i) e)
     go (Terminal link) e a = its_own is_terminal history entry link (λ i. ap (is_terminal i) e) 0 16 link (omega arith) a
 
+calls_more : (history : List Entry) (entry : Entry) → sum (calls_from is_user 0 64 history) + sum (calls_from is_terminal 0 16 history) ≡ length history → IsActor entry.who
+    → sum (calls_from is_user 0 64 (history ++ entry ∷ [])) + sum (calls_from is_terminal 0 16 (history ++ entry ∷ [])) ≡ length (history ++ entry ∷ [])
+calls_more history entry e a =
+    rw (users_more history entry a, terminals_more history entry a) (omega (
+      arith,
+      e,
+      length-append history (entry ∷ []),
+      sums_more entry.who (calls_from is_user 0 64 history) (calls_from is_terminal 0 16 history) (length-calls is_user 0 64 history) (length-calls is_terminal 0 16 history) a,
+    ))
+
 -- the tally counted an entry
 pub record Counted (old : Tally) (entry : Entry) (new : Tally) : Type 0 where
   pub user_calls : new.user_calls ≡ users_after entry.who old.user_calls
@@ -94,6 +104,7 @@ module _ (opening old new : State) (history : List Entry) (entry : Entry) (agree
         legal = legal_more opening history entry k.legal actor answered;
         agrees = agrees_more;
         counted = tally_more tally tally' history entry k.counted actor counted;
+        calls = calls_more history entry k.calls actor;
         placed = gains.messages ∙ ap (λ (n : ℕ). n + messages_in entry.answer) k.placed ∙ sym (messages_more history entry);
         short = omega (arith, long, room);
         octets = omega (arith, long, octets_more history entry, k.octets, gains.octets);

@@ -1,5 +1,5 @@
 -- What every set keeps: its history is legal, it holds what the step holds after it, and its tally is that history's.
-use Rattle.std.specs.Prelude.{◌≡◌, ◌≤◌, ◌*◌, ◌^◌, List, length}
+use Rattle.std.specs.Prelude.{◌≡◌, ◌≤◌, ◌+◌, ◌*◌, ◌^◌, List, length, sum}
 use Rattle.set_events.specs.declared.history.Entry.{Entry}
 use Rattle.set_core.specs.declared.tally.Tally.{Tally}
 use Rattle.set_step.specs.Set.{State, AreFew, counts_of, total_of}
@@ -16,6 +16,8 @@ pub record IsKept (opening state : State) (tally : Tally) (history : List Entry)
   pub legal : IsLegal opening history
   pub agrees : state ≡ after opening history
   pub counted : IsTally tally history
+  -- each entry is the call of one actor
+  pub calls : sum (calls_from is_user 0 64 history) + sum (calls_from is_terminal 0 16 history) ≡ length history
   -- each accepted message stands in one place
   pub placed : total_of (counts_of state.rows) ≡ messages_of history
   -- the bounds

@@ -40,7 +40,7 @@ impl Model for SetCore {
 }
 
 impl SetCore {
-    ghost use Rattle.std.specs.Prelude.{◌≡◌, ◌<◌, ◌≤◌, ◌^◌, ◌↔◌, IfOk, OnErr, length};
+    ghost use Rattle.std.specs.Prelude.{◌≡◌, ◌<◌, ◌≤◌, ◌^◌, ◌↔◌, ◌+◌, IfOk, OnErr, length, sum};
     ghost use Rattle.set_step.specs.Set.{new_state, link_count, is_up as is_up_in, place, counts_of, total_of, unacked_in, IsSound};
     ghost use Rattle.set_core.specs.Gaining.{BooksGain, AreBounded};
     ghost use Rattle.set_core.specs.History.{new_set, IsStep, IsActor, IsLegal, after, books_of};
@@ -139,11 +139,13 @@ impl SetCore {
         self.core.unacked_at(link, place)
     }
 
-    /// What the history adds up to. The messages stand in the places that [`SetCore::counts`] tells.
+    /// What the history adds up to: each entry is the call of one actor, and the messages stand in
+    /// the places that [`SetCore::counts`] tells.
     pub fn books(&self) -> Books
         ensures value { result ≡ books_of self.now.opening self.now.history }
         ensures bounded { AreBounded result }
         ensures placed { total_of (counts_of self.now.state.rows) ≡ result.messages }
+        ensures calls { sum result.user_calls + sum result.term_calls ≡ length self.now.history }
     {
         Books {
             user_calls: self.tally.user_calls,
