@@ -43,7 +43,7 @@ impl SetCore {
     ghost use Rattle.std.specs.Prelude.{◌≡◌, ◌<◌, ◌≤◌, ◌^◌, ◌↔◌, ◌+◌, IfOk, OnErr, length, sum};
     ghost use Rattle.set_step.specs.Set.{new_state, link_count, is_up as is_up_in, place, counts_of, total_of, unacked_in, IsSound};
     ghost use Rattle.set_core.specs.Gaining.{BooksGain, AreBounded};
-    ghost use Rattle.set_core.specs.History.{new_set, IsStep, IsActor, IsLegal, after, books_of};
+    ghost use Rattle.set_core.specs.History.{new_set, IsStep, IsActor, IsLegal, after, books_of, messages_of};
 
     /// A set as this configuration has it: no messages, no link up, no history.
     ///
@@ -92,7 +92,8 @@ impl SetCore {
         }
     }
 
-    /// The configuration that the set was opened with.
+    /// The configuration that the set was opened with, from which [`crate::audit`] replays its history.
+    /// Contracts see of it what the opening shows.
     pub fn config(&self) -> &SetConfig
         ensures { new_state result.now ≡ self.now.opening }
     {
@@ -121,10 +122,10 @@ impl SetCore {
         self.core.place_of(number)
     }
 
-    /// How many messages stand in each place; each message stands in one.
+    /// How many messages stand in each place; each message that was accepted stands in one.
     pub fn counts(&self) -> Counts
         ensures value { result ≡ counts_of self.now.state.rows }
-        ensures all { total_of result ≡ length self.now.state.rows }
+        ensures all { total_of result ≡ messages_of self.now.history }
         ensures few { total_of result < 2 ^ 64 }
     {
         self.core.counts()
