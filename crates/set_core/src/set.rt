@@ -40,7 +40,7 @@ impl Model for SetCore {
 }
 
 impl SetCore {
-    ghost use Rattle.std.specs.Prelude.{◌≡◌, ◌<◌, ◌≤◌, ◌^◌, ◌↔◌, ◌+◌, IfOk, OnErr, length, sum};
+    ghost use Rattle.std.specs.Prelude.{◌≡◌, ◌<◌, ◌≤◌, ◌^◌, ◌↔◌, ◌+◌, IfOk, IfErr, OnErr, length, sum};
     ghost use Rattle.set_step.specs.Set.{new_state, link_count, is_up as is_up_in, place, counts_of, total_of, unacked_in, IsSound};
     ghost use Rattle.set_core.specs.Gaining.{BooksGain, AreBounded};
     ghost use Rattle.set_core.specs.History.{new_set, IsStep, IsActor, IsLegal, after, books_of, messages_of};
@@ -49,7 +49,8 @@ impl SetCore {
     ///
     /// Fault: 1 [`SetFault::NoMemory`], only where memory was refused.
     pub fn new(alloc: Global, config: &SetConfig) -> Result<SetCore, SetFault>
-        ensures { IfOk result (λ set. set ≡ new_set config.now) }
+        ensures ok { IfOk result (λ set. set ≡ new_set config.now) }
+        ensures fault { IfErr result (λ fault. fault ≡ SetFault.NoMemory) }
     {
         Ok(SetCore {
             config: *config,

@@ -328,6 +328,24 @@ fn a_refused_growth_changes_nothing(rt: HostRuntime) -> Result<(), Fail> {
     Ok(())
 }
 
+/// The same for an audit, which needs memory as the set did: it tells so, or what is true.
+#[test]
+fn a_refused_growth_ends_an_audit(rt: HostRuntime) -> Result<(), Fail> {
+    let Ok(body) = Body::from_slice(rt.alloc(), &MESSAGE) else {
+        return Ok(());
+    };
+    let entry = Entry {
+        who: USER,
+        event: Event::Offer { body },
+        answer: Answer::Accepted { number: 0 },
+    };
+    match audit(rt.alloc(), &config_by(Method::Basic)?, &[entry]) {
+        Ok(is_legal) => assert!(rt; is_legal),
+        Err(fault) => assert!(rt; fault == SetFault::NoMemory),
+    }
+    Ok(())
+}
+
 /// With 127 messages unacknowledged nothing new is sent; the BSN of FSN 126 acknowledges them all.
 #[test]
 fn the_window_is_full_at_127(rt: HostRuntime) -> Result<(), Fail> {
