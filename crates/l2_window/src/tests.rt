@@ -75,6 +75,22 @@ fn a_link_that_goes_down_gives_its_messages_back_in_order(rt: HostRuntime) -> Re
 }
 
 #[test]
+fn the_messages_of_a_link_are_given_up(rt: HostRuntime) -> Result<(), Fail> {
+    let mut window = filled(&rt, 3)?;
+    window.send()?;
+    window.send()?;
+    window.ack(0)?;
+    window.clear_unacked();
+    assert_eq!(rt; window.unacked_len(), 0);
+    assert_eq!(rt; window.unsent_len(), 1);
+    assert_eq!(rt; window.last(), 0);
+    window.clear_unsent();
+    assert_eq!(rt; window.unsent_len(), 0);
+    assert_eq!(rt; window.last(), 0);
+    Ok(())
+}
+
+#[test]
 fn refusals_have_their_numbers(rt: HostRuntime) {
     assert_eq!(rt; WindowFault::Empty.number(), 1);
     assert_eq!(rt; WindowFault::Full.number(), 2);

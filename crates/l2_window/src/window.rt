@@ -169,6 +169,24 @@ impl Window {
         self.unsent.pop_front()
     }
 
+    /// The unacknowledged messages leave the window, and the number last acknowledged stays: what
+    /// becomes of them is the caller's to know.
+    pub fn clear_unacked(&mut self)
+        ensures { self.new ≡ record self.old { unacked = [] } }
+    {
+        self.unacked.clear();
+    }
+
+    /// The unsent messages leave the window: what becomes of them is the caller's to know.
+    pub fn clear_unsent(&mut self)
+        ensures last { self.new.last ≡ self.old.last }
+        ensures unacked { self.new.unacked ≡ self.old.unacked }
+        ensures unsent { self.new.unsent ≡ [] }
+        ensures room { self.old.room ≤ self.new.room }
+    {
+        self.unsent.clear();
+    }
+
     /// Counts FSN 127 as acknowledged again, for a new life of the link.
     pub fn reset(&mut self)
         requires unacked { self.old.unacked ≡ [] }

@@ -1,12 +1,1 @@
-pub mod Carried
 pub mod CommandLine
-pub mod Figures
-pub mod Opened
-pub mod Pair
-pub mod PlayText
-pub mod Playing
-pub mod Printing
-pub mod Script
-pub mod Texts
-pub mod UnitsReading
-pub mod UnitsText

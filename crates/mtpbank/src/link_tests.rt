@@ -1,8 +1,8 @@
 //! Scripts of one link with a line between its ends, and what they print.
 //!
 //! The expected lines are worked out by hand from Q.703 5 and 6.
-use super::fault::Fault;
 use super::tests::run_of;
+use printing::Fault;
 use std::alloc::Global;
 use std::process::Abort;
 use std::test::Fail;

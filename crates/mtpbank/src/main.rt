@@ -5,38 +5,19 @@
 //! `play` walks two ends of a link through a script.
 #![tactic(auto)]
 
-mod device;
-mod digit;
-mod fault;
-mod figures;
+#[cfg(test)]
+mod changeover_tests;
 #[cfg(test)]
 mod link_tests;
-mod marked_line;
-mod opening;
-mod pair;
-mod play;
-mod player;
-mod printer;
-mod printing;
-mod reading;
-mod script;
-mod shown;
-mod step_fault;
 #[cfg(test)]
 mod tests;
-mod texts;
-mod unit_lines;
-mod units;
-mod units_reading;
-#[cfg(test)]
-mod units_tests;
-mod whole_line;
 mod words;
 
-use device::{Reader, Writer};
-use fault::Fault;
+use play_text::play;
+use printing::{Fault, Reader, Writer};
 use std::io;
 use std::process::ExitCode;
+use units_text::units;
 use words::{Words, WordsFault, words_of};
 
 /// The status of a fault of input, memory, reading or writing.
@@ -64,7 +45,7 @@ fn main(rt: HostRuntime) -> io::Result<ExitCode> {
 fn played(rt: &HostRuntime) -> io::Result<ExitCode> {
     let mut source = Reader::new(rt.reader());
     let mut sink = Writer::new(io::writer(rt));
-    match play::play(rt.alloc(), &mut source, &mut sink) {
+    match play(rt.alloc(), &mut source, &mut sink) {
         Ok(()) => Ok(ExitCode::SUCCESS),
         Err(fault) => told(rt, fault),
     }
@@ -74,7 +55,7 @@ fn played(rt: &HostRuntime) -> io::Result<ExitCode> {
 fn seen(rt: &HostRuntime) -> io::Result<ExitCode> {
     let mut source = Reader::new(rt.reader());
     let mut sink = Writer::new(io::writer(rt));
-    match units::units(rt.alloc(), &mut source, &mut sink) {
+    match units(rt.alloc(), &mut source, &mut sink) {
         Ok(()) => Ok(ExitCode::SUCCESS),
         Err(fault) => told(rt, fault),
     }

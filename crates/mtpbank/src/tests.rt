@@ -3,13 +3,12 @@
 //! The expected lines are worked out by hand from Q.703 2 to 5 and the script's rules.
 ghost use Rattle.std.specs.Prelude.{◌≡◌, ◌≤◌, ◌<◌, Some};
 
-use super::device::{DeviceFault, Sink, Source};
-use super::fault::Fault;
-use super::play::play;
-use super::units::units;
 use super::words::{Words, WordsFault, words_of};
+use play_text::play;
+use printing::{DeviceFault, Fault, Sink, Source};
 use std::alloc::{AllocError, Global};
 use std::test::Fail;
+use units_text::units;
 
 const OPENING: &[u8] = b"set links=1 method=basic a=2 b=1 sio=80\n";
 
@@ -336,7 +335,11 @@ fn unreadable_lines(rt: HostRuntime) -> Result<(), Fail> {
         b"take a ",
         b"lose a 0",
         b"lose a 0 0 0",
-        b"down a 0",
+        b"down a",
+        b"down 0",
+        b"blind c 0",
+        b"noanswer a 00",
+        b"restore a",
         b"Together 0",
     ] {
         let mut script = script_of(rt.alloc(), line)?;
@@ -354,7 +357,7 @@ fn unreadable_first_lines(rt: HostRuntime) {
     for line in [
         b"together 0".as_slice(),
         b"set links=0 method=basic a=2 b=1 sio=80",
-        b"set links=2 method=basic a=2 b=1 sio=80",
+        b"set links=17 method=basic a=2 b=1 sio=80",
         b"set links=300 method=basic a=2 b=1 sio=80",
         b"set links=1 method=cyclic:2 a=2 b=1 sio=80",
         b"set links=1 method=cyclic:0:1000 a=2 b=1 sio=80",
@@ -385,6 +388,9 @@ fn impossible_steps(rt: HostRuntime) -> Result<(), Fail> {
         b"arrive b 0",
         b"arrive b 1",
         b"lose a 0 0",
+        b"down a 1",
+        b"blind b 1",
+        b"noanswer a 256",
     ] {
         let script = script_of(rt.alloc(), line)?;
         let (_, end) = run_of(rt.alloc(), &script, 4096, 1000, 1000);
@@ -441,27 +447,4 @@ fn words_of_the_command_line(rt: HostRuntime) {
             Err(WordsFault::Words(_))
         )
     );
-}
-
-#[test]
-fn faults_show_the_line_that_is_printed(rt: HostRuntime) -> Result<(), Fail> {
-    assert_eq!(rt;
-        Fault::Text { line: 2 }.to_string(rt.alloc())?.as_str(),
-        "fault line 2 text"
-    );
-    assert_eq!(rt;
-        Fault::Step { line: 7 }.to_string(rt.alloc())?.as_str(),
-        "fault line 7 step"
-    );
-    assert_eq!(rt;
-        Fault::Memory.to_string(rt.alloc())?.as_str(),
-        "fault memory"
-    );
-    assert_eq!(rt;
-        Fault::Exhausted.to_string(rt.alloc())?.as_str(),
-        "fault exhausted"
-    );
-    assert_eq!(rt; Fault::Read.to_string(rt.alloc())?.as_str(), "fault read");
-    assert_eq!(rt; Fault::Write.to_string(rt.alloc())?.as_str(), "fault write");
-    Ok(())
 }

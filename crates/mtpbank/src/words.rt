@@ -88,16 +88,19 @@ standard error, with status 1; what was printed before it stays.";
 
 const PLAY_HELP: &str = "\
 The script's first line that isn't empty and doesn't begin with # is
-  set links=1 method=W a=X b=Y sio=HH    point codes of the ends, SIO in hexadecimal
+  set links=L method=W a=X b=Y sio=HH    1 to 16 links, point codes of the ends, SIO in hexadecimal
 with the method basic or cyclic:N1:N2 (so many messages or octets force a cycle), and each further line is one of
   together L          the link comes up at both ends
   offer E HEX         a user of end E (a or b) offers a message, SIO and SIF in hexadecimal
   take E              a user of end E takes the oldest message that was heard
-  emit E L            end E sends its next unit on link L; it joins the line to the other end
-  arrive E L          the front of the line to end E arrives there
-  lose E L P          the unit at place P of the line to end E, from 0, is lost
+  emit E L            end E sends its next unit on link L; it joins the link's line to the other end
+  arrive E L          the front of link L's line to end E arrives there
+  lose E L P          the unit at place P of link L's line to end E, from 0, is lost
   hear E L HEX        end E hears these octets of a unit, without check octets
   find E N            a user of end E asks where message N stands
+  down E L            link L fails at end E, which tells the other what it accepted
+  blind E L           link L fails at end E, which can't tell what it accepted
+  noanswer E L        end E had no answer to the changeover of link L
 
 Words are separated by one space and lines end in LF. Links are numbered from 0.
 A fault is one line on standard error, with status 1; what was printed before it stays.";

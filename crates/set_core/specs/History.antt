@@ -7,7 +7,8 @@ use Rattle.set_events.specs.declared.event.Actor.{Actor}
 use Rattle.set_events.specs.declared.event.Actor.TheVariants.{User, Terminal}
 use Rattle.set_events.specs.declared.event.Event.{Event}
 use Rattle.set_events.specs.declared.history.Entry.{Entry}
-use Rattle.set_step.specs.Set.{State, new_state, counts_of}
+use Rattle.set_step.specs.Set.{State, new_state}
+use Rattle.set_rows.specs.Rows.{counts_of}
 use Rattle.set_step.specs.Step.{step, messages_in, octets_of}
 
 -- what the set held when it was opened, what it holds now, and the entries from the one to the other

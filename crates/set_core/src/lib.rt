@@ -15,6 +15,8 @@
 #![tactic(auto)]
 
 mod auditing;
+#[cfg(test)]
+mod changeover_tests;
 mod set;
 mod tally;
 #[cfg(test)]

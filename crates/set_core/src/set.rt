@@ -41,7 +41,8 @@ impl Model for SetCore {
 
 impl SetCore {
     ghost use Rattle.std.specs.Prelude.{◌≡◌, ◌<◌, ◌≤◌, ◌^◌, ◌↔◌, ◌+◌, IfOk, IfErr, OnErr, length, sum};
-    ghost use Rattle.set_step.specs.Set.{new_state, link_count, is_up as is_up_in, place, counts_of, total_of, unacked_in, IsSound};
+    ghost use Rattle.set_step.specs.Set.{new_state, link_count, is_up as is_up_in, is_settled as is_settled_in, unacked_in, IsSound};
+    ghost use Rattle.set_rows.specs.Rows.{place, counts_of, total_of};
     ghost use Rattle.set_core.specs.Gaining.{BooksGain, AreBounded};
     ghost use Rattle.set_core.specs.History.{new_set, IsStep, IsActor, IsLegal, after, books_of, messages_of};
 
@@ -114,6 +115,13 @@ impl SetCore {
         ensures { result ≡ is_up_in link self.now.state }
     {
         self.core.is_up(link)
+    }
+
+    /// Whether this link of the set is settled, as one is that never was up.
+    pub fn is_settled(&self, link: u8) -> bool
+        ensures { result ≡ is_settled_in link self.now.state }
+    {
+        self.core.is_settled(link)
     }
 
     /// Where the message of this number stands; none has it: `None`.

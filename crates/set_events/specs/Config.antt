@@ -1,5 +1,5 @@
 -- Which configurations are refused, and what one that is made holds.
-use Rattle.std.specs.Prelude.{◌≡◌, ℕ, ◌==◌, ◌%◌, ◌&&◌, nat_lt, Option, Some, if◌then◌else◌}
+use Rattle.std.specs.Prelude.{◌≡◌, ℕ, ◌==◌, ◌%◌, ◌&&◌, nat_lt, nat_le, Option, Some, if◌then◌else◌}
 use Rattle.set_events.specs.declared.config.SetConfig.{SetConfig}
 use Rattle.set_events.specs.declared.config.Method.{Method}
 use Rattle.set_events.specs.declared.config.ConfigFault.{ConfigFault}
@@ -9,7 +9,7 @@ use Rattle.set_events.specs.Method.{method_fault}
 -- the first fault of these values, in the order of the refusals
 abbrev pub fault_of : ℕ → ℕ → ℕ → ℕ → Method → Option ConfigFault
 fault_of links opc dpc sio method =
-    if links == 1
+    if nat_le 1 links && nat_le links 16
     then (if nat_lt opc 16384 && nat_lt dpc 16384
     then (if sio % 16 == 0 then method_fault method else Some Sio)
     else Some PointCode)

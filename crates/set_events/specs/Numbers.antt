@@ -1,9 +1,11 @@
 -- The numbers of refusals and faults.
 use Rattle.std.specs.Prelude.{ℕ}
 use Rattle.set_events.specs.declared.answer.Refusal.{Refusal as SetRefusal}
-use Rattle.set_events.specs.declared.answer.Refusal.TheVariants.{TooShort, TooLong, Reserved, StreamFull, NotUp, NotDown, UnknownNumber, Nothing, NoSuchLink}
+use Rattle.set_events.specs.declared.answer.Refusal.TheVariants.{TooShort, TooLong, Reserved, StreamFull, NotUp, NotDown, Unsettled, UnknownNumber, Nothing, NoSuchLink}
 use Rattle.set_events.specs.declared.answer.ControlFault.{ControlFault}
 use Rattle.set_events.specs.declared.answer.ControlFault.TheVariants.{Bsn, Fib}
+use Rattle.set_events.specs.declared.answer.DiscardCause.{DiscardCause}
+use Rattle.set_events.specs.declared.answer.DiscardCause.TheVariants.{Emergency, Unreasonable, NoAnswer}
 use Rattle.set_events.specs.declared.config.ConfigFault.{ConfigFault}
 use Rattle.set_events.specs.declared.config.ConfigFault.TheVariants.{Links, PointCode, Sio, Cyclic}
 
@@ -14,6 +16,7 @@ refusal_number Reserved = 3
 refusal_number StreamFull = 4
 refusal_number NotUp = 5
 refusal_number NotDown = 6
+refusal_number Unsettled = 7
 refusal_number UnknownNumber = 8
 refusal_number Nothing = 9
 refusal_number NoSuchLink = 10
@@ -22,6 +25,12 @@ refusal_number NoSuchLink = 10
 abbrev pub fault_number : ControlFault → ℕ
 fault_number Bsn = 2
 fault_number Fib = 3
+
+-- why messages were given up
+abbrev pub cause_number : DiscardCause → ℕ
+cause_number Emergency = 1
+cause_number Unreasonable = 2
+cause_number NoAnswer = 3
 
 abbrev pub config_fault_number : ConfigFault → ℕ
 config_fault_number Links = 1

@@ -1,6 +1,6 @@
 //! What a set answers.
 ghost use Rattle.std.specs.Prelude.{◌≡◌, ◌↔◌, IsTrue};
-ghost use Rattle.set_events.specs.Numbers.{refusal_number, fault_number};
+ghost use Rattle.set_events.specs.Numbers.{refusal_number, fault_number, cause_number};
 
 use arrayvec::ArrayVec;
 use l2_units::{Unit, same_unit};
@@ -14,8 +14,36 @@ pub enum Fate {
     Unacked { link: u8 },
     /// Acknowledged on this link.
     Acked { link: u8 },
+    /// Accepted for this link after it was left, before it's settled what the far end has.
+    Held { link: u8 },
     /// No link can take it: it waits for one.
     Parked,
+    /// Given up, for this cause. Whether the far end has it isn't known.
+    Discarded { cause: DiscardCause },
+}
+
+/// Why messages of a link that failed were given up.
+#[derive(Clone, Copy, Debug, PartialEq, Eq)]
+pub enum DiscardCause {
+    /// 1: sent, and by an emergency changeover the far end can't tell how far it got (Q.704 5.6).
+    Emergency,
+    /// 2: the far end told a number that can't be (own).
+    Unreasonable,
+    /// 3: the far end never answered the changeover (own).
+    NoAnswer,
+}
+
+impl DiscardCause {
+    /// The cause's number.
+    pub fn number(self) -> u8
+        ensures { result ≡ cause_number self }
+    {
+        match self {
+            DiscardCause::Emergency => 1,
+            DiscardCause::Unreasonable => 2,
+            DiscardCause::NoAnswer => 3,
+        }
+    }
 }
 
 /// What became of an accepted body that was heard.
@@ -84,6 +112,8 @@ pub enum Refusal {
     NotUp,
     /// 6: the link is up.
     NotDown,
+    /// 7: the link was left, and it isn't settled yet what the far end has of its messages.
+    Unsettled,
     /// 8: no message has this number.
     UnknownNumber,
     /// 9: there is nothing to take, or nothing to do: a link status signal unit was heard while the
@@ -105,6 +135,7 @@ impl Refusal {
             Refusal::StreamFull => 4,
             Refusal::NotUp => 5,
             Refusal::NotDown => 6,
+            Refusal::Unsettled => 7,
             Refusal::UnknownNumber => 8,
             Refusal::Nothing => 9,
             Refusal::NoSuchLink => 10,

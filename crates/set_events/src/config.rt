@@ -1,9 +1,12 @@
 //! What a set is opened with.
-ghost use Rattle.std.specs.Prelude.{◌≡◌, ◌<◌, ◌%◌, ◌^◌, true};
+ghost use Rattle.std.specs.Prelude.{◌≡◌, ◌<◌, ◌≤◌, ◌%◌, ◌^◌, true};
 ghost use Rattle.std.proofs.Props.{props};
 ghost use Rattle.set_events.specs.Method.{is_method};
 
 use thiserror::Error;
+
+/// The most links of a set: a signalling link code has four bits (Q.704 15.2).
+const MOST_LINKS: u8 = 16;
 
 /// The most messages that can be unacknowledged (Q.703 5.2.2).
 const MOST_MESSAGES: u8 = 127;
@@ -28,8 +31,8 @@ pub enum Method {
 /// Why a configuration is refused. The first that applies, in this order, is answered.
 #[derive(Clone, Copy, Debug, Drop, PartialEq, Eq, Error)]
 pub enum ConfigFault {
-    /// 1: a set has one link, until sets of several links come.
-    #[error("a set has one link")]
+    /// 1: no link, or more than 16.
+    #[error("a set has 1 to 16 links")]
     Links,
     /// 2: a point code over 16,383.
     #[error("a point code has 14 bits")]
@@ -47,7 +50,7 @@ pub enum ConfigFault {
 pub struct SetConfig {
     /// The set's own number.
     pub set: u16,
-    /// How many links it has: 1, until sets of several links come.
+    /// How many links it has, 1 to 16.
     pub links: u8,
     /// Its own point code, 0 to 16,383.
     pub opc: u16,
@@ -57,7 +60,8 @@ pub struct SetConfig {
     pub sio: u8,
     /// How messages are kept safe; the limits of the cyclic method are in their ranges.
     pub method: Method,
-    pub ghost one_link: { links ≡ 1 },
+    pub ghost has_links: { 1 ≤ links },
+    pub ghost links_in_range: { links ≤ 16 },
     pub ghost opc_in_range: { opc < 2 ^ 14 },
     pub ghost dpc_in_range: { dpc < 2 ^ 14 },
     pub ghost management: { sio % 16 ≡ 0 },
@@ -83,7 +87,7 @@ impl SetConfig {
         ensures ok { MatchResult result (λ config. fault_of links opc dpc sio method ≡ None) (λ fault. fault_of links opc dpc sio method ≡ Some fault) }
         ensures made { MatchResult result (λ config. IsConfigOf config set links opc dpc sio method) (λ fault. Unit {0}) }
     {
-        if links != 1 {
+        if links == 0 || links > MOST_LINKS {
             return Err(ConfigFault::Links);
         }
         if opc > 16_383 || dpc > 16_383 {

@@ -38,6 +38,12 @@ pub enum Event {
     Heard { link: u8, unit: Unit },
     /// A link's terminal tells that the link is aligned and in service.
     Up { link: u8 },
+    /// A link's terminal tells that the link failed; the FSN that it accepted last is known.
+    Down { link: u8 },
+    /// A link's terminal tells that the link failed, and that no FSN can be told to the far end.
+    DownBlind { link: u8 },
+    /// The far end didn't answer the changeover of this link.
+    NoAnswer { link: u8 },
 }
 
 impl Event {
@@ -57,6 +63,9 @@ impl Event {
                 Err(_) => unreachable!(),
             },
             Event::Up { link } => Ok(Event::Up { link: *link }),
+            Event::Down { link } => Ok(Event::Down { link: *link }),
+            Event::DownBlind { link } => Ok(Event::DownBlind { link: *link }),
+            Event::NoAnswer { link } => Ok(Event::NoAnswer { link: *link }),
         }
     }
 
@@ -73,6 +82,9 @@ impl Event {
                 *a == *b && same_unit(u, v)
             }
             (Event::Up { link: a }, Event::Up { link: b }) => *a == *b,
+            (Event::Down { link: a }, Event::Down { link: b }) => *a == *b,
+            (Event::DownBlind { link: a }, Event::DownBlind { link: b }) => *a == *b,
+            (Event::NoAnswer { link: a }, Event::NoAnswer { link: b }) => *a == *b,
             _ => false,
         }
     }

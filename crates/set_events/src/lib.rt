@@ -14,7 +14,7 @@ mod history;
 #[cfg(test)]
 mod tests;
 
-pub use answer::{Answer, ControlFault, Counts, Fate, Refusal, Report, Took};
+pub use answer::{Answer, ControlFault, Counts, DiscardCause, Fate, Refusal, Report, Took};
 pub use body::Body;
 pub use books::Books;
 pub use config::{ConfigFault, Method, SetConfig};

@@ -37,6 +37,9 @@ fn each_event_is_copied(rt: HostRuntime) -> Result<(), Fail> {
             unit: status,
         },
         Event::Up { link: 0 },
+        Event::Down { link: 15 },
+        Event::DownBlind { link: 15 },
+        Event::NoAnswer { link: 15 },
     ] {
         let copy = event.try_copy()?;
         assert!(rt; event.same(&copy));
@@ -66,16 +69,42 @@ fn answers_differ_by_what_they_tell(rt: HostRuntime) {
 #[test]
 fn refusals_have_the_numbers_that_are_printed(rt: HostRuntime) {
     assert_eq!(rt; Refusal::TooShort.number(), 1);
+    assert_eq!(rt; Refusal::Unsettled.number(), 7);
     assert_eq!(rt; Refusal::Nothing.number(), 9);
     assert_eq!(rt; Refusal::NoSuchLink.number(), 10);
     assert_eq!(rt; ControlFault::Bsn.number(), 2);
     assert_eq!(rt; ConfigFault::Cyclic.number(), 4);
+    assert_eq!(rt; DiscardCause::Emergency.number(), 1);
+    assert_eq!(rt; DiscardCause::Unreasonable.number(), 2);
+    assert_eq!(rt; DiscardCause::NoAnswer.number(), 3);
+}
+
+#[test]
+fn a_link_that_fails_blind_differs_from_one_that_fails(rt: HostRuntime) {
+    let down = Event::Down { link: 1 };
+    assert!(rt; !down.same(&Event::DownBlind { link: 1 }));
+    assert!(rt; !down.same(&Event::Down { link: 2 }));
+    let held = Answer::Found {
+        fate: Fate::Held { link: 1 },
+    };
+    let discarded = Answer::Found {
+        fate: Fate::Discarded {
+            cause: DiscardCause::NoAnswer,
+        },
+    };
+    assert!(rt; held.same(&held));
+    assert!(rt; !held.same(&discarded));
 }
 
 #[test]
 fn configurations_out_of_range_are_refused(rt: HostRuntime) {
-    let two = SetConfig::new(0, 2, 1, 1, 0x80, Method::Basic);
-    assert!(rt; two.err() == Some(ConfigFault::Links));
+    for links in [0, 17, 255] {
+        let config = SetConfig::new(0, links, 16_384, 1, 0x80, Method::Basic);
+        assert!(rt; config.err() == Some(ConfigFault::Links));
+    }
+    for links in [1, 2, 16] {
+        assert!(rt; SetConfig::new(0, links, 1, 1, 0x80, Method::Basic).is_ok());
+    }
     let code = SetConfig::new(0, 1, 16_384, 1, 0x81, Method::Basic);
     assert!(rt; code.err() == Some(ConfigFault::PointCode));
     let sio = SetConfig::new(0, 1, 16_383, 0, 0x81, Method::Basic);

@@ -1,4 +1,6 @@
 pub mod Agreement
+pub mod Changeover
 pub mod Control
+pub mod Laws
 pub mod Set
 pub mod Step

@@ -1,8 +1,5 @@
 -- THE STEP OF A SET: what it answers to an event, and what it holds then.
-use Rattle.std.specs.Prelude.{◌≡◌, ◌≤◌, ℕ, Bool, true, false, ◌==◌, ◌+◌, nat_lt, nat_le, List, [], ◌∷◌, ◌++◌, length, slice_get, Option, Some, None, if◌then◌else◌}
-use Rattle.set_step.specs.declared.row.Row.{Row}
-use Rattle.set_step.specs.Set.{LinkState, State, with_link, is_up, unack, wait, is_unacked, is_waiting, is_parked, window_of, octets_in, unsent, stream_of, service_indicator, turned, moved, place, counts_of, total_of}
-use Rattle.set_step.specs.Control.{Choice, again, first, fill, start_of, choice_of, fsn_of, head_of, control_after, part_of, control_heard}
+use Rattle.std.specs.Prelude.{◌≡◌, ◌≤◌, ℕ, Bool, true, false, ◌==◌, ◌+◌, nat_lt, nat_le, List, [], ◌∷◌, ◌++◌, length, slice_get, Option, Some, None, slice_set, if◌then◌else◌}
 use Rattle.l2_units.specs.declared.unit.Header.{Header}
 use Rattle.l2_units.specs.declared.unit.Unit.{Unit as SignalUnit}
 use Rattle.l2_units.specs.declared.unit.Unit.TheVariants.{Fisu, Lssu, Msu}
@@ -10,19 +7,32 @@ use Rattle.l2_units.specs.Grammar.{head_of as header_in}
 use Rattle.l2_window.specs.declared.control.HeardPart.{HeardPart}
 use Rattle.l2_window.specs.declared.control.ControlFault.{ControlFault as FaultFound}
 use Rattle.l2_window.specs.declared.control.ControlFault.TheVariants.{Bsn as BsnFound, Fib as FibFound}
+use Rattle.l3_orders.specs.Grammar.{order_of}
 use Rattle.set_events.specs.declared.answer.ControlFault.{ControlFault}
 use Rattle.set_events.specs.declared.answer.ControlFault.TheVariants.{Bsn, Fib}
 use Rattle.set_events.specs.declared.answer.Fate.{Fate}
-use Rattle.set_events.specs.declared.answer.Fate.TheVariants.{Waiting, Unacked, Acked, Parked}
+use Rattle.set_events.specs.declared.answer.Fate.TheVariants.{Waiting, Unacked, Acked, Held, Parked}
 use Rattle.set_events.specs.declared.answer.Took.{Took}
-use Rattle.set_events.specs.declared.answer.Took.TheVariants.{Nothing as NothingTaken, Message, Ignored}
+use Rattle.set_events.specs.declared.answer.Took.TheVariants.{Nothing as NothingTaken, Message}
 use Rattle.set_events.specs.declared.answer.Report.{Report}
 use Rattle.set_events.specs.declared.answer.Refusal.{Refusal as SetRefusal}
-use Rattle.set_events.specs.declared.answer.Refusal.TheVariants.{TooShort, TooLong, Reserved, StreamFull, NotUp, NotDown, UnknownNumber, Nothing, NoSuchLink}
+use Rattle.set_events.specs.declared.answer.Refusal.TheVariants.{TooShort, TooLong, Reserved, StreamFull, NotUp, NotDown, Unsettled, UnknownNumber, Nothing, NoSuchLink}
 use Rattle.set_events.specs.declared.answer.Answer.{Answer}
 use Rattle.set_events.specs.declared.answer.Answer.TheVariants.{Accepted, Taken, Found, Sent, Heard as HeardBack, Done, Refused}
 use Rattle.set_events.specs.declared.event.Event.{Event}
-use Rattle.set_events.specs.declared.event.Event.TheVariants.{Offer, Take, Find, Next, Heard, Up}
+use Rattle.set_events.specs.declared.event.Event.TheVariants.{Offer, Take, Find, Next, Heard, Up as UpEvent, Down as DownEvent, DownBlind, NoAnswer}
+use Rattle.set_events.specs.declared.config.Method.{Method}
+use Rattle.set_route.specs.declared.place.Place.{Place}
+use Rattle.set_route.specs.declared.place.Place.TheVariants.{On, Nowhere}
+use Rattle.set_route.specs.Routing.{place_of, accepted, raised}
+use Rattle.set_rows.specs.declared.row.Row.{Row}
+use Rattle.set_rows.specs.Rows.{unack, wait, is_unacked, is_waiting, is_parked, octets_in, unsent, stream_of, service_indicator, turned, moved, appended, place, counts_of, total_of}
+use Rattle.set_step.specs.declared.phase.Phase.{Phase}
+use Rattle.set_step.specs.declared.phase.Phase.TheVariants.{Up, Down, Settled}
+use Rattle.set_step.specs.declared.reached.Reached.TheVariants.{Unanswered}
+use Rattle.set_step.specs.Set.{LinkState, State, with_link, is_up, has_phase_up, window_of}
+use Rattle.set_step.specs.Control.{Choice, again, first, fill, start_of, choice_of, fsn_of, head_of, control_after, part_of, control_heard}
+use Rattle.set_step.specs.Changeover.{Obeyed, leave, leaving_order, queue, settle, obeyed}
 
 -- what is answered, and what the set holds then
 pub record Outcome : Type 0 where
@@ -42,16 +52,20 @@ offer_refusal rows body =
     else (if nat_le 1024 (length (unsent (stream_of body) rows)) then Some StreamFull
     else None)))
 
--- a new message waits for the one link, or is parked where that never was up
-abbrev pub new_fate : State → Fate
-new_fate s = if is_up 0 s then Waiting 0 else Parked
+-- a new message goes where its stream runs: on a link that was left it's held, nowhere it's parked
+abbrev pub fate_at : Place → State → Fate
+fate_at (On link) s = if is_up link s then Waiting link else Held link
+fate_at Nowhere s = Parked
 
 -- a new row stands at the end
 abbrev pub offered : Option SetRefusal → State → List ℕ → Outcome
 offered (Some why) s body = refused s why
 offered None s body = record {
   answer = Accepted (length s.rows);
-  state = record s { rows = s.rows ++ record { number = length s.rows; body = body; fate = new_fate s } ∷ [] };
+  state = record s {
+    rows = appended s.rows body (fate_at (place_of (stream_of body) s.routing) s);
+    routing = accepted (stream_of body) s.routing;
+  };
 }
 
 -- TAKE. The oldest message of the inbox leaves it.
@@ -74,7 +88,7 @@ on_link number s outcome = with_known (slice_get s.links number) s outcome
 
 -- one that needs the link in service is refused 5 where it isn't
 abbrev pub in_service : ℕ → State → (LinkState → Outcome) → Outcome
-in_service number s outcome = on_link number s (λ link. if link.up then outcome link else refused s NotUp)
+in_service number s outcome = on_link number s (λ link. if has_phase_up link.phase then outcome link else refused s NotUp)
 
 -- NEXT. The message that is chosen (a chosen place is always one of them).
 abbrev pub chosen : Choice → ℕ → List Row → Option Row
@@ -117,14 +131,14 @@ brought accept (Fisu head) = None
 brought accept (Lssu head status) = None
 brought accept (Msu head body) = if accept then Some body.items else None
 
--- the management's bodies, of service indicator 0, are none of the users' (Q.704 14.2.1)
-abbrev pub took_of : Option (List ℕ) → Took
-took_of None = NothingTaken
-took_of (Some body) = if service_indicator body == 0 then Ignored else Message
-
-abbrev pub inbox_with : Option (List ℕ) → List (List ℕ) → List (List ℕ)
-inbox_with None inbox = inbox
-inbox_with (Some body) inbox = if service_indicator body == 0 then inbox else inbox ++ body ∷ []
+-- where an accepted body goes: a message to the users' inbox; one of the management, of service indicator 0
+-- (Q.704 14.2.1), to the rules of changeover
+abbrev pub takes : Option (List ℕ) → State → Obeyed
+takes None s = record { took = NothingTaken; state = s }
+takes (Some body) s =
+    if service_indicator body == 0
+    then obeyed (order_of body) s
+    else record { took = Message; state = record s { inbox = s.inbox ++ body ∷ [] } }
 
 abbrev pub fault_of : Option FaultFound → Option ControlFault
 fault_of None = None
@@ -139,19 +153,20 @@ abbrev pub one_if : Bool → ℕ
 one_if true = 1
 one_if false = 0
 
--- acknowledged messages are the first ones, and so many; an accepted body goes where it belongs
+-- what the control makes of the unit: acknowledged messages are the first ones, and so many
+abbrev pub after_control : HeardPart → Header → SignalUnit → ℕ → State → LinkState → State
+after_control part head unit number s link =
+    with_link number (record link {
+      acked = link.acked + part.acked;
+      accepted = link.accepted + one_if part.accept;
+      control = control_heard link.control (window_of number link s.rows) head (is_msu unit);
+    }) (record s { rows = turned (is_unacked number) (Acked number) part.acked s.rows })
+
+-- then an accepted body goes where it belongs
 abbrev pub hears : HeardPart → Header → SignalUnit → ℕ → State → LinkState → Outcome
-hears part head unit number s link = record {
-  answer = HeardBack (report_of part (took_of (brought part.accept unit)));
-  state = with_link number (record link {
-    acked = link.acked + part.acked;
-    accepted = link.accepted + one_if part.accept;
-    control = control_heard link.control (window_of number link s.rows) head (is_msu unit);
-  }) (record s {
-    rows = turned (is_unacked number) (Acked number) part.acked s.rows;
-    inbox = inbox_with (brought part.accept unit) s.inbox;
-  });
-}
+hears part head unit number s link =
+    let after = takes (brought part.accept unit) (after_control part head unit number s link) in
+    record { answer = HeardBack (report_of part after.took); state = after.state }
 
 abbrev pub controls : SignalUnit → ℕ → State → LinkState → Outcome
 controls unit number s link =
@@ -163,16 +178,31 @@ heard (Fisu head) number s link = controls (Fisu head) number s link
 heard (Lssu head status) number s link = refused s Nothing
 heard (Msu head body) number s link = controls (Msu head body) number s link
 
--- UP. The error control starts anew, and what was parked waits for the link.
-abbrev pub rises : ℕ → State → LinkState → Outcome
-rises number s link =
-    if link.up
-    then refused s NotDown
-    else record {
-      answer = Done;
-      state = with_link number (record link { up = true; acked = 0; accepted = 0; control = start_of link.method })
-          (record s { rows = moved is_parked (Waiting number) s.rows });
-    }
+-- UP. The error control starts anew; streams move to the link, and what was parked waits for it.
+abbrev pub risen_link : Method → LinkState
+risen_link method = record { phase = Up; blind = false; acked = 0; accepted = 0; control = start_of method }
+
+abbrev pub rises : ℕ → State → Phase → Outcome
+rises number s Up = refused s NotDown
+rises number s Down = refused s Unsettled
+rises number s Settled = record {
+  answer = Done;
+  state = record s {
+    links = slice_set s.links number (risen_link s.settings.method);
+    rows = moved is_parked (Waiting number) s.rows;
+    routing = raised number s.routing;
+  };
+}
+
+-- DOWN. The link is left, and an order tells the far end (Q.704 5.3, 5.4.1); blind, it's an emergency (5.6.1).
+abbrev pub falls : Bool → ℕ → State → LinkState → Outcome
+falls blind number s link = record { answer = Done; state = queue (leaving_order blind number link) (leave blind number link s) }
+
+-- NO ANSWER came from the far end (5.7.2): what was sent or waited may have arrived or not, and is discarded (own).
+abbrev pub gives_up : ℕ → State → LinkState → Phase → Outcome
+gives_up number s link Down = record { answer = Done; state = settle Unanswered number link s }
+gives_up number s link Up = refused s Nothing
+gives_up number s link Settled = refused s Nothing
 
 -- THE STEP
 abbrev pub step : State → Event → Outcome
@@ -181,7 +211,10 @@ step s Take = taken s.inbox s
 step s (Find number) = found (place number s.rows) s
 step s (Next link) = in_service link s (next link s)
 step s (Heard link unit) = in_service link s (heard unit link s)
-step s (Up link) = on_link link s (rises link s)
+step s (UpEvent link) = on_link link s (λ state. rises link s state.phase)
+step s (DownEvent link) = in_service link s (falls false link s)
+step s (DownBlind link) = in_service link s (falls true link s)
+step s (NoAnswer link) = on_link link s (λ state. gives_up link s state state.phase)
 
 -- WHAT A STEP BRINGS to the numbers of a set's books.
 

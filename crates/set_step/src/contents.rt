@@ -1,25 +1,29 @@
 //! What a set holds, as one event after another changes it.
-ghost use Rattle.std.specs.Prelude.{◌≡◌};
+ghost use Rattle.std.specs.Prelude.{◌≡◌, ◌≤◌, ℕ, IfOk, IfErr, length};
+ghost use Rattle.l2_window.specs.Window.{IsEmpty};
+ghost use Rattle.set_step.specs.Agreement.{AtLink, link_of};
+ghost use Rattle.set_step.specs.Set.{new_link};
 
 use super::fault::SetFault;
-use super::link::{LINKS, Link};
-use super::row::{Row, counts_in, place_in};
+use super::link::Link;
+use super::parts::Parts;
+use super::phase::Phase;
 use super::step::answered;
-use super::traffic::Inbox;
 use set_events::{Answer, Counts, Event, Fate, SetConfig};
+use set_route::Routes;
+use set_rows::Rows;
 use std::alloc::Global;
 use std::collections::VecDeque;
 use std::marker::Model;
 
-/// What a set holds. Contracts see its rows, its links and its inbox.
+/// What a set of links holds: its messages, its links, where its streams run, and the messages heard
+/// for users.
 ///
 /// Readers: [`Core::place_of`], [`Core::counts`], [`Core::links`], [`Core::is_up`],
-/// [`Core::unacked_at`]. The one input: [`Core::apply`].
-#[derive(Debug, Drop)]
+/// [`Core::is_settled`]. The one input: [`Core::apply`].
+#[derive(Drop)]
 pub struct Core {
-    link: Link,
-    rows: Vec<Row>,
-    inbox: Inbox,
+    parts: Parts,
 }
 
 /// A message that was sent and isn't acknowledged.
@@ -36,16 +40,17 @@ impl Model for Core {
 
     ghost Value = { State };
 
-    ghost use Rattle.set_step.specs.Agreement.{state_of, bodies_in, Agrees};
+    ghost use Rattle.set_step.specs.Agreement.{state_of, Agrees};
 
-    ghost view = { λ c. state_of c.link c.rows.items (bodies_in c.inbox.items) };
+    ghost view = { λ c. state_of c.parts };
 
-    ghost invariant = { λ c. Agrees c.link c.rows.items };
+    ghost invariant = { λ c. Agrees c.parts };
 }
 
 impl Core {
-    ghost use Rattle.std.specs.Prelude.{◌≡◌, ◌+◌, ◌<◌, ◌≤◌, ◌^◌, ℕ, IfOk, IfErr, OnErr, length};
-    ghost use Rattle.set_step.specs.Set.{new_state, link_count, is_up as is_up_in, place, counts_of, no_counts, total_of, unacked_in, IsSound, AreFew};
+    ghost use Rattle.std.specs.Prelude.{◌≡◌, ◌<◌, ◌≤◌, ◌^◌, ◌+◌, ℕ, IfOk, IfErr, OnErr, length};
+    ghost use Rattle.set_rows.specs.Rows.{place, counts_of, total_of, users};
+    ghost use Rattle.set_step.specs.Set.{new_state, link_count, is_up as is_up_in, is_settled as is_settled_in, no_counts, unacked_in, AreFew, IsSound};
     ghost use Rattle.set_step.specs.Step.{step, Gains};
 
     /// A set as this configuration has it: no messages, no link up.
@@ -57,15 +62,19 @@ impl Core {
         ensures empty { IfOk result (λ core. counts_of core.rows ≡ no_counts) }
         ensures fault { IfErr result (λ fault. fault ≡ SetFault.NoMemory) }
     {
+        let links = new_links(alloc, config)?;
         Ok(Core {
-            link: Link::new(alloc, config.method)?,
-            rows: Vec::new(alloc),
-            inbox: VecDeque::new(alloc),
+            parts: Parts {
+                config: *config,
+                links,
+                rows: Rows::new(alloc),
+                routes: Routes::new(config.links),
+                inbox: VecDeque::new(alloc),
+            },
         })
     }
 
-    /// What the set answers to this event. The answer and what the set holds then are those of its
-    /// step.
+    /// What the set answers to this event: the answer and what it holds then are those of its step.
     ///
     /// Refusals are answers. Fault: 1 [`SetFault::NoMemory`], only where memory was refused; the set
     /// is then as it was.
@@ -77,7 +86,7 @@ impl Core {
         ensures err { OnErr result (self.new ≡ self.old) }
         ensures fault { IfErr result (λ fault. fault ≡ SetFault.NoMemory) }
     {
-        answered(&mut self.link, &mut self.rows, &mut self.inbox, event)
+        answered(&mut self.parts, event)
     }
 
     /// How many links the set has, 1 to 16.
@@ -85,31 +94,44 @@ impl Core {
         ensures links { result ≡ link_count self.now }
         ensures few { (1 ≤ result) × (result ≤ 16) }
     {
-        let _ = &self.link;
-        LINKS
+        self.parts.config.links
     }
 
     /// Whether this link of the set is up.
     pub fn is_up(&self, link: u8) -> bool
         ensures { result ≡ is_up_in link self.now }
     {
-        link < LINKS && self.link.up
+        match self.parts.links.get(usize::from(link)) {
+            Some(link) => link.phase == Phase::Up,
+            None => false,
+        }
+    }
+
+    /// Whether this link of the set is settled, as one is that never was up.
+    pub fn is_settled(&self, link: u8) -> bool
+        ensures { result ≡ is_settled_in link self.now }
+    {
+        match self.parts.links.get(usize::from(link)) {
+            Some(link) => link.phase == Phase::Settled,
+            None => false,
+        }
     }
 
     /// Where the message of this number stands; none has it: `None`.
     pub fn place_of(&self, number: u64) -> Option<Fate>
         ensures { result ≡ place number self.now.rows }
     {
-        place_in(&self.rows, number)
+        self.parts.rows.place_of(number)
     }
 
-    /// How many messages stand in each place; each message stands in one.
+    /// How many of the users' messages stand in each place; each stands in one.
     pub fn counts(&self) -> Counts
         ensures value { result ≡ counts_of self.now.rows }
-        ensures all { total_of result ≡ length self.now.rows }
+        ensures all { total_of result ≡ length (users self.now.rows) }
         ensures few { total_of result < 2 ^ 64 }
     {
-        counts_in(&self.rows)
+        let _ = self.parts.rows.len();
+        self.parts.rows.counts()
     }
 
     /// The message at this place of the link's unacknowledged ones, the oldest at 0: the number of
@@ -118,22 +140,46 @@ impl Core {
     pub fn unacked_at(&self, link: u8, place: u8) -> Option<Numbered>
         ensures { result ≡ unacked_in self.now link place }
     {
-        let window = &self.link.window;
-        if link >= LINKS {
-            return None;
-        }
-        let Some(number) = window.unacked_at(usize::from(place)) else {
+        let Some(link) = self.parts.links.get(usize::from(link)) else {
             return None;
         };
-        let fsn = (window.last() + 1 + place) % 128;
+        let Some(number) = link.window.unacked_at(usize::from(place)) else {
+            return None;
+        };
+        let fsn = (link.window.last() + 1 + place) % 128;
         Some(Numbered { number, fsn })
     }
 
-    /// A law: the numbers 0, 1, .. stand in one row each, no link has more than 127 unacknowledged
-    /// messages, and the BSN that a link sends is the number of the body it last accepted.
+    /// A law: the numbers 0, 1, .. stand in one row each; of each link, at most 127 messages are
+    /// unacknowledged, the BSN that it sends is the number of the body it last accepted, and once it
+    /// settled no message stands on it.
     pub fn is_sound(&self)
         ensures { IsSound self.now }
     {
-        let _ = &self.link;
+        self.parts.rows.is_sound();
+        are_windows(&self.parts.links);
+    }
+}
+
+/// The links of a set, none of which was up.
+fn new_links(alloc: Global, config: &SetConfig) -> Result<Vec<Link>, SetFault>
+    ensures count { IfOk result (λ links. length links.items ≡ config.now.links) }
+    ensures fresh { IfOk result (λ links. (number : ℕ) → AtLink number links.items (λ link. (link_of link ≡ new_link config.now.method) × IsEmpty link.window × (link.octets ≡ 0))) }
+    ensures fault { IfErr result (λ fault. fault ≡ SetFault.NoMemory) }
+{
+    let mut links = Vec::new(alloc);
+    for _ in 0..config.links {
+        let link = Link::new(alloc, config.method)?;
+        links.push(link)?;
+    }
+    Ok(links)
+}
+
+/// At most 127 messages of each link are unacknowledged, as its window knows.
+fn are_windows(links: &[Link])
+    ensures { (number : ℕ) → AtLink number links.now (λ link. length link.window.unacked ≤ 127) }
+{
+    for link in links {
+        let _ = link.window.unacked_len();
     }
 }

@@ -1,21 +1,17 @@
 //! What a set keeps of one of its links.
-ghost use Rattle.std.specs.Prelude.{◌≡◌, ◌+◌, ◌<◌, ◌≤◌, ◌++◌, ◌∷◌, [], IfOk, length, if◌then◌else◌};
-ghost use Rattle.std.specs.Prelude.{Option, None, Some, true};
-ghost use Rattle.l2_window.specs.Window.{IsEmpty, WindowState};
-ghost use Rattle.set_step.specs.Agreement.{link_of, service_refusal};
-ghost use Rattle.set_step.specs.Set.{new_link, numbers};
+ghost use Rattle.std.specs.Prelude.{◌≡◌, ◌+◌, ◌<◌, ◌≤◌, ◌^◌, ◌++◌, ◌∷◌, [], false, IfOk};
+ghost use Rattle.l2_window.specs.Window.{IsEmpty};
+ghost use Rattle.set_step.specs.Agreement.{link_of};
+ghost use Rattle.set_step.specs.Control.{start_of};
+ghost use Rattle.set_step.specs.Set.{new_link, last_accepted};
 
 use super::control::Control;
-use super::row::Row;
-use arrayvec::ArrayVec;
-use l2_window::{MOST_UNACKED, Window};
-use set_events::{Fate, Method, Refusal};
+use super::phase::Phase;
+use l2_window::Window;
+use set_events::Method;
 use std::alloc::{AllocError, Global};
 
-/// How many links a set has, until sets of several come.
-pub(crate) const LINKS: u8 = 1;
-
-/// A link in its present life.
+/// A link in its present life, or its last one.
 ///
 /// ```text
 ///            window                              rows (by their numbers)
@@ -23,10 +19,10 @@ pub(crate) const LINKS: u8 = 1;
 /// ```
 #[derive(Debug, Drop)]
 pub struct Link {
-    /// How its messages are kept safe.
-    pub(crate) method: Method,
-    /// Whether it's in service.
-    pub(crate) up: bool,
+    /// Where it stands in its life.
+    pub(crate) phase: Phase,
+    /// The last life ended as an emergency: the FSN last accepted wasn't known.
+    pub(crate) blind: bool,
     /// How many of its messages were acknowledged since its last Up.
     pub(crate) acked: u64,
     /// How many of the far end's bodies were accepted since its last Up.
@@ -47,8 +43,8 @@ impl Link {
         ensures octets { IfOk result (λ link. link.octets ≡ 0) }
     {
         Ok(Link {
-            method,
-            up: false,
+            phase: Phase::Settled,
+            blind: false,
             acked: 0,
             accepted: 0,
             octets: 0,
@@ -57,39 +53,29 @@ impl Link {
         })
     }
 
-    /// Why an event of this link that needs it in service is refused, if it is.
-    pub(crate) fn out_of_service(&self, number: u8) -> Option<Refusal>
-        ensures { result ≡ service_refusal number self.now.up }
+    /// The link is in service from now on; its error control starts anew.
+    pub(crate) fn rise(&mut self, method: Method)
+        ensures { self.new ≡ record self.old { phase = Phase.Up; blind = false; acked = 0; accepted = 0; control = start_of method } }
     {
-        if number >= LINKS {
-            Some(Refusal::NoSuchLink)
-        } else if !self.up {
-            Some(Refusal::NotUp)
-        } else {
-            None
-        }
+        self.phase = Phase::Up;
+        self.blind = false;
+        self.acked = 0;
+        self.accepted = 0;
+        self.control = Control::new(method);
     }
 
-    /// Where a new message of this number stands: it waits for the link, or is parked where that
-    /// never was up.
-    pub(crate) fn fate_of_new(&mut self, number: u64) -> Fate
-        requires { 0 < self.old.window.room }
-        ensures fate { result ≡ (if self.old.up then Fate.Waiting 0 else Fate.Parked) }
-        ensures same { self.new ≡ record self.old { window = self.new.window } }
-        ensures last { self.new.window.last ≡ self.old.window.last }
-        ensures unacked { self.new.window.unacked ≡ self.old.window.unacked }
-        ensures unsent { self.new.window.unsent ≡ (if self.old.up then self.old.window.unsent ++ number ∷ [] else self.old.window.unsent) }
+    /// The FSN last accepted in its present life, or its last one; 127 if it had none.
+    pub(crate) fn last_accepted(&self) -> u8
+        requires { self.now.accepted < 2 ^ 63 }
+        ensures value { result ≡ last_accepted (link_of self.now) }
+        ensures few { result < 128 }
     {
-        if !self.up {
-            return Fate::Parked;
-        }
-        queue(&mut self.window, number);
-        Fate::Waiting { link: 0 }
+        ((self.accepted + 127) % 128) as u8
     }
 }
 
 /// The message of this number waits last.
-fn queue(window: &mut Window, number: u64)
+pub(crate) fn queue(window: &mut Window, number: u64)
     requires { 0 < window.old.room }
     ensures last { window.new.last ≡ window.old.last }
     ensures unacked { window.new.unacked ≡ window.old.unacked }
@@ -100,29 +86,4 @@ fn queue(window: &mut Window, number: u64)
         Ok(()) => (),
         Err(_) => unreachable!(),
     }
-}
-
-/// The messages of these rows wait, in their order.
-pub(crate) fn queue_all(window: &mut Window, rows: &[Row])
-    requires { length rows.now ≤ window.old.room }
-    ensures last { window.new.last ≡ window.old.last }
-    ensures unacked { window.new.unacked ≡ window.old.unacked }
-    ensures unsent { window.new.unsent ≡ window.old.unsent ++ numbers rows.now }
-{
-    for row in rows {
-        queue(window, row.number);
-    }
-}
-
-/// The numbers of the unacknowledged messages, oldest first.
-pub(crate) fn unacknowledged(window: &Window) -> ArrayVec<u64, MOST_UNACKED>
-    ensures value { result.items ≡ window.now.unacked }
-{
-    let mut numbers = ArrayVec::new();
-    for place in 0..window.unacked_len() {
-        if let Some(number) = window.unacked_at(place) {
-            numbers.push(number);
-        }
-    }
-    numbers
 }

@@ -1,7 +1,9 @@
-use Rattle.std.proofs.Common.{◌≡◌, ◌∙◌, ◌∷◌, ◌+◌, ap, sym, drop}
+use Rattle.std.proofs.Common.{arith, ◌≡◌, ◌∙◌, ◌∷◌, ◌+◌, ◌^◌, ap, sym, drop}
 use Rattle.std.proofs.lemmas.List.{drop_more}
 use Rattle.set_events.specs.declared.history.Entry.{Entry}
 use Rattle.set_core.proofs.Keeping.{goes_on}
+use Rattle.set_step.proofs.Bounds.{few_more}
+use Rattle.set_step.specs.Step.{Outcome}
 use Rattle.set_core.proofs.auditing.audit.Goals as goal
 
 pub loop-entry-preserved : goal.loop-entry-preserved
@@ -14,3 +16,13 @@ loop-entry-preserved c =
       few = c.apply.ensures.few i l.few;
       left = (λ x. l.left.0 (rw split (step.1 x)), λ x. step.0 (rw split at (l.left.1 x)));
     }
+
+pub apply-requires : goal.apply-requires
+apply-requires c = few_more c.loop-entry.entry-index (2 ^ 48) c.loop-entry.core (grind (arith, c.loop-entry-test.true, c.if-entries-gt-LONGEST_HISTORY.false)) c.loop-entry.invariant.few
+
+pub returns-then-not-same-clause-legal : goal.returns-then-not-same-clause-legal
+returns-then-not-same-clause-legal c =
+    let l = c.loop-entry.invariant in
+    let i = c.loop-entry.entry-index in
+    let split : drop i c.args.entries.now ≡ c.entry-item.result ∷ drop (i + 1) c.args.entries.now = drop_more c.args.entries.now i c.entry-item.result c.loop-entry-test.true ∙ ap (λ (e : Entry). e ∷ drop (i + 1) c.args.entries.now) (sym c.entry-item.is) in
+    (λ no. cc, λ legal. let here = rw split at (l.left.1 legal) in let same = c.same.ensures.1 (sym (here.1 ∙ ap (λ (o : Outcome). o.answer) c.in_ok-answer.ensures.ok)) in let differs = c.if-not-same.true in cc)

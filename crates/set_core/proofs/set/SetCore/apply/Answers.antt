@@ -60,3 +60,9 @@ returns-clause-gains c =
 
 pub returns-clause-bounded : goal.returns-clause-bounded
 returns-clause-bounded c = bounded (new_state c.self.inside.config) c.apply.new.self c.count.new.self c.push.new.self.items (kept c)
+
+pub invariant_of-self : goal.invariant_of-self
+invariant_of-self c = rw (c.reserve.ensures.items) c.self.invariant
+
+pub invariant_of-self-in_err-answer : goal.invariant_of-self-in_err-answer
+invariant_of-self-in_err-answer c = rw (c.reserve.ensures.items) (rw (c.in_err-answer.ensures.err) c.self.invariant)

@@ -1,6 +1,6 @@
 use Rattle.std.proofs.Common.{arith, ◌≡◌, ◌^◌, ap}
 use Rattle.set_events.specs.declared.answer.Counts.{Counts}
-use Rattle.set_step.specs.Set.{counts_of}
+use Rattle.set_rows.specs.Rows.{counts_of}
 use Rattle.set_core.specs.History.{is_user, is_terminal}
 use Rattle.set_core.proofs.Calls.{all_few}
 use Rattle.set_core.proofs.Keeping.{messages_few, within}

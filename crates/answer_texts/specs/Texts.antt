@@ -1,0 +1,76 @@
+-- THE PRINTED TEXTS: what a line of the script prints, each ended by LF.
+use Rattle.std.specs.Prelude.{ℕ, List, ◌++◌, Option, Some, None, codes, decimal}
+use Rattle.l2_bits.specs.SealedText.{sealed_text}
+use Rattle.l2_units.specs.Grammar.{text}
+use Rattle.set_events.specs.Numbers.{refusal_number, fault_number, cause_number}
+use Rattle.set_events.specs.declared.answer.Fate.{Fate}
+use Rattle.set_events.specs.declared.answer.Fate.TheVariants.{Waiting, Unacked, Acked, Held, Parked, Discarded}
+use Rattle.set_events.specs.declared.answer.Took.{Took}
+use Rattle.set_events.specs.declared.answer.Took.TheVariants.{Nothing, Message, Order, Ignored}
+use Rattle.set_events.specs.declared.answer.ControlFault.{ControlFault}
+use Rattle.set_events.specs.declared.answer.Report.{Report}
+use Rattle.set_events.specs.declared.answer.Counts.{Counts}
+use Rattle.set_events.specs.declared.answer.Answer.{Answer}
+use Rattle.set_events.specs.declared.answer.Answer.TheVariants.{Accepted, Taken, Found, Sent, Heard, Done, Refused}
+use Rattle.set_rows.specs.Rows.{total_of}
+use Rattle.play_script.specs.declared.script.End.{End}
+use Rattle.play_script.specs.declared.script.End.TheVariants.{A, B}
+use Rattle.play_script.specs.declared.shown.Shown.{Shown}
+use Rattle.play_script.specs.declared.shown.Shown.TheVariants.{Up, Lost, Answered}
+use Rattle.figures.specs.Figures.{hex_text, bit}
+
+abbrev pub fate_text : Fate → List ℕ
+fate_text (Waiting link) = codes "found waiting " ++ (decimal link ++ codes "\n")
+fate_text (Unacked link) = codes "found unacked " ++ (decimal link ++ codes "\n")
+fate_text (Acked link) = codes "found acked " ++ (decimal link ++ codes "\n")
+fate_text (Held link) = codes "found held " ++ (decimal link ++ codes "\n")
+fate_text Parked = codes "found parked\n"
+fate_text (Discarded cause) = codes "found discarded " ++ (decimal (cause_number cause) ++ codes "\n")
+
+abbrev pub took_text : Took → List ℕ
+took_text Nothing = codes "nothing"
+took_text Message = codes "message"
+took_text Order = codes "order"
+took_text Ignored = codes "ignored"
+
+abbrev pub fault_code : Option ControlFault → ℕ
+fault_code None = 0
+fault_code (Some fault) = fault_number fault
+
+abbrev pub report_text : Report → List ℕ
+report_text r =
+    codes "heard acked=" ++ (decimal r.acked ++ (codes " took=" ++ (took_text r.took ++ (codes " asked=" ++ (decimal (bit r.asked)
+    ++ (codes " resend=" ++ (decimal (bit r.resend) ++ (codes " fault=" ++ (decimal (fault_code r.fault) ++ codes "\n")))))))))
+
+-- a sent unit is printed with its check octets
+abbrev pub answer_text : Answer → List ℕ
+answer_text (Accepted number) = codes "accepted " ++ (decimal number ++ codes "\n")
+answer_text (Taken body) = codes "taken " ++ (hex_text body.items ++ codes "\n")
+answer_text (Found fate) = fate_text fate
+answer_text (Sent unit) = codes "sent " ++ (hex_text (sealed_text (text unit)) ++ codes "\n")
+answer_text (Heard report) = report_text report
+answer_text Done = codes "done\n"
+answer_text (Refused why) = codes "refused " ++ (decimal (refusal_number why) ++ codes "\n")
+
+abbrev pub shown_text : Shown → List ℕ
+shown_text Up = codes "up\n"
+shown_text Lost = codes "lost\n"
+shown_text (Answered answer) = answer_text answer
+
+abbrev pub end_name : End → List ℕ
+end_name A = codes "a"
+end_name B = codes "b"
+
+-- how the users' messages of an end stand when the script ends; `accepted` is all of them
+abbrev pub link_counts : End → Counts → List ℕ
+link_counts end c =
+    codes "end " ++ (end_name end ++ (codes " accepted=" ++ (decimal (total_of c) ++ (codes " waiting=" ++ (decimal c.waiting
+    ++ (codes " unacked=" ++ (decimal c.unacked ++ (codes " acked=" ++ decimal c.acked))))))))
+
+abbrev pub other_counts : Counts → List ℕ
+other_counts c =
+    codes " held=" ++ (decimal c.held ++ (codes " parked=" ++ (decimal c.parked ++ (codes " back=" ++ (decimal c.back
+    ++ (codes " discarded=" ++ (decimal c.discarded ++ codes "\n")))))))
+
+abbrev pub end_text : End → Counts → List ℕ
+end_text end c = link_counts end c ++ other_counts c

@@ -1,0 +1,15 @@
+//! The texts of what a script's lines show, and of how its ends stand at last.
+//!
+//! | what | its text |
+//! |---|---|
+//! | [`play_script::Shown`], what a line showed: an answer of a set, an up, a loss | [`shown_text`] |
+//! | [`set_events::Counts`] of an end | [`end_text`] |
+//!
+//! Each text is a line, ended by LF, and fails only where memory is wanted. Numbers are decimal, octets are
+//! hexadecimal in lower case, and a sent unit is printed with its check octets. `specs/Texts.antt` has the
+//! words. This crate knows no set and no pair.
+#![tactic(auto)]
+
+mod texts;
+
+pub use texts::{end_text, shown_text};

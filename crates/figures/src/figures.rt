@@ -1,0 +1,124 @@
+//! Numbers and hexadecimal, as the script writes them.
+ghost use Rattle.std.specs.Prelude.{◌≡◌, [], ◌∷◌, ◌++◌, ◌<◌, ◌+◌, ◌-◌, ◌*◌, IfOk, OnOk, MatchOption, true};
+ghost use Rattle.std.specs.Option.{option_and_then, option_map};
+ghost use Rattle.figures.specs.Figures.{number_of as number_in, number_below as number_in_range, hex_value, octet_of as octet_in, octets_of as octets_in, digits_behind, below_2_64, hex_text, hex_digit, is_digit, NoDigitFits, bit as bit_of};
+
+use std::alloc::{AllocError, Global};
+
+/// The decimal number below 2^64 of a word without leading zeros.
+pub fn number_of(word: &[u8]) -> Option<u64>
+    ensures { result ≡ number_in word.now }
+{
+    let [first, rest @ ..] = word else {
+        return None;
+    };
+    if *first == b'0' {
+        return if rest.is_empty() { Some(0) } else { None };
+    }
+    value_of(word)
+}
+
+/// The value of decimal digits, if it's below 2^64.
+fn value_of(word: &[u8]) -> Option<u64>
+    ensures { result ≡ option_and_then below_2_64 (digits_behind 0 word.now) }
+{
+    let mut value: u64 = 0;
+    for c in word {
+        match with_digit(value, *c) {
+            Some(next) => value = next,
+            None => return None,
+        }
+    }
+    Some(value)
+}
+
+/// The value with one decimal digit more behind it, if it's below 2^64.
+fn with_digit(value: u64, c: u8) -> Option<u64>
+    ensures { MatchOption result (NoDigitFits value c) (λ next. (is_digit c ≡ true) × (next ≡ 10 * value + (c - 48))) }
+{
+    if c < b'0' || c > b'9' {
+        return None;
+    }
+    match value.checked_mul(10) {
+        Some(tens) => tens.checked_add((c - b'0') as u64),
+        None => None,
+    }
+}
+
+/// The value of a hexadecimal digit of either case.
+fn value_of_hex(c: u8) -> Option<u8>
+    ensures { result ≡ hex_value c }
+{
+    match c {
+        b'0'..=b'9' => Some(c - b'0'),
+        b'A'..=b'F' => Some(c - b'A' + 10),
+        b'a'..=b'f' => Some(c - b'a' + 10),
+        _ => None,
+    }
+}
+
+/// The octet of two hexadecimal digits.
+fn octet_at(high: u8, low: u8) -> Option<u8>
+    ensures { result ≡ octet_in (high ∷ low ∷ []) }
+{
+    let high = value_of_hex(high)?;
+    let low = value_of_hex(low)?;
+    Some(16 * high + low)
+}
+
+/// The octet of a word of two hexadecimal digits.
+pub fn octet_of(word: &[u8]) -> Option<u8>
+    ensures { result ≡ octet_in word.now }
+{
+    let [high, low] = word else {
+        return None;
+    };
+    octet_at(*high, *low)
+}
+
+/// The octets of hexadecimal digits, two each.
+pub fn octets_of(alloc: Global, word: &[u8]) -> Result<Option<Vec<u8>>, AllocError>
+    ensures { IfOk result (λ found. option_map (λ octets. octets.items) found ≡ octets_in word.now) }
+{
+    if word.len() % 2 == 1 {
+        return Ok(None);
+    }
+    let mut octets = Vec::new(alloc);
+    for place in 0..word.len() / 2 {
+        match octet_at(word[2 * place], word[2 * place + 1]) {
+            Some(octet) => octets.push(octet)?,
+            None => return Ok(None),
+        }
+    }
+    Ok(Some(octets))
+}
+
+/// The hexadecimal digit of a value below 16, in lower case.
+fn digit_of(value: u8) -> u8
+    requires { value < 16 }
+    ensures { result ≡ hex_digit value }
+{
+    if value < 10 {
+        value + b'0'
+    } else {
+        value + (b'a' - 10)
+    }
+}
+
+/// Writes octets at the end, two digits each, in lower case.
+pub fn push_hex(text: &mut Vec<u8>, octets: &[u8]) -> Result<(), AllocError>
+    ensures { OnOk result (text.new.items ≡ text.old.items ++ hex_text octets.now) }
+{
+    for octet in octets {
+        text.push(digit_of(*octet / 16))?;
+        text.push(digit_of(*octet % 16))?;
+    }
+    Ok(())
+}
+
+/// 1 for yes and 0 for no.
+pub fn bit(yes: bool) -> u8
+    ensures { result ≡ bit_of yes }
+{
+    if yes { 1 } else { 0 }
+}

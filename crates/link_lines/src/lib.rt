@@ -1,0 +1,20 @@
+//! The units under way to one end of a pair of ends, on each of its links.
+//!
+//! ```text
+//! link 0   unit unit unit          oldest first: place 0 is the next to arrive
+//! link 1
+//! ..
+//! link 15  unit                    a line for each link
+//! ```
+//!
+//! [`Lines`] keeps the lines: a unit joins a line at its end and leaves it from any place, and a line can
+//! be emptied. No call touches the line of another link. Whether a unit that leaves was heard or lost is
+//! the caller's to know; this crate knows no set and no event.
+#![tactic(auto)]
+
+mod line;
+mod lines;
+#[cfg(test)]
+mod tests;
+
+pub use lines::Lines;

@@ -1,0 +1,68 @@
+//! A line for each link.
+use super::line::Line;
+use l2_units::Unit;
+use std::alloc::{AllocError, AllocFailed, Global};
+use std::marker::Model;
+
+/// The units under way to one end, a line for each link. Contracts see the list of the lines, each
+/// the list of its units, oldest first.
+#[derive(Drop)]
+pub struct Lines {
+    lines: Vec<Line>,
+}
+
+impl Model for Lines {
+    ghost use Rattle.std.specs.Prelude.{List};
+    ghost use Rattle.l2_units.specs.declared.unit.Unit.{Unit as SignalUnit};
+
+    ghost Value = { List (List SignalUnit) };
+
+    ghost view = { λ l. l.lines.items };
+}
+
+impl Lines {
+    ghost use Rattle.std.specs.Prelude.{◌≡◌, ◌<◌, ◌≤◌, [], length, IfOk, OnOk, OnErr};
+    ghost use Rattle.link_lines.specs.Lines.{no_units, joined_on, with_units, IsTakenOut};
+
+    /// A line for each of so many links, with nothing under way; it fails only where memory is wanted.
+    pub fn new(alloc: Global, links: u8) -> Result<Lines, AllocError>
+        ensures { IfOk result (λ lines. lines ≡ no_units links) }
+    {
+        let mut lines = Vec::new(alloc);
+        for _ in 0..links {
+            lines.push(Line::new(alloc))?;
+        }
+        Ok(Lines { lines })
+    }
+
+    /// The unit joins the line of this link; where memory is wanted, no line has changed.
+    ///
+    /// Condition: there is such a link.
+    pub fn join(&mut self, link: u8, unit: Unit) -> Result<(), AllocFailed<Unit>>
+        requires { link < length self.old }
+        ensures ok { OnOk result (self.new ≡ joined_on link unit self.old) }
+        ensures err { OnErr result (self.new ≡ self.old) }
+    {
+        self.lines[link as usize].join(unit)
+    }
+
+    /// Takes the unit at this place, from 0, out of the line of this link, if there is one.
+    ///
+    /// Condition: there is such a link.
+    pub fn taken_out(&mut self, link: u8, place: u64) -> Option<Unit>
+        requires { link < length self.old }
+        ensures { IsTakenOut result link place self.old self.new }
+    {
+        self.lines[link as usize].taken_out(place)
+    }
+
+    /// Nothing is under way on this link any more.
+    ///
+    /// Condition: there is such a link.
+    pub fn clear(&mut self, link: u8)
+        requires { link < length self.old }
+        ensures { self.new ≡ with_units link [] self.old }
+    {
+        self.lines[link as usize].clear();
+    }
+}

@@ -1,6 +1,0 @@
-use Rattle.std.proofs.Common.{◌≡◌, ◌++◌, drop}
-use Rattle.mtpbank.specs.Figures.{hex_text}
-use Rattle.mtpbank.proofs.figures.push_hex.Given as goal
-
-abbrev pub invariant-loop-octet : goal.invariant-loop-octet
-invariant-loop-octet l = l.text.items ++ hex_text (drop l.octet-index l.octets) ≡ l.initial.text.items ++ hex_text l.octets

@@ -1,5 +1,0 @@
-use Rattle.mtpbank.proofs.ReaderLemmas.{units_reads}
-use Rattle.mtpbank.proofs.units_reading.UnitsReaderPrinter.read.Goals as goal
-
-pub returns : goal.returns
-returns c = units_reads c.read_all.result _ _ _ _ _ c.read_all.ensures

@@ -1,0 +1,30 @@
+-- What the first line's reader gave, beside the definition.
+use Rattle.std.specs.Prelude.{◌≡◌, ℕ, List, Some}
+use Rattle.set_events.specs.declared.config.SetConfig.{SetConfig}
+use Rattle.play_script.specs.declared.opening.SixWords.{SixWords as Words}
+use Rattle.play_script.specs.declared.script.Opening.{Opening}
+use Rattle.play_script.specs.declared.script.Values.{Values}
+use Rattle.play_script.specs.Script.{SixWords, fitting, first_line}
+
+abbrev pub six_of : Words → SixWords
+six_of w = record { kind = w.kind.now; links = w.links.now; method = w.method.now; code_a = w.code_a.now; code_b = w.code_b.now; sio = w.sio.now }
+
+-- an end with its own point code and the far end's
+pub record IsEnd (values : Values) (own far : ℕ) (config : SetConfig) : Type 0 where
+  pub links_is : config.links ≡ values.links
+  pub method_is : config.method ≡ values.method
+  pub sio_is : config.sio ≡ values.sio
+  pub opc_is : config.opc ≡ own
+  pub dpc_is : config.dpc ≡ far
+
+-- both ends are made of these values
+pub record IsMadeOf (values : Values) (opening : Opening) : Type 0 where
+  pub fit : fitting values ≡ Some values
+  pub end_a : IsEnd values values.code_a values.code_b opening.a
+  pub end_b : IsEnd values values.code_b values.code_a opening.b
+
+-- both ends are made of the values of the first line
+pub record IsOpening (text : List ℕ) (opening : Opening) : Type 0 where
+  pub values : Values
+  pub read : first_line text ≡ Some values
+  pub made : IsMadeOf values opening

@@ -1,0 +1,171 @@
+//! The first line of a script: `set links=L method=W a=X b=Y sio=HH`.
+ghost use Rattle.std.specs.Prelude.{◌≡◌, ◌+◌, ◌^◌, ◌<◌, IfOk, MatchOption, None, Some, codes, position, take, drop, length};
+ghost use Rattle.std.specs.Option.{option_and_then, option_map, option_copied, ForSome};
+ghost use Rattle.figures.specs.Figures.{number_below as number_in_range};
+ghost use Rattle.play_script.specs.Script.{is_colon, limits_of as limits_in, method_of as method_in, value_in, links_of as links_in, code_of as code_in, sio_of as sio_in, six_words as six_words_in, values_of as values_in, fitting, first_line};
+ghost use Rattle.play_script.specs.Opened.{six_of, IsOpening, IsMadeOf};
+
+use super::reading::{cut, is_word};
+use super::script::{Opening, Values};
+use figures::{number_of, octet_of};
+use set_events::{Method, SetConfig};
+
+/// The words of the first line.
+#[derive(Clone, Copy)]
+struct SixWords<'a> {
+    kind: &'a [u8],
+    links: &'a [u8],
+    method: &'a [u8],
+    code_a: &'a [u8],
+    code_b: &'a [u8],
+    sio: &'a [u8],
+}
+
+/// What the first line says; `None`: it's unreadable.
+pub fn opening_of(text: &[u8]) -> Option<Opening>
+    ensures { MatchOption result (first_line text.now ≡ None) (IsOpening text.now) }
+{
+    ends_of(values_of(six_words(text)?)?)
+}
+
+/// The values that the six words give.
+fn values_of(words: SixWords<'_>) -> Option<Values>
+    ensures { result ≡ values_in (six_of words.entry) }
+{
+    if !is_word(words.kind, b"set") {
+        return None;
+    }
+    let links = links_of(words.links)?;
+    let method = method_of(words.method)?;
+    let code_a = code_of(b"a=", words.code_a)?;
+    let code_b = code_of(b"b=", words.code_b)?;
+    let sio = sio_of(words.sio)?;
+    Some(Values {
+        links,
+        method,
+        code_a,
+        code_b,
+        sio,
+    })
+}
+
+/// The configurations of both ends, if these values fit.
+fn ends_of(values: Values) -> Option<Opening>
+    ensures { MatchOption result (fitting values ≡ None) (IsMadeOf values) }
+{
+    let Values {
+        links,
+        method,
+        code_a,
+        code_b,
+        sio,
+    } = values;
+    let Ok(a) = SetConfig::new(0, links, code_a, code_b, sio, method) else {
+        return None;
+    };
+    let Ok(b) = SetConfig::new(0, links, code_b, code_a, sio, method) else {
+        return None;
+    };
+    Some(Opening { a, b })
+}
+
+/// The six words of a line; the sixth may hold spaces.
+fn six_words(text: &[u8]) -> Option<SixWords<'_>>
+    ensures { MatchOption result (six_words_in text.now ≡ None) (λ words. six_words_in text.now ≡ Some (six_of words)) }
+{
+    let (kind, words) = cut(text);
+    let (links, words) = cut(words?);
+    let (method, words) = cut(words?);
+    let (code_a, words) = cut(words?);
+    let (code_b, words) = cut(words?);
+    let sio = words?;
+    Some(SixWords {
+        kind,
+        links,
+        method,
+        code_a,
+        code_b,
+        sio,
+    })
+}
+
+/// The value of a word NAME=VALUE with this name and its sign.
+fn value_in_word<'a>(name: &[u8], word: &'a [u8]) -> Option<&'a [u8]>
+    ensures { option_copied result ≡ value_in name.now word.now }
+{
+    if word.len() < name.len() {
+        return None;
+    }
+    let (front, back) = word.split_at(name.len());
+    if is_word(front, name) {
+        Some(back)
+    } else {
+        None
+    }
+}
+
+/// `links=L`, L below 256.
+fn links_of(word: &[u8]) -> Option<u8>
+    ensures { result ≡ links_in word.now }
+{
+    let number = number_of(value_in_word(b"links=", word)?)?;
+    if number < 256 {
+        Some(number as u8)
+    } else {
+        None
+    }
+}
+
+/// `method=basic` or `method=cyclic:N1:N2`
+fn method_of(word: &[u8]) -> Option<Method>
+    ensures { result ≡ method_in word.now }
+{
+    if is_word(word, b"method=basic") {
+        return Some(Method::Basic);
+    }
+    limits_of(value_in_word(b"method=cyclic:", word)?)
+}
+
+/// `N1:N2`, N1 below 256, N2 below 2^32.
+fn limits_of(word: &[u8]) -> Option<Method>
+    ensures { result ≡ limits_in word.now }
+{
+    let colon = colon_in(word)?;
+    let n1 = number_of(&word[..colon])?;
+    let n2 = number_of(&word[colon + 1..])?;
+    if n1 < 256 && n2 < 0x1_0000_0000 {
+        Some(Method::Cyclic {
+            n1: n1 as u8,
+            n2: n2 as u32,
+        })
+    } else {
+        None
+    }
+}
+
+/// The place of the first colon.
+fn colon_in(word: &[u8]) -> Option<usize>
+    ensures place { result ≡ position is_colon word.now }
+    ensures within { ForSome result (λ place. place < length word.now) }
+{
+    word.iter().position(|c| *c == b':')
+}
+
+/// A point code below 65,536 behind a name and its sign.
+fn code_of(name: &[u8], word: &[u8]) -> Option<u16>
+    ensures { result ≡ code_in name.now word.now }
+{
+    let number = number_of(value_in_word(name, word)?)?;
+    if number < 65_536 {
+        Some(number as u16)
+    } else {
+        None
+    }
+}
+
+/// `sio=HH`
+fn sio_of(word: &[u8]) -> Option<u8>
+    ensures { result ≡ sio_in word.now }
+{
+    octet_of(value_in_word(b"sio=", word)?)
+}

@@ -1,0 +1,2 @@
+pub mod PlayText
+pub mod Playing

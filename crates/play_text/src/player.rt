@@ -1,0 +1,137 @@
+//! A script under way: the line that is being read, and the pair.
+
+use super::whole_line::{add_ends, end_line};
+use pair_world::Pair;
+use printing::{Fault, Printer};
+use std::alloc::Global;
+use std::marker::Model;
+
+/// The most octets of a line, without its LF.
+const LONGEST_LINE: usize = 4096;
+
+/// A script under way.
+#[derive(Drop)]
+pub(crate) struct Player {
+    alloc: Global,
+    /// The number of the line that is being read, from 1.
+    line: u64,
+    /// The octets of that line so far.
+    text: Vec<u8>,
+    /// The pair, once the first line has made it.
+    pair: Option<Pair>,
+}
+
+impl Model for Player {
+    ghost use Rattle.play_text.specs.Playing.{Reading, IsReading};
+
+    ghost Value = { Reading };
+
+    ghost view = { λ p. record { line = p.line; text = p.text.items; pair = p.pair } };
+
+    ghost invariant = { λ p. IsReading p.text.items };
+}
+
+impl Player {
+    ghost use Rattle.std.specs.Prelude.{◌≡◌, ◌≢◌, [], ◌∷◌, None};
+    ghost use Rattle.play_text.specs.Playing.{AdvancesOrHalts, Finishes};
+
+    /// Before the first octet.
+    pub(crate) fn new(alloc: Global) -> Player
+        ensures { result ≡ record { line = 1; text = []; pair = None } }
+    {
+        Player {
+            alloc,
+            line: 1,
+            text: Vec::new(alloc),
+            pair: None,
+        }
+    }
+
+    /// Reads one octet.
+    fn take(&mut self, octet: u8, out: &mut Vec<u8>) -> Result<(), Fault>
+        ensures { AdvancesOrHalts result self.old (octet ∷ []) out.old.items out.new.items self.new }
+    {
+        if octet == b'\n' {
+            self.end_line(out)
+        } else {
+            self.add(octet, out)
+        }
+    }
+
+    /// Reads the LF that ends a line.
+    fn end_line(&mut self, out: &mut Vec<u8>) -> Result<(), Fault>
+        ensures { AdvancesOrHalts result self.old (10 ∷ []) out.old.items out.new.items self.new }
+    {
+        match end_line(self.alloc, &mut self.pair, &self.text, self.line, out) {
+            Ok(()) => {
+                self.text.clear();
+                self.line = self.line.saturating_add(1);
+                Ok(())
+            }
+            Err(fault) => Err(fault),
+        }
+    }
+
+    /// Reads an octet that ends no line.
+    fn add(&mut self, octet: u8, out: &mut Vec<u8>) -> Result<(), Fault>
+        requires { octet ≢ 10 }
+        ensures { AdvancesOrHalts result self.old (octet ∷ []) out.old.items out.new.items self.new }
+    {
+        let _ = out;
+        if self.text.len() >= LONGEST_LINE {
+            return Err(Fault::Text { line: self.line });
+        }
+        let Ok(()) = self.text.push(octet) else {
+            return Err(Fault::Memory);
+        };
+        Ok(())
+    }
+
+    /// Reads these octets.
+    fn read_all(&mut self, octets: &[u8], out: &mut Vec<u8>) -> Result<(), Fault>
+        ensures { AdvancesOrHalts result self.old octets.now out.old.items out.new.items self.new }
+    {
+        for octet in octets {
+            match self.take(*octet, out) {
+                Ok(()) => (),
+                Err(fault) => return Err(fault),
+            }
+        }
+        Ok(())
+    }
+
+    /// The input has ended: the last line may lack its LF, and both ends are told.
+    fn finish(self, out: &mut Vec<u8>) -> Result<(), Fault>
+        ensures { Finishes result self out.old.items out.new.items }
+    {
+        let Player {
+            alloc,
+            line,
+            text,
+            mut pair,
+        } = self;
+        if text.is_empty() {
+            return add_ends(alloc, &pair, out);
+        }
+        match end_line(alloc, &mut pair, &text, line, out) {
+            Ok(()) => add_ends(alloc, &pair, out),
+            Err(fault) => Err(fault),
+        }
+    }
+}
+
+impl Printer for Player {
+    ghost use Rattle.play_text.specs.Playing.{HasPlayed, IsPlayText};
+
+    ghost is_text = { IsPlayText };
+
+    ghost has_read = { λ player past lines. HasPlayed past lines player };
+
+    fn read(&mut self, octets: &[u8], out: &mut Vec<u8>) -> Result<(), Fault> {
+        self.read_all(octets, out)
+    }
+
+    fn end(self, out: &mut Vec<u8>) -> Result<(), Fault> {
+        self.finish(out)
+    }
+}

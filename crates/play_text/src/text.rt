@@ -1,0 +1,20 @@
+//! `mtpbank play`: a script of two ends, line by line.
+ghost use Rattle.std.specs.Prelude.{◌≡◌, ◌≤◌, ◌^◌, true, length, IfErr, IfSome, OnOk};
+ghost use Rattle.printing.specs.Printing.{Prints, IsDevices, HasFailed};
+ghost use Rattle.play_text.specs.Playing.{IsPlayText};
+
+use super::player::Player;
+use printing::{Fault, Sink, Source, print_all};
+use std::alloc::Global;
+
+/// Plays the script that the source gives, and writes what its lines print.
+///
+/// Ends with the first fault; what was printed before it stays printed. An input beyond 2^24 octets
+/// or 2^24 read calls is [`Fault::Read`], after the lines that end before that.
+pub fn play<S: Source, W: Sink>(alloc: Global, source: &mut S, sink: &mut W) -> Result<(), Fault>
+    ensures text { IfSome (S.left source.old) (λ input. Prints result (IsPlayText input) (W.written sink.old) (W.written sink.new)) }
+    ensures bounded { IfSome (S.left source.old) (λ input. OnOk result (length input ≤ 2 ^ 24)) }
+    ensures devices { IfSome (S.left source.old) (λ input. IfErr result (λ fault. IsDevices fault (HasFailed (S.has_failed source.new) input) (W.has_failed sink.new ≡ true))) }
+{
+    print_all(alloc, Player::new(alloc), source, sink)
+}

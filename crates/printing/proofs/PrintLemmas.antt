@@ -1,0 +1,209 @@
+-- What is printed and written, piece after piece.
+use Rattle.std.proofs.Common.{refl, arith, ◌≡◌, ◌∙◌, ap, sym, ◌<◌, ◌≤◌, [], length, ℕ, ◌+◌, ◌-◌, ◌^◌, List, ◌++◌, take, drop, Option, Some, None, Result, Ok, Err, IfErr, IfSome, OnOk, subst, length-append, append_assoc, append-nil, take-append-drop}
+use Rattle.std.proofs.lemmas.Grind.{common_steps}
+use Rattle.std.proofs.Math.Seq.{take-add}
+use Rattle.std.specs.Io.KnownBytes.{Appends, Consumes, IsAtEnd}
+use Rattle.std.proofs.KnownBytes.{Appends-trans, Appends-nil, Consumes-trans, Consumes-nil, Consumes-whole}
+use Rattle.printing.specs.declared.fault.Fault.{Fault}
+use Rattle.printing.specs.declared.fault.Fault.TheVariants.{Text, Step, Octet, Memory, Exhausted, Read, Write}
+use Rattle.printing.specs.Printing.{Printed, IsBegun, EndsIn, IsOfText, Ends, ReadsOrStops, Writes, Passes, Breaks, PassesOrBreaks, Closes, Prints, IsDevices}
+
+-- what is written after what was written
+pub appends_more : (a b c : Option (List ℕ)) (xs ys zs : List ℕ) → Appends a b xs → Appends b c ys → zs ≡ xs ++ ys → Appends a c zs
+appends_more a b c xs ys zs p q e = rw e (Appends-trans a b c xs ys p q)
+
+-- a piece of the slice from a place on
+pub length-slice : (octets : List ℕ) (written : ℕ) → length (take (length octets - written) (drop written octets)) ≡ length octets - written
+length-slice octets written = grind (arith, common_steps)
+
+pub take_then : (octets : List ℕ) (written count : ℕ) → count ≤ length (take (length octets - written) (drop written octets)) → take (written + count) octets ≡ take written octets ++ take count (take (length octets - written) (drop written octets))
+take_then octets written count h =
+    let all : take (length octets - written) (drop written octets) ≡ drop written octets = grind (arith, common_steps) in
+    rw all (take-add written count octets)
+
+-- the front of a piece, and the rest of it
+front_of_piece : (buffer : List ℕ) (few count : ℕ) → few ≤ count → take count buffer ≡ take few buffer ++ drop few (take count buffer)
+front_of_piece buffer few count h =
+    let same : take few (take count buffer) ≡ take few buffer = grind (arith, common_steps) in
+    sym (take-append-drop few (take count buffer)) ∙ ap (λ (x : List ℕ). x ++ drop few (take count buffer)) same
+
+-- Beginnings.
+
+-- what was printed before a fault is a beginning of the text
+pub begun_of_end : (fault : Fault) (IsIt : Printed → Type 0) (printed : List ℕ) → ((a b : Printed) → IsIt a → IsIt b → a ≡ b) → EndsIn fault IsIt printed → IsBegun IsIt printed
+begun_of_end (Text n) IsIt printed one e text is = ([], ap (λ (t : Printed). t.printed) (one text _ is e) ∙ sym (append-nil printed))
+begun_of_end (Step n) IsIt printed one e text is = ([], ap (λ (t : Printed). t.printed) (one text _ is e) ∙ sym (append-nil printed))
+begun_of_end (Octet place) IsIt printed one e text is = ([], ap (λ (t : Printed). t.printed) (one text _ is e) ∙ sym (append-nil printed))
+begun_of_end Memory IsIt printed one e text is = e text is
+begun_of_end Exhausted IsIt printed one e text is = ([], ap (λ (t : Printed). t.printed) (one text _ is e) ∙ sym (append-nil printed))
+begun_of_end Read IsIt printed one e text is = e text is
+begun_of_end Write IsIt printed one e text is = e text is
+
+-- and so is what was written of it
+shorter : (IsIt : Printed → Type 0) (lines printed written rest : List ℕ) → printed ≡ written ++ rest → IsBegun IsIt (lines ++ printed) → IsBegun IsIt (lines ++ written)
+shorter IsIt lines printed written rest e b text is =
+    let more = b text is in
+    (rest ++ more.0, more.1 ∙ ap (λ (x : List ℕ). (lines ++ x) ++ more.0) e ∙ ap (λ (x : List ℕ). x ++ more.0) (sym (append_assoc lines written rest)) ∙ append_assoc (lines ++ written) rest more.0)
+
+of_text_devices : (fault : Fault) (R W : Type 0) → IsOfText fault → IsDevices fault R W
+of_text_devices (Text n) R W h = tt
+of_text_devices (Step n) R W h = tt
+of_text_devices (Octet place) R W h = tt
+of_text_devices Memory R W h = tt
+of_text_devices Exhausted R W h = tt
+of_text_devices Read R W h = absurd h
+of_text_devices Write R W h = absurd h
+
+-- What was added is then written.
+
+-- all of it
+all_written : (before after : List ℕ) (a b : Option (List ℕ)) (printed : List ℕ) → before ≡ [] → after ≡ before ++ printed → Writes (Ok tt) after a b → Appends a b printed
+all_written before after a b printed e f w =
+    let whole : w.written ≡ printed = sym (append-nil w.written) ∙ ap (λ (x : List ℕ). w.written ++ x) (sym w.ends) ∙ sym w.split ∙ f ∙ ap (λ (x : List ℕ). x ++ printed) e in
+    rw (← whole) w.added
+
+-- or a front, before the writer failed
+some_written : (before after : List ℕ) (a b : Option (List ℕ)) (printed : List ℕ) (fault : Fault) → before ≡ [] → after ≡ before ++ printed → (w : Writes (Err fault) after a b) → printed ≡ w.written ++ w.more
+some_written before after a b printed fault e f w = ap (λ (x : List ℕ). x ++ printed) (sym e) ∙ sym f ∙ w.split
+
+module _ (IsText : List ℕ → Printed → Type 0) where
+  pub passes : (result : Result (Unit {0}) Fault) (HadRead HasRead : List ℕ → List ℕ → Type 0) (octets before after : List ℕ) (a b : Option (List ℕ)) → before ≡ [] → ReadsOrStops IsText result HadRead octets before after HasRead → Writes (Ok tt) after a b → PassesOrBreaks IsText result HadRead octets a b HasRead
+  passes (Ok done) HadRead HasRead octets before after a b e r w = record { printed = r.printed; added = all_written before after a b r.printed e r.added w; goes_on = r.goes_on; begun = r.begun }
+  passes (Err fault) HadRead HasRead octets before after a b e r w = record { printed = r.printed; added = all_written before after a b r.printed e r.added w; ends = r.ends }
+
+  pub breaks : (result : Result (Unit {0}) Fault) (fault : Fault) (HadRead HasRead : List ℕ → List ℕ → Type 0) (octets before after : List ℕ) (a b : Option (List ℕ)) → before ≡ []
+      → ReadsOrStops IsText result HadRead octets before after HasRead → Writes (Err fault) after a b → Breaks IsText fault HadRead octets a b
+  breaks (Ok done) fault HadRead HasRead octets before after a b e r w = rw w.ends (record {
+    printed = w.written;
+    added = w.added;
+    ends = λ past lines fits had left.
+        shorter (IsText (past ++ (octets ++ left))) lines r.printed w.written w.more (some_written before after a b r.printed fault e r.added w) (r.begun past lines fits had left);
+  })
+  breaks (Err other) fault HadRead HasRead octets before after a b e r w = rw w.ends (record {
+    printed = w.written;
+    added = w.added;
+    ends = λ past lines fits had left.
+        shorter (IsText (past ++ (octets ++ left))) lines r.printed w.written w.more (some_written before after a b r.printed fault e r.added w) (r.begun past lines fits had left);
+  })
+
+  pub closes : (result : Result (Unit {0}) Fault) (HadRead : List ℕ → List ℕ → Type 0) (before after : List ℕ) (a b : Option (List ℕ)) → before ≡ [] → Ends IsText result HadRead before after → Writes (Ok tt) after a b → Closes IsText result HadRead a b
+  closes result HadRead before after a b e r w = record { printed = r.printed; added = all_written before after a b r.printed e r.added w; ends = r.ends }
+
+  pub breaks_off : (result : Result (Unit {0}) Fault) (fault : Fault) (HadRead : List ℕ → List ℕ → Type 0) (before after : List ℕ) (a b : Option (List ℕ)) → before ≡ [] → Ends IsText result HadRead before after → Writes (Err fault) after a b → Closes IsText (Err fault) HadRead a b
+  breaks_off result fault HadRead before after a b e r w = rw w.ends (record {
+    printed = w.written;
+    added = w.added;
+    ends = λ past lines fits had.
+        shorter (IsText past) lines r.printed w.written w.more (some_written before after a b r.printed fault e r.added w) (r.begun past lines fits had);
+  })
+
+-- the fault of a text is none of a device
+pub devices_of_reads : (IsText : List ℕ → Printed → Type 0) (result : Result (Unit {0}) Fault) (HadRead HasRead : List ℕ → List ℕ → Type 0) (octets before after : List ℕ) (W : Type 0) → ReadsOrStops IsText result HadRead octets before after HasRead → IfErr result (λ fault. IsDevices fault ⊥ W)
+devices_of_reads IsText (Ok done) HadRead HasRead octets before after W r = tt
+devices_of_reads IsText (Err fault) HadRead HasRead octets before after W r = of_text_devices fault ⊥ W r.of_text
+
+pub devices_of_ends : (IsText : List ℕ → Printed → Type 0) (result : Result (Unit {0}) Fault) (HadRead : List ℕ → List ℕ → Type 0) (before after : List ℕ) (W : Type 0) → Ends IsText result HadRead before after → IfErr result (λ fault. IsDevices fault ⊥ W)
+devices_of_ends IsText (Ok done) HadRead before after W r = tt
+devices_of_ends IsText (Err fault) HadRead before after W r = of_text_devices fault ⊥ W r.of_text
+
+-- A source that is read piece by piece.
+
+-- some octets were read, what they print was written, and so many may still be read
+pub record Under (IsText : List ℕ → Printed → Type 0) (HasRead : List ℕ → List ℕ → Type 0) (source0 source sink0 sink : Option (List ℕ)) (left counter : ℕ) : Type 0 where
+  pub octets : List ℕ
+  pub printed : List ℕ
+  pub consumed : Consumes source0 source octets
+  pub added : Appends sink0 sink printed
+  pub has : HasRead octets printed
+  pub begun : (rest : List ℕ) → IsBegun (IsText (octets ++ rest)) printed
+  pub count : length octets + left ≡ 2 ^ 24
+  pub calls : counter ≤ length octets
+
+pub under_start : (IsText : List ℕ → Printed → Type 0) (HasRead : List ℕ → List ℕ → Type 0) (source sink : Option (List ℕ)) → HasRead [] [] → Under IsText HasRead source source sink sink (2 ^ 24) 0
+under_start IsText HasRead source sink has = record {
+  octets = [];
+  printed = [];
+  consumed = Consumes-nil source;
+  added = Appends-nil sink;
+  has = has;
+  begun = λ rest text is. (text.printed, refl);
+  count = refl;
+  calls = omega arith;
+}
+
+-- What was read is a front of the input.
+read_front : (s0 s1 : Option (List ℕ)) (octets : List ℕ) (P : List ℕ → Type 0) → Consumes s0 s1 octets → ((rest : List ℕ) → P (octets ++ rest)) → IfSome s0 P
+read_front None s1 octets P c h = tt
+read_front (Some x) None octets P c h = absurd c
+read_front (Some x) (Some y) octets P c h = subst P (sym c) (h y)
+
+pub is_long : (s0 s1 : Option (List ℕ)) (octets : List ℕ) → Consumes s0 s1 octets → 2 ^ 24 ≤ length octets → IfSome s0 (λ input. 2 ^ 24 ≤ length input)
+is_long s0 s1 octets c h = read_front s0 s1 octets (λ input. 2 ^ 24 ≤ length input) c (λ rest. omega (arith, h, length-append octets rest))
+
+module _ (IsText : List ℕ → Printed → Type 0) (Had Has : List ℕ → List ℕ → Type 0) (s0 s1 s2 w0 w1 w2 : Option (List ℕ)) (left counter : ℕ) (u : Under IsText Had s0 s1 w0 w1 left counter) where
+  -- the reader failed
+  pub read_failed : IfSome s0 (λ input. Prints (Err Read) (IsText input) w0 w1)
+  read_failed = read_front s0 s1 u.octets (λ input. Prints (Err Read) (IsText input) w0 w1) u.consumed
+      (λ rest. record { printed = u.printed; added = u.added; ends = u.begun rest })
+
+  -- a piece was passed
+  pub piece_passed : (few count : ℕ) (buffer : List ℕ) → few ≡ count → count ≤ length buffer → Consumes s1 s2 (take count buffer) → Passes IsText Had (take few buffer) w1 w2 Has → 0 < count → count ≤ left
+      → Under IsText Has s0 s2 w0 w2 (left - count) (counter + 1)
+  piece_passed few count buffer e h c p some enough =
+      let long : length (take few buffer) ≡ count = rw e (grind (arith, common_steps)) in record {
+        octets = u.octets ++ take few buffer;
+        printed = u.printed ++ p.printed;
+        consumed = Consumes-trans s0 s1 s2 u.octets (take few buffer) u.consumed (rw e c);
+        added = Appends-trans w0 w1 w2 u.printed p.printed u.added p.added;
+        has = p.goes_on u.octets u.printed (omega (arith, u.count, long, enough)) u.has;
+        begun = λ rest. rw (append_assoc u.octets (take few buffer) rest) (p.begun u.octets u.printed (omega (arith, u.count, long, enough)) u.has rest);
+        count = omega (arith, u.count, long, enough, length-append u.octets (take few buffer));
+        calls = omega (arith, u.calls, long, some, length-append u.octets (take few buffer));
+      }
+
+  -- the octets up to a front of the piece, and what follows
+  with_front : (few count : ℕ) (buffer : List ℕ) (P : List ℕ → Type 0) → few ≤ count → Consumes s1 s2 (take count buffer) → ((rest : List ℕ) → P (u.octets ++ (take few buffer ++ rest))) → IfSome s0 P
+  with_front few count buffer P h c f =
+      read_front s0 s2 (u.octets ++ take count buffer) P (Consumes-trans s0 s1 s2 u.octets (take count buffer) u.consumed c)
+      (λ rest. rw (front_of_piece buffer few count h, append_assoc u.octets (take few buffer ++ drop few (take count buffer)) rest, append_assoc (take few buffer) (drop few (take count buffer)) rest) (f (drop few (take count buffer) ++ rest)))
+
+  short_piece : (few : ℕ) (buffer : List ℕ) → few ≤ left → length u.octets + length (take few buffer) ≤ 2 ^ 24
+  short_piece few buffer h = let short : length (take few buffer) ≤ few = grind (arith, common_steps) in omega (arith, u.count, short, h)
+
+  -- one octet more came than may be read
+  pub piece_too_much : (few count : ℕ) (buffer : List ℕ) → few ≤ count → few ≤ left → Consumes s1 s2 (take count buffer) → Passes IsText Had (take few buffer) w1 w2 Has → IfSome s0 (λ input. Prints (Err Read) (IsText input) w0 w2)
+  piece_too_much few count buffer h k c p = with_front few count buffer (λ input. Prints (Err Read) (IsText input) w0 w2) h c (λ rest. record {
+    printed = u.printed ++ p.printed;
+    added = Appends-trans w0 w1 w2 u.printed p.printed u.added p.added;
+    ends = p.begun u.octets u.printed (short_piece few buffer k) u.has rest;
+  })
+
+  -- a fault among the octets of a piece
+  pub piece_broke : (fault : Fault) (few count : ℕ) (buffer : List ℕ) → few ≤ count → few ≤ left → Consumes s1 s2 (take count buffer) → Breaks IsText fault Had (take few buffer) w1 w2 → IfSome s0 (λ input. Prints (Err fault) (IsText input) w0 w2)
+  piece_broke fault few count buffer h k c b = with_front few count buffer (λ input. Prints (Err fault) (IsText input) w0 w2) h c (λ rest. record {
+    printed = u.printed ++ b.printed;
+    added = Appends-trans w0 w1 w2 u.printed b.printed u.added b.added;
+    ends = b.ends u.octets u.printed (short_piece few buffer k) u.has rest;
+  })
+
+  -- the source is at its end
+  at_end : (count : ℕ) (buffer : List ℕ) (P : List ℕ → Type 0) → count ≡ 0 → 0 < length buffer → Consumes s1 s2 (take count buffer) × (count ≡ 0 → 0 < length buffer → IsAtEnd s2) → P u.octets → IfSome s0 P
+  at_end count buffer P e h c p =
+      Consumes-whole s0 s2 (u.octets ++ []) P (Consumes-trans s0 s1 s2 u.octets [] u.consumed (subst (λ (n : ℕ). Consumes s1 s2 (take n buffer)) e c.0)) (c.1 e h) (rw (append-nil u.octets) p)
+
+  pub piece_ended : (result : Result (Unit {0}) Fault) (count : ℕ) (buffer : List ℕ) → count ≡ 0 → 0 < length buffer → Consumes s1 s2 (take count buffer) × (count ≡ 0 → 0 < length buffer → IsAtEnd s2)
+      → Closes IsText result Had w1 w2 → IfSome s0 (λ input. Prints result (IsText input) w0 w2)
+  piece_ended result count buffer e h c p = at_end count buffer (λ input. Prints result (IsText input) w0 w2) e h c (record {
+    printed = u.printed ++ p.printed;
+    added = Appends-trans w0 w1 w2 u.printed p.printed u.added p.added;
+    ends = p.ends u.octets u.printed (omega (arith, u.count)) u.has;
+  })
+
+  -- an input that was read to its end is no longer than may be read
+  pub piece_bounded : (result : Result (Unit {0}) Fault) (count : ℕ) (buffer : List ℕ) → count ≡ 0 → 0 < length buffer → Consumes s1 s2 (take count buffer) × (count ≡ 0 → 0 < length buffer → IsAtEnd s2)
+      → IfSome s0 (λ input. OnOk result (length input ≤ 2 ^ 24))
+  piece_bounded result count buffer e h c = at_end count buffer (λ input. OnOk result (length input ≤ 2 ^ 24)) e h c (bounded result (omega (arith, u.count)))
+    where
+      bounded : (result : Result (Unit {0}) Fault) {n : ℕ} → n ≤ 2 ^ 24 → OnOk result (n ≤ 2 ^ 24)
+      bounded (Ok done) h = h
+      bounded (Err fault) h = tt

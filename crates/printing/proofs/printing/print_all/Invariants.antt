@@ -1,0 +1,7 @@
+use Rattle.printing.proofs.PrintLemmas.{Under}
+use Rattle.printing.proofs.printing.print_all.Given as goal
+
+abbrev pub invariant-loop : goal.invariant-loop
+invariant-loop g l =
+    Under g.P.Printer.is_text (g.P.Printer.has_read l.printer) (g.S.Source.left l.initial.source) (g.S.Source.left l.source)
+    (g.W.Sink.written l.initial.sink) (g.W.Sink.written l.sink) l.left l.counter

@@ -1,0 +1,27 @@
+//! A text that is printed while another is read, from a source to a sink.
+//!
+//! ```text
+//! Source -- pieces of at most 4,096 octets --> Printer -- what the piece prints --> Sink
+//! ```
+//!
+//! [`print_all`] has the loop, the bound of the input and the failing devices, once for every
+//! [`Printer`]: a reader that appends what its input prints, in whatever pieces that comes, and that
+//! tells contracts which text an input has. [`Source`] and [`Sink`] are the edge: they tell contracts
+//! what is left to read, what was written, and whether the device has failed; [`Reader`] and
+//! [`Writer`] are the standard library's as such. [`Fault`] is why a run ended.
+//!
+//! This crate knows no text: which one an input has is the printer's to say. `specs/Printing.antt` is
+//! the vocabulary.
+#![tactic(auto)]
+
+mod device;
+mod fault;
+mod printer;
+mod printing;
+#[cfg(test)]
+mod tests;
+
+pub use device::{DeviceFault, Reader, Sink, Source, Writer};
+pub use fault::Fault;
+pub use printer::Printer;
+pub use printing::print_all;

@@ -1,0 +1,109 @@
+//! Prints the whole text of a source to a sink.
+ghost use Rattle.std.specs.Prelude.{◌≡◌, ◌+◌, ◌<◌, ◌≤◌, ◌^◌, true, [], take, length, IfErr, IfOk, IfSome, OnOk, OnErr, MatchResult};
+ghost use Rattle.std.specs.Io.KnownBytes.{ReadConsumes};
+ghost use Rattle.printing.specs.declared.fault.Fault.TheVariants.{Read as ReadFault};
+ghost use Rattle.printing.specs.Printing.{Writes, PassesOrBreaks, Closes, Prints, IsDevices, HasFailed};
+
+use super::device::{Sink, Source};
+use super::fault::Fault;
+use super::printer::Printer;
+use std::alloc::Global;
+
+/// The most octets of an input, and the most read calls, 2^24 each.
+const LONGEST_INPUT: u32 = 0x100_0000;
+
+/// How many octets a read asks for.
+const PIECE: usize = 4096;
+
+/// Reads all that the source gives, and writes what it prints.
+///
+/// Ends with the first fault; what was printed before it stays printed. An input beyond 2^24 octets
+/// or 2^24 read calls is [`Fault::Read`], after what the octets before that print.
+pub fn print_all<P: Printer + Drop, S: Source, W: Sink>(
+    alloc: Global,
+    mut printer: P,
+    source: &mut S,
+    sink: &mut W,
+) -> Result<(), Fault>
+    requires { P.has_read printer [] [] }
+    ensures text { IfSome (S.left source.old) (λ input. Prints result (P.is_text input) (W.written sink.old) (W.written sink.new)) }
+    ensures bounded { IfSome (S.left source.old) (λ input. OnOk result (length input ≤ 2 ^ 24)) }
+    ensures devices { IfSome (S.left source.old) (λ input. IfErr result (λ fault. IsDevices fault (HasFailed (S.has_failed source.new) input) (W.has_failed sink.new ≡ true))) }
+{
+    let mut left = LONGEST_INPUT as usize;
+    for _ in 0..LONGEST_INPUT {
+        let mut buffer = [0; PIECE];
+        let count = match read_some(source, &mut buffer) {
+            Ok(0) => return end(alloc, printer, sink),
+            Ok(count) => count,
+            Err(fault) => return Err(fault),
+        };
+        match pass(alloc, &mut printer, &buffer[..count.min(left)], sink) {
+            Ok(()) => (),
+            Err(fault) => return Err(fault),
+        }
+        if count > left {
+            return Err(Fault::Read);
+        }
+        left -= count;
+    }
+    Err(Fault::Read)
+}
+
+/// Reads some octets to the front of the buffer.
+fn read_some<S: Source>(source: &mut S, buffer: &mut [u8]) -> Result<usize, Fault>
+    ensures within { IfOk result (λ n. n ≤ length buffer.new) }
+    ensures octets { ReadConsumes (S.left source.old) (S.left source.new) result buffer.new }
+    ensures failed { IfErr result (λ fault. (fault ≡ ReadFault) × (S.has_failed source.new ≡ true)) }
+{
+    match source.read(buffer) {
+        Ok(count) => Ok(count),
+        Err(_) => Err(Fault::Read),
+    }
+}
+
+/// Reads these octets, and writes what they print.
+fn pass<P: Printer, W: Sink>(
+    alloc: Global,
+    printer: &mut P,
+    octets: &[u8],
+    sink: &mut W,
+) -> Result<(), Fault>
+    ensures passes { PassesOrBreaks P.is_text result (P.has_read printer.old) octets.now (W.written sink.old) (W.written sink.new) (P.has_read printer.new) }
+    ensures failed { IfErr result (λ fault. IsDevices fault ⊥ (W.has_failed sink.new ≡ true)) }
+{
+    let mut out = Vec::new(alloc);
+    let read = printer.read(octets, &mut out);
+    match write_all(sink, &out) {
+        Ok(()) => read,
+        Err(fault) => Err(fault),
+    }
+}
+
+/// Writes what is printed when the octets have ended.
+fn end<P: Printer + Drop, W: Sink>(alloc: Global, printer: P, sink: &mut W) -> Result<(), Fault>
+    ensures closes { Closes P.is_text result (P.has_read printer) (W.written sink.old) (W.written sink.new) }
+    ensures failed { IfErr result (λ fault. IsDevices fault ⊥ (W.has_failed sink.new ≡ true)) }
+{
+    let mut out = Vec::new(alloc);
+    let ended = printer.end(&mut out);
+    match write_all(sink, &out) {
+        Ok(()) => ended,
+        Err(fault) => Err(fault),
+    }
+}
+
+/// Writes all these octets.
+fn write_all<W: Sink>(sink: &mut W, octets: &[u8]) -> Result<(), Fault>
+    ensures writes { Writes result octets.now (W.written sink.old) (W.written sink.new) }
+    ensures failed { OnErr result (W.has_failed sink.new ≡ true) }
+{
+    let mut written: usize = 0;
+    while written < octets.len() {
+        match sink.write(&octets[written..]) {
+            Ok(count) => written += count,
+            Err(_) => return Err(Fault::Write),
+        }
+    }
+    Ok(())
+}

@@ -1,0 +1,120 @@
+-- What a heard unit does, told of the rows.
+use Rattle.std.proofs.Common.{refl, arith, ◌≡◌, ◌∙◌, ap, sym, ◌<◌, ◌≤◌, ℕ, ◌+◌, ◌-◌, ◌%◌, Bool, true, false, not, ◌&&◌, List, take, drop, ◌==◌}
+use Rattle.std.specs.Prelude.{if◌then◌else◌}
+use Rattle.std.proofs.lemmas.Bool.Decides.{nat_tests}
+use mir.Val.{bool_byte}
+use Rattle.l2_units.specs.declared.unit.Header.{Header}
+use Rattle.l2_window.specs.Window.{WindowState}
+use Rattle.l2_window.specs.declared.control.HeardPart.{HeardPart}
+use Rattle.l2_basic.specs.Basic as basic
+use Rattle.l2_pcr.specs.Pcr as cyclic
+use Rattle.set_events.specs.declared.answer.Fate.TheVariants.{Acked}
+use Rattle.set_rows.specs.declared.row.Row.{Row}
+use Rattle.set_rows.specs.Rows.{unack, octets_in, is_unacked, turned}
+use Rattle.set_step.specs.declared.control.Control.{Control}
+use Rattle.set_step.specs.declared.control.Control.TheVariants.{Basic, Cyclic}
+use Rattle.set_step.specs.declared.link.Link.{Link}
+use Rattle.set_step.specs.Control.{accepted_of, is_processed, is_accepted, acked_by, part_of, window_heard, control_heard, IsHeard}
+use Rattle.set_step.specs.Set.{window_of}
+use Rattle.set_step.specs.Step.{one_if}
+use Rattle.set_step.specs.Agreement.{IsKept, link_of}
+use Rattle.set_step.proofs.Acknowledging.{acked_kept, acked_link}
+use Rattle.set_step.proofs.Outgoing.{roomy, window_is}
+
+-- No part looks at the window's room.
+part_room : (control : Control) (w : WindowState) (r : ℕ) (head : Header) (msu : Bool) → part_of control (roomy w r) head msu ≡ part_of control w head msu
+part_room (Basic s) w r head msu = refl
+part_room (Cyclic s) w r head msu = refl
+
+control_room : (control : Control) (w : WindowState) (r : ℕ) (head : Header) (msu : Bool) → control_heard control (roomy w r) head msu ≡ control_heard control w head msu
+control_room (Basic s) w r head msu = refl
+control_room (Cyclic s) w r head msu = refl
+
+pub part_acked : (control : Control) (w : WindowState) (head : Header) (msu : Bool) → (part_of control w head msu).acked ≡ acked_by control w head
+part_acked (Basic s) w head msu = refl
+part_acked (Cyclic s) w head msu = refl
+
+part_accept : (control : Control) (w : WindowState) (head : Header) (msu : Bool) → (part_of control w head msu).accept ≡ is_accepted control w head msu
+part_accept (Basic s) w head msu = refl
+part_accept (Cyclic s) w head msu = refl
+
+and_right : (x y : Bool) → (x && y) ≡ true → y ≡ true
+and_right true y e = e
+and_right false y e = absurd cc
+
+-- an FSN's distance is below 128
+pub acked_low : (control : Control) (w : WindowState) (head : Header) → acked_by control w head ≤ 127
+acked_low control w head = go (is_processed control w head) refl
+  where
+    go : (b : Bool) → is_processed control w head ≡ b → acked_by control w head ≤ 127
+    go true e = rw e (omega arith)
+    go false e = rw e (omega arith)
+
+-- the number last acknowledged
+last_heard : (control : Control) (w : WindowState) (head : Header) (acked : ℕ) → w.last ≡ (acked + 127) % 128 → (window_heard control w head).last ≡ (acked + acked_by control w head + 127) % 128
+last_heard control w head acked e = go (is_processed control w head) refl
+  where
+    go : (b : Bool) → is_processed control w head ≡ b → (window_heard control w head).last ≡ (acked + acked_by control w head + 127) % 128
+    go true f = let low : head.bsn < 128 = head.bsn_in_range in rw f (omega (arith, e))
+    go false f = rw f (omega (arith, e))
+
+-- the FSN last accepted
+accepted_heard : (control : Control) (w : WindowState) (head : Header) (msu : Bool) (n : ℕ) → accepted_of control ≡ (n + 127) % 128 → accepted_of (control_heard control w head msu) ≡ (n + one_if (is_accepted control w head msu) + 127) % 128
+accepted_heard (Basic s) w head msu n e = go (basic.is_accepted s w head msu) refl
+  where
+    go : (b : Bool) → basic.is_accepted s w head msu ≡ b → (if basic.is_accepted s w head msu then head.fsn else s.accepted) ≡ (n + one_if (basic.is_accepted s w head msu) + 127) % 128
+    go true f =
+        let next : (head.fsn == (s.accepted + 1) % 128) ≡ true = and_right msu (basic.is_successor s head) (and_right (basic.is_current s w head) (msu && basic.is_successor s head) f) in
+        let same : head.fsn ≡ (s.accepted + 1) % 128 = grind (arith, nat_tests) in
+        rw f (omega (arith, e, same))
+    go false f = rw f (omega (arith, e))
+accepted_heard (Cyclic s) w head msu n e = go (cyclic.is_accepted s w head msu) refl
+  where
+    go : (b : Bool) → cyclic.is_accepted s w head msu ≡ b → (if cyclic.is_accepted s w head msu then head.fsn else s.accepted) ≡ (n + one_if (cyclic.is_accepted s w head msu) + 127) % 128
+    go true f =
+        let next : (head.fsn == (s.accepted + 1) % 128) ≡ true = and_right msu (head.fsn == (s.accepted + 1) % 128) (and_right (not (cyclic.has_abnormal_bsn w head)) (msu && (head.fsn == (s.accepted + 1) % 128)) f) in
+        let same : head.fsn ≡ (s.accepted + 1) % 128 = grind (arith, nat_tests) in
+        rw f (omega (arith, e, same))
+    go false f = rw f (omega (arith, e))
+
+-- a bit as a number
+pub one_byte : (b : Bool) → bool_byte b ≡ one_if b
+one_byte true = refl
+one_byte false = refl
+
+pub one_low : (b : Bool) → one_if b ≤ 1
+one_low true = omega arith
+one_low false = omega arith
+
+module _ (n : ℕ) (link : Link) (rows : List Row) (k : IsKept n link rows) (head : Header) (msu : Bool) (control' : Control) (w' : WindowState) (part : HeardPart) (h : IsHeard head msu link.control control' link.window w' part) where
+  abbrev window : WindowState
+  window = window_of n (link_of link) rows
+
+  same : link.window ≡ roomy window link.window.room
+  same = window_is link.window _ _ _ k.last k.unacked k.unsent
+
+  pub part_heard : part ≡ part_of link.control window head msu
+  part_heard = h.part_is ∙ ap (λ (w : WindowState). part_of link.control w head msu) same ∙ part_room link.control window link.window.room head msu
+
+  pub control_is : control' ≡ control_heard link.control window head msu
+  control_is = h.control_is ∙ ap (λ (w : WindowState). control_heard link.control w head msu) same ∙ control_room link.control window link.window.room head msu
+
+  acked_is : part.acked ≡ acked_by link.control link.window head
+  acked_is = ap (λ (p : HeardPart). p.acked) h.part_is ∙ part_acked link.control link.window head msu
+
+  accept_is : part.accept ≡ is_accepted link.control window head msu
+  accept_is = ap (λ (p : HeardPart). p.accept) part_heard ∙ part_accept link.control window head msu
+
+  pub low_acked : part.acked ≤ 127
+  low_acked = rw acked_is (acked_low link.control link.window head)
+
+  pub room_heard : w'.room ≡ link.window.room
+  room_heard = ap (λ (w : WindowState). w.room) h.window_is
+
+  pub heard_kept : (octets : ℕ) → octets ≡ octets_in (take part.acked (unack n rows)) → IsKept n (acked_link link (link.acked + part.acked) (link.accepted + one_if part.accept) (link.octets - octets) w' control') (turned (is_unacked n) (Acked n) part.acked rows)
+  heard_kept octets sum = acked_kept n part.acked link rows k (link.accepted + one_if part.accept) octets w' control'
+      (ap (λ (w : WindowState). w.last) h.window_is ∙ last_heard link.control link.window head link.acked k.last ∙ ap (λ (i : ℕ). (link.acked + i + 127) % 128) (sym acked_is))
+      (ap (λ (w : WindowState). w.unacked) h.window_is ∙ ap (λ (i : ℕ). drop i link.window.unacked) (sym acked_is))
+      (ap (λ (w : WindowState). w.unsent) h.window_is)
+      (ap accepted_of control_is ∙ accepted_heard link.control window head msu link.accepted k.accepted ∙ ap (λ (b : Bool). (link.accepted + one_if b + 127) % 128) (sym accept_is))
+      sum

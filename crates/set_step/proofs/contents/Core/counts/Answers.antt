@@ -1,0 +1,9 @@
+use Rattle.std.proofs.Common.{arith}
+use Rattle.set_rows.specs.Rows.{is_users}
+use Rattle.set_step.proofs.Fewer.{fewer_filter}
+use Rattle.set_step.proofs.contents.Core.counts.Goals as goal
+
+pub returns-clause-few : goal.returns-clause-few
+returns-clause-few c =
+    let few = fewer_filter is_users c.self.inside.parts.rows.rows in
+    omega (arith, few, c.counts.ensures.all, c.len.ensures, c.len.type_inv)

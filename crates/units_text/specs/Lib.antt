@@ -1,0 +1,2 @@
+pub mod UnitsReading
+pub mod UnitsText

@@ -1,0 +1,87 @@
+-- What a reader of `units` under way stands for, and what calls on it print.
+use Rattle.std.specs.Prelude.{◌≡◌, ℕ, ◌+◌, ◌≤◌, ◌<◌, ◌^◌, Bool, List, [], ◌++◌, length, Some, None, Result, IfErr, MatchResult}
+use Rattle.std.specs.Option.{option_map}
+use Rattle.l2_bits.specs.declared.marks.Mark.{Mark}
+use Rattle.l2_bits.specs.LineBits.{line_bits}
+use Rattle.l2_bits.specs.Marks.{AreMarks}
+use Rattle.l2_bits.specs.Deframing.{StandsFor}
+use Rattle.printing.specs.declared.fault.Fault.{Fault}
+use Rattle.printing.specs.declared.fault.Fault.TheVariants.{Text, Step, Octet, Memory, Exhausted, Read, Write}
+use Rattle.units_text.specs.declared.marked_line.MarkedLine.{MarkedLine}
+use Rattle.units_text.specs.declared.units_reading.UnitsReader.{UnitsReader}
+use Rattle.printing.specs.Printing.{Printed, IsOfText}
+use Rattle.units_text.specs.UnitsText.{IsUnitsText, readable, values_of, paired, left_over, marks_text, counts_of}
+
+-- The line.
+
+-- it has had these bits, and their marks print these lines
+pub record IsLine (bits : List Bool) (lines : List ℕ) (line : MarkedLine) : Type 0 where
+  pub marks : List Mark
+  pub are : AreMarks [] bits marks
+  pub printed : lines ≡ marks_text marks
+  pub counted : line.counts ≡ counts_of marks
+  pub deframed : StandsFor bits line.deframer
+
+-- the marks of the bits print this first, and maybe more
+abbrev pub Begins : List Bool → List ℕ → Type 0
+Begins bits printed = (marks : List Mark) → AreMarks [] bits marks → (more : List ℕ) × (marks_text marks ≡ printed ++ more)
+
+-- the line had these bits more, and what their marks print was added
+pub record Feeds (old : MarkedLine) (bits : List Bool) (before after : List ℕ) (new : MarkedLine) : Type 0 where
+  pub printed : List ℕ
+  pub added : after ≡ before ++ printed
+  pub goes_on : (past : List Bool) (lines : List ℕ) → length past + length bits < 2 ^ 64
+      → IsLine past lines old → IsLine (past ++ bits) (lines ++ printed) new
+
+-- memory was wanted among these bits, and what was added is the beginning of what they print, whatever follows
+pub record Breaks (old : MarkedLine) (bits : List Bool) (before after : List ℕ) : Type 0 where
+  pub printed : List ℕ
+  pub added : after ≡ before ++ printed
+  pub begins : (past : List Bool) (lines : List ℕ) → length past + length bits < 2 ^ 64
+      → IsLine past lines old → (left : List Bool) → Begins (past ++ (bits ++ left)) (lines ++ printed)
+
+-- The input.
+
+-- the reader has read this without a fault, and has printed these lines
+pub record HasRead (past lines : List ℕ) (reader : UnitsReader) : Type 0 where
+  pub all_readable : readable past ≡ past
+  pub place : reader.place ≡ length past
+  pub digit : option_map (λ digit. digit.value) reader.high ≡ left_over (values_of past)
+  pub line : IsLine (line_bits (paired (values_of past))) lines reader.line
+
+-- what was printed is the beginning of the input's text
+abbrev pub IsBegun : List ℕ → List ℕ → Type 0
+IsBegun input printed = (played : Printed) → IsUnitsText input played → (more : List ℕ) × (played.printed ≡ printed ++ more)
+
+-- the fault is that of the input's text, of which all was printed; want of memory leaves its beginning
+abbrev pub EndsIn : Fault → List ℕ → List ℕ → Type 0
+EndsIn (Octet place) input printed = IsUnitsText input (record { printed = printed; fault = Some (Octet place) })
+EndsIn Memory input printed = IsBegun input printed
+EndsIn Read input printed = ⊥
+EndsIn Write input printed = ⊥
+EndsIn (Text line) input printed = ⊥
+EndsIn (Step line) input printed = ⊥
+EndsIn Exhausted input printed = ⊥
+
+-- these octets were read, and what they print was added; an input has at most 2^24 octets
+pub record Reads (old : UnitsReader) (octets before after : List ℕ) (new : UnitsReader) : Type 0 where
+  pub printed : List ℕ
+  pub added : after ≡ before ++ printed
+  pub goes_on : (past lines : List ℕ) → length past + length octets ≤ 2 ^ 24
+      → HasRead past lines old → HasRead (past ++ octets) (lines ++ printed) new
+
+-- these octets ended the input with a fault, whatever follows
+pub record Stops (fault : Fault) (old : UnitsReader) (octets before after : List ℕ) : Type 0 where
+  pub printed : List ℕ
+  pub added : after ≡ before ++ printed
+  pub of_text : IsOfText fault
+  pub ends : (past lines : List ℕ) → length past + length octets ≤ 2 ^ 24
+      → HasRead past lines old → (left : List ℕ) → EndsIn fault (past ++ (octets ++ left)) (lines ++ printed)
+
+-- the input ended, and what its text still has was added
+pub record Ends (result : Result (Unit {0}) Fault) (old : UnitsReader) (before after : List ℕ) : Type 0 where
+  pub printed : List ℕ
+  pub added : after ≡ before ++ printed
+  pub of_text : IfErr result IsOfText
+  pub ends : (past lines : List ℕ) → length past ≤ 2 ^ 24 → HasRead past lines old
+      → MatchResult result (λ done. IsUnitsText past (record { printed = lines ++ printed; fault = None })) (λ fault. EndsIn fault past (lines ++ printed))

@@ -1,0 +1,25 @@
+//! The text of `units`: hexadecimal digits of a line's octets, and what a signalling terminal sees.
+//!
+//! ```text
+//! digits -> octets -> bits -> marks (l2_bits) -> units (l2_units) -> a line each
+//! ```
+//!
+//! [`units`] reads a source's digits and writes a line for each mark of their bits, and a last one that
+//! counts them. `specs/UnitsText.antt` is the text: which octets stand in the digits, which marks they
+//! give, and the lines. It's a relation, since the marks of bits are related and not computed;
+//! [`one_units_text`] says that an input has one text at most.
+//!
+//! What comes in pieces is kept by two types of this crate: a reader keeps a lone first digit and the
+//! place in the input, a line keeps its deframer and how many marks it gave.
+#![tactic(auto)]
+
+mod digit;
+mod marked_line;
+#[cfg(test)]
+mod tests;
+mod text;
+mod unit_lines;
+mod units_reading;
+
+pub use text::units;
+pub use unit_lines::one_units_text;

@@ -1,0 +1,22 @@
+//! `mtpbank units`: the octets of a line as hexadecimal digits, and what a signalling terminal sees.
+ghost use Rattle.std.specs.Prelude.{◌≡◌, ◌≤◌, ◌^◌, true, length, IfErr, IfSome, OnOk};
+ghost use Rattle.printing.specs.Printing.{Prints, IsDevices, HasFailed};
+ghost use Rattle.units_text.specs.UnitsText.{IsUnitsText};
+
+use super::units_reading::UnitsReader;
+use printing::{Fault, Sink, Source, print_all};
+use std::alloc::Global;
+
+/// Reads the hexadecimal digits that the source gives, and writes a line for each mark of their bits.
+///
+/// Ends with the first fault; what was printed before it stays printed. [`Fault::Octet`] tells a
+/// character that is neither a digit nor skipped, or the end of the input where a digit is left
+/// over. An input beyond 2^24 octets or 2^24 read calls is [`Fault::Read`], after the marks of the
+/// octets before that.
+pub fn units<S: Source, W: Sink>(alloc: Global, source: &mut S, sink: &mut W) -> Result<(), Fault>
+    ensures text { IfSome (S.left source.old) (λ input. Prints result (IsUnitsText input) (W.written sink.old) (W.written sink.new)) }
+    ensures bounded { IfSome (S.left source.old) (λ input. OnOk result (length input ≤ 2 ^ 24)) }
+    ensures devices { IfSome (S.left source.old) (λ input. IfErr result (λ fault. IsDevices fault (HasFailed (S.has_failed source.new) input) (W.has_failed sink.new ≡ true))) }
+{
+    print_all(alloc, UnitsReader::new(alloc), source, sink)
+}
