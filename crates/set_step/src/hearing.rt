@@ -54,11 +54,11 @@ pub(crate) fn heard(parts: &mut Parts, number: u8, unit: &Unit) -> Result<Answer
 }
 
 /// Takes the memory that the unit's body may want: in the inbox, or for an order that answers it and
-/// for the messages that it may move.
+/// for the messages that it may move. A fill-in unit wants none.
 fn make_space(parts: &mut Parts, unit: &Unit) -> Result<Vec<u8>, SetFault>
     requires { Agrees parts.old }
-    ensures space { IfOk result (λ space. (vec_len space ≡ 0) × (7 ≤ vec_capacity space)) }
-    ensures inbox { OnOk result (deque_len parts.new.inbox < deque_capacity parts.new.inbox) }
+    ensures space { IfOk result (λ space. has_order unit.now ≡ true → (vec_len space ≡ 0) × (7 ≤ vec_capacity space)) }
+    ensures inbox { OnOk result (is_message unit.now ≡ true → deque_len parts.new.inbox < deque_capacity parts.new.inbox) }
     ensures row { OnOk result (has_order unit.now ≡ true → 0 < parts.new.rows.room) }
     ensures room { OnOk result (has_order unit.now ≡ true → AreRoomy (length parts.new.rows.rows + 1) parts.new.links.items) }
     ensures same { state_of parts.new ≡ state_of parts.old }
@@ -66,15 +66,18 @@ fn make_space(parts: &mut Parts, unit: &Unit) -> Result<Vec<u8>, SetFault>
     ensures fault { IfErr result (λ fault. fault ≡ SetFault.NoMemory) }
     ensures agrees { Agrees parts.new }
 {
-    let Ok(space) = order_space(&parts.links) else {
-        return Err(SetFault::NoMemory);
-    };
+    if !is_msu(unit) {
+        return Ok(Vec::new(*parts.links.allocator()));
+    }
     if parts.inbox.reserve(1).is_err() {
         return Err(SetFault::NoMemory);
     }
     if order_in(unit).is_none() {
-        return Ok(space);
+        return Ok(Vec::new(*parts.links.allocator()));
     }
+    let Ok(space) = order_space(&parts.links) else {
+        return Err(SetFault::NoMemory);
+    };
     let messages = parts.rows.len() + 1;
     match reserve(parts, 1, messages) {
         Ok(()) => Ok(space),
@@ -127,8 +130,8 @@ fn is_msu(unit: &Unit) -> bool
 fn take_in(parts: &mut Parts, accept: bool, unit: &Unit, space: Vec<u8>) -> Took
     requires agrees { Agrees parts.old }
     requires counted { AreCounted (2 ^ 61) parts.old.links.items }
-    requires space { (vec_len space ≡ 0) × (7 ≤ vec_capacity space) }
-    requires inbox { deque_len parts.old.inbox < deque_capacity parts.old.inbox }
+    requires space { has_order unit.now ≡ true → (vec_len space ≡ 0) × (7 ≤ vec_capacity space) }
+    requires inbox { is_message unit.now ≡ true → deque_len parts.old.inbox < deque_capacity parts.old.inbox }
     requires row { has_order unit.now ≡ true → 0 < parts.old.rows.room }
     requires room { has_order unit.now ≡ true → AreRoomy (length parts.old.rows.rows + 1) parts.old.links.items }
     ensures state { takes (brought accept unit.now) (state_of parts.old) ≡ record { took = result; state = state_of parts.new } }

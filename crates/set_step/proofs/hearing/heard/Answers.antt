@@ -52,7 +52,7 @@ take_in-took-requires c =
       agrees = c.control_hears-part.ensures.agrees;
       counted = c.control_hears-part.ensures.counted;
       space = c.in-Ok.ensures.space;
-      inbox = rw (same.0) (c.in-Ok.ensures.inbox);
+      inbox = λ has. rw (same.0) (c.in-Ok.ensures.inbox has);
       row = λ has. rw (same.1) (c.in-Ok.ensures.row has);
       room = λ has number link there. let room = c.control_hears-part.ensures.room _ (c.in-Ok.ensures.room has) number link there in omega (arith, room, same.2);
     }
