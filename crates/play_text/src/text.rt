@@ -9,8 +9,8 @@ use std::alloc::Global;
 
 /// Plays the script that the source gives, and writes what its lines print.
 ///
-/// Ends with the first fault; what was printed before it stays printed. An input beyond 2^24 octets
-/// or 2^24 read calls is [`Fault::Read`], after the lines that end before that.
+/// Ends with the first fault; what was printed before it stays printed. An input of more than 2^24 octets
+/// is never answered Ok, and one of 2^24 or more may be [`Fault::Read`], as [`print_all`] tells.
 pub fn play<S: Source, W: Sink>(alloc: Global, source: &mut S, sink: &mut W) -> Result<(), Fault>
     ensures text { IfSome (S.left source.old) (λ input. Prints result (IsPlayText input) (W.written sink.old) (W.written sink.new)) }
     ensures bounded { IfSome (S.left source.old) (λ input. OnOk result (length input ≤ 2 ^ 24)) }

@@ -22,7 +22,7 @@ pub enum Fault {
     /// A history is full.
     #[error("fault exhausted")]
     Exhausted,
-    /// The input couldn't be read, or has more than 2^24 octets.
+    /// The input couldn't be read, or has 2^24 octets or more.
     #[error("fault read")]
     Read,
     /// The output couldn't be written.

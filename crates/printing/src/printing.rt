@@ -17,8 +17,10 @@ const PIECE: usize = 4096;
 
 /// Reads all that the source gives, and writes what it prints.
 ///
-/// Ends with the first fault; what was printed before it stays printed. An input beyond 2^24 octets
-/// or 2^24 read calls is [`Fault::Read`], after what the octets before that print.
+/// Ends with the first fault; what was printed before it stays printed. An input of more than 2^24 octets
+/// is never answered Ok. One of 2^24 or more may be answered [`Fault::Read`] though the source hasn't
+/// failed, since a read may give one octet and there are at most 2^24; a beginning of its text was
+/// written then.
 pub fn print_all<P: Printer + Drop, S: Source, W: Sink>(
     alloc: Global,
     mut printer: P,

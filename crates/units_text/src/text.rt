@@ -11,8 +11,8 @@ use std::alloc::Global;
 ///
 /// Ends with the first fault; what was printed before it stays printed. [`Fault::Octet`] tells a
 /// character that is neither a digit nor skipped, or the end of the input where a digit is left
-/// over. An input beyond 2^24 octets or 2^24 read calls is [`Fault::Read`], after the marks of the
-/// octets before that.
+/// over. An input of more than 2^24 octets is never answered Ok, and one of 2^24 or more may be
+/// [`Fault::Read`], as [`print_all`] tells.
 pub fn units<S: Source, W: Sink>(alloc: Global, source: &mut S, sink: &mut W) -> Result<(), Fault>
     ensures text { IfSome (S.left source.old) (λ input. Prints result (IsUnitsText input) (W.written sink.old) (W.written sink.new)) }
     ensures bounded { IfSome (S.left source.old) (λ input. OnOk result (length input ≤ 2 ^ 24)) }
