@@ -13,7 +13,8 @@
 //!
 //! Readers: [`Window::last`], [`Window::unacked_len`], [`Window::unsent_len`],
 //! [`Window::unacked_at`], [`Window::distance`]. Inputs: [`Window::push`], [`Window::send`],
-//! [`Window::ack`], [`Window::pop`], [`Window::reset`].
+//! [`Window::ack`], [`Window::pop`], [`Window::clear_unacked`], [`Window::clear_unsent`],
+//! [`Window::reset`].
 //!
 //! Both error controls work on a window and answer the same types, [`Sending`] and [`HeardPart`]:
 //! these stand here too.

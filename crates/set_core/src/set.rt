@@ -13,7 +13,8 @@ const LONGEST_HISTORY: usize = 0x1_0000_0000_0000;
 /// One set of links. Contracts see what it held when it was opened, what it holds, and its history.
 ///
 /// Readers: [`SetCore::place_of`], [`SetCore::counts`], [`SetCore::books`], [`SetCore::history`],
-/// [`SetCore::config`], [`SetCore::links`], [`SetCore::is_up`], [`SetCore::unacked_at`].
+/// [`SetCore::config`], [`SetCore::links`], [`SetCore::is_up`], [`SetCore::is_settled`],
+/// [`SetCore::unacked_at`].
 /// The one input: [`SetCore::apply`].
 ///
 /// Of every value it holds that the history is legal, that it leads from the opening to what the set

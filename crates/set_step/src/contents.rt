@@ -20,7 +20,7 @@ use std::marker::Model;
 /// for users.
 ///
 /// Readers: [`Core::place_of`], [`Core::counts`], [`Core::links`], [`Core::is_up`],
-/// [`Core::is_settled`]. The one input: [`Core::apply`].
+/// [`Core::is_settled`], [`Core::unacked_at`]. The one input: [`Core::apply`].
 #[derive(Drop)]
 pub struct Core {
     parts: Parts,

@@ -158,13 +158,12 @@ fn queue_those_on(window: &mut Window, rows: &[Row], link: u8)
     }
 }
 
-/// Whether a message of this fate stands on the link.
-fn is_on(fate: Fate, link: u8) -> bool
-    ensures { result ≡ is_on_link link fate }
+/// Whether a message of this fate stands on the link of this number.
+fn is_on(fate: Fate, number: u8) -> bool
+    ensures { result ≡ is_on_link number fate }
 {
     match fate {
-        Fate::Waiting { link: at } | Fate::Unacked { link: at } | Fate::Held { link: at } => at
-            == link,
+        Fate::Waiting { link } | Fate::Unacked { link } | Fate::Held { link } => link == number,
         Fate::Acked { .. } | Fate::Parked | Fate::Discarded { .. } => false,
     }
 }
