@@ -13,7 +13,7 @@ use std::alloc::{AllocError, Global};
 pub enum Words {
     /// Tell what a signalling terminal sees of the digits on standard input.
     Units,
-    /// Play a script of two ends from standard input.
+    /// Play a script of two ends of a link set from standard input.
     Play,
 }
 
@@ -65,42 +65,89 @@ fn command<'a>(alloc: Global) -> Result<Command<'a>, AllocError>
         )
         .after_help(UNITS_HELP);
     let play = Command::new(alloc, "play")
-        .about("Plays a script of two ends of a link from standard input, line by line")
+        .about("Plays a script of two ends of a link set from standard input, line by line")
         .after_help(PLAY_HELP);
     Command::new(alloc, "mtpbank")
         .version("0.1.0")
         .about("A proved bank of signalling terminals for Signalling System No. 7")
         .no_binary_name(true)
         .subcommand_required(true)
+        .after_help(HELP)
         .subcommand(units)?
         .subcommand(play)
 }
 
+const HELP: &str = "\
+Both read standard input to its end, as in `mtpbank play < examples/changeover.play`. `mtpbank play --help` says
+how a script is written and what it prints, `mtpbank units --help` which digits are read and what is printed.
+The status is 0, or 1 after a fault, or 2 where the words of the command line are wrong.";
+
 const UNITS_HELP: &str = "\
-Two digits are an octet of the line, fed lowest bit first; spaces, tabs, CR and LF are skipped.
-Each line of the output is a mark:
-  good fisu|lssu|msu ..   a unit with right check bits, and what it holds
-  good fault=N            right check bits, but no unit: 1 too short, 2 too long, 3 a wrong length indicator
-  bad                     a damaged unit
-  sixteen                 sixteen octets counted without a good unit
-and the last one counts them. Another character, or a digit left over at the end, is a fault, one line on
-standard error, with status 1; what was printed before it stays.";
+Two hexadecimal digits are an octet of the line, fed lowest bit first, with its flags, inserted zeros and check
+bits as they are sent. Spaces, tabs, CR and LF are skipped. Each line of the output is a mark:
+  good fisu bsn=B bib=0|1 fsn=F fib=0|1              a unit with right check bits, and what it holds
+  good lssu bsn=B bib=0|1 fsn=F fib=0|1 status=S     so too; S 0 to 5 is O, N, E, OS, PO, B
+  good msu bsn=B bib=0|1 fsn=F fib=0|1 body=HEX      so too; the body is SIO and SIF
+  good fault=N      right check bits, but no unit: 1 too short, 2 too long, 3 a wrong length indicator
+  bad               a damaged unit: anything else between two flags
+  sixteen           sixteen octets counted without a good unit, where alignment is lost
+and the last one counts them. A fault ends the input: one line on standard error, with status 1; what was
+printed before it stays.
+  fault octet P     the character at P, counted from 0, is neither a digit nor skipped, or the input ends
+                    there with a digit left over
+  fault read        standard input failed, or has more than 2^24 octets
+  fault write, fault memory";
 
 const PLAY_HELP: &str = "\
-The script's first line that isn't empty and doesn't begin with # is
-  set links=L method=W a=X b=Y sio=HH    1 to 16 links, point codes of the ends, SIO in hexadecimal
-with the method basic or cyclic:N1:N2 (so many messages or octets force a cycle), and each further line is one of
-  together L          the link comes up at both ends
-  offer E HEX         a user of end E (a or b) offers a message, SIO and SIF in hexadecimal
+A script walks two ends, a and b, of a link set; nothing happens there but what its lines ask for. Lines that
+are empty or begin with # ask for nothing. The first other line is
+  set links=L method=W a=X b=Y sio=HH
+with 1 to 16 links, numbered from 0; the method basic, or cyclic:N1:N2 (so many unacknowledged messages, 1 to
+127, or octets of them, 1 to 34671, force a cycle); the point codes of the ends, 0 to 16383; and the SIO of the
+set's own orders, in hexadecimal, with service indicator 0. No link is up at first. Each line after that asks
+for one thing (E is an end, a or b, L a link, HEX octets of two hexadecimal digits each):
+  together L          link L, settled at both ends, comes up at both; nothing is under way on it then
+  offer E HEX         a user of end E offers a message: SIO and SIF, the label first
   take E              a user of end E takes the oldest message that was heard
-  emit E L            end E sends its next unit on link L; it joins the link's line to the other end
-  arrive E L          the front of link L's line to end E arrives there
-  lose E L P          the unit at place P of link L's line to end E, from 0, is lost
-  hear E L HEX        end E hears these octets of a unit, without check octets
   find E N            a user of end E asks where message N stands
-  down E L            link L fails at end E, which tells the other what it accepted
-  blind E L           link L fails at end E, which can't tell what it accepted
+  emit E L            end E sends its next unit on link L; it is under way to the other end then
+  arrive E L          the oldest unit under way to end E on link L arrives there
+  lose E L P          of those units the one at place P, from 0, is lost
+  hear E L HEX        end E hears these octets of a unit, without check octets, wherever they come from
+  down E L            link L fails at end E, which tells the other what it accepted (COO)
+  blind E L           link L fails at end E, which can't tell what it accepted (ECO)
   noanswer E L        end E had no answer to the changeover of link L
+Words are separated by one space, numbers are decimal without leading zeros, and lines end in LF.
 
-Words are separated by one space and lines end in LF. Links are numbered from 0.
-A fault is one line on standard error, with status 1; what was printed before it stays.";
+Each of these lines prints one:
+  up                  the link is up at both ends
+  accepted N          the message has number N; messages and orders of an end are counted together, from 0
+  taken HEX           the message that was taken
+  found waiting L, found unacked L, found acked L       to be sent, sent, acknowledged on link L
+  found held L        link L was left and isn't settled; the message waits for that
+  found parked        no link can take it until one comes up
+  found discarded C   given up: 1 an emergency, 2 the other end told an FSN that can't be, 3 no answer
+  sent HEX            the unit that was sent; its last two octets are the check octets
+  heard acked=K took=T asked=0|1 resend=0|1 fault=F     what the unit did: K messages are acknowledged;
+                      its body was nothing new, a message for users, an order, or an order that is ignored; the
+                      end asks for retransmission; it is asked for it; F is 2 for abnormal BSNs, 3 for FIBs
+  lost                the unit is lost, by lose or because the link isn't up where it arrives
+  done                the link has failed, or settled without an answer
+  refused C           1 under 5 octets, 2 over 273, 3 service indicator 0, 4 the stream has 1,024 unsent
+                      messages, 5 the link isn't up, 8 no such message, 9 nothing to take or to do
+The last two lines count the users' messages of each end by where they stand.
+
+The high digit of a message's fifth octet is its stream, whose home is link stream modulo the number of links;
+where that link wasn't up or has failed, the stream runs on another one. A changeover of link 1 is `down a 1`,
+after which an order waits on the lowest link that is up; `emit a 0` and `arrive b 0`, where b leaves link 1 too;
+`emit b 0` and `arrive a 0`, which carry b's answer. Link 1 is settled then, and what b hasn't accepted waits at
+a for link 0, in order.
+
+A fault ends the script: one line on standard error, with status 1; what was printed before it stays.
+  fault line N text   line N, from 1 and with remarks, can't be read: a word that isn't known, too few or too many
+                      words, two spaces, a CR, a leading zero, a number out of its range, an odd number of
+                      digits, more than 4,096 octets, or in hear octets that are no unit
+  fault line N step   it can't be done: no such link, together where the link isn't settled at both ends, or
+                      arrive or lose where no such unit is under way
+  fault read          standard input failed, or has more than 2^24 octets
+  fault write, fault memory, fault exhausted (a history has 2^48 entries)";

@@ -10,7 +10,7 @@ pub returns : goal.returns
 returns c =
     let units_is : shape_of c.after_help-units.result ≡ new_shape (codes "units") = search rules in
     let play_is : shape_of c.after_help-play.result ≡ new_shape (codes "play") = search rules in
-    let itself_is : app_of c.subcommand_required.result ≡ record { top = program_itself; subs = [] } = search rules in
+    let itself_is : app_of c.after_help.result ≡ record { top = program_itself; subs = [] } = search rules in
     IfOk-weaker c.subcommand-2.result _ _
     (λ command added.
     added.shape (search rules)
