@@ -2,7 +2,7 @@
 use Rattle.std.proofs.Common.{refl, ◌≡◌, ◌∙◌, sym, Bool, true, false, not, ◌&&◌, List, [], ◌∷◌, ◌++◌}
 use Rattle.std.specs.Prelude.{if◌then◌else◌}
 use Rattle.l2_basic.specs.Basic.{same}
-use Rattle.l2_basic.specs.Link.{Carried}
+use Rattle.l2_window.specs.Line.{Carried}
 
 -- once turned, a bit stays so
 abbrev pub Stays : Bool → Bool → Type 0

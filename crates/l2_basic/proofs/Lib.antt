@@ -1,4 +1,3 @@
 pub mod Bits
-pub mod Line
 pub mod Runs
 pub mod Way

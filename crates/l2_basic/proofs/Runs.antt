@@ -1,16 +1,18 @@
 -- Each run of two ends keeps both directions of the link.
 use Rattle.std.proofs.Common.{◌==◌, ◌+◌, ◌%◌, false}
 use Rattle.std.specs.Prelude.{is_some}
-use Rattle.std.proofs.Common.{refl, arith, ◌≡◌, ◌∙◌, ap, ℕ, List, [], ◌∷◌, ◌++◌, length, drop}
+use Rattle.std.proofs.Common.{refl, ◌≡◌, ◌∙◌, ap, ℕ, List, [], ◌∷◌, ◌++◌, length, drop}
 use Rattle.l2_window.specs.declared.control.Sending.{Sending}
 use Rattle.l2_window.specs.declared.control.HeardPart.{HeardPart}
 use Rattle.std.proofs.Common.{true, not, ◌&&◌}
 use Rattle.std.specs.Prelude.{if◌then◌else◌}
 use Rattle.l2_basic.specs.Basic.{BasicState, same}
 use Rattle.l2_basic.proofs.Bits.{Bits, calm, fibs-push, fibs-lose, bibs-push, bibs-lose, heard-bib, heard-fib}
-use Rattle.l2_basic.specs.Link.{Carried, carried, End, World, flip, Emits, Arrives, Offers, Loses, Step, offers, emits, arrives, loses, Begins, Run, begins, steps, steps_far, IsFaithful, OneLink}
-use Rattle.l2_basic.proofs.Line.{ahead-lose, behind-low, behind-lose}
-use Rattle.l2_basic.proofs.Way.{Way, tells, drop-front, acknowledges, emit-forward, emit-backward, arrive-forward, arrive-back, offer-forward, offer-backward}
+use Rattle.l2_basic.specs.Link.{End, World, flip, Emits, Arrives, Offers, Loses, Step, offers, emits, arrives, loses, Begins, Run, begins, steps, steps_far, IsFaithful, OneLink}
+use Rattle.l2_window.specs.Line.{Carried, carried}
+use Rattle.l2_window.proofs.Line.{behind-low}
+use Rattle.l2_window.proofs.Way as way
+use Rattle.l2_basic.proofs.Way.{Way, side, tells, normal, arrive-forward, arrive-back}
 
 -- the bits of the end y that may ask and of the end x that answers
 abbrev AreInStep : End → End → List Carried → List Carried → Type 0
@@ -29,8 +31,8 @@ offered old new message h b =
     let took : new.near.took ≡ old.near.took = ap (λ (e : End). e.took) h.near in
     let acked : new.near.acked ≡ old.near.acked = ap (λ (e : End). e.acked) h.near in
     record {
-      there = rw (h.far, h.out, h.back) (offer-forward old.near new.near old.far old.out old.back b.there h.pushes.last h.pushes.unacked sent acked);
-      again = rw (h.far, h.out, h.back) (offer-backward old.near new.near old.far old.out old.back b.again control took);
+      there = rw (h.far, h.out, h.back) (way.offer-forward (side old.near) (side new.near) (side old.far) old.out old.back b.there h.pushes.last h.pushes.unacked sent acked);
+      again = rw (h.far, h.out, h.back) (way.offer-backward (side old.near) (side new.near) (side old.far) old.out old.back b.again (ap (λ (p : BasicState). p.accepted) control) took);
       bits = rw (h.far, h.out, h.back, ap (λ (p : BasicState). p.fib) control) b.bits;
       bits_again = rw (h.far, h.out, h.back, ap (λ (p : BasicState). p.bib) control, ap (λ (p : BasicState). p.asked) control) b.bits_again;
     }
@@ -38,11 +40,11 @@ offered old new message h b =
 emitted : (old new : World) (sending : Sending) → Emits sending old new → Both old → Both new
 emitted old new sending h b =
     let t = tells old.near old.far new.near old.out old.back sending b.there h.next in
-    let more : drop (length old.near.window.unacked) new.near.window.unacked ≡ t.0 = ap (λ (xs : List ℕ). drop (length old.near.window.unacked) xs) t.1.unacked ∙ drop-front old.near.window.unacked t.0 in
+    let more : drop (length old.near.window.unacked) new.near.window.unacked ≡ t.0 = ap (λ (xs : List ℕ). drop (length old.near.window.unacked) xs) t.1.counts.unacked ∙ way.drop-front old.near.window.unacked t.0 in
     let sent : new.near.sent ≡ old.near.sent ++ t.0 = h.sent ∙ ap (λ (xs : List ℕ). old.near.sent ++ xs) more in
     record {
-      there = rw (h.far, h.out, h.back) (emit-forward old.near new.near old.far old.out old.back (carried sending) t.0 b.there t.1 sent h.acked);
-      again = rw (h.far, h.out, h.back) (emit-backward old.near new.near old.far old.out old.back (carried sending) t.0 b.again t.1 h.took);
+      there = rw (h.far, h.out, h.back) (way.emit-forward (side old.near) (side new.near) (side old.far) old.out old.back (carried sending) t.0 b.there t.1.counts sent h.acked);
+      again = rw (h.far, h.out, h.back) (way.emit-backward (side old.near) (side new.near) (side old.far) old.out old.back (carried sending) t.0 b.again t.1.counts h.took);
       bits = rw (h.far, h.out, h.back, t.1.same_fib) (record {
         turned = b.bits.turned;
         fibs = fibs-push old.far.control.bib (not old.far.control.asked) old.out b.bits.turned (carried sending) b.bits.fibs (t.1.fib ∙ b.bits.last);
@@ -61,16 +63,16 @@ arrived : (old new : World) (unit : Carried) (part : HeardPart) → Arrives unit
 arrived old new unit part h b =
     let there : Way old.near old.far (unit ∷ new.out) old.back = rw h.out at b.there in
     let again : Way old.far old.near old.back (unit ∷ new.out) = rw h.out at b.again in
-    let a = acknowledges old.far old.near old.back new.out unit again in
+    let quiet = normal old.far old.near old.back new.out unit again in
     let bits : AreInStep old.near old.far (unit ∷ new.out) old.back = rw h.out at b.bits in
     let bits_again : AreInStep old.far old.near old.back (unit ∷ new.out) = rw h.out at b.bits_again in
-    let quiet = calm old.far.control.bib old.far.control.asked old.near.control.fib unit new.out old.back bits in
-    let resend : part.resend ≡ not (same unit.head.bib old.far.control.fib) = rw (a.normal, quiet) at h.hears.resend in
-    let asked : part.asked ≡ (same unit.head.fib old.far.control.bib && (not (unit.head.fsn == old.far.control.accepted) && not (is_some unit.message && (unit.head.fsn == (old.far.control.accepted + 1) % 128)))) = rw (a.normal, quiet) at h.hears.asked in
-    let still : new.far.control.asked ≡ (if same unit.head.fib old.far.control.bib then part.asked else old.far.control.asked) = rw (a.normal, quiet) at h.hears.still_asked in
+    let still_calm = calm old.far.control.bib old.far.control.asked old.near.control.fib unit new.out old.back bits in
+    let resend : part.resend ≡ not (same unit.head.bib old.far.control.fib) = rw (quiet, still_calm) at h.hears.resend in
+    let asked : part.asked ≡ (same unit.head.fib old.far.control.bib && (not (unit.head.fsn == old.far.control.accepted) && not (is_some unit.message && (unit.head.fsn == (old.far.control.accepted + 1) % 128)))) = rw (quiet, still_calm) at h.hears.asked in
+    let still : new.far.control.asked ≡ (if same unit.head.fib old.far.control.bib then part.asked else old.far.control.asked) = rw (quiet, still_calm) at h.hears.still_asked in
     record {
-      there = rw (h.near, h.back) (arrive-forward old.near old.far new.far new.out old.back unit part there a.normal quiet h.hears h.took);
-      again = rw (h.near, h.back) (arrive-back old.far new.far old.near old.back new.out unit part again quiet h.hears h.sent h.acked);
+      there = rw (h.near, h.back) (arrive-forward old.near old.far new.far new.out old.back unit part there quiet still_calm h.hears h.took);
+      again = rw (h.near, h.back) (arrive-back old.far new.far old.near old.back new.out unit part again still_calm h.hears h.sent h.acked);
       bits = rw (h.near, h.back) (heard-fib old.far.control.bib old.far.control.asked old.near.control.fib new.far.control.bib new.far.control.asked part.asked unit new.out old.back bits (λ (e : same unit.head.fib old.far.control.bib ≡ false). rw e at asked) h.hears.bib still);
       bits_again = rw (h.near, h.back) (heard-bib old.near.control.bib old.near.control.asked old.far.control.fib new.far.control.fib part.resend unit old.back new.out bits_again resend h.hears.fib);
     }
@@ -79,26 +81,8 @@ lost : (old new : World) (before : List Carried) (unit : Carried) (after : List 
 lost old new before unit after h b =
     let there : Way old.near old.far (before ++ unit ∷ after) old.back = rw h.was at b.there in
     let again : Way old.far old.near old.back (before ++ unit ∷ after) = rw h.was at b.again in
-    let there' : Way old.near old.far (before ++ after) old.back = record {
-      sound = there.sound;
-      numbered = there.numbered;
-      kept = there.kept;
-      size = there.size;
-      accepted = there.accepted;
-      prefix = there.prefix;
-      forward = ahead-lose (length old.far.took) old.near.sent before unit after there.forward;
-      backward = there.backward;
-    } in
-    let again' : Way old.far old.near old.back (before ++ after) = record {
-      sound = again.sound;
-      numbered = again.numbered;
-      kept = again.kept;
-      size = again.size;
-      accepted = again.accepted;
-      prefix = again.prefix;
-      forward = again.forward;
-      backward = behind-lose old.far.acked (length old.near.took) before unit after again.backward;
-    } in
+    let there' = way.lose-forward (side old.near) (side old.far) before unit after old.back there in
+    let again' = way.lose-backward (side old.far) (side old.near) old.back before unit after again in
     let bits : AreInStep old.near old.far (before ++ unit ∷ after) old.back = rw h.was at b.bits in
     let bits_again : AreInStep old.far old.near old.back (before ++ unit ∷ after) = rw h.was at b.bits_again in
     let bits' : AreInStep old.near old.far (before ++ after) old.back = record {
@@ -127,18 +111,7 @@ step _ _ (arrives old new unit part h) b = arrived old new unit part h b
 step _ _ (loses old new before unit after h) b = lost old new before unit after h b
 
 begin : (s r : End) → Begins s → Begins r → Way s r [] []
-begin s r b c =
-    let accepted : r.control.accepted ≡ 127 = ap (λ (p : BasicState). p.accepted) c.control in
-    record {
-      sound = record { last_in_range = omega (arith, b.last); at_most_127 = omega (arith, ap length b.unacked) };
-      numbered = omega (arith, b.last, b.acked);
-      kept = rw (b.unacked, b.acked, b.sent) refl;
-      size = omega (arith, ap length b.unacked, ap length b.sent, b.acked);
-      accepted = omega (arith, accepted, ap length c.took);
-      prefix = rw c.took refl;
-      forward = rw (c.took, b.sent) (omega arith);
-      backward = rw (b.acked, c.took) (omega arith);
-    }
+begin s r b c = way.begin (side s) (side r) b.last b.unacked b.sent b.acked (ap (λ (p : BasicState). p.accepted) c.control) c.took
 
 begin_bits : (x y : End) → Begins x → Begins y → AreInStep x y [] []
 begin_bits x y b c = rw (b.control, c.control) (record { turned = true; fibs = refl; last = refl; bibs = tt })
@@ -156,11 +129,10 @@ faithful world w v bits = record {
   prefix = w.prefix;
   acked = behind-low world.near.acked (length world.far.took) world.back w.backward;
   normal_bsn = λ unit rest e. (let again : Way world.far world.near world.back (unit ∷ rest) = rw e at v in
-      let a = acknowledges world.far world.near world.back rest unit again in a.normal);
+      normal world.far world.near world.back rest unit again);
   normal_fib = λ unit rest e. (let again : Way world.far world.near world.back (unit ∷ rest) = rw e at v in
-      let a = acknowledges world.far world.near world.back rest unit again in
       let there : AreInStep world.near world.far (unit ∷ rest) world.back = rw e at bits in
-      rw a.normal (calm world.far.control.bib world.far.control.asked world.near.control.fib unit rest world.back there));
+      rw (normal world.far world.near world.back rest unit again) (calm world.far.control.bib world.far.control.asked world.near.control.fib unit rest world.back there));
 }
 
 pub one_link : OneLink

@@ -1,21 +1,11 @@
 -- Two ends of one link (Q.703 5), joined by two lines that keep order and lose any unit.
-use Rattle.std.specs.Prelude.{◌≡◌, ℕ, ◌+◌, ◌≤◌, false, Option, Some, None, List, [], ◌∷◌, ◌++◌, take, drop, length, is_some, if◌then◌else◌}
+use Rattle.std.specs.Prelude.{◌≡◌, ℕ, ◌+◌, ◌≤◌, false, List, [], ◌∷◌, ◌++◌, take, drop, length, is_some, if◌then◌else◌}
 use Rattle.std.specs.Option.{option_to_list}
-use Rattle.l2_units.specs.declared.unit.Header.{Header}
 use Rattle.l2_window.specs.Window.{WindowState, Pushes}
+use Rattle.l2_window.specs.Line.{Carried, carried}
 use Rattle.l2_window.specs.declared.control.Sending.{Sending}
-use Rattle.l2_window.specs.declared.control.Sending.TheVariants.{Message, Fill}
 use Rattle.l2_window.specs.declared.control.HeardPart.{HeardPart}
 use Rattle.l2_basic.specs.Basic.{BasicState, start, IsNext, Hears, has_abnormal_bsn, has_abnormal_fib}
-
--- a unit on its way: an MSU has a message
-pub record Carried : Type 0 where
-  pub head : Header
-  pub message : Option ℕ
-
-abbrev pub carried : Sending → Carried
-carried (Message number head) = record { head = head; message = Some number }
-carried (Fill head) = record { head = head; message = None }
 
 pub record End : Type 0 where
   pub control : BasicState

@@ -1,11 +1,13 @@
 -- Each run of two ends keeps both directions of the link.
-use Rattle.std.proofs.Common.{refl, arith, ◌≡◌, ◌∙◌, ap, ℕ, List, [], ◌∷◌, ◌++◌, length, drop}
+use Rattle.std.proofs.Common.{◌≡◌, ◌∙◌, ap, ℕ, List, [], ◌∷◌, ◌++◌, length, drop}
 use Rattle.l2_window.specs.declared.control.Sending.{Sending}
 use Rattle.l2_window.specs.declared.control.HeardPart.{HeardPart}
 use Rattle.l2_pcr.specs.Pcr.{PcrState}
-use Rattle.l2_pcr.specs.Link.{Carried, carried, End, World, flip, Emits, Arrives, Offers, Loses, Step, offers, emits, arrives, loses, Begins, Run, begins, steps, steps_far, IsFaithful, OneLink}
-use Rattle.l2_pcr.proofs.Line.{ahead-lose, behind-low, behind-lose}
-use Rattle.l2_pcr.proofs.Way.{Way, tells, drop-front, acknowledges, emit-forward, emit-backward, arrive-forward, arrive-back, offer-forward, offer-backward}
+use Rattle.l2_pcr.specs.Link.{End, World, flip, Emits, Arrives, Offers, Loses, Step, offers, emits, arrives, loses, Begins, Run, begins, steps, steps_far, IsFaithful, OneLink}
+use Rattle.l2_window.specs.Line.{Carried, carried}
+use Rattle.l2_window.proofs.Line.{behind-low}
+use Rattle.l2_window.proofs.Way as way
+use Rattle.l2_pcr.proofs.Way.{Way, side, tells, normal, arrive-forward, arrive-back}
 
 record Both (world : World) : Type 0 where
   there : Way world.near world.far world.out world.back
@@ -18,27 +20,27 @@ offered old new message h b =
     let took : new.near.took ≡ old.near.took = ap (λ (e : End). e.took) h.near in
     let acked : new.near.acked ≡ old.near.acked = ap (λ (e : End). e.acked) h.near in
     record {
-      there = rw (h.far, h.out, h.back) (offer-forward old.near new.near old.far old.out old.back b.there h.pushes.last h.pushes.unacked sent acked);
-      again = rw (h.far, h.out, h.back) (offer-backward old.near new.near old.far old.out old.back b.again control took);
+      there = rw (h.far, h.out, h.back) (way.offer-forward (side old.near) (side new.near) (side old.far) old.out old.back b.there h.pushes.last h.pushes.unacked sent acked);
+      again = rw (h.far, h.out, h.back) (way.offer-backward (side old.near) (side new.near) (side old.far) old.out old.back b.again (ap (λ (p : PcrState). p.accepted) control) took);
     }
 
 emitted : (old new : World) (octets : ℕ) (sending : Sending) → Emits octets sending old new → Both old → Both new
 emitted old new octets sending h b =
     let t = tells old.near old.far new.near old.out old.back octets sending b.there h.next in
-    let more : drop (length old.near.window.unacked) new.near.window.unacked ≡ t.0 = ap (λ (xs : List ℕ). drop (length old.near.window.unacked) xs) t.1.unacked ∙ drop-front old.near.window.unacked t.0 in
+    let more : drop (length old.near.window.unacked) new.near.window.unacked ≡ t.0 = ap (λ (xs : List ℕ). drop (length old.near.window.unacked) xs) t.1.unacked ∙ way.drop-front old.near.window.unacked t.0 in
     let sent : new.near.sent ≡ old.near.sent ++ t.0 = h.sent ∙ ap (λ (xs : List ℕ). old.near.sent ++ xs) more in
     record {
-      there = rw (h.far, h.out, h.back) (emit-forward old.near new.near old.far old.out old.back (carried sending) t.0 b.there t.1 sent h.acked);
-      again = rw (h.far, h.out, h.back) (emit-backward old.near new.near old.far old.out old.back (carried sending) t.0 b.again t.1 h.took);
+      there = rw (h.far, h.out, h.back) (way.emit-forward (side old.near) (side new.near) (side old.far) old.out old.back (carried sending) t.0 b.there t.1 sent h.acked);
+      again = rw (h.far, h.out, h.back) (way.emit-backward (side old.near) (side new.near) (side old.far) old.out old.back (carried sending) t.0 b.again t.1 h.took);
     }
 
 arrived : (old new : World) (unit : Carried) (part : HeardPart) → Arrives unit part old new → Both old → Both new
 arrived old new unit part h b =
     let there : Way old.near old.far (unit ∷ new.out) old.back = rw h.out at b.there in
     let again : Way old.far old.near old.back (unit ∷ new.out) = rw h.out at b.again in
-    let a = acknowledges old.far old.near old.back new.out unit again in
+    let quiet = normal old.far old.near old.back new.out unit again in
     record {
-      there = rw (h.near, h.back) (arrive-forward old.near old.far new.far new.out old.back unit part there a.normal h.hears h.took);
+      there = rw (h.near, h.back) (arrive-forward old.near old.far new.far new.out old.back unit part there quiet h.hears h.took);
       again = rw (h.near, h.back) (arrive-back old.far new.far old.near old.back new.out unit part again h.hears h.sent h.acked);
     }
 
@@ -46,26 +48,8 @@ lost : (old new : World) (before : List Carried) (unit : Carried) (after : List 
 lost old new before unit after h b =
     let there : Way old.near old.far (before ++ unit ∷ after) old.back = rw h.was at b.there in
     let again : Way old.far old.near old.back (before ++ unit ∷ after) = rw h.was at b.again in
-    let there' : Way old.near old.far (before ++ after) old.back = record {
-      sound = there.sound;
-      numbered = there.numbered;
-      kept = there.kept;
-      size = there.size;
-      accepted = there.accepted;
-      prefix = there.prefix;
-      forward = ahead-lose (length old.far.took) old.near.sent before unit after there.forward;
-      backward = there.backward;
-    } in
-    let again' : Way old.far old.near old.back (before ++ after) = record {
-      sound = again.sound;
-      numbered = again.numbered;
-      kept = again.kept;
-      size = again.size;
-      accepted = again.accepted;
-      prefix = again.prefix;
-      forward = again.forward;
-      backward = behind-lose old.far.acked (length old.near.took) before unit after again.backward;
-    } in
+    let there' = way.lose-forward (side old.near) (side old.far) before unit after old.back there in
+    let again' = way.lose-backward (side old.far) (side old.near) old.back before unit after again in
     record {
       there = rw (h.near, h.far, h.out, h.back) there';
       again = rw (h.near, h.far, h.out, h.back) again';
@@ -78,18 +62,7 @@ step _ _ (arrives old new unit part h) b = arrived old new unit part h b
 step _ _ (loses old new before unit after h) b = lost old new before unit after h b
 
 begin : (s r : End) → Begins s → Begins r → Way s r [] []
-begin s r b c =
-    let accepted : r.control.accepted ≡ 127 = ap (λ (p : PcrState). p.accepted) c.limits.2 in
-    record {
-      sound = record { last_in_range = omega (arith, b.last); at_most_127 = omega (arith, ap length b.unacked) };
-      numbered = omega (arith, b.last, b.acked);
-      kept = rw (b.unacked, b.acked, b.sent) refl;
-      size = omega (arith, ap length b.unacked, ap length b.sent, b.acked);
-      accepted = omega (arith, accepted, ap length c.took);
-      prefix = rw c.took refl;
-      forward = rw (c.took, b.sent) (omega arith);
-      backward = rw (b.acked, c.took) (omega arith);
-    }
+begin s r b c = way.begin (side s) (side r) b.last b.unacked b.sent b.acked (ap (λ (p : PcrState). p.accepted) c.limits.2) c.took
 
 run : (world : World) → Run world → Both world
 run _ (begins world near far out back) = record { there = rw (out, back) (begin world.near world.far near far); again = rw (out, back) (begin world.far world.near far near) }
@@ -104,7 +77,7 @@ faithful world w v = record {
   prefix = w.prefix;
   acked = behind-low world.near.acked (length world.far.took) world.back w.backward;
   normal = λ unit rest e. (let again : Way world.far world.near world.back (unit ∷ rest) = rw e at v in
-      let a = acknowledges world.far world.near world.back rest unit again in a.normal);
+      normal world.far world.near world.back rest unit again);
 }
 
 pub one_link : OneLink

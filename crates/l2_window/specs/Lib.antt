@@ -1,4 +1,5 @@
 pub mod Control
 pub mod Fault
+pub mod Line
 pub mod Stored
 pub mod Window

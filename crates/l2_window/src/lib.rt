@@ -17,7 +17,8 @@
 //! [`Window::reset`].
 //!
 //! Both error controls work on a window and answer the same types, [`Sending`] and [`HeardPart`]:
-//! these stand here too.
+//! these stand here too, and what the laws of both rest on: `specs/Line.antt` is a unit on its way,
+//! `proofs/Way.antt` one direction of a link, as the counts of its two ends tell it.
 //!
 //! This crate reads no clock, does no IO, takes no lock, and knows of a unit its header alone. Only
 //! [`Window::new`], [`Window::reserve`] and [`Window::push`] take memory.

@@ -1,7 +1,7 @@
 -- Units on their way, with the counts at which they were sent.
 use Rattle.std.proofs.Common.{arith, ◌≡◌, ℕ, ◌+◌, ◌%◌, ◌<◌, ◌≤◌, Option, Some, None, List, [], ◌∷◌, ◌++◌, length, length-append, zero, suc}
 use Rattle.std.specs.Prelude.{slice_get}
-use Rattle.l2_pcr.specs.Link.{Carried}
+use Rattle.l2_window.specs.Line.{Carried}
 
 -- so many had been sent when a unit left, and an MSU has the FSN of its message's place
 abbrev pub IsSent : ℕ → List ℕ → ℕ → Option ℕ → Type 0
