@@ -6,13 +6,13 @@ use Rattle.l2_window.specs.Window.{WindowState, distance_to}
 use Rattle.set_events.specs.declared.answer.Fate.TheVariants.{Acked}
 use Rattle.set_rows.specs.declared.row.Row.{Row}
 use Rattle.set_rows.specs.Rows.{unack, numbers, octets_in, is_unacked, is_on, turned}
-use Rattle.set_rows.proofs.Events.{acknowledged}
+use Rattle.set_rows.proofs.Events.{acknowledged, octets_split}
 use Rattle.set_step.specs.declared.control.Control.{Control}
 use Rattle.set_step.specs.declared.link.Link.{Link}
 use Rattle.set_step.specs.Agreement.{IsKept, link_of}
 use Rattle.set_step.specs.Changeover.{reached_by, is_reasonable}
 use Rattle.set_step.specs.Control.{accepted_of}
-use Rattle.set_step.proofs.Fewer.{fewer_turned, none, numbers-drop, octets_split}
+use Rattle.set_step.proofs.Fewer.{fewer_turned, none, numbers-drop}
 
 -- the link then
 abbrev pub acked_link : Link → ℕ → ℕ → ℕ → WindowState → Control → Link

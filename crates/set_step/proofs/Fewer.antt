@@ -1,8 +1,8 @@
 -- No more stand in a place than before; and what is acknowledged or given up leaves the link's lists.
-use Rattle.std.proofs.Common.{refl, arith, ◌≡◌, ap, ◌≤◌, [], ◌∷◌, length, ℕ, zero, suc, ◌+◌, Bool, true, false, not, List, filter, take, drop}
+use Rattle.std.proofs.Common.{refl, arith, ◌≡◌, ap, ◌≤◌, [], ◌∷◌, length, ℕ, zero, suc, Bool, true, false, not, List, filter, drop}
 use Rattle.set_events.specs.declared.answer.Fate.{Fate}
 use Rattle.set_rows.specs.declared.row.Row.{Row}
-use Rattle.set_rows.specs.Rows.{standing, turned, changed, numbers, octets_in}
+use Rattle.set_rows.specs.Rows.{standing, turned, changed, numbers}
 use Rattle.set_rows.proofs.Changing.{changed_kept}
 
 pub fewer_filter : (p : Row → Bool) (rows : List Row) → length (filter p rows) ≤ length rows
@@ -35,8 +35,3 @@ pub numbers-drop : (n : ℕ) (rows : List Row) → numbers (drop n rows) ≡ dro
 numbers-drop zero rows = refl
 numbers-drop (suc n) [] = refl
 numbers-drop (suc n) (x ∷ rows) = numbers-drop n rows
-
-pub octets_split : (n : ℕ) (rows : List Row) → octets_in (take n rows) + octets_in (drop n rows) ≡ octets_in rows
-octets_split zero rows = omega arith
-octets_split (suc n) [] = refl
-octets_split (suc n) (x ∷ rows) = let rest = octets_split n rows in omega (arith, rest)

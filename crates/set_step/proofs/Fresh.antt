@@ -27,7 +27,7 @@ pub all_same : (links : List Link) (link : LinkState) → ((n : ℕ) → AtLink 
 all_same [] link all = refl
 all_same (x ∷ links) link all = ap (λ (l : LinkState). l ∷ map link_of links) (all 0 x refl) ∙ ap (λ (ls : List LinkState). link ∷ ls) (all_same links link (λ n l there. all (suc n) l there))
 
-accepted_start : (method : Method) → accepted_of (start_of method) ≡ 127
+pub accepted_start : (method : Method) → accepted_of (start_of method) ≡ 127
 accepted_start Basic = refl
 accepted_start (Cyclic n1 n2) = refl
 

@@ -22,16 +22,6 @@ untouched_self n rows = record {
   last_kept = λ o. o;
 }
 
-pub untouched_then : (n : ℕ) (rows mid new : List Row) → Untouched n rows mid → Untouched n mid new → Untouched n rows new
-untouched_then n rows mid new a b = record {
-  unack_same = b.unack_same ∙ a.unack_same;
-  wait_same = b.wait_same ∙ a.wait_same;
-  held_same = b.held_same ∙ a.held_same;
-  on_same = b.on_same ∙ a.on_same;
-  order_kept = λ o. b.order_kept (a.order_kept o);
-  last_kept = λ o. b.last_kept (a.last_kept o);
-}
-
 -- a link that sees nothing of the change
 pub kept_other : (n : ℕ) (link : Link) (rows new : List Row) → Untouched n rows new → IsKept n link rows → IsKept n link new
 kept_other n link rows new u k = record {

@@ -1,8 +1,6 @@
 -- A message that is accepted moves no stream.
 use Rattle.std.proofs.Common.{refl, arith, ◌≡◌, ◌∙◌, ap, sym, subst, ◌<◌, ℕ, zero, suc, List, true, false, Bool, not, ◌&&◌, ◌==◌, [], ◌∷◌, length, map, slice_get, slice_set, Option, Some, None, option_map}
 use Rattle.std.proofs.lemmas.Option.{same_Some, slice_get-map}
-use Rattle.set_events.specs.declared.config.Method.{Method}
-use Rattle.set_events.specs.declared.config.Method.TheVariants.{Basic as BasicMethod, Cyclic as CyclicMethod}
 use Rattle.set_rows.specs.declared.row.Row.{Row}
 use Rattle.set_rows.specs.Rows.{standing, unack, wait, on, is_unacked, is_waiting, is_on}
 use Rattle.set_rows.proofs.Filters.{filter_within}
@@ -11,7 +9,6 @@ use Rattle.set_route.specs.declared.place.Place.{Place}
 use Rattle.set_route.specs.declared.place.Place.TheVariants.{On, Nowhere}
 use Rattle.set_route.specs.declared.stream.Stream.{Stream}
 use Rattle.set_route.specs.Routing.{used_at, place_raised, stream_raised}
-use Rattle.set_step.specs.Control.{accepted_of, start_of}
 use Rattle.set_step.specs.Set.{has_phase_settled}
 use Rattle.set_step.proofs.Lists.{get_set_same, get_set_other}
 use Rattle.set_step.specs.declared.link.Link.{Link}
@@ -55,10 +52,6 @@ none_unack n rows e = sym (filter_within (λ row. is_unacked n row.fate) (λ row
 
 pub none_wait : (n : ℕ) (rows : List Row) → on n rows ≡ [] → wait n rows ≡ []
 none_wait n rows e = sym (filter_within (λ row. is_waiting n row.fate) (λ row. is_on n row.fate) (λ row f. waiting_on n row.fate f) rows) ∙ ap (standing (is_waiting n)) e
-
-pub start_accepted : (method : Method) → accepted_of (start_of method) ≡ 127
-start_accepted BasicMethod = refl
-start_accepted (CyclicMethod n1 n2) = refl
 
 pub used_placed : (links : List Link) (n : ℕ) (streams : List Stream) → ArePlaced links streams → ArePlaced links (used_at n streams)
 used_placed links n streams placed = λ k stream there.

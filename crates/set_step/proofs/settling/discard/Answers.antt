@@ -1,12 +1,12 @@
 use Rattle.std.proofs.Common.{refl, arith, ◌≡◌, List, ◌∙◌, ap, sym, length, ◌≤◌, slice_get, Some}
 use Rattle.set_events.specs.declared.answer.Fate.TheVariants.{Discarded}
 use Rattle.set_rows.specs.Rows.{is_unacked, is_waiting, is_on, changed, numbers, octets_in}
-use Rattle.set_rows.proofs.Events.{discarded_unacked, discarded_waiting}
+use Rattle.set_rows.proofs.Events.{discarded_unacked, discarded_waiting, untouched_then}
 use Rattle.set_step.specs.declared.link.Link.{Link}
 use Rattle.set_step.specs.Agreement.{state_of, link_of}
 use Rattle.set_step.proofs.Fewer.{fewer_changed, none}
 use Rattle.set_step.proofs.Lists.{here, same_at, map_set_same, length_set}
-use Rattle.set_step.proofs.Keeping.{kept_set, placed_set, roomy_set, untouched_then}
+use Rattle.set_step.proofs.Keeping.{kept_set, placed_set, roomy_set}
 use Rattle.l2_window.specs.Window.{WindowState}
 use Rattle.set_rows.specs.declared.row.Row.{Row}
 use Rattle.set_rows.specs.Rows.{on}

@@ -12,7 +12,8 @@ use Rattle.set_step.specs.Set.{State, has_phase_settled}
 use Rattle.set_step.specs.Step.{Outcome}
 use Rattle.set_step.proofs.Keeping.{kept_set}
 use Rattle.set_step.proofs.Lists.{here, map_set, length_set}
-use Rattle.set_step.proofs.Placing.{raised_placed, none_unack, none_wait, start_accepted}
+use Rattle.set_step.proofs.Placing.{raised_placed, none_unack, none_wait}
+use Rattle.set_step.proofs.Fresh.{accepted_start}
 use Rattle.set_step.proofs.States.{state_is}
 use Rattle.set_step.proofs.step.rise.Goals as goal
 
@@ -56,7 +57,7 @@ risen c =
       last = c.queue_parked.ensures.last ∙ ap (λ (w : WindowState). w.last) c.reset.ensures;
       unacked = c.queue_parked.ensures.unacked ∙ ap (λ (w : WindowState). w.unacked) c.reset.ensures ∙ k.unacked ∙ ap numbers (sym u.unack_same);
       unsent = c.queue_parked.ensures.unsent ∙ ap (λ (w : WindowState). w.unsent ++ numbers (parked c.as_slice.result.now)) c.reset.ensures ∙ ap (λ ns. ns ++ numbers (parked c.as_slice.result.now)) k.unsent ∙ ap (λ rs. numbers (wait c.args.number rows) ++ numbers (parked rs)) c.as_slice.ensures ∙ sym u.wait_numbers;
-      accepted = start_accepted c.args.parts.now.config.method;
+      accepted = accepted_start c.args.parts.now.config.method;
       octets = k.octets ∙ ap octets_in (sym u.unack_same);
       in_order = u.order_kept k.in_order;
       settled = λ s. absurd cc;
