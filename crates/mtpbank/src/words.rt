@@ -91,8 +91,8 @@ bits as they are sent. Spaces, tabs, CR and LF are skipped. Each line of the out
   good fault=N      right check bits, but no unit: 1 too short, 2 too long, 3 a wrong length indicator
   bad               a damaged unit: anything else between two flags
   sixteen           sixteen octets counted without a good unit, where alignment is lost
-and the last one counts them. A fault ends the input: one line on standard error, with status 1; what was
-printed before it stays.
+and the last one counts them. `echo 7edff705f8beaf1f | ./mtpbank units` shows a FISU between two flags.
+A fault ends the input: one line on standard error, with status 1; what was printed before it stays.
   fault octet P     the character at P, counted from 0, is neither a digit nor skipped, or the input ends
                     there with a digit left over
   fault read        standard input failed, or has more than 2^24 octets
@@ -106,7 +106,7 @@ with 1 to 16 links, numbered from 0; the method basic, or cyclic:N1:N2 (so many 
 127, or octets of them, 1 to 34671, force a cycle); the point codes of the ends, 0 to 16383; and the SIO of the
 set's own orders, in hexadecimal, with service indicator 0. No link is up at first. Each line after that asks
 for one thing (E is an end, a or b, L a link, HEX octets of two hexadecimal digits each):
-  together L          link L, settled at both ends, comes up at both; nothing is under way on it then
+  together L          link L, settled at both ends as at first, comes up; nothing is under way on it then
   offer E HEX         a user of end E offers a message: SIO and SIF, the label first
   take E              a user of end E takes the oldest message that was heard
   find E N            a user of end E asks where message N stands
@@ -129,8 +129,9 @@ Each of these lines prints one:
   found discarded C   given up: 1 an emergency, 2 the other end told an FSN that can't be, 3 no answer
   sent HEX            the unit that was sent; its last two octets are the check octets
   heard acked=K took=T asked=0|1 resend=0|1 fault=F     what the unit did: K messages are acknowledged;
-                      its body was nothing new, a message for users, an order, or an order that is ignored; the
-                      end asks for retransmission; it is asked for it; F is 2 for abnormal BSNs, 3 for FIBs
+                      T is nothing, message (new, for users), order, or ignored (an order without effect);
+                      asked=1, the end asks for retransmission; resend=1, it is asked for it; F is 2 for
+                      abnormal BSNs, 3 for abnormal FIBs, else 0
   lost                the unit is lost, by lose or because the link isn't up where it arrives
   done                the link has failed, or settled without an answer
   refused C           1 under 5 octets, 2 over 273, 3 service indicator 0, 4 the stream has 1,024 unsent
