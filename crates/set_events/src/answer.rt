@@ -34,7 +34,7 @@ pub enum DiscardCause {
 }
 
 impl DiscardCause {
-    /// The cause's number.
+    /// The cause's number: 1 emergency, 2 unreasonable, 3 no answer.
     pub fn number(self) -> u8
         ensures { result ≡ cause_number self }
     {
@@ -69,7 +69,7 @@ pub enum ControlFault {
 }
 
 impl ControlFault {
-    /// The number of this cause of a failed link.
+    /// The number of this cause of a failed link: 2 BSN, 3 FIB.
     pub fn number(self) -> u8
         ensures { result ≡ fault_number self }
     {
@@ -124,7 +124,7 @@ pub enum Refusal {
 }
 
 impl Refusal {
-    /// The refusal's number.
+    /// The refusal's number, 1 to 10, as beside each case.
     pub fn number(self) -> u8
         ensures { result ≡ refusal_number self }
     {
@@ -180,7 +180,7 @@ impl Answer {
     }
 }
 
-/// How many of the users' messages stand in each place.
+/// How many of the users' messages stand in each place, over all links: a number for each [`Fate`].
 #[derive(Clone, Copy, Debug, PartialEq, Eq)]
 pub struct Counts {
     pub waiting: u64,
@@ -188,6 +188,7 @@ pub struct Counts {
     pub acked: u64,
     pub held: u64,
     pub parked: u64,
+    /// Those that wait for a changeback: 0, since there is none yet.
     pub back: u64,
     pub discarded: u64,
 }

@@ -114,7 +114,7 @@ impl ConfigFault {
     ghost use Rattle.std.specs.Prelude.{◌≡◌};
     ghost use Rattle.set_events.specs.Numbers.{config_fault_number};
 
-    /// The refusal's number.
+    /// The refusal's number: 1 links, 2 point code, 3 SIO, 4 cyclic.
     pub fn number(self) -> u8
         ensures { result ≡ config_fault_number self }
     {
