@@ -18,26 +18,43 @@ use printing::{Fault, Reader, Writer};
 use std::io;
 use std::process::ExitCode;
 use units_text::units;
-use words::{Words, WordsFault, words_of};
+use words::{Words, WordsFault, not_unicode, words_of};
 
 /// The status of a fault of input, memory, reading or writing.
 const FAULT: u8 = 1;
 
 fn main(rt: HostRuntime) -> io::Result<ExitCode> {
-    let alloc = rt.alloc();
-    let given: Vec<String> = std::env::args(&rt)?.skip(1).collect(alloc)?;
-    let mut words = Vec::new(alloc);
-    for word in &given {
-        words.push(word.as_str())?;
-    }
-    match words_of(alloc, &words) {
+    match asked(&rt) {
         Ok(Words::Units) => seen(&rt),
         Ok(Words::Play) => played(&rt),
-        Err(WordsFault::Words(error)) => {
-            error.print(&rt)?;
-            Ok(ExitCode::from(error.exit_code() as u8))
-        }
+        Err(WordsFault::Words(error)) => said(&rt, &error),
         Err(WordsFault::NoMemory) => told(&rt, Fault::Memory),
+    }
+}
+
+/// What the words of the command line ask for.
+fn asked(rt: &HostRuntime) -> Result<Words, WordsFault> {
+    let alloc = rt.alloc();
+    let args = match std::env::args(rt) {
+        Ok(args) => args,
+        Err(error) if error.kind() == io::ErrorKind::InvalidData => return Err(not_unicode(alloc)),
+        Err(_) => return Err(WordsFault::NoMemory),
+    };
+    let given: Vec<String> = args.skip(1).collect(alloc)?;
+    let mut words = Vec::new(alloc);
+    for word in &given {
+        if words.push(word.as_str()).is_err() {
+            return Err(WordsFault::NoMemory);
+        }
+    }
+    words_of(alloc, &words)
+}
+
+/// Says what is wrong with the words, on standard error, or what they ask to be shown.
+fn said(rt: &HostRuntime, error: &clap::Error) -> io::Result<ExitCode> {
+    match error.print(rt) {
+        Err(_) if !error.use_stderr() => told(rt, Fault::Write),
+        _ => Ok(ExitCode::from(error.exit_code() as u8)),
     }
 }
 

@@ -3,7 +3,7 @@
 //! The expected lines are worked out by hand from Q.703 2 to 5 and the script's rules.
 ghost use Rattle.std.specs.Prelude.{◌≡◌, ◌≤◌, ◌<◌, Some};
 
-use super::words::{Words, WordsFault, words_of};
+use super::words::{Words, WordsFault, not_unicode, words_of};
 use play_text::play;
 use printing::{DeviceFault, Fault, Sink, Source};
 use std::alloc::{AllocError, Global};
@@ -447,6 +447,8 @@ fn words_of_the_command_line(rt: HostRuntime) {
             Err(WordsFault::Words(_))
         )
     );
+    assert!(rt; matches!(words_of(rt.alloc(), &["play", "--"]), Ok(Words::Play)));
+    assert!(rt; matches!(not_unicode(rt.alloc()), WordsFault::Words(_)));
 }
 
 /// What is printed for words that ask for no subcommand: here help, or the version.

@@ -43,7 +43,7 @@ pub fn words_of(alloc: Global, words: &[&str]) -> Result<Words, WordsFault>
     let mut command = command(alloc)?;
     let matches = match command.try_get_matches_from_mut(words) {
         Ok(matches) => matches,
-        Err(error) => return Err(WordsFault::Words(error)),
+        Err(error) => return Err(fault_of(error)),
     };
     match matches.subcommand() {
         Some(("units", _)) => Ok(Words::Units),
@@ -52,6 +52,27 @@ pub fn words_of(alloc: Global, words: &[&str]) -> Result<Words, WordsFault>
             ErrorKind::MissingSubcommand,
             "a subcommand is wanted",
         )?)),
+    }
+}
+
+/// A word that isn't Unicode is none of the program's.
+pub fn not_unicode(alloc: Global) -> WordsFault {
+    match refusal(alloc) {
+        Ok(error) => fault_of(error),
+        Err(_) => WordsFault::NoMemory,
+    }
+}
+
+/// What is said of a word that isn't Unicode.
+fn refusal(alloc: Global) -> Result<clap::Error, AllocError> {
+    command(alloc)?.error(ErrorKind::InvalidSubcommand, "a word isn't Unicode")
+}
+
+/// Want of memory is no fault of the words.
+fn fault_of(error: clap::Error) -> WordsFault {
+    match error.kind() {
+        ErrorKind::OutOfMemory => WordsFault::NoMemory,
+        _ => WordsFault::Words(error),
     }
 }
 

@@ -1,0 +1,349 @@
+"""What can be said of a script of `mtpbank play` and of what it prints, without the rules of the error control.
+
+A `Trace` follows a script line by line with its answers: which line is at fault and how, which links are up, what is
+under way, which messages were offered, sent, heard and taken. It's written from `mtpbank play --help`, the standard
+(ITU-T Q.703 5, Q.704 5 and 15) and docs/DECISIONS.md, apart from the program's code. A line or an answer that can't
+be raises `Finding`.
+
+What is checked of every script: the line and kind of its fault, the form of every answer, the numbers of accepted
+messages, what is taken (the oldest message heard, octet for octet), the check octets, BSN and FSN of every unit sent,
+that what is sent again is what was sent under that FSN, what becomes of an order, which links can come up, and that
+the places on each `end` line add up to the messages accepted there.
+
+Of a script in which no unit was heard by `hear` and no `noanswer` was obeyed also: no unit shows a fault; what a link
+brought is what was sent on it, from the first on, in order; each message that counts as acknowledged was heard; and of each
+stream what was heard is what was offered, from the first on, in order. Where a `blind` was obeyed, of each
+stream messages may be missing, but none comes twice or out of order.
+"""
+import re
+from collections import deque
+from functools import lru_cache
+from typing import NamedTuple, Optional
+
+from line_bits import Unit, check_octets, unit_of
+
+NUMBER = rb"(0|[1-9][0-9]*)"
+HEX = rb"((?:[0-9a-fA-F]{2})+)"
+SHAPE = re.compile(rb"(together) N|(take) ([ab])|(offer) ([ab])(?: X)?|(emit|arrive|down|blind|noanswer|find) ([ab]) N"
+                   rb"|(lose) ([ab]) N N|(hear) ([ab]) N X".replace(b"N", NUMBER).replace(b"X", HEX))
+OPENING = re.compile(rb"set links=N method=(?:basic|cyclic:N:N) a=N b=N sio=([0-9a-fA-F]{2})".replace(b"N", NUMBER))
+PLACES = ("waiting", "unacked", "acked", "held", "parked", "back", "discarded")
+END_LINE = re.compile(r"end ([ab]) accepted=(\d+) " + " ".join(rf"{place}=(\d+)" for place in PLACES))
+REPORT = re.compile(r"heard acked=(\d+) took=(nothing|message|order|ignored) asked=([01]) resend=([01]) fault=([023])")
+FOUND = re.compile(r"found (?:(?:waiting|unacked|acked|held) \d+|parked|discarded [123])")
+OTHER = {"a": "b", "b": "a"}
+
+
+class Finding(Exception):
+    """Something that can't be."""
+
+
+def expect(holds, what):
+    if not holds:
+        raise Finding(what)
+
+
+class Line(NamedTuple):
+    """A line of the script after the first."""
+
+    kind: str
+    end: Optional[str] = None
+    number: Optional[int] = None
+    place: Optional[int] = None
+    octets: bytes = b""
+
+
+def opening_of(text):
+    """How many links the first line gives the pair, or None where it's unreadable."""
+    match = OPENING.fullmatch(text)
+    if match is None:
+        return None
+    links, n1, n2, a, b = (int(word or 1) for word in match.groups()[:5])
+    fits = 1 <= links <= 16 and 1 <= n1 <= 127 and 1 <= n2 <= 34671 and a < 16384 and b < 16384
+    return links if fits and int(match[6], 16) % 16 == 0 else None
+
+
+@lru_cache(1 << 16)
+def line_of(text):
+    """What a line after the first asks for, or None where it's unreadable."""
+    match = SHAPE.fullmatch(text)
+    if match is None:
+        return None
+    kind, *words = [word.decode() for word in match.groups() if word is not None]
+    end = words.pop(0) if kind != "together" else None
+    octets = bytes.fromhex(words.pop()) if kind in ("offer", "hear") and words else b""
+    numbers = [int(word) for word in words]
+    if any(number >= 2 ** 64 for number in numbers) or kind == "hear" and unit_of(octets) is None:
+        return None
+    return Line(kind, end, *(numbers + [None, None])[:2], octets)
+
+
+def stream_of(body):
+    return body[4] >> 4
+
+
+def order_of(body):
+    """The link and the name of the order that a body of the management stands for, or None."""
+    if len(body) < 6:
+        return None
+    names = {0: {0x12: "eco", 0x22: "eca"}, 1: {0x11: "coo", 0x21: "coa", 0x51: "cbd", 0x61: "cba"}}
+    name = names.get(len(body) - 6, {}).get(body[5])
+    return name and (body[4] >> 4, name)
+
+
+class Link:
+    """A link at one end: its phase, and since it last came up what was sent, acknowledged and accepted on it."""
+
+    def __init__(self):
+        self.phase = "settled"
+        self.coming = deque()
+        self.rise()
+
+    def rise(self):
+        self.sent = []
+        self.acked = 0
+        self.accepted = 0
+        self.coming.clear()
+
+
+class End:
+    """One end: its messages as they were offered and heard, and its links."""
+
+    def __init__(self, links):
+        self.rows = 0
+        self.offered = {}
+        self.bodies = set()
+        self.inbox = deque()
+        self.heard = []
+        self.links = [Link() for _ in range(links)]
+
+
+class Trace:
+    """A script as far as it has come."""
+
+    def __init__(self):
+        self.ends = None
+        self.by_hand = False
+        self.gave_up = False
+        self.was_blind = False
+
+    def links(self):
+        return len(self.ends["a"].links)
+
+    def is_sound(self):
+        """Whether the error control may be held to what it promises of two ends."""
+        return not self.by_hand and not self.gave_up
+
+    def fault_of(self, text):
+        """None, or why this line ends the script."""
+        if len(text) > 4096:
+            return "text"
+        if self.is_remark(text):
+            return None
+        if self.ends is None:
+            return None if opening_of(text) else "text"
+        line = line_of(text)
+        return "text" if line is None else None if self.can(line) else "step"
+
+    @staticmethod
+    def is_remark(text):
+        return not text or text.startswith(b"#")
+
+    def can(self, line):
+        if line.kind in ("take", "offer", "find"):
+            return True
+        if line.number >= self.links():
+            return False
+        if line.kind == "together":
+            return self.is_settled(line.number)
+        under_way = len(self.ends[line.end].links[line.number].coming) if line.end else 0
+        return line.kind not in ("arrive", "lose") or (line.place or 0) < under_way
+
+    def is_settled(self, number):
+        """Whether both ends have settled the link, so that it can come up."""
+        return all(end.links[number].phase == "settled" for end in self.ends.values())
+
+    def is_silent(self, text):
+        """Whether this line, which has no fault, prints nothing."""
+        return self.is_remark(text) or self.ends is None
+
+    def open(self, text):
+        """Takes a line that prints nothing."""
+        if not self.is_remark(text):
+            self.ends = {name: End(opening_of(text)) for name in "ab"}
+
+    def answered(self, text, answer):
+        """Takes a line that prints, with what it printed."""
+        line = line_of(text)
+        end = self.ends[line.end or "a"]
+        getattr(self, "on_" + line.kind)(line, end, answer)
+
+    def on_together(self, line, _end, answer):
+        expect(answer == "up", "together isn't answered up")
+        for end in self.ends.values():
+            end.links[line.number].phase = "up"
+            end.links[line.number].rise()
+
+    def on_offer(self, line, end, answer):
+        body = line.octets
+        refusal = 1 if len(body) < 5 else 2 if len(body) > 273 else 3 if body[0] % 16 == 0 else 0
+        if refusal:
+            expect(answer == f"refused {refusal}", f"an offer that is to be refused {refusal} isn't")
+        elif answer == "refused 4":
+            of_stream = [other for other in end.offered.values() if stream_of(other) == stream_of(body)]
+            expect(len(of_stream) >= 1024, "an offer is refused 4 with fewer than 1,024 messages of its stream")
+        else:
+            expect(answer == f"accepted {end.rows}", f"an offer isn't accepted under the number {end.rows}")
+            end.offered[end.rows] = body
+            end.bodies.add(body)
+            end.rows += 1
+
+    def on_take(self, _line, end, answer):
+        body = end.inbox.popleft() if end.inbox else None
+        taken = "refused 9" if body is None else f"taken {body.hex()}"
+        expect(answer == taken, "what is taken isn't the oldest message heard")
+
+    def on_find(self, line, end, answer):
+        if line.number >= end.rows:
+            expect(answer == "refused 8", "a message that doesn't exist was found")
+            return
+        expect(FOUND.fullmatch(answer), "a message wasn't found")
+        if answer.startswith("found acked") and line.number in end.offered and self.is_sound():
+            heard = self.ends[OTHER[line.end]].heard
+            expect(end.offered[line.number] in heard, "a message counts as acknowledged that the far end never heard")
+
+    def on_emit(self, line, end, answer):
+        link = end.links[line.number]
+        if link.phase != "up":
+            expect(answer == "refused 5", "a link that isn't up sends")
+            return
+        octets = bytes.fromhex(answer.removeprefix("sent "))
+        expect(answer == f"sent {octets.hex()}" and list(octets[-2:]) == check_octets(octets[:-2]), "check octets are wrong")
+        unit = unit_of(octets[:-2])
+        expect(unit and unit.kind != "lssu" and octets[2] < 64, "what is sent is no fill-in unit and no message")
+        expect(unit.bsn == (link.accepted - 1) % 128, "the BSN isn't the FSN last accepted")
+        self.check_fsn(unit, link, end)
+        self.ends[OTHER[line.end]].links[line.number].coming.append(unit)
+
+    @staticmethod
+    def check_fsn(unit, link, end):
+        """A message goes first under the next FSN, and again under its own; a fill-in unit has the last one."""
+        back = (len(link.sent) - unit.fsn) % 128
+        if unit.kind == "fisu":
+            expect(back == 1, "a fill-in unit hasn't the last FSN")
+        elif back == 0:
+            expect(len(link.sent) - link.acked < 127, "128 messages are unacknowledged")
+            expect(unit.body in end.bodies or order_of(unit.body), "what is sent was never offered")
+            link.sent.append(unit.body)
+        else:
+            expect(back <= len(link.sent) - link.acked, "what is sent again isn't unacknowledged")
+            expect(unit.body == link.sent[-back], "what is sent again was another message under that FSN")
+
+    def on_arrive(self, line, end, answer):
+        link = end.links[line.number]
+        unit = link.coming.popleft()
+        if link.phase != "up":
+            expect(answer == "lost", "a link that isn't up hears")
+            return
+        self.hears(line, end, unit, answer)
+
+    def on_lose(self, line, end, answer):
+        del end.links[line.number].coming[line.place]
+        expect(answer == "lost", "a lost unit isn't answered lost")
+
+    def on_hear(self, line, end, answer):
+        unit = unit_of(line.octets)
+        if end.links[line.number].phase != "up":
+            expect(answer == "refused 5", "a link that isn't up hears")
+        elif unit.kind == "lssu":
+            expect(answer == "refused 9", "a link status signal unit isn't refused 9")
+        else:
+            self.by_hand = True
+            self.hears(line, end, unit, answer)
+
+    def hears(self, line, end, unit: Unit, answer):
+        match = REPORT.fullmatch(answer)
+        expect(match, "a heard unit isn't reported")
+        link = end.links[line.number]
+        link.acked += int(match[1])
+        expect(link.acked <= len(link.sent), "more is acknowledged than was sent")
+        expect(not self.is_sound() or match[5] == "0", "a fault is told though nothing was heard by hand")
+        if match[2] == "nothing":
+            return
+        expect(unit.kind == "msu", "a unit without a body brought one")
+        if self.is_sound():
+            sent = self.ends[OTHER[line.end]].links[line.number].sent
+            is_next = link.accepted < len(sent) and sent[link.accepted] == unit.body
+            expect(is_next, "a link brought something else than was sent")
+        link.accepted += 1
+        expect(match[2] == self.became(end, unit.body), "a body became something else than it is")
+
+    def became(self, end, body):
+        """What becomes of an accepted body: a message, an order that is obeyed, or nothing."""
+        if body[0] % 16:
+            end.inbox.append(body)
+            end.heard.append(body)
+            return "message"
+        number, name = order_of(body) or (16, None)
+        if number >= len(end.links) or name in ("cbd", "cba"):
+            return "ignored"
+        link = end.links[number]
+        if name in ("coa", "eca") and link.phase != "down":
+            return "ignored"
+        if name in ("coo", "eco") and link.phase != "down":
+            end.rows += 1
+        link.phase = "settled"
+        return "order"
+
+    def on_down(self, line, end, answer):
+        link = end.links[line.number]
+        done = "done" if link.phase == "up" else "refused 5"
+        expect(answer == done, "a link that is up can't go down, or one that isn't can")
+        if link.phase == "up":
+            link.phase = "down"
+            end.rows += 1
+            self.was_blind = self.was_blind or line.kind == "blind"
+
+    on_blind = on_down
+
+    def on_noanswer(self, line, end, answer):
+        link = end.links[line.number]
+        done = "done" if link.phase == "down" else "refused 9"
+        expect(answer == done, "noanswer isn't obeyed just where an answer is wanted")
+        if link.phase == "down":
+            link.phase = "settled"
+            self.gave_up = True
+
+    def ended(self, lines):
+        """Takes the lines that are printed when the script has ended, and gives the counts of each end."""
+        if self.ends is None:
+            expect(not lines, "a script without a first line prints")
+            return None
+        matches = [END_LINE.fullmatch(line) for line in lines]
+        expect(all(matches) and [match[1] for match in matches] == ["a", "b"], "the end lines aren't those of a and b")
+        counts = {}
+        for match in matches:
+            accepted, *places = [int(word) for word in match.groups()[1:]]
+            offered = len(self.ends[match[1]].offered)
+            expect(accepted == offered == sum(places), "the places don't add up to the accepted messages")
+            counts[match[1]] = dict(zip(PLACES, places))
+            expect(counts[match[1]]["back"] == 0, "messages are back though nothing changes back")
+        if self.is_sound():
+            self.check_streams(counts)
+        return counts
+
+    def check_streams(self, counts):
+        """What each end heard, against what the other offered."""
+        for name, end in self.ends.items():
+            heard = self.ends[OTHER[name]].heard
+            count = counts[name]
+            sent = count["acked"] + count["unacked"] + count["discarded"]
+            expect(count["acked"] <= len(heard), "the far end heard fewer messages than are acknowledged")
+            expect(len(heard) <= sent, "the far end heard more messages than were sent")
+            expect(self.was_blind or not count["discarded"], "messages were discarded without an emergency")
+            for stream in range(16):
+                offered = [body for body in end.offered.values() if stream_of(body) == stream]
+                got = [body for body in heard if stream_of(body) == stream]
+                left = iter(offered)
+                in_order = all(body in left for body in got) if self.was_blind else got == offered[:len(got)]
+                expect(in_order, f"stream {stream} from end {name} is lost, doubled or out of order")
