@@ -2,6 +2,9 @@
 use Rattle.std.specs.Prelude.{ℕ, true, List, [], codes}
 use Rattle.clap.specs.Words.{App, Shape, with_subcommand}
 use Rattle.clap.specs.Simple.{new_shape}
+use Rattle.printing.specs.Printing.{Printed}
+use Rattle.play_text.specs.Playing.{IsPlayText}
+use Rattle.units_text.specs.UnitsText.{IsUnitsText}
 use Rattle.mtpbank.specs.declared.words.Words.{Words}
 use Rattle.mtpbank.specs.declared.words.Words.TheVariants.{Units, Play}
 
@@ -17,3 +20,8 @@ program = with_subcommand (with_subcommand (record { top = program_itself; subs 
 abbrev pub name_of : Words → List ℕ
 name_of Units = codes "units"
 name_of Play = codes "play"
+
+-- what each of them makes of an input
+abbrev pub IsTextOf : Words → List ℕ → Printed → Type 0
+IsTextOf Units input text = IsUnitsText input text
+IsTextOf Play input text = IsPlayText input text

@@ -9,15 +9,15 @@
 mod changeover_tests;
 #[cfg(test)]
 mod link_tests;
+mod running;
 #[cfg(test)]
 mod tests;
 mod words;
 
-use play_text::play;
 use printing::{Fault, Reader, Writer};
+use running::run;
 use std::io;
 use std::process::ExitCode;
-use units_text::units;
 use words::{Words, WordsFault, not_unicode, words_of};
 
 /// The status of a fault of input, memory, reading or writing.
@@ -25,8 +25,7 @@ const FAULT: u8 = 1;
 
 fn main(rt: HostRuntime) -> io::Result<ExitCode> {
     match asked(&rt) {
-        Ok(Words::Units) => seen(&rt),
-        Ok(Words::Play) => played(&rt),
+        Ok(words) => done(&rt, words),
         Err(WordsFault::Words(error)) => said(&rt, &error),
         Err(WordsFault::NoMemory) => told(&rt, Fault::Memory),
     }
@@ -58,21 +57,11 @@ fn said(rt: &HostRuntime, error: &clap::Error) -> io::Result<ExitCode> {
     }
 }
 
-/// Plays the script on standard input.
-fn played(rt: &HostRuntime) -> io::Result<ExitCode> {
+/// Does what the words ask for, with standard input and output.
+fn done(rt: &HostRuntime, words: Words) -> io::Result<ExitCode> {
     let mut source = Reader::new(rt.reader());
     let mut sink = Writer::new(io::writer(rt));
-    match play(rt.alloc(), &mut source, &mut sink) {
-        Ok(()) => Ok(ExitCode::SUCCESS),
-        Err(fault) => told(rt, fault),
-    }
-}
-
-/// Tells what a signalling terminal sees of the digits on standard input.
-fn seen(rt: &HostRuntime) -> io::Result<ExitCode> {
-    let mut source = Reader::new(rt.reader());
-    let mut sink = Writer::new(io::writer(rt));
-    match units(rt.alloc(), &mut source, &mut sink) {
+    match run(rt.alloc(), words, &mut source, &mut sink) {
         Ok(()) => Ok(ExitCode::SUCCESS),
         Err(fault) => told(rt, fault),
     }

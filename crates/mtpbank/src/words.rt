@@ -56,7 +56,7 @@ pub fn words_of(alloc: Global, words: &[&str]) -> Result<Words, WordsFault>
 }
 
 /// A word that isn't Unicode is none of the program's.
-pub fn not_unicode(alloc: Global) -> WordsFault {
+pub(crate) fn not_unicode(alloc: Global) -> WordsFault {
     match refusal(alloc) {
         Ok(error) => fault_of(error),
         Err(_) => WordsFault::NoMemory,
