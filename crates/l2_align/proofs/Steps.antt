@@ -1,136 +1,222 @@
--- What one row does, by cases on the state, the values and the input.
+-- What one row does, by cases on the state, the input and the status that is heard.
 use Rattle.std.proofs.Common.{◌≡◌, ◌≢◌, ℕ, ◌+◌, ◌≤◌, ◌↔◌, Bool, true, false, IsFalse, if◌then◌else◌, Some, refl, sym, subst, arith, nat_lt}
 use Rattle.std.proofs.lemmas.Bool.Decides.{nat_tests}
+use Rattle.l2_signals.specs.Orders.{is_start}
+use Rattle.l2_signals.specs.declared.status.Status.{Status}
+use Rattle.l2_signals.specs.declared.timer.TimerOrder.{TimerOrder}
 use Rattle.l2_align.specs.declared.align.State.{State}
 use Rattle.l2_align.specs.declared.signals.AlignIn.{AlignIn}
 use Rattle.l2_align.specs.declared.signals.End.{End}
 use Rattle.l2_align.specs.declared.signals.Monitor.{Monitor}
-use Rattle.l2_align.specs.declared.signals.Status.{Status}
-use Rattle.l2_align.specs.declared.signals.Timer.{Timer}
 use Rattle.l2_align.specs.Alignment.{Alignment, initial}
-use Rattle.l2_align.specs.Table.{Row, row, aborted, idle, silent, watching}
-use Rattle.l2_align.specs.Runs.{starts_t4, counted}
-
-abbrev machine : State → Bool → Bool → ℕ → Bool → Alignment
-machine state local short aborts pending = record { state = state; local = local; short = short; aborts = aborts; pending = pending }
+use Rattle.l2_align.specs.Table.{Row, row, table, aborted, counted_abort, idle, stop_t4, silent, proving, shortened, heard_not_aligned, heard_aligned, heard_proving}
+use Rattle.l2_align.specs.Runs.{counted}
 
 -- what holds of both rows holds of a choice between them
 either : (P : Row → Type 0) (b : Bool) (x y : Row) → P x → P y → P (if b then x else y)
 either P true x y p q = p
 either P false x y p q = q
 
--- an end leaves a new machine
-ends : (s : State) (local short pending : Bool) (aborts : ℕ) (i : AlignIn) (e : End) → (row (machine s local short aborts pending) i).out.end ≡ Some e → (row (machine s local short aborts pending) i).next ≡ initial
-ends State.Idle local short pending aborts (AlignIn.Heard Status.Normal) e h = cc
-ends State.NotAligned local short pending aborts (AlignIn.Heard Status.Normal) e h = cc
-ends State.Aligned local short pending aborts (AlignIn.Heard Status.Normal) e h = cc
-ends State.Proving local true false aborts AlignIn.Abort e h =
-    either (λ r. r.out.end ≡ Some e → r.next ≡ initial) (nat_lt (aborts + 1) 5) _ _ (λ k. cc) (λ k. refl) h
-ends State.Proving local false false aborts AlignIn.Abort e h =
-    either (λ r. r.out.end ≡ Some e → r.next ≡ initial) (nat_lt (aborts + 1) 5) _ _ (λ k. cc) (λ k. refl) h
-ends State.Proving local true true aborts (AlignIn.Heard Status.Normal) e h = cc
-ends State.Proving local true false aborts (AlignIn.Heard Status.Normal) e h = cc
-ends State.Proving local false true aborts (AlignIn.Heard Status.Normal) e h = cc
-ends State.Proving local false false aborts (AlignIn.Heard Status.Normal) e h = cc
-ends _ _ _ _ _ _ e h = cc
+-- An end leaves a new machine.
+
+abbrev Ends : Row → Type 0
+Ends r = (e : End) → r.out.end ≡ Some e → r.next ≡ initial
+
+ends_aborted : (a : Alignment) → Ends (aborted a)
+ends_aborted a = either Ends (nat_lt (a.aborts + 1) 5) _ _ (λ e h. cc) (λ e h. refl)
+
+ends_shortened : (a : Alignment) → Ends (shortened a)
+ends_shortened a = either Ends a.short _ _ (λ e h. cc) (λ e h. cc)
+
+ends_not_aligned : (s : Status) (a : Alignment) → Ends (heard_not_aligned s a)
+ends_not_aligned Status.Normal a e h = cc
+ends_not_aligned _ a e h = cc
+
+ends_aligned : (s : Status) (a : Alignment) → Ends (heard_aligned s a)
+ends_aligned Status.OutOfService a e h = refl
+ends_aligned _ a e h = cc
+
+ends_proving : (s : Status) (a : Alignment) → Ends (heard_proving s a)
+ends_proving Status.Emergency a = ends_shortened a
+ends_proving Status.OutOfService a = λ e h. refl
+ends_proving _ a = λ e h. cc
+
+ends : (s : State) (i : AlignIn) (a : Alignment) → Ends (table s i a)
+ends State.Idle AlignIn.Start a = λ e h. cc
+ends State.NotAligned (AlignIn.Heard status) a = ends_not_aligned status a
+ends State.Aligned (AlignIn.Heard status) a = ends_aligned status a
+ends State.Proving (AlignIn.Heard status) a = ends_proving status a
+ends State.Proving AlignIn.Emergency a = either (λ r. Ends (record { out = record r.out { send = Some Status.Emergency }; next = r.next })) a.short _ _ (λ e h. cc) (λ e h. cc)
+ends State.Proving AlignIn.Abort a = either Ends a.pending _ _ (λ e h. cc) (ends_aborted a)
+ends State.Proving AlignIn.Good a = either Ends a.pending _ _ (λ e h. cc) (λ e h. cc)
+ends State.Proving AlignIn.T4 a = either Ends a.pending _ _ (λ e h. cc) (λ e h. refl)
+ends _ _ a = λ e h. cc
 
 pub new_at_end : (a : Alignment) (i : AlignIn) (e : End) → (row a i).out.end ≡ Some e → (row a i).next ≡ initial
-new_at_end a i e h = ends a.state a.local a.short a.pending a.aborts i e h
+new_at_end a i = ends a.state i a
 
--- Complete is told at an end of T4, of an unbroken period
-pub record IsWhole (a : Alignment) (i : AlignIn) : Type 0 where
+-- Complete is told at an end of T4, of an unbroken period.
+
+pub record IsWhole (s : State) (a : Alignment) (i : AlignIn) : Type 0 where
   pub input : i ≡ AlignIn.T4
-  pub state : a.state ≡ State.Proving
+  pub state : s ≡ State.Proving
   pub pending : a.pending ≡ false
 
-completes : (s : State) (local short pending : Bool) (aborts : ℕ) (i : AlignIn) → (row (machine s local short aborts pending) i).out.end ≡ Some End.Complete → IsWhole (machine s local short aborts pending) i
-completes State.Idle local short pending aborts (AlignIn.Heard Status.Normal) h = record { input = cc; state = cc; pending = cc }
-completes State.NotAligned local short pending aborts (AlignIn.Heard Status.Normal) h = record { input = cc; state = cc; pending = cc }
-completes State.Aligned local short pending aborts (AlignIn.Heard Status.Normal) h = record { input = cc; state = cc; pending = cc }
-completes State.Proving local true false aborts AlignIn.Abort h =
-    either (λ r. r.out.end ≡ Some End.Complete → IsWhole (machine State.Proving local true aborts false) AlignIn.Abort) (nat_lt (aborts + 1) 5) _ _ (λ k. record { input = cc; state = cc; pending = cc }) (λ k. record { input = cc; state = cc; pending = cc }) h
-completes State.Proving local false false aborts AlignIn.Abort h =
-    either (λ r. r.out.end ≡ Some End.Complete → IsWhole (machine State.Proving local false aborts false) AlignIn.Abort) (nat_lt (aborts + 1) 5) _ _ (λ k. record { input = cc; state = cc; pending = cc }) (λ k. record { input = cc; state = cc; pending = cc }) h
-completes State.Proving local true true aborts (AlignIn.Heard Status.Normal) h = record { input = cc; state = cc; pending = cc }
-completes State.Proving local true false aborts (AlignIn.Heard Status.Normal) h = record { input = cc; state = cc; pending = cc }
-completes State.Proving local false true aborts (AlignIn.Heard Status.Normal) h = record { input = cc; state = cc; pending = cc }
-completes State.Proving local false false aborts (AlignIn.Heard Status.Normal) h = record { input = cc; state = cc; pending = cc }
-completes _ _ _ _ _ _ h = record { input = cc; state = cc; pending = cc }
+-- this row doesn't tell Complete
+abbrev GoesOn : Row → Type 0
+GoesOn r = r.out.end ≢ Some End.Complete
 
-pub whole_at_complete : (a : Alignment) (i : AlignIn) → (row a i).out.end ≡ Some End.Complete → IsWhole a i
-whole_at_complete a i h = completes a.state a.local a.short a.pending a.aborts i h
+goes_on_not_aligned : (s : Status) (a : Alignment) → GoesOn (heard_not_aligned s a)
+goes_on_not_aligned Status.Normal a h = cc
+goes_on_not_aligned _ a h = cc
 
--- a row that doesn't start T4 and leaves the machine proving, no abort waiting, found it so; it was no abort, and didn't stop T4
-pub record KeepsProving (a : Alignment) (i : AlignIn) : Type 0 where
-  pub state : a.state ≡ State.Proving
+goes_on_aligned : (s : Status) (a : Alignment) → GoesOn (heard_aligned s a)
+goes_on_aligned Status.Normal a h = cc
+goes_on_aligned _ a h = cc
+
+goes_on_proving : (s : Status) (a : Alignment) → GoesOn (heard_proving s a)
+goes_on_proving Status.Emergency a = either GoesOn a.short _ _ (λ h. cc) (λ h. cc)
+goes_on_proving _ a = λ h. cc
+
+goes_on_abort : (a : Alignment) → GoesOn (table State.Proving AlignIn.Abort a)
+goes_on_abort a = either GoesOn a.pending _ _ (λ h. cc) (either GoesOn (nat_lt (a.aborts + 1) 5) _ _ (λ h. cc) (λ h. cc))
+
+completes_by : (b : Bool) (a : Alignment) → (if b then proving a else idle stop_t4 (Some End.Complete)).out.end ≡ Some End.Complete → b ≡ false
+completes_by true a h = cc
+completes_by false a h = refl
+
+completes : (s : State) (i : AlignIn) (a : Alignment) → (table s i a).out.end ≡ Some End.Complete → IsWhole s a i
+completes State.Idle AlignIn.Start a h = absurd cc
+completes State.NotAligned (AlignIn.Heard status) a h = absurd (goes_on_not_aligned status a h)
+completes State.Aligned (AlignIn.Heard status) a h = absurd (goes_on_aligned status a h)
+completes State.Proving (AlignIn.Heard status) a h = absurd (goes_on_proving status a h)
+completes State.Proving AlignIn.Emergency a h =
+    absurd (either (λ r. r.out.end ≢ Some End.Complete) a.short _ _ (λ k. cc) (λ k. cc) h)
+completes State.Proving AlignIn.Abort a h = absurd (goes_on_abort a h)
+completes State.Proving AlignIn.Good a h = absurd (either GoesOn a.pending _ _ (λ k. cc) (λ k. cc) h)
+completes State.Proving AlignIn.T4 a h = record { input = refl; state = refl; pending = completes_by a.pending a h }
+completes _ _ a h = absurd cc
+
+pub whole_at_complete : (a : Alignment) (i : AlignIn) → (row a i).out.end ≡ Some End.Complete → IsWhole a.state a i
+whole_at_complete a i h = completes a.state i a h
+
+-- A row that doesn't start T4 and leaves the machine proving, no abort waiting, found it so; it was no abort, and left
+-- T4 as it was.
+
+pub record KeepsProving (s : State) (a : Alignment) (i : AlignIn) (r : Row) : Type 0 where
+  pub state : s ≡ State.Proving
   pub pending : a.pending ≡ false
   pub no_abort : i ≢ AlignIn.Abort
-  pub not_stopped : (row a i).out.stop ≢ Some Timer.T4
+  pub kept : r.out.t4 ≡ TimerOrder.Keep
 
-keeps : (s : State) (local short pending : Bool) (aborts : ℕ) (i : AlignIn) → let a = machine s local short aborts pending in IsFalse (starts_t4 (row a i).out.start) → (row a i).next.state ≡ State.Proving → (row a i).next.pending ≡ false → KeepsProving a i
-keeps State.Idle local short pending aborts (AlignIn.Heard Status.Normal) f s p = record { state = cc; pending = cc; no_abort = λ q. cc; not_stopped = λ q. cc }
-keeps State.NotAligned local short pending aborts (AlignIn.Heard Status.Normal) f s p = record { state = cc; pending = cc; no_abort = λ q. cc; not_stopped = λ q. cc }
-keeps State.Aligned local short pending aborts (AlignIn.Heard Status.Normal) f s p = record { state = cc; pending = cc; no_abort = λ q. cc; not_stopped = λ q. cc }
-keeps State.Proving local true false aborts AlignIn.Abort f s p =
-    either (λ r. r.next.state ≡ State.Proving → r.next.pending ≡ false → KeepsProving (machine State.Proving local true aborts false) AlignIn.Abort) (nat_lt (aborts + 1) 5) _ _ (λ k l. absurd cc) (λ k l. absurd cc) s p
-keeps State.Proving local false false aborts AlignIn.Abort f s p =
-    either (λ r. r.next.state ≡ State.Proving → r.next.pending ≡ false → KeepsProving (machine State.Proving local false aborts false) AlignIn.Abort) (nat_lt (aborts + 1) 5) _ _ (λ k l. absurd cc) (λ k l. absurd cc) s p
-keeps State.Proving local true true aborts (AlignIn.Heard Status.Normal) f s p = record { state = cc; pending = cc; no_abort = λ q. cc; not_stopped = λ q. cc }
-keeps State.Proving local true false aborts (AlignIn.Heard Status.Normal) f s p = record { state = cc; pending = cc; no_abort = λ q. cc; not_stopped = λ q. cc }
-keeps State.Proving local false true aborts (AlignIn.Heard Status.Normal) f s p = record { state = cc; pending = cc; no_abort = λ q. cc; not_stopped = λ q. cc }
-keeps State.Proving local false false aborts (AlignIn.Heard Status.Normal) f s p = record { state = cc; pending = cc; no_abort = λ q. cc; not_stopped = λ q. cc }
-keeps _ _ _ _ _ _ f s p = record { state = cc; pending = cc; no_abort = λ q. cc; not_stopped = λ q. cc }
+abbrev Keeps : State → Alignment → AlignIn → Row → Type 0
+Keeps s a i r =
+    IsFalse (is_start r.out.t4) → r.next.state ≡ State.Proving → r.next.pending ≡ false → KeepsProving s a i r
 
-pub keeps_proving : (a : Alignment) (i : AlignIn) → IsFalse (starts_t4 (row a i).out.start) → (row a i).next.state ≡ State.Proving → (row a i).next.pending ≡ false → KeepsProving a i
-keeps_proving a i = keeps a.state a.local a.short a.pending a.aborts i
+keeps_silent : (a : Alignment) (i : AlignIn) → i ≢ AlignIn.Abort → Keeps State.Proving a i (silent a)
+keeps_silent a i n f s p = record { state = refl; pending = p; no_abort = n; kept = refl }
 
--- the count of aborts begins at 0 when Aligned is left for proving
-leaves : (local short pending : Bool) (aborts : ℕ) (i : AlignIn) → let a = machine State.Aligned local short aborts pending in (row a i).next.state ≡ State.Proving → (row a i).next.aborts ≡ 0
-leaves local short pending aborts (AlignIn.Heard Status.Normal) h = refl
-leaves local short pending aborts _ h = cc
+keeps_not_aligned : (s : Status) (a : Alignment) → a.state ≡ State.NotAligned → Keeps State.NotAligned a (AlignIn.Heard s) (heard_not_aligned s a)
+keeps_not_aligned Status.Normal a e f s p = absurd cc
+keeps_not_aligned _ a e f s p = absurd cc
 
--- rows that stay in proving count the aborts that count, to 4 at most
+keeps_aligned : (s : Status) (a : Alignment) → a.state ≡ State.Aligned → Keeps State.Aligned a (AlignIn.Heard s) (heard_aligned s a)
+keeps_aligned Status.Normal a e f s p = absurd cc
+keeps_aligned _ a e f s p = absurd cc
+
+keeps_heard : (s : Status) (a : Alignment) → Keeps State.Proving a (AlignIn.Heard s) (heard_proving s a)
+keeps_heard Status.Emergency a =
+    either (Keeps State.Proving a (AlignIn.Heard Status.Emergency)) a.short _ _ (keeps_silent a _ (λ q. cc)) (λ f s p. absurd cc)
+keeps_heard Status.OutOfAlignment a = λ f s p. absurd cc
+keeps_heard Status.OutOfService a = λ f s p. absurd cc
+keeps_heard _ a = keeps_silent a _ (λ q. cc)
+
+keeps_abort : (b : Bool) (a : Alignment) → b ≡ a.pending → Keeps State.Proving a AlignIn.Abort (if b then silent a else aborted a)
+keeps_abort true a e = λ f s p. absurd cc
+keeps_abort false a e =
+    either (Keeps State.Proving a AlignIn.Abort) (nat_lt (a.aborts + 1) 5) _ _ (λ f s p. absurd cc) (λ f s p. absurd cc)
+
+keeps : (s : State) (i : AlignIn) (a : Alignment) → a.state ≡ s → Keeps s a i (table s i a)
+keeps State.Idle AlignIn.Start a e = λ f s p. absurd cc
+keeps State.NotAligned (AlignIn.Heard status) a e = keeps_not_aligned status a e
+keeps State.Aligned (AlignIn.Heard status) a e = keeps_aligned status a e
+keeps State.Proving (AlignIn.Heard status) a e = keeps_heard status a
+keeps State.Proving AlignIn.Emergency a e =
+    either (λ r. Keeps State.Proving a AlignIn.Emergency (record { out = record r.out { send = Some Status.Emergency }; next = r.next })) a.short _ _ (λ f s p. record { state = refl; pending = p; no_abort = λ q. cc; kept = refl }) (λ f s p. absurd cc)
+keeps State.Proving AlignIn.Abort a e = keeps_abort a.pending a refl
+keeps State.Proving AlignIn.Good a e =
+    either (Keeps State.Proving a AlignIn.Good) a.pending _ _ (λ f s p. absurd cc) (keeps_silent a _ (λ q. cc))
+keeps State.Proving AlignIn.T4 a e =
+    either (Keeps State.Proving a AlignIn.T4) a.pending _ _ (λ f s p. absurd cc) (λ f s p. absurd cc)
+keeps State.Proving AlignIn.Stop a e = λ f s p. absurd cc
+keeps State.Proving i a e = keeps_silent a i (λ q. cc)
+keeps _ _ a e = λ f s p. absurd cc
+
+pub keeps_proving : (a : Alignment) (i : AlignIn) → Keeps a.state a i (row a i)
+keeps_proving a i = keeps a.state i a refl
+
+-- The count of aborts begins at 0 when Aligned is left for proving.
+
+leaves_heard : (s : Status) (a : Alignment) → a.state ≡ State.Aligned → (heard_aligned s a).next.state ≡ State.Proving → (heard_aligned s a).next.aborts ≡ 0
+leaves_heard Status.Normal a e h = refl
+leaves_heard Status.Emergency a e h = refl
+leaves_heard _ a e h = absurd cc
+
+leaves : (i : AlignIn) (a : Alignment) → a.state ≡ State.Aligned → (table State.Aligned i a).next.state ≡ State.Proving → (table State.Aligned i a).next.aborts ≡ 0
+leaves (AlignIn.Heard status) a e h = leaves_heard status a e h
+leaves _ a e h = absurd cc
+
+pub leaves_on : (a : Alignment) (i : AlignIn) → a.state ≡ State.Aligned → (row a i).next.state ≡ State.Proving → (row a i).next.aborts ≡ 0
+leaves_on a i e =
+    subst (λ s. (table s i a).next.state ≡ State.Proving → (table s i a).next.aborts ≡ 0) (sym e) (leaves i a e)
+
+-- Rows that stay in proving count the aborts that count, to 4 at most.
+
 pub record Counts (a next : Alignment) (n : ℕ) : Type 0 where
   pub more : next.aborts ≡ a.aborts + n
   pub few : next.aborts ≤ 4
 
--- what an abort that counts does, by the outcome of its test
-abbrev aborted_or : Bool → Alignment → Row
-aborted_or b a = if b then watching Monitor.Off (silent (record a { aborts = a.aborts + 1; pending = true })) else idle Timer.T4 (Some End.NotPossible)
+-- the row stays in proving and counts so
+abbrev CountsIn : Alignment → AlignIn → Row → Type 0
+CountsIn a i r = r.next.state ≡ State.Proving → Counts a r.next (counted i r.out.monitor)
 
-aborted_few : (b : Bool) (local short : Bool) (aborts : ℕ) → b ≡ nat_lt (aborts + 1) 5 → let a = machine State.Proving local short aborts false in let r = aborted_or b a in r.next.state ≡ State.Proving → Counts a r.next (counted AlignIn.Abort r.out.monitor)
-aborted_few true local short aborts e h = record { more = refl; few = grind (arith, nat_tests) }
-aborted_few false local short aborts e h = absurd cc
+counts_few : (b : Bool) (a : Alignment) → b ≡ nat_lt (a.aborts + 1) 5 → CountsIn a AlignIn.Abort (if b then counted_abort a else idle stop_t4 (Some End.NotPossible))
+counts_few true a e h = record { more = refl; few = grind (arith, nat_tests) }
+counts_few false a e h = absurd cc
 
-counts_abort : (aborts : ℕ) (local short : Bool) → let a = machine State.Proving local short aborts false in aborts ≤ 4 → (aborted a).next.state ≡ State.Proving → Counts a (aborted a).next (counted AlignIn.Abort (aborted a).out.monitor)
-counts_abort aborts local short f h = aborted_few (nat_lt (aborts + 1) 5) local short aborts refl h
+counts_heard : (s : Status) (a : Alignment) → a.aborts ≤ 4 → CountsIn a (AlignIn.Heard s) (heard_proving s a)
+counts_heard Status.Emergency a f =
+    either (CountsIn a (AlignIn.Heard Status.Emergency)) a.short _ _ (λ h. record { more = omega arith; few = f }) (λ h. record { more = omega arith; few = f })
+counts_heard Status.OutOfAlignment a f = λ h. absurd cc
+counts_heard Status.OutOfService a f = λ h. absurd cc
+counts_heard _ a f = λ h. record { more = omega arith; few = f }
 
-counts : (local short pending : Bool) (aborts : ℕ) (i : AlignIn) → let a = machine State.Proving local short aborts pending in aborts ≤ 4 → (row a i).next.state ≡ State.Proving → Counts a (row a i).next (counted i (row a i).out.monitor)
-counts local true false aborts AlignIn.Abort f h = counts_abort aborts local true f h
-counts local false false aborts AlignIn.Abort f h = counts_abort aborts local false f h
-counts local true true aborts (AlignIn.Heard Status.Normal) f h = record { more = omega arith; few = omega arith }
-counts local true false aborts (AlignIn.Heard Status.Normal) f h = record { more = omega arith; few = omega arith }
-counts local false true aborts (AlignIn.Heard Status.Normal) f h = record { more = omega arith; few = omega arith }
-counts local false false aborts (AlignIn.Heard Status.Normal) f h = record { more = omega arith; few = omega arith }
-counts _ _ _ _ _ f h = record { more = grind arith; few = grind arith }
+counts : (i : AlignIn) (a : Alignment) → a.aborts ≤ 4 → CountsIn a i (table State.Proving i a)
+counts (AlignIn.Heard status) a f = counts_heard status a f
+counts AlignIn.Emergency a f =
+    either (λ r. CountsIn a AlignIn.Emergency (record { out = record r.out { send = Some Status.Emergency }; next = r.next })) a.short _ _ (λ h. record { more = omega arith; few = f }) (λ h. record { more = omega arith; few = f })
+counts AlignIn.Abort a f =
+    either (CountsIn a AlignIn.Abort) a.pending _ _ (λ h. record { more = omega arith; few = f }) (counts_few (nat_lt (a.aborts + 1) 5) a refl)
+counts AlignIn.Good a f =
+    either (CountsIn a AlignIn.Good) a.pending _ _ (λ h. record { more = omega arith; few = f }) (λ h. record { more = omega arith; few = f })
+counts AlignIn.T4 a f =
+    either (CountsIn a AlignIn.T4) a.pending _ _ (λ h. record { more = omega arith; few = f }) (λ h. absurd cc)
+counts AlignIn.Stop a f = λ h. absurd cc
+counts _ a f = λ h. record { more = omega arith; few = f }
 
 pub counts_on : (a : Alignment) (i : AlignIn) → a.state ≡ State.Proving → a.aborts ≤ 4 → (row a i).next.state ≡ State.Proving → Counts a (row a i).next (counted i (row a i).out.monitor)
-counts_on a i e =
-    subst (λ (s : State). let b = machine s a.local a.short a.aborts a.pending in b.aborts ≤ 4 → (row b i).next.state ≡ State.Proving → Counts b (row b i).next (counted i (row b i).out.monitor)) (sym e) (counts a.local a.short a.pending a.aborts i)
+counts_on a i e f = subst (λ s. CountsIn a i (table s i a)) (sym e) (counts i a f)
 
-pub leaves_on : (a : Alignment) (i : AlignIn) → a.state ≡ State.Aligned → (row a i).next.state ≡ State.Proving → (row a i).next.aborts ≡ 0
-leaves_on a i e =
-    subst (λ (s : State). let b = machine s a.local a.short a.aborts a.pending in (row b i).next.state ≡ State.Proving → (row b i).next.aborts ≡ 0) (sym e) (leaves a.local a.short a.pending a.aborts i)
+-- The abort that counts as the fifth, and no other, gives NotPossible.
 
--- the abort that counts as the fifth, and no other, gives NotPossible
-fifth_by : (b : Bool) (local short : Bool) (aborts : ℕ) → b ≡ nat_lt (aborts + 1) 5 → aborts ≤ 4 → ((aborted_or b (machine State.Proving local short aborts false)).out.end ≡ Some End.NotPossible) ↔ (aborts ≡ 4)
-fifth_by true local short aborts e f = (λ h. absurd cc, λ h. absurd (grind (arith, nat_tests)))
-fifth_by false local short aborts e f = (λ h. grind (arith, nat_tests), λ h. refl)
+fifth_by : (b : Bool) (a : Alignment) → b ≡ nat_lt (a.aborts + 1) 5 → a.aborts ≤ 4 → ((if b then counted_abort a else idle stop_t4 (Some End.NotPossible)).out.end ≡ Some End.NotPossible) ↔ (a.aborts ≡ 4)
+fifth_by true a e f = (λ h. absurd cc, λ h. absurd (grind (arith, nat_tests)))
+fifth_by false a e f = (λ h. grind (arith, nat_tests), λ h. refl)
 
-fifth : (local short pending : Bool) (aborts : ℕ) → let a = machine State.Proving local short aborts pending in aborts ≤ 4 → (row a AlignIn.Abort).out.monitor ≡ Monitor.Off → ((row a AlignIn.Abort).out.end ≡ Some End.NotPossible) ↔ (aborts ≡ 4)
-fifth local short true aborts f m = absurd cc
-fifth local short false aborts f m = fifth_by (nat_lt (aborts + 1) 5) local short aborts refl f
+fifth : (b : Bool) (a : Alignment) → a.aborts ≤ 4 → let r = if b then silent a else aborted a in r.out.monitor ≡ Monitor.Off → (r.out.end ≡ Some End.NotPossible) ↔ (a.aborts ≡ 4)
+fifth true a f m = absurd cc
+fifth false a f m = fifth_by (nat_lt (a.aborts + 1) 5) a refl f
 
 pub fifth_on : (a : Alignment) → a.state ≡ State.Proving → a.aborts ≤ 4 → (row a AlignIn.Abort).out.monitor ≡ Monitor.Off → ((row a AlignIn.Abort).out.end ≡ Some End.NotPossible) ↔ (a.aborts ≡ 4)
-fifth_on a e =
-    subst (λ (s : State). let b = machine s a.local a.short a.aborts a.pending in b.aborts ≤ 4 → (row b AlignIn.Abort).out.monitor ≡ Monitor.Off → ((row b AlignIn.Abort).out.end ≡ Some End.NotPossible) ↔ (b.aborts ≡ 4)) (sym e) (fifth a.local a.short a.pending a.aborts)
+fifth_on a e f =
+    subst (λ s. let r = table s AlignIn.Abort a in r.out.monitor ≡ Monitor.Off → (r.out.end ≡ Some End.NotPossible) ↔ (a.aborts ≡ 4)) (sym e) (fifth a.pending a f)

@@ -1,12 +1,13 @@
 -- Walks over lists of inputs.
 use Rattle.std.proofs.Common.{◌≡◌, ◌+◌, ◌≤◌, ◌⊎◌, inl, inr, ◌↔◌, Bool, true, false, Some, List, [], ◌∷◌, ◌++◌, refl, sym, ap, arith, ◌∙◌}
+use Rattle.l2_signals.specs.Orders.{is_start}
 use Rattle.l2_align.specs.declared.align.State.{State}
 use Rattle.l2_align.specs.declared.signals.AlignIn.{AlignIn}
 use Rattle.l2_align.specs.declared.signals.End.{End}
 use Rattle.l2_align.specs.declared.signals.Monitor.{Monitor}
 use Rattle.l2_align.specs.Alignment.{Alignment, initial}
 use Rattle.l2_align.specs.Table.{row}
-use Rattle.l2_align.specs.Runs.{after, starts_t4, RunsUnbroken, HasProved, StaysProving, aborts_among}
+use Rattle.l2_align.specs.Runs.{after, RunsUnbroken, HasProved, StaysProving, aborts_among}
 use Rattle.l2_align.specs.Laws.{CompletesUnbroken, FifthAbortEnds, NewAfterEnd}
 use Rattle.l2_align.proofs.Steps.{new_at_end, whole_at_complete, keeps_proving, counts_on, leaves_on, fifth_on}
 
@@ -35,16 +36,16 @@ one_more a i is h = record {
 }
 
 -- the first input starts T4, or it found the machine proving and kept it so
-begun : (a : Alignment) (i : AlignIn) (is : List AlignIn) (starts : Bool) → starts_t4 (row a i).out.start ≡ starts → ProvedThroughout (row a i).next is → HasProved a (i ∷ is) ⊎ ProvedThroughout a (i ∷ is)
+begun : (a : Alignment) (i : AlignIn) (is : List AlignIn) (starts : Bool) → is_start (row a i).out.t4 ≡ starts → ProvedThroughout (row a i).next is → HasProved a (i ∷ is) ⊎ ProvedThroughout a (i ∷ is)
 begun a i is true e h = inl (record { before = []; starting = i; since = is; split = refl; started = e; unbroken = h.unbroken })
 begun a i is false e h =
     let k = keeps_proving a i e h.state h.pending in
-    inr (record { state = k.state; pending = k.pending; unbroken = (k.no_abort, k.not_stopped, e, h.unbroken) })
+    inr (record { state = k.state; pending = k.pending; unbroken = (k.no_abort, k.kept, h.unbroken) })
 
 proved : (a : Alignment) (is : List AlignIn) → (after a is).state ≡ State.Proving → (after a is).pending ≡ false → HasProved a is ⊎ ProvedThroughout a is
 proved a [] s p = inr (record { state = s; pending = p; unbroken = tt })
 proved a (i ∷ is) s p =
-    elim (proved (row a i).next is s p) [ inl h ↦ inl (one_more a i is h) | inr h ↦ begun a i is (starts_t4 (row a i).out.start) refl h ]
+    elim (proved (row a i).next is s p) [ inl h ↦ inl (one_more a i is h) | inr h ↦ begun a i is (is_start (row a i).out.t4) refl h ]
 
 pub completes_unbroken : CompletesUnbroken
 completes_unbroken past input h =

@@ -10,19 +10,22 @@ use Rattle.l2_align.specs.Runs.{after, told_at, HasProved, StaysProving, aborts_
 -- Complete is told only at an end of T4 since whose start no abort came
 abbrev pub CompletesUnbroken : Type 0
 CompletesUnbroken =
-    (past : List AlignIn) (input : AlignIn) → (told_at past input).end ≡ Some End.Complete → (input ≡ AlignIn.T4) × HasProved initial past
+    (past : List AlignIn) (input : AlignIn) → (told_at past input).end ≡ Some End.Complete →
+    (input ≡ AlignIn.T4) × HasProved initial past
 
--- Aligned was left for proving, and `since` kept the machine there: an abort that counts then gives NotPossible exactly where four
--- have counted before it
+-- Aligned was left for proving, and `since` kept the machine there: an abort that counts then gives NotPossible
+-- exactly where four have counted before it
 abbrev pub FifthAbortEnds : Type 0
 FifthAbortEnds =
     (past : List AlignIn) (leaving : AlignIn) (since : List AlignIn) →
     (after initial past).state ≡ State.Aligned →
     StaysProving (after initial (past ++ leaving ∷ [])) since →
     (told_at (past ++ leaving ∷ since) AlignIn.Abort).monitor ≡ Monitor.Off →
-    ((told_at (past ++ leaving ∷ since) AlignIn.Abort).end ≡ Some End.NotPossible) ↔ (aborts_among (after initial (past ++ leaving ∷ [])) since ≡ 4)
+    ((told_at (past ++ leaving ∷ since) AlignIn.Abort).end ≡ Some End.NotPossible)
+    ↔ (aborts_among (after initial (past ++ leaving ∷ [])) since ≡ 4)
 
 -- after each end the machine is as new
 abbrev pub NewAfterEnd : Type 0
 NewAfterEnd =
-    (past : List AlignIn) (input : AlignIn) (end : End) → (told_at past input).end ≡ Some end → after initial (past ++ input ∷ []) ≡ initial
+    (past : List AlignIn) (input : AlignIn) (end : End) →
+    (told_at past input).end ≡ Some end → after initial (past ++ input ∷ []) ≡ initial

@@ -1,11 +1,11 @@
 -- Runs of initial alignment control: the table folded over a list of inputs, the first input first.
-use Rattle.std.specs.Prelude.{◌≡◌, ◌≢◌, ℕ, ◌+◌, Bool, true, false, IsTrue, IsFalse, Option, Some, List, [], ◌∷◌, ◌++◌, ⊤}
+use Rattle.std.specs.Prelude.{◌≡◌, ◌≢◌, ℕ, ◌+◌, IsTrue, List, [], ◌∷◌, ◌++◌, ⊤}
+use Rattle.l2_signals.specs.Orders.{is_start}
+use Rattle.l2_signals.specs.declared.timer.TimerOrder.{TimerOrder}
 use Rattle.l2_align.specs.declared.align.State.{State}
 use Rattle.l2_align.specs.declared.signals.AlignIn.{AlignIn}
 use Rattle.l2_align.specs.declared.signals.AlignOut.{AlignOut}
 use Rattle.l2_align.specs.declared.signals.Monitor.{Monitor}
-use Rattle.l2_align.specs.declared.signals.Start.{Start}
-use Rattle.l2_align.specs.declared.signals.Timer.{Timer}
 use Rattle.l2_align.specs.Alignment.{Alignment, initial}
 use Rattle.l2_align.specs.Table.{row}
 
@@ -18,16 +18,11 @@ after a (input ∷ inputs) = after (row a input).next inputs
 abbrev pub told_at : List AlignIn → AlignIn → AlignOut
 told_at past input = (row (after initial past) input).out
 
--- T4 is started
-abbrev pub starts_t4 : Option Start → Bool
-starts_t4 (Some (Start.T4 _)) = true
-starts_t4 _ = false
-
--- T4 runs on over these inputs: none of them is an abort, none stops T4 and none starts it
+-- T4 runs on over these inputs: none of them is an abort, and none stops it or starts it anew
 abbrev pub RunsUnbroken : Alignment → List AlignIn → Type 0
 RunsUnbroken a [] = ⊤
 RunsUnbroken a (input ∷ inputs) =
-    (input ≢ AlignIn.Abort) × ((row a input).out.stop ≢ Some Timer.T4) × IsFalse (starts_t4 (row a input).out.start) × RunsUnbroken (row a input).next inputs
+    (input ≢ AlignIn.Abort) × ((row a input).out.t4 ≡ TimerOrder.Keep) × RunsUnbroken (row a input).next inputs
 
 -- T4 was started among these inputs, and after its last start no abort came
 pub record HasProved (a : Alignment) (inputs : List AlignIn) : Type 0 where
@@ -35,7 +30,7 @@ pub record HasProved (a : Alignment) (inputs : List AlignIn) : Type 0 where
   pub starting : AlignIn
   pub since : List AlignIn
   pub split : inputs ≡ before ++ starting ∷ since
-  pub started : IsTrue (starts_t4 (row (after a before) starting).out.start)
+  pub started : IsTrue (is_start (row (after a before) starting).out.t4)
   pub unbroken : RunsUnbroken (row (after a before) starting).next since
 
 -- the machine is proving, and stays so over these inputs
@@ -51,4 +46,5 @@ counted _ _ = 0
 -- how many aborts count
 abbrev pub aborts_among : Alignment → List AlignIn → ℕ
 aborts_among a [] = 0
-aborts_among a (input ∷ inputs) = counted input (row a input).out.monitor + aborts_among (row a input).next inputs
+aborts_among a (input ∷ inputs) =
+    counted input (row a input).out.monitor + aborts_among (row a input).next inputs

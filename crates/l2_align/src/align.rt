@@ -4,7 +4,8 @@ ghost use Rattle.std.specs.Prelude.{◌≡◌, true};
 ghost use Rattle.l2_align.specs.Alignment.{initial};
 ghost use Rattle.l2_align.specs.Table.{row, aborted, aligned, asking, fallen_back, first_proving, idle, nothing, proving, seeking, sending, shortened};
 
-use crate::signals::{AlignIn, AlignOut, End, Monitor, Send, Start, Status, Timer};
+use crate::signals::{AlignIn, AlignOut, End, Monitor};
+use l2_signals::{Status, TimerOrder};
 use std::marker::Model;
 
 /// Where initial alignment stands (Q.703 7.3), as the contracts see it.
@@ -56,10 +57,26 @@ const LAST_ABORT: u8 = 5;
 // An ignored input's answer, on which the others build.
 const NOTHING: AlignOut = AlignOut {
     send: None,
-    stop: None,
-    start: None,
+    t2: TimerOrder::Keep,
+    t3: TimerOrder::Keep,
+    t4: TimerOrder::Keep,
     monitor: Monitor::Keep,
     end: None,
+};
+
+const STOPS_T2: AlignOut = AlignOut {
+    t2: TimerOrder::Stop,
+    ..NOTHING
+};
+
+const STOPS_T3: AlignOut = AlignOut {
+    t3: TimerOrder::Stop,
+    ..NOTHING
+};
+
+const STOPS_T4: AlignOut = AlignOut {
+    t4: TimerOrder::Stop,
+    ..NOTHING
 };
 
 impl Align {
@@ -90,26 +107,26 @@ impl Align {
                 self.align(self.local)
             }
             (State::NotAligned, AlignIn::Heard(Status::Emergency)) => self.align(true),
-            (State::NotAligned, AlignIn::T2) => self.go_idle(Timer::T2, Some(End::NotPossible)),
+            (State::NotAligned, AlignIn::T2) => self.go_idle(STOPS_T2, Some(End::NotPossible)),
             (State::Aligned, AlignIn::Emergency) => self.ask_emergency(),
             (State::Aligned, AlignIn::Heard(Status::Normal)) => self.leave_aligned(self.short),
             (State::Aligned, AlignIn::Heard(Status::Emergency)) => self.leave_aligned(true),
             (State::Aligned, AlignIn::Heard(Status::OutOfService) | AlignIn::T3) => {
-                self.go_idle(Timer::T3, Some(End::NotPossible))
+                self.go_idle(STOPS_T3, Some(End::NotPossible))
             }
             (State::Proving, AlignIn::Emergency) => self.turn_to_emergency(),
             (State::Proving, AlignIn::Heard(Status::Emergency)) => self.shorten(),
             (State::Proving, AlignIn::Heard(Status::OutOfAlignment)) => self.fall_back(),
             (State::Proving, AlignIn::Heard(Status::OutOfService)) => {
-                self.go_idle(Timer::T4, Some(End::NotPossible))
+                self.go_idle(STOPS_T4, Some(End::NotPossible))
             }
             (State::Proving, AlignIn::Abort) if !self.pending => self.count_abort(),
             (State::Proving, AlignIn::Good) if self.pending => self.prove(),
             (State::Proving, AlignIn::T4) if self.pending => self.prove(),
-            (State::Proving, AlignIn::T4) => self.go_idle(Timer::T4, Some(End::Complete)),
-            (State::NotAligned, AlignIn::Stop) => self.go_idle(Timer::T2, None),
-            (State::Aligned, AlignIn::Stop) => self.go_idle(Timer::T3, None),
-            (State::Proving, AlignIn::Stop) => self.go_idle(Timer::T4, None),
+            (State::Proving, AlignIn::T4) => self.go_idle(STOPS_T4, Some(End::Complete)),
+            (State::NotAligned, AlignIn::Stop) => self.go_idle(STOPS_T2, None),
+            (State::Aligned, AlignIn::Stop) => self.go_idle(STOPS_T3, None),
+            (State::Proving, AlignIn::Stop) => self.go_idle(STOPS_T4, None),
             _ => NOTHING,
         }
     }
@@ -130,8 +147,8 @@ impl Align {
     {
         self.state = State::NotAligned;
         AlignOut {
-            send: Some(Send::OutOfAlignment),
-            start: Some(Start::T2),
+            send: Some(Status::OutOfAlignment),
+            t2: TimerOrder::Start,
             ..NOTHING
         }
     }
@@ -145,12 +162,12 @@ impl Align {
         self.short = short;
         AlignOut {
             send: Some(if self.local {
-                Send::Emergency
+                Status::Emergency
             } else {
-                Send::Normal
+                Status::Normal
             }),
-            stop: Some(Timer::T2),
-            start: Some(Start::T3),
+            t2: TimerOrder::Stop,
+            t3: TimerOrder::Start,
             ..NOTHING
         }
     }
@@ -163,7 +180,7 @@ impl Align {
         self.local = true;
         self.short = true;
         AlignOut {
-            send: Some(Send::Emergency),
+            send: Some(Status::Emergency),
             ..NOTHING
         }
     }
@@ -176,19 +193,19 @@ impl Align {
         self.short = short;
         self.aborts = 0;
         AlignOut {
-            stop: Some(Timer::T3),
+            t3: TimerOrder::Stop,
             ..self.prove()
         }
     }
 
     // Emergency was asked for while proving.
     fn turn_to_emergency(&mut self) -> AlignOut
-        ensures out { result ≡ (sending Send.Emergency (shortened (record self.old { local = true }))).out }
+        ensures out { result ≡ (sending Status.Emergency (shortened (record self.old { local = true }))).out }
         ensures next { self.new ≡ (shortened (record self.old { local = true })).next }
     {
         self.local = true;
         AlignOut {
-            send: Some(Send::Emergency),
+            send: Some(Status::Emergency),
             ..self.shorten()
         }
     }
@@ -213,8 +230,8 @@ impl Align {
         self.state = State::Aligned;
         self.pending = false;
         AlignOut {
-            stop: Some(Timer::T4),
-            start: Some(Start::T3),
+            t3: TimerOrder::Start,
+            t4: TimerOrder::Stop,
             monitor: Monitor::Off,
             ..NOTHING
         }
@@ -226,7 +243,7 @@ impl Align {
         ensures next { self.new ≡ (aborted self.old).next }
     {
         if self.aborts >= LAST_ABORT - 1 {
-            return self.go_idle(Timer::T4, Some(End::NotPossible));
+            return self.go_idle(STOPS_T4, Some(End::NotPossible));
         }
         self.aborts += 1;
         self.pending = true;
@@ -249,23 +266,22 @@ impl Align {
             (NORMAL_PROVING, Monitor::Normal)
         };
         AlignOut {
-            start: Some(Start::T4 { octet_times }),
+            t4: TimerOrder::StartFor { octet_times },
             monitor,
             ..NOTHING
         }
     }
 
-    // Every way back to Idle: all values are cleared.
-    fn go_idle(&mut self, running: Timer, end: Option<End>) -> AlignOut
-        ensures out { result ≡ (idle running end).out }
-        ensures next { self.new ≡ (idle running end).next }
+    // Every way back to Idle: the state's timer stops, and all values are cleared.
+    fn go_idle(&mut self, stops: AlignOut, end: Option<End>) -> AlignOut
+        ensures out { result ≡ (idle stops end).out }
+        ensures next { self.new ≡ (idle stops end).next }
     {
         *self = Align::new();
         AlignOut {
-            stop: Some(running),
             monitor: Monitor::Off,
             end,
-            ..NOTHING
+            ..stops
         }
     }
 }

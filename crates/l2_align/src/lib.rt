@@ -10,8 +10,8 @@
 //! - Outputs: the [`AlignOut`] that it returns.
 //! - Laws over all runs: [`laws`].
 //!
-//! Statuses on the line are O (SIO, out of alignment), N (SIN, normal), E (SIE, emergency), OS (SIOS, out of
-//! service), PO (SIPO, processor outage) and B (SIB, busy).
+//! Statuses and orders to timers are those of `l2_signals`: O (SIO, out of alignment), N (SIN, normal), E (SIE,
+//! emergency), OS (SIOS, out of service), PO (SIPO, processor outage) and B (SIB, busy).
 //!
 //! ```text
 //!                  Start:  send O, start T2
@@ -69,11 +69,11 @@
 //! monitor is kept, there is no end, and the machine stays as it was.
 #![tactic(auto)]
 
-pub mod align;
+mod align;
 pub mod laws;
-pub mod signals;
+mod signals;
 #[cfg(test)]
 mod tests;
 
 pub use align::{Align, State};
-pub use signals::{AlignIn, AlignOut, End, Monitor, Send, Start, Status, Timer};
+pub use signals::{AlignIn, AlignOut, End, Monitor};

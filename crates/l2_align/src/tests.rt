@@ -1,7 +1,8 @@
 //! Whole runs, in the trade's words.
 
 use crate::align::Align;
-use crate::signals::{AlignIn, AlignOut, End, Monitor, Send, Start, Status, Timer};
+use crate::signals::{AlignIn, AlignOut, End, Monitor};
+use l2_signals::{Status, TimerOrder};
 
 // A machine in a normal proving period.
 fn proving_normally() -> Align {
@@ -16,19 +17,19 @@ fn proving_normally() -> Align {
 fn normal_alignment_completes(rt: HostRuntime) {
     let mut align = Align::new();
     let start = align.input(AlignIn::Start);
-    assert_eq!(rt; start.send, Some(Send::OutOfAlignment));
-    assert_eq!(rt; start.start, Some(Start::T2));
+    assert_eq!(rt; start.send, Some(Status::OutOfAlignment));
+    assert_eq!(rt; start.t2, TimerOrder::Start);
     let heard = align.input(AlignIn::Heard(Status::OutOfAlignment));
-    assert_eq!(rt; heard.send, Some(Send::Normal));
-    assert_eq!(rt; heard.stop, Some(Timer::T2));
-    assert_eq!(rt; heard.start, Some(Start::T3));
+    assert_eq!(rt; heard.send, Some(Status::Normal));
+    assert_eq!(rt; heard.t2, TimerOrder::Stop);
+    assert_eq!(rt; heard.t3, TimerOrder::Start);
     let proving = align.input(AlignIn::Heard(Status::Normal));
-    assert_eq!(rt; proving.stop, Some(Timer::T3));
+    assert_eq!(rt; proving.t3, TimerOrder::Stop);
     assert_eq!(rt;
-        proving.start,
-        Some(Start::T4 {
+        proving.t4,
+        TimerOrder::StartFor {
             octet_times: 65_536
-        })
+        }
     );
     assert_eq!(rt; proving.monitor, Monitor::Normal);
     let end = align.input(AlignIn::T4);
@@ -44,10 +45,10 @@ fn fifth_abort_since_aligned_was_left(rt: HostRuntime) {
         assert_eq!(rt; abort.end, None);
         let good = align.input(AlignIn::Good);
         assert_eq!(rt;
-            good.start,
-            Some(Start::T4 {
+            good.t4,
+            TimerOrder::StartFor {
                 octet_times: 65_536
-            })
+            }
         );
         assert_eq!(rt; good.monitor, Monitor::Normal);
     }
@@ -60,8 +61,9 @@ fn emergency_heard_in_normal_proving(rt: HostRuntime) {
     let mut align = proving_normally();
     let shortened = AlignOut {
         send: None,
-        stop: None,
-        start: Some(Start::T4 { octet_times: 4_096 }),
+        t2: TimerOrder::Keep,
+        t3: TimerOrder::Keep,
+        t4: TimerOrder::StartFor { octet_times: 4_096 },
         monitor: Monitor::Emergency,
         end: None,
     };

@@ -2,15 +2,16 @@
 use Rattle.std.proofs.Common.{◌≡◌, Bool, true, false, ◌||◌, refl}
 use Rattle.l2_flow.specs.declared.input.FlowIn.{FlowIn}
 use Rattle.l2_flow.specs.declared.input.FlowIn.TheVariants.{Busy, Ease, T5, HeardBusy, Acked, Sent, T6, T7, Reset}
-use Rattle.l2_flow.specs.declared.output.TimerAct.{TimerAct}
+use Rattle.l2_signals.specs.declared.timer.TimerOrder.{TimerOrder}
 use Rattle.l2_flow.specs.Table.{row}
-use Rattle.l2_flow.specs.Runs.{starts, stops, is_t5, is_t6, is_t7}
+use Rattle.l2_signals.specs.Orders.{is_start, is_stop}
+use Rattle.l2_flow.specs.Runs.{is_t5, is_t6, is_t7}
 use Rattle.l2_flow.specs.Laws.{is_busy, is_ease_or_reset, is_heard_busy, is_acked_or_reset, is_sent_or_more, is_all_acked_or_reset}
 use Rattle.l2_flow.proofs.Lasting.{since_next}
 
 -- whether a timer runs after a step
-abbrev pub runs_next : TimerAct → Bool → Bool → Bool
-runs_next act ended ran = since_next (starts act) (stops act || ended) ran
+abbrev pub runs_next : TimerOrder → Bool → Bool → Bool
+runs_next act ended ran = since_next (is_start act) (is_stop act || ended) ran
 
 -- the values say what the inputs have said
 pub told : (busy far t7 : Bool) (input : FlowIn) → (since_next (is_busy input) (is_ease_or_reset input) busy ≡ (row busy far t7 input).next.busy) × (since_next (is_heard_busy input) (is_acked_or_reset input) far ≡ (row busy far t7 input).next.far_busy) × (since_next (is_sent_or_more input) (is_all_acked_or_reset input) t7 ≡ (row busy far t7 input).next.t7_runs)

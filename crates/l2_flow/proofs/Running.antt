@@ -3,17 +3,18 @@ use Rattle.std.proofs.Common.{◌≡◌, Bool, true, false, ◌||◌, List, [], 
 use Rattle.std.specs.List.{list_any}
 use Rattle.l2_flow.specs.declared.input.FlowIn.{FlowIn}
 use Rattle.l2_flow.specs.declared.output.FlowOut.{FlowOut}
-use Rattle.l2_flow.specs.declared.output.TimerAct.{TimerAct}
+use Rattle.l2_signals.specs.declared.timer.TimerOrder.{TimerOrder}
 use Rattle.l2_flow.specs.Table.{row_of}
 use Rattle.l2_flow.specs.Values.{Values}
-use Rattle.l2_flow.specs.Runs.{Step, steps_from, values_from, starts, stops, is_t5, is_t6, is_t7}
+use Rattle.l2_signals.specs.Orders.{is_start, is_stop}
+use Rattle.l2_flow.specs.Runs.{Step, steps_from, values_from, is_t5, is_t6, is_t7}
 use Rattle.l2_flow.specs.Laws.{is_busy, is_ease_or_reset, is_heard_busy, is_acked_or_reset, is_sent_or_more, is_all_acked_or_reset}
 use Rattle.l2_flow.proofs.Lasting.{since_from, or_false}
 use Rattle.l2_flow.proofs.Rows.{told, t5_runs, t6_only, t6_runs, t7_only, t7_runs}
 
 -- whether a timer runs after these steps, where `ran` says it of their start
-abbrev pub runs_from : (FlowOut → TimerAct) → (FlowIn → Bool) → Bool → List Step → Bool
-runs_from act is_end ran all = since_from (λ step. starts (act step.out)) (λ step. stops (act step.out) || is_end step.input) ran all
+abbrev pub runs_from : (FlowOut → TimerOrder) → (FlowIn → Bool) → Bool → List Step → Bool
+runs_from act is_end ran all = since_from (λ step. is_start (act step.out)) (λ step. is_stop (act step.out) || is_end step.input) ran all
 
 pub busy_told : (now : Values) (inputs : List FlowIn) → since_from is_busy is_ease_or_reset now.busy inputs ≡ (values_from now inputs).busy
 busy_told now [] = refl

@@ -3,8 +3,8 @@ use Rattle.std.specs.Prelude.{Bool, true, false, ◌||◌, List, [], ◌∷◌}
 use Rattle.l2_flow.specs.declared.input.FlowIn.{FlowIn}
 use Rattle.l2_flow.specs.declared.input.FlowIn.TheVariants.{T5, T6, T7}
 use Rattle.l2_flow.specs.declared.output.FlowOut.{FlowOut}
-use Rattle.l2_flow.specs.declared.output.TimerAct.{TimerAct}
-use Rattle.l2_flow.specs.declared.output.TimerAct.TheVariants.{Start, Stop}
+use Rattle.l2_signals.specs.Orders.{is_start, is_stop}
+use Rattle.l2_signals.specs.declared.timer.TimerOrder.{TimerOrder}
 use Rattle.l2_flow.specs.Since.{Since}
 use Rattle.l2_flow.specs.Table.{row_of}
 use Rattle.l2_flow.specs.Values.{Values, cleared}
@@ -31,19 +31,11 @@ steps inputs = steps_from cleared inputs
 abbrev pub values_after : List FlowIn → Values
 values_after inputs = values_from cleared inputs
 
-abbrev pub starts : TimerAct → Bool
-starts Start = true
-starts _ = false
-
-abbrev pub stops : TimerAct → Bool
-stops Stop = true
-stops _ = false
-
 -- A timer runs after these steps: it was started, and has neither been stopped nor ended since. `act` picks the
 -- timer out of what was told, `is_end` the input that is its end.
-abbrev pub Runs : (FlowOut → TimerAct) → (FlowIn → Bool) → List Step → Type 0
+abbrev pub Runs : (FlowOut → TimerOrder) → (FlowIn → Bool) → List Step → Type 0
 Runs act is_end all =
-    Since (λ step. starts (act step.out)) (λ step. stops (act step.out) || is_end step.input) all
+    Since (λ step. is_start (act step.out)) (λ step. is_stop (act step.out) || is_end step.input) all
 
 abbrev pub is_t5 : FlowIn → Bool
 is_t5 T5 = true

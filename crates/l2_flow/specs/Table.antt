@@ -3,8 +3,8 @@ use Rattle.std.specs.Prelude.{Bool, true, false, Some, None}
 use Rattle.l2_flow.specs.declared.input.FlowIn.{FlowIn}
 use Rattle.l2_flow.specs.declared.input.FlowIn.TheVariants.{Busy, Ease, T5, HeardBusy, Acked, Sent, T6, T7, Reset}
 use Rattle.l2_flow.specs.declared.output.FlowOut.{FlowOut}
-use Rattle.l2_flow.specs.declared.output.TimerAct.TheVariants.{Keep, Start, Stop}
-use Rattle.l2_flow.specs.declared.output.Failure.TheVariants.{T6 as T6Ended, T7 as T7Ended}
+use Rattle.l2_signals.specs.declared.timer.TimerOrder.TheVariants.{Keep, Start, Stop}
+use Rattle.l2_signals.specs.declared.cause.Cause.{Cause}
 use Rattle.l2_flow.specs.Values.{Values, cleared}
 
 -- what an input does: what is told, and the values after it
@@ -31,8 +31,8 @@ row busy true true HeardBusy = effect (record quiet { t7 = Start }) busy true tr
 row busy far t7 (Acked true) = effect (record quiet { t6 = Stop; t7 = Start }) busy false true
 row busy far t7 (Acked false) = effect (record quiet { t6 = Stop; t7 = Stop }) busy false false
 row busy far false Sent = effect (record quiet { t7 = Start }) busy far true
-row busy far t7 T6 = effect (record quiet { failure = Some T6Ended }) busy far t7
-row busy far t7 T7 = effect (record quiet { failure = Some T7Ended }) busy far t7
+row busy far t7 T6 = effect (record quiet { failure = Some Cause.T6 }) busy far t7
+row busy far t7 T7 = effect (record quiet { failure = Some Cause.T7 }) busy far t7
 row busy far t7 Reset = record { out = record quiet { t5 = Stop; t6 = Stop; t7 = Stop }; next = cleared }
 -- an input that no row lists is ignored
 row busy far t7 _ = effect quiet busy far t7

@@ -3,8 +3,9 @@ ghost use Rattle.l2_flow.specs.Values.{cleared};
 ghost use Rattle.l2_flow.specs.Table.{row_of};
 
 use crate::input::FlowIn;
-use crate::output::TimerAct::{Keep, Start, Stop};
-use crate::output::{Failure, FlowOut, TimerAct};
+use crate::output::FlowOut;
+use l2_signals::TimerOrder::{Keep, Start, Stop};
+use l2_signals::{Cause, TimerOrder};
 use std::marker::Model;
 
 /// Flow control of one link: which ends are busy, and whether T7 runs.
@@ -65,8 +66,8 @@ impl Flow {
                 self.t7_runs = true;
                 FlowOut::timers(Keep, Keep, Start)
             }
-            FlowIn::T6 => FlowOut::failed(Failure::T6),
-            FlowIn::T7 => FlowOut::failed(Failure::T7),
+            FlowIn::T6 => FlowOut::failed(Cause::T6),
+            FlowIn::T7 => FlowOut::failed(Cause::T7),
             FlowIn::Reset => {
                 *self = Flow::new();
                 FlowOut::timers(Stop, Stop, Stop)
@@ -79,8 +80,8 @@ impl Flow {
 }
 
 /// A timer that is started on a condition, and else left alone.
-fn started_if(condition: bool) -> TimerAct
-    ensures { result ≡ (if condition then TimerAct.Start else TimerAct.Keep) }
+fn started_if(condition: bool) -> TimerOrder
+    ensures { result ≡ (if condition then TimerOrder.Start else TimerOrder.Keep) }
 {
     if condition { Start } else { Keep }
 }

@@ -43,6 +43,8 @@
 //!   Reset                            stop T5, T6 and T7                             as at the start
 //! ```
 //!
+//! Causes of failure, by number, and orders to timers are those of `l2_signals`.
+//!
 //! The functions that do nothing are laws of this table, over every run: the contract of each is a theorem.
 #![tactic(auto)]
 
@@ -54,7 +56,7 @@ mod output;
 pub use flow::Flow;
 pub use input::FlowIn;
 pub use laws::{t5_runs_while_busy, t6_runs_while_far_busy, t7_runs_while_awaiting};
-pub use output::{Failure, FlowOut, TimerAct};
+pub use output::FlowOut;
 
 #[cfg(test)]
 mod tests;

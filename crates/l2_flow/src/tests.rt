@@ -1,8 +1,9 @@
-use super::TimerAct::{Keep, Start, Stop};
 use super::*;
+use l2_signals::TimerOrder;
+use l2_signals::TimerOrder::{Keep, Start, Stop};
 
 /// What is told where the link has not failed.
-fn told(send_busy: bool, t5: TimerAct, t6: TimerAct, t7: TimerAct) -> FlowOut {
+fn told(send_busy: bool, t5: TimerOrder, t6: TimerOrder, t7: TimerOrder) -> FlowOut {
     FlowOut {
         send_busy,
         t5,
@@ -47,7 +48,7 @@ fn far_end_holds_back_its_acknowledgements(rt: HostRuntime) {
 fn ends_of_t6_and_t7_are_failures_5_and_6(rt: HostRuntime) {
     let mut flow = Flow::new();
     let t6 = flow.input(FlowIn::T6);
-    assert_eq!(rt; t6.failure.map(|cause| cause as u8), Some(5));
+    assert_eq!(rt; t6.failure.map(|cause| cause.number()), Some(5));
     let t7 = flow.input(FlowIn::T7);
-    assert_eq!(rt; t7.failure.map(|cause| cause as u8), Some(6));
+    assert_eq!(rt; t7.failure.map(|cause| cause.number()), Some(6));
 }

@@ -1,7 +1,7 @@
 -- Laws above the table, over all lists of inputs from a link out of service.
 use Rattle.std.specs.Prelude.{◌≡◌, ◌⊎◌, Some, List, ◌∷◌, ◌++◌}
 use Rattle.l2_state.specs.declared.link_state.State.{State}
-use Rattle.l2_state.specs.declared.signals.Cause.{Cause}
+use Rattle.l2_signals.specs.declared.cause.Cause.{Cause}
 use Rattle.l2_state.specs.declared.signals.StateIn.{StateIn}
 use Rattle.l2_state.specs.declared.signals.Told.{Told}
 use Rattle.l2_state.specs.Runs.{after, told_at}
@@ -13,7 +13,8 @@ IsFisuOrMsu input = (input ≡ StateIn.Fisu) ⊎ (input ≡ StateIn.Msu)
 -- Up is told only from Ready, at a FISU or an MSU
 abbrev pub UpOnlyFromReady : Type 0
 UpOnlyFromReady =
-    (past : List StateIn) (input : StateIn) → told_at past input ≡ Some Told.Up → (after State.OutOfService past ≡ State.Ready) × IsFisuOrMsu input
+    (past : List StateIn) (input : StateIn) → told_at past input ≡ Some Told.Up →
+    (after State.OutOfService past ≡ State.Ready) × IsFisuOrMsu input
 
 -- a Start is among these inputs
 pub record HasStart (inputs : List StateIn) : Type 0 where

@@ -1,4 +1,3 @@
-pub mod Causes
 pub mod Laws
 pub mod Runs
 pub mod Table

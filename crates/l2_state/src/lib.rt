@@ -7,11 +7,10 @@
 //!
 //! - Inputs: [`LinkState::input`] takes one [`StateIn`]. An emergency is told to initial alignment, not here.
 //! - Outputs: the [`StateOut`] that it returns.
-//! - Readers: [`Cause::number`].
 //! - Laws over all runs: [`laws`].
 //!
-//! Statuses on the line are O (SIO, out of alignment), N (SIN, normal), E (SIE, emergency), OS (SIOS, out of
-//! service), PO (SIPO, processor outage) and B (SIB, busy).
+//! Statuses, causes and orders to timers are those of `l2_signals`: O (SIO, out of alignment), N (SIN, normal), E
+//! (SIE, emergency), OS (SIOS, out of service), PO (SIPO, processor outage) and B (SIB, busy); causes by number.
 //!
 //! ```text
 //!   +---------+  Start:  start alignment                 +------------+
@@ -62,10 +61,10 @@
 #![tactic(auto)]
 
 pub mod laws;
-pub mod link_state;
-pub mod signals;
+mod link_state;
+mod signals;
 #[cfg(test)]
 mod tests;
 
 pub use link_state::{LinkState, State};
-pub use signals::{Cause, Sending, StateIn, StateOut, Status, Switch, Told};
+pub use signals::{Sending, StateIn, StateOut, Switch, Told};

@@ -1,10 +1,11 @@
 //! The machine: its state, and the rows of its table as the arms of one `match`.
 
 ghost use Rattle.std.specs.Prelude.{◌≡◌};
-ghost use Rattle.l2_state.specs.declared.signals.Cause.{Cause};
+ghost use Rattle.l2_signals.specs.declared.cause.Cause.{Cause};
 ghost use Rattle.l2_state.specs.Table.{row, down, silent, raised, ready, aligning, stopped};
 
-use crate::signals::{Cause, Sending, StateIn, StateOut, Status, Switch, Told};
+use crate::signals::{Sending, StateIn, StateOut, Switch, Told};
+use l2_signals::{Cause, Status, TimerOrder};
 use std::marker::Model;
 
 /// Where a link stands (Q.703 12), as the contracts see it.
@@ -40,7 +41,7 @@ impl Model for LinkState {
 // An ignored input's answer while nothing pauses the link, on which the others build.
 const NOTHING: StateOut = StateOut {
     send: None,
-    t1: None,
+    t1: TimerOrder::Keep,
     alignment: None,
     new_suerm: false,
     told: None,
@@ -49,7 +50,7 @@ const NOTHING: StateOut = StateOut {
 
 // A far end with a processor outage is waited for without T1 (own).
 const STOPS_T1: StateOut = StateOut {
-    t1: Some(Switch::Stop),
+    t1: TimerOrder::Stop,
     ..NOTHING
 };
 
@@ -121,7 +122,7 @@ impl LinkState {
         self.state = State::Ready;
         StateOut {
             send: Some(Sending::FillIn),
-            t1: Some(Switch::Start),
+            t1: TimerOrder::Start,
             new_suerm: true,
             ..NOTHING
         }
@@ -135,7 +136,7 @@ impl LinkState {
         self.state = State::InService { paused: false };
         StateOut {
             send: Some(Sending::Traffic),
-            t1: Some(Switch::Stop),
+            t1: TimerOrder::Stop,
             told: Some(Told::Up),
             ..NOTHING
         }
@@ -158,7 +159,7 @@ impl LinkState {
         self.state = State::OutOfService;
         StateOut {
             send: Some(Sending::OutOfService),
-            t1: Some(Switch::Stop),
+            t1: TimerOrder::Stop,
             told: Some(Told::Down(cause)),
             ..NOTHING
         }

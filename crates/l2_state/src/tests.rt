@@ -1,7 +1,8 @@
 //! Whole runs, in the trade's words.
 
 use crate::link_state::LinkState;
-use crate::signals::{Cause, Sending, StateIn, StateOut, Status, Switch, Told};
+use crate::signals::{Sending, StateIn, StateOut, Switch, Told};
+use l2_signals::{Cause, Status, TimerOrder};
 
 #[test]
 fn up_then_out_of_alignment(rt: HostRuntime) {
@@ -10,17 +11,16 @@ fn up_then_out_of_alignment(rt: HostRuntime) {
     assert_eq!(rt; start.alignment, Some(Switch::Start));
     let complete = link.input(StateIn::Complete);
     assert_eq!(rt; complete.send, Some(Sending::FillIn));
-    assert_eq!(rt; complete.t1, Some(Switch::Start));
+    assert_eq!(rt; complete.t1, TimerOrder::Start);
     assert!(rt; complete.new_suerm);
     let heard = link.input(StateIn::Fisu);
     assert_eq!(rt; heard.told, Some(Told::Up));
     assert_eq!(rt; heard.send, Some(Sending::Traffic));
     let lost = link.input(StateIn::Heard(Status::OutOfAlignment));
     assert_eq!(rt; lost.told, Some(Told::Down(Cause::Status)));
-    assert_eq!(rt; Cause::Status.number(), 7);
     let ignored = StateOut {
         send: None,
-        t1: None,
+        t1: TimerOrder::Keep,
         alignment: None,
         new_suerm: false,
         told: None,
