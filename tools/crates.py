@@ -129,7 +129,7 @@ def is_fresh(name, uses, made, top=TOP):
     """Returns whether this file was made after the last change of the sources that it is made from."""
     if not os.path.isfile(made):
         return False
-    sources = [f"{top}/crates.txt", *[file for it in [*below(name, uses), name] for file in files(it, top=top)]]
+    sources = [file for it in [*below(name, uses), name] for file in files(it, top=top)]
     return max(map(os.path.getmtime, sources)) <= os.path.getmtime(made)
 
 
