@@ -1,1 +1,1 @@
-pub mod CommandLine
+pub mod Running

@@ -5,20 +5,20 @@
 //! `play` walks two ends of a link set through a script.
 #![tactic(auto)]
 
-#[cfg(test)]
-mod changeover_tests;
-#[cfg(test)]
-mod link_tests;
+ghost use Rattle.std.specs.Prelude.{◌≡◌, ◌≢◌, IfOk};
+ghost use Rattle.std.specs.Process.{exit_status};
+ghost use Rattle.clap.specs.Values.{kind_of};
+ghost use Rattle.clap.specs.declared.error.kind.ErrorKind.TheVariants.{DisplayHelp, DisplayVersion};
+
 mod running;
 #[cfg(test)]
 mod tests;
-mod words;
 
+use command_line::{Words, WordsFault, not_unicode, words_of};
 use printing::{Fault, Reader, Writer};
 use running::run;
 use std::io;
 use std::process::ExitCode;
-use words::{Words, WordsFault, not_unicode, words_of};
 
 /// The status of a fault of input, memory, reading or writing.
 const FAULT: u8 = 1;
@@ -49,12 +49,22 @@ fn asked(rt: &HostRuntime) -> Result<Words, WordsFault> {
     words_of(alloc, &words)
 }
 
-/// Says what is wrong with the words, on standard error, or what they ask to be shown.
-fn said(rt: &HostRuntime, error: &clap::Error) -> io::Result<ExitCode> {
+/// Says what is wrong with the words, on standard error and with status 2, or what they ask to be shown.
+fn said(rt: &HostRuntime, error: &clap::Error) -> io::Result<ExitCode>
+    ensures wrong { kind_of error.now ≢ DisplayHelp → kind_of error.now ≢ DisplayVersion → IfOk result (λ code. exit_status code ≡ 2) }
+{
     match error.print(rt) {
         Err(_) if !error.use_stderr() => told(rt, Fault::Write),
-        _ => Ok(ExitCode::from(error.exit_code() as u8)),
+        _ => Ok(status_of(error)),
     }
+}
+
+/// 2 for wrong words, 0 for what was asked to be shown.
+fn status_of(error: &clap::Error) -> ExitCode
+    ensures wrong { kind_of error.now ≢ DisplayHelp → kind_of error.now ≢ DisplayVersion → exit_status result ≡ 2 }
+    ensures shown { kind_of error.now ≡ DisplayHelp → exit_status result ≡ 0 }
+{
+    ExitCode::from(error.exit_code() as u8)
 }
 
 /// Does what the words ask for, with standard input and output.
@@ -67,8 +77,10 @@ fn done(rt: &HostRuntime, words: Words) -> io::Result<ExitCode> {
     }
 }
 
-/// Tells a fault in one line on standard error.
-fn told(rt: &HostRuntime, fault: Fault) -> io::Result<ExitCode> {
+/// Tells a fault in one line on standard error, and ends with status 1.
+fn told(rt: &HostRuntime, fault: Fault) -> io::Result<ExitCode>
+    ensures { IfOk result (λ code. exit_status code ≡ 1) }
+{
     rt.eprintln(fault)?;
     Ok(ExitCode::from(FAULT))
 }

@@ -1,9 +1,9 @@
 //! What the subcommands do, over any source and sink.
 ghost use Rattle.std.specs.Prelude.{◌≡◌, ◌≤◌, ◌^◌, true, length, IfErr, IfSome, OnOk};
 ghost use Rattle.printing.specs.Printing.{Prints, IsDevices, HasFailed};
-ghost use Rattle.mtpbank.specs.CommandLine.{IsTextOf};
+ghost use Rattle.mtpbank.specs.Running.{IsTextOf};
 
-use super::words::Words;
+use command_line::Words;
 use play_text::play;
 use printing::{Fault, Sink, Source};
 use std::alloc::Global;

@@ -3,7 +3,6 @@
 //! The expected lines are worked out by hand from Q.703 2 to 5 and the script's rules.
 ghost use Rattle.std.specs.Prelude.{◌≡◌, ◌≤◌, ◌<◌, Some};
 
-use super::words::{Words, WordsFault, not_unicode, words_of};
 use play_text::play;
 use printing::{DeviceFault, Fault, Sink, Source};
 use std::alloc::{AllocError, Global};
@@ -128,15 +127,6 @@ end b accepted=0 waiting=0 unacked=0 acked=0 held=0 parked=0 back=0 discarded=0
 ";
 
 #[test]
-fn one_message_is_sent_and_acknowledged(rt: HostRuntime) -> Result<(), Fail> {
-    let script = script_of(rt.alloc(), FIRST_MESSAGE)?;
-    let (page, end) = run_of(rt.alloc(), &script, 4096, 1000, 1000);
-    assert_eq!(rt; page.octets.as_slice(), FIRST_PRINTED);
-    assert!(rt; end == Ok(()));
-    Ok(())
-}
-
-#[test]
 fn the_pieces_of_the_input_change_nothing(rt: HostRuntime) -> Result<(), Fail> {
     let script = script_of(rt.alloc(), FIRST_MESSAGE)?;
     for piece in [1, 2, 7, 64] {
@@ -222,91 +212,6 @@ fn a_writer_of_marks_fails_at_each_call(rt: HostRuntime) {
         assert_eq!(rt; page.octets.len(), writes);
         assert!(rt; COUNTED_PRINTED.starts_with(&page.octets));
     }
-}
-
-/// 128 offers, of which 127 are sent; a BSN that acknowledges none, one that acknowledges all.
-#[test]
-fn the_window_holds_127(rt: HostRuntime) -> Result<(), Fail> {
-    let mut script = script_of(rt.alloc(), b"together 0\n")?;
-    for _ in 0..128u8 {
-        script.extend_from_slice(b"offer a 8501800030\n")?;
-    }
-    for _ in 0..128u8 {
-        script.extend_from_slice(b"emit a 0\n")?;
-    }
-    script.extend_from_slice(b"hear a 0 ffff00\nhear a 0 feff00\nemit a 0\n")?;
-    let (page, end) = run_of(rt.alloc(), &script, 4096, 1000, 1000);
-    assert!(rt; end == Ok(()));
-    assert!(rt;
-        page.octets.ends_with(
-            b"sent fffe05850180003078f9
-sent fffe0027e6
-heard acked=0 took=nothing asked=0 resend=0 fault=0
-heard acked=127 took=nothing asked=0 resend=0 fault=0
-sent ffff058501800030ad66
-end a accepted=128 waiting=0 unacked=1 acked=127 held=0 parked=0 back=0 discarded=0
-end b accepted=0 waiting=0 unacked=0 acked=0 held=0 parked=0 back=0 discarded=0
-"
-        )
-    );
-    Ok(())
-}
-
-/// With no link up the 1,025th offer of one stream is refused; another stream's is not.
-#[test]
-fn a_stream_is_full_at_1024(rt: HostRuntime) -> Result<(), Fail> {
-    let mut script = script_of(rt.alloc(), b"")?;
-    for _ in 0..1025u16 {
-        script.extend_from_slice(b"offer a 8501800030\n")?;
-    }
-    script.extend_from_slice(b"offer a 8501800040\n")?;
-    let (page, end) = run_of(rt.alloc(), &script, 4096, 1000, 2000);
-    assert!(rt; end == Ok(()));
-    assert!(rt;
-        page.octets.ends_with(
-            b"accepted 1023
-refused 4
-accepted 1024
-end a accepted=1025 waiting=0 unacked=0 acked=0 held=0 parked=1025 back=0 discarded=0
-end b accepted=0 waiting=0 unacked=0 acked=0 held=0 parked=0 back=0 discarded=0
-"
-        )
-    );
-    Ok(())
-}
-
-/// Bodies of 273 and 274 octets, of 4, and one with the management's service indicator.
-#[test]
-fn lengths_of_bodies(rt: HostRuntime) -> Result<(), Fail> {
-    let mut script = script_of(rt.alloc(), b"together 0\noffer a 8501800030")?;
-    for _ in 0..268u16 {
-        script.extend_from_slice(b"00")?;
-    }
-    script.extend_from_slice(b"\nemit a 0\noffer a 8501800030")?;
-    for _ in 0..269u16 {
-        script.extend_from_slice(b"00")?;
-    }
-    script.extend_from_slice(b"\noffer a 85018000\noffer a 8001800030\noffer a\nfind a 9\n")?;
-    let (page, end) = run_of(rt.alloc(), &script, 4096, 1000, 1000);
-    assert!(rt; end == Ok(()));
-    assert!(rt;
-        page.octets
-            .starts_with(b"up\naccepted 0\nsent ff803f8501800030000000")
-    );
-    assert!(rt;
-        page.octets.ends_with(
-            b"00009fd4
-refused 2
-refused 1
-refused 3
-refused 1
-refused 8
-end a accepted=1 waiting=0 unacked=1 acked=0 held=0 parked=0 back=0 discarded=0
-end b accepted=0 waiting=0 unacked=0 acked=0 held=0 parked=0 back=0 discarded=0
-"
-        )
-    );
-    Ok(())
 }
 
 /// Each line, behind the opening line, is unreadable.
@@ -432,60 +337,5 @@ fn the_longest_line(rt: HostRuntime) -> Result<(), Fail> {
     script.push(b'#')?;
     let (_, end) = run_of(rt.alloc(), &script, 4096, 1000, 1000);
     assert!(rt; end == Err(Fault::Text { line: 2 }));
-    Ok(())
-}
-
-#[test]
-fn words_of_the_command_line(rt: HostRuntime) {
-    assert!(rt; matches!(words_of(rt.alloc(), &["play"]), Ok(Words::Play)));
-    assert!(rt; matches!(words_of(rt.alloc(), &["units"]), Ok(Words::Units)));
-    assert!(rt; matches!(words_of(rt.alloc(), &["run"]), Err(WordsFault::Words(_))));
-    assert!(rt; matches!(words_of(rt.alloc(), &[]), Err(WordsFault::Words(_))));
-    assert!(rt;
-        matches!(
-            words_of(rt.alloc(), &["play", "it"]),
-            Err(WordsFault::Words(_))
-        )
-    );
-    assert!(rt; matches!(words_of(rt.alloc(), &["play", "--"]), Ok(Words::Play)));
-    assert!(rt; matches!(not_unicode(rt.alloc()), WordsFault::Words(_)));
-}
-
-/// What is printed for words that ask for no subcommand: here help, or the version.
-fn told_of(alloc: Global, words: &[&str]) -> Result<String, AllocError> {
-    match words_of(alloc, words) {
-        Err(WordsFault::Words(error)) => error.to_string(alloc),
-        _ => Ok(String::new(alloc)),
-    }
-}
-
-/// A script can be written by its help: each line's words stand in it, and each line that is printed.
-#[test]
-fn the_help_shows_each_line(rt: HostRuntime) -> Result<(), Fail> {
-    let help = told_of(rt.alloc(), &["play", "--help"])?;
-    for line in [
-        "set links=L method=W a=X b=Y sio=HH\n",
-        "  together L ",
-        "  offer E HEX ",
-        "  take E ",
-        "  find E N ",
-        "  emit E L ",
-        "  arrive E L ",
-        "  lose E L P ",
-        "  hear E L HEX ",
-        "  down E L ",
-        "  blind E L ",
-        "  noanswer E L ",
-        "  accepted N ",
-        "  sent HEX ",
-        "  heard acked=K took=T asked=0|1 resend=0|1 fault=F ",
-        "  refused C ",
-        "  fault line N text ",
-        "  fault line N step ",
-    ] {
-        assert!(rt; help.contains(line), "{line}");
-    }
-    let version = told_of(rt.alloc(), &["--version"])?;
-    assert_eq!(rt; version.as_str(), "mtpbank 0.1.0\n");
     Ok(())
 }

@@ -100,6 +100,13 @@ impl<W> Writer<W> {
             failed: false,
         }
     }
+
+    /// The writer itself, as the last write left it.
+    pub fn into_inner(self) -> W
+        ensures { result ≡ self.inner }
+    {
+        self.inner
+    }
 }
 
 impl<W: Write> Sink for Writer<W> {

@@ -1,109 +1,11 @@
-//! The words of the command line.
-ghost use Rattle.std.specs.Prelude.{◌≡◌, IfOk, Some, map};
-ghost use Rattle.std.specs.Option.{option_map};
-ghost use Rattle.clap.specs.Words.{app_of, subcommand_of};
-ghost use Rattle.mtpbank.specs.CommandLine.{program, name_of};
+//! What help says.
 
-use clap::Command;
-use clap::error::ErrorKind;
-use std::alloc::{AllocError, Global};
-
-/// What the command line asks for.
-#[derive(Clone, Copy, Debug, PartialEq, Eq)]
-pub enum Words {
-    /// Tell what a signalling terminal sees of the digits on standard input.
-    Units,
-    /// Play a script of two ends of a link set from standard input.
-    Play,
-}
-
-/// Why the words ask for nothing.
-#[derive(Debug, Drop)]
-pub enum WordsFault {
-    /// 1: memory is wanted.
-    NoMemory,
-    /// 2: wrong words, or a question for help or the version.
-    Words(clap::Error),
-}
-
-impl From<AllocError> for WordsFault {
-    fn from(_error: AllocError) -> WordsFault {
-        WordsFault::NoMemory
-    }
-}
-
-/// What these words, those after the program's name, ask for.
-///
-/// 1 [`WordsFault::NoMemory`] may come before the other; 2 [`WordsFault::Words`] where no
-/// subcommand is there, where it isn't one of the program's, and where words follow that it
-/// doesn't take.
-pub fn words_of(alloc: Global, words: &[&str]) -> Result<Words, WordsFault>
-    ensures { IfOk result (λ found. option_map (λ p. p.0) (subcommand_of program (map (λ s. s.now) words.now)) ≡ Some (name_of found)) }
-{
-    let mut command = command(alloc)?;
-    let matches = match command.try_get_matches_from_mut(words) {
-        Ok(matches) => matches,
-        Err(error) => return Err(fault_of(error)),
-    };
-    match matches.subcommand() {
-        Some(("units", _)) => Ok(Words::Units),
-        Some(("play", _)) => Ok(Words::Play),
-        _ => Err(WordsFault::Words(command.error(
-            ErrorKind::MissingSubcommand,
-            "a subcommand is wanted",
-        )?)),
-    }
-}
-
-/// A word that isn't Unicode is none of the program's.
-pub(crate) fn not_unicode(alloc: Global) -> WordsFault {
-    match refusal(alloc) {
-        Ok(error) => fault_of(error),
-        Err(_) => WordsFault::NoMemory,
-    }
-}
-
-/// What is said of a word that isn't Unicode.
-fn refusal(alloc: Global) -> Result<clap::Error, AllocError> {
-    command(alloc)?.error(ErrorKind::InvalidSubcommand, "a word isn't Unicode")
-}
-
-/// Want of memory is no fault of the words.
-fn fault_of(error: clap::Error) -> WordsFault {
-    match error.kind() {
-        ErrorKind::OutOfMemory => WordsFault::NoMemory,
-        _ => WordsFault::Words(error),
-    }
-}
-
-/// The words that the program knows.
-fn command<'a>(alloc: Global) -> Result<Command<'a>, AllocError>
-    ensures { IfOk result (λ command. app_of command ≡ program) }
-{
-    let units = Command::new(alloc, "units")
-        .about(
-            "Reads the octets of a line as hexadecimal digits and tells what a signalling terminal sees",
-        )
-        .after_help(UNITS_HELP);
-    let play = Command::new(alloc, "play")
-        .about("Plays a script of two ends of a link set from standard input, line by line")
-        .after_help(PLAY_HELP);
-    Command::new(alloc, "mtpbank")
-        .version("0.1.0")
-        .about("A proved bank of signalling terminals for Signalling System No. 7")
-        .no_binary_name(true)
-        .subcommand_required(true)
-        .after_help(HELP)
-        .subcommand(units)?
-        .subcommand(play)
-}
-
-const HELP: &str = "\
+pub(crate) const HELP: &str = "\
 Both read standard input to its end, as in `mtpbank play < examples/changeover.play`. `mtpbank play --help` says
 how a script is written and what it prints, `mtpbank units --help` which digits are read and what is printed.
 The status is 0, or 1 after a fault, or 2 where the words of the command line are wrong.";
 
-const UNITS_HELP: &str = "\
+pub(crate) const UNITS_HELP: &str = "\
 Two hexadecimal digits are an octet of the line, fed lowest bit first, with its flags, inserted zeros and check
 bits as they are sent. Spaces, tabs, CR and LF are skipped. Each line of the output is a mark:
   good fisu bsn=B bib=0|1 fsn=F fib=0|1              a unit with right check bits, and what it holds
@@ -119,7 +21,7 @@ A fault ends the input: one line on standard error, with status 1; what was prin
   fault read        standard input failed, or has more than 2^24 octets
   fault write, fault memory";
 
-const PLAY_HELP: &str = "\
+pub(crate) const PLAY_HELP: &str = "\
 A script walks two ends, a and b, of a link set; nothing happens there but what its lines ask for. Lines that
 are empty or begin with # ask for nothing. The first other line is
   set links=L method=W a=X b=Y sio=HH

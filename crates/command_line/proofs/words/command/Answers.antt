@@ -2,8 +2,8 @@ use Rattle.std.proofs.Common.{rules, ap₂, codes, [], ◌≡◌, ◌∙◌}
 use Rattle.std.proofs.lemmas.Result.{IfOk-weaker}
 use Rattle.clap.specs.Words.{app_of, with_subcommand}
 use Rattle.clap.specs.Simple.{new_shape, shape_of}
-use Rattle.mtpbank.specs.CommandLine.{program_itself}
-use Rattle.mtpbank.proofs.words.command.Goals as goal
+use Rattle.command_line.specs.CommandLine.{program_itself}
+use Rattle.command_line.proofs.words.command.Goals as goal
 
 -- src/words.rt:59:1
 pub returns : goal.returns

@@ -1,0 +1,42 @@
+-- THE COMMAND LINE: the words behind the program's name, as the library that reads them defines it.
+use Rattle.std.specs.Prelude.{◌≡◌, ◌≢◌, ℕ, true, List, [], codes, Option, Some, map}
+use Rattle.std.specs.Option.{option_map}
+use Rattle.clap.specs.Words.{App, Shape, with_subcommand, subcommand_of, takes}
+use Rattle.clap.specs.Simple.{new_shape}
+use Rattle.command_line.specs.declared.words.Words.{Words}
+use Rattle.command_line.specs.declared.words.Words.TheVariants.{Units, Play}
+use Rattle.command_line.specs.declared.words.WordsFault.{WordsFault}
+use Rattle.command_line.specs.declared.words.WordsFault.TheVariants.{NoMemory, Words as WrongWords}
+
+-- no program's name comes first, there is a version, and a subcommand has to be there
+abbrev pub program_itself : Shape
+program_itself = record (new_shape (codes "mtpbank")) { no_binary_name = true; subcommand_required = true; has_version = true }
+
+-- two subcommands, which take no words
+abbrev pub program : App
+program =
+    with_subcommand (with_subcommand (record { top = program_itself; subs = [] }) (new_shape (codes "units")))
+    (new_shape (codes "play"))
+
+-- the subcommand that was asked for
+abbrev pub name_of : Words → List ℕ
+name_of Units = codes "units"
+name_of Play = codes "play"
+
+-- the subcommand that the library finds in these words, if any
+abbrev pub named_by : List (List ℕ) → Option (List ℕ)
+named_by words = option_map (λ p. p.0) (subcommand_of program words)
+
+-- where the library takes the words, they name no subcommand of the program
+abbrev pub IsRefused : List (List ℕ) → Type 0
+IsRefused words =
+    takes program words ≡ true → (asked : Words) → named_by words ≢ Some (name_of asked)
+
+-- wrong words are those; want of memory says nothing of them
+abbrev pub Refuses : WordsFault → List (List ℕ) → Type 0
+Refuses NoMemory words = Unit {0}
+Refuses (WrongWords error) words = IsRefused words
+
+abbrev pub AreWrong : WordsFault → Type 0
+AreWrong NoMemory = ⊥
+AreWrong (WrongWords error) = Unit {0}

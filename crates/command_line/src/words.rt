@@ -1,0 +1,131 @@
+//! The words of the command line.
+ghost use Rattle.std.specs.Prelude.{◌≡◌, ◌≢◌, IfErr, IfOk, MatchOption, Some, map};
+ghost use Rattle.clap.specs.Words.{app_of, subcommand_name_of};
+ghost use Rattle.clap.specs.declared.error.ErrorKind.TheVariants.{OutOfMemory};
+ghost use Rattle.clap.specs.Values.{kind_of};
+ghost use Rattle.command_line.specs.CommandLine.{program, name_of, named_by, AreWrong, Refuses};
+
+use super::help::{HELP, PLAY_HELP, UNITS_HELP};
+use clap::error::ErrorKind;
+use clap::{ArgMatches, Command};
+use std::alloc::{AllocError, Global};
+
+/// What the command line asks for.
+#[derive(Clone, Copy, Debug, PartialEq, Eq)]
+pub enum Words {
+    /// Tell what a signalling terminal sees of the digits on standard input.
+    Units,
+    /// Play a script of two ends of a link set from standard input.
+    Play,
+}
+
+/// Why the words ask for nothing.
+#[derive(Debug, Drop)]
+pub enum WordsFault {
+    /// 1: memory is wanted.
+    NoMemory,
+    /// 2: wrong words, or a question for help or the version.
+    Words(clap::Error),
+}
+
+impl From<AllocError> for WordsFault {
+    ghost use Rattle.std.specs.Prelude.{◌≡◌};
+    ghost use Rattle.command_line.specs.declared.words.WordsFault.TheVariants.{NoMemory};
+
+    ghost from_gives = { λ _ fault. fault ≡ NoMemory };
+
+    fn from(_error: AllocError) -> WordsFault {
+        WordsFault::NoMemory
+    }
+}
+
+/// What these words, those after the program's name, ask for.
+///
+/// 1 [`WordsFault::NoMemory`] may come before the other; 2 [`WordsFault::Words`] only where `clap`'s definition
+/// refuses the words, or where they name no subcommand of the program.
+pub fn words_of(alloc: Global, words: &[&str]) -> Result<Words, WordsFault>
+    ensures asked { IfOk result (λ found. named_by (map (λ s. s.now) words.now) ≡ Some (name_of found)) }
+    ensures refused { IfErr result (λ fault. Refuses fault (map (λ s. s.now) words.now)) }
+{
+    let mut command = command(alloc)?;
+    found_by(&mut command, words)
+}
+
+/// What the program's command finds in the words.
+fn found_by<'a>(command: &mut Command<'a>, words: &'a [&'a str]) -> Result<Words, WordsFault>
+    requires { app_of command.old ≡ program }
+    ensures asked { IfOk result (λ found. named_by (map (λ s. s.now) words.entry.now) ≡ Some (name_of found)) }
+    ensures refused { IfErr result (λ fault. Refuses fault (map (λ s. s.now) words.entry.now)) }
+{
+    match command.try_get_matches_from_mut(words) {
+        Ok(matches) => match named(&matches) {
+            Some(asked) => Ok(asked),
+            None => Err(nothing_asked(command)),
+        },
+        Err(error) => Err(fault_of(error)),
+    }
+}
+
+/// The subcommand that was found.
+fn named(matches: &ArgMatches<'_>) -> Option<Words>
+    ensures { MatchOption result ((asked : Words) → subcommand_name_of matches.now ≢ Some (name_of asked)) (λ asked. subcommand_name_of matches.now ≡ Some (name_of asked)) }
+{
+    match matches.subcommand_name() {
+        Some("units") => Some(Words::Units),
+        Some("play") => Some(Words::Play),
+        _ => None,
+    }
+}
+
+/// The words name no subcommand of the program.
+fn nothing_asked(command: &mut Command<'_>) -> WordsFault {
+    match command.error(ErrorKind::MissingSubcommand, "a subcommand is wanted") {
+        Ok(error) => WordsFault::Words(error),
+        Err(_) => WordsFault::NoMemory,
+    }
+}
+
+/// A word that isn't Unicode is none of the program's.
+pub fn not_unicode(alloc: Global) -> WordsFault {
+    match refusal(alloc) {
+        Ok(error) => fault_of(error),
+        Err(_) => WordsFault::NoMemory,
+    }
+}
+
+/// What is said of a word that isn't Unicode.
+fn refusal(alloc: Global) -> Result<clap::Error, AllocError> {
+    command(alloc)?.error(ErrorKind::InvalidSubcommand, "a word isn't Unicode")
+}
+
+/// Want of memory is no fault of the words.
+fn fault_of(error: clap::Error) -> WordsFault
+    ensures { AreWrong result → kind_of error ≢ OutOfMemory }
+{
+    match error.kind() {
+        ErrorKind::OutOfMemory => WordsFault::NoMemory,
+        _ => WordsFault::Words(error),
+    }
+}
+
+/// The words that the program knows.
+fn command<'a>(alloc: Global) -> Result<Command<'a>, AllocError>
+    ensures { IfOk result (λ command. app_of command ≡ program) }
+{
+    let units = Command::new(alloc, "units")
+        .about(
+            "Reads the octets of a line as hexadecimal digits and tells what a signalling terminal sees",
+        )
+        .after_help(UNITS_HELP);
+    let play = Command::new(alloc, "play")
+        .about("Plays a script of two ends of a link set from standard input, line by line")
+        .after_help(PLAY_HELP);
+    Command::new(alloc, "mtpbank")
+        .version("0.1.0")
+        .about("A proved bank of signalling terminals for Signalling System No. 7")
+        .no_binary_name(true)
+        .subcommand_required(true)
+        .after_help(HELP)
+        .subcommand(units)?
+        .subcommand(play)
+}
