@@ -52,10 +52,14 @@ answer_text (Heard report) = report_text report
 answer_text Done = codes "done\n"
 answer_text (Refused why) = codes "refused " ++ (decimal (refusal_number why) ++ codes "\n")
 
-abbrev pub shown_text : Shown → List ℕ
-shown_text Up = codes "up\n"
-shown_text Lost = codes "lost\n"
-shown_text (Answered answer) = answer_text answer
+abbrev pub shown_line : Shown → List ℕ
+shown_line Up = codes "up\n"
+shown_line Lost = codes "lost\n"
+shown_line (Answered answer) = answer_text answer
+
+-- THE TEXT of what a line shows; a name of its own, so that who speaks of it doesn't compute it
+unfoldable pub shown_text : Shown → List ℕ
+shown_text shown = shown_line shown
 
 abbrev pub end_name : End → List ℕ
 end_name A = codes "a"
@@ -72,5 +76,6 @@ other_counts c =
     codes " held=" ++ (decimal c.held ++ (codes " parked=" ++ (decimal c.parked ++ (codes " back=" ++ (decimal c.back
     ++ (codes " discarded=" ++ (decimal c.discarded ++ codes "\n")))))))
 
-abbrev pub end_text : End → Counts → List ℕ
+-- THE TEXT of how an end stands
+unfoldable pub end_text : End → Counts → List ℕ
 end_text end c = link_counts end c ++ other_counts c

@@ -4,7 +4,7 @@ ghost use Rattle.l2_units.specs.Grammar.{text as text_of_unit};
 ghost use Rattle.l2_bits.specs.SealedText.{sealed_text};
 ghost use Rattle.set_rows.specs.Rows.{total_of};
 ghost use Rattle.figures.specs.Figures.{hex_text};
-ghost use Rattle.answer_texts.specs.Texts.{fate_text as text_of_fate, took_text as text_of_took, fault_code as code_of_fault, report_text as text_of_report, answer_text as text_of_answer, shown_text as text_of_shown, end_name, end_text as text_of_end, link_counts as link_counts_of, other_counts as other_counts_of};
+ghost use Rattle.answer_texts.specs.Texts.{fate_text as text_of_fate, took_text as text_of_took, fault_code as code_of_fault, report_text as text_of_report, answer_text as text_of_answer, shown_line as line_of_shown, shown_text as text_of_shown, end_name, end_text as text_of_end, link_counts as link_counts_of, other_counts as other_counts_of};
 
 use figures::{bit, push_hex};
 use l2_bits::seal;
@@ -16,6 +16,13 @@ use std::alloc::{AllocError, Global};
 /// The text of what a line shows.
 pub fn shown_text(alloc: Global, shown: &Shown) -> Result<Vec<u8>, AllocError>
     ensures { IfOk result (λ text. text.items ≡ text_of_shown shown.now) }
+{
+    shown_line(alloc, shown)
+}
+
+/// The line of what was shown, case by case.
+fn shown_line(alloc: Global, shown: &Shown) -> Result<Vec<u8>, AllocError>
+    ensures { IfOk result (λ text. text.items ≡ line_of_shown shown.now) }
 {
     match shown {
         Shown::Up => Vec::from_slice(alloc, b"up\n"),

@@ -25,13 +25,19 @@ use Rattle.set_step.specs.declared.reached.Reached.TheVariants.{Upto, Unknown, U
 use Rattle.set_step.specs.Changeover.{Obeyed, queue, leave, left_link, judge, settle, is_reasonable, changes_over, is_answered, at_link, obeys, obeyed}
 use Rattle.play_script.specs.declared.script.End.{End}
 use Rattle.play_script.specs.declared.shown.Shown.{Shown}
-use Rattle.pair_world.specs.Pair.{Pair, Outcome, shows, acts, sends_on, done_on, has_link, with_sent, at_end, with_line, line_to, arrives}
+use Rattle.play_script.specs.declared.script.ScriptLine.{ScriptLine}
+use Rattle.pair_world.specs.Pair.{Pair, Outcome, done_by, carried_out, shows, acts, sends_on, done_on, has_link, with_sent, at_end, with_line, line_to, arrives}
 use Rattle.pair_world.specs.Carried.{LeavesTo}
 use Rattle.link_lines.specs.Lines.{without}
 use Rattle.set_core.specs.History.{LinkSet}
 use Rattle.play_script.specs.declared.script.End.TheVariants.{A, B}
 use Rattle.play_script.specs.declared.shown.Shown.TheVariants.{Lost}
 use Rattle.std.proofs.lemmas.Option.{same_Some}
+
+-- the sealed step is its cases
+pub carried_is : (p : Pair) (line : ScriptLine) → carried_out p line ≡ done_by p line
+unfolding carried_out
+carried_is p line = refl
 
 -- a unit that was sent has joined the line
 pub emit_step : (p mid after : Pair) (end : End) (link found : ℕ) (shown : Shown) → found ≡ link → has_link p link ≡ true → acts p end (Terminal found) (Next found) ≡ shows shown mid → after ≡ with_sent mid end found shown

@@ -147,16 +147,20 @@ has_link p link = nat_lt link (link_count p.a.state)
 abbrev pub done_on : Pair → ℕ → Outcome → Outcome
 done_on p link outcome = if has_link p link then outcome else impossible
 
--- THE STEP OF THE PAIR
-abbrev pub carried_out : Pair → ScriptLine → Outcome
-carried_out p (Together link) = done_on p link (rise_together p link)
-carried_out p (Offer end body) = acts p end (User 0) (OfferEvent body)
-carried_out p (Take end) = acts p end (User 0) TakeEvent
-carried_out p (Emit end link) = done_on p link (sends_on end link (acts p end (Terminal link) (Next link)))
-carried_out p (Arrive end link) = done_on p link (arrives p end link (line_to p end link))
-carried_out p (Lose end link place) = done_on p link (loses p end link place (line_to p end link))
-carried_out p (Find end number) = acts p end (User 0) (FindEvent number)
-carried_out p (Hear end link unit) = done_on p link (acts p end (Terminal link) (HeardEvent link unit))
-carried_out p (Down end link) = done_on p link (acts p end (Terminal link) (DownEvent link))
-carried_out p (Blind end link) = done_on p link (acts p end (Terminal link) (DownBlind link))
-carried_out p (NoAnswer end link) = done_on p link (acts p end (Terminal link) (NoAnswerEvent link))
+-- what each line does
+abbrev pub done_by : Pair → ScriptLine → Outcome
+done_by p (Together link) = done_on p link (rise_together p link)
+done_by p (Offer end body) = acts p end (User 0) (OfferEvent body)
+done_by p (Take end) = acts p end (User 0) TakeEvent
+done_by p (Emit end link) = done_on p link (sends_on end link (acts p end (Terminal link) (Next link)))
+done_by p (Arrive end link) = done_on p link (arrives p end link (line_to p end link))
+done_by p (Lose end link place) = done_on p link (loses p end link place (line_to p end link))
+done_by p (Find end number) = acts p end (User 0) (FindEvent number)
+done_by p (Hear end link unit) = done_on p link (acts p end (Terminal link) (HeardEvent link unit))
+done_by p (Down end link) = done_on p link (acts p end (Terminal link) (DownEvent link))
+done_by p (Blind end link) = done_on p link (acts p end (Terminal link) (DownBlind link))
+done_by p (NoAnswer end link) = done_on p link (acts p end (Terminal link) (NoAnswerEvent link))
+
+-- THE STEP OF THE PAIR; a name of its own, so that who speaks of it doesn't compute it
+unfoldable pub carried_out : Pair → ScriptLine → Outcome
+carried_out p line = done_by p line

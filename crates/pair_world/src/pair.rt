@@ -38,7 +38,7 @@ impl Model for Pair {
 impl Pair {
     ghost use Rattle.std.specs.Prelude.{◌≡◌, ◌<◌, ◌^◌, IfOk, IfErr, IfSome, OnOk, MatchOption, true, false};
     ghost use Rattle.set_core.specs.History.{IsActor};
-    ghost use Rattle.pair_world.specs.Pair.{new_pair, carried_out as carried_out_in, acts as acts_in, with_sent as with_sent_in, sends_on, arrives, loses, line_to, done_on, has_link, rise_together, at_end, counts_at};
+    ghost use Rattle.pair_world.specs.Pair.{new_pair, carried_out as carried_out_in, done_by, acts as acts_in, with_sent as with_sent_in, sends_on, arrives, loses, line_to, done_on, has_link, rise_together, at_end, counts_at};
     ghost use Rattle.set_step.specs.Set.{is_up as is_up_in};
     ghost use Rattle.set_rows.specs.Rows.{total_of};
     ghost use Rattle.pair_world.specs.Carried.{IsCarriedOut, IsTakenFrom};
@@ -66,6 +66,13 @@ impl Pair {
     /// Where it can't be done, memory is wanted or a history is full, the pair isn't to be used again.
     pub fn carried_out(&mut self, line: &ScriptLine) -> Result<Shown, StepFault>
         ensures { IsCarriedOut result (carried_out_in self.old line.now) self.new }
+    {
+        self.carry_out(line)
+    }
+
+    /// Carries out a line, case by case.
+    fn carry_out(&mut self, line: &ScriptLine) -> Result<Shown, StepFault>
+        ensures { IsCarriedOut result (done_by self.old line.now) self.new }
     {
         match line {
             ScriptLine::Together { link } => self.together(*link),

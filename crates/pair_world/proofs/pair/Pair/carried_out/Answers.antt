@@ -1,7 +1,6 @@
+use Rattle.std.proofs.Common.{◌≡◌}
+use Rattle.pair_world.proofs.PairLemmas.{carried_is}
 use Rattle.pair_world.proofs.pair.Pair.carried_out.Goals as goal
 
-pub returns-in-Emit : goal.returns-in-Emit
-returns-in-Emit c = rw c.in-Emit.is c.emit.ensures
-
-pub returns-in-Hear : goal.returns-in-Hear
-returns-in-Hear c = rw c.in-Hear.is c.hear.ensures
+pub returns : goal.returns
+returns c = rw (carried_is c.args.self.now c.args.line.now) c.carry_out.ensures

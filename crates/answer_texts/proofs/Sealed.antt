@@ -1,0 +1,14 @@
+-- What the sealed texts are.
+use Rattle.std.proofs.Common.{◌≡◌, refl, ℕ, List, ◌++◌}
+use Rattle.set_events.specs.declared.answer.Counts.{Counts}
+use Rattle.play_script.specs.declared.script.End.{End}
+use Rattle.play_script.specs.declared.shown.Shown.{Shown}
+use Rattle.answer_texts.specs.Texts.{shown_line, shown_text, end_text, link_counts, other_counts}
+
+pub shown_is : (shown : Shown) → shown_text shown ≡ shown_line shown
+unfolding shown_text
+shown_is shown = refl
+
+pub end_is : (end : End) (c : Counts) → end_text end c ≡ link_counts end c ++ other_counts c
+unfolding end_text
+end_is end c = refl
