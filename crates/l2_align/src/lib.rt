@@ -72,8 +72,6 @@
 mod align;
 pub mod laws;
 mod signals;
-#[cfg(test)]
-mod tests;
 
 pub use align::{Align, State};
 pub use signals::{AlignIn, AlignOut, End, Monitor};

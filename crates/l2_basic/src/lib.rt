@@ -17,8 +17,6 @@
 
 mod basic;
 mod law;
-#[cfg(test)]
-mod tests;
 
 pub use basic::Basic;
 pub use law::one_link;

@@ -28,5 +28,3 @@ mod suerm;
 pub use aerm::Aerm;
 pub use suerm::Suerm;
 
-#[cfg(test)]
-mod tests;

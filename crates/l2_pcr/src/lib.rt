@@ -22,8 +22,6 @@
 
 mod law;
 mod pcr;
-#[cfg(test)]
-mod tests;
 
 pub use law::one_link;
 pub use pcr::Pcr;

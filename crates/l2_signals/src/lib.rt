@@ -19,8 +19,6 @@
 
 mod cause;
 mod status;
-#[cfg(test)]
-mod tests;
 mod timer;
 
 pub use cause::Cause;

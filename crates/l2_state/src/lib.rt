@@ -63,8 +63,6 @@
 pub mod laws;
 mod link_state;
 mod signals;
-#[cfg(test)]
-mod tests;
 
 pub use link_state::{LinkState, State};
 pub use signals::{Sending, StateIn, StateOut, Switch, Told};

@@ -20,8 +20,6 @@
 
 mod grammar;
 mod reading;
-#[cfg(test)]
-mod tests;
 mod unit;
 mod writing;
 

@@ -37,8 +37,6 @@
 mod grammar;
 mod order;
 mod reading;
-#[cfg(test)]
-mod tests;
 mod writing;
 
 pub use grammar::{one_grammar, one_text};

@@ -14,7 +14,5 @@
 
 mod line;
 mod lines;
-#[cfg(test)]
-mod tests;
 
 pub use lines::Lines;

@@ -15,12 +15,8 @@
 #![tactic(auto)]
 
 mod auditing;
-#[cfg(test)]
-mod changeover_tests;
 mod set;
 mod tally;
-#[cfg(test)]
-mod tests;
 
 pub use auditing::audit;
 pub use set::SetCore;

@@ -11,8 +11,6 @@ mod books;
 mod config;
 mod event;
 mod history;
-#[cfg(test)]
-mod tests;
 
 pub use answer::{Answer, ControlFault, Counts, DiscardCause, Fate, Refusal, Report, Took};
 pub use body::Body;

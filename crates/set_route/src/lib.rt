@@ -25,8 +25,6 @@ mod place;
 mod routes;
 mod stream;
 mod target_link;
-#[cfg(test)]
-mod tests;
 
 pub use laws::streams_move_alone;
 pub use place::Place;

@@ -1,8 +1,8 @@
 //! Situations of one link, with expected values worked out by hand from Q.703 5.
-use super::*;
-use l2_units::{Unit, header_in, read};
+use set_core::*;
+use l2_units::{Unit, read};
 use set_events::{
-    Actor, Answer, Body, ControlFault, Entry, Event, Fate, Method, Refusal, Report, SetConfig, Took,
+    Actor, Answer, Body, Entry, Event, Fate, Method, Refusal, Report, SetConfig, Took,
 };
 use std::alloc::Global;
 use std::test::Fail;
@@ -28,27 +28,38 @@ fn set_by(alloc: Global, method: Method) -> Result<SetCore, Fail> {
     }
 }
 
+/// What the set answers to this event of its user, or of the link's terminal. All tests ask through here, so that
+/// the prover meets the contract of `apply` once.
+fn asked(set: &mut SetCore, event: &Event) -> Result<Answer, Fail> {
+    let who = match event {
+        Event::Offer { .. } | Event::Take | Event::Find { .. } => USER,
+        _ => TERMINAL,
+    };
+    match set.apply(who, event) {
+        Ok(answer) => Ok(answer),
+        Err(_) => Err(Fail::from("no memory")),
+    }
+}
+
 /// A set whose link is up.
 fn set_in_service(alloc: Global, method: Method) -> Result<SetCore, Fail> {
     let mut set = set_by(alloc, method)?;
-    match set.apply(TERMINAL, &Event::Up { link: 0 }) {
-        Ok(Answer::Done) => Ok(set),
-        _ => Err(Fail::from("not up")),
-    }
+    comes_up(&mut set)?;
+    Ok(set)
 }
 
 /// The set sends its next unit.
 fn emitted(set: &mut SetCore) -> Result<Unit, Fail> {
-    match set.apply(TERMINAL, &Event::Next { link: 0 }) {
-        Ok(Answer::Sent { unit }) => Ok(unit),
+    match asked(set, &Event::Next { link: 0 })? {
+        Answer::Sent { unit } => Ok(unit),
         _ => Err(Fail::from("nothing sent")),
     }
 }
 
 /// The set hears this unit.
 fn arrived(set: &mut SetCore, unit: Unit) -> Result<Report, Fail> {
-    match set.apply(TERMINAL, &Event::Heard { link: 0, unit }) {
-        Ok(Answer::Heard { report }) => Ok(report),
+    match asked(set, &Event::Heard { link: 0, unit })? {
+        Answer::Heard { report } => Ok(report),
         _ => Err(Fail::from("not heard")),
     }
 }
@@ -78,22 +89,12 @@ fn offered(alloc: Global, octets: &[u8]) -> Result<Event, Fail> {
     })
 }
 
-fn heard(octets: &[u8]) -> Result<Event, Fail> {
-    Ok(Event::Heard {
-        link: 0,
-        unit: unit_of(octets)?,
-    })
-}
-
-/// The set answers this event of its user, or of the link's terminal, so.
+/// The set answers this event so.
 fn answers(set: &mut SetCore, event: &Event, wanted: &Answer) -> Result<(), Fail> {
-    let who = match event {
-        Event::Offer { .. } | Event::Take | Event::Find { .. } => USER,
-        _ => TERMINAL,
-    };
-    match set.apply(who, event) {
-        Ok(answer) if answer.same(wanted) => Ok(()),
-        _ => Err(Fail::from("another answer")),
+    if asked(set, event)?.same(wanted) {
+        Ok(())
+    } else {
+        Err(Fail::from("another answer"))
     }
 }
 
@@ -260,34 +261,6 @@ fn a_new_set_knows_no_number(rt: HostRuntime) -> Result<(), Fail> {
     Ok(())
 }
 
-/// Before the link's first Up a message is parked, and nothing is sent or heard.
-#[test]
-fn nothing_runs_before_the_link_is_up(rt: HostRuntime) -> Result<(), Fail> {
-    let mut set = set_by(rt.alloc(), Method::Basic)?;
-    accepts(rt.alloc(), &mut set, 0)?;
-    assert!(rt; set.place_of(0) == Some(Fate::Parked));
-    refuses(&mut set, &Event::Next { link: 0 }, Refusal::NotUp)?;
-    refuses(&mut set, &heard(&[0xFF, 0xFF, 0])?, Refusal::NotUp)?;
-    comes_up(&mut set)?;
-    assert!(rt; set.place_of(0) == Some(Fate::Waiting { link: 0 }));
-    Ok(())
-}
-
-/// A link status signal unit says nothing to the error control; the link's own refusals come first.
-#[test]
-fn an_lssu_is_refused_while_the_link_is_up(rt: HostRuntime) -> Result<(), Fail> {
-    let mut set = set_by(rt.alloc(), Method::Basic)?;
-    let busy = heard(&[0xFF, 0xFF, 1, 5])?;
-    refuses(&mut set, &busy, Refusal::NotUp)?;
-    comes_up(&mut set)?;
-    refuses(&mut set, &busy, Refusal::Nothing)?;
-    let elsewhere = Event::Heard {
-        link: 1,
-        unit: unit_of(&[0xFF, 0xFF, 1, 5])?,
-    };
-    refuses(&mut set, &elsewhere, Refusal::NoSuchLink)
-}
-
 /// The refusals that a script can't show: a link that the set hasn't, and one that is up already.
 #[test]
 fn refusals_in_their_order(rt: HostRuntime) -> Result<(), Fail> {
@@ -346,125 +319,6 @@ fn a_refused_growth_ends_an_audit(rt: HostRuntime) -> Result<(), Fail> {
     Ok(())
 }
 
-/// With 127 messages unacknowledged nothing new is sent; the BSN of FSN 126 acknowledges them all.
-#[test]
-fn the_window_is_full_at_127(rt: HostRuntime) -> Result<(), Fail> {
-    let mut set = set_in_service(rt.alloc(), Method::Basic)?;
-    for number in 0..128u64 {
-        accepts(rt.alloc(), &mut set, number)?;
-    }
-    for fsn in 0..127u8 {
-        assert_eq!(rt; header_in(&emitted(&mut set)?).fsn, fsn);
-    }
-    sends(&mut set, &[0xFF, 0xFE, 0])?;
-    hears(
-        &mut set,
-        &[0xFF, 0xFF, 0],
-        report(0, Took::Nothing, false, false),
-    )?;
-    hears(
-        &mut set,
-        &[0xFE, 0xFF, 0],
-        report(127, Took::Nothing, false, false),
-    )?;
-    sends(&mut set, &[0xFF, 0xFF, 5, 0x85, 1, 0x80, 0, 0x30])?;
-    assert!(rt;
-        set.unacked_at(0, 0)
-            == Some(Numbered {
-                number: 127,
-                fsn: 127
-            })
-    );
-    Ok(())
-}
-
-/// An end whose first message was lost on the line: it offered two and sent both.
-fn end_that_sent_two(alloc: Global) -> Result<SetCore, Fail> {
-    let mut set = set_in_service(alloc, Method::Basic)?;
-    for number in 0..2u64 {
-        accepts(alloc, &mut set, number)?;
-    }
-    sends(&mut set, &[0xFF, 0x80, 5, 0x85, 1, 0x80, 0, 0x30])?;
-    sends(&mut set, &[0xFF, 0x81, 5, 0x85, 1, 0x80, 0, 0x30])?;
-    Ok(set)
-}
-
-/// The far end asks for it: the message is sent again, with the indicator bit turned.
-#[test]
-fn a_lost_message_is_sent_again(rt: HostRuntime) -> Result<(), Fail> {
-    let mut set = end_that_sent_two(rt.alloc())?;
-    hears(
-        &mut set,
-        &[0x7F, 0xFF, 0],
-        report(0, Took::Nothing, false, true),
-    )?;
-    sends(&mut set, &[0xFF, 0, 5, 0x85, 1, 0x80, 0, 0x30])
-}
-
-/// An end that gets the second message first asks for retransmission, and takes the first one then.
-#[test]
-fn a_lost_message_is_asked_for(rt: HostRuntime) -> Result<(), Fail> {
-    let mut set = set_in_service(rt.alloc(), Method::Basic)?;
-    let second = [0xFF, 0x81, 5, 0x85, 1, 0x80, 0, 0x30];
-    hears(&mut set, &second, report(0, Took::Nothing, true, false))?;
-    sends(&mut set, &[0x7F, 0xFF, 0])?;
-    let again = [0xFF, 0, 5, 0x85, 1, 0x80, 0, 0x30];
-    hears(&mut set, &again, report(0, Took::Message, false, false))?;
-    match set.apply(USER, &Event::Take) {
-        Ok(Answer::Taken { body }) => assert!(rt; body.as_slice() == MESSAGE.as_slice()),
-        _ => return Err(Fail::from("nothing taken")),
-    }
-    refuses(&mut set, &Event::Take, Refusal::Nothing)
-}
-
-/// Two abnormal BSNs, or FIBs, in three units are a fault of the link; it stays up.
-#[test]
-fn two_abnormal_units_in_three_are_a_fault(rt: HostRuntime) -> Result<(), Fail> {
-    let mut set = set_in_service(rt.alloc(), Method::Basic)?;
-    for (backward, fault) in [(0x85, None), (0xFF, None), (0x85, Some(ControlFault::Bsn))] {
-        let heard = arrived(&mut set, unit_of(&[backward, 0xFF, 0])?)?;
-        assert!(rt; heard.fault == fault);
-    }
-    let mut set = set_in_service(rt.alloc(), Method::Basic)?;
-    for fault in [None, Some(ControlFault::Fib)] {
-        let heard = arrived(&mut set, unit_of(&[0xFF, 0x7F, 0])?)?;
-        assert!(rt; heard.fault == fault);
-    }
-    Ok(())
-}
-
-/// Two unacknowledged messages force a cycle; an acknowledgement in it leaves it going.
-#[test]
-fn a_forced_cycle_goes_before_new_messages(rt: HostRuntime) -> Result<(), Fail> {
-    let mut set = set_in_service(rt.alloc(), Method::Cyclic { n1: 2, n2: 1000 })?;
-    for number in 0..3u64 {
-        accepts(rt.alloc(), &mut set, number)?;
-    }
-    for fsn in [0, 1, 0, 1, 0] {
-        assert_eq!(rt; header_in(&emitted(&mut set)?).fsn, fsn);
-    }
-    hears(
-        &mut set,
-        &[0x80, 0xFF, 0],
-        report(1, Took::Nothing, false, false),
-    )?;
-    for fsn in [1, 2] {
-        assert_eq!(rt; header_in(&emitted(&mut set)?).fsn, fsn);
-    }
-    Ok(())
-}
-
-/// A body of the management is accepted, and is none of the users'.
-#[test]
-fn a_management_body_goes_to_no_user(rt: HostRuntime) -> Result<(), Fail> {
-    let mut set = set_in_service(rt.alloc(), Method::Basic)?;
-    let order = [0xFF, 0x80, 7, 0x80, 1, 0x80, 0, 0x30, 0x11, 5];
-    hears(&mut set, &order, report(0, Took::Ignored, false, false))?;
-    refuses(&mut set, &Event::Take, Refusal::Nothing)?;
-    assert_eq!(rt; header_in(&emitted(&mut set)?).bsn, 0);
-    Ok(())
-}
-
 /// How many messages the long runs carry.
 const MESSAGES: u16 = 2000;
 
@@ -485,27 +339,18 @@ fn carried(from: &mut SetCore, to: &mut SetCore, lost: bool) -> Result<(), Fail>
 
 /// Offers the next message, unless its stream is full; whether it was accepted.
 fn is_accepted(alloc: Global, set: &mut SetCore, index: u16) -> Result<bool, Fail> {
-    let message = offered(alloc, &numbered(index))?;
-    match set.apply(USER, &message) {
-        Ok(Answer::Accepted { .. }) => Ok(true),
-        Ok(
-            Answer::Refused {
-                why: Refusal::StreamFull,
-            },
-        ) => Ok(false),
+    match asked(set, &offered(alloc, &numbered(index))?)? {
+        Answer::Accepted { .. } => Ok(true),
+        Answer::Refused { why } if why == Refusal::StreamFull => Ok(false),
         _ => Err(Fail::from("no answer to an offer")),
     }
 }
 
 /// Takes the next message, if there is one, which has to be that of this index.
 fn is_taken(set: &mut SetCore, index: u16) -> Result<bool, Fail> {
-    match set.apply(USER, &Event::Take) {
-        Ok(Answer::Taken { body }) if body.as_slice() == numbered(index).as_slice() => Ok(true),
-        Ok(
-            Answer::Refused {
-                why: Refusal::Nothing,
-            },
-        ) => Ok(false),
+    match asked(set, &Event::Take)? {
+        Answer::Taken { body } if body.as_slice() == numbered(index).as_slice() => Ok(true),
+        Answer::Refused { why } if why == Refusal::Nothing => Ok(false),
         _ => Err(Fail::from("another message was taken")),
     }
 }

@@ -1,5 +1,5 @@
 //! The codes of Q.703 11.1.3, as the standard lists them.
-use super::*;
+use l2_signals::*;
 
 #[test]
 fn statuses_have_the_codes_of_the_standard(rt: HostRuntime) {

@@ -1,5 +1,5 @@
 //! Units worked out by hand from Q.703 2.2 and 2.3.
-use super::*;
+use l2_units::*;
 use arrayvec::ArrayVec;
 use std::test::Fail;
 

@@ -1,7 +1,6 @@
 //! Whole runs, in the trade's words.
 
-use crate::align::Align;
-use crate::signals::{AlignIn, AlignOut, End, Monitor};
+use l2_align::{Align, AlignIn, AlignOut, End, Monitor};
 use l2_signals::{Status, TimerOrder};
 
 // A machine in a normal proving period.

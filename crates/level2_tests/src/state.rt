@@ -1,7 +1,6 @@
 //! Whole runs, in the trade's words.
 
-use crate::link_state::LinkState;
-use crate::signals::{Sending, StateIn, StateOut, Switch, Told};
+use l2_state::{LinkState, Sending, StateIn, StateOut, Switch, Told};
 use l2_signals::{Cause, Status, TimerOrder};
 
 #[test]

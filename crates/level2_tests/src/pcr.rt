@@ -1,5 +1,5 @@
 //! Situations on one link, worked out by hand from Q.703 6. Units are written as their octets.
-use super::*;
+use l2_pcr::*;
 use l2_units::{Header, header_in, read};
 use l2_window::{ControlFault, Sending, Window};
 use std::process::Abort;

@@ -1,5 +1,5 @@
 //! Streams at changeover. The expected places follow from Q.704 5 and the rules of the set by hand.
-use super::*;
+use set_route::*;
 use std::test::Fail;
 
 /// Two links: stream 3 has home 1, stream 4 has home 0. While link 1 alone is up both run on it.

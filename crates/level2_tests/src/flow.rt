@@ -1,4 +1,4 @@
-use super::*;
+use l2_flow::*;
 use l2_signals::TimerOrder;
 use l2_signals::TimerOrder::{Keep, Start, Stop};
 

@@ -1,6 +1,6 @@
 //! Orders worked out by hand from Q.704 15.2 to 15.6: in each label the bits of DPC, OPC and SLC are
 //! written as one number, the SLC first, and cut into octets from its end.
-use super::*;
+use l3_orders::*;
 use std::test::Fail;
 
 /// DPC 1, OPC 2, SLC 3: 0011 00000000000010 00000000000001 is 30 00 80 01. COO is H1 1, H0 1; FSN 5.

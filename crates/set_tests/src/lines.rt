@@ -1,7 +1,7 @@
 //! Three units on two links, each step by hand.
 ghost use Rattle.std.specs.Prelude.{◌<◌};
 
-use super::lines::Lines;
+use link_lines::Lines;
 use l2_units::{Header, Unit};
 use std::test::Fail;
 

@@ -1,4 +1,4 @@
-use super::*;
+use l2_monitors::*;
 
 /// Tells the monitor of `count` marks, and returns whether it has tripped.
 fn repeat(monitor: &mut Suerm, error: bool, count: u16) -> bool {

@@ -1,5 +1,5 @@
 //! What the contracts leave to be seen: that calls succeed, and the numbers that users meet.
-use super::*;
+use set_events::*;
 use l2_units::read;
 use std::test::Fail;
 

@@ -1,0 +1,21 @@
+//! Tests of the crates of level 2, over their public calls: values worked out by hand from Q.703.
+//!
+//! They stand in a crate of their own, since a crate with tests is proved twice. There is nothing here but tests.
+#![tactic(auto)]
+
+#[cfg(test)]
+mod align;
+#[cfg(test)]
+mod basic;
+#[cfg(test)]
+mod flow;
+#[cfg(test)]
+mod monitors;
+#[cfg(test)]
+mod pcr;
+#[cfg(test)]
+mod signals;
+#[cfg(test)]
+mod state;
+#[cfg(test)]
+mod units;

@@ -1,0 +1,17 @@
+//! Tests of the crates of orders and sets, over their public calls: values worked out by hand from Q.703 and Q.704.
+//!
+//! They stand in a crate of their own, since a crate with tests is proved twice. There is nothing here but tests.
+#![tactic(auto)]
+
+#[cfg(test)]
+mod changeover;
+#[cfg(test)]
+mod events;
+#[cfg(test)]
+mod lines;
+#[cfg(test)]
+mod orders;
+#[cfg(test)]
+mod routes;
+#[cfg(test)]
+mod sets;
