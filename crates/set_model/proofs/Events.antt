@@ -1,0 +1,349 @@
+-- WHAT EACH CHANGE DOES TO EACH LINK: the lemmas that a set's step is argued by.
+use Rattle.std.proofs.Common.{refl, arith, ◌≡◌, ◌∙◌, ap, ◌≤◌, [], ◌∷◌, length, ℕ, zero, suc, ◌+◌, Bool, true, false, ◌==◌, List, ◌++◌, map, take, drop}
+use Rattle.std.proofs.lemmas.List.{append-nil, map-append}
+use Rattle.std.proofs.lemmas.List.Elements.{filter-append}
+use Rattle.set_events.specs.declared.answer.Fate.{Fate}
+use Rattle.set_events.specs.declared.answer.Fate.TheVariants.{Waiting, Unacked, Acked, Parked, Discarded}
+use Rattle.set_events.specs.declared.answer.DiscardCause.{DiscardCause}
+use Rattle.set_model.specs.Rows.{Row, standing, is_waiting, is_unacked, is_held, is_on, is_parked, was_acked, unack, wait, held, on, parked, numbers, octets_in, turned, changed, moved, all_with, appended, with_fate, fated, body_at, counts_of, total_of, IsInOrder, IsHeldLast, IsNumbered, AreFit}
+use Rattle.set_model.proofs.Places.{itself, apart_back, waiting_not_unacked, unacked_not_waiting, waiting_not_held, unacked_not_held, parked_not_on, on_not_parked, on_not_acked, parked_not_acked, waiting_on, unacked_on, held_on, on_other, not_on_waiting, not_on_unacked, not_on_held, contra}
+use Rattle.set_model.proofs.InPlace.{InPlace, turned_there, changed_there, turned_same, changed_same, turned_ordered, changed_ordered, turned_left, turned_within, changed_left}
+use Rattle.set_model.proofs.Moving.{moved_length, moved_fit, moved_numbered, moved_gone, moved_same, moved_joined}
+use Rattle.set_model.proofs.Order.{order_moved, order_appended, order_sent, sent_joined, on_in_order, order_none, last_none, last_alone, last_moved, last_appended, last_sent}
+use Rattle.set_model.proofs.Lookups.{body_moved}
+use Rattle.set_model.proofs.Counting.{total_in_place, total_moved, acked_moved}
+use Rattle.set_model.proofs.Finding.{new_row, same_numbers}
+
+-- Rows that got their fates have the same numbers and octets.
+pub numbers_fated : (fate : Row → Fate) (xs : List Row) → numbers (map (fated fate) xs) ≡ numbers xs
+numbers_fated fate [] = refl
+numbers_fated fate (x ∷ xs) = ap (λ (ns : List ℕ). x.number ∷ ns) (numbers_fated fate xs)
+
+pub octets_fated : (fate : Row → Fate) (xs : List Row) → octets_in (map (fated fate) xs) ≡ octets_in xs
+octets_fated fate [] = refl
+octets_fated fate (x ∷ xs) = ap (λ (n : ℕ). length x.body + n) (octets_fated fate xs)
+
+pub octets-append : (xs ys : List Row) → octets_in (xs ++ ys) ≡ octets_in xs + octets_in ys
+octets-append [] ys = omega arith
+octets-append (x ∷ xs) ys = omega (arith, octets-append xs ys)
+
+pub numbers_joined : (fate : Row → Fate) (xs ys : List Row) → numbers (xs ++ map (fated fate) ys) ≡ numbers xs ++ numbers ys
+numbers_joined fate xs ys = map-append (λ (row : Row). row.number) xs (map (fated fate) ys) ∙ ap (λ (ns : List ℕ). numbers xs ++ ns) (numbers_fated fate ys)
+
+-- What every change but a new message keeps.
+pub record Kept (rows new : List Row) : Type 0 where
+  pub fit : AreFit rows → AreFit new
+  pub numbered : IsNumbered rows → IsNumbered new
+  pub count : length new ≡ length rows
+  pub bodies : IsNumbered rows → (number : ℕ) → body_at number new ≡ body_at number rows
+  pub total : total_of (counts_of new) ≡ total_of (counts_of rows)
+  pub acked : (counts_of rows).acked ≤ (counts_of new).acked
+
+pub kept_in_place : (test : Fate → Bool) (rows new : List Row) → InPlace test rows new → ((f : Fate) → test f ≡ true → was_acked f ≡ false) → Kept rows new
+kept_in_place test rows new i w = record {
+  fit = i.fit;
+  numbered = same_numbers rows new i.count (λ number. i.as_many (λ (row : Row). row.number == number) (λ f x. refl));
+  count = i.count;
+  bodies = λ numbered number. i.bodies number;
+  total = total_in_place test rows new i;
+  acked = i.acked w;
+}
+
+moved_kept : (test : Fate → Bool) (fate : Row → Fate) (rows : List Row) → ((row : Row) → was_acked (fate row) ≡ false) → ((f : Fate) → test f ≡ true → was_acked f ≡ false) → Kept rows (moved test fate rows)
+moved_kept test fate rows o w = record {
+  fit = moved_fit test fate rows;
+  numbered = moved_numbered test fate rows;
+  count = moved_length test fate rows;
+  bodies = λ numbered number. body_moved test fate number rows numbered;
+  total = total_moved test fate rows;
+  acked = omega (arith, acked_moved test fate rows o w);
+}
+
+-- Nothing that link n sees changed.
+pub record Untouched (n : ℕ) (rows new : List Row) : Type 0 where
+  pub unack_same : unack n new ≡ unack n rows
+  pub wait_same : wait n new ≡ wait n rows
+  pub held_same : held n new ≡ held n rows
+  pub on_same : on n new ≡ on n rows
+  pub order_kept : IsInOrder n rows → IsInOrder n new
+  pub last_kept : IsHeldLast n rows → IsHeldLast n new
+
+pub untouched_self : (n : ℕ) (rows : List Row) → Untouched n rows rows
+untouched_self n rows = record { unack_same = refl; wait_same = refl; held_same = refl; on_same = refl; order_kept = λ o. o; last_kept = λ o. o }
+
+pub untouched_then : (n : ℕ) (rows mid new : List Row) → Untouched n rows mid → Untouched n mid new → Untouched n rows new
+untouched_then n rows mid new a b = record {
+  unack_same = b.unack_same ∙ a.unack_same;
+  wait_same = b.wait_same ∙ a.wait_same;
+  held_same = b.held_same ∙ a.held_same;
+  on_same = b.on_same ∙ a.on_same;
+  order_kept = λ o. b.order_kept (a.order_kept o);
+  last_kept = λ o. b.last_kept (a.last_kept o);
+}
+
+module _ (n : ℕ) (test : Fate → Bool) (rows : List Row) (w : (f : Fate) → test f ≡ true → is_on n f ≡ false) where
+  module _ (fate : Fate) (o : is_on n fate ≡ false) where
+    pub turned_untouched : (k : ℕ) → Untouched n rows (turned test fate k rows)
+    turned_untouched k =
+        let kept = turned_ordered n test fate (not_on_unacked n fate o) (not_on_waiting n fate o) (not_on_held n fate o) k rows in
+        record {
+          unack_same = turned_same test (is_unacked n) fate (not_on_unacked n fate o) (λ f e. not_on_unacked n f (w f e)) k rows;
+          wait_same = turned_same test (is_waiting n) fate (not_on_waiting n fate o) (λ f e. not_on_waiting n f (w f e)) k rows;
+          held_same = turned_same test (is_held n) fate (not_on_held n fate o) (λ f e. not_on_held n f (w f e)) k rows;
+          on_same = turned_same test (is_on n) fate o w k rows;
+          order_kept = kept.in_order;
+          last_kept = kept.held_last;
+        }
+
+    pub changed_untouched : Untouched n rows (changed test fate rows)
+    changed_untouched =
+        let kept = changed_ordered n test fate (not_on_unacked n fate o) (not_on_waiting n fate o) (not_on_held n fate o) rows in
+        record {
+          unack_same = changed_same test (is_unacked n) fate (not_on_unacked n fate o) (λ f e. not_on_unacked n f (w f e)) rows;
+          wait_same = changed_same test (is_waiting n) fate (not_on_waiting n fate o) (λ f e. not_on_waiting n f (w f e)) rows;
+          held_same = changed_same test (is_held n) fate (not_on_held n fate o) (λ f e. not_on_held n f (w f e)) rows;
+          on_same = changed_same test (is_on n) fate o w rows;
+          order_kept = kept.in_order;
+          last_kept = kept.held_last;
+        }
+
+  pub moved_untouched : (fate : Row → Fate) → ((row : Row) → is_on n (fate row) ≡ false) → Untouched n rows (moved test fate rows)
+  moved_untouched fate o = record {
+    unack_same = moved_same test (is_unacked n) fate rows (λ x. not_on_unacked n (fate x) (o x)) (λ f e. not_on_unacked n f (w f e));
+    wait_same = moved_same test (is_waiting n) fate rows (λ x. not_on_waiting n (fate x) (o x)) (λ f e. not_on_waiting n f (w f e));
+    held_same = moved_same test (is_held n) fate rows (λ x. not_on_held n (fate x) (o x)) (λ f e. not_on_held n f (w f e));
+    on_same = moved_same test (is_on n) fate rows o w;
+    order_kept = order_moved n test fate rows (λ x. not_on_unacked n (fate x) (o x));
+    last_kept = last_moved n test fate rows (λ x. not_on_unacked n (fate x) (o x)) (λ x. not_on_waiting n (fate x) (o x));
+  }
+
+-- A NEW MESSAGE.
+module _ (rows : List Row) (body : List ℕ) (fate : Fate) where
+  -- a place where it stands, and one where it doesn't
+  pub appended_in : (test : Fate → Bool) → test fate ≡ true → standing test (appended rows body fate) ≡ standing test rows ++ new_row (length rows) body fate ∷ []
+  appended_in test h = filter-append (λ (row : Row). test row.fate) rows (new_row (length rows) body fate ∷ []) ∙ rw h refl
+
+  pub appended_out : (test : Fate → Bool) → test fate ≡ false → standing test (appended rows body fate) ≡ standing test rows
+  appended_out test h = filter-append (λ (row : Row). test row.fate) rows (new_row (length rows) body fate ∷ []) ∙ ap (λ (xs : List Row). standing test rows ++ xs) (rw h refl) ∙ append-nil (standing test rows)
+
+  -- a link that it doesn't stand on
+  pub appended_untouched : (n : ℕ) → is_on n fate ≡ false → Untouched n rows (appended rows body fate)
+  appended_untouched n o = record {
+    unack_same = appended_out (is_unacked n) (not_on_unacked n fate o);
+    wait_same = appended_out (is_waiting n) (not_on_waiting n fate o);
+    held_same = appended_out (is_held n) (not_on_held n fate o);
+    on_same = appended_out (is_on n) o;
+    order_kept = order_appended n rows body fate (not_on_unacked n fate o);
+    last_kept = last_appended n rows body fate (not_on_unacked n fate o) (not_on_waiting n fate o);
+  }
+
+-- A FIRST SENDING.
+pub record Sent (l : ℕ) (rows new : List Row) : Type 0 where
+  pub kept : Kept rows new
+  pub wait_is : wait l new ≡ drop 1 (wait l rows)
+  -- needs the order, by which nothing that was sent stands behind it
+  pub unack_is : IsInOrder l rows → unack l new ≡ unack l rows ++ map (with_fate (Unacked l)) (take 1 (wait l rows))
+  pub held_same : held l new ≡ held l rows
+  pub on_is : on l new ≡ turned (is_waiting l) (Unacked l) 1 (on l rows)
+  pub parked_same : parked new ≡ parked rows
+  pub order_kept : IsInOrder l rows → IsInOrder l new
+  pub last_kept : IsHeldLast l rows → IsHeldLast l new
+  pub others : (n : ℕ) → (l == n) ≡ false → Untouched n rows new
+
+-- a row that waits on one link is on no other
+waits_apart : (l n : ℕ) → (l == n) ≡ false → (f : Fate) → is_waiting l f ≡ true → is_on n f ≡ false
+waits_apart l n d f e = on_other n l (apart_back l n d) f (waiting_on l f e)
+
+sent_apart : (l n : ℕ) → (l == n) ≡ false → (f : Fate) → is_unacked l f ≡ true → is_on n f ≡ false
+sent_apart l n d f e = on_other n l (apart_back l n d) f (unacked_on l f e)
+
+pub sent : (l : ℕ) (rows : List Row) → Sent l rows (turned (is_waiting l) (Unacked l) 1 rows)
+sent l rows = record {
+  kept = kept_in_place (is_waiting l) rows (turned (is_waiting l) (Unacked l) 1 rows) (turned_there (is_waiting l) (Unacked l) 1 rows) (λ f e. on_not_acked l f (waiting_on l f e));
+  wait_is = turned_left (is_waiting l) (Unacked l) refl 1 rows;
+  unack_is = sent_joined l rows (itself l);
+  held_same = turned_same (is_waiting l) (is_held l) (Unacked l) refl (waiting_not_held l l) 1 rows;
+  on_is = turned_within (is_waiting l) (is_on l) (Unacked l) (itself l) (waiting_on l) 1 rows;
+  parked_same = turned_same (is_waiting l) is_parked (Unacked l) refl (λ f e. on_not_parked l f (waiting_on l f e)) 1 rows;
+  order_kept = order_sent l rows;
+  last_kept = last_sent l rows;
+  others = λ n d. turned_untouched n (is_waiting l) rows (waits_apart l n d) (Unacked l) d 1;
+}
+
+-- AN ACKNOWLEDGEMENT.
+pub record Acknowledged (l count : ℕ) (rows new : List Row) : Type 0 where
+  pub kept : Kept rows new
+  pub unack_is : unack l new ≡ drop count (unack l rows)
+  pub wait_same : wait l new ≡ wait l rows
+  pub held_same : held l new ≡ held l rows
+  pub on_is : IsInOrder l rows → IsHeldLast l rows → on l new ≡ drop count (unack l rows) ++ wait l rows ++ held l rows
+  pub parked_same : parked new ≡ parked rows
+  pub order_kept : IsInOrder l rows → IsInOrder l new
+  pub last_kept : IsHeldLast l rows → IsHeldLast l new
+  pub others : (n : ℕ) → (l == n) ≡ false → Untouched n rows new
+
+pub acknowledged : (l count : ℕ) (rows : List Row) → Acknowledged l count rows (turned (is_unacked l) (Acked l) count rows)
+acknowledged l count rows =
+    let new = turned (is_unacked l) (Acked l) count rows in
+    let u = turned_left (is_unacked l) (Acked l) refl count rows in
+    let w = turned_same (is_unacked l) (is_waiting l) (Acked l) refl (unacked_not_waiting l l) count rows in
+    let h = turned_same (is_unacked l) (is_held l) (Acked l) refl (unacked_not_held l l) count rows in
+    let ordered = turned_ordered l (is_unacked l) (Acked l) refl refl refl count rows in
+    record {
+      kept = kept_in_place (is_unacked l) rows new (turned_there (is_unacked l) (Acked l) count rows) (λ f e. on_not_acked l f (unacked_on l f e));
+      unack_is = u;
+      wait_same = w;
+      held_same = h;
+      on_is = λ o a. on_in_order l new (ordered.in_order o) (ordered.held_last a) ∙ ap (λ (xs : List Row). xs ++ wait l new ++ held l new) u ∙ ap (λ (xs : List Row). drop count (unack l rows) ++ xs ++ held l new) w ∙ ap (λ (xs : List Row). drop count (unack l rows) ++ wait l rows ++ xs) h;
+      parked_same = turned_same (is_unacked l) is_parked (Acked l) refl (λ f e. on_not_parked l f (unacked_on l f e)) count rows;
+      order_kept = ordered.in_order;
+      last_kept = ordered.held_last;
+      others = λ n d. turned_untouched n (is_unacked l) rows (sent_apart l n d) (Acked l) refl count;
+    }
+
+-- MESSAGES THAT ARE GIVEN UP.
+pub record GivenUp (l : ℕ) (rows new : List Row) : Type 0 where
+  pub kept : Kept rows new
+  pub held_same : held l new ≡ held l rows
+  pub parked_same : parked new ≡ parked rows
+  pub order_kept : IsInOrder l rows → IsInOrder l new
+  pub last_kept : IsHeldLast l rows → IsHeldLast l new
+  pub others : (n : ℕ) → (l == n) ≡ false → Untouched n rows new
+
+module _ (l : ℕ) (cause : DiscardCause) (rows : List Row) where
+  module _ (test : Fate → Bool) (on_link : (f : Fate) → test f ≡ true → is_on l f ≡ true) (not_held : (f : Fate) → test f ≡ true → is_held l f ≡ false) where
+    pub given_up : GivenUp l rows (changed test (Discarded cause) rows)
+    given_up =
+        let ordered = changed_ordered l test (Discarded cause) refl refl refl rows in
+        record {
+          kept = kept_in_place test rows (changed test (Discarded cause) rows) (changed_there test (Discarded cause) rows) (λ f e. on_not_acked l f (on_link f e));
+          held_same = changed_same test (is_held l) (Discarded cause) refl not_held rows;
+          parked_same = changed_same test is_parked (Discarded cause) refl (λ f e. on_not_parked l f (on_link f e)) rows;
+          order_kept = ordered.in_order;
+          last_kept = ordered.held_last;
+          others = λ n d. changed_untouched n test rows (λ f e. on_other n l (apart_back l n d) f (on_link f e)) (Discarded cause) refl;
+        }
+
+  pub sent_given_up : GivenUp l rows (changed (is_unacked l) (Discarded cause) rows)
+  sent_given_up = given_up (is_unacked l) (unacked_on l) (unacked_not_held l l)
+
+  pub waiting_given_up : GivenUp l rows (changed (is_waiting l) (Discarded cause) rows)
+  waiting_given_up = given_up (is_waiting l) (waiting_on l) (waiting_not_held l l)
+
+  pub unack_gone : unack l (changed (is_unacked l) (Discarded cause) rows) ≡ []
+  unack_gone = changed_left (is_unacked l) (Discarded cause) refl rows
+
+  pub wait_gone : wait l (changed (is_waiting l) (Discarded cause) rows) ≡ []
+  wait_gone = changed_left (is_waiting l) (Discarded cause) refl rows
+
+  pub wait_stays : wait l (changed (is_unacked l) (Discarded cause) rows) ≡ wait l rows
+  wait_stays = changed_same (is_unacked l) (is_waiting l) (Discarded cause) refl (unacked_not_waiting l l) rows
+
+  pub unack_stays : unack l (changed (is_waiting l) (Discarded cause) rows) ≡ unack l rows
+  unack_stays = changed_same (is_waiting l) (is_unacked l) (Discarded cause) refl (waiting_not_unacked l l) rows
+
+-- A LINK THAT IS LEFT BY ITS MESSAGES.
+pub record Left (l : ℕ) (to : Fate) (rows new : List Row) : Type 0 where
+  pub kept : Kept rows new
+  pub unack_none : unack l new ≡ []
+  pub wait_none : wait l new ≡ []
+  pub held_none : held l new ≡ []
+  pub on_none : on l new ≡ []
+  pub in_order : IsInOrder l new
+  pub held_last : IsHeldLast l new
+  pub others : (n : ℕ) → (l == n) ≡ false → is_on n to ≡ false → Untouched n rows new
+
+left : (l : ℕ) (to : Fate) (rows : List Row) → is_on l to ≡ false → was_acked to ≡ false → Left l to rows (moved (is_on l) (all_with to) rows)
+left l to rows o a =
+    let u = moved_gone (is_on l) (is_unacked l) (all_with to) rows (λ x. not_on_unacked l to o) (unacked_on l) in
+    let w = moved_gone (is_on l) (is_waiting l) (all_with to) rows (λ x. not_on_waiting l to o) (waiting_on l) in
+    record {
+      kept = moved_kept (is_on l) (all_with to) rows (λ x. a) (on_not_acked l);
+      unack_none = u;
+      wait_none = w;
+      held_none = moved_gone (is_on l) (is_held l) (all_with to) rows (λ x. not_on_held l to o) (held_on l);
+      on_none = moved_gone (is_on l) (is_on l) (all_with to) rows (λ x. o) (λ f e. e);
+      in_order = order_none l (moved (is_on l) (all_with to) rows) u;
+      held_last = last_alone l (moved (is_on l) (all_with to) rows) u w;
+      others = λ n d p. moved_untouched n (is_on l) rows (λ f e. on_other n l (apart_back l n d) f e) (all_with to) (λ x. p);
+    }
+
+-- to another link
+pub record MovedTo (l t : ℕ) (rows new : List Row) : Type 0 where
+  pub left_is : Left l (Waiting t) rows new
+  pub unack_same : unack t new ≡ unack t rows
+  pub wait_is : wait t new ≡ wait t rows ++ map (with_fate (Waiting t)) (on l rows)
+  pub wait_numbers : numbers (wait t new) ≡ numbers (wait t rows) ++ numbers (on l rows)
+  pub held_same : held t new ≡ held t rows
+  pub on_is : on t new ≡ on t rows ++ map (with_fate (Waiting t)) (on l rows)
+  pub parked_same : parked new ≡ parked rows
+  pub order_kept : IsInOrder t rows → IsInOrder t new
+  -- a link that messages are moved to holds none
+  pub last_kept : held t rows ≡ [] → IsHeldLast t new
+
+pub moved_to : (l t : ℕ) (rows : List Row) → (l == t) ≡ false → MovedTo l t rows (moved (is_on l) (all_with (Waiting t)) rows)
+moved_to l t rows d =
+    let to = all_with (Waiting t) in
+    let off : (f : Fate) → is_on l f ≡ true → is_on t f ≡ false = on_other t l (apart_back l t d) in
+    let w = moved_joined (is_on l) (is_waiting t) to rows (λ x. itself t) (λ f e. not_on_waiting t f (off f e)) in
+    let h = moved_same (is_on l) (is_held t) to rows (λ x. refl) (λ f e. not_on_held t f (off f e)) in
+    record {
+      left_is = left l (Waiting t) rows (apart_back l t d) refl;
+      unack_same = moved_same (is_on l) (is_unacked t) to rows (λ x. refl) (λ f e. not_on_unacked t f (off f e));
+      wait_is = w;
+      wait_numbers = ap numbers w ∙ numbers_joined to (wait t rows) (on l rows);
+      held_same = h;
+      on_is = moved_joined (is_on l) (is_on t) to rows (λ x. itself t) off;
+      parked_same = moved_same (is_on l) is_parked to rows (λ x. refl) (on_not_parked l);
+      order_kept = order_moved t (is_on l) to rows (λ x. refl);
+      last_kept = λ e. last_none t (moved (is_on l) to rows) (h ∙ e);
+    }
+
+-- where no link is up
+pub record MovedAside (l : ℕ) (rows new : List Row) : Type 0 where
+  pub left_is : Left l Parked rows new
+  pub parked_is : parked new ≡ parked rows ++ map (with_fate Parked) (on l rows)
+  pub parked_numbers : numbers (parked new) ≡ numbers (parked rows) ++ numbers (on l rows)
+
+pub moved_aside : (l : ℕ) (rows : List Row) → MovedAside l rows (moved (is_on l) (all_with Parked) rows)
+moved_aside l rows =
+    let p = moved_joined (is_on l) is_parked (all_with Parked) rows (λ x. refl) (on_not_parked l) in
+    record { left_is = left l Parked rows refl refl; parked_is = p; parked_numbers = ap numbers p ∙ numbers_joined (all_with Parked) (parked rows) (on l rows) }
+
+-- PARKED MESSAGES THAT FIND A LINK.
+pub record Unparked (l : ℕ) (rows new : List Row) : Type 0 where
+  pub kept : Kept rows new
+  pub parked_none : parked new ≡ []
+  pub unack_same : unack l new ≡ unack l rows
+  pub wait_is : wait l new ≡ wait l rows ++ map (with_fate (Waiting l)) (parked rows)
+  pub wait_numbers : numbers (wait l new) ≡ numbers (wait l rows) ++ numbers (parked rows)
+  pub held_same : held l new ≡ held l rows
+  pub on_is : on l new ≡ on l rows ++ map (with_fate (Waiting l)) (parked rows)
+  pub order_kept : IsInOrder l rows → IsInOrder l new
+  pub last_kept : held l rows ≡ [] → IsHeldLast l new
+  pub others : (n : ℕ) → (l == n) ≡ false → Untouched n rows new
+
+pub unparked : (l : ℕ) (rows : List Row) → Unparked l rows (moved is_parked (all_with (Waiting l)) rows)
+unparked l rows =
+    let to = all_with (Waiting l) in
+    let off : (f : Fate) → is_parked f ≡ true → is_on l f ≡ false = parked_not_on l in
+    let w = moved_joined is_parked (is_waiting l) to rows (λ x. itself l) (λ f e. not_on_waiting l f (off f e)) in
+    let h = moved_same is_parked (is_held l) to rows (λ x. refl) (λ f e. not_on_held l f (off f e)) in
+    record {
+      kept = moved_kept is_parked to rows (λ x. refl) parked_not_acked;
+      parked_none = moved_gone is_parked is_parked to rows (λ x. refl) (λ f e. e);
+      unack_same = moved_same is_parked (is_unacked l) to rows (λ x. refl) (λ f e. not_on_unacked l f (off f e));
+      wait_is = w;
+      wait_numbers = ap numbers w ∙ numbers_joined to (wait l rows) (parked rows);
+      held_same = h;
+      on_is = moved_joined is_parked (is_on l) to rows (λ x. itself l) off;
+      order_kept = order_moved l is_parked to rows (λ x. refl);
+      last_kept = λ e. last_none l (moved is_parked to rows) (h ∙ e);
+      others = λ n d. moved_untouched n is_parked rows (parked_not_on n) to (λ x. d);
+    }
+
+-- the octets of the acknowledged messages and of those that are left
+pub octets_split : (n : ℕ) (xs : List Row) → octets_in (take n xs) + octets_in (drop n xs) ≡ octets_in xs
+octets_split zero xs = omega arith
+octets_split (suc n) [] = refl
+octets_split (suc n) (x ∷ xs) = omega (arith, octets_split n xs)

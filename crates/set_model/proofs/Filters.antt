@@ -1,0 +1,79 @@
+-- Filters of rows, and of rows with other fates.
+use Rattle.std.proofs.Common.{refl, arith, ◌≡◌, ◌∙◌, ap, sym, [], ◌∷◌, length, ◌+◌, Bool, true, false, not, List, ◌++◌, map}
+use Rattle.std.specs.Prelude.{filter}
+use Rattle.std.proofs.lemmas.List.Filters.{length-filter_both}
+use Rattle.set_events.specs.declared.answer.Fate.{Fate}
+use Rattle.set_model.specs.Rows.{Row, standing, with_fate, fated, AreFit}
+
+-- One filter after another.
+pub filter_comm : (p q : Row → Bool) (xs : List Row) → filter p (filter q xs) ≡ filter q (filter p xs)
+filter_comm p q [] = refl
+filter_comm p q (x ∷ xs) = go (p x) (q x) refl refl (filter_comm p q xs)
+  where
+    go : (a b : Bool) → p x ≡ a → q x ≡ b → filter p (filter q xs) ≡ filter q (filter p xs) → filter p (filter q (x ∷ xs)) ≡ filter q (filter p (x ∷ xs))
+    go true true h k e = rw (k, h, k) (ap (λ (ys : List Row). x ∷ ys) e)
+    go true false h k e = rw (k, h, k) e
+    go false true h k e = rw (k, h) e
+    go false false h k e = rw (k, h) e
+
+-- what the first test keeps passes the second
+pub filter_within : (p q : Row → Bool) → ((x : Row) → p x ≡ true → q x ≡ true) → (xs : List Row) → filter p (filter q xs) ≡ filter p xs
+filter_within p q w [] = refl
+filter_within p q w (x ∷ xs) = go (p x) (q x) refl refl (filter_within p q w xs)
+  where
+    go : (a b : Bool) → p x ≡ a → q x ≡ b → filter p (filter q xs) ≡ filter p xs → filter p (filter q (x ∷ xs)) ≡ filter p (x ∷ xs)
+    go true true h k e = rw (k, h) (ap (λ (ys : List Row). x ∷ ys) e)
+    go true false h k e = let no : true ≡ false = sym (w x h) ∙ k in absurd cc
+    go false true h k e = rw (k, h) e
+    go false false h k e = rw (k, h) e
+
+-- nothing passes both
+pub filter_apart : (p q : Row → Bool) → ((x : Row) → p x ≡ true → q x ≡ false) → (xs : List Row) → filter p (filter q xs) ≡ []
+filter_apart p q w [] = refl
+filter_apart p q w (x ∷ xs) = go (p x) (q x) refl refl (filter_apart p q w xs)
+  where
+    go : (a b : Bool) → p x ≡ a → q x ≡ b → filter p (filter q xs) ≡ [] → filter p (filter q (x ∷ xs)) ≡ []
+    go true true h k e = let no : true ≡ false = sym k ∙ w x h in absurd cc
+    go true false h k e = rw k e
+    go false true h k e = rw (k, h) e
+    go false false h k e = rw k e
+
+-- Rows that all got their fates.
+pub filter_fated : (p : Row → Bool) (fate : Row → Fate) → ((x : Row) → p (fated fate x) ≡ p x) → (xs : List Row) → filter p (map (fated fate) xs) ≡ map (fated fate) (filter p xs)
+filter_fated p fate same [] = refl
+filter_fated p fate same (x ∷ xs) = go (p x) refl (filter_fated p fate same xs)
+  where
+    go : (b : Bool) → p x ≡ b → filter p (map (fated fate) xs) ≡ map (fated fate) (filter p xs) → filter p (map (fated fate) (x ∷ xs)) ≡ map (fated fate) (filter p (x ∷ xs))
+    go true h e = rw (same x, h) (ap (λ (ys : List Row). fated fate x ∷ ys) e)
+    go false h e = rw (same x, h) e
+
+pub fated_all : (test : Fate → Bool) (fate : Row → Fate) → ((x : Row) → test (fate x) ≡ true) → (xs : List Row) → standing test (map (fated fate) xs) ≡ map (fated fate) xs
+fated_all test fate h [] = refl
+fated_all test fate h (x ∷ xs) = rw (h x) (ap (λ (ys : List Row). fated fate x ∷ ys) (fated_all test fate h xs))
+
+pub fated_none : (test : Fate → Bool) (fate : Row → Fate) → ((x : Row) → test (fate x) ≡ false) → (xs : List Row) → standing test (map (fated fate) xs) ≡ []
+fated_none test fate h [] = refl
+fated_none test fate h (x ∷ xs) = rw (h x) (fated_none test fate h xs)
+
+-- each row passes the test or its negation
+pub both_lengths : (test : Fate → Bool) (xs : List Row) → length (standing (λ f. not (test f)) xs) + length (standing test xs) ≡ length xs
+both_lengths test xs =
+    let e = length-filter_both (λ (row : Row). test row.fate) (λ (row : Row). not (test row.fate)) (λ row. refl) xs in
+    omega (arith, e)
+
+-- Bodies.
+pub fit_append : (xs ys : List Row) → AreFit xs → AreFit ys → AreFit (xs ++ ys)
+fit_append [] ys a b = b
+fit_append (x ∷ xs) ys a b = (a.0, fit_append xs ys a.1 b)
+
+pub fit_filter : (p : Row → Bool) (xs : List Row) → AreFit xs → AreFit (filter p xs)
+fit_filter p [] a = a
+fit_filter p (x ∷ xs) a = go (p x) refl (fit_filter p xs a.1)
+  where
+    go : (b : Bool) → p x ≡ b → AreFit (filter p xs) → AreFit (filter p (x ∷ xs))
+    go true h e = rw h (a.0, e)
+    go false h e = rw h e
+
+pub fit_fated : (fate : Row → Fate) (xs : List Row) → AreFit xs → AreFit (map (fated fate) xs)
+fit_fated fate [] a = a
+fit_fated fate (x ∷ xs) a = (a.0, fit_fated fate xs a.1)

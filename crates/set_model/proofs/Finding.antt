@@ -1,0 +1,80 @@
+-- Rows that are looked up, where each number stands in one row.
+use Rattle.std.proofs.Common.{refl, arith, ◌≡◌, ◌∙◌, ap, sym, ◌<◌, ◌≤◌, [], ◌∷◌, length, ℕ, ◌+◌, ◌⊎◌, inl, inr, Bool, true, false, nat_lt, ◌==◌, List, Some, None, cond}
+use Rattle.std.specs.Prelude.{slice_get, filter, find}
+use Rattle.std.proofs.lemmas.Bool.{lt-ltb, le-ltb, eq-eqb, ne_eqb, cases_order}
+use Rattle.std.proofs.lemmas.List.{length-append, length_push}
+use Rattle.std.proofs.lemmas.List.Elements.{filter-append}
+use Rattle.set_events.specs.declared.answer.Fate.{Fate}
+use Rattle.set_model.proofs.Filters.{fit_append}
+use Rattle.set_model.specs.Rows.{Row, standing, appended, row_of, IsNumbered, AreFit}
+
+-- the rows of a number
+abbrev pub with_number : ℕ → List Row → List Row
+with_number number rows = filter (λ row. row.number == number) rows
+
+-- the first row that stands where the test tells
+pub first_is : (test : Fate → Bool) (rows : List Row) → slice_get (standing test rows) 0 ≡ find (λ row. test row.fate) rows
+first_is test [] = refl
+first_is test (x ∷ rows) = go (test x.fate) refl (first_is test rows)
+  where
+    go : (b : Bool) → test x.fate ≡ b → slice_get (standing test rows) 0 ≡ find (λ row. test row.fate) rows → slice_get (standing test (x ∷ rows)) 0 ≡ find (λ row. test row.fate) (x ∷ rows)
+    go true h e = rw h refl
+    go false h e = rw h e
+
+-- a number below the length is found
+pub not_found : (number : ℕ) (rows : List Row) → row_of number rows ≡ None → with_number number rows ≡ []
+not_found number [] e = refl
+not_found number (x ∷ rows) e = go (x.number == number) refl (not_found number rows)
+  where
+    go : (b : Bool) → (x.number == number) ≡ b → (row_of number rows ≡ None → with_number number rows ≡ []) → with_number number (x ∷ rows) ≡ []
+    go true h later = let f : Some x ≡ None = rw h at e in absurd cc
+    go false h later = rw h (later (rw h at e))
+
+pub is_found : (number : ℕ) (rows : List Row) → IsNumbered rows → number < length rows → row_of number rows ≡ None → ⊥
+is_found number rows numbered below e =
+    let one : length (with_number number rows) ≡ 1 = rw (lt-ltb number (length rows) below) at (numbered number) in
+    let none : length (with_number number rows) ≡ 0 = ap length (not_found number rows e) in
+    omega (arith, one, none)
+
+-- A new row has the next number.
+abbrev pub new_row : ℕ → List ℕ → Fate → Row
+new_row number body fate = record { number = number; body = body; fate = fate }
+
+one_if : Bool → ℕ
+one_if true = 1
+one_if false = 0
+
+one_row : (number : ℕ) (x : Row) (b : Bool) → (x.number == number) ≡ b → length (with_number number (x ∷ [])) ≡ one_if b
+unfolding one_if
+one_row number x true h = rw h refl
+one_row number x false h = rw h refl
+
+pub numbered_appended : (rows : List Row) (body : List ℕ) (fate : Fate) → IsNumbered rows → IsNumbered (appended rows body fate)
+unfolding one_if
+numbered_appended rows body fate numbered number =
+    let x : Row = new_row (length rows) body fate in
+    ap length (filter-append (λ (row : Row). row.number == number) rows (x ∷ [])) ∙ length-append (with_number number rows) (with_number number (x ∷ [])) ∙ go x (cases_order number (length rows))
+  where
+    go : (x : Row) → (number ≡ length rows) ⊎ ((number < length rows) ⊎ (length rows < number)) → length (with_number number rows) + length (with_number number (new_row (length rows) body fate ∷ [])) ≡ cond (nat_lt number (length (appended rows body fate))) 1 0
+    go x (inl e) =
+        let none : length (with_number number rows) ≡ 0 = numbered number ∙ ap (λ b. cond b 1 0) (le-ltb number (length rows) (omega (arith, e))) in
+        let some : length (with_number number (new_row (length rows) body fate ∷ [])) ≡ 1 = one_row number (new_row (length rows) body fate) true (eq-eqb (length rows) number (sym e)) in
+        let below : nat_lt number (length (appended rows body fate)) ≡ true = lt-ltb number (length (appended rows body fate)) (omega (arith, e, length_push rows (new_row (length rows) body fate))) in
+        rw below (omega (arith, none, some))
+    go x (inr (inl l)) =
+        let one : length (with_number number rows) ≡ 1 = numbered number ∙ ap (λ b. cond b 1 0) (lt-ltb number (length rows) l) in
+        let none : length (with_number number (new_row (length rows) body fate ∷ [])) ≡ 0 = one_row number (new_row (length rows) body fate) false (ne_eqb (length rows) number (λ e. omega (arith, e, l))) in
+        let below : nat_lt number (length (appended rows body fate)) ≡ true = lt-ltb number (length (appended rows body fate)) (omega (arith, l, length_push rows (new_row (length rows) body fate))) in
+        rw below (omega (arith, one, none))
+    go x (inr (inr l)) =
+        let zeroth : length (with_number number rows) ≡ 0 = numbered number ∙ ap (λ b. cond b 1 0) (le-ltb number (length rows) (omega (arith, l))) in
+        let none : length (with_number number (new_row (length rows) body fate ∷ [])) ≡ 0 = one_row number (new_row (length rows) body fate) false (ne_eqb (length rows) number (λ e. omega (arith, e, l))) in
+        let above : nat_lt number (length (appended rows body fate)) ≡ false = le-ltb number (length (appended rows body fate)) (omega (arith, l, length_push rows (new_row (length rows) body fate))) in
+        rw above (omega (arith, zeroth, none))
+
+pub fit_appended : (rows : List Row) (body : List ℕ) (fate : Fate) → AreFit rows → length body ≤ 273 → AreFit (appended rows body fate)
+fit_appended rows body fate a f = fit_append rows (new_row (length rows) body fate ∷ []) a (f, tt)
+
+-- rows of the same numbers
+pub same_numbers : (rows new : List Row) → length new ≡ length rows → ((number : ℕ) → length (with_number number new) ≡ length (with_number number rows)) → IsNumbered rows → IsNumbered new
+same_numbers rows new long each numbered number = each number ∙ numbered number ∙ ap (λ (n : ℕ). cond (nat_lt number n) 1 0) (sym long)

@@ -1,0 +1,189 @@
+-- What a step brings: each accepted message stands in one place more, and what is acknowledged stays so.
+use Rattle.std.proofs.Common.{refl, arith, ◌≡◌, ◌∙◌, ap, sym, ◌≤◌, length, ℕ, ◌+◌, ◌%◌, ◌==◌, nat_lt, nat_le, Bool, true, false, List, [], ◌∷◌, slice_get, Option, Some, None, if◌then◌else◌, cond}
+use Rattle.std.proofs.lemmas.Bool.Decides.{nat_tests}
+use Rattle.l2_units.specs.declared.unit.Unit.{Unit as SignalUnit}
+use Rattle.l2_units.specs.declared.unit.Unit.TheVariants.{Fisu, Lssu, Msu}
+use Rattle.l3_orders.specs.declared.order.Order.{Order}
+use Rattle.l3_orders.specs.Grammar.{text}
+use Rattle.set_events.specs.declared.answer.Answer.{Answer}
+use Rattle.set_events.specs.declared.answer.Fate.{Fate}
+use Rattle.set_events.specs.declared.answer.Refusal.{Refusal as SetRefusal}
+use Rattle.set_events.specs.declared.answer.Refusal.TheVariants.{TooShort, TooLong, Reserved, StreamFull, NotUp}
+use Rattle.set_events.specs.declared.event.Event.{Event}
+use Rattle.set_events.specs.declared.event.Event.TheVariants.{Offer, Take, Find, Next, Heard, Up as UpEvent, Down as DownEvent, DownBlind, NoAnswer}
+use Rattle.set_model.specs.declared.phase.Phase.{Phase}
+use Rattle.set_model.specs.declared.phase.Phase.TheVariants.{Up, Down, Settled}
+use Rattle.set_model.specs.Rows.{Row, is_on, was_acked, moved, all_with, service_indicator, counts_of, total_of, place, unsent, stream_of}
+use Rattle.set_model.specs.State.{LinkState, State, has_phase_up, target}
+use Rattle.set_model.specs.Control.{Choice, again, first, fill}
+use Rattle.set_model.specs.Changeover.{fate_on, queue}
+use Rattle.set_model.specs.Step.{Outcome, refused, offer_refusal, offered, taken, found, with_known, in_service, next, rows_sent, heard, rises, falls, gives_up, step, messages_in, octets_of, Gains}
+use Rattle.set_model.specs.Tidy.{IsManaged}
+use Rattle.set_model.proofs.Counting.{total_appended, acked_appended, total_moved, acked_moved}
+use Rattle.set_model.proofs.Events.{Kept, sent, acknowledged, sent_given_up, waiting_given_up, unparked}
+use Rattle.set_model.proofs.Places.{on_not_acked}
+use Rattle.set_model.proofs.Walk.{KeptBy, WalkedBy, step_walks}
+
+-- rows that are changed, but for new messages of users
+pub record Counted (rows new : List Row) : Type 0 where
+  pub total : total_of (counts_of new) ≡ total_of (counts_of rows)
+  pub acked : (counts_of rows).acked ≤ (counts_of new).acked
+
+counted_self : (rows : List Row) → Counted rows rows
+counted_self rows = record { total = refl; acked = omega arith }
+
+counted_then : (rows mid new : List Row) → Counted rows mid → Counted mid new → Counted rows new
+counted_then rows mid new a b = let x = a.acked in let y = b.acked in record { total = b.total ∙ a.total; acked = omega (arith, x, y) }
+
+counted_kept : (rows new : List Row) → Kept rows new → Counted rows new
+counted_kept rows new k = record { total = k.total; acked = k.acked }
+
+open_fate : (to : Option ℕ) → was_acked (fate_on to) ≡ false
+open_fate None = refl
+open_fate (Some link) = refl
+
+counted_moved : (n : ℕ) (to : Option ℕ) (rows : List Row) → Counted rows (moved (is_on n) (all_with (fate_on to)) rows)
+counted_moved n to rows =
+    let same = acked_moved (is_on n) (all_with (fate_on to)) rows (λ row. open_fate to) (on_not_acked n) in
+    record { total = total_moved (is_on n) (all_with (fate_on to)) rows; acked = omega (arith, same) }
+
+-- an order is no user's
+counted_queue : (order : Order) (s : State) → IsManaged s.settings → Counted s.rows (queue order s).rows
+counted_queue order s management =
+    let body = text order s.settings.sio s.settings.dpc s.settings.opc in
+    let own : (s.settings.sio % 16 == 0) ≡ true = grind (arith, nat_tests) in
+    let one = total_appended s.rows body (fate_on (target s.links)) ∙ ap (λ (b : Bool). total_of (counts_of s.rows) + cond b 0 1) own in
+    record { total = omega (arith, one); acked = acked_appended s.rows body (fate_on (target s.links)) }
+
+counted_sent : (choice : Choice) (n : ℕ) (rows : List Row) → Counted rows (rows_sent choice n rows)
+counted_sent (again i) n rows = counted_self rows
+counted_sent first n rows = counted_kept _ _ (sent n rows).kept
+counted_sent fill n rows = counted_self rows
+
+-- the settings stay, and so do the counts
+abbrev CountedFrom : State → State → Type 0
+CountedFrom s t = IsManaged s.settings → (t.settings ≡ s.settings) × Counted s.rows t.rows
+
+small : (Known : ℕ → Type 0) → KeptBy Known CountedFrom
+small Known = record {
+  same = λ s m. (refl, counted_self s.rows);
+  after = λ a b c p q m. let x = p m in let y = q (rw x.0 m) in (y.0 ∙ x.0, counted_then a.rows b.rows c.rows x.1 y.1);
+  delivers = λ body s m. (refl, counted_self s.rows);
+  queues = λ order s m. (refl, counted_queue order s m);
+  leaves = λ blind n link s known at m. (refl, counted_self s.rows);
+  acknowledges = λ count n link s known at few m. (refl, counted_kept _ _ (acknowledged n count s.rows).kept);
+  gives_up_sent = λ cause n link s known at m. (refl, counted_kept _ _ (sent_given_up n cause s.rows).kept);
+  gives_up_waiting = λ cause n link s known at m. (refl, counted_kept _ _ (waiting_given_up n cause s.rows).kept);
+  moves_off = λ n link s known at m. (refl, counted_moved n (target s.links) s.rows);
+}
+
+abbrev is_offer : Event → Bool
+is_offer (Offer body) = true
+is_offer _ = false
+
+step_counted : (s : State) (event : Event) → is_offer event ≡ false → CountedFrom s (step s event).state
+step_counted s event other = step_walks s CountedFrom (CountedFrom s) event (record {
+  small = small _;
+  unmoved = λ m. (refl, counted_self s.rows);
+  rests = λ t u p q m. let x = p m in let y = q (rw x.0 m) in (y.0 ∙ x.0, counted_then s.rows t.rows u.rows x.1 y.1);
+  offers = λ body e none. absurd (let no : true ≡ false = sym (ap is_offer e) ∙ other in cc);
+  takes = λ body rest e there m. (refl, counted_self s.rows);
+  sends = λ n link e at m. (refl, counted_sent _ n s.rows);
+  hears = λ n unit link e at m. (refl, counted_kept _ _ (acknowledged n _ s.rows).kept);
+  rises = λ n link e at m. (refl, counted_kept _ _ (unparked n s.rows).kept);
+})
+
+-- only an offer is answered by a message
+abbrev AcceptsNone : Event → Answer → Type 0
+AcceptsNone event answer = (messages_in answer ≡ 0) × (octets_of event answer ≡ 0)
+
+module _ (s : State) (event : Event) where
+  known_none : (n : ℕ) (f : LinkState → Outcome) → ((link : LinkState) → AcceptsNone event (f link).answer) → AcceptsNone event (with_known (slice_get s.links n) s f).answer
+  known_none n f all = go (slice_get s.links n)
+    where
+      go : (o : Option LinkState) → AcceptsNone event (with_known o s f).answer
+      go None = (refl, refl)
+      go (Some link) = all link
+
+  service_none : (n : ℕ) (f : LinkState → Outcome) → ((link : LinkState) → AcceptsNone event (f link).answer) → AcceptsNone event (in_service n s f).answer
+  service_none n f all = known_none n (λ link. if has_phase_up link.phase then f link else refused s NotUp) (λ link. go link (has_phase_up link.phase))
+    where
+      go : (link : LinkState) (b : Bool) → AcceptsNone event (if b then f link else refused s NotUp).answer
+      go link true = all link
+      go link false = (refl, refl)
+
+  take_none : (inbox : List (List ℕ)) → AcceptsNone event (taken inbox s).answer
+  take_none [] = (refl, refl)
+  take_none (body ∷ rest) = (refl, refl)
+
+  find_none : (fate : Option Fate) → AcceptsNone event (found fate s).answer
+  find_none None = (refl, refl)
+  find_none (Some fate) = (refl, refl)
+
+  heard_none : (unit : SignalUnit) (n : ℕ) (link : LinkState) → AcceptsNone event (heard unit n s link).answer
+  heard_none (Fisu head) n link = (refl, refl)
+  heard_none (Lssu head status) n link = (refl, refl)
+  heard_none (Msu head body) n link = (refl, refl)
+
+  rise_none : (n : ℕ) (phase : Phase) → AcceptsNone event (rises n s phase).answer
+  rise_none n Up = (refl, refl)
+  rise_none n Down = (refl, refl)
+  rise_none n Settled = (refl, refl)
+
+  give_none : (n : ℕ) (link : LinkState) (phase : Phase) → AcceptsNone event (gives_up n s link phase).answer
+  give_none n link Up = (refl, refl)
+  give_none n link Down = (refl, refl)
+  give_none n link Settled = (refl, refl)
+
+accepts_none : (s : State) (event : Event) → is_offer event ≡ false → AcceptsNone event (step s event).answer
+accepts_none s (Offer body) e = absurd cc
+accepts_none s Take e = take_none s Take s.inbox
+accepts_none s (Find number) e = find_none s (Find number) (place number s.rows)
+accepts_none s (Next n) e = service_none s (Next n) n (next n s) (λ link. (refl, refl))
+accepts_none s (Heard n unit) e = service_none s (Heard n unit) n (heard unit n s) (λ link. heard_none s (Heard n unit) unit n link)
+accepts_none s (UpEvent n) e = known_none s (UpEvent n) n (λ link. rises n s link.phase) (λ link. rise_none s (UpEvent n) n link.phase)
+accepts_none s (DownEvent n) e = service_none s (DownEvent n) n (falls false n s) (λ link. (refl, refl))
+accepts_none s (DownBlind n) e = service_none s (DownBlind n) n (falls true n s) (λ link. (refl, refl))
+accepts_none s (NoAnswer n) e = known_none s (NoAnswer n) n (λ link. gives_up n s link link.phase) (λ link. give_none s (NoAnswer n) n link link.phase)
+
+-- AN OFFER.
+pub fits_offer : (a b c d : Bool) → (if a then Some TooShort else (if b then Some TooLong else (if c then Some Reserved else (if d then Some StreamFull else None)))) ≡ None → (b ≡ false) × (c ≡ false)
+fits_offer true b c d e = absurd cc
+fits_offer false true c d e = absurd cc
+fits_offer false false true d e = absurd cc
+fits_offer false false false d e = (refl, refl)
+
+-- an offered body that isn't refused has at most 273 octets, and is a user's
+pub offer_fits : (rows : List Row) (body : List ℕ) → offer_refusal rows body ≡ None → (length body ≤ 273) × ((service_indicator body == 0) ≡ false)
+offer_fits rows body e =
+    let fits = fits_offer (nat_lt (length body) 5) (nat_lt 273 (length body)) (service_indicator body == 0) (nat_le 1024 (length (unsent (stream_of body) rows))) e in
+    let long : nat_lt 273 (length body) ≡ false = fits.0 in
+    (grind (arith, nat_tests, long), fits.1)
+
+offer_gains : (s : State) (body : List ℕ) (o : Option SetRefusal) → offer_refusal s.rows body ≡ o → Gains s (Offer body) (offered o s body).answer (offered o s body).state
+offer_gains s body (Some why) e = record { messages = omega arith; acknowledged = omega arith; octets = omega arith }
+offer_gains s body None e =
+    let fits = offer_fits s.rows body e in
+    record {
+      messages = total_appended s.rows body _ ∙ ap (λ (b : Bool). total_of (counts_of s.rows) + cond b 0 1) fits.1;
+      acknowledged = acked_appended s.rows body _;
+      octets = fits.0;
+    }
+
+other_gains : (s : State) (event : Event) → is_offer event ≡ false → IsManaged s.settings → Gains s event (step s event).answer (step s event).state
+other_gains s event other m =
+    let c = step_counted s event other m in
+    let total = c.1.total in
+    let none = accepts_none s event other in
+    record { messages = omega (arith, total, none.0); acknowledged = c.1.acked; octets = omega (arith, none.1) }
+
+pub step_gains : (s : State) (event : Event) → IsManaged s.settings → Gains s event (step s event).answer (step s event).state
+step_gains s (Offer body) m = offer_gains s body (offer_refusal s.rows body) refl
+step_gains s Take m = other_gains s Take refl m
+step_gains s (Find number) m = other_gains s (Find number) refl m
+step_gains s (Next n) m = other_gains s (Next n) refl m
+step_gains s (Heard n unit) m = other_gains s (Heard n unit) refl m
+step_gains s (UpEvent n) m = other_gains s (UpEvent n) refl m
+step_gains s (DownEvent n) m = other_gains s (DownEvent n) refl m
+step_gains s (DownBlind n) m = other_gains s (DownBlind n) refl m
+step_gains s (NoAnswer n) m = other_gains s (NoAnswer n) refl m

@@ -1,0 +1,188 @@
+-- Rows that get another fate in their places: the first n where a test tells, or all.
+use Rattle.std.proofs.Common.{refl, arith, ◌≡◌, ◌∙◌, ap, ◌≤◌, [], ◌∷◌, length, ℕ, zero, suc, ◌+◌, Bool, true, false, not, ◌&&◌, List, drop, Option, Some, cond, ◌==◌}
+use Rattle.std.specs.Prelude.{filter}
+use Rattle.std.specs.Option.{option_map}
+use Rattle.set_events.specs.declared.answer.Fate.{Fate}
+use Rattle.set_model.specs.Rows.{Row, standing, is_users, users, was_acked, is_waiting, is_unacked, is_held, is_on, unack, wait, held, on, turned, changed, numbers, octets_in, with_fate, row_of, body_at, counts_of, AreFit, IsInOrder, IsHeldLast}
+use Rattle.set_model.proofs.Places.{false_true, not_on_waiting, not_on_unacked, not_on_held}
+
+-- What is kept where a row stays, and where one turns, is kept by both changes.
+module _ (test : Fate → Bool) (fate : Fate) (P : List Row → List Row → Type 0) (none : P [] []) (stays : (x : Row) (xs ys : List Row) → P xs ys → P (x ∷ xs) (x ∷ ys)) (turns : (x : Row) (xs ys : List Row) → test x.fate ≡ true → P xs ys → P (x ∷ xs) (with_fate fate x ∷ ys)) where
+  all_stay : (rows : List Row) → P rows rows
+  all_stay [] = none
+  all_stay (x ∷ rows) = stays x rows rows (all_stay rows)
+
+  pub where_turned : (n : ℕ) (rows : List Row) → P rows (turned test fate n rows)
+  where_turned zero rows = all_stay rows
+  where_turned (suc n) [] = none
+  where_turned (suc n) (x ∷ rows) = go (test x.fate) refl (where_turned n rows) (where_turned (suc n) rows)
+    where
+      go : (b : Bool) → test x.fate ≡ b → P rows (turned test fate n rows) → P rows (turned test fate (suc n) rows) → P (x ∷ rows) (turned test fate (suc n) (x ∷ rows))
+      go true h p q = rw h (turns x rows (turned test fate n rows) h p)
+      go false h p q = rw h (stays x rows (turned test fate (suc n) rows) q)
+
+  pub where_changed : (rows : List Row) → P rows (changed test fate rows)
+  where_changed [] = none
+  where_changed (x ∷ rows) = go (test x.fate) refl (where_changed rows)
+    where
+      go : (b : Bool) → test x.fate ≡ b → P rows (changed test fate rows) → P (x ∷ rows) (changed test fate (x ∷ rows))
+      go true h p = rw h (turns x rows (changed test fate rows) h p)
+      go false h p = rw h (stays x rows (changed test fate rows) p)
+
+-- THE MESSAGES.
+pub record InPlace (test : Fate → Bool) (xs ys : List Row) : Type 0 where
+  pub count : length ys ≡ length xs
+  pub fit : AreFit xs → AreFit ys
+  pub as_many : (p : Row → Bool) → ((f : Fate) (x : Row) → p (with_fate f x) ≡ p x) → length (filter p ys) ≡ length (filter p xs)
+  pub bodies : (number : ℕ) → body_at number ys ≡ body_at number xs
+  pub numbers_same : numbers ys ≡ numbers xs
+  pub octets_same : octets_in ys ≡ octets_in xs
+  -- where no acknowledged one turns
+  pub acked : ((f : Fate) → test f ≡ true → was_acked f ≡ false) → length (standing was_acked (users xs)) ≤ length (standing was_acked (users ys))
+
+longer : (b c : Bool) (x y : Row) (xs ys : List Row) → c ≡ b → length ys ≡ length xs → length (cond c (y ∷ ys) ys) ≡ length (cond b (x ∷ xs) xs)
+longer true c x y xs ys e h = rw e (ap suc h)
+longer false c x y xs ys e h = rw e h
+
+same_body : (b c : Bool) (x y : Row) (r s : Option Row) → c ≡ b → y.body ≡ x.body → option_map (λ (w : Row). w.body) s ≡ option_map (λ (w : Row). w.body) r → option_map (λ (w : Row). w.body) (cond c (Some y) s) ≡ option_map (λ (w : Row). w.body) (cond b (Some x) r)
+same_body true c x y r s e f h = rw e (ap Some f)
+same_body false c x y r s e f h = rw e h
+
+-- acknowledged messages of users, where those behind are no fewer
+no_fewer : (u a b : Bool) (x y : Row) (xs ys : List Row) → (a ≡ true → b ≡ true) → is_users x ≡ u → is_users y ≡ u → was_acked x.fate ≡ a → was_acked y.fate ≡ b → length (standing was_acked (users xs)) ≤ length (standing was_acked (users ys)) → length (standing was_acked (users (x ∷ xs))) ≤ length (standing was_acked (users (y ∷ ys)))
+no_fewer false a b x y xs ys w ux uy ax by h = rw (ux, uy) h
+no_fewer true true true x y xs ys w ux uy ax by h = rw (ux, uy, ax, by) (omega (arith, h))
+no_fewer true true false x y xs ys w ux uy ax by h = absurd (let no : false ≡ true = w refl in cc)
+no_fewer true false true x y xs ys w ux uy ax by h = rw (ux, uy, ax, by) (omega (arith, h))
+no_fewer true false false x y xs ys w ux uy ax by h = rw (ux, uy, ax, by) h
+
+module _ (test : Fate → Bool) (fate : Fate) where
+  none_there : InPlace test [] []
+  none_there = record { count = refl; fit = λ a. a; as_many = λ p same. refl; bodies = λ number. refl; numbers_same = refl; octets_same = refl; acked = λ w. omega arith }
+
+  one_there : (x y : Row) (xs ys : List Row) → y ≡ with_fate y.fate x → (((f : Fate) → test f ≡ true → was_acked f ≡ false) → was_acked x.fate ≡ true → was_acked y.fate ≡ true) → InPlace test xs ys → InPlace test (x ∷ xs) (y ∷ ys)
+  one_there x y xs ys is keeps p =
+      let body : y.body ≡ x.body = ap (λ (r : Row). r.body) is in
+      let number : y.number ≡ x.number = ap (λ (r : Row). r.number) is in
+      record {
+        count = ap suc p.count;
+        fit = λ a. (rw body a.0, p.fit a.1);
+        as_many = λ q same. longer (q x) (q y) x y (filter q xs) (filter q ys) (ap q is ∙ same y.fate x) (p.as_many q same);
+        bodies = λ n. same_body (x.number == n) (y.number == n) x y (row_of n xs) (row_of n ys) (ap (λ (m : ℕ). m == n) number) body (p.bodies n);
+        numbers_same = ap (λ (n : ℕ). n ∷ numbers ys) number ∙ ap (λ (ns : List ℕ). x.number ∷ ns) p.numbers_same;
+        octets_same = ap (λ (b : List ℕ). length b + octets_in ys) body ∙ ap (λ (n : ℕ). length x.body + n) p.octets_same;
+        acked = λ w. no_fewer (is_users x) (was_acked x.fate) (was_acked y.fate) x y xs ys (keeps w) refl (ap is_users is) refl refl (p.acked w);
+      }
+
+  stays_there : (x : Row) (xs ys : List Row) → InPlace test xs ys → InPlace test (x ∷ xs) (x ∷ ys)
+  stays_there x xs ys p = one_there x x xs ys refl (λ w e. e) p
+
+  turns_there : (x : Row) (xs ys : List Row) → test x.fate ≡ true → InPlace test xs ys → InPlace test (x ∷ xs) (with_fate fate x ∷ ys)
+  turns_there x xs ys h p = one_there x (with_fate fate x) xs ys refl (λ w e. false_true (was_acked x.fate) (w x.fate h) e) p
+
+  pub turned_there : (n : ℕ) (rows : List Row) → InPlace test rows (turned test fate n rows)
+  turned_there n rows = where_turned test fate (InPlace test) none_there stays_there turns_there n rows
+
+  pub changed_there : (rows : List Row) → InPlace test rows (changed test fate rows)
+  changed_there rows = where_changed test fate (InPlace test) none_there stays_there turns_there rows
+
+-- A PLACE where none turns and none comes.
+module _ (test other : Fate → Bool) (fate : Fate) (o : other fate ≡ false) (w : (f : Fate) → test f ≡ true → other f ≡ false) where
+  abbrev Same : List Row → List Row → Type 0
+  Same xs ys = standing other ys ≡ standing other xs
+
+  stays_out : (x : Row) (xs ys : List Row) → Same xs ys → Same (x ∷ xs) (x ∷ ys)
+  stays_out x xs ys p = ap (λ (zs : List Row). cond (other x.fate) (x ∷ zs) zs) p
+
+  turns_out : (x : Row) (xs ys : List Row) → test x.fate ≡ true → Same xs ys → Same (x ∷ xs) (with_fate fate x ∷ ys)
+  turns_out x xs ys h p = rw (o, w x.fate h) p
+
+  pub turned_same : (n : ℕ) (rows : List Row) → standing other (turned test fate n rows) ≡ standing other rows
+  turned_same n rows = where_turned test fate Same refl stays_out turns_out n rows
+
+  pub changed_same : (rows : List Row) → standing other (changed test fate rows) ≡ standing other rows
+  changed_same rows = where_changed test fate Same refl stays_out turns_out rows
+
+-- A LINK'S ORDER, where none comes to wait or to be held, and none to be unacknowledged.
+module _ (n : ℕ) (test : Fate → Bool) (fate : Fate) (u : is_unacked n fate ≡ false) (v : is_waiting n fate ≡ false) (h : is_held n fate ≡ false) where
+  pub record Ordered (xs ys : List Row) : Type 0 where
+    pub unack_none : unack n xs ≡ [] → unack n ys ≡ []
+    pub wait_none : wait n xs ≡ [] → wait n ys ≡ []
+    pub in_order : IsInOrder n xs → IsInOrder n ys
+    pub held_last : IsHeldLast n xs → IsHeldLast n ys
+
+  none_before : (b : Bool) (x : Row) (xs ys : List Row) → (xs ≡ [] → ys ≡ []) → cond b (x ∷ xs) xs ≡ [] → cond b (x ∷ ys) ys ≡ []
+  none_before true x xs ys f e = absurd cc
+  none_before false x xs ys f e = f e
+
+  none_behind : (b : Bool) (x : Row) (xs : List Row) → cond b (x ∷ xs) xs ≡ [] → xs ≡ []
+  none_behind true x xs e = absurd cc
+  none_behind false x xs e = e
+
+  nothing : Ordered [] []
+  nothing = record { unack_none = λ e. e; wait_none = λ e. e; in_order = λ o. o; held_last = λ o. o }
+
+  stays_in : (x : Row) (xs ys : List Row) → Ordered xs ys → Ordered (x ∷ xs) (x ∷ ys)
+  stays_in x xs ys p = record {
+    unack_none = none_before (is_unacked n x.fate) x (unack n xs) (unack n ys) p.unack_none;
+    wait_none = none_before (is_waiting n x.fate) x (wait n xs) (wait n ys) p.wait_none;
+    in_order = λ o. (λ e. p.unack_none (o.0 e), p.in_order o.1);
+    held_last = λ o. (λ e. (p.unack_none (o.0 e).0, p.wait_none (o.0 e).1), p.held_last o.1);
+  }
+
+  turns_off : (x : Row) (xs ys : List Row) → test x.fate ≡ true → Ordered xs ys → Ordered (x ∷ xs) (with_fate fate x ∷ ys)
+  turns_off x xs ys t p = record {
+    unack_none = λ e. rw u (p.unack_none (none_behind (is_unacked n x.fate) x (unack n xs) e));
+    wait_none = λ e. rw v (p.wait_none (none_behind (is_waiting n x.fate) x (wait n xs) e));
+    in_order = λ o. (λ e. false_true (is_waiting n fate) v e, p.in_order o.1);
+    held_last = λ o. (λ e. false_true (is_held n fate) h e, p.held_last o.1);
+  }
+
+  pub turned_ordered : (k : ℕ) (rows : List Row) → Ordered rows (turned test fate k rows)
+  turned_ordered k rows = where_turned test fate Ordered nothing stays_in turns_off k rows
+
+  pub changed_ordered : (rows : List Row) → Ordered rows (changed test fate rows)
+  changed_ordered rows = where_changed test fate Ordered nothing stays_in turns_off rows
+
+-- those that turned left their place
+pub turned_left : (test : Fate → Bool) (fate : Fate) → test fate ≡ false → (n : ℕ) (rows : List Row) → standing test (turned test fate n rows) ≡ drop n (standing test rows)
+turned_left test fate o zero rows = refl
+turned_left test fate o (suc n) [] = refl
+turned_left test fate o (suc n) (x ∷ rows) = go (test x.fate) refl (turned_left test fate o n rows) (turned_left test fate o (suc n) rows)
+  where
+    go : (b : Bool) → test x.fate ≡ b → standing test (turned test fate n rows) ≡ drop n (standing test rows) → standing test (turned test fate (suc n) rows) ≡ drop (suc n) (standing test rows)
+        → standing test (turned test fate (suc n) (x ∷ rows)) ≡ drop (suc n) (standing test (x ∷ rows))
+    go true h p q = rw (h, o) p
+    go false h p q = rw (h, h) q
+
+-- a place that takes in where they turn and where they come
+pub turned_within : (test other : Fate → Bool) (fate : Fate) → other fate ≡ true → ((f : Fate) → test f ≡ true → other f ≡ true) → (n : ℕ) (rows : List Row) → standing other (turned test fate n rows) ≡ turned test fate n (standing other rows)
+turned_within test other fate o w zero rows = refl
+turned_within test other fate o w (suc n) [] = refl
+turned_within test other fate o w (suc n) (x ∷ rows) = go (test x.fate) (other x.fate) refl refl (turned_within test other fate o w n rows) (turned_within test other fate o w (suc n) rows)
+  where
+    go : (a b : Bool) → test x.fate ≡ a → other x.fate ≡ b → standing other (turned test fate n rows) ≡ turned test fate n (standing other rows) → standing other (turned test fate (suc n) rows) ≡ turned test fate (suc n) (standing other rows)
+        → standing other (turned test fate (suc n) (x ∷ rows)) ≡ turned test fate (suc n) (standing other (x ∷ rows))
+    go true true h k p q = rw (h, o, k, h) (ap (λ (xs : List Row). with_fate fate x ∷ xs) p)
+    go true false h k p q = false_true (other x.fate) k (w x.fate h)
+    go false true h k p q = rw (h, k, h) (ap (λ (xs : List Row). x ∷ xs) q)
+    go false false h k p q = rw (h, k) q
+
+-- nothing turns where no row stands
+pub turned_nothing : (test : Fate → Bool) (fate : Fate) (n : ℕ) (rows : List Row) → standing test rows ≡ [] → turned test fate n rows ≡ rows
+turned_nothing test fate zero rows e = refl
+turned_nothing test fate (suc n) [] e = refl
+turned_nothing test fate (suc n) (x ∷ rows) e = go (test x.fate) refl (turned_nothing test fate (suc n) rows)
+  where
+    go : (b : Bool) → test x.fate ≡ b → (standing test rows ≡ [] → turned test fate (suc n) rows ≡ rows) → turned test fate (suc n) (x ∷ rows) ≡ x ∷ rows
+    go true h p = let no : x ∷ standing test rows ≡ [] = rw h at e in absurd cc
+    go false h p = rw h (ap (λ (xs : List Row). x ∷ xs) (p (rw h at e)))
+
+-- all that changed left their place
+pub changed_left : (test : Fate → Bool) (fate : Fate) → test fate ≡ false → (rows : List Row) → standing test (changed test fate rows) ≡ []
+changed_left test fate o [] = refl
+changed_left test fate o (x ∷ rows) = go (test x.fate) refl (changed_left test fate o rows)
+  where
+    go : (b : Bool) → test x.fate ≡ b → standing test (changed test fate rows) ≡ [] → standing test (changed test fate (x ∷ rows)) ≡ []
+    go true h p = rw (h, o) p
+    go false h p = rw (h, h) p

@@ -1,0 +1,17 @@
+pub mod Counting
+pub mod Events
+pub mod Filters
+pub mod Finding
+pub mod Gaining
+pub mod InPlace
+pub mod Lists
+pub mod Lookups
+pub mod Moving
+pub mod Order
+pub mod Places
+pub mod Ranging
+pub mod Settling
+pub mod Stating
+pub mod Staying
+pub mod Targets
+pub mod Walk

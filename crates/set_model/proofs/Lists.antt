@@ -1,0 +1,90 @@
+-- What a list holds when one place of it is set.
+use Rattle.std.proofs.Common.{refl, arith, ◌≡◌, ◌≢◌, ◌∙◌, ap, sym, ◌<◌, [], ◌∷◌, length, ℕ, zero, suc, List, map, slice_get, slice_set, slice_index_or, Some, ◌⊎◌, inl, inr}
+use Rattle.std.proofs.lemmas.Option.{same_Some, slice_get-get_or}
+
+pub get_set_same : {X : Type 0} (xs : List X) (n : ℕ) (x : X) → n < length xs → slice_get (slice_set xs n x) n ≡ Some x
+get_set_same [] n x few = absurd (omega (arith, few))
+get_set_same (y ∷ xs) zero x few = refl
+get_set_same (y ∷ xs) (suc n) x few = get_set_same xs n x (omega (arith, few))
+
+pub get_set_other : {X : Type 0} (xs : List X) (n m : ℕ) (x : X) → n ≢ m → slice_get (slice_set xs n x) m ≡ slice_get xs m
+get_set_other [] n m x other = refl
+get_set_other (y ∷ xs) zero zero x other = absurd (other refl)
+get_set_other (y ∷ xs) zero (suc m) x other = refl
+get_set_other (y ∷ xs) (suc n) zero x other = refl
+get_set_other (y ∷ xs) (suc n) (suc m) x other = get_set_other xs n m x (λ same. other (ap suc same))
+
+pub map_set : {X Y : Type 0} (f : X → Y) (xs : List X) (n : ℕ) (x : X) → map f (slice_set xs n x) ≡ slice_set (map f xs) n (f x)
+map_set f [] n x = refl
+map_set f (y ∷ xs) zero x = refl
+map_set f (y ∷ xs) (suc n) x = ap (λ rest. f y ∷ rest) (map_set f xs n x)
+
+-- a place that is set to what it holds
+pub set_same : {X : Type 0} (xs : List X) (n : ℕ) (x : X) → slice_get xs n ≡ Some x → slice_set xs n x ≡ xs
+set_same [] n x there = refl
+set_same (y ∷ xs) zero x there = ap (λ z. z ∷ xs) (sym (same_Some y x there))
+set_same (y ∷ xs) (suc n) x there = ap (λ rest. y ∷ rest) (set_same xs n x there)
+
+pub length_set : {X : Type 0} (xs : List X) (n : ℕ) (x : X) → length (slice_set xs n x) ≡ length xs
+length_set [] n x = refl
+length_set (y ∷ xs) zero x = refl
+length_set (y ∷ xs) (suc n) x = ap suc (length_set xs n x)
+
+pub set_twice : {X : Type 0} (xs : List X) (n : ℕ) (x y : X) → slice_set (slice_set xs n x) n y ≡ slice_set xs n y
+set_twice [] n x y = refl
+set_twice (z ∷ xs) zero x y = refl
+set_twice (z ∷ xs) (suc n) x y = ap (λ rest. z ∷ rest) (set_twice xs n x y)
+
+pub set_apart : {X : Type 0} (xs : List X) (n m : ℕ) (x y : X) → n ≢ m → slice_set (slice_set xs n x) m y ≡ slice_set (slice_set xs m y) n x
+set_apart [] n m x y other = refl
+set_apart (z ∷ xs) zero zero x y other = absurd (other refl)
+set_apart (z ∷ xs) zero (suc m) x y other = refl
+set_apart (z ∷ xs) (suc n) zero x y other = refl
+set_apart (z ∷ xs) (suc n) (suc m) x y other = ap (λ rest. z ∷ rest) (set_apart xs n m x y (λ same. other (ap suc same)))
+
+-- where one place is set, each place holds what was set or what it held
+pub at_set : {X : Type 0} (xs : List X) (n m : ℕ) (x y : X) → slice_get (slice_set xs n x) m ≡ Some y → ((m ≡ n) × (y ≡ x)) ⊎ ((m ≢ n) × (slice_get xs m ≡ Some y))
+at_set [] n m x y there = absurd cc
+at_set (z ∷ xs) zero zero x y there = inl (refl, sym (same_Some x y there))
+at_set (z ∷ xs) zero (suc m) x y there = inr ((λ same. absurd (omega (arith, same))), there)
+at_set (z ∷ xs) (suc n) zero x y there = inr ((λ same. absurd (omega (arith, same))), there)
+at_set (z ∷ xs) (suc n) (suc m) x y there = go (at_set xs n m x y there)
+  where
+    go : ((m ≡ n) × (y ≡ x)) ⊎ ((m ≢ n) × (slice_get xs m ≡ Some y)) → ((suc m ≡ suc n) × (y ≡ x)) ⊎ ((suc m ≢ suc n) × (slice_get xs m ≡ Some y))
+    go (inl p) = inl (ap suc p.0, p.1)
+    go (inr p) = inr ((λ same. p.0 (omega (arith, same))), p.1)
+
+-- only what is in the list is found
+pub within : {X : Type 0} (xs : List X) (n : ℕ) (x : X) → slice_get xs n ≡ Some x → n < length xs
+within [] n x there = absurd cc
+within (y ∷ xs) zero x there = omega arith
+within (y ∷ xs) (suc n) x there = let rest = within xs n x there in omega (arith, rest)
+
+-- a place that is set to something of the same image
+pub map_set_same : {X Y : Type 0} (f : X → Y) (xs : List X) (n : ℕ) (x y : X) → slice_get xs n ≡ Some x → f y ≡ f x → map f (slice_set xs n y) ≡ map f xs
+map_set_same f [] n x y there same = refl
+map_set_same f (z ∷ xs) zero x y there same = ap (λ w. w ∷ map f xs) (same ∙ ap f (sym (same_Some z x there)))
+map_set_same f (z ∷ xs) (suc n) x y there same = ap (λ rest. f z ∷ rest) (map_set_same f xs n x y there same)
+
+pub same_at : {X : Type 0} (xs : List X) (n : ℕ) (x y : X) → slice_get xs n ≡ Some x → slice_get xs n ≡ Some y → y ≡ x
+same_at xs n x y a b = same_Some y x (sym b ∙ a)
+
+-- what is read at a place of the list
+pub here : {X : Type 0} (xs : List X) (i n : ℕ) (x : X) → i ≡ n → n < length xs → x ≡ slice_index_or xs i x → slice_get xs n ≡ Some x
+here xs i n x same few is = slice_get-get_or xs n x few ∙ ap Some (ap (λ k. slice_index_or xs k x) (sym same) ∙ sym is)
+
+-- what is found in a list of images is the image of something there
+pub at_map : {X Y : Type 0} (f : X → Y) (xs : List X) (n : ℕ) (y : Y) → slice_get (map f xs) n ≡ Some y → (x : X) × (slice_get xs n ≡ Some x) × (f x ≡ y)
+at_map f [] n y there = absurd cc
+at_map f (x ∷ xs) zero y there = (x, refl, same_Some (f x) y there)
+at_map f (x ∷ xs) (suc n) y there = at_map f xs n y there
+
+pub map_at : {X Y : Type 0} (f : X → Y) (xs : List X) (n : ℕ) (x : X) → slice_get xs n ≡ Some x → slice_get (map f xs) n ≡ Some (f x)
+map_at f [] n x there = absurd cc
+map_at f (y ∷ xs) zero x there = ap (λ z. Some (f z)) (same_Some y x there)
+map_at f (y ∷ xs) (suc n) x there = map_at f xs n x there
+
+pub present : {X : Type 0} (xs : List X) (n : ℕ) → n < length xs → (x : X) × (slice_get xs n ≡ Some x)
+present [] n few = absurd (omega (arith, few))
+present (x ∷ xs) zero few = (x, refl)
+present (x ∷ xs) (suc n) few = present xs n (omega (arith, few))

@@ -1,0 +1,154 @@
+-- What is found under a number, before and after a change.
+use Rattle.std.proofs.Common.{refl, arith, ◌≡◌, ◌∙◌, ap, sym, ◌<◌, ◌≤◌, [], ◌∷◌, length, ℕ, zero, suc, Bool, true, false, nat_lt, ◌==◌, List, Option, Some, None, cond}
+use Rattle.std.specs.Prelude.{slice_get, filter}
+use Rattle.std.specs.Option.{option_map}
+use Rattle.std.proofs.lemmas.Bool.{eq-eqb, ltb-true}
+use Rattle.set_events.specs.declared.answer.Fate.{Fate}
+use Rattle.set_model.specs.Rows.{Row, moved, fated, numbers, row_of, place, body_at, IsNumbered}
+use Rattle.set_model.proofs.Moving.{filter_moved}
+use Rattle.set_model.proofs.Finding.{with_number}
+
+-- the row as such a move leaves it
+abbrev pub moved_row : (Fate → Bool) → (Row → Fate) → Row → Row
+moved_row test fate row = cond (test row.fate) (fated fate row) row
+
+-- a number has one row at most
+pub at_most_one : (number : ℕ) (rows : List Row) → IsNumbered rows → length (with_number number rows) ≤ 1
+at_most_one number rows numbered = go (nat_lt number (length rows)) refl
+  where
+    go : (b : Bool) → nat_lt number (length rows) ≡ b → length (with_number number rows) ≤ 1
+    go true h = let e : length (with_number number rows) ≡ 1 = rw h at (numbered number) in omega (arith, e)
+    go false h = let e : length (with_number number rows) ≡ 0 = rw h at (numbered number) in omega (arith, e)
+
+-- the row of a number is the first of its rows
+pub row_is_first : (number : ℕ) (rows : List Row) → row_of number rows ≡ slice_get (with_number number rows) 0
+row_is_first number [] = refl
+row_is_first number (x ∷ rows) = go (x.number == number) refl (row_is_first number rows)
+  where
+    go : (b : Bool) → (x.number == number) ≡ b → row_of number rows ≡ slice_get (with_number number rows) 0 → row_of number (x ∷ rows) ≡ slice_get (with_number number (x ∷ rows)) 0
+    go true h e = rw h refl
+    go false h e = rw h e
+
+-- A MOVE: the row of a number is the one that it was, with the fate if it moved.
+module _ (test : Fate → Bool) (fate : Row → Fate) where
+  one_moved : (x : Row) → moved test fate (x ∷ []) ≡ moved_row test fate x ∷ []
+  one_moved x = go (test x.fate) refl
+    where
+      go : (b : Bool) → test x.fate ≡ b → moved test fate (x ∷ []) ≡ moved_row test fate x ∷ []
+      go true h = rw h refl
+      go false h = rw h refl
+
+  few_moved : (rows : List Row) → length rows ≤ 1 → slice_get (moved test fate rows) 0 ≡ option_map (moved_row test fate) (slice_get rows 0)
+  few_moved [] l = refl
+  few_moved (x ∷ []) l = ap (λ (ys : List Row). slice_get ys 0) (one_moved x)
+  few_moved (x ∷ y ∷ rows) l = absurd (omega (arith, l))
+
+  row_moved : (number : ℕ) (rows : List Row) → IsNumbered rows → row_of number (moved test fate rows) ≡ option_map (moved_row test fate) (row_of number rows)
+  row_moved number rows numbered =
+      row_is_first number (moved test fate rows)
+      ∙ ap (λ (ys : List Row). slice_get ys 0) (filter_moved test fate (λ (row : Row). row.number == number) (λ x. refl) rows)
+      ∙ few_moved (with_number number rows) (at_most_one number rows numbered)
+      ∙ ap (option_map (moved_row test fate)) (sym (row_is_first number rows))
+
+  same_fate : (b : Bool) (x : Row) → (cond b (fated fate x) x).fate ≡ cond b (fate x) x.fate
+  same_fate true x = refl
+  same_fate false x = refl
+
+  same_body : (b : Bool) (x : Row) → (cond b (fated fate x) x).body ≡ x.body
+  same_body true x = refl
+  same_body false x = refl
+
+  place_then : (row : Option Row) → option_map (λ r. r.fate) (option_map (moved_row test fate) row) ≡ option_map (λ r. cond (test r.fate) (fate r) r.fate) row
+  place_then None = refl
+  place_then (Some x) = ap Some (same_fate (test x.fate) x)
+
+  body_then : (row : Option Row) → option_map (λ r. r.body) (option_map (moved_row test fate) row) ≡ option_map (λ r. r.body) row
+  body_then None = refl
+  body_then (Some x) = ap Some (same_body (test x.fate) x)
+
+  pub place_moved : (number : ℕ) (rows : List Row) → IsNumbered rows → place number (moved test fate rows) ≡ option_map (λ r. cond (test r.fate) (fate r) r.fate) (row_of number rows)
+  place_moved number rows numbered = ap (option_map (λ r. r.fate)) (row_moved number rows numbered) ∙ place_then (row_of number rows)
+
+  pub body_moved : (number : ℕ) (rows : List Row) → IsNumbered rows → body_at number (moved test fate rows) ≡ body_at number rows
+  body_moved number rows numbered = ap (option_map (λ r. r.body)) (row_moved number rows numbered) ∙ body_then (row_of number rows)
+
+-- UNIQUE: a row of a filter is the one that its number finds.
+in_list : (p : Row → Bool) (rows : List Row) (i : ℕ) (row : Row) → slice_get (filter p rows) i ≡ Some row → (j : ℕ) × (slice_get rows j ≡ Some row)
+in_list p [] i row e = absurd cc
+in_list p (x ∷ rows) i row e = go (p x) refl i e (λ k f. in_list p rows k row f)
+  where
+    go : (b : Bool) → p x ≡ b → (i : ℕ) → slice_get (filter p (x ∷ rows)) i ≡ Some row → ((k : ℕ) → slice_get (filter p rows) k ≡ Some row → (j : ℕ) × (slice_get rows j ≡ Some row)) → (j : ℕ) × (slice_get (x ∷ rows) j ≡ Some row)
+    go true h zero e later = let f : Some x ≡ Some row = rw h at e in (0, f)
+    go true h (suc k) e later = let f : slice_get (filter p rows) k ≡ Some row = rw h at e in let g = later k f in (suc g.0, g.1)
+    go false h k e later = let f : slice_get (filter p rows) k ≡ Some row = rw h at e in let g = later k f in (suc g.0, g.1)
+
+found_in : (rows : List Row) (j k : ℕ) (row : Row) → slice_get rows j ≡ Some row → row.number ≡ k → length (with_number k rows) ≤ 1 → with_number k rows ≡ row ∷ []
+found_in [] j k row e n l = absurd cc
+found_in (x ∷ rows) j k row e n l = go (x.number == k) refl j e (λ i f m. found_in rows i k row f n m)
+  where
+    empty : (ys : List Row) → length (x ∷ ys) ≤ 1 → ys ≡ []
+    empty [] m = refl
+    empty (y ∷ ys) m = absurd (omega (arith, m))
+
+    go : (b : Bool) → (x.number == k) ≡ b → (j : ℕ) → slice_get (x ∷ rows) j ≡ Some row → ((i : ℕ) → slice_get rows i ≡ Some row → length (with_number k rows) ≤ 1 → with_number k rows ≡ row ∷ []) → with_number k (x ∷ rows) ≡ row ∷ []
+    go true h zero e later =
+        let same : x ≡ row = cc in
+        let m : length (x ∷ with_number k rows) ≤ 1 = rw h at l in
+        rw (h, empty (with_number k rows) m, same) refl
+    go true h (suc i) e later =
+        let m : length (x ∷ with_number k rows) ≤ 1 = rw h at l in
+        let none = empty (with_number k rows) m in
+        let one = later i e (omega (arith, m)) in
+        let no : row ∷ [] ≡ [] = sym one ∙ none in
+        absurd cc
+    go false h zero e later =
+        let same : x ≡ row = cc in
+        let t : (x.number == k) ≡ true = eq-eqb x.number k (ap (λ (r : Row). r.number) same ∙ n) in
+        let no : true ≡ false = sym t ∙ h in
+        absurd cc
+    go false h (suc i) e later = let m : length (with_number k rows) ≤ 1 = rw h at l in rw h (later i e m)
+
+pub row_in_filter : (p : Row → Bool) (rows : List Row) (i k : ℕ) (row : Row) → IsNumbered rows → slice_get (filter p rows) i ≡ Some row → row.number ≡ k → row_of k rows ≡ Some row
+row_in_filter p rows i k row numbered e n =
+    let there = in_list p rows i row e in
+    row_is_first k rows ∙ ap (λ (ys : List Row). slice_get ys 0) (found_in rows there.0 k row there.1 n (at_most_one k rows numbered))
+
+-- the number of a row in a filter is below the length
+pub number_below : (p : Row → Bool) (rows : List Row) (i : ℕ) (row : Row) → IsNumbered rows → slice_get (filter p rows) i ≡ Some row → row.number < length rows
+number_below p rows i row numbered e =
+    let there = in_list p rows i row e in
+    let one = found_in rows there.0 row.number row there.1 refl (at_most_one row.number rows numbered) in
+    go (nat_lt row.number (length rows)) refl (ap length one)
+  where
+    go : (b : Bool) → nat_lt row.number (length rows) ≡ b → length (with_number row.number rows) ≡ 1 → row.number < length rows
+    go true h l = ltb-true row.number (length rows) h
+    go false h l = let none : length (with_number row.number rows) ≡ 0 = rw h at (numbered row.number) in absurd (omega (arith, none, l))
+
+pub row_at_number : (rows : List Row) (i number : ℕ) → slice_get (numbers rows) i ≡ Some number → (row : Row) × (slice_get rows i ≡ Some row) × (row.number ≡ number)
+row_at_number [] i number e = absurd cc
+row_at_number (x ∷ rows) zero number e = (x, refl, cc)
+row_at_number (x ∷ rows) (suc i) number e = row_at_number rows i number e
+
+-- Whoever keeps the numbers of a filter, as a window does, finds under each of them the row of that place.
+pub record Found (p : Row → Bool) (rows : List Row) (i number : ℕ) : Type 0 where
+  pub row : Row
+  pub there : slice_get (filter p rows) i ≡ Some row
+  pub number_is : row.number ≡ number
+  pub row_is : row_of number rows ≡ Some row
+  pub body_is : body_at number rows ≡ Some row.body
+  pub place_is : place number rows ≡ Some row.fate
+  pub below : number < length rows
+
+pub found_by_number : (p : Row → Bool) (rows : List Row) (i number : ℕ) → IsNumbered rows → slice_get (numbers (filter p rows)) i ≡ Some number → Found p rows i number
+found_by_number p rows i number numbered e =
+    let r = row_at_number (filter p rows) i number e in
+    let found = row_in_filter p rows i number r.0 numbered r.1 r.2 in
+    record {
+      row = r.0;
+      there = r.1;
+      number_is = r.2;
+      row_is = found;
+      body_is = ap (option_map (λ (row : Row). row.body)) found;
+      place_is = ap (option_map (λ (row : Row). row.fate)) found;
+      below = rw r.2 at (number_below p rows i r.0 numbered r.1);
+    }

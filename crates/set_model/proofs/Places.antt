@@ -1,0 +1,93 @@
+-- Fates and links: what stands in one place stands in no other.
+use Rattle.std.proofs.Common.{refl, ◌≡◌, ◌≢◌, ◌∙◌, sym, ℕ, Bool, true, false, ◌==◌}
+use Rattle.std.proofs.lemmas.Bool.{eq-eqb, ne_eqb, eqb-true, eqb-false}
+use Rattle.set_events.specs.declared.answer.Fate.{Fate}
+use Rattle.set_events.specs.declared.answer.Fate.TheVariants.{Waiting, Unacked, Acked, Held, Parked, Discarded}
+use Rattle.set_model.specs.Rows.{is_waiting, is_unacked, is_held, is_on, is_parked, was_acked}
+
+pub false_true : {P : Type 0} (b : Bool) → b ≡ false → b ≡ true → P
+false_true b f t = let no : true ≡ false = sym t ∙ f in absurd cc
+
+-- the other way round
+pub contra : (a b : Bool) → (a ≡ true → b ≡ false) → b ≡ true → a ≡ false
+contra true b h e = false_true b (h refl) e
+contra false b h e = refl
+
+pub apart : (l n : ℕ) → l ≢ n → (l == n) ≡ false
+apart l n d = ne_eqb l n d
+
+pub apart_back : (l n : ℕ) → (l == n) ≡ false → (n == l) ≡ false
+apart_back l n d = ne_eqb n l (λ e. eqb-false l n d (sym e))
+
+pub itself : (l : ℕ) → (l == l) ≡ true
+itself l = eq-eqb l l refl
+
+other_link : (l m n : ℕ) → (l == n) ≡ false → (m == n) ≡ true → (m == l) ≡ false
+other_link l m n d e = let same : m ≡ n = eqb-true m n e in ne_eqb m l (λ f. eqb-false l n d (sym f ∙ same))
+
+-- Kinds of places.
+pub waiting_not_unacked : (l n : ℕ) (f : Fate) → is_waiting n f ≡ true → is_unacked l f ≡ false
+waiting_not_unacked l n (Waiting m) e = refl
+waiting_not_unacked l n _ e = absurd cc
+
+pub unacked_not_waiting : (l n : ℕ) (f : Fate) → is_unacked n f ≡ true → is_waiting l f ≡ false
+unacked_not_waiting l n (Unacked m) e = refl
+unacked_not_waiting l n _ e = absurd cc
+
+pub waiting_not_held : (l n : ℕ) (f : Fate) → is_waiting n f ≡ true → is_held l f ≡ false
+waiting_not_held l n (Waiting m) e = refl
+waiting_not_held l n _ e = absurd cc
+
+pub unacked_not_held : (l n : ℕ) (f : Fate) → is_unacked n f ≡ true → is_held l f ≡ false
+unacked_not_held l n (Unacked m) e = refl
+unacked_not_held l n _ e = absurd cc
+
+pub on_not_parked : (n : ℕ) (f : Fate) → is_on n f ≡ true → is_parked f ≡ false
+on_not_parked n (Waiting m) e = refl
+on_not_parked n (Unacked m) e = refl
+on_not_parked n (Held m) e = refl
+on_not_parked n _ e = absurd cc
+
+pub parked_not_on : (l : ℕ) (f : Fate) → is_parked f ≡ true → is_on l f ≡ false
+parked_not_on l Parked e = refl
+parked_not_on l _ e = absurd cc
+
+pub on_not_acked : (l : ℕ) (f : Fate) → is_on l f ≡ true → was_acked f ≡ false
+on_not_acked l (Acked m) e = absurd cc
+on_not_acked l _ e = refl
+
+pub parked_not_acked : (f : Fate) → is_parked f ≡ true → was_acked f ≡ false
+parked_not_acked Parked e = refl
+parked_not_acked _ e = absurd cc
+
+-- What stands in one of the three places of a link is on it.
+pub waiting_on : (l : ℕ) (f : Fate) → is_waiting l f ≡ true → is_on l f ≡ true
+waiting_on l (Waiting m) e = e
+waiting_on l _ e = absurd cc
+
+pub unacked_on : (l : ℕ) (f : Fate) → is_unacked l f ≡ true → is_on l f ≡ true
+unacked_on l (Unacked m) e = e
+unacked_on l _ e = absurd cc
+
+pub held_on : (l : ℕ) (f : Fate) → is_held l f ≡ true → is_on l f ≡ true
+held_on l (Held m) e = e
+held_on l _ e = absurd cc
+
+-- What is on one link isn't on another.
+pub on_other : (l n : ℕ) → (l == n) ≡ false → (f : Fate) → is_on n f ≡ true → is_on l f ≡ false
+on_other l n d (Waiting m) e = other_link l m n d e
+on_other l n d (Unacked m) e = other_link l m n d e
+on_other l n d (Held m) e = other_link l m n d e
+on_other l n d _ e = absurd cc
+
+pub not_on_waiting : (l : ℕ) (f : Fate) → is_on l f ≡ false → is_waiting l f ≡ false
+not_on_waiting l (Waiting m) e = e
+not_on_waiting l _ e = refl
+
+pub not_on_unacked : (l : ℕ) (f : Fate) → is_on l f ≡ false → is_unacked l f ≡ false
+not_on_unacked l (Unacked m) e = e
+not_on_unacked l _ e = refl
+
+pub not_on_held : (l : ℕ) (f : Fate) → is_on l f ≡ false → is_held l f ≡ false
+not_on_held l (Held m) e = e
+not_on_held l _ e = refl

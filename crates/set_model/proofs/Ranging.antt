@@ -1,0 +1,207 @@
+-- The whole numbers of the links stay in range: an event sends at most one message, and accepts at most one body.
+use Rattle.std.proofs.Common.{refl, arith, ◌≡◌, ◌≢◌, ◌∙◌, ap, ◌≤◌, ℕ, zero, suc, ◌+◌, Bool, true, false, not, ◌&&◌, List, [], ◌∷◌, ◌++◌, length, map, drop, slice_get, slice_set, Option, Some, None, ◌⊎◌, inl, inr, cond}
+use Rattle.std.specs.Prelude.{filter}
+use Rattle.std.proofs.lemmas.List.{append-nil, length-map, length-drop}
+use Rattle.std.proofs.lemmas.List.Elements.{filter-append}
+use Rattle.std.proofs.lemmas.Bool.Decides.{nat_tests}
+use Rattle.l2_basic.specs.Basic as basic
+use Rattle.l2_units.specs.declared.unit.Header.{Header}
+use Rattle.l2_units.specs.Grammar.{head_of as header_in}
+use Rattle.l2_window.specs.Window.{WindowState, distance_to}
+use Rattle.l3_orders.specs.Grammar.{text}
+use Rattle.set_events.specs.declared.answer.Fate.{Fate}
+use Rattle.set_events.specs.declared.answer.Fate.TheVariants.{Waiting, Unacked, Acked, Discarded}
+use Rattle.set_events.specs.declared.event.Event.{Event}
+use Rattle.set_route.specs.declared.place.Place.{Place}
+use Rattle.set_route.specs.declared.place.Place.TheVariants.{On, Nowhere}
+use Rattle.set_route.specs.Routing.{place_of}
+use Rattle.set_model.specs.Rows.{Row, standing, unack, is_unacked, is_waiting, is_parked, is_on, turned, changed, fated, moved, all_with, appended, octets_in, stream_of}
+use Rattle.set_model.specs.State.{LinkState, State, target, is_up, window_of}
+use Rattle.set_model.specs.Control.{Control, Basic, Cyclic, Choice, again, first, fill, choice_of, is_processed, acked_by, part_of}
+use Rattle.set_model.specs.Changeover.{fate_on, left_link, settled_link, acknowledged as acknowledged_link}
+use Rattle.set_model.specs.Step.{rows_sent, one_if, is_msu, fate_at, risen_link, step}
+use Rattle.set_model.specs.Tidy.{AreFewOn, AreFew}
+use Rattle.set_model.proofs.Events.{appended_out}
+use Rattle.set_model.proofs.Filters.{filter_comm, fated_none}
+use Rattle.set_model.proofs.InPlace.{where_turned, where_changed, turned_left}
+use Rattle.set_model.proofs.Lists.{at_set}
+use Rattle.set_model.proofs.Walk.{KeptBy, WalkedBy, step_walks}
+
+fewer_filter : (p : Row → Bool) (rows : List Row) → length (filter p rows) ≤ length rows
+fewer_filter p [] = omega arith
+fewer_filter p (x ∷ rows) = go (p x) refl (fewer_filter p rows)
+  where
+    go : (b : Bool) → p x ≡ b → length (filter p rows) ≤ length rows → length (filter p (x ∷ rows)) ≤ length (x ∷ rows)
+    go true h f = rw h (omega (arith, f))
+    go false h f = rw h (omega (arith, f))
+
+-- no more come than turn
+few_turned : (test other : Fate → Bool) (fate : Fate) (n : ℕ) (rows : List Row) → length (standing other (turned test fate n rows)) ≤ length (standing other rows) + n
+few_turned test other fate zero rows = omega arith
+few_turned test other fate (suc n) [] = omega arith
+few_turned test other fate (suc n) (x ∷ rows) = go (test x.fate) (other x.fate) (other fate) refl refl refl (few_turned test other fate n rows) (few_turned test other fate (suc n) rows)
+  where
+    go : (a b c : Bool) → test x.fate ≡ a → other x.fate ≡ b → other fate ≡ c → length (standing other (turned test fate n rows)) ≤ length (standing other rows) + n → length (standing other (turned test fate (suc n) rows)) ≤ length (standing other rows) + suc n
+        → length (standing other (turned test fate (suc n) (x ∷ rows))) ≤ length (standing other (x ∷ rows)) + suc n
+    go true true true h k o p q = rw (h, k, o) (omega (arith, p))
+    go true true false h k o p q = rw (h, k, o) (omega (arith, p))
+    go true false true h k o p q = rw (h, k, o) (omega (arith, p))
+    go true false false h k o p q = rw (h, k, o) (omega (arith, p))
+    go false true c h k o p q = rw (h, k) (omega (arith, q))
+    go false false c h k o p q = rw (h, k) (omega (arith, q))
+
+-- a move makes no unacknowledged ones
+few_moved : (test : Fate → Bool) (to : Fate) (m : ℕ) (rows : List Row) → is_unacked m to ≡ false → length (unack m (moved test (all_with to) rows)) ≤ length (unack m rows)
+few_moved test to m rows none =
+    let e = filter-append (λ (row : Row). is_unacked m row.fate) (standing (λ f. not (test f)) rows) (map (fated (all_with to)) (standing test rows))
+    ∙ ap (λ (xs : List Row). unack m (standing (λ f. not (test f)) rows) ++ xs) (fated_none (is_unacked m) (all_with to) (λ row. none) (standing test rows))
+    ∙ append-nil (unack m (standing (λ f. not (test f)) rows))
+    ∙ filter_comm (λ (row : Row). is_unacked m row.fate) (λ (row : Row). not (test row.fate)) rows in
+    let few = fewer_filter (λ (row : Row). not (test row.fate)) (unack m rows) in
+    rw e few
+
+-- nor do rows that turn, but for a first sending
+module _ (test : Fate → Bool) (fate : Fate) (m : ℕ) (none : is_unacked m fate ≡ false) where
+  abbrev Fewer : List Row → List Row → Type 0
+  Fewer xs ys = length (unack m ys) ≤ length (unack m xs)
+
+  one_stays : (b : Bool) (x : Row) (xs ys : List Row) → length ys ≤ length xs → length (cond b (x ∷ ys) ys) ≤ length (cond b (x ∷ xs) xs)
+  one_stays true x xs ys p = omega (arith, p)
+  one_stays false x xs ys p = p
+
+  one_turns : (b : Bool) (x : Row) (xs ys : List Row) → length ys ≤ length xs → length ys ≤ length (cond b (x ∷ xs) xs)
+  one_turns true x xs ys p = omega (arith, p)
+  one_turns false x xs ys p = p
+
+  pub fewer_turned : (n : ℕ) (rows : List Row) → length (unack m (turned test fate n rows)) ≤ length (unack m rows)
+  fewer_turned n rows = where_turned test fate Fewer (omega arith) (λ x xs ys p. one_stays (is_unacked m x.fate) x (unack m xs) (unack m ys) p) (λ x xs ys t p. rw none (one_turns (is_unacked m x.fate) x (unack m xs) (unack m ys) p)) n rows
+
+  pub fewer_changed : (rows : List Row) → length (unack m (changed test fate rows)) ≤ length (unack m rows)
+  fewer_changed rows = where_changed test fate Fewer (omega arith) (λ x xs ys p. one_stays (is_unacked m x.fate) x (unack m xs) (unack m ys) p) (λ x xs ys t p. rw none (one_turns (is_unacked m x.fate) x (unack m xs) (unack m ys) p)) rows
+
+pub not_sent : (m : ℕ) (to : Option ℕ) → is_unacked m (fate_on to) ≡ false
+not_sent m None = refl
+not_sent m (Some to) = refl
+
+and_left : (x y : Bool) → (x && y) ≡ true → x ≡ true
+and_left true y e = refl
+and_left false y e = absurd cc
+
+pub part_acked : (control : Control) (w : WindowState) (head : Header) (msu : Bool) → (part_of control w head msu).acked ≡ acked_by control w head
+part_acked (Basic s) w head msu = refl
+part_acked (Cyclic s) w head msu = refl
+
+-- A processed unit acknowledges no more than there are.
+module _ (n : ℕ) (link : LinkState) (rows : List Row) (head : Header) where
+  abbrev window : WindowState
+  window = window_of n link rows
+
+  sent_length : length window.unacked ≡ length (unack n rows)
+  sent_length = length-map (unack n rows) (λ (row : Row). row.number)
+
+  normal : (state : Control) → is_processed state window head ≡ true → distance_to window head.bsn ≤ length window.unacked
+  normal (Basic state) e = let f = and_left (not (basic.has_abnormal_bsn window head)) (not (basic.has_abnormal_fib state window head)) e in grind (arith, nat_tests, f)
+  normal (Cyclic state) e = grind (arith, nat_tests, e)
+
+  pub acked_few : (msu : Bool) → (part_of link.control window head msu).acked ≤ length (unack n rows)
+  acked_few msu = rw (part_acked link.control window head msu) (go (is_processed link.control window head) refl)
+    where
+      go : (b : Bool) → is_processed link.control window head ≡ b → acked_by link.control window head ≤ length (unack n rows)
+      go true e = let d = normal link.control e in rw e (omega (arith, d, sent_length))
+      go false e = rw e (omega arith)
+
+-- A LINK THAT CHANGES, and the others.
+few_set : (k n : ℕ) (link : LinkState) (s : State) (rows : List Row) → AreFewOn k n link rows → ((m : ℕ) → length (unack m rows) ≤ length (unack m s.rows)) → AreFew k s → AreFew k (record s { links = slice_set s.links n link; rows = rows })
+few_set k n link s rows one fewer few m other there = go (at_set s.links n m link other there)
+  where
+    go : ((m ≡ n) × (other ≡ link)) ⊎ ((m ≢ n) × (slice_get s.links m ≡ Some other)) → AreFewOn k m other rows
+    go (inl p) = rw (p.0, p.1) one
+    go (inr p) = let f = few m other p.1 in let sent = f.sent in let less = fewer m in record { sent = omega (arith, sent, less); accepted = f.accepted }
+
+few_rows : (k : ℕ) (s : State) (rows : List Row) → ((m : ℕ) → length (unack m rows) ≤ length (unack m s.rows)) → AreFew k s → AreFew k (record s { rows = rows })
+few_rows k s rows fewer few m link there = let f = few m link there in let sent = f.sent in let less = fewer m in record { sent = omega (arith, sent, less); accepted = f.accepted }
+
+same_appended : (m : ℕ) (rows : List Row) (body : List ℕ) (fate : Fate) → is_unacked m fate ≡ false → length (unack m (appended rows body fate)) ≤ length (unack m rows)
+same_appended m rows body fate none = let same = ap length (appended_out rows body fate (is_unacked m) none) in omega (arith, same)
+
+small : (Known : ℕ → Type 0) → KeptBy Known (λ s t. (k : ℕ) → AreFew k s → AreFew k t)
+small Known = record {
+  same = λ s k few. few;
+  after = λ a b c p q k few. q k (p k few);
+  delivers = λ body s k few. few;
+  queues = λ order s k few. few_rows k s _ (λ m. same_appended m s.rows (text order s.settings.sio s.settings.dpc s.settings.opc) (fate_on (target s.links)) (not_sent m (target s.links))) few;
+  leaves = λ blind n link s known at k few. let f = few n link at.there in few_set k n (left_link blind link) s s.rows (record { sent = f.sent; accepted = f.accepted }) (λ m. omega arith) few;
+  acknowledges = λ count n link s known at fits k few.
+      let f = few n link at.there in
+      let sent = f.sent in
+      let left = length-drop count (unack n s.rows) in
+      let gone = ap length (turned_left (is_unacked n) (Acked n) refl count s.rows) in
+      few_set k n (acknowledged_link count link) s (turned (is_unacked n) (Acked n) count s.rows) (record { sent = omega (arith, sent, left, gone, fits); accepted = f.accepted }) (λ m. fewer_turned (is_unacked n) (Acked n) m refl count s.rows) few;
+  gives_up_sent = λ cause n link s known at k few. few_rows k s _ (λ m. fewer_changed (is_unacked n) (Discarded cause) m refl s.rows) few;
+  gives_up_waiting = λ cause n link s known at k few. few_rows k s _ (λ m. fewer_changed (is_waiting n) (Discarded cause) m refl s.rows) few;
+  moves_off = λ n link s known at k few.
+      let f = few n link at.there in
+      let sent = f.sent in
+      let less = few_moved (is_on n) (fate_on (target s.links)) n s.rows (not_sent n (target s.links)) in
+      few_set k n (settled_link link) s (moved (is_on n) (all_with (fate_on (target s.links))) s.rows) (record { sent = omega (arith, sent, less); accepted = f.accepted }) (λ m. few_moved (is_on n) (fate_on (target s.links)) m s.rows (not_sent m (target s.links))) few;
+}
+
+offered_out : (m : ℕ) (place : Place) (s : State) → is_unacked m (fate_at place s) ≡ false
+offered_out m Nowhere s = refl
+offered_out m (On l) s = go (is_up l s) refl
+  where
+    go : (b : Bool) → is_up l s ≡ b → is_unacked m (fate_at (On l) s) ≡ false
+    go true e = rw e refl
+    go false e = rw e refl
+
+one_low : (b : Bool) → one_if b ≤ 1
+one_low true = omega arith
+one_low false = omega arith
+
+few_sent : (choice : Choice) (m n : ℕ) (rows : List Row) → length (unack m (rows_sent choice n rows)) ≤ length (unack m rows) + 1
+few_sent (again i) m n rows = omega arith
+few_sent first m n rows = few_turned (is_waiting n) (is_unacked m) (Unacked n) 1 rows
+few_sent fill m n rows = omega arith
+
+wider : (k : ℕ) (s : State) → AreFew k s → AreFew (k + 1) s
+wider k s few m link there = let f = few m link there in let a = f.sent in let b = f.accepted in record { sent = omega (arith, a); accepted = omega (arith, b) }
+
+-- a link that changes, where each has one unacknowledged message more at most
+few_more : (k n : ℕ) (link : LinkState) (s : State) (rows : List Row) → AreFewOn (k + 1) n link rows → ((m : ℕ) → length (unack m rows) ≤ length (unack m s.rows) + 1) → AreFew k s → (m : ℕ) (other : LinkState) → slice_get (slice_set s.links n link) m ≡ Some other → AreFewOn (k + 1) m other rows
+few_more k n link s rows one more few m other there = go (at_set s.links n m link other there)
+  where
+    go : ((m ≡ n) × (other ≡ link)) ⊎ ((m ≢ n) × (slice_get s.links m ≡ Some other)) → AreFewOn (k + 1) m other rows
+    go (inl p) = rw (p.0, p.1) one
+    go (inr p) = let f = few m other p.1 in let sent = f.sent in let accepted = f.accepted in let most = more m in record { sent = omega (arith, sent, most); accepted = omega (arith, accepted) }
+
+pub step_few : (s : State) (event : Event) (k : ℕ) → AreFew k s → AreFew (k + 1) (step s event).state
+step_few s event k few = step_walks s (λ t u. (j : ℕ) → AreFew j t → AreFew j u) (AreFew (k + 1)) event (record {
+  small = small _;
+  unmoved = wider k s few;
+  rests = λ t u p q. q (k + 1) p;
+  offers = λ body e none. few_rows (k + 1) s _ (λ m. same_appended m s.rows body _ (offered_out m (place_of (stream_of body) s.routing) s)) (wider k s few);
+  takes = λ body rest e there. wider k s few;
+  sends = λ n link e at.
+      let f = few n link at.there in
+      let sent = f.sent in
+      let accepted = f.accepted in
+      let choice = choice_of (octets_in (unack n s.rows)) link.control (window_of n link s.rows) in
+      let most = few_sent choice n n s.rows in
+      few_more k n _ s (rows_sent choice n s.rows) (record { sent = omega (arith, sent, most); accepted = omega (arith, accepted) }) (λ m. few_sent choice m n s.rows) few;
+  hears = λ n unit link e at.
+      let f = few n link at.there in
+      let sent = f.sent in
+      let accepted = f.accepted in
+      let part = part_of link.control (window_of n link s.rows) (header_in unit) (is_msu unit) in
+      let fits : part.acked ≤ length (unack n s.rows) = acked_few n link s.rows (header_in unit) (is_msu unit) in
+      let left = length-drop part.acked (unack n s.rows) in
+      let gone = ap length (turned_left (is_unacked n) (Acked n) refl part.acked s.rows) in
+      let one = one_low part.accept in
+      few_more k n _ s (turned (is_unacked n) (Acked n) part.acked s.rows) (record { sent = omega (arith, sent, left, gone, fits); accepted = omega (arith, accepted, one) }) (λ m. let less = fewer_turned (is_unacked n) (Acked n) m refl part.acked s.rows in omega (arith, less)) few;
+  rises = λ n link e at.
+      let f = few n link at.there in
+      let sent = f.sent in
+      let same = λ (m : ℕ). few_moved is_parked (Waiting n) m s.rows refl in
+      let mine = same n in
+      few_more k n (risen_link s.settings.method) s (moved is_parked (all_with (Waiting n)) s.rows) (record { sent = omega (arith, sent, mine); accepted = omega arith }) (λ m. let less = same m in omega (arith, less)) few;
+})

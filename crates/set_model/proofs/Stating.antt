@@ -1,0 +1,70 @@
+-- The laws of the list of rows.
+use Rattle.std.proofs.Common.{refl, arith, ◌≡◌, ◌∙◌, ap, sym, ◌<◌, [], ◌∷◌, length, ℕ, ◌-◌, Bool, true, false, not, ◌==◌, List, ◌++◌, Option, Some, None, map}
+use Rattle.std.specs.Option.{option_map}
+use Rattle.std.proofs.lemmas.Bool.{eq-eqb, le-ltb}
+use Rattle.std.proofs.lemmas.List.{drop_at}
+use Rattle.set_events.specs.declared.answer.Fate.{Fate}
+use Rattle.set_model.specs.Rows.{Row, standing, is_on, on, numbers, turned, changed, appended, fated, row_of, IsNumbered}
+use Rattle.set_model.specs.Laws.{SameMessages, MessagesStay, MovesTheLinksRows}
+use Rattle.set_model.proofs.Filters.{both_lengths}
+use Rattle.set_model.proofs.InPlace.{InPlace, turned_there, changed_there}
+use Rattle.set_model.proofs.Moving.{moved_length, moved_numbered}
+use Rattle.set_model.proofs.Finding.{new_row, is_found, numbered_appended, with_number, same_numbers}
+use Rattle.set_model.proofs.Lookups.{body_moved, place_moved}
+use Rattle.set_model.proofs.Events.{numbers_fated}
+
+-- a row that is found stays found when another comes behind it
+found_first : (number : ℕ) (rows more : List Row) (x : Row) → row_of number rows ≡ Some x → row_of number (rows ++ more) ≡ Some x
+found_first number [] more x e = absurd cc
+found_first number (y ∷ rows) more x e = go (y.number == number) refl (found_first number rows more x)
+  where
+    go : (b : Bool) → (y.number == number) ≡ b → (row_of number rows ≡ Some x → row_of number (rows ++ more) ≡ Some x) → row_of number (y ∷ (rows ++ more)) ≡ Some x
+    go true h later = let f : Some y ≡ Some x = rw h at e in rw h f
+    go false h later = let f : row_of number rows ≡ Some x = rw h at e in rw h (later f)
+
+found_after : (number : ℕ) (rows more : List Row) → with_number number rows ≡ [] → row_of number (rows ++ more) ≡ row_of number more
+found_after number [] more e = refl
+found_after number (y ∷ rows) more e = go (y.number == number) refl (found_after number rows more)
+  where
+    go : (b : Bool) → (y.number == number) ≡ b → (with_number number rows ≡ [] → row_of number (rows ++ more) ≡ row_of number more) → row_of number (y ∷ (rows ++ more)) ≡ row_of number more
+    go true h later = let no : y ∷ with_number number rows ≡ [] = rw h at e in absurd cc
+    go false h later = rw h (later (rw h at e))
+
+pub row_stays : (number : ℕ) (rows : List Row) (body : List ℕ) (fate : Fate) → IsNumbered rows → number < length rows → row_of number (appended rows body fate) ≡ row_of number rows
+row_stays number rows body fate numbered below = go (row_of number rows) refl
+  where
+    go : (r : Option Row) → row_of number rows ≡ r → row_of number (appended rows body fate) ≡ row_of number rows
+    go None e = absurd (is_found number rows numbered below e)
+    go (Some x) e = found_first number rows (new_row (length rows) body fate ∷ []) x e ∙ sym e
+
+no_rows : (xs : List Row) → length xs ≡ 0 → xs ≡ []
+no_rows [] e = refl
+no_rows (x ∷ xs) e = absurd (omega (arith, e))
+
+pub row_new : (rows : List Row) (body : List ℕ) (fate : Fate) → IsNumbered rows → row_of (length rows) (appended rows body fate) ≡ Some (new_row (length rows) body fate)
+row_new rows body fate numbered =
+    let none : with_number (length rows) rows ≡ [] = no_rows (with_number (length rows) rows) (rw (le-ltb (length rows) (length rows) (omega arith)) at (numbered (length rows))) in
+    let here : (length rows == length rows) ≡ true = eq-eqb (length rows) (length rows) refl in
+    found_after (length rows) rows (new_row (length rows) body fate ∷ []) none ∙ rw here refl
+
+in_place_stays : (test : Fate → Bool) (rows new : List Row) → IsNumbered rows → InPlace test rows new → SameMessages rows new
+in_place_stays test rows new numbered i = record { count = i.count; bodies = i.bodies; numbered = same_numbers rows new i.count (λ number. i.as_many (λ (row : Row). row.number == number) (λ f x. refl)) numbered }
+
+pub messages_stay : (test : Fate → Bool) (to : Fate) (fate : Row → Fate) (rows : List Row) → IsNumbered rows → MessagesStay test to fate rows
+messages_stay test to fate rows numbered = record {
+  turned_stay = λ n. in_place_stays test rows (turned test to n rows) numbered (turned_there test to n rows);
+  changed_stay = in_place_stays test rows (changed test to rows) numbered (changed_there test to rows);
+  moved_stay = record { count = moved_length test fate rows; bodies = λ number. body_moved test fate number rows numbered; numbered = moved_numbered test fate rows numbered };
+  others_stay = λ body number below. ap (option_map (λ (r : Row). r.body)) (row_stays number rows body to numbered below);
+  new_found = λ body. ap (option_map (λ (r : Row). r.body)) (row_new rows body to numbered);
+  appended_numbered = λ body. numbered_appended rows body to numbered;
+}
+
+pub moves_rows : (link : ℕ) (fate : Row → Fate) (rows : List Row) → IsNumbered rows → MovesTheLinksRows link fate rows
+moves_rows link fate rows numbered =
+    let stay = standing (λ f. not (is_on link f)) rows in
+    let long : length stay ≡ length rows - length (on link rows) = omega (arith, both_lengths (is_on link) rows) in
+    record {
+      last = ap numbers (drop_at stay (map (fated fate) (on link rows)) (length rows - length (on link rows)) long) ∙ numbers_fated fate (on link rows);
+      places = λ number. place_moved (is_on link) fate number rows numbered;
+    }

@@ -1,0 +1,193 @@
+-- THE WALK over the cases of the step, once: what each small change keeps, every event keeps.
+use Rattle.std.proofs.Common.{refl, arith, ◌≡◌, ◌∙◌, ap, sym, ◌≤◌, length, ℕ, ◌==◌, Bool, true, false, List, [], ◌∷◌, ◌++◌, slice_get, Option, Some, None, if◌then◌else◌, ◌⊎◌, inl, inr}
+use Rattle.std.proofs.lemmas.Bool.Decides.{nat_tests}
+use Rattle.l2_units.specs.declared.unit.Unit.{Unit as SignalUnit}
+use Rattle.l2_units.specs.declared.unit.Unit.TheVariants.{Fisu, Lssu, Msu}
+use Rattle.l2_units.specs.Grammar.{head_of as header_in}
+use Rattle.l3_orders.specs.declared.order.Order.{Order}
+use Rattle.l3_orders.specs.declared.order.Order.TheVariants.{Coo, Coa, Cbd, Cba, Eco, Eca}
+use Rattle.l3_orders.specs.Grammar.{order_of, link_of}
+use Rattle.set_events.specs.declared.answer.DiscardCause.{DiscardCause}
+use Rattle.set_events.specs.declared.answer.DiscardCause.TheVariants.{Emergency, Unreasonable, NoAnswer as NoAnswerCame}
+use Rattle.set_events.specs.declared.answer.Fate.{Fate}
+use Rattle.set_events.specs.declared.answer.Fate.TheVariants.{Discarded}
+use Rattle.set_events.specs.declared.answer.Refusal.{Refusal as SetRefusal}
+use Rattle.set_events.specs.declared.answer.Refusal.TheVariants.{NotUp}
+use Rattle.set_events.specs.declared.event.Event.{Event}
+use Rattle.set_events.specs.declared.event.Event.TheVariants.{Offer, Take, Find, Next, Heard, Up as UpEvent, Down as DownEvent, DownBlind, NoAnswer}
+use Rattle.set_model.specs.declared.phase.Phase.{Phase}
+use Rattle.set_model.specs.declared.phase.Phase.TheVariants.{Up, Down, Settled}
+use Rattle.set_model.specs.declared.reached.Reached.{Reached}
+use Rattle.set_model.specs.declared.reached.Reached.TheVariants.{Upto, Unknown, Unanswered}
+use Rattle.set_model.specs.Rows.{Row, unack, is_unacked, is_waiting, changed, place, service_indicator}
+use Rattle.set_model.specs.State.{LinkState, State, has_phase_up, window_of, last_accepted}
+use Rattle.set_model.specs.Control.{part_of}
+use Rattle.set_model.specs.Changeover.{Obeyed, queue, leave, left_link, leaving_order, is_reasonable, reached_by, acknowledge, acknowledged, move_off, settle, reply, changes_over, is_answered, at_link, obeys, obeyed}
+use Rattle.set_model.specs.Step.{Outcome, refused, offer_refusal, offered, taken, found, with_known, in_service, next, is_msu, brought, takes, after_control, controls, heard, rises, gives_up, step}
+use Rattle.set_model.specs.Frame.{BringsAbout, Concerns}
+use Rattle.set_model.proofs.Lists.{within, get_set_same}
+
+-- where a link stands, left or in service
+pub record IsAt (n : ℕ) (link : LinkState) (phase : Phase) (s : State) : Type 0 where
+  pub there : slice_get s.links n ≡ Some link
+  pub phase_is : link.phase ≡ phase
+
+-- a relation of two states that each small change keeps, on links of which something is known
+pub record KeptBy (Known : ℕ → Type 0) (R : State → State → Type 0) : Type 0 where
+  pub same : (s : State) → R s s
+  pub after : (a b c : State) → R a b → R b c → R a c
+  pub delivers : (body : List ℕ) (s : State) → R s (record s { inbox = s.inbox ++ body ∷ [] })
+  pub queues : (order : Order) (s : State) → R s (queue order s)
+  pub leaves : (blind : Bool) (n : ℕ) (link : LinkState) (s : State) → Known n → IsAt n link Up s → R s (leave blind n link s)
+  pub acknowledges : (count n : ℕ) (link : LinkState) (s : State) → Known n → IsAt n link Down s → count ≤ length (unack n s.rows) → R s (acknowledge count n link s)
+  pub gives_up_sent : (cause : DiscardCause) (n : ℕ) (link : LinkState) (s : State) → Known n → IsAt n link Down s → R s (record s { rows = changed (is_unacked n) (Discarded cause) s.rows })
+  pub gives_up_waiting : (cause : DiscardCause) (n : ℕ) (link : LinkState) (s : State) → Known n → IsAt n link Down s → R s (record s { rows = changed (is_waiting n) (Discarded cause) s.rows })
+  pub moves_off : (n : ℕ) (link : LinkState) (s : State) → Known n → IsAt n link Down s → R s (move_off n link s)
+
+module _ (Known : ℕ → Type 0) (R : State → State → Type 0) (k : KeptBy Known R) where
+  -- settling
+  given_up : (cause : DiscardCause) (n : ℕ) (link : LinkState) (s : State) → Known n → IsAt n link Down s → R s (record s { rows = changed (is_waiting n) (Discarded cause) (changed (is_unacked n) (Discarded cause) s.rows) })
+  given_up cause n link s known at =
+      let mid : State = record s { rows = changed (is_unacked n) (Discarded cause) s.rows } in
+      k.after s mid (record mid { rows = changed (is_waiting n) (Discarded cause) mid.rows }) (k.gives_up_sent cause n link s known at) (k.gives_up_waiting cause n link mid known (record { there = at.there; phase_is = at.phase_is }))
+
+  off : (n : ℕ) (link : LinkState) (s mid : State) → Known n → R s mid → IsAt n link Down mid → R s (move_off n link mid)
+  off n link s mid known r at = k.after s mid (move_off n link mid) r (k.moves_off n link mid known at)
+
+  pub settle_walks : (reached : Reached) (n : ℕ) (link : LinkState) (s : State) → Known n → IsAt n link Down s → R s (settle reached n link s)
+  settle_walks Unknown n link s known at = off n link s _ known (k.gives_up_sent Emergency n link s known at) (record { there = at.there; phase_is = at.phase_is })
+  settle_walks Unanswered n link s known at = off n link s _ known (given_up NoAnswerCame n link s known at) (record { there = at.there; phase_is = at.phase_is })
+  settle_walks (Upto fsn) n link s known at = go (is_reasonable fsn n link s.rows) refl
+    where
+      go : (b : Bool) → is_reasonable fsn n link s.rows ≡ b → R s (settle (Upto fsn) n link s)
+      go true e =
+          let count = reached_by fsn n link s.rows in
+          let few : count ≤ length (unack n s.rows) = grind (arith, nat_tests, e) in
+          rw e (off n (acknowledged count link) s (acknowledge count n link s) known (k.acknowledges count n link s known at few) (record { there = get_set_same s.links n (acknowledged count link) (within s.links n link at.there); phase_is = at.phase_is }))
+      go false e = rw e (off n link s _ known (given_up Unreasonable n link s known at) (record { there = at.there; phase_is = at.phase_is }))
+
+  -- orders
+  over_walks : (reached : Reached) (n : ℕ) (link : LinkState) (phase : Phase) (s : State) → Known n → IsAt n link phase s → R s (changes_over reached n link phase s).state
+  over_walks reached n link Up s known at =
+      let left = leave false n link s in
+      let told = queue (Coa n (last_accepted link)) left in
+      k.after s told (settle reached n (left_link false link) told) (k.after s left told (k.leaves false n link s known at) (k.queues (Coa n (last_accepted link)) left))
+      (settle_walks reached n (left_link false link) told known (record { there = get_set_same s.links n (left_link false link) (within s.links n link at.there); phase_is = refl }))
+  over_walks reached n link Down s known at = settle_walks reached n link s known at
+  over_walks reached n link Settled s known at = k.queues (reply n link) s
+
+  answer_walks : (reached : Reached) (n : ℕ) (link : LinkState) (phase : Phase) (s : State) → Known n → IsAt n link phase s → R s (is_answered reached n link phase s).state
+  answer_walks reached n link Up s known at = k.same s
+  answer_walks reached n link Down s known at = settle_walks reached n link s known at
+  answer_walks reached n link Settled s known at = k.same s
+
+  at_walks : (n : ℕ) (s : State) (f : LinkState → Obeyed) → ((link : LinkState) → slice_get s.links n ≡ Some link → R s (f link).state) → (there : Option LinkState) → slice_get s.links n ≡ there → R s (at_link n s f there).state
+  at_walks n s f all None e = k.same s
+  at_walks n s f all (Some link) e = all link e
+
+  pub obeys_walks : (order : Order) (s : State) → ((n : ℕ) → link_of order ≡ n → Known n) → R s (obeys order s).state
+  obeys_walks (Coo n fsn) s known = at_walks n s (λ link. changes_over (Upto fsn) n link link.phase s) (λ link e. over_walks (Upto fsn) n link link.phase s (known n refl) (record { there = e; phase_is = refl })) (slice_get s.links n) refl
+  obeys_walks (Eco n) s known = at_walks n s (λ link. changes_over Unknown n link link.phase s) (λ link e. over_walks Unknown n link link.phase s (known n refl) (record { there = e; phase_is = refl })) (slice_get s.links n) refl
+  obeys_walks (Coa n fsn) s known = at_walks n s (λ link. is_answered (Upto fsn) n link link.phase s) (λ link e. answer_walks (Upto fsn) n link link.phase s (known n refl) (record { there = e; phase_is = refl })) (slice_get s.links n) refl
+  obeys_walks (Eca n) s known = at_walks n s (λ link. is_answered Unknown n link link.phase s) (λ link e. answer_walks Unknown n link link.phase s (known n refl) (record { there = e; phase_is = refl })) (slice_get s.links n) refl
+  obeys_walks (Cbd n code) s known = k.same s
+  obeys_walks (Cba n code) s known = k.same s
+
+  obeyed_walks : (order : Option Order) (s : State) → ((o : Order) → order ≡ Some o → (n : ℕ) → link_of o ≡ n → Known n) → R s (obeyed order s).state
+  obeyed_walks None s known = k.same s
+  obeyed_walks (Some order) s known = obeys_walks order s (known order refl)
+
+  pub takes_walks : (body : Option (List ℕ)) (s : State) → ((b : List ℕ) → body ≡ Some b → (o : Order) → order_of b ≡ Some o → (n : ℕ) → link_of o ≡ n → Known n) → R s (takes body s).state
+  takes_walks None s known = k.same s
+  takes_walks (Some body) s known = go (service_indicator body == 0) refl
+    where
+      go : (b : Bool) → (service_indicator body == 0) ≡ b → R s (takes (Some body) s).state
+      go true e = rw e (obeyed_walks (order_of body) s (known body refl))
+      go false e = rw e (k.delivers body s)
+
+-- what the first small change of an event leads to, and what each one after it keeps
+pub record WalkedBy (s : State) (event : Event) (R : State → State → Type 0) (S : State → Type 0) : Type 0 where
+  pub small : KeptBy (λ n. Concerns event n s) R
+  pub unmoved : S s
+  pub rests : (t u : State) → S t → R t u → S u
+  pub offers : (body : List ℕ) → event ≡ Offer body → offer_refusal s.rows body ≡ None → S (offered None s body).state
+  pub takes : (body : List ℕ) (rest : List (List ℕ)) → event ≡ Take → s.inbox ≡ body ∷ rest → S (record s { inbox = rest })
+  pub sends : (n : ℕ) (link : LinkState) → event ≡ Next n → IsAt n link Up s → S (next n s link).state
+  pub hears : (n : ℕ) (unit : SignalUnit) (link : LinkState) → event ≡ Heard n unit → IsAt n link Up s → S (after_control (part_of link.control (window_of n link s.rows) (header_in unit) (is_msu unit)) (header_in unit) unit n s link)
+  pub rises : (n : ℕ) (link : LinkState) → event ≡ UpEvent n → IsAt n link Settled s → S (rises n s Settled).state
+
+is_up_phase : (phase : Phase) → has_phase_up phase ≡ true → phase ≡ Up
+is_up_phase Up e = refl
+is_up_phase Down e = absurd cc
+is_up_phase Settled e = absurd cc
+
+module _ (s : State) (R : State → State → Type 0) (S : State → Type 0) where
+  on_walks : (n : ℕ) (f : LinkState → Outcome) → S s → ((link : LinkState) → slice_get s.links n ≡ Some link → S (f link).state) → S (with_known (slice_get s.links n) s f).state
+  on_walks n f unmoved all = go (slice_get s.links n) refl
+    where
+      go : (o : Option LinkState) → slice_get s.links n ≡ o → S (with_known o s f).state
+      go None e = unmoved
+      go (Some link) e = all link e
+
+  in_walks : (n : ℕ) (f : LinkState → Outcome) → S s → ((link : LinkState) → IsAt n link Up s → S (f link).state) → S (in_service n s f).state
+  in_walks n f unmoved all = on_walks n (λ link. if has_phase_up link.phase then f link else refused s NotUp) unmoved (λ link there. go link there (has_phase_up link.phase) refl)
+    where
+      go : (link : LinkState) → slice_get s.links n ≡ Some link → (b : Bool) → has_phase_up link.phase ≡ b → S (if b then f link else refused s NotUp).state
+      go link there true e = all link (record { there = there; phase_is = is_up_phase link.phase e })
+      go link there false e = unmoved
+
+  offer_walks : (body : List ℕ) → WalkedBy s (Offer body) R S → (o : Option SetRefusal) → offer_refusal s.rows body ≡ o → S (offered o s body).state
+  offer_walks body w None e = w.offers body refl e
+  offer_walks body w (Some why) e = w.unmoved
+
+  take_walks : WalkedBy s Take R S → (inbox : List (List ℕ)) → s.inbox ≡ inbox → S (taken inbox s).state
+  take_walks w [] e = w.unmoved
+  take_walks w (body ∷ rest) e = w.takes body rest refl e
+
+  find_walks : S s → (fate : Option Fate) → S (found fate s).state
+  find_walks unmoved None = unmoved
+  find_walks unmoved (Some fate) = unmoved
+
+  brought_by : (accept : Bool) (unit : SignalUnit) (b : List ℕ) → brought accept unit ≡ Some b → (o : Order) → order_of b ≡ Some o → (n : ℕ) → link_of o ≡ n → BringsAbout n unit
+  brought_by accept (Fisu head) b e o f n g = absurd cc
+  brought_by accept (Lssu head status) b e o f n g = absurd cc
+  brought_by true (Msu head body) b e o f n g = let same : body.items ≡ b = cc in (o, ap order_of same ∙ f, g)
+  brought_by false (Msu head body) b e o f n g = absurd cc
+
+  hear_walks : (n : ℕ) (unit : SignalUnit) (link : LinkState) → WalkedBy s (Heard n unit) R S → IsAt n link Up s → S (controls unit n s link).state
+  hear_walks n unit link w at =
+      let part = part_of link.control (window_of n link s.rows) (header_in unit) (is_msu unit) in
+      let mid = after_control part (header_in unit) unit n s link in
+      w.rests mid (controls unit n s link).state (w.hears n unit link refl at)
+      (takes_walks (λ m. Concerns (Heard n unit) m s) R w.small (brought part.accept unit) mid (λ b e o f m g. inr (brought_by part.accept unit b e o f m g)))
+
+  heard_walks : (n : ℕ) (unit : SignalUnit) (link : LinkState) → WalkedBy s (Heard n unit) R S → IsAt n link Up s → S (heard unit n s link).state
+  heard_walks n (Fisu head) link w at = hear_walks n (Fisu head) link w at
+  heard_walks n (Lssu head status) link w at = w.unmoved
+  heard_walks n (Msu head body) link w at = hear_walks n (Msu head body) link w at
+
+  rise_walks : (n : ℕ) (link : LinkState) (phase : Phase) → WalkedBy s (UpEvent n) R S → IsAt n link phase s → S (rises n s phase).state
+  rise_walks n link Up w at = w.unmoved
+  rise_walks n link Down w at = w.unmoved
+  rise_walks n link Settled w at = w.rises n link refl at
+
+  give_walks : (n : ℕ) (link : LinkState) (phase : Phase) → WalkedBy s (NoAnswer n) R S → IsAt n link phase s → S (gives_up n s link phase).state
+  give_walks n link Up w at = w.unmoved
+  give_walks n link Settled w at = w.unmoved
+  give_walks n link Down w at = w.rests s (settle Unanswered n link s) w.unmoved (settle_walks (λ m. Concerns (NoAnswer n) m s) R w.small Unanswered n link s refl at)
+
+  fall_walks : (event : Event) (blind : Bool) (n : ℕ) (link : LinkState) → WalkedBy s event R S → Concerns event n s → IsAt n link Up s → S (queue (leaving_order blind n link) (leave blind n link s))
+  fall_walks event blind n link w known at =
+      let left = leave blind n link s in
+      w.rests s (queue (leaving_order blind n link) left) w.unmoved (w.small.after s left (queue (leaving_order blind n link) left) (w.small.leaves blind n link s known at) (w.small.queues (leaving_order blind n link) left))
+
+  pub step_walks : (event : Event) → WalkedBy s event R S → S (step s event).state
+  step_walks (Offer body) w = offer_walks body w (offer_refusal s.rows body) refl
+  step_walks Take w = take_walks w s.inbox refl
+  step_walks (Find number) w = find_walks w.unmoved (place number s.rows)
+  step_walks (Next n) w = in_walks n (next n s) w.unmoved (λ link at. w.sends n link refl at)
+  step_walks (Heard n unit) w = in_walks n (heard unit n s) w.unmoved (λ link at. heard_walks n unit link w at)
+  step_walks (UpEvent n) w = on_walks n (λ link. rises n s link.phase) w.unmoved (λ link there. rise_walks n link link.phase w (record { there = there; phase_is = refl }))
+  step_walks (DownEvent n) w = in_walks n _ w.unmoved (λ link at. fall_walks (DownEvent n) false n link w refl at)
+  step_walks (DownBlind n) w = in_walks n _ w.unmoved (λ link at. fall_walks (DownBlind n) true n link w refl at)
+  step_walks (NoAnswer n) w = on_walks n (λ link. gives_up n s link link.phase) w.unmoved (λ link there. give_walks n link link.phase w (record { there = there; phase_is = refl }))

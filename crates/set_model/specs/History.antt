@@ -1,0 +1,85 @@
+-- A SET WITH ITS HISTORY: what it holds, and all that was ever asked of it and answered.
+use Rattle.std.specs.Prelude.{◌≡◌, ◌<◌, ℕ, zero, suc, Bool, false, ◌==◌, ◌+◌, List, [], ◌∷◌, ◌++◌, if◌then◌else◌}
+use Rattle.set_events.specs.declared.answer.Answer.{Answer}
+use Rattle.set_events.specs.declared.books.Books.{Books}
+use Rattle.set_events.specs.declared.config.SetConfig.{SetConfig}
+use Rattle.set_events.specs.declared.event.Actor.{Actor}
+use Rattle.set_events.specs.declared.event.Actor.TheVariants.{User, Terminal}
+use Rattle.set_events.specs.declared.event.Event.{Event}
+use Rattle.set_events.specs.declared.history.Entry.{Entry}
+use Rattle.set_model.specs.State.{State, new_state}
+use Rattle.set_model.specs.Rows.{counts_of}
+use Rattle.set_model.specs.Step.{step, messages_in, octets_of}
+
+-- what the set held when it was opened, what it holds now, and the entries from the one to the other
+pub record LinkSet : Type 0 where
+  pub opening : State
+  pub state : State
+  pub history : List Entry
+
+-- a set that nothing was asked of
+abbrev pub new_set : SetConfig → LinkSet
+new_set config = record { opening = new_state config; state = new_state config; history = [] }
+
+-- a set answered this event of this actor so: by the step, with the entry put last
+pub record IsStep (old : LinkSet) (who : Actor) (event : Event) (answer : Answer) (new : LinkSet) : Type 0 where
+  pub opening_is : new.opening ≡ old.opening
+  pub answer_is : answer ≡ (step old.state event).answer
+  pub state_is : new.state ≡ (step old.state event).state
+  pub history_is : new.history ≡ old.history ++ record { who = who; event = event; answer = answer } ∷ []
+
+-- who can ask: a user below 64, a terminal below 16
+abbrev pub IsActor : Actor → Type 0
+IsActor (User number) = number < 64
+IsActor (Terminal link) = link < 16
+
+-- LEGAL. From this opening on, each entry is of an actor in range, and its answer is that of the step at the state
+-- after the entries before it.
+abbrev pub IsLegal : State → List Entry → Type 0
+IsLegal s [] = Unit {0}
+IsLegal s (entry ∷ entries) =
+    IsActor entry.who × (entry.answer ≡ (step s entry.event).answer) × IsLegal (step s entry.event).state entries
+
+-- what a set holds after these entries
+abbrev pub after : State → List Entry → State
+after s [] = s
+after s (entry ∷ entries) = after (step s entry.event).state entries
+
+-- THE BOOKS of a history.
+
+-- how many entries such actors made
+abbrev pub calls_of : (Actor → Bool) → List Entry → ℕ
+calls_of is_it [] = 0
+calls_of is_it (entry ∷ entries) = (if is_it entry.who then 1 else 0) + calls_of is_it entries
+
+abbrev pub is_user : ℕ → Actor → Bool
+is_user n (User number) = number == n
+is_user n (Terminal link) = false
+
+abbrev pub is_terminal : ℕ → Actor → Bool
+is_terminal n (User number) = false
+is_terminal n (Terminal link) = link == n
+
+-- how many each of them made, those of the numbers from k on, n of them
+unfoldable pub calls_from : (ℕ → Actor → Bool) → ℕ → ℕ → List Entry → List ℕ
+calls_from is_it k zero history = []
+calls_from is_it k (suc n) history = calls_of (is_it k) history ∷ calls_from is_it (suc k) n history
+
+-- the messages that were accepted, and the octets of their bodies
+abbrev pub messages_of : List Entry → ℕ
+messages_of [] = 0
+messages_of (entry ∷ entries) = messages_in entry.answer + messages_of entries
+
+abbrev pub octets_in_all : List Entry → ℕ
+octets_in_all [] = 0
+octets_in_all (entry ∷ entries) = octets_of entry.event entry.answer + octets_in_all entries
+
+-- what was acknowledged stays so, hence those that were are those that are
+abbrev pub books_of : State → List Entry → Books
+books_of opening history = record {
+  user_calls = calls_from is_user 0 64 history;
+  term_calls = calls_from is_terminal 0 16 history;
+  messages = messages_of history;
+  octets = octets_in_all history;
+  acknowledged = (counts_of (after opening history).rows).acked;
+}

@@ -1,0 +1,9 @@
+pub mod Changeover
+pub mod Control
+pub mod Frame
+pub mod History
+pub mod Laws
+pub mod Rows
+pub mod State
+pub mod Step
+pub mod Tidy

@@ -1,0 +1,197 @@
+-- THE ROWS OF A SET: its messages, each in exactly one place, as one list in the order of queueing. Read this file first.
+use Rattle.std.specs.Prelude.{◌≡◌, ℕ, suc, zero, ◌==◌, ◌+◌, ◌%◌, ◌/◌, ◌≤◌, nat_lt, Bool, true, false, not, ◌&&◌, List, [], ◌∷◌, ◌++◌, length, filter, map, find, Option, slice_index, if◌then◌else◌}
+use Rattle.std.specs.Option.{option_map}
+use Rattle.set_events.specs.declared.answer.Fate.{Fate}
+use Rattle.set_events.specs.declared.answer.Fate.TheVariants.{Waiting, Unacked, Acked, Held, Parked, Discarded}
+use Rattle.set_events.specs.declared.answer.Counts.{Counts}
+
+-- A message: the number under which it was accepted, its octets, and its fate, the one place where it stands.
+pub record Row : Type 0 where
+  pub number : ℕ
+  pub body : List ℕ
+  pub fate : Fate
+
+-- Where a row stands: on one link.
+
+abbrev pub is_waiting : ℕ → Fate → Bool
+is_waiting link (Waiting l) = l == link
+is_waiting link _ = false
+
+abbrev pub is_unacked : ℕ → Fate → Bool
+is_unacked link (Unacked l) = l == link
+is_unacked link _ = false
+
+abbrev pub is_held : ℕ → Fate → Bool
+is_held link (Held l) = l == link
+is_held link _ = false
+
+-- it isn't settled what becomes of it on the link: it waits for it, was sent on it, or is held for it
+abbrev pub is_on : ℕ → Fate → Bool
+is_on link (Waiting l) = l == link
+is_on link (Unacked l) = l == link
+is_on link (Held l) = l == link
+is_on link _ = false
+
+-- On any link, or on none.
+
+abbrev pub waits : Fate → Bool
+waits (Waiting l) = true
+waits _ = false
+
+abbrev pub was_sent : Fate → Bool
+was_sent (Unacked l) = true
+was_sent _ = false
+
+abbrev pub was_acked : Fate → Bool
+was_acked (Acked l) = true
+was_acked _ = false
+
+abbrev pub was_held : Fate → Bool
+was_held (Held l) = true
+was_held _ = false
+
+abbrev pub is_parked : Fate → Bool
+is_parked Parked = true
+is_parked _ = false
+
+abbrev pub was_discarded : Fate → Bool
+was_discarded (Discarded cause) = true
+was_discarded _ = false
+
+-- not sent yet
+abbrev pub is_unsent : Fate → Bool
+is_unsent (Waiting l) = true
+is_unsent (Held l) = true
+is_unsent Parked = true
+is_unsent _ = false
+
+-- The filters. Rows stay in their order.
+
+-- the rows that stand where the test tells
+abbrev pub standing : (Fate → Bool) → List Row → List Row
+standing test rows = filter (λ row. test row.fate) rows
+
+-- sent on the link and not acknowledged; waiting for it; held for it; all three; those that no link can take
+abbrev pub unack : ℕ → List Row → List Row
+unack link rows = standing (is_unacked link) rows
+
+abbrev pub wait : ℕ → List Row → List Row
+wait link rows = standing (is_waiting link) rows
+
+abbrev pub held : ℕ → List Row → List Row
+held link rows = standing (is_held link) rows
+
+abbrev pub on : ℕ → List Row → List Row
+on link rows = standing (is_on link) rows
+
+abbrev pub parked : List Row → List Row
+parked rows = standing is_parked rows
+
+abbrev pub numbers : List Row → List ℕ
+numbers rows = map (λ row. row.number) rows
+
+-- the octets of the bodies of these messages
+abbrev pub octets_in : List Row → ℕ
+octets_in [] = 0
+octets_in (row ∷ rows) = length row.body + octets_in rows
+
+-- the SLS, which is the message's stream: the high four bits of the last octet of the label (Q.704 15.2)
+abbrev pub stream_of : List ℕ → ℕ
+stream_of body = slice_index body 4 / 16
+
+-- the service indicator: the low four bits of the SIO (Q.704 14.2.1)
+abbrev pub service_indicator : List ℕ → ℕ
+service_indicator body = slice_index body 0 % 16
+
+-- a message of the users; the others, of service indicator 0, are the management's orders
+abbrev pub is_users : Row → Bool
+is_users row = not (service_indicator row.body == 0)
+
+abbrev pub users : List Row → List Row
+users rows = filter is_users rows
+
+-- the users' messages of a stream that aren't sent yet
+abbrev pub unsent : ℕ → List Row → List Row
+unsent stream rows = filter (λ row. is_users row && ((stream_of row.body == stream) && is_unsent row.fate)) rows
+
+-- Rows that change.
+
+abbrev pub with_fate : Fate → Row → Row
+with_fate fate row = record { number = row.number; body = row.body; fate = fate }
+
+-- the first n rows that stand where the test tells get the fate, in their places
+abbrev pub turned : (Fate → Bool) → Fate → ℕ → List Row → List Row
+turned test fate zero rows = rows
+turned test fate (suc n) [] = []
+turned test fate (suc n) (row ∷ rows) =
+    if test row.fate then with_fate fate row ∷ turned test fate n rows else row ∷ turned test fate (suc n) rows
+
+-- all of them, in their places
+abbrev pub changed : (Fate → Bool) → Fate → List Row → List Row
+changed test fate rows = map (λ row. if test row.fate then with_fate fate row else row) rows
+
+-- the fate that each row has then, told by the row
+abbrev pub fated : (Row → Fate) → Row → Row
+fated fate row = with_fate (fate row) row
+
+-- they leave their places and stand at the end, in the same order, each with its fate
+abbrev pub moved : (Fate → Bool) → (Row → Fate) → List Row → List Row
+moved test fate rows = standing (λ f. not (test f)) rows ++ map (fated fate) (standing test rows)
+
+-- all of them with one
+abbrev pub all_with : Fate → Row → Fate
+all_with fate row = fate
+
+-- a new message stands at the end; its number is how many there were
+abbrev pub appended : List Row → List ℕ → Fate → List Row
+appended rows body fate = rows ++ record { number = length rows; body = body; fate = fate } ∷ []
+
+-- What the readers tell.
+
+-- the row of this number
+abbrev pub row_of : ℕ → List Row → Option Row
+row_of number rows = find (λ row. row.number == number) rows
+
+-- where the message of this number stands, and its octets
+abbrev pub place : ℕ → List Row → Option Fate
+place number rows = option_map (λ row. row.fate) (row_of number rows)
+
+abbrev pub body_at : ℕ → List Row → Option (List ℕ)
+body_at number rows = option_map (λ row. row.body) (row_of number rows)
+
+-- how many of the users' messages stand in each place
+abbrev pub counts_of : List Row → Counts
+counts_of rows = record {
+  waiting = length (standing waits (users rows));
+  unacked = length (standing was_sent (users rows));
+  acked = length (standing was_acked (users rows));
+  held = length (standing was_held (users rows));
+  parked = length (standing is_parked (users rows));
+  back = 0;
+  discarded = length (standing was_discarded (users rows));
+}
+
+-- the messages of all places together
+abbrev pub total_of : Counts → ℕ
+total_of c = c.waiting + c.unacked + c.acked + c.held + c.parked + c.back + c.discarded
+
+-- What holds of every set's rows.
+
+-- each number below the length stands in exactly one row, and no other number in any
+abbrev pub IsNumbered : List Row → Type 0
+IsNumbered rows = (number : ℕ) → length (filter (λ row. row.number == number) rows) ≡ (if nat_lt number (length rows) then 1 else 0)
+
+-- no body is longer than a unit's
+abbrev pub AreFit : List Row → Type 0
+AreFit [] = Unit {0}
+AreFit (row ∷ rows) = (length row.body ≤ 273) × AreFit rows
+
+-- what callers keep of each link: no message sent on it stands behind one that waits for it
+abbrev pub IsInOrder : ℕ → List Row → Type 0
+IsInOrder link [] = Unit {0}
+IsInOrder link (row ∷ rows) = (is_waiting link row.fate ≡ true → unack link rows ≡ []) × IsInOrder link rows
+
+-- and no message that waits for it, or was sent on it, stands behind one that is held for it
+abbrev pub IsHeldLast : ℕ → List Row → Type 0
+IsHeldLast link [] = Unit {0}
+IsHeldLast link (row ∷ rows) = (is_held link row.fate ≡ true → (unack link rows ≡ []) × (wait link rows ≡ [])) × IsHeldLast link rows

@@ -1,0 +1,126 @@
+-- WHAT A SET OF LINKS HOLDS. Read this file first, after the rows.
+use Rattle.std.specs.Prelude.{◌≡◌, ℕ, Bool, true, false, ◌+◌, ◌*◌, ◌%◌, ◌≤◌, List, [], length, map, Option, None, Some, slice_get, slice_set, replicate}
+use Rattle.l2_window.specs.Window.{WindowState}
+use Rattle.std.specs.Option.{option_map}
+use Rattle.set_events.specs.declared.answer.Counts.{Counts}
+use Rattle.set_events.specs.declared.config.SetConfig.{SetConfig}
+use Rattle.set_events.specs.declared.config.Method.{Method}
+use Rattle.set_model.specs.Rows.{Row, unack, wait, numbers}
+use Rattle.set_route.specs.Routing.{Routing, new_routing}
+use Rattle.set_route.specs.Target.{target_of}
+use Rattle.set_model.specs.declared.numbered.Numbered.{Numbered}
+use Rattle.set_model.specs.declared.phase.Phase.{Phase}
+use Rattle.set_model.specs.declared.phase.Phase.TheVariants.{Up, Down, Settled}
+use Rattle.set_model.specs.Control.{Control, start_of}
+
+-- a link: whether it is in service, left and unanswered, or settled, which it is at first; and of its present life,
+-- or its last one
+pub record LinkState : Type 0 where
+  pub phase : Phase
+  -- that life ended without the FSN last accepted being known: emergency changeover (Q.704 5.6)
+  pub blind : Bool
+  -- how many of its messages were acknowledged, and how many of the far end's bodies were accepted, as whole numbers
+  pub acked : ℕ
+  pub accepted : ℕ
+  -- the error control: indicator bits, cursor or place in the cycle, and the memory of faults
+  pub control : Control
+
+-- what a set is opened with: how many links; how their messages are kept safe; the SIO and the point codes of its orders
+pub record Settings : Type 0 where
+  pub links : ℕ
+  pub method : Method
+  pub sio : ℕ
+  pub dpc : ℕ
+  pub opc : ℕ
+
+abbrev pub settings_of : SetConfig → Settings
+settings_of config = record { links = config.links; method = config.method; sio = config.sio; dpc = config.dpc; opc = config.opc }
+
+-- what the set was opened with; the rows in the order of queueing; the links, by their numbers; where the streams
+-- run; the messages heard for users, oldest first
+pub record State : Type 0 where
+  pub settings : Settings
+  pub rows : List Row
+  pub links : List LinkState
+  pub routing : Routing
+  pub inbox : List (List ℕ)
+
+-- a link that never was up
+abbrev pub new_link : Method → LinkState
+new_link method = record { phase = Settled; blind = false; acked = 0; accepted = 0; control = start_of method }
+
+-- a set that nothing was asked of
+abbrev pub opened_with : Settings → State
+opened_with settings = record {
+  settings = settings;
+  rows = [];
+  links = replicate settings.links (new_link settings.method);
+  routing = new_routing settings.links;
+  inbox = [];
+}
+
+abbrev pub new_state : SetConfig → State
+new_state config = opened_with (settings_of config)
+
+-- how many links a set has
+abbrev pub link_count : State → ℕ
+link_count s = length s.links
+
+-- the link changes, and nothing else does
+abbrev pub with_link : ℕ → LinkState → State → State
+with_link number link s = record s { links = slice_set s.links number link }
+
+abbrev pub has_phase_up : Phase → Bool
+has_phase_up Up = true
+has_phase_up Down = false
+has_phase_up Settled = false
+
+abbrev pub has_phase_settled : Phase → Bool
+has_phase_settled Up = false
+has_phase_settled Down = false
+has_phase_settled Settled = true
+
+abbrev pub link_is_up : Option LinkState → Bool
+link_is_up None = false
+link_is_up (Some link) = has_phase_up link.phase
+
+abbrev pub link_is_settled : Option LinkState → Bool
+link_is_settled None = false
+link_is_settled (Some link) = has_phase_settled link.phase
+
+abbrev pub is_up : ℕ → State → Bool
+is_up number s = link_is_up (slice_get s.links number)
+
+abbrev pub is_settled : ℕ → State → Bool
+is_settled number s = link_is_settled (slice_get s.links number)
+
+-- TARGET: the lowest-numbered link that is up (own)
+abbrev pub target : List LinkState → Option ℕ
+target links = target_of (map (λ link. has_phase_up link.phase) links)
+
+-- The window of a link, as its rows give it: the message at place i of the unacknowledged ones has FSN acked + i
+-- modulo 128 (Q.703 2.2), so the FSN before it, last acknowledged, is acked - 1.
+abbrev pub window_of : ℕ → LinkState → List Row → WindowState
+window_of number link rows = record {
+  last = (link.acked + 127) % 128;
+  unacked = numbers (unack number rows);
+  unsent = numbers (wait number rows);
+  room = 0;
+}
+
+-- the FSN last accepted in the link's present life, or in its last one; 127 if it had none (Q.704 5.4.2)
+abbrev pub last_accepted : LinkState → ℕ
+last_accepted link = (link.accepted + 127) % 128
+
+-- The message at this place of a link's unacknowledged ones: its number, and its FSN (Q.703 2.2).
+abbrev pub unacked_of : Option LinkState → ℕ → ℕ → List Row → Option Numbered
+unacked_of None number place rows = None
+unacked_of (Some link) number place rows =
+    option_map (λ row. record { number = row.number; fsn = (link.acked + place) % 128 }) (slice_get (unack number rows) place)
+
+abbrev pub unacked_in : State → ℕ → ℕ → Option Numbered
+unacked_in s number place = unacked_of (slice_get s.links number) number place s.rows
+
+-- none in any place
+abbrev pub no_counts : Counts
+no_counts = record { waiting = 0; unacked = 0; acked = 0; held = 0; parked = 0; back = 0; discarded = 0 }

@@ -1,0 +1,239 @@
+-- THE STEP OF A SET: what it answers to an event, and what it holds then.
+use Rattle.std.specs.Prelude.{◌≡◌, ◌≤◌, ℕ, Bool, true, false, ◌==◌, ◌+◌, nat_lt, nat_le, List, [], ◌∷◌, ◌++◌, length, slice_get, Option, Some, None, slice_set, if◌then◌else◌}
+use Rattle.l2_units.specs.declared.unit.Header.{Header}
+use Rattle.l2_units.specs.declared.unit.Unit.{Unit as SignalUnit}
+use Rattle.l2_units.specs.declared.unit.Unit.TheVariants.{Fisu, Lssu, Msu}
+use Rattle.l2_units.specs.Grammar.{head_of as header_in}
+use Rattle.l2_window.specs.declared.control.HeardPart.{HeardPart}
+use Rattle.l2_window.specs.declared.control.ControlFault.{ControlFault as FaultFound}
+use Rattle.l2_window.specs.declared.control.ControlFault.TheVariants.{Bsn as BsnFound, Fib as FibFound}
+use Rattle.l3_orders.specs.Grammar.{order_of}
+use Rattle.set_events.specs.declared.answer.ControlFault.{ControlFault}
+use Rattle.set_events.specs.declared.answer.ControlFault.TheVariants.{Bsn, Fib}
+use Rattle.set_events.specs.declared.answer.Fate.{Fate}
+use Rattle.set_events.specs.declared.answer.Fate.TheVariants.{Waiting, Unacked, Acked, Held, Parked}
+use Rattle.set_events.specs.declared.answer.Took.{Took}
+use Rattle.set_events.specs.declared.answer.Took.TheVariants.{Nothing as NothingTaken, Message}
+use Rattle.set_events.specs.declared.answer.Report.{Report}
+use Rattle.set_events.specs.declared.answer.Refusal.{Refusal as SetRefusal}
+use Rattle.set_events.specs.declared.answer.Refusal.TheVariants.{TooShort, TooLong, Reserved, StreamFull, NotUp, NotDown, Unsettled, UnknownNumber, Nothing, NoSuchLink}
+use Rattle.set_events.specs.declared.answer.Answer.{Answer}
+use Rattle.set_events.specs.declared.answer.Answer.TheVariants.{Accepted, Taken, Found, Sent, Heard as HeardBack, Done, Refused}
+use Rattle.set_events.specs.declared.event.Event.{Event}
+use Rattle.set_events.specs.declared.event.Event.TheVariants.{Offer, Take, Find, Next, Heard, Up as UpEvent, Down as DownEvent, DownBlind, NoAnswer}
+use Rattle.set_events.specs.declared.config.Method.{Method}
+use Rattle.set_route.specs.declared.place.Place.{Place}
+use Rattle.set_route.specs.declared.place.Place.TheVariants.{On, Nowhere}
+use Rattle.set_route.specs.Routing.{place_of, accepted, raised}
+use Rattle.set_model.specs.Rows.{Row, all_with, unack, wait, is_unacked, is_waiting, is_parked, octets_in, unsent, stream_of, service_indicator, turned, moved, appended, place, counts_of, total_of}
+use Rattle.set_model.specs.declared.phase.Phase.{Phase}
+use Rattle.set_model.specs.declared.phase.Phase.TheVariants.{Up, Down, Settled}
+use Rattle.set_model.specs.declared.reached.Reached.TheVariants.{Unanswered}
+use Rattle.set_model.specs.State.{LinkState, State, with_link, is_up, has_phase_up, window_of}
+use Rattle.set_model.specs.Control.{Choice, again, first, fill, start_of, choice_of, fsn_of, head_of, control_after, part_of, control_heard}
+use Rattle.set_model.specs.Changeover.{Obeyed, leave, leaving_order, queue, settle, obeyed}
+
+-- what is answered, and what the set holds then
+pub record Outcome : Type 0 where
+  pub answer : Answer
+  pub state : State
+
+-- a refusal changes nothing
+abbrev pub refused : State → SetRefusal → Outcome
+refused s why = record { answer = Refused why; state = s }
+
+-- OFFER. The first refusal that holds, in the order of their numbers.
+abbrev pub offer_refusal : List Row → List ℕ → Option SetRefusal
+offer_refusal rows body =
+    if nat_lt (length body) 5 then Some TooShort
+    else (if nat_lt 273 (length body) then Some TooLong
+    else (if service_indicator body == 0 then Some Reserved
+    else (if nat_le 1024 (length (unsent (stream_of body) rows)) then Some StreamFull
+    else None)))
+
+-- a new message goes where its stream runs: on a link that was left it's held, nowhere it's parked
+abbrev pub fate_at : Place → State → Fate
+fate_at (On link) s = if is_up link s then Waiting link else Held link
+fate_at Nowhere s = Parked
+
+-- a new row stands at the end
+abbrev pub offered : Option SetRefusal → State → List ℕ → Outcome
+offered (Some why) s body = refused s why
+offered None s body = record {
+  answer = Accepted (length s.rows);
+  state = record s {
+    rows = appended s.rows body (fate_at (place_of (stream_of body) s.routing) s);
+    routing = accepted (stream_of body) s.routing;
+  };
+}
+
+-- TAKE. The oldest message of the inbox leaves it.
+abbrev pub taken : List (List ℕ) → State → Outcome
+taken [] s = refused s Nothing
+taken (body ∷ rest) s = record { answer = Taken (record { items = body }); state = record s { inbox = rest } }
+
+-- FIND.
+abbrev pub found : Option Fate → State → Outcome
+found (Some fate) s = record { answer = Found fate; state = s }
+found None s = refused s UnknownNumber
+
+-- An event that names a link is refused 10 before anything else.
+abbrev pub with_known : Option LinkState → State → (LinkState → Outcome) → Outcome
+with_known None s outcome = refused s NoSuchLink
+with_known (Some link) s outcome = outcome link
+
+abbrev pub on_link : ℕ → State → (LinkState → Outcome) → Outcome
+on_link number s outcome = with_known (slice_get s.links number) s outcome
+
+-- one that needs the link in service is refused 5 where it isn't
+abbrev pub in_service : ℕ → State → (LinkState → Outcome) → Outcome
+in_service number s outcome = on_link number s (λ link. if has_phase_up link.phase then outcome link else refused s NotUp)
+
+-- NEXT. The message that is chosen (a chosen place is always one of them).
+abbrev pub chosen : Choice → ℕ → List Row → Option Row
+chosen (again place) number rows = slice_get (unack number rows) place
+chosen first number rows = slice_get (wait number rows) 0
+chosen fill number rows = None
+
+abbrev pub unit_of : Option Row → Header → SignalUnit
+unit_of (Some row) head = Msu head (record { items = row.body })
+unit_of None head = Fisu head
+
+-- a first sending turns the first waiting message into an unacknowledged one
+abbrev pub rows_sent : Choice → ℕ → List Row → List Row
+rows_sent (again place) number rows = rows
+rows_sent first number rows = turned (is_waiting number) (Unacked number) 1 rows
+rows_sent fill number rows = rows
+
+abbrev pub sends : Choice → ℕ → State → LinkState → Outcome
+sends choice number s link =
+    let window = window_of number link s.rows in
+    let octets = octets_in (unack number s.rows) in
+    record {
+      answer = Sent (unit_of (chosen choice number s.rows) (head_of link.control (fsn_of choice window)));
+      state = with_link number (record link { control = control_after choice octets link.control window }) (record s { rows = rows_sent choice number s.rows });
+    }
+
+-- the control chooses by its state, the window, and the octets of the unacknowledged bodies
+abbrev pub next : ℕ → State → LinkState → Outcome
+next number s link = sends (choice_of (octets_in (unack number s.rows)) link.control (window_of number link s.rows)) number s link
+
+-- HEARD.
+abbrev pub is_msu : SignalUnit → Bool
+is_msu (Fisu head) = false
+is_msu (Lssu head status) = false
+is_msu (Msu head body) = true
+
+-- the body that the control accepted, if any
+abbrev pub brought : Bool → SignalUnit → Option (List ℕ)
+brought accept (Fisu head) = None
+brought accept (Lssu head status) = None
+brought accept (Msu head body) = if accept then Some body.items else None
+
+-- where an accepted body goes: a message to the users' inbox; one of the management, of service indicator 0
+-- (Q.704 14.2.1), to the rules of changeover
+abbrev pub takes : Option (List ℕ) → State → Obeyed
+takes None s = record { took = NothingTaken; state = s }
+takes (Some body) s =
+    if service_indicator body == 0
+    then obeyed (order_of body) s
+    else record { took = Message; state = record s { inbox = s.inbox ++ body ∷ [] } }
+
+abbrev pub fault_of : Option FaultFound → Option ControlFault
+fault_of None = None
+fault_of (Some BsnFound) = Some Bsn
+fault_of (Some FibFound) = Some Fib
+
+abbrev pub report_of : HeardPart → Took → Report
+report_of part took = record { acked = part.acked; took = took; asked = part.asked; resend = part.resend; fault = fault_of part.fault }
+
+-- how many bodies a unit brought
+abbrev pub one_if : Bool → ℕ
+one_if true = 1
+one_if false = 0
+
+-- what the control makes of the unit: acknowledged messages are the first ones, and so many
+abbrev pub after_control : HeardPart → Header → SignalUnit → ℕ → State → LinkState → State
+after_control part head unit number s link =
+    with_link number (record link {
+      acked = link.acked + part.acked;
+      accepted = link.accepted + one_if part.accept;
+      control = control_heard link.control (window_of number link s.rows) head (is_msu unit);
+    }) (record s { rows = turned (is_unacked number) (Acked number) part.acked s.rows })
+
+-- then an accepted body goes where it belongs
+abbrev pub hears : HeardPart → Header → SignalUnit → ℕ → State → LinkState → Outcome
+hears part head unit number s link =
+    let after = takes (brought part.accept unit) (after_control part head unit number s link) in
+    record { answer = HeardBack (report_of part after.took); state = after.state }
+
+abbrev pub controls : SignalUnit → ℕ → State → LinkState → Outcome
+controls unit number s link =
+    hears (part_of link.control (window_of number link s.rows) (header_in unit) (is_msu unit)) (header_in unit) unit number s link
+
+-- a link status signal unit is the terminal's own affair, not the error control's: there is nothing to do
+abbrev pub heard : SignalUnit → ℕ → State → LinkState → Outcome
+heard (Fisu head) number s link = controls (Fisu head) number s link
+heard (Lssu head status) number s link = refused s Nothing
+heard (Msu head body) number s link = controls (Msu head body) number s link
+
+-- UP. The error control starts anew; streams move to the link, and what was parked waits for it.
+abbrev pub risen_link : Method → LinkState
+risen_link method = record { phase = Up; blind = false; acked = 0; accepted = 0; control = start_of method }
+
+abbrev pub rises : ℕ → State → Phase → Outcome
+rises number s Up = refused s NotDown
+rises number s Down = refused s Unsettled
+rises number s Settled = record {
+  answer = Done;
+  state = record s {
+    links = slice_set s.links number (risen_link s.settings.method);
+    rows = moved is_parked (all_with (Waiting number)) s.rows;
+    routing = raised number s.routing;
+  };
+}
+
+-- DOWN. The link is left, and an order tells the far end (Q.704 5.3, 5.4.1); blind, it's an emergency (5.6.1).
+abbrev pub falls : Bool → ℕ → State → LinkState → Outcome
+falls blind number s link = record { answer = Done; state = queue (leaving_order blind number link) (leave blind number link s) }
+
+-- NO ANSWER came from the far end (5.7.2): what was sent or waited may have arrived or not, and is discarded (own).
+abbrev pub gives_up : ℕ → State → LinkState → Phase → Outcome
+gives_up number s link Down = record { answer = Done; state = settle Unanswered number link s }
+gives_up number s link Up = refused s Nothing
+gives_up number s link Settled = refused s Nothing
+
+-- THE STEP
+abbrev pub step : State → Event → Outcome
+step s (Offer body) = offered (offer_refusal s.rows body) s body
+step s Take = taken s.inbox s
+step s (Find number) = found (place number s.rows) s
+step s (Next link) = in_service link s (next link s)
+step s (Heard link unit) = in_service link s (heard unit link s)
+step s (UpEvent link) = on_link link s (λ state. rises link s state.phase)
+step s (DownEvent link) = in_service link s (falls false link s)
+step s (DownBlind link) = in_service link s (falls true link s)
+step s (NoAnswer link) = on_link link s (λ state. gives_up link s state state.phase)
+
+-- WHAT A STEP BRINGS to the numbers of a set's books.
+
+-- the messages that this answer accepts
+abbrev pub messages_in : Answer → ℕ
+messages_in (Accepted number) = 1
+messages_in _ = 0
+
+-- the octets of an offered body
+abbrev pub octets_offered : Event → ℕ
+octets_offered (Offer body) = length body
+octets_offered _ = 0
+
+-- the octets of the body that this answer to this event accepts
+abbrev pub octets_of : Event → Answer → ℕ
+octets_of event (Accepted number) = octets_offered event
+octets_of event _ = 0
+
+-- each accepted message stands in one place more, what is acknowledged stays so, and a body has at most 273 octets
+pub record Gains (old : State) (event : Event) (answer : Answer) (new : State) : Type 0 where
+  pub messages : total_of (counts_of new.rows) ≡ total_of (counts_of old.rows) + messages_in answer
+  pub acknowledged : (counts_of old.rows).acked ≤ (counts_of new.rows).acked
+  pub octets : octets_of event answer ≤ 273

@@ -1,0 +1,124 @@
+-- WHAT HOLDS OF EVERY SET'S STATE. Every event keeps it.
+use Rattle.std.specs.Prelude.{◌≡◌, ◌≢◌, ℕ, Bool, true, false, not, ◌==◌, ◌&&◌, ◌+◌, ◌*◌, ◌%◌, ◌^◌, ◌≤◌, ◌<◌, List, [], ◌∷◌, length, filter, slice_get, Some}
+use Rattle.set_events.specs.declared.answer.Fate.{Fate}
+use Rattle.set_events.specs.declared.answer.Fate.TheVariants.{Waiting, Unacked, Held, Parked}
+use Rattle.set_events.specs.declared.config.Method.{Method}
+use Rattle.set_events.specs.declared.config.Method.TheVariants.{Basic as BasicMethod, Cyclic as CyclicMethod}
+use Rattle.set_events.specs.declared.event.Event.{Event}
+use Rattle.set_events.specs.declared.event.Event.TheVariants.{Offer}
+use Rattle.set_route.specs.declared.place.Place.{Place}
+use Rattle.set_route.specs.declared.place.Place.TheVariants.{On, Nowhere}
+use Rattle.set_route.specs.Routing.{IsRouting, place_of, has_messages}
+use Rattle.set_model.specs.Rows.{Row, is_on, is_parked, is_users, stream_of, unack, held, on, parked, numbers, IsNumbered, AreFit, IsInOrder, IsHeldLast}
+use Rattle.set_model.specs.Control.{Control, Basic, Cyclic, accepted_of}
+use Rattle.set_model.specs.State.{LinkState, State, Settings, has_phase_up, has_phase_settled, last_accepted}
+
+-- A LINK.
+
+-- the control is of the set's method
+abbrev pub IsOf : Method → Control → Type 0
+IsOf BasicMethod (Basic state) = Unit {0}
+IsOf BasicMethod (Cyclic state) = ⊥
+IsOf (CyclicMethod n1 n2) (Basic state) = ⊥
+IsOf (CyclicMethod n1 n2) (Cyclic state) = (state.n1 ≡ n1) × (state.n2 ≡ n2)
+
+-- with so many messages unacknowledged: the cursor isn't past the last one; the cycle is at one of them, or at its beginning
+abbrev pub IsInRange : Control → ℕ → Type 0
+IsInRange (Basic state) unacked = state.cursor ≤ unacked
+IsInRange (Cyclic state) unacked = state.place ≢ 0 → state.place < unacked
+
+-- at most 127 of its messages are unacknowledged (Q.703 5.2.2), and its BSNs are those of the bodies that were
+-- accepted; what was sent stands before what waits, and that before what is held; nothing is held for a link that is
+-- up, and no message stands on one that settled
+pub record IsTidyLink (number : ℕ) (link : LinkState) (s : State) : Type 0 where
+  pub window : length (unack number s.rows) ≤ 127
+  pub counted : accepted_of link.control ≡ last_accepted link
+  pub method : IsOf s.settings.method link.control
+  pub in_order : IsInOrder number s.rows
+  pub held_last : IsHeldLast number s.rows
+  pub none_held : has_phase_up link.phase ≡ true → held number s.rows ≡ []
+  pub in_range : has_phase_up link.phase ≡ true → IsInRange link.control (length (unack number s.rows))
+  pub settled : has_phase_settled link.phase ≡ true → on number s.rows ≡ []
+
+-- A STREAM.
+
+-- it can still be moved: it isn't acknowledged, nor given up
+abbrev pub is_unfinished : Fate → Bool
+is_unfinished (Waiting l) = true
+is_unfinished (Unacked l) = true
+is_unfinished (Held l) = true
+is_unfinished Parked = true
+is_unfinished _ = false
+
+-- where messages stand whose stream runs there
+abbrev pub stands_at : Place → Fate → Bool
+stands_at (On link) fate = is_on link fate
+stands_at Nowhere fate = is_parked fate
+
+-- an unfinished message of a user, of this stream
+abbrev pub is_live : ℕ → Row → Bool
+is_live stream row = is_users row && ((stream_of row.body == stream) && is_unfinished row.fate)
+
+abbrev pub live : ℕ → List Row → List Row
+live stream rows = filter (is_live stream) rows
+
+-- that stands elsewhere than the stream runs
+abbrev pub is_astray : ℕ → Place → Row → Bool
+is_astray stream place row = is_live stream row && not (stands_at place row.fate)
+
+abbrev pub astray : ℕ → Place → List Row → List Row
+astray stream place rows = filter (is_astray stream place) rows
+
+abbrev pub AreAbove : ℕ → List ℕ → Type 0
+AreAbove n [] = Unit {0}
+AreAbove n (m ∷ ms) = (n < m) × AreAbove n ms
+
+abbrev pub IsAscending : List ℕ → Type 0
+IsAscending [] = Unit {0}
+IsAscending (n ∷ ns) = AreAbove n ns × IsAscending ns
+
+-- a link of the set that isn't settled, or nowhere
+abbrev pub IsPlaced : List LinkState → Place → Type 0
+IsPlaced links (On number) = (link : LinkState) × (slice_get links number ≡ Some link) × (has_phase_settled link.phase ≡ false)
+IsPlaced links Nowhere = Unit {0}
+
+-- its unfinished messages stand in the order of their numbers, and all where it runs; one that never had a message
+-- has none
+pub record IsTidyStream (stream : ℕ) (place : Place) (used : Bool) (rows : List Row) : Type 0 where
+  pub in_order : IsAscending (numbers (live stream rows))
+  pub together : astray stream place rows ≡ []
+  pub unused : used ≡ false → live stream rows ≡ []
+
+-- THE SET.
+
+-- its orders are the management's (Q.704 14.2.1)
+abbrev pub IsManaged : Settings → Type 0
+IsManaged settings = settings.sio % 16 ≡ 0
+
+pub record IsTidy (s : State) : Type 0 where
+  pub managed : IsManaged s.settings
+  pub routing : IsRouting s.routing
+  pub routed : s.routing.links ≡ s.settings.links
+  pub count : length s.links ≡ s.settings.links
+  -- the numbers 0, 1, .. stand in one row each
+  pub numbered : IsNumbered s.rows
+  pub fit : AreFit s.rows
+  pub links : (number : ℕ) (link : LinkState) → slice_get s.links number ≡ Some link → IsTidyLink number link s
+  pub streams : (stream : ℕ) → stream < 16 → IsTidyStream stream (place_of stream s.routing) (has_messages stream s.routing) s.rows
+  pub placed : (stream : ℕ) → stream < 16 → IsPlaced s.links (place_of stream s.routing)
+  -- while a link is up nothing is parked, and no stream runs nowhere
+  pub none_aside : (number : ℕ) (link : LinkState) → slice_get s.links number ≡ Some link → has_phase_up link.phase ≡ true → parked s.rows ≡ []
+  pub all_run : (number : ℕ) (link : LinkState) → slice_get s.links number ≡ Some link → has_phase_up link.phase ≡ true → (stream : ℕ) → stream < 16 → place_of stream s.routing ≢ Nowhere
+
+-- what can be asked: the octets of a label tell one of 16 streams
+abbrev pub IsAsked : Event → Type 0
+IsAsked (Offer body) = stream_of body < 16
+IsAsked _ = Unit {0}
+
+-- THE WHOLE NUMBERS: an event sends at most one message, and accepts at most one body.
+pub record AreFewOn (events number : ℕ) (link : LinkState) (rows : List Row) : Type 0 where
+  pub sent : link.acked + length (unack number rows) ≤ events
+  pub accepted : link.accepted ≤ events
+
+abbrev pub AreFew : ℕ → State → Type 0
+AreFew events s = (number : ℕ) (link : LinkState) → slice_get s.links number ≡ Some link → AreFewOn events number link s.rows

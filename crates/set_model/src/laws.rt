@@ -1,0 +1,55 @@
+//! Laws that speak of states alone.
+ghost use Rattle.set_model.specs.Laws.{NoMessageChanges, AMoveMovesTheLinksRows, NoEventChangesAMessage, ASettledLinkIsEmpty, SettlingMovesTheRest, AChangeoverDivertsTheRest, AStepGains, AStepCounts};
+
+/// No change takes a row out, or gives one another number or another body; and a new message
+/// leaves all others as they are. Each number stands in exactly one row.
+pub fn no_message_changes()
+    ensures { NoMessageChanges }
+{}
+
+/// What leaves a link are just its rows: those that wait for it, were sent on it and aren't
+/// acknowledged, or are held for it. They are the last rows then, in their old order, and each has
+/// its new place; every other message has its old one.
+pub fn a_move_moves_the_links_rows()
+    ensures { AMoveMovesTheLinksRows }
+{}
+
+/// No event takes a message out, or gives one another number or another body: each stands in exactly
+/// one place, before and after. So a changeover neither loses a message nor doubles one within the set
+/// (Q.704 5.1.1).
+pub fn no_event_changes_a_message()
+    ensures { NoEventChangesAMessage }
+{}
+
+/// Once a link has settled no message stands on it: none that was sent and isn't acknowledged, none that
+/// waits for it, and none that is held for it (Q.704 5.5).
+pub fn a_settled_link_is_empty()
+    ensures { ASettledLinkIsEmpty }
+{}
+
+/// A link that settles by a reasonable FSN of the far end: the messages up to that FSN are acknowledged,
+/// and exactly those past them, what waited, and what was held leave the link in their order, for the
+/// lowest-numbered link that is up. Where none is up they are parked. They stand behind all other
+/// messages, and those stay as they were (Q.704 5.4, 5.5).
+pub fn settling_moves_the_rest()
+    ensures { SettlingMovesTheRest }
+{}
+
+/// A changeover diverts exactly the messages past those that the far end has, in order: in every set's
+/// state, when a link that was left settles by a reasonable FSN, the rest of what was sent goes first,
+/// then what waited, then what was held. They stand behind all that waited for the target before, or,
+/// where no link is up, behind what was parked (Q.704 5.5).
+pub fn a_changeover_diverts_the_rest()
+    ensures { AChangeoverDivertsTheRest }
+{}
+
+/// Each accepted message stands in one place more, and what is acknowledged stays so.
+pub fn a_step_gains()
+    ensures { AStepGains }
+{}
+
+/// An event sends at most one message and accepts at most one body: so the whole numbers of a set
+/// are at most its events.
+pub fn a_step_counts()
+    ensures { AStepCounts }
+{}
