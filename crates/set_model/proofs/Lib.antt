@@ -1,3 +1,4 @@
+pub mod Controlling
 pub mod Counting
 pub mod Events
 pub mod Filters
@@ -5,6 +6,7 @@ pub mod Finding
 pub mod Gaining
 pub mod InPlace
 pub mod Lists
+pub mod Live
 pub mod Lookups
 pub mod Moving
 pub mod Order
@@ -14,4 +16,5 @@ pub mod Settling
 pub mod Stating
 pub mod Staying
 pub mod Targets
+pub mod Tidying
 pub mod Walk

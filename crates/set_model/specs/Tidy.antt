@@ -30,15 +30,15 @@ IsInRange (Cyclic state) unacked = state.place ≢ 0 → state.place < unacked
 -- at most 127 of its messages are unacknowledged (Q.703 5.2.2), and its BSNs are those of the bodies that were
 -- accepted; what was sent stands before what waits, and that before what is held; nothing is held for a link that is
 -- up, and no message stands on one that settled
-pub record IsTidyLink (number : ℕ) (link : LinkState) (s : State) : Type 0 where
-  pub window : length (unack number s.rows) ≤ 127
+pub record IsTidyLink (set_method : Method) (number : ℕ) (link : LinkState) (rows : List Row) : Type 0 where
+  pub window : length (unack number rows) ≤ 127
   pub counted : accepted_of link.control ≡ last_accepted link
-  pub method : IsOf s.settings.method link.control
-  pub in_order : IsInOrder number s.rows
-  pub held_last : IsHeldLast number s.rows
-  pub none_held : has_phase_up link.phase ≡ true → held number s.rows ≡ []
-  pub in_range : has_phase_up link.phase ≡ true → IsInRange link.control (length (unack number s.rows))
-  pub settled : has_phase_settled link.phase ≡ true → on number s.rows ≡ []
+  pub method : IsOf set_method link.control
+  pub in_order : IsInOrder number rows
+  pub held_last : IsHeldLast number rows
+  pub none_held : has_phase_up link.phase ≡ true → held number rows ≡ []
+  pub in_range : has_phase_up link.phase ≡ true → IsInRange link.control (length (unack number rows))
+  pub settled : has_phase_settled link.phase ≡ true → on number rows ≡ []
 
 -- A STREAM.
 
@@ -103,7 +103,7 @@ pub record IsTidy (s : State) : Type 0 where
   -- the numbers 0, 1, .. stand in one row each
   pub numbered : IsNumbered s.rows
   pub fit : AreFit s.rows
-  pub links : (number : ℕ) (link : LinkState) → slice_get s.links number ≡ Some link → IsTidyLink number link s
+  pub links : (number : ℕ) (link : LinkState) → slice_get s.links number ≡ Some link → IsTidyLink s.settings.method number link s.rows
   pub streams : (stream : ℕ) → stream < 16 → IsTidyStream stream (place_of stream s.routing) (has_messages stream s.routing) s.rows
   pub placed : (stream : ℕ) → stream < 16 → IsPlaced s.links (place_of stream s.routing)
   -- while a link is up nothing is parked, and no stream runs nowhere

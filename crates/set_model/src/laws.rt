@@ -1,5 +1,5 @@
 //! Laws that speak of states alone.
-ghost use Rattle.set_model.specs.Laws.{NoMessageChanges, AMoveMovesTheLinksRows, NoEventChangesAMessage, ASettledLinkIsEmpty, SettlingMovesTheRest, AChangeoverDivertsTheRest, AStepGains, AStepCounts};
+ghost use Rattle.set_model.specs.Laws.{NoMessageChanges, AMoveMovesTheLinksRows, NoEventChangesAMessage, ASettledLinkIsEmpty, SettlingMovesTheRest, AChangeoverDivertsTheRest, AStepGains, AStepCounts, EveryStepKeepsTidy};
 
 /// No change takes a row out, or gives one another number or another body; and a new message
 /// leaves all others as they are. Each number stands in exactly one row.
@@ -52,4 +52,9 @@ pub fn a_step_gains()
 /// are at most its events.
 pub fn a_step_counts()
     ensures { AStepCounts }
+{}
+
+/// Every event keeps what holds of every set's state (`specs/Tidy.antt`).
+pub fn every_step_keeps_tidy()
+    ensures { EveryStepKeepsTidy }
 {}

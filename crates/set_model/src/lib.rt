@@ -18,7 +18,7 @@ mod reached;
 
 pub use laws::{
     a_changeover_diverts_the_rest, a_move_moves_the_links_rows, a_settled_link_is_empty,
-    a_step_counts, a_step_gains, no_event_changes_a_message, no_message_changes, settling_moves_the_rest,
+    a_step_counts, a_step_gains, every_step_keeps_tidy, no_event_changes_a_message, no_message_changes, settling_moves_the_rest,
 };
 pub use numbered::Numbered;
 pub use phase::Phase;

@@ -1,0 +1,146 @@
+-- What the control's own step does to the window, the FSN last accepted, and the cursor.
+use Rattle.std.proofs.Common.{refl, arith, ◌≡◌, ◌≢◌, ◌∙◌, ap, sym, ◌<◌, ◌≤◌, ℕ, zero, suc, ◌+◌, ◌-◌, ◌%◌, ◌==◌, Bool, true, false, not, ◌&&◌, nat_lt, List, [], ◌∷◌, ◌++◌, length, map, take, drop, if◌then◌else◌}
+use Rattle.std.proofs.lemmas.Bool.{ltb-true}
+use Rattle.std.proofs.lemmas.Bool.Decides.{nat_tests}
+use Rattle.std.proofs.lemmas.List.{length-map, length-append, length-drop}
+use Rattle.l2_basic.specs.Basic as basic
+use Rattle.l2_pcr.specs.Pcr as cyclic
+use Rattle.l2_units.specs.declared.unit.Header.{Header}
+use Rattle.l2_window.specs.Window.{WindowState}
+use Rattle.set_events.specs.declared.answer.Fate.TheVariants.{Unacked}
+use Rattle.set_events.specs.declared.config.Method.{Method}
+use Rattle.set_events.specs.declared.config.Method.TheVariants.{Basic as BasicMethod, Cyclic as CyclicMethod}
+use Rattle.set_model.specs.Rows.{Row, unack, wait, numbers, is_waiting, turned, with_fate, IsInOrder}
+use Rattle.set_model.specs.Control.{Control, Basic, Cyclic, Choice, again, first, fill, start_of, accepted_of, choice_of, control_after, is_processed, is_accepted, acked_by, part_of, window_heard, control_heard}
+use Rattle.set_model.specs.State.{LinkState, window_of}
+use Rattle.set_model.specs.Step.{one_if}
+use Rattle.set_model.specs.Tidy.{IsOf, IsInRange}
+
+-- SENDING.
+pub accepted_after : (choice : Choice) (o : ℕ) (control : Control) (w : WindowState) → accepted_of (control_after choice o control w) ≡ accepted_of control
+accepted_after (again place) o (Basic s) w = refl
+accepted_after first o (Basic s) w = refl
+accepted_after fill o (Basic s) w = refl
+accepted_after (again place) o (Cyclic s) w = refl
+accepted_after first o (Cyclic s) w = refl
+accepted_after fill o (Cyclic s) w = refl
+
+pub method_after : (m : Method) (choice : Choice) (o : ℕ) (control : Control) (w : WindowState) → IsOf m control → IsOf m (control_after choice o control w)
+method_after BasicMethod (again place) o (Basic s) w is = tt
+method_after BasicMethod first o (Basic s) w is = tt
+method_after BasicMethod fill o (Basic s) w is = tt
+method_after BasicMethod choice o (Cyclic s) w is = absurd is
+method_after (CyclicMethod n1 n2) choice o (Basic s) w is = absurd is
+method_after (CyclicMethod n1 n2) (again place) o (Cyclic s) w is = is
+method_after (CyclicMethod n1 n2) first o (Cyclic s) w is = is
+method_after (CyclicMethod n1 n2) fill o (Cyclic s) w is = is
+
+-- a first sending is chosen only where something waits, and fewer than 127 are unacknowledged
+both_tests : (x y z : Bool) (p : ℕ) → (if x then again p else (if y && z then first else fill)) ≡ first → (y ≡ true) × (z ≡ true)
+both_tests true y z p e = absurd cc
+both_tests false true true p e = (refl, refl)
+both_tests false true false p e = absurd cc
+both_tests false false z p e = absurd cc
+
+both_cyclic : (x y z v : Bool) (p q : ℕ) → (if x then again p else (if y && z then first else (if v then again q else fill))) ≡ first → (y ≡ true) × (z ≡ true)
+both_cyclic true y z v p q e = absurd cc
+both_cyclic false true true v p q e = (refl, refl)
+both_cyclic false true false true p q e = absurd cc
+both_cyclic false true false false p q e = absurd cc
+both_cyclic false false z true p q e = absurd cc
+both_cyclic false false z false p q e = absurd cc
+
+pub first_chosen : (o : ℕ) (control : Control) (w : WindowState) → choice_of o control w ≡ first → (0 < length w.unsent) × (length w.unacked < 127)
+first_chosen o (Basic s) w e =
+    let t = both_tests (nat_lt s.cursor (length w.unacked)) (nat_lt 0 (length w.unsent)) (nat_lt (length w.unacked) 127) s.cursor e in
+    (ltb-true 0 (length w.unsent) t.0, ltb-true (length w.unacked) 127 t.1)
+first_chosen o (Cyclic s) w e =
+    let t = both_cyclic (cyclic.is_forced s w o) (nat_lt 0 (length w.unsent)) (nat_lt (length w.unacked) 127) (nat_lt 0 (length w.unacked)) (cyclic.cycle_place (not s.forced) s w) (cyclic.cycle_place false s w) e in
+    (ltb-true 0 (length w.unsent) t.0, ltb-true (length w.unacked) 127 t.1)
+
+-- what is sent again from the cursor is an unacknowledged message
+again_at : (x y z : Bool) (p place : ℕ) → (if x then again p else (if y && z then first else fill)) ≡ again place → (x ≡ true) × (place ≡ p)
+again_at true y z p place e = (refl, cc)
+again_at false true true p place e = absurd cc
+again_at false true false p place e = absurd cc
+again_at false false z p place e = absurd cc
+
+round_in : (n place : ℕ) → cyclic.round n place ≢ 0 → cyclic.round n place < n
+round_in n place d = go (nat_lt place n) refl
+  where
+    go : (b : Bool) → nat_lt place n ≡ b → cyclic.round n place < n
+    go true e = let low : place < n = ltb-true place n e in rw e low
+    go false e = absurd (d (rw e refl))
+
+pub range_after : (choice : Choice) (o : ℕ) (control : Control) (w : WindowState) (count : ℕ) → choice_of o control w ≡ choice → length w.unacked ≤ count → (choice ≡ first → count ≡ length w.unacked + 1) → IsInRange control (length w.unacked) → IsInRange (control_after choice o control w) count
+range_after (again place) o (Basic s) w count e more one r =
+    let t = again_at (nat_lt s.cursor (length w.unacked)) (nat_lt 0 (length w.unsent)) (nat_lt (length w.unacked) 127) s.cursor place e in
+    let low : s.cursor < length w.unacked = ltb-true s.cursor (length w.unacked) t.0 in
+    omega (arith, low, t.1, more)
+range_after first o (Basic s) w count e more one r = let c = one refl in omega (arith, c)
+range_after fill o (Basic s) w count e more one r = omega (arith, r, more)
+range_after (again place) o (Cyclic s) w count e more one r = λ d. let low = round_in (length w.unacked) (place + 1) d in omega (arith, low, more)
+range_after first o (Cyclic s) w count e more one r = λ d. let low = r d in omega (arith, low, more)
+range_after fill o (Cyclic s) w count e more one r = λ d. let low = r d in omega (arith, low, more)
+
+-- HEARING.
+pub method_heard : (m : Method) (control : Control) (w : WindowState) (head : Header) (msu : Bool) → IsOf m control → IsOf m (control_heard control w head msu)
+method_heard BasicMethod (Basic s) w head msu is = tt
+method_heard BasicMethod (Cyclic s) w head msu is = absurd is
+method_heard (CyclicMethod n1 n2) (Basic s) w head msu is = absurd is
+method_heard (CyclicMethod n1 n2) (Cyclic s) w head msu is = is
+
+pub part_acked : (control : Control) (w : WindowState) (head : Header) (msu : Bool) → (part_of control w head msu).acked ≡ acked_by control w head
+part_acked (Basic s) w head msu = refl
+part_acked (Cyclic s) w head msu = refl
+
+pub part_accept : (control : Control) (w : WindowState) (head : Header) (msu : Bool) → (part_of control w head msu).accept ≡ is_accepted control w head msu
+part_accept (Basic s) w head msu = refl
+part_accept (Cyclic s) w head msu = refl
+
+and_right : (x y : Bool) → (x && y) ≡ true → y ≡ true
+and_right true y e = e
+and_right false y e = absurd cc
+
+-- the number last acknowledged
+pub last_heard : (control : Control) (w : WindowState) (head : Header) (acked : ℕ) → w.last ≡ (acked + 127) % 128 → (window_heard control w head).last ≡ (acked + acked_by control w head + 127) % 128
+last_heard control w head acked e = go (is_processed control w head) refl
+  where
+    go : (b : Bool) → is_processed control w head ≡ b → (window_heard control w head).last ≡ (acked + acked_by control w head + 127) % 128
+    go true f = let low : head.bsn < 128 = head.bsn_in_range in rw f (omega (arith, e))
+    go false f = rw f (omega (arith, e))
+
+-- the FSN last accepted
+pub accepted_heard : (control : Control) (w : WindowState) (head : Header) (msu : Bool) (n : ℕ) → accepted_of control ≡ (n + 127) % 128 → accepted_of (control_heard control w head msu) ≡ (n + one_if (is_accepted control w head msu) + 127) % 128
+accepted_heard (Basic s) w head msu n e = go (basic.is_accepted s w head msu) refl
+  where
+    go : (b : Bool) → basic.is_accepted s w head msu ≡ b → (if basic.is_accepted s w head msu then head.fsn else s.accepted) ≡ (n + one_if (basic.is_accepted s w head msu) + 127) % 128
+    go true f =
+        let next : (head.fsn == (s.accepted + 1) % 128) ≡ true = and_right msu (basic.is_successor s head) (and_right (basic.is_current s w head) (msu && basic.is_successor s head) f) in
+        let same : head.fsn ≡ (s.accepted + 1) % 128 = grind (arith, nat_tests) in
+        rw f (omega (arith, e, same))
+    go false f = rw f (omega (arith, e))
+accepted_heard (Cyclic s) w head msu n e = go (cyclic.is_accepted s w head msu) refl
+  where
+    go : (b : Bool) → cyclic.is_accepted s w head msu ≡ b → (if cyclic.is_accepted s w head msu then head.fsn else s.accepted) ≡ (n + one_if (cyclic.is_accepted s w head msu) + 127) % 128
+    go true f =
+        let next : (head.fsn == (s.accepted + 1) % 128) ≡ true = and_right msu (head.fsn == (s.accepted + 1) % 128) (and_right (not (cyclic.has_abnormal_bsn w head)) (msu && (head.fsn == (s.accepted + 1) % 128)) f) in
+        let same : head.fsn ≡ (s.accepted + 1) % 128 = grind (arith, nat_tests) in
+        rw f (omega (arith, e, same))
+    go false f = rw f (omega (arith, e))
+
+-- the cursor, or the place in the cycle
+pub range_heard : (control : Control) (w : WindowState) (head : Header) (msu : Bool) → IsInRange control (length w.unacked) → IsInRange (control_heard control w head msu) (length (drop (acked_by control w head) w.unacked))
+range_heard (Basic s) w head msu r = go (basic.wants_retransmission s w head) refl
+  where
+    left : length (drop (acked_by (Basic s) w head) w.unacked) ≡ length w.unacked - acked_by (Basic s) w head
+    left = length-drop (acked_by (Basic s) w head) w.unacked
+
+    go : (b : Bool) → basic.wants_retransmission s w head ≡ b → (if basic.wants_retransmission s w head then 0 else s.cursor - acked_by (Basic s) w head) ≤ length (drop (acked_by (Basic s) w head) w.unacked)
+    go true e = rw e (omega arith)
+    go false e = rw e (omega (arith, r, left))
+range_heard (Cyclic s) w head msu r = go (cyclic.has_abnormal_bsn w head) refl
+  where
+    go : (b : Bool) → cyclic.has_abnormal_bsn w head ≡ b → IsInRange (control_heard (Cyclic s) w head msu) (length (drop (acked_by (Cyclic s) w head) w.unacked))
+    go true e = rw e r
+    go false e = rw e (λ d. round_in _ _ d)

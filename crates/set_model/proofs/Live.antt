@@ -1,0 +1,330 @@
+-- THE STREAMS' MESSAGES: they stay in the order of their numbers, and together.
+use Rattle.std.proofs.Common.{refl, arith, ◌≡◌, ◌∙◌, ap, sym, subst, ◌<◌, ◌≤◌, ℕ, zero, suc, Bool, true, false, not, ◌&&◌, ◌==◌, List, [], ◌∷◌, ◌++◌, length, map, slice_get, Some, cond}
+use Rattle.std.specs.Prelude.{filter}
+use Rattle.std.proofs.lemmas.List.{append-nil, map-append}
+use Rattle.std.proofs.lemmas.List.Elements.{filter-append}
+use Rattle.set_events.specs.declared.answer.Fate.{Fate}
+use Rattle.set_events.specs.declared.answer.Fate.TheVariants.{Waiting, Unacked, Acked, Held, Parked, Discarded}
+use Rattle.set_route.specs.declared.place.Place.{Place}
+use Rattle.set_route.specs.declared.place.Place.TheVariants.{On, Nowhere}
+use Rattle.set_model.specs.Rows.{Row, standing, is_waiting, is_on, is_users, stream_of, numbers, turned, changed, moved, all_with, appended, with_fate, fated, IsNumbered}
+use Rattle.set_model.specs.Tidy.{is_unfinished, stands_at, is_live, live, is_astray, astray, AreAbove, IsAscending, IsTidyStream}
+use Rattle.set_model.proofs.Events.{numbers_fated}
+use Rattle.set_model.proofs.Filters.{filter_within}
+use Rattle.set_model.proofs.Finding.{new_row}
+use Rattle.set_model.proofs.InPlace.{where_turned, where_changed}
+use Rattle.set_model.proofs.Lookups.{found_by_number}
+use Rattle.set_model.proofs.Places.{false_true, contra}
+
+and_false : (u v : Bool) → (u && (v && false)) ≡ false
+and_false true true = refl
+and_false true false = refl
+and_false false v = refl
+
+-- a row that isn't live isn't astray
+dead : (a b : Bool) → a ≡ false → (a && b) ≡ false
+dead a b e = rw e refl
+
+alive_not : (b : Bool) → (b && false) ≡ false
+alive_not true = refl
+alive_not false = refl
+
+alive_of : (a b : Bool) → (a && b) ≡ true → a ≡ true
+alive_of true b e = refl
+alive_of false b e = absurd cc
+
+none_behind : (b : Bool) (x : Row) (xs : List Row) → cond b (x ∷ xs) xs ≡ [] → xs ≡ []
+none_behind true x xs e = absurd cc
+none_behind false x xs e = e
+
+none_here : (b : Bool) (x : Row) (xs : List Row) → cond b (x ∷ xs) xs ≡ [] → b ≡ false
+none_here true x xs e = absurd cc
+none_here false x xs e = refl
+
+none_before : (b : Bool) (x : Row) (xs ys : List Row) → (xs ≡ [] → ys ≡ []) → cond b (x ∷ xs) xs ≡ [] → cond b (x ∷ ys) ys ≡ []
+none_before true x xs ys f e = absurd cc
+none_before false x xs ys f e = f e
+
+above_if : (b : Bool) (k : ℕ) (x : Row) (xs ys : List Row) → (AreAbove k (numbers xs) → AreAbove k (numbers ys)) → AreAbove k (numbers (cond b (x ∷ xs) xs)) → AreAbove k (numbers (cond b (x ∷ ys) ys))
+above_if true k x xs ys f a = (a.0, f a.1)
+above_if false k x xs ys f a = f a
+
+above_behind : (b : Bool) (k : ℕ) (x : Row) (xs : List Row) → AreAbove k (numbers (cond b (x ∷ xs) xs)) → AreAbove k (numbers xs)
+above_behind true k x xs a = a.1
+above_behind false k x xs a = a
+
+ascends_if : (b : Bool) (x : Row) (xs ys : List Row) → ((k : ℕ) → AreAbove k (numbers xs) → AreAbove k (numbers ys)) → (IsAscending (numbers xs) → IsAscending (numbers ys)) → IsAscending (numbers (cond b (x ∷ xs) xs)) → IsAscending (numbers (cond b (x ∷ ys) ys))
+ascends_if true x xs ys f g a = (f x.number a.0, g a.1)
+ascends_if false x xs ys f g a = g a
+
+ascends_behind : (b : Bool) (x : Row) (xs : List Row) → IsAscending (numbers (cond b (x ∷ xs) xs)) → IsAscending (numbers xs)
+ascends_behind true x xs a = a.1
+ascends_behind false x xs a = a
+
+-- ROWS THAT ARE FINISHED in their places.
+module _ (stream : ℕ) (place : Place) (test : Fate → Bool) (fate : Fate) (done : is_unfinished fate ≡ false) where
+  pub record Fewer (xs ys : List Row) : Type 0 where
+    pub above : (k : ℕ) → AreAbove k (numbers (live stream xs)) → AreAbove k (numbers (live stream ys))
+    pub ascends : IsAscending (numbers (live stream xs)) → IsAscending (numbers (live stream ys))
+    pub none : live stream xs ≡ [] → live stream ys ≡ []
+    pub away : astray stream place xs ≡ [] → astray stream place ys ≡ []
+
+  nothing : Fewer [] []
+  nothing = record { above = λ k a. a; ascends = λ a. a; none = λ e. e; away = λ e. e }
+
+  stays : (x : Row) (xs ys : List Row) → Fewer xs ys → Fewer (x ∷ xs) (x ∷ ys)
+  stays x xs ys p = record {
+    above = λ k. above_if (is_live stream x) k x (live stream xs) (live stream ys) (p.above k);
+    ascends = ascends_if (is_live stream x) x (live stream xs) (live stream ys) p.above p.ascends;
+    none = none_before (is_live stream x) x (live stream xs) (live stream ys) p.none;
+    away = none_before (is_astray stream place x) x (astray stream place xs) (astray stream place ys) p.away;
+  }
+
+  turns : (x : Row) (xs ys : List Row) → test x.fate ≡ true → Fewer xs ys → Fewer (x ∷ xs) (with_fate fate x ∷ ys)
+  turns x xs ys t p =
+      let gone : is_live stream (with_fate fate x) ≡ false = rw done (and_false (is_users x) (stream_of x.body == stream)) in
+      let none_astray : is_astray stream place (with_fate fate x) ≡ false = dead (is_live stream (with_fate fate x)) (not (stands_at place fate)) gone in
+      record {
+        above = λ k a. rw gone (p.above k (above_behind (is_live stream x) k x (live stream xs) a));
+        ascends = λ a. rw gone (p.ascends (ascends_behind (is_live stream x) x (live stream xs) a));
+        none = λ e. rw gone (p.none (none_behind (is_live stream x) x (live stream xs) e));
+        away = λ e. rw none_astray (p.away (none_behind (is_astray stream place x) x (astray stream place xs) e));
+      }
+
+  finished : (used : Bool) (xs ys : List Row) → Fewer xs ys → IsTidyStream stream place used xs → IsTidyStream stream place used ys
+  finished used xs ys p t = record { in_order = p.ascends t.in_order; together = p.away t.together; unused = λ e. p.none (t.unused e) }
+
+  pub stream_turned : (used : Bool) (n : ℕ) (rows : List Row) → IsTidyStream stream place used rows → IsTidyStream stream place used (turned test fate n rows)
+  stream_turned used n rows t = finished used rows (turned test fate n rows) (where_turned test fate Fewer nothing stays turns n rows) t
+
+  pub stream_changed : (used : Bool) (rows : List Row) → IsTidyStream stream place used rows → IsTidyStream stream place used (changed test fate rows)
+  stream_changed used rows t = finished used rows (changed test fate rows) (where_changed test fate Fewer nothing stays turns rows) t
+
+-- the same numbers
+no_numbers : (xs ys : List Row) → numbers ys ≡ numbers xs → xs ≡ [] → ys ≡ []
+no_numbers xs [] e none = refl
+no_numbers xs (y ∷ ys) e none = absurd (let no : y.number ∷ numbers ys ≡ [] = e ∙ ap numbers none in cc)
+
+pub same_stream : (stream : ℕ) (place place' : Place) (used : Bool) (xs ys : List Row) → numbers (live stream ys) ≡ numbers (live stream xs) → astray stream place' ys ≡ [] → IsTidyStream stream place used xs → IsTidyStream stream place' used ys
+same_stream stream place place' used xs ys same away t = record {
+  in_order = subst IsAscending (sym same) t.in_order;
+  together = away;
+  unused = λ e. no_numbers (live stream xs) (live stream ys) same (t.unused e);
+}
+
+-- A FIRST SENDING: the row stays live, and where it is.
+waits_unfinished : (n : ℕ) (f : Fate) → is_waiting n f ≡ true → is_unfinished f ≡ true
+waits_unfinished n (Waiting m) e = refl
+waits_unfinished n _ e = absurd cc
+
+same_stand : (place : Place) (n : ℕ) (f : Fate) → is_waiting n f ≡ true → stands_at place (Unacked n) ≡ stands_at place f
+same_stand (On l) n (Waiting m) e = let same : m ≡ n = grind arith in ap (λ (k : ℕ). k == l) (sym same)
+same_stand Nowhere n (Waiting m) e = refl
+same_stand place n (Unacked m) e = absurd cc
+same_stand place n (Acked m) e = absurd cc
+same_stand place n (Held m) e = absurd cc
+same_stand place n Parked e = absurd cc
+same_stand place n (Discarded cause) e = absurd cc
+
+module _ (stream : ℕ) (place : Place) (n : ℕ) where
+  record Same (xs ys : List Row) : Type 0 where
+    pub numbers_same : numbers (live stream ys) ≡ numbers (live stream xs)
+    pub away : astray stream place xs ≡ [] → astray stream place ys ≡ []
+
+  numbers_if : (b : Bool) (x : Row) (xs ys : List Row) → numbers ys ≡ numbers xs → numbers (cond b (x ∷ ys) ys) ≡ numbers (cond b (x ∷ xs) xs)
+  numbers_if true x xs ys e = ap (λ (ns : List ℕ). x.number ∷ ns) e
+  numbers_if false x xs ys e = e
+
+  one_sent : (x y : Row) (xs ys : List Row) → y.number ≡ x.number → is_live stream y ≡ is_live stream x → is_astray stream place y ≡ is_astray stream place x → Same xs ys → Same (x ∷ xs) (y ∷ ys)
+  one_sent x y xs ys number alive there p = record {
+    numbers_same = rw alive (renamed (is_live stream x)) ∙ numbers_if (is_live stream x) x (live stream xs) (live stream ys) p.numbers_same;
+    away = λ e. rw there (emptied (is_astray stream place x) e);
+  }
+    where
+      renamed : (b : Bool) → numbers (cond b (y ∷ live stream ys) (live stream ys)) ≡ numbers (cond b (x ∷ live stream ys) (live stream ys))
+      renamed true = ap (λ (k : ℕ). k ∷ numbers (live stream ys)) number
+      renamed false = refl
+
+      emptied : (b : Bool) → cond b (x ∷ astray stream place xs) (astray stream place xs) ≡ [] → cond b (y ∷ astray stream place ys) (astray stream place ys) ≡ []
+      emptied true e = absurd cc
+      emptied false e = p.away e
+
+  sends_one : (x : Row) (xs ys : List Row) → is_waiting n x.fate ≡ true → Same xs ys → Same (x ∷ xs) (with_fate (Unacked n) x ∷ ys)
+  sends_one x xs ys w p =
+      let alive : is_live stream (with_fate (Unacked n) x) ≡ is_live stream x = ap (λ (b : Bool). is_users x && ((stream_of x.body == stream) && b)) (sym (waits_unfinished n x.fate w)) in
+      one_sent x (with_fate (Unacked n) x) xs ys refl alive (ap (λ (b : Bool). b && not (stands_at place (Unacked n))) alive ∙ ap (λ (b : Bool). is_live stream x && not b) (same_stand place n x.fate w)) p
+
+  pub stream_sent : (used : Bool) (rows : List Row) → IsTidyStream stream place used rows → IsTidyStream stream place used (turned (is_waiting n) (Unacked n) 1 rows)
+  stream_sent used rows t =
+      let s = where_turned (is_waiting n) (Unacked n) Same (record { numbers_same = refl; away = λ e. e }) (λ x xs ys p. one_sent x x xs ys refl refl refl p) sends_one 1 rows in
+      same_stream stream place place used rows (turned (is_waiting n) (Unacked n) 1 rows) s.numbers_same (s.away t.together) t
+
+-- A NEW MESSAGE has a number above all others.
+ascends_end : (k : ℕ) (ns : List ℕ) → ((i m : ℕ) → slice_get ns i ≡ Some m → m < k) → IsAscending ns → IsAscending (ns ++ k ∷ [])
+ascends_end k [] below a = (tt, tt)
+ascends_end k (n ∷ ns) below a = (above_end ns a.0, ascends_end k ns (λ i m e. below (suc i) m e) a.1)
+  where
+    above_end : (ms : List ℕ) → AreAbove n ms → AreAbove n (ms ++ k ∷ [])
+    above_end [] b = (below 0 n refl, tt)
+    above_end (m ∷ ms) b = (b.0, above_end ms b.1)
+
+module _ (stream : ℕ) (place : Place) (used used' : Bool) (rows : List Row) (body : List ℕ) (fate : Fate) (numbered : IsNumbered rows) (t : IsTidyStream stream place used rows) where
+  abbrev x : Row
+  x = new_row (length rows) body fate
+
+  live_split : live stream (appended rows body fate) ≡ live stream rows ++ cond (is_live stream x) (x ∷ []) []
+  live_split = filter-append (is_live stream) rows (x ∷ [])
+
+  astray_split : astray stream place (appended rows body fate) ≡ astray stream place rows ++ cond (is_astray stream place x) (x ∷ []) []
+  astray_split = filter-append (is_astray stream place) rows (x ∷ [])
+
+  pub stream_appended : (is_live stream x ≡ true → (stands_at place fate ≡ true) × (used' ≡ true)) → (used' ≡ false → used ≡ false) → IsTidyStream stream place used' (appended rows body fate)
+  stream_appended fits grows = go (is_live stream x) refl
+    where
+      none_astray : is_astray stream place x ≡ false → astray stream place (appended rows body fate) ≡ []
+      none_astray e = astray_split ∙ ap (λ (b : Bool). astray stream place rows ++ cond b (x ∷ []) []) e ∙ append-nil (astray stream place rows) ∙ t.together
+
+      go : (b : Bool) → is_live stream x ≡ b → IsTidyStream stream place used' (appended rows body fate)
+      go true h =
+          let f = fits h in
+          let all : live stream (appended rows body fate) ≡ live stream rows ++ x ∷ [] = live_split ∙ ap (λ (b : Bool). live stream rows ++ cond b (x ∷ []) []) h in
+          let numbers_are : numbers (live stream (appended rows body fate)) ≡ numbers (live stream rows) ++ length rows ∷ [] = ap numbers all ∙ map-append (λ (row : Row). row.number) (live stream rows) (x ∷ []) in
+          record {
+            in_order = subst IsAscending (sym numbers_are) (ascends_end (length rows) (numbers (live stream rows)) (λ i m e. (found_by_number (is_live stream) rows i m numbered e).below) t.in_order);
+            together = none_astray (ap (λ (b : Bool). is_live stream x && not b) f.0 ∙ alive_not (is_live stream x));
+            unused = λ e. false_true used' e f.1;
+          }
+      go false h =
+          let all : live stream (appended rows body fate) ≡ live stream rows = live_split ∙ ap (λ (b : Bool). live stream rows ++ cond b (x ∷ []) []) h ∙ append-nil (live stream rows) in
+          record {
+            in_order = subst (λ (xs : List Row). IsAscending (numbers xs)) (sym all) t.in_order;
+            together = none_astray (dead (is_live stream x) (not (stands_at place fate)) h);
+            unused = λ e. all ∙ t.unused (grows e);
+          }
+
+-- ROWS THAT MOVE: all live ones of a stream do, or none.
+module _ (stream : ℕ) (place place' : Place) (test : Fate → Bool) (to : Fate) (open_there : (f : Fate) → test f ≡ true → is_unfinished f ≡ true) (open_to : is_unfinished to ≡ true) where
+  abbrev kept : List Row → List Row
+  kept rows = standing (λ f. not (test f)) rows
+
+  abbrev gone : List Row → List Row
+  gone rows = map (fated (all_with to)) (standing test rows)
+
+  alive_as : (x : Row) → test x.fate ≡ true → is_live stream (with_fate to x) ≡ is_live stream x
+  alive_as x t = ap (λ (b : Bool). is_users x && ((stream_of x.body == stream) && b)) (open_to ∙ sym (open_there x.fate t))
+
+  -- what a filter sees of the two parts of a move
+  module _ (rows : List Row) where
+    live_parts : live stream (moved test (all_with to) rows) ≡ live stream (kept rows) ++ live stream (gone rows)
+    live_parts = filter-append (is_live stream) (kept rows) (gone rows)
+
+    astray_parts : astray stream place' (moved test (all_with to) rows) ≡ astray stream place' (kept rows) ++ astray stream place' (gone rows)
+    astray_parts = filter-append (is_astray stream place') (kept rows) (gone rows)
+
+  -- those of this place
+  module _ (all_go : (f : Fate) → stands_at place f ≡ true → test f ≡ true) (there : stands_at place' to ≡ true) where
+    pub record Go (rows : List Row) : Type 0 where
+      pub kept_live : live stream (kept rows) ≡ []
+      pub kept_astray : astray stream place' (kept rows) ≡ []
+      pub gone_live : numbers (live stream (gone rows)) ≡ numbers (live stream rows)
+      pub gone_astray : astray stream place' (gone rows) ≡ []
+
+    go_all : (rows : List Row) → astray stream place rows ≡ [] → Go rows
+    go_all [] e = record { kept_live = refl; kept_astray = refl; gone_live = refl; gone_astray = refl }
+    go_all (x ∷ rows) e = one (test x.fate) (is_live stream x) refl refl (go_all rows (none_behind (is_astray stream place x) x (astray stream place rows) e))
+      where
+        arrived : is_astray stream place' (with_fate to x) ≡ false
+        arrived = ap (λ (b : Bool). is_live stream (with_fate to x) && not b) there ∙ alive_not (is_live stream (with_fate to x))
+
+        one : (a b : Bool) → test x.fate ≡ a → is_live stream x ≡ b → Go rows → Go (x ∷ rows)
+        one true true t l g = record {
+          kept_live = rw t g.kept_live;
+          kept_astray = rw t g.kept_astray;
+          gone_live = rw (t, alive_as x t, l) (ap (λ (ns : List ℕ). x.number ∷ ns) g.gone_live);
+          gone_astray = rw (t, arrived) g.gone_astray;
+        }
+        one true false t l g = record {
+          kept_live = rw t g.kept_live;
+          kept_astray = rw t g.kept_astray;
+          gone_live = rw (t, alive_as x t, l) g.gone_live;
+          gone_astray = rw (t, arrived) g.gone_astray;
+        }
+        one false true t l g = absurd (
+          let here : stands_at place x.fate ≡ false = contra (stands_at place x.fate) (not (test x.fate)) (λ s. rw (all_go x.fate s) refl) (rw t refl) in
+          let strays : is_astray stream place x ≡ true = rw (l, here) refl in
+          let no : true ≡ false = sym strays ∙ none_here (is_astray stream place x) x (astray stream place rows) e in
+          cc
+        )
+        one false false t l g = record {
+          kept_live = rw (t, l) g.kept_live;
+          kept_astray = rw (t, dead (is_live stream x) (not (stands_at place' x.fate)) l) g.kept_astray;
+          gone_live = rw (t, l) g.gone_live;
+          gone_astray = rw t g.gone_astray;
+        }
+
+    pub stream_goes : (used : Bool) (rows : List Row) → IsTidyStream stream place used rows → IsTidyStream stream place' used (moved test (all_with to) rows)
+    stream_goes used rows t =
+        let g = go_all rows t.together in
+        same_stream stream place place' used rows (moved test (all_with to) rows)
+        (ap numbers (live_parts rows ∙ ap (λ (xs : List Row). xs ++ live stream (gone rows)) g.kept_live) ∙ g.gone_live)
+        (astray_parts rows ∙ ap (λ (xs : List Row). xs ++ astray stream place' (gone rows)) g.kept_astray ∙ g.gone_astray)
+        t
+
+  -- those of another
+  module _ (none_goes : (f : Fate) → stands_at place f ≡ true → test f ≡ false) where
+    pub record Stay (rows : List Row) : Type 0 where
+      pub kept_live : live stream (kept rows) ≡ live stream rows
+      pub kept_astray : astray stream place (kept rows) ≡ []
+      pub gone_live : live stream (gone rows) ≡ []
+      pub gone_astray : astray stream place (gone rows) ≡ []
+
+    stay_all : (rows : List Row) → astray stream place rows ≡ [] → Stay rows
+    stay_all [] e = record { kept_live = refl; kept_astray = refl; gone_live = refl; gone_astray = refl }
+    stay_all (x ∷ rows) e = one (test x.fate) (is_live stream x) refl refl (stay_all rows (none_behind (is_astray stream place x) x (astray stream place rows) e))
+      where
+        not_astray : is_astray stream place x ≡ false
+        not_astray = none_here (is_astray stream place x) x (astray stream place rows) e
+
+        one : (a b : Bool) → test x.fate ≡ a → is_live stream x ≡ b → Stay rows → Stay (x ∷ rows)
+        one true true t l g = absurd (
+          let here : stands_at place x.fate ≡ false = contra (stands_at place x.fate) (test x.fate) (none_goes x.fate) t in
+          let strays : is_astray stream place x ≡ true = rw (l, here) refl in
+          let no : true ≡ false = sym strays ∙ not_astray in
+          cc
+        )
+        one true false t l g =
+            let gone_too : is_live stream (with_fate to x) ≡ false = alive_as x t ∙ l in
+            record {
+              kept_live = rw (t, l) g.kept_live;
+              kept_astray = rw t g.kept_astray;
+              gone_live = rw (t, gone_too) g.gone_live;
+              gone_astray = rw (t, dead (is_live stream (with_fate to x)) (not (stands_at place to)) gone_too) g.gone_astray;
+            }
+        one false true t l g = record {
+          kept_live = rw (t, l) (ap (λ (xs : List Row). x ∷ xs) g.kept_live);
+          kept_astray = rw (t, not_astray) g.kept_astray;
+          gone_live = rw t g.gone_live;
+          gone_astray = rw t g.gone_astray;
+        }
+        one false false t l g = record {
+          kept_live = rw (t, l) g.kept_live;
+          kept_astray = rw (t, not_astray) g.kept_astray;
+          gone_live = rw t g.gone_live;
+          gone_astray = rw t g.gone_astray;
+        }
+
+    pub stream_remains : (used : Bool) (rows : List Row) → place' ≡ place → IsTidyStream stream place used rows → IsTidyStream stream place used (moved test (all_with to) rows)
+    stream_remains used rows same t =
+        let g = stay_all rows t.together in
+        same_stream stream place place used rows (moved test (all_with to) rows)
+        (ap numbers (live_parts rows ∙ ap (λ (xs : List Row). live stream (kept rows) ++ xs) g.gone_live ∙ append-nil (live stream (kept rows)) ∙ g.kept_live))
+        (filter-append (is_astray stream place) (kept rows) (gone rows) ∙ ap (λ (xs : List Row). xs ++ astray stream place (gone rows)) g.kept_astray ∙ g.gone_astray)
+        t
+
+-- a stream with no live message can run anywhere
+pub stream_empty : (stream : ℕ) (place place' : Place) (used : Bool) (rows : List Row) → live stream rows ≡ [] → IsTidyStream stream place used rows → IsTidyStream stream place' used rows
+stream_empty stream place place' used rows none t = record {
+  in_order = t.in_order;
+  together = sym (filter_within (is_astray stream place') (is_live stream) (λ x e. alive_of (is_live stream x) (not (stands_at place' x.fate)) e) rows) ∙ ap (filter (is_astray stream place')) none;
+  unused = t.unused;
+}
