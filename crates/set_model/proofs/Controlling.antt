@@ -14,7 +14,7 @@ use Rattle.set_model.specs.Rows.{Row, unack, wait, numbers, is_waiting, turned, 
 use Rattle.set_model.specs.Control.{Control, Basic, Cyclic, Choice, again, first, fill, start_of, accepted_of, choice_of, control_after, is_processed, is_accepted, acked_by, part_of, window_heard, control_heard}
 use Rattle.set_model.specs.State.{LinkState, window_of}
 use Rattle.set_model.specs.Step.{one_if}
-use Rattle.set_model.specs.Tidy.{IsOf, IsInRange}
+use Rattle.set_model.specs.Sound.{IsOf, IsInRange}
 
 -- SENDING.
 pub accepted_after : (choice : Choice) (o : ℕ) (control : Control) (w : WindowState) → accepted_of (control_after choice o control w) ≡ accepted_of control

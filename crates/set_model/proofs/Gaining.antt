@@ -18,7 +18,7 @@ use Rattle.set_model.specs.State.{LinkState, State, has_phase_up, target}
 use Rattle.set_model.specs.Control.{Choice, again, first, fill}
 use Rattle.set_model.specs.Changeover.{fate_on, queue}
 use Rattle.set_model.specs.Step.{Outcome, refused, offer_refusal, offered, taken, found, with_known, in_service, next, rows_sent, heard, rises, falls, gives_up, step, messages_in, octets_of, Gains}
-use Rattle.set_model.specs.Tidy.{IsManaged}
+use Rattle.set_model.specs.Sound.{IsManaged}
 use Rattle.set_model.proofs.Counting.{total_appended, acked_appended, total_moved, acked_moved}
 use Rattle.set_model.proofs.Events.{Kept, sent, acknowledged, sent_given_up, waiting_given_up, unparked}
 use Rattle.set_model.proofs.Places.{on_not_acked}

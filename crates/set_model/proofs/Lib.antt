@@ -3,6 +3,7 @@ pub mod Counting
 pub mod Events
 pub mod Filters
 pub mod Finding
+pub mod Framing
 pub mod Gaining
 pub mod InPlace
 pub mod Lists
@@ -13,8 +14,8 @@ pub mod Order
 pub mod Places
 pub mod Ranging
 pub mod Settling
+pub mod Soundness
 pub mod Stating
 pub mod Staying
 pub mod Targets
-pub mod Tidying
 pub mod Walk

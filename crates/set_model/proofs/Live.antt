@@ -8,7 +8,7 @@ use Rattle.set_events.specs.declared.answer.Fate.TheVariants.{Waiting, Unacked, 
 use Rattle.set_route.specs.declared.place.Place.{Place}
 use Rattle.set_route.specs.declared.place.Place.TheVariants.{On, Nowhere}
 use Rattle.set_model.specs.Rows.{Row, standing, is_waiting, is_on, is_users, stream_of, numbers, turned, changed, moved, all_with, appended, with_fate, fated, IsNumbered}
-use Rattle.set_model.specs.Tidy.{is_unfinished, stands_at, is_live, live, is_astray, astray, AreAbove, IsAscending, IsTidyStream}
+use Rattle.set_model.specs.Sound.{is_unfinished, stands_at, is_live, live, is_astray, astray, AreAbove, IsAscending, IsSoundStream}
 use Rattle.set_model.proofs.Events.{numbers_fated}
 use Rattle.set_model.proofs.Filters.{filter_within}
 use Rattle.set_model.proofs.Finding.{new_row}
@@ -91,13 +91,13 @@ module _ (stream : ℕ) (place : Place) (test : Fate → Bool) (fate : Fate) (do
         away = λ e. rw none_astray (p.away (none_behind (is_astray stream place x) x (astray stream place xs) e));
       }
 
-  finished : (used : Bool) (xs ys : List Row) → Fewer xs ys → IsTidyStream stream place used xs → IsTidyStream stream place used ys
+  finished : (used : Bool) (xs ys : List Row) → Fewer xs ys → IsSoundStream stream place used xs → IsSoundStream stream place used ys
   finished used xs ys p t = record { in_order = p.ascends t.in_order; together = p.away t.together; unused = λ e. p.none (t.unused e) }
 
-  pub stream_turned : (used : Bool) (n : ℕ) (rows : List Row) → IsTidyStream stream place used rows → IsTidyStream stream place used (turned test fate n rows)
+  pub stream_turned : (used : Bool) (n : ℕ) (rows : List Row) → IsSoundStream stream place used rows → IsSoundStream stream place used (turned test fate n rows)
   stream_turned used n rows t = finished used rows (turned test fate n rows) (where_turned test fate Fewer nothing stays turns n rows) t
 
-  pub stream_changed : (used : Bool) (rows : List Row) → IsTidyStream stream place used rows → IsTidyStream stream place used (changed test fate rows)
+  pub stream_changed : (used : Bool) (rows : List Row) → IsSoundStream stream place used rows → IsSoundStream stream place used (changed test fate rows)
   stream_changed used rows t = finished used rows (changed test fate rows) (where_changed test fate Fewer nothing stays turns rows) t
 
 -- the same numbers
@@ -105,7 +105,7 @@ no_numbers : (xs ys : List Row) → numbers ys ≡ numbers xs → xs ≡ [] → 
 no_numbers xs [] e none = refl
 no_numbers xs (y ∷ ys) e none = absurd (let no : y.number ∷ numbers ys ≡ [] = e ∙ ap numbers none in cc)
 
-pub same_stream : (stream : ℕ) (place place' : Place) (used : Bool) (xs ys : List Row) → numbers (live stream ys) ≡ numbers (live stream xs) → astray stream place' ys ≡ [] → IsTidyStream stream place used xs → IsTidyStream stream place' used ys
+pub same_stream : (stream : ℕ) (place place' : Place) (used : Bool) (xs ys : List Row) → numbers (live stream ys) ≡ numbers (live stream xs) → astray stream place' ys ≡ [] → IsSoundStream stream place used xs → IsSoundStream stream place' used ys
 same_stream stream place place' used xs ys same away t = record {
   in_order = subst IsAscending (sym same) t.in_order;
   together = away;
@@ -154,7 +154,7 @@ module _ (stream : ℕ) (place : Place) (n : ℕ) where
       let alive : is_live stream (with_fate (Unacked n) x) ≡ is_live stream x = ap (λ (b : Bool). is_users x && ((stream_of x.body == stream) && b)) (sym (waits_unfinished n x.fate w)) in
       one_sent x (with_fate (Unacked n) x) xs ys refl alive (ap (λ (b : Bool). b && not (stands_at place (Unacked n))) alive ∙ ap (λ (b : Bool). is_live stream x && not b) (same_stand place n x.fate w)) p
 
-  pub stream_sent : (used : Bool) (rows : List Row) → IsTidyStream stream place used rows → IsTidyStream stream place used (turned (is_waiting n) (Unacked n) 1 rows)
+  pub stream_sent : (used : Bool) (rows : List Row) → IsSoundStream stream place used rows → IsSoundStream stream place used (turned (is_waiting n) (Unacked n) 1 rows)
   stream_sent used rows t =
       let s = where_turned (is_waiting n) (Unacked n) Same (record { numbers_same = refl; away = λ e. e }) (λ x xs ys p. one_sent x x xs ys refl refl refl p) sends_one 1 rows in
       same_stream stream place place used rows (turned (is_waiting n) (Unacked n) 1 rows) s.numbers_same (s.away t.together) t
@@ -168,7 +168,7 @@ ascends_end k (n ∷ ns) below a = (above_end ns a.0, ascends_end k ns (λ i m e
     above_end [] b = (below 0 n refl, tt)
     above_end (m ∷ ms) b = (b.0, above_end ms b.1)
 
-module _ (stream : ℕ) (place : Place) (used used' : Bool) (rows : List Row) (body : List ℕ) (fate : Fate) (numbered : IsNumbered rows) (t : IsTidyStream stream place used rows) where
+module _ (stream : ℕ) (place : Place) (used used' : Bool) (rows : List Row) (body : List ℕ) (fate : Fate) (numbered : IsNumbered rows) (t : IsSoundStream stream place used rows) where
   abbrev x : Row
   x = new_row (length rows) body fate
 
@@ -178,13 +178,13 @@ module _ (stream : ℕ) (place : Place) (used used' : Bool) (rows : List Row) (b
   astray_split : astray stream place (appended rows body fate) ≡ astray stream place rows ++ cond (is_astray stream place x) (x ∷ []) []
   astray_split = filter-append (is_astray stream place) rows (x ∷ [])
 
-  pub stream_appended : (is_live stream x ≡ true → (stands_at place fate ≡ true) × (used' ≡ true)) → (used' ≡ false → used ≡ false) → IsTidyStream stream place used' (appended rows body fate)
+  pub stream_appended : (is_live stream x ≡ true → (stands_at place fate ≡ true) × (used' ≡ true)) → (used' ≡ false → used ≡ false) → IsSoundStream stream place used' (appended rows body fate)
   stream_appended fits grows = go (is_live stream x) refl
     where
       none_astray : is_astray stream place x ≡ false → astray stream place (appended rows body fate) ≡ []
       none_astray e = astray_split ∙ ap (λ (b : Bool). astray stream place rows ++ cond b (x ∷ []) []) e ∙ append-nil (astray stream place rows) ∙ t.together
 
-      go : (b : Bool) → is_live stream x ≡ b → IsTidyStream stream place used' (appended rows body fate)
+      go : (b : Bool) → is_live stream x ≡ b → IsSoundStream stream place used' (appended rows body fate)
       go true h =
           let f = fits h in
           let all : live stream (appended rows body fate) ≡ live stream rows ++ x ∷ [] = live_split ∙ ap (λ (b : Bool). live stream rows ++ cond b (x ∷ []) []) h in
@@ -250,11 +250,11 @@ module _ (stream : ℕ) (place place' : Place) (test : Fate → Bool) (to : Fate
           gone_astray = rw (t, arrived) g.gone_astray;
         }
         one false true t l g = absurd (
-          let here : stands_at place x.fate ≡ false = contra (stands_at place x.fate) (not (test x.fate)) (λ s. rw (all_go x.fate s) refl) (rw t refl) in
-          let strays : is_astray stream place x ≡ true = rw (l, here) refl in
-          let no : true ≡ false = sym strays ∙ none_here (is_astray stream place x) x (astray stream place rows) e in
-          cc
-        )
+            let here : stands_at place x.fate ≡ false = contra (stands_at place x.fate) (not (test x.fate)) (λ s. rw (all_go x.fate s) refl) (rw t refl) in
+            let strays : is_astray stream place x ≡ true = rw (l, here) refl in
+            let no : true ≡ false = sym strays ∙ none_here (is_astray stream place x) x (astray stream place rows) e in
+            cc
+            )
         one false false t l g = record {
           kept_live = rw (t, l) g.kept_live;
           kept_astray = rw (t, dead (is_live stream x) (not (stands_at place' x.fate)) l) g.kept_astray;
@@ -262,7 +262,7 @@ module _ (stream : ℕ) (place place' : Place) (test : Fate → Bool) (to : Fate
           gone_astray = rw t g.gone_astray;
         }
 
-    pub stream_goes : (used : Bool) (rows : List Row) → IsTidyStream stream place used rows → IsTidyStream stream place' used (moved test (all_with to) rows)
+    pub stream_goes : (used : Bool) (rows : List Row) → IsSoundStream stream place used rows → IsSoundStream stream place' used (moved test (all_with to) rows)
     stream_goes used rows t =
         let g = go_all rows t.together in
         same_stream stream place place' used rows (moved test (all_with to) rows)
@@ -287,11 +287,11 @@ module _ (stream : ℕ) (place place' : Place) (test : Fate → Bool) (to : Fate
 
         one : (a b : Bool) → test x.fate ≡ a → is_live stream x ≡ b → Stay rows → Stay (x ∷ rows)
         one true true t l g = absurd (
-          let here : stands_at place x.fate ≡ false = contra (stands_at place x.fate) (test x.fate) (none_goes x.fate) t in
-          let strays : is_astray stream place x ≡ true = rw (l, here) refl in
-          let no : true ≡ false = sym strays ∙ not_astray in
-          cc
-        )
+            let here : stands_at place x.fate ≡ false = contra (stands_at place x.fate) (test x.fate) (none_goes x.fate) t in
+            let strays : is_astray stream place x ≡ true = rw (l, here) refl in
+            let no : true ≡ false = sym strays ∙ not_astray in
+            cc
+            )
         one true false t l g =
             let gone_too : is_live stream (with_fate to x) ≡ false = alive_as x t ∙ l in
             record {
@@ -313,7 +313,7 @@ module _ (stream : ℕ) (place place' : Place) (test : Fate → Bool) (to : Fate
           gone_astray = rw t g.gone_astray;
         }
 
-    pub stream_remains : (used : Bool) (rows : List Row) → place' ≡ place → IsTidyStream stream place used rows → IsTidyStream stream place used (moved test (all_with to) rows)
+    pub stream_remains : (used : Bool) (rows : List Row) → place' ≡ place → IsSoundStream stream place used rows → IsSoundStream stream place used (moved test (all_with to) rows)
     stream_remains used rows same t =
         let g = stay_all rows t.together in
         same_stream stream place place used rows (moved test (all_with to) rows)
@@ -322,7 +322,7 @@ module _ (stream : ℕ) (place place' : Place) (test : Fate → Bool) (to : Fate
         t
 
 -- a stream with no live message can run anywhere
-pub stream_empty : (stream : ℕ) (place place' : Place) (used : Bool) (rows : List Row) → live stream rows ≡ [] → IsTidyStream stream place used rows → IsTidyStream stream place' used rows
+pub stream_empty : (stream : ℕ) (place place' : Place) (used : Bool) (rows : List Row) → live stream rows ≡ [] → IsSoundStream stream place used rows → IsSoundStream stream place' used rows
 stream_empty stream place place' used rows none t = record {
   in_order = t.in_order;
   together = sym (filter_within (is_astray stream place') (is_live stream) (λ x e. alive_of (is_live stream x) (not (stands_at place' x.fate)) e) rows) ∙ ap (filter (is_astray stream place')) none;

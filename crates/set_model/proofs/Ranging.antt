@@ -20,7 +20,7 @@ use Rattle.set_model.specs.State.{LinkState, State, target, is_up, window_of}
 use Rattle.set_model.specs.Control.{Control, Basic, Cyclic, Choice, again, first, fill, choice_of, is_processed, acked_by, part_of}
 use Rattle.set_model.specs.Changeover.{fate_on, left_link, settled_link, acknowledged as acknowledged_link}
 use Rattle.set_model.specs.Step.{rows_sent, one_if, is_msu, fate_at, risen_link, step}
-use Rattle.set_model.specs.Tidy.{AreFewOn, AreFew}
+use Rattle.set_model.specs.Sound.{AreFewOn, AreFew}
 use Rattle.set_model.proofs.Events.{appended_out}
 use Rattle.set_model.proofs.Filters.{filter_comm, fated_none}
 use Rattle.set_model.proofs.InPlace.{where_turned, where_changed, turned_left}

@@ -8,7 +8,7 @@ use Rattle.set_model.specs.declared.reached.Reached.TheVariants.{Upto}
 use Rattle.set_model.specs.Rows.{Row, standing, is_unacked, is_waiting, is_held, is_on, unack, wait, held, on, parked, numbers, moved, all_with, IsInOrder, IsHeldLast}
 use Rattle.set_model.specs.State.{LinkState, State, target, has_phase_up, has_phase_settled}
 use Rattle.set_model.specs.Changeover.{fate_on, reached_by, is_reasonable, acknowledge, settle}
-use Rattle.set_model.specs.Tidy.{IsTidy}
+use Rattle.set_model.specs.Sound.{IsSound}
 use Rattle.set_model.specs.Laws.{IsEmptyLink, MovesTheRest, DivertsTo, arrived, rest_of}
 use Rattle.set_model.proofs.Events.{acknowledged, moved_to, moved_aside}
 use Rattle.set_model.proofs.Filters.{filter_within}
@@ -26,9 +26,9 @@ none_wait n rows e = sym (filter_within (λ row. is_waiting n row.fate) (λ row.
 pub none_held : (n : ℕ) (rows : List Row) → on n rows ≡ [] → held n rows ≡ []
 none_held n rows e = sym (filter_within (λ row. is_held n row.fate) (λ row. is_on n row.fate) (λ row f. held_on n row.fate f) rows) ∙ ap (standing (is_held n)) e
 
-pub settled_empty : (s : State) (n : ℕ) (link : LinkState) → IsTidy s → slice_get s.links n ≡ Some link → link.phase ≡ Settled → IsEmptyLink n s.rows
-settled_empty s n link tidy there settled =
-    let none = (tidy.links n link there).settled (ap has_phase_settled settled) in
+pub settled_empty : (s : State) (n : ℕ) (link : LinkState) → IsSound s → slice_get s.links n ≡ Some link → link.phase ≡ Settled → IsEmptyLink n s.rows
+settled_empty s n link sound there settled =
+    let none = (sound.links n link there).settled (ap has_phase_settled settled) in
     record { unack_none = none_unack n s.rows none; wait_none = none_wait n s.rows none; held_none = none_held n s.rows none }
 
 -- what is acknowledged on the way changes no target
@@ -73,7 +73,7 @@ module _ (fsn n : ℕ) (link : LinkState) (s : State) (there : slice_get s.links
       let no : true ≡ false = sym up.2 ∙ ap (λ (l : LinkState). has_phase_up l.phase) found ∙ ap has_phase_up down in
       cc
 
-  pub diverts_the_rest : IsTidy s → link.phase ≡ Down → DivertsTo (target s.links) (rest_of n count s.rows) s.rows (settle (Upto fsn) n link s).rows
-  diverts_the_rest tidy down =
-      let t = tidy.links n link there in
+  pub diverts_the_rest : IsSound s → link.phase ≡ Down → DivertsTo (target s.links) (rest_of n count s.rows) s.rows (settle (Upto fsn) n link s).rows
+  diverts_the_rest sound down =
+      let t = sound.links n link there in
       subst (DivertsTo (target s.links) (rest_of n count s.rows) s.rows) (sym settled_rows) (diverts_by count s.rows t.in_order t.held_last (target s.links) (no_target down))

@@ -116,6 +116,12 @@ pub record WalkedBy (s : State) (event : Event) (R : State → State → Type 0)
   pub hears : (n : ℕ) (unit : SignalUnit) (link : LinkState) → event ≡ Heard n unit → IsAt n link Up s → S (after_control (part_of link.control (window_of n link s.rows) (header_in unit) (is_msu unit)) (header_in unit) unit n s link)
   pub rises : (n : ℕ) (link : LinkState) → event ≡ UpEvent n → IsAt n link Settled s → S (rises n s Settled).state
 
+pub brought_by : (accept : Bool) (unit : SignalUnit) (b : List ℕ) → brought accept unit ≡ Some b → (o : Order) → order_of b ≡ Some o → (n : ℕ) → link_of o ≡ n → BringsAbout n unit
+brought_by accept (Fisu head) b e o f n g = absurd cc
+brought_by accept (Lssu head status) b e o f n g = absurd cc
+brought_by true (Msu head body) b e o f n g = let same : body.items ≡ b = cc in (o, ap order_of same ∙ f, g)
+brought_by false (Msu head body) b e o f n g = absurd cc
+
 is_up_phase : (phase : Phase) → has_phase_up phase ≡ true → phase ≡ Up
 is_up_phase Up e = refl
 is_up_phase Down e = absurd cc
@@ -147,12 +153,6 @@ module _ (s : State) (R : State → State → Type 0) (S : State → Type 0) whe
   find_walks : S s → (fate : Option Fate) → S (found fate s).state
   find_walks unmoved None = unmoved
   find_walks unmoved (Some fate) = unmoved
-
-  brought_by : (accept : Bool) (unit : SignalUnit) (b : List ℕ) → brought accept unit ≡ Some b → (o : Order) → order_of b ≡ Some o → (n : ℕ) → link_of o ≡ n → BringsAbout n unit
-  brought_by accept (Fisu head) b e o f n g = absurd cc
-  brought_by accept (Lssu head status) b e o f n g = absurd cc
-  brought_by true (Msu head body) b e o f n g = let same : body.items ≡ b = cc in (o, ap order_of same ∙ f, g)
-  brought_by false (Msu head body) b e o f n g = absurd cc
 
   hear_walks : (n : ℕ) (unit : SignalUnit) (link : LinkState) → WalkedBy s (Heard n unit) R S → IsAt n link Up s → S (controls unit n s link).state
   hear_walks n unit link w at =

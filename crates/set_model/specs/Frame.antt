@@ -10,11 +10,12 @@ use Rattle.set_events.specs.declared.event.Event.{Event}
 use Rattle.set_events.specs.declared.event.Event.TheVariants.{Offer, Take, Find, Next, Heard, Up as UpEvent, Down as DownEvent, DownBlind, NoAnswer}
 use Rattle.set_route.specs.declared.place.Place.TheVariants.{On}
 use Rattle.set_route.specs.Routing.{place_of}
-use Rattle.set_model.specs.Rows.{Row, stream_of, unack, wait, held}
+use Rattle.set_model.specs.declared.phase.Phase.TheVariants.{Up}
+use Rattle.set_model.specs.Rows.{Row, stream_of, unack, wait, held, octets_in}
 use Rattle.set_model.specs.Control.{Choice, again, first, fill, choice_of, control_after, window_heard, part_of, control_heard}
 use Rattle.set_model.specs.State.{LinkState, State, is_up, window_of}
-use Rattle.set_model.specs.Step.{next, after_control, is_msu}
-use Rattle.set_model.specs.Tidy.{IsTidy}
+use Rattle.set_model.specs.Step.{next, after_control, controls, is_msu, step}
+use Rattle.set_model.specs.Sound.{IsSound}
 
 -- the unit brings an order about this link
 abbrev pub BringsAbout : ℕ → SignalUnit → Type 0
@@ -42,3 +43,32 @@ pub record LeavesAlone (number : ℕ) (old new : State) : Type 0 where
   pub more : List Row
   pub wait_more : wait number new.rows ≡ wait number old.rows ++ more
   pub none_more : is_up number old ≡ false → more ≡ []
+
+-- What is sent moves the window so.
+abbrev pub window_after : Choice → WindowState → WindowState
+window_after (again place) window = window
+window_after first window = record window { unacked = window.unacked ++ take 1 window.unsent; unsent = drop 1 window.unsent }
+window_after fill window = window
+
+-- of a link that is up: what its control does when a unit is sent, and when one is heard, is done to its window
+pub record MovesAsItsControl (number : ℕ) (link : LinkState) (s : State) : Type 0 where
+  pub sent : let choice = choice_of (octets_in (unack number s.rows)) link.control (window_of number link s.rows) in
+      (link' : LinkState) × (slice_get (next number s link).state.links number ≡ Some link')
+      × (link'.control ≡ control_after choice (octets_in (unack number s.rows)) link.control (window_of number link s.rows))
+      × (window_of number link' (next number s link).state.rows ≡ window_after choice (window_of number link s.rows))
+  pub heard : (unit : SignalUnit) → let part = part_of link.control (window_of number link s.rows) (header_in unit) (is_msu unit) in
+      (link' : LinkState) × (slice_get (after_control part (header_in unit) unit number s link).links number ≡ Some link')
+      × (link'.control ≡ control_heard link.control (window_of number link s.rows) (header_in unit) (is_msu unit))
+      × (window_of number link' (after_control part (header_in unit) unit number s link).rows ≡ window_heard link.control (window_of number link s.rows) (header_in unit))
+  -- and where the unit brings no order that is all
+  pub no_more : (unit : SignalUnit) → ((about : ℕ) → BringsAbout about unit → ⊥) → let part = part_of link.control (window_of number link s.rows) (header_in unit) (is_msu unit) in
+      let after = after_control part (header_in unit) unit number s link in
+      ((controls unit number s link).state.links ≡ after.links) × ((controls unit number s link).state.rows ≡ after.rows)
+
+-- LAW: an event leaves alone what it doesn't concern
+abbrev pub AnEventLeavesTheRestAlone : Type 0
+AnEventLeavesTheRestAlone = (number : ℕ) (s : State) (event : Event) → (Concerns event number s → ⊥) → LeavesAlone number s (step s event).state
+
+-- LAW: Next and Heard move a link's window as its control does
+abbrev pub AWindowMovesAsItsControl : Type 0
+AWindowMovesAsItsControl = (number : ℕ) (link : LinkState) (s : State) → IsSound s → slice_get s.links number ≡ Some link → link.phase ≡ Up → MovesAsItsControl number link s

@@ -8,10 +8,10 @@ use Rattle.set_events.specs.declared.event.Event.{Event}
 use Rattle.set_model.specs.declared.phase.Phase.TheVariants.{Down, Settled}
 use Rattle.set_model.specs.declared.reached.Reached.TheVariants.{Upto}
 use Rattle.set_model.specs.Rows.{Row, standing, is_unacked, is_on, unack, wait, held, on, parked, numbers, with_fate, turned, changed, moved, all_with, appended, row_of, place, body_at, IsNumbered, IsInOrder, IsHeldLast}
-use Rattle.set_model.specs.State.{LinkState, State, target}
+use Rattle.set_model.specs.State.{LinkState, State, Settings, opened_with, target}
 use Rattle.set_model.specs.Changeover.{fate_on, reached_by, is_reasonable, settle}
 use Rattle.set_model.specs.Step.{step, Gains}
-use Rattle.set_model.specs.Tidy.{IsTidy, IsAsked, AreFew, IsManaged}
+use Rattle.set_model.specs.Sound.{IsSettings, IsSound, IsAsked, AreFew, IsManaged}
 
 -- THE ROWS.
 
@@ -65,8 +65,16 @@ abbrev pub AStepCounts : Type 0
 AStepCounts = (s : State) (event : Event) (events : ℕ) → AreFew events s → AreFew (events + 1) (step s event).state
 
 -- LAW: every step keeps what holds of every set's state
-abbrev pub EveryStepKeepsTidy : Type 0
-EveryStepKeepsTidy = (s : State) (event : Event) → IsAsked event → IsTidy s → IsTidy (step s event).state
+abbrev pub EveryStepKeepsASetSound : Type 0
+EveryStepKeepsASetSound = (s : State) (event : Event) → IsAsked event → IsSound s → IsSound (step s event).state
+
+-- LAW: a set that nothing was asked of is sound
+pub record IsNew (s : State) : Type 0 where
+  pub sound : IsSound s
+  pub few : AreFew 0 s
+
+abbrev pub ANewSetIsSound : Type 0
+ANewSetIsSound = (settings : Settings) → IsSettings settings → IsNew (opened_with settings)
 
 -- SETTLING.
 
@@ -78,7 +86,7 @@ pub record IsEmptyLink (number : ℕ) (rows : List Row) : Type 0 where
 
 -- LAW: no message stays on a link that settled
 abbrev pub ASettledLinkIsEmpty : Type 0
-ASettledLinkIsEmpty = (s : State) (number : ℕ) (link : LinkState) → IsTidy s → slice_get s.links number ≡ Some link → link.phase ≡ Settled → IsEmptyLink number s.rows
+ASettledLinkIsEmpty = (s : State) (number : ℕ) (link : LinkState) → IsSound s → slice_get s.links number ≡ Some link → link.phase ≡ Settled → IsEmptyLink number s.rows
 
 -- the rows where the far end has the first so many messages of the link: they are acknowledged
 abbrev pub arrived : ℕ → ℕ → List Row → List Row
@@ -115,5 +123,5 @@ DivertsTo None rest old new = numbers (parked new) ≡ numbers (parked old) ++ r
 -- state a link that was left, and settles by a reasonable FSN, is so left by its messages.
 abbrev pub AChangeoverDivertsTheRest : Type 0
 AChangeoverDivertsTheRest =
-    (fsn number : ℕ) (link : LinkState) (s : State) → IsTidy s → slice_get s.links number ≡ Some link → link.phase ≡ Down → is_reasonable fsn number link s.rows ≡ true
+    (fsn number : ℕ) (link : LinkState) (s : State) → IsSound s → slice_get s.links number ≡ Some link → link.phase ≡ Down → is_reasonable fsn number link s.rows ≡ true
     → DivertsTo (target s.links) (rest_of number (reached_by fsn number link s.rows) s.rows) s.rows (settle (Upto fsn) number link s).rows

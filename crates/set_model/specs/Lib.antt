@@ -4,6 +4,6 @@ pub mod Frame
 pub mod History
 pub mod Laws
 pub mod Rows
+pub mod Sound
 pub mod State
 pub mod Step
-pub mod Tidy

@@ -1,5 +1,6 @@
 //! Laws that speak of states alone.
-ghost use Rattle.set_model.specs.Laws.{NoMessageChanges, AMoveMovesTheLinksRows, NoEventChangesAMessage, ASettledLinkIsEmpty, SettlingMovesTheRest, AChangeoverDivertsTheRest, AStepGains, AStepCounts, EveryStepKeepsTidy};
+ghost use Rattle.set_model.specs.Frame.{AnEventLeavesTheRestAlone, AWindowMovesAsItsControl};
+ghost use Rattle.set_model.specs.Laws.{NoMessageChanges, AMoveMovesTheLinksRows, NoEventChangesAMessage, ASettledLinkIsEmpty, SettlingMovesTheRest, AChangeoverDivertsTheRest, AStepGains, AStepCounts, ANewSetIsSound, EveryStepKeepsASetSound};
 
 /// No change takes a row out, or gives one another number or another body; and a new message
 /// leaves all others as they are. Each number stands in exactly one row.
@@ -54,7 +55,29 @@ pub fn a_step_counts()
     ensures { AStepCounts }
 {}
 
-/// Every event keeps what holds of every set's state (`specs/Tidy.antt`).
-pub fn every_step_keeps_tidy()
-    ensures { EveryStepKeepsTidy }
+/// A set that nothing was asked of is sound, and has no number yet.
+pub fn a_new_set_is_sound()
+    ensures { ANewSetIsSound }
+{}
+
+/// Every event keeps what holds of every set's state: numbers stand in one row each; no link has more
+/// than 127 unacknowledged messages, and what was sent on it stands before what waits and what is held;
+/// nothing is held for a link that is up, and nothing stands on one that settled; a stream runs on a link
+/// that isn't settled, its unfinished messages together and in the order of their numbers; nothing is
+/// aside while a link is up.
+pub fn every_step_keeps_a_set_sound()
+    ensures { EveryStepKeepsASetSound }
+{}
+
+/// An event leaves all links alone that it doesn't concern: its own link, that of an order which its unit
+/// brings, and the one on which an offered message's stream runs. Messages can come to wait for another
+/// one, last, if it's up.
+pub fn an_event_leaves_the_rest_alone()
+    ensures { AnEventLeavesTheRestAlone }
+{}
+
+/// What is sent and what is heard moves a link's window as its error control's own step does, and where
+/// a heard unit brings no order that is all that happens to rows and links (Q.703 5 and 6).
+pub fn a_window_moves_as_its_control()
+    ensures { AWindowMovesAsItsControl }
 {}

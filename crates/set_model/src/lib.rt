@@ -5,7 +5,8 @@
 //! the order to read them: `Rows` (the messages as one list), `Control` (what a link's error control
 //! chooses and hears), `State` (what a set holds), `Changeover` (how a link is left, orders are obeyed
 //! and a link settles), `Step` (what is answered to an event, and what is held then), `History` (legal
-//! histories and their books), `Tidy` (what holds of every set's state), `Laws`.
+//! histories and their books), `Sound` (what holds of every set's state), `Frame` (which links
+//! an event concerns) and `Laws`.
 //!
 //! How a set keeps all this, and at what cost, is the affair of the crates above: nothing here speaks
 //! of windows in memory, lists of rows or indices.
@@ -17,8 +18,10 @@ mod phase;
 mod reached;
 
 pub use laws::{
-    a_changeover_diverts_the_rest, a_move_moves_the_links_rows, a_settled_link_is_empty,
-    a_step_counts, a_step_gains, every_step_keeps_tidy, no_event_changes_a_message, no_message_changes, settling_moves_the_rest,
+    a_changeover_diverts_the_rest, a_move_moves_the_links_rows, a_new_set_is_sound,
+    a_settled_link_is_empty, a_step_counts, a_step_gains, a_window_moves_as_its_control,
+    an_event_leaves_the_rest_alone, every_step_keeps_a_set_sound, no_event_changes_a_message,
+    no_message_changes, settling_moves_the_rest,
 };
 pub use numbered::Numbered;
 pub use phase::Phase;

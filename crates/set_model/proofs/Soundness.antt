@@ -1,7 +1,8 @@
 -- EVERY STEP KEEPS WHAT HOLDS OF EVERY SET'S STATE.
-use Rattle.std.proofs.Common.{refl, arith, ◌≡◌, ◌≢◌, ◌∙◌, ap, sym, subst, ◌<◌, ◌≤◌, ℕ, ◌+◌, ◌%◌, ◌==◌, Bool, true, false, not, ◌&&◌, ◌||◌, List, [], ◌∷◌, ◌++◌, length, map, take, drop, slice_get, slice_set, Option, None, Some, if◌then◌else◌, cond, ◌⊎◌, inl, inr, IfSome}
+use Rattle.std.proofs.Common.{refl, arith, ◌≡◌, ◌≢◌, ◌∙◌, ap, sym, subst, ◌<◌, ◌≤◌, ℕ, zero, suc, ◌+◌, ◌%◌, ◌==◌, Bool, true, false, not, ◌&&◌, ◌||◌, List, [], ◌∷◌, ◌++◌, length, map, take, drop, slice_get, slice_set, Option, None, Some, if◌then◌else◌, cond, ◌⊎◌, inl, inr, IfSome, replicate, slice_index_or}
 use Rattle.std.proofs.lemmas.Bool.Decides.{nat_tests}
-use Rattle.std.proofs.lemmas.Bool.{eqb-true}
+use Rattle.std.proofs.lemmas.Bool.{eqb-true, le-ltb}
+use Rattle.std.proofs.lemmas.Option.{same_Some}
 use Rattle.std.proofs.lemmas.List.{length-map, length-append, length-drop, length-set}
 use Rattle.l2_units.specs.declared.unit.Header.{Header}
 use Rattle.l2_units.specs.declared.unit.Unit.{Unit as SignalUnit}
@@ -20,17 +21,18 @@ use Rattle.set_events.specs.declared.event.Event.{Event}
 use Rattle.set_events.specs.declared.event.Event.TheVariants.{Offer}
 use Rattle.set_route.specs.declared.place.Place.{Place}
 use Rattle.set_route.specs.declared.place.Place.TheVariants.{On, Nowhere}
-use Rattle.set_route.specs.Routing.{Routing, place_of, has_messages, place_raised, place_settled, place_on, accepted as streams_accepted, raised, settled as streams_settled}
+use Rattle.set_route.specs.declared.stream.Stream.{Stream}
+use Rattle.set_route.specs.Routing.{Routing, new_stream, stream_numbers, place_of, has_messages, place_raised, place_settled, place_on, accepted as streams_accepted, raised, settled as streams_settled}
 use Rattle.set_route.proofs.Alone.{alone}
-use Rattle.set_route.proofs.Places.{accepted_sound, raised_sound, settled_sound}
+use Rattle.set_route.proofs.Places.{accepted_sound, raised_sound, settled_sound, new_sound}
 use Rattle.set_model.specs.declared.phase.Phase.{Phase}
 use Rattle.set_model.specs.declared.phase.Phase.TheVariants.{Up, Down, Settled}
 use Rattle.set_model.specs.Rows.{Row, is_waiting, is_unacked, is_held, is_on, is_parked, is_users, service_indicator, stream_of, unack, wait, held, on, parked, numbers, octets_in, turned, changed, moved, all_with, appended, with_fate, AreFit, IsNumbered, IsInOrder, IsHeldLast}
 use Rattle.set_model.specs.Control.{accepted_of, Choice, again, first, fill, start_of, choice_of, control_after, part_of, control_heard, acked_by}
-use Rattle.set_model.specs.State.{LinkState, State, is_up, link_is_up, has_phase_up, has_phase_settled, target, window_of, with_link}
+use Rattle.set_model.specs.State.{LinkState, State, Settings, new_link, opened_with, is_up, link_is_up, has_phase_up, has_phase_settled, target, window_of, with_link}
 use Rattle.set_model.specs.Changeover.{fate_on, queue, leave, left_link, acknowledge, acknowledged as acknowledged_link, settled_link, move_off}
 use Rattle.set_model.specs.Step.{sends, rows_sent, one_if, is_msu, fate_at, risen_link, offer_refusal, offered, next, rises, after_control, step}
-use Rattle.set_model.specs.Tidy.{IsOf, IsInRange, IsTidyLink, is_unfinished, stands_at, is_live, live, IsPlaced, IsTidyStream, IsManaged, IsTidy, IsAsked}
+use Rattle.set_model.specs.Sound.{IsOf, IsInRange, IsSoundLink, is_unfinished, stands_at, is_live, live, IsPlaced, IsSoundStream, IsManaged, IsSettings, IsSound, IsAsked, AreFew}
 use Rattle.set_model.proofs.Controlling.{accepted_after, method_after, first_chosen, range_after, method_heard, part_acked, part_accept, accepted_heard, range_heard}
 use Rattle.set_model.proofs.Events.{Untouched, untouched_self, untouched_then, Sent, sent, acknowledged, GivenUp, sent_given_up, waiting_given_up, MovedTo, moved_to, moved_aside, unparked, appended_in, appended_out, appended_untouched}
 use Rattle.set_model.proofs.Finding.{new_row, numbered_appended, fit_appended}
@@ -52,7 +54,7 @@ up_unsettled Down e = absurd cc
 up_unsettled Settled e = absurd cc
 
 -- A LINK THAT AN EVENT LEAVES ALONE.
-link_untouched : (m : Method) (n : ℕ) (link : LinkState) (rows new : List Row) → Untouched n rows new → IsTidyLink m n link rows → IsTidyLink m n link new
+link_untouched : (m : Method) (n : ℕ) (link : LinkState) (rows new : List Row) → Untouched n rows new → IsSoundLink m n link rows → IsSoundLink m n link new
 link_untouched m n link rows new u t = record {
   window = rw u.unack_same t.window;
   counted = t.counted;
@@ -65,11 +67,11 @@ link_untouched m n link rows new u t = record {
 }
 
 -- the link that changes, and the others
-links_set : (m : Method) (links : List LinkState) (n : ℕ) (link : LinkState) (rows new : List Row) → IsTidyLink m n link new → ((k : ℕ) → (n == k) ≡ false → Untouched k rows new) → ((k : ℕ) (other : LinkState) → slice_get links k ≡ Some other → IsTidyLink m k other rows)
-    → (k : ℕ) (other : LinkState) → slice_get (slice_set links n link) k ≡ Some other → IsTidyLink m k other new
+links_set : (m : Method) (links : List LinkState) (n : ℕ) (link : LinkState) (rows new : List Row) → IsSoundLink m n link new → ((k : ℕ) → (n == k) ≡ false → Untouched k rows new) → ((k : ℕ) (other : LinkState) → slice_get links k ≡ Some other → IsSoundLink m k other rows)
+    → (k : ℕ) (other : LinkState) → slice_get (slice_set links n link) k ≡ Some other → IsSoundLink m k other new
 links_set m links n link rows new one others all k other there = go (at_set links n k link other there)
   where
-    go : ((k ≡ n) × (other ≡ link)) ⊎ ((k ≢ n) × (slice_get links k ≡ Some other)) → IsTidyLink m k other new
+    go : ((k ≡ n) × (other ≡ link)) ⊎ ((k ≢ n) × (slice_get links k ≡ Some other)) → IsSoundLink m k other new
     go (inl p) = rw (p.0, p.1) one
     go (inr p) = link_untouched m k other rows new (others k (apart n k (λ e. p.0 (sym e)))) (all k other p.1)
 
@@ -93,16 +95,16 @@ up_before links n link link' there same k other at up = go (at_set links n k lin
 -- A CHANGE OF ONE LINK, with rows that change in their places, none of them parked.
 pub record Changes (n : ℕ) (link link' : LinkState) (s : State) (new : List Row) : Type 0 where
   pub there : slice_get s.links n ≡ Some link
-  pub one : IsTidyLink s.settings.method n link' new
+  pub one : IsSoundLink s.settings.method n link' new
   pub others : (k : ℕ) → (n == k) ≡ false → Untouched k s.rows new
   pub numbered : IsNumbered new
   pub fit : AreFit new
-  pub streams : (stream : ℕ) → stream < 16 → IsTidyStream stream (place_of stream s.routing) (has_messages stream s.routing) new
+  pub streams : (stream : ℕ) → stream < 16 → IsSoundStream stream (place_of stream s.routing) (has_messages stream s.routing) new
   pub parked_same : parked new ≡ parked s.rows
   pub no_rise : has_phase_up link'.phase ≡ true → has_phase_up link.phase ≡ true
   pub unsettled : has_phase_settled link'.phase ≡ false
 
-changes : (n : ℕ) (link link' : LinkState) (s : State) (new : List Row) → IsTidy s → Changes n link link' s new → IsTidy (record s { links = slice_set s.links n link'; rows = new })
+changes : (n : ℕ) (link link' : LinkState) (s : State) (new : List Row) → IsSound s → Changes n link link' s new → IsSound (record s { links = slice_set s.links n link'; rows = new })
 changes n link link' s new t c = record {
   managed = t.managed;
   routing = t.routing;
@@ -118,14 +120,23 @@ changes n link link' s new t c = record {
 }
 
 -- the same, where the link stays
-rows_change : (n : ℕ) (link : LinkState) (s : State) (new : List Row) → IsTidy s → Changes n link link s new → IsTidy (record s { rows = new })
-rows_change n link s new t c = subst (λ (links : List LinkState). IsTidy (record s { links = links; rows = new })) (set_same s.links n link c.there) (changes n link link s new t c)
+rows_change : (n : ℕ) (link : LinkState) (s : State) (new : List Row) → IsSound s → Changes n link link s new → IsSound (record s { rows = new })
+rows_change n link s new t c = subst (λ (links : List LinkState). IsSound (record s { links = links; rows = new })) (set_same s.links n link c.there) (changes n link link s new t c)
 
 -- the inbox is no part of it
-pub with_inbox : (s : State) (inbox : List (List ℕ)) → IsTidy s → IsTidy (record s { inbox = inbox })
+pub with_inbox : (s : State) (inbox : List (List ℕ)) → IsSound s → IsSound (record s { inbox = inbox })
 with_inbox s inbox t = record {
-  managed = t.managed; routing = t.routing; routed = t.routed; count = t.count; numbered = t.numbered; fit = t.fit; links = t.links;
-  streams = t.streams; placed = t.placed; none_aside = t.none_aside; all_run = t.all_run;
+  managed = t.managed;
+  routing = t.routing;
+  routed = t.routed;
+  count = t.count;
+  numbered = t.numbered;
+  fit = t.fit;
+  links = t.links;
+  streams = t.streams;
+  placed = t.placed;
+  none_aside = t.none_aside;
+  all_run = t.all_run;
 }
 
 down_not_up : (phase : Phase) → phase ≡ Down → has_phase_up phase ≡ false
@@ -135,7 +146,7 @@ down_unsettled : (phase : Phase) → phase ≡ Down → has_phase_settled phase 
 down_unsettled phase e = ap has_phase_settled e
 
 -- LEAVING.
-pub leaves : (blind : Bool) (n : ℕ) (link : LinkState) (s : State) → IsAt n link Up s → IsTidy s → IsTidy (leave blind n link s)
+pub leaves : (blind : Bool) (n : ℕ) (link : LinkState) (s : State) → IsAt n link Up s → IsSound s → IsSound (leave blind n link s)
 leaves blind n link s at t =
     let l = t.links n link at.there in
     changes n link (left_link blind link) s s.rows t (record {
@@ -151,7 +162,7 @@ leaves blind n link s at t =
     })
 
 -- WHAT IS ACKNOWLEDGED OR GIVEN UP on a link that was left.
-pub acknowledges : (count n : ℕ) (link : LinkState) (s : State) → IsAt n link Down s → IsTidy s → IsTidy (acknowledge count n link s)
+pub acknowledges : (count n : ℕ) (link : LinkState) (s : State) → IsAt n link Down s → IsSound s → IsSound (acknowledge count n link s)
 acknowledges count n link s at t =
     let l = t.links n link at.there in
     let a = acknowledged n count s.rows in
@@ -181,7 +192,7 @@ acknowledges count n link s at t =
       unsettled = not_settled;
     })
 
-pub gives_up : (test : Fate → Bool) (cause : DiscardCause) (n : ℕ) (link : LinkState) (s : State) → GivenUp n s.rows (changed test (Discarded cause) s.rows) → length (unack n (changed test (Discarded cause) s.rows)) ≤ length (unack n s.rows) → IsAt n link Down s → IsTidy s → IsTidy (record s { rows = changed test (Discarded cause) s.rows })
+pub gives_up : (test : Fate → Bool) (cause : DiscardCause) (n : ℕ) (link : LinkState) (s : State) → GivenUp n s.rows (changed test (Discarded cause) s.rows) → length (unack n (changed test (Discarded cause) s.rows)) ≤ length (unack n s.rows) → IsAt n link Down s → IsSound s → IsSound (record s { rows = changed test (Discarded cause) s.rows })
 gives_up test cause n link s g fewer at t =
     let l = t.links n link at.there in
     let few = l.window in
@@ -220,14 +231,14 @@ count_sent n rows order some =
     one [] few = absurd (omega (arith, few))
     one (x ∷ xs) few = refl
 
-module _ (n : ℕ) (link : LinkState) (s : State) (at : IsAt n link Up s) (t : IsTidy s) where
+module _ (n : ℕ) (link : LinkState) (s : State) (at : IsAt n link Up s) (t : IsSound s) where
   abbrev window : WindowState
   window = window_of n link s.rows
 
   abbrev octets : ℕ
   octets = octets_in (unack n s.rows)
 
-  l : IsTidyLink s.settings.method n link s.rows
+  l : IsSoundLink s.settings.method n link s.rows
   l = t.links n link at.there
 
   up : has_phase_up link.phase ≡ true
@@ -242,7 +253,7 @@ module _ (n : ℕ) (link : LinkState) (s : State) (at : IsAt n link Up s) (t : I
   old_range : IsInRange link.control (length window.unacked)
   old_range = subst (IsInRange link.control) (sym same_count) (l.in_range up)
 
-  one_sent : (choice : Choice) (new : List Row) → choice_of octets link.control window ≡ choice → IsInOrder n new → IsHeldLast n new → held n new ≡ held n s.rows → length (unack n s.rows) ≤ length (unack n new) → (choice ≡ first → length (unack n new) ≡ length (unack n s.rows) + 1) → length (unack n new) ≤ 127 → IsTidyLink s.settings.method n (record link { control = control_after choice octets link.control window }) new
+  one_sent : (choice : Choice) (new : List Row) → choice_of octets link.control window ≡ choice → IsInOrder n new → IsHeldLast n new → held n new ≡ held n s.rows → length (unack n s.rows) ≤ length (unack n new) → (choice ≡ first → length (unack n new) ≡ length (unack n s.rows) + 1) → length (unack n new) ≤ 127 → IsSoundLink s.settings.method n (record link { control = control_after choice octets link.control window }) new
   one_sent choice new e order last same more one few = record {
     window = few;
     counted = accepted_after choice octets link.control window ∙ l.counted;
@@ -255,7 +266,7 @@ module _ (n : ℕ) (link : LinkState) (s : State) (at : IsAt n link Up s) (t : I
   }
 
   -- with no message sent for the first time
-  repeats : (choice : Choice) → choice_of octets link.control window ≡ choice → (choice ≡ first → ⊥) → IsTidy (record s { links = slice_set s.links n (record link { control = control_after choice octets link.control window }); rows = s.rows })
+  repeats : (choice : Choice) → choice_of octets link.control window ≡ choice → (choice ≡ first → ⊥) → IsSound (record s { links = slice_set s.links n (record link { control = control_after choice octets link.control window }); rows = s.rows })
   repeats choice e other = changes n link (record link { control = control_after choice octets link.control window }) s s.rows t (record {
     there = at.there;
     one = one_sent choice s.rows e l.in_order l.held_last refl (omega arith) (λ f. absurd (other f)) l.window;
@@ -268,7 +279,7 @@ module _ (n : ℕ) (link : LinkState) (s : State) (at : IsAt n link Up s) (t : I
     unsettled = not_settled;
   })
 
-  sends_by : (choice : Choice) → choice_of octets link.control window ≡ choice → IsTidy (sends choice n s link).state
+  sends_by : (choice : Choice) → choice_of octets link.control window ≡ choice → IsSound (sends choice n s link).state
   sends_by (again place) e = repeats (again place) e (λ f. cc)
   sends_by fill e = repeats fill e (λ f. cc)
   sends_by first e =
@@ -290,8 +301,8 @@ module _ (n : ℕ) (link : LinkState) (s : State) (at : IsAt n link Up s) (t : I
         unsettled = not_settled;
       })
 
-  pub sends_tidy : IsTidy (next n s link).state
-  sends_tidy = sends_by (choice_of octets link.control window) refl
+  pub sends_sound : IsSound (next n s link).state
+  sends_sound = sends_by (choice_of octets link.control window) refl
 
   -- HEARING.
   module _ (unit : SignalUnit) where
@@ -315,8 +326,8 @@ module _ (n : ℕ) (link : LinkState) (s : State) (at : IsAt n link Up s) (t : I
         let b = length-drop part.acked (unack n s.rows) in
         omega (arith, gone, a, b, acked_is, same_count)
 
-    pub hears_tidy : IsTidy (after_control part head unit n s link)
-    hears_tidy =
+    pub hears_sound : IsSound (after_control part head unit n s link)
+    hears_sound =
         let a = acknowledged n part.acked s.rows in
         let few = l.window in
         let left = length-drop part.acked (unack n s.rows) in
@@ -351,19 +362,19 @@ IsOpen (Unacked number) links = ⊥
 IsOpen (Acked number) links = ⊥
 IsOpen (Discarded cause) links = ⊥
 
-module _ (s : State) (body : List ℕ) (t : IsTidy s) where
+module _ (s : State) (body : List ℕ) (t : IsSound s) where
   -- a link that the message isn't put on
-  off_link : (fate : Fate) (k : ℕ) (other : LinkState) → slice_get s.links k ≡ Some other → is_on k fate ≡ false → IsTidyLink s.settings.method k other (appended s.rows body fate)
+  off_link : (fate : Fate) (k : ℕ) (other : LinkState) → slice_get s.links k ≡ Some other → is_on k fate ≡ false → IsSoundLink s.settings.method k other (appended s.rows body fate)
   off_link fate k other there off = link_untouched s.settings.method k other s.rows (appended s.rows body fate) (appended_untouched s.rows body fate k off) (t.links k other there)
 
-  link_appended : (fate : Fate) → IsOpen fate s.links → (k : ℕ) (other : LinkState) → slice_get s.links k ≡ Some other → IsTidyLink s.settings.method k other (appended s.rows body fate)
+  link_appended : (fate : Fate) → IsOpen fate s.links → (k : ℕ) (other : LinkState) → slice_get s.links k ≡ Some other → IsSoundLink s.settings.method k other (appended s.rows body fate)
   link_appended Parked fits k other there = off_link Parked k other there refl
   link_appended (Unacked n) fits k other there = absurd fits
   link_appended (Acked n) fits k other there = absurd fits
   link_appended (Discarded cause) fits k other there = absurd fits
   link_appended (Waiting n) fits k other there = go (n == k) refl
     where
-      go : (b : Bool) → (n == k) ≡ b → IsTidyLink s.settings.method k other (appended s.rows body (Waiting n))
+      go : (b : Bool) → (n == k) ≡ b → IsSoundLink s.settings.method k other (appended s.rows body (Waiting n))
       go false e = off_link (Waiting n) k other there e
       go true e =
           let same : n ≡ k = eqb-true n k e in
@@ -384,7 +395,7 @@ module _ (s : State) (body : List ℕ) (t : IsTidy s) where
           }
   link_appended (Held n) fits k other there = go (n == k) refl
     where
-      go : (b : Bool) → (n == k) ≡ b → IsTidyLink s.settings.method k other (appended s.rows body (Held n))
+      go : (b : Bool) → (n == k) ≡ b → IsSoundLink s.settings.method k other (appended s.rows body (Held n))
       go false e = off_link (Held n) k other there e
       go true e =
           let same : n ≡ k = eqb-true n k e in
@@ -404,12 +415,12 @@ module _ (s : State) (body : List ℕ) (t : IsTidy s) where
           }
 
   none_parked : (fate : Fate) → IsOpen fate s.links → (k : ℕ) (other : LinkState) → slice_get s.links k ≡ Some other → has_phase_up other.phase ≡ true → parked (appended s.rows body fate) ≡ []
-  none_parked Parked fits k other there up = false_true (has_phase_up other.phase) (fits k other there) up
-  none_parked (Waiting n) fits k other there up = appended_out s.rows body (Waiting n) is_parked refl ∙ t.none_aside k other there up
-  none_parked (Held n) fits k other there up = appended_out s.rows body (Held n) is_parked refl ∙ t.none_aside k other there up
-  none_parked (Unacked n) fits k other there up = absurd fits
-  none_parked (Acked n) fits k other there up = absurd fits
-  none_parked (Discarded cause) fits k other there up = absurd fits
+  none_parked Parked fits k other there rising = false_true (has_phase_up other.phase) (fits k other there) rising
+  none_parked (Waiting n) fits k other there rising = appended_out s.rows body (Waiting n) is_parked refl ∙ t.none_aside k other there rising
+  none_parked (Held n) fits k other there rising = appended_out s.rows body (Held n) is_parked refl ∙ t.none_aside k other there rising
+  none_parked (Unacked n) fits k other there rising = absurd fits
+  none_parked (Acked n) fits k other there rising = absurd fits
+  none_parked (Discarded cause) fits k other there rising = absurd fits
 
 -- AN ORDER goes to the target, and is of no stream.
 open_target : (s : State) (to : Option ℕ) → target s.links ≡ to → IsOpen (fate_on to) s.links
@@ -429,7 +440,7 @@ order_fits (Cba n code) s = omega arith
 order_fits (Eco n) s = omega arith
 order_fits (Eca n) s = omega arith
 
-pub queues : (order : Order) (s : State) → IsTidy s → IsTidy (queue order s)
+pub queues : (order : Order) (s : State) → IsSound s → IsSound (queue order s)
 queues order s t =
     let body = text order s.settings.sio s.settings.dpc s.settings.opc in
     let fate = fate_on (target s.links) in
@@ -449,7 +460,7 @@ queues order s t =
     }
 
 -- AN OFFER goes where its stream runs.
-open_offer : (s : State) → IsTidy s → (stream : ℕ) → stream < 16 → (place : Place) → place_of stream s.routing ≡ place → IsOpen (fate_at place s) s.links
+open_offer : (s : State) → IsSound s → (stream : ℕ) → stream < 16 → (place : Place) → place_of stream s.routing ≡ place → IsOpen (fate_at place s) s.links
 open_offer s t stream low Nowhere e = λ n link there. go n link there (has_phase_up link.phase) refl
   where
     go : (n : ℕ) (link : LinkState) → slice_get s.links n ≡ Some link → (b : Bool) → has_phase_up link.phase ≡ b → has_phase_up link.phase ≡ false
@@ -481,7 +492,7 @@ or_right : (a b : Bool) → (a || b) ≡ false → b ≡ false
 or_right true b e = absurd cc
 or_right false b e = e
 
-offers : (s : State) (body : List ℕ) → stream_of body < 16 → offer_refusal s.rows body ≡ None → IsTidy s → IsTidy (offered None s body).state
+offers : (s : State) (body : List ℕ) → stream_of body < 16 → offer_refusal s.rows body ≡ None → IsSound s → IsSound (offered None s body).state
 offers s body low accepted t =
     let stream = stream_of body in
     let place = place_of stream s.routing in
@@ -499,8 +510,8 @@ offers s body low accepted t =
           let a = alone s.routing k t.routing few in
           rw (a.accepted_place stream, a.accepted_messages stream) (stream_appended k (place_of k s.routing) (has_messages k s.routing) ((k == stream) || has_messages k s.routing) s.rows body fate t.numbered (t.streams k few)
           (λ e.
-              let same : stream ≡ k = eqb-true stream k (of_stream (is_users (new_row (length s.rows) body fate)) (stream == k) (is_unfinished fate) e) in
-              (ap (λ (j : ℕ). stands_at (place_of j s.routing) fate) (sym same) ∙ stands_offer place s, ap (λ (j : ℕ). (j == stream) || has_messages k s.routing) (sym same) ∙ ap (λ (b : Bool). b || has_messages k s.routing) (itself stream)))
+          let same : stream ≡ k = eqb-true stream k (of_stream (is_users (new_row (length s.rows) body fate)) (stream == k) (is_unfinished fate) e) in
+          (ap (λ (j : ℕ). stands_at (place_of j s.routing) fate) (sym same) ∙ stands_offer place s, ap (λ (j : ℕ). (j == stream) || has_messages k s.routing) (sym same) ∙ ap (λ (b : Bool). b || has_messages k s.routing) (itself stream)))
           (λ e. or_right (k == stream) (has_messages k s.routing) e));
       placed = λ k few. rw ((alone s.routing k t.routing few).accepted_place stream) (t.placed k few);
       none_aside = none_parked s body t fate fits;
@@ -537,7 +548,7 @@ not_used true true e = absurd cc
 not_used true false e = refl
 not_used false used e = absurd cc
 
-module _ (n : ℕ) (link : LinkState) (s : State) (at : IsAt n link Settled s) (t : IsTidy s) where
+module _ (n : ℕ) (link : LinkState) (s : State) (at : IsAt n link Settled s) (t : IsSound s) where
   abbrev new : List Row
   new = moved is_parked (all_with (Waiting n)) s.rows
 
@@ -547,7 +558,7 @@ module _ (n : ℕ) (link : LinkState) (s : State) (at : IsAt n link Settled s) (
   empty : on n s.rows ≡ []
   empty = (t.links n link at.there).settled (ap has_phase_settled at.phase_is)
 
-  risen_one : IsTidyLink s.settings.method n risen new
+  risen_one : IsSoundLink s.settings.method n risen new
   risen_one =
       let u = unparked n s.rows in
       let none : unack n new ≡ [] = u.unack_same ∙ none_unack n s.rows empty in
@@ -562,14 +573,14 @@ module _ (n : ℕ) (link : LinkState) (s : State) (at : IsAt n link Settled s) (
         settled = λ e. absurd cc;
       }
 
-  stream_risen : (k home : ℕ) (used : Bool) (place : Place) → IsTidyStream k place used s.rows → IsTidyStream k (place_raised n home used place) used new
+  stream_risen : (k home : ℕ) (used : Bool) (place : Place) → IsSoundStream k place used s.rows → IsSoundStream k (place_raised n home used place) used new
   stream_risen k home used Nowhere p = stream_goes k Nowhere (On n) is_parked (Waiting n) parked_unfinished refl (λ f e. e) (itself n) used s.rows p
   stream_risen k home used (On l) p = go ((home == n) && not used) refl
     where
-      remains : IsTidyStream k (On l) used new
+      remains : IsSoundStream k (On l) used new
       remains = stream_remains k (On l) (On l) is_parked (Waiting n) parked_unfinished refl (λ f e. on_not_parked l f e) used s.rows refl p
 
-      go : (b : Bool) → ((home == n) && not used) ≡ b → IsTidyStream k (place_raised n home used (On l)) used new
+      go : (b : Bool) → ((home == n) && not used) ≡ b → IsSoundStream k (place_raised n home used (On l)) used new
       go true e = rw e (stream_empty k (On l) (On n) used new (remains.unused (not_used (home == n) used e)) remains)
       go false e = rw e remains
 
@@ -584,8 +595,8 @@ module _ (n : ℕ) (link : LinkState) (s : State) (at : IsAt n link Settled s) (
       go true e = rw e risen_there
       go false e = rw e (placed_set s.links n link risen (On l) at.there refl p)
 
-  pub rises_tidy : IsTidy (rises n s Settled).state
-  rises_tidy =
+  pub rises_sound : IsSound (rises n s Settled).state
+  rises_sound =
       let u = unparked n s.rows in
       let below = within s.links n link at.there in
       let links = t.count in
@@ -619,7 +630,7 @@ target_stands : (to : Option ℕ) → stands_at (place_on to) (fate_on to) ≡ t
 target_stands None = refl
 target_stands (Some to) = itself to
 
-module _ (n : ℕ) (link : LinkState) (s : State) (at : IsAt n link Down s) (t : IsTidy s) where
+module _ (n : ℕ) (link : LinkState) (s : State) (at : IsAt n link Down s) (t : IsSound s) where
   abbrev off_to : Option ℕ → List Row
   off_to to = moved (is_on n) (all_with (fate_on to)) s.rows
 
@@ -632,7 +643,7 @@ module _ (n : ℕ) (link : LinkState) (s : State) (at : IsAt n link Down s) (t :
       let up = target_up s.links to e in
       apart n to (λ same. let it : up.0 ≡ link = same_at s.links n link up.0 at.there (ap (slice_get s.links) same ∙ up.1) in false_true (has_phase_up link.phase) down (ap (λ (l : LinkState). has_phase_up l.phase) (sym it) ∙ up.2))
 
-  settled_one : (new : List Row) → unack n new ≡ [] → on n new ≡ [] → IsInOrder n new → IsHeldLast n new → IsTidyLink s.settings.method n (settled_link link) new
+  settled_one : (new : List Row) → unack n new ≡ [] → on n new ≡ [] → IsInOrder n new → IsHeldLast n new → IsSoundLink s.settings.method n (settled_link link) new
   settled_one new none empty order last =
       let l = t.links n link at.there in
       record {
@@ -647,10 +658,10 @@ module _ (n : ℕ) (link : LinkState) (s : State) (at : IsAt n link Down s) (t :
       }
 
   -- what a link sees of it
-  link_left : (to : Option ℕ) → target s.links ≡ to → (k : ℕ) (other : LinkState) → slice_get (slice_set s.links n (settled_link link)) k ≡ Some other → IsTidyLink s.settings.method k other (off_to to)
+  link_left : (to : Option ℕ) → target s.links ≡ to → (k : ℕ) (other : LinkState) → slice_get (slice_set s.links n (settled_link link)) k ≡ Some other → IsSoundLink s.settings.method k other (off_to to)
   link_left None e k other there = go (at_set s.links n k (settled_link link) other there)
     where
-      go : ((k ≡ n) × (other ≡ settled_link link)) ⊎ ((k ≢ n) × (slice_get s.links k ≡ Some other)) → IsTidyLink s.settings.method k other (off_to None)
+      go : ((k ≡ n) × (other ≡ settled_link link)) ⊎ ((k ≢ n) × (slice_get s.links k ≡ Some other)) → IsSoundLink s.settings.method k other (off_to None)
       go (inl p) = let m = (moved_aside n s.rows).left_is in rw (p.0, p.1) (settled_one (off_to None) m.unack_none m.on_none m.in_order m.held_last)
       go (inr p) = link_untouched s.settings.method k other s.rows (off_to None) ((moved_aside n s.rows).left_is.others k (apart n k (λ same. p.0 (sym same))) refl) (t.links k other p.1)
   link_left (Some to) e k other there = go (at_set s.links n k (settled_link link) other there)
@@ -658,7 +669,7 @@ module _ (n : ℕ) (link : LinkState) (s : State) (at : IsAt n link Down s) (t :
       m : MovedTo n to s.rows (off_to (Some to))
       m = moved_to n to s.rows (not_target to e)
 
-      target_link : slice_get s.links to ≡ Some other → IsTidyLink s.settings.method to other (off_to (Some to))
+      target_link : slice_get s.links to ≡ Some other → IsSoundLink s.settings.method to other (off_to (Some to))
       target_link here =
           let found = target_up s.links to e in
           let it : found.0 ≡ other = same_at s.links to other found.0 here found.1 in
@@ -675,19 +686,19 @@ module _ (n : ℕ) (link : LinkState) (s : State) (at : IsAt n link Down s) (t :
             settled = λ a. false_true (has_phase_settled other.phase) (up_unsettled other.phase up) a;
           }
 
-      other_link : (b : Bool) → (to == k) ≡ b → k ≢ n → slice_get s.links k ≡ Some other → IsTidyLink s.settings.method k other (off_to (Some to))
+      other_link : (b : Bool) → (to == k) ≡ b → k ≢ n → slice_get s.links k ≡ Some other → IsSoundLink s.settings.method k other (off_to (Some to))
       other_link true f d here = let same : k ≡ to = sym (eqb-true to k f) in rw same (target_link (ap (slice_get s.links) (sym same) ∙ here))
       other_link false f d here = link_untouched s.settings.method k other s.rows (off_to (Some to)) (m.left_is.others k (apart n k (λ same. d (sym same))) f) (t.links k other here)
 
-      go : ((k ≡ n) × (other ≡ settled_link link)) ⊎ ((k ≢ n) × (slice_get s.links k ≡ Some other)) → IsTidyLink s.settings.method k other (off_to (Some to))
+      go : ((k ≡ n) × (other ≡ settled_link link)) ⊎ ((k ≢ n) × (slice_get s.links k ≡ Some other)) → IsSoundLink s.settings.method k other (off_to (Some to))
       go (inl p) = rw (p.0, p.1) (settled_one (off_to (Some to)) m.left_is.unack_none m.left_is.on_none m.left_is.in_order m.left_is.held_last)
       go (inr p) = other_link (to == k) refl p.0 p.1
 
-  stream_left : (to : Option ℕ) (k : ℕ) (used : Bool) (place : Place) → IsTidyStream k place used s.rows → IsTidyStream k (place_settled n to place) used (off_to to)
+  stream_left : (to : Option ℕ) (k : ℕ) (used : Bool) (place : Place) → IsSoundStream k place used s.rows → IsSoundStream k (place_settled n to place) used (off_to to)
   stream_left to k used Nowhere p = stream_remains k Nowhere Nowhere (is_on n) (fate_on to) (on_unfinished n) (target_unfinished to) (λ f e. parked_not_on n f e) used s.rows refl p
   stream_left to k used (On l) p = go (l == n) refl
     where
-      go : (b : Bool) → (l == n) ≡ b → IsTidyStream k (place_settled n to (On l)) used (off_to to)
+      go : (b : Bool) → (l == n) ≡ b → IsSoundStream k (place_settled n to (On l)) used (off_to to)
       go true e =
           let same : l ≡ n = eqb-true l n e in
           rw e (stream_goes k (On l) (place_on to) (is_on n) (fate_on to) (on_unfinished n) (target_unfinished to) (λ f there. ap (λ (j : ℕ). is_on j f) (sym same) ∙ there) (target_stands to) used s.rows p)
@@ -730,12 +741,12 @@ module _ (n : ℕ) (link : LinkState) (s : State) (at : IsAt n link Down s) (t :
       let routed = t.routed in
       omega (arith, low, links, routed)
 
-  pub moves_off_tidy : IsTidy (move_off n link s)
-  moves_off_tidy =
+  pub moves_off_sound : IsSound (move_off n link s)
+  moves_off_sound =
       let to = target s.links in
       let before = up_before s.links n link (settled_link link) at.there (λ e. absurd cc) in
       let some = λ (k : ℕ) (other : LinkState) (at : slice_get (slice_set s.links n (settled_link link)) k ≡ Some other) (up : has_phase_up other.phase ≡ true) (e : target s.links ≡ None).
-          let old = before k other at up in false_true (has_phase_up old.0.phase) (none_up s.links k old.0 e old.1) old.2 in
+      let old = before k other at up in false_true (has_phase_up old.0.phase) (none_up s.links k old.0 e old.1) old.2 in
       record {
         managed = t.managed;
         routing = settled_sound n to s.routing (below_links to refl) t.routing;
@@ -751,7 +762,7 @@ module _ (n : ℕ) (link : LinkState) (s : State) (at : IsAt n link Down s) (t :
       }
 
 -- THE STEP.
-small : (Known : ℕ → Type 0) → KeptBy Known (λ s u. IsTidy s → IsTidy u)
+small : (Known : ℕ → Type 0) → KeptBy Known (λ s u. IsSound s → IsSound u)
 small Known = record {
   same = λ s t. t;
   after = λ a b c p q t. q (p t);
@@ -761,17 +772,69 @@ small Known = record {
   acknowledges = λ count n link s known at few t. acknowledges count n link s at t;
   gives_up_sent = λ cause n link s known at t. gives_up (is_unacked n) cause n link s (sent_given_up n cause s.rows) (fewer_changed (is_unacked n) (Discarded cause) n refl s.rows) at t;
   gives_up_waiting = λ cause n link s known at t. gives_up (is_waiting n) cause n link s (waiting_given_up n cause s.rows) (fewer_changed (is_waiting n) (Discarded cause) n refl s.rows) at t;
-  moves_off = λ n link s known at t. moves_off_tidy n link s at t;
+  moves_off = λ n link s known at t. moves_off_sound n link s at t;
 }
 
-pub step_tidy : (s : State) (event : Event) → IsAsked event → IsTidy s → IsTidy (step s event).state
-step_tidy s event asked t = step_walks s (λ a b. IsTidy a → IsTidy b) IsTidy event (record {
+pub step_sound : (s : State) (event : Event) → IsAsked event → IsSound s → IsSound (step s event).state
+step_sound s event asked t = step_walks s (λ a b. IsSound a → IsSound b) IsSound event (record {
   small = small _;
   unmoved = t;
   rests = λ a b p q. q p;
   offers = λ body e none. offers s body (subst IsAsked e asked) none t;
   takes = λ body rest e there. with_inbox s rest t;
-  sends = λ n link e at. sends_tidy n link s at t;
-  hears = λ n unit link e at. hears_tidy n link s at t unit;
-  rises = λ n link e at. rises_tidy n link s at t;
+  sends = λ n link e at. sends_sound n link s at t;
+  hears = λ n unit link e at. hears_sound n link s at t unit;
+  rises = λ n link e at. rises_sound n link s at t;
 })
+
+-- A NEW SET.
+new_there : (k n : ℕ) (link other : LinkState) → slice_get (replicate k link) n ≡ Some other → other ≡ link
+new_there zero n link other e = absurd cc
+new_there (suc k) zero link other e = sym (same_Some link other e)
+new_there (suc k) (suc n) link other e = new_there k n link other e
+
+new_length : (k : ℕ) (link : LinkState) → length (replicate k link) ≡ k
+new_length zero link = refl
+new_length (suc k) link = ap suc (new_length k link)
+
+new_place : (links : ℕ) (numbers : List ℕ) (stream : ℕ) → slice_index_or (map (λ (s : Stream). s.place) (map (λ s. new_stream (s % links)) numbers)) stream Nowhere ≡ Nowhere
+new_place links [] stream = refl
+new_place links (n ∷ numbers) zero = refl
+new_place links (n ∷ numbers) (suc stream) = new_place links numbers stream
+
+module _ (settings : Settings) (is : IsSettings settings) where
+  new_one : (n : ℕ) (link : LinkState) → slice_get (replicate settings.links (new_link settings.method)) n ≡ Some link → link ≡ new_link settings.method
+  new_one n link there = new_there settings.links n (new_link settings.method) link there
+
+  new_sound_link : (n : ℕ) → IsSoundLink settings.method n (new_link settings.method) []
+  new_sound_link n = record {
+    window = omega arith;
+    counted = start_counted settings.method;
+    method = start_method settings.method;
+    in_order = tt;
+    held_last = tt;
+    none_held = λ e. refl;
+    in_range = λ e. start_range settings.method 0;
+    settled = λ e. refl;
+  }
+
+  none_rises : {P : Type 0} (n : ℕ) (link : LinkState) → slice_get (replicate settings.links (new_link settings.method)) n ≡ Some link → has_phase_up link.phase ≡ true → P
+  none_rises n link there rising = false_true (has_phase_up link.phase) (ap (λ (l : LinkState). has_phase_up l.phase) (new_one n link there)) rising
+
+  pub opened_sound : IsSound (opened_with settings)
+  opened_sound = record {
+    managed = is.managed;
+    routing = new_sound settings.links is.some_link is.at_most_16;
+    routed = refl;
+    count = new_length settings.links (new_link settings.method);
+    numbered = λ number. sym (ap (λ (b : Bool). cond b 1 0) (le-ltb number 0 (omega arith)));
+    fit = tt;
+    links = λ n link there. rw (new_one n link there) (new_sound_link n);
+    streams = λ stream low. record { in_order = tt; together = refl; unused = λ e. refl };
+    placed = λ stream low. subst (IsPlaced _) (sym (new_place settings.links stream_numbers stream)) tt;
+    none_aside = λ n link there rising. refl;
+    all_run = λ n link there rising. none_rises n link there rising;
+  }
+
+  pub opened_few : AreFew 0 (opened_with settings)
+  opened_few n link there = rw (new_one n link there) (record { sent = omega arith; accepted = omega arith })

@@ -30,7 +30,7 @@ IsInRange (Cyclic state) unacked = state.place ≢ 0 → state.place < unacked
 -- at most 127 of its messages are unacknowledged (Q.703 5.2.2), and its BSNs are those of the bodies that were
 -- accepted; what was sent stands before what waits, and that before what is held; nothing is held for a link that is
 -- up, and no message stands on one that settled
-pub record IsTidyLink (set_method : Method) (number : ℕ) (link : LinkState) (rows : List Row) : Type 0 where
+pub record IsSoundLink (set_method : Method) (number : ℕ) (link : LinkState) (rows : List Row) : Type 0 where
   pub window : length (unack number rows) ≤ 127
   pub counted : accepted_of link.control ≡ last_accepted link
   pub method : IsOf set_method link.control
@@ -84,7 +84,7 @@ IsPlaced links Nowhere = Unit {0}
 
 -- its unfinished messages stand in the order of their numbers, and all where it runs; one that never had a message
 -- has none
-pub record IsTidyStream (stream : ℕ) (place : Place) (used : Bool) (rows : List Row) : Type 0 where
+pub record IsSoundStream (stream : ℕ) (place : Place) (used : Bool) (rows : List Row) : Type 0 where
   pub in_order : IsAscending (numbers (live stream rows))
   pub together : astray stream place rows ≡ []
   pub unused : used ≡ false → live stream rows ≡ []
@@ -95,7 +95,13 @@ pub record IsTidyStream (stream : ℕ) (place : Place) (used : Bool) (rows : Lis
 abbrev pub IsManaged : Settings → Type 0
 IsManaged settings = settings.sio % 16 ≡ 0
 
-pub record IsTidy (s : State) : Type 0 where
+-- what a set can be opened with
+pub record IsSettings (settings : Settings) : Type 0 where
+  pub some_link : 1 ≤ settings.links
+  pub at_most_16 : settings.links ≤ 16
+  pub managed : IsManaged settings
+
+pub record IsSound (s : State) : Type 0 where
   pub managed : IsManaged s.settings
   pub routing : IsRouting s.routing
   pub routed : s.routing.links ≡ s.settings.links
@@ -103,8 +109,8 @@ pub record IsTidy (s : State) : Type 0 where
   -- the numbers 0, 1, .. stand in one row each
   pub numbered : IsNumbered s.rows
   pub fit : AreFit s.rows
-  pub links : (number : ℕ) (link : LinkState) → slice_get s.links number ≡ Some link → IsTidyLink s.settings.method number link s.rows
-  pub streams : (stream : ℕ) → stream < 16 → IsTidyStream stream (place_of stream s.routing) (has_messages stream s.routing) s.rows
+  pub links : (number : ℕ) (link : LinkState) → slice_get s.links number ≡ Some link → IsSoundLink s.settings.method number link s.rows
+  pub streams : (stream : ℕ) → stream < 16 → IsSoundStream stream (place_of stream s.routing) (has_messages stream s.routing) s.rows
   pub placed : (stream : ℕ) → stream < 16 → IsPlaced s.links (place_of stream s.routing)
   -- while a link is up nothing is parked, and no stream runs nowhere
   pub none_aside : (number : ℕ) (link : LinkState) → slice_get s.links number ≡ Some link → has_phase_up link.phase ≡ true → parked s.rows ≡ []
