@@ -12,7 +12,7 @@ use Rattle.set_events.specs.declared.answer.Report.{Report}
 use Rattle.set_events.specs.declared.answer.Counts.{Counts}
 use Rattle.set_events.specs.declared.answer.Answer.{Answer}
 use Rattle.set_events.specs.declared.answer.Answer.TheVariants.{Accepted, Taken, Found, Sent, Heard, Done, Refused}
-use Rattle.set_rows.specs.Rows.{total_of}
+use Rattle.set_model.specs.Rows.{total_of}
 use Rattle.play_script.specs.declared.script.End.{End}
 use Rattle.play_script.specs.declared.script.End.TheVariants.{A, B}
 use Rattle.play_script.specs.declared.shown.Shown.{Shown}

@@ -2,7 +2,7 @@
 ghost use Rattle.std.specs.Prelude.{◌≡◌, ◌++◌, ◌+◌, ◌<◌, ◌^◌, IfOk, string_bytes, codes, decimal, length};
 ghost use Rattle.l2_units.specs.Grammar.{text as text_of_unit};
 ghost use Rattle.l2_bits.specs.SealedText.{sealed_text};
-ghost use Rattle.set_rows.specs.Rows.{total_of};
+ghost use Rattle.set_model.specs.Rows.{total_of};
 ghost use Rattle.figures.specs.Figures.{hex_text};
 ghost use Rattle.answer_texts.specs.Texts.{fate_text as text_of_fate, took_text as text_of_took, fault_code as code_of_fault, report_text as text_of_report, answer_text as text_of_answer, shown_line as line_of_shown, shown_text as text_of_shown, end_name, end_text as text_of_end, link_counts as link_counts_of, other_counts as other_counts_of};
 

@@ -2,7 +2,7 @@
 use Rattle.std.proofs.Common.{refl, ◌≡◌, ℕ}
 use Rattle.set_events.specs.declared.config.SetConfig.{SetConfig}
 use Rattle.set_events.specs.declared.config.Method.{Method}
-use Rattle.set_step.specs.Set.{Settings, settings_of}
+use Rattle.set_model.specs.State.{Settings, settings_of}
 use Rattle.play_script.specs.declared.script.Values.{Values}
 use Rattle.play_script.specs.declared.script.End.TheVariants.{A, B}
 use Rattle.play_script.specs.Opened.{IsEnd}

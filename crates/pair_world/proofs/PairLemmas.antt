@@ -1,35 +1,19 @@
 -- Steps of the pair.
-use Rattle.std.proofs.Common.{refl, ◌≡◌, ◌∙◌, ap, sym, ℕ, Bool, true, false, List, [], ◌∷◌, length, Option, Some, None, slice_get, ◌==◌, if◌then◌else◌}
-use Rattle.std.proofs.lemmas.List.{length-set}
+use Rattle.std.proofs.Common.{refl, ◌≡◌, ◌∙◌, ap, sym, ℕ, Bool, true, false, List, [], ◌∷◌, length, Some, slice_get, ◌==◌, if◌then◌else◌}
 use Rattle.l2_units.specs.declared.unit.Unit.{Unit as SignalUnit}
-use Rattle.l2_units.specs.declared.unit.Unit.TheVariants.{Fisu, Lssu, Msu}
-use Rattle.set_events.specs.declared.answer.Fate.{Fate}
-use Rattle.set_events.specs.declared.answer.Refusal.{Refusal as SetRefusal}
-use Rattle.set_step.specs.Set.{LinkState, State, last_accepted, has_phase_up, window_of, is_up}
-use Rattle.set_step.specs.Control.{part_of}
-use Rattle.set_rows.specs.Rows.{place}
-use Rattle.set_step.specs.Step.{Outcome as SetOutcome, step, offered, offer_refusal, taken, found, with_known, in_service, heard, hears, takes, brought, after_control, rises, gives_up}
+use Rattle.set_model.specs.State.{State, is_up}
+use Rattle.set_model.proofs.LinkCount.{link_count_stays}
+use Rattle.set_model.specs.Step.{step}
 use Rattle.set_events.specs.declared.event.Event.{Event}
 use Rattle.set_events.specs.declared.event.Actor.TheVariants.{Terminal}
-use Rattle.set_events.specs.declared.event.Event.TheVariants.{Offer, Take, Find, Next, Heard, Up, Down, DownBlind, NoAnswer}
-use Rattle.l2_units.specs.declared.unit.Header.{Header}
-use Rattle.l2_window.specs.declared.control.HeardPart.{HeardPart}
-use Rattle.l3_orders.specs.declared.order.Order.{Order}
-use Rattle.l3_orders.specs.declared.order.Order.TheVariants.{Coo, Coa, Cbd, Cba, Eco, Eca}
-use Rattle.l3_orders.specs.Grammar.{order_of}
-use Rattle.set_rows.specs.Rows.{service_indicator}
-use Rattle.set_step.specs.declared.phase.Phase.{Phase}
-use Rattle.set_step.specs.declared.phase.Phase.TheVariants.{Up as IsUp, Down as IsDown, Settled as IsSettled}
-use Rattle.set_step.specs.declared.reached.Reached.{Reached}
-use Rattle.set_step.specs.declared.reached.Reached.TheVariants.{Upto, Unknown, Unanswered}
-use Rattle.set_step.specs.Changeover.{Obeyed, queue, leave, left_link, judge, settle, is_reasonable, changes_over, is_answered, at_link, obeys, obeyed}
+use Rattle.set_events.specs.declared.event.Event.TheVariants.{Next, Heard}
 use Rattle.play_script.specs.declared.script.End.{End}
 use Rattle.play_script.specs.declared.shown.Shown.{Shown}
 use Rattle.play_script.specs.declared.script.ScriptLine.{ScriptLine}
 use Rattle.pair_world.specs.Pair.{Pair, Outcome, done_by, carried_out, shows, acts, sends_on, done_on, has_link, with_sent, at_end, with_line, line_to, arrives}
 use Rattle.pair_world.specs.Carried.{LeavesTo}
 use Rattle.link_lines.specs.Lines.{without}
-use Rattle.set_core.specs.History.{LinkSet}
+use Rattle.set_model.specs.History.{LinkSet}
 use Rattle.play_script.specs.declared.script.End.TheVariants.{A, B}
 use Rattle.play_script.specs.declared.shown.Shown.TheVariants.{Lost}
 use Rattle.std.proofs.lemmas.Option.{same_Some}
@@ -46,113 +30,8 @@ emit_step p mid after end link found shown e known acted joined =
     rw known (ap (λ (n : ℕ). sends_on end n (acts p end (Terminal n) (Next n))) (sym e) ∙ ap (λ (o : Outcome). sends_on end found o) acted ∙ ap (λ (q : Pair). shows shown q) (sym joined))
 
 -- An event changes no number of links.
-
-kept_if : (b : Bool) (x y : SetOutcome) (n : ℕ) → length x.state.links ≡ n → length y.state.links ≡ n → length (if b then x else y).state.links ≡ n
-kept_if true x y n p q = p
-kept_if false x y n p q = q
-
-kept_known : (o : Option LinkState) (s : State) (f : LinkState → SetOutcome) → ((link : LinkState) → length (f link).state.links ≡ length s.links) → length (with_known o s f).state.links ≡ length s.links
-kept_known None s f h = refl
-kept_known (Some link) s f h = h link
-
-kept_offer : (why : Option SetRefusal) (s : State) (body : List ℕ) → length (offered why s body).state.links ≡ length s.links
-kept_offer None s body = refl
-kept_offer (Some why) s body = refl
-
-kept_take : (inbox : List (List ℕ)) (s : State) → length (taken inbox s).state.links ≡ length s.links
-kept_take [] s = refl
-kept_take (body ∷ rest) s = refl
-
-kept_find : (fate : Option Fate) (s : State) → length (found fate s).state.links ≡ length s.links
-kept_find None s = refl
-kept_find (Some fate) s = refl
-
-kept_queue : (order : Order) (s : State) → length (queue order s).links ≡ length s.links
-kept_queue order s = refl
-
-kept_leave : (blind : Bool) (n : ℕ) (link : LinkState) (s : State) → length (leave blind n link s).links ≡ length s.links
-kept_leave blind n link s = length-set s.links n _
-
-kept_judge : (reached : Reached) (n : ℕ) (link : LinkState) (s : State) → length (judge reached n link s).links ≡ length s.links
-kept_judge Unknown n link s = refl
-kept_judge Unanswered n link s = refl
-kept_judge (Upto fsn) n link s = go (is_reasonable fsn n link s.rows) refl
-  where
-    go : (b : Bool) → is_reasonable fsn n link s.rows ≡ b → length (judge (Upto fsn) n link s).links ≡ length s.links
-    go true e = rw e (length-set s.links n _)
-    go false e = rw e refl
-
-kept_settle : (reached : Reached) (n : ℕ) (link : LinkState) (s : State) → length (settle reached n link s).links ≡ length s.links
-kept_settle reached n link s = length-set (judge reached n link s).links n _ ∙ kept_judge reached n link s
-
-kept_over : (reached : Reached) (n : ℕ) (link : LinkState) (phase : Phase) (s : State) → length (changes_over reached n link phase s).state.links ≡ length s.links
-kept_over reached n link IsUp s = kept_settle reached n (left_link false link) (queue (Coa n (last_accepted link)) (leave false n link s)) ∙ kept_leave false n link s
-kept_over reached n link IsDown s = kept_settle reached n link s
-kept_over reached n link IsSettled s = refl
-
-kept_answered : (reached : Reached) (n : ℕ) (link : LinkState) (phase : Phase) (s : State) → length (is_answered reached n link phase s).state.links ≡ length s.links
-kept_answered reached n link IsUp s = refl
-kept_answered reached n link IsDown s = kept_settle reached n link s
-kept_answered reached n link IsSettled s = refl
-
-kept_at : (n : ℕ) (s : State) (f : LinkState → Obeyed) (o : Option LinkState) → ((link : LinkState) → length (f link).state.links ≡ length s.links) → length (at_link n s f o).state.links ≡ length s.links
-kept_at n s f None h = refl
-kept_at n s f (Some link) h = h link
-
-kept_obeys : (order : Order) (s : State) → length (obeys order s).state.links ≡ length s.links
-kept_obeys (Coo n fsn) s = kept_at n s _ (slice_get s.links n) (λ link. kept_over (Upto fsn) n link link.phase s)
-kept_obeys (Eco n) s = kept_at n s _ (slice_get s.links n) (λ link. kept_over Unknown n link link.phase s)
-kept_obeys (Coa n fsn) s = kept_at n s _ (slice_get s.links n) (λ link. kept_answered (Upto fsn) n link link.phase s)
-kept_obeys (Eca n) s = kept_at n s _ (slice_get s.links n) (λ link. kept_answered Unknown n link link.phase s)
-kept_obeys (Cbd n code) s = refl
-kept_obeys (Cba n code) s = refl
-
-kept_obeyed : (order : Option Order) (s : State) → length (obeyed order s).state.links ≡ length s.links
-kept_obeyed None s = refl
-kept_obeyed (Some order) s = kept_obeys order s
-
-kept_takes : (body : Option (List ℕ)) (s : State) → length (takes body s).state.links ≡ length s.links
-kept_takes None s = refl
-kept_takes (Some body) s = go (service_indicator body == 0) refl
-  where
-    go : (b : Bool) → (service_indicator body == 0) ≡ b → length (takes (Some body) s).state.links ≡ length s.links
-    go true e = rw e (kept_obeyed (order_of body) s)
-    go false e = rw e refl
-
-kept_hears : (part : HeardPart) (head : Header) (unit : SignalUnit) (n : ℕ) (s : State) (link : LinkState) → length (hears part head unit n s link).state.links ≡ length s.links
-kept_hears part head unit n s link = kept_takes (brought part.accept unit) (after_control part head unit n s link) ∙ length-set s.links n _
-
-kept_heard : (unit : SignalUnit) (n : ℕ) (s : State) (link : LinkState) → length (heard unit n s link).state.links ≡ length s.links
-kept_heard (Fisu head) n s link = kept_hears (part_of link.control (window_of n link s.rows) head false) head (Fisu head) n s link
-kept_heard (Lssu head status) n s link = refl
-kept_heard (Msu head body) n s link = kept_hears (part_of link.control (window_of n link s.rows) head true) head (Msu head body) n s link
-
-kept_rises : (n : ℕ) (s : State) (phase : Phase) → length (rises n s phase).state.links ≡ length s.links
-kept_rises n s IsUp = refl
-kept_rises n s IsDown = refl
-kept_rises n s IsSettled = length-set s.links n _
-
-kept_gives : (n : ℕ) (s : State) (link : LinkState) (phase : Phase) → length (gives_up n s link phase).state.links ≡ length s.links
-kept_gives n s link IsUp = refl
-kept_gives n s link IsDown = kept_settle Unanswered n link s
-kept_gives n s link IsSettled = refl
-
-kept_service : (n : ℕ) (s : State) (f : LinkState → SetOutcome) → ((link : LinkState) → length (f link).state.links ≡ length s.links) → length (in_service n s f).state.links ≡ length s.links
-kept_service n s f h = kept_known (slice_get s.links n) s _ (λ link. kept_if (has_phase_up link.phase) (f link) _ (length s.links) (h link) refl)
-
-pub kept_links : (s : State) (event : Event) → length (step s event).state.links ≡ length s.links
-kept_links s (Offer body) = kept_offer (offer_refusal s.rows body) s body
-kept_links s Take = kept_take s.inbox s
-kept_links s (Find number) = kept_find (place number s.rows) s
-kept_links s (Next n) = kept_service n s _ (λ link. length-set s.links n _)
-kept_links s (Heard n unit) = kept_service n s _ (λ link. kept_heard unit n s link)
-kept_links s (Up n) = kept_known (slice_get s.links n) s _ (λ link. kept_rises n s link.phase)
-kept_links s (Down n) = kept_service n s _ (λ link. kept_leave false n link s)
-kept_links s (DownBlind n) = kept_service n s _ (λ link. kept_leave true n link s)
-kept_links s (NoAnswer n) = kept_known (slice_get s.links n) s _ (λ link. kept_gives n s link link.phase)
-
 pub kept_after : (old new : State) (event : Event) → new ≡ (step old event).state → length new.links ≡ length old.links
-kept_after old new event e = ap (λ (s : State). length s.links) e ∙ kept_links old event
+kept_after old new event e = ap (λ (s : State). length s.links) e ∙ link_count_stays old event
 
 -- A unit that arrives.
 

@@ -5,8 +5,8 @@ use Rattle.set_events.specs.declared.event.Actor.{Actor}
 use Rattle.set_events.specs.declared.event.Actor.TheVariants.{Terminal}
 use Rattle.set_events.specs.declared.event.Event.{Event}
 use Rattle.set_events.specs.declared.event.Event.TheVariants.{Up as UpEvent}
-use Rattle.set_step.specs.Set.{link_count, is_settled}
-use Rattle.set_core.specs.History.{LinkSet}
+use Rattle.set_model.specs.State.{link_count, is_settled}
+use Rattle.set_model.specs.History.{LinkSet}
 use Rattle.link_lines.specs.Lines.{without}
 use Rattle.set_step.specs.declared.fault.SetFault.{SetFault}
 use Rattle.set_step.specs.declared.fault.SetFault.TheVariants.{NoMemory, Exhausted as SetExhausted}

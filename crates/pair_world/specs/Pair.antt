@@ -9,10 +9,10 @@ use Rattle.set_events.specs.declared.event.Event.TheVariants.{Offer as OfferEven
 use Rattle.set_events.specs.declared.answer.Answer.{Answer}
 use Rattle.set_events.specs.declared.answer.Counts.{Counts}
 use Rattle.set_events.specs.declared.answer.Answer.TheVariants.{Accepted, Taken, Found, Sent, Heard, Done, Refused}
-use Rattle.set_step.specs.Set.{Settings, opened_with, link_count, is_up, is_settled}
-use Rattle.set_core.specs.History.{LinkSet}
-use Rattle.set_rows.specs.Rows.{counts_of}
-use Rattle.set_step.specs.Step.{step}
+use Rattle.set_model.specs.State.{Settings, opened_with, link_count, is_up, is_settled}
+use Rattle.set_model.specs.History.{LinkSet}
+use Rattle.set_model.specs.Rows.{counts_of}
+use Rattle.set_model.specs.Step.{step}
 use Rattle.play_script.specs.declared.script.Values.{Values}
 use Rattle.play_script.specs.declared.script.End.{End}
 use Rattle.play_script.specs.declared.script.End.TheVariants.{A, B}

@@ -1,8 +1,8 @@
 //! Two ends, and the units under way between them.
 ghost use Rattle.std.specs.Prelude.{◌≡◌, ◌<◌, IfErr, IfOk};
-ghost use Rattle.set_core.specs.History.{IsActor};
-ghost use Rattle.set_step.specs.Set.{link_count};
-ghost use Rattle.set_core.specs.History.{new_set};
+ghost use Rattle.set_model.specs.History.{IsActor};
+ghost use Rattle.set_model.specs.State.{link_count};
+ghost use Rattle.set_model.specs.History.{new_set};
 ghost use Rattle.pair_world.specs.Carried.{Applies, Rises};
 
 use super::step_fault::StepFault;
@@ -37,10 +37,10 @@ impl Model for Pair {
 
 impl Pair {
     ghost use Rattle.std.specs.Prelude.{◌≡◌, ◌<◌, ◌^◌, IfOk, IfErr, IfSome, OnOk, MatchOption, true, false};
-    ghost use Rattle.set_core.specs.History.{IsActor};
+    ghost use Rattle.set_model.specs.History.{IsActor};
     ghost use Rattle.pair_world.specs.Pair.{new_pair, carried_out as carried_out_in, done_by, acts as acts_in, with_sent as with_sent_in, sends_on, arrives, loses, line_to, done_on, has_link, rise_together, at_end, counts_at};
-    ghost use Rattle.set_step.specs.Set.{is_up as is_up_in};
-    ghost use Rattle.set_rows.specs.Rows.{total_of};
+    ghost use Rattle.set_model.specs.State.{is_up as is_up_in};
+    ghost use Rattle.set_model.specs.Rows.{total_of};
     ghost use Rattle.pair_world.specs.Carried.{IsCarriedOut, IsTakenFrom};
     ghost use Rattle.play_script.specs.declared.script.Values.{Values};
     ghost use Rattle.play_script.specs.Opened.{IsMadeOf};

@@ -8,7 +8,7 @@ use Rattle.set_events.specs.declared.event.Actor.TheVariants.{User, Terminal}
 use Rattle.std.proofs.lemmas.List.Sums.{sum_by-set}
 use Rattle.std.proofs.lemmas.List.Folds.{sum_by-replicate}
 use Rattle.set_core.specs.Gaining.{one_more, users_after, terminals_after}
-use Rattle.set_core.specs.History.{IsActor, is_user, is_terminal, calls_of, calls_from}
+use Rattle.set_model.specs.History.{IsActor, is_user, is_terminal, calls_of, calls_from}
 
 pub none_yet : (is_it : ℕ → Actor → Bool) (k n : ℕ) → calls_from is_it k n [] ≡ replicate n 0
 unfolding calls_from

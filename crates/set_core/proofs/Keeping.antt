@@ -8,11 +8,12 @@ use Rattle.set_events.specs.declared.event.Actor.{Actor}
 use Rattle.set_events.specs.declared.event.Actor.TheVariants.{User, Terminal}
 use Rattle.set_events.specs.declared.history.Entry.{Entry}
 use Rattle.set_core.specs.declared.tally.Tally.{Tally}
-use Rattle.set_step.specs.Set.{State, AreFew}
-use Rattle.set_rows.specs.Rows.{counts_of, total_of}
-use Rattle.set_step.specs.Step.{Outcome, Gains, step, messages_in, octets_of}
+use Rattle.set_model.specs.State.{State}
+use Rattle.set_model.specs.Sound.{AreFew}
+use Rattle.set_model.specs.Rows.{counts_of, total_of}
+use Rattle.set_model.specs.Step.{Outcome, Gains, step, messages_in, octets_of}
 use Rattle.set_core.specs.Gaining.{BooksGain, AreBounded, users_after, terminals_after}
-use Rattle.set_core.specs.History.{IsActor, IsLegal, after, books_of, is_user, is_terminal, calls_from, messages_of, octets_in_all}
+use Rattle.set_model.specs.History.{IsActor, IsLegal, after, books_of, is_user, is_terminal, calls_from, messages_of, octets_in_all}
 use Rattle.set_core.specs.Keeping.{IsTally, IsKept}
 use Rattle.set_core.proofs.Calls.{all_few, others, its_own, length-calls, sums_more}
 

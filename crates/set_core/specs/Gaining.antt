@@ -5,7 +5,7 @@ use Rattle.set_events.specs.declared.books.Books.{Books}
 use Rattle.set_events.specs.declared.event.Actor.{Actor}
 use Rattle.set_events.specs.declared.event.Actor.TheVariants.{User, Terminal}
 use Rattle.set_events.specs.declared.event.Event.{Event}
-use Rattle.set_step.specs.Step.{messages_in, octets_of}
+use Rattle.set_model.specs.Step.{messages_in, octets_of}
 
 -- one call more of this number
 abbrev pub one_more : ℕ → List ℕ → List ℕ

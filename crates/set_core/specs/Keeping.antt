@@ -2,9 +2,10 @@
 use Rattle.std.specs.Prelude.{◌≡◌, ◌≤◌, ◌+◌, ◌*◌, ◌^◌, List, length, sum}
 use Rattle.set_events.specs.declared.history.Entry.{Entry}
 use Rattle.set_core.specs.declared.tally.Tally.{Tally}
-use Rattle.set_step.specs.Set.{State, AreFew}
-use Rattle.set_rows.specs.Rows.{counts_of, total_of}
-use Rattle.set_core.specs.History.{IsLegal, after, is_user, is_terminal, calls_from, messages_of, octets_in_all}
+use Rattle.set_model.specs.State.{State}
+use Rattle.set_model.specs.Sound.{AreFew}
+use Rattle.set_model.specs.Rows.{counts_of, total_of}
+use Rattle.set_model.specs.History.{IsLegal, after, is_user, is_terminal, calls_from, messages_of, octets_in_all}
 
 -- the running sums are those of the history
 pub record IsTally (tally : Tally) (history : List Entry) : Type 0 where

@@ -1,3 +1,2 @@
 pub mod Gaining
-pub mod History
 pub mod Keeping

@@ -1,7 +1,7 @@
 //! Whether a list of entries is the history of a set.
 ghost use Rattle.std.specs.Prelude.{◌≡◌, ◌<◌, ◌^◌, ◌↔◌, length, IfOk, IsTrue};
-ghost use Rattle.set_step.specs.Set.{new_state};
-ghost use Rattle.set_core.specs.History.{IsActor, IsLegal};
+ghost use Rattle.set_model.specs.State.{new_state};
+ghost use Rattle.set_model.specs.History.{IsActor, IsLegal};
 
 use set_events::{Actor, Entry, SetConfig};
 use set_step::{Core, SetFault};

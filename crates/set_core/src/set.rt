@@ -28,11 +28,11 @@ pub struct SetCore {
 }
 
 impl Model for SetCore {
-    ghost use Rattle.set_core.specs.History.{LinkSet};
+    ghost use Rattle.set_model.specs.History.{LinkSet};
 
     ghost Value = { LinkSet };
 
-    ghost use Rattle.set_step.specs.Set.{new_state};
+    ghost use Rattle.set_model.specs.State.{new_state};
     ghost use Rattle.set_core.specs.Keeping.{IsKept};
 
     ghost view = { λ s. record { opening = new_state s.config; state = s.core; history = s.history.items } };
@@ -42,10 +42,11 @@ impl Model for SetCore {
 
 impl SetCore {
     ghost use Rattle.std.specs.Prelude.{◌≡◌, ◌<◌, ◌≤◌, ◌^◌, ◌↔◌, ◌+◌, IfOk, IfErr, OnErr, length, sum};
-    ghost use Rattle.set_step.specs.Set.{new_state, link_count, is_up as is_up_in, is_settled as is_settled_in, unacked_in, IsSound};
-    ghost use Rattle.set_rows.specs.Rows.{place, counts_of, total_of};
+    ghost use Rattle.set_model.specs.State.{new_state, link_count, is_up as is_up_in, is_settled as is_settled_in, unacked_in};
+    ghost use Rattle.set_model.specs.Sound.{IsSound};
+    ghost use Rattle.set_model.specs.Rows.{place, counts_of, total_of};
     ghost use Rattle.set_core.specs.Gaining.{BooksGain, AreBounded};
-    ghost use Rattle.set_core.specs.History.{new_set, IsStep, IsActor, IsLegal, after, books_of, messages_of};
+    ghost use Rattle.set_model.specs.History.{new_set, IsStep, IsActor, IsLegal, after, books_of, messages_of};
 
     /// A set as this configuration has it: no messages, no link up, no history.
     ///

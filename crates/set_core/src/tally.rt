@@ -1,9 +1,9 @@
 //! What a set adds up as its history grows.
 ghost use Rattle.std.specs.Prelude.{◌≡◌, ◌+◌, ◌<◌, ◌≤◌, ◌^◌, ℕ, [], slice_index};
 ghost use Rattle.set_core.specs.Gaining.{users_after, terminals_after};
-ghost use Rattle.set_core.specs.History.{IsActor};
+ghost use Rattle.set_model.specs.History.{IsActor};
 ghost use Rattle.set_core.specs.Keeping.{IsTally};
-ghost use Rattle.set_step.specs.Step.{messages_in, octets_of, octets_offered as octets_offered_by};
+ghost use Rattle.set_model.specs.Step.{messages_in, octets_of, octets_offered as octets_offered_by};
 
 use set_events::{Actor, Answer, Event};
 

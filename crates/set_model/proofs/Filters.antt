@@ -1,5 +1,5 @@
 -- Filters of rows, and of rows with other fates.
-use Rattle.std.proofs.Common.{refl, arith, ◌≡◌, ◌∙◌, ap, sym, [], ◌∷◌, length, ◌+◌, Bool, true, false, not, List, ◌++◌, map}
+use Rattle.std.proofs.Common.{refl, arith, ◌≡◌, ◌∙◌, ap, sym, [], ◌∷◌, length, ◌+◌, ◌≤◌, Bool, true, false, not, List, ◌++◌, map}
 use Rattle.std.specs.Prelude.{filter}
 use Rattle.std.proofs.lemmas.List.Filters.{length-filter_both}
 use Rattle.set_events.specs.declared.answer.Fate.{Fate}
@@ -37,6 +37,14 @@ filter_apart p q w (x ∷ xs) = go (p x) (q x) refl refl (filter_apart p q w xs)
     go true false h k e = rw k e
     go false true h k e = rw (k, h) e
     go false false h k e = rw k e
+
+pub fewer_filter : (p : Row → Bool) (rows : List Row) → length (filter p rows) ≤ length rows
+fewer_filter p [] = omega arith
+fewer_filter p (x ∷ rows) = go (p x) refl (fewer_filter p rows)
+  where
+    go : (b : Bool) → p x ≡ b → length (filter p rows) ≤ length rows → length (filter p (x ∷ rows)) ≤ length (x ∷ rows)
+    go true h f = rw h (omega (arith, f))
+    go false h f = rw h (omega (arith, f))
 
 -- Rows that all got their fates.
 pub filter_fated : (p : Row → Bool) (fate : Row → Fate) → ((x : Row) → p (fated fate x) ≡ p x) → (xs : List Row) → filter p (map (fated fate) xs) ≡ map (fated fate) (filter p xs)

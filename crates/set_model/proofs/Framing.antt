@@ -146,7 +146,7 @@ leaves_alone n s event free = step_walks s (LeavesAlone n) (LeavesAlone n s) eve
 })
 
 -- THE WINDOW.
-numbers-drop : (d : ℕ) (rows : List Row) → numbers (drop d rows) ≡ drop d (numbers rows)
+pub numbers-drop : (d : ℕ) (rows : List Row) → numbers (drop d rows) ≡ drop d (numbers rows)
 numbers-drop zero rows = refl
 numbers-drop (suc d) [] = refl
 numbers-drop (suc d) (x ∷ rows) = numbers-drop d rows

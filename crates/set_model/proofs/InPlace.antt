@@ -103,6 +103,31 @@ module _ (test other : Fate → Bool) (fate : Fate) (o : other fate ≡ false) (
   pub changed_same : (rows : List Row) → standing other (changed test fate rows) ≡ standing other rows
   changed_same rows = where_changed test fate Same refl stays_out turns_out rows
 
+-- a place where none comes has no more than before
+module _ (test other : Fate → Bool) (fate : Fate) (none : other fate ≡ false) where
+  abbrev Fewer : List Row → List Row → Type 0
+  Fewer xs ys = length (standing other ys) ≤ length (standing other xs)
+
+  one_stays : (b : Bool) (x : Row) (xs ys : List Row) → length ys ≤ length xs → length (cond b (x ∷ ys) ys) ≤ length (cond b (x ∷ xs) xs)
+  one_stays true x xs ys p = omega (arith, p)
+  one_stays false x xs ys p = p
+
+  one_turns : (b : Bool) (x : Row) (xs ys : List Row) → length ys ≤ length xs → length ys ≤ length (cond b (x ∷ xs) xs)
+  one_turns true x xs ys p = omega (arith, p)
+  one_turns false x xs ys p = p
+
+  fewer_stays : (x : Row) (xs ys : List Row) → Fewer xs ys → Fewer (x ∷ xs) (x ∷ ys)
+  fewer_stays x xs ys p = one_stays (other x.fate) x (standing other xs) (standing other ys) p
+
+  fewer_turns : (x : Row) (xs ys : List Row) → test x.fate ≡ true → Fewer xs ys → Fewer (x ∷ xs) (with_fate fate x ∷ ys)
+  fewer_turns x xs ys t p = rw none (one_turns (other x.fate) x (standing other xs) (standing other ys) p)
+
+  pub fewer_turned : (n : ℕ) (rows : List Row) → length (standing other (turned test fate n rows)) ≤ length (standing other rows)
+  fewer_turned n rows = where_turned test fate Fewer (omega arith) fewer_stays fewer_turns n rows
+
+  pub fewer_changed : (rows : List Row) → length (standing other (changed test fate rows)) ≤ length (standing other rows)
+  fewer_changed rows = where_changed test fate Fewer (omega arith) fewer_stays fewer_turns rows
+
 -- A LINK'S ORDER, where none comes to wait or to be held, and none to be unacknowledged.
 module _ (n : ℕ) (test : Fate → Bool) (fate : Fate) (u : is_unacked n fate ≡ false) (v : is_waiting n fate ≡ false) (h : is_held n fate ≡ false) where
   pub record Ordered (xs ys : List Row) : Type 0 where

@@ -6,6 +6,7 @@ pub mod Finding
 pub mod Framing
 pub mod Gaining
 pub mod InPlace
+pub mod LinkCount
 pub mod Lists
 pub mod Live
 pub mod Lookups

@@ -22,18 +22,10 @@ use Rattle.set_model.specs.Changeover.{fate_on, left_link, settled_link, acknowl
 use Rattle.set_model.specs.Step.{rows_sent, one_if, is_msu, fate_at, risen_link, step}
 use Rattle.set_model.specs.Sound.{AreFewOn, AreFew}
 use Rattle.set_model.proofs.Events.{appended_out}
-use Rattle.set_model.proofs.Filters.{filter_comm, fated_none}
-use Rattle.set_model.proofs.InPlace.{where_turned, where_changed, turned_left}
+use Rattle.set_model.proofs.Filters.{filter_comm, fewer_filter, fated_none}
+use Rattle.set_model.proofs.InPlace.{turned_left, fewer_turned, fewer_changed}
 use Rattle.set_model.proofs.Lists.{at_set}
 use Rattle.set_model.proofs.Walk.{KeptBy, WalkedBy, step_walks}
-
-fewer_filter : (p : Row → Bool) (rows : List Row) → length (filter p rows) ≤ length rows
-fewer_filter p [] = omega arith
-fewer_filter p (x ∷ rows) = go (p x) refl (fewer_filter p rows)
-  where
-    go : (b : Bool) → p x ≡ b → length (filter p rows) ≤ length rows → length (filter p (x ∷ rows)) ≤ length (x ∷ rows)
-    go true h f = rw h (omega (arith, f))
-    go false h f = rw h (omega (arith, f))
 
 -- no more come than turn
 few_turned : (test other : Fate → Bool) (fate : Fate) (n : ℕ) (rows : List Row) → length (standing other (turned test fate n rows)) ≤ length (standing other rows) + n
@@ -59,25 +51,6 @@ few_moved test to m rows none =
     ∙ filter_comm (λ (row : Row). is_unacked m row.fate) (λ (row : Row). not (test row.fate)) rows in
     let few = fewer_filter (λ (row : Row). not (test row.fate)) (unack m rows) in
     rw e few
-
--- nor do rows that turn, but for a first sending
-module _ (test : Fate → Bool) (fate : Fate) (m : ℕ) (none : is_unacked m fate ≡ false) where
-  abbrev Fewer : List Row → List Row → Type 0
-  Fewer xs ys = length (unack m ys) ≤ length (unack m xs)
-
-  one_stays : (b : Bool) (x : Row) (xs ys : List Row) → length ys ≤ length xs → length (cond b (x ∷ ys) ys) ≤ length (cond b (x ∷ xs) xs)
-  one_stays true x xs ys p = omega (arith, p)
-  one_stays false x xs ys p = p
-
-  one_turns : (b : Bool) (x : Row) (xs ys : List Row) → length ys ≤ length xs → length ys ≤ length (cond b (x ∷ xs) xs)
-  one_turns true x xs ys p = omega (arith, p)
-  one_turns false x xs ys p = p
-
-  pub fewer_turned : (n : ℕ) (rows : List Row) → length (unack m (turned test fate n rows)) ≤ length (unack m rows)
-  fewer_turned n rows = where_turned test fate Fewer (omega arith) (λ x xs ys p. one_stays (is_unacked m x.fate) x (unack m xs) (unack m ys) p) (λ x xs ys t p. rw none (one_turns (is_unacked m x.fate) x (unack m xs) (unack m ys) p)) n rows
-
-  pub fewer_changed : (rows : List Row) → length (unack m (changed test fate rows)) ≤ length (unack m rows)
-  fewer_changed rows = where_changed test fate Fewer (omega arith) (λ x xs ys p. one_stays (is_unacked m x.fate) x (unack m xs) (unack m ys) p) (λ x xs ys t p. rw none (one_turns (is_unacked m x.fate) x (unack m xs) (unack m ys) p)) rows
 
 pub not_sent : (m : ℕ) (to : Option ℕ) → is_unacked m (fate_on to) ≡ false
 not_sent m None = refl
@@ -136,9 +109,9 @@ small Known = record {
       let sent = f.sent in
       let left = length-drop count (unack n s.rows) in
       let gone = ap length (turned_left (is_unacked n) (Acked n) refl count s.rows) in
-      few_set k n (acknowledged_link count link) s (turned (is_unacked n) (Acked n) count s.rows) (record { sent = omega (arith, sent, left, gone, fits); accepted = f.accepted }) (λ m. fewer_turned (is_unacked n) (Acked n) m refl count s.rows) few;
-  gives_up_sent = λ cause n link s known at k few. few_rows k s _ (λ m. fewer_changed (is_unacked n) (Discarded cause) m refl s.rows) few;
-  gives_up_waiting = λ cause n link s known at k few. few_rows k s _ (λ m. fewer_changed (is_waiting n) (Discarded cause) m refl s.rows) few;
+      few_set k n (acknowledged_link count link) s (turned (is_unacked n) (Acked n) count s.rows) (record { sent = omega (arith, sent, left, gone, fits); accepted = f.accepted }) (λ m. fewer_turned (is_unacked n) (is_unacked m) (Acked n) refl count s.rows) few;
+  gives_up_sent = λ cause n link s known at k few. few_rows k s _ (λ m. fewer_changed (is_unacked n) (is_unacked m) (Discarded cause) refl s.rows) few;
+  gives_up_waiting = λ cause n link s known at k few. few_rows k s _ (λ m. fewer_changed (is_waiting n) (is_unacked m) (Discarded cause) refl s.rows) few;
   moves_off = λ n link s known at k few.
       let f = few n link at.there in
       let sent = f.sent in
@@ -163,7 +136,7 @@ few_sent (again i) m n rows = omega arith
 few_sent first m n rows = few_turned (is_waiting n) (is_unacked m) (Unacked n) 1 rows
 few_sent fill m n rows = omega arith
 
-wider : (k : ℕ) (s : State) → AreFew k s → AreFew (k + 1) s
+pub wider : (k : ℕ) (s : State) → AreFew k s → AreFew (k + 1) s
 wider k s few m link there = let f = few m link there in let a = f.sent in let b = f.accepted in record { sent = omega (arith, a); accepted = omega (arith, b) }
 
 -- a link that changes, where each has one unacknowledged message more at most
@@ -197,7 +170,7 @@ step_few s event k few = step_walks s (λ t u. (j : ℕ) → AreFew j t → AreF
       let left = length-drop part.acked (unack n s.rows) in
       let gone = ap length (turned_left (is_unacked n) (Acked n) refl part.acked s.rows) in
       let one = one_low part.accept in
-      few_more k n _ s (turned (is_unacked n) (Acked n) part.acked s.rows) (record { sent = omega (arith, sent, left, gone, fits); accepted = omega (arith, accepted, one) }) (λ m. let less = fewer_turned (is_unacked n) (Acked n) m refl part.acked s.rows in omega (arith, less)) few;
+      few_more k n _ s (turned (is_unacked n) (Acked n) part.acked s.rows) (record { sent = omega (arith, sent, left, gone, fits); accepted = omega (arith, accepted, one) }) (λ m. let less = fewer_turned (is_unacked n) (is_unacked m) (Acked n) refl part.acked s.rows in omega (arith, less)) few;
   rises = λ n link e at.
       let f = few n link at.there in
       let sent = f.sent in

@@ -42,7 +42,7 @@ use Rattle.set_model.proofs.Live.{stream_turned, stream_changed, stream_sent, st
 use Rattle.set_model.proofs.Moving.{moved_numbered, moved_fit}
 use Rattle.set_model.proofs.Order.{order_appended, last_appended, last_appended_up, order_none, last_alone}
 use Rattle.set_model.proofs.Places.{false_true, itself, apart, apart_back, on_other, on_not_parked, parked_not_on}
-use Rattle.set_model.proofs.Ranging.{fewer_changed}
+use Rattle.set_model.proofs.InPlace.{fewer_changed}
 use Rattle.set_model.proofs.Settling.{none_unack, none_wait, none_held}
 use Rattle.set_model.proofs.Targets.{target_up, none_up}
 use Rattle.set_model.proofs.Walk.{IsAt, KeptBy, WalkedBy, step_walks}
@@ -519,7 +519,7 @@ offers s body low accepted t =
     }
 
 -- A LINK COMES UP.
-start_counted : (m : Method) → accepted_of (start_of m) ≡ 127
+pub start_counted : (m : Method) → accepted_of (start_of m) ≡ 127
 start_counted BasicMethod = refl
 start_counted (CyclicMethod n1 n2) = refl
 
@@ -770,8 +770,8 @@ small Known = record {
   queues = λ order s t. queues order s t;
   leaves = λ blind n link s known at t. leaves blind n link s at t;
   acknowledges = λ count n link s known at few t. acknowledges count n link s at t;
-  gives_up_sent = λ cause n link s known at t. gives_up (is_unacked n) cause n link s (sent_given_up n cause s.rows) (fewer_changed (is_unacked n) (Discarded cause) n refl s.rows) at t;
-  gives_up_waiting = λ cause n link s known at t. gives_up (is_waiting n) cause n link s (waiting_given_up n cause s.rows) (fewer_changed (is_waiting n) (Discarded cause) n refl s.rows) at t;
+  gives_up_sent = λ cause n link s known at t. gives_up (is_unacked n) cause n link s (sent_given_up n cause s.rows) (fewer_changed (is_unacked n) (is_unacked n) (Discarded cause) refl s.rows) at t;
+  gives_up_waiting = λ cause n link s known at t. gives_up (is_waiting n) cause n link s (waiting_given_up n cause s.rows) (fewer_changed (is_waiting n) (is_unacked n) (Discarded cause) refl s.rows) at t;
   moves_off = λ n link s known at t. moves_off_sound n link s at t;
 }
 

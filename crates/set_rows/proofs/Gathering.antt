@@ -5,8 +5,7 @@ use Rattle.std.proofs.lemmas.List.Elements.{filter-append}
 use Rattle.std.proofs.lemmas.List.Filters.{length-filter_both}
 use borrow.Rule.Slice.PartMut.{put_mid}
 use Rattle.set_events.specs.declared.answer.Fate.{Fate}
-use Rattle.set_rows.specs.declared.row.Row.{Row}
-use Rattle.set_rows.specs.Rows.{standing}
+use Rattle.set_model.specs.Rows.{Row, standing}
 
 -- the middle two of four parts change places
 swapped : (a b c e whole part : List Row) (f m g : ℕ) → whole ≡ (a ++ b) ++ (c ++ e) → f ≡ length a → m ≡ length a + length b → g ≡ length c

@@ -1,14 +1,4 @@
-pub mod Changing
-pub mod Counting
-pub mod Events
-pub mod Filters
-pub mod Finding
 pub mod Gathering
-pub mod Lookups
-pub mod Moving
-pub mod Order
-pub mod Places
-pub mod Settling
-pub mod Stating
+pub mod Keeping
 pub mod Turning
 pub mod Written

@@ -3,8 +3,7 @@ use Rattle.std.proofs.Common.{refl, arith, ◌≡◌, ◌∙◌, ap, sym, ◌<�
 use Rattle.std.proofs.lemmas.Bool.{lt-ltb}
 use Rattle.std.proofs.lemmas.List.{append-nil, drop_all, take_all, take_more, length-map, length-set, length-take-le, drop_more, drop-drop, drop-set-lt, get_or_at, set_at, append_assoc, map-append, take_more_set}
 use Rattle.set_events.specs.declared.answer.Fate.{Fate}
-use Rattle.set_rows.specs.declared.row.Row.{Row}
-use Rattle.set_rows.specs.Rows.{standing, turned, octets_in, with_fate, AreFit}
+use Rattle.set_model.specs.Rows.{Row, standing, turned, octets_in, with_fate, AreFit}
 
 -- Each row is changed by f, one after another.
 pub mapped_more : (f : Row → Row) (xs ys : List Row) (i : ℕ) (d : Row) → i < length xs → ys ≡ map f (take i xs) ++ drop i xs

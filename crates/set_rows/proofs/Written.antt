@@ -1,7 +1,7 @@
 -- The list of a vector after its slice was written.
 use Rattle.std.proofs.Common.{arith, ◌≡◌, ◌∙◌, ap, length, ℕ, List, ◌++◌, take, drop}
 use Rattle.std.proofs.lemmas.List.{append-nil, take_all, drop_all}
-use Rattle.set_rows.specs.declared.row.Row.{Row}
+use Rattle.set_model.specs.Rows.{Row}
 use Rattle.set_rows.specs.Rows.{IsSound}
 
 pub written : (n : ℕ) (xs ys : List Row) → n ≡ length xs → length ys ≡ length xs → take n (ys ++ drop (length ys) xs) ≡ ys

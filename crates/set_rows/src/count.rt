@@ -1,6 +1,6 @@
 //! How many rows stand in each place.
 ghost use Rattle.std.specs.Prelude.{◌≡◌, length};
-ghost use Rattle.set_rows.specs.Rows.{waits, was_sent, was_acked, was_held, is_parked, was_discarded, standing, users, unsent, counts_of, total_of, is_users as is_users_row, is_unsent as is_unsent_there, stream_of as stream_in};
+ghost use Rattle.set_model.specs.Rows.{waits, was_sent, was_acked, was_held, is_parked, was_discarded, standing, users, unsent, counts_of, total_of, is_users as is_users_row, is_unsent as is_unsent_there, stream_of as stream_in};
 ghost use Rattle.set_rows.specs.Stands.{test_of};
 
 use super::row::Row;

@@ -1,7 +1,7 @@
 //! Rows that are looked up in the list.
 ghost use Rattle.std.specs.Prelude.{◌≡◌, find};
 ghost use Rattle.std.specs.Option.{option_copied};
-ghost use Rattle.set_rows.specs.Rows.{row_of};
+ghost use Rattle.set_model.specs.Rows.{row_of};
 ghost use Rattle.set_rows.specs.Stands.{test_of};
 
 use super::row::Row;

@@ -1,6 +1,6 @@
 //! Rows that leave their places and stand at the end.
 ghost use Rattle.std.specs.Prelude.{◌≡◌, ◌++◌, not, length};
-ghost use Rattle.set_rows.specs.Rows.{standing, moved};
+ghost use Rattle.set_model.specs.Rows.{standing, moved, all_with};
 ghost use Rattle.set_rows.specs.Stands.{test_of};
 
 use super::row::Row;
@@ -11,7 +11,7 @@ use set_events::Fate;
 /// The rows that stand there leave their places and stand at the end, in the same order, with the
 /// fate. It takes no memory, and a time of n log n for n rows.
 pub(crate) fn move_rows(rows: &mut [Row], stand: Stand, fate: Fate)
-    ensures { rows.new ≡ moved (test_of stand) fate rows.old }
+    ensures { rows.new ≡ moved (test_of stand) (all_with fate) rows.old }
 {
     let kept = gather(rows, stand);
     change_all(&mut rows[kept..], fate);
@@ -26,7 +26,8 @@ fn gather(rows: &mut [Row], stand: Stand) -> usize
         return 0;
     }
     if rows.len() == 1 {
-        return usize::from(!stand.has(rows[0].fate));
+        let row = &rows[0];
+        return usize::from(!stand.has(row.fate));
     }
     let middle = rows.len() / 2;
     let front = gather(&mut rows[..middle], stand);

@@ -24,7 +24,6 @@
 mod count;
 mod find;
 mod gather;
-mod laws;
 mod row;
 mod rows;
 mod stand;
@@ -32,9 +31,5 @@ mod stand;
 mod tests;
 mod turn;
 
-pub use laws::{
-    a_changeover_diverts_the_rest, a_move_moves_the_links_rows, each_number_in_one_row,
-    no_message_changes,
-};
 pub use row::Row;
 pub use rows::Rows;

@@ -1,5 +1,6 @@
 //! One message of a set.
 use set_events::{Body, Fate};
+use std::marker::Model;
 
 /// A message: in a set's list it is one row, which has one fate.
 #[derive(Debug, Drop)]
@@ -10,4 +11,12 @@ pub struct Row {
     pub body: Body,
     /// Where it stands.
     pub fate: Fate,
+}
+
+impl Model for Row {
+    ghost use Rattle.set_model.specs.Rows.{Row as ModelRow};
+
+    ghost Value = { ModelRow };
+
+    ghost view = { λ r. record { number = r.number; body = r.body; fate = r.fate } };
 }

@@ -33,7 +33,8 @@ impl Model for Rows {
 impl Rows {
     ghost use Rattle.std.specs.Prelude.{◌≡◌, ◌+◌, ◌<◌, ◌≤◌, ◌^◌, [], Some, length, take, slice_get, OnOk, OnErr};
     ghost use Rattle.std.specs.Option.{option_copied, option_map};
-    ghost use Rattle.set_rows.specs.Rows.{IsSound, is_waiting, is_unacked, is_on, is_parked, standing, unack, wait, on, parked, users, unsent, octets_in, turned, changed, moved, appended, place, body_at, counts_of, total_of};
+    ghost use Rattle.set_model.specs.Rows.{is_waiting, is_unacked, is_on, is_parked, standing, unack, wait, on, parked, users, unsent, octets_in, turned, changed, moved, all_with, appended, place, body_at, counts_of, total_of};
+    ghost use Rattle.set_rows.specs.Rows.{IsSound};
     ghost use Rattle.set_rows.specs.Stands.{test_of};
 
     /// No rows, and no room.
@@ -197,7 +198,7 @@ impl Rows {
     /// it, leave their places and stand at the end, in the same order, with this fate (Q.704 5.5). It
     /// wants no memory.
     pub fn move_from(&mut self, link: u8, to: Fate)
-        ensures { self.new ≡ record self.old { rows = moved (is_on link) to self.old.rows } }
+        ensures { self.new ≡ record self.old { rows = moved (is_on link) (all_with to) self.old.rows } }
     {
         self.move_to_end(Stand::OnLink { link }, to);
     }
@@ -205,7 +206,7 @@ impl Rows {
     /// The parked messages leave their places and stand at the end, in the same order, waiting for
     /// this link. It wants no memory.
     pub fn unpark(&mut self, link: u8)
-        ensures { self.new ≡ record self.old { rows = moved is_parked (Fate.Waiting link) self.old.rows } }
+        ensures { self.new ≡ record self.old { rows = moved is_parked (all_with (Fate.Waiting link)) self.old.rows } }
     {
         self.move_to_end(Stand::NoLink, Fate::Waiting { link });
     }
@@ -227,7 +228,7 @@ impl Rows {
 
     /// All rows that stand there go to the end with the fate.
     fn move_to_end(&mut self, stand: Stand, fate: Fate)
-        ensures { self.new ≡ record self.old { rows = moved (test_of stand) fate self.old.rows } }
+        ensures { self.new ≡ record self.old { rows = moved (test_of stand) (all_with fate) self.old.rows } }
     {
         move_rows(&mut self.rows, stand, fate);
     }

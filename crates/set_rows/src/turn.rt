@@ -1,6 +1,6 @@
 //! Rows that get another fate in their places.
 ghost use Rattle.std.specs.Prelude.{◌≡◌, ◌-◌, ◌≤◌, nat_lt, ◌&&◌, map, take, length, if◌then◌else◌};
-ghost use Rattle.set_rows.specs.Rows.{AreFit, standing, turned, changed, with_fate, octets_in};
+ghost use Rattle.set_model.specs.Rows.{AreFit, standing, turned, changed, with_fate, octets_in};
 ghost use Rattle.set_rows.specs.Stands.{test_of};
 
 use super::row::Row;
@@ -59,6 +59,12 @@ pub(crate) fn change_all(rows: &mut [Row], fate: Fate)
     ensures { rows.new ≡ map (with_fate fate) rows.old }
 {
     for row in rows.iter_mut() {
-        row.fate = fate;
+        put(row, fate);
     }
+}
+
+fn put(row: &mut Row, fate: Fate)
+    ensures { row.new ≡ with_fate fate row.old }
+{
+    row.fate = fate;
 }

@@ -4,15 +4,15 @@ use Rattle.std.proofs.lemmas.Bool.Decides.{nat_tests}
 use Rattle.std.proofs.lemmas.List.{length-map}
 use Rattle.l2_window.specs.Window.{WindowState, distance_to}
 use Rattle.set_events.specs.declared.answer.Fate.TheVariants.{Acked}
-use Rattle.set_rows.specs.declared.row.Row.{Row}
-use Rattle.set_rows.specs.Rows.{unack, numbers, octets_in, is_unacked, is_on, turned}
-use Rattle.set_rows.proofs.Events.{acknowledged, octets_split}
-use Rattle.set_step.specs.declared.control.Control.{Control}
+use Rattle.set_model.specs.Rows.{Row, unack, numbers, octets_in, is_unacked, is_on, turned}
+use Rattle.set_model.proofs.Events.{acknowledged, octets_split}
 use Rattle.set_step.specs.declared.link.Link.{Link}
 use Rattle.set_step.specs.Agreement.{IsKept, link_of}
-use Rattle.set_step.specs.Changeover.{reached_by, is_reasonable}
-use Rattle.set_step.specs.Control.{accepted_of}
-use Rattle.set_step.proofs.Fewer.{fewer_turned, none, numbers-drop}
+use Rattle.set_model.specs.Changeover.{reached_by, is_reasonable}
+use Rattle.set_model.specs.Control.{Control, accepted_of}
+use Rattle.set_model.proofs.Framing.{numbers-drop}
+use Rattle.set_model.proofs.InPlace.{fewer_turned}
+use Rattle.set_step.proofs.Fewer.{none}
 
 -- the link then
 abbrev pub acked_link : Link → ℕ → ℕ → ℕ → WindowState → Control → Link

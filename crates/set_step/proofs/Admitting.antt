@@ -2,12 +2,12 @@
 use Rattle.std.proofs.Common.{refl, ◌≡◌, ◌∙◌, ap, sym, ℕ, List, map, slice_get, Option, Some, None, Bool, true, false, if◌then◌else◌}
 use Rattle.set_events.specs.declared.answer.Refusal.TheVariants.{NotUp, NotDown, Unsettled, Nothing}
 use Rattle.set_step.specs.declared.link.Link.{Link}
-use Rattle.set_step.specs.declared.phase.Phase.{Phase}
-use Rattle.set_step.specs.declared.phase.Phase.TheVariants.{Up, Down, Settled}
+use Rattle.set_model.specs.declared.phase.Phase.{Phase}
+use Rattle.set_model.specs.declared.phase.Phase.TheVariants.{Up, Down, Settled}
 use Rattle.set_step.specs.Agreement.{service_refusal, rising_refusal, waiting_refusal, refusal_in, link_of}
-use Rattle.set_step.specs.Set.{LinkState, State, has_phase_up}
-use Rattle.set_step.specs.Step.{Outcome, on_link, in_service}
-use Rattle.set_step.proofs.Lists.{at_map, map_at}
+use Rattle.set_model.specs.State.{LinkState, State, has_phase_up}
+use Rattle.set_model.specs.Step.{Outcome, on_link, in_service}
+use Rattle.set_model.proofs.Lists.{at_map, map_at}
 
 pub serves : (links : List Link) (n : ℕ) → service_refusal (slice_get links n) ≡ None → (link : Link) × (slice_get links n ≡ Some link) × (has_phase_up link.phase ≡ true)
 serves links n none = go (slice_get links n) refl none

@@ -10,8 +10,8 @@ use Rattle.l2_window.specs.declared.control.Sending.{Sending}
 use Rattle.l2_window.specs.declared.control.Sending.TheVariants.{Message, Fill}
 use Rattle.l2_basic.specs.Basic as basic
 use Rattle.l2_pcr.specs.Pcr as cyclic
-use Rattle.set_step.specs.declared.control.Control.TheVariants.{Basic, Cyclic}
-use Rattle.set_step.specs.Control.{IsChosen, header_of}
+use Rattle.set_model.specs.Control.{Basic, Cyclic, header_of}
+use Rattle.set_step.specs.Controls.{IsChosen}
 
 below : (a b : ℕ) → nat_lt a b ≡ true → a < b
 below a b e = ltb-true a b e

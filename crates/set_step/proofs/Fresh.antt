@@ -8,14 +8,15 @@ use Rattle.set_events.specs.declared.config.Method.{Method}
 use Rattle.set_events.specs.declared.config.Method.TheVariants.{Basic, Cyclic}
 use Rattle.set_route.specs.declared.stream.Stream.{Stream}
 use Rattle.set_route.specs.Routing.{new_routing, new_stream, stream_numbers}
-use Rattle.set_rows.specs.declared.row.Row.{Row}
-use Rattle.set_rows.specs.Rows.{unack}
+use Rattle.set_model.specs.Rows.{Row, unack}
 use Rattle.set_step.specs.declared.link.Link.{Link}
 use Rattle.set_step.specs.declared.parts.Parts.{Parts}
 use Rattle.set_step.specs.Agreement.{Agrees, IsKept, AtLink, IsPlaced, ArePlaced, link_of, state_of}
-use Rattle.set_step.specs.Control.{accepted_of, start_of}
-use Rattle.set_step.specs.Set.{LinkState, new_link, IsSoundLink, AreFewOn}
-use Rattle.set_step.proofs.Lists.{at_map}
+use Rattle.set_model.specs.Control.{accepted_of, start_of}
+use Rattle.set_model.specs.State.{LinkState, new_link}
+use Rattle.set_model.specs.Sound.{IsSoundLink, AreFewOn}
+use Rattle.set_model.proofs.Lists.{at_map}
+use Rattle.set_model.proofs.Soundness.{start_counted}
 
 pub at_push : (xs : List Link) (x : Link) (n : ℕ) (y : Link) → slice_get (xs ++ x ∷ []) n ≡ Some y → (slice_get xs n ≡ Some y) ⊎ (y ≡ x)
 at_push [] x zero y e = inr (sym (same_Some x y e))
@@ -27,15 +28,11 @@ pub all_same : (links : List Link) (link : LinkState) → ((n : ℕ) → AtLink 
 all_same [] link all = refl
 all_same (x ∷ links) link all = ap (λ (l : LinkState). l ∷ map link_of links) (all 0 x refl) ∙ ap (λ (ls : List LinkState). link ∷ ls) (all_same links link (λ n l there. all (suc n) l there))
 
-pub accepted_start : (method : Method) → accepted_of (start_of method) ≡ 127
-accepted_start Basic = refl
-accepted_start (Cyclic n1 n2) = refl
-
 pub fresh_kept : (method : Method) (n : ℕ) (link : Link) → link_of link ≡ new_link method → IsEmpty link.window → link.octets ≡ 0 → IsKept n link []
 fresh_kept method n link same empty octets =
     let acked : link.acked ≡ 0 = ap (λ (l : LinkState). l.acked) same in
     let accepted : link.accepted ≡ 0 = ap (λ (l : LinkState). l.accepted) same in
-    let control : accepted_of link.control ≡ 127 = ap (λ (l : LinkState). accepted_of l.control) same ∙ accepted_start method in
+    let control : accepted_of link.control ≡ 127 = ap (λ (l : LinkState). accepted_of l.control) same ∙ start_counted method in
     let last = empty.last in
     record {
       last = omega (arith, acked, last);
@@ -47,23 +44,8 @@ fresh_kept method n link same empty octets =
       settled = λ s. refl;
     }
 
-pub fresh_few : (method : Method) (link : LinkState) → link ≡ new_link method → AreFewOn 0 link
-fresh_few method link same =
-    let acked : link.acked ≡ 0 = ap (λ (l : LinkState). l.acked) same in
-    let accepted : link.accepted ≡ 0 = ap (λ (l : LinkState). l.accepted) same in
-    record { acked = omega (arith, acked); accepted = omega (arith, accepted) }
-
 -- no stream runs on a link before one was up
 pub fresh_placed : (links : List Link) (count : ℕ) → ArePlaced links (new_routing count).streams
 fresh_placed links count k stream there =
     let old = at_map (λ (s : ℕ). new_stream (s % count)) stream_numbers k stream there in
     subst (λ (s : Stream). IsPlaced links s.place) old.2 tt
-
--- what a window holds, the rows hold
-pub sound_links : (parts : Parts) → Agrees parts → ((n : ℕ) → AtLink n parts.links.items (λ link. length link.window.unacked ≤ 127)) → (n : ℕ) (link : LinkState) → slice_get (state_of parts).links n ≡ Some link → IsSoundLink n link parts.rows.rows
-sound_links parts agrees windows n link there =
-    let old = at_map link_of parts.links.items n link there in
-    let k = agrees.kept n old.0 old.1 in
-    let few = windows n old.0 old.1 in
-    let count : length old.0.window.unacked ≡ length (unack n parts.rows.rows) = ap length k.unacked ∙ length-map (unack n parts.rows.rows) (λ (row : Row). row.number) in
-    subst (λ (l : LinkState). IsSoundLink n l parts.rows.rows) old.2 (record { window = omega (arith, few, count); counted = k.accepted; settled = k.settled })

@@ -9,15 +9,14 @@ use Rattle.l2_window.specs.declared.control.HeardPart.{HeardPart}
 use Rattle.l2_basic.specs.Basic as basic
 use Rattle.l2_pcr.specs.Pcr as cyclic
 use Rattle.set_events.specs.declared.answer.Fate.TheVariants.{Acked}
-use Rattle.set_rows.specs.declared.row.Row.{Row}
-use Rattle.set_rows.specs.Rows.{unack, octets_in, is_unacked, turned}
-use Rattle.set_step.specs.declared.control.Control.{Control}
-use Rattle.set_step.specs.declared.control.Control.TheVariants.{Basic, Cyclic}
+use Rattle.set_model.specs.Rows.{Row, unack, octets_in, is_unacked, turned}
 use Rattle.set_step.specs.declared.link.Link.{Link}
-use Rattle.set_step.specs.Control.{accepted_of, is_processed, is_accepted, acked_by, part_of, window_heard, control_heard, IsHeard}
-use Rattle.set_step.specs.Set.{window_of}
-use Rattle.set_step.specs.Step.{one_if}
+use Rattle.set_model.specs.Control.{Control, Basic, Cyclic, accepted_of, is_processed, is_accepted, acked_by, part_of, window_heard, control_heard}
+use Rattle.set_step.specs.Controls.{IsHeard}
+use Rattle.set_model.specs.State.{window_of}
+use Rattle.set_model.specs.Step.{one_if}
 use Rattle.set_step.specs.Agreement.{IsKept, link_of}
+use Rattle.set_model.proofs.Controlling.{part_acked, part_accept, last_heard, accepted_heard}
 use Rattle.set_step.proofs.Acknowledging.{acked_kept, acked_link}
 use Rattle.set_step.proofs.Outgoing.{roomy, window_is}
 
@@ -30,18 +29,6 @@ control_room : (control : Control) (w : WindowState) (r : ℕ) (head : Header) (
 control_room (Basic s) w r head msu = refl
 control_room (Cyclic s) w r head msu = refl
 
-pub part_acked : (control : Control) (w : WindowState) (head : Header) (msu : Bool) → (part_of control w head msu).acked ≡ acked_by control w head
-part_acked (Basic s) w head msu = refl
-part_acked (Cyclic s) w head msu = refl
-
-part_accept : (control : Control) (w : WindowState) (head : Header) (msu : Bool) → (part_of control w head msu).accept ≡ is_accepted control w head msu
-part_accept (Basic s) w head msu = refl
-part_accept (Cyclic s) w head msu = refl
-
-and_right : (x y : Bool) → (x && y) ≡ true → y ≡ true
-and_right true y e = e
-and_right false y e = absurd cc
-
 -- an FSN's distance is below 128
 pub acked_low : (control : Control) (w : WindowState) (head : Header) → acked_by control w head ≤ 127
 acked_low control w head = go (is_processed control w head) refl
@@ -49,33 +36,6 @@ acked_low control w head = go (is_processed control w head) refl
     go : (b : Bool) → is_processed control w head ≡ b → acked_by control w head ≤ 127
     go true e = rw e (omega arith)
     go false e = rw e (omega arith)
-
--- the number last acknowledged
-last_heard : (control : Control) (w : WindowState) (head : Header) (acked : ℕ) → w.last ≡ (acked + 127) % 128 → (window_heard control w head).last ≡ (acked + acked_by control w head + 127) % 128
-last_heard control w head acked e = go (is_processed control w head) refl
-  where
-    go : (b : Bool) → is_processed control w head ≡ b → (window_heard control w head).last ≡ (acked + acked_by control w head + 127) % 128
-    go true f = let low : head.bsn < 128 = head.bsn_in_range in rw f (omega (arith, e))
-    go false f = rw f (omega (arith, e))
-
--- the FSN last accepted
-accepted_heard : (control : Control) (w : WindowState) (head : Header) (msu : Bool) (n : ℕ) → accepted_of control ≡ (n + 127) % 128 → accepted_of (control_heard control w head msu) ≡ (n + one_if (is_accepted control w head msu) + 127) % 128
-accepted_heard (Basic s) w head msu n e = go (basic.is_accepted s w head msu) refl
-  where
-    go : (b : Bool) → basic.is_accepted s w head msu ≡ b → (if basic.is_accepted s w head msu then head.fsn else s.accepted) ≡ (n + one_if (basic.is_accepted s w head msu) + 127) % 128
-    go true f =
-        let next : (head.fsn == (s.accepted + 1) % 128) ≡ true = and_right msu (basic.is_successor s head) (and_right (basic.is_current s w head) (msu && basic.is_successor s head) f) in
-        let same : head.fsn ≡ (s.accepted + 1) % 128 = grind (arith, nat_tests) in
-        rw f (omega (arith, e, same))
-    go false f = rw f (omega (arith, e))
-accepted_heard (Cyclic s) w head msu n e = go (cyclic.is_accepted s w head msu) refl
-  where
-    go : (b : Bool) → cyclic.is_accepted s w head msu ≡ b → (if cyclic.is_accepted s w head msu then head.fsn else s.accepted) ≡ (n + one_if (cyclic.is_accepted s w head msu) + 127) % 128
-    go true f =
-        let next : (head.fsn == (s.accepted + 1) % 128) ≡ true = and_right msu (head.fsn == (s.accepted + 1) % 128) (and_right (not (cyclic.has_abnormal_bsn w head)) (msu && (head.fsn == (s.accepted + 1) % 128)) f) in
-        let same : head.fsn ≡ (s.accepted + 1) % 128 = grind (arith, nat_tests) in
-        rw f (omega (arith, e, same))
-    go false f = rw f (omega (arith, e))
 
 -- a bit as a number
 pub one_byte : (b : Bool) → bool_byte b ≡ one_if b

@@ -4,13 +4,13 @@ use Rattle.std.proofs.lemmas.Option.{same_Some, slice_get-map}
 use Rattle.std.proofs.lemmas.List.{length-map}
 use Rattle.set_step.specs.declared.link.Link.{Link}
 use Rattle.set_step.specs.declared.parts.Parts.{Parts}
-use Rattle.set_step.specs.declared.phase.Phase.{Phase}
-use Rattle.set_step.specs.declared.reached.Reached.{Reached}
-use Rattle.set_step.specs.declared.reached.Reached.TheVariants.{Upto, Unknown, Unanswered}
+use Rattle.set_model.specs.declared.phase.Phase.{Phase}
+use Rattle.set_model.specs.declared.reached.Reached.{Reached}
+use Rattle.set_model.specs.declared.reached.Reached.TheVariants.{Upto, Unknown, Unanswered}
 use Rattle.set_step.specs.Agreement.{AtLink, IsOut, Keeps}
-use Rattle.set_step.specs.Changeover.{judge, judged, acknowledged, reached_by, is_reasonable}
-use Rattle.set_step.specs.Set.{LinkState, State, has_phase_up}
-use Rattle.set_step.proofs.Lists.{get_set_same, within}
+use Rattle.set_model.specs.Changeover.{judge, judged, acknowledged, reached_by, is_reasonable}
+use Rattle.set_model.specs.State.{LinkState, State, has_phase_up}
+use Rattle.set_model.proofs.Lists.{get_set_same, within}
 
 pub keeps_then : (n : ℕ) (a b c : Parts) → Keeps n a b → Keeps n b c → Keeps n a c
 keeps_then n a b c first second = record {

@@ -1,16 +1,15 @@
 -- What a set keeps of its links goes on to agree with the rows.
 use Rattle.std.proofs.Common.{refl, arith, ◌≡◌, ◌≢◌, ◌∙◌, ap, sym, ◌≤◌, ℕ, List, slice_get, slice_set, Some, ◌⊎◌, inl, inr, ◌==◌, Bool, true, false}
-use Rattle.set_rows.specs.declared.row.Row.{Row}
-use Rattle.set_rows.specs.Rows.{numbers, octets_in}
-use Rattle.set_rows.proofs.Events.{Untouched}
-use Rattle.set_rows.proofs.Places.{apart, itself}
+use Rattle.set_model.specs.Rows.{Row, numbers, octets_in}
+use Rattle.set_model.proofs.Events.{Untouched}
+use Rattle.set_model.proofs.Places.{apart, itself}
 use Rattle.set_route.specs.declared.place.Place.{Place}
 use Rattle.set_route.specs.declared.place.Place.TheVariants.{On, Nowhere}
 use Rattle.set_route.specs.declared.stream.Stream.{Stream}
 use Rattle.set_step.specs.declared.link.Link.{Link}
 use Rattle.set_step.specs.Agreement.{IsKept, AreKept, IsPlaced, ArePlaced, AreRoomy, IsCounted, AreCounted}
-use Rattle.set_step.specs.Set.{has_phase_settled}
-use Rattle.set_step.proofs.Lists.{at_set, get_set_same, get_set_other, within}
+use Rattle.set_model.specs.State.{has_phase_settled}
+use Rattle.set_model.proofs.Lists.{at_set, get_set_same, get_set_other, within}
 
 pub untouched_self : (n : ℕ) (rows : List Row) → Untouched n rows rows
 untouched_self n rows = record {

@@ -2,21 +2,20 @@
 use Rattle.std.proofs.Common.{refl, ◌≡◌, ◌≢◌, ◌∙◌, ap, sym, subst, length, ℕ, ◌+◌, ◌%◌, Bool, true, false, List, [], ◌++◌, map, slice_get, slice_set, Option, Some, None, ◌⊎◌, inl, inr, ◌==◌, option_map}
 use Rattle.std.proofs.lemmas.Option.{same_Some, slice_get-map}
 use Rattle.set_events.specs.declared.answer.Fate.TheVariants.{Waiting, Parked}
-use Rattle.set_rows.specs.declared.row.Row.{Row}
-use Rattle.set_rows.specs.Rows.{unack, wait, on, numbers, octets_in, is_on, moved, IsInOrder}
-use Rattle.set_rows.proofs.Events.{MovedTo, moved_to, moved_aside}
-use Rattle.set_rows.proofs.Places.{apart, itself}
+use Rattle.set_model.specs.Rows.{Row, unack, wait, on, numbers, octets_in, is_on, moved, IsInOrder, all_with}
+use Rattle.set_model.proofs.Events.{MovedTo, moved_to, moved_aside}
+use Rattle.set_model.proofs.Places.{apart, itself}
 use Rattle.set_route.specs.declared.place.Place.{Place}
 use Rattle.set_route.specs.declared.place.Place.TheVariants.{On, Nowhere}
 use Rattle.set_route.specs.declared.stream.Stream.{Stream}
 use Rattle.set_route.specs.Routing.{place_on, place_settled, stream_settled}
 use Rattle.set_step.specs.declared.link.Link.{Link}
 use Rattle.set_step.specs.Agreement.{IsKept, AreKept, IsPlaced, ArePlaced, IsOpenTo, AtLink, IsOut, IsQueued, Queues, link_of}
-use Rattle.set_step.specs.Changeover.{fate_on}
-use Rattle.set_step.specs.Control.{accepted_of}
-use Rattle.set_step.specs.Set.{has_phase_up}
+use Rattle.set_model.specs.Changeover.{fate_on}
+use Rattle.set_model.specs.Control.{accepted_of}
+use Rattle.set_model.specs.State.{has_phase_up}
 use Rattle.set_step.proofs.Keeping.{kept_set, kept_other, placed_set}
-use Rattle.set_step.proofs.Lists.{at_set, get_set_same, get_set_other, map_set_same, same_at, within, length_set}
+use Rattle.set_model.proofs.Lists.{at_set, get_set_same, get_set_other, map_set_same, same_at, within, length_set}
 use Rattle.set_step.proofs.Standing.{up_unsettled}
 
 -- the link that is left is not the target
@@ -53,27 +52,27 @@ target_kept n to rows new links mid q e k up = record {
   settled = λ s. absurd (let u = up_unsettled q.link.phase up in cc);
 }
 
-pub moved_off : (links mid : List Link) (n : ℕ) (t : Option ℕ) (rows : List Row) (link : Link) → AreKept links rows → AtLink n links IsOut → IsOpenTo (fate_on t) links → IsQueued t (numbers (on n rows)) links mid → IsBare link → AreKept (slice_set mid n link) (moved (is_on n) (fate_on t) rows)
+pub moved_off : (links mid : List Link) (n : ℕ) (t : Option ℕ) (rows : List Row) (link : Link) → AreKept links rows → AtLink n links IsOut → IsOpenTo (fate_on t) links → IsQueued t (numbers (on n rows)) links mid → IsBare link → AreKept (slice_set mid n link) (moved (is_on n) (all_with (fate_on t)) rows)
 moved_off links mid n None rows link all out fits q b =
     let e = moved_aside n rows in
-    rw q (kept_set links n link rows (moved (is_on n) Parked rows) all (bare_kept n link rows (moved (is_on n) Parked rows) b e.left_is.unack_none e.left_is.wait_none e.left_is.on_none e.left_is.in_order) (λ m d. e.left_is.others m d refl))
+    rw q (kept_set links n link rows (moved (is_on n) (all_with Parked) rows) all (bare_kept n link rows (moved (is_on n) (all_with Parked) rows) b e.left_is.unack_none e.left_is.wait_none e.left_is.on_none e.left_is.in_order) (λ m d. e.left_is.others m d refl))
 moved_off links mid n (Some to) rows link all out fits q b = λ m other there. go m other (at_set mid n m link other there)
   where
     differ : (n == to) ≡ false
     differ = apart n to (other_than links n to out fits)
 
-    e : MovedTo n to rows (moved (is_on n) (Waiting to) rows)
+    e : MovedTo n to rows (moved (is_on n) (all_with (Waiting to)) rows)
     e = moved_to n to rows differ
 
     up : has_phase_up q.link.phase ≡ true
     up = rw (same_at links to fits.0 q.link fits.1 q.there) fits.2
 
-    elsewhere : (m : ℕ) (other : Link) → (n == m) ≡ false → ((m ≡ to) × (other ≡ record q.link { window = q.window })) ⊎ ((m ≢ to) × (slice_get links m ≡ Some other)) → IsKept m other (moved (is_on n) (Waiting to) rows)
-    elsewhere m other d (inl p) = rw p.0 (rw p.1 (target_kept n to rows (moved (is_on n) (Waiting to) rows) links mid q e (all to q.link q.there) up))
-    elsewhere m other d (inr p) = kept_other m other rows (moved (is_on n) (Waiting to) rows) (e.left_is.others m d (apart to m (λ same. p.0 (sym same)))) (all m other p.1)
+    elsewhere : (m : ℕ) (other : Link) → (n == m) ≡ false → ((m ≡ to) × (other ≡ record q.link { window = q.window })) ⊎ ((m ≢ to) × (slice_get links m ≡ Some other)) → IsKept m other (moved (is_on n) (all_with (Waiting to)) rows)
+    elsewhere m other d (inl p) = rw p.0 (rw p.1 (target_kept n to rows (moved (is_on n) (all_with (Waiting to)) rows) links mid q e (all to q.link q.there) up))
+    elsewhere m other d (inr p) = kept_other m other rows (moved (is_on n) (all_with (Waiting to)) rows) (e.left_is.others m d (apart to m (λ same. p.0 (sym same)))) (all m other p.1)
 
-    go : (m : ℕ) (other : Link) → ((m ≡ n) × (other ≡ link)) ⊎ ((m ≢ n) × (slice_get mid m ≡ Some other)) → IsKept m other (moved (is_on n) (Waiting to) rows)
-    go m other (inl p) = rw p.0 (rw p.1 (bare_kept n link rows (moved (is_on n) (Waiting to) rows) b e.left_is.unack_none e.left_is.wait_none e.left_is.on_none e.left_is.in_order))
+    go : (m : ℕ) (other : Link) → ((m ≡ n) × (other ≡ link)) ⊎ ((m ≢ n) × (slice_get mid m ≡ Some other)) → IsKept m other (moved (is_on n) (all_with (Waiting to)) rows)
+    go m other (inl p) = rw p.0 (rw p.1 (bare_kept n link rows (moved (is_on n) (all_with (Waiting to)) rows) b e.left_is.unack_none e.left_is.wait_none e.left_is.on_none e.left_is.in_order))
     go m other (inr p) = elsewhere m other (apart n m (λ same. p.0 (sym same))) (at_set links to m (record q.link { window = q.window }) other (ap (λ ls. slice_get ls m) (sym q.new_is) ∙ p.1))
 
 -- what queueing leaves as it was

@@ -4,14 +4,11 @@ pub mod Bounds
 pub mod Choosing
 pub mod Fewer
 pub mod Fresh
-pub mod Gaining
 pub mod Incoming
 pub mod Judging
 pub mod Keeping
-pub mod LawLemmas
 pub mod Leaving
 pub mod Linked
-pub mod Lists
 pub mod Outgoing
 pub mod Placing
 pub mod Ranging

@@ -3,8 +3,8 @@ use Rattle.std.proofs.Common.{◌≡◌, ◌∙◌, ap, sym, length, ℕ, List, 
 use Rattle.std.proofs.lemmas.List.{length-map}
 use Rattle.set_step.specs.declared.link.Link.{Link}
 use Rattle.set_step.specs.Agreement.{AtLink, IsOut, IsCounted, AreCounted, link_of}
-use Rattle.set_step.specs.Set.{LinkState, has_phase_up}
-use Rattle.set_step.proofs.Lists.{at_map, map_at}
+use Rattle.set_model.specs.State.{LinkState, has_phase_up}
+use Rattle.set_model.proofs.Lists.{at_map, map_at}
 
 -- the link that stood there
 pub linked : (was now : List Link) (n : ℕ) (link : Link) → map link_of now ≡ map link_of was → slice_get now n ≡ Some link → (old : Link) × (slice_get was n ≡ Some old) × (link_of old ≡ link_of link)

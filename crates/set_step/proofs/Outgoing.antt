@@ -14,18 +14,18 @@ use Rattle.l2_pcr.specs.Pcr as cyclic
 use Rattle.set_events.specs.declared.answer.Answer.TheVariants.{Sent}
 use Rattle.set_events.specs.declared.answer.Fate.TheVariants.{Unacked}
 use Rattle.set_route.specs.Routing.{Routing}
-use Rattle.set_rows.specs.declared.row.Row.{Row}
-use Rattle.set_rows.specs.Rows.{unack, wait, numbers, octets_in, is_waiting, is_unacked, turned, with_fate, body_at, AreFit, IsSound}
-use Rattle.set_rows.proofs.Events.{Untouched, sent, numbers_joined, octets-append}
-use Rattle.set_rows.proofs.Filters.{fit_filter}
-use Rattle.set_rows.proofs.Lookups.{found_by_number}
-use Rattle.set_step.specs.declared.control.Control.{Control}
-use Rattle.set_step.specs.declared.control.Control.TheVariants.{Basic, Cyclic}
+use Rattle.set_model.specs.Rows.{Row, unack, wait, numbers, octets_in, is_waiting, is_unacked, turned, all_with, with_fate, body_at, AreFit}
+use Rattle.set_rows.specs.Rows.{IsSound}
+use Rattle.set_model.proofs.Events.{Untouched, sent, numbers_joined, octets-append}
+use Rattle.set_model.proofs.Controlling.{accepted_after, first_chosen}
+use Rattle.set_model.proofs.Filters.{fit_filter}
+use Rattle.set_model.proofs.Lookups.{found_by_number}
 use Rattle.set_step.specs.declared.link.Link.{Link}
 use Rattle.set_step.specs.Agreement.{IsKept, link_of}
-use Rattle.set_step.specs.Control.{Choice, again, first, fill, choice_of, fsn_of, head_of, control_after, accepted_of, IsChosen, IsSent}
-use Rattle.set_step.specs.Set.{Settings, LinkState, with_link, window_of}
-use Rattle.set_step.specs.Step.{sends, next}
+use Rattle.set_model.specs.Control.{Control, Basic, Cyclic, Choice, again, first, fill, choice_of, fsn_of, head_of, control_after, accepted_of}
+use Rattle.set_step.specs.Controls.{IsChosen, IsSent}
+use Rattle.set_model.specs.State.{Settings, LinkState, with_link, window_of}
+use Rattle.set_model.specs.Step.{sends, next}
 use Rattle.set_step.proofs.Keeping.{untouched_self}
 
 -- The window with some room, which no choice looks at.
@@ -51,14 +51,6 @@ after_room fill o (Basic s) w r = refl
 after_room (again place) o (Cyclic s) w r = refl
 after_room first o (Cyclic s) w r = refl
 after_room fill o (Cyclic s) w r = refl
-
-pub accepted_after : (choice : Choice) (o : ℕ) (control : Control) (w : WindowState) → accepted_of (control_after choice o control w) ≡ accepted_of control
-accepted_after (again place) o (Basic s) w = refl
-accepted_after first o (Basic s) w = refl
-accepted_after fill o (Basic s) w = refl
-accepted_after (again place) o (Cyclic s) w = refl
-accepted_after first o (Cyclic s) w = refl
-accepted_after fill o (Cyclic s) w = refl
 
 -- what was chosen, told of the window without its room
 pub record Chosen (o : ℕ) (control control' : Control) (w : WindowState) (r : ℕ) (w' : WindowState) (x : Sending) : Type 0 where
@@ -87,25 +79,6 @@ chosen n link rows control' w' x k h =
     chosen_roomy _ link.control control' _ _ w' x
     (subst (λ (w : WindowState). IsChosen (octets_in (unack n rows)) link.control control' w w' x) same
     (subst (λ (o : ℕ). IsChosen o link.control control' link.window w' x) k.octets h))
-
--- A first sending is chosen only where fewer than 127 are unacknowledged.
-last_test : (x y z : Bool) (p : ℕ) → (if x then again p else (if y && z then first else fill)) ≡ first → z ≡ true
-last_test true y z p e = absurd cc
-last_test false true true p e = refl
-last_test false true false p e = absurd cc
-last_test false false z p e = absurd cc
-
-last_test_cyclic : (x y z v : Bool) (p q : ℕ) → (if x then again p else (if y && z then first else (if v then again q else fill))) ≡ first → z ≡ true
-last_test_cyclic true y z v p q e = absurd cc
-last_test_cyclic false true true v p q e = refl
-last_test_cyclic false true false true p q e = absurd cc
-last_test_cyclic false true false false p q e = absurd cc
-last_test_cyclic false false z true p q e = absurd cc
-last_test_cyclic false false z false p q e = absurd cc
-
-first_below : (o : ℕ) (control : Control) (w : WindowState) → choice_of o control w ≡ first → length w.unacked < 127
-first_below o (Basic s) w e = ltb-true (length w.unacked) 127 (last_test (nat_lt s.cursor (length w.unacked)) (nat_lt 0 (length w.unsent)) (nat_lt (length w.unacked) 127) s.cursor e)
-first_below o (Cyclic s) w e = ltb-true (length w.unacked) 127 (last_test_cyclic (cyclic.is_forced s w o) (nat_lt 0 (length w.unsent)) (nat_lt (length w.unacked) 127) (nat_lt 0 (length w.unacked)) (cyclic.cycle_place (not s.forced) s w) (cyclic.cycle_place false s w) e)
 
 -- The bodies fit: at most 127 of at most 273 octets.
 fit_at : (rows : List Row) (i : ℕ) (row : Row) → AreFit rows → slice_get rows i ≡ Some row → length row.body ≤ 273
@@ -192,7 +165,7 @@ module _ (n : ℕ) (link : Link) (rows : List Row) (k : IsKept n link rows) (sou
       let waits : wait n rows ≡ f.row ∷ drop 1 (wait n rows) = front_of (wait n rows) f.row f.there in
       let d = sent n rows in
       let fewer : length link.window.unsent ≡ suc (length w'.unsent) = ap length (k.unsent ∙ unsent) in
-      let below : length (unack n rows) < 127 = rw (length-map (unack n rows) (λ (r : Row). r.number)) at (first_below octets link.control window e) in
+      let below : length (unack n rows) < 127 = rw (length-map (unack n rows) (λ (r : Row). r.number)) at ((first_chosen octets link.control window e).1) in
       let most = octets_fit (unack n rows) (fit_filter (λ (row : Row). is_unacked n row.fate) rows sound.fit) in
       let fits : length f.row.body ≤ 273 = fit_at (wait n rows) 0 f.row (fit_filter (λ (row : Row). is_waiting n row.fate) rows sound.fit) f.there in
       let more : unack n (turned (is_waiting n) (Unacked n) 1 rows) ≡ unack n rows ++ map (with_fate (Unacked n)) (f.row ∷ []) = d.unack_is k.in_order ∙ ap (λ (xs : List Row). unack n rows ++ map (with_fate (Unacked n)) (take 1 xs)) waits in
@@ -206,7 +179,7 @@ module _ (n : ℕ) (link : Link) (rows : List Row) (k : IsKept n link rows) (sou
           step = λ config links routing inbox. ap (λ (ch : Choice). sends ch n (record { settings = config; rows = rows; links = links; routing = routing; inbox = inbox }) (link_of link)) e ∙ rw (there, heads, after) refl;
           kept = record {
             last = s.last;
-            unacked = s.unacked ∙ ap (λ (i : ℕ). numbers (unack n rows) ++ i ∷ []) (named ∙ sym f.number_is) ∙ sym (ap numbers more ∙ numbers_joined (Unacked n) (unack n rows) (f.row ∷ []));
+            unacked = s.unacked ∙ ap (λ (i : ℕ). numbers (unack n rows) ++ i ∷ []) (named ∙ sym f.number_is) ∙ sym (ap numbers more ∙ numbers_joined (all_with (Unacked n)) (unack n rows) (f.row ∷ []));
             unsent = sym (ap numbers d.wait_is ∙ numbers_tail (wait n rows) m w'.unsent unsent);
             accepted = ap accepted_of after ∙ accepted_after first octets link.control window ∙ k.accepted;
             octets = let sum = ap octets_in more ∙ octets-append (unack n rows) (map (with_fate (Unacked n)) (f.row ∷ [])) in omega (arith, sum, k.octets);

@@ -1,16 +1,15 @@
 -- A message that is accepted moves no stream.
 use Rattle.std.proofs.Common.{refl, arith, ◌≡◌, ◌∙◌, ap, sym, subst, ◌<◌, ℕ, zero, suc, List, true, false, Bool, not, ◌&&◌, ◌==◌, [], ◌∷◌, length, map, slice_get, slice_set, Option, Some, None, option_map}
 use Rattle.std.proofs.lemmas.Option.{same_Some, slice_get-map}
-use Rattle.set_rows.specs.declared.row.Row.{Row}
-use Rattle.set_rows.specs.Rows.{standing, unack, wait, on, is_unacked, is_waiting, is_on}
-use Rattle.set_rows.proofs.Filters.{filter_within}
-use Rattle.set_rows.proofs.Places.{itself, unacked_on, waiting_on}
+use Rattle.set_model.specs.Rows.{Row, standing, unack, wait, on, is_unacked, is_waiting, is_on}
+use Rattle.set_model.proofs.Filters.{filter_within}
+use Rattle.set_model.proofs.Places.{itself, unacked_on, waiting_on}
 use Rattle.set_route.specs.declared.place.Place.{Place}
 use Rattle.set_route.specs.declared.place.Place.TheVariants.{On, Nowhere}
 use Rattle.set_route.specs.declared.stream.Stream.{Stream}
 use Rattle.set_route.specs.Routing.{used_at, place_raised, stream_raised}
-use Rattle.set_step.specs.Set.{has_phase_settled}
-use Rattle.set_step.proofs.Lists.{get_set_same, get_set_other}
+use Rattle.set_model.specs.State.{has_phase_settled}
+use Rattle.set_model.proofs.Lists.{get_set_same, get_set_other}
 use Rattle.set_step.specs.declared.link.Link.{Link}
 use Rattle.set_step.specs.Agreement.{IsPlaced, ArePlaced}
 
@@ -45,13 +44,6 @@ raised_placed links n link streams placed few unsettled = λ k s there. go k s (
     go k s (Some old) e f =
         let same : stream_raised n old ≡ s = same_Some (stream_raised n old) s (sym (ap (option_map (stream_raised n)) e) ∙ f) in
         subst (λ (x : Stream). IsPlaced (slice_set links n link) x.place) same (place old.home old.used old.place (placed k old e))
-
--- where nothing stands on a link, nothing was sent or waits there
-pub none_unack : (n : ℕ) (rows : List Row) → on n rows ≡ [] → unack n rows ≡ []
-none_unack n rows e = sym (filter_within (λ row. is_unacked n row.fate) (λ row. is_on n row.fate) (λ row f. unacked_on n row.fate f) rows) ∙ ap (standing (is_unacked n)) e
-
-pub none_wait : (n : ℕ) (rows : List Row) → on n rows ≡ [] → wait n rows ≡ []
-none_wait n rows e = sym (filter_within (λ row. is_waiting n row.fate) (λ row. is_on n row.fate) (λ row f. waiting_on n row.fate f) rows) ∙ ap (standing (is_waiting n)) e
 
 pub used_placed : (links : List Link) (n : ℕ) (streams : List Stream) → ArePlaced links streams → ArePlaced links (used_at n streams)
 used_placed links n streams placed = λ k stream there.

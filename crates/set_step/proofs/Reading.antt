@@ -1,15 +1,14 @@
 -- What a link's window tells of its unacknowledged messages.
 use Rattle.std.proofs.Common.{refl, arith, ◌≡◌, ◌∙◌, ap, sym, ℕ, ◌+◌, ◌%◌, List, slice_get, Option, Some, None}
 use Rattle.std.specs.Option.{option_map}
-use Rattle.set_rows.specs.declared.row.Row.{Row}
-use Rattle.set_rows.specs.Rows.{unack, numbers}
-use Rattle.set_rows.proofs.Lookups.{row_at_number}
-use Rattle.set_step.specs.declared.contents.Numbered.{Numbered}
+use Rattle.set_model.specs.Rows.{Row, unack, numbers}
+use Rattle.set_model.proofs.Lookups.{row_at_number}
+use Rattle.set_model.specs.declared.numbered.Numbered.{Numbered}
 use Rattle.set_step.specs.declared.link.Link.{Link}
 use Rattle.set_step.specs.declared.parts.Parts.{Parts}
 use Rattle.set_step.specs.Agreement.{Agrees, link_of, state_of}
-use Rattle.set_step.specs.Set.{LinkState, unacked_of, unacked_in}
-use Rattle.set_step.proofs.Lists.{map_at}
+use Rattle.set_model.specs.State.{LinkState, unacked_of, unacked_in}
+use Rattle.set_model.proofs.Lists.{map_at}
 
 abbrev numbered : ℕ → ℕ → Numbered
 numbered number fsn = record { number = number; fsn = fsn }

@@ -1,14 +1,14 @@
 -- Room that is made in windows changes nothing else.
 use Rattle.std.proofs.Common.{refl, ◌≡◌, ◌∙◌, ap, sym, subst, [], ◌∷◌, length, ℕ, List, map, slice_get, Some}
+use Rattle.set_model.specs.Rows.{Row}
 use Rattle.l2_window.specs.Window.{WindowState, SameMessages}
 use Rattle.set_step.specs.declared.link.Link.{Link}
-use Rattle.set_rows.specs.declared.row.Row.{Row}
 use Rattle.set_route.specs.declared.place.Place.{Place}
 use Rattle.set_route.specs.declared.place.Place.TheVariants.{On, Nowhere}
 use Rattle.set_route.specs.declared.stream.Stream.{Stream}
 use Rattle.set_step.specs.Agreement.{IsKept, AreKept, IsPlaced, ArePlaced, AreCounted, bare, link_of}
-use Rattle.set_step.specs.Set.{has_phase_settled}
-use Rattle.set_step.proofs.Lists.{at_map, map_at}
+use Rattle.set_model.specs.State.{has_phase_settled}
+use Rattle.set_model.proofs.Lists.{at_map, map_at}
 use Rattle.std.proofs.lemmas.List.{length-map}
 
 -- a link with another window

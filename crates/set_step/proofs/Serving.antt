@@ -1,18 +1,18 @@
 -- An event that needs a link in service finds it so where it isn't refused.
 use Rattle.std.proofs.Common.{refl, ◌≡◌, ◌∙◌, ap, sym, ℕ, Bool, true, false, List, map, slice_get, slice_set, Option, Some, None, if◌then◌else◌}
+use Rattle.set_model.specs.Control.{Control}
+use Rattle.set_model.specs.Rows.{Row}
 use Rattle.l2_units.specs.declared.unit.Unit.{Unit as SignalUnit}
 use Rattle.l2_window.specs.Window.{WindowState}
 use Rattle.set_events.specs.declared.answer.Answer.TheVariants.{Sent}
-use Rattle.set_rows.specs.declared.row.Row.{Row}
 use Rattle.set_events.specs.declared.answer.Refusal.TheVariants.{NotUp}
 use Rattle.set_step.specs.declared.link.Link.{Link}
 use Rattle.set_step.specs.declared.parts.Parts.{Parts}
-use Rattle.set_step.specs.declared.control.Control.{Control}
 use Rattle.set_step.specs.Agreement.{AreKept, ArePlaced, link_of, state_of, bodies_in, service_refusal}
-use Rattle.set_step.specs.Set.{LinkState, settings_of, has_phase_up}
-use Rattle.set_step.specs.Step.{Outcome, in_service, with_known, refused, next}
+use Rattle.set_model.specs.State.{LinkState, settings_of, has_phase_up}
+use Rattle.set_model.specs.Step.{Outcome, in_service, with_known, refused, next}
 use Rattle.set_step.proofs.Keeping.{kept_set, placed_set}
-use Rattle.set_step.proofs.Lists.{map_at, map_set, same_at}
+use Rattle.set_model.proofs.Lists.{map_at, map_set, same_at}
 use Rattle.set_step.proofs.Outgoing.{Goes, sent_link}
 
 pub served : (found : Option Link) → service_refusal found ≡ None → (link : Link) × (found ≡ Some link) × (has_phase_up link.phase ≡ true)

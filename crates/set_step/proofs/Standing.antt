@@ -4,19 +4,18 @@ use Rattle.std.proofs.lemmas.List.{map-append}
 use Rattle.l2_window.specs.Window.{WindowState}
 use Rattle.set_events.specs.declared.answer.Fate.{Fate}
 use Rattle.set_events.specs.declared.answer.Fate.TheVariants.{Waiting, Unacked, Acked, Held, Parked, Discarded}
-use Rattle.set_rows.specs.declared.row.Row.{Row}
-use Rattle.set_rows.specs.Rows.{wait, numbers, octets_in, is_waiting, is_unacked, appended}
-use Rattle.set_rows.proofs.Events.{appended_in, appended_out, appended_untouched}
-use Rattle.set_rows.proofs.Finding.{new_row}
-use Rattle.set_rows.proofs.Order.{order_appended}
-use Rattle.set_rows.proofs.Places.{itself}
+use Rattle.set_model.specs.Rows.{Row, wait, numbers, octets_in, is_waiting, is_unacked, appended}
+use Rattle.set_model.proofs.Events.{appended_in, appended_out, appended_untouched}
+use Rattle.set_model.proofs.Finding.{new_row}
+use Rattle.set_model.proofs.Order.{order_appended}
+use Rattle.set_model.proofs.Places.{itself}
 use Rattle.set_step.specs.declared.link.Link.{Link}
-use Rattle.set_step.specs.declared.phase.Phase.{Phase}
-use Rattle.set_step.specs.declared.phase.Phase.TheVariants.{Up, Down, Settled}
+use Rattle.set_model.specs.declared.phase.Phase.{Phase}
+use Rattle.set_model.specs.declared.phase.Phase.TheVariants.{Up, Down, Settled}
 use Rattle.set_step.specs.Agreement.{IsKept, AreKept, IsOpenTo}
-use Rattle.set_step.specs.Set.{has_phase_up, has_phase_settled}
+use Rattle.set_model.specs.State.{has_phase_up, has_phase_settled}
 use Rattle.set_step.proofs.Keeping.{kept_set, kept_other}
-use Rattle.set_step.proofs.Lists.{same_at}
+use Rattle.set_model.proofs.Lists.{same_at}
 use Rattle.set_step.proofs.Rooms.{with_window}
 
 pub up_unsettled : (phase : Phase) → has_phase_up phase ≡ true → has_phase_settled phase ≡ false

@@ -6,8 +6,8 @@ use Rattle.set_route.specs.declared.place.Place.TheVariants.{On, Nowhere}
 use Rattle.set_route.specs.declared.stream.Stream.{Stream}
 use Rattle.set_step.specs.declared.link.Link.{Link}
 use Rattle.set_step.specs.Agreement.{IsOpenTo, IsPlaced, ArePlaced, link_of}
-use Rattle.set_step.specs.Changeover.{fate_on}
-use Rattle.set_step.specs.Set.{LinkState, has_phase_up}
+use Rattle.set_model.specs.Changeover.{fate_on}
+use Rattle.set_model.specs.State.{LinkState, has_phase_up}
 
 pub ups : (links : List Link) → map (λ (link : LinkState). has_phase_up link.phase) (map link_of links) ≡ map (λ (link : Link). has_phase_up link.phase) links
 ups [] = refl

@@ -10,19 +10,19 @@ use Rattle.set_events.specs.declared.answer.Fate.{Fate}
 use Rattle.set_events.specs.declared.answer.Fate.TheVariants.{Waiting, Unacked, Acked, Held, Parked, Discarded}
 use Rattle.set_events.specs.declared.answer.Refusal.{Refusal as SetRefusal}
 use Rattle.set_events.specs.declared.answer.Refusal.TheVariants.{NotUp, NotDown, Unsettled, Nothing, NoSuchLink}
-use Rattle.set_rows.specs.declared.row.Row.{Row}
-use Rattle.set_rows.specs.Rows.{unack, wait, on, numbers, octets_in, IsInOrder}
+use Rattle.set_model.specs.Rows.{Row, unack, wait, on, numbers, octets_in, IsInOrder}
 use Rattle.set_route.specs.declared.place.Place.{Place}
 use Rattle.set_route.specs.declared.place.Place.TheVariants.{On, Nowhere}
 use Rattle.set_route.specs.declared.stream.Stream.{Stream}
 use Rattle.set_step.specs.declared.link.Link.{Link}
 use Rattle.set_step.specs.declared.parts.Parts.{Parts}
-use Rattle.set_step.specs.declared.reached.Reached.{Reached}
-use Rattle.set_step.specs.declared.reached.Reached.TheVariants.{Upto, Unknown, Unanswered}
-use Rattle.set_step.specs.declared.phase.Phase.{Phase}
-use Rattle.set_step.specs.declared.phase.Phase.TheVariants.{Up, Down, Settled}
-use Rattle.set_step.specs.Control.{accepted_of}
-use Rattle.set_step.specs.Set.{LinkState, State, settings_of, has_phase_up, has_phase_settled}
+use Rattle.set_model.specs.declared.reached.Reached.{Reached}
+use Rattle.set_model.specs.declared.reached.Reached.TheVariants.{Upto, Unknown, Unanswered}
+use Rattle.set_model.specs.declared.phase.Phase.{Phase}
+use Rattle.set_model.specs.declared.phase.Phase.TheVariants.{Up, Down, Settled}
+use Rattle.set_model.specs.Control.{accepted_of}
+use Rattle.set_model.specs.Sound.{IsSound}
+use Rattle.set_model.specs.State.{LinkState, State, settings_of, has_phase_up, has_phase_settled}
 
 -- what the kept link stands for
 abbrev pub link_of : Link → LinkState
@@ -74,6 +74,11 @@ pub record Agrees (parts : Parts) : Type 0 where
   pub routed : parts.routes.links ≡ parts.config.links
   pub kept : AreKept parts.links.items parts.rows.rows
   pub placed : ArePlaced parts.links.items parts.routes.streams
+
+-- what holds of every set: what it keeps agrees, and what that stands for is sound
+pub record Holds (parts : Parts) : Type 0 where
+  pub agrees : Agrees parts
+  pub sound : IsSound (state_of parts)
 
 -- so many messages can be queued on each link without memory
 abbrev pub AreRoomy : ℕ → List Link → Type 0

@@ -2,18 +2,17 @@
 ghost use Rattle.std.specs.Prelude.{◌≡◌, ◌+◌, ◌<◌, ◌≤◌, ◌^◌, ◌%◌, ℕ, false, map, length, slice_get, IfOk};
 ghost use Rattle.std.specs.Vec.{vec_len, vec_capacity};
 ghost use Rattle.l3_orders.specs.Grammar.{IsOrder, text as text_of};
-ghost use Rattle.set_rows.specs.Rows.{on};
+ghost use Rattle.set_model.specs.Rows.{on};
 ghost use Rattle.set_step.specs.Agreement.{Agrees, AreRoomy, AreCounted, AtLink, IsOut, IsReach, state_of, link_of};
-ghost use Rattle.set_step.specs.Set.{last_accepted};
-ghost use Rattle.set_step.specs.Changeover.{queue as queued, leave as left, left_link, settle as settled, obeys as obeyed, at_link, changes_over as changed_over, is_answered as answered, reply as reply_of};
+ghost use Rattle.set_model.specs.State.{last_accepted};
+ghost use Rattle.set_model.specs.Changeover.{queue as queued, leave as left, left_link, settle as settled, obeys as obeyed, at_link, changes_over as changed_over, is_answered as answered, reply as reply_of};
 
 use super::link::Link;
 use super::parts::{Parts, fate_of, stand_last, target_of};
-use super::phase::Phase;
-use super::reached::Reached;
 use super::settling::settle;
 use l3_orders::{Order, write_order};
 use set_events::{Body, Took};
+use set_model::{Phase, Reached};
 use std::alloc::AllocError;
 
 /// The longest order has so many octets.

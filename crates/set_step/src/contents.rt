@@ -2,14 +2,14 @@
 ghost use Rattle.std.specs.Prelude.{◌≡◌, ◌≤◌, ℕ, IfOk, IfErr, length};
 ghost use Rattle.l2_window.specs.Window.{IsEmpty};
 ghost use Rattle.set_step.specs.Agreement.{AtLink, link_of};
-ghost use Rattle.set_step.specs.Set.{new_link};
+ghost use Rattle.set_model.specs.State.{new_link};
 
 use super::fault::SetFault;
 use super::link::Link;
 use super::parts::Parts;
-use super::phase::Phase;
-use super::step::answered;
+use super::step::{answered, is_asked};
 use set_events::{Answer, Counts, Event, Fate, SetConfig};
+use set_model::{Numbered, Phase};
 use set_route::Routes;
 use set_rows::Rows;
 use std::alloc::Global;
@@ -26,32 +26,24 @@ pub struct Core {
     parts: Parts,
 }
 
-/// A message that was sent and isn't acknowledged.
-#[derive(Clone, Copy, Debug, PartialEq, Eq)]
-pub struct Numbered {
-    /// The number under which the set accepted it.
-    pub number: u64,
-    /// The FSN that it carries on its link, 0 to 127 (Q.703 2.2).
-    pub fsn: u8,
-}
-
 impl Model for Core {
-    ghost use Rattle.set_step.specs.Set.{State};
+    ghost use Rattle.set_model.specs.State.{State};
 
     ghost Value = { State };
 
-    ghost use Rattle.set_step.specs.Agreement.{state_of, Agrees};
+    ghost use Rattle.set_step.specs.Agreement.{state_of, Holds};
 
     ghost view = { λ c. state_of c.parts };
 
-    ghost invariant = { λ c. Agrees c.parts };
+    ghost invariant = { λ c. Holds c.parts };
 }
 
 impl Core {
     ghost use Rattle.std.specs.Prelude.{◌≡◌, ◌<◌, ◌≤◌, ◌^◌, ◌+◌, ℕ, IfOk, IfErr, OnErr, length};
-    ghost use Rattle.set_rows.specs.Rows.{place, counts_of, total_of, users};
-    ghost use Rattle.set_step.specs.Set.{new_state, link_count, is_up as is_up_in, is_settled as is_settled_in, no_counts, unacked_in, AreFew, IsSound};
-    ghost use Rattle.set_step.specs.Step.{step, Gains};
+    ghost use Rattle.set_model.specs.Rows.{place, counts_of, total_of, users};
+    ghost use Rattle.set_model.specs.State.{new_state, link_count, is_up as is_up_in, is_settled as is_settled_in, no_counts, unacked_in};
+    ghost use Rattle.set_model.specs.Sound.{AreFew, IsSound};
+    ghost use Rattle.set_model.specs.Step.{step, Gains};
 
     /// A set as this configuration has it: no messages, no link up.
     ///
@@ -86,6 +78,7 @@ impl Core {
         ensures err { OnErr result (self.new ≡ self.old) }
         ensures fault { IfErr result (λ fault. fault ≡ SetFault.NoMemory) }
     {
+        is_asked(event);
         answered(&mut self.parts, event)
     }
 
@@ -150,14 +143,16 @@ impl Core {
         Some(Numbered { number, fsn })
     }
 
-    /// A law: the numbers 0, 1, .. stand in one row each; of each link, at most 127 messages are
-    /// unacknowledged, the BSN that it sends is the number of the body it last accepted, and once it
-    /// settled no message stands on it.
+    /// A law: what holds of every set's state (`specs/Sound.antt` of `set_model`). The numbers 0, 1, ..
+    /// stand in one row each. Of each link, at most 127 messages are unacknowledged, and they stand before
+    /// those that wait, and these before those that are held; the BSN that it sends is the number of the
+    /// body it last accepted; nothing is held for it while it's up, and once it settled no message stands
+    /// on it. A stream runs on a link that isn't settled, its unfinished messages together and in the order
+    /// of their numbers; while a link is up none is parked.
     pub fn is_sound(&self)
         ensures { IsSound self.now }
     {
-        self.parts.rows.is_sound();
-        are_windows(&self.parts.links);
+        let _ = &self.parts;
     }
 }
 
@@ -173,13 +168,4 @@ fn new_links(alloc: Global, config: &SetConfig) -> Result<Vec<Link>, SetFault>
         links.push(link)?;
     }
     Ok(links)
-}
-
-/// At most 127 messages of each link are unacknowledged, as its window knows.
-fn are_windows(links: &[Link])
-    ensures { (number : ℕ) → AtLink number links.now (λ link. length link.window.unacked ≤ 127) }
-{
-    for link in links {
-        let _ = link.window.unacked_len();
-    }
 }

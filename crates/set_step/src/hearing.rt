@@ -5,12 +5,12 @@ ghost use Rattle.std.specs.VecDeque.{deque_len, deque_capacity};
 ghost use Rattle.std.specs.Vec.{vec_len, vec_capacity};
 ghost use Rattle.l3_orders.specs.Grammar.{IsOrder, order_of};
 ghost use Rattle.set_events.specs.declared.event.Event.TheVariants.{Heard};
-ghost use Rattle.set_rows.specs.Rows.{on, service_indicator as indicator_of};
+ghost use Rattle.set_model.specs.Rows.{on, service_indicator as indicator_of};
 ghost use Rattle.set_step.specs.Agreement.{Agrees, AreCounted, AreRoomy, AtLink, IsIn, state_of, link_of, bodies_in, bare, order_brought, has_order};
 ghost use Rattle.l2_units.specs.Grammar.{head_of as header_of};
-ghost use Rattle.set_step.specs.Control.{part_of};
-ghost use Rattle.set_step.specs.Set.{window_of};
-ghost use Rattle.set_step.specs.Step.{step, is_msu as is_message, brought, takes, after_control, report_of as report_for, fault_of as fault_for};
+ghost use Rattle.set_model.specs.Control.{part_of};
+ghost use Rattle.set_model.specs.State.{window_of};
+ghost use Rattle.set_model.specs.Step.{step, is_msu as is_message, brought, takes, after_control, report_of as report_for, fault_of as fault_for};
 
 use super::changeover::{obey, order_space};
 use super::fault::SetFault;

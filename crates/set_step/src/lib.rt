@@ -34,15 +34,12 @@ mod contents;
 mod control;
 mod fault;
 mod hearing;
-mod laws;
 mod link;
 mod parts;
-mod phase;
-mod reached;
 mod sending;
 mod settling;
 mod step;
 
-pub use contents::{Core, Numbered};
+pub use contents::Core;
 pub use fault::SetFault;
-pub use laws::{a_settled_link_is_empty, no_event_changes_a_message, settling_moves_the_rest};
+pub use set_model::Numbered;

@@ -2,13 +2,13 @@
 ghost use Rattle.std.specs.Prelude.{◌≡◌, ◌+◌, ◌<◌, ◌≤◌, ◌^◌, ◌++◌, ◌∷◌, [], false, IfOk};
 ghost use Rattle.l2_window.specs.Window.{IsEmpty};
 ghost use Rattle.set_step.specs.Agreement.{link_of};
-ghost use Rattle.set_step.specs.Control.{start_of};
-ghost use Rattle.set_step.specs.Set.{new_link, last_accepted};
+ghost use Rattle.set_model.specs.Control.{start_of};
+ghost use Rattle.set_model.specs.State.{new_link, last_accepted};
 
 use super::control::Control;
-use super::phase::Phase;
 use l2_window::Window;
 use set_events::Method;
+use set_model::Phase;
 use std::alloc::{AllocError, Global};
 
 /// A link in its present life, or its last one.

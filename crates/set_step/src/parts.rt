@@ -1,15 +1,15 @@
 //! What a set holds, and what a changed message or link changes beside it.
 ghost use Rattle.std.specs.Prelude.{◌≡◌, ◌+◌, ◌<◌, ◌≤◌, ◌^◌, ℕ, map, length, slice_get, Some, IfErr, IfSome, OnOk, true};
-ghost use Rattle.set_rows.specs.Rows.{appended};
+ghost use Rattle.set_model.specs.Rows.{appended};
 ghost use Rattle.set_step.specs.Agreement.{Agrees, AreRoomy, IsOpenTo, state_of, link_of, bare};
-ghost use Rattle.set_step.specs.Set.{target, has_phase_up};
-ghost use Rattle.set_step.specs.Changeover.{fate_on};
+ghost use Rattle.set_model.specs.State.{target, has_phase_up};
+ghost use Rattle.set_model.specs.Changeover.{fate_on};
 
 use super::link::{Link, queue};
-use super::phase::Phase;
 use arrayvec::ArrayVec;
 use l2_units::LONGEST_BODY;
 use set_events::{Body, Fate, SetConfig};
+use set_model::Phase;
 use set_route::{MOST_LINKS, Routes};
 use set_rows::Rows;
 use std::alloc::AllocError;

@@ -2,15 +2,15 @@
 ghost use Rattle.std.specs.Prelude.{◌≡◌, ◌≤◌, length, slice_get, Some};
 ghost use Rattle.set_events.specs.declared.event.Event.TheVariants.{Next};
 ghost use Rattle.set_step.specs.Agreement.{Agrees, state_of, service_refusal};
-ghost use Rattle.set_step.specs.Step.{step};
+ghost use Rattle.set_model.specs.Step.{step};
 
 use super::link::Link;
 use super::parts::Parts;
-use super::phase::Phase;
 use arrayvec::ArrayVec;
 use l2_units::{LONGEST_BODY, Unit};
 use l2_window::Sending;
 use set_events::{Answer, Body, Refusal};
+use set_model::Phase;
 
 /// Why an event of this link that needs it in service is refused, if it is.
 pub(crate) fn out_of_service(links: &[Link], number: u8) -> Option<Refusal>

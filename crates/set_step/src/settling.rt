@@ -1,15 +1,14 @@
 //! How a link settles (Q.704 5.5): what reached the far end is acknowledged, the rest is moved.
 ghost use Rattle.std.specs.Prelude.{◌≡◌, ◌<◌, ◌≤◌, ◌^◌, ◌++◌, length, IfSome, if◌then◌else◌};
-ghost use Rattle.set_rows.specs.Rows.{on, numbers, changed, is_unacked, is_on as is_on_link};
+ghost use Rattle.set_model.specs.Rows.{on, numbers, changed, is_unacked, is_on as is_on_link};
 ghost use Rattle.set_step.specs.Agreement.{Agrees, AreRoomy, AreCounted, AtLink, IsOut, IsQueued, IsReach, Keeps, state_of, link_of};
-ghost use Rattle.set_step.specs.Changeover.{settle as settled, judge as judged, move_off, discard as discarded, acknowledge as acknowledged_in, is_reasonable, reached_by};
+ghost use Rattle.set_model.specs.Changeover.{settle as settled, judge as judged, move_off, discard as discarded, acknowledge as acknowledged_in, is_reasonable, reached_by};
 
 use super::link::queue;
 use super::parts::{Parts, fate_of, target_of};
-use super::phase::Phase;
-use super::reached::Reached;
 use l2_window::Window;
 use set_events::{DiscardCause, Fate};
+use set_model::{Phase, Reached};
 use set_rows::Row;
 
 /// The link settles: what reached the far end is acknowledged, and what stands on it is moved.

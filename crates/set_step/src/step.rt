@@ -3,11 +3,12 @@ ghost use Rattle.std.specs.Prelude.{◌≡◌, ◌+◌, ◌<◌, ◌≤◌, ◌^
 ghost use Rattle.set_events.specs.declared.event.Event.TheVariants.{Up, Down, DownBlind, NoAnswer};
 ghost use Rattle.l3_orders.specs.Grammar.{IsOrder};
 ghost use Rattle.set_route.specs.Routing.{place_of};
-ghost use Rattle.set_rows.specs.Rows.{parked, numbers, stream_of as stream_in};
+ghost use Rattle.set_model.specs.Rows.{parked, numbers, stream_of as stream_in};
 ghost use Rattle.set_step.specs.Agreement.{Agrees, AreCounted, AreRoomy, AtLink, IsOpenTo, state_of, link_of, rising_refusal, waiting_refusal};
-ghost use Rattle.set_step.specs.Changeover.{leaving_order as order_of_leaving};
-ghost use Rattle.set_step.specs.Set.{State};
-ghost use Rattle.set_step.specs.Step.{step, offer_refusal, offered as offered_with, fate_at, in_service, rises, falls};
+ghost use Rattle.set_model.specs.Changeover.{leaving_order as order_of_leaving};
+ghost use Rattle.set_model.specs.State.{State};
+ghost use Rattle.set_model.specs.Step.{step, offer_refusal, offered as offered_with, fate_at, in_service, rises, falls};
+ghost use Rattle.set_model.specs.Sound.{IsAsked};
 ghost use Rattle.std.specs.Vec.{vec_len, vec_capacity};
 
 use super::changeover::{leave, order_space, queue};
@@ -15,14 +16,13 @@ use super::fault::SetFault;
 use super::hearing::heard;
 use super::link::{Link, queue as queue_on};
 use super::parts::{Parts, reserve, stand_last};
-use super::phase::Phase;
-use super::reached::Reached;
 use super::sending::{next, out_of_service};
 use super::settling::settle;
 use l2_units::LONGEST_BODY;
 use l2_window::Window;
 use l3_orders::Order;
 use set_events::{Answer, Body, Event, Fate, Refusal};
+use set_model::{Phase, Reached};
 use set_route::Place;
 use set_rows::{Row, Rows};
 
@@ -100,6 +100,15 @@ fn stream_of(body: &Body) -> u8
     match body.octets().get(4) {
         Some(octet) => *octet / 16,
         None => 0,
+    }
+}
+
+/// A law: the octets of a label tell one of 16 streams.
+pub(crate) fn is_asked(event: &Event)
+    ensures { IsAsked event.now }
+{
+    if let Event::Offer { body } = event {
+        stream_of(body);
     }
 }
 

@@ -1,9 +1,10 @@
-use Rattle.std.proofs.Common.{arith, ◌≡◌, ◌∙◌, ◌∷◌, ◌+◌, ◌^◌, ap, sym, drop}
-use Rattle.std.proofs.lemmas.List.{drop_more}
+use Rattle.std.proofs.Common.{arith, ◌≡◌, ◌∙◌, ◌∷◌, ◌+◌, ◌^◌, [], ap, sym, subst, drop, refl, List}
+use Rattle.std.proofs.lemmas.List.{drop_all, drop_more}
 use Rattle.set_events.specs.declared.history.Entry.{Entry}
 use Rattle.set_core.proofs.Keeping.{goes_on}
 use Rattle.set_step.proofs.Bounds.{few_more}
-use Rattle.set_step.specs.Step.{Outcome}
+use Rattle.set_model.specs.History.{IsLegal}
+use Rattle.set_model.specs.Step.{Outcome}
 use Rattle.set_core.proofs.auditing.audit.Goals as goal
 
 pub loop-entry-preserved : goal.loop-entry-preserved
@@ -26,3 +27,9 @@ returns-then-not-same-clause-legal c =
     let i = c.loop-entry.entry-index in
     let split : drop i c.args.entries.now ≡ c.entry-item.result ∷ drop (i + 1) c.args.entries.now = drop_more c.args.entries.now i c.entry-item.result c.loop-entry-test.true ∙ ap (λ (e : Entry). e ∷ drop (i + 1) c.args.entries.now) (sym c.entry-item.is) in
     (λ no. cc, λ legal. let here = rw split at (l.left.1 legal) in let same = c.same.ensures.1 (sym (here.1 ∙ ap (λ (o : Outcome). o.answer) c.in_ok-answer.ensures.ok)) in let differs = c.if-not-same.true in cc)
+
+pub returns-clause-legal : goal.returns-clause-legal
+returns-clause-legal c =
+    let l = c.loop-entry.invariant in
+    let none : drop c.loop-entry.entry-index c.args.entries.now ≡ [] = drop_all c.loop-entry.entry-index c.args.entries.now c.loop-entry-test.false in
+    (λ yes. l.left.0 (subst (λ (entries : List Entry). IsLegal c.loop-entry.core entries) (sym none) tt), λ legal. refl)

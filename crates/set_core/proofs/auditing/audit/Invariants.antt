@@ -1,6 +1,7 @@
 use Rattle.std.proofs.Common.{◌↔◌, drop}
-use Rattle.set_step.specs.Set.{new_state, AreFew}
-use Rattle.set_core.specs.History.{IsLegal}
+use Rattle.set_model.specs.State.{new_state}
+use Rattle.set_model.specs.Sound.{AreFew}
+use Rattle.set_model.specs.History.{IsLegal}
 use Rattle.set_core.proofs.auditing.audit.Given as goal
 
 -- the entries that are left decide, from what the replayed set holds

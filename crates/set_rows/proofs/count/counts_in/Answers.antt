@@ -1,6 +1,6 @@
 use Rattle.std.proofs.Common.{arith}
-use Rattle.set_rows.specs.Rows.{users}
-use Rattle.set_rows.proofs.Counting.{all_counted}
+use Rattle.set_model.specs.Rows.{users}
+use Rattle.set_model.proofs.Counting.{all_counted}
 use Rattle.set_rows.proofs.count.counts_in.Goals as goal
 
 pub returns-clause-all : goal.returns-clause-all

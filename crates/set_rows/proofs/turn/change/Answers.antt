@@ -1,6 +1,5 @@
 use Rattle.std.proofs.Common.{◌∙◌, ap, cond, slice_set}
-use Rattle.set_rows.specs.declared.row.Row.{Row}
-use Rattle.set_rows.specs.Rows.{with_fate}
+use Rattle.set_model.specs.Rows.{Row, with_fate}
 use Rattle.set_rows.specs.Stands.{test_of}
 use Rattle.set_rows.proofs.Turning.{mapped_more, mapped_all}
 use Rattle.set_rows.proofs.turn.change.Goals as goal

@@ -1,5 +1,5 @@
 use Rattle.std.proofs.Common.{◌≡◌, ◌++◌, map, take, drop}
-use Rattle.set_rows.specs.Rows.{with_fate}
+use Rattle.set_model.specs.Rows.{with_fate}
 use Rattle.set_rows.proofs.turn.change_all.Given as goal
 
 abbrev pub invariant-loop-row : goal.invariant-loop-row

@@ -1,13 +1,13 @@
 use Rattle.std.proofs.Common.{arith, ◌≡◌, ◌∙◌, ap, sym, subst, length, ◌≤◌, List, map, slice_get, Some, false}
 use Rattle.l3_orders.specs.declared.order.Order.TheVariants.{Coa}
-use Rattle.set_rows.specs.Rows.{on, RowsState}
-use Rattle.set_rows.specs.declared.row.Row.{Row}
+use Rattle.set_model.specs.Rows.{Row, on}
+use Rattle.set_rows.specs.Rows.{RowsState}
 use Rattle.set_step.specs.declared.link.Link.{Link}
 use Rattle.set_step.specs.Agreement.{link_of, state_of}
-use Rattle.set_step.specs.Changeover.{queue as queued, settle as settled, left_link}
-use Rattle.set_step.specs.Set.{State, last_accepted}
+use Rattle.set_model.specs.Changeover.{queue as queued, settle as settled, left_link}
+use Rattle.set_model.specs.State.{State, last_accepted}
 use Rattle.set_step.proofs.Linked.{out_linked, counted_linked, length_linked}
-use Rattle.set_step.proofs.Lists.{here, same_at, at_map, get_set_same}
+use Rattle.set_model.proofs.Lists.{here, same_at, at_map, get_set_same}
 use Rattle.std.proofs.lemmas.List.{length-map}
 use Rattle.set_step.proofs.changeover.answer_and_settle.Goals as goal
 

@@ -1,6 +1,6 @@
 use Rattle.std.proofs.Common.{refl, ◌∙◌, ap}
 use Rattle.set_step.specs.Agreement.{state_of, link_of}
-use Rattle.set_step.proofs.Lists.{here, same_at, map_set, length_set}
+use Rattle.set_model.proofs.Lists.{here, same_at, map_set, length_set}
 use Rattle.set_step.proofs.Keeping.{kept_set, counted_set, placed_set, roomy_set, set_here, untouched_self}
 use Rattle.set_step.proofs.changeover.leave.Goals as goal
 

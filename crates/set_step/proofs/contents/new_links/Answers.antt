@@ -3,7 +3,7 @@ use Rattle.std.proofs.lemmas.List.{length_push}
 use Rattle.l2_window.specs.Window.{IsEmpty}
 use Rattle.set_step.specs.declared.link.Link.{Link}
 use Rattle.set_step.specs.Agreement.{link_of}
-use Rattle.set_step.specs.Set.{new_link}
+use Rattle.set_model.specs.State.{new_link}
 use Rattle.set_step.proofs.Fresh.{at_push}
 use Rattle.set_step.proofs.contents.new_links.Goals as goal
 

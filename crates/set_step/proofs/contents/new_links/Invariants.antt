@@ -1,7 +1,7 @@
 use Rattle.std.proofs.Common.{◌≡◌, ℕ, length}
 use Rattle.l2_window.specs.Window.{IsEmpty}
 use Rattle.set_step.specs.Agreement.{AtLink, link_of}
-use Rattle.set_step.specs.Set.{new_link}
+use Rattle.set_model.specs.State.{new_link}
 use Rattle.set_step.proofs.contents.new_links.Given as goal
 
 abbrev pub invariant-loop : goal.invariant-loop

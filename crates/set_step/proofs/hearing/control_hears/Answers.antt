@@ -2,16 +2,16 @@ use Rattle.std.proofs.Common.{refl, arith, ◌≡◌, ◌∙◌, ap, sym, subst,
 use Rattle.l2_units.specs.declared.unit.Header.{Header}
 use Rattle.l2_units.specs.Grammar.{head_of}
 use Rattle.set_events.specs.declared.answer.Fate.TheVariants.{Acked}
-use Rattle.set_rows.specs.Rows.{is_unacked, turned}
-use Rattle.set_rows.proofs.Events.{acknowledged}
+use Rattle.set_model.specs.Rows.{is_unacked, turned}
+use Rattle.set_model.proofs.Events.{acknowledged}
 use Rattle.set_step.specs.Agreement.{IsKept, state_of, link_of}
-use Rattle.set_step.specs.Control.{IsHeard}
-use Rattle.set_step.specs.Set.{LinkState}
-use Rattle.set_step.specs.Step.{is_msu}
+use Rattle.set_step.specs.Controls.{IsHeard}
+use Rattle.set_model.specs.State.{LinkState}
+use Rattle.set_model.specs.Step.{is_msu}
 use Rattle.set_step.proofs.Acknowledging.{few_octets}
 use Rattle.set_step.proofs.Incoming.{part_heard, control_is, low_acked, room_heard, heard_kept, one_byte, one_low}
 use Rattle.set_step.proofs.Keeping.{kept_set, counted_set, placed_set, roomy_set}
-use Rattle.set_step.proofs.Lists.{here, same_at, map_set, length_set}
+use Rattle.set_model.proofs.Lists.{here, same_at, map_set, length_set}
 use Rattle.set_step.proofs.hearing.control_hears.Goals as goal
 use Rattle.set_step.proofs.hearing.control_hears.Goals.{After-acknowledge}
 

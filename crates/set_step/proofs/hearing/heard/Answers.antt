@@ -9,11 +9,11 @@ use Rattle.set_events.specs.declared.answer.Took.{Took}
 use Rattle.set_events.specs.declared.answer.Report.{Report}
 use Rattle.set_step.specs.declared.link.Link.{Link}
 use Rattle.set_step.specs.Agreement.{link_of, state_of, service_refusal}
-use Rattle.set_step.specs.Changeover.{Obeyed}
-use Rattle.set_step.specs.Set.{LinkState, State, has_phase_up}
-use Rattle.set_step.specs.Step.{Outcome, heard, controls, hears, takes, brought, after_control, report_of}
+use Rattle.set_model.specs.Changeover.{Obeyed}
+use Rattle.set_model.specs.State.{LinkState, State, has_phase_up}
+use Rattle.set_model.specs.Step.{Outcome, heard, controls, hears, takes, brought, after_control, report_of}
 use Rattle.set_step.proofs.Admitting.{serves, in_service_at, same_there}
-use Rattle.set_step.proofs.Lists.{map_at, same_at, within}
+use Rattle.set_model.proofs.Lists.{map_at, same_at, within}
 use Rattle.set_step.proofs.Rooms.{counted_roomier}
 use Rattle.set_step.proofs.hearing.heard.Goals as goal
 

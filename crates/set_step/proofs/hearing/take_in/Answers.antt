@@ -2,9 +2,9 @@ use Rattle.std.proofs.Common.{arith, ◌≡◌, ◌∙◌, ap, sym, Some, true, 
 use Rattle.std.specs.Result.{result_ok}
 use Rattle.l3_orders.specs.declared.order.Order.{Order}
 use Rattle.l3_orders.specs.Grammar.{order_of}
-use Rattle.set_rows.specs.Rows.{is_on}
+use Rattle.set_model.specs.Rows.{is_on}
 use Rattle.set_step.specs.Agreement.{has_order}
-use Rattle.set_step.proofs.Fewer.{fewer_filter}
+use Rattle.set_model.proofs.Filters.{fewer_filter}
 use Rattle.set_step.proofs.hearing.take_in.Goals as goal
 
 pub obey-requires-clause-room : goal.obey-requires-clause-room

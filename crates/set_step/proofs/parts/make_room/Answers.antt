@@ -2,7 +2,7 @@ use Rattle.std.proofs.Common.{arith, ◌≡◌, ◌≢◌, ◌∙◌, ◌+◌, �
 use Rattle.std.proofs.lemmas.Option.{slice_get_read}
 use Rattle.set_step.specs.declared.link.Link.{Link}
 use Rattle.set_step.specs.Agreement.{bare}
-use Rattle.set_step.proofs.Lists.{at_set, map_set_same, length_set, within}
+use Rattle.set_model.proofs.Lists.{at_set, map_set_same, length_set, within}
 use Rattle.set_step.proofs.Rooms.{bare_window, with_window}
 use Rattle.set_step.proofs.parts.make_room.Goals as goal
 

@@ -1,5 +1,5 @@
 use Rattle.std.proofs.Common.{refl, ◌∙◌, sym, subst, List}
-use Rattle.set_rows.specs.declared.row.Row.{Row}
+use Rattle.set_model.specs.Rows.{Row}
 use Rattle.set_step.specs.Agreement.{AreKept}
 use Rattle.set_step.proofs.Rooms.{kept_roomier, placed_roomier, links_roomier, length_roomier}
 use Rattle.set_step.proofs.States.{state_is}

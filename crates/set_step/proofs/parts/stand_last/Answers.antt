@@ -1,9 +1,9 @@
 use Rattle.std.proofs.Common.{refl, arith, ◌≡◌, ◌∙◌, ap, subst, slice_get, Some, true}
 use Rattle.set_events.specs.declared.answer.Fate.TheVariants.{Waiting}
-use Rattle.set_rows.specs.Rows.{appended}
+use Rattle.set_model.specs.Rows.{appended}
 use Rattle.set_step.specs.Agreement.{IsOpenTo, state_of, link_of}
-use Rattle.set_step.specs.Set.{has_phase_up}
-use Rattle.set_step.proofs.Lists.{here, same_at, map_set_same, length_set, within}
+use Rattle.set_model.specs.State.{has_phase_up}
+use Rattle.set_model.proofs.Lists.{here, same_at, map_set_same, length_set, within}
 use Rattle.set_step.proofs.Keeping.{placed_set, roomy_set}
 use Rattle.set_step.proofs.Standing.{kept_waits, kept_aside, up_unsettled}
 use Rattle.set_step.proofs.parts.stand_last.Goals as goal

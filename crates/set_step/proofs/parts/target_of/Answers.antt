@@ -1,7 +1,7 @@
 use Rattle.std.proofs.Common.{◌≡◌, ◌∙◌, ap, sym, subst, List, Bool, map}
 use Rattle.set_route.specs.Target.{target_of, IsTarget}
 use Rattle.set_step.specs.declared.link.Link.{Link}
-use Rattle.set_step.specs.Set.{has_phase_up}
+use Rattle.set_model.specs.State.{has_phase_up}
 use Rattle.set_step.proofs.Targets.{ups, open_target}
 use Rattle.set_step.proofs.parts.target_of.Goals as goal
 

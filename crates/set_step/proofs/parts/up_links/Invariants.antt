@@ -1,6 +1,6 @@
 use Rattle.std.proofs.Common.{◌≡◌, map, take}
 use Rattle.arrayvec.specs.ArrayVec.{array_vec_len}
-use Rattle.set_step.specs.Set.{has_phase_up}
+use Rattle.set_model.specs.State.{has_phase_up}
 use Rattle.set_step.proofs.parts.up_links.Given as goal
 
 abbrev pub invariant-loop-link : goal.invariant-loop-link

@@ -2,9 +2,9 @@ use Rattle.std.proofs.Common.{arith, ◌≡◌, ◌∙◌, ap, sym, subst, ◌<�
 use Rattle.std.proofs.lemmas.Option.{same_Some}
 use Rattle.l2_window.specs.declared.control.Sending.{Sending}
 use Rattle.set_step.specs.declared.link.Link.{Link}
-use Rattle.set_step.specs.Control.{IsChosen}
-use Rattle.set_step.specs.Set.{has_phase_up}
-use Rattle.set_step.proofs.Lists.{here, same_at, length_set, within}
+use Rattle.set_step.specs.Controls.{IsChosen}
+use Rattle.set_model.specs.State.{has_phase_up}
+use Rattle.set_model.proofs.Lists.{here, same_at, length_set, within}
 use Rattle.set_step.proofs.Outgoing.{message_sent, MessageSent, fill_sent}
 use Rattle.set_step.proofs.Serving.{served, goes_step, goes_kept, goes_placed}
 use Rattle.set_step.proofs.sending.next.Goals as goal

@@ -1,14 +1,14 @@
 use Rattle.std.proofs.Common.{refl, arith, ◌≡◌, ◌∙◌, ap, sym, ◌+◌, ◌%◌, drop, slice_get, Some}
 use Rattle.l2_window.specs.Window.{WindowState}
 use Rattle.set_events.specs.declared.answer.Fate.TheVariants.{Acked}
-use Rattle.set_rows.specs.Rows.{is_unacked, is_on, turned}
-use Rattle.set_rows.proofs.Events.{acknowledged}
+use Rattle.set_model.specs.Rows.{is_unacked, is_on, turned}
+use Rattle.set_model.proofs.Events.{acknowledged}
 use Rattle.set_step.specs.declared.link.Link.{Link}
 use Rattle.set_step.specs.Agreement.{IsKept, state_of, link_of}
-use Rattle.set_step.specs.Changeover.{reached_by}
+use Rattle.set_model.specs.Changeover.{reached_by}
 use Rattle.set_step.proofs.Acknowledging.{few_octets, acked_kept, reached_is, reaches, reasonable}
-use Rattle.set_step.proofs.Fewer.{fewer_turned}
-use Rattle.set_step.proofs.Lists.{here, same_at, map_set, map_set_same, length_set}
+use Rattle.set_model.proofs.InPlace.{fewer_turned}
+use Rattle.set_model.proofs.Lists.{here, same_at, map_set, map_set_same, length_set}
 use Rattle.set_step.proofs.Keeping.{kept_set, placed_set, roomy_set}
 use Rattle.set_step.proofs.settling.acknowledge.Goals as goal
 

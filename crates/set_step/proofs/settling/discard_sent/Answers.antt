@@ -1,11 +1,12 @@
 use Rattle.std.proofs.Common.{refl, ◌≡◌, ◌∙◌, ap, sym, slice_get, Some}
 use Rattle.set_events.specs.declared.answer.Fate.TheVariants.{Discarded}
-use Rattle.set_rows.specs.Rows.{is_unacked, is_on, changed, numbers, octets_in}
-use Rattle.set_rows.proofs.Events.{discarded_unacked}
+use Rattle.set_model.specs.Rows.{is_unacked, is_on, changed, numbers, octets_in}
+use Rattle.set_model.proofs.Events.{sent_given_up, unack_gone, wait_stays}
 use Rattle.set_step.specs.declared.link.Link.{Link}
 use Rattle.set_step.specs.Agreement.{state_of, link_of}
-use Rattle.set_step.proofs.Fewer.{fewer_changed, none}
-use Rattle.set_step.proofs.Lists.{here, same_at, map_set_same, length_set}
+use Rattle.set_model.proofs.InPlace.{fewer_changed}
+use Rattle.set_step.proofs.Fewer.{none}
+use Rattle.set_model.proofs.Lists.{here, same_at, map_set_same, length_set}
 use Rattle.set_step.proofs.Keeping.{kept_set, placed_set, roomy_set}
 use Rattle.set_step.proofs.settling.discard_sent.Goals as goal
 
@@ -27,16 +28,16 @@ pub returns-clause-agrees : goal.returns-clause-agrees
 returns-clause-agrees c =
     let k = c.requires.agrees.kept c.args.number _ (found c) in
     let rows = c.args.parts.now.rows.rows in
-    let d = discarded_unacked c.args.number c.args.cause rows in
+    let d = sent_given_up c.args.number c.args.cause rows in
     rw (c.from.ensures) (rw (c.discard_unacked.ensures) (rw (c.clear_unacked.ensures) (record {
       count = length_set c.args.parts.now.links.items c.args.number _ ∙ c.requires.agrees.count;
       routed = c.requires.agrees.routed;
       kept = kept_set c.args.parts.now.links.items c.args.number _ rows (changed (is_unacked c.args.number) (Discarded c.args.cause) rows) c.requires.agrees.kept (record {
         last = k.last;
-        unacked = sym (ap numbers d.unack_is);
-        unsent = k.unsent ∙ ap numbers (sym d.wait_same);
+        unacked = sym (ap numbers (unack_gone c.args.number c.args.cause rows));
+        unsent = k.unsent ∙ ap numbers (sym (wait_stays c.args.number c.args.cause rows));
         accepted = k.accepted;
-        octets = sym (ap octets_in d.unack_is);
+        octets = sym (ap octets_in (unack_gone c.args.number c.args.cause rows));
         in_order = d.order_kept k.in_order;
         settled = λ s. none _ _ (fewer_changed (is_unacked c.args.number) (is_on c.args.number) (Discarded c.args.cause) refl rows) (k.settled s);
       }) (λ m apart. d.others m apart);

@@ -1,15 +1,16 @@
 use Rattle.std.proofs.Common.{refl, arith, ◌≡◌, ◌∙◌, ap, sym, subst, map, slice_get, slice_set, Some}
 use Rattle.l2_window.specs.Window.{WindowState}
-use Rattle.set_rows.specs.Rows.{is_on, moved, RowsState}
+use Rattle.set_model.specs.Rows.{is_on, moved, all_with}
+use Rattle.set_rows.specs.Rows.{RowsState}
 use Rattle.set_route.specs.Routing.{Routing, settled as streams_settled}
 use Rattle.set_step.specs.declared.link.Link.{Link}
 use Rattle.set_step.specs.declared.parts.Parts.{Parts}
 use Rattle.set_step.specs.Agreement.{AreKept, ArePlaced, IsOpenTo, bodies_in, link_of}
-use Rattle.set_step.specs.declared.phase.Phase.TheVariants.{Settled}
-use Rattle.set_step.specs.Changeover.{fate_on, settled_link}
-use Rattle.set_step.specs.Set.{target, settings_of}
+use Rattle.set_model.specs.declared.phase.Phase.TheVariants.{Settled}
+use Rattle.set_model.specs.Changeover.{fate_on, settled_link}
+use Rattle.set_model.specs.State.{target, settings_of}
 use Rattle.set_step.proofs.Leaving.{IsBare, moved_off, queued_links, queued_length, queued_here, settled_placed}
-use Rattle.set_step.proofs.Lists.{here, same_at, map_set, length_set}
+use Rattle.set_model.proofs.Lists.{here, same_at, map_set, length_set}
 use Rattle.set_step.proofs.States.{state_is}
 use Rattle.set_step.proofs.settling.move_all.Goals as goal
 
@@ -34,8 +35,8 @@ same c = c.queue_on_target.ensures.same
 to_target : (c : goal.After-settle) → c.target_of-target.result ≡ target (map link_of c.args.parts.now.links.items)
 to_target c = c.target_of-target.ensures.value ∙ ap (λ ls. target (map link_of ls)) (slice c)
 
-rows_moved : (c : goal.After-settle) → c.move_from.new.self.rows ≡ moved (is_on c.args.number) (fate_on c.target_of-target.result) c.args.parts.now.rows.rows
-rows_moved c = ap (λ (r : RowsState). r.rows) c.move_from.ensures ∙ ap (λ f. moved (is_on c.args.number) f c.queue_on_target.new.parts.rows.rows) c.fate_of.ensures ∙ ap (λ (r : RowsState). moved (is_on c.args.number) (fate_on c.target_of-target.result) r.rows) (rows_same c)
+rows_moved : (c : goal.After-settle) → c.move_from.new.self.rows ≡ moved (is_on c.args.number) (all_with (fate_on c.target_of-target.result)) c.args.parts.now.rows.rows
+rows_moved c = ap (λ (r : RowsState). r.rows) c.move_from.ensures ∙ ap (λ f. moved (is_on c.args.number) (all_with f) c.queue_on_target.new.parts.rows.rows) c.fate_of.ensures ∙ ap (λ (r : RowsState). moved (is_on c.args.number) (all_with (fate_on c.target_of-target.result)) r.rows) (rows_same c)
 
 streams_moved : (c : goal.After-settle) → c.settle.new.self ≡ streams_settled c.args.number c.target_of-target.result c.args.parts.now.routes
 streams_moved c = c.settle.ensures ∙ ap (λ (p : Parts). streams_settled c.args.number c.target_of-target.result p.routes) (same c)
@@ -71,7 +72,7 @@ returns-clause-state c = λ link there.
     let this = same_at links n c.index_mut-link.result.now link (found c) there in
     state_is
     (ap (λ (p : Parts). settings_of p.config) (same c))
-    (rows_moved c ∙ ap (λ t. moved (is_on n) (fate_on t) c.args.parts.now.rows.rows) (to_target c))
+    (rows_moved c ∙ ap (λ t. moved (is_on n) (all_with (fate_on t)) c.args.parts.now.rows.rows) (to_target c))
     (ap (λ k. map link_of (slice_set mid k (after c))) c.from.ensures
     ∙ map_set link_of mid n (after c)
     ∙ ap (λ ls. slice_set ls n (link_of (after c))) (queued_links links mid c.target_of-target.result _ c.queue_on_target.ensures.queued)

@@ -1,5 +1,5 @@
 use Rattle.std.proofs.Common.{◌≡◌, ◌≤◌, ◌++◌, drop, length}
-use Rattle.set_rows.specs.Rows.{on, numbers}
+use Rattle.set_model.specs.Rows.{on, numbers}
 use Rattle.set_step.proofs.settling.queue_those_on.Given as goal
 
 abbrev pub invariant-loop-row : goal.invariant-loop-row

@@ -1,9 +1,9 @@
 use Rattle.std.proofs.Common.{arith, ◌∙◌, ap, slice_get}
 use Rattle.set_step.specs.Agreement.{link_of, state_of}
-use Rattle.set_step.specs.Changeover.{judged, move_off}
-use Rattle.set_step.specs.Set.{State}
+use Rattle.set_model.specs.Changeover.{judged, move_off}
+use Rattle.set_model.specs.State.{State}
 use Rattle.set_step.proofs.Judging.{judged_at, out_kept}
-use Rattle.set_step.proofs.Lists.{at_map, map_at}
+use Rattle.set_model.proofs.Lists.{at_map, map_at}
 use Rattle.set_step.proofs.settling.settle.Goals as goal
 
 pub move_all-requires-clause-out : goal.move_all-requires-clause-out

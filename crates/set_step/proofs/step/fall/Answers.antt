@@ -2,10 +2,10 @@ use Rattle.std.proofs.Common.{◌∙◌, ap, sym}
 use Rattle.set_events.specs.declared.answer.Answer.TheVariants.{Done}
 use Rattle.set_step.specs.declared.link.Link.{Link}
 use Rattle.set_step.specs.Agreement.{link_of, state_of}
-use Rattle.set_step.specs.Changeover.{queue as queued, leaving_order}
-use Rattle.set_step.specs.Set.{State}
-use Rattle.set_step.specs.Step.{Outcome}
-use Rattle.set_step.proofs.Lists.{here, same_at}
+use Rattle.set_model.specs.Changeover.{queue as queued, leaving_order}
+use Rattle.set_model.specs.State.{State}
+use Rattle.set_model.specs.Step.{Outcome}
+use Rattle.set_model.proofs.Lists.{here, same_at}
 use Rattle.set_step.proofs.step.fall.Goals as goal
 
 abbrev done_with : State → Outcome

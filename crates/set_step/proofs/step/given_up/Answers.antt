@@ -1,14 +1,14 @@
 use Rattle.std.proofs.Common.{arith, ◌∙◌, ap, sym, slice_get}
 use Rattle.set_events.specs.declared.answer.Answer.TheVariants.{Done}
 use Rattle.set_step.specs.declared.link.Link.{Link}
-use Rattle.set_step.specs.declared.phase.Phase.{Phase}
-use Rattle.set_step.specs.declared.reached.Reached.TheVariants.{Unanswered}
+use Rattle.set_model.specs.declared.phase.Phase.{Phase}
+use Rattle.set_model.specs.declared.reached.Reached.TheVariants.{Unanswered}
 use Rattle.set_step.specs.Agreement.{link_of, state_of, waiting_refusal}
-use Rattle.set_step.specs.Changeover.{settle as settled}
-use Rattle.set_step.specs.Set.{LinkState, State, has_phase_up}
-use Rattle.set_step.specs.Step.{Outcome, gives_up}
+use Rattle.set_model.specs.Changeover.{settle as settled}
+use Rattle.set_model.specs.State.{LinkState, State, has_phase_up}
+use Rattle.set_model.specs.Step.{Outcome, gives_up}
 use Rattle.set_step.proofs.Admitting.{can_wait, on_link_at, same_there}
-use Rattle.set_step.proofs.Lists.{map_at, same_at, within}
+use Rattle.set_model.proofs.Lists.{map_at, same_at, within}
 use Rattle.set_step.proofs.Rooms.{counted_roomier}
 use Rattle.set_step.proofs.step.given_up.Goals as goal
 

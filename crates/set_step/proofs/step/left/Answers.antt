@@ -1,8 +1,8 @@
 use Rattle.std.proofs.Common.{◌∙◌, ap, sym, slice_get}
 use Rattle.set_step.specs.Agreement.{link_of, state_of, service_refusal}
-use Rattle.set_step.specs.Set.{State}
-use Rattle.set_step.specs.Step.{falls}
-use Rattle.set_step.proofs.Lists.{map_at, within}
+use Rattle.set_model.specs.State.{State}
+use Rattle.set_model.specs.Step.{falls}
+use Rattle.set_model.proofs.Lists.{map_at, within}
 use Rattle.set_step.proofs.Rooms.{counted_roomier}
 use Rattle.set_step.proofs.Admitting.{serves, in_service_at, same_there}
 use Rattle.set_step.proofs.step.left.Goals as goal

@@ -1,5 +1,5 @@
 use Rattle.std.proofs.Common.{◌≡◌, ◌≤◌, ◌++◌, drop, length}
-use Rattle.set_rows.specs.Rows.{parked, numbers}
+use Rattle.set_model.specs.Rows.{parked, numbers}
 use Rattle.set_step.proofs.step.queue_parked.Given as goal
 
 abbrev pub invariant-loop-row : goal.invariant-loop-row

@@ -1,12 +1,12 @@
 use Rattle.std.proofs.Common.{◌∙◌, ap, sym, slice_get}
 use Rattle.set_step.specs.declared.link.Link.{Link}
-use Rattle.set_step.specs.declared.phase.Phase.{Phase}
-use Rattle.set_step.specs.declared.phase.Phase.TheVariants.{Settled}
+use Rattle.set_model.specs.declared.phase.Phase.{Phase}
+use Rattle.set_model.specs.declared.phase.Phase.TheVariants.{Settled}
 use Rattle.set_step.specs.Agreement.{link_of, state_of, rising_refusal}
-use Rattle.set_step.specs.Set.{LinkState, State}
-use Rattle.set_step.specs.Step.{rises}
+use Rattle.set_model.specs.State.{LinkState, State}
+use Rattle.set_model.specs.Step.{rises}
 use Rattle.set_step.proofs.Admitting.{can_rise, on_link_at, same_there}
-use Rattle.set_step.proofs.Lists.{map_at, same_at}
+use Rattle.set_model.proofs.Lists.{map_at, same_at}
 use Rattle.set_step.proofs.step.raised.Goals as goal
 
 pub rise-requires-clause-settled : goal.rise-requires-clause-settled

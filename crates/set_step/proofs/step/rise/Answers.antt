@@ -2,18 +2,19 @@ use Rattle.std.proofs.Common.{refl, arith, ◌∙◌, ap, sym, subst, length, Li
 use Rattle.l2_window.specs.Window.{WindowState}
 use Rattle.set_events.specs.declared.answer.Fate.TheVariants.{Waiting}
 use Rattle.set_events.specs.declared.answer.Answer.TheVariants.{Done}
-use Rattle.set_rows.specs.Rows.{RowsState, wait, parked, numbers, octets_in, is_parked, moved}
-use Rattle.set_rows.specs.declared.row.Row.{Row}
-use Rattle.set_rows.proofs.Events.{unparked}
+use Rattle.set_model.specs.Rows.{Row, wait, parked, numbers, octets_in, is_parked, moved, all_with}
+use Rattle.set_rows.specs.Rows.{RowsState}
+use Rattle.set_model.proofs.Events.{unparked}
 use Rattle.set_route.specs.Routing.{Routing}
 use Rattle.set_step.specs.declared.link.Link.{Link}
 use Rattle.set_step.specs.Agreement.{IsKept, AreKept, ArePlaced, link_of}
-use Rattle.set_step.specs.Set.{State, has_phase_settled}
-use Rattle.set_step.specs.Step.{Outcome}
+use Rattle.set_model.specs.State.{State, has_phase_settled}
+use Rattle.set_model.specs.Step.{Outcome}
 use Rattle.set_step.proofs.Keeping.{kept_set}
-use Rattle.set_step.proofs.Lists.{here, map_set, length_set}
-use Rattle.set_step.proofs.Placing.{raised_placed, none_unack, none_wait}
-use Rattle.set_step.proofs.Fresh.{accepted_start}
+use Rattle.set_model.proofs.Lists.{here, map_set, length_set}
+use Rattle.set_step.proofs.Placing.{raised_placed}
+use Rattle.set_model.proofs.Settling.{none_unack, none_wait}
+use Rattle.set_model.proofs.Soundness.{start_counted}
 use Rattle.set_step.proofs.States.{state_is}
 use Rattle.set_step.proofs.step.rise.Goals as goal
 
@@ -47,7 +48,7 @@ returns-clause-state c = ap done_with (state_is refl
     (sym c.raise.ensures)
     refl)
 
-risen : (c : goal.After-raise) → IsKept c.args.number c.rise.new.self (moved is_parked (Waiting c.args.number) c.args.parts.now.rows.rows)
+risen : (c : goal.After-raise) → IsKept c.args.number c.rise.new.self (moved is_parked (all_with (Waiting c.args.number)) c.args.parts.now.rows.rows)
 risen c =
     let rows = c.args.parts.now.rows.rows in
     let found = here c.args.parts.now.links.items c.from.result c.args.number c.index_mut-link.result.now c.from.ensures c.requires.known c.index_mut-link.ensures.value in
@@ -57,7 +58,7 @@ risen c =
       last = c.queue_parked.ensures.last ∙ ap (λ (w : WindowState). w.last) c.reset.ensures;
       unacked = c.queue_parked.ensures.unacked ∙ ap (λ (w : WindowState). w.unacked) c.reset.ensures ∙ k.unacked ∙ ap numbers (sym u.unack_same);
       unsent = c.queue_parked.ensures.unsent ∙ ap (λ (w : WindowState). w.unsent ++ numbers (parked c.as_slice.result.now)) c.reset.ensures ∙ ap (λ ns. ns ++ numbers (parked c.as_slice.result.now)) k.unsent ∙ ap (λ rs. numbers (wait c.args.number rows) ++ numbers (parked rs)) c.as_slice.ensures ∙ sym u.wait_numbers;
-      accepted = accepted_start c.args.parts.now.config.method;
+      accepted = start_counted c.args.parts.now.config.method;
       octets = k.octets ∙ ap octets_in (sym u.unack_same);
       in_order = u.order_kept k.in_order;
       settled = λ s. absurd cc;
@@ -72,6 +73,6 @@ returns-clause-agrees c =
     rw (c.from.ensures) (record {
       count = length_set links n c.rise.new.self ∙ a.count;
       routed = ap (λ (r : Routing). r.links) c.raise.ensures ∙ a.routed;
-      kept = subst (λ (rs : List Row). AreKept (slice_set links n c.rise.new.self) rs) (sym (ap (λ (r : RowsState). r.rows) c.unpark.ensures)) (kept_set links n c.rise.new.self rows (moved is_parked (Waiting n) rows) a.kept (risen c) (λ m d. (unparked n rows).others m d));
+      kept = subst (λ (rs : List Row). AreKept (slice_set links n c.rise.new.self) rs) (sym (ap (λ (r : RowsState). r.rows) c.unpark.ensures)) (kept_set links n c.rise.new.self rows (moved is_parked (all_with (Waiting n)) rows) a.kept (risen c) (λ m d. (unparked n rows).others m d));
       placed = subst (λ (r : Routing). ArePlaced (slice_set links n c.rise.new.self) r.streams) (sym c.raise.ensures) (raised_placed links n c.rise.new.self c.args.parts.now.routes.streams a.placed c.requires.known (ap (λ (l : Link). has_phase_settled l.phase) c.rise.ensures));
     })

@@ -2,9 +2,9 @@ use Rattle.std.proofs.Common.{arith, ◌≡◌, ◌∙◌, ap, ◌<◌, ◌^◌,
 use Rattle.set_events.specs.declared.answer.Answer.{Answer}
 use Rattle.set_events.specs.declared.event.Event.{Event}
 use Rattle.set_events.specs.declared.history.Entry.{Entry}
-use Rattle.set_step.specs.Set.{new_state}
+use Rattle.set_model.specs.State.{new_state}
 use Rattle.set_step.proofs.Bounds.{few_more}
-use Rattle.set_core.specs.History.{is_user, is_terminal}
+use Rattle.set_model.specs.History.{is_user, is_terminal}
 use Rattle.set_core.specs.Keeping.{IsKept}
 use Rattle.set_core.proofs.Calls.{any_few}
 use Rattle.set_core.proofs.Keeping.{messages_few, kept_more, gained, bounded}

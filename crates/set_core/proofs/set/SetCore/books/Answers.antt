@@ -1,7 +1,7 @@
 use Rattle.std.proofs.Common.{arith, ◌≡◌, ◌^◌, ap}
 use Rattle.set_events.specs.declared.answer.Counts.{Counts}
-use Rattle.set_rows.specs.Rows.{counts_of}
-use Rattle.set_core.specs.History.{is_user, is_terminal}
+use Rattle.set_model.specs.Rows.{counts_of}
+use Rattle.set_model.specs.History.{is_user, is_terminal}
 use Rattle.set_core.proofs.Calls.{all_few}
 use Rattle.set_core.proofs.Keeping.{messages_few, within}
 use Rattle.set_core.proofs.set.SetCore.books.Goals as goal

@@ -1,6 +1,6 @@
 use Rattle.std.proofs.Common.{arith, ap}
 use Rattle.set_events.specs.declared.answer.Counts.{Counts}
-use Rattle.set_rows.specs.Rows.{total_of}
+use Rattle.set_model.specs.Rows.{total_of}
 use Rattle.set_core.proofs.Calls.{no_calls}
 use Rattle.set_core.proofs.set.SetCore.new.Goals as goal
 

@@ -1,5 +1,5 @@
 use Rattle.std.proofs.Common.{refl, sym}
-use Rattle.set_core.specs.History.{is_user, is_terminal}
+use Rattle.set_model.specs.History.{is_user, is_terminal}
 use Rattle.set_core.proofs.Calls.{none_yet}
 use Rattle.set_core.proofs.tally.Tally.new.Goals as goal
 

@@ -1,4 +1,4 @@
-use Rattle.set_rows.proofs.Finding.{sound_appended}
+use Rattle.set_rows.proofs.Keeping.{sound_appended}
 use Rattle.set_rows.proofs.rows.Rows.add.Goals as goal
 
 pub invariant_of-self : goal.invariant_of-self

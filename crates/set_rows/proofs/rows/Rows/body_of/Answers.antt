@@ -1,6 +1,6 @@
 use Rattle.std.proofs.Common.{◌≡◌, ◌∙◌, ap, sym, ◌<◌, length, None}
-use Rattle.set_rows.specs.Rows.{row_of}
-use Rattle.set_rows.proofs.Finding.{is_found}
+use Rattle.set_model.specs.Rows.{row_of}
+use Rattle.set_model.proofs.Finding.{is_found}
 use Rattle.set_rows.proofs.rows.Rows.body_of.Goals as goal
 
 pub unreachable-requires : goal.unreachable-requires

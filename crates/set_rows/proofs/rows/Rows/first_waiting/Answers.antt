@@ -1,14 +1,13 @@
-use Rattle.std.proofs.Common.{◌∙◌, ap, sym, List}
+use Rattle.std.proofs.Common.{◌∙◌, ap, sym, List, Some}
 use Rattle.std.specs.Prelude.{find}
 use Rattle.std.specs.Option.{option_map}
-use Rattle.set_rows.specs.declared.row.Row.{Row}
-use Rattle.set_rows.specs.Rows.{is_waiting}
-use Rattle.set_rows.proofs.Finding.{first_is}
+use Rattle.set_model.specs.Rows.{Row, is_waiting}
+use Rattle.set_model.proofs.Finding.{first_is}
 use Rattle.set_rows.proofs.rows.Rows.first_waiting.Goals as goal
 
 pub returns-in-Some : goal.returns-in-Some
 returns-in-Some c =
-    rw (← c.self.view_is) (ap (option_map (λ (row : Row). row.body)) (
+    rw (← c.self.view_is) (ap (λ (row : Row). Some row.body) c.row.view_is ∙ ap (option_map (λ (row : Row). row.body)) (
     c.in-Some.ensures ∙ ap (λ (rows : List Row). find (λ (row : Row). is_waiting c.args.link row.fate) rows) c.deref.ensures.value ∙ sym (first_is (is_waiting c.args.link) c.self.inside.rows.items)
     ))
 

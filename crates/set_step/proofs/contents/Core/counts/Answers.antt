@@ -1,6 +1,6 @@
 use Rattle.std.proofs.Common.{arith}
-use Rattle.set_rows.specs.Rows.{is_users}
-use Rattle.set_step.proofs.Fewer.{fewer_filter}
+use Rattle.set_model.specs.Rows.{is_users}
+use Rattle.set_model.proofs.Filters.{fewer_filter}
 use Rattle.set_step.proofs.contents.Core.counts.Goals as goal
 
 pub returns-clause-few : goal.returns-clause-few

@@ -1,7 +1,7 @@
 use Rattle.std.proofs.Common.{arith, ◌≡◌, ◌∙◌, ap, sym, ℕ, List, slice_get, Some, length}
 use Rattle.std.proofs.lemmas.Bool.{ltb-true}
 use Rattle.set_step.specs.declared.link.Link.{Link}
-use Rattle.set_step.proofs.Lists.{here, within}
+use Rattle.set_model.proofs.Lists.{here, within}
 use Rattle.set_step.proofs.Reading.{unacked_there, unacked_none}
 use Rattle.set_step.proofs.contents.Core.unacked_at.Goals as goal
 use Rattle.set_step.proofs.contents.Core.unacked_at.Goals.{After-unacked_at}
@@ -25,10 +25,10 @@ pub returns : goal.returns
 returns c =
     let a = (goal.at.returns c).After-unacked_at in
     let at = ap (λ (i : ℕ). slice_get c.in-Some.link.now.window.unacked i) (sym c.from-2.ensures) ∙ sym c.unacked_at.ensures ∙ c.in-Some-unacked_at.is in
-    rw (← c.self.view_is) (rw (c.last.ensures.value) (sym (unacked_there c.self.inside.parts c.args.link c.args.place c.in-Some-unacked_at.number c.in-Some.link.now c.self.invariant (found a) at)))
+    rw (← c.self.view_is) (rw (c.last.ensures.value) (sym (unacked_there c.self.inside.parts c.args.link c.args.place c.in-Some-unacked_at.number c.in-Some.link.now c.self.invariant.agrees (found a) at)))
 
 pub returns-in_default-unacked_at : goal.returns-in_default-unacked_at
 returns-in_default-unacked_at c =
     let a = (goal.at.returns-in_default-unacked_at c).After-unacked_at in
     let at = ap (λ (i : ℕ). slice_get c.in-Some.link.now.window.unacked i) (sym c.from-2.ensures) ∙ sym c.unacked_at.ensures ∙ c.in_default-unacked_at.is in
-    rw (← c.self.view_is) (sym (unacked_none c.self.inside.parts c.args.link c.args.place c.in-Some.link.now c.self.invariant (found a) at))
+    rw (← c.self.view_is) (sym (unacked_none c.self.inside.parts c.args.link c.args.place c.in-Some.link.now c.self.invariant.agrees (found a) at))

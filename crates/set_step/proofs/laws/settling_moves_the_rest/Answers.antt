@@ -1,5 +1,0 @@
-use Rattle.set_step.proofs.LawLemmas.{moves_the_rest}
-use Rattle.set_step.proofs.laws.settling_moves_the_rest.Goals as goal
-
-pub returns : goal.returns
-returns c fsn number link s there reasonable = moves_the_rest fsn number link s there reasonable
