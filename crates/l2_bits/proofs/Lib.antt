@@ -1,4 +1,5 @@
 pub mod BitLemmas
+pub mod TableLemmas
 pub mod DivisionLemmas
 pub mod SealedTextLemmas
 pub mod OctetLemmas
