@@ -4,12 +4,13 @@ pub mod DivisionLemmas
 pub mod SealedTextLemmas
 pub mod OctetLemmas
 pub mod StuffingLemmas
-pub mod UnstuffingLemmas
+pub mod RunLemmas
+pub mod TakingOutLemmas
 pub mod ContentLemmas
+pub mod PackingLemmas
 pub mod LineLemmas
 pub mod FlagLemmas
 pub mod CountingLemmas
-pub mod DeframingLemmas
-pub mod RunLemmas
 pub mod MarkLemmas
-pub mod SlowLemmas
+pub mod DeframingLemmas
+pub mod WindowLemmas
