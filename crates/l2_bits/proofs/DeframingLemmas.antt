@@ -1,252 +1,358 @@
--- What a deframer keeps, one bit more
-use Rattle.std.proofs.Common.{◌≡◌, ◌≢◌, ◌==◌, ℕ, ◌+◌, ◌-◌, ◌/◌, ◌%◌, ◌^◌, ◌<◌, ◌≤◌, ◌⊎◌, inl, inr, if◌then◌else◌, Bool, true, false, List, [], ◌∷◌, ◌++◌, length, take, drop, Option, Some, None, Result, Ok, Err, IsOk, OnOk, OnErr, refl, ap, sym, ◌∙◌, arith}
-use Rattle.std.proofs.lemmas.List.{take_all, take-append-le, take_at, length-take, length-take-le, nil_from_length, length_push}
+-- What a deframer keeps, some bits more
+use Rattle.std.proofs.Common.{◌≡◌, ℕ, ◌+◌, ◌*◌, ◌%◌, ◌<◌, ◌≤◌, ◌==◌, if◌then◌else◌, inl, inr, Bool, true, false, List, [], ◌∷◌, ◌++◌, length, replicate, Option, Some, None, refl, ap, sym, ◌∙◌, arith, append_assoc, length-append}
+use Rattle.std.proofs.lemmas.List.{append-nil, length_push, length-replicate, nil_from_length, same_from_push}
+use Rattle.std.proofs.Math.Nat.{eq-or-lt_of_le}
 use Rattle.std.proofs.lemmas.Bool.{cases_lt}
-use Rattle.std.proofs.lemmas.Bool.Decides.{nat_tests}
-use Rattle.arrayvec.specs.ArrayVec.{ArrayVec}
-use Rattle.l2_bits.specs.declared.deframing.Deframer.{Deframer}
-use Rattle.l2_bits.specs.declared.marks.Mark.TheVariants.{Good, Bad, Sixteen}
-use Rattle.l2_bits.specs.LineBits.{bits_of}
+use Rattle.l2_bits.specs.declared.marks.MarkKind.{MarkKind}
+use Rattle.l2_bits.specs.declared.marks.MarkKind.TheVariants.{Sixteen as SixteenKind}
+use Rattle.l2_bits.specs.declared.content.Content.{Content}
+use Rattle.l2_bits.specs.declared.marks.Mark.TheVariants.{Bad, Sixteen}
+use Rattle.l2_bits.specs.LineBits.{line_bits}
 use Rattle.l2_bits.specs.Flags.{flag, EndsIn, IsFlagEnd, Since, Closes}
-use Rattle.l2_bits.specs.Contents.{IsGood, EndsGood}
+use Rattle.l2_bits.specs.Stuffing.{ones, content_after}
+use Rattle.l2_bits.specs.SealedText.{sealed_text}
+use Rattle.l2_bits.specs.Contents.{IsClosed, EndsGood}
 use Rattle.l2_bits.specs.OctetCounting.{LosesAlignment, seven_ones, too_long, Counts}
-use Rattle.l2_bits.specs.Marks.{IsMark}
-use Rattle.l2_bits.specs.Deframing.{KeepsCount, StandsFor}
-use Rattle.l2_bits.proofs.ContentLemmas.{raw_fits, raw_some}
-use Rattle.l2_bits.proofs.FlagLemmas.{last_more, flag_there, flag_not_there, ones_there, ones_not_there, since_flag, since_more, closes_is, closes_flag, between, closes_between, closed_length}
+use Rattle.l2_bits.specs.Marks.{IsMark, AreMarks}
+use Rattle.l2_bits.specs.Deframing.{Holds, HasContent, CanEndNone, KeepsCount, GoesOn, mark_of}
+use Rattle.l2_bits.proofs.StuffingLemmas.{content_after-nil, content_after-bit, content_after-inserted, content_alone, is_text_of}
+use Rattle.l2_bits.proofs.ContentLemmas.{good_length}
+use Rattle.l2_bits.proofs.RunLemmas.{run_of, front_runs, flag_after_six, seven_after_six}
+use Rattle.l2_bits.proofs.TakingOutLemmas.{NoSix, no_six_first, no_six_more, content_after-append, content_kept, content_dropped, good_closed, closed_good}
+use Rattle.l2_bits.proofs.FlagLemmas.{since_more, closes_is, closes_flag, between, closes_between, closed_length}
 use Rattle.l2_bits.proofs.CountingLemmas.{NoUnit, unit_flag, flag_aligns, loses_by, counts_more, unit_aligns, counting_begins, still_aligned, counts_alone}
 
--- a bit kept where there is room
-pub kept_more : {U E : Type 0} (r : Result U E) (old new : ArrayVec Bool) (bit : Bool)
-    → OnOk r (new.items ≡ old.items ++ bit ∷ []) → OnErr r (new ≡ old)
-    → (IsOk r → length old.items < 2677) → OnErr r (length old.items ≡ 2677)
-    → new.items ≡ take 2677 (old.items ++ bit ∷ [])
-kept_more (Ok x) old new bit pushed same room full =
-    let h : length old.items < 2677 = room refl in
-    pushed ∙ sym (take_all 2677 (old.items ++ bit ∷ []) (omega (arith, length_push old.items bit)))
-kept_more (Err e) old new bit pushed same room full =
-    ap (λ (v : ArrayVec Bool). v.items) same
-    ∙ sym (take-append-le 2677 old.items (bit ∷ []) (omega arith) ∙ take_all 2677 old.items (omega arith))
+-- ---- the content
 
--- the first 2,677 of the first 2,677 and one more
-take_more_of : (since : List Bool) (bit : Bool) → take 2677 (take 2677 since ++ bit ∷ []) ≡ take 2677 (since ++ bit ∷ [])
-take_more_of since bit =
-    elim (cases_lt 2677 (length since)) [
-      | inl long ↦
-          let h : 2677 < length since = long in
-          take-append-le 2677 (take 2677 since) (bit ∷ []) (omega (arith, length-take-le 2677 since (omega arith)))
-          ∙ take_all 2677 (take 2677 since) (omega (arith, length-take-le 2677 since (omega arith)))
-          ∙ sym (take-append-le 2677 since (bit ∷ []) (omega arith))
-      | inr short ↦ rw (take_all 2677 since short) refl
+-- taking out makes no bits
+few_ones : (bit : Bool) (run : ℕ) → run < 5 → (if bit then run + 1 else 0) ≤ 5
+few_ones true run few = omega arith
+few_ones false run few = omega arith
+
+content_shorter : (run : ℕ) (bits : List Bool) → run ≤ 5 → length (content_after run bits) ≤ length bits
+content_shorter run [] within = omega (arith, ap length (content_after-nil run))
+content_shorter run (bit ∷ bits) within =
+    elim (eq-or-lt_of_le within) [
+      | inl fifth ↦ rw (fifth, content_after-inserted bit bits) (omega (arith, content_shorter 0 bits (omega arith)))
+      | inr below ↦
+          let few : run < 5 = below in
+          let next : (if bit then run + 1 else 0) ≤ 5 = few_ones bit run few in
+          rw (content_after-bit run bit bits few) (omega (arith, content_shorter (if bit then run + 1 else 0) bits next))
     ]
 
--- octet counting, one bit more with which no good signal unit ends
-module _ (past counted : List Bool) (bit : Bool) (count : ℕ) (counts : Counts past counted) (is : count ≡ length counted % 256) (none : NoUnit past bit) where
-  counted_mark : (b : Bool) → ((count + 1) % 128 == 0) ≡ b → IsMark past bit (if b then Some Sixteen else None)
-  counted_mark true here = record {
-    counted = counted;
-    counts = counts;
-    whole = (let zero_left : (count + 1) % 128 ≡ 0 = grind (arith, nat_tests) in omega arith);
-    not_good = none;
-  }
-  counted_mark false here = (
+flag_short : (run : ℕ) → length (content_after (run % 6) flag) ≤ 7
+unfolding flag content_after
+flag_short run = by (run % 6 == 5)
+  where
+    by : (b : Bool) → length (if b then true ∷ true ∷ true ∷ true ∷ true ∷ false ∷ [] else false ∷ true ∷ true ∷ true ∷ true ∷ true ∷ false ∷ []) ≤ 7
+    by true = omega arith
+    by false = omega arith
+
+-- content of too many bits
+too_many : (since : List Bool) → 8 * 279 ≤ length (content_after 0 since) → CanEndNone since
+too_many since long rest raw octets same good =
+    let front : content_after 0 (since ++ rest) ≡ content_after 0 since ++ content_after (run_of 0 since % 6) rest = content_after-append 0 since rest in
+    let whole : content_after 0 (raw ++ flag) ≡ content_after 0 raw ++ content_after (run_of 0 raw % 6) flag = content_after-append 0 raw flag in
+    omega (
+      arith,
+      good_length octets,
+      good.longest,
+      ap length (content_alone _ raw good.stuffed),
+      flag_short (run_of 0 raw),
+      ap length (sym front ∙ ap (content_after 0) same ∙ whole),
+      length-append (content_after 0 since) (content_after (run_of 0 since % 6) rest),
+      length-append (content_after 0 raw) (content_after (run_of 0 raw % 6) flag),
+    )
+
+-- a seventh one, or what follows it
+pub lost_more : (past since : List Bool) (bit : Bool) → GoesOn past since bit → 6 ≤ run_of 0 since → CanEndNone (since ++ bit ∷ [])
+lost_more past since bit goes six [] raw octets same good =
+    goes.no_flag (closes_flag past raw bit (record { since = since; is_since = goes.is_since; closed = sym (append-nil (since ++ bit ∷ [])) ∙ same }))
+lost_more past since bit goes six (x ∷ rest) raw octets same good =
+    omega (arith, front_runs raw since (bit ∷ x ∷ rest) (is_text_of _ raw good.stuffed) (sym same ∙ append_assoc since (bit ∷ []) (x ∷ rest)) (omega arith))
+
+still_lost : (since bits : List Bool) → CanEndNone since → CanEndNone (since ++ bits)
+still_lost since bits none rest raw octets same good = none (bits ++ rest) raw octets (sym (append_assoc since bits rest) ∙ same) good
+
+-- nothing more is kept of the line up to the next flag
+pub content_lost : (past since : List Bool) (bit : Bool) (old : Content) → GoesOn past since bit → 6 ≤ run_of 0 since
+    → HasContent since old → HasContent (since ++ bit ∷ []) (record { octets = old.octets; len = 279; part = old.part; more = old.more })
+content_lost past since bit old goes six has = record {
+  bits = replicate 2232 false;
+  holds = record {
+    room = has.holds.room;
+    few = omega arith;
+    in_range = has.holds.in_range;
+    less = has.holds.less;
+    part_fits = has.holds.part_fits;
+    packed = λ below. absurd (omega arith);
+    long = λ _. omega (arith, length-replicate 2232 false);
+  };
+  taken_out = λ below. absurd (omega arith);
+  no_six = λ below. absurd (omega arith);
+  lost = λ _. lost_more past since bit goes six;
+}
+
+-- the bit after five ones
+pub content_same : (since : List Bool) (bit : Bool) (old : Content) → run_of 0 since ≡ 5 → HasContent since old → HasContent (since ++ bit ∷ []) old
+content_same since bit old five has = record {
+  bits = has.bits;
+  holds = has.holds;
+  taken_out = λ below. has.taken_out below ∙ sym (content_dropped since bit five);
+  no_six = λ below. no_six_more since bit (has.no_six below) (omega arith);
+  lost = λ full. still_lost since (bit ∷ []) (has.lost full);
+}
+
+-- no five ones stand before any of these bits
+abbrev pub Plain : List Bool → List Bool → Type 0
+Plain since bits = (a b : List Bool) (bit : Bool) → bits ≡ a ++ bit ∷ b → run_of 0 (since ++ a) < 5
+
+pub plain_single : (since : List Bool) (bit : Bool) → run_of 0 since < 5 → Plain since (bit ∷ [])
+plain_single since bit few [] b x same = rw append-nil few
+plain_single since bit few (y ∷ a) b x same = absurd (omega (arith, ap length same, length-append a (x ∷ b)))
+
+plain_first : (since bits : List Bool) (bit : Bool) → Plain since (bit ∷ bits) → run_of 0 since < 5
+plain_first since bits bit plain = rw append-nil at (plain [] bits bit refl)
+
+plain_rest : (since bits : List Bool) (bit : Bool) → Plain since (bit ∷ bits) → Plain (since ++ bit ∷ []) bits
+plain_rest since bits bit plain a b x same =
+    rw (← append_assoc since (bit ∷ []) a) at (plain (bit ∷ a) b x (ap (λ (rest : List Bool). bit ∷ rest) same))
+
+plain_kept : (since bits : List Bool) → Plain since bits → content_after 0 (since ++ bits) ≡ content_after 0 since ++ bits
+plain_kept since [] plain = rw (append-nil since) (sym (append-nil (content_after 0 since)))
+plain_kept since (bit ∷ bits) plain =
+    let few : run_of 0 since < 5 = plain_first since bits bit plain in
+    ap (content_after 0) (sym (append_assoc since (bit ∷ []) bits))
+    ∙ plain_kept (since ++ bit ∷ []) bits (plain_rest since bits bit plain)
+    ∙ ap (λ (front : List Bool). front ++ bits) (content_kept since bit (omega arith))
+    ∙ append_assoc (content_after 0 since) (bit ∷ []) bits
+
+plain_calm : (since bits : List Bool) → Plain since bits → NoSix since → NoSix (since ++ bits)
+plain_calm since [] plain calm = rw (append-nil since) calm
+plain_calm since (bit ∷ bits) plain calm =
+    let few : run_of 0 since < 5 = plain_first since bits bit plain in
+    rw (← append_assoc since (bit ∷ []) bits)
+    (plain_calm (since ++ bit ∷ []) bits (plain_rest since bits bit plain) (no_six_more since bit calm (omega arith)))
+
+pub content_more : (since bits : List Bool) (old new : Content) → Plain since bits → (has : HasContent since old)
+    → (old.len ≡ 279 → new.len ≡ 279) → Holds (has.bits ++ bits) new → HasContent (since ++ bits) new
+content_more since bits old new plain has stays holds = record {
+  bits = has.bits ++ bits;
+  holds = holds;
+  taken_out = λ below. taken (before below);
+  no_six = λ below. plain_calm since bits plain (has.no_six (before below));
+  lost = λ full.
+      elim (eq-or-lt_of_le has.holds.few) [
+        | inl all ↦ still_lost since bits (has.lost all)
+        | inr below ↦
+            let less : old.len < 279 = below in
+            too_many (since ++ bits) (rw (taken less) at (holds.long full))
+      ];
+}
+  where
+    before : new.len < 279 → old.len < 279
+    before below =
+        let full : old.len ≡ 279 → ⊥ = λ all. omega (arith, stays all) in
+        omega (arith, has.holds.few, full)
+
+    taken : old.len < 279 → has.bits ++ bits ≡ content_after 0 (since ++ bits)
+    taken below = ap (λ (front : List Bool). front ++ bits) (has.taken_out below) ∙ sym (plain_kept since bits plain)
+
+-- ---- octet counting
+
+-- one bit more with which no good signal unit ends
+module _ (past counted : List Bool) (bit : Bool) (room : ℕ) (counts : Counts past counted) (left : (length counted + room) % 128 ≡ 0)
+    (some : 0 < room) (most : room ≤ 128) (none : NoUnit past bit) where
+  counted_on : Counts (past ++ bit ∷ []) (counted ++ bit ∷ [])
+  counted_on = counts_more past counted bit counts none
+
+  pub one_less : (since : List Bool) (next : ℕ) → next + 1 ≡ room → 0 < next → KeepsCount (past ++ bit ∷ []) since true next
+  one_less since next is more =
+      (counted ++ bit ∷ [], counted_on, omega (arith, length_push counted bit), more, omega arith)
+
+  pub one_less_mark : 1 < room → IsMark past bit None
+  one_less_mark more = (
     none,
     (λ bad aligned. aligned counted counts.lost),
-    λ sixteen.
-        let left : (count + 1) % 128 ≢ 0 = grind (arith, nat_tests) in
-        left (omega (arith, sixteen.whole, counts_alone past counted sixteen.counted counts sixteen.counts)),
+    λ sixteen. omega (arith, sixteen.whole, counts_alone past counted sixteen.counted counts sixteen.counts),
   )
 
-  pub count_mark : IsMark past bit (if (count + 1) % 128 == 0 then Some Sixteen else None)
-  count_mark = counted_mark ((count + 1) % 128 == 0) refl
+  pub sixteen_more : (since : List Bool) → room ≤ 1 → KeepsCount (past ++ bit ∷ []) since true 128
+  sixteen_more since last = (counted ++ bit ∷ [], counted_on, omega (arith, length_push counted bit), omega arith, omega arith)
 
-  pub count_keeps : (since : List Bool) → KeepsCount (past ++ bit ∷ []) since (Some ((count + 1) % 256))
-  count_keeps since =
-      (counted ++ bit ∷ [], counts_more past counted bit counts none, omega (arith, length_push counted bit))
+  pub sixteen_mark : room ≤ 1 → IsMark past bit (Some Sixteen)
+  sixteen_mark last = record { counted = counted; counts = counts; whole = omega arith; not_good = none }
 
-module _ (past : List Bool) (bit : Bool) (old : Deframer) (is : StandsFor past old) (last : ℕ) (fits : last < 2 ^ 8)
-    (shifted : bits_of 8 last ≡ drop 1 (bits_of 8 old.last) ++ bit ∷ []) where
-  ends : EndsIn (flag ++ (past ++ bit ∷ [])) (bits_of 8 last)
-  ends = last_more past bit old.last last is.last_bits shifted
+-- as the code counts it
+pub counted_more : (past since next : List Bool) (bit : Bool) (room new : ℕ) (kind : Option MarkKind) → KeepsCount past since true room → NoUnit past bit
+    → (1 < room → (new + 1 ≡ room) × (kind ≡ None)) → (room ≤ 1 → (new ≡ 128) × (kind ≡ Some SixteenKind))
+    → KeepsCount (past ++ bit ∷ []) next true new × ((octets : List ℕ) → IsMark past bit (mark_of kind octets))
+counted_more past since next bit room new kind keeps none more whole =
+    elim (cases_lt 1 room) [
+      | inl some ↦
+          let h : 1 < room = some in
+          let is = more h in (
+            one_less past keeps.0 bit room keeps.1 keeps.2 keeps.3 keeps.4 none next new is.0 (omega (arith, is.0)),
+            λ octets. rw is.1 (one_less_mark past keeps.0 bit room keeps.1 keeps.2 keeps.3 keeps.4 none h),
+          )
+      | inr last ↦
+          let is = whole last in (
+            rw is.0 (sixteen_more past keeps.0 bit room keeps.1 keeps.2 keeps.3 keeps.4 none next last),
+            λ octets. rw is.1 (sixteen_mark past keeps.0 bit room keeps.1 keeps.2 keeps.3 keeps.4 none last),
+          )
+    ]
 
-  -- no flag ends with the bit
-  module _ (other : last ≡ 126 → ⊥) where
-    no_flag : IsFlagEnd (past ++ bit ∷ []) → ⊥
-    no_flag = flag_not_there (past ++ bit ∷ []) last ends fits other
+-- one bit more that ends no flag
+module _ (past since : List Bool) (bit : Bool) (goes : GoesOn past since bit) where
+  pub no_unit : NoUnit past bit
+  no_unit octets unit = goes.no_flag (unit_flag past bit octets unit)
 
-    no_unit : NoUnit past bit
-    no_unit octets unit = no_flag (unit_flag past bit octets unit)
+  pub since_on : Since (past ++ bit ∷ []) (since ++ bit ∷ [])
+  since_on = since_more past since bit goes.is_since goes.no_flag
 
-    since_on : Since (past ++ bit ∷ []) (is.since ++ bit ∷ [])
-    since_on = since_more past is.since bit is.is_since no_flag
+  module _ (room : ℕ) (keeps : KeepsCount past since false room) where
+    pub begins_seven : EndsIn (flag ++ (past ++ bit ∷ [])) (ones 7) → KeepsCount (past ++ bit ∷ []) (since ++ bit ∷ []) true 128
+    begins_seven seven = ([], counting_begins past bit keeps.0 (seven_ones seven), refl, omega arith, omega arith)
 
-    module _ (raw : ArrayVec Bool) (kept : raw.items ≡ take 2677 (old.raw.items ++ bit ∷ [])) where
-      kept_on : raw.items ≡ take 2677 (is.since ++ bit ∷ [])
-      kept_on =
-          kept ∙ ap (λ (bits : List Bool). take 2677 (bits ++ bit ∷ [])) is.kept ∙ take_more_of is.since bit
+    pub begins_long : room ≤ 1 → KeepsCount (past ++ bit ∷ []) (since ++ bit ∷ []) true 128
+    begins_long last =
+        ([], counting_begins past bit keeps.0 (too_long (since ++ bit ∷ []) since_on (omega (arith, length_push since bit, keeps.1, keeps.2))), refl, omega arith, omega arith)
 
-      within_stands : (counting : Option ℕ) → KeepsCount (past ++ bit ∷ []) (is.since ++ bit ∷ []) counting
-          → StandsFor (past ++ bit ∷ []) (record { last = last; raw = raw; counting = counting })
-      within_stands counting count_kept = record {
-        last_bits = ends;
-        since = is.since ++ bit ∷ [];
-        is_since = since_on;
-        kept = kept_on;
-        count_kept = count_kept;
+    pub waits_on : (EndsIn (flag ++ (past ++ bit ∷ [])) (ones 7) → ⊥) → (next : ℕ) → next + 1 ≡ room → 0 < next
+        → KeepsCount (past ++ bit ∷ []) (since ++ bit ∷ []) false next
+    waits_on other next is more =
+        let keeps_on : LosesAlignment (past ++ bit ∷ []) → ⊥ =
+        λ loses.
+        elim (loses_by (past ++ bit ∷ []) (since ++ bit ∷ []) since_on loses) [
+          | inl seven ↦ other seven
+          | inr long ↦ omega (arith, long, length_push since bit, keeps.1)
+        ] in
+        (still_aligned past bit keeps.0 keeps_on, omega (arith, length_push since bit, keeps.1), more)
+
+    pub waits_mark : IsMark past bit None
+    waits_mark = (
+      no_unit,
+      (λ bad aligned. goes.no_flag (closes_flag past bad.raw bit bad.closes)),
+      λ sixteen. keeps.0 sixteen.counted sixteen.counts.lost,
+    )
+
+-- ---- bits before which no five ones stand
+
+calm_goes : (past since : List Bool) (bit : Bool) → Since past since → run_of 0 since < 6 → GoesOn past since bit
+calm_goes past since bit is few = record { is_since = is; no_flag = none }
+  where
+    none : IsFlagEnd (past ++ bit ∷ []) → ⊥
+    none ends = omega (arith, few, flag_after_six is.before since bit is.ended (rw is.split at ends))
+
+no_seven : (past since : List Bool) (bit : Bool) → Since past since → run_of 0 since < 6 → EndsIn (flag ++ (past ++ bit ∷ [])) (ones 7) → ⊥
+no_seven past since bit is few seven =
+    omega (arith, few, seven_after_six is.before since bit is.ended (rw is.split at seven))
+
+plain_one : (past since : List Bool) (bit counting : Bool) (next : ℕ) → Since past since → run_of 0 since < 5
+    → KeepsCount past since counting (next + 1) → 0 < next
+    → KeepsCount (past ++ bit ∷ []) (since ++ bit ∷ []) counting next × IsMark past bit None
+plain_one past since bit false next is few keeps more =
+    let goes = calm_goes past since bit is (omega arith) in
+    (waits_on past since bit goes (next + 1) keeps (no_seven past since bit is (omega arith)) next refl more, waits_mark past since bit goes (next + 1) keeps)
+plain_one past since bit true next is few keeps more =
+    let goes = calm_goes past since bit is (omega arith) in
+    let none = no_unit past since bit goes in (
+      one_less past keeps.0 bit (next + 1) keeps.1 keeps.2 keeps.3 keeps.4 none (since ++ bit ∷ []) next refl more,
+      one_less_mark past keeps.0 bit (next + 1) keeps.1 keeps.2 keeps.3 keeps.4 none (omega arith),
+    )
+
+-- they give no mark
+pub record PlainOn (past since bits : List Bool) (counting : Bool) (room : ℕ) : Type 0 where
+  pub is_since : Since (past ++ bits) (since ++ bits)
+  pub keeps : KeepsCount (past ++ bits) (since ++ bits) counting room
+  pub marks : AreMarks past bits []
+
+pub plain_all : (past since bits : List Bool) (counting : Bool) (room next : ℕ) → Since past since → Plain since bits
+    → KeepsCount past since counting room → next + length bits ≡ room → 0 < next → PlainOn past since bits counting next
+plain_all past since [] counting room next is plain keeps sum more =
+    let same : room ≡ next = omega arith in
+    record { is_since = rw (append-nil past, append-nil since) is; keeps = rw (append-nil past, append-nil since) (rw same at keeps); marks = refl }
+plain_all past since (bit ∷ bits) counting room next is plain keeps sum more =
+    let few : run_of 0 since < 5 = plain_first since bits bit plain in
+    let goes = calm_goes past since bit is (omega arith) in
+    let split : room ≡ next + length bits + 1 = omega arith in
+    let one = plain_one past since bit counting (next + length bits) is few (rw split at keeps) (omega arith) in
+    let rest = plain_all (past ++ bit ∷ []) (since ++ bit ∷ []) bits counting (next + length bits) next (since_on past since bit goes) (plain_rest since bits bit plain) one.0 refl more in
+    let past_is : (past ++ bit ∷ []) ++ bits ≡ past ++ bit ∷ bits = append_assoc past (bit ∷ []) bits in
+    let since_is : (since ++ bit ∷ []) ++ bits ≡ since ++ bit ∷ bits = append_assoc since (bit ∷ []) bits in
+    record {
+      is_since = rw (past_is, since_is) at rest.is_since;
+      keeps = rw (past_is, since_is) at rest.keeps;
+      marks = (None, [], one.1, rest.marks, refl);
+    }
+
+-- ---- a flag
+
+module _ (past since : List Bool) (bit : Bool) (is : Since past since) (ends : IsFlagEnd (past ++ bit ∷ [])) where
+  -- the flag closes what stands before its last seven bits
+  split_at : (raw : List Bool) → since ++ bit ∷ [] ≡ raw ++ flag → since ≡ raw ++ false ∷ ones 6
+  unfolding flag
+  split_at raw same =
+      (same_from_push since (raw ++ false ∷ ones 6) bit false (same ∙ sym (append_assoc raw (false ∷ ones 6) (false ∷ [])))).0
+
+  pub good_here : (content : Content) (octets : List ℕ) → (has : HasContent since content) → content.len < 279
+      → IsClosed has.bits octets → EndsGood past bit octets
+  good_here content octets has below closed =
+      let taken : IsClosed (content_after 0 since) octets = rw (has.taken_out below) at closed in
+      let long : 7 ≤ length since =
+      omega (arith, content_shorter 0 since (omega arith), ap length taken.closed, length-append (line_bits (sealed_text octets)) (false ∷ ones 5), good_length octets) in
+      let closes : Closes past bit (between since) = closes_between past since bit is ends long in
+      record {
+        raw = between since;
+        closes = closes;
+        good = closed_good since (between since) octets (split_at (between since) (closes_is past since (between since) bit closes is)) (has.no_six below) taken;
       }
 
-      -- in octet counting
-      pub counting_within : (count : ℕ) → old.counting ≡ Some count
-          → StandsFor (past ++ bit ∷ []) (record { last = last; raw = raw; counting = Some ((count + 1) % 256) })
-      counting_within count running =
-          let keeps : KeepsCount past is.since (Some count) = rw running at is.count_kept in
-          within_stands (Some ((count + 1) % 256)) (count_keeps past keeps.0 bit count keeps.1 keeps.2 no_unit (is.since ++ bit ∷ []))
+  pub no_good : (content : Content) → (has : HasContent since content) → ((octets : List ℕ) → IsClosed has.bits octets → ⊥) → NoUnit past bit
+  no_good content has none octets unit =
+      let same : since ++ bit ∷ [] ≡ unit.raw ++ flag = closes_is past since unit.raw bit unit.closes is in
+      elim (eq-or-lt_of_le has.holds.few) [
+        | inl all ↦ has.lost all (bit ∷ []) unit.raw octets same unit.good
+        | inr below ↦
+            let less : content.len < 279 = below in
+            none octets (rw (← has.taken_out less) at (good_closed since unit.raw octets (split_at unit.raw same) unit.good))
+      ]
 
-      -- outside it
-      module _ (idle : old.counting ≡ None) where
-        keeps_none : KeepsCount past is.since None
-        keeps_none = rw idle at is.count_kept
+  pub aligned_here : (room : ℕ) → KeepsCount past since false room → KeepsCount (past ++ bit ∷ []) [] false 2677
+  aligned_here room keeps =
+      (still_aligned past bit keeps.0 (flag_aligns (past ++ bit ∷ []) ends), refl, omega arith)
 
-        long_enough : length raw.items ≡ 2677 → length (is.since ++ bit ∷ []) ≡ 2677
-        long_enough full =
-            omega (arith, length_push is.since bit, keeps_none.1, ap length (kept_on ∙ take_all 2677 (is.since ++ bit ∷ []) (omega (arith, length_push is.since bit, keeps_none.1))))
+  pub good_aligns : (octets : List ℕ) → EndsGood past bit octets → KeepsCount (past ++ bit ∷ []) [] false 2677
+  good_aligns octets unit = (unit_aligns past bit octets unit, refl, omega arith)
 
-        pub begins_within : (last / 2 ≡ 127) ⊎ (length raw.items ≡ 2677)
-            → StandsFor (past ++ bit ∷ []) (record { last = last; raw = raw; counting = Some 0 })
-        begins_within (inl seven) =
-            within_stands (Some 0)
-            ([], counting_begins past bit keeps_none.0 (seven_ones (ones_there (past ++ bit ∷ []) last ends seven)), refl)
-        begins_within (inr full) =
-            within_stands (Some 0)
-            ([], counting_begins past bit keeps_none.0 (too_long (is.since ++ bit ∷ []) since_on (long_enough full)), refl)
+  module _ (room : ℕ) (keeps : KeepsCount past since false room) (none : NoUnit past bit) where
+    pub empty_mark : 2669 < room → IsMark past bit None
+    empty_mark short = (
+      none,
+      (λ bad aligned.
+          bad.not_empty (nil_from_length bad.raw (omega (arith, keeps.1, closed_length past since bad.raw bit is bad.closes)))),
+      λ sixteen. keeps.0 sixteen.counted sixteen.counts.lost,
+    )
 
-        pub aligned_within : (last / 2 ≡ 127 → ⊥) → (length raw.items ≡ 2677 → ⊥)
-            → StandsFor (past ++ bit ∷ []) (record { last = last; raw = raw; counting = None })
-        aligned_within other_ones not_full =
-            let whole : raw.items ≡ is.since ++ bit ∷ [] =
-            kept_on ∙ take_all 2677 (is.since ++ bit ∷ []) (omega (arith, length_push is.since bit, keeps_none.1)) in
-            let short : length (is.since ++ bit ∷ []) ≢ 2677 = λ long. not_full (ap length whole ∙ long) in
-            let keeps : LosesAlignment (past ++ bit ∷ []) → ⊥ =
-            λ loses.
-            elim (loses_by (past ++ bit ∷ []) (is.since ++ bit ∷ []) since_on loses) [
-              | inl seven ↦ ones_not_there (past ++ bit ∷ []) last ends fits other_ones seven
-              | inr long ↦ short long
-            ] in
-            within_stands None (still_aligned past bit keeps_none.0 keeps, omega (arith, length_push is.since bit, keeps_none.1))
-
-    pub counting_within_mark : (count : ℕ) → old.counting ≡ Some count → IsMark past bit (if (count + 1) % 128 == 0 then Some Sixteen else None)
-    counting_within_mark count running =
-        let keeps : KeepsCount past is.since (Some count) = rw running at is.count_kept in
-        count_mark past keeps.0 bit count keeps.1 keeps.2 no_unit
-
-    pub aligned_within_mark : old.counting ≡ None → IsMark past bit None
-    aligned_within_mark idle =
-        let keeps : KeepsCount past is.since None = rw idle at is.count_kept in (
-          no_unit,
-          (λ bad aligned. no_flag (closes_flag past bad.raw bit bad.closes)),
-          λ sixteen. keeps.0 sixteen.counted sixteen.counts.lost,
-        )
-
-  -- a flag ends with the bit
-  module _ (flagged : last ≡ 126) where
-    flag_ends : IsFlagEnd (past ++ bit ∷ [])
-    flag_ends = flag_there (past ++ bit ∷ []) last ends flagged
-
-    -- the bits are all there, unless there are too many
-    all_kept : length is.since ≤ 2677 → old.raw.items ≡ is.since
-    all_kept short = is.kept ∙ take_all 2677 is.since short
-
-    closes_kept : length is.since ≤ 2677 → 0 < length (between old.raw.items) → Closes past bit (between old.raw.items)
-    closes_kept short some =
-        let long : 7 < length is.since = omega (arith, length-take (length old.raw.items - 7) old.raw.items, ap length (all_kept short)) in
-        let same : old.raw.items ≡ is.since = all_kept short in
-        rw same (closes_between past is.since bit is.is_since flag_ends (omega arith))
-
-    closed_between : (raw : List Bool) → Closes past bit raw → length is.since ≤ 2677 → between old.raw.items ≡ raw
-    closed_between raw closes short =
-        let bits = is.since ++ bit ∷ [] in
-        let n : length is.since - 7 ≡ length raw = omega (arith, closed_length past is.since raw bit is.is_since closes) in
-        ap between (all_kept short)
-        ∙ ap (λ (k : ℕ). take k is.since) n
-        ∙ sym (take-append-le (length raw) is.since (bit ∷ []) (omega (arith, closed_length past is.since raw bit is.is_since closes)))
-        ∙ ap (take (length raw)) (closes_is past is.since raw bit closes is.is_since)
-        ∙ take_at raw flag (length raw) refl
-
-    -- a good signal unit
-    good_here : (octets : List ℕ) → IsGood (between old.raw.items) octets → EndsGood past bit octets
-    good_here octets good =
-        let short : length is.since ≤ 2677 =
-        omega (arith, raw_fits (between old.raw.items) octets good, length-take (length old.raw.items - 7) old.raw.items, ap length is.kept, length-take 2677 is.since) in
-        record {
-          raw = between old.raw.items;
-          closes = closes_kept short (raw_some (between old.raw.items) octets good);
-          good = good;
-        }
-
-    no_good : ((octets : List ℕ) → IsGood (between old.raw.items) octets → ⊥) → NoUnit past bit
-    no_good not_good octets unit =
-        let short : length is.since ≤ 2677 =
-        omega (arith, raw_fits unit.raw octets unit.good, closed_length past is.since unit.raw bit is.is_since unit.closes) in
-        let same : between old.raw.items ≡ unit.raw = closed_between unit.raw unit.closes short in
-        not_good octets (rw same unit.good)
-
-    module _ (raw : ArrayVec Bool) (cleared : raw.items ≡ []) where
-      flag_stands : (counting : Option ℕ) → KeepsCount (past ++ bit ∷ []) [] counting
-          → StandsFor (past ++ bit ∷ []) (record { last = last; raw = raw; counting = counting })
-      flag_stands counting count_kept = record {
-        last_bits = ends;
-        since = [];
-        is_since = since_flag (past ++ bit ∷ []) flag_ends;
-        kept = cleared;
-        count_kept = count_kept;
-      }
-
-      pub good_stands : (octets : List ℕ) → IsGood (between old.raw.items) octets
-          → StandsFor (past ++ bit ∷ []) (record { last = last; raw = raw; counting = None })
-      good_stands octets good = flag_stands None (unit_aligns past bit octets (good_here octets good), omega arith)
-
-      pub counting_stands : (count : ℕ) → old.counting ≡ Some count → ((octets : List ℕ) → IsGood (between old.raw.items) octets → ⊥)
-          → StandsFor (past ++ bit ∷ []) (record { last = last; raw = raw; counting = Some ((count + 1) % 256) })
-      counting_stands count running not_good =
-          let keeps : KeepsCount past is.since (Some count) = rw running at is.count_kept in
-          flag_stands (Some ((count + 1) % 256)) (count_keeps past keeps.0 bit count keeps.1 keeps.2 (no_good not_good) [])
-
-      pub aligned_stands : old.counting ≡ None
-          → StandsFor (past ++ bit ∷ []) (record { last = last; raw = raw; counting = None })
-      aligned_stands idle =
-          let keeps : KeepsCount past is.since None = rw idle at is.count_kept in
-          flag_stands None (still_aligned past bit keeps.0 (flag_aligns (past ++ bit ∷ []) flag_ends), omega arith)
-
-    pub good_mark : (octets : ArrayVec ℕ) → IsGood (between old.raw.items) octets.items → IsMark past bit (Some (Good octets))
-    good_mark octets good = good_here octets.items good
-
-    pub counting_mark : (count : ℕ) → old.counting ≡ Some count → ((octets : List ℕ) → IsGood (between old.raw.items) octets → ⊥)
-        → IsMark past bit (if (count + 1) % 128 == 0 then Some Sixteen else None)
-    counting_mark count running not_good =
-        let keeps : KeepsCount past is.since (Some count) = rw running at is.count_kept in
-        count_mark past keeps.0 bit count keeps.1 keeps.2 (no_good not_good)
-
-    pub empty_mark : old.counting ≡ None → ((octets : List ℕ) → IsGood (between old.raw.items) octets → ⊥)
-        → length (between old.raw.items) ≡ 0 → IsMark past bit None
-    empty_mark idle not_good empty =
-        let keeps : KeepsCount past is.since None = rw idle at is.count_kept in
-        let short : length is.since ≤ 2677 = omega (arith, keeps.1) in (
-          no_good not_good,
-          (λ bad aligned.
-              bad.not_empty (nil_from_length bad.raw (omega (arith, ap length (closed_between bad.raw bad.closes short))))),
-          λ sixteen. keeps.0 sixteen.counted sixteen.counts.lost,
-        )
-
-    pub bad_mark : old.counting ≡ None → ((octets : List ℕ) → IsGood (between old.raw.items) octets → ⊥)
-        → 0 < length (between old.raw.items) → IsMark past bit (Some Bad)
-    bad_mark idle not_good some =
-        let keeps : KeepsCount past is.since None = rw idle at is.count_kept in
-        let short : length is.since ≤ 2677 = omega (arith, keeps.1) in (
+    pub bad_mark : room ≤ 2669 → IsMark past bit (Some Bad)
+    bad_mark long =
+        let seven : 7 ≤ length since = omega (arith, keeps.1) in
+        let closes : Closes past bit (between since) = closes_between past since bit is ends seven in (
           record {
-            raw = between old.raw.items;
-            closes = closes_kept short some;
-            not_empty = λ none. omega (arith, ap length none);
-            not_good = not_good;
+            raw = between since;
+            closes = closes;
+            not_empty = λ empty. omega (arith, keeps.1, ap length empty, closed_length past since (between since) bit is closes);
+            not_good = λ octets good. none octets (record { raw = between since; closes = closes; good = good });
           },
           keeps.0,
         )
+
+-- nothing since the flag
+pub content_none : (content : Content) → Holds [] content → content.len ≡ 0 → HasContent [] content
+content_none content holds none = record {
+  bits = [];
+  holds = holds;
+  taken_out = λ below. sym (content_after-nil 0);
+  no_six = λ below. no_six_first;
+  lost = λ full. absurd (omega arith);
+}

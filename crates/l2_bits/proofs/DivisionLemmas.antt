@@ -1,8 +1,6 @@
 -- Long division, and the register that stands for it
-use Rattle.std.proofs.Common.{◌≡◌, ℕ, zero, suc, ◌+◌, ◌-◌, ◌/◌, ◌%◌, ◌^◌, ◌<◌, ◌≤◌, ◌==◌, Bool, true, false, not, if◌then◌else◌, List, [], ◌∷◌, ◌++◌, length, map, replicate, bit_and, bit_xor, refl, ap, sym, ◌∙◌, arith, append_assoc, length-append}
+use Rattle.std.proofs.Common.{◌≡◌, ℕ, zero, suc, ◌+◌, ◌-◌, ◌/◌, ◌%◌, ◌^◌, ◌<◌, ◌≤◌, ◌==◌, Bool, true, false, not, if◌then◌else◌, List, [], ◌∷◌, ◌++◌, length, map, replicate, bit_xor, refl, ap, sym, ◌∙◌, arith, append_assoc, length-append}
 use Rattle.std.proofs.lemmas.List.{length-map}
-use Rattle.std.proofs.lemmas.Nat.{and_mask}
-use mathlib.Core.Bool.{beq}
 use Rattle.l2_bits.specs.LineBits.{bits_of}
 use Rattle.l2_bits.specs.CheckBits.{sum_of, generator, remainder_after, dividend_of, check_bits}
 use Rattle.l2_bits.specs.Register.{DividesTo}
@@ -14,7 +12,7 @@ length-sum_of [] ys = refl
 length-sum_of (x ∷ xs) [] = refl
 length-sum_of (x ∷ xs) (y ∷ ys) = ap suc (length-sum_of xs ys)
 
-sum_of-nil : (xs : List Bool) → sum_of xs [] ≡ xs
+pub sum_of-nil : (xs : List Bool) → sum_of xs [] ≡ xs
 unfolding sum_of
 sum_of-nil [] = refl
 sum_of-nil (x ∷ xs) = refl
@@ -47,7 +45,7 @@ bit_sum true false true = refl
 bit_sum true false false = refl
 bit_sum false y z = refl
 
-sum_of-sum_of : (xs ys zs : List Bool) → length ys ≡ length zs
+pub sum_of-sum_of : (xs ys zs : List Bool) → length ys ≡ length zs
     → sum_of (sum_of xs ys) zs ≡ sum_of xs (sum_of ys zs)
 unfolding sum_of
 sum_of-sum_of [] ys zs same = refl
@@ -74,7 +72,7 @@ shifted register more fits =
     sym (ap (sum_of more) (bits_of_more 15 (register / 2) half) ∙ sum_of-zeros more (bits_of 15 (register / 2)) 1)
 
 -- the highest term that is left, where the next bit meets the register
-abbrev front_of : ℕ → Bool → Bool
+abbrev pub front_of : ℕ → Bool → Bool
 front_of register bit = if bit then not (register % 2 == 1) else (register % 2 == 1)
 
 -- one bit meets the register
@@ -96,19 +94,6 @@ subtracted register more =
 
 one_step : (k : ℕ) (terms : List Bool) → remainder_after (1 + k) terms ≡ remainder_after (suc k) terms
 one_step k terms = ap (λ (n : ℕ). remainder_after n terms) (omega arith)
-
--- the front term as the code computes it
-pub front_term : (register : ℕ) (bit front : Bool)
-    → not (beq (bit_and register 1 == 1) bit) ≡ front → front_of register bit ≡ front
-front_term register bit front is =
-    let lowest : bit_and register 1 ≡ register % 2 = and_mask register 1 in
-    differing (register % 2 == 1) bit ∙ rw lowest at is
-  where
-    differing : (x y : Bool) → (if y then not x else x) ≡ not (beq x y)
-    differing true true = refl
-    differing true false = refl
-    differing false true = refl
-    differing false false = refl
 
 -- the front term is 0
 pub DividesTo_zero : (register : ℕ) (bit : Bool) → register < 2 ^ 16

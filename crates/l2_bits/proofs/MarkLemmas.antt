@@ -75,6 +75,21 @@ marks_more past (first ∷ bits) bit marks mark are is =
       ap (λ (all : List Mark). all ++ option_to_list mark) are.4 ∙ append_assoc (option_to_list are.0) are.1 (option_to_list mark),
     )
 
+-- some bits more
+pub marks-append : (past bits more : List Bool) (marks others : List Mark)
+    → AreMarks past bits marks → AreMarks (past ++ bits) more others → AreMarks past (bits ++ more) (marks ++ others)
+marks-append past [] more marks others are is =
+    let here : past ++ [] ≡ past = append-nil past in
+    rw are (rw here at is)
+marks-append past (first ∷ bits) more marks others are is =
+    let moved : past ++ first ∷ bits ≡ (past ++ first ∷ []) ++ bits = sym (append_assoc past (first ∷ []) bits) in (
+      are.0,
+      are.1 ++ others,
+      are.2,
+      marks-append (past ++ first ∷ []) bits more are.1 others are.3 (rw moved at is),
+      ap (λ (all : List Mark). all ++ others) are.4 ∙ append_assoc (option_to_list are.0) are.1 others,
+    )
+
 -- the text of a good signal unit and its flag, bit by bit
 module _ (past raw : List Bool) (octets : List ℕ) (ended : IsFlagEnd past) (good : IsGood raw octets) where
   unit_marks : (rest a : List Bool) → raw ++ flag ≡ a ++ rest → 0 < length rest → Since (past ++ a) a → IsAligned (past ++ a)

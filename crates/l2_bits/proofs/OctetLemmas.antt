@@ -9,7 +9,7 @@ use Rattle.l2_bits.specs.LineBits.{bits_of, number_of, line_bits}
 use Rattle.l2_bits.proofs.BitLemmas.{length-bits_of, number_of-bits_of, bits_of-number_of, bits_of-add}
 
 -- the k lowest bits know nothing of the others
-bits_of_mod : (k n : ℕ) → bits_of k (n % 2 ^ k) ≡ bits_of k n
+pub bits_of_mod : (k n : ℕ) → bits_of k (n % 2 ^ k) ≡ bits_of k n
 bits_of_mod k n =
     ap (bits_of k) (sym (number_of-bits_of k n))
     ∙ rw length-bits_of at (bits_of-number_of (bits_of k n))

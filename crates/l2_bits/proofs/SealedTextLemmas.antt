@@ -1,6 +1,6 @@
 -- The sealed text of octets
-use Rattle.std.proofs.Common.{◌≡◌, ℕ, ◌+◌, ◌-◌, ◌/◌, ◌%◌, ◌^◌, ◌<◌, Bool, List, [], ◌∷◌, ◌++◌, length, take, drop, All, refl, ap, sym, ◌∙◌, arith, append_assoc, append-nil, length-append}
-use Rattle.std.proofs.lemmas.List.{take_at, drop_at, length-take-le, length-drop, take-append-drop, same_from_push}
+use Rattle.std.proofs.Common.{◌≡◌, ℕ, ◌+◌, ◌-◌, ◌/◌, ◌%◌, ◌^◌, ◌<◌, ◌≤◌, Bool, List, [], ◌∷◌, ◌++◌, length, take, drop, get_or, All, refl, ap, sym, ◌∙◌, arith, append_assoc, append-nil, length-append}
+use Rattle.std.proofs.lemmas.List.{append_cancel_left, drop_more, drop_all, take_at, drop_at, length-take-le, length-drop, take-append-drop, same_from_push}
 use Rattle.std.proofs.lemmas.List.Elements.{All-append, All-cons, All-nil}
 use Rattle.std.proofs.Math.Nat.{mod-eq_of_lt}
 use Rattle.std.proofs.Math.Seq.{take-append_seam}
@@ -106,3 +106,31 @@ check_in_range octets in_range =
     rw is.followed
     (All-append IsOctet octets (is.low ∷ is.high ∷ []) in_range
     (All-cons IsOctet is.low (is.high ∷ []) is.low_in_range (All-cons IsOctet is.high [] is.high_in_range (All-nil IsOctet))))
+
+-- the last two octets tell a sealed text, where the check bits of the others are known
+module _ (text : List ℕ) (check : ℕ) (two : 2 ≤ length text) (fits : check < 2 ^ 16)
+    (bits : bits_of 16 check ≡ check_bits (line_bits (take (length text - 2) text))) where
+  last_two : text ≡ take (length text - 2) text ++ get_or text (length text - 2) 0 ∷ get_or text (length text - 1) 0 ∷ []
+  last_two =
+      let next : length text - 2 + 1 ≡ length text - 1 = omega arith in
+      let end : length text - 1 + 1 ≡ length text = omega arith in
+      let last : drop (length text - 1) text ≡ get_or text (length text - 1) 0 ∷ [] =
+      drop_more text (length text - 1) 0 (omega arith)
+      ∙ ap (λ (rest : List ℕ). get_or text (length text - 1) 0 ∷ rest) (drop_all (length text - 1 + 1) text (omega arith)) in
+      sym (take-append-drop (length text - 2) text)
+      ∙ ap (λ (rest : List ℕ). take (length text - 2) text ++ rest)
+      (drop_more text (length text - 2) 0 (omega arith)
+      ∙ ap (λ (rest : List ℕ). get_or text (length text - 2) 0 ∷ rest) (ap (λ (n : ℕ). drop n text) next ∙ last))
+
+  pub tells_sealed : get_or text (length text - 2) 0 ≡ check % 256 → get_or text (length text - 1) 0 ≡ check / 256
+      → text ≡ sealed_text (take (length text - 2) text)
+  tells_sealed low high =
+      last_two ∙ ap (λ (n : ℕ). take (length text - 2) text ++ n ∷ get_or text (length text - 1) 0 ∷ []) low
+      ∙ ap (λ (n : ℕ). take (length text - 2) text ++ check % 256 ∷ n ∷ []) high
+      ∙ sealed_by_number (take (length text - 2) text) check fits bits
+
+  pub sealed_tells : text ≡ sealed_text (take (length text - 2) text)
+      → (get_or text (length text - 2) 0 ≡ check % 256) × (get_or text (length text - 1) 0 ≡ check / 256)
+  sealed_tells is =
+      let same = append_cancel_left (take (length text - 2) text) _ _ (sym last_two ∙ is ∙ sym (sealed_by_number (take (length text - 2) text) check fits bits)) in
+      (cc, cc)

@@ -5,10 +5,10 @@ use Rattle.std.proofs.lemmas.Bool.{false≢true}
 use Rattle.std.proofs.lemmas.Bool.Decides.{nat_tests}
 use Rattle.std.proofs.Math.Nat.{eq-or-lt_of_le}
 use Rattle.l2_bits.specs.Flags.{flag}
-use Rattle.l2_bits.specs.Stuffing.{ones, Stuffed, five, few, last, text_after}
+use Rattle.l2_bits.specs.Stuffing.{ones, Stuffed, five, few, last, text_after, content_after, is_text}
 
 -- a run and one more
-ones_more : (k : ℕ) (bits : List Bool) → ones k ++ true ∷ bits ≡ ones (k + 1) ++ bits
+pub ones_more : (k : ℕ) (bits : List Bool) → ones k ++ true ∷ bits ≡ ones (k + 1) ++ bits
 ones_more zero bits = refl
 ones_more (suc k) bits =
     let more : suc k + 1 ≡ suc (k + 1) = omega arith in
@@ -82,18 +82,6 @@ has_text content = text_stuffed 0 content (omega arith)
 
 pub one_text : (content a b : List Bool) → Stuffed content a → Stuffed content b → a ≡ b
 one_text content a b first second = text_alone content a first ∙ sym (text_alone content b second)
-
--- a text without its inserted zeros, where a run of so many ones stands before it: at most five
-pub content_after : ℕ → List Bool → List Bool
-content_after run [] = []
-content_after run (bit ∷ bits) =
-    if run == 5 then content_after 0 bits else bit ∷ content_after (if bit then run + 1 else 0) bits
-
--- no six ones stand in it, and it does not end in five
-unfoldable pub is_text : ℕ → List Bool → Bool
-is_text run [] = not (run == 5)
-is_text run (false ∷ bits) = is_text 0 bits
-is_text run (true ∷ bits) = if run == 5 then false else is_text (run + 1) bits
 
 pub content_after-nil : (run : ℕ) → content_after run [] ≡ []
 unfolding content_after

@@ -1,5 +1,5 @@
 -- Zero insertion (Q.703 3.2): the content of a signal unit and its text on the line, block by block
-use Rattle.std.specs.Prelude.{◌≡◌, ℕ, ◌+◌, ◌*◌, ◌≤◌, ◌==◌, Bool, true, false, if◌then◌else◌, List, [], ◌∷◌, ◌++◌, length, replicate}
+use Rattle.std.specs.Prelude.{◌≡◌, ℕ, ◌+◌, ◌*◌, ◌≤◌, ◌==◌, Bool, true, false, not, if◌then◌else◌, List, [], ◌∷◌, ◌++◌, length, replicate}
 use Rattle.l2_bits.specs.Flags.{flag}
 
 -- k ones
@@ -32,6 +32,18 @@ text_after run [] = []
 text_after run (false ∷ bits) = false ∷ text_after 0 bits
 text_after run (true ∷ bits) =
     if run == 4 then true ∷ false ∷ text_after 0 bits else true ∷ text_after (run + 1) bits
+
+-- a text without its inserted zeros, where a run of so many ones stands before it: at most five
+unfoldable pub content_after : ℕ → List Bool → List Bool
+content_after run [] = []
+content_after run (bit ∷ bits) =
+    if run == 5 then content_after 0 bits else bit ∷ content_after (if bit then run + 1 else 0) bits
+
+-- no six ones stand in it, and it does not end in five
+unfoldable pub is_text : ℕ → List Bool → Bool
+is_text run [] = not (run == 5)
+is_text run (false ∷ bits) = is_text 0 bits
+is_text run (true ∷ bits) = if run == 5 then false else is_text (run + 1) bits
 
 -- every content has a text
 abbrev pub ContentHasText : Type 0

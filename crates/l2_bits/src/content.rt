@@ -1,102 +1,160 @@
-//! The bits between two flags, read back: the inserted zeros are taken out, the rest is packed into
-//! octets, and the last two must be the check octets of the others.
+//! The content of a signal unit under way: the bits since the last flag, without the inserted zeros, packed
+//! into octets as they come.
+//!
+//! ```text
+//! bits since the flag   b b b b b b b b  b b b b b b b b  b b b
+//! content               \__ octets[0] _/ \__ octets[1] _/ \part/   `len` is 2, `more` is 3
+//! ```
+//!
+//! The flag that closes it has been taken in too, but for its last one, which stands where a zero would be
+//! inserted, and its last zero: `0 1 1 1 1 1` is the part that is left then.
 
 ghost use Rattle.std.specs.Prelude.{
   ◌≡◌,
   ℕ,
-  ◌+◌,
-  ◌*◌,
-  ◌%◌,
+  ◌-◌,
   ◌^◌,
   ◌<◌,
   ◌≤◌,
   Bool,
   List,
+  [],
+  ◌∷◌,
+  ◌++◌,
   length,
-  All,
+  take,
   IfSome,
   IfNone,
+  true,
+  false,
 };
-ghost use Rattle.arrayvec.specs.ArrayVec.{array_vec_len};
-ghost use Rattle.l2_bits.specs.LineBits.{line_bits};
+ghost use Rattle.l2_bits.specs.LineBits.{bits_of};
 ghost use Rattle.l2_bits.specs.SealedText.{sealed_text};
-ghost use Rattle.l2_bits.specs.Stuffing.{Stuffed};
-ghost use Rattle.l2_bits.specs.Contents.{IsGood};
+ghost use Rattle.l2_bits.specs.Contents.{IsClosed};
+ghost use Rattle.l2_bits.specs.Deframing.{Holds};
 
-use crate::sealed_text::seal;
-use crate::shift::octet_of;
-use arrayvec::ArrayVec;
+use crate::check::check_of;
 
-/// The octets of the signal unit whose text stands between two flags, without their check octets, if
-/// it is the text of 5 to 278 whole octets of which the last two check the others.
-pub(crate) fn content_of(raw: &[bool]) -> Option<ArrayVec<u8, 276>>
-    ensures good { IfSome result (λ octets. IsGood raw.now octets.items) }
-    ensures none { IfNone result ((octets : List ℕ) → IsGood raw.now octets → ⊥) }
-{
-    let content = unstuffed(raw)?;
-    let bits = content.as_slice();
-    if bits.len() < 40 || bits.len() % 8 != 0 {
-        return None;
-    }
-    let text = octets_of(bits);
-    unsealed(text.as_slice())
+/// One octet more than the longest unit and its check octets have, and the number of octets that says that
+/// no good unit can end at the next flag.
+const TOO_MANY: u16 = 279;
+
+/// The part that the closing flag leaves.
+const FLAG_PART: u8 = 0b11_1110;
+
+/// The octets of a signal unit under way.
+#[derive(Drop)]
+pub(crate) struct Content {
+    /// The whole octets, at the front.
+    octets: [u8; 279],
+    /// How many they are, or 279 where no good unit can end at the next flag.
+    len: u16,
+    /// The bits that make no whole octet yet, the oldest in the lowest place.
+    part: u8,
+    /// How many they are.
+    more: u8,
 }
 
-/// The bits without the zeros that were inserted, if there are at most 2,224 of them (278 octets).
-/// There are none where six ones stand in a row, or where five ones stand at the end.
-fn unstuffed(raw: &[bool]) -> Option<ArrayVec<bool, 2224>>
-    ensures found { IfSome result (λ content. Stuffed content.items raw.now) }
-    ensures none { IfNone result
-        ((content : List Bool) → length content ≤ 2224 → Stuffed content raw.now → ⊥) }
-{
-    let mut content = ArrayVec::new();
-    let mut run = 0u8;
-    for bit in raw {
-        if run == 5 {
-            if *bit {
-                return None;
-            }
-            run = 0;
-        } else {
-            if content.is_full() {
-                return None;
-            }
-            content.push(*bit);
-            run = if *bit { run + 1 } else { 0 };
+impl Content {
+    /// No bits.
+    pub(crate) fn new() -> Content
+        ensures holds { Holds [] result }
+        ensures none { result.len ≡ 0 }
+    {
+        Content {
+            octets: [0; 279],
+            len: 0,
+            part: 0,
+            more: 0,
         }
     }
-    if run == 5 { None } else { Some(content) }
+
+    /// Nothing is left of the bits; the octets stay where they are.
+    #[inline(always)]
+    pub(crate) fn restart(&mut self)
+        ensures empty { (content : List Bool) → Holds content self.old → Holds [] self.new }
+        ensures none { self.new.len ≡ 0 }
+        ensures octets { self.new.octets ≡ self.old.octets }
+    {
+        self.len = 0;
+        self.part = 0;
+        self.more = 0;
+    }
+
+    /// No good unit can end at the next flag.
+    #[inline(always)]
+    pub(crate) fn lose(&mut self)
+        ensures { self.new ≡ record self.old { len = 279 } }
+    {
+        self.len = TOO_MANY;
+    }
+
+    /// Takes up to eight bits, the lowest of the octet first.
+    #[inline(always)]
+    pub(crate) fn add(&mut self, bits: u8, count: u8)
+        requires few { count ≤ 8 }
+        requires fits { bits < 2 ^ count }
+        ensures holds { (content : List Bool) →
+            Holds content self.old → Holds (content ++ bits_of count bits) self.new }
+        ensures lost { self.old.len ≡ 279 → self.new.len ≡ 279 }
+    {
+        let more = (self.more & 7) + count;
+        let whole = u16::from(self.part) | u16::from(bits) << (self.more & 7);
+        if more < 8 {
+            self.part = (whole & 0xFF) as u8;
+            self.more = more;
+        } else {
+            self.part = (whole >> 8) as u8;
+            self.more = more - 8;
+            if self.len < TOO_MANY {
+                self.octets[self.len as usize] = (whole & 0xFF) as u8;
+                self.len += 1;
+            }
+        }
+    }
+
+    /// How many octets the good unit has that a flag closes now.
+    pub(crate) fn closed(&self) -> Option<u16>
+        ensures good { (content : List Bool) → Holds content self.now → self.now.len < 279 →
+            IfSome result (λ n. IsClosed content (take n self.now.octets)) }
+        ensures none { (content : List Bool) → Holds content self.now →
+            IfNone result ((octets : List ℕ) → IsClosed content octets → ⊥) }
+        ensures some { IfSome result (λ n. n ≤ 276) }
+        ensures lost { IfSome result (λ n. self.now.len < 279) }
+    {
+        if self.more != 6 || self.part != FLAG_PART || self.len < 5 || self.len >= TOO_MANY {
+            return None;
+        }
+        if is_sealed(&self.octets[..self.len as usize]) {
+            Some(self.len - 2)
+        } else {
+            None
+        }
+    }
+
+    /// These octets, at the front.
+    pub(crate) fn front(&self, n: u16) -> &[u8]
+        ensures { result.now ≡ take n self.now.octets }
+    {
+        let n = n as usize;
+        if n < 279 {
+            &self.octets[..n]
+        } else {
+            &self.octets
+        }
+    }
 }
 
-/// The octets that these bits are on the line.
-fn octets_of(bits: &[bool]) -> ArrayVec<u8, 278>
-    requires whole { length bits.now % 8 ≡ 0 }
-    requires longest { length bits.now ≤ 2224 }
-    ensures bits { line_bits result.items ≡ bits.now }
-    ensures in_range { All (λ octet. octet < 2 ^ 8) result.items }
-    ensures len { 8 * array_vec_len result ≡ length bits.now }
+/// Whether the last two octets are the check octets of the others.
+fn is_sealed(text: &[u8]) -> bool
+    requires { 2 ≤ length text.now }
+    ensures yes { result ≡ true → text.now ≡ sealed_text (take (length text.now - 2) text.now) }
+    ensures no { result ≡ false → text.now ≡ sealed_text (take (length text.now - 2) text.now) → ⊥ }
 {
-    let mut octets = ArrayVec::new();
-    for place in 0..bits.len() / 8 {
-        octets.push(octet_of(&bits[8 * place..8 * place + 8]));
+    let len = text.len();
+    let check = check_of(&text[..len - 2]);
+    if u16::from(text[len - 2]) != check & 0xFF {
+        return false;
     }
-    octets
-}
-
-/// The octets before the last two, if those are their check octets.
-fn unsealed(text: &[u8]) -> Option<ArrayVec<u8, 276>>
-    requires shortest { 2 ≤ length text.now }
-    requires longest { length text.now ≤ 278 }
-    ensures found { IfSome result (λ octets. text.now ≡ sealed_text octets.items) }
-    ensures none { IfNone result ((octets : List ℕ) → text.now ≡ sealed_text octets → ⊥) }
-{
-    let octets = &text[..text.len() - 2];
-    if seal(octets).as_slice() != text {
-        return None;
-    }
-    let mut unit = ArrayVec::new();
-    for octet in octets {
-        unit.push(*octet);
-    }
-    Some(unit)
+    u16::from(text[len - 1]) == check >> 8
 }

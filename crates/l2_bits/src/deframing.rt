@@ -3,49 +3,75 @@
 //!
 //! ```text
 //! the line    .. 0 1 1 1 1 1 1 0 | b b b b b b b b b b b b
-//!                last flag's end   \_____ `raw`, since ___/
+//!                last flag's end   \____ `content`, _____/ without the inserted zeros
 //!                                          \_ last eight _/  `last`, the newest in the highest place
 //! ```
 
 ghost use Rattle.std.specs.Prelude.{
   ◌≡◌,
-  ◌==◌,
+  ℕ,
   ◌+◌,
-  ◌-◌,
+  ◌/◌,
   ◌%◌,
-  if◌then◌else◌,
+  ◌^◌,
+  ◌<◌,
+  ◌≤◌,
+  Option,
+  Some,
+  None,
   Bool,
+  true,
+  false,
   List,
   [],
   ◌∷◌,
   ◌++◌,
-  length,
   take,
 };
-ghost use Rattle.l2_bits.specs.Marks.{IsMark};
-ghost use Rattle.l2_bits.specs.Deframing.{StandsFor};
+ghost use Rattle.l2_bits.specs.LineBits.{bits_of};
+ghost use Rattle.l2_bits.specs.declared.marks.MarkKind.TheVariants.{Sixteen};
+ghost use Rattle.l2_bits.specs.Flags.{flag, EndsIn, IsFlagEnd};
+ghost use Rattle.l2_bits.specs.Stuffing.{ones};
+ghost use Rattle.l2_bits.specs.Marks.{IsMark, AreMarks};
+ghost use Rattle.l2_bits.specs.Deframing.{HasContent, KeepsCount, KeepsLine, StandsFor, GoesOn, mark_of, unit_of};
 
-use crate::content::content_of;
-use crate::marks::Mark;
+use crate::content::Content;
+use crate::marks::{Mark, MarkKind};
 use crate::shift::shifted_in;
 use arrayvec::ArrayVec;
 
 /// A flag, as the last eight bits.
 const FLAG: u8 = 0b0111_1110;
 
+/// Five ones, as the last of eight bits.
+const FIVE_ONES: u8 = 0b1111_1000;
+
+/// Six ones, as the last of eight bits.
+const SIX_ONES: u8 = 0b1111_1100;
+
 /// The last seven bits, where all are ones.
 const SEVEN_ONES: u8 = 0b0111_1111;
 
-/// Finds the signal units of one line in its bits, which are fed one by one. It takes no memory, and any
-/// number of bits may be fed.
+/// The bits without a flag with which octet counting begins (own).
+const LONGEST_WAIT: u16 = 2677;
+
+/// The bits of sixteen octets.
+const SIXTEEN_OCTETS: u16 = 128;
+
+/// Finds the signal units of one line in its bits. It takes no memory, and any number of bits may be fed,
+/// one by one or by octets, in any order of the calls.
 #[derive(Drop)]
 pub struct Deframer {
     /// The last eight bits, the newest in the highest place.
     last: u8,
-    /// The bits since the last flag ended, but for those after the 2,677th.
-    raw: ArrayVec<bool, 2677>,
-    /// In octet counting the bits since it began, modulo 256.
-    counting: Option<u8>,
+    /// What is left of the bits since the last flag.
+    content: Content,
+    /// How many octets the last good unit has, which stand in the content's place until more bits come.
+    unit: u16,
+    /// Whether octets are counted.
+    counting: bool,
+    /// The bits until sixteen octets more are counted, or outside octet counting until it begins.
+    room: u16,
 }
 
 impl Deframer {
@@ -55,8 +81,10 @@ impl Deframer {
     {
         Deframer {
             last: FLAG,
-            raw: ArrayVec::new(),
-            counting: None,
+            content: Content::new(),
+            unit: 0,
+            counting: false,
+            room: LONGEST_WAIT,
         }
     }
 
@@ -69,59 +97,156 @@ impl Deframer {
             StandsFor past self.old → StandsFor (past ++ bit ∷ []) self.new }
         ensures mark { (past : List Bool) → StandsFor past self.old → IsMark past bit result }
     {
-        self.last = shifted_in(self.last, bit);
-        if self.last != FLAG {
-            keep(&mut self.raw, bit);
-            if let Some(counted) = self.counting {
-                return count(&mut self.counting, counted);
+        match self.step(bit)? {
+            MarkKind::Good => {
+                let mut octets = ArrayVec::new();
+                let _ = octets.try_extend_from_slice(self.unit());
+                Some(Mark::Good(octets))
             }
-            let too_long = self.raw.is_full();
-            if self.last >> 1 == SEVEN_ONES || too_long {
-                self.counting = Some(0);
-            }
-            return None;
+            MarkKind::Bad => Some(Mark::Bad),
+            MarkKind::Sixteen => Some(Mark::Sixteen),
         }
-        let raw = closed(self.raw.as_slice());
-        let empty = raw.is_empty();
-        let unit = content_of(raw);
-        self.raw.clear();
+    }
+
+    /// Takes the next bit as `feed` does, and gives the kind of its mark alone. The octets of a good unit
+    /// are those of `unit`.
+    #[inline(always)]
+    pub fn step(&mut self, bit: bool) -> Option<MarkKind>
+        ensures stands { (past : List Bool) →
+            StandsFor past self.old → StandsFor (past ++ bit ∷ []) self.new }
+        ensures mark { (past : List Bool) →
+            StandsFor past self.old → IsMark past bit (mark_of result (unit_of self.new)) }
+    {
+        let before = self.last;
+        self.last = shifted_in(before, bit);
+        if self.last == FLAG {
+            return self.flag();
+        }
+        keep(&mut self.content, before, bit);
+        wait(self.last, &mut self.counting, &mut self.room)
+    }
+
+    /// A flag has ended.
+    fn flag(&mut self) -> Option<MarkKind>
+        ensures stands { (past : List Bool) (bit : Bool) → IsFlagEnd (past ++ bit ∷ [])
+            → KeepsLine past self.old.content self.old.counting self.old.room
+            → KeepsLine (past ++ bit ∷ []) self.new.content self.new.counting self.new.room }
+        ensures mark { (past : List Bool) (bit : Bool) → IsFlagEnd (past ++ bit ∷ [])
+            → KeepsLine past self.old.content self.old.counting self.old.room
+            → IsMark past bit (mark_of result (unit_of self.new)) }
+        ensures last { self.new.last ≡ self.old.last }
+    {
+        let unit = self.content.closed();
+        self.content.restart();
         if let Some(octets) = unit {
-            self.counting = None;
-            return Some(Mark::Good(octets));
+            self.unit = octets;
+            self.counting = false;
+            self.room = LONGEST_WAIT;
+            return Some(MarkKind::Good);
         }
-        if let Some(counted) = self.counting {
-            return count(&mut self.counting, counted);
+        if self.counting {
+            return count(&mut self.room);
         }
-        if empty { None } else { Some(Mark::Bad) }
+        let empty = self.room > LONGEST_WAIT - 8;
+        self.room = LONGEST_WAIT;
+        if empty { None } else { Some(MarkKind::Bad) }
+    }
+
+    /// The octets of the good signal unit that ended with the last bit fed, without its check octets.
+    pub fn unit(&self) -> &[u8]
+        ensures { result.now ≡ unit_of self.now }
+    {
+        self.content.front(self.unit)
+    }
+
+    /// Takes the next eight bits, the lowest first, where none of them gives a mark and none of them comes
+    /// after five ones; else it takes none of them and answers false, and they are for `step` or `feed`.
+    #[inline(always)]
+    pub fn pass(&mut self, octet: u8) -> bool
+        ensures stands { (past : List Bool) → StandsFor past self.old → result ≡ true →
+            StandsFor (past ++ bits_of 8 octet) self.new }
+        ensures marks { (past : List Bool) → StandsFor past self.old → result ≡ true →
+            AreMarks past (bits_of 8 octet) [] }
+        ensures refused { result ≡ false → self.new ≡ self.old }
+    {
+        if self.room <= 8 || fives(self.last, octet) != 0 {
+            return false;
+        }
+        self.content.add(octet, 8);
+        self.last = octet;
+        self.room -= 8;
+        true
     }
 }
 
-/// Keeps a bit, where there is room.
-fn keep(raw: &mut ArrayVec<bool, 2677>, bit: bool)
-    ensures { raw.new.items ≡ take 2677 (raw.old.items ++ bit ∷ []) }
+/// Keeps a bit that ends no flag, where these are the last eight before it: not the one after five ones,
+/// and from a seventh one on nothing.
+#[inline(always)]
+fn keep(content: &mut Content, before: u8, bit: bool)
+    ensures { (past since : List Bool) → EndsIn (flag ++ past) (bits_of 8 before)
+        → GoesOn past since bit → HasContent since content.old
+        → HasContent (since ++ bit ∷ []) content.new }
 {
-    let _ = raw.try_push(bit);
+    if before >= SIX_ONES {
+        content.lose();
+        return;
+    }
+    if before >= FIVE_ONES {
+        return;
+    }
+    content.add(u8::from(bit), 1);
 }
 
-/// The bits between two flags, of those from the end of the first to just before the end of the second.
-fn closed(since: &[bool]) -> &[bool]
-    ensures { result.now ≡ take (length since.now - 7) since.now }
+/// A bit that ends no flag has come, the newest of these eight: counts it in octet counting, or else sees
+/// whether that begins.
+#[inline(always)]
+fn wait(last: u8, counting: &mut bool, room: &mut u16) -> Option<MarkKind>
+    ensures stands { (past since : List Bool) (bit : Bool) → EndsIn (flag ++ (past ++ bit ∷ [])) (bits_of 8 last)
+        → GoesOn past since bit → KeepsCount past since counting.old room.old
+        → KeepsCount (past ++ bit ∷ []) (since ++ bit ∷ []) counting.new room.new }
+    ensures mark { (past since : List Bool) (bit : Bool) (octets : List ℕ) → GoesOn past since bit
+        → KeepsCount past since counting.old room.old → IsMark past bit (mark_of result octets) }
 {
-    &since[..since.len().saturating_sub(7)]
+    if *counting {
+        return count(room);
+    }
+    if last >> 1 == SEVEN_ONES {
+        *counting = true;
+        *room = SIXTEEN_OCTETS;
+        return None;
+    }
+    if *room <= 1 {
+        *counting = true;
+        *room = SIXTEEN_OCTETS;
+        return None;
+    }
+    *room -= 1;
+    None
 }
 
 /// Counts one bit more.
-fn count(counting: &mut Option<u8>, counted: u8) -> Option<Mark>
-    ensures counted { counting.new ≡ Some ((counted + 1) % 256) }
-    ensures mark { result ≡ (if (counted + 1) % 128 == 0 then Some Mark.Sixteen else None) }
+#[inline(always)]
+fn count(room: &mut u16) -> Option<MarkKind>
+    ensures more { 1 < room.old → (room.new + 1 ≡ room.old) × (result ≡ None) }
+    ensures whole { room.old ≤ 1 → (room.new ≡ 128) × (result ≡ Some Sixteen) }
 {
-    let next = counted.wrapping_add(1);
-    *counting = Some(next);
-    if next % 128 == 0 {
-        Some(Mark::Sixteen)
-    } else {
-        None
+    if *room > 1 {
+        *room -= 1;
+        return None;
     }
+    *room = SIXTEEN_OCTETS;
+    Some(MarkKind::Sixteen)
+}
+
+/// The bits of an octet before which five ones stand, where these are the last eight bits before it.
+#[inline(always)]
+fn fives(last: u8, octet: u8) -> u8
+    ensures { (front : List Bool) (i : ℕ) → i < 8 → result / 2 ^ i % 2 ≡ 0
+        → EndsIn (front ++ (bits_of 8 last ++ take i (bits_of 8 octet))) (ones 5) → ⊥ }
+{
+    let window = (u16::from(octet) << 8 | u16::from(last)) >> 3;
+    let pairs = window & (window >> 1);
+    (pairs & (pairs >> 2) & (window >> 4) & 0xFF) as u8
 }
 
 #[cfg(test)]

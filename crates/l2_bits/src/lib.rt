@@ -26,13 +26,11 @@ mod flags;
 mod marks;
 mod sealed_text;
 mod shift;
-#[cfg(test)]
-mod slow;
 mod stuffing;
 
 pub use check::check_of;
 pub use deframing::Deframer;
 pub use flags::flag_into;
-pub use marks::{Mark, octet_counting, one_mark};
+pub use marks::{Mark, MarkKind, octet_counting, one_mark};
 pub use sealed_text::{one_sealed_text, seal};
 pub use stuffing::{one_text, stuff_into};

@@ -22,6 +22,17 @@ pub enum Mark {
     Sixteen,
 }
 
+/// The kind of a mark, without the octets of a good signal unit.
+#[derive(Clone, Copy, Debug, PartialEq, Eq)]
+pub enum MarkKind {
+    /// A signal unit that checks.
+    Good,
+    /// Anything else between two flags, outside octet counting.
+    Bad,
+    /// Sixteen octets more in octet counting.
+    Sixteen,
+}
+
 /// Laws over the definitions alone: a bit gives at most one mark, so bits give one list of marks, to which
 /// one bit more adds its own. A sealed text between flags gives one good signal unit and nothing else,
 /// whatever stood before the first flag outside octet counting.

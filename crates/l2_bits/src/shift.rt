@@ -1,6 +1,6 @@
 //! A shift register of eight bits, which takes the bits of the line in their order (Q.703 2.4).
 
-ghost use Rattle.std.specs.Prelude.{◌≡◌, [], ◌∷◌, ◌++◌, drop, length};
+ghost use Rattle.std.specs.Prelude.{◌≡◌, [], ◌∷◌, ◌++◌, drop};
 ghost use Rattle.l2_bits.specs.LineBits.{bits_of};
 
 /// The register after one more bit: it holds the last eight, the oldest in its lowest place.
@@ -9,16 +9,4 @@ pub(crate) fn shifted_in(register: u8, bit: bool) -> u8
 {
     let shifted = register >> 1;
     if bit { shifted | 0x80 } else { shifted }
-}
-
-/// The octet that these eight bits are on the line.
-pub(crate) fn octet_of(bits: &[bool]) -> u8
-    requires { length bits.now ≡ 8 }
-    ensures { bits_of 8 result ≡ bits.now }
-{
-    let mut register = 0;
-    for bit in bits {
-        register = shifted_in(register, *bit);
-    }
-    register
 }

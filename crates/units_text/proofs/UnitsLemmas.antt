@@ -1,12 +1,12 @@
 -- A line under way, bit by bit.
-use Rattle.std.proofs.Common.{refl, arith, ◌≡◌, ◌∙◌, ap, sym, ◌<◌, ◌≤◌, [], ◌∷◌, length, ℕ, ◌+◌, ◌^◌, Bool, List, ◌++◌, Option, Some, None, append_assoc, append-nil, length-append, Result, Ok, Err, MatchResult, if◌then◌else◌}
+use Rattle.std.proofs.Common.{refl, arith, ◌≡◌, ◌∙◌, ap, sym, ◌<◌, ◌≤◌, [], ◌∷◌, length, ℕ, ◌+◌, ◌^◌, Bool, List, ◌++◌, Option, Some, None, append_assoc, append-nil, length-append, Result, Ok, Err, MatchResult, OnOk, if◌then◌else◌}
 use Rattle.std.proofs.lemmas.Grind.{flat_map-append}
 use Rattle.std.specs.Option.{option_to_list}
 use Rattle.std.specs.Result.{is_ok}
 use Rattle.l2_bits.specs.declared.marks.Mark.{Mark}
 use Rattle.l2_bits.specs.Marks.{IsMark, AreMarks}
 use Rattle.l2_bits.specs.Deframing.{StandsFor}
-use Rattle.l2_bits.proofs.MarkLemmas.{mark_alone, marks_alone, marks_more}
+use Rattle.l2_bits.proofs.MarkLemmas.{mark_alone, marks_alone, marks_more, marks-append}
 use Rattle.units_text.specs.declared.marked_line.MarkedLine.{MarkedLine}
 use Rattle.printing.specs.Printing.{Printed}
 use Rattle.units_text.specs.UnitsText.{IsUnitsText, mark_text, marks_text, counts_of, with_end, fault_place}
@@ -64,6 +64,23 @@ feeds_bit old new bit before after mark stands is counts added = record {
       };
 }
 
+-- bits that give no mark
+pub feeds_passed : (old new : MarkedLine) (bits : List Bool) (before : List ℕ)
+    → ((past : List Bool) → StandsFor past old.deframer → StandsFor (past ++ bits) new.deframer)
+    → ((past : List Bool) → StandsFor past old.deframer → AreMarks past bits [])
+    → new.counts ≡ old.counts → Feeds old bits before before new
+feeds_passed old new bits before stands none same = record {
+  printed = [];
+  added = sym (append-nil before);
+  goes_on = λ past lines fits line. record {
+    marks = line.marks;
+    are = rw append-nil at (marks-append [] past bits line.marks [] line.are (none past line.deframed));
+    printed = append-nil lines ∙ line.printed;
+    counted = same ∙ line.counted;
+    deframed = stands past line.deframed;
+  };
+}
+
 pub breaks_bit : (old : MarkedLine) (bit : Bool) (before after : List ℕ) → after ≡ before → Breaks old (bit ∷ []) before after
 breaks_bit old bit before after same = record {
   printed = [];
@@ -119,3 +136,12 @@ breaks_more a bit bits x z b = record {
   added = b.added;
   begins = λ past lines fits is left. b.begins past lines (omega (arith, fits)) is (bits ++ left);
 }
+
+-- what an appending call leaves where it succeeds
+pub added_ok : {U E : Type 0} (r : Result U E) (old new more : List ℕ) → new ≡ (if is_ok r then old ++ more else old) → OnOk r (new ≡ old ++ more)
+added_ok (Ok done) old new more is = is
+added_ok (Err error) old new more is = tt
+
+pub added_then : {U E : Type 0} (r : Result U E) (new same all : List ℕ) → same ≡ all → OnOk r (new ≡ same) → OnOk r (new ≡ all)
+added_then (Ok done) new same all is added = added ∙ is
+added_then (Err error) new same all is added = tt

@@ -1,19 +1,22 @@
 //! The bits of a line, and the lines of their marks.
-ghost use Rattle.std.specs.Prelude.{◌≡◌, ◌+◌, ◌<◌, ◌^◌, List, [], ◌∷◌, ◌++◌, length, if◌then◌else◌, MatchResult};
+ghost use Rattle.l2_bits.specs.declared.marks.Mark.{Mark};
+ghost use Rattle.l2_bits.specs.Deframing.{marked, unit_of};
+ghost use Rattle.std.specs.Prelude.{◌≡◌, ℕ, ◌+◌, ◌<◌, ◌^◌, List, [], ◌∷◌, ◌++◌, length, if◌then◌else◌, MatchResult};
 ghost use Rattle.std.specs.Result.{is_ok};
 ghost use Rattle.l2_bits.specs.LineBits.{bits_of};
 ghost use Rattle.units_text.specs.UnitsText.{counts_of, mark_text};
 ghost use Rattle.units_text.specs.UnitsReading.{IsLine, Feeds, Breaks};
 
-use super::unit_lines::{MarkCounts, mark_line};
-use l2_bits::{Deframer, Mark};
+use super::unit_lines::{MarkCounts, push_mark};
+use l2_bits::{Deframer, MarkKind};
 use std::alloc::{AllocError, Global};
 
 /// A line under way: what its deframer keeps, and how many marks it has given.
 #[derive(Drop)]
 pub(crate) struct MarkedLine {
-    alloc: Global,
     deframer: Deframer,
+    /// The printed line of a mark, before it's added whole; its memory is kept for the next.
+    text: Vec<u8>,
     pub(crate) counts: MarkCounts,
 }
 
@@ -23,8 +26,8 @@ impl MarkedLine {
         ensures { IsLine [] [] result }
     {
         MarkedLine {
-            alloc,
             deframer: Deframer::new(),
+            text: Vec::new(alloc),
             counts: MarkCounts {
                 good: 0,
                 bad: 0,
@@ -34,7 +37,18 @@ impl MarkedLine {
     }
 
     /// Feeds an octet, its lowest bit first, and adds the lines of its marks.
+    #[inline(always)]
     pub(crate) fn feed_octet(&mut self, octet: u8, out: &mut Vec<u8>) -> Result<(), AllocError>
+        ensures { MatchResult result (λ done. Feeds self.old (bits_of 8 octet) out.old.items out.new.items self.new) (λ error. Breaks self.old (bits_of 8 octet) out.old.items out.new.items) }
+    {
+        if self.deframer.pass(octet) {
+            return Ok(());
+        }
+        self.feed_bits(octet, out)
+    }
+
+    /// Feeds an octet bit by bit.
+    fn feed_bits(&mut self, octet: u8, out: &mut Vec<u8>) -> Result<(), AllocError>
         ensures { MatchResult result (λ done. Feeds self.old (bits_of 8 octet) out.old.items out.new.items self.new) (λ error. Breaks self.old (bits_of 8 octet) out.old.items out.new.items) }
     {
         for place in 0..8u8 {
@@ -48,36 +62,43 @@ impl MarkedLine {
     }
 
     /// Feeds a bit, and adds the line of its mark, if it gives one.
+    #[inline(always)]
     fn feed(&mut self, bit: bool, out: &mut Vec<u8>) -> Result<(), AllocError>
         ensures { MatchResult result (λ done. Feeds self.old (bit ∷ []) out.old.items out.new.items self.new) (λ error. Breaks self.old (bit ∷ []) out.old.items out.new.items) }
     {
-        let Some(mark) = self.deframer.feed(bit) else {
+        let Some(kind) = self.deframer.step(bit) else {
             return Ok(());
         };
-        self.counts = counted(self.counts, &mark);
-        add_line(self.alloc, &mark, out)
+        self.counts = counted(self.counts, kind);
+        add_line(kind, &self.deframer, &mut self.text, out)
     }
 }
 
-/// Adds the line of a mark; where memory is wanted, nothing.
-fn add_line(alloc: Global, mark: &Mark, out: &mut Vec<u8>) -> Result<(), AllocError>
-    ensures { out.new.items ≡ out.old.items ++ (if is_ok result then mark_text mark.now else []) }
+/// Adds the line of a mark of this kind; where memory is wanted, nothing.
+fn add_line(
+    kind: MarkKind,
+    deframer: &Deframer,
+    text: &mut Vec<u8>,
+    out: &mut Vec<u8>,
+) -> Result<(), AllocError>
+    ensures { out.new.items ≡ out.old.items ++ (if is_ok result then mark_text (marked kind (unit_of deframer.now)) else []) }
 {
-    match mark_line(alloc, mark) {
-        Ok(text) => out.extend_from_slice(&text),
+    text.clear();
+    match push_mark(kind, deframer.unit(), text) {
+        Ok(()) => out.extend_from_slice(text),
         Err(error) => Err(error),
     }
 }
 
 /// One mark more. An input of the program has too few for a count to end at its type's last number.
-fn counted(counts: MarkCounts, mark: &Mark) -> MarkCounts
-    ensures { (marks : List Mark) → length marks + 1 < 2 ^ 64 → counts ≡ counts_of marks → result ≡ counts_of (marks ++ mark.now ∷ []) }
+fn counted(counts: MarkCounts, kind: MarkKind) -> MarkCounts
+    ensures { (marks : List Mark) (octets : List ℕ) → length marks + 1 < 2 ^ 64 → counts ≡ counts_of marks → result ≡ counts_of (marks ++ marked kind octets ∷ []) }
 {
     let mut counts = counts;
-    match mark {
-        Mark::Good(_) => counts.good = counts.good.saturating_add(1),
-        Mark::Bad => counts.bad = counts.bad.saturating_add(1),
-        Mark::Sixteen => counts.sixteen = counts.sixteen.saturating_add(1),
+    match kind {
+        MarkKind::Good => counts.good = counts.good.saturating_add(1),
+        MarkKind::Bad => counts.bad = counts.bad.saturating_add(1),
+        MarkKind::Sixteen => counts.sixteen = counts.sixteen.saturating_add(1),
     }
     counts
 }

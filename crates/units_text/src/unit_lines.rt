@@ -1,10 +1,11 @@
 //! The lines that `units` prints.
-ghost use Rattle.std.specs.Prelude.{◌≡◌, ◌++◌, IfOk, codes, decimal};
+ghost use Rattle.std.specs.Prelude.{◌≡◌, ◌++◌, IfOk, OnOk, codes, decimal};
+ghost use Rattle.l2_bits.specs.Deframing.{marked};
 ghost use Rattle.l2_units.specs.Grammar.{unit_of};
 ghost use Rattle.units_text.specs.UnitsText.{InputHasOneText, good_text, line_head as head_of_line, mark_text, unit_text as text_of_unit, counts_text as text_of_counts};
 
 use figures::{bit, push_hex};
-use l2_bits::Mark;
+use l2_bits::MarkKind;
 use l2_units::{Header, Unit, read};
 use std::alloc::{AllocError, Global};
 
@@ -16,63 +17,90 @@ pub(crate) struct MarkCounts {
     pub(crate) sixteen: u64,
 }
 
-/// The line of a mark.
-pub(crate) fn mark_line(alloc: Global, mark: &Mark) -> Result<Vec<u8>, AllocError>
-    ensures { IfOk result (λ text. text.items ≡ mark_text mark.now) }
+/// Adds the line of a mark of this kind; a good unit has these octets.
+pub(crate) fn push_mark(kind: MarkKind, octets: &[u8], text: &mut Vec<u8>) -> Result<(), AllocError>
+    ensures { OnOk result (text.new.items ≡ text.old.items ++ mark_text (marked kind octets.now)) }
 {
-    match mark {
-        Mark::Good(octets) => good_line(alloc, octets.as_slice()),
-        Mark::Bad => Vec::from_slice(alloc, b"bad\n"),
-        Mark::Sixteen => Vec::from_slice(alloc, b"sixteen\n"),
+    match kind {
+        MarkKind::Good => push_good(octets, text),
+        MarkKind::Bad => text.extend_from_slice(b"bad\n"),
+        MarkKind::Sixteen => text.extend_from_slice(b"sixteen\n"),
     }
 }
 
-/// The line of octets that check: their unit, or what is wrong with them.
-fn good_line(alloc: Global, octets: &[u8]) -> Result<Vec<u8>, AllocError>
-    ensures { IfOk result (λ text. text.items ≡ good_text (unit_of octets.now) octets.now) }
+/// Adds the line of octets that check: their unit, or what is wrong with them.
+fn push_good(octets: &[u8], text: &mut Vec<u8>) -> Result<(), AllocError>
+    ensures { OnOk result (text.new.items ≡ text.old.items ++ good_text (unit_of octets.now) octets.now) }
 {
     match read(octets) {
-        Ok(unit) => unit_line(alloc, &unit),
-        Err(fault) => {
-            let number = fault.number();
-            Ok(format!(in alloc; "good fault={number}\n")?.into_bytes())
-        }
+        Ok(unit) => push_unit(&unit, text),
+        Err(fault) => push_fault(fault.number(), text),
     }
 }
 
-/// The line of a unit.
-fn unit_line(alloc: Global, unit: &Unit) -> Result<Vec<u8>, AllocError>
-    ensures { IfOk result (λ text. text.items ≡ text_of_unit unit.now) }
+/// Adds the line of octets that check and are no unit, by the number of what is wrong with them.
+fn push_fault(number: u8, text: &mut Vec<u8>) -> Result<(), AllocError>
+    ensures { OnOk result (text.new.items ≡ text.old.items ++ (codes "good fault=" ++ (decimal number ++ codes "\n"))) }
+{
+    text.extend_from_slice(b"good fault=")?;
+    push_number(number, text)?;
+    text.extend_from_slice(b"\n")
+}
+
+/// Adds the line of a unit.
+fn push_unit(unit: &Unit, text: &mut Vec<u8>) -> Result<(), AllocError>
+    ensures { OnOk result (text.new.items ≡ text.old.items ++ text_of_unit unit.now) }
 {
     match unit {
         Unit::Fisu { head } => {
-            let mut text = line_head(alloc, "good fisu", *head)?;
-            text.push(b'\n')?;
-            Ok(text)
+            push_head(b"good fisu", *head, text)?;
+            text.extend_from_slice(b"\n")
         }
         Unit::Lssu { head, status } => {
-            let mut text = line_head(alloc, "good lssu", *head)?;
-            text.extend_from_slice(format!(in alloc; " status={status}\n")?.as_bytes())?;
-            Ok(text)
+            push_head(b"good lssu", *head, text)?;
+            text.extend_from_slice(b" status=")?;
+            push_number(*status, text)?;
+            text.extend_from_slice(b"\n")
         }
         Unit::Msu { head, body } => {
-            let mut text = line_head(alloc, "good msu", *head)?;
+            push_head(b"good msu", *head, text)?;
             text.extend_from_slice(b" body=")?;
-            push_hex(&mut text, body.as_slice())?;
-            text.push(b'\n')?;
-            Ok(text)
+            push_hex(text, body.as_slice())?;
+            text.extend_from_slice(b"\n")
         }
     }
 }
 
-/// The kind of a unit and its header, without an end of the line.
-fn line_head(alloc: Global, kind: &str, head: Header) -> Result<Vec<u8>, AllocError>
-    ensures { IfOk result (λ text. text.items ≡ head_of_line kind.now head) }
+/// Adds the kind of a unit and its header, without an end of the line.
+fn push_head(kind: &[u8], head: Header, text: &mut Vec<u8>) -> Result<(), AllocError>
+    ensures { OnOk result (text.new.items ≡ text.old.items ++ head_of_line kind.now head) }
 {
-    let Header { bsn, fsn, .. } = head;
-    let bib = bit(head.bib);
-    let fib = bit(head.fib);
-    Ok(format!(in alloc; "{kind} bsn={bsn} bib={bib} fsn={fsn} fib={fib}")?.into_bytes())
+    text.extend_from_slice(kind)?;
+    text.extend_from_slice(b" bsn=")?;
+    push_number(head.bsn, text)?;
+    text.extend_from_slice(b" bib=")?;
+    push_number(bit(head.bib), text)?;
+    text.extend_from_slice(b" fsn=")?;
+    push_number(head.fsn, text)?;
+    text.extend_from_slice(b" fib=")?;
+    push_number(bit(head.fib), text)
+}
+
+/// Adds a number's decimal digits.
+fn push_number(number: u8, text: &mut Vec<u8>) -> Result<(), AllocError>
+    ensures { OnOk result (text.new.items ≡ text.old.items ++ decimal number) }
+{
+    if number < 10 {
+        return text.extend_from_slice(&[b'0' + number]);
+    }
+    if number < 100 {
+        return text.extend_from_slice(&[b'0' + number / 10, b'0' + number % 10]);
+    }
+    text.extend_from_slice(&[
+        b'0' + number / 100,
+        b'0' + number / 10 % 10,
+        b'0' + number % 10,
+    ])
 }
 
 /// The last line.

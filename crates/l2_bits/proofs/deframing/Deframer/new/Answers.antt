@@ -3,14 +3,17 @@ use Rattle.l2_bits.specs.LineBits.{bits_of}
 use Rattle.l2_bits.specs.Flags.{flag}
 use Rattle.l2_bits.proofs.FlagLemmas.{flag_first, since_flag}
 use Rattle.l2_bits.proofs.CountingLemmas.{aligned_first}
+use Rattle.l2_bits.proofs.DeframingLemmas.{content_none}
 use Rattle.l2_bits.proofs.deframing.Deframer.new.Goals as goal
 
 pub returns : goal.returns
 unfolding flag bits_of
 returns c = record {
   last_bits = record { front = []; split = refl };
-  since = [];
-  is_since = since_flag [] flag_first;
-  kept = c.new.ensures;
-  count_kept = (aligned_first flag_first, omega arith);
+  line = record {
+    since = [];
+    is_since = since_flag [] flag_first;
+    has_content = content_none c.new.result c.new.ensures.holds c.new.ensures.none;
+    keeps_count = (aligned_first flag_first, refl, omega arith);
+  };
 }
