@@ -33,7 +33,17 @@ ghost use Rattle.l2_bits.specs.declared.marks.MarkKind.TheVariants.{Sixteen};
 ghost use Rattle.l2_bits.specs.Flags.{flag, EndsIn, IsFlagEnd};
 ghost use Rattle.l2_bits.specs.Stuffing.{ones};
 ghost use Rattle.l2_bits.specs.Marks.{IsMark, AreMarks};
-ghost use Rattle.l2_bits.specs.Deframing.{HasContent, KeepsCount, KeepsLine, StandsFor, GoesOn, mark_of, unit_of};
+ghost use Rattle.l2_bits.specs.Deframing.{
+  HasContent,
+  KeepsCount,
+  KeepsLine,
+  StandsFor,
+  FeedsUpTo,
+  GoesOn,
+  mark_of,
+  rest_of,
+  unit_of,
+};
 
 use crate::content::Content;
 use crate::marks::{Mark, MarkKind};
@@ -179,6 +189,48 @@ impl Deframer {
     }
 }
 
+/// The bits of an octet that are still to be fed, the next in the lowest place.
+#[derive(Clone, Copy, Debug, PartialEq, Eq)]
+pub struct Rest {
+    bits: u8,
+    left: u8,
+}
+
+impl Rest {
+    /// All eight bits of an octet.
+    pub fn new(octet: u8) -> Rest
+        ensures { rest_of result ≡ bits_of 8 octet }
+    {
+        Rest {
+            bits: octet,
+            left: 8,
+        }
+    }
+}
+
+impl Deframer {
+    /// Takes the bits of an octet, the lowest first, up to the first with which a mark ends, and gives its
+    /// kind; the others stay for the next call. None where no mark ends with any of them. The octets of a
+    /// good unit are those of `unit`.
+    pub fn feed_octet(&mut self, rest: &mut Rest) -> Option<MarkKind>
+        ensures marks { (past : List Bool) → StandsFor past self.old →
+            FeedsUpTo past (rest_of rest.old) (rest_of rest.new) self.new
+            (mark_of result (unit_of self.new)) }
+        ensures all { result ≡ None → rest_of rest.new ≡ [] }
+    {
+        while rest.left > 0 {
+            let bit = rest.bits & 1 == 1;
+            rest.bits >>= 1;
+            rest.left -= 1;
+            let mark = self.step(bit);
+            if mark.is_some() {
+                return mark;
+            }
+        }
+        None
+    }
+}
+
 /// Keeps a bit that ends no flag, where these are the last eight before it: not the one after five ones,
 /// and from a seventh one on nothing.
 #[inline(always)]
@@ -269,6 +321,32 @@ mod tests {
         Ok(marks)
     }
 
+    /// The same by calls of all kinds: bits, octets, and octets with no mark in them.
+    fn marks_mixed(alloc: Global, octets: &[u8]) -> Result<Vec<Mark>, AllocError> {
+        let mut marks = Vec::new(alloc);
+        let mut deframer = Deframer::new();
+        for (place, octet) in octets.iter().enumerate() {
+            if place % 3 == 0 {
+                for place in 0..8u8 {
+                    if let Some(mark) = deframer.feed((octet >> place) & 1 == 1) {
+                        marks.push(mark)?;
+                    }
+                }
+            } else if place % 3 == 1 || !deframer.pass(*octet) {
+                let mut rest = Rest::new(*octet);
+                for _ in 0..9u8 {
+                    match deframer.feed_octet(&mut rest) {
+                        Some(MarkKind::Good) => marks.push(good(deframer.unit()))?,
+                        Some(MarkKind::Bad) => marks.push(Mark::Bad)?,
+                        Some(MarkKind::Sixteen) => marks.push(Mark::Sixteen)?,
+                        None => break,
+                    }
+                }
+            }
+        }
+        Ok(marks)
+    }
+
     fn good(octets: &[u8]) -> Mark {
         let mut unit = ArrayVec::new();
         let _ = unit.try_extend_from_slice(octets);
@@ -334,6 +412,26 @@ mod tests {
         assert_eq!(rt; marks_of(rt.alloc(), &[0x00; 350])?.len(), 0);
         let marks = marks_of(rt.alloc(), &[0x00; 351])?;
         assert_eq!(rt; marks.as_slice(), [Mark::Sixteen].as_slice());
+        Ok(())
+    }
+
+    #[test]
+    fn calls_of_all_kinds_give_the_marks_of_bits(rt: HostRuntime) -> Result<(), Fail> {
+        // Seven ones across an octet's border and a zero, units, a damaged one, silence, and a unit behind it.
+        let mut line = [0x00; 420];
+        line[..3].copy_from_slice(&[0x7E, 0xF0, 0x07]);
+        line[20..28].copy_from_slice(&[0x7E, 0xDF, 0xF7, 0x05, 0xF8, 0xBE, 0xAF, 0x1F]);
+        line[28..37].copy_from_slice(&[0x7E, 0xDF, 0xF7, 0x0D, 0x00, 0x38, 0x31, 0xF7, 0x03]);
+        line[38..42].copy_from_slice(&[0x7E, 0x55, 0xAA, 0x7E]);
+        line[412..].copy_from_slice(&[0x7E, 0xDF, 0xF7, 0x05, 0xF8, 0xBE, 0xAF, 0x1F]);
+        for cut in 0..3usize {
+            let by_bits = marks_of(rt.alloc(), &line[cut..])?;
+            assert!(rt; by_bits.len() > 4);
+            assert_eq!(rt;
+                marks_mixed(rt.alloc(), &line[cut..])?.as_slice(),
+                by_bits.as_slice()
+            );
+        }
         Ok(())
     }
 }
