@@ -23,6 +23,8 @@
 mod check;
 mod content;
 mod deframing;
+#[cfg(test)]
+mod deframing_tests;
 mod flags;
 mod marks;
 mod sealed_text;
