@@ -2,12 +2,15 @@
 use Rattle.std.specs.Prelude.{◌≡◌, ℕ, ◌+◌, ◌*◌, ◌%◌, ◌^◌, ◌<◌, ◌≤◌, Bool, true, false, List, [], ◌∷◌, ◌++◌, length, take, All, Option, Some, None}
 use Rattle.l2_bits.specs.declared.content.Content.{Content}
 use Rattle.l2_bits.specs.declared.deframing.Deframer.{Deframer}
+use Rattle.l2_bits.specs.declared.deframing.Rest.{Rest}
 use Rattle.l2_bits.specs.declared.marks.Mark.{Mark}
 use Rattle.l2_bits.specs.declared.marks.Mark.TheVariants.{Good, Bad, Sixteen}
 use Rattle.l2_bits.specs.declared.marks.MarkKind.{MarkKind}
 use Rattle.l2_bits.specs.declared.marks.MarkKind.TheVariants.{Good as GoodKind, Bad as BadKind, Sixteen as SixteenKind}
 use Rattle.l2_bits.specs.LineBits.{bits_of, line_bits}
 use Rattle.l2_bits.specs.Flags.{flag, EndsIn, IsFlagEnd, Since}
+use Rattle.std.specs.Option.{option_to_list}
+use Rattle.l2_bits.specs.Marks.{AreMarks}
 use Rattle.l2_bits.specs.Stuffing.{content_after, is_text}
 use Rattle.l2_bits.specs.Contents.{IsGood}
 use Rattle.l2_bits.specs.OctetCounting.{Counts, IsAligned}
@@ -75,3 +78,14 @@ mark_of (Some kind) octets = Some (marked kind octets)
 -- the octets of the last good signal unit, until more of the line is fed
 abbrev pub unit_of : Deframer → List ℕ
 unit_of deframer = take deframer.unit deframer.content.octets
+
+-- the bits of an octet that are still to be fed
+abbrev pub rest_of : Rest → List Bool
+rest_of rest = bits_of rest.left rest.bits
+
+-- the first of these bits were taken, with the last of which this mark ends, if any, and none before
+pub record FeedsUpTo (past bits rest : List Bool) (deframer : Deframer) (mark : Option Mark) : Type 0 where
+  pub taken : List Bool
+  pub split : bits ≡ taken ++ rest
+  pub stands : StandsFor (past ++ taken) deframer
+  pub marks : AreMarks past taken (option_to_list mark)

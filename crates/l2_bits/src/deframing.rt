@@ -33,7 +33,17 @@ ghost use Rattle.l2_bits.specs.declared.marks.MarkKind.TheVariants.{Sixteen};
 ghost use Rattle.l2_bits.specs.Flags.{flag, EndsIn, IsFlagEnd};
 ghost use Rattle.l2_bits.specs.Stuffing.{ones};
 ghost use Rattle.l2_bits.specs.Marks.{IsMark, AreMarks};
-ghost use Rattle.l2_bits.specs.Deframing.{HasContent, KeepsCount, KeepsLine, StandsFor, GoesOn, mark_of, unit_of};
+ghost use Rattle.l2_bits.specs.Deframing.{
+  HasContent,
+  KeepsCount,
+  KeepsLine,
+  StandsFor,
+  FeedsUpTo,
+  GoesOn,
+  mark_of,
+  rest_of,
+  unit_of,
+};
 
 use crate::content::Content;
 use crate::marks::{Mark, MarkKind};
@@ -179,6 +189,48 @@ impl Deframer {
     }
 }
 
+/// The bits of an octet that are still to be fed, the next in the lowest place.
+#[derive(Clone, Copy, Debug, PartialEq, Eq)]
+pub struct Rest {
+    bits: u8,
+    left: u8,
+}
+
+impl Rest {
+    /// All eight bits of an octet.
+    pub fn new(octet: u8) -> Rest
+        ensures { rest_of result ≡ bits_of 8 octet }
+    {
+        Rest {
+            bits: octet,
+            left: 8,
+        }
+    }
+}
+
+impl Deframer {
+    /// Takes the bits of an octet, the lowest first, up to the first with which a mark ends, and gives its
+    /// kind; the others stay for the next call. None where no mark ends with any of them. The octets of a
+    /// good unit are those of `unit`.
+    pub fn feed_octet(&mut self, rest: &mut Rest) -> Option<MarkKind>
+        ensures marks { (past : List Bool) → StandsFor past self.old →
+            FeedsUpTo past (rest_of rest.old) (rest_of rest.new) self.new
+            (mark_of result (unit_of self.new)) }
+        ensures all { result ≡ None → rest_of rest.new ≡ [] }
+    {
+        while rest.left > 0 {
+            let bit = rest.bits & 1 == 1;
+            rest.bits >>= 1;
+            rest.left -= 1;
+            let mark = self.step(bit);
+            if mark.is_some() {
+                return mark;
+            }
+        }
+        None
+    }
+}
+
 /// Keeps a bit that ends no flag, where these are the last eight before it: not the one after five ones,
 /// and from a seventh one on nothing.
 #[inline(always)]
@@ -247,93 +299,4 @@ fn fives(last: u8, octet: u8) -> u8
     let window = (u16::from(octet) << 8 | u16::from(last)) >> 3;
     let pairs = window & (window >> 1);
     (pairs & (pairs >> 2) & (window >> 4) & 0xFF) as u8
-}
-
-#[cfg(test)]
-mod tests {
-    use super::*;
-    use std::alloc::{AllocError, Global};
-    use std::test::Fail;
-
-    /// The marks that a line of these octets gives, each octet's least significant bit first.
-    fn marks_of(alloc: Global, octets: &[u8]) -> Result<Vec<Mark>, AllocError> {
-        let mut marks = Vec::new(alloc);
-        let mut deframer = Deframer::new();
-        for octet in octets {
-            for place in 0..8u8 {
-                if let Some(mark) = deframer.feed((octet >> place) & 1 == 1) {
-                    marks.push(mark)?;
-                }
-            }
-        }
-        Ok(marks)
-    }
-
-    fn good(octets: &[u8]) -> Mark {
-        let mut unit = ArrayVec::new();
-        let _ = unit.try_extend_from_slice(octets);
-        Mark::Good(unit)
-    }
-
-    #[test]
-    fn units_between_flags(rt: HostRuntime) -> Result<(), Fail> {
-        let fill_in = marks_of(
-            rt.alloc(),
-            &[0x7E, 0xDF, 0xF7, 0x05, 0xF8, 0xBE, 0xAF, 0x1F],
-        )?;
-        assert_eq!(rt; fill_in.as_slice(), [good(&[0xFF, 0xFF, 0x00])].as_slice());
-
-        let status = marks_of(
-            rt.alloc(),
-            &[0x7E, 0xDF, 0xF7, 0x0D, 0x00, 0x38, 0x31, 0xF7, 0x03],
-        )?;
-        assert_eq!(rt;
-            status.as_slice(),
-            [good(&[0xFF, 0xFF, 0x01, 0x00])].as_slice()
-        );
-
-        // The length indicator is the reader's business.
-        let wrong_length = marks_of(
-            rt.alloc(),
-            &[0x7E, 0xDF, 0xF7, 0x0D, 0xB0, 0x73, 0xF7, 0x03],
-        )?;
-        assert_eq!(rt;
-            wrong_length.as_slice(),
-            [good(&[0xFF, 0xFF, 0x01])].as_slice()
-        );
-        Ok(())
-    }
-
-    #[test]
-    fn nothing_and_too_little_between_flags(rt: HostRuntime) -> Result<(), Fail> {
-        assert_eq!(rt; marks_of(rt.alloc(), &[])?.len(), 0);
-        // Two flags that share a zero.
-        assert_eq!(rt; marks_of(rt.alloc(), &[0x7E, 0x3F])?.len(), 0);
-
-        let too_short = marks_of(rt.alloc(), &[0x7E, 0x00, 0x00, 0x00, 0x00, 0x7E])?;
-        assert_eq!(rt; too_short.as_slice(), [Mark::Bad].as_slice());
-        Ok(())
-    }
-
-    #[test]
-    fn unit_ends_octet_counting(rt: HostRuntime) -> Result<(), Fail> {
-        let mut line = [0x00; 41];
-        line[0] = 0xFF;
-        line[33..].copy_from_slice(&[0x7E, 0xDF, 0xF7, 0x05, 0xF8, 0xBE, 0xAF, 0x1F]);
-        let marks = marks_of(rt.alloc(), &line)?;
-        assert_eq!(rt;
-            marks.as_slice(),
-            [Mark::Sixteen, Mark::Sixteen, good(&[0xFF, 0xFF, 0x00])].as_slice()
-        );
-        Ok(())
-    }
-
-    #[test]
-    fn silence_begins_octet_counting(rt: HostRuntime) -> Result<(), Fail> {
-        // 2,677 bits without a flag, and 128 more: the 350th octet ends before, the 351st after them.
-        assert_eq!(rt; marks_of(rt.alloc(), &[0x00; 350])?.len(), 0);
-        let marks = marks_of(rt.alloc(), &[0x00; 351])?;
-        assert_eq!(rt; marks.as_slice(), [Mark::Sixteen].as_slice());
-        Ok(())
-    }
 }

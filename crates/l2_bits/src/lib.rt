@@ -5,8 +5,9 @@
 //!
 //! To the line: `seal` gives the octets of a signal unit with their two check octets behind them
 //! (`check_of` gives those alone), `stuff_into` appends their text to the bits of the line, and
-//! `flag_into` a flag. From the line: a `Deframer` takes its bits one by one and gives a `Mark` where a
-//! signal unit ends, a good one or a damaged one, or where octet counting tells an error.
+//! `flag_into` a flag. From the line: a `Deframer` takes its bits one by one (`feed`, `step`) or its octets
+//! (`pass`, `feed_octet`), and gives a mark where a signal unit ends, a good one or a damaged one, or where
+//! octet counting tells an error.
 //!
 //! ```text
 //! octets   BSN BIB | FSN FIB | LI | body, 0 to 273 octets | check bits
@@ -22,6 +23,8 @@
 mod check;
 mod content;
 mod deframing;
+#[cfg(test)]
+mod deframing_tests;
 mod flags;
 mod marks;
 mod sealed_text;
@@ -29,7 +32,7 @@ mod shift;
 mod stuffing;
 
 pub use check::check_of;
-pub use deframing::Deframer;
+pub use deframing::{Deframer, Rest};
 pub use flags::flag_into;
 pub use marks::{Mark, MarkKind, octet_counting, one_mark};
 pub use sealed_text::{one_sealed_text, seal};
