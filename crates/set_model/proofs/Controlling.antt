@@ -1,18 +1,15 @@
 -- What the control's own step does to the window, the FSN last accepted, and the cursor.
-use Rattle.std.proofs.Common.{refl, arith, ◌≡◌, ◌≢◌, ◌∙◌, ap, sym, ◌<◌, ◌≤◌, ℕ, zero, suc, ◌+◌, ◌-◌, ◌%◌, ◌==◌, Bool, true, false, not, ◌&&◌, nat_lt, List, [], ◌∷◌, ◌++◌, length, map, take, drop, if◌then◌else◌}
+use Rattle.std.proofs.Common.{refl, arith, ◌≡◌, ◌≢◌, ◌<◌, ◌≤◌, ℕ, ◌+◌, ◌-◌, ◌%◌, ◌==◌, Bool, true, false, not, ◌&&◌, nat_lt, length, drop, if◌then◌else◌}
 use Rattle.std.proofs.lemmas.Bool.{ltb-true}
 use Rattle.std.proofs.lemmas.Bool.Decides.{nat_tests}
-use Rattle.std.proofs.lemmas.List.{length-map, length-append, length-drop}
+use Rattle.std.proofs.lemmas.List.{length-drop}
 use Rattle.l2_basic.specs.Basic as basic
 use Rattle.l2_pcr.specs.Pcr as cyclic
 use Rattle.l2_units.specs.declared.unit.Header.{Header}
 use Rattle.l2_window.specs.Window.{WindowState}
-use Rattle.set_events.specs.declared.answer.Fate.TheVariants.{Unacked}
 use Rattle.set_events.specs.declared.config.Method.{Method}
 use Rattle.set_events.specs.declared.config.Method.TheVariants.{Basic as BasicMethod, Cyclic as CyclicMethod}
-use Rattle.set_model.specs.Rows.{Row, unack, wait, numbers, is_waiting, turned, with_fate, IsInOrder}
-use Rattle.set_model.specs.Control.{Control, Basic, Cyclic, Choice, again, first, fill, start_of, accepted_of, choice_of, control_after, is_processed, is_accepted, acked_by, part_of, window_heard, control_heard}
-use Rattle.set_model.specs.State.{LinkState, window_of}
+use Rattle.set_model.specs.Control.{Control, Basic, Cyclic, Choice, again, first, fill, accepted_of, choice_of, control_after, is_processed, is_accepted, acked_by, part_of, window_heard, control_heard}
 use Rattle.set_model.specs.Step.{one_if}
 use Rattle.set_model.specs.Sound.{IsOf, IsInRange}
 

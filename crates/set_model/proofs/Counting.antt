@@ -1,10 +1,10 @@
 -- Each message is counted in one place.
-use Rattle.std.proofs.Common.{refl, arith, ◌≡◌, ◌∙◌, ap, sym, ◌≤◌, [], ◌∷◌, length, ℕ, zero, suc, ◌+◌, Bool, true, false, ◌&&◌, ◌==◌, List, cond}
+use Rattle.std.proofs.Common.{refl, arith, ◌≡◌, ◌∙◌, ap, sym, ◌≤◌, [], ◌∷◌, length, ℕ, ◌+◌, Bool, true, false, ◌==◌, List, cond}
 use Rattle.std.proofs.lemmas.List.{length-append}
 use Rattle.std.proofs.lemmas.List.Elements.{filter-append}
 use Rattle.set_events.specs.declared.answer.Fate.{Fate}
 use Rattle.set_events.specs.declared.answer.Fate.TheVariants.{Waiting, Unacked, Acked, Held, Parked, Discarded}
-use Rattle.set_model.specs.Rows.{Row, standing, waits, was_sent, was_acked, was_held, is_parked, was_discarded, is_users, users, service_indicator, with_fate, turned, changed, moved, appended, counts_of, total_of}
+use Rattle.set_model.specs.Rows.{Row, standing, waits, was_sent, was_acked, was_held, is_parked, was_discarded, is_users, users, service_indicator, with_fate, moved, appended, counts_of, total_of}
 use Rattle.set_model.proofs.Filters.{filter_comm}
 use Rattle.set_model.proofs.Finding.{new_row}
 use Rattle.set_model.proofs.InPlace.{InPlace}

@@ -6,7 +6,7 @@ use Rattle.set_events.specs.declared.answer.Fate.{Fate}
 use Rattle.set_events.specs.declared.answer.Fate.TheVariants.{Waiting, Unacked, Acked, Parked, Discarded}
 use Rattle.set_events.specs.declared.answer.DiscardCause.{DiscardCause}
 use Rattle.set_model.specs.Rows.{Row, standing, is_waiting, is_unacked, is_held, is_on, is_parked, was_acked, unack, wait, held, on, parked, numbers, octets_in, turned, changed, moved, all_with, appended, with_fate, fated, body_at, counts_of, total_of, IsInOrder, IsHeldLast, IsNumbered, AreFit}
-use Rattle.set_model.proofs.Places.{itself, apart_back, waiting_not_unacked, unacked_not_waiting, waiting_not_held, unacked_not_held, parked_not_on, on_not_parked, on_not_acked, parked_not_acked, waiting_on, unacked_on, held_on, on_other, not_on_waiting, not_on_unacked, not_on_held, contra}
+use Rattle.set_model.proofs.Places.{itself, apart_back, waiting_not_unacked, unacked_not_waiting, waiting_not_held, unacked_not_held, parked_not_on, on_not_parked, on_not_acked, parked_not_acked, waiting_on, unacked_on, held_on, on_other, not_on_waiting, not_on_unacked, not_on_held}
 use Rattle.set_model.proofs.InPlace.{InPlace, turned_there, changed_there, turned_same, changed_same, turned_ordered, changed_ordered, turned_left, turned_within, changed_left}
 use Rattle.set_model.proofs.Moving.{moved_length, moved_fit, moved_numbered, moved_gone, moved_same, moved_joined}
 use Rattle.set_model.proofs.Order.{order_moved, order_appended, order_sent, sent_joined, on_in_order, order_none, last_none, last_alone, last_moved, last_appended, last_sent}

@@ -3,7 +3,7 @@ use Rattle.std.proofs.Common.{refl, arith, ◌≡◌, ◌∙◌, ap, sym, [], �
 use Rattle.std.specs.Prelude.{filter}
 use Rattle.std.proofs.lemmas.List.Filters.{length-filter_both}
 use Rattle.set_events.specs.declared.answer.Fate.{Fate}
-use Rattle.set_model.specs.Rows.{Row, standing, with_fate, fated, AreFit}
+use Rattle.set_model.specs.Rows.{Row, standing, fated, AreFit}
 
 -- One filter after another.
 pub filter_comm : (p q : Row → Bool) (xs : List Row) → filter p (filter q xs) ≡ filter q (filter p xs)

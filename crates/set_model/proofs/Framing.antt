@@ -1,7 +1,7 @@
 -- WHAT AN EVENT LEAVES ALONE, and how it moves the window of its own link.
-use Rattle.std.proofs.Common.{refl, arith, ◌≡◌, ◌≢◌, ◌∙◌, ap, sym, subst, ◌<◌, ℕ, zero, suc, ◌+◌, ◌%◌, ◌==◌, Bool, true, false, List, [], ◌∷◌, ◌++◌, length, map, take, drop, slice_get, slice_set, Option, Some, None, append_assoc, inl}
+use Rattle.std.proofs.Common.{refl, ◌≡◌, ◌∙◌, ap, sym, subst, ℕ, zero, suc, ◌+◌, ◌%◌, ◌==◌, Bool, true, false, List, [], ◌∷◌, ◌++◌, length, map, take, drop, slice_get, slice_set, Option, Some, None, append_assoc, inl}
 use Rattle.std.proofs.lemmas.Bool.{eqb-true}
-use Rattle.std.proofs.lemmas.List.{append-nil, map-append}
+use Rattle.std.proofs.lemmas.List.{append-nil}
 use Rattle.l2_units.specs.declared.unit.Header.{Header}
 use Rattle.l2_units.specs.declared.unit.Unit.{Unit as SignalUnit}
 use Rattle.l2_units.specs.Grammar.{head_of as header_in}
@@ -9,18 +9,17 @@ use Rattle.l2_window.specs.Window.{WindowState}
 use Rattle.l2_window.specs.declared.control.HeardPart.{HeardPart}
 use Rattle.l3_orders.specs.declared.order.Order.{Order}
 use Rattle.l3_orders.specs.Grammar.{text, order_of}
-use Rattle.set_events.specs.declared.answer.Fate.{Fate}
-use Rattle.set_events.specs.declared.answer.Fate.TheVariants.{Waiting, Unacked, Acked, Held, Parked}
+use Rattle.set_events.specs.declared.answer.Fate.TheVariants.{Waiting, Unacked, Acked, Parked}
 use Rattle.set_events.specs.declared.event.Event.{Event}
 use Rattle.set_route.specs.declared.place.Place.{Place}
 use Rattle.set_route.specs.declared.place.Place.TheVariants.{On, Nowhere}
 use Rattle.set_route.specs.Routing.{place_of}
 use Rattle.set_model.specs.declared.phase.Phase.TheVariants.{Up, Down}
-use Rattle.set_model.specs.Rows.{Row, is_on, is_waiting, is_unacked, is_held, unack, wait, held, on, numbers, octets_in, service_indicator, turned, appended, with_fate, IsInOrder}
-use Rattle.set_model.specs.Control.{Choice, again, first, fill, choice_of, control_after, part_of, control_heard, window_heard, acked_by}
+use Rattle.set_model.specs.Rows.{Row, is_on, is_waiting, is_unacked, is_held, unack, wait, on, numbers, octets_in, service_indicator, turned, appended, with_fate, IsInOrder}
+use Rattle.set_model.specs.Control.{Choice, again, first, fill, choice_of, part_of, control_heard, window_heard, acked_by}
 use Rattle.set_model.specs.State.{LinkState, State, is_up, link_is_up, has_phase_up, target, window_of}
-use Rattle.set_model.specs.Changeover.{fate_on, left_link, acknowledged as acknowledged_link, settled_link, move_off, obeyed}
-use Rattle.set_model.specs.Step.{rows_sent, fate_at, is_msu, one_if, next, sends, brought, takes, after_control, controls, step}
+use Rattle.set_model.specs.Changeover.{fate_on, left_link, acknowledged as acknowledged_link, settled_link, move_off}
+use Rattle.set_model.specs.Step.{rows_sent, fate_at, is_msu, one_if, brought, takes, after_control, step}
 use Rattle.set_model.specs.Sound.{IsSound}
 use Rattle.set_model.specs.Frame.{BringsAbout, Concerns, LeavesAlone, window_after, MovesAsItsControl}
 use Rattle.set_model.proofs.Controlling.{part_acked, last_heard}
@@ -29,7 +28,7 @@ use Rattle.set_model.proofs.Finding.{new_row}
 use Rattle.set_model.proofs.Lists.{get_set_same, get_set_other, same_at, within}
 use Rattle.set_model.proofs.Places.{false_true, itself, apart}
 use Rattle.set_model.proofs.Targets.{target_up}
-use Rattle.set_model.proofs.Walk.{IsAt, KeptBy, WalkedBy, step_walks, brought_by}
+use Rattle.set_model.proofs.Walk.{IsAt, KeptBy, step_walks, brought_by}
 
 -- ALONE.
 alone_by : (n : ℕ) (s t : State) → slice_get t.links n ≡ slice_get s.links n → Untouched n s.rows t.rows → LeavesAlone n s t

@@ -22,7 +22,7 @@ use Rattle.set_model.specs.Sound.{IsManaged}
 use Rattle.set_model.proofs.Counting.{total_appended, acked_appended, total_moved, acked_moved}
 use Rattle.set_model.proofs.Events.{Kept, sent, acknowledged, sent_given_up, waiting_given_up, unparked}
 use Rattle.set_model.proofs.Places.{on_not_acked}
-use Rattle.set_model.proofs.Walk.{KeptBy, WalkedBy, step_walks}
+use Rattle.set_model.proofs.Walk.{KeptBy, step_walks}
 
 -- rows that are changed, but for new messages of users
 pub record Counted (rows new : List Row) : Type 0 where

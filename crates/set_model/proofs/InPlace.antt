@@ -1,10 +1,10 @@
 -- Rows that get another fate in their places: the first n where a test tells, or all.
-use Rattle.std.proofs.Common.{refl, arith, ◌≡◌, ◌∙◌, ap, ◌≤◌, [], ◌∷◌, length, ℕ, zero, suc, ◌+◌, Bool, true, false, not, ◌&&◌, List, drop, Option, Some, cond, ◌==◌}
+use Rattle.std.proofs.Common.{refl, arith, ◌≡◌, ◌∙◌, ap, ◌≤◌, [], ◌∷◌, length, ℕ, zero, suc, ◌+◌, Bool, true, false, List, drop, Option, Some, cond, ◌==◌}
 use Rattle.std.specs.Prelude.{filter}
 use Rattle.std.specs.Option.{option_map}
 use Rattle.set_events.specs.declared.answer.Fate.{Fate}
-use Rattle.set_model.specs.Rows.{Row, standing, is_users, users, was_acked, is_waiting, is_unacked, is_held, is_on, unack, wait, held, on, turned, changed, numbers, octets_in, with_fate, row_of, body_at, counts_of, AreFit, IsInOrder, IsHeldLast}
-use Rattle.set_model.proofs.Places.{false_true, not_on_waiting, not_on_unacked, not_on_held}
+use Rattle.set_model.specs.Rows.{Row, standing, is_users, users, was_acked, is_waiting, is_unacked, is_held, unack, wait, turned, changed, numbers, octets_in, with_fate, row_of, body_at, AreFit, IsInOrder, IsHeldLast}
+use Rattle.set_model.proofs.Places.{false_true}
 
 -- What is kept where a row stays, and where one turns, is kept by both changes.
 module _ (test : Fate → Bool) (fate : Fate) (P : List Row → List Row → Type 0) (none : P [] []) (stays : (x : Row) (xs ys : List Row) → P xs ys → P (x ∷ xs) (x ∷ ys)) (turns : (x : Row) (xs ys : List Row) → test x.fate ≡ true → P xs ys → P (x ∷ xs) (with_fate fate x ∷ ys)) where

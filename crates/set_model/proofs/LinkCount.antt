@@ -1,10 +1,10 @@
 -- No event changes how many links a set has.
-use Rattle.std.proofs.Common.{refl, ◌≡◌, ◌∙◌, ap, ℕ, length}
+use Rattle.std.proofs.Common.{refl, ◌≡◌, ◌∙◌, ℕ, length}
 use Rattle.std.proofs.lemmas.List.{length-set}
 use Rattle.set_events.specs.declared.event.Event.{Event}
 use Rattle.set_model.specs.State.{State}
 use Rattle.set_model.specs.Step.{step}
-use Rattle.set_model.proofs.Walk.{KeptBy, WalkedBy, step_walks}
+use Rattle.set_model.proofs.Walk.{KeptBy, step_walks}
 
 abbrev pub SameCount : State → State → Type 0
 SameCount s t = length t.links ≡ length s.links

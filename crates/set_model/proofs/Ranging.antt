@@ -1,6 +1,5 @@
 -- The whole numbers of the links stay in range: an event sends at most one message, and accepts at most one body.
-use Rattle.std.proofs.Common.{refl, arith, ◌≡◌, ◌≢◌, ◌∙◌, ap, ◌≤◌, ℕ, zero, suc, ◌+◌, Bool, true, false, not, ◌&&◌, List, [], ◌∷◌, ◌++◌, length, map, drop, slice_get, slice_set, Option, Some, None, ◌⊎◌, inl, inr, cond}
-use Rattle.std.specs.Prelude.{filter}
+use Rattle.std.proofs.Common.{refl, arith, ◌≡◌, ◌≢◌, ◌∙◌, ap, ◌≤◌, ℕ, zero, suc, ◌+◌, Bool, true, false, not, ◌&&◌, List, [], ◌∷◌, ◌++◌, length, map, slice_get, slice_set, Option, Some, None, ◌⊎◌, inl, inr}
 use Rattle.std.proofs.lemmas.List.{append-nil, length-map, length-drop}
 use Rattle.std.proofs.lemmas.List.Elements.{filter-append}
 use Rattle.std.proofs.lemmas.Bool.Decides.{nat_tests}
@@ -15,7 +14,7 @@ use Rattle.set_events.specs.declared.event.Event.{Event}
 use Rattle.set_route.specs.declared.place.Place.{Place}
 use Rattle.set_route.specs.declared.place.Place.TheVariants.{On, Nowhere}
 use Rattle.set_route.specs.Routing.{place_of}
-use Rattle.set_model.specs.Rows.{Row, standing, unack, is_unacked, is_waiting, is_parked, is_on, turned, changed, fated, moved, all_with, appended, octets_in, stream_of}
+use Rattle.set_model.specs.Rows.{Row, standing, unack, is_unacked, is_waiting, is_parked, is_on, turned, fated, moved, all_with, appended, octets_in, stream_of}
 use Rattle.set_model.specs.State.{LinkState, State, target, is_up, window_of}
 use Rattle.set_model.specs.Control.{Control, Basic, Cyclic, Choice, again, first, fill, choice_of, is_processed, acked_by, part_of}
 use Rattle.set_model.specs.Changeover.{fate_on, left_link, settled_link, acknowledged as acknowledged_link}
@@ -25,7 +24,7 @@ use Rattle.set_model.proofs.Events.{appended_out}
 use Rattle.set_model.proofs.Filters.{filter_comm, fewer_filter, fated_none}
 use Rattle.set_model.proofs.InPlace.{turned_left, fewer_turned, fewer_changed}
 use Rattle.set_model.proofs.Lists.{at_set}
-use Rattle.set_model.proofs.Walk.{KeptBy, WalkedBy, step_walks}
+use Rattle.set_model.proofs.Walk.{KeptBy, step_walks}
 
 -- no more come than turn
 few_turned : (test other : Fate → Bool) (fate : Fate) (n : ℕ) (rows : List Row) → length (standing other (turned test fate n rows)) ≤ length (standing other rows) + n

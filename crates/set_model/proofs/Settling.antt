@@ -1,7 +1,6 @@
 -- A LINK THAT SETTLES: what the far end has is acknowledged, and the rest of its messages move in order (Q.704 5.5).
 use Rattle.std.proofs.Common.{refl, ◌≡◌, ◌≢◌, ◌∙◌, ap, sym, subst, ℕ, true, false, List, [], ◌++◌, drop, slice_get, Option, Some, None}
 use Rattle.std.proofs.lemmas.List.{map-append}
-use Rattle.std.proofs.lemmas.Option.{same_Some}
 use Rattle.set_route.specs.Target.{target_of}
 use Rattle.set_model.specs.declared.phase.Phase.TheVariants.{Down, Settled}
 use Rattle.set_model.specs.declared.reached.Reached.TheVariants.{Upto}

@@ -1,5 +1,5 @@
 -- EVERY STEP KEEPS WHAT HOLDS OF EVERY SET'S STATE.
-use Rattle.std.proofs.Common.{refl, arith, ◌≡◌, ◌≢◌, ◌∙◌, ap, sym, subst, ◌<◌, ◌≤◌, ℕ, zero, suc, ◌+◌, ◌%◌, ◌==◌, Bool, true, false, not, ◌&&◌, ◌||◌, List, [], ◌∷◌, ◌++◌, length, map, take, drop, slice_get, slice_set, Option, None, Some, if◌then◌else◌, cond, ◌⊎◌, inl, inr, IfSome, replicate, slice_index_or}
+use Rattle.std.proofs.Common.{refl, arith, ◌≡◌, ◌≢◌, ◌∙◌, ap, sym, subst, ◌<◌, ◌≤◌, ℕ, zero, suc, ◌+◌, ◌%◌, ◌==◌, Bool, true, false, not, ◌&&◌, ◌||◌, List, [], ◌∷◌, ◌++◌, length, map, take, drop, slice_get, slice_set, Option, None, Some, cond, ◌⊎◌, inl, inr, IfSome, replicate, slice_index_or}
 use Rattle.std.proofs.lemmas.Bool.Decides.{nat_tests}
 use Rattle.std.proofs.lemmas.Bool.{eqb-true, le-ltb}
 use Rattle.std.proofs.lemmas.Option.{same_Some}
@@ -18,34 +18,33 @@ use Rattle.set_events.specs.declared.answer.Fate.TheVariants.{Waiting, Unacked, 
 use Rattle.set_events.specs.declared.config.Method.{Method}
 use Rattle.set_events.specs.declared.config.Method.TheVariants.{Basic as BasicMethod, Cyclic as CyclicMethod}
 use Rattle.set_events.specs.declared.event.Event.{Event}
-use Rattle.set_events.specs.declared.event.Event.TheVariants.{Offer}
 use Rattle.set_route.specs.declared.place.Place.{Place}
 use Rattle.set_route.specs.declared.place.Place.TheVariants.{On, Nowhere}
 use Rattle.set_route.specs.declared.stream.Stream.{Stream}
-use Rattle.set_route.specs.Routing.{Routing, new_stream, stream_numbers, place_of, has_messages, place_raised, place_settled, place_on, accepted as streams_accepted, raised, settled as streams_settled}
+use Rattle.set_route.specs.Routing.{new_stream, stream_numbers, place_of, has_messages, place_raised, place_settled, place_on}
 use Rattle.set_route.proofs.Alone.{alone}
 use Rattle.set_route.proofs.Places.{accepted_sound, raised_sound, settled_sound, new_sound}
 use Rattle.set_model.specs.declared.phase.Phase.{Phase}
 use Rattle.set_model.specs.declared.phase.Phase.TheVariants.{Up, Down, Settled}
-use Rattle.set_model.specs.Rows.{Row, is_waiting, is_unacked, is_held, is_on, is_parked, is_users, service_indicator, stream_of, unack, wait, held, on, parked, numbers, octets_in, turned, changed, moved, all_with, appended, with_fate, AreFit, IsNumbered, IsInOrder, IsHeldLast}
+use Rattle.set_model.specs.Rows.{Row, is_waiting, is_unacked, is_held, is_on, is_parked, is_users, stream_of, unack, wait, held, on, parked, numbers, octets_in, turned, changed, moved, all_with, appended, with_fate, AreFit, IsNumbered, IsInOrder, IsHeldLast}
 use Rattle.set_model.specs.Control.{accepted_of, Choice, again, first, fill, start_of, choice_of, control_after, part_of, control_heard, acked_by}
-use Rattle.set_model.specs.State.{LinkState, State, Settings, new_link, opened_with, is_up, link_is_up, has_phase_up, has_phase_settled, target, window_of, with_link}
+use Rattle.set_model.specs.State.{LinkState, State, Settings, new_link, opened_with, is_up, link_is_up, has_phase_up, has_phase_settled, target, window_of}
 use Rattle.set_model.specs.Changeover.{fate_on, queue, leave, left_link, acknowledge, acknowledged as acknowledged_link, settled_link, move_off}
-use Rattle.set_model.specs.Step.{sends, rows_sent, one_if, is_msu, fate_at, risen_link, offer_refusal, offered, next, rises, after_control, step}
-use Rattle.set_model.specs.Sound.{IsOf, IsInRange, IsSoundLink, is_unfinished, stands_at, is_live, live, IsPlaced, IsSoundStream, IsManaged, IsSettings, IsSound, IsAsked, AreFew}
+use Rattle.set_model.specs.Step.{sends, one_if, is_msu, fate_at, risen_link, offer_refusal, offered, next, rises, after_control, step}
+use Rattle.set_model.specs.Sound.{IsOf, IsInRange, IsSoundLink, is_unfinished, stands_at, is_live, IsPlaced, IsSoundStream, IsManaged, IsSettings, IsSound, IsAsked, AreFew}
 use Rattle.set_model.proofs.Controlling.{accepted_after, method_after, first_chosen, range_after, method_heard, part_acked, part_accept, accepted_heard, range_heard}
-use Rattle.set_model.proofs.Events.{Untouched, untouched_self, untouched_then, Sent, sent, acknowledged, GivenUp, sent_given_up, waiting_given_up, MovedTo, moved_to, moved_aside, unparked, appended_in, appended_out, appended_untouched}
+use Rattle.set_model.proofs.Events.{Untouched, untouched_self, sent, acknowledged, GivenUp, sent_given_up, waiting_given_up, MovedTo, moved_to, moved_aside, unparked, appended_out, appended_untouched}
 use Rattle.set_model.proofs.Finding.{new_row, numbered_appended, fit_appended}
 use Rattle.set_model.proofs.Gaining.{offer_fits}
 use Rattle.set_model.proofs.Lists.{at_set, get_set_same, get_set_other, set_same, same_at, within}
-use Rattle.set_model.proofs.Live.{stream_turned, stream_changed, stream_sent, stream_appended, stream_goes, stream_remains, stream_empty, same_stream}
+use Rattle.set_model.proofs.Live.{stream_turned, stream_changed, stream_sent, stream_appended, stream_goes, stream_remains, stream_empty}
 use Rattle.set_model.proofs.Moving.{moved_numbered, moved_fit}
-use Rattle.set_model.proofs.Order.{order_appended, last_appended, last_appended_up, order_none, last_alone}
+use Rattle.set_model.proofs.Order.{order_appended, last_appended, last_appended_up, order_none}
 use Rattle.set_model.proofs.Places.{false_true, itself, apart, apart_back, on_other, on_not_parked, parked_not_on}
 use Rattle.set_model.proofs.InPlace.{fewer_changed}
-use Rattle.set_model.proofs.Settling.{none_unack, none_wait, none_held}
+use Rattle.set_model.proofs.Settling.{none_unack, none_held}
 use Rattle.set_model.proofs.Targets.{target_up, none_up}
-use Rattle.set_model.proofs.Walk.{IsAt, KeptBy, WalkedBy, step_walks}
+use Rattle.set_model.proofs.Walk.{IsAt, KeptBy, step_walks}
 
 -- PHASES.
 pub up_unsettled : (phase : Phase) → has_phase_up phase ≡ true → has_phase_settled phase ≡ false

@@ -15,7 +15,7 @@ use Rattle.set_model.proofs.Finding.{new_row, numbered_appended}
 use Rattle.set_model.proofs.Lookups.{body_moved}
 use Rattle.set_model.proofs.Moving.{moved_length, moved_numbered}
 use Rattle.set_model.proofs.Stating.{messages_stay}
-use Rattle.set_model.proofs.Walk.{KeptBy, WalkedBy, step_walks}
+use Rattle.set_model.proofs.Walk.{KeptBy, step_walks}
 
 -- rows of the same messages, with new ones or none
 pub record Stays (rows new : List Row) : Type 0 where

@@ -1,5 +1,5 @@
 -- The link that messages are moved to.
-use Rattle.std.proofs.Common.{refl, ◌≡◌, subst, [], ◌∷◌, ℕ, zero, suc, Bool, true, false, List, map, slice_get, Option, Some, None}
+use Rattle.std.proofs.Common.{refl, ◌≡◌, subst, [], ◌∷◌, ℕ, zero, suc, Bool, true, false, List, map, slice_get, Some, None}
 use Rattle.std.proofs.lemmas.Option.{same_Some}
 use Rattle.set_route.specs.Target.{IsTarget}
 use Rattle.set_route.proofs.Lowest.{target_is}

@@ -1,5 +1,5 @@
 -- THE WALK over the cases of the step, once: what each small change keeps, every event keeps.
-use Rattle.std.proofs.Common.{refl, arith, ◌≡◌, ◌∙◌, ap, sym, ◌≤◌, length, ℕ, ◌==◌, Bool, true, false, List, [], ◌∷◌, ◌++◌, slice_get, Option, Some, None, if◌then◌else◌, ◌⊎◌, inl, inr}
+use Rattle.std.proofs.Common.{refl, arith, ◌≡◌, ◌∙◌, ap, ◌≤◌, length, ℕ, ◌==◌, Bool, true, false, List, [], ◌∷◌, ◌++◌, slice_get, Option, Some, None, if◌then◌else◌, inr}
 use Rattle.std.proofs.lemmas.Bool.Decides.{nat_tests}
 use Rattle.l2_units.specs.declared.unit.Unit.{Unit as SignalUnit}
 use Rattle.l2_units.specs.declared.unit.Unit.TheVariants.{Fisu, Lssu, Msu}
@@ -19,7 +19,7 @@ use Rattle.set_model.specs.declared.phase.Phase.{Phase}
 use Rattle.set_model.specs.declared.phase.Phase.TheVariants.{Up, Down, Settled}
 use Rattle.set_model.specs.declared.reached.Reached.{Reached}
 use Rattle.set_model.specs.declared.reached.Reached.TheVariants.{Upto, Unknown, Unanswered}
-use Rattle.set_model.specs.Rows.{Row, unack, is_unacked, is_waiting, changed, place, service_indicator}
+use Rattle.set_model.specs.Rows.{unack, is_unacked, is_waiting, changed, place, service_indicator}
 use Rattle.set_model.specs.State.{LinkState, State, has_phase_up, window_of, last_accepted}
 use Rattle.set_model.specs.Control.{part_of}
 use Rattle.set_model.specs.Changeover.{Obeyed, queue, leave, left_link, leaving_order, is_reasonable, reached_by, acknowledge, acknowledged, move_off, settle, reply, changes_over, is_answered, at_link, obeys, obeyed}

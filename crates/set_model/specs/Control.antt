@@ -1,10 +1,8 @@
 -- WHAT A LINK'S ERROR CONTROL DOES, as functions of its state and of the link's window (Q.703 5 and 6).
-use Rattle.std.specs.Prelude.{◌≡◌, ℕ, ◌+◌, ◌-◌, ◌%◌, Bool, true, false, not, ◌&&◌, nat_lt, Some, None, drop, length, slice_get, if◌then◌else◌}
+use Rattle.std.specs.Prelude.{ℕ, ◌+◌, ◌-◌, ◌%◌, Bool, true, false, not, ◌&&◌, nat_lt, Some, None, drop, length, if◌then◌else◌}
 use Rattle.l2_units.specs.declared.unit.Header.{Header}
 use Rattle.l2_units.specs.Grammar.{mod_128}
-use Rattle.l2_window.specs.Window.{WindowState, Sends, fsn_at, last_fsn, distance_to}
-use Rattle.l2_window.specs.declared.control.Sending.{Sending}
-use Rattle.l2_window.specs.declared.control.Sending.TheVariants.{Message, Fill}
+use Rattle.l2_window.specs.Window.{WindowState, fsn_at, last_fsn, distance_to}
 use Rattle.l2_window.specs.declared.control.HeardPart.{HeardPart}
 use Rattle.l2_window.specs.declared.control.ControlFault.TheVariants.{Bsn}
 use Rattle.l2_basic.specs.Basic as basic

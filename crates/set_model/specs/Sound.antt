@@ -1,5 +1,5 @@
 -- WHAT HOLDS OF EVERY SET'S STATE. Every event keeps it.
-use Rattle.std.specs.Prelude.{◌≡◌, ◌≢◌, ℕ, Bool, true, false, not, ◌==◌, ◌&&◌, ◌+◌, ◌*◌, ◌%◌, ◌^◌, ◌≤◌, ◌<◌, List, [], ◌∷◌, length, filter, slice_get, Some}
+use Rattle.std.specs.Prelude.{◌≡◌, ◌≢◌, ℕ, Bool, true, false, not, ◌==◌, ◌&&◌, ◌+◌, ◌%◌, ◌≤◌, ◌<◌, List, [], ◌∷◌, length, filter, slice_get, Some}
 use Rattle.set_events.specs.declared.answer.Fate.{Fate}
 use Rattle.set_events.specs.declared.answer.Fate.TheVariants.{Waiting, Unacked, Held, Parked}
 use Rattle.set_events.specs.declared.config.Method.{Method}

@@ -1,5 +1,5 @@
 -- WHAT A SET OF LINKS HOLDS. Read this file first, after the rows.
-use Rattle.std.specs.Prelude.{◌≡◌, ℕ, Bool, true, false, ◌+◌, ◌*◌, ◌%◌, ◌≤◌, List, [], length, map, Option, None, Some, slice_get, slice_set, replicate}
+use Rattle.std.specs.Prelude.{ℕ, Bool, true, false, ◌+◌, ◌%◌, List, [], length, map, Option, None, Some, slice_get, slice_set, replicate}
 use Rattle.l2_window.specs.Window.{WindowState}
 use Rattle.std.specs.Option.{option_map}
 use Rattle.set_events.specs.declared.answer.Counts.{Counts}

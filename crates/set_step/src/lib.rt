@@ -25,8 +25,8 @@
 //!
 //! The files: `parts` what a set holds; `link` and `control` one link; `sending` and `hearing` what a
 //! link's terminal asks and tells; `changeover` how a link is left and orders are obeyed; `settling`
-//! what becomes of its messages; `step` the case of each event; `contents` the whole; `laws` what holds
-//! of every step.
+//! what becomes of its messages; `step` the case of each event; `contents` the whole.
+//! What a set holds and what an event does to it are definitions of `set_model`.
 #![tactic(auto)]
 
 mod changeover;
