@@ -1,5 +1,5 @@
 -- The queues of one link change: what that is for the lists and the rooms of a set.
-use Rattle.std.proofs.Common.{refl, arith, ◌≡◌, ◌∙◌, ap, sym, subst, ◌+◌, ◌≤◌, ◌<◌, [], ◌∷◌, length, map, ℕ, zero, suc, Bool, true, false, ◌==◌, List, Option, Some, None, cond, get_or}
+use Rattle.std.proofs.Common.{refl, arith, ◌≡◌, ◌∙◌, ap, subst, ◌+◌, ◌≤◌, ◌<◌, length, map, ℕ, Bool, true, false, ◌==◌, List, Some, cond, get_or}
 use Rattle.std.specs.Prelude.{slice_get, slice_set}
 use Rattle.std.specs.Option.{option_map}
 use Rattle.std.proofs.lemmas.Bool.{eqb-true, eqb-false}

@@ -1,5 +1,5 @@
 -- A link settles: what stands on it goes elsewhere, first what was sent, then what waited, then what was held.
-use Rattle.std.proofs.Common.{refl, arith, ◌≡◌, ◌≢◌, ◌∙◌, ap, sym, subst, ◌+◌, ◌≤◌, ◌<◌, [], ◌∷◌, ◌++◌, length, ℕ, Bool, true, false, List, Option, Some, None, cond, append_assoc, ◌⊎◌, inl, inr}
+use Rattle.std.proofs.Common.{refl, arith, ◌≡◌, ◌≢◌, ◌∙◌, ap, sym, subst, ◌+◌, ◌≤◌, ◌<◌, [], ◌++◌, length, ℕ, Bool, true, false, List, Option, Some, None, cond, append_assoc, ◌⊎◌, inl, inr}
 use Rattle.std.specs.Prelude.{IfSome}
 use Rattle.std.proofs.lemmas.Bool.{ne_eqb, cases_Bool}
 use Rattle.std.proofs.lemmas.List.{length-append}
@@ -9,7 +9,7 @@ use Rattle.set_queues.specs.declared.message.Message.{Message}
 use Rattle.set_queues.specs.Messages.{restood}
 use Rattle.set_queues.specs.Buffers.{Lists, Rooms, is_standing, same_fate, queue_at, room_at, IsKnown, IsQueued, TakesRoom}
 use Rattle.set_queues.specs.Queues.{passed}
-use Rattle.set_queues.specs.Settling.{fate_on, on, settled, Settles}
+use Rattle.set_queues.specs.Settling.{fate_on, on, Settles}
 use Rattle.set_queues.proofs.Standing.{restood-append, room_sum, same_self, same_is}
 use Rattle.set_queues.proofs.Passing.{queued_stands, known_on}
 use Rattle.set_queues.proofs.Soundness.{passed_replaces, passed_links, unqueued}

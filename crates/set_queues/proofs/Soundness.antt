@@ -7,13 +7,13 @@ use Rattle.set_events.specs.declared.answer.Fate.{Fate}
 use Rattle.set_events.specs.declared.answer.Fate.TheVariants.{Waiting, Unacked, Acked, Held, Parked, Discarded}
 use Rattle.set_queues.specs.declared.message.Message.{Message}
 use Rattle.set_queues.specs.Counts.{one_if}
-use Rattle.set_queues.specs.Messages.{updated, with_fate, restood_one, restood, fate_at, octets_in, octets_at, octets_of}
+use Rattle.set_queues.specs.Messages.{with_fate, restood_one, restood, octets_in, octets_of}
 use Rattle.set_queues.specs.Sending.{first_sent, acknowledged, reach}
 use Rattle.set_queues.specs.Tally.{IsFit, AreFit}
 use Rattle.set_queues.specs.Buffers.{LinkLists, Lists, is_standing, same_fate, queue_at, with_queue, with_last, list_in, IsKnown, IsQueued}
 use Rattle.set_queues.specs.Queues.{occurs, has_fate, stands, passed, AreTied, AreGiven, AreNarrow, AreSound, AreWeighed}
 use Rattle.set_queues.proofs.Updates.{length-updated, updated_same, updated_other}
-use Rattle.set_queues.proofs.Standing.{Moves, moved_tie, given_queue, given_at, same_is, same_self, occurs-append, occurs-split, occurs_here, occurs_not}
+use Rattle.set_queues.proofs.Standing.{Moves, moved_tie, given_queue, given_at, same_is, occurs-append, occurs-split, occurs_here, occurs_not}
 use Rattle.set_queues.proofs.Tallies.{fit_push}
 use Rattle.std.proofs.lemmas.List.{length-replicate, length-append, length-drop}
 use Rattle.std.proofs.lemmas.Option.{slice_get_past}

@@ -2,7 +2,7 @@
 use Rattle.std.proofs.Common.{refl, arith, ◌≡◌, ◌∙◌, ap, sym, subst, ◌+◌, ◌≤◌, ◌<◌, [], ◌∷◌, ◌++◌, length, ℕ, zero, suc, Bool, true, false, ◌==◌, ◌⊎◌, inl, inr, List, Option, Some, None, cond, take, drop, add-one}
 use Rattle.std.specs.Prelude.{slice_get}
 use Rattle.std.specs.Option.{option_map}
-use Rattle.std.proofs.lemmas.Bool.{eqb-true, eqb-false, eq-eqb, ne_eqb, cases_eq}
+use Rattle.std.proofs.lemmas.Bool.{eqb-true, eq-eqb, ne_eqb, cases_eq}
 use Rattle.std.proofs.lemmas.Option.{slice_get_within}
 use Rattle.set_events.specs.declared.answer.Fate.{Fate}
 use Rattle.set_events.specs.declared.answer.Fate.TheVariants.{Waiting, Unacked, Acked, Held, Parked, Discarded}
@@ -10,8 +10,8 @@ use Rattle.set_events.specs.declared.answer.DiscardCause.{DiscardCause}
 use Rattle.set_events.specs.declared.answer.DiscardCause.TheVariants.{Emergency, Unreasonable, NoAnswer}
 use Rattle.set_queues.specs.declared.message.Message.{Message}
 use Rattle.set_queues.specs.Counts.{one_if}
-use Rattle.set_queues.specs.Messages.{updated, with_fate, restood_one, restood, fate_at, octets_in, octets_at, octets_of}
-use Rattle.set_queues.specs.Buffers.{LinkLists, Lists, is_standing, same_fate, same_cause, queue_at, list_in}
+use Rattle.set_queues.specs.Messages.{with_fate, restood_one, restood, fate_at}
+use Rattle.set_queues.specs.Buffers.{Lists, is_standing, same_fate, same_cause, queue_at}
 use Rattle.set_queues.specs.Queues.{occurs, has_fate, stands, AreTied, AreGiven}
 use Rattle.set_queues.proofs.Updates.{length-updated, updated_same, updated_other}
 

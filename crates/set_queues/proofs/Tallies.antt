@@ -1,7 +1,6 @@
 -- The running counts of a list of messages, when one of them changes or joins.
-use Rattle.std.proofs.Common.{refl, arith, ◌≡◌, ap, subst, ◌+◌, ◌≤◌, ◌<◌, ◌^◌, [], ◌∷◌, ◌++◌, length, ℕ, zero, suc, Bool, true, false, ◌&&◌, List, Some, cond}
-use Rattle.std.specs.Prelude.{filter, slice_get, slice_set, slice_index}
-use Rattle.set_events.specs.declared.answer.Fate.{Fate}
+use Rattle.std.proofs.Common.{arith, ◌≡◌, ap, subst, ◌+◌, ◌≤◌, ◌<◌, ◌^◌, [], ◌∷◌, ◌++◌, length, ℕ, zero, suc, Bool, true, false, List, Some, cond}
+use Rattle.std.specs.Prelude.{filter, slice_get, slice_set}
 use Rattle.set_queues.specs.declared.message.Message.{Message}
 use Rattle.set_queues.specs.declared.tally.Tally.{Tally}
 use Rattle.set_queues.specs.Counts.{one_if, waits, was_sent, was_acked, was_held, is_parked, was_discarded}

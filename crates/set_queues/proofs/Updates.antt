@@ -1,5 +1,5 @@
 -- Lists of which the element at one place changes.
-use Rattle.std.proofs.Common.{refl, arith, ◌≡◌, ◌∙◌, ap, sym, ◌+◌, ◌≤◌, ◌<◌, [], ◌∷◌, ◌++◌, length, map, ℕ, zero, suc, Bool, true, false, ◌==◌, List, Option, Some, None, cond}
+use Rattle.std.proofs.Common.{refl, ◌≡◌, ◌∙◌, ap, sym, [], ◌∷◌, length, map, ℕ, zero, suc, List, Some}
 use Rattle.std.specs.Prelude.{slice_get, slice_set}
 use Rattle.std.specs.Option.{option_map}
 use Rattle.set_queues.specs.Messages.{updated}

@@ -1,5 +1,5 @@
 -- The octets of the unacknowledged bodies.
-use Rattle.std.proofs.Common.{refl, arith, ◌≡◌, ◌∙◌, ap, sym, subst, ◌+◌, ◌-◌, ◌*◌, ◌≤◌, ◌<◌, [], ◌∷◌, ◌++◌, length, ℕ, zero, suc, Bool, true, false, ◌==◌, ◌⊎◌, inl, inr, List, Option, Some, None, cond, take, drop}
+use Rattle.std.proofs.Common.{refl, arith, ◌≡◌, ◌∙◌, ap, sym, subst, ◌+◌, ◌*◌, ◌≤◌, ◌<◌, [], ◌∷◌, ◌++◌, length, ℕ, zero, suc, Bool, true, false, ◌==◌, ◌⊎◌, inl, inr, List, Option, Some, None, cond, take, drop}
 use Rattle.std.specs.Prelude.{slice_get, slice_index}
 use Rattle.std.specs.Option.{option_map}
 use Rattle.std.proofs.lemmas.Bool.{cases_eq, eqb-true}
@@ -7,7 +7,7 @@ use Rattle.set_events.specs.declared.answer.Fate.{Fate}
 use Rattle.set_events.specs.declared.answer.Fate.TheVariants.{Unacked}
 use Rattle.set_queues.specs.declared.message.Message.{Message}
 use Rattle.set_queues.specs.Messages.{with_fate, restood_one, restood, octets_in, octets_at, octets_of}
-use Rattle.set_queues.specs.Tally.{IsFit, AreFit}
+use Rattle.set_queues.specs.Tally.{AreFit}
 use Rattle.set_queues.specs.Buffers.{Lists, same_fate, queue_at}
 use Rattle.set_queues.specs.Queues.{AreWeighed}
 use Rattle.set_queues.proofs.Updates.{updated_same, updated_other}

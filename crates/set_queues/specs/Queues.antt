@@ -1,12 +1,12 @@
 -- Where every message of a set stands.
-use Rattle.std.specs.Prelude.{◌≡◌, ℕ, ◌+◌, ◌<◌, ◌≤◌, ◌==◌, Bool, true, false, List, [], ◌∷◌, ◌++◌, length, slice_get, slice_index, Option, Some, None, if◌then◌else◌}
+use Rattle.std.specs.Prelude.{◌≡◌, ℕ, ◌+◌, ◌<◌, ◌≤◌, ◌==◌, Bool, true, false, List, [], ◌∷◌, ◌++◌, length, slice_index, Option, Some, None}
 use Rattle.set_events.specs.declared.answer.Fate.{Fate}
 use Rattle.set_events.specs.declared.answer.Fate.TheVariants.{Unacked}
 use Rattle.set_queues.specs.declared.message.Message.{Message}
 use Rattle.set_queues.specs.Counts.{one_if}
 use Rattle.set_queues.specs.Tally.{AreFit}
-use Rattle.set_queues.specs.Messages.{fate_at, octets_of, restood}
-use Rattle.set_queues.specs.Buffers.{Lists, Rooms, is_standing, same_fate, queue_at, with_queue, last_at, with_last}
+use Rattle.set_queues.specs.Messages.{fate_at, octets_of}
+use Rattle.set_queues.specs.Buffers.{Lists, Rooms, is_standing, same_fate, queue_at, with_queue}
 
 -- what contracts see of the queues of a set
 pub record QueuesState : Type 0 where

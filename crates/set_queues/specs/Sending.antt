@@ -1,5 +1,5 @@
 -- A message is sent for the first time, and acknowledged.
-use Rattle.std.specs.Prelude.{◌≡◌, ℕ, ◌+◌, ◌-◌, ◌%◌, ◌++◌, List, [], ◌∷◌, drop, length, slice_get, Some}
+use Rattle.std.specs.Prelude.{◌≡◌, ℕ, ◌+◌, ◌-◌, ◌%◌, ◌++◌, [], ◌∷◌, drop, slice_get, Some}
 use Rattle.set_events.specs.declared.answer.Fate.TheVariants.{Waiting, Unacked}
 use Rattle.set_queues.specs.Buffers.{Lists, queue_at, with_queue, last_at, with_last}
 

@@ -1,5 +1,6 @@
 //! What is kept of a message beside its body.
 use set_events::Fate;
+use std::mem::size_of;
 
 /// Whose a message is.
 #[derive(Clone, Copy, Debug, PartialEq, Eq)]
@@ -20,3 +21,6 @@ pub struct Message {
     /// The octets of its body, at most 273.
     pub octets: u16,
 }
+
+// Every number ever given out takes so many octets, and eight while it stands in a queue.
+const _: () = prove!(size_of::<Message>() <= 8);

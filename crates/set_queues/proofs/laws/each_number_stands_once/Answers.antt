@@ -1,13 +1,12 @@
-use Rattle.std.proofs.Common.{arith, refl, ◌≡◌, ◌∙◌, ap, ◌⊎◌, inl, inr, true, false, List, ℕ, ◌≤◌, length, Option, Some}
+use Rattle.std.proofs.Common.{◌≡◌, ◌∙◌, ap, ◌⊎◌, inl, inr, true, false, Option}
 use Rattle.std.specs.Option.{option_map}
 use Rattle.std.proofs.lemmas.Bool.{cases_Bool}
 use Rattle.std.proofs.lemmas.Option.{slice_get_past}
 use Rattle.set_events.specs.declared.answer.Fate.{Fate}
 use Rattle.set_queues.specs.declared.message.Message.{Message}
 use Rattle.set_queues.specs.Counts.{one_if}
-use Rattle.set_queues.specs.Messages.{fate_at}
-use Rattle.set_queues.specs.Buffers.{Lists, is_standing, same_fate, queue_at}
-use Rattle.set_queues.specs.Queues.{occurs, has_fate, stands, AreSound}
+use Rattle.set_queues.specs.Buffers.{is_standing, same_fate}
+use Rattle.set_queues.specs.Queues.{has_fate}
 use Rattle.set_queues.proofs.Standing.{same_is, same_self}
 use Rattle.set_queues.proofs.laws.each_number_stands_once.Goals as goal
 

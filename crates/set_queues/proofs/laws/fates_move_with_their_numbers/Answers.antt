@@ -1,4 +1,4 @@
-use Rattle.std.proofs.Common.{arith, ◌≡◌, [], ◌∷◌}
+use Rattle.std.proofs.Common.{arith, [], ◌∷◌}
 use Rattle.set_queues.proofs.Standing.{fate_moves, fate_stays, length-restood}
 use Rattle.set_queues.proofs.Weighing.{octets_stay}
 use Rattle.set_queues.proofs.laws.fates_move_with_their_numbers.Goals as goal

@@ -1,6 +1,6 @@
-use Rattle.std.proofs.Common.{arith, ◌≡◌, ◌∙◌, ap, sym, [], ◌∷◌, ◌++◌, ◌<◌, ◌+◌, length, take, List, ℕ, Some, append_assoc}
+use Rattle.std.proofs.Common.{arith, ◌≡◌, ◌∙◌, ap, sym, [], ◌∷◌, ◌++◌, length, take, List, ℕ, Some, append_assoc}
 use Rattle.std.specs.Prelude.{slice_get}
-use Rattle.set_queues.specs.Buffers.{Lists, queue_at, with_queue, room_at, same_fate}
+use Rattle.set_queues.specs.Buffers.{Lists, queue_at, with_queue, same_fate}
 use Rattle.set_queues.proofs.Standing.{take_get, none_past, append-nil, room_sum}
 use Rattle.set_queues.proofs.Passing.{queue_id, queue_more, queue_other, queued_stands, known_on, links_stay}
 use Rattle.set_queues.proofs.moving.queue_too.Goals as goal

@@ -1,4 +1,4 @@
-use Rattle.std.proofs.Common.{◌≡◌, ◌++◌, take, length}
+use Rattle.std.proofs.Common.{◌≡◌, ◌++◌, take}
 use Rattle.set_queues.specs.Buffers.{queue_at, with_queue, TakesRoom}
 use Rattle.set_queues.proofs.moving.queue_too.Given as goal
 

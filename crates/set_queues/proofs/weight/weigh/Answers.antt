@@ -1,7 +1,6 @@
-use Rattle.std.proofs.Common.{arith, refl, ◌≡◌, ◌≤◌, ◌<◌, ◌∙◌, ap, sym, Some, None, length}
+use Rattle.std.proofs.Common.{arith, refl, ◌≡◌, ◌∙◌, sym, Some}
 use Rattle.std.specs.Prelude.{slice_get}
 use Rattle.set_events.specs.declared.answer.Fate.TheVariants.{Unacked}
-use Rattle.set_queues.specs.Messages.{octets_at}
 use Rattle.set_queues.specs.Buffers.{queue_at}
 use Rattle.set_queues.proofs.Weighing.{fit_octets, octets_more}
 use Rattle.set_queues.proofs.Standing.{none_past}

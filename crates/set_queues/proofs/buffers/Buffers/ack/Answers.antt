@@ -1,7 +1,7 @@
-use Rattle.std.proofs.Common.{arith, refl, ◌≡◌, ◌<◌, ◌≤◌, ◌++◌, [], ◌∷◌, List, ℕ, ap, sym, length, map, drop, Some, ◌∙◌}
+use Rattle.std.proofs.Common.{arith, refl, ◌≤◌, List, ap, sym, map, drop, ◌∙◌}
 use Rattle.std.specs.Prelude.{slice_get}
 use Rattle.l2_window.specs.Window.{WindowState}
-use Rattle.set_queues.specs.Buffers.{LinkLists, Lists, list_in}
+use Rattle.set_queues.specs.Buffers.{LinkLists, list_in}
 use Rattle.set_queues.specs.Sending.{reach}
 use Rattle.set_queues.specs.Kept.{lists_of, state_of}
 use Rattle.set_queues.proofs.Updates.{updated_twice}

@@ -1,8 +1,6 @@
-use Rattle.std.proofs.Common.{arith, refl, ◌≡◌, ◌<◌, ◌++◌, [], ◌∷◌, List, ℕ, ap, sym, length, Some, ◌∙◌}
-use Rattle.std.specs.Prelude.{slice_get}
-use Rattle.set_queues.specs.Buffers.{LinkLists, LinkRooms, Lists, Rooms}
-use Rattle.set_queues.specs.Kept.{lists_of, rooms_of}
-use Rattle.set_queues.proofs.Linked.{found, lists_set, list_there, keeps, takes_waiting, takes_held, room_waiting, room_held}
+use Rattle.std.proofs.Common.{arith, refl, ◌<◌, [], List, ap, length}
+use Rattle.set_queues.specs.Buffers.{LinkLists}
+use Rattle.set_queues.proofs.Linked.{found, lists_set, keeps}
 use Rattle.set_queues.proofs.buffers.Buffers.clear.Goals as goal
 
 pub returns-in-Waiting-clause-lists : goal.returns-in-Waiting-clause-lists

@@ -1,9 +1,8 @@
-use Rattle.std.proofs.Common.{arith, refl, ◌≡◌, ◌<◌, ◌++◌, [], ◌∷◌, List, ℕ, ap, sym, length, map, Some, ◌∙◌}
-use Rattle.std.specs.Prelude.{slice_get}
-use Rattle.set_queues.specs.Buffers.{LinkLists, LinkRooms, Lists, Rooms, list_in}
-use Rattle.set_queues.specs.Kept.{lists_of, rooms_of}
+use Rattle.std.proofs.Common.{arith, refl, ◌<◌, List, ap, length}
+use Rattle.set_queues.specs.Buffers.{LinkLists}
+use Rattle.set_queues.specs.Kept.{lists_of}
 use Rattle.set_queues.proofs.Updates.{map_set_same}
-use Rattle.set_queues.proofs.Linked.{found, lists_set, list_there, keeps, takes_waiting, takes_held, room_waiting, room_held}
+use Rattle.set_queues.proofs.Linked.{found, keeps, room_waiting, room_held}
 use Rattle.set_queues.proofs.buffers.Buffers.reserve.Goals as goal
 
 pub returns-in-Waiting-clause-room : goal.returns-in-Waiting-clause-room

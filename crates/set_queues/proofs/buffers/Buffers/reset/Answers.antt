@@ -1,4 +1,4 @@
-use Rattle.std.proofs.Common.{arith, refl, ◌≡◌, ◌<◌, ◌≤◌, List, ap}
+use Rattle.std.proofs.Common.{arith, refl, ◌≤◌, List, ap}
 use Rattle.l2_window.specs.Window.{WindowState}
 use Rattle.set_queues.specs.Buffers.{LinkLists}
 use Rattle.set_queues.proofs.Linked.{found, lists_set, keeps}

@@ -1,6 +1,6 @@
-use Rattle.std.proofs.Common.{arith, refl, ◌≡◌, ◌<◌, ◌++◌, [], ◌∷◌, List, ℕ, ap, sym, length, map, drop, Some, ◌∙◌}
+use Rattle.std.proofs.Common.{arith, refl, ◌++◌, [], ◌∷◌, List, ap, sym, map, drop, ◌∙◌}
 use Rattle.std.specs.Prelude.{slice_get}
-use Rattle.set_queues.specs.Buffers.{LinkLists, Lists, list_in}
+use Rattle.set_queues.specs.Buffers.{LinkLists, list_in}
 use Rattle.set_queues.specs.Kept.{lists_of}
 use Rattle.set_queues.proofs.Updates.{updated_twice}
 use Rattle.set_queues.proofs.Linked.{found, lists_set, list_there, last_there, keeps}

@@ -1,4 +1,4 @@
-use Rattle.std.proofs.Common.{rules, length, ◌<◌, ◌^◌}
+use Rattle.std.proofs.Common.{rules}
 use Rattle.set_queues.proofs.Tallies.{tally_few, tally_push, fit_push}
 use Rattle.set_queues.proofs.messages.Messages.add.Goals as goal
 

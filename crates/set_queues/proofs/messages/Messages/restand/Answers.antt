@@ -1,9 +1,8 @@
-use Rattle.std.proofs.Common.{rules, arith, refl, ◌≡◌, ◌≤◌, ◌<◌, ◌^◌, ◌∙◌, ap, sym, length, Some}
+use Rattle.std.proofs.Common.{rules, refl, ◌≡◌, ◌<◌, ap, sym, length, Some}
 use Rattle.std.specs.Prelude.{slice_get}
 use Rattle.std.proofs.lemmas.Option.{slice_get_read}
 use Rattle.set_queues.specs.Messages.{octets_in, with_fate}
 use Rattle.set_queues.specs.Tally.{IsFit}
-use Rattle.set_queues.specs.declared.message.Message.{Message}
 use Rattle.set_queues.proofs.Tallies.{tally_in, tally_few, fewer, tally_set, fit_set}
 use Rattle.set_queues.proofs.Updates.{set_updated}
 use Rattle.set_queues.proofs.messages.Messages.restand.Goals as goal

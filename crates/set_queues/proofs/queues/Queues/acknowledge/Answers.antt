@@ -1,7 +1,7 @@
-use Rattle.std.proofs.Common.{arith, ◌≡◌, ◌∙◌, ◌<◌, ◌≤◌, ◌+◌, ◌-◌, ◌%◌, [], ◌∷◌, ap, sym, subst, length, List, ℕ, take, drop, refl}
+use Rattle.std.proofs.Common.{arith, ◌≡◌, ◌∙◌, ◌<◌, ◌-◌, ap, sym, subst, length, ℕ, take, drop, refl}
 use Rattle.std.specs.Prelude.{slice_index}
 use Rattle.set_events.specs.declared.answer.Fate.TheVariants.{Unacked, Acked}
-use Rattle.set_queues.specs.Buffers.{queue_at, last_at}
+use Rattle.set_queues.specs.Buffers.{queue_at}
 use Rattle.set_queues.specs.Messages.{octets_of, restood}
 use Rattle.set_queues.specs.Queues.{AreSound}
 use Rattle.set_queues.specs.Sending.{acknowledged, reach}

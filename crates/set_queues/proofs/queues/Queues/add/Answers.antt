@@ -1,4 +1,3 @@
-use Rattle.std.proofs.Common.{arith, ◌≡◌, ◌∙◌, ap, sym, length}
 use Rattle.set_queues.specs.Buffers.{IsKnown}
 use Rattle.set_queues.proofs.Soundness.{sound_added, weighed_added}
 use Rattle.set_queues.proofs.queues.Queues.add.Goals as goal

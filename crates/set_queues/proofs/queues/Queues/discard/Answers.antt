@@ -1,8 +1,7 @@
-use Rattle.std.proofs.Common.{arith, ◌≡◌, ◌∙◌, ap, sym, ◌≤◌, length, refl, take, [], List, ℕ}
+use Rattle.std.proofs.Common.{refl, take, []}
 use Rattle.set_events.specs.declared.answer.Fate.TheVariants.{Unacked, Discarded}
-use Rattle.set_queues.specs.Buffers.{Lists, IsKnown, queue_at, with_queue}
-use Rattle.set_queues.specs.Messages.{restood}
-use Rattle.set_queues.proofs.Passing.{known_on, links_stay}
+use Rattle.set_queues.specs.Buffers.{IsKnown, queue_at, with_queue}
+use Rattle.set_queues.proofs.Passing.{links_stay}
 use Rattle.set_queues.proofs.Standing.{whole}
 use Rattle.set_queues.proofs.Soundness.{given_all, sound_cleared, cleared_queue}
 use Rattle.set_queues.proofs.Weighing.{weighed_cleared}

@@ -1,6 +1,5 @@
-use Rattle.std.proofs.Common.{arith, ◌≡◌, ◌∙◌, ap, sym, ◌≤◌, length, take, [], List, ℕ}
-use Rattle.set_queues.specs.Buffers.{Lists, IsKnown, queue_at}
-use Rattle.set_queues.specs.Messages.{restood}
+use Rattle.std.proofs.Common.{take}
+use Rattle.set_queues.specs.Buffers.{IsKnown, queue_at}
 use Rattle.set_queues.specs.Queues.{passed}
 use Rattle.set_queues.proofs.Passing.{known_on, links_stay}
 use Rattle.set_queues.proofs.Standing.{whole}

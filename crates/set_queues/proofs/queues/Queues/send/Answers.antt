@@ -1,9 +1,8 @@
-use Rattle.std.proofs.Common.{arith, ◌≡◌, ◌∙◌, ◌<◌, ◌≤◌, ◌+◌, ◌++◌, [], ◌∷◌, ap, sym, length, Some, List, ℕ, inl, inr, ◌⊎◌, drop}
+use Rattle.std.proofs.Common.{arith, ◌≡◌, ◌∙◌, ◌<◌, ◌≤◌, ◌+◌, ◌++◌, [], ◌∷◌, length, Some, List, ℕ, inl, inr}
 use Rattle.std.proofs.lemmas.Bool.{cases_lt}
 use Rattle.std.specs.Prelude.{slice_index, slice_get}
-use Rattle.set_events.specs.declared.answer.Fate.TheVariants.{Unacked, Waiting}
-use Rattle.set_queues.specs.Buffers.{IsKnown, queue_at}
-use Rattle.set_queues.specs.Messages.{octets_of}
+use Rattle.set_events.specs.declared.answer.Fate.TheVariants.{Unacked}
+use Rattle.set_queues.specs.Buffers.{queue_at}
 use Rattle.set_queues.specs.Sending.{first_sent}
 use Rattle.set_queues.proofs.Soundness.{sound_sent, sent_links, sent_unacked, given_first}
 use Rattle.set_queues.proofs.Weighing.{octets_few, octets-append, weighed_changed, at_link}

@@ -1,11 +1,10 @@
-use Rattle.std.proofs.Common.{arith, refl, ◌≡◌, ◌∙◌, ap, sym, subst, ◌+◌, ◌≤◌, ◌<◌, ◌++◌, length, List, ℕ}
+use Rattle.std.proofs.Common.{arith, ◌∙◌, ap, ◌≤◌, ◌++◌, length, List, ℕ}
 use Rattle.set_events.specs.declared.answer.Fate.{Fate}
 use Rattle.set_events.specs.declared.answer.Fate.TheVariants.{Waiting, Unacked, Held}
-use Rattle.set_queues.specs.declared.message.Message.{Message}
-use Rattle.set_queues.specs.Buffers.{Lists, IsKnown, queue_at, room_at, same_fate}
+use Rattle.set_queues.specs.Buffers.{Lists, queue_at, room_at, same_fate}
 use Rattle.set_queues.specs.Queues.{passed}
 use Rattle.set_queues.specs.Messages.{restood}
-use Rattle.set_queues.specs.Settling.{on, fate_on}
+use Rattle.set_queues.specs.Settling.{on}
 use Rattle.set_queues.proofs.Settling.{IsAside, aside_of, aside_passed, waits_on, held_last, room_left, on_length, restood_three, rooms_three}
 use Rattle.set_queues.proofs.queues.Queues.settle.Goals as goal
 
