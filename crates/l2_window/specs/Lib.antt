@@ -1,5 +1,6 @@
 pub mod Control
 pub mod Fault
 pub mod Line
+pub mod Queue
 pub mod Stored
 pub mod Window

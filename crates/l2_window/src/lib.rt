@@ -12,7 +12,8 @@
 //! ```
 //!
 //! Readers: [`Window::last`], [`Window::unacked_len`], [`Window::unsent_len`],
-//! [`Window::unacked_at`], [`Window::distance`]. Inputs: [`Window::push`], [`Window::send`],
+//! [`Window::unacked_at`], [`Window::unsent_at`], [`Window::distance`]. Inputs: [`Window::push`],
+//! [`Window::send`],
 //! [`Window::ack`], [`Window::pop`], [`Window::clear_unacked`], [`Window::clear_unsent`],
 //! [`Window::reset`].
 //!
@@ -20,13 +21,17 @@
 //! these stand here too, and what the laws of both rest on: `specs/Line.antt` is a unit on its way,
 //! `proofs/Way.antt` one direction of a link, as the counts of its two ends tell it.
 //!
+//! Both lists lie in rings: one of 127 places for the unacknowledged, and a [`Queue`], which grows, for
+//! the unsent; [`Window::into_rings`] hands them out.
+//!
 //! This crate reads no clock, does no IO, takes no lock, and knows of a unit its header alone. Only
-//! [`Window::new`], [`Window::reserve`] and [`Window::push`] take memory.
+//! [`Window::new`], [`Window::reserve`] and [`Window::push`], and those of [`Queue`], take memory.
 #![tactic(auto)]
 
 mod control;
 mod fault;
 mod law;
+mod queue;
 #[cfg(test)]
 mod tests;
 mod window;
@@ -34,4 +39,5 @@ mod window;
 pub use control::{ControlFault, HeardPart, Sending, number_after};
 pub use fault::WindowFault;
 pub use law::{numbers_never_mislead, numbers_tell_places};
+pub use queue::Queue;
 pub use window::{MOST_UNACKED, NoMemory, Window};

@@ -91,6 +91,44 @@ fn the_messages_of_a_link_are_given_up(rt: HostRuntime) -> Result<(), Fail> {
 }
 
 #[test]
+fn a_window_hands_out_its_rings(rt: HostRuntime) -> Result<(), Fail> {
+    let mut window = filled(&rt, 130)?;
+    for _ in 0..127u8 {
+        window.send()?;
+    }
+    window.ack(1)?;
+    let (unacked, unsent) = window.into_rings();
+    assert_eq!(rt; unacked.capacity(), MOST_UNACKED);
+    assert_eq!(rt; unacked.len(), 125);
+    assert_eq!(rt; unacked.front(), Some(&2));
+    assert_eq!(rt; unsent.front(), Some(&127));
+    assert_eq!(rt; unsent.back(), Some(&129));
+    Ok(())
+}
+
+#[test]
+fn a_queue_grows_and_keeps_its_order(rt: HostRuntime) -> Result<(), Fail> {
+    let mut queue = Queue::new(rt.alloc())?;
+    for message in 0..1000u64 {
+        queue.push(message)?;
+        if message % 3 == 0 {
+            assert_eq!(rt; queue.pop(), Some(message / 3));
+        }
+    }
+    assert_eq!(rt; queue.len(), 666);
+    assert_eq!(rt; queue.at(0), Some(334));
+    queue.reserve(5000)?;
+    queue.push_reserved(1000);
+    assert_eq!(rt; queue.at(666), Some(1000));
+    assert_eq!(rt; queue.into_ring().back(), Some(&1000));
+    let mut cleared = Queue::new(rt.alloc())?;
+    cleared.push(7)?;
+    cleared.clear();
+    assert!(rt; cleared.is_empty());
+    Ok(())
+}
+
+#[test]
 fn refusals_have_their_numbers(rt: HostRuntime) {
     assert_eq!(rt; WindowFault::Empty.number(), 1);
     assert_eq!(rt; WindowFault::Full.number(), 2);

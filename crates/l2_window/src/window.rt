@@ -1,8 +1,9 @@
 //! The window: what was sent and isn't acknowledged, and what waits to be sent.
 use super::control::number_after;
 use super::fault::WindowFault;
+use super::queue::Queue;
+use circular_buffer::HeapCircularBuffer;
 use std::alloc::{AllocError, Global};
-use std::collections::VecDeque;
 use std::marker::Model;
 
 /// The most messages that may be unacknowledged: one less than there are FSNs (Q.703 5.2.2).
@@ -21,18 +22,16 @@ pub type NoMemory = AllocError;
 #[derive(Debug, Drop)]
 pub struct Window {
     last: u8,
-    unacked: VecDeque<u64>,
-    unsent: VecDeque<u64>,
+    unacked: HeapCircularBuffer<u64>,
+    unsent: Queue,
 }
 
 impl Model for Window {
-    ghost use Rattle.std.specs.Prelude.{◌-◌, ◌<◌, ◌≤◌};
-    ghost use Rattle.std.specs.VecDeque.{deque_len, deque_capacity};
     ghost use Rattle.l2_window.specs.Window.{WindowState};
 
     ghost Value = { WindowState };
 
-    ghost view = { λ w. record { last = w.last; unacked = w.unacked.items; unsent = w.unsent.items; room = deque_capacity w.unsent - deque_len w.unsent } };
+    ghost view = { λ w. record { last = w.last; unacked = w.unacked.items; unsent = w.unsent.messages; room = w.unsent.room } };
 
     ghost use Rattle.l2_window.specs.Stored.{IsStored};
 
@@ -40,7 +39,7 @@ impl Model for Window {
 }
 
 impl Window {
-    ghost use Rattle.std.specs.Prelude.{◌≡◌, ◌≢◌, ◌↔◌, ◌<◌, ◌≤◌, ◌++◌, [], length, drop, slice_get, IsOk, IfOk, OnOk, OnErr, IfSome, IsNone, MatchOption};
+    ghost use Rattle.std.specs.Prelude.{◌≡◌, ◌≢◌, ◌↔◌, ◌-◌, ◌<◌, ◌≤◌, ◌++◌, [], length, drop, slice_get, IsOk, IfOk, OnOk, OnErr, IfSome, IsNone, MatchOption};
     ghost use Rattle.std.specs.Option.{SomeIff};
     ghost use Rattle.std.specs.Result.{OkIff};
     ghost use Rattle.l2_window.specs.Window.{IsWindow, IsEmpty, IsReasonable, SameMessages, Pushes, Sends, Pops, fsn_at, distance_to};
@@ -52,8 +51,8 @@ impl Window {
     {
         Ok(Window {
             last: BEFORE_FIRST,
-            unacked: VecDeque::with_capacity(alloc, MOST_UNACKED)?,
-            unsent: VecDeque::new(alloc),
+            unacked: HeapCircularBuffer::with_capacity(alloc, MOST_UNACKED)?,
+            unsent: Queue::new(alloc)?,
         })
     }
 
@@ -87,6 +86,13 @@ impl Window {
         self.unacked.get(place).copied()
     }
 
+    /// The unsent message at this place, the oldest at 0.
+    pub fn unsent_at(&self, place: usize) -> Option<u64>
+        ensures { result ≡ slice_get self.now.unsent place }
+    {
+        self.unsent.at(place)
+    }
+
     /// Makes room for `pushes` more pushes, which then can't fail. The messages stay as they are.
     pub fn reserve(&mut self, pushes: usize) -> Result<(), NoMemory>
         ensures room { OnOk result (pushes ≤ self.new.room) }
@@ -103,8 +109,7 @@ impl Window {
         ensures err { OnErr result (SameMessages self.old self.new) }
         ensures fails { OnErr result (self.old.room ≡ 0) }
     {
-        self.unsent.push_back(message)?;
-        Ok(())
+        self.unsent.push(message)
     }
 
     /// Sends the first unsent message: the message and its FSN. It is then the last of the
@@ -124,9 +129,11 @@ impl Window {
         if place >= MOST_UNACKED && !self.unsent.is_empty() {
             return Err(WindowFault::Full);
         }
-        let message = self.unsent.pop_front().ok_or(WindowFault::Empty)?;
-        self.unacked.push_back_reserved(message);
-        Ok((message, number_after(self.last, place + 1)))
+        let message = self.unsent.pop().ok_or(WindowFault::Empty)?;
+        match self.unacked.try_push_back(message) {
+            Ok(()) => Ok((message, number_after(self.last, place + 1))),
+            Err(_) => unreachable!(),
+        }
     }
 
     /// How many messages an acknowledgement of this number acknowledges, or nothing where the
@@ -151,7 +158,8 @@ impl Window {
         ensures err { OnErr result (self.new ≡ self.old) }
     {
         let distance = self.distance(number).ok_or(WindowFault::Unreasonable)?;
-        self.unacked.drain(..usize::from(distance));
+        let left = self.unacked.len() - usize::from(distance);
+        self.unacked.truncate_front(left);
         self.last = number;
         Ok(distance)
     }
@@ -166,7 +174,7 @@ impl Window {
         if let Some(message) = self.unacked.pop_front() {
             return Some(message);
         }
-        self.unsent.pop_front()
+        self.unsent.pop()
     }
 
     /// The unacknowledged messages leave the window, and the number last acknowledged stays: what
@@ -194,5 +202,20 @@ impl Window {
         ensures { self.new ≡ record self.old { last = 127 } }
     {
         self.last = BEFORE_FIRST;
+    }
+
+    /// The two rings themselves, that of the unacknowledged messages first.
+    pub fn into_rings(self) -> (HeapCircularBuffer<u64>, HeapCircularBuffer<u64>)
+        ensures unacked { result.0.items ≡ self.unacked }
+        ensures capacity { result.0.capacity ≡ 127 }
+        ensures unsent { result.1.items ≡ self.unsent }
+        ensures room { result.1.capacity - length result.1.items ≡ self.room }
+    {
+        let Window {
+            unacked,
+            unsent,
+            ..
+        } = self;
+        (unacked, unsent.into_ring())
     }
 }

@@ -1,0 +1,132 @@
+-- A queue is replaced by another list.
+use Rattle.std.proofs.Common.{refl, arith, ◌≡◌, ◌∙◌, ap, subst, ◌<◌, [], ◌∷◌, ◌++◌, length, ℕ, zero, suc, Bool, true, false, ◌==◌, List, Option, Some, None, cond}
+use Rattle.std.specs.Prelude.{slice_get}
+use Rattle.std.specs.Option.{option_map}
+use Rattle.std.proofs.lemmas.Bool.{eqb-true, eqb-false}
+use Rattle.set_events.specs.declared.answer.Fate.{Fate}
+use Rattle.set_events.specs.declared.answer.Fate.TheVariants.{Waiting, Unacked, Acked, Held, Parked, Discarded}
+use Rattle.set_queues.specs.Messages.{updated}
+use Rattle.set_queues.specs.Buffers.{LinkLists, Lists, is_standing, same_fate, queue_at, with_queue, list_in, number_in, IsKnown, IsQueued}
+use Rattle.set_queues.proofs.Updates.{length-updated, updated_same, updated_other, updated_twice, updated_id}
+use Rattle.set_queues.proofs.Standing.{same_self}
+
+there : {X : Type 0} (xs : List X) (n : ℕ) → n < length xs → (x : X) × (slice_get xs n ≡ Some x)
+there [] n h = absurd (omega arith)
+there (x ∷ xs) zero h = (x, refl)
+there (x ∷ xs) (suc n) h = there xs n (omega arith)
+
+-- a list of a link that changes is the new one, and no other list is touched
+list_set : (list : LinkLists → List ℕ) (f : LinkLists → LinkLists) (numbers : List ℕ) (ls : List LinkLists) (l k : ℕ) (b : Bool) → (l == k) ≡ b → l < length ls → ((x : LinkLists) → list (f x) ≡ numbers) → list_in list (slice_get (updated l f ls) k) ≡ cond b numbers (list_in list (slice_get ls k))
+list_set list f numbers ls l k true t h e =
+    let same : l ≡ k = eqb-true l k t in
+    let x = there ls l h in
+    subst (λ (i : ℕ). list_in list (slice_get (updated l f ls) i) ≡ numbers) same (ap (list_in list) (updated_same f ls l ∙ ap (option_map f) x.1) ∙ e x.0)
+list_set list f numbers ls l k false t h e = ap (list_in list) (updated_other f ls l k (eqb-false l k t))
+
+pub list_kept : {Y : Type 0} (get : Option LinkLists → Y) (f : LinkLists → LinkLists) (ls : List LinkLists) (l k : ℕ) → ((o : Option LinkLists) → get (option_map f o) ≡ get o) → (b : Bool) → (l == k) ≡ b → get (slice_get (updated l f ls) k) ≡ get (slice_get ls k)
+list_kept get f ls l k e true t =
+    let same : l ≡ k = eqb-true l k t in
+    subst (λ (i : ℕ). get (slice_get (updated l f ls) i) ≡ get (slice_get ls i)) same (ap get (updated_same f ls l) ∙ e (slice_get ls l))
+list_kept get f ls l k e false t = ap get (updated_other f ls l k (eqb-false l k t))
+
+pub kept_unsent : (f : LinkLists → LinkLists) → ((x : LinkLists) → (f x).unsent ≡ x.unsent) → (o : Option LinkLists) → list_in (λ (z : LinkLists). z.unsent) (option_map f o) ≡ list_in (λ (z : LinkLists). z.unsent) o
+kept_unsent f e None = refl
+kept_unsent f e (Some x) = e x
+
+pub kept_unacked : (f : LinkLists → LinkLists) → ((x : LinkLists) → (f x).unacked ≡ x.unacked) → (o : Option LinkLists) → list_in (λ (z : LinkLists). z.unacked) (option_map f o) ≡ list_in (λ (z : LinkLists). z.unacked) o
+kept_unacked f e None = refl
+kept_unacked f e (Some x) = e x
+
+pub kept_held : (f : LinkLists → LinkLists) → ((x : LinkLists) → (f x).held ≡ x.held) → (o : Option LinkLists) → list_in (λ (z : LinkLists). z.held) (option_map f o) ≡ list_in (λ (z : LinkLists). z.held) o
+kept_held f e None = refl
+kept_held f e (Some x) = e x
+
+kept_last : (f : LinkLists → LinkLists) → ((x : LinkLists) → (f x).last ≡ x.last) → (o : Option LinkLists) → number_in (option_map f o) ≡ number_in o
+kept_last f e None = refl
+kept_last f e (Some x) = e x
+
+pub queue_set : (g f : Fate) (numbers : List ℕ) (q : Lists) → is_standing g ≡ true → IsKnown g q → queue_at f (with_queue g numbers q) ≡ cond (same_fate g f) numbers (queue_at f q)
+queue_set (Waiting l) (Waiting k) ns q s h = list_set (λ (z : LinkLists). z.unsent) (λ (z : LinkLists). record z { unsent = ns }) ns q.links l k (l == k) refl h (λ x. refl)
+queue_set (Waiting l) (Unacked k) ns q s h = list_kept (list_in (λ (z : LinkLists). z.unacked)) (λ (z : LinkLists). record z { unsent = ns }) q.links l k (kept_unacked (λ (z : LinkLists). record z { unsent = ns }) (λ x. refl)) (l == k) refl
+queue_set (Waiting l) (Held k) ns q s h = list_kept (list_in (λ (z : LinkLists). z.held)) (λ (z : LinkLists). record z { unsent = ns }) q.links l k (kept_held (λ (z : LinkLists). record z { unsent = ns }) (λ x. refl)) (l == k) refl
+queue_set (Waiting l) Parked ns q s h = refl
+queue_set (Waiting l) (Acked k) ns q s h = refl
+queue_set (Waiting l) (Discarded d) ns q s h = refl
+queue_set (Unacked l) (Waiting k) ns q s h = list_kept (list_in (λ (z : LinkLists). z.unsent)) (λ (z : LinkLists). record z { unacked = ns }) q.links l k (kept_unsent (λ (z : LinkLists). record z { unacked = ns }) (λ x. refl)) (l == k) refl
+queue_set (Unacked l) (Unacked k) ns q s h = list_set (λ (z : LinkLists). z.unacked) (λ (z : LinkLists). record z { unacked = ns }) ns q.links l k (l == k) refl h (λ x. refl)
+queue_set (Unacked l) (Held k) ns q s h = list_kept (list_in (λ (z : LinkLists). z.held)) (λ (z : LinkLists). record z { unacked = ns }) q.links l k (kept_held (λ (z : LinkLists). record z { unacked = ns }) (λ x. refl)) (l == k) refl
+queue_set (Unacked l) Parked ns q s h = refl
+queue_set (Unacked l) (Acked k) ns q s h = refl
+queue_set (Unacked l) (Discarded d) ns q s h = refl
+queue_set (Held l) (Waiting k) ns q s h = list_kept (list_in (λ (z : LinkLists). z.unsent)) (λ (z : LinkLists). record z { held = ns }) q.links l k (kept_unsent (λ (z : LinkLists). record z { held = ns }) (λ x. refl)) (l == k) refl
+queue_set (Held l) (Unacked k) ns q s h = list_kept (list_in (λ (z : LinkLists). z.unacked)) (λ (z : LinkLists). record z { held = ns }) q.links l k (kept_unacked (λ (z : LinkLists). record z { held = ns }) (λ x. refl)) (l == k) refl
+queue_set (Held l) (Held k) ns q s h = list_set (λ (z : LinkLists). z.held) (λ (z : LinkLists). record z { held = ns }) ns q.links l k (l == k) refl h (λ x. refl)
+queue_set (Held l) Parked ns q s h = refl
+queue_set (Held l) (Acked k) ns q s h = refl
+queue_set (Held l) (Discarded d) ns q s h = refl
+queue_set Parked (Waiting k) ns q s h = refl
+queue_set Parked (Unacked k) ns q s h = refl
+queue_set Parked (Held k) ns q s h = refl
+queue_set Parked Parked ns q s h = refl
+queue_set Parked (Acked k) ns q s h = refl
+queue_set Parked (Discarded d) ns q s h = refl
+queue_set (Acked l) f ns q s h = absurd (cc)
+queue_set (Discarded c) f ns q s h = absurd (cc)
+
+-- the links stay as many
+pub links_stay : (g : Fate) (numbers : List ℕ) (q : Lists) → length (with_queue g numbers q).links ≡ length q.links
+links_stay (Waiting l) ns q = length-updated (λ (z : LinkLists). record z { unsent = ns }) q.links l
+links_stay (Unacked l) ns q = length-updated (λ (z : LinkLists). record z { unacked = ns }) q.links l
+links_stay (Held l) ns q = length-updated (λ (z : LinkLists). record z { held = ns }) q.links l
+links_stay Parked ns q = refl
+links_stay (Acked l) ns q = refl
+links_stay (Discarded c) ns q = refl
+
+pub known_on : (f : Fate) (q q' : Lists) → length q'.links ≡ length q.links → IsKnown f q → IsKnown f q'
+known_on (Waiting l) q q' e h = omega arith
+known_on (Unacked l) q q' e h = omega arith
+known_on (Held l) q q' e h = omega arith
+known_on Parked q q' e h = tt
+known_on (Acked l) q q' e h = tt
+known_on (Discarded c) q q' e h = tt
+
+-- replaced twice; by itself
+pub queue_twice : (g : Fate) (xs ys : List ℕ) (q : Lists) → with_queue g xs (with_queue g ys q) ≡ with_queue g xs q
+queue_twice (Waiting l) xs ys q = ap (λ (ls : List LinkLists). record q { links = ls }) (updated_twice (λ (z : LinkLists). record z { unsent = xs }) (λ (z : LinkLists). record z { unsent = ys }) q.links l)
+queue_twice (Unacked l) xs ys q = ap (λ (ls : List LinkLists). record q { links = ls }) (updated_twice (λ (z : LinkLists). record z { unacked = xs }) (λ (z : LinkLists). record z { unacked = ys }) q.links l)
+queue_twice (Held l) xs ys q = ap (λ (ls : List LinkLists). record q { links = ls }) (updated_twice (λ (z : LinkLists). record z { held = xs }) (λ (z : LinkLists). record z { held = ys }) q.links l)
+queue_twice Parked xs ys q = refl
+queue_twice (Acked l) xs ys q = refl
+queue_twice (Discarded c) xs ys q = refl
+
+pub queue_id : (g : Fate) (q : Lists) → IsKnown g q → with_queue g (queue_at g q) q ≡ q
+queue_id (Waiting l) q h =
+    let x = there q.links l h in
+    ap (λ (ls : List LinkLists). record q { links = ls }) (updated_id (λ (z : LinkLists). record z { unsent = queue_at (Waiting l) q }) q.links l x.0 x.1 (rw x.1 refl))
+queue_id (Unacked l) q h =
+    let x = there q.links l h in
+    ap (λ (ls : List LinkLists). record q { links = ls }) (updated_id (λ (z : LinkLists). record z { unacked = queue_at (Unacked l) q }) q.links l x.0 x.1 (rw x.1 refl))
+queue_id (Held l) q h =
+    let x = there q.links l h in
+    ap (λ (ls : List LinkLists). record q { links = ls }) (updated_id (λ (z : LinkLists). record z { held = queue_at (Held l) q }) q.links l x.0 x.1 (rw x.1 refl))
+queue_id Parked q h = refl
+queue_id (Acked l) q h = refl
+queue_id (Discarded c) q h = refl
+
+pub queued_stands : (f : Fate) → IsQueued f → is_standing f ≡ true
+queued_stands (Waiting l) h = refl
+queued_stands (Held l) h = refl
+queued_stands Parked h = refl
+queued_stands (Unacked l) h = absurd h
+queued_stands (Acked l) h = absurd h
+queued_stands (Discarded c) h = absurd h
+
+pub queue_same : (g : Fate) (xs : List ℕ) (q : Lists) → is_standing g ≡ true → IsKnown g q → queue_at g (with_queue g xs q) ≡ xs
+queue_same g xs q s h = queue_set g g xs q s h ∙ ap (λ (b : Bool). cond b xs (queue_at g q)) (same_self g s)
+
+pub queue_other : (g f : Fate) (xs : List ℕ) (q : Lists) → is_standing g ≡ true → IsKnown g q → same_fate g f ≡ false → queue_at f (with_queue g xs q) ≡ queue_at f q
+queue_other g f xs q s h n = queue_set g f xs q s h ∙ ap (λ (b : Bool). cond b xs (queue_at f q)) n
+
+-- one more stands last in a queue that was replaced
+pub queue_more : (g : Fate) (xs : List ℕ) (m : ℕ) (q now : Lists) → is_standing g ≡ true → IsKnown g q → now ≡ with_queue g xs q → with_queue g (queue_at g now ++ m ∷ []) now ≡ with_queue g (xs ++ m ∷ []) q
+queue_more g xs m q now s h e = rw e (rw (queue_same g xs q s h) (queue_twice g (xs ++ m ∷ []) xs q))

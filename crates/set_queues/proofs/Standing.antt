@@ -1,0 +1,237 @@
+-- Messages that come to stand elsewhere, and the queues that name them.
+use Rattle.std.proofs.Common.{refl, arith, ◌≡◌, ◌∙◌, ap, sym, subst, ◌+◌, ◌≤◌, ◌<◌, [], ◌∷◌, ◌++◌, length, ℕ, zero, suc, Bool, true, false, ◌==◌, ◌⊎◌, inl, inr, List, Option, Some, None, cond, take, drop, add-one}
+use Rattle.std.specs.Prelude.{slice_get}
+use Rattle.std.specs.Option.{option_map}
+use Rattle.std.proofs.lemmas.Bool.{eqb-true, eq-eqb, ne_eqb, cases_eq}
+use Rattle.std.proofs.lemmas.Option.{slice_get_within}
+use Rattle.set_events.specs.declared.answer.Fate.{Fate}
+use Rattle.set_events.specs.declared.answer.Fate.TheVariants.{Waiting, Unacked, Acked, Held, Parked, Discarded}
+use Rattle.set_events.specs.declared.answer.DiscardCause.{DiscardCause}
+use Rattle.set_events.specs.declared.answer.DiscardCause.TheVariants.{Emergency, Unreasonable, NoAnswer}
+use Rattle.set_queues.specs.declared.message.Message.{Message}
+use Rattle.set_queues.specs.Counts.{one_if}
+use Rattle.set_queues.specs.Messages.{with_fate, restood_one, restood, fate_at}
+use Rattle.set_queues.specs.Buffers.{Lists, is_standing, same_fate, same_cause, queue_at}
+use Rattle.set_queues.specs.Queues.{occurs, has_fate, stands, AreTied, AreGiven}
+use Rattle.set_queues.proofs.Updates.{length-updated, updated_same, updated_other}
+
+-- fates
+
+same_cause_is : (c d : DiscardCause) → same_cause c d ≡ true → c ≡ d
+same_cause_is Emergency Emergency e = refl
+same_cause_is Emergency Unreasonable e = absurd (cc)
+same_cause_is Emergency NoAnswer e = absurd (cc)
+same_cause_is Unreasonable Emergency e = absurd (cc)
+same_cause_is Unreasonable Unreasonable e = refl
+same_cause_is Unreasonable NoAnswer e = absurd (cc)
+same_cause_is NoAnswer Emergency e = absurd (cc)
+same_cause_is NoAnswer Unreasonable e = absurd (cc)
+same_cause_is NoAnswer NoAnswer e = refl
+
+-- of a fate that isn't final
+pub same_is : (f g : Fate) → is_standing g ≡ true → same_fate f g ≡ true → f ≡ g
+same_is (Waiting l) (Waiting k) s e = ap Waiting (eqb-true l k e)
+same_is (Waiting l) (Unacked k) s e = absurd (cc)
+same_is (Waiting l) (Acked k) s e = absurd (cc)
+same_is (Waiting l) (Held k) s e = absurd (cc)
+same_is (Waiting l) Parked s e = absurd (cc)
+same_is (Waiting l) (Discarded d) s e = absurd (cc)
+same_is (Unacked l) (Waiting k) s e = absurd (cc)
+same_is (Unacked l) (Unacked k) s e = ap Unacked (eqb-true l k e)
+same_is (Unacked l) (Acked k) s e = absurd (cc)
+same_is (Unacked l) (Held k) s e = absurd (cc)
+same_is (Unacked l) Parked s e = absurd (cc)
+same_is (Unacked l) (Discarded d) s e = absurd (cc)
+same_is (Acked l) (Waiting k) s e = absurd (cc)
+same_is (Acked l) (Unacked k) s e = absurd (cc)
+same_is (Acked l) (Acked k) s e = absurd (cc)
+same_is (Acked l) (Held k) s e = absurd (cc)
+same_is (Acked l) Parked s e = absurd (cc)
+same_is (Acked l) (Discarded d) s e = absurd (cc)
+same_is (Held l) (Waiting k) s e = absurd (cc)
+same_is (Held l) (Unacked k) s e = absurd (cc)
+same_is (Held l) (Acked k) s e = absurd (cc)
+same_is (Held l) (Held k) s e = ap Held (eqb-true l k e)
+same_is (Held l) Parked s e = absurd (cc)
+same_is (Held l) (Discarded d) s e = absurd (cc)
+same_is Parked (Waiting k) s e = absurd (cc)
+same_is Parked (Unacked k) s e = absurd (cc)
+same_is Parked (Acked k) s e = absurd (cc)
+same_is Parked (Held k) s e = absurd (cc)
+same_is Parked Parked s e = refl
+same_is Parked (Discarded d) s e = absurd (cc)
+same_is (Discarded c) (Waiting k) s e = absurd (cc)
+same_is (Discarded c) (Unacked k) s e = absurd (cc)
+same_is (Discarded c) (Acked k) s e = absurd (cc)
+same_is (Discarded c) (Held k) s e = absurd (cc)
+same_is (Discarded c) Parked s e = absurd (cc)
+same_is (Discarded c) (Discarded d) s e = absurd (cc)
+
+-- how often a number stands in a list
+
+one_if_most : (b : Bool) → one_if b ≤ 1
+one_if_most true = omega arith
+one_if_most false = omega arith
+
+pub occurs-append : (m : ℕ) (xs ys : List ℕ) → occurs m (xs ++ ys) ≡ occurs m xs + occurs m ys
+occurs-append m [] ys = omega arith
+occurs-append m (x ∷ xs) ys = omega (arith, occurs-append m xs ys)
+
+pub occurs-split : (m k : ℕ) (xs : List ℕ) → occurs m (take k xs) + occurs m (drop k xs) ≡ occurs m xs
+occurs-split m zero xs = omega arith
+occurs-split m (suc k) [] = omega arith
+occurs-split m (suc k) (x ∷ xs) = omega (arith, occurs-split m k xs)
+
+pub occurs_here : (x m : ℕ) → x ≡ m → one_if (x == m) ≡ 1
+occurs_here x m e = ap one_if (eq-eqb x m e)
+
+pub occurs_not : (x m : ℕ) → (x ≡ m → ⊥) → one_if (x == m) ≡ 0
+occurs_not x m ne = ap one_if (ne_eqb x m ne)
+
+-- messages that come to stand elsewhere
+
+pub length-restood : (ns : List ℕ) (f : Fate) (ms : List Message) → length (restood ns f ms) ≡ length ms
+length-restood [] f ms = refl
+length-restood (n ∷ ns) f ms = length-restood ns f (restood_one n f ms) ∙ length-updated (with_fate f) ms n
+
+pub restood-append : (xs ys : List ℕ) (f : Fate) (ms : List Message) → restood (xs ++ ys) f ms ≡ restood ys f (restood xs f ms)
+restood-append [] ys f ms = refl
+restood-append (x ∷ xs) ys f ms = restood-append xs ys f (restood_one x f ms)
+
+fate_of_one : (f : Fate) (o : Option Message) (m : Message) → o ≡ Some m → option_map (λ (x : Message). x.fate) (option_map (with_fate f) o) ≡ Some f
+fate_of_one f o m e = rw e refl
+
+there : {X : Type 0} (xs : List X) (n : ℕ) → n < length xs → (x : X) × (slice_get xs n ≡ Some x)
+there [] n h = absurd (omega arith)
+there (x ∷ xs) zero h = (x, refl)
+there (x ∷ xs) (suc n) h = there xs n (omega arith)
+
+pub fate_same : (n : ℕ) (f : Fate) (ms : List Message) → n < length ms → fate_at n (restood_one n f ms) ≡ Some f
+fate_same n f ms h =
+    let t = there ms n h in
+    ap (option_map (λ (x : Message). x.fate)) (updated_same (with_fate f) ms n) ∙ fate_of_one f (slice_get ms n) t.0 t.1
+
+pub fate_other : (n k : ℕ) (f : Fate) (ms : List Message) → (n ≡ k → ⊥) → fate_at k (restood_one n f ms) ≡ fate_at k ms
+fate_other n k f ms ne = ap (option_map (λ (x : Message). x.fate)) (updated_other (with_fate f) ms n k ne)
+
+given_on : (ns : List ℕ) (ms ms' : List Message) → length ms' ≡ length ms → AreGiven ns ms → AreGiven ns ms'
+given_on [] ms ms' e g = tt
+given_on (n ∷ ns) ms ms' e g = (omega (arith, g.0), given_on ns ms ms' e g.1)
+
+-- one that isn't among them stays where it stood
+pub fate_stays : (m : ℕ) (ns : List ℕ) (f : Fate) (ms : List Message) → occurs m ns ≡ 0 → fate_at m (restood ns f ms) ≡ fate_at m ms
+fate_stays m [] f ms z = refl
+fate_stays m (n ∷ ns) f ms z =
+    let ne : n ≡ m → ⊥ = λ (e : n ≡ m). omega (arith, occurs_here n m e, z) in
+    fate_stays m ns f (restood_one n f ms) (omega arith) ∙ fate_other n m f ms ne
+
+-- one that is has the new fate
+pub fate_moves : (m : ℕ) (ns : List ℕ) (f : Fate) (ms : List Message) → AreGiven ns ms → 0 < occurs m ns → fate_at m (restood ns f ms) ≡ Some f
+fate_moves m [] f ms g z = absurd (omega arith)
+fate_moves m (n ∷ ns) f ms g z = go (cases_zero (occurs m ns)) (cases_eq n m) (fate_moves m ns f (restood_one n f ms) (given_on ns ms (restood_one n f ms) (length-updated (with_fate f) ms n) g.1))
+  where
+    cases_zero : (k : ℕ) → (k ≡ 0) ⊎ (0 < k)
+    cases_zero zero = inl refl
+    cases_zero (suc k) = inr (omega arith)
+
+    go : (occurs m ns ≡ 0) ⊎ (0 < occurs m ns) → (n ≡ m) ⊎ (n ≡ m → ⊥) → (0 < occurs m ns → fate_at m (restood ns f (restood_one n f ms)) ≡ Some f) → fate_at m (restood ns f (restood_one n f ms)) ≡ Some f
+    go (inr later) c again = again later
+    go (inl none) (inl e) again = fate_stays m ns f (restood_one n f ms) none ∙ subst (λ (k : ℕ). fate_at k (restood_one n f ms) ≡ Some f) e (fate_same n f ms g.0)
+    go (inl none) (inr ne) again = absurd (omega (arith, none, occurs_not n m ne))
+
+-- THE TIE, when messages move from one queue to another, or to none
+
+abbrev pub Moves : List ℕ → Fate → Fate → Lists → Lists → Type 0
+Moves ns from to q q' = (f : Fate) → is_standing f ≡ true → (m : ℕ) → occurs m (queue_at f q') + cond (same_fate from f) (occurs m ns) 0 ≡ occurs m (queue_at f q) + cond (same_fate to f) (occurs m ns) 0
+
+has_of : (f g : Fate) (o : Option Fate) → is_standing g ≡ true → has_fate g o ≡ true → o ≡ Some g
+has_of f g None s e = absurd (cc)
+has_of f g (Some h) s e = ap Some (same_is h g s e)
+
+one_true : (b : Bool) → 0 < one_if b → b ≡ true
+one_true true h = refl
+one_true false h = absurd (omega arith)
+
+pub same_self : (f : Fate) → is_standing f ≡ true → same_fate f f ≡ true
+same_self (Waiting l) s = eq-eqb l l refl
+same_self (Unacked l) s = eq-eqb l l refl
+same_self (Held l) s = eq-eqb l l refl
+same_self Parked s = refl
+same_self (Acked l) s = absurd (cc)
+same_self (Discarded d) s = absurd (cc)
+
+pub moved_tie : (q q' : Lists) (ms : List Message) (ns : List ℕ) (from to : Fate) → AreTied q ms → is_standing from ≡ true → AreGiven ns ms → ((m : ℕ) → occurs m ns ≤ occurs m (queue_at from q)) → Moves ns from to q q' → AreTied q' (restood ns to ms)
+moved_tie q q' ms ns from to tie s given within moves f sf m = go (occurs m ns) refl
+  where
+    go : (k : ℕ) → occurs m ns ≡ k → occurs m (queue_at f q') ≡ one_if (stands f m (restood ns to ms))
+    go zero z =
+        let same : fate_at m (restood ns to ms) ≡ fate_at m ms = fate_stays m ns to ms z in
+        let e : one_if (stands f m (restood ns to ms)) ≡ one_if (stands f m ms) = ap (λ (o : Option Fate). one_if (has_fate f o)) same in
+        let w = moves f sf m in
+        still (same_fate from f) (same_fate to f) w (tie f sf m ∙ sym e)
+      where
+        still : (a b : Bool) → occurs m (queue_at f q') + cond a (occurs m ns) 0 ≡ occurs m (queue_at f q) + cond b (occurs m ns) 0 → occurs m (queue_at f q) ≡ one_if (stands f m (restood ns to ms)) → occurs m (queue_at f q') ≡ one_if (stands f m (restood ns to ms))
+        still true true w e = omega (arith, z)
+        still true false w e = omega (arith, z)
+        still false true w e = omega (arith, z)
+        still false false w e = omega (arith, z)
+    go (suc k) z =
+        let had : fate_at m ms ≡ Some from = has_of from from (fate_at m ms) s (one_true (stands from m ms) (omega (arith, within m, tie from s m))) in
+        let has : fate_at m (restood ns to ms) ≡ Some to = fate_moves m ns to ms given (omega arith) in
+        let one : occurs m ns ≡ 1 = omega (arith, within m, tie from s m, one_if_most (stands from m ms)) in
+        let e : one_if (stands f m (restood ns to ms)) ≡ one_if (same_fate to f) = ap (λ (o : Option Fate). one_if (has_fate f o)) has in
+        let d : one_if (stands f m ms) ≡ one_if (same_fate from f) = ap (λ (o : Option Fate). one_if (has_fate f o)) had in
+        let w = moves f sf m in
+        turns (same_fate from f) (same_fate to f) one w (tie f sf m ∙ d) ∙ sym e
+      where
+        turns : (a b : Bool) → occurs m ns ≡ 1 → occurs m (queue_at f q') + cond a (occurs m ns) 0 ≡ occurs m (queue_at f q) + cond b (occurs m ns) 0 → occurs m (queue_at f q) ≡ one_if a → occurs m (queue_at f q') ≡ one_if b
+        turns true true one w e = omega arith
+        turns true false one w e = omega arith
+        turns false true one w e = omega arith
+        turns false false one w e = omega arith
+
+-- what stands in a queue has been given out
+pub given_queue : (q : Lists) (ms : List Message) (f : Fate) → AreTied q ms → is_standing f ≡ true → (ns : List ℕ) → ((m : ℕ) → occurs m ns ≤ occurs m (queue_at f q)) → AreGiven ns ms
+given_queue q ms f tie s [] within = tt
+given_queue q ms f tie s (n ∷ ns) within =
+    let here : one_if (n == n) ≡ 1 = occurs_here n n refl in
+    let on : stands f n ms ≡ true = one_true (stands f n ms) (omega (arith, within n, tie f s n)) in
+    (given_one (slice_get ms n) refl (has_of f f (fate_at n ms) s on), given_queue q ms f tie s ns (λ m. omega (arith, within m)))
+  where
+    given_one : (o : Option Message) → slice_get ms n ≡ o → option_map (λ (x : Message). x.fate) o ≡ Some f → n < length ms
+    given_one None e h = absurd (cc)
+    given_one (Some x) e h = slice_get_within ms n x e
+
+-- the first so many, one after another
+
+take_suc : (xs : List ℕ) (i x : ℕ) → slice_get xs i ≡ Some x → take (suc i) xs ≡ take i xs ++ x ∷ []
+take_suc [] i x h = absurd (cc)
+take_suc (y ∷ xs) zero x h = let e : y ≡ x = cc in ap (λ (z : ℕ). z ∷ []) e
+take_suc (y ∷ xs) (suc i) x h = ap (λ (zs : List ℕ). y ∷ zs) (take_suc xs i x h)
+
+pub take_get : (xs : List ℕ) (i x : ℕ) → slice_get xs i ≡ Some x → take (i + 1) xs ≡ take i xs ++ x ∷ []
+take_get xs i x h = rw add-one (take_suc xs i x h)
+
+pub given_at : (ns : List ℕ) (ms : List Message) (i n : ℕ) → AreGiven ns ms → slice_get ns i ≡ Some n → n < length ms
+given_at [] ms i n g e = absurd (cc)
+given_at (x ∷ ns) ms zero n g e = let f : x ≡ n = cc in omega (arith, g.0)
+given_at (x ∷ ns) ms (suc i) n g e = given_at ns ms i n g.1 e
+
+pub none_past : (xs : List ℕ) (i : ℕ) → slice_get xs i ≡ None → i < length xs → ⊥
+none_past [] i e h = omega arith
+none_past (x ∷ xs) zero e h = absurd (cc)
+none_past (x ∷ xs) (suc i) e h = none_past xs i e (omega arith)
+
+pub append-nil : (xs : List ℕ) → xs ++ [] ≡ xs
+append-nil [] = refl
+append-nil (x ∷ xs) = ap (λ (ys : List ℕ). x ∷ ys) (append-nil xs)
+
+pub room_sum : (b : Bool) (r0 r1 r2 i k : ℕ) → r0 ≤ r1 + cond b i 0 → r1 ≤ r2 + cond b k 0 → r0 ≤ r2 + cond b (i + k) 0
+room_sum true r0 r1 r2 i k g h = omega arith
+room_sum false r0 r1 r2 i k g h = omega arith
+
+pub whole : (xs : List ℕ) (k : ℕ) → k ≡ length xs → take k xs ≡ xs
+whole [] zero e = refl
+whole [] (suc k) e = refl
+whole (x ∷ xs) zero e = absurd (omega arith)
+whole (x ∷ xs) (suc k) e = ap (λ (ys : List ℕ). x ∷ ys) (whole xs k (omega arith))

@@ -1,0 +1,113 @@
+-- The running counts of a list of messages, when one of them changes or joins.
+use Rattle.std.proofs.Common.{arith, ◌≡◌, ap, subst, ◌+◌, ◌≤◌, ◌<◌, ◌^◌, [], ◌∷◌, ◌++◌, length, ℕ, zero, suc, Bool, true, false, List, Some, cond}
+use Rattle.std.specs.Prelude.{filter, slice_get, slice_set}
+use Rattle.set_queues.specs.declared.message.Message.{Message}
+use Rattle.set_queues.specs.declared.tally.Tally.{Tally}
+use Rattle.set_queues.specs.Counts.{one_if, waits, was_sent, was_acked, was_held, is_parked, was_discarded}
+use Rattle.set_queues.specs.Tally.{is_there, is_queued, IsTally, IsMore, IsAmong, AreFew, IsFit, AreFit}
+
+length_if : (b : Bool) (x : Message) (xs : List Message) → length (cond b (x ∷ xs) xs) ≡ one_if b + length xs
+length_if true x xs = omega arith
+length_if false x xs = omega arith
+
+count_cons : (p : Message → Bool) (x : Message) (xs : List Message) → length (filter p (x ∷ xs)) ≡ one_if (p x) + length (filter p xs)
+count_cons p x xs = length_if (p x) x (filter p xs)
+
+pub count_set : (p : Message → Bool) (xs : List Message) (n : ℕ) (x y : Message) → slice_get xs n ≡ Some x → length (filter p (slice_set xs n y)) + one_if (p x) ≡ length (filter p xs) + one_if (p y)
+count_set p [] n x y e = absurd (cc)
+count_set p (z ∷ xs) zero x y e =
+    let f : z ≡ x = cc in
+    omega (arith, count_cons p y xs, count_cons p z xs, ap (λ (w : Message). one_if (p w)) f)
+count_set p (z ∷ xs) (suc n) x y e =
+    omega (arith, count_cons p z (slice_set xs n y), count_cons p z xs, count_set p xs n x y e)
+
+pub count_push : (p : Message → Bool) (xs : List Message) (y : Message) → length (filter p (xs ++ y ∷ [])) ≡ length (filter p xs) + one_if (p y)
+count_push p [] y = omega (arith, count_cons p y [])
+count_push p (x ∷ xs) y = omega (arith, count_cons p x (xs ++ y ∷ []), count_cons p x xs, count_push p xs y)
+
+pub count_in : (p : Message → Bool) (xs : List Message) (n : ℕ) (x : Message) → slice_get xs n ≡ Some x → one_if (p x) ≤ length (filter p xs)
+count_in p [] n x e = absurd (cc)
+count_in p (z ∷ xs) zero x e =
+    let f : z ≡ x = cc in
+    omega (arith, count_cons p z xs, ap (λ (w : Message). one_if (p w)) f)
+count_in p (z ∷ xs) (suc n) x e = omega (arith, count_cons p z xs, count_in p xs n x e)
+
+one_at_most : (b : Bool) → one_if b ≤ 1
+one_at_most true = omega arith
+one_at_most false = omega arith
+
+pub count_few : (p : Message → Bool) (xs : List Message) → length (filter p xs) ≤ length xs
+count_few p [] = omega arith
+count_few p (x ∷ xs) = omega (arith, count_cons p x xs, one_at_most (p x), count_few p xs)
+
+pub tally_in : (t : Tally) (xs : List Message) (n : ℕ) (x : Message) → IsTally t xs → slice_get xs n ≡ Some x → IsAmong x t
+tally_in t xs n x h e = record {
+  waiting = omega (arith, h.waiting, count_in (is_there waits) xs n x e);
+  unacked = omega (arith, h.unacked, count_in (is_there was_sent) xs n x e);
+  acked = omega (arith, h.acked, count_in (is_there was_acked) xs n x e);
+  held = omega (arith, h.held, count_in (is_there was_held) xs n x e);
+  parked = omega (arith, h.parked, count_in (is_there is_parked) xs n x e);
+  discarded = omega (arith, h.discarded, count_in (is_there was_discarded) xs n x e);
+  unsent = λ s b. omega (arith, h.unsent s b, count_in (is_queued s) xs n x e);
+}
+
+pub tally_few : (t : Tally) (xs : List Message) → IsTally t xs → length xs < 2 ^ 63 → AreFew t
+tally_few t xs h few = record {
+  waiting = omega (arith, h.waiting, count_few (is_there waits) xs);
+  unacked = omega (arith, h.unacked, count_few (is_there was_sent) xs);
+  acked = omega (arith, h.acked, count_few (is_there was_acked) xs);
+  held = omega (arith, h.held, count_few (is_there was_held) xs);
+  parked = omega (arith, h.parked, count_few (is_there is_parked) xs);
+  discarded = omega (arith, h.discarded, count_few (is_there was_discarded) xs);
+  unsent = λ s b. omega (arith, h.unsent s b, count_few (is_queued s) xs);
+}
+
+-- one that left is fewer than a range's end
+pub fewer : (m : Message) (old new : Tally) → IsMore m old new → AreFew new → AreFew old
+fewer m old new i few = record {
+  waiting = omega (arith, i.waiting, few.waiting);
+  unacked = omega (arith, i.unacked, few.unacked);
+  acked = omega (arith, i.acked, few.acked);
+  held = omega (arith, i.held, few.held);
+  parked = omega (arith, i.parked, few.parked);
+  discarded = omega (arith, i.discarded, few.discarded);
+  unsent = λ s b. omega (arith, i.unsent s b, few.unsent s b);
+}
+
+pub tally_push : (t u : Tally) (xs : List Message) (y : Message) → IsTally t xs → IsMore y t u → IsTally u (xs ++ y ∷ [])
+tally_push t u xs y h i = record {
+  waiting = omega (arith, h.waiting, i.waiting, count_push (is_there waits) xs y);
+  unacked = omega (arith, h.unacked, i.unacked, count_push (is_there was_sent) xs y);
+  acked = omega (arith, h.acked, i.acked, count_push (is_there was_acked) xs y);
+  held = omega (arith, h.held, i.held, count_push (is_there was_held) xs y);
+  parked = omega (arith, h.parked, i.parked, count_push (is_there is_parked) xs y);
+  back = omega (arith, h.back, i.back);
+  discarded = omega (arith, h.discarded, i.discarded, count_push (is_there was_discarded) xs y);
+  unsent = λ s b. omega (arith, h.unsent s b, i.unsent s b, count_push (is_queued s) xs y);
+}
+
+pub tally_set : (t u v : Tally) (xs : List Message) (n : ℕ) (x y : Message) → IsTally t xs → slice_get xs n ≡ Some x → IsMore x u t → IsMore y u v → IsTally v (slice_set xs n y)
+tally_set t u v xs n x y h e i j = record {
+  waiting = omega (arith, h.waiting, i.waiting, j.waiting, count_set (is_there waits) xs n x y e);
+  unacked = omega (arith, h.unacked, i.unacked, j.unacked, count_set (is_there was_sent) xs n x y e);
+  acked = omega (arith, h.acked, i.acked, j.acked, count_set (is_there was_acked) xs n x y e);
+  held = omega (arith, h.held, i.held, j.held, count_set (is_there was_held) xs n x y e);
+  parked = omega (arith, h.parked, i.parked, j.parked, count_set (is_there is_parked) xs n x y e);
+  back = omega (arith, h.back, i.back, j.back);
+  discarded = omega (arith, h.discarded, i.discarded, j.discarded, count_set (is_there was_discarded) xs n x y e);
+  unsent = λ s b. omega (arith, h.unsent s b, i.unsent s b, j.unsent s b, count_set (is_queued s) xs n x y e);
+}
+
+-- every message stays fit
+pub fit_push : (xs : List Message) (y : Message) → AreFit xs → IsFit y → AreFit (xs ++ y ∷ [])
+fit_push [] y h f zero m e = let g : y ≡ m = cc in subst IsFit g f
+fit_push [] y h f (suc n) m e = absurd (cc)
+fit_push (x ∷ xs) y h f zero m e = h zero m e
+fit_push (x ∷ xs) y h f (suc n) m e = fit_push xs y (λ k w g. h (suc k) w g) f n m e
+
+pub fit_set : (xs : List Message) (i : ℕ) (y : Message) → AreFit xs → IsFit y → AreFit (slice_set xs i y)
+fit_set [] i y h f n m e = absurd (cc)
+fit_set (x ∷ xs) zero y h f zero m e = let g : y ≡ m = cc in subst IsFit g f
+fit_set (x ∷ xs) zero y h f (suc n) m e = h (suc n) m e
+fit_set (x ∷ xs) (suc i) y h f zero m e = h zero m e
+fit_set (x ∷ xs) (suc i) y h f (suc n) m e = fit_set xs i y (λ k w g. h (suc k) w g) f n m e

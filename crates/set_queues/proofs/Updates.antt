@@ -1,0 +1,59 @@
+-- Lists of which the element at one place changes.
+use Rattle.std.proofs.Common.{refl, ◌≡◌, ◌∙◌, ap, sym, [], ◌∷◌, length, map, ℕ, zero, suc, List, Some}
+use Rattle.std.specs.Prelude.{slice_get, slice_set}
+use Rattle.std.specs.Option.{option_map}
+use Rattle.set_queues.specs.Messages.{updated}
+
+module _ {X : Type 0} where
+  pub set_updated : (f : X → X) (xs : List X) (n : ℕ) (x : X) → slice_get xs n ≡ Some x → slice_set xs n (f x) ≡ updated n f xs
+  set_updated f [] n x e = refl
+  set_updated f (y ∷ xs) zero x e = let g : y ≡ x = cc in ap (λ (z : X). f z ∷ xs) (cc)
+  set_updated f (y ∷ xs) (suc n) x e = ap (λ (zs : List X). y ∷ zs) (set_updated f xs n x e)
+
+  pub length-updated : (f : X → X) (xs : List X) (n : ℕ) → length (updated n f xs) ≡ length xs
+  length-updated f [] n = refl
+  length-updated f (y ∷ xs) zero = refl
+  length-updated f (y ∷ xs) (suc n) = ap suc (length-updated f xs n)
+
+  pub updated_same : (f : X → X) (xs : List X) (n : ℕ) → slice_get (updated n f xs) n ≡ option_map f (slice_get xs n)
+  updated_same f [] n = refl
+  updated_same f (y ∷ xs) zero = refl
+  updated_same f (y ∷ xs) (suc n) = updated_same f xs n
+
+  pub updated_other : (f : X → X) (xs : List X) (n k : ℕ) → (n ≡ k → ⊥) → slice_get (updated n f xs) k ≡ slice_get xs k
+  updated_other f [] n k ne = refl
+  updated_other f (y ∷ xs) zero zero ne = absurd (ne refl)
+  updated_other f (y ∷ xs) zero (suc k) ne = refl
+  updated_other f (y ∷ xs) (suc n) zero ne = refl
+  updated_other f (y ∷ xs) (suc n) (suc k) ne = updated_other f xs n k (λ e. ne (ap suc e))
+
+  pub updated_there : (f : X → X) (xs : List X) (n : ℕ) (x : X) → slice_get xs n ≡ Some x → slice_get (updated n f xs) n ≡ Some (f x)
+  updated_there f xs n x e = updated_same f xs n ∙ ap (option_map f) e
+
+  set_is_updated : (xs : List X) (n : ℕ) (x : X) → slice_set xs n x ≡ updated n (λ (y : X). x) xs
+  set_is_updated [] n x = refl
+  set_is_updated (y ∷ xs) zero x = refl
+  set_is_updated (y ∷ xs) (suc n) x = ap (λ (zs : List X). y ∷ zs) (set_is_updated xs n x)
+
+module _ {X Y : Type 0} where
+  -- a changed element is seen as a changed view
+  pub map_set_updated : (v : X → Y) (f : Y → Y) (xs : List X) (n : ℕ) (x y : X) → slice_get xs n ≡ Some x → v y ≡ f (v x) → map v (slice_set xs n y) ≡ updated n f (map v xs)
+  map_set_updated v f [] n x y e h = refl
+  map_set_updated v f (z ∷ xs) zero x y e h = let g : z ≡ x = cc in ap (λ (w : Y). w ∷ map v xs) (h ∙ ap (λ (w : X). f (v w)) (sym g))
+  map_set_updated v f (z ∷ xs) (suc n) x y e h = ap (λ (ws : List Y). v z ∷ ws) (map_set_updated v f xs n x y e h)
+
+  pub map_set_same : (v : X → Y) (xs : List X) (n : ℕ) (x y : X) → slice_get xs n ≡ Some x → v y ≡ v x → map v (slice_set xs n y) ≡ map v xs
+  map_set_same v [] n x y e h = refl
+  map_set_same v (z ∷ xs) zero x y e h = let g : z ≡ x = cc in ap (λ (w : Y). w ∷ map v xs) (h ∙ ap v (sym g))
+  map_set_same v (z ∷ xs) (suc n) x y e h = ap (λ (ws : List Y). v z ∷ ws) (map_set_same v xs n x y e h)
+
+module _ {X : Type 0} where
+  pub updated_twice : (f g : X → X) (xs : List X) (n : ℕ) → updated n f (updated n g xs) ≡ updated n (λ (x : X). f (g x)) xs
+  updated_twice f g [] n = refl
+  updated_twice f g (x ∷ xs) zero = refl
+  updated_twice f g (x ∷ xs) (suc n) = ap (λ (zs : List X). x ∷ zs) (updated_twice f g xs n)
+
+  pub updated_id : (f : X → X) (xs : List X) (n : ℕ) (x : X) → slice_get xs n ≡ Some x → f x ≡ x → updated n f xs ≡ xs
+  updated_id f [] n x e h = refl
+  updated_id f (y ∷ xs) zero x e h = let g : y ≡ x = cc in ap (λ (z : X). z ∷ xs) (ap f g ∙ h ∙ sym g)
+  updated_id f (y ∷ xs) (suc n) x e h = ap (λ (zs : List X). y ∷ zs) (updated_id f xs n x e h)

@@ -1,0 +1,40 @@
+use Rattle.std.proofs.Common.{arith, refl, ◌<◌, [], List, ap, length}
+use Rattle.set_queues.specs.Buffers.{LinkLists}
+use Rattle.set_queues.proofs.Linked.{found, lists_set, keeps}
+use Rattle.set_queues.proofs.buffers.Buffers.clear.Goals as goal
+
+pub returns-in-Waiting-clause-lists : goal.returns-in-Waiting-clause-lists
+returns-in-Waiting-clause-lists c =
+    let known : c.in-Waiting.link < length c.args.self.now.lists.links = rw c.in-Waiting.is at c.requires.known in
+    let there = found c.self.inside _ _ _ _ c.self.view_is known c.from.ensures c.index_mut.ensures.value in
+    rw (c.in-Waiting.is, c.from.ensures, ← c.self.view_is) (ap (λ (ls : List LinkLists). record { links = ls; parked = c.self.inside.parked.messages }) (lists_set (λ (link : LinkLists). record link { unsent = [] }) _ _ _ _ there (rw (c.clear_unsent.ensures.last, c.clear_unsent.ensures.unacked, c.clear_unsent.ensures.unsent) refl)))
+
+pub returns-in-Waiting-clause-room : goal.returns-in-Waiting-clause-room
+returns-in-Waiting-clause-room c =
+    let known : c.in-Waiting.link < length c.args.self.now.lists.links = rw c.in-Waiting.is at c.requires.known in
+    let there = found c.self.inside _ _ _ _ c.self.view_is known c.from.ensures c.index_mut.ensures.value in
+    rw (c.from.ensures, ← c.self.view_is) (keeps _ _ _ _ _ there c.clear_unsent.ensures.room (omega arith))
+
+pub returns-in-Unacked-clause-lists : goal.returns-in-Unacked-clause-lists
+returns-in-Unacked-clause-lists c =
+    let known : c.in-Unacked.link < length c.args.self.now.lists.links = rw c.in-Unacked.is at c.requires.known in
+    let there = found c.self.inside _ _ _ _ c.self.view_is known c.from-in-Unacked.ensures c.index_mut-in-Unacked.ensures.value in
+    rw (c.in-Unacked.is, c.from-in-Unacked.ensures, ← c.self.view_is) (ap (λ (ls : List LinkLists). record { links = ls; parked = c.self.inside.parked.messages }) (lists_set (λ (link : LinkLists). record link { unacked = [] }) _ _ _ _ there (rw c.clear_unacked.ensures refl)))
+
+pub returns-in-Unacked-clause-room : goal.returns-in-Unacked-clause-room
+returns-in-Unacked-clause-room c =
+    let known : c.in-Unacked.link < length c.args.self.now.lists.links = rw c.in-Unacked.is at c.requires.known in
+    let there = found c.self.inside _ _ _ _ c.self.view_is known c.from-in-Unacked.ensures c.index_mut-in-Unacked.ensures.value in
+    rw (c.from-in-Unacked.ensures, ← c.self.view_is) (keeps _ _ _ _ _ there (rw c.clear_unacked.ensures (omega arith)) (omega arith))
+
+pub returns-in-Held-clause-lists : goal.returns-in-Held-clause-lists
+returns-in-Held-clause-lists c =
+    let known : c.in-Held.link < length c.args.self.now.lists.links = rw c.in-Held.is at c.requires.known in
+    let there = found c.self.inside _ _ _ _ c.self.view_is known c.from-in-Held.ensures c.index_mut-in-Held.ensures.value in
+    rw (c.in-Held.is, c.from-in-Held.ensures, ← c.self.view_is) (ap (λ (ls : List LinkLists). record { links = ls; parked = c.self.inside.parked.messages }) (lists_set (λ (link : LinkLists). record link { held = [] }) _ _ _ _ there (rw c.clear.ensures.messages refl)))
+
+pub returns-in-Held-clause-room : goal.returns-in-Held-clause-room
+returns-in-Held-clause-room c =
+    let known : c.in-Held.link < length c.args.self.now.lists.links = rw c.in-Held.is at c.requires.known in
+    let there = found c.self.inside _ _ _ _ c.self.view_is known c.from-in-Held.ensures c.index_mut-in-Held.ensures.value in
+    rw (c.from-in-Held.ensures, ← c.self.view_is) (keeps _ _ _ _ _ there (omega arith) c.clear.ensures.room)

@@ -1,0 +1,136 @@
+-- The queues in which messages stand, as lists of their numbers. Read this file first.
+use Rattle.std.specs.Prelude.{ℕ, ◌+◌, ◌<◌, ◌≤◌, ◌==◌, Bool, true, false, List, [], length, slice_get, Option, Some, None, if◌then◌else◌}
+use Rattle.l2_window.specs.Window.{WindowState}
+use Rattle.set_events.specs.declared.answer.Fate.{Fate}
+use Rattle.set_events.specs.declared.answer.Fate.TheVariants.{Waiting, Unacked, Acked, Held, Parked, Discarded}
+use Rattle.set_events.specs.declared.answer.DiscardCause.{DiscardCause}
+use Rattle.set_events.specs.declared.answer.DiscardCause.TheVariants.{Emergency, Unreasonable, NoAnswer}
+use Rattle.set_queues.specs.Messages.{updated}
+
+-- of one link: the FSN last acknowledged; what was sent and isn't acknowledged; what waits to be sent; what is held
+-- until the link settles. Oldest first.
+pub record LinkLists : Type 0 where
+  pub last : ℕ
+  pub unacked : List ℕ
+  pub unsent : List ℕ
+  pub held : List ℕ
+
+-- of a set
+pub record Lists : Type 0 where
+  pub links : List LinkLists
+  -- what no link can take
+  pub parked : List ℕ
+
+-- Each fate that isn't final has its queue.
+
+abbrev pub is_standing : Fate → Bool
+is_standing (Waiting l) = true
+is_standing (Unacked l) = true
+is_standing (Held l) = true
+is_standing Parked = true
+is_standing (Acked l) = false
+is_standing (Discarded cause) = false
+
+abbrev pub same_cause : DiscardCause → DiscardCause → Bool
+same_cause Emergency Emergency = true
+same_cause Unreasonable Unreasonable = true
+same_cause NoAnswer NoAnswer = true
+same_cause _ _ = false
+
+abbrev pub same_fate : Fate → Fate → Bool
+same_fate (Waiting l) (Waiting k) = l == k
+same_fate (Unacked l) (Unacked k) = l == k
+same_fate (Acked l) (Acked k) = l == k
+same_fate (Held l) (Held k) = l == k
+same_fate Parked Parked = true
+same_fate (Discarded c) (Discarded d) = same_cause c d
+same_fate _ _ = false
+
+-- the list of the link, if there is one
+abbrev pub list_in : (LinkLists → List ℕ) → Option LinkLists → List ℕ
+list_in list None = []
+list_in list (Some link) = list link
+
+abbrev pub queue_at : Fate → Lists → List ℕ
+queue_at (Waiting l) q = list_in (λ link. link.unsent) (slice_get q.links l)
+queue_at (Unacked l) q = list_in (λ link. link.unacked) (slice_get q.links l)
+queue_at (Held l) q = list_in (λ link. link.held) (slice_get q.links l)
+queue_at Parked q = q.parked
+queue_at (Acked l) q = []
+queue_at (Discarded cause) q = []
+
+-- there is a link for it
+abbrev pub IsKnown : Fate → Lists → Type 0
+IsKnown (Waiting l) q = l < length q.links
+IsKnown (Unacked l) q = l < length q.links
+IsKnown (Held l) q = l < length q.links
+IsKnown Parked q = Unit {0}
+IsKnown (Acked l) q = Unit {0}
+IsKnown (Discarded cause) q = Unit {0}
+
+-- messages come to stand there otherwise than by being sent
+abbrev pub IsQueued : Fate → Type 0
+IsQueued (Waiting l) = Unit {0}
+IsQueued (Held l) = Unit {0}
+IsQueued Parked = Unit {0}
+IsQueued (Unacked l) = ⊥
+IsQueued (Acked l) = ⊥
+IsQueued (Discarded cause) = ⊥
+
+-- the queue is this one from now on
+abbrev pub with_queue : Fate → List ℕ → Lists → Lists
+with_queue (Waiting l) numbers q = record q { links = updated l (λ link. record link { unsent = numbers }) q.links }
+with_queue (Unacked l) numbers q = record q { links = updated l (λ link. record link { unacked = numbers }) q.links }
+with_queue (Held l) numbers q = record q { links = updated l (λ link. record link { held = numbers }) q.links }
+with_queue Parked numbers q = record q { parked = numbers }
+with_queue (Acked l) numbers q = q
+with_queue (Discarded cause) numbers q = q
+
+-- the FSN last acknowledged on a link
+abbrev pub number_in : Option LinkLists → ℕ
+number_in None = 127
+number_in (Some link) = link.last
+
+abbrev pub last_at : ℕ → Lists → ℕ
+last_at l q = number_in (slice_get q.links l)
+
+abbrev pub with_last : ℕ → ℕ → Lists → Lists
+with_last l fsn q = record q { links = updated l (λ link. record link { last = fsn }) q.links }
+
+-- the window of a link, with this room
+abbrev pub window_with : ℕ → LinkLists → WindowState
+window_with room link = record { last = link.last; unacked = link.unacked; unsent = link.unsent; room = room }
+
+-- How much room there is: so many pushes want no memory.
+
+pub record LinkRooms : Type 0 where
+  pub unsent : ℕ
+  pub held : ℕ
+
+pub record Rooms : Type 0 where
+  pub links : List LinkRooms
+  pub parked : ℕ
+
+abbrev pub room_in : (LinkRooms → ℕ) → Option LinkRooms → ℕ
+room_in room None = 0
+room_in room (Some link) = room link
+
+abbrev pub room_at : Fate → Rooms → ℕ
+room_at (Waiting l) r = room_in (λ link. link.unsent) (slice_get r.links l)
+room_at (Held l) r = room_in (λ link. link.held) (slice_get r.links l)
+room_at Parked r = r.parked
+room_at (Unacked l) r = 0
+room_at (Acked l) r = 0
+room_at (Discarded cause) r = 0
+
+-- no queue has less room
+abbrev pub KeepsRoom : Rooms → Rooms → Type 0
+KeepsRoom old new = (fate : Fate) → room_at fate old ≤ room_at fate new
+
+-- but for this one, which has at most so much less
+abbrev pub TakesRoom : Fate → ℕ → Rooms → Rooms → Type 0
+TakesRoom to count old new = (fate : Fate) → room_at fate old ≤ room_at fate new + (if same_fate to fate then count else 0)
+
+pub record BuffersState : Type 0 where
+  pub lists : Lists
+  pub rooms : Rooms

@@ -1,0 +1,13 @@
+pub mod Buffers
+pub mod Counted
+pub mod Counts
+pub mod Kept
+pub mod Kind
+pub mod Laws
+pub mod Messages
+pub mod Queues
+pub mod Sending
+pub mod Settling
+pub mod Sound
+pub mod Tally
+pub mod Weight

@@ -1,0 +1,66 @@
+-- The messages of a set by their numbers: where each stands, whose it is, and its octets.
+use Rattle.std.specs.Prelude.{ℕ, zero, suc, ◌+◌, Bool, ◌&&◌, List, [], ◌∷◌, length, filter, slice_get, Option, Some, None}
+use Rattle.std.specs.Option.{option_map}
+use Rattle.set_events.specs.declared.answer.Fate.{Fate}
+use Rattle.set_events.specs.declared.answer.Counts.{Counts}
+use Rattle.set_queues.specs.declared.message.Message.{Message}
+use Rattle.set_queues.specs.Kind.{is_users, is_of}
+use Rattle.set_queues.specs.Counts.{waits, was_sent, was_acked, was_held, is_parked, was_discarded, is_unsent}
+
+-- the element at this place changes
+abbrev pub updated : {X : Type 0} → ℕ → (X → X) → List X → List X
+updated i change [] = []
+updated zero change (x ∷ xs) = change x ∷ xs
+updated (suc i) change (x ∷ xs) = x ∷ updated i change xs
+
+abbrev pub with_fate : Fate → Message → Message
+with_fate fate m = record m { fate = fate }
+
+-- the message of this number stands there from now on, or those of these numbers
+abbrev pub restood_one : ℕ → Fate → List Message → List Message
+restood_one number fate messages = updated number (with_fate fate) messages
+
+abbrev pub restood : List ℕ → Fate → List Message → List Message
+restood [] fate messages = messages
+restood (n ∷ ns) fate messages = restood ns fate (restood_one n fate messages)
+
+-- where the message of this number stands, and the octets of its body
+abbrev pub fate_at : ℕ → List Message → Option Fate
+fate_at number messages = option_map (λ m. m.fate) (slice_get messages number)
+
+abbrev pub octets_in : Option Message → ℕ
+octets_in None = 0
+octets_in (Some m) = m.octets
+
+abbrev pub octets_at : ℕ → List Message → ℕ
+octets_at number messages = octets_in (slice_get messages number)
+
+-- the octets of the bodies of these messages
+abbrev pub octets_of : List ℕ → List Message → ℕ
+octets_of [] messages = 0
+octets_of (n ∷ ns) messages = octets_at n messages + octets_of ns messages
+
+-- how many of the users' messages stand where the test tells
+abbrev pub count_of : (Fate → Bool) → List Message → ℕ
+count_of test messages = length (filter (λ m. is_users m.kind && test m.fate) messages)
+
+abbrev pub counts_of : List Message → Counts
+counts_of messages = record {
+  waiting = count_of waits messages;
+  unacked = count_of was_sent messages;
+  acked = count_of was_acked messages;
+  held = count_of was_held messages;
+  parked = count_of is_parked messages;
+  back = 0;
+  discarded = count_of was_discarded messages;
+}
+
+-- how many of the users' messages of a stream aren't sent yet
+abbrev pub unsent_of : ℕ → List Message → ℕ
+unsent_of stream messages = length (filter (λ m. is_of stream m.kind && is_unsent m.fate) messages)
+
+-- what contracts see of the messages that are kept
+pub record MessagesState : Type 0 where
+  pub messages : List Message
+  -- how many more want no memory
+  pub room : ℕ

@@ -1,0 +1,63 @@
+-- Where every message of a set stands.
+use Rattle.std.specs.Prelude.{◌≡◌, ℕ, ◌+◌, ◌<◌, ◌≤◌, ◌==◌, Bool, true, false, List, [], ◌∷◌, ◌++◌, length, slice_index, Option, Some, None}
+use Rattle.set_events.specs.declared.answer.Fate.{Fate}
+use Rattle.set_events.specs.declared.answer.Fate.TheVariants.{Unacked}
+use Rattle.set_queues.specs.declared.message.Message.{Message}
+use Rattle.set_queues.specs.Counts.{one_if}
+use Rattle.set_queues.specs.Tally.{AreFit}
+use Rattle.set_queues.specs.Messages.{fate_at, octets_of}
+use Rattle.set_queues.specs.Buffers.{Lists, Rooms, is_standing, same_fate, queue_at, with_queue}
+
+-- what contracts see of the queues of a set
+pub record QueuesState : Type 0 where
+  pub lists : Lists
+  -- the messages by their numbers
+  pub messages : List Message
+  -- how many pushes on each queue want no memory
+  pub rooms : Rooms
+  -- how many new messages want none
+  pub room : ℕ
+
+-- how often the number stands in the queue
+abbrev pub occurs : ℕ → List ℕ → ℕ
+occurs number [] = 0
+occurs number (n ∷ ns) = one_if (n == number) + occurs number ns
+
+-- the message has this fate
+abbrev pub has_fate : Fate → Option Fate → Bool
+has_fate fate None = false
+has_fate fate (Some f) = same_fate f fate
+
+-- the message of this number stands there
+abbrev pub stands : Fate → ℕ → List Message → Bool
+stands fate number messages = has_fate fate (fate_at number messages)
+
+-- EACH MESSAGE STANDS IN EXACTLY ONE QUEUE, the one that its fate names, or in none if its fate is final
+abbrev pub AreTied : Lists → List Message → Type 0
+AreTied q messages = (fate : Fate) → is_standing fate ≡ true → (number : ℕ) → occurs number (queue_at fate q) ≡ one_if (stands fate number messages)
+
+-- the octets of the unacknowledged bodies of each link
+abbrev pub AreWeighed : List ℕ → Lists → List Message → Type 0
+AreWeighed octets q messages = (link : ℕ) → link < length q.links → slice_index octets link ≡ octets_of (queue_at (Unacked link) q) messages
+
+-- all of these numbers were given out
+abbrev pub AreGiven : List ℕ → List Message → Type 0
+AreGiven [] messages = Unit {0}
+AreGiven (n ∷ ns) messages = (n < length messages) × AreGiven ns messages
+
+-- all of a queue go to another, in their order
+abbrev pub passed : Fate → Fate → Lists → Lists
+passed from to q = with_queue from [] (with_queue to (queue_at to q ++ queue_at from q) q)
+
+-- at most 127 messages of a link are unacknowledged (Q.703 5.2.2)
+abbrev pub AreNarrow : Lists → Type 0
+AreNarrow q = (link : ℕ) → length (queue_at (Unacked link) q) ≤ 127
+
+-- of every set: it has 1 to 16 links, at most 127 messages are unacknowledged on each, and each message stands in
+-- exactly one queue, the one that its fate names, or in none if its fate is final
+pub record AreSound (q : Lists) (messages : List Message) : Type 0 where
+  pub one : 1 ≤ length q.links
+  pub few : length q.links ≤ 16
+  pub narrow : AreNarrow q
+  pub tied : AreTied q messages
+  pub fit : AreFit messages

@@ -1,0 +1,13 @@
+-- Which queues have their octets counted.
+use Rattle.std.specs.Prelude.{◌<◌}
+use Rattle.set_events.specs.declared.answer.Fate.{Fate}
+use Rattle.set_events.specs.declared.answer.Fate.TheVariants.{Unacked, Waiting, Held, Acked, Parked, Discarded}
+
+-- a set has at most 16 links
+abbrev pub HasWeight : Fate → Type 0
+HasWeight (Unacked link) = link < 16
+HasWeight (Waiting link) = Unit {0}
+HasWeight (Held link) = Unit {0}
+HasWeight (Acked link) = Unit {0}
+HasWeight Parked = Unit {0}
+HasWeight (Discarded cause) = Unit {0}

@@ -1,0 +1,224 @@
+//! The queues in which messages stand: of each link those of its window and the held ones, and the
+//! parked ones.
+ghost use Rattle.std.specs.Prelude.{◌≡◌, ◌+◌, ◌<◌, ◌≤◌, ◌++◌, [], ◌∷◌};
+
+use l2_window::{Queue, Window, WindowFault};
+use set_events::Fate;
+use std::alloc::{AllocError, Global};
+use std::marker::Model;
+
+/// The queues of a link.
+#[derive(Debug, Drop)]
+pub(crate) struct Link {
+    window: Window,
+    held: Queue,
+}
+
+/// The queues of a set. A fate that isn't final names one of them.
+#[derive(Debug, Drop)]
+pub(crate) struct Buffers {
+    links: Vec<Link>,
+    parked: Queue,
+}
+
+impl Model for Buffers {
+    ghost use Rattle.set_queues.specs.Buffers.{BuffersState};
+
+    ghost Value = { BuffersState };
+
+    ghost use Rattle.set_queues.specs.Kept.{state_of};
+
+    ghost view = { state_of };
+}
+
+impl Link {
+    ghost use Rattle.std.specs.Prelude.{◌≡◌, [], IfOk};
+    ghost use Rattle.set_queues.specs.Kept.{lists_of};
+
+    fn new(alloc: Global) -> Result<Link, AllocError>
+        ensures { IfOk result (λ link. lists_of link ≡ record { last = 127; unacked = []; unsent = []; held = [] }) }
+    {
+        Ok(Link {
+            window: Window::new(alloc)?,
+            held: Queue::new(alloc)?,
+        })
+    }
+}
+
+impl Buffers {
+    ghost use Rattle.std.specs.Prelude.{◌≡◌, ◌+◌, ◌<◌, ◌≤◌, ◌++◌, [], ◌∷◌, IfOk, OnOk, length, replicate, slice_get};
+    ghost use Rattle.set_queues.specs.Buffers.{IsKnown, IsQueued, KeepsRoom, TakesRoom, queue_at, with_queue, last_at, room_at};
+
+    /// The queues of so many links, all empty.
+    pub(crate) fn new(alloc: Global, links: u8) -> Result<Buffers, AllocError>
+        ensures links { IfOk result (λ buffers. buffers.lists.links ≡ replicate links (record { last = 127; unacked = []; unsent = []; held = [] })) }
+        ensures parked { IfOk result (λ buffers. buffers.lists.parked ≡ []) }
+    {
+        let mut made = Vec::new(alloc);
+        for _ in 0..links {
+            let link = Link::new(alloc)?;
+            made.push(link)?;
+        }
+        Ok(Buffers {
+            links: made,
+            parked: Queue::new(alloc)?,
+        })
+    }
+
+    /// How many links there are.
+    pub(crate) fn links(&self) -> usize
+        ensures { result ≡ length self.now.lists.links }
+    {
+        self.links.len()
+    }
+
+    /// The window of a link.
+    pub(crate) fn window(&self, link: u8) -> &Window
+        requires { link < length self.now.lists.links }
+        ensures last { result.now.last ≡ last_at link self.now.lists }
+        ensures unacked { result.now.unacked ≡ queue_at (Fate.Unacked link) self.now.lists }
+        ensures unsent { result.now.unsent ≡ queue_at (Fate.Waiting link) self.now.lists }
+        ensures room { result.now.room ≡ room_at (Fate.Waiting link) self.now.rooms }
+    {
+        &self.links[usize::from(link)].window
+    }
+
+    /// How many messages stand there.
+    pub(crate) fn len(&self, fate: Fate) -> usize
+        requires { IsKnown fate self.now.lists }
+        ensures value { result ≡ length (queue_at fate self.now.lists) }
+    {
+        match fate {
+            Fate::Waiting { link } => self.links[usize::from(link)].window.unsent_len(),
+            Fate::Unacked { link } => self.links[usize::from(link)].window.unacked_len(),
+            Fate::Held { link } => self.links[usize::from(link)].held.len(),
+            Fate::Parked => self.parked.len(),
+            Fate::Acked { .. } | Fate::Discarded { .. } => 0,
+        }
+    }
+
+    /// The message at this place of those that stand there, the oldest at 0.
+    pub(crate) fn at(&self, fate: Fate, place: usize) -> Option<u64>
+        requires { IsKnown fate self.now.lists }
+        ensures { result ≡ slice_get (queue_at fate self.now.lists) place }
+    {
+        match fate {
+            Fate::Waiting { link } => self.links[usize::from(link)].window.unsent_at(place),
+            Fate::Unacked { link } => self.links[usize::from(link)].window.unacked_at(place),
+            Fate::Held { link } => self.links[usize::from(link)].held.at(place),
+            Fate::Parked => self.parked.at(place),
+            Fate::Acked { .. } | Fate::Discarded { .. } => None,
+        }
+    }
+
+    /// Makes room for so many more there. The messages stay where they stand.
+    pub(crate) fn reserve(&mut self, fate: Fate, messages: usize) -> Result<(), AllocError>
+        requires known { IsKnown fate self.old.lists }
+        requires queued { IsQueued fate }
+        ensures room { OnOk result (messages ≤ room_at fate self.new.rooms) }
+        ensures same { self.new.lists ≡ self.old.lists }
+        ensures kept { KeepsRoom self.old.rooms self.new.rooms }
+    {
+        match fate {
+            Fate::Waiting { link } => self.links[usize::from(link)].window.reserve(messages),
+            Fate::Held { link } => self.links[usize::from(link)].held.reserve(messages),
+            Fate::Parked => self.parked.reserve(messages),
+            Fate::Unacked { .. } | Fate::Acked { .. } | Fate::Discarded { .. } => unreachable!(),
+        }
+    }
+
+    /// The message stands there, behind the others.
+    pub(crate) fn push(&mut self, fate: Fate, message: u64)
+        requires known { IsKnown fate self.old.lists }
+        requires room { 0 < room_at fate self.old.rooms }
+        ensures lists { self.new.lists ≡ with_queue fate (queue_at fate self.old.lists ++ message ∷ []) self.old.lists }
+        ensures room { TakesRoom fate 1 self.old.rooms self.new.rooms }
+    {
+        match fate {
+            Fate::Waiting { link } => wait(&mut self.links[usize::from(link)].window, message),
+            Fate::Held { link } => self.links[usize::from(link)].held.push_reserved(message),
+            Fate::Parked => self.parked.push_reserved(message),
+            Fate::Unacked { .. } | Fate::Acked { .. } | Fate::Discarded { .. } => unreachable!(),
+        }
+    }
+
+    /// No message stands there from now on.
+    pub(crate) fn clear(&mut self, fate: Fate)
+        requires known { IsKnown fate self.old.lists }
+        ensures lists { self.new.lists ≡ with_queue fate [] self.old.lists }
+        ensures room { KeepsRoom self.old.rooms self.new.rooms }
+    {
+        match fate {
+            Fate::Waiting { link } => self.links[usize::from(link)].window.clear_unsent(),
+            Fate::Unacked { link } => self.links[usize::from(link)].window.clear_unacked(),
+            Fate::Held { link } => self.links[usize::from(link)].held.clear(),
+            Fate::Parked => self.parked.clear(),
+            Fate::Acked { .. } | Fate::Discarded { .. } => (),
+        }
+    }
+}
+
+impl Buffers {
+    ghost use Rattle.std.specs.Prelude.{◌≡◌, ◌≢◌, ◌↔◌, ◌+◌, ◌%◌, ◌<◌, ◌≤◌, [], IfOk, OnOk, OnErr, length};
+    ghost use Rattle.std.specs.Result.{OkIff};
+    ghost use Rattle.set_queues.specs.Buffers.{KeepsRoom, queue_at, last_at, with_last};
+    ghost use Rattle.set_queues.specs.Sending.{IsSending, acknowledged, reach};
+
+    /// The first message that waits for the link is sent: it stands last among the unacknowledged. The
+    /// message and its FSN.
+    ///
+    /// Refusals, in this order: 1 [`WindowFault::Empty`], 2 [`WindowFault::Full`].
+    pub(crate) fn send(&mut self, link: u8) -> Result<(u64, u8), WindowFault>
+        requires { link < length self.old.lists.links }
+        ensures empty { (result ≡ Err WindowFault.Empty) ↔ (queue_at (Fate.Waiting link) self.old.lists ≡ []) }
+        ensures full { (result ≡ Err WindowFault.Full) ↔ ((queue_at (Fate.Waiting link) self.old.lists ≢ []) × (127 ≤ length (queue_at (Fate.Unacked link) self.old.lists))) }
+        ensures sent { IfOk result (λ sent. IsSending link sent.0 self.old.lists self.new.lists) }
+        ensures fsn { IfOk result (λ sent. sent.1 ≡ (last_at link self.old.lists + 1 + length (queue_at (Fate.Unacked link) self.old.lists)) % 128) }
+        ensures room { OnOk result (KeepsRoom self.old.rooms self.new.rooms) }
+        ensures err { OnErr result (self.new ≡ self.old) }
+    {
+        let sent = self.links[usize::from(link)].window.send()?;
+        Ok(sent)
+    }
+
+    /// The messages of the link up to this FSN leave the unacknowledged ones: how many.
+    ///
+    /// Refusal: 3 [`WindowFault::Unreasonable`].
+    pub(crate) fn ack(&mut self, link: u8, fsn: u8) -> Result<u8, WindowFault>
+        requires known { link < length self.old.lists.links }
+        requires fsn { fsn < 128 }
+        ensures acked { OkIff result (reach link fsn self.old.lists ≤ length (queue_at (Fate.Unacked link) self.old.lists)) (reach link fsn self.old.lists) }
+        ensures ok { OnOk result (self.new.lists ≡ acknowledged link fsn self.old.lists) }
+        ensures unreasonable { OnErr result (result ≡ Err WindowFault.Unreasonable) }
+        ensures room { OnOk result (KeepsRoom self.old.rooms self.new.rooms) }
+        ensures err { OnErr result (self.new ≡ self.old) }
+    {
+        let acked = self.links[usize::from(link)].window.ack(fsn)?;
+        Ok(acked)
+    }
+
+    /// FSN 127 counts as acknowledged on the link again (Q.703 5.2.1).
+    pub(crate) fn reset(&mut self, link: u8)
+        requires known { link < length self.old.lists.links }
+        requires unacked { queue_at (Fate.Unacked link) self.old.lists ≡ [] }
+        requires unsent { queue_at (Fate.Waiting link) self.old.lists ≡ [] }
+        ensures lists { self.new.lists ≡ with_last link 127 self.old.lists }
+        ensures room { KeepsRoom self.old.rooms self.new.rooms }
+    {
+        self.links[usize::from(link)].window.reset();
+    }
+}
+
+/// The message waits last.
+fn wait(window: &mut Window, message: u64)
+    requires { 0 < window.old.room }
+    ensures last { window.new.last ≡ window.old.last }
+    ensures unacked { window.new.unacked ≡ window.old.unacked }
+    ensures unsent { window.new.unsent ≡ window.old.unsent ++ message ∷ [] }
+    ensures room { window.old.room ≤ window.new.room + 1 }
+{
+    match window.push(message) {
+        Ok(()) => (),
+        Err(_) => unreachable!(),
+    }
+}

@@ -1,0 +1,45 @@
+//! One more or one fewer of the users' messages in a place.
+ghost use Rattle.std.specs.Prelude.{◌≡◌, ◌<◌, ◌^◌};
+ghost use Rattle.set_queues.specs.Counts.{AreCountable, IsOneMore, count_at, is_unsent as is_unsent_there};
+
+use set_events::{Counts, Fate};
+
+/// One more stands there.
+pub(crate) fn count(counts: &mut Counts, fate: Fate)
+    requires { AreCountable counts.old }
+    ensures { IsOneMore fate counts.old counts.new }
+{
+    match fate {
+        Fate::Waiting { .. } => counts.waiting += 1,
+        Fate::Unacked { .. } => counts.unacked += 1,
+        Fate::Acked { .. } => counts.acked += 1,
+        Fate::Held { .. } => counts.held += 1,
+        Fate::Parked => counts.parked += 1,
+        Fate::Discarded { .. } => counts.discarded += 1,
+    }
+}
+
+/// One fewer stands there.
+pub(crate) fn uncount(counts: &mut Counts, fate: Fate)
+    requires { 0 < count_at fate counts.old }
+    ensures { IsOneMore fate counts.new counts.old }
+{
+    match fate {
+        Fate::Waiting { .. } => counts.waiting -= 1,
+        Fate::Unacked { .. } => counts.unacked -= 1,
+        Fate::Acked { .. } => counts.acked -= 1,
+        Fate::Held { .. } => counts.held -= 1,
+        Fate::Parked => counts.parked -= 1,
+        Fate::Discarded { .. } => counts.discarded -= 1,
+    }
+}
+
+/// Whether a message of this fate isn't sent yet.
+pub(crate) fn is_unsent(fate: Fate) -> bool
+    ensures { result ≡ is_unsent_there fate }
+{
+    match fate {
+        Fate::Waiting { .. } | Fate::Held { .. } | Fate::Parked => true,
+        Fate::Unacked { .. } | Fate::Acked { .. } | Fate::Discarded { .. } => false,
+    }
+}

@@ -1,0 +1,364 @@
+//! Where every message of a set stands, with what the counts need.
+ghost use Rattle.std.specs.Prelude.{◌≡◌, ◌+◌, IfSome};
+ghost use Rattle.set_queues.specs.Settling.{fate_on};
+
+use super::buffers::Buffers;
+use super::message::Message;
+use super::messages::Messages;
+use super::moving::{queue_too, restand_first};
+use super::weight::{weigh, weigh_less, weigh_more, weigh_none};
+use l2_window::{Queue, Window, WindowFault};
+use set_events::{Counts, DiscardCause, Fate};
+use std::alloc::{AllocError, Global};
+use std::marker::Model;
+
+/// Where every message of a set stands: the queues of 1 to 16 links, the parked messages, and by its
+/// number each message's fate, whose it is, and its octets.
+///
+/// Contracts see the lists of numbers, the messages, and how much room there is; the counts are those
+/// of the lists. A fate that isn't final names a queue: [`Fate::Waiting`] what waits for a link,
+/// [`Fate::Unacked`] what was sent on it, [`Fate::Held`] what is held for it, [`Fate::Parked`] what no
+/// link can take.
+#[derive(Debug, Drop)]
+pub struct Queues {
+    buffers: Buffers,
+    messages: Messages,
+    /// The octets of the unacknowledged bodies of each link.
+    octets: [u32; 16],
+}
+
+impl Model for Queues {
+    ghost use Rattle.set_queues.specs.Queues.{QueuesState};
+
+    ghost Value = { QueuesState };
+
+    ghost view = { λ q. record { lists = q.buffers.lists; messages = q.messages.messages; rooms = q.buffers.rooms; room = q.messages.room } };
+
+    ghost use Rattle.set_queues.specs.Sound.{IsSound};
+
+    ghost invariant = { IsSound };
+}
+
+impl Queues {
+    ghost use Rattle.std.specs.Prelude.{◌≡◌, ◌≢◌, ◌↔◌, ◌+◌, ◌%◌, ◌<◌, ◌≤◌, ◌^◌, ◌++◌, [], ◌∷◌, Some, true, false, IfOk, IfSome, OnOk, OnErr, length, replicate, take, slice_get};
+    ghost use Rattle.std.specs.Option.{option_map};
+    ghost use Rattle.std.specs.Result.{OkIff};
+    ghost use Rattle.set_queues.specs.Messages.{restood, fate_at, octets_of, counts_of, unsent_of};
+    ghost use Rattle.set_queues.specs.Tally.{IsFit};
+    ghost use Rattle.set_queues.specs.Buffers.{IsKnown, IsQueued, KeepsRoom, TakesRoom, is_standing, same_fate, queue_at, with_queue, last_at, with_last, room_at};
+    ghost use Rattle.set_queues.specs.Queues.{AreSound, passed};
+    ghost use Rattle.set_queues.specs.Sending.{IsSending, acknowledged, reach};
+    ghost use Rattle.set_queues.specs.Settling.{fate_on, on, settled};
+
+    /// The queues of so many links, with no message. A link has had no life yet: FSN 127 counts as
+    /// acknowledged on it (Q.703 5.2.1).
+    pub fn new(alloc: Global, links: u8) -> Result<Queues, AllocError>
+        requires { (1 ≤ links) × (links ≤ 16) }
+        ensures links { IfOk result (λ queues. queues.lists.links ≡ replicate links (record { last = 127; unacked = []; unsent = []; held = [] })) }
+        ensures parked { IfOk result (λ queues. queues.lists.parked ≡ []) }
+        ensures messages { IfOk result (λ queues. queues.messages ≡ []) }
+    {
+        Ok(Queues {
+            buffers: Buffers::new(alloc, links)?,
+            messages: Messages::new(alloc),
+            octets: [0; 16],
+        })
+    }
+
+    /// A law: there are 1 to 16 links, at most 127 messages of each are unacknowledged, and each
+    /// message stands in exactly one queue, the one that its fate names, or in none if its fate is
+    /// final.
+    pub fn is_sound(&self)
+        ensures { AreSound self.now.lists self.now.messages }
+    {
+        let _ = &self.buffers;
+    }
+
+    /// How many links there are, 1 to 16.
+    pub fn links(&self) -> usize
+        ensures value { result ≡ length self.now.lists.links }
+        ensures few { (1 ≤ result) × (result ≤ 16) }
+    {
+        self.buffers.links()
+    }
+
+    /// How many messages there are: their numbers are those below it.
+    pub fn len(&self) -> usize
+        ensures value { result ≡ length self.now.messages }
+        ensures few { result < 2 ^ 63 }
+    {
+        self.messages.len()
+    }
+
+    /// What is kept of the message of this number, if there is one.
+    pub fn message(&self, number: u64) -> Option<Message>
+        ensures { result ≡ slice_get self.now.messages number }
+    {
+        self.messages.message(number)
+    }
+
+    /// Where the message of this number stands, if there is one.
+    pub fn fate_of(&self, number: u64) -> Option<Fate>
+        ensures { result ≡ fate_at number self.now.messages }
+    {
+        match self.messages.message(number) {
+            Some(message) => Some(message.fate),
+            None => None,
+        }
+    }
+
+    /// How many of the users' messages stand in each place.
+    pub fn counts(&self) -> Counts
+        ensures { result ≡ counts_of self.now.messages }
+    {
+        self.messages.counts()
+    }
+
+    /// How many of the users' messages of this stream aren't sent yet.
+    pub fn unsent(&self, stream: u8) -> u64
+        requires { stream < 16 }
+        ensures { result ≡ unsent_of stream self.now.messages }
+    {
+        self.messages.unsent(stream)
+    }
+
+    /// The octets of the unacknowledged bodies of the link.
+    pub fn octets(&self, link: u8) -> u32
+        requires { link < length self.now.lists.links }
+        ensures { result ≡ octets_of (queue_at (Fate.Unacked link) self.now.lists) self.now.messages }
+    {
+        self.octets[usize::from(link)]
+    }
+
+    /// The window of the link.
+    pub fn window(&self, link: u8) -> &Window
+        requires { link < length self.now.lists.links }
+        ensures last { result.now.last ≡ last_at link self.now.lists }
+        ensures unacked { result.now.unacked ≡ queue_at (Fate.Unacked link) self.now.lists }
+        ensures unsent { result.now.unsent ≡ queue_at (Fate.Waiting link) self.now.lists }
+        ensures room { result.now.room ≡ room_at (Fate.Waiting link) self.now.rooms }
+    {
+        self.buffers.window(link)
+    }
+
+    /// How many messages stand there.
+    pub fn count_at(&self, fate: Fate) -> usize
+        requires { IsKnown fate self.now.lists }
+        ensures { result ≡ length (queue_at fate self.now.lists) }
+    {
+        self.buffers.len(fate)
+    }
+
+    /// The number at this place of the queue, the oldest at 0.
+    pub fn number_at(&self, fate: Fate, place: usize) -> Option<u64>
+        requires { IsKnown fate self.now.lists }
+        ensures { result ≡ slice_get (queue_at fate self.now.lists) place }
+    {
+        self.buffers.at(fate, place)
+    }
+
+    /// Makes room for so many new messages.
+    pub fn reserve(&mut self, messages: usize) -> Result<(), AllocError>
+        ensures room { OnOk result (messages ≤ self.new.room) }
+        ensures same { (self.new.lists ≡ self.old.lists) × (self.new.messages ≡ self.old.messages) × (self.new.rooms ≡ self.old.rooms) }
+        ensures kept { self.old.room ≤ self.new.room }
+    {
+        self.messages.reserve(messages)
+    }
+
+    /// Makes room for so many more in that queue.
+    pub fn reserve_at(&mut self, fate: Fate, messages: usize) -> Result<(), AllocError>
+        requires known { IsKnown fate self.old.lists }
+        requires queued { IsQueued fate }
+        ensures room { OnOk result (messages ≤ room_at fate self.new.rooms) }
+        ensures same { (self.new.lists ≡ self.old.lists) × (self.new.messages ≡ self.old.messages) × (self.new.room ≡ self.old.room) }
+        ensures kept { KeepsRoom self.old.rooms self.new.rooms }
+    {
+        self.buffers.reserve(fate, messages)
+    }
+
+    /// Makes room in that queue for all that stand on the link, and so many more: what settling it may
+    /// move, with the orders that tell of it.
+    pub fn reserve_all(&mut self, fate: Fate, link: u8, more: usize) -> Result<(), AllocError>
+        requires known { IsKnown fate self.old.lists }
+        requires queued { IsQueued fate }
+        requires link { link < length self.old.lists.links }
+        ensures room { OnOk result (length (on link self.old.lists) + more ≤ room_at fate self.new.rooms) }
+        ensures same { (self.new.lists ≡ self.old.lists) × (self.new.messages ≡ self.old.messages) × (self.new.room ≡ self.old.room) }
+        ensures kept { KeepsRoom self.old.rooms self.new.rooms }
+    {
+        let sent = self.buffers.len(Fate::Unacked { link });
+        let unsent = self.buffers.len(Fate::Waiting { link });
+        let held = self.buffers.len(Fate::Held { link });
+        match sum_of(sent, unsent, held, more) {
+            Some(messages) => self.buffers.reserve(fate, messages),
+            None => Err(AllocError),
+        }
+    }
+
+    /// A new message stands last in the queue that its fate names: its number.
+    ///
+    /// Conditions: that queue is one in which messages can wait; there is room in it, and for one
+    /// message more.
+    pub fn add(&mut self, message: Message) -> u64
+        requires fit { IsFit message }
+        requires known { IsKnown message.fate self.old.lists }
+        requires queued { IsQueued message.fate }
+        requires room { 0 < self.old.room }
+        requires place { 0 < room_at message.fate self.old.rooms }
+        ensures number { result ≡ length self.old.messages }
+        ensures messages { self.new.messages ≡ self.old.messages ++ message ∷ [] }
+        ensures lists { self.new.lists ≡ with_queue message.fate (queue_at message.fate self.old.lists ++ length self.old.messages ∷ []) self.old.lists }
+        ensures room { self.old.room ≤ self.new.room + 1 }
+        ensures rooms { TakesRoom message.fate 1 self.old.rooms self.new.rooms }
+    {
+        let number = self.messages.add(message);
+        self.buffers.push(message.fate, number);
+        number
+    }
+
+    /// The first message that waits for the link is sent for the first time: it stands last among the
+    /// unacknowledged ones. Its number and its FSN.
+    ///
+    /// Refusals, in this order: 1 [`WindowFault::Empty`] with none that waits, 2
+    /// [`WindowFault::Full`] with 127 unacknowledged.
+    pub fn send(&mut self, link: u8) -> Result<(u64, u8), WindowFault>
+        requires { link < length self.old.lists.links }
+        ensures empty { (result ≡ Err WindowFault.Empty) ↔ (queue_at (Fate.Waiting link) self.old.lists ≡ []) }
+        ensures full { (result ≡ Err WindowFault.Full) ↔ ((queue_at (Fate.Waiting link) self.old.lists ≢ []) × (127 ≤ length (queue_at (Fate.Unacked link) self.old.lists))) }
+        ensures sent { IfOk result (λ sent. IsSending link sent.0 self.old.lists self.new.lists) }
+        ensures messages { IfOk result (λ sent. self.new.messages ≡ restood (sent.0 ∷ []) (Fate.Unacked link) self.old.messages) }
+        ensures fsn { IfOk result (λ sent. sent.1 ≡ (last_at link self.old.lists + 1 + length (queue_at (Fate.Unacked link) self.old.lists)) % 128) }
+        ensures rooms { OnOk result (KeepsRoom self.old.rooms self.new.rooms × (self.new.room ≡ self.old.room)) }
+        ensures err { OnErr result (self.new ≡ self.old) }
+    {
+        let (number, fsn) = self.buffers.send(link)?;
+        let octets = self.messages.restand(number, Fate::Unacked { link });
+        weigh_more(&mut self.octets, link, octets);
+        Ok((number, fsn))
+    }
+
+    /// The messages of the link up to this FSN are acknowledged: how many.
+    ///
+    /// Refusal: 3 [`WindowFault::Unreasonable`], where the FSN is neither that last acknowledged nor
+    /// that of an unacknowledged message.
+    pub fn acknowledge(&mut self, link: u8, fsn: u8) -> Result<u8, WindowFault>
+        requires known { link < length self.old.lists.links }
+        requires fsn { fsn < 128 }
+        ensures acked { OkIff result (reach link fsn self.old.lists ≤ length (queue_at (Fate.Unacked link) self.old.lists)) (reach link fsn self.old.lists) }
+        ensures lists { OnOk result (self.new.lists ≡ acknowledged link fsn self.old.lists) }
+        ensures messages { OnOk result (self.new.messages ≡ restood (take (reach link fsn self.old.lists) (queue_at (Fate.Unacked link) self.old.lists)) (Fate.Acked link) self.old.messages) }
+        ensures rooms { OnOk result (KeepsRoom self.old.rooms self.new.rooms × (self.new.room ≡ self.old.room)) }
+        ensures unreasonable { OnErr result (result ≡ Err WindowFault.Unreasonable) }
+        ensures err { OnErr result (self.new ≡ self.old) }
+    {
+        let Some(count) = self.buffers.window(link).distance(fsn) else {
+            return Err(WindowFault::Unreasonable);
+        };
+        let from = Fate::Unacked { link };
+        let octets = weigh(&self.buffers, &self.messages, link, count);
+        restand_first(
+            &self.buffers,
+            &mut self.messages,
+            from,
+            usize::from(count),
+            Fate::Acked { link },
+        );
+        weigh_less(&mut self.octets, link, octets);
+        match self.buffers.ack(link, fsn) {
+            Ok(acked) => Ok(acked),
+            Err(_) => unreachable!(),
+        }
+    }
+
+    /// All that stand in one queue stand last in the other from now on, in their order. It wants no
+    /// memory.
+    ///
+    /// Conditions: two queues, of which messages can wait in the second, with room for those that move.
+    pub fn divert(&mut self, from: Fate, to: Fate)
+        requires standing { is_standing from ≡ true }
+        requires known { IsKnown from self.old.lists }
+        requires other { IsKnown to self.old.lists }
+        requires queued { IsQueued to }
+        requires apart { same_fate to from ≡ false }
+        requires room { length (queue_at from self.old.lists) ≤ room_at to self.old.rooms }
+        ensures lists { self.new.lists ≡ passed from to self.old.lists }
+        ensures messages { self.new.messages ≡ restood (queue_at from self.old.lists) to self.old.messages }
+        ensures rooms { TakesRoom to (length (queue_at from self.old.lists)) self.old.rooms self.new.rooms }
+        ensures room { self.new.room ≡ self.old.room }
+    {
+        let count = self.buffers.len(from);
+        restand_first(&self.buffers, &mut self.messages, from, count, to);
+        queue_too(&mut self.buffers, from, to);
+        self.buffers.clear(from);
+        weigh_none(&mut self.octets, from);
+    }
+
+    /// All that stand in the queue are given up, for this cause.
+    pub fn discard(&mut self, from: Fate, cause: DiscardCause)
+        requires standing { is_standing from ≡ true }
+        requires known { IsKnown from self.old.lists }
+        ensures lists { self.new.lists ≡ with_queue from [] self.old.lists }
+        ensures messages { self.new.messages ≡ restood (queue_at from self.old.lists) (Fate.Discarded cause) self.old.messages }
+        ensures rooms { KeepsRoom self.old.rooms self.new.rooms }
+        ensures room { self.new.room ≡ self.old.room }
+    {
+        let count = self.buffers.len(from);
+        let to = Fate::Discarded { cause };
+        restand_first(&self.buffers, &mut self.messages, from, count, to);
+        self.buffers.clear(from);
+        weigh_none(&mut self.octets, from);
+    }
+
+    /// The link settles (Q.704 5.5): all that stand on it wait for the target from now on, behind what
+    /// waits there, or are parked where there is none. First go those that were sent, then those that
+    /// waited, then those that were held, each in their order. It wants no memory.
+    ///
+    /// Conditions: links of the set, the target another one, with room for those that move.
+    pub fn settle(&mut self, link: u8, target: Option<u8>)
+        requires known { link < length self.old.lists.links }
+        requires other { IsKnown (fate_on target) self.old.lists }
+        requires apart { IfSome target (λ to. to ≢ link) }
+        requires room { length (on link self.old.lists) ≤ room_at (fate_on target) self.old.rooms }
+        ensures lists { self.new.lists ≡ settled link (fate_on target) self.old.lists }
+        ensures messages { self.new.messages ≡ restood (on link self.old.lists) (fate_on target) self.old.messages }
+        ensures rooms { TakesRoom (fate_on target) (length (on link self.old.lists)) self.old.rooms self.new.rooms }
+        ensures room { self.new.room ≡ self.old.room }
+    {
+        let to = fate_of_target(target);
+        self.divert(Fate::Unacked { link }, to);
+        self.divert(Fate::Waiting { link }, to);
+        self.divert(Fate::Held { link }, to);
+    }
+
+    /// A new life of the link: FSN 127 counts as acknowledged again (Q.703 5.2.1).
+    ///
+    /// Conditions: nothing was sent on it and isn't acknowledged, and nothing waits for it.
+    pub fn reset(&mut self, link: u8)
+        requires known { link < length self.old.lists.links }
+        requires unacked { queue_at (Fate.Unacked link) self.old.lists ≡ [] }
+        requires unsent { queue_at (Fate.Waiting link) self.old.lists ≡ [] }
+        ensures lists { self.new.lists ≡ with_last link 127 self.old.lists }
+        ensures same { (self.new.messages ≡ self.old.messages) × (self.new.room ≡ self.old.room) }
+        ensures rooms { KeepsRoom self.old.rooms self.new.rooms }
+    {
+        self.buffers.reset(link);
+    }
+}
+
+/// The sum of four numbers, where it's in range.
+fn sum_of(a: usize, b: usize, c: usize, d: usize) -> Option<usize>
+    ensures { IfSome result (λ sum. sum ≡ a + b + c + d) }
+{
+    a.checked_add(b)?.checked_add(c)?.checked_add(d)
+}
+
+/// Where a message goes that leaves a link that settles.
+fn fate_of_target(target: Option<u8>) -> Fate
+    ensures { result ≡ fate_on target }
+{
+    match target {
+        Some(link) => Fate::Waiting { link },
+        None => Fate::Parked,
+    }
+}
