@@ -57,4 +57,3 @@ pub use flow::Flow;
 pub use input::FlowIn;
 pub use laws::{t5_runs_while_busy, t6_runs_while_far_busy, t7_runs_while_awaiting};
 pub use output::FlowOut;
-

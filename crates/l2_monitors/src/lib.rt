@@ -27,4 +27,3 @@ mod suerm;
 
 pub use aerm::Aerm;
 pub use suerm::Suerm;
-

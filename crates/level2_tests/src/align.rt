@@ -3,26 +3,31 @@
 use l2_align::{Align, AlignIn, AlignOut, End, Monitor};
 use l2_signals::{Status, TimerOrder};
 
+/// What the machine answers. All tests ask through here, so that the prover meets the contract once.
+fn told(align: &mut Align, event: AlignIn) -> AlignOut {
+    align.input(event)
+}
+
 // A machine in a normal proving period.
 fn proving_normally() -> Align {
     let mut align = Align::new();
-    align.input(AlignIn::Start);
-    align.input(AlignIn::Heard(Status::OutOfAlignment));
-    align.input(AlignIn::Heard(Status::Normal));
+    told(&mut align, AlignIn::Start);
+    told(&mut align, AlignIn::Heard(Status::OutOfAlignment));
+    told(&mut align, AlignIn::Heard(Status::Normal));
     align
 }
 
 #[test]
 fn normal_alignment_completes(rt: HostRuntime) {
     let mut align = Align::new();
-    let start = align.input(AlignIn::Start);
+    let start = told(&mut align, AlignIn::Start);
     assert_eq!(rt; start.send, Some(Status::OutOfAlignment));
     assert_eq!(rt; start.t2, TimerOrder::Start);
-    let heard = align.input(AlignIn::Heard(Status::OutOfAlignment));
+    let heard = told(&mut align, AlignIn::Heard(Status::OutOfAlignment));
     assert_eq!(rt; heard.send, Some(Status::Normal));
     assert_eq!(rt; heard.t2, TimerOrder::Stop);
     assert_eq!(rt; heard.t3, TimerOrder::Start);
-    let proving = align.input(AlignIn::Heard(Status::Normal));
+    let proving = told(&mut align, AlignIn::Heard(Status::Normal));
     assert_eq!(rt; proving.t3, TimerOrder::Stop);
     assert_eq!(rt;
         proving.t4,
@@ -31,7 +36,7 @@ fn normal_alignment_completes(rt: HostRuntime) {
         }
     );
     assert_eq!(rt; proving.monitor, Monitor::Normal);
-    let end = align.input(AlignIn::T4);
+    let end = told(&mut align, AlignIn::T4);
     assert_eq!(rt; end.end, Some(End::Complete));
 }
 
@@ -39,10 +44,10 @@ fn normal_alignment_completes(rt: HostRuntime) {
 fn fifth_abort_since_aligned_was_left(rt: HostRuntime) {
     let mut align = proving_normally();
     for _ in 0..4u8 {
-        let abort = align.input(AlignIn::Abort);
+        let abort = told(&mut align, AlignIn::Abort);
         assert_eq!(rt; abort.monitor, Monitor::Off);
         assert_eq!(rt; abort.end, None);
-        let good = align.input(AlignIn::Good);
+        let good = told(&mut align, AlignIn::Good);
         assert_eq!(rt;
             good.t4,
             TimerOrder::StartFor {
@@ -51,7 +56,7 @@ fn fifth_abort_since_aligned_was_left(rt: HostRuntime) {
         );
         assert_eq!(rt; good.monitor, Monitor::Normal);
     }
-    let fifth = align.input(AlignIn::Abort);
+    let fifth = told(&mut align, AlignIn::Abort);
     assert_eq!(rt; fifth.end, Some(End::NotPossible));
 }
 
@@ -66,5 +71,8 @@ fn emergency_heard_in_normal_proving(rt: HostRuntime) {
         monitor: Monitor::Emergency,
         end: None,
     };
-    assert_eq!(rt; align.input(AlignIn::Heard(Status::Emergency)), shortened);
+    assert_eq!(rt;
+        told(&mut align, AlignIn::Heard(Status::Emergency)),
+        shortened
+    );
 }

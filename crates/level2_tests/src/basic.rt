@@ -1,7 +1,7 @@
 //! Situations on one link, worked out by hand from Q.703 5. Units are written as their octets.
 use l2_basic::*;
 use l2_units::{Header, header_in, read};
-use l2_window::{ControlFault, Sending, Window};
+use l2_window::{ControlFault, HeardPart, Sending, Window};
 use std::process::Abort;
 use std::test::Fail;
 
@@ -31,6 +31,11 @@ fn head(backward: u8, forward: u8) -> Result<Header, Fail> {
 }
 
 impl End {
+    /// What the heard unit means. All tests ask through here, so that the prover meets the contract once.
+    fn hears(&mut self, head: Header, is_msu: bool) -> HeardPart {
+        self.control.heard(&mut self.window, head, is_msu)
+    }
+
     fn sends_message(&mut self, rt: &impl Abort, message: u64, fsn: u8) -> Header {
         let Sending::Message { number, head } = self.control.next(&mut self.window) else {
             panic!(rt; "a FISU where message {message} is due");
@@ -56,9 +61,9 @@ fn message_127_waits_for_a_number(rt: HostRuntime) -> Result<(), Fail> {
         end.sends_message(&rt, u64::from(message), message);
     }
     end.sends_fill(&rt, 126);
-    let part = end.control.heard(&mut end.window, head(0xFF, 0xFF)?, false);
+    let part = end.hears(head(0xFF, 0xFF)?, false);
     assert_eq!(rt; part.acked, 0);
-    let part = end.control.heard(&mut end.window, head(0xFE, 0xFF)?, false);
+    let part = end.hears(head(0xFE, 0xFF)?, false);
     assert_eq!(rt; part.acked, 127);
     end.sends_message(&rt, 127, 127);
     Ok(())
@@ -70,22 +75,22 @@ fn a_lost_message_is_asked_for_and_sent_again(rt: HostRuntime) -> Result<(), Fai
     let mut far = end_with(&rt, 0)?;
     near.sends_message(&rt, 0, 0);
     let second = near.sends_message(&rt, 1, 1);
-    let part = far.control.heard(&mut far.window, second, true);
+    let part = far.hears(second, true);
     assert!(rt; part.asked && !part.accept && !part.resend);
     // Asked once only, and what was sent before is discarded.
-    let part = far.control.heard(&mut far.window, second, true);
+    let part = far.hears(second, true);
     assert!(rt; !part.asked && !part.accept && part.fault.is_none());
     let nack = far.sends_fill(&rt, 127);
     assert!(rt; nack == head(0x7F, 0xFF)?);
-    let part = near.control.heard(&mut near.window, nack, false);
+    let part = near.hears(nack, false);
     assert!(rt; part.resend && part.acked == 0);
     let first = near.sends_message(&rt, 0, 0);
     assert!(rt; first == head(0xFF, 0x00)?);
-    let part = far.control.heard(&mut far.window, first, true);
+    let part = far.hears(first, true);
     assert!(rt; part.accept && !part.asked);
     assert_eq!(rt; far.control.accepted(), 0);
     // The same number again is discarded, and nothing is asked for.
-    let part = far.control.heard(&mut far.window, first, true);
+    let part = far.hears(first, true);
     assert!(rt; !part.accept && !part.asked);
     Ok(())
 }
@@ -98,10 +103,10 @@ fn an_acknowledgement_in_a_retransmission_moves_the_cursor_back(
     for message in 0..3u8 {
         end.sends_message(&rt, u64::from(message), message);
     }
-    let part = end.control.heard(&mut end.window, head(0x7F, 0xFF)?, false);
+    let part = end.hears(head(0x7F, 0xFF)?, false);
     assert!(rt; part.resend);
     end.sends_message(&rt, 0, 0);
-    let part = end.control.heard(&mut end.window, head(0x00, 0xFF)?, false);
+    let part = end.hears(head(0x00, 0xFF)?, false);
     assert!(rt; part.acked == 1 && !part.resend);
     end.sends_message(&rt, 1, 1);
     end.sends_message(&rt, 2, 2);
@@ -117,14 +122,14 @@ fn two_abnormal_units_in_three_are_a_fault(rt: HostRuntime) -> Result<(), Fail> 
     let units = [(0x85, 0xFF), (0xFF, 0xFF), (0x85, 0xFF)];
     for ((backward, forward), fault) in units.into_iter().zip(faults) {
         let unit = head(backward, forward)?;
-        let part = end.control.heard(&mut end.window, unit, false);
+        let part = end.hears(unit, false);
         assert!(rt; part.fault == fault);
     }
     let mut end = end_with(&rt, 0)?;
     let unit = head(0xFF, 0x7F)?;
-    let part = end.control.heard(&mut end.window, unit, false);
+    let part = end.hears(unit, false);
     assert!(rt; part.fault.is_none());
-    let part = end.control.heard(&mut end.window, unit, false);
+    let part = end.hears(unit, false);
     assert!(rt; part.fault == Some(ControlFault::Fib));
     Ok(())
 }
@@ -136,10 +141,10 @@ fn numbers_go_round_twice(rt: HostRuntime) -> Result<(), Fail> {
     let mut far = end_with(&rt, 0)?;
     for message in 0..300u64 {
         let unit = near.sends_message(&rt, message, (message % 128) as u8);
-        let part = far.control.heard(&mut far.window, unit, true);
+        let part = far.hears(unit, true);
         assert!(rt; part.accept);
         let answer = far.sends_fill(&rt, 127);
-        let part = near.control.heard(&mut near.window, answer, false);
+        let part = near.hears(answer, false);
         assert_eq!(rt; part.acked, 1);
     }
     assert_eq!(rt; near.window.last(), 43);

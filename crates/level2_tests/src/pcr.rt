@@ -1,7 +1,7 @@
 //! Situations on one link, worked out by hand from Q.703 6. Units are written as their octets.
 use l2_pcr::*;
 use l2_units::{Header, header_in, read};
-use l2_window::{ControlFault, Sending, Window};
+use l2_window::{ControlFault, HeardPart, Sending, Window};
 use std::process::Abort;
 use std::test::Fail;
 
@@ -31,6 +31,11 @@ fn head(backward: u8, forward: u8) -> Result<Header, Fail> {
 }
 
 impl End {
+    /// What the heard unit means. All tests ask through here, so that the prover meets the contract once.
+    fn hears(&mut self, head: Header, is_msu: bool) -> HeardPart {
+        self.control.heard(&mut self.window, head, is_msu)
+    }
+
     fn sends_message(&mut self, rt: &impl Abort, message: u64, fsn: u8) -> Header {
         let octets = 5 * self.window.unacked_len() as u32;
         let Sending::Message { number, head } = self.control.next(&mut self.window, octets) else {
@@ -59,7 +64,7 @@ fn two_messages_force_a_cycle_that_an_acknowledgement_does_not_end(
     for fsn in [0u8, 1, 0, 1, 0] {
         end.sends_message(&rt, u64::from(fsn), fsn);
     }
-    let part = end.control.heard(&mut end.window, head(0x80, 0xFF)?, false);
+    let part = end.hears(head(0x80, 0xFF)?, false);
     assert_eq!(rt; part.acked, 1);
     end.sends_message(&rt, 1, 1);
     end.sends_message(&rt, 2, 2);
@@ -73,7 +78,7 @@ fn octets_force_a_cycle(rt: HostRuntime) -> Result<(), Fail> {
     for fsn in [0u8, 1, 2, 0, 1, 2, 0] {
         end.sends_message(&rt, u64::from(fsn), fsn);
     }
-    let part = end.control.heard(&mut end.window, head(0x82, 0xFF)?, false);
+    let part = end.hears(head(0x82, 0xFF)?, false);
     assert_eq!(rt; part.acked, 3);
     end.sends_message(&rt, 3, 3);
     Ok(())
@@ -88,7 +93,7 @@ fn with_nothing_new_the_unacknowledged_go_round(rt: HostRuntime) -> Result<(), F
         end.sends_message(&rt, u64::from(fsn), fsn);
     }
     // Message 2 is due, and stays so.
-    let part = end.control.heard(&mut end.window, head(0x80, 0xFF)?, false);
+    let part = end.hears(head(0x80, 0xFF)?, false);
     assert_eq!(rt; part.acked, 1);
     for fsn in [2u8, 1, 2] {
         end.sends_message(&rt, u64::from(fsn), fsn);
@@ -105,13 +110,13 @@ fn nothing_is_asked_for(rt: HostRuntime) -> Result<(), Fail> {
     let first = near.sends_message(&rt, 0, 0);
     let second = near.sends_message(&rt, 1, 1);
     assert!(rt; second == head(0xFF, 0x81)?);
-    let part = far.control.heard(&mut far.window, second, true);
+    let part = far.hears(second, true);
     assert!(rt; !part.accept && !part.asked && !part.resend);
-    let part = far.control.heard(&mut far.window, first, true);
+    let part = far.hears(first, true);
     assert!(rt; part.accept);
-    let part = far.control.heard(&mut far.window, first, true);
+    let part = far.hears(first, true);
     assert!(rt; !part.accept);
-    let part = far.control.heard(&mut far.window, second, true);
+    let part = far.hears(second, true);
     assert!(rt; part.accept);
     assert_eq!(rt; far.control.accepted(), 1);
     let answer = far.sends_fill(&rt, 127);
@@ -126,7 +131,7 @@ fn two_abnormal_bsns_in_three_are_a_fault(rt: HostRuntime) -> Result<(), Fail> {
     let units = [(0x85, 0xFF), (0xFF, 0x7F), (0x85, 0xFF)];
     for ((backward, forward), fault) in units.into_iter().zip(faults) {
         let unit = head(backward, forward)?;
-        let part = end.control.heard(&mut end.window, unit, false);
+        let part = end.hears(unit, false);
         assert!(rt; part.fault == fault);
     }
     Ok(())
@@ -139,10 +144,10 @@ fn numbers_go_round_twice(rt: HostRuntime) -> Result<(), Fail> {
     let mut far = end_with(&rt, 0, 127, 1000)?;
     for message in 0..300u64 {
         let unit = near.sends_message(&rt, message, (message % 128) as u8);
-        let part = far.control.heard(&mut far.window, unit, true);
+        let part = far.hears(unit, true);
         assert!(rt; part.accept);
         let answer = far.sends_fill(&rt, 127);
-        let part = near.control.heard(&mut near.window, answer, false);
+        let part = near.hears(answer, false);
         assert_eq!(rt; part.acked, 1);
     }
     assert_eq!(rt; near.window.last(), 43);

@@ -1,21 +1,26 @@
 //! Whole runs, in the trade's words.
 
-use l2_state::{LinkState, Sending, StateIn, StateOut, Switch, Told};
 use l2_signals::{Cause, Status, TimerOrder};
+use l2_state::{LinkState, Sending, StateIn, StateOut, Switch, Told};
+
+/// What the machine answers. All tests ask through here, so that the prover meets the contract once.
+fn told(link: &mut LinkState, event: StateIn) -> StateOut {
+    link.input(event)
+}
 
 #[test]
 fn up_then_out_of_alignment(rt: HostRuntime) {
     let mut link = LinkState::new();
-    let start = link.input(StateIn::Start);
+    let start = told(&mut link, StateIn::Start);
     assert_eq!(rt; start.alignment, Some(Switch::Start));
-    let complete = link.input(StateIn::Complete);
+    let complete = told(&mut link, StateIn::Complete);
     assert_eq!(rt; complete.send, Some(Sending::FillIn));
     assert_eq!(rt; complete.t1, TimerOrder::Start);
     assert!(rt; complete.new_suerm);
-    let heard = link.input(StateIn::Fisu);
+    let heard = told(&mut link, StateIn::Fisu);
     assert_eq!(rt; heard.told, Some(Told::Up));
     assert_eq!(rt; heard.send, Some(Sending::Traffic));
-    let lost = link.input(StateIn::Heard(Status::OutOfAlignment));
+    let lost = told(&mut link, StateIn::Heard(Status::OutOfAlignment));
     assert_eq!(rt; lost.told, Some(Told::Down(Cause::Status)));
     let ignored = StateOut {
         send: None,
@@ -25,17 +30,17 @@ fn up_then_out_of_alignment(rt: HostRuntime) {
         told: None,
         paused: false,
     };
-    let again = link.input(StateIn::Heard(Status::OutOfAlignment));
+    let again = told(&mut link, StateIn::Heard(Status::OutOfAlignment));
     assert_eq!(rt; again, ignored);
 }
 
 #[test]
 fn processor_outage_in_service(rt: HostRuntime) {
     let mut link = LinkState::new();
-    link.input(StateIn::Start);
-    link.input(StateIn::Complete);
-    link.input(StateIn::Fisu);
-    assert!(rt; link.input(StateIn::Heard(Status::ProcessorOutage)).paused);
-    assert!(rt; link.input(StateIn::T1).paused);
-    assert!(rt; !link.input(StateIn::Msu).paused);
+    told(&mut link, StateIn::Start);
+    told(&mut link, StateIn::Complete);
+    told(&mut link, StateIn::Fisu);
+    assert!(rt; told(&mut link, StateIn::Heard(Status::ProcessorOutage)).paused);
+    assert!(rt; told(&mut link, StateIn::T1).paused);
+    assert!(rt; !told(&mut link, StateIn::Msu).paused);
 }

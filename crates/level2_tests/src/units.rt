@@ -1,6 +1,6 @@
 //! Units worked out by hand from Q.703 2.2 and 2.3.
-use l2_units::*;
 use arrayvec::ArrayVec;
+use l2_units::*;
 use std::test::Fail;
 
 #[test]

@@ -1,9 +1,9 @@
 //! Fifteen links that leave one after another, with places worked out by hand from Q.704 5.
 ghost use Rattle.l3_orders.specs.Grammar.{IsOrder};
 
-use set_core::*;
 use l2_units::{Header, Unit};
 use l3_orders::{Order, write_order};
+use set_core::*;
 use set_events::{Actor, Answer, Body, DiscardCause, Event, Fate, Method, SetConfig, Took};
 use std::alloc::Global;
 use std::test::Fail;

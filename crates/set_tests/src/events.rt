@@ -1,6 +1,6 @@
 //! What the contracts leave to be seen: that calls succeed, and the numbers that users meet.
-use set_events::*;
 use l2_units::read;
+use set_events::*;
 use std::test::Fail;
 
 #[test]

@@ -1,8 +1,8 @@
 //! Three units on two links, each step by hand.
 ghost use Rattle.std.specs.Prelude.{◌<◌};
 
-use link_lines::Lines;
 use l2_units::{Header, Unit};
+use link_lines::Lines;
 use std::test::Fail;
 
 /// A fill-in unit of this FSN.

@@ -1,6 +1,6 @@
 //! Situations of one link, with expected values worked out by hand from Q.703 5.
-use set_core::*;
 use l2_units::{Unit, read};
+use set_core::*;
 use set_events::{
     Actor, Answer, Body, Entry, Event, Fate, Method, Refusal, Report, SetConfig, Took,
 };
