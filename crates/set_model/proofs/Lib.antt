@@ -15,6 +15,9 @@ pub mod Order
 pub mod Places
 pub mod Ranging
 pub mod Settling
+pub mod SoundLink
+pub mod SoundMoves
+pub mod SoundNew
 pub mod Soundness
 pub mod Stating
 pub mod Staying

@@ -1,22 +1,17 @@
 -- Links that never were up, and what holds of every link.
-use Rattle.std.proofs.Common.{refl, arith, ◌≡◌, ◌∙◌, ap, sym, subst, ◌≤◌, length, ℕ, zero, suc, ◌%◌, List, [], ◌∷◌, ◌++◌, map, slice_get, Some, ◌⊎◌, inl, inr}
+use Rattle.std.proofs.Common.{refl, arith, ◌≡◌, ◌∙◌, ap, sym, subst, length, ℕ, zero, suc, ◌%◌, List, [], ◌∷◌, ◌++◌, map, slice_get, Some, ◌⊎◌, inl, inr}
 use Rattle.std.specs.Prelude.{replicate}
-use Rattle.std.proofs.lemmas.List.{length-map}
 use Rattle.std.proofs.lemmas.Option.{same_Some}
 use Rattle.l2_window.specs.Window.{IsEmpty}
 use Rattle.set_events.specs.declared.config.Method.{Method}
-use Rattle.set_events.specs.declared.config.Method.TheVariants.{Basic, Cyclic}
 use Rattle.set_route.specs.declared.stream.Stream.{Stream}
 use Rattle.set_route.specs.Routing.{new_routing, new_stream, stream_numbers}
-use Rattle.set_model.specs.Rows.{Row, unack}
 use Rattle.set_step.specs.declared.link.Link.{Link}
-use Rattle.set_step.specs.declared.parts.Parts.{Parts}
-use Rattle.set_step.specs.Agreement.{Agrees, IsKept, AtLink, IsPlaced, ArePlaced, link_of, state_of}
-use Rattle.set_model.specs.Control.{accepted_of, start_of}
+use Rattle.set_step.specs.Agreement.{IsKept, AtLink, IsPlaced, ArePlaced, link_of}
+use Rattle.set_model.specs.Control.{accepted_of}
 use Rattle.set_model.specs.State.{LinkState, new_link}
-use Rattle.set_model.specs.Sound.{IsSoundLink, AreFewOn}
 use Rattle.set_model.proofs.Lists.{at_map}
-use Rattle.set_model.proofs.Soundness.{start_counted}
+use Rattle.set_model.proofs.SoundMoves.{start_counted}
 
 pub at_push : (xs : List Link) (x : Link) (n : ℕ) (y : Link) → slice_get (xs ++ x ∷ []) n ≡ Some y → (slice_get xs n ≡ Some y) ⊎ (y ≡ x)
 at_push [] x zero y e = inr (sym (same_Some x y e))

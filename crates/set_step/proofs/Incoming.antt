@@ -1,17 +1,13 @@
 -- What a heard unit does, told of the rows.
-use Rattle.std.proofs.Common.{refl, arith, ◌≡◌, ◌∙◌, ap, sym, ◌<◌, ◌≤◌, ℕ, ◌+◌, ◌-◌, ◌%◌, Bool, true, false, not, ◌&&◌, List, take, drop, ◌==◌}
-use Rattle.std.specs.Prelude.{if◌then◌else◌}
-use Rattle.std.proofs.lemmas.Bool.Decides.{nat_tests}
+use Rattle.std.proofs.Common.{refl, arith, ◌≡◌, ◌∙◌, ap, sym, ◌≤◌, ℕ, ◌+◌, ◌-◌, ◌%◌, Bool, true, false, List, take, drop}
 use mir.Val.{bool_byte}
 use Rattle.l2_units.specs.declared.unit.Header.{Header}
 use Rattle.l2_window.specs.Window.{WindowState}
 use Rattle.l2_window.specs.declared.control.HeardPart.{HeardPart}
-use Rattle.l2_basic.specs.Basic as basic
-use Rattle.l2_pcr.specs.Pcr as cyclic
 use Rattle.set_events.specs.declared.answer.Fate.TheVariants.{Acked}
 use Rattle.set_model.specs.Rows.{Row, unack, octets_in, is_unacked, turned}
 use Rattle.set_step.specs.declared.link.Link.{Link}
-use Rattle.set_model.specs.Control.{Control, Basic, Cyclic, accepted_of, is_processed, is_accepted, acked_by, part_of, window_heard, control_heard}
+use Rattle.set_model.specs.Control.{Control, Basic, Cyclic, accepted_of, is_processed, is_accepted, acked_by, part_of, control_heard}
 use Rattle.set_step.specs.Controls.{IsHeard}
 use Rattle.set_model.specs.State.{window_of}
 use Rattle.set_model.specs.Step.{one_if}

@@ -1,7 +1,6 @@
 -- What a choice of the control sends, told of the rows.
-use Rattle.std.proofs.Common.{refl, arith, ◌≡◌, ◌∙◌, ap, sym, subst, ◌*◌, ◌<◌, ◌≤◌, [], ◌∷◌, length, ℕ, zero, suc, ◌+◌, Bool, true, false, not, ◌&&◌, nat_lt, List, ◌++◌, drop, take, map, Some, ◌==◌}
-use Rattle.std.specs.Prelude.{slice_get, if◌then◌else◌}
-use Rattle.std.proofs.lemmas.Bool.{ltb-true}
+use Rattle.std.proofs.Common.{refl, arith, ◌≡◌, ◌∙◌, ap, sym, subst, ◌*◌, ◌<◌, ◌≤◌, [], ◌∷◌, length, ℕ, zero, suc, ◌+◌, false, List, ◌++◌, drop, take, map, Some, ◌==◌}
+use Rattle.std.specs.Prelude.{slice_get}
 use Rattle.std.proofs.lemmas.Option.{same_Some}
 use Rattle.std.proofs.lemmas.List.{length-map}
 use Rattle.l2_units.specs.declared.unit.Header.{Header}
@@ -10,7 +9,6 @@ use Rattle.l2_units.specs.declared.unit.Unit.TheVariants.{Fisu, Msu}
 use Rattle.l2_window.specs.Window.{WindowState}
 use Rattle.l2_window.specs.declared.control.Sending.{Sending}
 use Rattle.l2_window.specs.declared.control.Sending.TheVariants.{Message, Fill}
-use Rattle.l2_pcr.specs.Pcr as cyclic
 use Rattle.set_events.specs.declared.answer.Answer.TheVariants.{Sent}
 use Rattle.set_events.specs.declared.answer.Fate.TheVariants.{Unacked}
 use Rattle.set_route.specs.Routing.{Routing}

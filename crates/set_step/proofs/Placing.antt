@@ -1,9 +1,7 @@
 -- A message that is accepted moves no stream.
 use Rattle.std.proofs.Common.{refl, arith, ◌≡◌, ◌∙◌, ap, sym, subst, ◌<◌, ℕ, zero, suc, List, true, false, Bool, not, ◌&&◌, ◌==◌, [], ◌∷◌, length, map, slice_get, slice_set, Option, Some, None, option_map}
 use Rattle.std.proofs.lemmas.Option.{same_Some, slice_get-map}
-use Rattle.set_model.specs.Rows.{Row, standing, unack, wait, on, is_unacked, is_waiting, is_on}
-use Rattle.set_model.proofs.Filters.{filter_within}
-use Rattle.set_model.proofs.Places.{itself, unacked_on, waiting_on}
+use Rattle.set_model.proofs.Places.{itself}
 use Rattle.set_route.specs.declared.place.Place.{Place}
 use Rattle.set_route.specs.declared.place.Place.TheVariants.{On, Nowhere}
 use Rattle.set_route.specs.declared.stream.Stream.{Stream}

@@ -1,5 +1,5 @@
 -- What the laws of the step say of an event's result.
-use Rattle.std.proofs.Common.{arith, ◌≡◌, ◌∙◌, ap, sym, subst, ℕ, ◌+◌, slice_get}
+use Rattle.std.proofs.Common.{arith, ◌≡◌, sym, subst, ℕ, ◌+◌}
 use Rattle.std.specs.Prelude.{Result, Ok, Err, IfOk, OnErr, ◌^◌}
 use Rattle.set_events.specs.declared.answer.Answer.{Answer}
 use Rattle.set_events.specs.declared.event.Event.{Event}

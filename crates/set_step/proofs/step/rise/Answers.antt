@@ -14,7 +14,7 @@ use Rattle.set_step.proofs.Keeping.{kept_set}
 use Rattle.set_model.proofs.Lists.{here, map_set, length_set}
 use Rattle.set_step.proofs.Placing.{raised_placed}
 use Rattle.set_model.proofs.Settling.{none_unack, none_wait}
-use Rattle.set_model.proofs.Soundness.{start_counted}
+use Rattle.set_model.proofs.SoundMoves.{start_counted}
 use Rattle.set_step.proofs.States.{state_is}
 use Rattle.set_step.proofs.step.rise.Goals as goal
 

@@ -1,7 +1,6 @@
-use Rattle.std.proofs.Common.{refl, ◌≡◌, ◌∙◌, ap, sym, subst, ℕ, [], map}
+use Rattle.std.proofs.Common.{refl, ◌≡◌, ◌∙◌, ap, sym, subst, ℕ, map}
 use Rattle.std.specs.Prelude.{replicate}
-use Rattle.set_route.specs.Routing.{new_routing}
-use Rattle.set_model.specs.State.{LinkState, State, Settings, settings_of, new_link, new_state}
+use Rattle.set_model.specs.State.{State, settings_of, new_link, new_state}
 use Rattle.set_model.specs.Sound.{IsSettings, IsSound, AreFew}
 use Rattle.set_model.proofs.Soundness.{opened_sound, opened_few}
 use Rattle.set_step.specs.Agreement.{link_of, bodies_in}

@@ -1,0 +1,336 @@
+-- WHAT HOLDS OF EVERY STATE is kept by a change of one link, with rows that change in their places.
+use Rattle.std.proofs.Common.{refl, arith, ◌≡◌, ◌≢◌, ◌∙◌, ap, sym, subst, ◌<◌, ◌≤◌, ℕ, ◌+◌, ◌%◌, ◌==◌, Bool, true, false, List, [], ◌∷◌, length, map, take, drop, slice_get, slice_set, Some, ◌⊎◌, inl, inr}
+use Rattle.std.proofs.lemmas.List.{length-map, length-append, length-drop, length-set}
+use Rattle.l2_units.specs.declared.unit.Header.{Header}
+use Rattle.l2_units.specs.declared.unit.Unit.{Unit as SignalUnit}
+use Rattle.l2_units.specs.Grammar.{head_of as header_in}
+use Rattle.l2_window.specs.Window.{WindowState}
+use Rattle.l2_window.specs.declared.control.HeardPart.{HeardPart}
+use Rattle.set_events.specs.declared.answer.DiscardCause.{DiscardCause}
+use Rattle.set_events.specs.declared.answer.Fate.{Fate}
+use Rattle.set_events.specs.declared.answer.Fate.TheVariants.{Unacked, Acked, Discarded}
+use Rattle.set_events.specs.declared.config.Method.{Method}
+use Rattle.set_route.specs.declared.place.Place.{Place}
+use Rattle.set_route.specs.declared.place.Place.TheVariants.{On, Nowhere}
+use Rattle.set_route.specs.Routing.{place_of, has_messages}
+use Rattle.set_model.specs.declared.phase.Phase.{Phase}
+use Rattle.set_model.specs.declared.phase.Phase.TheVariants.{Up, Down, Settled}
+use Rattle.set_model.specs.Rows.{Row, is_waiting, is_unacked, unack, wait, held, on, parked, numbers, octets_in, turned, changed, with_fate, AreFit, IsNumbered, IsInOrder, IsHeldLast}
+use Rattle.set_model.specs.Control.{Choice, again, first, fill, choice_of, control_after, part_of, control_heard, acked_by}
+use Rattle.set_model.specs.State.{LinkState, State, has_phase_up, has_phase_settled, window_of}
+use Rattle.set_model.specs.Changeover.{leave, left_link, acknowledge, acknowledged as acknowledged_link}
+use Rattle.set_model.specs.Step.{sends, one_if, is_msu, next, after_control}
+use Rattle.set_model.specs.Sound.{IsInRange, IsSoundLink, IsPlaced, IsSoundStream, IsSound}
+use Rattle.set_model.proofs.Controlling.{accepted_after, method_after, first_chosen, range_after, method_heard, part_acked, part_accept, accepted_heard, range_heard}
+use Rattle.set_model.proofs.Events.{Untouched, untouched_self, sent, acknowledged, GivenUp}
+use Rattle.set_model.proofs.Lists.{at_set, get_set_same, get_set_other, set_same, within}
+use Rattle.set_model.proofs.Live.{stream_turned, stream_changed, stream_sent}
+use Rattle.set_model.proofs.Places.{false_true, itself, apart}
+use Rattle.set_model.proofs.Settling.{none_held}
+use Rattle.set_model.proofs.Walk.{IsAt}
+
+-- PHASES.
+pub up_unsettled : (phase : Phase) → has_phase_up phase ≡ true → has_phase_settled phase ≡ false
+up_unsettled Up e = refl
+up_unsettled Down e = absurd cc
+up_unsettled Settled e = absurd cc
+
+-- A LINK THAT AN EVENT LEAVES ALONE.
+pub link_untouched : (m : Method) (n : ℕ) (link : LinkState) (rows new : List Row) → Untouched n rows new → IsSoundLink m n link rows → IsSoundLink m n link new
+link_untouched m n link rows new u t = record {
+  window = rw u.unack_same t.window;
+  counted = t.counted;
+  method = t.method;
+  in_order = u.order_kept t.in_order;
+  held_last = u.last_kept t.held_last;
+  none_held = λ e. u.held_same ∙ t.none_held e;
+  in_range = λ e. rw u.unack_same (t.in_range e);
+  settled = λ e. u.on_same ∙ t.settled e;
+}
+
+-- the link that changes, and the others
+pub links_set : (m : Method) (links : List LinkState) (n : ℕ) (link : LinkState) (rows new : List Row) → IsSoundLink m n link new → ((k : ℕ) → (n == k) ≡ false → Untouched k rows new) → ((k : ℕ) (other : LinkState) → slice_get links k ≡ Some other → IsSoundLink m k other rows)
+    → (k : ℕ) (other : LinkState) → slice_get (slice_set links n link) k ≡ Some other → IsSoundLink m k other new
+links_set m links n link rows new one others all k other there = go (at_set links n k link other there)
+  where
+    go : ((k ≡ n) × (other ≡ link)) ⊎ ((k ≢ n) × (slice_get links k ≡ Some other)) → IsSoundLink m k other new
+    go (inl p) = rw (p.0, p.1) one
+    go (inr p) = link_untouched m k other rows new (others k (apart n k (λ e. p.0 (sym e)))) (all k other p.1)
+
+-- a place stays one, where the link that changes isn't settled
+pub placed_set : (links : List LinkState) (n : ℕ) (link link' : LinkState) (place : Place) → slice_get links n ≡ Some link → has_phase_settled link'.phase ≡ false → IsPlaced links place → IsPlaced (slice_set links n link') place
+placed_set links n link link' Nowhere there unsettled p = tt
+placed_set links n link link' (On l) there unsettled p = go (n == l) refl
+  where
+    go : (b : Bool) → (n == l) ≡ b → IsPlaced (slice_set links n link') (On l)
+    go true e = let same : l ≡ n = grind arith in rw same (link', get_set_same links n link' (within links n link there), unsettled)
+    go false e = (p.0, get_set_other links n l link' (λ s. false_true (n == l) e (rw s (itself l))) ∙ p.1, p.2)
+
+-- a link that is up was there before, where the one that changes isn't up anew
+pub up_before : (links : List LinkState) (n : ℕ) (link link' : LinkState) → slice_get links n ≡ Some link → (has_phase_up link'.phase ≡ true → has_phase_up link.phase ≡ true) → (k : ℕ) (other : LinkState) → slice_get (slice_set links n link') k ≡ Some other → has_phase_up other.phase ≡ true → (old : LinkState) × (slice_get links k ≡ Some old) × (has_phase_up old.phase ≡ true)
+up_before links n link link' there same k other at up = go (at_set links n k link' other at)
+  where
+    go : ((k ≡ n) × (other ≡ link')) ⊎ ((k ≢ n) × (slice_get links k ≡ Some other)) → (old : LinkState) × (slice_get links k ≡ Some old) × (has_phase_up old.phase ≡ true)
+    go (inl p) = (link, ap (slice_get links) p.0 ∙ there, same (ap (λ (l : LinkState). has_phase_up l.phase) (sym p.1) ∙ up))
+    go (inr p) = (other, p.1, up)
+
+-- A CHANGE OF ONE LINK, with rows that change in their places, none of them parked.
+pub record Changes (n : ℕ) (link link' : LinkState) (s : State) (new : List Row) : Type 0 where
+  pub there : slice_get s.links n ≡ Some link
+  pub one : IsSoundLink s.settings.method n link' new
+  pub others : (k : ℕ) → (n == k) ≡ false → Untouched k s.rows new
+  pub numbered : IsNumbered new
+  pub fit : AreFit new
+  pub streams : (stream : ℕ) → stream < 16 → IsSoundStream stream (place_of stream s.routing) (has_messages stream s.routing) new
+  pub parked_same : parked new ≡ parked s.rows
+  pub no_rise : has_phase_up link'.phase ≡ true → has_phase_up link.phase ≡ true
+  pub unsettled : has_phase_settled link'.phase ≡ false
+
+changes : (n : ℕ) (link link' : LinkState) (s : State) (new : List Row) → IsSound s → Changes n link link' s new → IsSound (record s { links = slice_set s.links n link'; rows = new })
+changes n link link' s new t c = record {
+  managed = t.managed;
+  routing = t.routing;
+  routed = t.routed;
+  count = length-set s.links n link' ∙ t.count;
+  numbered = c.numbered;
+  fit = c.fit;
+  links = links_set s.settings.method s.links n link' s.rows new c.one c.others t.links;
+  streams = c.streams;
+  placed = λ stream few. placed_set s.links n link link' (place_of stream s.routing) c.there c.unsettled (t.placed stream few);
+  none_aside = λ k other at up. let old = up_before s.links n link link' c.there c.no_rise k other at up in c.parked_same ∙ t.none_aside k old.0 old.1 old.2;
+  all_run = λ k other at up. let old = up_before s.links n link link' c.there c.no_rise k other at up in t.all_run k old.0 old.1 old.2;
+}
+
+-- the same, where the link stays
+rows_change : (n : ℕ) (link : LinkState) (s : State) (new : List Row) → IsSound s → Changes n link link s new → IsSound (record s { rows = new })
+rows_change n link s new t c = subst (λ (links : List LinkState). IsSound (record s { links = links; rows = new })) (set_same s.links n link c.there) (changes n link link s new t c)
+
+-- the inbox is no part of it
+pub with_inbox : (s : State) (inbox : List (List ℕ)) → IsSound s → IsSound (record s { inbox = inbox })
+with_inbox s inbox t = record {
+  managed = t.managed;
+  routing = t.routing;
+  routed = t.routed;
+  count = t.count;
+  numbered = t.numbered;
+  fit = t.fit;
+  links = t.links;
+  streams = t.streams;
+  placed = t.placed;
+  none_aside = t.none_aside;
+  all_run = t.all_run;
+}
+
+down_not_up : (phase : Phase) → phase ≡ Down → has_phase_up phase ≡ false
+down_not_up phase e = ap has_phase_up e
+
+down_unsettled : (phase : Phase) → phase ≡ Down → has_phase_settled phase ≡ false
+down_unsettled phase e = ap has_phase_settled e
+
+-- LEAVING.
+pub leaves : (blind : Bool) (n : ℕ) (link : LinkState) (s : State) → IsAt n link Up s → IsSound s → IsSound (leave blind n link s)
+leaves blind n link s at t =
+    let l = t.links n link at.there in
+    changes n link (left_link blind link) s s.rows t (record {
+      there = at.there;
+      one = record { window = l.window; counted = l.counted; method = l.method; in_order = l.in_order; held_last = l.held_last; none_held = λ e. absurd cc; in_range = λ e. absurd cc; settled = λ e. absurd cc };
+      others = λ k d. untouched_self k s.rows;
+      numbered = t.numbered;
+      fit = t.fit;
+      streams = t.streams;
+      parked_same = refl;
+      no_rise = λ e. absurd cc;
+      unsettled = refl;
+    })
+
+-- WHAT IS ACKNOWLEDGED OR GIVEN UP on a link that was left.
+pub acknowledges : (count n : ℕ) (link : LinkState) (s : State) → IsAt n link Down s → IsSound s → IsSound (acknowledge count n link s)
+acknowledges count n link s at t =
+    let l = t.links n link at.there in
+    let a = acknowledged n count s.rows in
+    let left = length-drop count (unack n s.rows) in
+    let gone = ap length a.unack_is in
+    let few = l.window in
+    let not_up = down_not_up link.phase at.phase_is in
+    let not_settled = down_unsettled link.phase at.phase_is in
+    changes n link (acknowledged_link count link) s (turned (is_unacked n) (Acked n) count s.rows) t (record {
+      there = at.there;
+      one = record {
+        window = omega (arith, left, gone, few);
+        counted = l.counted;
+        method = l.method;
+        in_order = a.order_kept l.in_order;
+        held_last = a.last_kept l.held_last;
+        none_held = λ e. false_true (has_phase_up link.phase) not_up e;
+        in_range = λ e. false_true (has_phase_up link.phase) not_up e;
+        settled = λ e. false_true (has_phase_settled link.phase) not_settled e;
+      };
+      others = a.others;
+      numbered = a.kept.numbered t.numbered;
+      fit = a.kept.fit t.fit;
+      streams = λ stream low. stream_turned stream (place_of stream s.routing) (is_unacked n) (Acked n) refl (has_messages stream s.routing) count s.rows (t.streams stream low);
+      parked_same = a.parked_same;
+      no_rise = λ e. e;
+      unsettled = not_settled;
+    })
+
+pub gives_up : (test : Fate → Bool) (cause : DiscardCause) (n : ℕ) (link : LinkState) (s : State) → GivenUp n s.rows (changed test (Discarded cause) s.rows) → length (unack n (changed test (Discarded cause) s.rows)) ≤ length (unack n s.rows) → IsAt n link Down s → IsSound s → IsSound (record s { rows = changed test (Discarded cause) s.rows })
+gives_up test cause n link s g fewer at t =
+    let l = t.links n link at.there in
+    let few = l.window in
+    let not_up = down_not_up link.phase at.phase_is in
+    let not_settled = down_unsettled link.phase at.phase_is in
+    rows_change n link s (changed test (Discarded cause) s.rows) t (record {
+      there = at.there;
+      one = record {
+        window = omega (arith, few, fewer);
+        counted = l.counted;
+        method = l.method;
+        in_order = g.order_kept l.in_order;
+        held_last = g.last_kept l.held_last;
+        none_held = λ e. false_true (has_phase_up link.phase) not_up e;
+        in_range = λ e. false_true (has_phase_up link.phase) not_up e;
+        settled = λ e. false_true (has_phase_settled link.phase) not_settled e;
+      };
+      others = g.others;
+      numbered = g.kept.numbered t.numbered;
+      fit = g.kept.fit t.fit;
+      streams = λ stream low. stream_changed stream (place_of stream s.routing) test (Discarded cause) refl (has_messages stream s.routing) s.rows (t.streams stream low);
+      parked_same = g.parked_same;
+      no_rise = λ e. e;
+      unsettled = not_settled;
+    })
+
+-- SENDING.
+-- how many are unacknowledged then
+count_sent : (n : ℕ) (rows : List Row) → IsInOrder n rows → 0 < length (wait n rows) → length (unack n (turned (is_waiting n) (Unacked n) 1 rows)) ≡ length (unack n rows) + 1
+count_sent n rows order some =
+    ap length ((sent n rows).unack_is order)
+    ∙ length-append (unack n rows) (map (with_fate (Unacked n)) (take 1 (wait n rows)))
+    ∙ ap (λ (k : ℕ). length (unack n rows) + k) (length-map (take 1 (wait n rows)) (with_fate (Unacked n)) ∙ one (wait n rows) some)
+  where
+    one : (xs : List Row) → 0 < length xs → length (take 1 xs) ≡ 1
+    one [] few = absurd (omega (arith, few))
+    one (x ∷ xs) few = refl
+
+module _ (n : ℕ) (link : LinkState) (s : State) (at : IsAt n link Up s) (t : IsSound s) where
+  abbrev window : WindowState
+  window = window_of n link s.rows
+
+  abbrev octets : ℕ
+  octets = octets_in (unack n s.rows)
+
+  l : IsSoundLink s.settings.method n link s.rows
+  l = t.links n link at.there
+
+  up : has_phase_up link.phase ≡ true
+  up = ap has_phase_up at.phase_is
+
+  not_settled : has_phase_settled link.phase ≡ false
+  not_settled = ap has_phase_settled at.phase_is
+
+  same_count : length window.unacked ≡ length (unack n s.rows)
+  same_count = length-map (unack n s.rows) (λ (row : Row). row.number)
+
+  old_range : IsInRange link.control (length window.unacked)
+  old_range = subst (IsInRange link.control) (sym same_count) (l.in_range up)
+
+  one_sent : (choice : Choice) (new : List Row) → choice_of octets link.control window ≡ choice → IsInOrder n new → IsHeldLast n new → held n new ≡ held n s.rows → length (unack n s.rows) ≤ length (unack n new) → (choice ≡ first → length (unack n new) ≡ length (unack n s.rows) + 1) → length (unack n new) ≤ 127 → IsSoundLink s.settings.method n (record link { control = control_after choice octets link.control window }) new
+  one_sent choice new e order last same more one few = record {
+    window = few;
+    counted = accepted_after choice octets link.control window ∙ l.counted;
+    method = method_after s.settings.method choice octets link.control window l.method;
+    in_order = order;
+    held_last = last;
+    none_held = λ u. same ∙ l.none_held up;
+    in_range = λ u. range_after choice octets link.control window (length (unack n new)) e (omega (arith, same_count, more)) (λ f. let k = one f in omega (arith, same_count, k)) old_range;
+    settled = λ e. false_true (has_phase_settled link.phase) not_settled e;
+  }
+
+  -- with no message sent for the first time
+  repeats : (choice : Choice) → choice_of octets link.control window ≡ choice → (choice ≡ first → ⊥) → IsSound (record s { links = slice_set s.links n (record link { control = control_after choice octets link.control window }); rows = s.rows })
+  repeats choice e other = changes n link (record link { control = control_after choice octets link.control window }) s s.rows t (record {
+    there = at.there;
+    one = one_sent choice s.rows e l.in_order l.held_last refl (omega arith) (λ f. absurd (other f)) l.window;
+    others = λ k d. untouched_self k s.rows;
+    numbered = t.numbered;
+    fit = t.fit;
+    streams = t.streams;
+    parked_same = refl;
+    no_rise = λ e. up;
+    unsettled = not_settled;
+  })
+
+  sends_by : (choice : Choice) → choice_of octets link.control window ≡ choice → IsSound (sends choice n s link).state
+  sends_by (again place) e = repeats (again place) e (λ f. cc)
+  sends_by fill e = repeats fill e (λ f. cc)
+  sends_by first e =
+      let chosen = first_chosen octets link.control window e in
+      let waits : length (numbers (wait n s.rows)) ≡ length (wait n s.rows) = length-map (wait n s.rows) (λ (row : Row). row.number) in
+      let some = chosen.0 in
+      let few = chosen.1 in
+      let d = sent n s.rows in
+      let count = count_sent n s.rows l.in_order (omega (arith, waits, some)) in
+      changes n link (record link { control = control_after first octets link.control window }) s (turned (is_waiting n) (Unacked n) 1 s.rows) t (record {
+        there = at.there;
+        one = one_sent first (turned (is_waiting n) (Unacked n) 1 s.rows) e (d.order_kept l.in_order) (d.last_kept l.held_last) d.held_same (omega (arith, count)) (λ f. count) (omega (arith, count, few, same_count));
+        others = d.others;
+        numbered = d.kept.numbered t.numbered;
+        fit = d.kept.fit t.fit;
+        streams = λ stream low. stream_sent stream (place_of stream s.routing) n (has_messages stream s.routing) s.rows (t.streams stream low);
+        parked_same = d.parked_same;
+        no_rise = λ e. up;
+        unsettled = not_settled;
+      })
+
+  pub sends_sound : IsSound (next n s link).state
+  sends_sound = sends_by (choice_of octets link.control window) refl
+
+  -- HEARING.
+  module _ (unit : SignalUnit) where
+    abbrev head : Header
+    head = header_in unit
+
+    abbrev part : HeardPart
+    part = part_of link.control window head (is_msu unit)
+
+    abbrev heard_link : LinkState
+    heard_link = record link { acked = link.acked + part.acked; accepted = link.accepted + one_if part.accept; control = control_heard link.control window head (is_msu unit) }
+
+    acked_is : part.acked ≡ acked_by link.control window head
+    acked_is = part_acked link.control window head (is_msu unit)
+
+    -- as many are left as in the control's window
+    left_count : length (drop (acked_by link.control window head) window.unacked) ≡ length (unack n (turned (is_unacked n) (Acked n) part.acked s.rows))
+    left_count =
+        let gone = ap length (acknowledged n part.acked s.rows).unack_is in
+        let a = length-drop (acked_by link.control window head) window.unacked in
+        let b = length-drop part.acked (unack n s.rows) in
+        omega (arith, gone, a, b, acked_is, same_count)
+
+    pub hears_sound : IsSound (after_control part head unit n s link)
+    hears_sound =
+        let a = acknowledged n part.acked s.rows in
+        let few = l.window in
+        let left = length-drop part.acked (unack n s.rows) in
+        let gone = ap length a.unack_is in
+        changes n link heard_link s (turned (is_unacked n) (Acked n) part.acked s.rows) t (record {
+          there = at.there;
+          one = record {
+            window = omega (arith, few, left, gone);
+            counted = accepted_heard link.control window head (is_msu unit) link.accepted l.counted ∙ ap (λ (b : Bool). (link.accepted + one_if b + 127) % 128) (sym (part_accept link.control window head (is_msu unit)));
+            method = method_heard s.settings.method link.control window head (is_msu unit) l.method;
+            in_order = a.order_kept l.in_order;
+            held_last = a.last_kept l.held_last;
+            none_held = λ u. a.held_same ∙ l.none_held up;
+            in_range = λ u. subst (IsInRange (control_heard link.control window head (is_msu unit))) left_count (range_heard link.control window head (is_msu unit) old_range);
+            settled = λ e. false_true (has_phase_settled link.phase) not_settled e;
+          };
+          others = a.others;
+          numbered = a.kept.numbered t.numbered;
+          fit = a.kept.fit t.fit;
+          streams = λ stream low. stream_turned stream (place_of stream s.routing) (is_unacked n) (Acked n) refl (has_messages stream s.routing) part.acked s.rows (t.streams stream low);
+          parked_same = a.parked_same;
+          no_rise = λ e. up;
+          unsettled = not_settled;
+        })

@@ -1,0 +1,194 @@
+-- WHAT HOLDS OF EVERY STATE is kept by a new message.
+use Rattle.std.proofs.Common.{refl, arith, ◌≡◌, ◌∙◌, ap, sym, subst, ◌<◌, ◌≤◌, ℕ, ◌%◌, ◌==◌, Bool, true, false, ◌&&◌, ◌||◌, List, [], length, slice_get, Option, None, Some}
+use Rattle.std.proofs.lemmas.Bool.Decides.{nat_tests}
+use Rattle.std.proofs.lemmas.Bool.{eqb-true}
+use Rattle.l3_orders.specs.declared.order.Order.{Order}
+use Rattle.l3_orders.specs.declared.order.Order.TheVariants.{Coo, Coa, Cbd, Cba, Eco, Eca}
+use Rattle.l3_orders.specs.Grammar.{text}
+use Rattle.set_events.specs.declared.answer.Fate.{Fate}
+use Rattle.set_events.specs.declared.answer.Fate.TheVariants.{Waiting, Unacked, Acked, Held, Parked, Discarded}
+use Rattle.set_route.specs.declared.place.Place.{Place}
+use Rattle.set_route.specs.declared.place.Place.TheVariants.{On, Nowhere}
+use Rattle.set_route.specs.Routing.{place_of, has_messages}
+use Rattle.set_route.proofs.Alone.{alone}
+use Rattle.set_route.proofs.Places.{accepted_sound}
+use Rattle.set_model.specs.Rows.{is_unacked, is_held, is_on, is_parked, is_users, stream_of, held, on, parked, appended}
+use Rattle.set_model.specs.State.{LinkState, State, is_up, link_is_up, has_phase_up, has_phase_settled, target}
+use Rattle.set_model.specs.Changeover.{fate_on, queue}
+use Rattle.set_model.specs.Step.{fate_at, offer_refusal, offered}
+use Rattle.set_model.specs.Sound.{IsSoundLink, is_unfinished, stands_at, is_live, IsPlaced, IsManaged, IsSound}
+use Rattle.set_model.proofs.Events.{appended_out, appended_untouched}
+use Rattle.set_model.proofs.Finding.{new_row, numbered_appended, fit_appended}
+use Rattle.set_model.proofs.Gaining.{offer_fits}
+use Rattle.set_model.proofs.Lists.{same_at}
+use Rattle.set_model.proofs.Live.{stream_appended}
+use Rattle.set_model.proofs.Order.{order_appended, last_appended, last_appended_up}
+use Rattle.set_model.proofs.Places.{false_true, itself}
+use Rattle.set_model.proofs.Settling.{none_held}
+use Rattle.set_model.proofs.Targets.{target_up, none_up}
+use Rattle.set_model.proofs.SoundLink.{up_unsettled, link_untouched}
+
+-- A NEW MESSAGE. It waits for a link that is up, is held for one that isn't settled, or is parked while none is up.
+abbrev pub IsOpen : Fate → List LinkState → Type 0
+IsOpen (Waiting number) links = (link : LinkState) × (slice_get links number ≡ Some link) × (has_phase_up link.phase ≡ true)
+IsOpen (Held number) links = (link : LinkState) × (slice_get links number ≡ Some link) × (has_phase_up link.phase ≡ false) × (has_phase_settled link.phase ≡ false)
+IsOpen Parked links = (number : ℕ) (link : LinkState) → slice_get links number ≡ Some link → has_phase_up link.phase ≡ false
+IsOpen (Unacked number) links = ⊥
+IsOpen (Acked number) links = ⊥
+IsOpen (Discarded cause) links = ⊥
+
+module _ (s : State) (body : List ℕ) (t : IsSound s) where
+  -- a link that the message isn't put on
+  off_link : (fate : Fate) (k : ℕ) (other : LinkState) → slice_get s.links k ≡ Some other → is_on k fate ≡ false → IsSoundLink s.settings.method k other (appended s.rows body fate)
+  off_link fate k other there off = link_untouched s.settings.method k other s.rows (appended s.rows body fate) (appended_untouched s.rows body fate k off) (t.links k other there)
+
+  link_appended : (fate : Fate) → IsOpen fate s.links → (k : ℕ) (other : LinkState) → slice_get s.links k ≡ Some other → IsSoundLink s.settings.method k other (appended s.rows body fate)
+  link_appended Parked fits k other there = off_link Parked k other there refl
+  link_appended (Unacked n) fits k other there = absurd fits
+  link_appended (Acked n) fits k other there = absurd fits
+  link_appended (Discarded cause) fits k other there = absurd fits
+  link_appended (Waiting n) fits k other there = go (n == k) refl
+    where
+      go : (b : Bool) → (n == k) ≡ b → IsSoundLink s.settings.method k other (appended s.rows body (Waiting n))
+      go false e = off_link (Waiting n) k other there e
+      go true e =
+          let same : n ≡ k = eqb-true n k e in
+          let it : fits.0 ≡ other = same_at s.links k other fits.0 there (ap (slice_get s.links) (sym same) ∙ fits.1) in
+          let up : has_phase_up other.phase ≡ true = ap (λ (l : LinkState). has_phase_up l.phase) (sym it) ∙ fits.2 in
+          let l = t.links k other there in
+          let u = appended_out s.rows body (Waiting n) (is_unacked k) refl in
+          let h = appended_out s.rows body (Waiting n) (is_held k) refl in
+          record {
+            window = rw u l.window;
+            counted = l.counted;
+            method = l.method;
+            in_order = order_appended k s.rows body (Waiting n) refl l.in_order;
+            held_last = last_appended_up k s.rows body (Waiting n) refl (l.none_held up);
+            none_held = λ a. h ∙ l.none_held up;
+            in_range = λ a. rw u (l.in_range up);
+            settled = λ a. false_true (has_phase_settled other.phase) (up_unsettled other.phase up) a;
+          }
+  link_appended (Held n) fits k other there = go (n == k) refl
+    where
+      go : (b : Bool) → (n == k) ≡ b → IsSoundLink s.settings.method k other (appended s.rows body (Held n))
+      go false e = off_link (Held n) k other there e
+      go true e =
+          let same : n ≡ k = eqb-true n k e in
+          let it : fits.0 ≡ other = same_at s.links k other fits.0 there (ap (slice_get s.links) (sym same) ∙ fits.1) in
+          let not_up : has_phase_up other.phase ≡ false = ap (λ (l : LinkState). has_phase_up l.phase) (sym it) ∙ fits.2 in
+          let l = t.links k other there in
+          let u = appended_out s.rows body (Held n) (is_unacked k) refl in
+          record {
+            window = rw u l.window;
+            counted = l.counted;
+            method = l.method;
+            in_order = order_appended k s.rows body (Held n) refl l.in_order;
+            held_last = last_appended k s.rows body (Held n) refl refl l.held_last;
+            none_held = λ a. false_true (has_phase_up other.phase) not_up a;
+            in_range = λ a. false_true (has_phase_up other.phase) not_up a;
+            settled = λ a. false_true (has_phase_settled other.phase) (ap (λ (l : LinkState). has_phase_settled l.phase) (sym it) ∙ fits.3) a;
+          }
+
+  none_parked : (fate : Fate) → IsOpen fate s.links → (k : ℕ) (other : LinkState) → slice_get s.links k ≡ Some other → has_phase_up other.phase ≡ true → parked (appended s.rows body fate) ≡ []
+  none_parked Parked fits k other there rising = false_true (has_phase_up other.phase) (fits k other there) rising
+  none_parked (Waiting n) fits k other there rising = appended_out s.rows body (Waiting n) is_parked refl ∙ t.none_aside k other there rising
+  none_parked (Held n) fits k other there rising = appended_out s.rows body (Held n) is_parked refl ∙ t.none_aside k other there rising
+  none_parked (Unacked n) fits k other there rising = absurd fits
+  none_parked (Acked n) fits k other there rising = absurd fits
+  none_parked (Discarded cause) fits k other there rising = absurd fits
+
+-- AN ORDER goes to the target, and is of no stream.
+open_target : (s : State) (to : Option ℕ) → target s.links ≡ to → IsOpen (fate_on to) s.links
+open_target s (Some to) e = target_up s.links to e
+open_target s None e = λ n link there. none_up s.links n link e there
+
+no_users : (order : Order) (s : State) (fate : Fate) (stream : ℕ) → IsManaged s.settings → is_live stream (new_row (length s.rows) (text order s.settings.sio s.settings.dpc s.settings.opc) fate) ≡ false
+no_users order s fate stream m =
+    let own : (s.settings.sio % 16 == 0) ≡ true = grind (arith, nat_tests) in
+    rw own refl
+
+order_fits : (order : Order) (s : State) → length (text order s.settings.sio s.settings.dpc s.settings.opc) ≤ 273
+order_fits (Coo n fsn) s = omega arith
+order_fits (Coa n fsn) s = omega arith
+order_fits (Cbd n code) s = omega arith
+order_fits (Cba n code) s = omega arith
+order_fits (Eco n) s = omega arith
+order_fits (Eca n) s = omega arith
+
+pub queues : (order : Order) (s : State) → IsSound s → IsSound (queue order s)
+queues order s t =
+    let body = text order s.settings.sio s.settings.dpc s.settings.opc in
+    let fate = fate_on (target s.links) in
+    let reaches : IsOpen fate s.links = open_target s (target s.links) refl in
+    record {
+      managed = t.managed;
+      routing = t.routing;
+      routed = t.routed;
+      count = t.count;
+      numbered = numbered_appended s.rows body fate t.numbered;
+      fit = fit_appended s.rows body fate t.fit (order_fits order s);
+      links = link_appended s body t fate reaches;
+      streams = λ stream low. stream_appended stream (place_of stream s.routing) (has_messages stream s.routing) (has_messages stream s.routing) s.rows body fate t.numbered (t.streams stream low) (λ e. false_true _ (no_users order s fate stream t.managed) e) (λ e. e);
+      placed = t.placed;
+      none_aside = none_parked s body t fate reaches;
+      all_run = t.all_run;
+    }
+
+-- AN OFFER goes where its stream runs.
+open_offer : (s : State) → IsSound s → (stream : ℕ) → stream < 16 → (place : Place) → place_of stream s.routing ≡ place → IsOpen (fate_at place s) s.links
+open_offer s t stream low Nowhere e = λ n link there. go n link there (has_phase_up link.phase) refl
+  where
+    go : (n : ℕ) (link : LinkState) → slice_get s.links n ≡ Some link → (b : Bool) → has_phase_up link.phase ≡ b → has_phase_up link.phase ≡ false
+    go n link there true u = absurd (t.all_run n link there u stream low e)
+    go n link there false u = u
+open_offer s t stream low (On l) e = go (is_up l s) refl
+  where
+    p : IsPlaced s.links (On l)
+    p = subst (IsPlaced s.links) e (t.placed stream low)
+
+    go : (b : Bool) → is_up l s ≡ b → IsOpen (fate_at (On l) s) s.links
+    go true u = rw u (p.0, p.1, sym (ap link_is_up p.1) ∙ u)
+    go false u = rw u (p.0, p.1, sym (ap link_is_up p.1) ∙ u, p.2)
+
+stands_offer : (place : Place) (s : State) → stands_at place (fate_at place s) ≡ true
+stands_offer Nowhere s = refl
+stands_offer (On l) s = go (is_up l s) refl
+  where
+    go : (b : Bool) → is_up l s ≡ b → stands_at (On l) (fate_at (On l) s) ≡ true
+    go true e = rw e (itself l)
+    go false e = rw e (itself l)
+
+of_stream : (a b c : Bool) → (a && (b && c)) ≡ true → b ≡ true
+of_stream true true c e = refl
+of_stream true false c e = absurd cc
+of_stream false b c e = absurd cc
+
+or_right : (a b : Bool) → (a || b) ≡ false → b ≡ false
+or_right true b e = absurd cc
+or_right false b e = e
+
+pub offers : (s : State) (body : List ℕ) → stream_of body < 16 → offer_refusal s.rows body ≡ None → IsSound s → IsSound (offered None s body).state
+offers s body low accepted t =
+    let stream = stream_of body in
+    let place = place_of stream s.routing in
+    let fate = fate_at place s in
+    let fits = open_offer s t stream low place refl in
+    record {
+      managed = t.managed;
+      routing = accepted_sound stream s.routing t.routing;
+      routed = t.routed;
+      count = t.count;
+      numbered = numbered_appended s.rows body fate t.numbered;
+      fit = fit_appended s.rows body fate t.fit (offer_fits s.rows body accepted).0;
+      links = link_appended s body t fate fits;
+      streams = λ k few.
+          let a = alone s.routing k t.routing few in
+          rw (a.accepted_place stream, a.accepted_messages stream) (stream_appended k (place_of k s.routing) (has_messages k s.routing) ((k == stream) || has_messages k s.routing) s.rows body fate t.numbered (t.streams k few)
+          (λ e.
+          let same : stream ≡ k = eqb-true stream k (of_stream (is_users (new_row (length s.rows) body fate)) (stream == k) (is_unfinished fate) e) in
+          (ap (λ (j : ℕ). stands_at (place_of j s.routing) fate) (sym same) ∙ stands_offer place s, ap (λ (j : ℕ). (j == stream) || has_messages k s.routing) (sym same) ∙ ap (λ (b : Bool). b || has_messages k s.routing) (itself stream)))
+          (λ e. or_right (k == stream) (has_messages k s.routing) e));
+      placed = λ k few. rw ((alone s.routing k t.routing few).accepted_place stream) (t.placed k few);
+      none_aside = none_parked s body t fate fits;
+      all_run = λ n link there up k few e. t.all_run n link there up k few (sym ((alone s.routing k t.routing few).accepted_place stream) ∙ e);
+    }
