@@ -79,9 +79,18 @@ IsQueued (Discarded cause) = ⊥
 
 -- the queue is this one from now on
 abbrev pub with_queue : Fate → List ℕ → Lists → Lists
-with_queue (Waiting l) numbers q = record q { links = updated l (λ link. record link { unsent = numbers }) q.links }
-with_queue (Unacked l) numbers q = record q { links = updated l (λ link. record link { unacked = numbers }) q.links }
-with_queue (Held l) numbers q = record q { links = updated l (λ link. record link { held = numbers }) q.links }
+with_queue (Waiting l) numbers q = record q {
+  links = updated l
+      (λ link. record link { unsent = numbers }) q.links;
+}
+with_queue (Unacked l) numbers q = record q {
+  links = updated l
+      (λ link. record link { unacked = numbers }) q.links;
+}
+with_queue (Held l) numbers q = record q {
+  links = updated l
+      (λ link. record link { held = numbers }) q.links;
+}
 with_queue Parked numbers q = record q { parked = numbers }
 with_queue (Acked l) numbers q = q
 with_queue (Discarded cause) numbers q = q
@@ -99,7 +108,12 @@ with_last l fsn q = record q { links = updated l (λ link. record link { last = 
 
 -- the window of a link, with this room
 abbrev pub window_with : ℕ → LinkLists → WindowState
-window_with room link = record { last = link.last; unacked = link.unacked; unsent = link.unsent; room = room }
+window_with room link = record {
+  last = link.last;
+  unacked = link.unacked;
+  unsent = link.unsent;
+  room = room;
+}
 
 -- How much room there is: so many pushes want no memory.
 
@@ -129,7 +143,8 @@ KeepsRoom old new = (fate : Fate) → room_at fate old ≤ room_at fate new
 
 -- but for this one, which has at most so much less
 abbrev pub TakesRoom : Fate → ℕ → Rooms → Rooms → Type 0
-TakesRoom to count old new = (fate : Fate) → room_at fate old ≤ room_at fate new + (if same_fate to fate then count else 0)
+TakesRoom to count old new = (fate : Fate) → room_at fate old ≤ room_at fate new +
+    (if same_fate to fate then count else 0)
 
 pub record BuffersState : Type 0 where
   pub lists : Lists

@@ -71,4 +71,12 @@ pub record AreCountable (c : Counts) : Type 0 where
 
 -- none in any place
 abbrev pub no_counts : Counts
-no_counts = record { waiting = 0; unacked = 0; acked = 0; held = 0; parked = 0; back = 0; discarded = 0 }
+no_counts = record {
+  waiting = 0;
+  unacked = 0;
+  acked = 0;
+  held = 0;
+  parked = 0;
+  back = 0;
+  discarded = 0;
+}

@@ -5,7 +5,12 @@ use Rattle.set_queues.specs.declared.buffers.Buffers.TheInside.{Inside}
 use Rattle.set_queues.specs.Buffers.{LinkLists, LinkRooms, BuffersState}
 
 abbrev pub lists_of : Link → LinkLists
-lists_of link = record { last = link.window.last; unacked = link.window.unacked; unsent = link.window.unsent; held = link.held.messages }
+lists_of link = record {
+  last = link.window.last;
+  unacked = link.window.unacked;
+  unsent = link.window.unsent;
+  held = link.held.messages;
+}
 
 abbrev pub rooms_of : Link → LinkRooms
 rooms_of link = record { unsent = link.window.room; held = link.held.room }

@@ -34,11 +34,13 @@ stands fate number messages = has_fate fate (fate_at number messages)
 
 -- EACH MESSAGE STANDS IN EXACTLY ONE QUEUE, the one that its fate names, or in none if its fate is final
 abbrev pub AreTied : Lists → List Message → Type 0
-AreTied q messages = (fate : Fate) → is_standing fate ≡ true → (number : ℕ) → occurs number (queue_at fate q) ≡ one_if (stands fate number messages)
+AreTied q messages = (fate : Fate) → is_standing fate ≡ true → (number : ℕ) → occurs number
+    (queue_at fate q) ≡ one_if (stands fate number messages)
 
 -- the octets of the unacknowledged bodies of each link
 abbrev pub AreWeighed : List ℕ → Lists → List Message → Type 0
-AreWeighed octets q messages = (link : ℕ) → link < length q.links → slice_index octets link ≡ octets_of (queue_at (Unacked link) q) messages
+AreWeighed octets q messages = (link : ℕ) → link < length q.links → slice_index octets link
+    ≡ octets_of (queue_at (Unacked link) q) messages
 
 -- all of these numbers were given out
 abbrev pub AreGiven : List ℕ → List Message → Type 0

@@ -6,7 +6,8 @@ use Rattle.set_queues.specs.Buffers.{Lists, queue_at, with_queue, last_at, with_
 -- the first that waits stands last among the unacknowledged
 abbrev pub first_sent : ℕ → ℕ → Lists → Lists
 first_sent link number q =
-    with_queue (Waiting link) (drop 1 (queue_at (Waiting link) q)) (with_queue (Unacked link) (queue_at (Unacked link) q ++ number ∷ []) q)
+    with_queue (Waiting link) (drop 1 (queue_at (Waiting link) q)) (with_queue (Unacked link)
+    (queue_at (Unacked link) q ++ number ∷ []) q)
 
 -- this number is the first that waits, and is sent
 pub record IsSending (link number : ℕ) (old new : Lists) : Type 0 where
@@ -19,4 +20,5 @@ reach link fsn q = (fsn + 128 - last_at link q) % 128
 
 -- those up to the FSN are no longer unacknowledged
 abbrev pub acknowledged : ℕ → ℕ → Lists → Lists
-acknowledged link fsn q = with_last link fsn (with_queue (Unacked link) (drop (reach link fsn q) (queue_at (Unacked link) q)) q)
+acknowledged link fsn q = with_last link fsn (with_queue (Unacked link) (drop
+    (reach link fsn q) (queue_at (Unacked link) q)) q)

@@ -25,7 +25,11 @@ pub record Settles (link : ℕ) (to : Fate) (q : Lists) : Type 0 where
   pub unsent : queue_at (Waiting link) (settled link to q) ≡ []
   pub held : queue_at (Held link) (settled link to q) ≡ []
   pub there : queue_at to (settled link to q) ≡ queue_at to q ++ on link q
-  pub elsewhere : (f : Fate) → is_standing f ≡ true → same_fate to f ≡ false → same_fate (Unacked link) f ≡ false → same_fate (Waiting link) f ≡ false → same_fate (Held link) f ≡ false → queue_at f (settled link to q) ≡ queue_at f q
+  pub elsewhere : (f : Fate) → is_standing f ≡ true → same_fate to f ≡ false → same_fate
+      (Unacked link) f ≡ false → same_fate (Waiting link) f ≡ false → same_fate (Held link) f
+      ≡ false → queue_at f (settled link to q) ≡ queue_at f q
 
 abbrev pub SettlingMovesTheQueues : Type 0
-SettlingMovesTheQueues = (link : ℕ) (to : Fate) (q : Lists) → IsKnown (Unacked link) q → IsKnown to q → IsQueued to → same_fate to (Waiting link) ≡ false → same_fate to (Held link) ≡ false → Settles link to q
+SettlingMovesTheQueues = (link : ℕ) (to : Fate) (q : Lists) → IsKnown (Unacked link) q
+    → IsKnown to q → IsQueued to → same_fate to (Waiting link) ≡ false → same_fate to
+    (Held link) ≡ false → Settles link to q

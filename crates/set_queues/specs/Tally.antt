@@ -24,7 +24,8 @@ pub record IsTally (tally : Tally) (messages : List Message) : Type 0 where
   pub parked : tally.counts.parked ≡ count_of is_parked messages
   pub back : tally.counts.back ≡ 0
   pub discarded : tally.counts.discarded ≡ count_of was_discarded messages
-  pub unsent : (stream : ℕ) → stream < 16 → slice_index tally.unsent stream ≡ unsent_of stream messages
+  pub unsent : (stream : ℕ) → stream < 16 → slice_index tally.unsent stream
+      ≡ unsent_of stream messages
 
 -- new counts this message too
 pub record IsMore (m : Message) (old new : Tally) : Type 0 where
@@ -35,7 +36,8 @@ pub record IsMore (m : Message) (old new : Tally) : Type 0 where
   pub parked : new.counts.parked ≡ old.counts.parked + one_if (is_there is_parked m)
   pub back : new.counts.back ≡ old.counts.back
   pub discarded : new.counts.discarded ≡ old.counts.discarded + one_if (is_there was_discarded m)
-  pub unsent : (stream : ℕ) → stream < 16 → slice_index new.unsent stream ≡ slice_index old.unsent stream + one_if (is_queued stream m)
+  pub unsent : (stream : ℕ) → stream < 16 → slice_index new.unsent stream
+      ≡ slice_index old.unsent stream + one_if (is_queued stream m)
 
 -- the message is counted
 pub record IsAmong (m : Message) (tally : Tally) : Type 0 where
@@ -45,7 +47,8 @@ pub record IsAmong (m : Message) (tally : Tally) : Type 0 where
   pub held : one_if (is_there was_held m) ≤ tally.counts.held
   pub parked : one_if (is_there is_parked m) ≤ tally.counts.parked
   pub discarded : one_if (is_there was_discarded m) ≤ tally.counts.discarded
-  pub unsent : (stream : ℕ) → stream < 16 → one_if (is_queued stream m) ≤ slice_index tally.unsent stream
+  pub unsent : (stream : ℕ) → stream < 16 → one_if (is_queued stream m)
+      ≤ slice_index tally.unsent stream
 
 -- far from the end of their range
 pub record AreFew (tally : Tally) : Type 0 where

@@ -36,7 +36,12 @@ impl Link {
     ghost use Rattle.set_queues.specs.Kept.{lists_of};
 
     fn new(alloc: Global) -> Result<Link, AllocError>
-        ensures { IfOk result (λ link. lists_of link ≡ record { last = 127; unacked = []; unsent = []; held = [] }) }
+        ensures { IfOk result (λ link. lists_of link ≡ record {
+          last = 127;
+          unacked = [];
+          unsent = [];
+          held = [];
+        }) }
     {
         Ok(Link {
             window: Window::new(alloc)?,
@@ -51,7 +56,8 @@ impl Buffers {
 
     /// The queues of so many links, all empty.
     pub(crate) fn new(alloc: Global, links: u8) -> Result<Buffers, AllocError>
-        ensures links { IfOk result (λ buffers. buffers.lists.links ≡ replicate links (record { last = 127; unacked = []; unsent = []; held = [] })) }
+        ensures links { IfOk result (λ buffers. buffers.lists.links ≡ replicate links
+            (record { last = 127; unacked = []; unsent = []; held = [] })) }
         ensures parked { IfOk result (λ buffers. buffers.lists.parked ≡ []) }
     {
         let mut made = Vec::new(alloc);
@@ -131,7 +137,8 @@ impl Buffers {
     pub(crate) fn push(&mut self, fate: Fate, message: u64)
         requires known { IsKnown fate self.old.lists }
         requires room { 0 < room_at fate self.old.rooms }
-        ensures lists { self.new.lists ≡ with_queue fate (queue_at fate self.old.lists ++ message ∷ []) self.old.lists }
+        ensures lists { self.new.lists ≡ with_queue fate (queue_at fate self.old.lists
+            ++ message ∷ []) self.old.lists }
         ensures room { TakesRoom fate 1 self.old.rooms self.new.rooms }
     {
         match fate {
@@ -170,10 +177,14 @@ impl Buffers {
     /// Refusals, in this order: 1 [`WindowFault::Empty`], 2 [`WindowFault::Full`].
     pub(crate) fn send(&mut self, link: u8) -> Result<(u64, u8), WindowFault>
         requires { link < length self.old.lists.links }
-        ensures empty { (result ≡ Err WindowFault.Empty) ↔ (queue_at (Fate.Waiting link) self.old.lists ≡ []) }
-        ensures full { (result ≡ Err WindowFault.Full) ↔ ((queue_at (Fate.Waiting link) self.old.lists ≢ []) × (127 ≤ length (queue_at (Fate.Unacked link) self.old.lists))) }
+        ensures empty { (result ≡ Err WindowFault.Empty) ↔ (queue_at
+            (Fate.Waiting link) self.old.lists ≡ []) }
+        ensures full { (result ≡ Err WindowFault.Full) ↔ ((queue_at
+            (Fate.Waiting link) self.old.lists ≢ []) × (127 ≤ length (queue_at
+            (Fate.Unacked link) self.old.lists))) }
         ensures sent { IfOk result (λ sent. IsSending link sent.0 self.old.lists self.new.lists) }
-        ensures fsn { IfOk result (λ sent. sent.1 ≡ (last_at link self.old.lists + 1 + length (queue_at (Fate.Unacked link) self.old.lists)) % 128) }
+        ensures fsn { IfOk result (λ sent. sent.1 ≡ (last_at link self.old.lists + 1 + length
+            (queue_at (Fate.Unacked link) self.old.lists)) % 128) }
         ensures room { OnOk result (KeepsRoom self.old.rooms self.new.rooms) }
         ensures err { OnErr result (self.new ≡ self.old) }
     {
@@ -187,7 +198,8 @@ impl Buffers {
     pub(crate) fn ack(&mut self, link: u8, fsn: u8) -> Result<u8, WindowFault>
         requires known { link < length self.old.lists.links }
         requires fsn { fsn < 128 }
-        ensures acked { OkIff result (reach link fsn self.old.lists ≤ length (queue_at (Fate.Unacked link) self.old.lists)) (reach link fsn self.old.lists) }
+        ensures acked { OkIff result (reach link fsn self.old.lists ≤ length (queue_at
+            (Fate.Unacked link) self.old.lists)) (reach link fsn self.old.lists) }
         ensures ok { OnOk result (self.new.lists ≡ acknowledged link fsn self.old.lists) }
         ensures unreasonable { OnErr result (result ≡ Err WindowFault.Unreasonable) }
         ensures room { OnOk result (KeepsRoom self.old.rooms self.new.rooms) }

@@ -19,7 +19,8 @@ pub(crate) fn restand_first(
     requires known { IsKnown from buffers.now.lists }
     requires given { AreGiven (queue_at from buffers.now.lists) messages.old.messages }
     requires few { count ≤ length (queue_at from buffers.now.lists) }
-    ensures messages { messages.new.messages ≡ restood (take count (queue_at from buffers.now.lists)) to messages.old.messages }
+    ensures messages { messages.new.messages ≡ restood (take count
+        (queue_at from buffers.now.lists)) to messages.old.messages }
     ensures room { messages.new.room ≡ messages.old.room }
 {
     for place in 0..count {
@@ -39,8 +40,10 @@ pub(crate) fn queue_too(buffers: &mut Buffers, from: Fate, to: Fate)
     requires queued { IsQueued to }
     requires apart { same_fate to from ≡ false }
     requires room { length (queue_at from buffers.old.lists) ≤ room_at to buffers.old.rooms }
-    ensures lists { buffers.new.lists ≡ with_queue to (queue_at to buffers.old.lists ++ queue_at from buffers.old.lists) buffers.old.lists }
-    ensures room { TakesRoom to (length (queue_at from buffers.old.lists)) buffers.old.rooms buffers.new.rooms }
+    ensures lists { buffers.new.lists ≡ with_queue to (queue_at to buffers.old.lists
+        ++ queue_at from buffers.old.lists) buffers.old.lists }
+    ensures room { TakesRoom to (length
+        (queue_at from buffers.old.lists)) buffers.old.rooms buffers.new.rooms }
 {
     for place in 0..buffers.len(from) {
         match buffers.at(from, place) {

@@ -54,7 +54,8 @@ impl Queues {
     /// acknowledged on it (Q.703 5.2.1).
     pub fn new(alloc: Global, links: u8) -> Result<Queues, AllocError>
         requires { (1 ≤ links) × (links ≤ 16) }
-        ensures links { IfOk result (λ queues. queues.lists.links ≡ replicate links (record { last = 127; unacked = []; unsent = []; held = [] })) }
+        ensures links { IfOk result (λ queues. queues.lists.links ≡ replicate links
+            (record { last = 127; unacked = []; unsent = []; held = [] })) }
         ensures parked { IfOk result (λ queues. queues.lists.parked ≡ []) }
         ensures messages { IfOk result (λ queues. queues.messages ≡ []) }
     {
@@ -125,7 +126,8 @@ impl Queues {
     /// The octets of the unacknowledged bodies of the link.
     pub fn octets(&self, link: u8) -> u32
         requires { link < length self.now.lists.links }
-        ensures { result ≡ octets_of (queue_at (Fate.Unacked link) self.now.lists) self.now.messages }
+        ensures { result ≡ octets_of (queue_at
+            (Fate.Unacked link) self.now.lists) self.now.messages }
     {
         self.octets[usize::from(link)]
     }
@@ -160,7 +162,8 @@ impl Queues {
     /// Makes room for so many new messages.
     pub fn reserve(&mut self, messages: usize) -> Result<(), AllocError>
         ensures room { OnOk result (messages ≤ self.new.room) }
-        ensures same { (self.new.lists ≡ self.old.lists) × (self.new.messages ≡ self.old.messages) × (self.new.rooms ≡ self.old.rooms) }
+        ensures same { (self.new.lists ≡ self.old.lists) × (self.new.messages
+            ≡ self.old.messages) × (self.new.rooms ≡ self.old.rooms) }
         ensures kept { self.old.room ≤ self.new.room }
     {
         self.messages.reserve(messages)
@@ -171,7 +174,8 @@ impl Queues {
         requires known { IsKnown fate self.old.lists }
         requires queued { IsQueued fate }
         ensures room { OnOk result (messages ≤ room_at fate self.new.rooms) }
-        ensures same { (self.new.lists ≡ self.old.lists) × (self.new.messages ≡ self.old.messages) × (self.new.room ≡ self.old.room) }
+        ensures same { (self.new.lists ≡ self.old.lists) × (self.new.messages
+            ≡ self.old.messages) × (self.new.room ≡ self.old.room) }
         ensures kept { KeepsRoom self.old.rooms self.new.rooms }
     {
         self.buffers.reserve(fate, messages)
@@ -183,8 +187,10 @@ impl Queues {
         requires known { IsKnown fate self.old.lists }
         requires queued { IsQueued fate }
         requires link { link < length self.old.lists.links }
-        ensures room { OnOk result (length (on link self.old.lists) + more ≤ room_at fate self.new.rooms) }
-        ensures same { (self.new.lists ≡ self.old.lists) × (self.new.messages ≡ self.old.messages) × (self.new.room ≡ self.old.room) }
+        ensures room { OnOk result (length (on link self.old.lists) + more
+            ≤ room_at fate self.new.rooms) }
+        ensures same { (self.new.lists ≡ self.old.lists) × (self.new.messages
+            ≡ self.old.messages) × (self.new.room ≡ self.old.room) }
         ensures kept { KeepsRoom self.old.rooms self.new.rooms }
     {
         let sent = self.buffers.len(Fate::Unacked { link });
@@ -208,7 +214,8 @@ impl Queues {
         requires place { 0 < room_at message.fate self.old.rooms }
         ensures number { result ≡ length self.old.messages }
         ensures messages { self.new.messages ≡ self.old.messages ++ message ∷ [] }
-        ensures lists { self.new.lists ≡ with_queue message.fate (queue_at message.fate self.old.lists ++ length self.old.messages ∷ []) self.old.lists }
+        ensures lists { self.new.lists ≡ with_queue message.fate
+            (queue_at message.fate self.old.lists ++ length self.old.messages ∷ []) self.old.lists }
         ensures room { self.old.room ≤ self.new.room + 1 }
         ensures rooms { TakesRoom message.fate 1 self.old.rooms self.new.rooms }
     {
@@ -224,12 +231,18 @@ impl Queues {
     /// [`WindowFault::Full`] with 127 unacknowledged.
     pub fn send(&mut self, link: u8) -> Result<(u64, u8), WindowFault>
         requires { link < length self.old.lists.links }
-        ensures empty { (result ≡ Err WindowFault.Empty) ↔ (queue_at (Fate.Waiting link) self.old.lists ≡ []) }
-        ensures full { (result ≡ Err WindowFault.Full) ↔ ((queue_at (Fate.Waiting link) self.old.lists ≢ []) × (127 ≤ length (queue_at (Fate.Unacked link) self.old.lists))) }
+        ensures empty { (result ≡ Err WindowFault.Empty) ↔ (queue_at
+            (Fate.Waiting link) self.old.lists ≡ []) }
+        ensures full { (result ≡ Err WindowFault.Full) ↔ ((queue_at
+            (Fate.Waiting link) self.old.lists ≢ []) × (127 ≤ length (queue_at
+            (Fate.Unacked link) self.old.lists))) }
         ensures sent { IfOk result (λ sent. IsSending link sent.0 self.old.lists self.new.lists) }
-        ensures messages { IfOk result (λ sent. self.new.messages ≡ restood (sent.0 ∷ []) (Fate.Unacked link) self.old.messages) }
-        ensures fsn { IfOk result (λ sent. sent.1 ≡ (last_at link self.old.lists + 1 + length (queue_at (Fate.Unacked link) self.old.lists)) % 128) }
-        ensures rooms { OnOk result (KeepsRoom self.old.rooms self.new.rooms × (self.new.room ≡ self.old.room)) }
+        ensures messages { IfOk result (λ sent. self.new.messages ≡ restood (sent.0 ∷ [])
+            (Fate.Unacked link) self.old.messages) }
+        ensures fsn { IfOk result (λ sent. sent.1 ≡ (last_at link self.old.lists + 1 + length
+            (queue_at (Fate.Unacked link) self.old.lists)) % 128) }
+        ensures rooms { OnOk result (KeepsRoom self.old.rooms self.new.rooms × (self.new.room
+            ≡ self.old.room)) }
         ensures err { OnErr result (self.new ≡ self.old) }
     {
         let (number, fsn) = self.buffers.send(link)?;
@@ -245,10 +258,14 @@ impl Queues {
     pub fn acknowledge(&mut self, link: u8, fsn: u8) -> Result<u8, WindowFault>
         requires known { link < length self.old.lists.links }
         requires fsn { fsn < 128 }
-        ensures acked { OkIff result (reach link fsn self.old.lists ≤ length (queue_at (Fate.Unacked link) self.old.lists)) (reach link fsn self.old.lists) }
+        ensures acked { OkIff result (reach link fsn self.old.lists ≤ length (queue_at
+            (Fate.Unacked link) self.old.lists)) (reach link fsn self.old.lists) }
         ensures lists { OnOk result (self.new.lists ≡ acknowledged link fsn self.old.lists) }
-        ensures messages { OnOk result (self.new.messages ≡ restood (take (reach link fsn self.old.lists) (queue_at (Fate.Unacked link) self.old.lists)) (Fate.Acked link) self.old.messages) }
-        ensures rooms { OnOk result (KeepsRoom self.old.rooms self.new.rooms × (self.new.room ≡ self.old.room)) }
+        ensures messages { OnOk result (self.new.messages ≡ restood (take
+            (reach link fsn self.old.lists) (queue_at (Fate.Unacked link) self.old.lists))
+            (Fate.Acked link) self.old.messages) }
+        ensures rooms { OnOk result (KeepsRoom self.old.rooms self.new.rooms × (self.new.room
+            ≡ self.old.room)) }
         ensures unreasonable { OnErr result (result ≡ Err WindowFault.Unreasonable) }
         ensures err { OnErr result (self.new ≡ self.old) }
     {
@@ -283,8 +300,10 @@ impl Queues {
         requires apart { same_fate to from ≡ false }
         requires room { length (queue_at from self.old.lists) ≤ room_at to self.old.rooms }
         ensures lists { self.new.lists ≡ passed from to self.old.lists }
-        ensures messages { self.new.messages ≡ restood (queue_at from self.old.lists) to self.old.messages }
-        ensures rooms { TakesRoom to (length (queue_at from self.old.lists)) self.old.rooms self.new.rooms }
+        ensures messages { self.new.messages ≡ restood
+            (queue_at from self.old.lists) to self.old.messages }
+        ensures rooms { TakesRoom to (length
+            (queue_at from self.old.lists)) self.old.rooms self.new.rooms }
         ensures room { self.new.room ≡ self.old.room }
     {
         let count = self.buffers.len(from);
@@ -299,7 +318,8 @@ impl Queues {
         requires standing { is_standing from ≡ true }
         requires known { IsKnown from self.old.lists }
         ensures lists { self.new.lists ≡ with_queue from [] self.old.lists }
-        ensures messages { self.new.messages ≡ restood (queue_at from self.old.lists) (Fate.Discarded cause) self.old.messages }
+        ensures messages { self.new.messages ≡ restood (queue_at from self.old.lists)
+            (Fate.Discarded cause) self.old.messages }
         ensures rooms { KeepsRoom self.old.rooms self.new.rooms }
         ensures room { self.new.room ≡ self.old.room }
     {
@@ -321,8 +341,10 @@ impl Queues {
         requires apart { IfSome target (λ to. to ≢ link) }
         requires room { length (on link self.old.lists) ≤ room_at (fate_on target) self.old.rooms }
         ensures lists { self.new.lists ≡ settled link (fate_on target) self.old.lists }
-        ensures messages { self.new.messages ≡ restood (on link self.old.lists) (fate_on target) self.old.messages }
-        ensures rooms { TakesRoom (fate_on target) (length (on link self.old.lists)) self.old.rooms self.new.rooms }
+        ensures messages { self.new.messages ≡ restood (on link self.old.lists)
+            (fate_on target) self.old.messages }
+        ensures rooms { TakesRoom (fate_on target) (length
+            (on link self.old.lists)) self.old.rooms self.new.rooms }
         ensures room { self.new.room ≡ self.old.room }
     {
         let to = fate_of_target(target);

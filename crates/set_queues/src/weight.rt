@@ -14,7 +14,8 @@ pub(crate) fn weigh(buffers: &Buffers, messages: &Messages, link: u8, count: u8)
     requires known { link < length buffers.now.lists.links }
     requires few { count ≤ length (queue_at (Fate.Unacked link) buffers.now.lists) }
     requires fit { AreFit messages.now.messages }
-    ensures { result ≡ octets_of (take count (queue_at (Fate.Unacked link) buffers.now.lists)) messages.now.messages }
+    ensures { result ≡ octets_of (take count (queue_at
+        (Fate.Unacked link) buffers.now.lists)) messages.now.messages }
 {
     let mut octets = 0;
     for place in 0..count {
@@ -29,7 +30,8 @@ pub(crate) fn weigh(buffers: &Buffers, messages: &Messages, link: u8, count: u8)
 /// No octets are unacknowledged on the link whose queue of sent messages this is, if it is one.
 pub(crate) fn weigh_none(octets: &mut [u32; 16], fate: Fate)
     requires { HasWeight fate }
-    ensures { (link : ℕ) → link < 16 → slice_index octets.new link ≡ (if same_fate fate (Fate.Unacked link) then 0 else slice_index octets.old link) }
+    ensures { (link : ℕ) → link < 16 → slice_index octets.new link ≡ (if same_fate fate
+        (Fate.Unacked link) then 0 else slice_index octets.old link) }
 {
     if let Fate::Unacked { link } = fate {
         octets[usize::from(link)] = 0;
@@ -40,7 +42,9 @@ pub(crate) fn weigh_none(octets: &mut [u32; 16], fate: Fate)
 pub(crate) fn weigh_more(octets: &mut [u32; 16], link: u8, more: u16)
     requires link { link < 16 }
     requires few { slice_index octets.old link ≤ 2 ^ 31 }
-    ensures { (other : ℕ) → other < 16 → slice_index octets.new other ≡ (if link == other then slice_index octets.old other + more else slice_index octets.old other) }
+    ensures { (other : ℕ) → other < 16 → slice_index octets.new other ≡
+        (if link == other then slice_index octets.old other
+        + more else slice_index octets.old other) }
 {
     octets[usize::from(link)] += u32::from(more);
 }
@@ -49,7 +53,8 @@ pub(crate) fn weigh_more(octets: &mut [u32; 16], link: u8, more: u16)
 pub(crate) fn weigh_less(octets: &mut [u32; 16], link: u8, fewer: u32)
     requires link { link < 16 }
     requires there { fewer ≤ slice_index octets.old link }
-    ensures { (other : ℕ) → other < 16 → slice_index octets.new other ≡ (if link == other then slice_index octets.old other - fewer else slice_index octets.old other) }
+    ensures { (other : ℕ) → other < 16 → slice_index octets.new other ≡
+        (if link == other then slice_index octets.old other - fewer else slice_index octets.old other) }
 {
     octets[usize::from(link)] -= fewer;
 }
