@@ -1,3 +1,4 @@
 pub mod Bits
+mod Choosing
 pub mod Runs
 pub mod Way

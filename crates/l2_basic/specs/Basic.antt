@@ -1,8 +1,10 @@
--- Basic error control (Q.703 5), over the lists of a window.
+-- Basic error control (Q.703 5), as functions of its state and of the link's window.
 use Rattle.std.specs.Prelude.{◌≡◌, ◌≢◌, ℕ, ◌+◌, ◌-◌, ◌%◌, ◌<◌, ◌≤◌, Bool, true, false, not, ◌&&◌, ◌||◌, ◌==◌, nat_lt, if◌then◌else◌, Option, Some, None, [], drop, length, slice_get}
 use Rattle.l2_units.specs.declared.unit.Header.{Header}
 use Rattle.l2_window.specs.Window.{WindowState, Sends, fsn_at, last_fsn, distance_to}
-use Rattle.l2_window.specs.Control.{IsMessageAnd, IsFillAnd}
+use Rattle.l2_window.specs.Control.{IsMessageAnd, IsFillAnd, has_new, header_of, acked_where, window_where}
+use Rattle.l2_window.specs.declared.control.Choice.{Choice}
+use Rattle.l2_window.specs.declared.control.Choice.TheVariants.{Again, First, Fill}
 use Rattle.l2_window.specs.declared.control.Sending.{Sending}
 use Rattle.l2_window.specs.declared.control.HeardPart.{HeardPart}
 use Rattle.l2_window.specs.declared.control.ControlFault.{ControlFault}
@@ -39,14 +41,32 @@ abbrev pub same : Bool → Bool → Bool
 same true b = b
 same false b = not b
 
+-- WHAT IS SENT NEXT.
+
+-- (5.3.2) what waits for retransmission goes first, from the cursor on; new messages follow
+abbrev pub choice_of : BasicState → WindowState → Choice
+choice_of state window =
+    if nat_lt state.cursor (length window.unacked) then Again state.cursor
+    else (if has_new window then First else Fill)
+
+-- the header of each unit sent (5.2.2 to 5.2.4): the BSN is the FSN last accepted
+abbrev pub head_of : BasicState → ℕ → Header
+head_of state fsn = header_of state.accepted state.bib fsn state.fib
+
+-- the control when that is sent
+abbrev pub control_after : Choice → BasicState → WindowState → BasicState
+control_after (Again place) state window = record state { cursor = place + 1 }
+control_after First state window = record state { cursor = length window.unacked + 1 }
+control_after Fill state window = state
+
+-- The same as relations of a sending, of the control and of the window before and after.
+
 -- the header of each unit sent (5.2.2 to 5.2.4): the BSN is the FSN last accepted
 pub record IsHead (state : BasicState) (number : ℕ) (head : Header) : Type 0 where
   pub bsn : head.bsn ≡ state.accepted
   pub bib : head.bib ≡ state.bib
   pub fsn : head.fsn ≡ number
   pub fib : head.fib ≡ state.fib
-
--- What is sent next.
 
 -- the message at the cursor is sent again
 pub record Repeats (old new : BasicState) (window window' : WindowState) (message : ℕ) (head : Header) : Type 0 where
@@ -75,7 +95,7 @@ pub record IsNext (old new : BasicState) (window window' : WindowState) (sending
   pub idle : length window.unacked ≤ old.cursor → window.unsent ≡ [] → IsFillAnd sending (Fills old new window window')
   pub full : length window.unacked ≤ old.cursor → 127 ≤ length window.unacked → IsFillAnd sending (Fills old new window window')
 
--- What a heard FISU or MSU does.
+-- WHAT A HEARD FISU OR MSU MEANS.
 
 -- (5.3.1) neither the number last acknowledged nor that of an unacknowledged message
 abbrev pub has_abnormal_bsn : WindowState → Header → Bool
@@ -124,6 +144,40 @@ told_fault abnormal_bsn abnormal_fib state =
     if is_second abnormal_bsn state.bsns then Some Bsn
     else (if is_second abnormal_fib state.fibs then Some Fib else None)
 
+abbrev pub acked_by : BasicState → WindowState → Header → ℕ
+acked_by state window head = acked_where (is_processed state window head) window head
+
+abbrev pub part_of : BasicState → WindowState → Header → Bool → HeardPart
+part_of state window head is_msu = record {
+  acked = acked_by state window head;
+  accept = is_accepted state window head is_msu;
+  asked = is_missing_one state window head is_msu;
+  resend = wants_retransmission state window head;
+  fault = told_fault (has_abnormal_bsn window head) (has_abnormal_fib state window head) state;
+}
+
+-- the window when the unit was heard
+abbrev pub window_heard : BasicState → WindowState → Header → WindowState
+window_heard state window head = window_where (is_processed state window head) window head
+
+-- the control when the unit was heard
+abbrev pub control_heard : BasicState → WindowState → Header → Bool → BasicState
+control_heard state window head is_msu = record {
+  -- (5.2.2, 5.2.3) the FSN of an accepted message is the BSN from now on
+  accepted = if is_accepted state window head is_msu then head.fsn else state.accepted;
+  -- (5.2.4) a negative acknowledgement inverts the BIB
+  bib = if is_missing_one state window head is_msu then not state.bib else state.bib;
+  -- (5.3.2) where the far end asks for retransmission, the FIB becomes the BIB heard
+  fib = if wants_retransmission state window head then head.bib else state.fib;
+  -- what was asked is answered by the first unit whose FIB is the BIB
+  asked = if is_current state window head then is_missing_one state window head is_msu else state.asked;
+  -- all that is unacknowledged then waits for retransmission; else what did so still does
+  cursor = if wants_retransmission state window head then 0 else state.cursor - acked_by state window head;
+  bsns = (has_abnormal_bsn window head, state.bsns.0);
+  fibs = (has_abnormal_fib state window head, state.fibs.0);
+}
+
+-- The same as a relation of the control and of the window before and after.
 pub record Hears (head : Header) (is_msu : Bool) (old new : BasicState) (window window' : WindowState) (part : HeardPart) : Type 0 where
   -- (5.3.1) the messages up to the BSN are acknowledged, and only they
   pub acked : part.acked ≡ (if is_processed old window head then distance_to window head.bsn else 0)

@@ -1,9 +1,6 @@
 //! The control: what is sent next, and what a heard unit does.
-ghost use Rattle.std.specs.Prelude.{◌≡◌};
-ghost use Rattle.l2_basic.specs.Basic.{has_abnormal_bsn};
-
 use l2_units::Header;
-use l2_window::{ControlFault, HeardPart, Sending, Window, number_after};
+use l2_window::{Choice, ControlFault, HeardPart, Sending, Window, number_after};
 use std::marker::Model;
 
 /// Basic error control of one end, in one life of its link.
@@ -38,7 +35,9 @@ impl Model for Basic {
 
 impl Basic {
     ghost use Rattle.std.specs.Prelude.{◌≡◌, ◌-◌, ◌<◌, ◌&&◌, not, if◌then◌else◌};
-    ghost use Rattle.l2_basic.specs.Basic.{start, same, told_fault, is_repeated, is_successor, IsHead, IsNext, Hears};
+    ghost use Rattle.l2_window.specs.Control.{fsn_of};
+    ghost use Rattle.l2_basic.specs.Basic.{start, same, told_fault, is_repeated, is_successor, IsNext, Hears};
+    ghost use Rattle.l2_basic.specs.Basic.{choice_of, head_of, control_after, part_of, window_heard, control_heard};
 
     /// The control at the beginning of a link's life: FSN 127 counts as accepted, both indicator
     /// bits are 1 (Q.703 5.2.1).
@@ -64,54 +63,77 @@ impl Basic {
         self.accepted
     }
 
+    /// What is to be sent next: a message that waits for retransmission, else the first unsent one
+    /// where fewer than 127 are unacknowledged, else a FISU.
+    pub fn choice(&self, window: &Window) -> Choice
+        ensures { result ≡ choice_of self.now window.now }
+    {
+        if self.cursor < window.unacked_len() {
+            return Choice::Again { place: self.cursor };
+        }
+        if window.has_new() {
+            return Choice::First;
+        }
+        Choice::Fill
+    }
+
+    /// Sends what is chosen of the window, which is the one before a message moves in it: the header
+    /// of the unit.
+    pub fn send(&mut self, choice: Choice, window: &Window) -> Header
+        requires { choice ≡ choice_of self.old window.now }
+        ensures header { result ≡ head_of self.old (fsn_of choice window.now) }
+        ensures bsn { result.bsn ≡ self.old.accepted }
+        ensures state { self.new ≡ control_after choice self.old window.now }
+    {
+        let messages = window.unacked_len();
+        match choice {
+            Choice::Again { place } => self.cursor = place + 1,
+            Choice::First => self.cursor = messages + 1,
+            Choice::Fill => {}
+        }
+        Header {
+            bsn: self.accepted,
+            bib: self.bib,
+            fsn: choice.fsn(window),
+            fib: self.fib,
+        }
+    }
+
     /// What is sent next: a message that waits for retransmission, else the first unsent one where
     /// fewer than 127 are unacknowledged, else a FISU.
     pub fn next(&mut self, window: &mut Window) -> Sending
         ensures { IsNext self.old self.new window.old window.new result }
     {
-        if let Some(number) = window.unacked_at(self.cursor) {
-            let head = self.head(number_after(window.last(), self.cursor + 1));
-            self.cursor += 1;
-            return Sending::Message { number, head };
-        }
-        match window.send() {
-            Ok((number, fsn)) => {
-                self.cursor = window.unacked_len();
-                Sending::Message {
-                    number,
-                    head: self.head(fsn),
-                }
-            }
-            Err(_) => Sending::Fill {
-                head: self.head(number_after(window.last(), window.unacked_len())),
+        let choice = self.choice(window);
+        let head = self.send(choice, window);
+        match choice {
+            Choice::Again { place } => match window.unacked_at(place) {
+                Some(number) => Sending::Message { number, head },
+                None => unreachable!(),
             },
+            Choice::First => match window.send() {
+                Ok((number, _)) => Sending::Message { number, head },
+                Err(_) => unreachable!(),
+            },
+            Choice::Fill => Sending::Fill { head },
         }
     }
 
-    /// The header of a unit with this FSN.
-    fn head(&self, fsn: u8) -> Header
-        requires { fsn < 128 }
-        ensures { IsHead self.now fsn result }
-    {
-        Header {
-            bsn: self.accepted,
-            bib: self.bib,
-            fsn,
-            fib: self.fib,
-        }
-    }
-
-    /// What a heard unit with this header does; `is_msu` tells an MSU from a FISU.
+    /// What a heard unit with this header means; `is_msu` tells an MSU from a FISU. So many of the
+    /// window's messages as the answer says are then acknowledged, up to the BSN; with none the
+    /// window stays.
     ///
     /// A unit with an abnormal BSN or FIB does nothing, but the second within three units is told
     /// as a fault.
-    pub fn heard(&mut self, window: &mut Window, head: Header, is_msu: bool) -> HeardPart
-        ensures { Hears head is_msu self.old self.new window.old window.new result }
+    pub fn hear(&mut self, window: &Window, head: Header, is_msu: bool) -> HeardPart
+        ensures part { result ≡ part_of self.old window.now head is_msu }
+        ensures state { self.new ≡ control_heard self.old window.now head is_msu }
+        ensures nothing { result.acked ≡ 0 → window_heard self.old window.now head ≡ window.now }
     {
-        let abnormal_bsn = is_abnormal_bsn(window, head);
-        let abnormal_fib = self.is_abnormal_fib(abnormal_bsn, head);
-        let fault = self.told(abnormal_bsn, abnormal_fib);
-        if abnormal_bsn || abnormal_fib {
+        let distance = window.distance(head.bsn);
+        let abnormal_fib = self.is_abnormal_fib(distance.is_none(), head);
+        let fault = self.told(distance.is_none(), abnormal_fib);
+        let Some(acked) = distance.filter(|_| !abnormal_fib) else {
             return HeardPart {
                 acked: 0,
                 accept: false,
@@ -119,10 +141,6 @@ impl Basic {
                 resend: false,
                 fault,
             };
-        }
-        let acked = match window.ack(head.bsn) {
-            Ok(acked) => acked,
-            Err(_) => unreachable!(),
         };
         let resend = self.answer(acked, head.bib);
         let (accept, asked) = self.take(head, is_msu);
@@ -133,6 +151,23 @@ impl Basic {
             resend,
             fault,
         }
+    }
+
+    /// What a heard unit with this header does; `is_msu` tells an MSU from a FISU.
+    ///
+    /// A unit with an abnormal BSN or FIB does nothing, but the second within three units is told
+    /// as a fault.
+    pub fn heard(&mut self, window: &mut Window, head: Header, is_msu: bool) -> HeardPart
+        ensures { Hears head is_msu self.old self.new window.old window.new result }
+    {
+        let part = self.hear(window, head, is_msu);
+        if part.acked > 0 {
+            match window.ack(head.bsn) {
+                Ok(_) => {}
+                Err(_) => unreachable!(),
+            }
+        }
+        part
     }
 
     /// Whether the FIB, of a unit whose BSN is or isn't abnormal, begins a retransmission that
@@ -206,12 +241,4 @@ impl Basic {
         self.asked = true;
         (false, true)
     }
-}
-
-/// Whether the BSN is neither the number last acknowledged nor that of an unacknowledged message
-/// (Q.703 5.3.1).
-fn is_abnormal_bsn(window: &Window, head: Header) -> bool
-    ensures { result ≡ has_abnormal_bsn window.now head }
-{
-    window.distance(head.bsn).is_none()
 }

@@ -1,2 +1,3 @@
+mod Choosing
 pub mod Runs
 pub mod Way

@@ -1,8 +1,11 @@
--- Error control by preventive cyclic retransmission (Q.703 6), over the lists of a window.
+-- Error control by preventive cyclic retransmission (Q.703 6), as functions of its state and of the
+-- link's window.
 use Rattle.std.specs.Prelude.{◌≡◌, ◌≢◌, ℕ, ◌+◌, ◌-◌, ◌%◌, ◌<◌, ◌≤◌, Bool, true, false, not, ◌&&◌, ◌||◌, ◌==◌, nat_lt, nat_le, if◌then◌else◌, Some, None, [], drop, length, slice_get}
 use Rattle.l2_units.specs.declared.unit.Header.{Header}
 use Rattle.l2_window.specs.Window.{WindowState, Sends, fsn_at, last_fsn, distance_to}
-use Rattle.l2_window.specs.Control.{IsMessageAnd, IsFillAnd}
+use Rattle.l2_window.specs.Control.{IsMessageAnd, IsFillAnd, has_new, header_of, acked_where, window_where}
+use Rattle.l2_window.specs.declared.control.Choice.{Choice}
+use Rattle.l2_window.specs.declared.control.Choice.TheVariants.{Again, First, Fill}
 use Rattle.l2_window.specs.declared.control.Sending.{Sending}
 use Rattle.l2_window.specs.declared.control.HeardPart.{HeardPart}
 use Rattle.l2_window.specs.declared.control.ControlFault.TheVariants.{Bsn}
@@ -32,14 +35,7 @@ start n1 n2 = record {
   bsns = (false, false);
 }
 
--- the header of each unit sent: the BSN is the FSN last accepted, the indicator bits are always 1 (6)
-pub record IsHead (state : PcrState) (number : ℕ) (head : Header) : Type 0 where
-  pub bsn : head.bsn ≡ state.accepted
-  pub bib : head.bib ≡ true
-  pub fsn : head.fsn ≡ number
-  pub fib : head.fib ≡ true
-
--- What is sent next.
+-- WHAT IS SENT NEXT.
 
 -- a place in the cycle of so many messages: past the last comes the first
 abbrev pub round : ℕ → ℕ → ℕ
@@ -56,6 +52,36 @@ is_forced state window octets = nat_lt 0 (length window.unacked) && (state.force
 -- where the cycle is; a forced one starts with the oldest message (own)
 abbrev pub cycle_place : Bool → PcrState → WindowState → ℕ
 cycle_place starts state window = if starts then 0 else round (length window.unacked) state.place
+
+-- (6.4.1) a forced cycle goes first; (6.3.2) else new messages, and with none the cycle goes on
+abbrev pub choice_of : ℕ → PcrState → WindowState → Choice
+choice_of octets state window =
+    if is_forced state window octets then Again (cycle_place (not state.forced) state window)
+    else (if has_new window then First
+    else (if nat_lt 0 (length window.unacked) then Again (cycle_place false state window)
+    else Fill))
+
+-- the header of each unit sent: the BSN is the FSN last accepted, the indicator bits are always 1 (6)
+abbrev pub head_of : PcrState → ℕ → Header
+head_of state fsn = header_of state.accepted true fsn true
+
+-- the control when that is sent: a forced cycle ends with the last message
+abbrev pub control_after : Choice → ℕ → PcrState → WindowState → PcrState
+control_after (Again place) octets state window = record state {
+  place = round (length window.unacked) (place + 1);
+  forced = is_forced state window octets && nat_lt (place + 1) (length window.unacked);
+}
+control_after First octets state window = state
+control_after Fill octets state window = state
+
+-- The same as relations of a sending, of the control and of the window before and after.
+
+-- the header of each unit sent: the BSN is the FSN last accepted, the indicator bits are always 1 (6)
+pub record IsHead (state : PcrState) (number : ℕ) (head : Header) : Type 0 where
+  pub bsn : head.bsn ≡ state.accepted
+  pub bib : head.bib ≡ true
+  pub fsn : head.fsn ≡ number
+  pub fib : head.fib ≡ true
 
 -- the unacknowledged message at this place is sent again, and the next one is due
 pub record Repeats (place : ℕ) (forced : Bool) (old new : PcrState) (window window' : WindowState) (message : ℕ) (head : Header) : Type 0 where
@@ -86,11 +112,15 @@ pub record IsNext (octets : ℕ) (old new : PcrState) (window window' : WindowSt
   pub full : is_forced old window octets ≡ false → 127 ≤ length window.unacked → IsMessageAnd sending (Repeats (cycle_place false old window) false old new window window')
   pub idle : is_forced old window octets ≡ false → window.unsent ≡ [] → window.unacked ≡ [] → IsFillAnd sending (Fills old new window window')
 
--- What a heard FISU or MSU does.
+-- WHAT A HEARD FISU OR MSU MEANS.
 
 -- (6.3.1) neither the number last acknowledged nor that of an unacknowledged message
 abbrev pub has_abnormal_bsn : WindowState → Header → Bool
 has_abnormal_bsn window head = nat_lt (length window.unacked) (distance_to window head.bsn)
+
+-- a unit with an abnormal number is discarded whole
+abbrev pub is_processed : WindowState → Header → Bool
+is_processed window head = not (has_abnormal_bsn window head)
 
 -- (6.2.2) an MSU is accepted with the number after the one last accepted, whatever its indicator
 -- bits are, and nothing is ever asked for
@@ -102,6 +132,38 @@ is_accepted state window head is_msu =
 abbrev pub is_second : Bool → Bool × Bool → Bool
 is_second abnormal before = abnormal && (before.0 || before.1)
 
+abbrev pub acked_by : WindowState → Header → ℕ
+acked_by window head = acked_where (is_processed window head) window head
+
+abbrev pub part_of : PcrState → WindowState → Header → Bool → HeardPart
+part_of state window head is_msu = record {
+  acked = acked_by window head;
+  accept = is_accepted state window head is_msu;
+  asked = false;
+  resend = false;
+  fault = if is_second (has_abnormal_bsn window head) state.bsns then Some Bsn else None;
+}
+
+-- the window when the unit was heard
+abbrev pub window_heard : WindowState → Header → WindowState
+window_heard window head = window_where (is_processed window head) window head
+
+-- the control when the unit was heard
+abbrev pub control_heard : PcrState → WindowState → Header → Bool → PcrState
+control_heard state window head is_msu =
+    let left = length (window_heard window head).unacked in
+    let due = state.place - acked_by window head in
+    record state {
+      -- (6.2.2) the FSN of an accepted message is the BSN from now on
+      accepted = if is_accepted state window head is_msu then head.fsn else state.accepted;
+      -- the cycle goes on at the message that was due, or with the oldest where that one left
+      place = if has_abnormal_bsn window head then state.place else round left due;
+      -- a forced cycle ends where none of its messages is left
+      forced = if has_abnormal_bsn window head then state.forced else state.forced && nat_lt due left;
+      bsns = (has_abnormal_bsn window head, state.bsns.0);
+    }
+
+-- The same as a relation of the control and of the window before and after.
 pub record Hears (head : Header) (is_msu : Bool) (old new : PcrState) (window window' : WindowState) (part : HeardPart) : Type 0 where
   -- (6.3.1) the messages up to the BSN are acknowledged, and only they
   pub acked : part.acked ≡ (if has_abnormal_bsn window head then 0 else distance_to window head.bsn)

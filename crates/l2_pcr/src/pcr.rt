@@ -1,9 +1,6 @@
 //! The control: what is sent next, and what a heard unit does.
-ghost use Rattle.std.specs.Prelude.{◌≡◌};
-ghost use Rattle.l2_pcr.specs.Pcr.{has_abnormal_bsn};
-
 use l2_units::Header;
-use l2_window::{ControlFault, HeardPart, Sending, Window, number_after};
+use l2_window::{Choice, ControlFault, HeardPart, Sending, Window, number_after};
 use std::marker::Model;
 
 /// Preventive cyclic retransmission of one end, in one life of its link.
@@ -37,8 +34,9 @@ impl Model for Pcr {
 
 impl Pcr {
     ghost use Rattle.std.specs.Prelude.{◌≡◌, ◌+◌, ◌-◌, ◌%◌, ◌<◌, ◌&&◌, ◌==◌, true, nat_lt, length, if◌then◌else◌};
-    ghost use Rattle.l2_window.specs.Control.{IsMessageAnd};
-    ghost use Rattle.l2_pcr.specs.Pcr.{start, is_forced, cycle_place, round, is_second, IsHead, IsNext, Hears, Repeats};
+    ghost use Rattle.l2_window.specs.Control.{fsn_of};
+    ghost use Rattle.l2_pcr.specs.Pcr.{start, is_forced, cycle_place, round, is_second, IsNext, Hears};
+    ghost use Rattle.l2_pcr.specs.Pcr.{choice_of, head_of, control_after, part_of, window_heard, control_heard};
 
     /// The control at the beginning of a link's life: FSN 127 counts as accepted.
     ///
@@ -64,27 +62,66 @@ impl Pcr {
         self.accepted
     }
 
+    /// What is to be sent next, where the bodies of the unacknowledged messages have so many octets:
+    /// in a forced cycle the unacknowledged message that is due; else the first unsent one where
+    /// fewer than 127 are unacknowledged; else the unacknowledged one that is due; else a FISU.
+    pub fn choice(&self, window: &Window, octets: u32) -> Choice
+        ensures { result ≡ choice_of octets self.now window.now }
+    {
+        if self.is_forced(window, octets) {
+            let place = self.cycle_place(!self.forced, window);
+            return Choice::Again { place };
+        }
+        if window.has_new() {
+            return Choice::First;
+        }
+        if window.unacked_len() > 0 {
+            let place = self.cycle_place(false, window);
+            return Choice::Again { place };
+        }
+        Choice::Fill
+    }
+
+    /// Sends what is chosen of the window, which is the one before a message moves in it: the header
+    /// of the unit.
+    pub fn send(&mut self, choice: Choice, window: &Window, octets: u32) -> Header
+        requires { choice ≡ choice_of octets self.old window.now }
+        ensures header { result ≡ head_of self.old (fsn_of choice window.now) }
+        ensures bsn { result.bsn ≡ self.old.accepted }
+        ensures state { self.new ≡ control_after choice octets self.old window.now }
+    {
+        let messages = window.unacked_len();
+        if let Choice::Again { place } = choice {
+            let more = place + 1 < messages;
+            self.forced = self.is_forced(window, octets) && more;
+            self.place = if more { place + 1 } else { 0 };
+        }
+        Header {
+            bsn: self.accepted,
+            bib: true,
+            fsn: choice.fsn(window),
+            fib: true,
+        }
+    }
+
     /// What is sent next, where the bodies of the unacknowledged messages have so many octets: in a
     /// forced cycle the unacknowledged message that is due; else the first unsent one where fewer
     /// than 127 are unacknowledged; else the unacknowledged one that is due; else a FISU.
     pub fn next(&mut self, window: &mut Window, octets: u32) -> Sending
         ensures { IsNext octets self.old self.new window.old window.new result }
     {
-        let messages = window.unacked_len();
-        if self.is_forced(window, octets) {
-            let place = self.cycle_place(!self.forced, window);
-            return self.repeat(window, place, place + 1 < messages);
-        }
-        if let Ok((number, fsn)) = window.send() {
-            let head = self.head(fsn);
-            return Sending::Message { number, head };
-        }
-        if messages > 0 {
-            let place = self.cycle_place(false, window);
-            return self.repeat(window, place, false);
-        }
-        Sending::Fill {
-            head: self.head(window.last()),
+        let choice = self.choice(window, octets);
+        let head = self.send(choice, window, octets);
+        match choice {
+            Choice::Again { place } => match window.unacked_at(place) {
+                Some(number) => Sending::Message { number, head },
+                None => unreachable!(),
+            },
+            Choice::First => match window.send() {
+                Ok((number, _)) => Sending::Message { number, head },
+                Err(_) => unreachable!(),
+            },
+            Choice::Fill => Sending::Fill { head },
         }
     }
 
@@ -109,48 +146,20 @@ impl Pcr {
         self.place
     }
 
-    /// Sends the unacknowledged message at this place again; the next one is due then.
-    fn repeat(&mut self, window: &Window, place: usize, forced: bool) -> Sending
-        requires { place < length window.now.unacked }
-        ensures { IsMessageAnd result (Repeats place forced self.old self.new window.now window.now) }
-    {
-        let head = self.head(number_after(window.last(), place + 1));
-        self.forced = forced;
-        self.place = if place + 1 < window.unacked_len() {
-            place + 1
-        } else {
-            0
-        };
-        match window.unacked_at(place) {
-            Some(number) => Sending::Message { number, head },
-            None => unreachable!(),
-        }
-    }
-
-    /// The header of a unit with this FSN.
-    fn head(&self, fsn: u8) -> Header
-        requires { fsn < 128 }
-        ensures { IsHead self.now fsn result }
-    {
-        Header {
-            bsn: self.accepted,
-            bib: true,
-            fsn,
-            fib: true,
-        }
-    }
-
-    /// What a heard unit with this header does; `is_msu` tells an MSU from a FISU. Its indicator
-    /// bits aren't looked at, and it never asks for retransmission.
+    /// What a heard unit with this header means; `is_msu` tells an MSU from a FISU. Its indicator
+    /// bits aren't looked at, and it never asks for retransmission. So many of the window's messages
+    /// as the answer says are then acknowledged, up to the BSN; with none the window stays.
     ///
     /// A unit with an abnormal BSN does nothing, but the second within three units is told as a
     /// fault.
-    pub fn heard(&mut self, window: &mut Window, head: Header, is_msu: bool) -> HeardPart
-        ensures { Hears head is_msu self.old self.new window.old window.new result }
+    pub fn hear(&mut self, window: &Window, head: Header, is_msu: bool) -> HeardPart
+        ensures part { result ≡ part_of self.old window.now head is_msu }
+        ensures state { self.new ≡ control_heard self.old window.now head is_msu }
+        ensures nothing { result.acked ≡ 0 → window_heard window.now head ≡ window.now }
     {
-        let abnormal = is_abnormal_bsn(window, head);
-        let fault = self.told(abnormal);
-        if abnormal {
+        let distance = window.distance(head.bsn);
+        let fault = self.told(distance.is_none());
+        let Some(acked) = distance else {
             return HeardPart {
                 acked: 0,
                 accept: false,
@@ -158,12 +167,8 @@ impl Pcr {
                 resend: false,
                 fault,
             };
-        }
-        let acked = match window.ack(head.bsn) {
-            Ok(acked) => acked,
-            Err(_) => unreachable!(),
         };
-        self.step_back(acked, window.unacked_len());
+        self.step_back(acked, window.unacked_len() - usize::from(acked));
         let accept = self.take(head, is_msu);
         HeardPart {
             acked,
@@ -172,6 +177,23 @@ impl Pcr {
             resend: false,
             fault,
         }
+    }
+
+    /// What a heard unit with this header does; `is_msu` tells an MSU from a FISU.
+    ///
+    /// A unit with an abnormal BSN does nothing, but the second within three units is told as a
+    /// fault.
+    pub fn heard(&mut self, window: &mut Window, head: Header, is_msu: bool) -> HeardPart
+        ensures { Hears head is_msu self.old self.new window.old window.new result }
+    {
+        let part = self.hear(window, head, is_msu);
+        if part.acked > 0 {
+            match window.ack(head.bsn) {
+                Ok(_) => {}
+                Err(_) => unreachable!(),
+            }
+        }
+        part
     }
 
     /// Remembers whether the unit's BSN is abnormal. The second abnormal one in three consecutive
@@ -210,12 +232,4 @@ impl Pcr {
         }
         accept
     }
-}
-
-/// Whether the BSN is neither the number last acknowledged nor that of an unacknowledged message
-/// (Q.703 6.3.1).
-fn is_abnormal_bsn(window: &Window, head: Header) -> bool
-    ensures { result ≡ has_abnormal_bsn window.now head }
-{
-    window.distance(head.bsn).is_none()
 }

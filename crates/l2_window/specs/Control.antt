@@ -1,10 +1,37 @@
--- What an error control sends, and its two faults.
-use Rattle.std.specs.Prelude.{ℕ}
+-- What both error controls share: what is sent next, what a heard unit does to the window, and the
+-- two faults.
+use Rattle.std.specs.Prelude.{ℕ, ◌%◌, Bool, ◌&&◌, nat_lt, drop, length, if◌then◌else◌}
+use Rattle.l2_units.specs.Grammar.{mod_128}
 use Rattle.l2_units.specs.declared.unit.Header.{Header}
+use Rattle.l2_window.specs.Window.{WindowState, fsn_at, last_fsn, distance_to}
+use Rattle.l2_window.specs.declared.control.Choice.{Choice}
+use Rattle.l2_window.specs.declared.control.Choice.TheVariants.{Again, First, Fill as NoMessage}
 use Rattle.l2_window.specs.declared.control.Sending.{Sending}
 use Rattle.l2_window.specs.declared.control.Sending.TheVariants.{Message, Fill}
 use Rattle.l2_window.specs.declared.control.ControlFault.{ControlFault}
 use Rattle.l2_window.specs.declared.control.ControlFault.TheVariants.{Bsn, Fib}
+
+-- WHAT IS SENT NEXT.
+
+-- (5.2.2) a message can be sent for the first time while fewer than 127 are unacknowledged
+abbrev pub has_new : WindowState → Bool
+has_new window = nat_lt 0 (length window.unsent) && nat_lt (length window.unacked) 127
+
+-- (5.2.1) the FSN of what is sent: the message's own, or in a FISU that of the last message sent
+abbrev pub fsn_of : Choice → WindowState → ℕ
+fsn_of (Again place) window = fsn_at window place
+fsn_of First window = fsn_at window (length window.unacked)
+fsn_of NoMessage window = last_fsn window
+
+abbrev pub header_of : ℕ → Bool → ℕ → Bool → Header
+header_of bsn bib fsn fib = record {
+  bsn = bsn % 128;
+  bib = bib;
+  fsn = fsn % 128;
+  fib = fib;
+  bsn_in_range = mod_128 bsn;
+  fsn_in_range = mod_128 fsn;
+}
 
 -- it is a message, with this fact of it and its header
 abbrev pub IsMessageAnd : Sending → (ℕ → Header → Type 0) → Type 0
@@ -15,6 +42,17 @@ IsMessageAnd (Fill head) P = ⊥
 abbrev pub IsFillAnd : Sending → (Header → Type 0) → Type 0
 IsFillAnd (Message number head) P = ⊥
 IsFillAnd (Fill head) P = P head
+
+-- WHAT A HEARD UNIT DOES TO THE WINDOW, where it is processed or else discarded whole: the messages
+-- up to its BSN are acknowledged, and only they (5.3.1, 6.3.1).
+abbrev pub acked_where : Bool → WindowState → Header → ℕ
+acked_where processed window head = if processed then distance_to window head.bsn else 0
+
+abbrev pub window_where : Bool → WindowState → Header → WindowState
+window_where processed window head = record window {
+  last = if processed then head.bsn else window.last;
+  unacked = drop (acked_where processed window head) window.unacked;
+}
 
 -- the causes of a failed link (12.2)
 abbrev pub fault_number : ControlFault → ℕ

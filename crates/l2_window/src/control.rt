@@ -1,8 +1,36 @@
 //! What the error controls of Q.703 5 and 6 answer.
 ghost use Rattle.std.specs.Prelude.{◌≡◌, ◌+◌, ◌%◌, ◌<◌, ◌≤◌};
-ghost use Rattle.l2_window.specs.Control.{fault_number};
+ghost use Rattle.l2_window.specs.Control.{fault_number, fsn_of};
 
+use super::window::Window;
 use l2_units::Header;
+
+/// What an error control chooses to send next.
+#[derive(Clone, Copy, Debug, PartialEq, Eq)]
+pub enum Choice {
+    /// The unacknowledged message at this place, again.
+    Again { place: usize },
+    /// The first unsent message.
+    First,
+    /// A FISU.
+    Fill,
+}
+
+impl Choice {
+    /// The FSN of what is sent: the message's own, or in a FISU that of the last message sent
+    /// (Q.703 5.2.1).
+    pub fn fsn(self, window: &Window) -> u8
+        ensures value { result ≡ fsn_of self window.now }
+        ensures in_range { result < 128 }
+    {
+        let places = match self {
+            Choice::Again { place } => place % 128 + 1,
+            Choice::First => window.unacked_len() + 1,
+            Choice::Fill => window.unacked_len(),
+        };
+        number_after(window.last(), places)
+    }
+}
 
 /// What is sent next.
 #[derive(Clone, Copy, Debug, PartialEq, Eq)]

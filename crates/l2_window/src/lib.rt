@@ -12,13 +12,12 @@
 //! ```
 //!
 //! Readers: [`Window::last`], [`Window::unacked_len`], [`Window::unsent_len`],
-//! [`Window::unacked_at`], [`Window::unsent_at`], [`Window::distance`]. Inputs: [`Window::push`],
-//! [`Window::send`],
-//! [`Window::ack`], [`Window::pop`], [`Window::clear_unacked`], [`Window::clear_unsent`],
-//! [`Window::reset`].
+//! [`Window::unacked_at`], [`Window::unsent_at`], [`Window::has_new`], [`Window::distance`]. Inputs:
+//! [`Window::push`], [`Window::send`], [`Window::ack`], [`Window::pop`], [`Window::clear_unacked`],
+//! [`Window::clear_unsent`], [`Window::reset`].
 //!
-//! Both error controls work on a window and answer the same types, [`Sending`] and [`HeardPart`]:
-//! these stand here too, and what the laws of both rest on: `specs/Line.antt` is a unit on its way,
+//! Both error controls read a window and answer the same types, [`Choice`] and [`HeardPart`]: these
+//! stand here too, and what the laws of both rest on: `specs/Line.antt` is a unit on its way,
 //! `proofs/Way.antt` one direction of a link, as the counts of its two ends tell it.
 //!
 //! Both lists lie in rings: one of 127 places for the unacknowledged, and a [`Queue`], which grows, for
@@ -36,7 +35,7 @@ mod queue;
 mod tests;
 mod window;
 
-pub use control::{ControlFault, HeardPart, Sending, number_after};
+pub use control::{Choice, ControlFault, HeardPart, Sending, number_after};
 pub use fault::WindowFault;
 pub use law::{numbers_never_mislead, numbers_tell_places};
 pub use queue::Queue;

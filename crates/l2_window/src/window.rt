@@ -42,6 +42,7 @@ impl Window {
     ghost use Rattle.std.specs.Prelude.{◌≡◌, ◌≢◌, ◌↔◌, ◌-◌, ◌<◌, ◌≤◌, ◌++◌, [], length, drop, slice_get, IsOk, IfOk, OnOk, OnErr, IfSome, IsNone, MatchOption};
     ghost use Rattle.std.specs.Option.{SomeIff};
     ghost use Rattle.std.specs.Result.{OkIff};
+    ghost use Rattle.l2_window.specs.Control.{has_new};
     ghost use Rattle.l2_window.specs.Window.{IsWindow, IsEmpty, IsReasonable, SameMessages, Pushes, Sends, Pops, fsn_at, distance_to};
 
     /// A window with no messages. It takes the storage of all unacknowledged messages, so that
@@ -93,6 +94,14 @@ impl Window {
         self.unsent.at(place)
     }
 
+    /// Whether a message can be sent for the first time: one is unsent, and fewer than 127 are
+    /// unacknowledged (Q.703 5.2.2).
+    pub fn has_new(&self) -> bool
+        ensures { result ≡ has_new self.now }
+    {
+        !self.unsent.is_empty() && self.unacked.len() < MOST_UNACKED
+    }
+
     /// Makes room for `pushes` more pushes, which then can't fail. The messages stay as they are.
     pub fn reserve(&mut self, pushes: usize) -> Result<(), NoMemory>
         ensures room { OnOk result (pushes ≤ self.new.room) }
@@ -140,7 +149,8 @@ impl Window {
     /// number is unreasonable: neither that last acknowledged nor that of an unacknowledged message.
     pub fn distance(&self, number: u8) -> Option<u8>
         requires { number < 128 }
-        ensures { SomeIff result (IsReasonable self.now number) (distance_to self.now number) }
+        ensures value { SomeIff result (IsReasonable self.now number) (distance_to self.now number) }
+        ensures sound { IsWindow self.now }
     {
         let distance = (number + 128 - self.last) % 128;
         (usize::from(distance) <= self.unacked.len()).then_some(distance)
