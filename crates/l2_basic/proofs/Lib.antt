@@ -1,4 +1,3 @@
 pub mod Bits
 mod Choosing
-pub mod Runs
-pub mod Way
+pub mod Kept

@@ -2,8 +2,8 @@
 ghost use Rattle.l2_basic.specs.Link.{OneLink};
 
 /// Between two ends whose lines keep order and lose any unit: what one end accepted is a prefix of
-/// what the other first sent, what counts as acknowledged was accepted, and no unit that comes has
-/// an abnormal BSN or FIB.
+/// what the other first sent, what counts as acknowledged was accepted, what is unacknowledged is
+/// left of what was sent, no unit that comes has an abnormal BSN or FIB, and no fault is told.
 pub fn one_link()
     ensures { OneLink }
 {}

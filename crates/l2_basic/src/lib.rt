@@ -1,7 +1,9 @@
 //! The basic error control of one end of a signalling link (ITU-T Q.703 5).
 //!
-//! [`Basic::next`] says what is sent next, [`Basic::heard`] what a heard FISU or MSU does. The
-//! messages themselves stand in the link's window (`l2_window`), which both calls are given.
+//! [`Basic::choice`] says what is to be sent next, [`Basic::send`] under which header, and
+//! [`Basic::hear`] what a heard FISU or MSU means. The messages themselves stand in the link's window
+//! (`l2_window`), which these calls only read: the caller moves a message in it as the choice says,
+//! and acknowledges as the answer says.
 //!
 //! ```text
 //!  unacknowledged                      unsent

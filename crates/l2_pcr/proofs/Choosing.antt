@@ -22,7 +22,7 @@ again_at false true false false p q place e = absurd cc
 again_at false false z true p q place e = inr (refl, refl, refl, cc)
 again_at false false z false p q place e = absurd cc
 
-first_at : (x y z v : Bool) (p q : ℕ) → (if x then Again p else (if y && z then First else (if v then Again q else Fill))) ≡ First → (x ≡ false) × (y ≡ true) × (z ≡ true)
+pub first_at : (x y z v : Bool) (p q : ℕ) → (if x then Again p else (if y && z then First else (if v then Again q else Fill))) ≡ First → (x ≡ false) × (y ≡ true) × (z ≡ true)
 first_at true y z v p q e = absurd cc
 first_at false true true v p q e = (refl, refl, refl)
 first_at false true false true p q e = absurd cc
@@ -58,8 +58,8 @@ and_left true y e = refl
 and_left false y e = absurd cc
 
 -- what is sent again is an unacknowledged message
-pub again_within : (o : ℕ) (s : PcrState) (w : WindowState) (place : ℕ) → Again place ≡ choice_of o s w → place < length w.unacked
-again_within o s w place e = go (again_at (is_forced s w o) (nat_lt 0 (length w.unsent)) (nat_lt (length w.unacked) 127) (nat_lt 0 (length w.unacked)) (cycle_place (not s.forced) s w) (cycle_place false s w) place (sym e))
+pub again_within : (o : ℕ) (s : PcrState) (w : WindowState) (place : ℕ) → choice_of o s w ≡ Again place → place < length w.unacked
+again_within o s w place e = go (again_at (is_forced s w o) (nat_lt 0 (length w.unsent)) (nat_lt (length w.unacked) 127) (nat_lt 0 (length w.unacked)) (cycle_place (not s.forced) s w) (cycle_place false s w) place e)
   where
     go : IsAgain (is_forced s w o) (nat_lt 0 (length w.unsent)) (nat_lt (length w.unacked) 127) (nat_lt 0 (length w.unacked)) (cycle_place (not s.forced) s w) (cycle_place false s w) place → place < length w.unacked
     go (inl (forced, same)) =

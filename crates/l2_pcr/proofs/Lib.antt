@@ -1,3 +1,2 @@
 mod Choosing
-pub mod Runs
-pub mod Way
+pub mod Kept

@@ -1,8 +1,10 @@
 //! Error control by preventive cyclic retransmission, of one end of a signalling link (ITU-T
 //! Q.703 6).
 //!
-//! [`Pcr::next`] says what is sent next, [`Pcr::heard`] what a heard FISU or MSU does. The messages
-//! themselves stand in the link's window (`l2_window`), which both calls are given.
+//! [`Pcr::choice`] says what is to be sent next, [`Pcr::send`] under which header, and [`Pcr::hear`]
+//! what a heard FISU or MSU means. The messages themselves stand in the link's window (`l2_window`),
+//! which these calls only read: the caller moves a message in it as the choice says, and acknowledges
+//! as the answer says.
 //!
 //! Nothing is ever asked for. What isn't acknowledged is sent again and again while there is nothing
 //! new to send (6.3.2). Once N1 messages or N2 octets of them are unacknowledged, a forced cycle

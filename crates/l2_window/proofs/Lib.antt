@@ -1,3 +1,5 @@
 pub mod Heard
 pub mod Line
+pub mod Rules
+pub mod Runs
 pub mod Way

@@ -17,8 +17,9 @@
 //! [`Window::clear_unsent`], [`Window::reset`].
 //!
 //! Both error controls read a window and answer the same types, [`Choice`] and [`HeardPart`]: these
-//! stand here too, and what the laws of both rest on: `specs/Line.antt` is a unit on its way,
-//! `proofs/Way.antt` one direction of a link, as the counts of its two ends tell it.
+//! stand here too, and the law of one link, over any control that gives its rules
+//! (`specs/Link.antt`). Its proof is that of one direction, as the counts of its two ends tell it
+//! (`proofs/Way.antt`), and wants of the rules what `proofs/Rules.antt` says.
 //!
 //! Both lists lie in rings: one of 127 places for the unacknowledged, and a [`Queue`], which grows, for
 //! the unsent; [`Window::into_rings`] hands them out.

@@ -1,5 +1,5 @@
-use Rattle.l2_pcr.proofs.Runs as runs
+use Rattle.l2_pcr.proofs.Kept as kept
 use Rattle.l2_pcr.proofs.law.one_link.Goals as goal
 
 pub returns : goal.returns
-returns c = runs.one_link
+returns c = kept.one_link

@@ -4,5 +4,5 @@ use Rattle.l2_pcr.proofs.pcr.Pcr.send.Goals as goal
 
 pub overflow_add-more : goal.overflow_add-more
 overflow_add-more c =
-    let within = again_within c.args.octets c.args.self.now c.args.window.now c.in-Again.place (sym c.in-Again.is ∙ c.requires) in
+    let within = again_within c.args.octets c.args.self.now c.args.window.now c.in-Again.place (sym c.requires ∙ c.in-Again.is) in
     omega (arith, within, c.unacked_len-messages.ensures.sound.at_most_127)
