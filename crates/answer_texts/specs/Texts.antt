@@ -2,12 +2,11 @@
 use Rattle.std.specs.Prelude.{ℕ, List, ◌++◌, Option, Some, None, codes, decimal}
 use Rattle.l2_bits.specs.SealedText.{sealed_text}
 use Rattle.l2_units.specs.Grammar.{text}
-use Rattle.set_events.specs.Numbers.{refusal_number, fault_number, cause_number}
+use Rattle.set_events.specs.Numbers.{refusal_number, ControlFault, fault_number, cause_number}
 use Rattle.set_events.specs.declared.answer.Fate.{Fate}
 use Rattle.set_events.specs.declared.answer.Fate.TheVariants.{Waiting, Unacked, Acked, Held, Parked, Discarded}
 use Rattle.set_events.specs.declared.answer.Took.{Took}
 use Rattle.set_events.specs.declared.answer.Took.TheVariants.{Nothing, Message, Order, Ignored}
-use Rattle.set_events.specs.declared.answer.ControlFault.{ControlFault}
 use Rattle.set_events.specs.declared.answer.Report.{Report}
 use Rattle.set_events.specs.declared.answer.Counts.{Counts}
 use Rattle.set_events.specs.declared.answer.Answer.{Answer}

@@ -1,6 +1,7 @@
 -- The numbers of statuses and causes.
 use Rattle.std.specs.Prelude.{ℕ}
 use Rattle.l2_signals.specs.declared.cause.Cause.{Cause}
+use Rattle.l2_signals.specs.declared.cause.ControlFault.{ControlFault}
 use Rattle.l2_signals.specs.declared.status.Status.{Status}
 
 -- the code of a status indication, three bits (Q.703 11.1.3)
@@ -25,3 +26,11 @@ cause_number Cause.T7 = 6
 cause_number Cause.Status = 7
 cause_number Cause.NotPossible = 8
 cause_number Cause.Stop = 9
+
+-- a fault that the error control finds is one of these causes
+abbrev pub cause_of : ControlFault → Cause
+cause_of ControlFault.Bsn = Cause.Bsn
+cause_of ControlFault.Fib = Cause.Fib
+
+abbrev pub fault_number : ControlFault → ℕ
+fault_number fault = cause_number (cause_of fault)

@@ -1,6 +1,6 @@
 //! Causes of a failed link.
 ghost use Rattle.std.specs.Prelude.{◌≡◌};
-ghost use Rattle.l2_signals.specs.Numbers.{cause_number};
+ghost use Rattle.l2_signals.specs.Numbers.{cause_number, cause_of, fault_number};
 
 /// Why a link left service. Each has a number, for reports (own).
 #[derive(Clone, Copy, Debug, PartialEq, Eq)]
@@ -31,5 +31,33 @@ impl Cause {
         ensures { result ≡ cause_number self }
     {
         self as u8
+    }
+}
+
+/// Why an error control finds the link faulty: the causes that a heard unit can tell.
+#[derive(Clone, Copy, Debug, PartialEq, Eq)]
+pub enum ControlFault {
+    /// Two abnormal BSNs in three consecutive units (Q.703 5.3.1).
+    Bsn,
+    /// Two abnormal FIBs in three consecutive units (Q.703 5.3.2).
+    Fib,
+}
+
+impl ControlFault {
+    /// The cause for which the link leaves service then.
+    pub fn cause(self) -> Cause
+        ensures { result ≡ cause_of self }
+    {
+        match self {
+            ControlFault::Bsn => Cause::Bsn,
+            ControlFault::Fib => Cause::Fib,
+        }
+    }
+
+    /// The cause's number: 2 BSN, 3 FIB.
+    pub fn number(self) -> u8
+        ensures { result ≡ fault_number self }
+    {
+        self.cause().number()
     }
 }

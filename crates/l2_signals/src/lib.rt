@@ -21,6 +21,6 @@ mod cause;
 mod status;
 mod timer;
 
-pub use cause::Cause;
+pub use cause::{Cause, ControlFault};
 pub use status::Status;
 pub use timer::TimerOrder;

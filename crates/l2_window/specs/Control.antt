@@ -1,5 +1,4 @@
--- What both error controls share: what is sent next, what a heard unit does to the window, and the
--- two faults.
+-- What both error controls share: what is sent next, and what a heard unit does to the window.
 use Rattle.std.specs.Prelude.{ℕ, ◌%◌, Bool, ◌&&◌, nat_lt, drop, length, if◌then◌else◌}
 use Rattle.l2_units.specs.Grammar.{mod_128}
 use Rattle.l2_units.specs.declared.unit.Header.{Header}
@@ -8,8 +7,6 @@ use Rattle.l2_window.specs.declared.control.Choice.{Choice}
 use Rattle.l2_window.specs.declared.control.Choice.TheVariants.{Again, First, Fill as NoMessage}
 use Rattle.l2_window.specs.declared.control.Sending.{Sending}
 use Rattle.l2_window.specs.declared.control.Sending.TheVariants.{Message, Fill}
-use Rattle.l2_window.specs.declared.control.ControlFault.{ControlFault}
-use Rattle.l2_window.specs.declared.control.ControlFault.TheVariants.{Bsn, Fib}
 
 -- WHAT IS SENT NEXT.
 
@@ -53,8 +50,3 @@ window_where processed window head = record window {
   last = if processed then head.bsn else window.last;
   unacked = drop (acked_where processed window head) window.unacked;
 }
-
--- the causes of a failed link (12.2)
-abbrev pub fault_number : ControlFault → ℕ
-fault_number Bsn = 2
-fault_number Fib = 3

@@ -1,8 +1,9 @@
 //! What the error controls of Q.703 5 and 6 answer.
 ghost use Rattle.std.specs.Prelude.{◌≡◌, ◌+◌, ◌%◌, ◌<◌, ◌≤◌};
-ghost use Rattle.l2_window.specs.Control.{fault_number, fsn_of};
+ghost use Rattle.l2_window.specs.Control.{fsn_of};
 
 use super::window::Window;
+use l2_signals::ControlFault;
 use l2_units::Header;
 
 /// What an error control chooses to send next.
@@ -54,24 +55,6 @@ pub struct HeardPart {
     pub resend: bool,
     /// The fault of the link that it tells, if any.
     pub fault: Option<ControlFault>,
-}
-
-/// Why the error control finds the link faulty.
-#[derive(Clone, Copy, Debug, PartialEq, Eq)]
-pub enum ControlFault {
-    /// Two abnormal BSNs in three consecutive units (Q.703 5.3.1).
-    Bsn = 2,
-    /// Two abnormal FIBs in three consecutive units (Q.703 5.3.2).
-    Fib = 3,
-}
-
-impl ControlFault {
-    /// The fault's number: 2 BSN, 3 FIB.
-    pub fn number(self) -> u8
-        ensures { result ≡ fault_number self }
-    {
-        self as u8
-    }
 }
 
 /// The sequence number so many places after this one, cyclically from 0 to 127.

@@ -36,8 +36,9 @@ mod queue;
 mod tests;
 mod window;
 
-pub use control::{Choice, ControlFault, HeardPart, Sending, number_after};
+pub use control::{Choice, HeardPart, Sending, number_after};
 pub use fault::WindowFault;
+pub use l2_signals::ControlFault;
 pub use law::{numbers_never_mislead, numbers_tell_places};
 pub use queue::Queue;
 pub use window::{MOST_UNACKED, NoMemory, Window};

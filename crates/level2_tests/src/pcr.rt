@@ -1,7 +1,7 @@
 //! Situations on one link, worked out by hand from Q.703 6. Units are written as their octets.
 use l2_pcr::*;
 use l2_units::{Header, header_in, read};
-use l2_window::{ControlFault, HeardPart, Sending, Window};
+use l2_window::{Choice, ControlFault, HeardPart, Window};
 use std::process::Abort;
 use std::test::Fail;
 
@@ -33,24 +33,36 @@ fn head(backward: u8, forward: u8) -> Result<Header, Fail> {
 impl End {
     /// What the heard unit means. All tests ask through here, so that the prover meets the contract once.
     fn hears(&mut self, head: Header, is_msu: bool) -> HeardPart {
-        self.control.heard(&mut self.window, head, is_msu)
+        let part = self.control.hear(&self.window, head, is_msu);
+        if part.acked > 0 {
+            let _ = self.window.ack(head.bsn);
+        }
+        part
+    }
+
+    /// What is sent next: its header and, but for a FISU, its message.
+    fn sends(&mut self) -> (Header, Option<u64>) {
+        let octets = 5 * self.window.unacked_len() as u32;
+        let choice = self.control.choice(&self.window, octets);
+        let head = self.control.send(choice, &self.window, octets);
+        let message = match choice {
+            Choice::Again { place } => self.window.unacked_at(place),
+            Choice::First => self.window.send().ok().map(|sent| sent.0),
+            Choice::Fill => None,
+        };
+        (head, message)
     }
 
     fn sends_message(&mut self, rt: &impl Abort, message: u64, fsn: u8) -> Header {
-        let octets = 5 * self.window.unacked_len() as u32;
-        let Sending::Message { number, head } = self.control.next(&mut self.window, octets) else {
-            panic!(rt; "a FISU where message {message} is due");
-        };
-        assert_eq!(rt; number, message);
+        let (head, number) = self.sends();
+        assert_eq!(rt; number, Some(message));
         assert_eq!(rt; head.fsn, fsn);
         head
     }
 
     fn sends_fill(&mut self, rt: &impl Abort, fsn: u8) -> Header {
-        let octets = 5 * self.window.unacked_len() as u32;
-        let Sending::Fill { head } = self.control.next(&mut self.window, octets) else {
-            panic!(rt; "a message where a FISU is due");
-        };
+        let (head, number) = self.sends();
+        assert_eq!(rt; number, None);
         assert_eq!(rt; head.fsn, fsn);
         head
     }

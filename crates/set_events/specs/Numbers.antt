@@ -2,12 +2,13 @@
 use Rattle.std.specs.Prelude.{ℕ}
 use Rattle.set_events.specs.declared.answer.Refusal.{Refusal as SetRefusal}
 use Rattle.set_events.specs.declared.answer.Refusal.TheVariants.{TooShort, TooLong, Reserved, StreamFull, NotUp, NotDown, Unsettled, UnknownNumber, Nothing, NoSuchLink}
-use Rattle.set_events.specs.declared.answer.ControlFault.{ControlFault}
-use Rattle.set_events.specs.declared.answer.ControlFault.TheVariants.{Bsn, Fib}
 use Rattle.set_events.specs.declared.answer.DiscardCause.{DiscardCause}
 use Rattle.set_events.specs.declared.answer.DiscardCause.TheVariants.{Emergency, Unreasonable, NoAnswer}
 use Rattle.set_events.specs.declared.config.ConfigFault.{ConfigFault}
 use Rattle.set_events.specs.declared.config.ConfigFault.TheVariants.{Links, PointCode, Sio, Cyclic}
+-- the causes of a failed link that a heard unit can show
+pub use Rattle.l2_signals.specs.declared.cause.ControlFault.{ControlFault}
+pub use Rattle.l2_signals.specs.Numbers.{fault_number}
 
 abbrev pub refusal_number : SetRefusal → ℕ
 refusal_number TooShort = 1
@@ -20,11 +21,6 @@ refusal_number Unsettled = 7
 refusal_number UnknownNumber = 8
 refusal_number Nothing = 9
 refusal_number NoSuchLink = 10
-
--- the causes of a failed link that a heard unit can show
-abbrev pub fault_number : ControlFault → ℕ
-fault_number Bsn = 2
-fault_number Fib = 3
 
 -- why messages were given up
 abbrev pub cause_number : DiscardCause → ℕ

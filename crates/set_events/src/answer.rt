@@ -1,8 +1,9 @@
 //! What a set answers.
 ghost use Rattle.std.specs.Prelude.{◌≡◌, ◌↔◌, IsTrue};
-ghost use Rattle.set_events.specs.Numbers.{refusal_number, fault_number, cause_number};
+ghost use Rattle.set_events.specs.Numbers.{refusal_number, cause_number};
 
 use arrayvec::ArrayVec;
+use l2_signals::ControlFault;
 use l2_units::{Unit, same_unit};
 
 /// Where a message stands: in exactly one of these places.
@@ -57,27 +58,6 @@ pub enum Took {
     Order,
     /// A body of the management that is no order known here.
     Ignored,
-}
-
-/// A fault of the link that the error control found (Q.703 5.3).
-#[derive(Clone, Copy, Debug, PartialEq, Eq)]
-pub enum ControlFault {
-    /// Abnormal backward sequence numbers. Its number is 2.
-    Bsn,
-    /// Abnormal forward indicator bits. Its number is 3.
-    Fib,
-}
-
-impl ControlFault {
-    /// The number of this cause of a failed link: 2 BSN, 3 FIB.
-    pub fn number(self) -> u8
-        ensures { result ≡ fault_number self }
-    {
-        match self {
-            ControlFault::Bsn => 2,
-            ControlFault::Fib => 3,
-        }
-    }
 }
 
 /// What a heard unit did.

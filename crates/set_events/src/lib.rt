@@ -12,9 +12,10 @@ mod config;
 mod event;
 mod history;
 
-pub use answer::{Answer, ControlFault, Counts, DiscardCause, Fate, Refusal, Report, Took};
+pub use answer::{Answer, Counts, DiscardCause, Fate, Refusal, Report, Took};
 pub use body::Body;
 pub use books::Books;
 pub use config::{ConfigFault, Method, SetConfig};
 pub use event::{Actor, Event};
 pub use history::Entry;
+pub use l2_signals::ControlFault;

@@ -5,11 +5,9 @@ use Rattle.l2_units.specs.declared.unit.Unit.{Unit as SignalUnit}
 use Rattle.l2_units.specs.declared.unit.Unit.TheVariants.{Fisu, Lssu, Msu}
 use Rattle.l2_units.specs.Grammar.{head_of as header_in}
 use Rattle.l2_window.specs.declared.control.HeardPart.{HeardPart}
-use Rattle.l2_window.specs.declared.control.ControlFault.{ControlFault as FaultFound}
-use Rattle.l2_window.specs.declared.control.ControlFault.TheVariants.{Bsn as BsnFound, Fib as FibFound}
 use Rattle.l3_orders.specs.Grammar.{order_of}
-use Rattle.set_events.specs.declared.answer.ControlFault.{ControlFault}
-use Rattle.set_events.specs.declared.answer.ControlFault.TheVariants.{Bsn, Fib}
+use Rattle.l2_signals.specs.declared.cause.ControlFault.{ControlFault}
+use Rattle.l2_signals.specs.declared.cause.ControlFault.TheVariants.{Bsn, Fib}
 use Rattle.set_events.specs.declared.answer.Fate.{Fate}
 use Rattle.set_events.specs.declared.answer.Fate.TheVariants.{Waiting, Unacked, Acked, Held, Parked}
 use Rattle.set_events.specs.declared.answer.Took.{Took}
@@ -139,10 +137,10 @@ takes (Some body) s =
     then obeyed (order_of body) s
     else record { took = Message; state = record s { inbox = s.inbox ++ body ∷ [] } }
 
-abbrev pub fault_of : Option FaultFound → Option ControlFault
+abbrev pub fault_of : Option ControlFault → Option ControlFault
 fault_of None = None
-fault_of (Some BsnFound) = Some Bsn
-fault_of (Some FibFound) = Some Fib
+fault_of (Some Bsn) = Some Bsn
+fault_of (Some Fib) = Some Fib
 
 abbrev pub report_of : HeardPart → Took → Report
 report_of part took = record { acked = part.acked; took = took; asked = part.asked; resend = part.resend; fault = fault_of part.fault }
