@@ -6,8 +6,6 @@
 #![tactic(auto)]
 
 mod help;
-#[cfg(test)]
-mod tests;
 mod words;
 
 pub use words::{Words, WordsFault, not_unicode, words_of};

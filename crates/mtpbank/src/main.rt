@@ -11,8 +11,6 @@ ghost use Rattle.clap.specs.Values.{kind_of};
 ghost use Rattle.clap.specs.declared.error.kind.ErrorKind.TheVariants.{DisplayHelp, DisplayVersion};
 
 mod running;
-#[cfg(test)]
-mod tests;
 
 use command_line::{Words, WordsFault, not_unicode, words_of};
 use printing::{Fault, Reader, Writer};

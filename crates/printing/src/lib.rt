@@ -18,8 +18,6 @@ mod device;
 mod fault;
 mod printer;
 mod printing;
-#[cfg(test)]
-mod tests;
 
 pub use device::{DeviceFault, Reader, Sink, Source, Writer};
 pub use fault::Fault;

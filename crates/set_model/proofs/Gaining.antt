@@ -136,6 +136,7 @@ module _ (s : State) (event : Event) where
   give_none n link Settled = (refl, refl)
 
 accepts_none : (s : State) (event : Event) → is_offer event ≡ false → AcceptsNone event (step s event).answer
+unfolding step
 accepts_none s (Offer body) e = absurd cc
 accepts_none s Take e = take_none s Take s.inbox
 accepts_none s (Find number) e = find_none s (Find number) (place number s.rows)
@@ -178,6 +179,7 @@ other_gains s event other m =
     record { messages = omega (arith, total, none.0); acknowledged = c.1.acked; octets = omega (arith, none.1) }
 
 pub step_gains : (s : State) (event : Event) → IsManaged s.settings → Gains s event (step s event).answer (step s event).state
+unfolding step
 step_gains s (Offer body) m = offer_gains s body (offer_refusal s.rows body) refl
 step_gains s Take m = other_gains s Take refl m
 step_gains s (Find number) m = other_gains s (Find number) refl m

@@ -21,5 +21,6 @@ pub mod SoundNew
 pub mod Soundness
 pub mod Stating
 pub mod Staying
+pub mod Stepping
 pub mod Targets
 pub mod Walk

@@ -182,6 +182,7 @@ module _ (s : State) (R : State → State → Type 0) (S : State → Type 0) whe
       w.rests s (queue (leaving_order blind n link) left) w.unmoved (w.small.after s left (queue (leaving_order blind n link) left) (w.small.leaves blind n link s known at) (w.small.queues (leaving_order blind n link) left))
 
   pub step_walks : (event : Event) → WalkedBy s event R S → S (step s event).state
+  unfolding step
   step_walks (Offer body) w = offer_walks body w (offer_refusal s.rows body) refl
   step_walks Take w = take_walks w s.inbox refl
   step_walks (Find number) w = find_walks w.unmoved (place number s.rows)

@@ -201,17 +201,21 @@ gives_up number s link Down = record { answer = Done; state = settle Unanswered 
 gives_up number s link Up = refused s Nothing
 gives_up number s link Settled = refused s Nothing
 
--- THE STEP
-abbrev pub step : State → Event → Outcome
-step s (Offer body) = offered (offer_refusal s.rows body) s body
-step s Take = taken s.inbox s
-step s (Find number) = found (place number s.rows) s
-step s (Next link) = in_service link s (next link s)
-step s (Heard link unit) = in_service link s (heard unit link s)
-step s (UpEvent link) = on_link link s (λ state. rises link s state.phase)
-step s (DownEvent link) = in_service link s (falls false link s)
-step s (DownBlind link) = in_service link s (falls true link s)
-step s (NoAnswer link) = on_link link s (λ state. gives_up link s state state.phase)
+-- THE STEP, event by event
+abbrev pub stepped : State → Event → Outcome
+stepped s (Offer body) = offered (offer_refusal s.rows body) s body
+stepped s Take = taken s.inbox s
+stepped s (Find number) = found (place number s.rows) s
+stepped s (Next link) = in_service link s (next link s)
+stepped s (Heard link unit) = in_service link s (heard unit link s)
+stepped s (UpEvent link) = on_link link s (λ state. rises link s state.phase)
+stepped s (DownEvent link) = in_service link s (falls false link s)
+stepped s (DownBlind link) = in_service link s (falls true link s)
+stepped s (NoAnswer link) = on_link link s (λ state. gives_up link s state state.phase)
+
+-- THE STEP. Its name is sealed, since a goal that names an event would compute all that the event does.
+unfoldable pub step : State → Event → Outcome
+step s event = stepped s event
 
 -- WHAT A STEP BRINGS to the numbers of a set's books.
 

@@ -47,8 +47,6 @@ mod messages;
 mod moving;
 mod queues;
 mod tally;
-#[cfg(test)]
-mod tests;
 mod weight;
 
 pub use laws::{each_number_stands_once, fates_move_with_their_numbers, settling_moves_the_queues};

@@ -10,7 +10,7 @@ ghost use Rattle.set_step.specs.Agreement.{Agrees, AreCounted, AreRoomy, AtLink,
 ghost use Rattle.l2_units.specs.Grammar.{head_of as header_of};
 ghost use Rattle.set_model.specs.Control.{part_of};
 ghost use Rattle.set_model.specs.State.{window_of};
-ghost use Rattle.set_model.specs.Step.{step, is_msu as is_message, brought, takes, after_control, report_of as report_for, fault_of as fault_for};
+ghost use Rattle.set_model.specs.Step.{stepped, is_msu as is_message, brought, takes, after_control, report_of as report_for, fault_of as fault_for};
 
 use super::changeover::{obey, order_space};
 use super::fault::SetFault;
@@ -29,7 +29,7 @@ use set_events::{Answer, ControlFault, Refusal, Report, Took};
 pub(crate) fn heard(parts: &mut Parts, number: u8, unit: &Unit) -> Result<Answer, SetFault>
     requires agrees { Agrees parts.old }
     requires counted { AreCounted (2 ^ 60) parts.old.links.items }
-    ensures ok { IfOk result (λ answer. step (state_of parts.old) (Heard number unit.now) ≡ record { answer = answer; state = state_of parts.new }) }
+    ensures ok { IfOk result (λ answer. stepped (state_of parts.old) (Heard number unit.now) ≡ record { answer = answer; state = state_of parts.new }) }
     ensures err { OnErr result (state_of parts.new ≡ state_of parts.old) }
     ensures fault { IfErr result (λ fault. fault ≡ SetFault.NoMemory) }
     ensures agrees { Agrees parts.new }

@@ -2,7 +2,7 @@
 ghost use Rattle.std.specs.Prelude.{◌≡◌, ◌≤◌, length, slice_get, Some};
 ghost use Rattle.set_events.specs.declared.event.Event.TheVariants.{Next};
 ghost use Rattle.set_step.specs.Agreement.{Agrees, state_of, service_refusal};
-ghost use Rattle.set_model.specs.Step.{step};
+ghost use Rattle.set_model.specs.Step.{stepped};
 
 use super::link::Link;
 use super::parts::Parts;
@@ -26,7 +26,7 @@ pub(crate) fn out_of_service(links: &[Link], number: u8) -> Option<Refusal>
 /// The next unit to send.
 pub(crate) fn next(parts: &mut Parts, number: u8) -> Answer
     requires { Agrees parts.old }
-    ensures step { step (state_of parts.old) (Next number) ≡ record { answer = result; state = state_of parts.new } }
+    ensures step { stepped (state_of parts.old) (Next number) ≡ record { answer = result; state = state_of parts.new } }
     ensures agrees { Agrees parts.new }
 {
     if let Some(why) = out_of_service(&parts.links, number) {

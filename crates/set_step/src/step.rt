@@ -7,7 +7,7 @@ ghost use Rattle.set_model.specs.Rows.{parked, numbers, stream_of as stream_in};
 ghost use Rattle.set_step.specs.Agreement.{Agrees, AreCounted, AreRoomy, AtLink, IsOpenTo, state_of, link_of, rising_refusal, waiting_refusal};
 ghost use Rattle.set_model.specs.Changeover.{leaving_order as order_of_leaving};
 ghost use Rattle.set_model.specs.State.{State};
-ghost use Rattle.set_model.specs.Step.{step, offer_refusal, offered as offered_with, fate_at, in_service, rises, falls};
+ghost use Rattle.set_model.specs.Step.{stepped, offer_refusal, offered as offered_with, fate_at, in_service, rises, falls};
 ghost use Rattle.set_model.specs.Sound.{IsAsked};
 ghost use Rattle.std.specs.Vec.{vec_len, vec_capacity};
 
@@ -36,7 +36,7 @@ const STREAM_LIMIT: usize = 1024;
 pub(crate) fn answered(parts: &mut Parts, event: &Event) -> Result<Answer, SetFault>
     requires agrees { Agrees parts.old }
     requires counted { AreCounted (2 ^ 60) parts.old.links.items }
-    ensures ok { IfOk result (λ answer. step (state_of parts.old) event.now ≡ record { answer = answer; state = state_of parts.new }) }
+    ensures ok { IfOk result (λ answer. stepped (state_of parts.old) event.now ≡ record { answer = answer; state = state_of parts.new }) }
     ensures err { OnErr result (state_of parts.new ≡ state_of parts.old) }
     ensures fault { IfErr result (λ fault. fault ≡ SetFault.NoMemory) }
     ensures agrees { Agrees parts.new }
@@ -57,7 +57,7 @@ pub(crate) fn answered(parts: &mut Parts, event: &Event) -> Result<Answer, SetFa
 /// A message is offered: refused, or the last row from now on.
 fn offered(parts: &mut Parts, body: &Body) -> Result<Answer, SetFault>
     requires agrees { Agrees parts.old }
-    ensures ok { IfOk result (λ answer. step (state_of parts.old) (Event.Offer body.now) ≡ record { answer = answer; state = state_of parts.new }) }
+    ensures ok { IfOk result (λ answer. stepped (state_of parts.old) (Event.Offer body.now) ≡ record { answer = answer; state = state_of parts.new }) }
     ensures err { OnErr result (state_of parts.new ≡ state_of parts.old) }
     ensures fault { IfErr result (λ fault. fault ≡ SetFault.NoMemory) }
     ensures agrees { Agrees parts.new }
@@ -151,7 +151,7 @@ fn refusal_of(rows: &Rows, body: &Body) -> Option<Refusal>
 /// The oldest message of the inbox is taken.
 fn taken(parts: &mut Parts) -> Answer
     requires agrees { Agrees parts.old }
-    ensures step { step (state_of parts.old) Event.Take ≡ record { answer = result; state = state_of parts.new } }
+    ensures step { stepped (state_of parts.old) Event.Take ≡ record { answer = result; state = state_of parts.new } }
     ensures agrees { Agrees parts.new }
 {
     match parts.inbox.pop_front() {
@@ -164,7 +164,7 @@ fn taken(parts: &mut Parts) -> Answer
 
 /// A message is looked for by its number.
 fn found(rows: &Rows, number: u64) -> Answer
-    ensures { (s : State) → s.rows ≡ rows.now.rows → step s (Event.Find number) ≡ record { answer = result; state = s } }
+    ensures { (s : State) → s.rows ≡ rows.now.rows → stepped s (Event.Find number) ≡ record { answer = result; state = s } }
 {
     match rows.place_of(number) {
         Some(fate) => Answer::Found { fate },
@@ -180,7 +180,7 @@ fn found(rows: &Rows, number: u64) -> Answer
 /// Room in its window is made first, so a fault leaves everything as it was.
 fn raised(parts: &mut Parts, number: u8) -> Result<Answer, SetFault>
     requires agrees { Agrees parts.old }
-    ensures ok { IfOk result (λ answer. step (state_of parts.old) (Up number) ≡ record { answer = answer; state = state_of parts.new }) }
+    ensures ok { IfOk result (λ answer. stepped (state_of parts.old) (Up number) ≡ record { answer = answer; state = state_of parts.new }) }
     ensures err { OnErr result (state_of parts.new ≡ state_of parts.old) }
     ensures fault { IfErr result (λ fault. fault ≡ SetFault.NoMemory) }
     ensures agrees { Agrees parts.new }
@@ -300,7 +300,7 @@ fn leaving_order(link: &Link, number: u8, blind: bool) -> Order
 fn given_up(parts: &mut Parts, number: u8) -> Result<Answer, SetFault>
     requires agrees { Agrees parts.old }
     requires counted { AreCounted (2 ^ 60) parts.old.links.items }
-    ensures ok { IfOk result (λ answer. step (state_of parts.old) (NoAnswer number) ≡ record { answer = answer; state = state_of parts.new }) }
+    ensures ok { IfOk result (λ answer. stepped (state_of parts.old) (NoAnswer number) ≡ record { answer = answer; state = state_of parts.new }) }
     ensures err { OnErr result (state_of parts.new ≡ state_of parts.old) }
     ensures fault { IfErr result (λ fault. fault ≡ SetFault.NoMemory) }
     ensures agrees { Agrees parts.new }

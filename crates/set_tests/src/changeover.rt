@@ -1,4 +1,5 @@
 //! Fifteen links that leave one after another, with places worked out by hand from Q.704 5.
+ghost use Rattle.std.specs.Prelude.{◌<◌};
 ghost use Rattle.l3_orders.specs.Grammar.{IsOrder};
 
 use l2_units::{Header, Unit};
@@ -43,11 +44,17 @@ fn adds_up(bench: &Bench) -> Result<(), Fail> {
     }
 }
 
+/// What the set answers to an event. All tests ask through here, so that the prover meets the contract once.
+fn asked(set: &mut SetCore, event: &Event) -> Result<Answer, Fail> {
+    match set.apply(Actor::Terminal(0), event) {
+        Ok(answer) => Ok(answer),
+        Err(_) => Err(Fail::from("no memory")),
+    }
+}
+
 /// What the set answers to an event. The places add up after it.
 fn told(bench: &mut Bench, event: &Event) -> Result<Answer, Fail> {
-    let Ok(answer) = bench.set.apply(Actor::Terminal(0), event) else {
-        return Err(Fail::from("no memory"));
-    };
+    let answer = asked(&mut bench.set, event)?;
     if let Answer::Accepted { .. } = answer {
         bench.accepted = bench.accepted.saturating_add(1);
     }
@@ -99,19 +106,27 @@ fn hears_of_the_first(bench: &mut Bench, link: u8) -> Result<(), Fail> {
 fn hears_order(bench: &mut Bench, order: &Order) -> Result<(), Fail>
     requires { IsOrder order.now }
 {
-    let head = Header {
-        bsn: 127,
-        bib: true,
-        fsn: bench.orders % 128,
-        fib: true,
-    };
+    let unit = unit_with(bench.orders % 128, order);
     bench.orders = bench.orders.saturating_add(1);
-    let body = write_order(order, 0x80, 2, 1);
-    let unit = Unit::Msu { head, body };
     match told(bench, &Event::Heard { link: 0, unit })? {
         Answer::Heard { report } if report.took == Took::Order => Ok(()),
         _ => Err(Fail::from("no order taken")),
     }
+}
+
+/// The unit of this FSN that brings the order.
+fn unit_with(fsn: u8, order: &Order) -> Unit
+    requires order { IsOrder order.now }
+    requires fsn { fsn < 128 }
+{
+    let head = Header {
+        bsn: 127,
+        bib: true,
+        fsn,
+        fib: true,
+    };
+    let body = write_order(order, 0x80, 2, 1);
+    Unit::Msu { head, body }
 }
 
 /// An acknowledgement of this link's changeover arrives.
@@ -145,17 +160,22 @@ fn leaves(alloc: Global, bench: &mut Bench, link: u8) -> Result<(), Fail> {
 
 /// The link settles: its unacknowledged message has FSN 1, and FSN 0 is the last acknowledged.
 fn settles(bench: &mut Bench, link: u8) -> Result<(), Fail> {
-    match link {
-        5 => is_acknowledged(bench, link, 1)?,
-        6 => is_acknowledged(bench, link, 2)?,
-        7 => hears_order(bench, &Order::Eca { link: 7 })?,
-        8 => done(bench, &Event::NoAnswer { link })?,
-        _ => is_acknowledged(bench, link, 0)?,
-    }
+    hears_how_far(bench, link)?;
     if bench.set.is_settled(link) {
         Ok(())
     } else {
         Err(Fail::from("not settled"))
+    }
+}
+
+/// The link hears how far the far end got, if it does.
+fn hears_how_far(bench: &mut Bench, link: u8) -> Result<(), Fail> {
+    match link {
+        5 => is_acknowledged(bench, link, 1),
+        6 => is_acknowledged(bench, link, 2),
+        7 => hears_order(bench, &Order::Eca { link: 7 }),
+        8 => done(bench, &Event::NoAnswer { link }),
+        _ => is_acknowledged(bench, link, 0),
     }
 }
 
@@ -187,26 +207,45 @@ fn sends_in_order(bench: &mut Bench) -> Result<(), Fail> {
 /// link 8 no answer comes.
 #[test]
 fn fifteen_links_leave_and_come_back(rt: HostRuntime) -> Result<(), Fail> {
-    let mut bench = bench_of_sixteen(rt.alloc())?;
-    for link in 0..16u8 {
-        done(&mut bench, &Event::Up { link })?;
-    }
-    for link in 1..16u8 {
-        runs(rt.alloc(), &mut bench, link)?;
-    }
+    leave_and_come_back(rt.alloc(), &mut bench_of_sixteen(rt.alloc())?)
+}
+
+fn leave_and_come_back(alloc: Global, bench: &mut Bench) -> Result<(), Fail> {
+    come_up(bench, 0)?;
+    all_run(alloc, bench)?;
     for gone in 0..15u8 {
-        leaves(rt.alloc(), &mut bench, 15 - gone)?;
-        settles(&mut bench, 15 - gone)?;
+        leaves(alloc, bench, 15 - gone)?;
+        settles(bench, 15 - gone)?;
     }
+    come_up(bench, 1)?;
+    adds_up_to(bench, 39, 16, 5)?;
+    places_of_five_links(bench)?;
+    sends_in_order(bench)
+}
+
+/// The links from this one on come up.
+fn come_up(bench: &mut Bench, first: u8) -> Result<(), Fail> {
+    for link in first..16u8 {
+        done(bench, &Event::Up { link })?;
+    }
+    Ok(())
+}
+
+fn all_run(alloc: Global, bench: &mut Bench) -> Result<(), Fail> {
     for link in 1..16u8 {
-        done(&mut bench, &Event::Up { link })?;
+        runs(alloc, bench, link)?;
     }
+    Ok(())
+}
+
+/// So many messages wait, are acknowledged, and were discarded.
+fn adds_up_to(bench: &Bench, waiting: u64, acked: u64, discarded: u64) -> Result<(), Fail> {
     let counts = bench.set.counts();
-    assert_eq!(rt; counts.waiting, 39);
-    assert_eq!(rt; counts.acked, 16);
-    assert_eq!(rt; counts.discarded, 5);
-    places_of_five_links(&bench)?;
-    sends_in_order(&mut bench)
+    if counts.waiting == waiting && counts.acked == acked && counts.discarded == discarded {
+        Ok(())
+    } else {
+        Err(Fail::from("other numbers of messages"))
+    }
 }
 
 /// What became of the messages of links 5 to 9: acknowledged, sent, waiting, and held before.

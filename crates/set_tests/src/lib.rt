@@ -12,6 +12,8 @@ mod lines;
 #[cfg(test)]
 mod orders;
 #[cfg(test)]
+mod queues;
+#[cfg(test)]
 mod routes;
 #[cfg(test)]
 mod sets;

@@ -34,12 +34,14 @@ fn the_lines_of_two_links(rt: HostRuntime) -> Result<(), Fail> {
     lines.join(1, fill_in(4))?;
     lines.join(1, fill_in(5))?;
     lines.join(1, fill_in(6))?;
-    assert!(rt; fsn_of(lines.taken_out(1, 1)) == Some(5));
-    assert!(rt; fsn_of(lines.taken_out(1, 2)) == None);
-    assert!(rt; fsn_of(lines.taken_out(1, 0)) == Some(4));
+    let second = fsn_of(lines.taken_out(1, 1));
+    let third = fsn_of(lines.taken_out(1, 2));
+    let first = fsn_of(lines.taken_out(1, 0));
+    assert!(rt; [second, third, first] == [Some(5), None, Some(4)]);
     lines.clear(1);
-    assert!(rt; lines.taken_out(1, 0).is_none());
-    assert!(rt; fsn_of(lines.taken_out(0, 0)) == Some(3));
-    assert!(rt; lines.taken_out(0, 0).is_none());
+    let cleared = lines.taken_out(1, 0);
+    let other = fsn_of(lines.taken_out(0, 0));
+    let last = lines.taken_out(0, 0);
+    assert!(rt; cleared.is_none() && other == Some(3) && last.is_none());
     Ok(())
 }

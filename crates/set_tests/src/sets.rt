@@ -2,7 +2,7 @@
 use l2_units::{Unit, read};
 use set_core::*;
 use set_events::{
-    Actor, Answer, Body, Entry, Event, Fate, Method, Refusal, Report, SetConfig, Took,
+    Actor, Answer, Body, Books, Entry, Event, Fate, Method, Refusal, Report, SetConfig, Took,
 };
 use std::alloc::Global;
 use std::test::Fail;
@@ -134,56 +134,98 @@ fn accepts(alloc: Global, set: &mut SetCore, number: u64) -> Result<(), Fail> {
     )
 }
 
+/// So it is.
+fn holds(fact: bool) -> Result<(), Fail> {
+    if fact {
+        Ok(())
+    } else {
+        Err(Fail::from("it isn't so"))
+    }
+}
+
+/// Message 0 stands there.
+fn stands(set: &SetCore, there: Fate) -> Result<(), Fail> {
+    holds(set.place_of(0) == Some(there))
+}
+
+/// The message of this place of the unacknowledged ones is this one, if there is any.
+fn is_unacked(set: &SetCore, place: u8, wanted: Option<Numbered>) -> Result<(), Fail> {
+    holds(set.unacked_at(0, place) == wanted)
+}
+
+/// The acknowledged messages, the entries and the links are as many.
+fn has(set: &SetCore, acked: u64, entries: usize, links: u8) -> Result<(), Fail> {
+    holds(set.counts().acked == acked)?;
+    holds(set.history().len() == entries)?;
+    holds(set.links() == links)
+}
+
+/// Message 0 is accepted and sent.
+fn message_0_goes(alloc: Global, set: &mut SetCore) -> Result<(), Fail> {
+    accepts(alloc, set, 0)?;
+    stands(set, Fate::Waiting { link: 0 })?;
+    sends(set, &[0xFF, 0x80, 5, 0x85, 1, 0x80, 0, 0x30])?;
+    stands(set, Fate::Unacked { link: 0 })?;
+    is_unacked(set, 0, Some(Numbered { number: 0, fsn: 0 }))
+}
+
+/// An acknowledgement of message 0 arrives.
+fn message_0_is_acknowledged(set: &mut SetCore) -> Result<(), Fail> {
+    hears(
+        set,
+        &[0x80, 0xFF, 0],
+        report(1, Took::Nothing, false, false),
+    )
+}
+
 /// One message is offered, sent and acknowledged.
 #[test]
 fn a_message_is_sent_and_acknowledged(rt: HostRuntime) -> Result<(), Fail> {
-    let mut set = set_by(rt.alloc(), Method::Basic)?;
-    comes_up(&mut set)?;
-    accepts(rt.alloc(), &mut set, 0)?;
-    assert!(rt; set.place_of(0) == Some(Fate::Waiting { link: 0 }));
-    sends(&mut set, &[0xFF, 0x80, 5, 0x85, 1, 0x80, 0, 0x30])?;
-    assert!(rt; set.place_of(0) == Some(Fate::Unacked { link: 0 }));
-    assert!(rt; set.unacked_at(0, 0) == Some(Numbered { number: 0, fsn: 0 }));
-    sends(&mut set, &[0xFF, 0x80, 0])?;
-    hears(
-        &mut set,
-        &[0x80, 0xFF, 0],
-        report(1, Took::Nothing, false, false),
+    carries_one_message(rt.alloc(), &mut set_in_service(rt.alloc(), Method::Basic)?)
+}
+
+fn carries_one_message(alloc: Global, set: &mut SetCore) -> Result<(), Fail> {
+    message_0_goes(alloc, set)?;
+    sends(set, &[0xFF, 0x80, 0])?;
+    message_0_is_acknowledged(set)?;
+    stands(set, Fate::Acked { link: 0 })?;
+    is_unacked(set, 0, None)?;
+    has(set, 1, 5, 1)
+}
+
+/// A message is offered, one that is too short, and both units are sent; the first is acknowledged.
+fn five_calls(alloc: Global, set: &mut SetCore) -> Result<(), Fail> {
+    accepts(alloc, set, 0)?;
+    refuses(
+        set,
+        &offered(alloc, &[0x85, 1, 0x80, 0])?,
+        Refusal::TooShort,
     )?;
-    assert!(rt; set.place_of(0) == Some(Fate::Acked { link: 0 }));
-    assert!(rt; set.unacked_at(0, 0).is_none());
-    assert!(rt; set.counts().acked == 1);
-    assert_eq!(rt; set.history().len(), 5);
-    assert_eq!(rt; set.links(), 1);
-    Ok(())
+    emitted(set)?;
+    emitted(set)?;
+    message_0_is_acknowledged(set)
 }
 
 /// The books of that history, and the laws of the set.
 #[test]
 fn the_books_of_one_message(rt: HostRuntime) -> Result<(), Fail> {
-    let mut set = set_by(rt.alloc(), Method::Basic)?;
-    comes_up(&mut set)?;
-    accepts(rt.alloc(), &mut set, 0)?;
-    let too_short = offered(rt.alloc(), &[0x85, 1, 0x80, 0])?;
-    refuses(&mut set, &too_short, Refusal::TooShort)?;
-    emitted(&mut set)?;
-    emitted(&mut set)?;
-    hears(
-        &mut set,
-        &[0x80, 0xFF, 0],
-        report(1, Took::Nothing, false, false),
-    )?;
-    let books = set.books();
-    assert_eq!(rt; books.messages, 1);
-    assert_eq!(rt; books.octets, 5);
-    assert_eq!(rt; books.acknowledged, 1);
-    assert_eq!(rt; books.user_calls[0], 2);
-    assert_eq!(rt; books.user_calls[63], 0);
-    assert_eq!(rt; books.term_calls[0], 4);
-    assert_eq!(rt; set.config().opc, 2);
+    has_books_of_one_message(rt.alloc(), &mut set_in_service(rt.alloc(), Method::Basic)?)
+}
+
+fn has_books_of_one_message(alloc: Global, set: &mut SetCore) -> Result<(), Fail> {
+    five_calls(alloc, set)?;
+    are_of_one_message(&set.books())?;
+    holds(set.config().opc == 2)?;
     set.is_sound();
     set.replays();
     Ok(())
+}
+
+/// The books of one message, of one call that was refused, and of four of the terminal.
+fn are_of_one_message(books: &Books) -> Result<(), Fail> {
+    holds(books.messages == 1 && books.octets == 5 && books.acknowledged == 1)?;
+    holds(books.user_calls[0] == 2 && books.user_calls[63] == 0)?;
+    holds(books.term_calls[0] == 4)
 }
 
 /// Whether a set by this method could have these entries as its history.
@@ -208,30 +250,43 @@ fn with_another_number(alloc: Global, entries: &[Entry]) -> Result<Vec<Entry>, F
     Ok(copies)
 }
 
+/// Four messages are sent, and three acknowledged.
+fn four_messages_go(alloc: Global, set: &mut SetCore) -> Result<(), Fail> {
+    for number in 0..4u64 {
+        accepts(alloc, set, number)?;
+        emitted(set)?;
+    }
+    hears(
+        set,
+        &[0x82, 0xFF, 0],
+        report(3, Took::Nothing, false, false),
+    )
+}
+
+/// The first three messages are acknowledged.
+fn three_are_found(set: &mut SetCore) -> Result<(), Fail> {
+    let found = Answer::Found {
+        fate: Fate::Acked { link: 0 },
+    };
+    for number in 0..3u64 {
+        answers(set, &Event::Find { number }, &found)?;
+    }
+    Ok(())
+}
+
 /// A history of thirteen entries is legal; with one number changed it isn't.
 #[test]
 fn a_history_is_audited(rt: HostRuntime) -> Result<(), Fail> {
-    let mut set = set_in_service(rt.alloc(), Method::Basic)?;
-    for number in 0..4u64 {
-        accepts(rt.alloc(), &mut set, number)?;
-        emitted(&mut set)?;
-    }
-    hears(
-        &mut set,
-        &[0x82, 0xFF, 0],
-        report(3, Took::Nothing, false, false),
-    )?;
-    for number in 0..3u64 {
-        let found = Answer::Found {
-            fate: Fate::Acked { link: 0 },
-        };
-        answers(&mut set, &Event::Find { number }, &found)?;
-    }
-    assert_eq!(rt; set.history().len(), 13);
-    assert!(rt; is_legal(rt.alloc(), set.history())?);
-    let changed = with_another_number(rt.alloc(), set.history())?;
-    assert!(rt; !is_legal(rt.alloc(), &changed)?);
-    Ok(())
+    is_audited(rt.alloc(), &mut set_in_service(rt.alloc(), Method::Basic)?)
+}
+
+fn is_audited(alloc: Global, set: &mut SetCore) -> Result<(), Fail> {
+    four_messages_go(alloc, set)?;
+    three_are_found(set)?;
+    holds(set.history().len() == 13)?;
+    holds(is_legal(alloc, set.history())?)?;
+    let changed = with_another_number(alloc, set.history())?;
+    holds(!is_legal(alloc, &changed)?)
 }
 
 /// A history of one entry: this actor looked for message 0 and was told so.
@@ -264,13 +319,15 @@ fn a_new_set_knows_no_number(rt: HostRuntime) -> Result<(), Fail> {
 /// The refusals that a script can't show: a link that the set hasn't, and one that is up already.
 #[test]
 fn refusals_in_their_order(rt: HostRuntime) -> Result<(), Fail> {
-    let mut set = set_by(rt.alloc(), Method::Basic)?;
-    refuses(&mut set, &Event::Next { link: 1 }, Refusal::NoSuchLink)?;
-    comes_up(&mut set)?;
-    refuses(&mut set, &Event::Up { link: 0 }, Refusal::NotDown)?;
-    refuses(&mut set, &Event::Find { number: 9 }, Refusal::UnknownNumber)?;
-    assert!(rt; set.place_of(9).is_none());
-    Ok(())
+    refuses_in_order(&mut set_by(rt.alloc(), Method::Basic)?)
+}
+
+fn refuses_in_order(set: &mut SetCore) -> Result<(), Fail> {
+    refuses(set, &Event::Next { link: 1 }, Refusal::NoSuchLink)?;
+    comes_up(set)?;
+    refuses(set, &Event::Up { link: 0 }, Refusal::NotDown)?;
+    refuses(set, &Event::Find { number: 9 }, Refusal::UnknownNumber)?;
+    holds(set.place_of(9).is_none())
 }
 
 /// Each allocation fails once: the call answers `NoMemory`, and the set is as it was.
@@ -279,26 +336,30 @@ fn refusals_in_their_order(rt: HostRuntime) -> Result<(), Fail> {
 #[test]
 fn a_refused_growth_changes_nothing(rt: HostRuntime) -> Result<(), Fail> {
     let mut set = set_by(rt.alloc(), Method::Basic)?;
-    let Ok(body) = Body::from_slice(rt.alloc(), &[0x85, 1, 0x80, 0, 0x30]) else {
+    let Ok(body) = Body::from_slice(rt.alloc(), &MESSAGE) else {
         return Ok(());
     };
     let message = Event::Offer { body };
     for _ in 0..6u8 {
-        let entries = set.history().len();
-        let counts = set.counts();
-        match set.apply(USER, &message) {
-            Ok(_) => {
-                assert_eq!(rt; set.history().len(), entries + 1);
-                assert!(rt; set.counts().parked == counts.parked.saturating_add(1));
-            }
-            Err(fault) => {
-                assert!(rt; fault == SetFault::NoMemory);
-                assert_eq!(rt; set.history().len(), entries);
-                assert!(rt; set.counts() == counts);
-            }
-        }
+        is_parked_or_refused(&mut set, &message)?;
     }
     Ok(())
+}
+
+/// The message is parked; or memory is wanted, and the set is as it was.
+fn is_parked_or_refused(set: &mut SetCore, message: &Event) -> Result<(), Fail> {
+    let entries = set.history().len();
+    let counts = set.counts();
+    match set.apply(USER, message) {
+        Ok(_) => {
+            holds(set.history().len() == entries + 1)?;
+            holds(set.counts().parked == counts.parked.saturating_add(1))
+        }
+        Err(fault) => {
+            holds(fault == SetFault::NoMemory)?;
+            holds(set.history().len() == entries && set.counts() == counts)
+        }
+    }
 }
 
 /// The same for an audit, which needs memory as the set did: it tells so, or what is true.
@@ -393,19 +454,23 @@ fn is_done(set: &mut SetCore, so_far: Traffic) -> Result<(), Fail> {
 fn lossy_run(rt: &HostRuntime, method: Method) -> Result<(), Fail> {
     let mut a = set_in_service(rt.alloc(), method)?;
     let mut b = set_in_service(rt.alloc(), method)?;
+    carry_all(rt.alloc(), &mut a, &mut b)
+}
+
+fn carry_all(alloc: Global, a: &mut SetCore, b: &mut SetCore) -> Result<(), Fail> {
     let mut at_a = Traffic {
         accepted: 0,
         taken: 0,
     };
     let mut at_b = at_a;
     for round in 0..16_000u32 {
-        at_a = user_turn(rt.alloc(), &mut a, at_a)?;
-        at_b = user_turn(rt.alloc(), &mut b, at_b)?;
-        carried(&mut a, &mut b, round % 7 == 3)?;
-        carried(&mut b, &mut a, round % 7 == 6)?;
+        at_a = user_turn(alloc, a, at_a)?;
+        at_b = user_turn(alloc, b, at_b)?;
+        carried(a, b, round % 7 == 3)?;
+        carried(b, a, round % 7 == 6)?;
     }
-    is_done(&mut a, at_a)?;
-    is_done(&mut b, at_b)
+    is_done(a, at_a)?;
+    is_done(b, at_b)
 }
 
 #[test]

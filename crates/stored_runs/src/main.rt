@@ -1,9 +1,10 @@
 //! Stored runs: each script and each line of units beside which its output stands is run anew, and held against it.
 //!
-//! It reads the file `list` of the folder that it runs in: a name a line, of a script (`.play`) or a line of units
-//! (`.units`). Beside `NAME.play` stands `NAME.stdout`, what the run prints, and where it ends with a fault `NAME.fault`,
-//! the line that tells it. A line is printed for each name. Whether a run is as it should be is all that this program
-//! tells; it proves nothing.
+//! It reads the file `list` of the folder that it runs in: a name a line, of a script (`.play`), a line of units
+//! (`.units`), or a table of scripts that all give the same: of each line of `NAME.first` a script is made, and of each
+//! line of `NAME.second` one with the opening before it. Beside `NAME.play` stands `NAME.stdout`, what the run prints, and
+//! where it ends with a fault `NAME.fault`, the line that tells it. A line is printed for each name. Whether a run is as it
+//! should be is all that this program tells; it proves nothing.
 #![tactic(auto)]
 
 use play_text::play;
@@ -12,6 +13,16 @@ use std::alloc::Global;
 use std::process::ExitCode;
 use std::{fs, io};
 use units_text::units;
+
+/// The first line of the scripts of a table.
+const OPENING: &str = "set links=1 method=basic a=2 b=1 sio=80\n";
+
+/// What a run prints, and the line that tells how it ends.
+#[derive(Drop, PartialEq)]
+struct Ran {
+    printed: Vec<u8>,
+    told: String,
+}
 
 fn main(rt: HostRuntime) -> io::Result<ExitCode> {
     let list = fs::read_to_string(&rt, "list")?;
@@ -29,16 +40,37 @@ fn main(rt: HostRuntime) -> io::Result<ExitCode> {
     })
 }
 
-/// Whether the run of this name gives what is stored beside it.
+/// Whether each run of this name gives what is stored beside it.
 fn is_as_stored(rt: &HostRuntime, name: &str) -> io::Result<bool> {
-    let input = fs::read(rt, name)?;
-    let (printed, ended) = run_of(rt.alloc(), name, &input);
-    let stored = fs::read(rt, beside(rt.alloc(), name, "stdout")?.as_str())?;
-    let fault = match fs::read_to_string(rt, beside(rt.alloc(), name, "fault")?.as_str()) {
+    let stored = stored_beside(rt, name)?;
+    if name.ends_with(".first") {
+        all_give(rt, name, "", &stored)
+    } else if name.ends_with(".second") {
+        all_give(rt, name, OPENING, &stored)
+    } else {
+        Ok(run_of(rt.alloc(), name, &fs::read(rt, name)?)? == stored)
+    }
+}
+
+/// Whether each line of this table gives that, behind the opening.
+fn all_give(rt: &HostRuntime, name: &str, opening: &str, stored: &Ran) -> io::Result<bool> {
+    let table = fs::read_to_string(rt, name)?;
+    let mut all = !table.is_empty();
+    for line in table.split_terminator('\n') {
+        let script = format!(in rt.alloc(); "{opening}{line}\n")?;
+        all = all && run_of(rt.alloc(), name, script.as_bytes())? == *stored;
+    }
+    Ok(all)
+}
+
+/// What is stored beside this name.
+fn stored_beside(rt: &HostRuntime, name: &str) -> io::Result<Ran> {
+    let printed = fs::read(rt, beside(rt.alloc(), name, "stdout")?.as_str())?;
+    let told = match fs::read_to_string(rt, beside(rt.alloc(), name, "fault")?.as_str()) {
         Ok(text) => text,
         Err(_) => String::new(rt.alloc()),
     };
-    Ok(printed == stored && told_of(rt.alloc(), ended)? == fault)
+    Ok(Ran { printed, told })
 }
 
 /// The file of this kind beside a script or a line.
@@ -50,8 +82,8 @@ fn beside(alloc: Global, name: &str, kind: &str) -> io::Result<String> {
     Ok(format!(in alloc; "{stem}.{kind}")?)
 }
 
-/// What the run prints, and how it ends.
-fn run_of(alloc: Global, name: &str, input: &[u8]) -> (Vec<u8>, Result<(), Fault>) {
+/// What the run of this input gives.
+fn run_of(alloc: Global, name: &str, input: &[u8]) -> io::Result<Ran> {
     let mut source = Reader::new(input);
     let mut sink = Writer::new(Vec::new(alloc));
     let ended = if name.ends_with(".units") {
@@ -59,7 +91,10 @@ fn run_of(alloc: Global, name: &str, input: &[u8]) -> (Vec<u8>, Result<(), Fault
     } else {
         play(alloc, &mut source, &mut sink)
     };
-    (sink.into_inner(), ended)
+    Ok(Ran {
+        printed: sink.into_inner(),
+        told: told_of(alloc, ended)?,
+    })
 }
 
 /// The line that tells how a run ended, if it tells anything.

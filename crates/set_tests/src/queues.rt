@@ -1,9 +1,11 @@
-//! Situations of a set, and many messages, each found again.
+//! Where the messages of a set stand, and many messages, each found again.
+//!
+//! Each call of the queues is asked through one function here, so that the prover meets its contract once.
 ghost use Rattle.std.specs.Prelude.{◌≡◌, true};
 ghost use Rattle.set_queues.specs.Buffers.{IsKnown, IsQueued};
 
-use super::*;
-use set_events::{DiscardCause, Fate};
+use set_events::{Counts, DiscardCause, Fate};
+use set_queues::*;
 use std::alloc::AllocError;
 use std::test::Fail;
 
@@ -83,6 +85,16 @@ fn unpark(queues: &mut Queues, link: u8) -> Result<(), AllocError> {
     Ok(())
 }
 
+/// Where the message of this number stands.
+fn fate_of(queues: &Queues, number: u64) -> Option<Fate> {
+    queues.fate_of(number)
+}
+
+/// How many messages stand in each kind of place.
+fn counts_of(queues: &Queues) -> Counts {
+    queues.counts()
+}
+
 /// So many messages that wait for link 0, of two links.
 fn waiting(rt: &HostRuntime, messages: u64) -> Result<Queues, AllocError> {
     let mut queues = Queues::new(rt.alloc(), 2)?;
@@ -92,29 +104,77 @@ fn waiting(rt: &HostRuntime, messages: u64) -> Result<Queues, AllocError> {
     Ok(queues)
 }
 
+/// So it is.
+fn holds(fact: bool) -> Result<(), Fail> {
+    if fact {
+        Ok(())
+    } else {
+        Err(Fail::from("it isn't so"))
+    }
+}
+
+/// So many messages of stream 3 aren't sent.
+fn has_unsent(queues: &Queues, messages: u64) -> Result<(), Fail> {
+    holds(queues.unsent(3) == messages)
+}
+
+/// So many messages stand there.
+fn has_at(queues: &Queues, fate: Fate, messages: usize) -> Result<(), Fail> {
+    holds(is_known(queues, fate) && queues.count_at(fate) == messages)
+}
+
+/// The message of this number is sent next on the link, with this FSN.
+fn sends(queues: &mut Queues, link: u8, number: u64, fsn: u8) -> Result<(), Fail> {
+    holds(send(queues, link) == Some((number, fsn)))
+}
+
+/// The message of this number stands there, if there is one.
+fn stands(queues: &Queues, number: u64, there: Option<Fate>) -> Result<(), Fail> {
+    holds(fate_of(queues, number) == there)
+}
+
+/// A message is put there, and gets this number.
+fn is_put(queues: &mut Queues, fate: Fate, number: u64) -> Result<(), Fail> {
+    holds(put(queues, fate)? == number)
+}
+
+/// These numbers wait for link 1, in this order.
+fn wait_for_1(queues: &Queues, numbers: &[u64]) -> Result<(), Fail> {
+    for place in 0..numbers.len() {
+        holds(stand(queues, TO_LINK_1, place) == Some(numbers[place]))?;
+    }
+    Ok(())
+}
+
 #[test]
 fn a_link_settles_and_its_messages_go_on_in_order(rt: HostRuntime) -> Result<(), Fail> {
     let mut queues = waiting(&rt, 4)?;
-    assert_eq!(rt; send(&mut queues, 0), Some((0, 0)));
-    assert_eq!(rt; send(&mut queues, 0), Some((1, 1)));
-    assert_eq!(rt; send(&mut queues, 0), Some((2, 2)));
-    assert_eq!(rt; acknowledge(&mut queues, 0, 0), Some(1));
-    assert_eq!(rt; acknowledge(&mut queues, 0, 9), None);
-    assert_eq!(rt; put(&mut queues, Fate::Held { link: 0 })?, 4);
-    assert_eq!(rt; put(&mut queues, TO_LINK_1)?, 5);
-    settle(&mut queues, 0, Some(1))?;
-    assert_eq!(rt; stand(&queues, TO_LINK_1, 0), Some(5));
-    for place in 1..5u64 {
-        assert_eq!(rt; stand(&queues, TO_LINK_1, place as usize), Some(place));
-    }
-    assert_eq!(rt; stand(&queues, Fate::Held { link: 0 }, 0), None);
-    assert_eq!(rt; queues.fate_of(0), Some(Fate::Acked { link: 0 }));
-    assert_eq!(rt; queues.fate_of(4), Some(TO_LINK_1));
-    assert_eq!(rt; queues.fate_of(6), None);
-    assert_eq!(rt; queues.unsent(3), 5);
-    let counts = queues.counts();
-    assert!(rt; counts.acked == 1 && counts.waiting == 5 && counts.unacked == 0);
-    Ok(())
+    three_of_four_go(&mut queues)?;
+    link_0_settles(&mut queues)
+}
+
+/// Three messages are sent, and the first is acknowledged; one is held for the link, and one waits for the other.
+fn three_of_four_go(queues: &mut Queues) -> Result<(), Fail> {
+    sends(queues, 0, 0, 0)?;
+    sends(queues, 0, 1, 1)?;
+    sends(queues, 0, 2, 2)?;
+    holds(acknowledge(queues, 0, 0) == Some(1))?;
+    holds(acknowledge(queues, 0, 9).is_none())?;
+    is_put(queues, Fate::Held { link: 0 }, 4)?;
+    is_put(queues, TO_LINK_1, 5)
+}
+
+/// What stands on link 0 goes on, behind what waits for link 1.
+fn link_0_settles(queues: &mut Queues) -> Result<(), Fail> {
+    settle(queues, 0, Some(1))?;
+    wait_for_1(queues, &[5, 1, 2, 3, 4])?;
+    has_at(queues, Fate::Held { link: 0 }, 0)?;
+    stands(queues, 0, Some(Fate::Acked { link: 0 }))?;
+    stands(queues, 4, Some(TO_LINK_1))?;
+    stands(queues, 6, None)?;
+    has_unsent(queues, 5)?;
+    let counts = counts_of(queues);
+    holds(counts.acked == 1 && counts.waiting == 5 && counts.unacked == 0)
 }
 
 /// Where there is a link, the number at this place of the queue.
@@ -144,22 +204,28 @@ fn settle(queues: &mut Queues, link: u8, target: Option<u8>) -> Result<(), Alloc
 #[test]
 fn what_was_sent_is_given_up_and_the_rest_is_parked(rt: HostRuntime) -> Result<(), Fail> {
     let mut queues = waiting(&rt, 3)?;
-    send(&mut queues, 0);
-    assert_eq!(rt; weight(&queues, 0), Some(20));
-    give_up(&mut queues, 0);
-    assert_eq!(rt; weight(&queues, 0), Some(0));
-    settle(&mut queues, 0, None)?;
-    assert_eq!(rt; queues.count_at(Fate::Parked), 2);
-    unpark(&mut queues, 1)?;
-    assert_eq!(rt; stand(&queues, TO_LINK_1, 0), Some(1));
-    assert_eq!(rt; stand(&queues, TO_LINK_1, 1), Some(2));
-    assert!(rt; start_anew(&mut queues, 0));
-    assert_eq!(rt; put(&mut queues, TO_LINK_0)?, 3);
-    assert_eq!(rt; send(&mut queues, 0), Some((3, 0)));
-    assert_eq!(rt; send(&mut queues, 1), Some((1, 0)));
-    let counts = queues.counts();
-    assert!(rt; counts.discarded == 1 && counts.waiting == 1 && counts.unacked == 2);
-    Ok(())
+    is_given_up_and_parked(&mut queues)?;
+    lives_anew(&mut queues)
+}
+
+fn is_given_up_and_parked(queues: &mut Queues) -> Result<(), Fail> {
+    send(queues, 0);
+    holds(weight(queues, 0) == Some(20))?;
+    give_up(queues, 0);
+    holds(weight(queues, 0) == Some(0))?;
+    settle(queues, 0, None)?;
+    has_at(queues, Fate::Parked, 2)?;
+    unpark(queues, 1)?;
+    wait_for_1(queues, &[1, 2])
+}
+
+fn lives_anew(queues: &mut Queues) -> Result<(), Fail> {
+    holds(start_anew(queues, 0))?;
+    is_put(queues, TO_LINK_0, 3)?;
+    sends(queues, 0, 3, 0)?;
+    sends(queues, 1, 1, 0)?;
+    let counts = counts_of(queues);
+    holds(counts.discarded == 1 && counts.waiting == 1 && counts.unacked == 2)
 }
 
 /// The octets of the unacknowledged bodies of the link, if the set has it.
@@ -187,6 +253,14 @@ fn start_anew(queues: &mut Queues, link: u8) -> bool {
 #[test]
 fn an_order_is_nobodys_message(rt: HostRuntime) -> Result<(), Fail> {
     let mut queues = Queues::new(rt.alloc(), 16)?;
+    let order = park(&mut queues)?;
+    holds(queues.message(0) == Some(order))?;
+    holds(counts_of(&queues).parked == 0)?;
+    holds(queues.len() == 1)
+}
+
+/// An order is parked, as message 0.
+fn park(queues: &mut Queues) -> Result<Message, Fail> {
     let order = Message {
         fate: Fate::Parked,
         kind: Kind::Order,
@@ -194,31 +268,36 @@ fn an_order_is_nobodys_message(rt: HostRuntime) -> Result<(), Fail> {
     };
     queues.reserve(1)?;
     queues.reserve_at(Fate::Parked, 1)?;
-    assert_eq!(rt; queues.add(order), 0);
-    assert!(rt; queues.message(0) == Some(order));
-    assert_eq!(rt; queues.counts().parked, 0);
-    assert_eq!(rt; queues.len(), 1);
-    Ok(())
+    holds(queues.add(order) == 0)?;
+    Ok(order)
 }
 
 /// FSNs go round 15 times, and no message is lost among so many.
 #[test]
 fn each_of_100_000_messages_is_found_again(rt: HostRuntime) -> Result<(), Fail> {
     let mut queues = waiting(&rt, 100_000)?;
+    two_thousand_are_acknowledged(&mut queues)?;
+    settle(&mut queues, 0, Some(1))?;
+    all_are_found(&queues)
+}
+
+fn two_thousand_are_acknowledged(queues: &mut Queues) -> Result<(), Fail> {
     for number in 0..2_000u64 {
         let fsn = (number % 128) as u8;
-        assert_eq!(rt; send(&mut queues, 0), Some((number, fsn)));
-        assert_eq!(rt; acknowledge(&mut queues, 0, fsn), Some(1));
+        sends(queues, 0, number, fsn)?;
+        holds(acknowledge(queues, 0, fsn) == Some(1))?;
     }
-    settle(&mut queues, 0, Some(1))?;
+    Ok(())
+}
+
+fn all_are_found(queues: &Queues) -> Result<(), Fail> {
     for number in 0..100_000u64 {
         let fate = if number < 2_000 {
             Fate::Acked { link: 0 }
         } else {
             TO_LINK_1
         };
-        assert_eq!(rt; queues.fate_of(number), Some(fate));
+        stands(queues, number, Some(fate))?;
     }
-    assert_eq!(rt; queues.counts().waiting, 98_000);
-    Ok(())
+    holds(counts_of(queues).waiting == 98_000)
 }

@@ -1,0 +1,82 @@
+//! Words with what they ask for, and help.
+use command_line::{Words, WordsFault, not_unicode, words_of};
+use std::alloc::{AllocError, Global};
+use std::test::Fail;
+
+/// What these words ask for, in a word or in the text that is printed for them: help, the version, or what is wrong. All
+/// tests ask through here, so that the prover meets the contract once.
+fn told_of(alloc: Global, words: &[&str]) -> Result<String, AllocError> {
+    match words_of(alloc, words) {
+        Ok(Words::Play) => "play".to_string(alloc),
+        Ok(Words::Units) => "units".to_string(alloc),
+        Err(WordsFault::Words(error)) => error.to_string(alloc),
+        Err(WordsFault::NoMemory) => Ok(String::new(alloc)),
+    }
+}
+
+/// The words are refused.
+fn are_refused(alloc: Global, words: &[&str]) -> Result<(), Fail> {
+    if told_of(alloc, words)?.starts_with("error: ") {
+        Ok(())
+    } else {
+        Err(Fail::from("not refused"))
+    }
+}
+
+/// The words ask for this subcommand.
+fn ask_for(alloc: Global, words: &[&str], subcommand: &str) -> Result<(), Fail> {
+    if told_of(alloc, words)?.as_str() == subcommand {
+        Ok(())
+    } else {
+        Err(Fail::from("another subcommand, or none"))
+    }
+}
+
+#[test]
+fn words_of_the_command_line(rt: HostRuntime) -> Result<(), Fail> {
+    ask_for(rt.alloc(), &["play"], "play")?;
+    ask_for(rt.alloc(), &["units"], "units")?;
+    ask_for(rt.alloc(), &["play", "--"], "play")?;
+    let refused: [&[&str]; 4] = [&[], &["run"], &["play", "it"], &["--", "units"]];
+    for words in refused {
+        are_refused(rt.alloc(), words)?;
+    }
+    Ok(())
+}
+
+/// A word that isn't Unicode is a wrong word.
+#[test]
+fn a_word_that_is_not_unicode(rt: HostRuntime) {
+    assert!(rt; matches!(not_unicode(rt.alloc()), WordsFault::Words(_)));
+}
+
+/// A script can be written by its help: each line's words stand in it, and each line that is printed.
+#[test]
+fn the_help_shows_each_line(rt: HostRuntime) -> Result<(), Fail> {
+    let help = told_of(rt.alloc(), &["play", "--help"])?;
+    for line in [
+        "set links=L method=W a=X b=Y sio=HH\n",
+        "  together L ",
+        "  offer E HEX ",
+        "  take E ",
+        "  find E N ",
+        "  emit E L ",
+        "  arrive E L ",
+        "  lose E L P ",
+        "  hear E L HEX ",
+        "  down E L ",
+        "  blind E L ",
+        "  noanswer E L ",
+        "  accepted N ",
+        "  sent HEX ",
+        "  heard acked=K took=T asked=0|1 resend=0|1 fault=F ",
+        "  refused C ",
+        "  fault line N text ",
+        "  fault line N step ",
+    ] {
+        assert!(rt; help.contains(line), "{line}");
+    }
+    let version = told_of(rt.alloc(), &["--version"])?;
+    assert_eq!(rt; version.as_str(), "mtpbank 0.1.0\n");
+    Ok(())
+}
