@@ -313,20 +313,15 @@ fn wait(last: u8, counting: &mut bool, room: &mut u16) -> Option<MarkKind>
     ensures mark { (past since : List Bool) (bit : Bool) (octets : List ℕ) → GoesOn past since bit
         → KeepsCount past since counting.old room.old → IsMark past bit (mark_of result octets) }
 {
+    if *room > 1 && last >> 1 != SEVEN_ONES {
+        *room -= 1;
+        return None;
+    }
     if *counting {
         return count(room);
     }
-    if last >> 1 == SEVEN_ONES {
-        *counting = true;
-        *room = SIXTEEN_OCTETS;
-        return None;
-    }
-    if *room <= 1 {
-        *counting = true;
-        *room = SIXTEEN_OCTETS;
-        return None;
-    }
-    *room -= 1;
+    *counting = true;
+    *room = SIXTEEN_OCTETS;
     None
 }
 
