@@ -248,18 +248,26 @@ no_seven : (past since : List Bool) (bit : Bool) → Since past since → run_of
 no_seven past since bit is few seven =
     omega (arith, few, seven_after_six is.before since bit is.ended (rw is.split at seven))
 
+-- a bit with which nothing ends and nothing begins
+pub calm_mark : (past since : List Bool) (bit counting : Bool) (next : ℕ) → GoesOn past since bit
+    → KeepsCount past since counting (next + 1) → 0 < next → IsMark past bit None
+calm_mark past since bit false next goes keeps more = waits_mark past since bit goes (next + 1) keeps
+calm_mark past since bit true next goes keeps more =
+    one_less_mark past keeps.0 bit (next + 1) keeps.1 keeps.2 keeps.3 keeps.4 (no_unit past since bit goes) (omega arith)
+
+pub calm_on : (past since : List Bool) (bit counting : Bool) (next : ℕ) → GoesOn past since bit
+    → (EndsIn (flag ++ (past ++ bit ∷ [])) (ones 7) → ⊥) → KeepsCount past since counting (next + 1) → 0 < next
+    → KeepsCount (past ++ bit ∷ []) (since ++ bit ∷ []) counting next
+calm_on past since bit false next goes calm keeps more = waits_on past since bit goes (next + 1) keeps calm next refl more
+calm_on past since bit true next goes calm keeps more =
+    one_less past keeps.0 bit (next + 1) keeps.1 keeps.2 keeps.3 keeps.4 (no_unit past since bit goes) (since ++ bit ∷ []) next refl more
+
 plain_one : (past since : List Bool) (bit counting : Bool) (next : ℕ) → Since past since → run_of 0 since < 5
     → KeepsCount past since counting (next + 1) → 0 < next
     → KeepsCount (past ++ bit ∷ []) (since ++ bit ∷ []) counting next × IsMark past bit None
-plain_one past since bit false next is few keeps more =
+plain_one past since bit counting next is few keeps more =
     let goes = calm_goes past since bit is (omega arith) in
-    (waits_on past since bit goes (next + 1) keeps (no_seven past since bit is (omega arith)) next refl more, waits_mark past since bit goes (next + 1) keeps)
-plain_one past since bit true next is few keeps more =
-    let goes = calm_goes past since bit is (omega arith) in
-    let none = no_unit past since bit goes in (
-      one_less past keeps.0 bit (next + 1) keeps.1 keeps.2 keeps.3 keeps.4 none (since ++ bit ∷ []) next refl more,
-      one_less_mark past keeps.0 bit (next + 1) keeps.1 keeps.2 keeps.3 keeps.4 none (omega arith),
-    )
+    (calm_on past since bit counting next goes (no_seven past since bit is (omega arith)) keeps more, calm_mark past since bit counting next goes keeps more)
 
 -- they give no mark
 pub record PlainOn (past since bits : List Bool) (counting : Bool) (room : ℕ) : Type 0 where

@@ -14,3 +14,4 @@ pub mod CountingLemmas
 pub mod MarkLemmas
 pub mod DeframingLemmas
 pub mod WindowLemmas
+pub mod FeedingLemmas

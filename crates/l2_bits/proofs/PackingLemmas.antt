@@ -19,7 +19,7 @@ use Rattle.l2_bits.proofs.SealedTextLemmas.{sealed_front, check_in_range}
 use Rattle.l2_bits.proofs.ContentLemmas.{good_length}
 
 -- a number's bits and then another's, in one number
-joined_bits : (more count part bits : ℕ) → part < 2 ^ more
+pub joined_bits : (more count part bits : ℕ) → part < 2 ^ more
     → bits_of (more + count) (bits * 2 ^ more + part) ≡ bits_of more part ++ bits_of count bits
 joined_bits more count part bits fits =
     let low : (bits * 2 ^ more + part) % 2 ^ more ≡ part = mod-mul-add bits (2 ^ more) part fits in

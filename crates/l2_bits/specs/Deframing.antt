@@ -11,7 +11,7 @@ use Rattle.l2_bits.specs.LineBits.{bits_of, line_bits}
 use Rattle.l2_bits.specs.Flags.{flag, EndsIn, IsFlagEnd, Since}
 use Rattle.std.specs.Option.{option_to_list}
 use Rattle.l2_bits.specs.Marks.{AreMarks}
-use Rattle.l2_bits.specs.Stuffing.{content_after, is_text}
+use Rattle.l2_bits.specs.Stuffing.{ones, content_after, is_text}
 use Rattle.l2_bits.specs.Contents.{IsGood}
 use Rattle.l2_bits.specs.OctetCounting.{Counts, IsAligned}
 
@@ -82,6 +82,16 @@ unit_of deframer = take deframer.unit deframer.content.octets
 -- the bits of an octet that are still to be fed
 abbrev pub rest_of : Rest → List Bool
 rest_of rest = bits_of rest.left rest.bits
+
+-- none of these bits comes after five ones, where those are the last eight before them
+abbrev pub NoneAfterFive : ℕ → List Bool → Type 0
+NoneAfterFive last bits =
+    (front : List Bool) (i : ℕ) → i < length bits → EndsIn (front ++ (bits_of 8 last ++ take i bits)) (ones 5) → ⊥
+
+-- these bits were fed, and gave no mark
+pub record Runs (past bits : List Bool) (deframer : Deframer) : Type 0 where
+  pub stands : StandsFor (past ++ bits) deframer
+  pub marks : AreMarks past bits []
 
 -- the first of these bits were taken, with the last of which this mark ends, if any, and none before
 pub record FeedsUpTo (past bits rest : List Bool) (deframer : Deframer) (mark : Option Mark) : Type 0 where

@@ -9,6 +9,7 @@
 
 ghost use Rattle.std.specs.Prelude.{
   ◌≡◌,
+  ◌≢◌,
   ℕ,
   ◌+◌,
   ◌/◌,
@@ -26,6 +27,7 @@ ghost use Rattle.std.specs.Prelude.{
   [],
   ◌∷◌,
   ◌++◌,
+  length,
   take,
 };
 ghost use Rattle.l2_bits.specs.LineBits.{bits_of};
@@ -35,6 +37,8 @@ ghost use Rattle.l2_bits.specs.Stuffing.{ones};
 ghost use Rattle.l2_bits.specs.Marks.{IsMark, AreMarks};
 ghost use Rattle.l2_bits.specs.Deframing.{
   HasContent,
+  NoneAfterFive,
+  Runs,
   KeepsCount,
   KeepsLine,
   StandsFor,
@@ -47,7 +51,7 @@ ghost use Rattle.l2_bits.specs.Deframing.{
 
 use crate::content::Content;
 use crate::marks::{Mark, MarkKind};
-use crate::shift::shifted_in;
+use crate::shift::{all_shifted_in, shifted_in};
 use arrayvec::ArrayVec;
 
 /// A flag, as the last eight bits.
@@ -182,10 +186,40 @@ impl Deframer {
         if self.room <= 8 || fives(self.last, octet) != 0 {
             return false;
         }
-        self.content.add(octet, 8);
-        self.last = octet;
-        self.room -= 8;
+        self.run(octet, 8);
         true
+    }
+
+    /// Takes up to eight bits, the lowest first, where none of them gives a mark and none of them comes
+    /// after five ones.
+    #[inline(always)]
+    fn run(&mut self, bits: u8, count: u8)
+        requires few { count ≤ 8 }
+        requires fits { bits < 2 ^ count }
+        requires room { count < self.old.room }
+        ensures { (past : List Bool) → StandsFor past self.old
+            → NoneAfterFive self.old.last (bits_of count bits) → Runs past (bits_of count bits) self.new }
+    {
+        self.content.add(bits, count);
+        self.last = all_shifted_in(self.last, bits, count);
+        self.room -= u16::from(count);
+    }
+
+    /// Takes the next of these bits up to the first that comes after five ones, where none of them can
+    /// give a mark.
+    #[inline(always)]
+    fn take_run(&mut self, rest: &mut Rest)
+        ensures takes { (past : List Bool) → StandsFor past self.old →
+            FeedsUpTo past (rest_of rest.old) (rest_of rest.new) self.new None }
+        ensures fewer { rest.new.left ≤ rest.old.left }
+    {
+        if self.room <= 8 {
+            return;
+        }
+        let plain = fives(self.last, rest.bits).trailing_zeros() as u8;
+        let count = plain.min(rest.left);
+        let bits = rest.take(count);
+        self.run(bits, count);
     }
 }
 
@@ -206,6 +240,21 @@ impl Rest {
             left: 8,
         }
     }
+
+    /// Takes so many of them.
+    #[inline(always)]
+    fn take(&mut self, count: u8) -> u8
+        requires few { count ≤ 8 }
+        requires there { count ≤ self.old.left }
+        ensures split { rest_of self.old ≡ bits_of count result ++ rest_of self.new }
+        ensures taken { result ≡ self.old.bits % 2 ^ count }
+        ensures left { self.new.left + count ≡ self.old.left }
+    {
+        let taken = self.bits & ((1u16 << count) - 1) as u8;
+        self.bits = (u16::from(self.bits) >> count) as u8;
+        self.left -= count;
+        taken
+    }
 }
 
 impl Deframer {
@@ -217,8 +266,13 @@ impl Deframer {
             FeedsUpTo past (rest_of rest.old) (rest_of rest.new) self.new
             (mark_of result (unit_of self.new)) }
         ensures all { result ≡ None → rest_of rest.new ≡ [] }
+        ensures fewer { result ≢ None → length (rest_of rest.new) < length (rest_of rest.old) }
     {
         while rest.left > 0 {
+            self.take_run(rest);
+            if rest.left == 0 {
+                return None;
+            }
             let bit = rest.bits & 1 == 1;
             rest.bits >>= 1;
             rest.left -= 1;
@@ -259,20 +313,15 @@ fn wait(last: u8, counting: &mut bool, room: &mut u16) -> Option<MarkKind>
     ensures mark { (past since : List Bool) (bit : Bool) (octets : List ℕ) → GoesOn past since bit
         → KeepsCount past since counting.old room.old → IsMark past bit (mark_of result octets) }
 {
+    if *room > 1 && last >> 1 != SEVEN_ONES {
+        *room -= 1;
+        return None;
+    }
     if *counting {
         return count(room);
     }
-    if last >> 1 == SEVEN_ONES {
-        *counting = true;
-        *room = SIXTEEN_OCTETS;
-        return None;
-    }
-    if *room <= 1 {
-        *counting = true;
-        *room = SIXTEEN_OCTETS;
-        return None;
-    }
-    *room -= 1;
+    *counting = true;
+    *room = SIXTEEN_OCTETS;
     None
 }
 

@@ -1,2 +1,3 @@
 pub mod ReaderLemmas
+pub mod TableLemmas
 pub mod UnitsLemmas

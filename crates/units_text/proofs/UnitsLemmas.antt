@@ -1,16 +1,16 @@
 -- A line under way, bit by bit.
-use Rattle.std.proofs.Common.{refl, arith, ◌≡◌, ◌∙◌, ap, sym, ◌<◌, ◌≤◌, [], ◌∷◌, length, ℕ, ◌+◌, ◌^◌, Bool, List, ◌++◌, Option, Some, None, append_assoc, append-nil, length-append, Result, Ok, Err, MatchResult, OnOk, if◌then◌else◌}
+use Rattle.std.proofs.Common.{refl, arith, ◌≡◌, ◌∙◌, ap, sym, ◌<◌, ◌≤◌, [], ◌∷◌, length, ℕ, ◌+◌, ◌^◌, Bool, List, ◌++◌, Option, Some, None, append_assoc, append-nil, length-append, Result, Ok, Err, OnOk, if◌then◌else◌}
 use Rattle.std.proofs.lemmas.Grind.{flat_map-append}
 use Rattle.std.specs.Option.{option_to_list}
 use Rattle.std.specs.Result.{is_ok}
 use Rattle.l2_bits.specs.declared.marks.Mark.{Mark}
-use Rattle.l2_bits.specs.Marks.{IsMark, AreMarks}
-use Rattle.l2_bits.specs.Deframing.{StandsFor}
-use Rattle.l2_bits.proofs.MarkLemmas.{mark_alone, marks_alone, marks_more, marks-append}
+use Rattle.l2_bits.specs.Marks.{AreMarks}
+use Rattle.l2_bits.specs.Deframing.{StandsFor, FeedsUpTo}
+use Rattle.l2_bits.proofs.MarkLemmas.{mark_alone, marks_alone, marks-append}
 use Rattle.units_text.specs.declared.marked_line.MarkedLine.{MarkedLine}
 use Rattle.printing.specs.Printing.{Printed}
 use Rattle.units_text.specs.UnitsText.{IsUnitsText, mark_text, marks_text, counts_of, with_end, fault_place}
-use Rattle.units_text.specs.UnitsReading.{IsLine, Begins, Feeds, Breaks}
+use Rattle.units_text.specs.UnitsReading.{IsLine, Begins, Feeds, FeedsFirst, Breaks}
 
 -- an input has one text
 pub one_text : (input : List ℕ) (a b : Printed) → IsUnitsText input a → IsUnitsText input b → a ≡ b
@@ -43,27 +43,6 @@ line_begins bits left lines line is = λ all are.
       ap marks_text split.1 ∙ flat_map-append mark_text is.marks split.0 ∙ ap (λ (front : List ℕ). front ++ marks_text split.0) (sym is.printed),
     )
 
--- one bit
-pub feeds_bit : (old new : MarkedLine) (bit : Bool) (before after : List ℕ) (mark : Option Mark)
-    → ((past : List Bool) → StandsFor past old.deframer → StandsFor (past ++ bit ∷ []) new.deframer)
-    → ((past : List Bool) → StandsFor past old.deframer → IsMark past bit mark)
-    → ((marks : List Mark) → length marks + 1 < 2 ^ 64 → old.counts ≡ counts_of marks → new.counts ≡ counts_of (marks ++ option_to_list mark))
-    → after ≡ before ++ marks_text (option_to_list mark)
-    → Feeds old (bit ∷ []) before after new
-feeds_bit old new bit before after mark stands is counts added = record {
-  printed = marks_text (option_to_list mark);
-  added = added;
-  goes_on = λ past lines fits line.
-      let few : length line.marks ≤ length past = few_marks [] past line.marks line.are in
-      record {
-        marks = line.marks ++ option_to_list mark;
-        are = marks_more [] past bit line.marks mark line.are (is past line.deframed);
-        printed = ap (λ (front : List ℕ). front ++ marks_text (option_to_list mark)) line.printed ∙ sym (flat_map-append mark_text line.marks (option_to_list mark));
-        counted = counts line.marks (omega (arith, fits, few)) line.counted;
-        deframed = stands past line.deframed;
-      };
-}
-
 -- bits that give no mark
 pub feeds_passed : (old new : MarkedLine) (bits : List Bool) (before : List ℕ)
     → ((past : List Bool) → StandsFor past old.deframer → StandsFor (past ++ bits) new.deframer)
@@ -81,24 +60,6 @@ feeds_passed old new bits before stands none same = record {
   };
 }
 
-pub breaks_bit : (old : MarkedLine) (bit : Bool) (before after : List ℕ) → after ≡ before → Breaks old (bit ∷ []) before after
-breaks_bit old bit before after same = record {
-  printed = [];
-  added = same ∙ sym (append-nil before);
-  begins = λ past lines fits line left. rw (append-nil lines) (line_begins past (bit ∷ left) lines old line);
-}
-
-pub line_fed : {E : Type 0} (r : Result (Unit {0}) E) (old new : MarkedLine) (bit : Bool) (before after : List ℕ) (mark : Mark)
-    → ((past : List Bool) → StandsFor past old.deframer → StandsFor (past ++ bit ∷ []) new.deframer)
-    → ((past : List Bool) → StandsFor past old.deframer → IsMark past bit (Some mark))
-    → ((marks : List Mark) → length marks + 1 < 2 ^ 64 → old.counts ≡ counts_of marks → new.counts ≡ counts_of (marks ++ mark ∷ []))
-    → after ≡ before ++ (if is_ok r then mark_text mark else [])
-    → MatchResult r (λ done. Feeds old (bit ∷ []) before after new) (λ error. Breaks old (bit ∷ []) before after)
-line_fed (Ok done) old new bit before after mark stands is counts added =
-    feeds_bit old new bit before after (Some mark) stands is counts (added ∙ ap (λ (text : List ℕ). before ++ text) (sym (append-nil (mark_text mark))))
-line_fed (Err error) old new bit before after mark stands is counts added = breaks_bit old bit before after (added ∙ append-nil before)
-
--- bits one after another
 pub feeds_none : (line : MarkedLine) (before : List ℕ) → Feeds line [] before before line
 feeds_none line before = record {
   printed = [];
@@ -106,35 +67,58 @@ feeds_none line before = record {
   goes_on = λ past lines fits is. rw (append-nil past, append-nil lines) is;
 }
 
-pub feeds_then : (a b c : MarkedLine) (bit : Bool) (bits : List Bool) (x y z : List ℕ) → Feeds a (bit ∷ []) x y b → Feeds b bits y z c → Feeds a (bit ∷ bits) x z c
-feeds_then a b c bit bits x y z f g = record {
-  printed = f.printed ++ g.printed;
-  added = g.added ∙ ap (λ (front : List ℕ). front ++ g.printed) f.added ∙ append_assoc x f.printed g.printed;
-  goes_on = λ past lines fits is.
-      let bits_are : (past ++ bit ∷ []) ++ bits ≡ past ++ bit ∷ bits = append_assoc past (bit ∷ []) bits in
-      let lines_are : (lines ++ f.printed) ++ g.printed ≡ lines ++ (f.printed ++ g.printed) = append_assoc lines f.printed g.printed in
-      rw (← bits_are, ← lines_are)
-      (g.goes_on (past ++ bit ∷ []) (lines ++ f.printed) (omega (arith, fits, length-append past (bit ∷ [])))
-      (f.goes_on past lines (omega (arith, fits)) is));
-}
+-- bits up to a mark
+module _ (old new : MarkedLine) (bits rest : List Bool) (mark : Option Mark)
+    (fed : (past : List Bool) → StandsFor past old.deframer → FeedsUpTo past bits rest new.deframer mark)
+    (counts : (marks : List Mark) → length marks + length (option_to_list mark) < 2 ^ 64 → old.counts ≡ counts_of marks → new.counts ≡ counts_of (marks ++ option_to_list mark)) where
+  fits_on : (past : List Bool) (is : FeedsUpTo past bits rest new.deframer mark) → length past + length bits < 2 ^ 64
+      → length (past ++ is.taken) + length rest < 2 ^ 64
+  fits_on past is fits = omega (arith, fits, ap length is.split, length-append past is.taken, length-append is.taken rest)
 
-pub feeds_breaks : (a b : MarkedLine) (bit : Bool) (bits : List Bool) (x y z : List ℕ) → Feeds a (bit ∷ []) x y b → Breaks b bits y z → Breaks a (bit ∷ bits) x z
-feeds_breaks a b bit bits x y z f g = record {
-  printed = f.printed ++ g.printed;
-  added = g.added ∙ ap (λ (front : List ℕ). front ++ g.printed) f.added ∙ append_assoc x f.printed g.printed;
-  begins = λ past lines fits is left.
-      let bits_are : (past ++ bit ∷ []) ++ (bits ++ left) ≡ past ++ bit ∷ (bits ++ left) = append_assoc past (bit ∷ []) (bits ++ left) in
-      let lines_are : (lines ++ f.printed) ++ g.printed ≡ lines ++ (f.printed ++ g.printed) = append_assoc lines f.printed g.printed in
-      rw (← bits_are, ← lines_are)
-      (g.begins (past ++ bit ∷ []) (lines ++ f.printed) (omega (arith, fits, length-append past (bit ∷ [])))
-      (f.goes_on past lines (omega (arith, fits)) is) left);
-}
+  line_on : (past : List Bool) (lines : List ℕ) → length past + length bits < 2 ^ 64 → (line : IsLine past lines old)
+      → IsLine (past ++ (fed past line.deframed).taken) (lines ++ marks_text (option_to_list mark)) new
+  line_on past lines fits line =
+      let is = fed past line.deframed in
+      let before : length line.marks ≤ length past = few_marks [] past line.marks line.are in
+      let more : length (option_to_list mark) ≤ length is.taken = few_marks past is.taken (option_to_list mark) is.marks in
+      record {
+        marks = line.marks ++ option_to_list mark;
+        are = marks-append [] past is.taken line.marks (option_to_list mark) line.are is.marks;
+        printed = ap (λ (front : List ℕ). front ++ marks_text (option_to_list mark)) line.printed ∙ sym (flat_map-append mark_text line.marks (option_to_list mark));
+        counted = counts line.marks (omega (arith, before, more, fits_on past is fits, length-append past is.taken)) line.counted;
+        deframed = is.stands;
+      }
 
-pub breaks_more : (a : MarkedLine) (bit : Bool) (bits : List Bool) (x z : List ℕ) → Breaks a (bit ∷ []) x z → Breaks a (bit ∷ bits) x z
-breaks_more a bit bits x z b = record {
-  printed = b.printed;
-  added = b.added;
-  begins = λ past lines fits is left. b.begins past lines (omega (arith, fits)) is (bits ++ left);
+  pub first_fed : (before middle : List ℕ) → middle ≡ before ++ marks_text (option_to_list mark) → FeedsFirst old bits before rest middle new
+  first_fed before middle added = record {
+    feeds = λ after last later. record {
+      printed = marks_text (option_to_list mark) ++ later.printed;
+      added = later.added ∙ ap (λ (front : List ℕ). front ++ later.printed) added ∙ append_assoc before (marks_text (option_to_list mark)) later.printed;
+      goes_on = λ past lines fits line.
+          let is = fed past line.deframed in
+          let bits_are : (past ++ is.taken) ++ rest ≡ past ++ bits = append_assoc past is.taken rest ∙ ap (λ (all : List Bool). past ++ all) (sym is.split) in
+          let lines_are : (lines ++ marks_text (option_to_list mark)) ++ later.printed ≡ lines ++ (marks_text (option_to_list mark) ++ later.printed) = append_assoc lines (marks_text (option_to_list mark)) later.printed in
+          rw (bits_are, lines_are) at (later.goes_on (past ++ is.taken) (lines ++ marks_text (option_to_list mark)) (fits_on past is fits) (line_on past lines fits line));
+    };
+    breaks = λ after later. record {
+      printed = marks_text (option_to_list mark) ++ later.printed;
+      added = later.added ∙ ap (λ (front : List ℕ). front ++ later.printed) added ∙ append_assoc before (marks_text (option_to_list mark)) later.printed;
+      begins = λ past lines fits line left.
+          let is = fed past line.deframed in
+          let bits_are : (past ++ is.taken) ++ (rest ++ left) ≡ past ++ (bits ++ left) =
+          append_assoc past is.taken (rest ++ left) ∙ ap (λ (all : List Bool). past ++ all) (sym (append_assoc is.taken rest left))
+          ∙ ap (λ (all : List Bool). past ++ (all ++ left)) (sym is.split) in
+          let lines_are : (lines ++ marks_text (option_to_list mark)) ++ later.printed ≡ lines ++ (marks_text (option_to_list mark) ++ later.printed) = append_assoc lines (marks_text (option_to_list mark)) later.printed in
+          rw (bits_are, lines_are) at (later.begins (past ++ is.taken) (lines ++ marks_text (option_to_list mark)) (fits_on past is fits) (line_on past lines fits line) left);
+    };
+  }
+
+-- memory was wanted for the line of their mark
+pub breaks_at : (old : MarkedLine) (bits : List Bool) (before after : List ℕ) → after ≡ before ++ [] → Breaks old bits before after
+breaks_at old bits before after same = record {
+  printed = [];
+  added = same;
+  begins = λ past lines fits line left. rw (append-nil lines) (line_begins past (bits ++ left) lines old line);
 }
 
 -- what an appending call leaves where it succeeds

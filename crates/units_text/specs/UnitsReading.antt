@@ -40,6 +40,12 @@ pub record Breaks (old : MarkedLine) (bits : List Bool) (before after : List ℕ
   pub begins : (past : List Bool) (lines : List ℕ) → length past + length bits < 2 ^ 64
       → IsLine past lines old → (left : List Bool) → Begins (past ++ (bits ++ left)) (lines ++ printed)
 
+-- the first of these bits were fed, and the line of their mark was added, if they gave one: what is done with the others
+-- completes what is done with all
+pub record FeedsFirst (old : MarkedLine) (bits : List Bool) (before : List ℕ) (rest : List Bool) (middle : List ℕ) (new : MarkedLine) : Type 0 where
+  pub feeds : (after : List ℕ) (last : MarkedLine) → Feeds new rest middle after last → Feeds old bits before after last
+  pub breaks : (after : List ℕ) → Breaks new rest middle after → Breaks old bits before after
+
 -- The input.
 
 -- the reader has read this without a fault, and has printed these lines

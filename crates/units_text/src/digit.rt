@@ -1,7 +1,25 @@
 //! The digits of `units`.
-ghost use Rattle.std.specs.Prelude.{◌≡◌, ◌<◌};
+ghost use Rattle.std.specs.Prelude.{◌≡◌, ◌<◌, nat_lt, if◌then◌else◌, Some, None};
 ghost use Rattle.std.specs.Option.{option_map};
 ghost use Rattle.figures.specs.Figures.{hex_value};
+
+/// The value of each character that is a hexadecimal digit, of either case, and 255 for the others.
+static VALUES: [u8; 256] = [
+    255, 255, 255, 255, 255, 255, 255, 255, 255, 255, 255, 255, 255, 255, 255, 255, 255, 255, 255,
+    255, 255, 255, 255, 255, 255, 255, 255, 255, 255, 255, 255, 255, 255, 255, 255, 255, 255, 255,
+    255, 255, 255, 255, 255, 255, 255, 255, 255, 255, 0, 1, 2, 3, 4, 5, 6, 7, 8, 9, 255, 255, 255,
+    255, 255, 255, 255, 10, 11, 12, 13, 14, 15, 255, 255, 255, 255, 255, 255, 255, 255, 255, 255,
+    255, 255, 255, 255, 255, 255, 255, 255, 255, 255, 255, 255, 255, 255, 255, 255, 10, 11, 12, 13,
+    14, 15, 255, 255, 255, 255, 255, 255, 255, 255, 255, 255, 255, 255, 255, 255, 255, 255, 255,
+    255, 255, 255, 255, 255, 255, 255, 255, 255, 255, 255, 255, 255, 255, 255, 255, 255, 255, 255,
+    255, 255, 255, 255, 255, 255, 255, 255, 255, 255, 255, 255, 255, 255, 255, 255, 255, 255, 255,
+    255, 255, 255, 255, 255, 255, 255, 255, 255, 255, 255, 255, 255, 255, 255, 255, 255, 255, 255,
+    255, 255, 255, 255, 255, 255, 255, 255, 255, 255, 255, 255, 255, 255, 255, 255, 255, 255, 255,
+    255, 255, 255, 255, 255, 255, 255, 255, 255, 255, 255, 255, 255, 255, 255, 255, 255, 255, 255,
+    255, 255, 255, 255, 255, 255, 255, 255, 255, 255, 255, 255, 255, 255, 255, 255, 255, 255, 255,
+    255, 255, 255, 255, 255, 255, 255, 255, 255, 255, 255, 255, 255, 255, 255, 255, 255, 255, 255,
+    255, 255, 255,
+];
 
 /// A hexadecimal digit.
 #[derive(Clone, Copy, Debug, PartialEq, Eq)]
@@ -12,17 +30,22 @@ pub(crate) struct Digit {
 }
 
 /// The digit of this character, of either case.
+#[inline(always)]
 pub(crate) fn digit_of(c: u8) -> Option<Digit>
     ensures { option_map (λ digit. digit.value) result ≡ hex_value c }
 {
-    match c {
-        b'0'..=b'9' => Some(Digit { value: c - b'0' }),
-        b'A'..=b'F' => Some(Digit {
-            value: c - b'A' + 10,
-        }),
-        b'a'..=b'f' => Some(Digit {
-            value: c - b'a' + 10,
-        }),
-        _ => None,
+    let value = value_of(c);
+    if value < 16 {
+        Some(Digit { value })
+    } else {
+        None
     }
+}
+
+/// The value of this character, below 16 where it's a digit.
+#[inline(always)]
+fn value_of(c: u8) -> u8
+    ensures { (if nat_lt result 16 then Some result else None) ≡ hex_value c }
+{
+    VALUES[c as usize]
 }

@@ -1,14 +1,14 @@
 //! The bits of a line, and the lines of their marks.
 ghost use Rattle.l2_bits.specs.declared.marks.Mark.{Mark};
-ghost use Rattle.l2_bits.specs.Deframing.{marked, unit_of};
-ghost use Rattle.std.specs.Prelude.{◌≡◌, ℕ, ◌+◌, ◌<◌, ◌^◌, List, [], ◌∷◌, ◌++◌, length, if◌then◌else◌, MatchResult};
+ghost use Rattle.l2_bits.specs.Deframing.{marked, rest_of, unit_of};
+ghost use Rattle.std.specs.Prelude.{◌≡◌, ℕ, ◌+◌, ◌<◌, ◌^◌, List, [], ◌∷◌, ◌++◌, length, if◌then◌else◌, IfOk, MatchResult, true, false};
 ghost use Rattle.std.specs.Result.{is_ok};
 ghost use Rattle.l2_bits.specs.LineBits.{bits_of};
 ghost use Rattle.units_text.specs.UnitsText.{counts_of, mark_text};
-ghost use Rattle.units_text.specs.UnitsReading.{IsLine, Feeds, Breaks};
+ghost use Rattle.units_text.specs.UnitsReading.{IsLine, Feeds, FeedsFirst, Breaks};
 
 use super::unit_lines::{MarkCounts, push_mark};
-use l2_bits::{Deframer, MarkKind};
+use l2_bits::{Deframer, MarkKind, Rest};
 use std::alloc::{AllocError, Global};
 
 /// A line under way: what its deframer keeps, and how many marks it has given.
@@ -44,33 +44,40 @@ impl MarkedLine {
         if self.deframer.pass(octet) {
             return Ok(());
         }
-        self.feed_bits(octet, out)
+        self.feed_marks(octet, out)
     }
 
-    /// Feeds an octet bit by bit.
-    fn feed_bits(&mut self, octet: u8, out: &mut Vec<u8>) -> Result<(), AllocError>
+    /// Feeds an octet mark by mark.
+    fn feed_marks(&mut self, octet: u8, out: &mut Vec<u8>) -> Result<(), AllocError>
         ensures { MatchResult result (λ done. Feeds self.old (bits_of 8 octet) out.old.items out.new.items self.new) (λ error. Breaks self.old (bits_of 8 octet) out.old.items out.new.items) }
     {
-        for place in 0..8u8 {
-            let bit = octet >> place & 1 == 1;
-            match self.feed(bit, out) {
-                Ok(()) => {}
+        let mut rest = Rest::new(octet);
+        loop {
+            match self.feed_first(&mut rest, out) {
+                Ok(true) => {}
+                Ok(false) => return Ok(()),
                 Err(error) => return Err(error),
             }
         }
-        Ok(())
     }
 
-    /// Feeds a bit, and adds the line of its mark, if it gives one.
+    /// Feeds the first of these bits up to one that gives a mark, and adds its line; says whether one did.
     #[inline(always)]
-    fn feed(&mut self, bit: bool, out: &mut Vec<u8>) -> Result<(), AllocError>
-        ensures { MatchResult result (λ done. Feeds self.old (bit ∷ []) out.old.items out.new.items self.new) (λ error. Breaks self.old (bit ∷ []) out.old.items out.new.items) }
+    fn feed_first(&mut self, rest: &mut Rest, out: &mut Vec<u8>) -> Result<bool, AllocError>
+        ensures feeds { MatchResult result
+            (λ marked. FeedsFirst self.old (rest_of rest.old) out.old.items (rest_of rest.new) out.new.items self.new)
+            (λ error. Breaks self.old (rest_of rest.old) out.old.items out.new.items) }
+        ensures fewer { IfOk result (λ marked. marked ≡ true → length (rest_of rest.new) < length (rest_of rest.old)) }
+        ensures all { IfOk result (λ marked. marked ≡ false → rest_of rest.new ≡ []) }
     {
-        let Some(kind) = self.deframer.step(bit) else {
-            return Ok(());
+        let Some(kind) = self.deframer.feed_octet(rest) else {
+            return Ok(false);
         };
         self.counts = counted(self.counts, kind);
-        add_line(kind, &self.deframer, &mut self.text, out)
+        match add_line(kind, &self.deframer, &mut self.text, out) {
+            Ok(()) => Ok(true),
+            Err(error) => Err(error),
+        }
     }
 }
 

@@ -7,8 +7,9 @@ use Rattle.l2_bits.specs.declared.marks.Mark.{Mark}
 use Rattle.l2_bits.specs.LineBits.{bits_of}
 use Rattle.l2_bits.specs.Marks.{IsMark}
 use Rattle.l2_bits.specs.Deframing.{StandsFor, FeedsUpTo, mark_of, unit_of}
-use Rattle.l2_bits.proofs.BitLemmas.{bits_of-suc, bits_of-zero}
+use Rattle.l2_bits.proofs.BitLemmas.{bits_of-suc, bits_of-zero, length-bits_of}
 use Rattle.l2_bits.proofs.MarkLemmas.{marks_more}
+use Rattle.l2_bits.proofs.FeedingLemmas.{fed_on}
 use Rattle.l2_bits.proofs.deframing.Deframer.feed_octet.Goals as goal
 
 next_bit : (left bits : ℕ) → 0 < left → bits_of left bits ≡ (bit_and bits 1 == 1) ∷ bits_of (left - 1) (bits / 2)
@@ -35,16 +36,43 @@ no_kind : {A : Type 0} (kind : Option A) → is_some kind ≡ false → kind ≡
 no_kind None none = refl
 no_kind (Some kind) none = absurd (false≢true (sym none))
 
+pub returns-then-rest-eq0-clause-marks : goal.returns-then-rest-eq0-clause-marks
+returns-then-rest-eq0-clause-marks c = λ past is.
+    let first = c.loop-rest.invariant.fed past is in
+    fed_on past _ _ _ c.loop-rest.self c.take_run.new.self None first (c.take_run.ensures.takes (past ++ first.taken) first.stands)
+
+pub returns-then-rest-eq0-clause-all : goal.returns-then-rest-eq0-clause-all
+returns-then-rest-eq0-clause-all c = λ same.
+    ap (λ (k : ℕ). bits_of k c.take_run.new.rest.bits) c.if-rest-eq0.true ∙ bits_of-zero c.take_run.new.rest.bits
+
 pub returns-then-is_some-clause-marks : goal.returns-then-is_some-clause-marks
 returns-then-is_some-clause-marks c = λ past is.
-    one_more past _ c.loop-rest.rest.left c.loop-rest.rest.bits c.loop-rest.self c.step-mark.new.self _ (omega arith)
-    (c.loop-rest.invariant past is) c.step-mark.ensures.stands c.step-mark.ensures.mark
+    let first = c.loop-rest.invariant.fed past is in
+    one_more past _ c.take_run.new.rest.left c.take_run.new.rest.bits c.take_run.new.self c.step-mark.new.self _ (omega arith)
+    (fed_on past _ _ _ c.loop-rest.self c.take_run.new.self None first (c.take_run.ensures.takes (past ++ first.taken) first.stands)) c.step-mark.ensures.stands c.step-mark.ensures.mark
+
+pub returns-then-is_some-clause-fewer : goal.returns-then-is_some-clause-fewer
+returns-then-is_some-clause-fewer c = λ some.
+    omega (
+      arith,
+      c.loop-rest.invariant.fewer,
+      c.take_run.ensures.fewer,
+      length-bits_of (c.take_run.new.rest.left - 1) (c.take_run.new.rest.bits / 2),
+      length-bits_of c.args.rest.now.left c.args.rest.now.bits,
+    )
 
 pub loop-rest-preserved : goal.loop-rest-preserved
-loop-rest-preserved c = λ past is.
-    let none : c.step-mark.result ≡ None = no_kind c.step-mark.result (sym c.is_some.ensures ∙ c.if-is_some.false) in
-    rw none at (one_more past _ c.loop-rest.rest.left c.loop-rest.rest.bits c.loop-rest.self c.step-mark.new.self (mark_of c.step-mark.result (unit_of c.step-mark.new.self)) (omega arith)
-    (c.loop-rest.invariant past is) c.step-mark.ensures.stands c.step-mark.ensures.mark)
+loop-rest-preserved c = record {
+  fed = λ past is.
+      let none : c.step-mark.result ≡ None = no_kind c.step-mark.result (sym c.is_some.ensures ∙ c.if-is_some.false) in
+      let first = c.loop-rest.invariant.fed past is in
+      rw none at (one_more past _ c.take_run.new.rest.left c.take_run.new.rest.bits c.take_run.new.self c.step-mark.new.self (mark_of c.step-mark.result (unit_of c.step-mark.new.self)) (omega arith)
+      (fed_on past _ _ _ c.loop-rest.self c.take_run.new.self None first (c.take_run.ensures.takes (past ++ first.taken) first.stands)) c.step-mark.ensures.stands c.step-mark.ensures.mark);
+  fewer = omega (arith, c.loop-rest.invariant.fewer, c.take_run.ensures.fewer);
+}
+
+pub returns-clause-marks : goal.returns-clause-marks
+returns-clause-marks c = c.loop-rest.invariant.fed
 
 pub returns-clause-all : goal.returns-clause-all
 returns-clause-all c = λ same.

@@ -9,4 +9,4 @@ returns-then-pass c =
     (λ past is. c.pass.ensures.stands past is c.if-pass.true) (λ past is. c.pass.ensures.marks past is c.if-pass.true) refl
 
 pub returns : goal.returns
-returns c = rw (c.pass.ensures.refused c.if-pass.false) at c.feed_bits.ensures
+returns c = rw (c.pass.ensures.refused c.if-pass.false) at c.feed_marks.ensures
