@@ -15,7 +15,7 @@ use Rattle.set_route.specs.declared.place.Place.TheVariants.{On, Nowhere}
 use Rattle.set_route.specs.Routing.{place_of, has_messages}
 use Rattle.set_model.specs.declared.phase.Phase.{Phase}
 use Rattle.set_model.specs.declared.phase.Phase.TheVariants.{Up, Down, Settled}
-use Rattle.set_model.specs.Rows.{Row, is_waiting, is_unacked, unack, wait, held, on, parked, numbers, octets_in, turned, changed, with_fate, AreFit, IsNumbered, IsInOrder, IsHeldLast}
+use Rattle.set_model.specs.Rows.{Row, is_waiting, is_unacked, unack, wait, held, parked, numbers, octets_in, turned, changed, with_fate, AreFit, IsNumbered, IsInOrder, IsHeldLast}
 use Rattle.set_model.specs.Control.{Choice, again, first, fill, choice_of, control_after, part_of, control_heard, acked_by}
 use Rattle.set_model.specs.State.{LinkState, State, has_phase_up, has_phase_settled, window_of}
 use Rattle.set_model.specs.Changeover.{leave, left_link, acknowledge, acknowledged as acknowledged_link}
@@ -26,7 +26,6 @@ use Rattle.set_model.proofs.Events.{Untouched, untouched_self, sent, acknowledge
 use Rattle.set_model.proofs.Lists.{at_set, get_set_same, get_set_other, set_same, within}
 use Rattle.set_model.proofs.Live.{stream_turned, stream_changed, stream_sent}
 use Rattle.set_model.proofs.Places.{false_true, itself, apart}
-use Rattle.set_model.proofs.Settling.{none_held}
 use Rattle.set_model.proofs.Walk.{IsAt}
 
 -- PHASES.

@@ -12,7 +12,7 @@ use Rattle.set_route.specs.declared.place.Place.TheVariants.{On, Nowhere}
 use Rattle.set_route.specs.Routing.{place_of, has_messages}
 use Rattle.set_route.proofs.Alone.{alone}
 use Rattle.set_route.proofs.Places.{accepted_sound}
-use Rattle.set_model.specs.Rows.{is_unacked, is_held, is_on, is_parked, is_users, stream_of, held, on, parked, appended}
+use Rattle.set_model.specs.Rows.{is_unacked, is_held, is_on, is_parked, is_users, stream_of, parked, appended}
 use Rattle.set_model.specs.State.{LinkState, State, is_up, link_is_up, has_phase_up, has_phase_settled, target}
 use Rattle.set_model.specs.Changeover.{fate_on, queue}
 use Rattle.set_model.specs.Step.{fate_at, offer_refusal, offered}
@@ -24,7 +24,6 @@ use Rattle.set_model.proofs.Lists.{same_at}
 use Rattle.set_model.proofs.Live.{stream_appended}
 use Rattle.set_model.proofs.Order.{order_appended, last_appended, last_appended_up}
 use Rattle.set_model.proofs.Places.{false_true, itself}
-use Rattle.set_model.proofs.Settling.{none_held}
 use Rattle.set_model.proofs.Targets.{target_up, none_up}
 use Rattle.set_model.proofs.SoundLink.{up_unsettled, link_untouched}
 

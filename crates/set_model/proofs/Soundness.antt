@@ -1,5 +1,5 @@
 -- EVERY STEP KEEPS WHAT HOLDS OF EVERY SET'S STATE, and a new set has it.
-use Rattle.std.proofs.Common.{refl, arith, ◌≡◌, ap, sym, subst, ℕ, zero, suc, ◌+◌, ◌%◌, Bool, true, List, [], ◌∷◌, ◌++◌, length, map, slice_get, Some, cond, replicate, slice_index_or}
+use Rattle.std.proofs.Common.{refl, arith, ◌≡◌, ap, sym, subst, ℕ, zero, suc, ◌%◌, Bool, true, List, [], ◌∷◌, ◌++◌, length, map, slice_get, Some, cond, replicate, slice_index_or}
 use Rattle.std.proofs.lemmas.Bool.{le-ltb}
 use Rattle.std.proofs.lemmas.Option.{same_Some}
 use Rattle.set_events.specs.declared.answer.Fate.TheVariants.{Discarded}
@@ -10,12 +10,11 @@ use Rattle.set_route.specs.Routing.{new_stream, stream_numbers}
 use Rattle.set_route.proofs.Places.{new_sound}
 use Rattle.set_model.specs.Rows.{is_waiting, is_unacked, numbers}
 use Rattle.set_model.specs.State.{LinkState, State, Settings, new_link, opened_with, has_phase_up}
-use Rattle.set_model.specs.Step.{sends, rises, step}
+use Rattle.set_model.specs.Step.{step}
 use Rattle.set_model.specs.Sound.{IsSoundLink, IsPlaced, IsSettings, IsSound, IsAsked, AreFew}
-use Rattle.set_model.proofs.Events.{sent, sent_given_up, waiting_given_up}
+use Rattle.set_model.proofs.Events.{sent_given_up, waiting_given_up}
 use Rattle.set_model.proofs.Places.{false_true}
 use Rattle.set_model.proofs.InPlace.{fewer_changed}
-use Rattle.set_model.proofs.Settling.{none_held}
 use Rattle.set_model.proofs.Walk.{KeptBy, step_walks}
 use Rattle.set_model.proofs.SoundLink.{with_inbox, leaves, acknowledges, gives_up, sends_sound, hears_sound}
 use Rattle.set_model.proofs.SoundNew.{queues, offers}

@@ -5,6 +5,7 @@ use set_events::{
     Actor, Answer, Body, Books, Entry, Event, Fate, Method, Refusal, Report, SetConfig, Took,
 };
 use std::alloc::Global;
+use std::slice::from_ref;
 use std::test::Fail;
 
 const USER: Actor = Actor::User(0);
@@ -296,7 +297,7 @@ fn is_legal_find(alloc: Global, who: Actor, answer: Answer) -> Result<bool, Fail
         event: Event::Find { number: 0 },
         answer,
     };
-    is_legal(alloc, &[entry])
+    is_legal(alloc, from_ref(&entry))
 }
 
 /// What a new set answers is legal, and nothing else is, nor an actor out of range.
@@ -373,7 +374,7 @@ fn a_refused_growth_ends_an_audit(rt: HostRuntime) -> Result<(), Fail> {
         event: Event::Offer { body },
         answer: Answer::Accepted { number: 0 },
     };
-    match audit(rt.alloc(), &config_by(Method::Basic)?, &[entry]) {
+    match audit(rt.alloc(), &config_by(Method::Basic)?, from_ref(&entry)) {
         Ok(is_legal) => assert!(rt; is_legal),
         Err(fault) => assert!(rt; fault == SetFault::NoMemory),
     }
