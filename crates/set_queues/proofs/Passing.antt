@@ -41,7 +41,7 @@ pub kept_held : (f : LinkLists → LinkLists) → ((x : LinkLists) → (f x).hel
 kept_held f e None = refl
 kept_held f e (Some x) = e x
 
-kept_last : (f : LinkLists → LinkLists) → ((x : LinkLists) → (f x).last ≡ x.last) → (o : Option LinkLists) → number_in (option_map f o) ≡ number_in o
+pub kept_last : (f : LinkLists → LinkLists) → ((x : LinkLists) → (f x).last ≡ x.last) → (o : Option LinkLists) → number_in (option_map f o) ≡ number_in o
 kept_last f e None = refl
 kept_last f e (Some x) = e x
 

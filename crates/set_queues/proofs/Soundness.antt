@@ -283,7 +283,7 @@ given_first q ms l n h e = given_at (queue_at (Waiting l) q) ms 0 n (given_all q
 
 -- THE FIRST OF THE UNACKNOWLEDGED LEAVE
 
-queue_last : (f : Fate) (l fsn : ℕ) (q : Lists) → queue_at f (with_last l fsn q) ≡ queue_at f q
+pub queue_last : (f : Fate) (l fsn : ℕ) (q : Lists) → queue_at f (with_last l fsn q) ≡ queue_at f q
 queue_last (Waiting k) l fsn q = list_kept (list_in (λ (z : LinkLists). z.unsent)) (λ (z : LinkLists). record z { last = fsn }) q.links l k (kept_unsent (λ (z : LinkLists). record z { last = fsn }) (λ x. refl)) (l == k) refl
 queue_last (Unacked k) l fsn q = list_kept (list_in (λ (z : LinkLists). z.unacked)) (λ (z : LinkLists). record z { last = fsn }) q.links l k (kept_unacked (λ (z : LinkLists). record z { last = fsn }) (λ x. refl)) (l == k) refl
 queue_last (Held k) l fsn q = list_kept (list_in (λ (z : LinkLists). z.held)) (λ (z : LinkLists). record z { last = fsn }) q.links l k (kept_held (λ (z : LinkLists). record z { last = fsn }) (λ x. refl)) (l == k) refl
@@ -312,7 +312,7 @@ sound_acked q ms l fsn h b =
 
 -- A NEW LIFE OF A LINK
 
-last_links : (l fsn : ℕ) (q : Lists) → length (with_last l fsn q).links ≡ length q.links
+pub last_links : (l fsn : ℕ) (q : Lists) → length (with_last l fsn q).links ≡ length q.links
 last_links l fsn q = length-updated (λ (z : LinkLists). record z { last = fsn }) q.links l
 
 pub sound_last : (q : Lists) (ms : List Message) (l fsn : ℕ) → AreSound q ms → AreSound (with_last l fsn q) ms

@@ -166,7 +166,7 @@ impl Buffers {
 }
 
 impl Buffers {
-    ghost use Rattle.std.specs.Prelude.{◌≡◌, ◌≢◌, ◌↔◌, ◌+◌, ◌%◌, ◌<◌, ◌≤◌, [], IfOk, OnOk, OnErr, length};
+    ghost use Rattle.std.specs.Prelude.{◌≡◌, ◌≢◌, ◌↔◌, ◌+◌, ◌%◌, ◌<◌, ◌≤◌, [], IsOk, IfOk, OnOk, OnErr, length};
     ghost use Rattle.std.specs.Result.{OkIff};
     ghost use Rattle.set_queues.specs.Buffers.{KeepsRoom, queue_at, last_at, with_last};
     ghost use Rattle.set_queues.specs.Sending.{IsSending, acknowledged, reach};
@@ -182,6 +182,8 @@ impl Buffers {
         ensures full { (result ≡ Err WindowFault.Full) ↔ ((queue_at
             (Fate.Waiting link) self.old.lists ≢ []) × (127 ≤ length (queue_at
             (Fate.Unacked link) self.old.lists))) }
+        ensures succeeds { queue_at (Fate.Waiting link) self.old.lists ≢ [] → length (queue_at
+            (Fate.Unacked link) self.old.lists) < 127 → IsOk result }
         ensures sent { IfOk result (λ sent. IsSending link sent.0 self.old.lists self.new.lists) }
         ensures fsn { IfOk result (λ sent. sent.1 ≡ (last_at link self.old.lists + 1 + length
             (queue_at (Fate.Unacked link) self.old.lists)) % 128) }

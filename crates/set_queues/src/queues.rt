@@ -40,7 +40,7 @@ impl Model for Queues {
 }
 
 impl Queues {
-    ghost use Rattle.std.specs.Prelude.{◌≡◌, ◌≢◌, ◌↔◌, ◌+◌, ◌%◌, ◌<◌, ◌≤◌, ◌^◌, ◌++◌, [], ◌∷◌, Some, true, false, IfOk, IfSome, OnOk, OnErr, length, replicate, take, slice_get};
+    ghost use Rattle.std.specs.Prelude.{◌≡◌, ◌≢◌, ◌↔◌, ◌+◌, ◌%◌, ◌<◌, ◌≤◌, ◌^◌, ◌++◌, [], ◌∷◌, Some, true, false, IsOk, IfOk, IfSome, OnOk, OnErr, length, replicate, take, slice_get};
     ghost use Rattle.std.specs.Option.{option_map};
     ghost use Rattle.std.specs.Result.{OkIff};
     ghost use Rattle.set_queues.specs.Messages.{restood, fate_at, octets_of, counts_of, unsent_of};
@@ -236,6 +236,8 @@ impl Queues {
         ensures full { (result ≡ Err WindowFault.Full) ↔ ((queue_at
             (Fate.Waiting link) self.old.lists ≢ []) × (127 ≤ length (queue_at
             (Fate.Unacked link) self.old.lists))) }
+        ensures succeeds { queue_at (Fate.Waiting link) self.old.lists ≢ [] → length (queue_at
+            (Fate.Unacked link) self.old.lists) < 127 → IsOk result }
         ensures sent { IfOk result (λ sent. IsSending link sent.0 self.old.lists self.new.lists) }
         ensures messages { IfOk result (λ sent. self.new.messages ≡ restood (sent.0 ∷ [])
             (Fate.Unacked link) self.old.messages) }

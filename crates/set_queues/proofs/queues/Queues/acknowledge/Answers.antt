@@ -20,7 +20,7 @@ weigh_less-requires-clause-there c =
 pub invariant_of-self : goal.invariant_of-self
 invariant_of-self c =
     let known : c.args.link < length c.self.inside.buffers.lists.links = rw (← c.self.view_is) at c.requires.known in
-    let same : reach c.args.link c.args.fsn c.self.inside.buffers.lists ≡ c.in-Some.count = sym (rw c.window.ensures.last at c.in-Some.ensures.1) in
+    let same : reach c.args.link c.args.fsn c.self.inside.buffers.lists ≡ c.in-Some.count = sym (rw c.window.ensures.last at c.in-Some.ensures.value.1) in
     let weight : octets_of (take (reach c.args.link c.args.fsn c.self.inside.buffers.lists) (queue_at (Unacked c.args.link) c.self.inside.buffers.lists)) c.self.inside.messages.messages ≡ c.weigh-octets.result =
     ap (λ (k : ℕ). octets_of (take k (queue_at (Unacked c.args.link) c.self.inside.buffers.lists)) c.self.inside.messages.messages) same ∙ sym c.weigh-octets.ensures in
     record {
