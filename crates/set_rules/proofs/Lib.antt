@@ -1,0 +1,17 @@
+pub mod Admitting
+pub mod Becoming
+pub mod Bodies
+pub mod Choosing
+pub mod Heard
+pub mod Judged
+pub mod Less
+pub mod Links
+pub mod Occurring
+pub mod Possible
+pub mod Reaching
+pub mod Rooms
+pub mod RowsAt
+pub mod Chosen
+pub mod Standing
+pub mod States
+pub mod Targets

@@ -1,0 +1,83 @@
+-- WHAT A SET KEEPS, AND HOW IT AGREES WITH THE STATE that it stands for. Read this file first.
+use Rattle.std.specs.Prelude.{◌≡◌, ℕ, ◌+◌, ◌%◌, ◌==◌, List, [], length, Some, slice_get, if◌then◌else◌}
+use Rattle.std.specs.Option.{option_map}
+use Rattle.set_events.specs.declared.answer.Fate.{Fate}
+use Rattle.set_events.specs.declared.answer.Fate.TheVariants.{Waiting, Unacked, Acked, Held, Parked, Discarded}
+use Rattle.set_queues.specs.declared.message.Kind.{Kind}
+use Rattle.set_queues.specs.declared.message.Kind.TheVariants.{User, Order}
+use Rattle.set_queues.specs.declared.message.Message.{Message}
+use Rattle.set_queues.specs.Buffers.{Lists, queue_at, last_at}
+use Rattle.set_queues.specs.Messages.{fate_at}
+use Rattle.set_route.specs.Routing.{Routing}
+use Rattle.set_model.specs.Rows.{Row, numbers, unack, wait, held, parked, place, body_at, service_indicator, stream_of, IsNumbered}
+use Rattle.set_model.specs.Sound.{IsSound, AreFew}
+use Rattle.set_model.specs.State.{LinkState, State, Settings}
+
+-- what contracts see of what a set keeps
+pub record Kept : Type 0 where
+  pub settings : Settings
+  -- the queues of numbers, and by its number each message's fate, whose it is, and its octets
+  pub lists : Lists
+  pub messages : List Message
+  -- each message's body, by its number
+  pub bodies : List (List ℕ)
+  pub links : List LinkState
+  pub routing : Routing
+  pub inbox : List (List ℕ)
+
+-- the rows that stand where the fate tells, if it isn't final
+abbrev pub rows_at : Fate → List Row → List Row
+rows_at (Waiting link) rows = wait link rows
+rows_at (Unacked link) rows = unack link rows
+rows_at (Held link) rows = held link rows
+rows_at Parked rows = parked rows
+rows_at (Acked link) rows = []
+rows_at (Discarded cause) rows = []
+
+-- whose a body is
+abbrev pub kind_of : List ℕ → Kind
+kind_of body = if service_indicator body == 0 then Order else User (stream_of body)
+
+-- what is kept of a body beside it
+pub record Label : Type 0 where
+  pub kind : Kind
+  pub octets : ℕ
+
+abbrev pub label_in : Message → Label
+label_in m = record { kind = m.kind; octets = m.octets }
+
+abbrev pub label_of : List ℕ → Label
+label_of body = record { kind = kind_of body; octets = length body }
+
+-- THE QUEUES STAND FOR THE ROWS: each queue holds the numbers of the rows of its fate, in their order; each number's fate
+-- is its row's, and its label its body's
+pub record Stands (q : Lists) (ms : List Message) (rows : List Row) : Type 0 where
+  pub queues : (fate : Fate) → queue_at fate q ≡ numbers (rows_at fate rows)
+  pub fates : (number : ℕ) → fate_at number ms ≡ place number rows
+  pub labels : (number : ℕ) → option_map label_in (slice_get ms number) ≡ option_map label_of (body_at number rows)
+  pub count : length ms ≡ length rows
+  pub numbered : IsNumbered rows
+
+-- WHAT IS KEPT STANDS FOR THE STATE. The FSN last acknowledged on a link is its whole number's (Q.703 2.2).
+pub record StandsFor (k : Kept) (s : State) : Type 0 where
+  pub settings : k.settings ≡ s.settings
+  pub stands : Stands k.lists k.messages s.rows
+  pub bodies : (number : ℕ) → slice_get k.bodies number ≡ body_at number s.rows
+  pub held_bodies : length k.bodies ≡ length k.messages
+  pub links : k.links ≡ s.links
+  pub as_many : length k.lists.links ≡ length s.links
+  pub fsns : (number : ℕ) (link : LinkState) → slice_get s.links number ≡ Some link → last_at number k.lists ≡ (link.acked + 127) % 128
+  pub routing : k.routing ≡ s.routing
+  pub inbox : k.inbox ≡ s.inbox
+
+-- it agrees with the state: it stands for it, and the state is one that a set can have
+pub record Agrees (k : Kept) (s : State) : Type 0 where
+  pub stands : StandsFor k s
+  pub sound : IsSound s
+
+-- there is such a state; and one whose whole numbers are below a bound
+abbrev pub Holds : Kept → Type 0
+Holds k = (s : State) × Agrees k s
+
+abbrev pub HoldsFew : ℕ → Kept → Type 0
+HoldsFew events k = (s : State) × Agrees k s × AreFew events s

@@ -1,0 +1,6 @@
+pub mod Agreement
+pub mod Controls
+pub mod Parts
+pub mod Refusing
+pub mod Room
+pub mod Sending

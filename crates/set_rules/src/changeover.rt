@@ -1,0 +1,199 @@
+//! Changeover: a link is left, orders tell the far end, and the link settles (Q.704 5).
+ghost use Rattle.std.specs.Prelude.{◌≡◌, ◌+◌, ◌<◌, ◌≤◌, ◌^◌, ◌%◌, ℕ, false, map, length, slice_get, slice_set, Some, IfOk};
+ghost use Rattle.std.specs.Vec.{vec_len, vec_capacity};
+ghost use Rattle.l3_orders.specs.Grammar.{IsOrder, link_of as link_in, text as text_of};
+ghost use Rattle.set_queues.specs.Buffers.{TakesRoom};
+ghost use Rattle.set_queues.specs.Settling.{on};
+ghost use Rattle.set_model.specs.Changeover.{queue as queued, leave as left, settle as settled, left_link, obeys as obeyed, changes_over as changed_over, is_answered as answered, reply as reply_of, at_link, fate_on};
+ghost use Rattle.set_model.specs.State.{State, LinkState, last_accepted, target};
+ghost use Rattle.set_model.specs.declared.phase.Phase.TheVariants.{Up, Down};
+ghost use Rattle.set_rules.specs.Agreement.{StandsFor, Agrees, Holds};
+ghost use Rattle.set_rules.specs.Parts.{IsWhole, AreCounted, AtLink, IsOut, IsReach, Becomes, BecomesAt, Obeys, link_of, kept_of};
+ghost use Rattle.set_rules.specs.Room.{HasRoom, IsReady};
+
+use super::link::Link;
+use super::parts::{Parts, fate_of, phase_of, stand_last, target_of};
+use super::settling::settle;
+use l3_orders::{Order, write_order};
+use set_events::{Body, Took};
+use set_model::{Phase, Reached};
+use std::alloc::AllocError;
+
+/// The longest order has so many octets.
+const LONGEST_ORDER: usize = 7;
+
+/// Space for an order, with the allocator of this list.
+pub(crate) fn order_space(links: &Vec<Link>) -> Result<Vec<u8>, AllocError>
+    ensures { IfOk result (λ space. (vec_len space ≡ 0) × (7 ≤ vec_capacity space)) }
+{
+    let mut space = Vec::new(*links.allocator());
+    match space.reserve(LONGEST_ORDER) {
+        Ok(()) => Ok(space),
+        Err(fault) => Err(fault),
+    }
+}
+
+/// An order stands last, for the target. `space` holds it.
+pub(crate) fn queue(parts: &mut Parts, order: Order, space: Vec<u8>)
+    requires whole { IsWhole parts.old }
+    requires order { IsOrder order }
+    requires space { (vec_len space ≡ 0) × (7 ≤ vec_capacity space) }
+    requires room { HasRoom (fate_on (target (map link_of parts.old.links.items))) parts.old }
+    ensures stands { Becomes parts.old parts.new (queued order) }
+    ensures rooms { TakesRoom (fate_on (target (map link_of parts.old.links.items))) 1 parts.old.queues.rooms parts.new.queues.rooms }
+    ensures elsewhere { (number : ℕ) → number < length parts.old.links.items → AtLink number parts.old.links.items IsOut
+        → on number parts.new.queues.lists ≡ on number parts.old.queues.lists }
+    ensures links { parts.new.links ≡ parts.old.links }
+    ensures whole { IsWhole parts.new }
+{
+    let fate = fate_of(target_of(&parts.links));
+    let config = parts.config;
+    let body = body_of(&order, config.sio, config.dpc, config.opc, space);
+    stand_last(parts, body, fate);
+}
+
+/// The octets of an order, in this space.
+fn body_of(order: &Order, sio: u8, dpc: u16, opc: u16, space: Vec<u8>) -> Body
+    requires order { IsOrder order.now }
+    requires management { sio % 16 ≡ 0 }
+    requires dpc { dpc < 2 ^ 14 }
+    requires opc { opc < 2 ^ 14 }
+    requires space { (vec_len space ≡ 0) × (7 ≤ vec_capacity space) }
+    ensures text { result ≡ text_of order.now sio dpc opc }
+    ensures fits { length result ≤ 273 }
+{
+    let mut space = space;
+    for octet in write_order(order, sio, dpc, opc).as_slice() {
+        space.push_reserved(*octet);
+    }
+    Body::from_vec(space)
+}
+
+/// The link is left: out of service, its messages stay on it until it settles (5.3).
+pub(crate) fn leave(parts: &mut Parts, number: u8, blind: bool)
+    requires whole { IsWhole parts.old }
+    requires known { number < length parts.old.links.items }
+    ensures stands { BecomesAt number parts.old parts.new (left blind number) }
+    ensures links { AtLink number parts.old.links.items (λ link. parts.new.links.items
+        ≡ slice_set parts.old.links.items number (record link { phase = Down; blind = blind })) }
+    ensures queues { parts.new.queues ≡ parts.old.queues }
+    ensures bodies { parts.new.bodies ≡ parts.old.bodies }
+    ensures whole { IsWhole parts.new }
+{
+    let link = &mut parts.links[usize::from(number)];
+    link.phase = Phase::Down;
+    link.blind = blind;
+    parts.routes.divert(number);
+}
+
+/// An order is carried out (5.4, 5.6). `space` holds the order that answers it.
+pub(crate) fn obey(parts: &mut Parts, order: Order, space: Vec<u8>) -> Took
+    requires holds { Holds (kept_of parts.old) }
+    requires counted { AreCounted (2 ^ 61) parts.old.links.items }
+    requires order { IsOrder order }
+    requires space { (vec_len space ≡ 0) × (7 ≤ vec_capacity space) }
+    requires room { link_in order < length parts.old.links.items → IsReady (link_in order) 1 parts.old }
+    ensures stands { (s : State) → Agrees (kept_of parts.old) s → Obeys (obeyed order s) result parts.new }
+{
+    match order {
+        Order::Coo { link, number } => change_over(parts, link, Reached::Upto { number }, space),
+        Order::Eco { link } => change_over(parts, link, Reached::Unknown, space),
+        Order::Coa { link, number } => answer(parts, link, Reached::Upto { number }),
+        Order::Eca { link } => answer(parts, link, Reached::Unknown),
+        Order::Cbd { .. } | Order::Cba { .. } => Took::Ignored,
+    }
+}
+
+/// A changeover order: a link that is up is left and answered for; a link that was left settles, with
+/// no answer (own); for one that settled already the answer of its last life goes out again (own).
+fn change_over(parts: &mut Parts, number: u8, reached: Reached, space: Vec<u8>) -> Took
+    requires holds { Holds (kept_of parts.old) }
+    requires counted { AreCounted (2 ^ 61) parts.old.links.items }
+    requires reached { IsReach reached }
+    requires number { number < 16 }
+    requires space { (vec_len space ≡ 0) × (7 ≤ vec_capacity space) }
+    requires room { number < length parts.old.links.items → IsReady number 1 parts.old }
+    ensures stands { (s : State) → Agrees (kept_of parts.old) s → Obeys (at_link number s (λ link.
+        changed_over reached number link link.phase s) (slice_get s.links number)) result parts.new }
+{
+    match phase_of(&parts.links, number) {
+        None => return Took::Ignored,
+        Some(Phase::Up) => answer_and_settle(parts, number, reached, space),
+        Some(Phase::Down) => settle(parts, number, reached),
+        Some(Phase::Settled) => reply_again(parts, number, space),
+    }
+    Took::Order
+}
+
+/// A link that is up is left; the far end's order is acknowledged, and the link settles.
+fn answer_and_settle(parts: &mut Parts, number: u8, reached: Reached, space: Vec<u8>)
+    requires whole { IsWhole parts.old }
+    requires counted { AreCounted (2 ^ 61) parts.old.links.items }
+    requires reached { IsReach reached }
+    requires number { number < 16 }
+    requires known { number < length parts.old.links.items }
+    requires space { (vec_len space ≡ 0) × (7 ≤ vec_capacity space) }
+    requires room { IsReady number 1 parts.old }
+    ensures stands { (s : State) (link : LinkState) → slice_get s.links number ≡ Some link → link.phase ≡ Up
+        → Agrees (kept_of parts.old) s → StandsFor (kept_of parts.new) (settled reached number (left_link false link)
+        (queued (Order.Coa number (last_accepted link)) (left false number link s))) }
+{
+    let order = Order::Coa {
+        link: number,
+        number: parts.links[usize::from(number)].last_accepted(),
+    };
+    leave(parts, number, false);
+    queue(parts, order, space);
+    settle(parts, number, reached);
+}
+
+/// A link that settled is answered for again, as its last life would have been (own).
+fn reply_again(parts: &mut Parts, number: u8, space: Vec<u8>)
+    requires whole { IsWhole parts.old }
+    requires counted { AreCounted (2 ^ 61) parts.old.links.items }
+    requires number { number < 16 }
+    requires known { number < length parts.old.links.items }
+    requires out { AtLink number parts.old.links.items IsOut }
+    requires space { (vec_len space ≡ 0) × (7 ≤ vec_capacity space) }
+    requires room { IsReady number 1 parts.old }
+    ensures stands { BecomesAt number parts.old parts.new (λ link s. queued (reply_of number link) s) }
+{
+    let order = reply(&parts.links[usize::from(number)], number);
+    queue(parts, order, space);
+}
+
+/// The answer of a link that settled, as its last life would have given it (own).
+fn reply(link: &Link, number: u8) -> Order
+    requires number { number < 16 }
+    requires counted { link.now.accepted < 2 ^ 62 }
+    ensures order { result ≡ reply_of number (link_of link.now) }
+    ensures fits { IsOrder result }
+{
+    if link.blind {
+        return Order::Eca { link: number };
+    }
+    Order::Coa {
+        link: number,
+        number: link.last_accepted(),
+    }
+}
+
+/// An acknowledgement settles a link that waits for one (5.4.3, 5.6.3).
+fn answer(parts: &mut Parts, number: u8, reached: Reached) -> Took
+    requires holds { Holds (kept_of parts.old) }
+    requires counted { AreCounted (2 ^ 61) parts.old.links.items }
+    requires reached { IsReach reached }
+    requires room { number < length parts.old.links.items → IsReady number 1 parts.old }
+    ensures stands { (s : State) → Agrees (kept_of parts.old) s → Obeys (at_link number s (λ link.
+        answered reached number link link.phase s) (slice_get s.links number)) result parts.new }
+{
+    match phase_of(&parts.links, number) {
+        Some(Phase::Down) => {
+            settle(parts, number, reached);
+            Took::Order
+        }
+        Some(Phase::Up) => Took::Ignored,
+        Some(Phase::Settled) => Took::Ignored,
+        None => Took::Ignored,
+    }
+}

@@ -1,0 +1,172 @@
+//! What a set keeps, and what is common to all events: the target, room, and a new message.
+ghost use Rattle.std.specs.Prelude.{◌≡◌, ◌+◌, ◌<◌, ◌≤◌, ◌++◌, [], ◌∷◌, map, length, IfSome, OnOk, slice_get, slice_set, true, false};
+ghost use Rattle.std.specs.Option.{option_map};
+ghost use Rattle.set_queues.specs.Buffers.{IsKnown, IsQueued, TakesRoom, queue_at, with_queue};
+ghost use Rattle.set_queues.specs.Kind.{is_kind};
+ghost use Rattle.set_model.specs.Rows.{appended, stream_of as stream_in};
+ghost use Rattle.set_model.specs.State.{target, has_phase_up};
+ghost use Rattle.set_model.specs.Changeover.{fate_on};
+ghost use Rattle.set_rules.specs.Agreement.{StandsFor, kind_of as kind_in};
+ghost use Rattle.set_rules.specs.Parts.{IsWhole, Becomes, link_of, kept_of};
+ghost use Rattle.set_rules.specs.Room.{HasRoom, IsReady, SameButRoom, target_beside as target_without};
+
+use super::link::Link;
+use arrayvec::ArrayVec;
+use l2_units::LONGEST_BODY;
+use set_events::{Body, Fate, SetConfig};
+use set_model::Phase;
+use set_queues::{Kind, Message, Queues};
+use set_route::Routes;
+use std::alloc::AllocError;
+use std::collections::VecDeque;
+
+/// The messages heard for users, oldest first.
+pub(crate) type Inbox = VecDeque<ArrayVec<u8, LONGEST_BODY>>;
+
+/// What a set keeps.
+#[derive(Drop)]
+pub struct Parts {
+    /// What it was opened with.
+    pub(crate) config: SetConfig,
+    /// Its links, by their numbers.
+    pub(crate) links: Vec<Link>,
+    /// Where its messages stand.
+    pub(crate) queues: Queues,
+    /// The bodies of its messages, by their numbers.
+    pub(crate) bodies: Vec<Body>,
+    /// Where its streams run.
+    pub(crate) routes: Routes,
+    /// The messages heard for users.
+    pub(crate) inbox: Inbox,
+}
+
+/// The lowest-numbered link that is up, if any (own).
+pub(crate) fn target_of(links: &[Link]) -> Option<u8>
+    requires { length links.now ≤ 16 }
+    ensures value { result ≡ target (map link_of links.now) }
+    ensures below { IfSome result (λ to. to < length links.now) }
+{
+    set_route::target(up_links(links).as_slice())
+}
+
+/// The lowest-numbered link that is up beside this one: the target once this one is out of service.
+fn target_beside(links: &[Link], number: u8) -> Option<u8>
+    requires few { length links.now ≤ 16 }
+    requires known { number < length links.now }
+    ensures value { result ≡ target_without number links.now }
+    ensures below { IfSome result (λ to. to < length links.now) }
+{
+    let mut up = up_links(links);
+    up.as_mut_slice()[usize::from(number)] = false;
+    set_route::target(up.as_slice())
+}
+
+/// Which links are up.
+fn up_links(links: &[Link]) -> ArrayVec<bool, 16>
+    requires { length links.now ≤ 16 }
+    ensures { result.items ≡ map (λ link. has_phase_up link.phase) links.now }
+{
+    let mut up = ArrayVec::new();
+    for link in links {
+        up.push(link.phase == Phase::Up);
+    }
+    up
+}
+
+/// Where the link of this number stands in its life, if there is one.
+pub(crate) fn phase_of(links: &[Link], number: u8) -> Option<Phase>
+    ensures { result ≡ option_map (λ link. link.phase) (slice_get links.now number) }
+{
+    match links.get(usize::from(number)) {
+        Some(link) => Some(link.phase),
+        None => None,
+    }
+}
+
+/// Where a message goes that is moved.
+pub(crate) fn fate_of(target: Option<u8>) -> Fate
+    ensures value { result ≡ fate_on target }
+    ensures queued { IsQueued result }
+{
+    match target {
+        Some(link) => Fate::Waiting { link },
+        None => Fate::Parked,
+    }
+}
+
+/// Takes room for one more message there. Nothing else changes, also where memory is refused.
+pub(crate) fn make_room(parts: &mut Parts, fate: Fate) -> Result<(), AllocError>
+    requires known { IsKnown fate parts.old.queues.lists }
+    requires queued { IsQueued fate }
+    ensures room { OnOk result (HasRoom fate parts.new) }
+    ensures same { SameButRoom parts.old parts.new }
+{
+    parts.bodies.reserve(1)?;
+    parts.queues.reserve(1)?;
+    parts.queues.reserve_at(fate, 1)
+}
+
+/// Takes room for all that stand on the link where they go once it's out of service, and for so many
+/// orders. Nothing else changes, also where memory is refused.
+pub(crate) fn make_room_beside(
+    parts: &mut Parts,
+    number: u8,
+    orders: usize,
+) -> Result<(), AllocError>
+    requires whole { IsWhole parts.old }
+    requires known { number < length parts.old.links.items }
+    ensures room { OnOk result (IsReady number orders parts.new) }
+    ensures same { SameButRoom parts.old parts.new }
+{
+    let fate = fate_of(target_beside(&parts.links, number));
+    parts.bodies.reserve(orders)?;
+    parts.queues.reserve(orders)?;
+    parts.queues.reserve_all(fate, number, orders)
+}
+
+/// A new message stands last where its fate tells: its number.
+pub(crate) fn stand_last(parts: &mut Parts, body: Body, fate: Fate) -> u64
+    requires fits { length body ≤ 273 }
+    requires known { IsKnown fate parts.old.queues.lists }
+    requires queued { IsQueued fate }
+    requires room { HasRoom fate parts.old }
+    ensures number { result ≡ length parts.old.queues.messages }
+    ensures stands { Becomes parts.old parts.new (λ s. record s { rows = appended s.rows body fate }) }
+    ensures rooms { TakesRoom fate 1 parts.old.queues.rooms parts.new.queues.rooms }
+    ensures lists { parts.new.queues.lists ≡ with_queue fate (queue_at fate parts.old.queues.lists
+        ++ length parts.old.queues.messages ∷ []) parts.old.queues.lists }
+    ensures links { parts.new.links ≡ parts.old.links }
+    ensures routes { parts.new.routes ≡ parts.old.routes }
+{
+    let message = Message {
+        fate,
+        kind: kind_of(&body),
+        octets: body.len() as u16,
+    };
+    parts.bodies.push_reserved(body);
+    parts.queues.add(message)
+}
+
+/// Whose a body is.
+fn kind_of(body: &Body) -> Kind
+    ensures value { result ≡ kind_in body.now }
+    ensures known { is_kind result ≡ true }
+{
+    match body.octets().first() {
+        Some(sio) if *sio % 16 != 0 => Kind::User {
+            stream: stream_of(body),
+        },
+        _ => Kind::Order,
+    }
+}
+
+/// The stream of a body: the high four bits of its fifth octet, 0 where there is none.
+pub(crate) fn stream_of(body: &Body) -> u8
+    ensures value { result ≡ stream_in body.now }
+    ensures few { result < 16 }
+{
+    match body.octets().get(4) {
+        Some(octet) => *octet / 16,
+        None => 0,
+    }
+}
