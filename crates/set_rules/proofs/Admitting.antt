@@ -3,7 +3,7 @@ use Rattle.std.proofs.Common.{refl, ◌≡◌, ◌∙◌, ap, sym, subst, ◌<�
 use Rattle.std.specs.Option.{option_map}
 use Rattle.std.proofs.lemmas.Option.{same_Some}
 use Rattle.set_events.specs.declared.answer.Answer.{Answer}
-use Rattle.set_events.specs.declared.answer.Answer.TheVariants.{Refused}
+use Rattle.set_events.specs.declared.answer.Answer.TheVariants.{Refused, Done}
 use Rattle.set_events.specs.declared.answer.Refusal.{Refusal as SetRefusal}
 use Rattle.set_events.specs.declared.answer.Refusal.TheVariants.{NotUp, NotDown, Unsettled, Nothing, NoSuchLink}
 use Rattle.set_rules.specs.declared.link.Link.{Link}
@@ -15,10 +15,12 @@ use Rattle.set_rules.specs.Refusing.{service_refusal, rising_refusal, waiting_re
 use Rattle.set_events.specs.declared.answer.Took.{Took}
 use Rattle.set_events.specs.declared.answer.Took.TheVariants.{Order as OrderTaken, Ignored}
 use Rattle.set_model.specs.declared.reached.Reached.{Reached}
+use Rattle.set_model.specs.declared.reached.Reached.TheVariants.{Unanswered}
+use Rattle.set_rules.specs.Room.{SameButRoom}
 use Rattle.set_model.specs.Changeover.{Obeyed, ignores, at_link, settle, changes_over, is_answered}
 use Rattle.set_rules.specs.Parts.{Gives, Obeys, link_of, kept_of}
 use Rattle.set_model.specs.State.{LinkState, State, has_phase_up}
-use Rattle.set_model.specs.Step.{Outcome, on_link, in_service, rises, gives_up}
+use Rattle.set_model.specs.Step.{Outcome, on_link, in_service, rises, falls, gives_up}
 use Rattle.set_model.proofs.Lists.{map_at, within}
 
 -- A link that an event needs as it is.
@@ -193,3 +195,20 @@ module _ (s : State) (n : ℕ) (reached : Reached) where
   answered_at parts i stands =
       obeyed_at s n (λ link. is_answered reached n link link.phase s) OrderTaken parts i.link i.there
       (subst (λ (p : Phase). Obeys (is_answered reached n i.link p s) OrderTaken parts) (sym i.phase_is) (record { took_is = refl; stands = stands }))
+
+-- After room was taken.
+pub agrees_same : (old new : Parts) (s : State) → SameButRoom old new → Agrees (kept_of old) s → Agrees (kept_of new) s
+agrees_same old new s same a = subst (λ k. Agrees k s) (sym same.kept) a
+
+pub here_same : (old new : Parts) (n : ℕ) (phase : Phase) → SameButRoom old new → IsHere old.links.items n phase → IsHere new.links.items n phase
+here_same old new n phase same h = subst (λ ls. IsHere ls n phase) (sym (ap (λ ls. ls.items) same.links)) h
+
+-- What is done at a link in its phase.
+pub given_done : (s : State) (n : ℕ) (parts : Parts) (i : IsIn s n Down) → StandsFor (kept_of parts) (settle Unanswered n i.link s) → Gives (on_link n s (λ link. gives_up n s link link.phase)) Done parts
+given_done s n parts i stands = on_it s n (λ link. gives_up n s link link.phase) Done parts i.link i.there (subst (λ (p : Phase). Gives (gives_up n s i.link p) Done parts) (sym i.phase_is) (record { answer_is = refl; stands = stands }))
+
+pub risen_done : (s : State) (n : ℕ) (parts : Parts) (i : IsIn s n Settled) → StandsFor (kept_of parts) (rises n s Settled).state → Gives (on_link n s (λ link. rises n s link.phase)) Done parts
+risen_done s n parts i stands = on_it s n (λ link. rises n s link.phase) Done parts i.link i.there (subst (λ (p : Phase). Gives (rises n s p) Done parts) (sym i.phase_is) (record { answer_is = refl; stands = stands }))
+
+pub fallen_done : (blind : Bool) (s : State) (n : ℕ) (parts : Parts) (i : IsIn s n Up) → StandsFor (kept_of parts) (falls blind n s i.link).state → Gives (in_service n s (falls blind n s)) Done parts
+fallen_done blind s n parts i stands = served s n (falls blind n s) Done parts i (record { answer_is = refl; stands = stands })

@@ -1,20 +1,21 @@
 -- What is kept after a call stands for what became of the state.
 use Rattle.std.proofs.Common.{refl, arith, ◌≡◌, ◌∙◌, ap, sym, subst, ◌≤◌, ◌<◌, [], ◌∷◌, ◌++◌, List, ℕ, false, length, take, Option, Some, None, ◌==◌, slice_get, slice_set}
 use Rattle.set_events.specs.declared.answer.Fate.{Fate}
-use Rattle.set_events.specs.declared.answer.Fate.TheVariants.{Unacked, Waiting, Acked, Discarded}
+use Rattle.set_events.specs.declared.answer.Fate.TheVariants.{Unacked, Waiting, Acked, Parked, Discarded}
 use Rattle.set_events.specs.declared.answer.DiscardCause.{DiscardCause}
 use Rattle.set_events.specs.declared.answer.DiscardCause.TheVariants.{Unreasonable}
 use Rattle.set_queues.specs.declared.message.Message.{Message}
-use Rattle.set_queues.specs.Buffers.{Lists, queue_at, with_queue, IsKnown, IsQueued}
+use Rattle.set_queues.specs.Buffers.{Lists, queue_at, with_queue, with_last, IsKnown, IsQueued}
 use Rattle.set_queues.specs.Messages.{restood}
 use Rattle.set_queues.specs.Sending.{first_sent, acknowledged as acked_lists, reach}
+use Rattle.set_queues.specs.Queues.{passed}
 use Rattle.set_queues.specs.Settling.{on as on_lists, settled as settled_lists}
 use Rattle.set_queues.proofs.Passing.{links_stay, queued_stands}
 use Rattle.set_queues.proofs.Settling.{IsAside}
 use Rattle.set_route.specs.Routing.{Routing, settled as streams_settled}
 use Rattle.set_model.specs.declared.reached.Reached.{Reached}
 use Rattle.set_model.specs.declared.reached.Reached.TheVariants.{Upto, Unknown, Unanswered}
-use Rattle.set_model.specs.Rows.{Row, appended, changed, turned, is_unacked, is_waiting, is_on, moved, all_with, IsInOrder}
+use Rattle.set_model.specs.Rows.{Row, appended, changed, turned, is_unacked, is_waiting, is_on, is_parked, moved, all_with, IsInOrder}
 use Rattle.set_model.specs.Changeover.{judge as judged, discard as discarded, acknowledge, acknowledged, move_off, settled_link, fate_on}
 use Rattle.set_model.specs.State.{State, LinkState, target, with_link}
 use Rattle.set_model.proofs.Events.{Kept as RowsKept, moved_to, moved_aside}
@@ -22,7 +23,7 @@ use Rattle.set_model.proofs.Lists.{set_same}
 use Rattle.set_rules.specs.Agreement.{Kept, StandsFor, Agrees}
 use Rattle.set_rules.specs.Parts.{IsReach}
 use Rattle.set_rules.proofs.Standing.{message_of}
-use Rattle.set_rules.proofs.States.{kept_is, link_for, sent_for, appended_for, acked_for, sent_up_for, waiting_up_for, settled_for}
+use Rattle.set_rules.proofs.States.{kept_is, link_for, sent_for, appended_for, acked_for, sent_up_for, waiting_up_for, settled_for, risen_for}
 use Rattle.set_rules.proofs.Reaching.{reach_is, is_reached, is_unreached}
 
 -- new keeps this, and all else as old
@@ -111,3 +112,9 @@ sent_then old new s n message link f order there first b =
     let same : slice_set s.links n link ≡ s.links = set_same s.links n link there in
     becomes old new _ _ _ _ _ _ b (subst (λ links. StandsFor (record old { lists = first_sent n message old.lists; messages = restood (message ∷ []) (Unacked n) old.messages; links = links }) (record s { rows = turned (is_waiting n) (Unacked n) 1 s.rows; links = links })) same
     (sent_for old s n message link link f order there refl first))
+
+-- A LINK COMES UP
+pub risen_then : (old new : Kept) (s : State) (n : ℕ) (link link' : LinkState) (routing : Routing) → StandsFor old s → slice_get s.links n ≡ Some link → link'.acked ≡ 0
+    → Becoming old new (passed Parked (Waiting n) (with_last n 127 old.lists)) (restood (queue_at Parked old.lists) (Waiting n) old.messages) old.bodies (slice_set s.links n link') routing
+    → StandsFor new (record s { rows = moved is_parked (all_with (Waiting n)) s.rows; links = slice_set s.links n link'; routing = routing })
+risen_then old new s n link link' routing f there e b = becomes old new _ _ _ _ _ _ b (risen_for old s n link link' routing f there e)

@@ -13,9 +13,10 @@
 //! ```
 //!
 //! In it so far: what a link's terminal sends next (`sending`), what its error control makes of a heard unit
-//! (`hearing`), how a link is left and orders are obeyed (`changeover`), and what becomes of a link's
-//! messages when it settles (`settling`); `parts`, `link` and `control` hold them. The other events, and the
-//! call that tells them apart, are still `set_rules`'s; no crate stands on this one yet.
+//! (`hearing`), how a link is left and orders are obeyed (`changeover`), what becomes of a link's messages
+//! when it settles (`settling`), and the events of a link's life, Take and Find (`step`); `parts`, `link` and
+//! `control` hold them. Offer and Heard, and the call that tells the events apart, are still `set_rules`'s; no
+//! crate stands on this one yet.
 //!
 //! This crate reads no clock, waits for nothing, takes no lock and does no IO. A call that may want memory
 //! takes it before it changes anything.
@@ -23,10 +24,13 @@
 
 mod changeover;
 mod control;
+mod fault;
 mod hearing;
 mod link;
 mod parts;
 mod sending;
 mod settling;
+mod step;
 
+pub use fault::SetFault;
 pub use parts::Parts;

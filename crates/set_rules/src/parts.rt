@@ -1,7 +1,7 @@
 //! What a set keeps, and what is common to all events: the target, room, and a new message.
 ghost use Rattle.std.specs.Prelude.{◌≡◌, ◌+◌, ◌<◌, ◌≤◌, ◌++◌, [], ◌∷◌, map, length, IfSome, OnOk, slice_get, slice_set, true, false};
 ghost use Rattle.std.specs.Option.{option_map};
-ghost use Rattle.set_queues.specs.Buffers.{IsKnown, IsQueued, TakesRoom, queue_at, with_queue};
+ghost use Rattle.set_queues.specs.Buffers.{IsKnown, IsQueued, TakesRoom, queue_at, room_at, with_queue};
 ghost use Rattle.set_queues.specs.Kind.{is_kind};
 ghost use Rattle.set_model.specs.Rows.{appended, stream_of as stream_in};
 ghost use Rattle.set_model.specs.State.{target, has_phase_up};
@@ -122,6 +122,20 @@ pub(crate) fn make_room_beside(
     parts.bodies.reserve(orders)?;
     parts.queues.reserve(orders)?;
     parts.queues.reserve_all(fate, number, orders)
+}
+
+/// Takes room in the link's queue for all that is parked. Nothing else changes, also where memory is
+/// refused.
+pub(crate) fn make_room_parked(parts: &mut Parts, number: u8) -> Result<(), AllocError>
+    requires known { IsKnown (Fate.Waiting number) parts.old.queues.lists }
+    ensures room { OnOk result (length parts.new.queues.lists.parked
+        ≤ room_at (Fate.Waiting number) parts.new.queues.rooms) }
+    ensures same { SameButRoom parts.old parts.new }
+{
+    let parked = parts.queues.count_at(Fate::Parked);
+    parts
+        .queues
+        .reserve_at(Fate::Waiting { link: number }, parked)
 }
 
 /// A new message stands last where its fate tells: its number.

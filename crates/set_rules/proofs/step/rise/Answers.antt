@@ -1,0 +1,63 @@
+use Rattle.std.proofs.Common.{refl, arith, ◌≡◌, ◌<◌, ◌∙◌, ap, sym, slice_get, slice_set, ℕ, [], length, map}
+use Rattle.set_events.specs.declared.answer.Fate.TheVariants.{Unacked, Waiting, Parked}
+use Rattle.set_queues.specs.Buffers.{Lists, queue_at}
+use Rattle.set_queues.specs.Messages.{restood}
+use Rattle.set_queues.specs.Queues.{passed}
+use Rattle.set_queues.proofs.Soundness.{last_links}
+use Rattle.set_route.specs.Routing.{raised}
+use Rattle.set_model.specs.declared.phase.Phase.TheVariants.{Settled}
+use Rattle.set_model.specs.Rows.{numbers}
+use Rattle.set_model.specs.State.{Settings}
+use Rattle.set_model.specs.Step.{risen_link}
+use Rattle.set_model.proofs.Lists.{map_at, map_set, present}
+use Rattle.set_model.proofs.Settling.{settled_empty}
+use Rattle.set_rules.specs.declared.parts.Parts.{Parts}
+use Rattle.set_rules.specs.Agreement.{Holds}
+use Rattle.set_rules.specs.Parts.{AtLink, link_of, kept_of}
+use Rattle.set_rules.proofs.Becoming.{risen_then}
+use Rattle.set_rules.proofs.Rooms.{whole_of}
+use Rattle.set_rules.proofs.step.rise.Goals as goal
+
+-- nothing stands on a link that settled
+empty : (parts : Parts) (n : ℕ) → Holds (kept_of parts) → n < length parts.links.items → AtLink n parts.links.items (λ link. link.phase ≡ Settled) → (queue_at (Unacked n) parts.queues.lists ≡ []) × (queue_at (Waiting n) parts.queues.lists ≡ [])
+empty parts n holds known settled =
+    let a = holds.1 in
+    let x = present parts.links.items n known in
+    let there = sym (ap (λ links. slice_get links n) a.stands.links) ∙ map_at link_of parts.links.items n x.0 x.1 in
+    let e = settled_empty holds.0 n (link_of x.0) a.sound there (settled x.0 x.1) in
+    (a.stands.stands.queues (Unacked n) ∙ ap numbers e.unack_none, a.stands.stands.queues (Waiting n) ∙ ap numbers e.wait_none)
+
+pub reset-requires-clause-unacked : goal.reset-requires-clause-unacked
+reset-requires-clause-unacked c = (empty c.args.parts.now c.args.number c.requires.holds c.requires.known c.requires.settled).0
+
+pub reset-requires-clause-unsent : goal.reset-requires-clause-unsent
+reset-requires-clause-unsent c = (empty c.args.parts.now c.args.number c.requires.holds c.requires.known c.requires.settled).1
+
+low : (n a b : ℕ) → a ≡ b → n < b → n < a
+low n a b e h = omega (arith, e, h)
+
+pub divert-requires-clause-other : goal.divert-requires-clause-other
+divert-requires-clause-other c = low c.args.number _ _ (ap (λ (q : Lists). length q.links) c.reset.ensures.lists ∙ last_links c.args.number 127 c.args.parts.now.queues.lists ∙ (whole_of c.args.parts.now c.requires.holds).as_many) c.requires.known
+
+pub divert-requires-clause-room : goal.divert-requires-clause-room
+divert-requires-clause-room c =
+    let same = ap (λ (q : Lists). length q.parked) c.reset.ensures.lists in
+    let room = c.reset.ensures.rooms (Waiting c.args.number) in
+    let enough = c.requires.room in
+    omega (arith, same, room, enough)
+
+pub returns : goal.returns
+returns c = record {
+  stands = λ s link there f.
+      let n = c.args.number in
+      let k = kept_of c.args.parts.now in
+      risen_then k _ s n link (risen_link s.settings.method) (raised n s.routing) f there refl (record {
+        settings_same = refl;
+        lists_are = c.divert.ensures.lists ∙ ap (λ q. passed Parked (Waiting n) q) c.reset.ensures.lists;
+        messages_are = c.divert.ensures.messages ∙ ap (λ (q : Lists). restood q.parked (Waiting n) c.reset.new.self.messages) c.reset.ensures.lists ∙ ap (λ ms. restood c.args.parts.now.queues.lists.parked (Waiting n) ms) c.reset.ensures.same.0;
+        bodies_are = refl;
+        links_are = ap (λ i. map link_of (slice_set c.args.parts.now.links.items i c.rise.new.self)) c.from.ensures ∙ map_set link_of c.args.parts.now.links.items n c.rise.new.self ∙ ap (λ ls. slice_set ls n (link_of c.rise.new.self)) f.links ∙ ap (slice_set s.links n) (ap link_of c.rise.ensures ∙ ap (λ (settings : Settings). risen_link settings.method) f.settings);
+        routing_is = c.raise.ensures ∙ ap (raised n) f.routing;
+        inbox_same = refl;
+      });
+}

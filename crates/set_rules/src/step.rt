@@ -1,0 +1,176 @@
+//! What an event does to a set. Each function is a case of the set's step.
+ghost use Rattle.std.specs.Prelude.{◌≡◌, ◌≢◌, ◌<◌, ◌≤◌, ◌^◌, length, slice_get, Some, IfOk, IfErr, OnErr};
+ghost use Rattle.std.specs.Vec.{vec_len, vec_capacity};
+ghost use Rattle.l3_orders.specs.Grammar.{IsOrder};
+ghost use Rattle.set_queues.specs.Buffers.{room_at};
+ghost use Rattle.set_model.specs.Changeover.{leaving_order as order_of_leaving, leave as left_by, queue as queued};
+ghost use Rattle.set_model.specs.State.{State, LinkState};
+ghost use Rattle.set_model.specs.Step.{on_link, in_service, rises, falls, gives_up, taken as taken_of, found as found_of};
+ghost use Rattle.set_model.specs.Rows.{place};
+ghost use Rattle.set_model.specs.declared.phase.Phase.TheVariants.{Up, Settled};
+ghost use Rattle.set_rules.specs.Agreement.{Agrees, Holds, StandsFor};
+ghost use Rattle.set_rules.specs.Parts.{Answers, AreCounted, IsWhole, AtLink, IsOut, link_of, kept_of};
+ghost use Rattle.set_rules.specs.Refusing.{rising_refusal, waiting_refusal};
+ghost use Rattle.set_rules.specs.Room.{IsReady, SameButRoom};
+
+use super::changeover::{leave, order_space, queue};
+use super::fault::SetFault;
+use super::link::Link;
+use super::parts::{Parts, make_room_beside, make_room_parked};
+use super::sending::out_of_service;
+use super::settling::settle;
+use l3_orders::Order;
+use set_events::{Answer, Fate, Refusal};
+use set_model::{Phase, Reached};
+
+/// The oldest message of the inbox is taken.
+pub(crate) fn taken(parts: &mut Parts) -> Answer
+    ensures { Answers parts.old parts.new result (λ s. taken_of s.inbox s) }
+{
+    match parts.inbox.pop_front() {
+        Some(body) => Answer::Taken { body },
+        None => Answer::Refused {
+            why: Refusal::Nothing,
+        },
+    }
+}
+
+/// A message is looked for by its number.
+pub(crate) fn found(parts: &Parts, number: u64) -> Answer
+    ensures { (s : State) → StandsFor (kept_of parts.now) s → found_of (place number s.rows) s
+        ≡ record { answer = result; state = s } }
+{
+    match parts.queues.fate_of(number) {
+        Some(fate) => Answer::Found { fate },
+        None => Answer::Refused {
+            why: Refusal::UnknownNumber,
+        },
+    }
+}
+
+/// No answer came from the far end: a link that was left settles, and what was sent on it or waited
+/// is discarded (own).
+pub(crate) fn given_up(parts: &mut Parts, number: u8) -> Result<Answer, SetFault>
+    requires holds { Holds (kept_of parts.old) }
+    requires counted { AreCounted (2 ^ 60) parts.old.links.items }
+    ensures ok { IfOk result (λ answer. Answers parts.old parts.new answer (λ s. on_link number s (λ link.
+        gives_up number s link link.phase))) }
+    ensures err { OnErr result (kept_of parts.new ≡ kept_of parts.old) }
+    ensures fault { IfErr result (λ fault. fault ≡ SetFault.NoMemory) }
+{
+    if let Some(why) = out_of_waiting(&parts.links, number) {
+        return Ok(Answer::Refused { why });
+    }
+    make_room_beside(parts, number, 0)?;
+    settle(parts, number, Reached::Unanswered);
+    Ok(Answer::Done)
+}
+
+/// Why no answer is waited for on this link, if none is.
+fn out_of_waiting(links: &[Link], number: u8) -> Option<Refusal>
+    ensures { result ≡ waiting_refusal (slice_get links.now number) }
+{
+    match links.get(usize::from(number)).map(|link| link.phase) {
+        None => Some(Refusal::NoSuchLink),
+        Some(Phase::Down) => None,
+        Some(Phase::Up | Phase::Settled) => Some(Refusal::Nothing),
+    }
+}
+
+/// The link is left, and an order tells the far end: a changeover order with the FSN last accepted,
+/// or blind an emergency changeover order without it.
+pub(crate) fn left(parts: &mut Parts, number: u8, blind: bool) -> Result<Answer, SetFault>
+    requires holds { Holds (kept_of parts.old) }
+    requires counted { AreCounted (2 ^ 60) parts.old.links.items }
+    ensures ok { IfOk result (λ answer. Answers parts.old parts.new answer (λ s. in_service number s
+        (falls blind number s))) }
+    ensures err { OnErr result (kept_of parts.new ≡ kept_of parts.old) }
+    ensures fault { IfErr result (λ fault. fault ≡ SetFault.NoMemory) }
+{
+    if let Some(why) = out_of_service(&parts.links, number) {
+        return Ok(Answer::Refused { why });
+    }
+    let space = order_space(&parts.links)?;
+    make_room_beside(parts, number, 1)?;
+    fall(parts, number, blind, space);
+    Ok(Answer::Done)
+}
+
+/// The link is left, and an order tells the far end.
+fn fall(parts: &mut Parts, number: u8, blind: bool, space: Vec<u8>)
+    requires whole { IsWhole parts.old }
+    requires counted { AreCounted (2 ^ 60) parts.old.links.items }
+    requires known { number < length parts.old.links.items }
+    requires space { (vec_len space ≡ 0) × (7 ≤ vec_capacity space) }
+    requires room { IsReady number 1 parts.old }
+    ensures stands { (s : State) (link : LinkState) → slice_get s.links number ≡ Some link → StandsFor (kept_of parts.old) s
+        → StandsFor (kept_of parts.new) (queued (order_of_leaving blind number link) (left_by blind number link s)) }
+{
+    let order = leaving_order(&parts.links[usize::from(number)], number, blind);
+    leave(parts, number, blind);
+    queue(parts, order, space);
+}
+
+/// The order with which a link is left.
+fn leaving_order(link: &Link, number: u8, blind: bool) -> Order
+    requires number { number < 16 }
+    requires counted { link.now.accepted < 2 ^ 62 }
+    ensures order { result ≡ order_of_leaving blind number (link_of link.now) }
+    ensures fits { IsOrder result }
+{
+    if blind {
+        return Order::Eco { link: number };
+    }
+    Order::Coo {
+        link: number,
+        number: link.last_accepted(),
+    }
+}
+
+/// The link is in service from now on: its error control starts anew, streams move to it, and what
+/// was parked waits for it.
+///
+/// Room in its queue is taken first, so a fault leaves everything as it was.
+pub(crate) fn raised(parts: &mut Parts, number: u8) -> Result<Answer, SetFault>
+    requires holds { Holds (kept_of parts.old) }
+    ensures ok { IfOk result (λ answer. Answers parts.old parts.new answer (λ s. on_link number s (λ link.
+        rises number s link.phase))) }
+    ensures err { OnErr result (kept_of parts.new ≡ kept_of parts.old) }
+    ensures fault { IfErr result (λ fault. fault ≡ SetFault.NoMemory) }
+{
+    if let Some(why) = out_of_rising(&parts.links, number) {
+        return Ok(Answer::Refused { why });
+    }
+    make_room_parked(parts, number)?;
+    rise(parts, number);
+    Ok(Answer::Done)
+}
+
+/// The settled link is in service from now on.
+fn rise(parts: &mut Parts, number: u8)
+    requires holds { Holds (kept_of parts.old) }
+    requires known { number < length parts.old.links.items }
+    requires settled { AtLink number parts.old.links.items (λ link. link.phase ≡ Settled) }
+    requires room { length parts.old.queues.lists.parked ≤ room_at (Fate.Waiting number) parts.old.queues.rooms }
+    ensures stands { (s : State) (link : LinkState) → slice_get s.links number ≡ Some link → StandsFor (kept_of parts.old) s
+        → StandsFor (kept_of parts.new) (rises number s Settled).state }
+{
+    parts.queues.reset(number);
+    parts
+        .queues
+        .divert(Fate::Parked, Fate::Waiting { link: number });
+    parts.links[usize::from(number)].rise(parts.config.method);
+    parts.routes.raise(number);
+}
+
+/// Why a link can't come up, if it can't.
+fn out_of_rising(links: &[Link], number: u8) -> Option<Refusal>
+    ensures { result ≡ rising_refusal (slice_get links.now number) }
+{
+    match links.get(usize::from(number)).map(|link| link.phase) {
+        None => Some(Refusal::NoSuchLink),
+        Some(Phase::Up) => Some(Refusal::NotDown),
+        Some(Phase::Down) => Some(Refusal::Unsettled),
+        Some(Phase::Settled) => None,
+    }
+}
