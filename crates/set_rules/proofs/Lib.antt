@@ -2,6 +2,8 @@ pub mod Admitting
 pub mod Becoming
 pub mod Bodies
 pub mod Choosing
+pub mod Counting
+pub mod Fresh
 pub mod Heard
 pub mod Judged
 pub mod Less
@@ -15,3 +17,4 @@ pub mod Chosen
 pub mod Standing
 pub mod States
 pub mod Targets
+pub mod Told

@@ -1,9 +1,10 @@
 -- Why an event is refused, told by the link.
-use Rattle.std.specs.Prelude.{Option, Some, None, if◌then◌else◌}
+use Rattle.std.specs.Prelude.{ℕ, ◌==◌, nat_lt, nat_le, List, length, Option, Some, None, if◌then◌else◌}
 use Rattle.set_events.specs.declared.answer.Refusal.{Refusal as SetRefusal}
-use Rattle.set_events.specs.declared.answer.Refusal.TheVariants.{NotUp, NotDown, Unsettled, Nothing, NoSuchLink}
+use Rattle.set_events.specs.declared.answer.Refusal.TheVariants.{TooShort, TooLong, Reserved, StreamFull, NotUp, NotDown, Unsettled, Nothing, NoSuchLink}
 use Rattle.set_model.specs.declared.phase.Phase.{Phase}
 use Rattle.set_model.specs.declared.phase.Phase.TheVariants.{Up, Down, Settled}
+use Rattle.set_model.specs.Rows.{service_indicator}
 use Rattle.set_model.specs.State.{has_phase_up}
 use Rattle.set_rules.specs.declared.link.Link.{Link}
 
@@ -25,3 +26,12 @@ rising_refusal (Some link) = refusal_in link.phase (Some NotDown) (Some Unsettle
 abbrev pub waiting_refusal : Option Link → Option SetRefusal
 waiting_refusal None = Some NoSuchLink
 waiting_refusal (Some link) = refusal_in link.phase (Some Nothing) None (Some Nothing)
+
+-- why an offer is refused, told by how many messages of its stream aren't sent yet
+abbrev pub refusal_by : ℕ → List ℕ → Option SetRefusal
+refusal_by unsent body =
+    if nat_lt (length body) 5 then Some TooShort
+    else (if nat_lt 273 (length body) then Some TooLong
+    else (if service_indicator body == 0 then Some Reserved
+    else (if nat_le 1024 unsent then Some StreamFull
+    else None)))

@@ -1,18 +1,107 @@
-//! What a link's error control makes of a heard unit.
-ghost use Rattle.std.specs.Prelude.{◌≡◌, ◌<◌, ◌^◌, length, slice_get, Some};
+//! What a heard unit does to a set.
+ghost use Rattle.std.specs.Prelude.{◌≡◌, ◌<◌, ◌≤◌, ◌^◌, true, length, slice_get, Some, IfOk, IfErr, OnErr, OnOk};
+ghost use Rattle.std.specs.VecDeque.{deque_len, deque_capacity};
+ghost use Rattle.std.specs.Vec.{vec_len, vec_capacity};
 ghost use Rattle.l2_units.specs.Grammar.{head_of as header_of};
+ghost use Rattle.l3_orders.specs.Grammar.{link_of as link_in};
 ghost use Rattle.set_model.specs.Control.{part_of};
+ghost use Rattle.set_model.specs.Rows.{service_indicator as indicator_of};
 ghost use Rattle.set_model.specs.State.{State, LinkState, window_of};
-ghost use Rattle.set_model.specs.Step.{is_msu as is_message, after_control};
-ghost use Rattle.set_rules.specs.Agreement.{Holds, StandsFor};
-ghost use Rattle.set_rules.specs.Parts.{AreCounted, kept_of};
+ghost use Rattle.set_model.specs.Step.{in_service, heard as heard_of, is_msu as is_message, brought, takes, after_control, report_of as report_for};
+ghost use Rattle.set_rules.specs.Agreement.{Agrees, Holds, StandsFor};
+ghost use Rattle.set_rules.specs.Hearing.{IsSpacious, KeepsSpace, order_brought, has_order};
+ghost use Rattle.set_rules.specs.Parts.{Answers, AreCounted, IsWhole, Obeys, kept_of};
 
-use super::parts::Parts;
-use l2_units::{Unit, header_in};
+use super::changeover::{obey, order_space};
+use super::fault::SetFault;
+use super::parts::{Parts, make_room_beside};
+use super::sending::out_of_service;
+use arrayvec::ArrayVec;
+use l2_units::{LONGEST_BODY, Unit, header_in};
 use l2_window::HeardPart;
+use l3_orders::{Order, read_order};
+use set_events::{Answer, Refusal, Report, Took};
+
+/// A unit was heard: a FISU or MSU acknowledges, may bring a body, and may ask for retransmission.
+/// An LSSU is refused, since the error control has nothing to do with it.
+///
+/// All memory that the body may want is taken first, so a fault leaves everything as it was.
+pub(crate) fn heard(parts: &mut Parts, number: u8, unit: &Unit) -> Result<Answer, SetFault>
+    requires holds { Holds (kept_of parts.old) }
+    requires counted { AreCounted (2 ^ 60) parts.old.links.items }
+    ensures ok { IfOk result (λ answer. Answers parts.old parts.new answer (λ s. in_service number s
+        (heard_of unit.now number s))) }
+    ensures err { OnErr result (kept_of parts.new ≡ kept_of parts.old) }
+    ensures fault { IfErr result (λ fault. fault ≡ SetFault.NoMemory) }
+{
+    if let Some(why) = out_of_service(&parts.links, number) {
+        return Ok(Answer::Refused { why });
+    }
+    if let Unit::Lssu { .. } = unit {
+        return Ok(Answer::Refused {
+            why: Refusal::Nothing,
+        });
+    }
+    let space = make_space(parts, unit)?;
+    let part = control_hears(parts, number, unit);
+    let took = take_in(parts, part.accept, unit, space);
+    Ok(Answer::Heard {
+        report: report_of(part, took),
+    })
+}
+
+/// Takes the memory that the unit's body may want: in the inbox, or for an order that answers it and
+/// for the messages that it may move. A fill-in unit wants none.
+fn make_space(parts: &mut Parts, unit: &Unit) -> Result<Vec<u8>, SetFault>
+    requires { IsWhole parts.old }
+    ensures space { IfOk result (λ space. has_order unit.now ≡ true → (vec_len space ≡ 0) × (7 ≤ vec_capacity space)) }
+    ensures inbox { OnOk result (is_message unit.now ≡ true → deque_len parts.new.inbox < deque_capacity parts.new.inbox) }
+    ensures room { OnOk result (IsSpacious (order_brought unit.now) parts.new) }
+    ensures same { kept_of parts.new ≡ kept_of parts.old }
+    ensures links { parts.new.links ≡ parts.old.links }
+    ensures fault { IfErr result (λ fault. fault ≡ SetFault.NoMemory) }
+{
+    if !is_msu(unit) {
+        return Ok(Vec::new(*parts.links.allocator()));
+    }
+    parts.inbox.reserve(1)?;
+    let Some(order) = order_in(unit) else {
+        return Ok(Vec::new(*parts.links.allocator()));
+    };
+    let space = order_space(&parts.links)?;
+    let link = link_of(&order);
+    if usize::from(link) < parts.links.len() {
+        make_room_beside(parts, link, 1)?;
+    }
+    Ok(space)
+}
+
+/// The order that the unit's body stands for, if it brings one.
+fn order_in(unit: &Unit) -> Option<Order>
+    ensures { result ≡ order_brought unit.now }
+{
+    match unit {
+        Unit::Msu { body, .. } => read_order(body.as_slice()).ok(),
+        _ => None,
+    }
+}
+
+/// The link that an order is about.
+fn link_of(order: &Order) -> u8
+    ensures { result ≡ link_in order.now }
+{
+    match order {
+        Order::Coo { link, .. }
+        | Order::Coa { link, .. }
+        | Order::Eco { link }
+        | Order::Eca { link }
+        | Order::Cbd { link, .. }
+        | Order::Cba { link, .. } => *link,
+    }
+}
 
 /// The control hears the unit: acknowledged messages are the first ones, and so many.
-pub(crate) fn control_hears(parts: &mut Parts, number: u8, unit: &Unit) -> HeardPart
+fn control_hears(parts: &mut Parts, number: u8, unit: &Unit) -> HeardPart
     requires holds { Holds (kept_of parts.old) }
     requires counted { AreCounted (2 ^ 60) parts.old.links.items }
     requires known { number < length parts.old.links.items }
@@ -21,6 +110,7 @@ pub(crate) fn control_hears(parts: &mut Parts, number: u8, unit: &Unit) -> Heard
     ensures stands { (s : State) (link : LinkState) → slice_get s.links number ≡ Some link → StandsFor (kept_of parts.old) s
         → StandsFor (kept_of parts.new) (after_control result (header_of unit.now) unit.now number s link) }
     ensures counted { AreCounted (2 ^ 61) parts.new.links.items }
+    ensures keeps { KeepsSpace parts.old parts.new }
 {
     let window = parts.queues.window(number);
     let link = &mut parts.links[usize::from(number)];
@@ -42,4 +132,63 @@ fn is_msu(unit: &Unit) -> bool
     ensures { result ≡ is_message unit.now }
 {
     matches!(unit, Unit::Msu { .. })
+}
+
+/// Where the unit's body goes, if it's accepted: to the users' inbox, or if it's the management's, to
+/// the rules of changeover. `space` holds the order that may answer it.
+fn take_in(parts: &mut Parts, accept: bool, unit: &Unit, space: Vec<u8>) -> Took
+    requires holds { Holds (kept_of parts.old) }
+    requires counted { AreCounted (2 ^ 61) parts.old.links.items }
+    requires space { has_order unit.now ≡ true → (vec_len space ≡ 0) × (7 ≤ vec_capacity space) }
+    requires inbox { is_message unit.now ≡ true → deque_len parts.old.inbox < deque_capacity parts.old.inbox }
+    requires room { IsSpacious (order_brought unit.now) parts.old }
+    ensures { (s : State) → Agrees (kept_of parts.old) s → Obeys (takes (brought accept unit.now) s) result parts.new }
+{
+    let Unit::Msu { body, .. } = unit else {
+        return Took::Nothing;
+    };
+    if !accept {
+        return Took::Nothing;
+    }
+    if service_indicator(body.as_slice()) == 0 {
+        return match read_order(body.as_slice()) {
+            Ok(order) => obey(parts, order, space),
+            Err(_) => Took::Ignored,
+        };
+    }
+    parts.inbox.push_back_reserved(copy_of(body));
+    Took::Message
+}
+
+/// The service indicator of a body, 0 where there is none.
+fn service_indicator(body: &[u8]) -> u8
+    ensures { result ≡ indicator_of body.now }
+{
+    match body.first() {
+        Some(sio) => *sio % 16,
+        None => 0,
+    }
+}
+
+/// An equal body. It takes no memory.
+fn copy_of(body: &ArrayVec<u8, LONGEST_BODY>) -> ArrayVec<u8, LONGEST_BODY>
+    ensures { result ≡ body.now }
+{
+    match body.clone() {
+        Ok(copy) => copy,
+        Err(_) => unreachable!(),
+    }
+}
+
+/// The report of what the control found, with what became of the body.
+fn report_of(part: HeardPart, took: Took) -> Report
+    ensures { result ≡ report_for part took }
+{
+    Report {
+        acked: part.acked,
+        took,
+        asked: part.asked,
+        resend: part.resend,
+        fault: part.fault,
+    }
 }

@@ -1,28 +1,29 @@
 //! The rules of a set over its bookkeeping: which event makes which changes (ITU-T Q.703 5, Q.704 5).
 //!
-//! What a set keeps, [`Parts`], is queues of numbers and a fate for each (`set_queues`), the bodies by their
+//! What a set keeps, [`Core`], is queues of numbers and a fate for each (`set_queues`), the bodies by their
 //! numbers, its links, where its streams run, and the messages heard for users. It isn't a function of
 //! the state of the model (`set_model`), nor the other way round: it agrees with a state
-//! (`specs/Agreement.antt`), and each function here says of every state that its parts agreed with that they
-//! agree with what the model makes of it.
+//! (`specs/Agreement.antt`), and [`Core::apply`] says of every state that it agreed with that it agrees with what
+//! the model's step makes of it, and answers as that step does.
 //!
 //! ```text
-//!   what is kept  --- a call --->  what is kept        queues, fates, bodies, links
-//!        |                              |              agrees with
-//!      state      --- the model --->  state            rows in the order of queueing
+//!   what is kept  --- apply --->  what is kept        queues, fates, bodies, links
+//!        |                             |              agrees with
+//!      state      --- step ---->     state            rows in the order of queueing
 //! ```
 //!
-//! In it so far: what a link's terminal sends next (`sending`), what its error control makes of a heard unit
-//! (`hearing`), how a link is left and orders are obeyed (`changeover`), what becomes of a link's messages
-//! when it settles (`settling`), and the events of a link's life, Take and Find (`step`); `parts`, `link` and
-//! `control` hold them. Offer and Heard, and the call that tells the events apart, are still `set_rules`'s; no
-//! crate stands on this one yet.
+//! An event costs what it moves, however many messages there ever were.
+//!
+//! The files: `parts` what a set holds; `link` and `control` one link; `sending` and `hearing` what a link's
+//! terminal asks and tells; `changeover` how a link is left and orders are obeyed; `settling` what becomes
+//! of its messages; `step` the case of each event; `contents` the whole. No crate stands on this one yet.
 //!
 //! This crate reads no clock, waits for nothing, takes no lock and does no IO. A call that may want memory
 //! takes it before it changes anything.
 #![tactic(auto)]
 
 mod changeover;
+mod contents;
 mod control;
 mod fault;
 mod hearing;
@@ -32,5 +33,5 @@ mod sending;
 mod settling;
 mod step;
 
+pub use contents::Core;
 pub use fault::SetFault;
-pub use parts::Parts;

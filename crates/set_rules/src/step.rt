@@ -2,29 +2,138 @@
 ghost use Rattle.std.specs.Prelude.{◌≡◌, ◌≢◌, ◌<◌, ◌≤◌, ◌^◌, length, slice_get, Some, IfOk, IfErr, OnErr};
 ghost use Rattle.std.specs.Vec.{vec_len, vec_capacity};
 ghost use Rattle.l3_orders.specs.Grammar.{IsOrder};
-ghost use Rattle.set_queues.specs.Buffers.{room_at};
+ghost use Rattle.set_queues.specs.Buffers.{IsKnown, IsQueued, room_at};
+ghost use Rattle.set_queues.specs.Messages.{unsent_of};
+ghost use Rattle.set_route.specs.Routing.{place_of, accepted as accepted_by};
 ghost use Rattle.set_model.specs.Changeover.{leaving_order as order_of_leaving, leave as left_by, queue as queued};
+ghost use Rattle.set_model.specs.Sound.{IsAsked};
 ghost use Rattle.set_model.specs.State.{State, LinkState};
-ghost use Rattle.set_model.specs.Step.{on_link, in_service, rises, falls, gives_up, taken as taken_of, found as found_of};
-ghost use Rattle.set_model.specs.Rows.{place};
+ghost use Rattle.set_model.specs.Step.{offer_refusal, offered as offered_with, fate_at, on_link, in_service, rises, falls, gives_up, taken as taken_of, found as found_of, stepped};
+ghost use Rattle.set_model.specs.Rows.{appended, place, stream_of as stream_in};
 ghost use Rattle.set_model.specs.declared.phase.Phase.TheVariants.{Up, Settled};
 ghost use Rattle.set_rules.specs.Agreement.{Agrees, Holds, StandsFor};
-ghost use Rattle.set_rules.specs.Parts.{Answers, AreCounted, IsWhole, AtLink, IsOut, link_of, kept_of};
-ghost use Rattle.set_rules.specs.Refusing.{rising_refusal, waiting_refusal};
-ghost use Rattle.set_rules.specs.Room.{IsReady, SameButRoom};
+ghost use Rattle.set_rules.specs.Parts.{Answers, AreCounted, Becomes, IsWhole, AtLink, IsOut, link_of, kept_of};
+ghost use Rattle.set_rules.specs.Refusing.{refusal_by, rising_refusal, waiting_refusal};
+ghost use Rattle.set_rules.specs.Room.{HasRoom, IsReady, SameButRoom};
 
 use super::changeover::{leave, order_space, queue};
 use super::fault::SetFault;
+use super::hearing::heard;
 use super::link::Link;
-use super::parts::{Parts, make_room_beside, make_room_parked};
-use super::sending::out_of_service;
+use super::parts::{
+    Parts, make_room, make_room_beside, make_room_parked, phase_of, stand_last, stream_of,
+};
+use super::sending::{next, out_of_service};
 use super::settling::settle;
+use l2_units::LONGEST_BODY;
 use l3_orders::Order;
-use set_events::{Answer, Fate, Refusal};
+use set_events::{Answer, Body, Event, Fate, Refusal};
 use set_model::{Phase, Reached};
+use set_queues::Queues;
+use set_route::Place;
+
+/// The answer to an event; on a fault nothing has changed.
+pub(crate) fn answered(parts: &mut Parts, event: &Event) -> Result<Answer, SetFault>
+    requires holds { Holds (kept_of parts.old) }
+    requires counted { AreCounted (2 ^ 60) parts.old.links.items }
+    ensures ok { IfOk result (λ answer. Answers parts.old parts.new answer (λ s. stepped s event.now)) }
+    ensures err { OnErr result (kept_of parts.new ≡ kept_of parts.old) }
+    ensures fault { IfErr result (λ fault. fault ≡ SetFault.NoMemory) }
+{
+    match event {
+        Event::Offer { body } => offered(parts, body),
+        Event::Take => Ok(taken(parts)),
+        Event::Find { number } => Ok(found(parts, *number)),
+        Event::Next { link } => Ok(next(parts, *link)),
+        Event::Heard { link, unit } => heard(parts, *link, unit),
+        Event::Up { link } => raised(parts, *link),
+        Event::Down { link } => left(parts, *link, false),
+        Event::DownBlind { link } => left(parts, *link, true),
+        Event::NoAnswer { link } => given_up(parts, *link),
+    }
+}
+
+/// The fewest octets of an offered body: the SIO and a label (own).
+const SHORTEST_OFFER: usize = 5;
+
+/// How many unsent messages of a stream close it for offers.
+const STREAM_LIMIT: u64 = 1024;
+
+/// A message is offered: refused, or the last of its queue from now on.
+fn offered(parts: &mut Parts, body: &Body) -> Result<Answer, SetFault>
+    requires holds { Holds (kept_of parts.old) }
+    ensures ok { IfOk result (λ answer. Answers parts.old parts.new answer (λ s. offered_with
+        (offer_refusal s.rows body.now) s body.now)) }
+    ensures err { OnErr result (kept_of parts.new ≡ kept_of parts.old) }
+    ensures fault { IfErr result (λ fault. fault ≡ SetFault.NoMemory) }
+{
+    if let Some(why) = refusal_of(&parts.queues, body) {
+        return Ok(Answer::Refused { why });
+    }
+    let copy = body.try_copy()?;
+    let fate = fate_of_new(parts, stream_of(body));
+    make_room(parts, fate)?;
+    let number = accept(parts, copy, fate);
+    Ok(Answer::Accepted { number })
+}
+
+/// The offered message is the last of its queue from now on: its number.
+fn accept(parts: &mut Parts, body: Body, fate: Fate) -> u64
+    requires fits { length body ≤ 273 }
+    requires known { IsKnown fate parts.old.queues.lists }
+    requires queued { IsQueued fate }
+    requires room { HasRoom fate parts.old }
+    ensures number { result ≡ length parts.old.queues.messages }
+    ensures stands { Becomes parts.old parts.new (λ s. record s {
+      rows = appended s.rows body fate;
+      routing = accepted_by (stream_in body) s.routing;
+    }) }
+{
+    let stream = stream_of(&body);
+    let number = stand_last(parts, body, fate);
+    parts.routes.accepted(stream);
+    number
+}
+
+/// Where a new message of this stream stands.
+fn fate_of_new(parts: &Parts, stream: u8) -> Fate
+    requires holds { Holds (kept_of parts.now) }
+    requires stream { stream < 16 }
+    ensures value { (s : State) → StandsFor (kept_of parts.now) s → result ≡ fate_at (place_of stream s.routing) s }
+    ensures known { IsKnown result parts.now.queues.lists }
+    ensures queued { IsQueued result }
+{
+    match parts.routes.place(stream) {
+        Place::On { link } if phase_of(&parts.links, link) == Some(Phase::Up) => {
+            Fate::Waiting { link }
+        }
+        Place::On { link } => Fate::Held { link },
+        Place::Nowhere => Fate::Parked,
+    }
+}
+
+/// Why an offer is refused, if it is: the first reason in the order of the refusals.
+fn refusal_of(queues: &Queues, body: &Body) -> Option<Refusal>
+    ensures { result ≡ refusal_by (unsent_of (stream_in body.now) queues.now.messages) body.now }
+{
+    let octets = body.octets();
+    if octets.len() < SHORTEST_OFFER {
+        return Some(Refusal::TooShort);
+    }
+    if octets.len() > LONGEST_BODY {
+        return Some(Refusal::TooLong);
+    }
+    if octets[0] % 16 == 0 {
+        return Some(Refusal::Reserved);
+    }
+    if queues.unsent(stream_of(body)) >= STREAM_LIMIT {
+        return Some(Refusal::StreamFull);
+    }
+    None
+}
 
 /// The oldest message of the inbox is taken.
-pub(crate) fn taken(parts: &mut Parts) -> Answer
+fn taken(parts: &mut Parts) -> Answer
     ensures { Answers parts.old parts.new result (λ s. taken_of s.inbox s) }
 {
     match parts.inbox.pop_front() {
@@ -36,9 +145,8 @@ pub(crate) fn taken(parts: &mut Parts) -> Answer
 }
 
 /// A message is looked for by its number.
-pub(crate) fn found(parts: &Parts, number: u64) -> Answer
-    ensures { (s : State) → StandsFor (kept_of parts.now) s → found_of (place number s.rows) s
-        ≡ record { answer = result; state = s } }
+fn found(parts: &Parts, number: u64) -> Answer
+    ensures { Answers parts.now parts.now result (λ s. found_of (place number s.rows) s) }
 {
     match parts.queues.fate_of(number) {
         Some(fate) => Answer::Found { fate },
@@ -50,7 +158,7 @@ pub(crate) fn found(parts: &Parts, number: u64) -> Answer
 
 /// No answer came from the far end: a link that was left settles, and what was sent on it or waited
 /// is discarded (own).
-pub(crate) fn given_up(parts: &mut Parts, number: u8) -> Result<Answer, SetFault>
+fn given_up(parts: &mut Parts, number: u8) -> Result<Answer, SetFault>
     requires holds { Holds (kept_of parts.old) }
     requires counted { AreCounted (2 ^ 60) parts.old.links.items }
     ensures ok { IfOk result (λ answer. Answers parts.old parts.new answer (λ s. on_link number s (λ link.
@@ -79,7 +187,7 @@ fn out_of_waiting(links: &[Link], number: u8) -> Option<Refusal>
 
 /// The link is left, and an order tells the far end: a changeover order with the FSN last accepted,
 /// or blind an emergency changeover order without it.
-pub(crate) fn left(parts: &mut Parts, number: u8, blind: bool) -> Result<Answer, SetFault>
+fn left(parts: &mut Parts, number: u8, blind: bool) -> Result<Answer, SetFault>
     requires holds { Holds (kept_of parts.old) }
     requires counted { AreCounted (2 ^ 60) parts.old.links.items }
     ensures ok { IfOk result (λ answer. Answers parts.old parts.new answer (λ s. in_service number s
@@ -131,7 +239,7 @@ fn leaving_order(link: &Link, number: u8, blind: bool) -> Order
 /// was parked waits for it.
 ///
 /// Room in its queue is taken first, so a fault leaves everything as it was.
-pub(crate) fn raised(parts: &mut Parts, number: u8) -> Result<Answer, SetFault>
+fn raised(parts: &mut Parts, number: u8) -> Result<Answer, SetFault>
     requires holds { Holds (kept_of parts.old) }
     ensures ok { IfOk result (λ answer. Answers parts.old parts.new answer (λ s. on_link number s (λ link.
         rises number s link.phase))) }
@@ -172,5 +280,14 @@ fn out_of_rising(links: &[Link], number: u8) -> Option<Refusal>
         Some(Phase::Up) => Some(Refusal::NotDown),
         Some(Phase::Down) => Some(Refusal::Unsettled),
         Some(Phase::Settled) => None,
+    }
+}
+
+/// A law: the octets of a label tell one of 16 streams.
+pub(crate) fn is_asked(event: &Event)
+    ensures { IsAsked event.now }
+{
+    if let Event::Offer { body } = event {
+        stream_of(body);
     }
 }

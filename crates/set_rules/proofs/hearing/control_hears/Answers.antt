@@ -1,4 +1,4 @@
-use Rattle.std.proofs.Common.{refl, arith, ◌≡◌, ◌∙◌, ap, ◌<◌, ◌+◌, ℕ, take, ◌≤◌, slice_set}
+use Rattle.std.proofs.Common.{refl, arith, ◌≡◌, ◌∙◌, ap, sym, subst, ◌<◌, ◌+◌, ℕ, take, ◌≤◌, slice_set}
 use Rattle.std.proofs.lemmas.Bool.Decides.{nat_tests}
 use Rattle.l2_units.specs.declared.unit.Header.{Header}
 use Rattle.l2_units.specs.Grammar.{head_of}
@@ -13,8 +13,9 @@ use Rattle.set_rules.specs.declared.link.Link.{Link}
 use Rattle.set_rules.specs.Parts.{IsCounted, link_of, kept_of}
 use Rattle.set_rules.proofs.Choosing.{window_is}
 use Rattle.set_rules.proofs.Heard.{some_heard, none_heard, low_part, part_told, heard_told, reach_told, heard_link, counts, one_byte, one_low}
-use Rattle.set_rules.proofs.Links.{found, link_set, stands_for}
-use Rattle.set_rules.proofs.Rooms.{counted_set, wider}
+use Rattle.set_rules.proofs.Links.{found, link_set, set_view, stands_for}
+use Rattle.set_rules.proofs.Less.{NoLonger, acked_less, on_less}
+use Rattle.set_rules.proofs.Rooms.{counted_set, wider, whole_of}
 use Rattle.set_rules.proofs.hearing.control_hears.Goals as goal
 
 pub overflow_add-link : goal.overflow_add-link
@@ -97,6 +98,9 @@ returns-else-part-gt0-clause-stands c = λ s link there f.
 more_counted : (x : Link) (acked accepted : ℕ) (control : Control) → IsCounted 1152921504606846976 x → acked < 128 → accepted ≤ 1 → IsCounted 2305843009213693952 (record x { acked = x.acked + acked; accepted = x.accepted + accepted; control = control })
 more_counted x acked accepted control k a b = record { acked = let low = k.acked in omega (arith, low, a); accepted = let low = k.accepted in omega (arith, low, b) }
 
+low : (n a b : ℕ) → a ≡ b → n < b → n < a
+low n a b e h = omega (arith, e, h)
+
 few : (d acked : ℕ) → d ≡ acked → acked < 128 → d < 128
 few d acked e h = omega (arith, e, h)
 
@@ -120,3 +124,27 @@ returns-else-part-gt0-clause-counted c =
     let small = low_part c.index_mut-link.result.now.control c.window-window.result.now c.header_in-head.result c.is_msu.result c.hear-part.result c.hear-part.ensures.part in
     let one = more_counted c.index_mut-link.result.now c.from-2.result c.from-3.result c.hear-part.new.self (c.requires.counted n _ at) (few c.from-2.result c.hear-part.result.acked c.from-2.ensures small) (at_most c.from-3.result _ (c.from-3.ensures ∙ one_byte c.hear-part.result.accept) (one_low c.hear-part.result.accept)) in
     counted_set 2305843009213693952 links _ n (record c.index_mut-link.result.now { acked = c.index_mut-link.result.now.acked + c.from-2.result; accepted = c.index_mut-link.result.now.accepted + c.from-3.result; control = c.hear-part.new.self }) (wider 1152921504606846976 2305843009213693952 links (omega arith) c.requires.counted) (ap (λ k. slice_set links k (record c.index_mut-link.result.now { acked = c.index_mut-link.result.now.acked + c.from-2.result; accepted = c.index_mut-link.result.now.accepted + c.from-3.result; control = c.hear-part.new.self })) c.from.ensures) one
+
+pub returns-in-Ok-clause-keeps : goal.returns-in-Ok-clause-keeps
+returns-in-Ok-clause-keeps c =
+    let q = c.args.parts.now.queues.lists in
+    let n = c.args.number in
+    let known = low n _ _ (whole_of c.args.parts.now c.requires.holds).as_many c.requires.known in
+    record {
+      message = c.in-Ok.ensures.rooms.1;
+      bodies = refl;
+      rooms = c.in-Ok.ensures.rooms.0;
+      fewer = λ k. on_less k q c.acknowledge.new.self.lists (subst (NoLonger q) (sym c.in-Ok.ensures.lists) (acked_less n c.header_in-head.result.bsn q known));
+      phases = set_view c.args.parts.now.links.items n c.from.result c.index_mut-link.result.now c.from.ensures c.requires.known c.index_mut-link.ensures.value (λ (l : Link). l.phase) _ refl;
+      inbox = refl;
+    }
+
+pub returns-else-part-gt0-clause-keeps : goal.returns-else-part-gt0-clause-keeps
+returns-else-part-gt0-clause-keeps c = record {
+  message = refl;
+  bodies = refl;
+  rooms = λ f. omega arith;
+  fewer = λ k. omega arith;
+  phases = set_view c.args.parts.now.links.items c.args.number c.from.result c.index_mut-link.result.now c.from.ensures c.requires.known c.index_mut-link.ensures.value (λ (l : Link). l.phase) _ refl;
+  inbox = refl;
+}

@@ -1,0 +1,136 @@
+//! What a set keeps, as one event after another changes it.
+ghost use Rattle.std.specs.Prelude.{◌≡◌, IfOk, map, replicate};
+ghost use Rattle.set_model.specs.State.{new_link};
+ghost use Rattle.set_rules.specs.Parts.{link_of};
+
+use super::fault::SetFault;
+use super::link::Link;
+use super::parts::Parts;
+use super::step::{answered, is_asked};
+use set_events::{Answer, Event, Fate, SetConfig};
+use set_model::Phase;
+use set_queues::Queues;
+use set_route::Routes;
+use std::alloc::{AllocError, Global};
+use std::collections::VecDeque;
+use std::marker::Model;
+
+/// What a set of links keeps: where its messages stand, their bodies, its links, where its streams run,
+/// and the messages heard for users.
+///
+/// Contracts see what is kept, and say of every state of the model that it agrees with what becomes of it.
+/// Readers: [`Core::place_of`], [`Core::links`], [`Core::is_up`], [`Core::is_settled`]. The one input:
+/// [`Core::apply`].
+#[derive(Drop)]
+pub struct Core {
+    parts: Parts,
+}
+
+impl Model for Core {
+    ghost use Rattle.set_rules.specs.Agreement.{Kept, Holds};
+
+    ghost Value = { Kept };
+
+    ghost use Rattle.set_rules.specs.Parts.{kept_of};
+
+    ghost view = { λ c. kept_of c.parts };
+
+    ghost invariant = { λ c. Holds (kept_of c.parts) };
+}
+
+impl Core {
+    ghost use Rattle.std.specs.Prelude.{◌≡◌, ◌≤◌, ◌^◌, IfOk, IfErr, OnErr};
+    ghost use Rattle.set_model.specs.Rows.{place};
+    ghost use Rattle.set_model.specs.State.{State, new_state, link_count, is_up as is_up_in, is_settled as is_settled_in};
+    ghost use Rattle.set_model.specs.Step.{step};
+    ghost use Rattle.set_rules.specs.Agreement.{Agrees, StandsFor, Holds, HoldsFew};
+    ghost use Rattle.set_rules.specs.Answering.{AnswersFor};
+
+    /// A set as this configuration has it: no messages, no link up.
+    ///
+    /// Fault: 1 [`SetFault::NoMemory`], only where memory was refused.
+    pub fn new(alloc: Global, config: &SetConfig) -> Result<Core, SetFault>
+        ensures ok { IfOk result (λ core. Agrees core (new_state config.now)) }
+        ensures fault { IfErr result (λ fault. fault ≡ SetFault.NoMemory) }
+    {
+        let links = new_links(alloc, config)?;
+        let queues = Queues::new(alloc, config.links)?;
+        Ok(Core {
+            parts: Parts {
+                config: *config,
+                links,
+                queues,
+                bodies: Vec::new(alloc),
+                routes: Routes::new(config.links),
+                inbox: VecDeque::new(alloc),
+            },
+        })
+    }
+
+    /// What the set answers to this event: of whatever state it agreed with, the answer is that of the
+    /// step, and it agrees with the state that the step leads to.
+    ///
+    /// Refusals are answers. Fault: 1 [`SetFault::NoMemory`], only where memory was refused; what is kept
+    /// is then as it was.
+    pub fn apply(&mut self, event: &Event) -> Result<Answer, SetFault>
+        requires { HoldsFew (2 ^ 48) self.old }
+        ensures ok { IfOk result (λ answer. (s : State) → Agrees self.old s → AnswersFor (step s event.now) answer self.new) }
+        ensures err { OnErr result (self.new ≡ self.old) }
+        ensures fault { IfErr result (λ fault. fault ≡ SetFault.NoMemory) }
+    {
+        is_asked(event);
+        answered(&mut self.parts, event)
+    }
+
+    /// A law: there is a state that it agrees with.
+    pub fn holds(&self)
+        ensures { Holds self.now }
+    {
+        let _ = &self.parts;
+    }
+
+    /// How many links the set has, 1 to 16.
+    pub fn links(&self) -> u8
+        ensures { (s : State) → StandsFor self.now s → result ≡ link_count s }
+    {
+        self.parts.links.len() as u8
+    }
+
+    /// Whether this link of the set is up.
+    pub fn is_up(&self, link: u8) -> bool
+        ensures { (s : State) → StandsFor self.now s → result ≡ is_up_in link s }
+    {
+        match self.parts.links.get(usize::from(link)) {
+            Some(link) => link.phase == Phase::Up,
+            None => false,
+        }
+    }
+
+    /// Whether this link of the set is settled, as one is that never was up.
+    pub fn is_settled(&self, link: u8) -> bool
+        ensures { (s : State) → StandsFor self.now s → result ≡ is_settled_in link s }
+    {
+        match self.parts.links.get(usize::from(link)) {
+            Some(link) => link.phase == Phase::Settled,
+            None => false,
+        }
+    }
+
+    /// Where the message of this number stands; none has it: `None`.
+    pub fn place_of(&self, number: u64) -> Option<Fate>
+        ensures { (s : State) → StandsFor self.now s → result ≡ place number s.rows }
+    {
+        self.parts.queues.fate_of(number)
+    }
+}
+
+/// The links of a set, none of which was up.
+fn new_links(alloc: Global, config: &SetConfig) -> Result<Vec<Link>, AllocError>
+    ensures { IfOk result (λ links. map link_of links.items ≡ replicate config.now.links (new_link config.now.method)) }
+{
+    let mut links = Vec::new(alloc);
+    for _ in 0..config.links {
+        links.push(Link::new(config.method))?;
+    }
+    Ok(links)
+}
