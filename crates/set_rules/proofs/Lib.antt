@@ -12,6 +12,7 @@ pub mod Occurring
 pub mod Possible
 pub mod Reaching
 pub mod Rooms
+pub mod Reading
 pub mod RowsAt
 pub mod Chosen
 pub mod Standing

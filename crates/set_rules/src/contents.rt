@@ -7,8 +7,8 @@ use super::fault::SetFault;
 use super::link::Link;
 use super::parts::Parts;
 use super::step::{answered, is_asked};
-use set_events::{Answer, Event, Fate, SetConfig};
-use set_model::Phase;
+use set_events::{Answer, Counts, Event, Fate, SetConfig};
+use set_model::{Numbered, Phase};
 use set_queues::Queues;
 use set_route::Routes;
 use std::alloc::{AllocError, Global};
@@ -19,8 +19,8 @@ use std::marker::Model;
 /// and the messages heard for users.
 ///
 /// Contracts see what is kept, and say of every state of the model that it agrees with what becomes of it.
-/// Readers: [`Core::place_of`], [`Core::links`], [`Core::is_up`], [`Core::is_settled`]. The one input:
-/// [`Core::apply`].
+/// Readers: [`Core::place_of`], [`Core::links`], [`Core::is_up`], [`Core::is_settled`],
+/// [`Core::counts`], [`Core::unacked_at`]. The one input: [`Core::apply`].
 #[derive(Drop)]
 pub struct Core {
     parts: Parts,
@@ -39,9 +39,9 @@ impl Model for Core {
 }
 
 impl Core {
-    ghost use Rattle.std.specs.Prelude.{◌≡◌, ◌≤◌, ◌^◌, IfOk, IfErr, OnErr};
-    ghost use Rattle.set_model.specs.Rows.{place};
-    ghost use Rattle.set_model.specs.State.{State, new_state, link_count, is_up as is_up_in, is_settled as is_settled_in};
+    ghost use Rattle.std.specs.Prelude.{◌≡◌, ◌≤◌, ◌<◌, ◌^◌, length, IfOk, IfErr, OnErr};
+    ghost use Rattle.set_model.specs.Rows.{place, counts_of, total_of, users};
+    ghost use Rattle.set_model.specs.State.{State, new_state, link_count, is_up as is_up_in, is_settled as is_settled_in, unacked_in};
     ghost use Rattle.set_model.specs.Step.{step};
     ghost use Rattle.set_rules.specs.Agreement.{Agrees, StandsFor, Holds, HoldsFew};
     ghost use Rattle.set_rules.specs.Answering.{AnswersFor};
@@ -121,6 +121,36 @@ impl Core {
         ensures { (s : State) → StandsFor self.now s → result ≡ place number s.rows }
     {
         self.parts.queues.fate_of(number)
+    }
+
+    /// How many of the users' messages stand in each place; each stands in one.
+    pub fn counts(&self) -> Counts
+        ensures value { (s : State) → StandsFor self.now s → result ≡ counts_of s.rows }
+        ensures all { (s : State) → StandsFor self.now s → total_of result ≡ length (users s.rows) }
+        ensures few { total_of result < 2 ^ 64 }
+    {
+        let _ = self.parts.queues.len();
+        self.parts.queues.counts()
+    }
+
+    /// The message at this place of the link's unacknowledged ones, the oldest at 0: its number, and the FSN
+    /// that it carries (Q.703 2.2). Past the last one, or on a link that the set hasn't: `None`.
+    pub fn unacked_at(&self, link: u8, place: u8) -> Option<Numbered>
+        ensures { (s : State) → StandsFor self.now s → result ≡ unacked_in s link place }
+    {
+        if usize::from(link) >= self.parts.links.len() {
+            return None;
+        }
+        let sent = Fate::Unacked { link };
+        let Some(number) = self.parts.queues.number_at(sent, usize::from(place)) else {
+            return None;
+        };
+        let last = self.parts.queues.window(link).last();
+        let fsn = (u16::from(last) + 1 + u16::from(place)) % 128;
+        Some(Numbered {
+            number,
+            fsn: fsn as u8,
+        })
     }
 }
 

@@ -35,3 +35,4 @@ mod step;
 
 pub use contents::Core;
 pub use fault::SetFault;
+pub use set_model::Numbered;

@@ -1,0 +1,26 @@
+use Rattle.std.proofs.Common.{arith, ◌≡◌, ◌∙◌, ap, sym, ℕ, ◌<◌, length, slice_get}
+use Rattle.std.proofs.lemmas.List.{length-map}
+use Rattle.set_events.specs.declared.answer.Fate.TheVariants.{Unacked}
+use Rattle.set_queues.specs.Buffers.{queue_at}
+use Rattle.set_rules.specs.Parts.{kept_of, link_of}
+use Rattle.set_rules.proofs.Reading.{unacked_there, unacked_none}
+use Rattle.set_rules.proofs.contents.Core.unacked_at.Goals as goal
+use Rattle.set_rules.proofs.contents.Core.unacked_at.Goals.{After-number_at}
+
+-- what stands at that place of the link's queue
+at_place : (c : After-number_at) → slice_get (queue_at (Unacked c.args.link) c.self.inside.parts.queues.lists) c.args.place ≡ c.number_at.result
+at_place c = ap (λ (i : ℕ). slice_get (queue_at (Unacked c.args.link) c.self.inside.parts.queues.lists) i) (sym c.from-2.ensures) ∙ sym c.number_at.ensures
+
+known : (c : After-number_at) → c.args.link < length (kept_of c.self.inside.parts).links
+known c = let size = length-map c.self.inside.parts.links.items link_of in omega (arith, size, c.if-from-len.false, c.len.ensures, c.from.ensures)
+
+pub returns-in_default : goal.returns-in_default
+returns-in_default c =
+    let a = (goal.at.returns-in_default c).After-number_at in
+    rw (← c.self.view_is) (λ s st. sym (unacked_none (kept_of c.self.inside.parts) s c.args.link c.args.place st (at_place a ∙ c.in_default.is)))
+
+pub returns : goal.returns
+returns c =
+    let a = (goal.at.returns c).After-number_at in
+    let last = c.from-3.ensures ∙ c.last-last.ensures.value ∙ c.window.ensures.last in
+    rw (← c.self.view_is) (rw (last, c.from-4.ensures) (λ s st. sym (unacked_there (kept_of c.self.inside.parts) s c.args.link c.args.place c.in-Some.number st (known a) (at_place a ∙ c.in-Some.is))))
