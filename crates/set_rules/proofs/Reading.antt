@@ -2,6 +2,7 @@
 use Rattle.std.proofs.Common.{refl, arith, ◌≡◌, ◌∙◌, ap, sym, ℕ, zero, suc, ◌+◌, ◌%◌, ◌<◌, ◌==◌, ◌&&◌, Bool, true, false, List, [], ◌∷◌, length, slice_get, Option, Some, None}
 use Rattle.std.specs.Prelude.{filter}
 use Rattle.std.specs.Option.{option_map}
+use Rattle.set_events.specs.declared.answer.DiscardCause.{DiscardCause}
 use Rattle.set_events.specs.declared.answer.Fate.{Fate}
 use Rattle.set_events.specs.declared.answer.Fate.TheVariants.{Waiting, Unacked, Acked, Held, Parked, Discarded}
 use Rattle.set_queues.specs.declared.message.Message.{Message}
@@ -30,62 +31,23 @@ two_filters test like same (x ∷ rows) = go (service_indicator x.body == 0) ref
 in_place : (test like : Fate → Bool) → ((fate : Fate) → test fate ≡ like fate) → (q : Lists) (ms : List Message) (rows : List Row) → Stands q ms rows → count_of test ms ≡ length (standing like (users rows))
 in_place test like same q ms rows s = counted (λ l fate. is_users l.kind && test fate) q ms rows s ∙ two_filters test like same rows
 
-same_waits : (fate : Fate) → waits fate ≡ waits_in fate
-same_waits (Waiting l) = refl
-same_waits (Unacked l) = refl
-same_waits (Acked l) = refl
-same_waits (Held l) = refl
-same_waits Parked = refl
-same_waits (Discarded c) = refl
-
-same_sent : (fate : Fate) → was_sent fate ≡ was_sent_in fate
-same_sent (Waiting l) = refl
-same_sent (Unacked l) = refl
-same_sent (Acked l) = refl
-same_sent (Held l) = refl
-same_sent Parked = refl
-same_sent (Discarded c) = refl
-
-same_acked : (fate : Fate) → was_acked fate ≡ was_acked_in fate
-same_acked (Waiting l) = refl
-same_acked (Unacked l) = refl
-same_acked (Acked l) = refl
-same_acked (Held l) = refl
-same_acked Parked = refl
-same_acked (Discarded c) = refl
-
-same_held : (fate : Fate) → was_held fate ≡ was_held_in fate
-same_held (Waiting l) = refl
-same_held (Unacked l) = refl
-same_held (Acked l) = refl
-same_held (Held l) = refl
-same_held Parked = refl
-same_held (Discarded c) = refl
-
-same_parked : (fate : Fate) → is_parked fate ≡ is_parked_in fate
-same_parked (Waiting l) = refl
-same_parked (Unacked l) = refl
-same_parked (Acked l) = refl
-same_parked (Held l) = refl
-same_parked Parked = refl
-same_parked (Discarded c) = refl
-
-same_discarded : (fate : Fate) → was_discarded fate ≡ was_discarded_in fate
-same_discarded (Waiting l) = refl
-same_discarded (Unacked l) = refl
-same_discarded (Acked l) = refl
-same_discarded (Held l) = refl
-same_discarded Parked = refl
-same_discarded (Discarded c) = refl
+-- tests that agree on each kind of fate agree
+same_test : (test like : Fate → Bool) → ((l : ℕ) → test (Waiting l) ≡ like (Waiting l)) → ((l : ℕ) → test (Unacked l) ≡ like (Unacked l)) → ((l : ℕ) → test (Acked l) ≡ like (Acked l)) → ((l : ℕ) → test (Held l) ≡ like (Held l)) → test Parked ≡ like Parked → ((c : DiscardCause) → test (Discarded c) ≡ like (Discarded c)) → (fate : Fate) → test fate ≡ like fate
+same_test test like w u a h p d (Waiting l) = w l
+same_test test like w u a h p d (Unacked l) = u l
+same_test test like w u a h p d (Acked l) = a l
+same_test test like w u a h p d (Held l) = h l
+same_test test like w u a h p d Parked = p
+same_test test like w u a h p d (Discarded c) = d c
 
 pub counts_are : (q : Lists) (ms : List Message) (rows : List Row) → Stands q ms rows → counts_of ms ≡ counts_in rows
 counts_are q ms rows s =
-    let waiting : count_of waits ms ≡ length (standing waits_in (users rows)) = in_place waits waits_in same_waits q ms rows s in
-    let unacked : count_of was_sent ms ≡ length (standing was_sent_in (users rows)) = in_place was_sent was_sent_in same_sent q ms rows s in
-    let acked : count_of was_acked ms ≡ length (standing was_acked_in (users rows)) = in_place was_acked was_acked_in same_acked q ms rows s in
-    let held : count_of was_held ms ≡ length (standing was_held_in (users rows)) = in_place was_held was_held_in same_held q ms rows s in
-    let parked : count_of is_parked ms ≡ length (standing is_parked_in (users rows)) = in_place is_parked is_parked_in same_parked q ms rows s in
-    let discarded : count_of was_discarded ms ≡ length (standing was_discarded_in (users rows)) = in_place was_discarded was_discarded_in same_discarded q ms rows s in
+    let waiting : count_of waits ms ≡ length (standing waits_in (users rows)) = in_place waits waits_in (same_test waits waits_in (λ l. refl) (λ l. refl) (λ l. refl) (λ l. refl) refl (λ c. refl)) q ms rows s in
+    let unacked : count_of was_sent ms ≡ length (standing was_sent_in (users rows)) = in_place was_sent was_sent_in (same_test was_sent was_sent_in (λ l. refl) (λ l. refl) (λ l. refl) (λ l. refl) refl (λ c. refl)) q ms rows s in
+    let acked : count_of was_acked ms ≡ length (standing was_acked_in (users rows)) = in_place was_acked was_acked_in (same_test was_acked was_acked_in (λ l. refl) (λ l. refl) (λ l. refl) (λ l. refl) refl (λ c. refl)) q ms rows s in
+    let held : count_of was_held ms ≡ length (standing was_held_in (users rows)) = in_place was_held was_held_in (same_test was_held was_held_in (λ l. refl) (λ l. refl) (λ l. refl) (λ l. refl) refl (λ c. refl)) q ms rows s in
+    let parked : count_of is_parked ms ≡ length (standing is_parked_in (users rows)) = in_place is_parked is_parked_in (same_test is_parked is_parked_in (λ l. refl) (λ l. refl) (λ l. refl) (λ l. refl) refl (λ c. refl)) q ms rows s in
+    let discarded : count_of was_discarded ms ≡ length (standing was_discarded_in (users rows)) = in_place was_discarded was_discarded_in (same_test was_discarded was_discarded_in (λ l. refl) (λ l. refl) (λ l. refl) (λ l. refl) refl (λ c. refl)) q ms rows s in
     cc
 
 -- THE UNACKNOWLEDGED MESSAGES of a link

@@ -12,7 +12,7 @@
 //!      state      --- step ---->     state            rows in the order of queueing
 //! ```
 //!
-//! An event costs what it moves, however many messages there ever were.
+//! By its form an event costs what it moves, however many messages there ever were; that isn't measured yet.
 //!
 //! The files: `parts` what a set holds; `link` and `control` one link; `sending` and `hearing` what a link's
 //! terminal asks and tells; `changeover` how a link is left and orders are obeyed; `settling` what becomes
