@@ -1,148 +1,69 @@
--- What each error control sends next is its choice.
-use Rattle.std.proofs.Common.{refl, arith, ◌≡◌, ◌≢◌, ap, ◌<◌, ◌≤◌, [], length, ℕ, Bool, true, false, nat_lt}
-use Rattle.std.proofs.lemmas.Bool.{ltb-true}
-use Rattle.std.proofs.lemmas.Bool.Decides.{nat_tests}
-use Rattle.std.proofs.lemmas.List.{nil_from_length}
-use Rattle.l2_units.proofs.Texts.{same_header}
+-- What the control chooses by the window that is kept, and by the one that the rows give.
+use Rattle.std.proofs.Common.{refl, ◌≡◌, ◌∙◌, ap, ℕ, Bool, List, Some, slice_get}
 use Rattle.l2_units.specs.declared.unit.Header.{Header}
 use Rattle.l2_window.specs.Window.{WindowState}
-use Rattle.l2_window.specs.declared.control.Sending.{Sending}
-use Rattle.l2_window.specs.declared.control.Sending.TheVariants.{Message, Fill}
-use Rattle.l2_basic.specs.Basic as basic
-use Rattle.l2_pcr.specs.Pcr as cyclic
-use Rattle.set_model.specs.Control.{Basic, Cyclic, header_of}
-use Rattle.set_step.specs.Controls.{IsChosen}
+use Rattle.l2_window.specs.Control.{fsn_of}
+use Rattle.l2_window.specs.declared.control.Choice.{Choice}
+use Rattle.l2_window.specs.declared.control.Choice.TheVariants.{Again, First, Fill}
+use Rattle.set_events.specs.declared.answer.Fate.TheVariants.{Waiting, Unacked}
+use Rattle.set_queues.specs.Buffers.{queue_at, last_at}
+use Rattle.set_queues.specs.Messages.{octets_of}
+use Rattle.set_model.specs.Rows.{octets_in, unack}
+use Rattle.set_model.specs.Control.{Control, Basic, Cyclic, choice_of, head_of, control_after, part_of, control_heard}
+use Rattle.set_model.specs.State.{LinkState, State, window_of}
+use Rattle.set_step.specs.Agreement.{Kept, StandsFor, Agrees}
+use Rattle.set_step.proofs.Bodies.{weight_is}
 
-below : (a b : ℕ) → nat_lt a b ≡ true → a < b
-below a b e = ltb-true a b e
+-- The room of a window is no affair of the control's.
+pub choice_roomless : (o r : ℕ) (c : Control) (w : WindowState) → choice_of o c (record w { room = r }) ≡ choice_of o c w
+choice_roomless o r (Basic s) w = refl
+choice_roomless o r (Cyclic s) w = refl
 
-not_below : (a b : ℕ) → nat_lt a b ≡ false → b ≤ a
-not_below a b e = grind (arith, nat_tests)
+pub after_roomless : (o r : ℕ) (choice : Choice) (c : Control) (w : WindowState) → control_after choice o c (record w { room = r }) ≡ control_after choice o c w
+after_roomless o r (Again p) (Basic s) w = refl
+after_roomless o r First (Basic s) w = refl
+after_roomless o r Fill (Basic s) w = refl
+after_roomless o r (Again p) (Cyclic s) w = refl
+after_roomless o r First (Cyclic s) w = refl
+after_roomless o r Fill (Cyclic s) w = refl
 
--- a header with these parts is the header of them
-whole : (h : Header) (bsn fsn : ℕ) (bib fib : Bool) → h.bsn ≡ bsn → h.bib ≡ bib → h.fsn ≡ fsn → h.fib ≡ fib → h ≡ header_of bsn bib fsn fib
-whole h bsn fsn bib fib b c f g =
-    let low : h.bsn < 128 = h.bsn_in_range in
-    let low' : h.fsn < 128 = h.fsn_in_range in
-    same_header h (header_of bsn bib fsn fib) (omega (arith, b)) c (omega (arith, f)) g
+pub fsn_roomless : (r : ℕ) (choice : Choice) (w : WindowState) → fsn_of choice (record w { room = r }) ≡ fsn_of choice w
+fsn_roomless r (Again p) w = refl
+fsn_roomless r First w = refl
+fsn_roomless r Fill w = refl
 
-basic_head : (s : basic.BasicState) (n : ℕ) (h : Header) → basic.IsHead s n h → h ≡ header_of s.accepted s.bib n s.fib
-basic_head s n h e = whole h s.accepted n s.bib s.fib e.bsn e.bib e.fsn e.fib
+pub part_roomless : (r : ℕ) (c : Control) (w : WindowState) (head : Header) (msu : Bool) → part_of c (record w { room = r }) head msu ≡ part_of c w head msu
+part_roomless r (Basic s) w head msu = refl
+part_roomless r (Cyclic s) w head msu = refl
 
-cyclic_head : (s : cyclic.PcrState) (n : ℕ) (h : Header) → cyclic.IsHead s n h → h ≡ header_of s.accepted true n true
-cyclic_head s n h e = whole h s.accepted n true true e.bsn e.bib e.fsn e.fib
+pub heard_roomless : (r : ℕ) (c : Control) (w : WindowState) (head : Header) (msu : Bool) → control_heard c (record w { room = r }) head msu ≡ control_heard c w head msu
+heard_roomless r (Basic s) w head msu = refl
+heard_roomless r (Cyclic s) w head msu = refl
 
-none_unsent : (w : WindowState) → nat_lt 0 (length w.unsent) ≡ false → w.unsent ≡ []
-none_unsent w e = nil_from_length w.unsent (let few : length w.unsent ≤ 0 = not_below 0 (length w.unsent) e in omega arith)
+-- The window that is kept is the rows' but for its room.
+pub window_is : (k : Kept) (s : State) (n : ℕ) (link : LinkState) (w : WindowState) → StandsFor k s → slice_get s.links n ≡ Some link → w.last ≡ last_at n k.lists → w.unacked ≡ queue_at (Unacked n) k.lists → w.unsent ≡ queue_at (Waiting n) k.lists
+    → w ≡ record (window_of n link s.rows) { room = w.room }
+window_is k s n link w f there last unacked unsent =
+    ap (λ (a : ℕ). record w { last = a }) (last ∙ f.fsns n link there)
+    ∙ ap (λ (xs : List ℕ). record w { last = (window_of n link s.rows).last; unacked = xs }) (unacked ∙ f.stands.queues (Unacked n))
+    ∙ ap (λ (xs : List ℕ). record (window_of n link s.rows) { room = w.room; unsent = xs }) (unsent ∙ f.stands.queues (Waiting n))
 
-some_unsent : (w : WindowState) → nat_lt 0 (length w.unsent) ≡ true → w.unsent ≢ []
-some_unsent w e none = let many : 0 < length w.unsent = below 0 (length w.unsent) e in let few : length w.unsent ≡ 0 = rw none refl in absurd (omega arith)
+module _ (w v : WindowState) (is : w ≡ record v { room = w.room }) where
+  pub choice_is : (o p : ℕ) (c d : Control) → o ≡ p → c ≡ d → choice_of o c w ≡ choice_of p d v
+  choice_is o p c d e f = ap (λ (x : WindowState). choice_of o c x) is ∙ choice_roomless o w.room c v ∙ ap (λ (i : ℕ). choice_of i c v) e ∙ ap (λ (x : Control). choice_of p x v) f
 
--- Basic control.
-module _ (octets : ℕ) (s s' : basic.BasicState) (w w' : WindowState) where
-  basic_again : (x : Sending) → basic.IsNext s s' w w' x → nat_lt s.cursor (length w.unacked) ≡ true → IsChosen octets (Basic s) (Basic s') w w' x
-  basic_again (Message m h) n e =
-      let r = n.repeats (below s.cursor (length w.unacked) e) in
-      record {
-        sent = rw e (m, r.at_cursor, r.same_window, ap (λ (k : Header). Message m k) (basic_head s _ h r.header));
-        after = rw e (ap Basic r.moves_on);
-      }
-  basic_again (Fill h) n e = absurd (n.repeats (below s.cursor (length w.unacked) e))
+  pub after_is : (o p : ℕ) (choice : Choice) (c d : Control) → o ≡ p → c ≡ d → control_after choice o c w ≡ control_after choice p d v
+  after_is o p choice c d e f = ap (λ (x : WindowState). control_after choice o c x) is ∙ after_roomless o w.room choice c v ∙ ap (λ (i : ℕ). control_after choice i c v) e ∙ ap (λ (x : Control). control_after choice p x v) f
 
-  basic_first : (x : Sending) → basic.IsNext s s' w w' x → nat_lt s.cursor (length w.unacked) ≡ false → nat_lt 0 (length w.unsent) ≡ true → nat_lt (length w.unacked) 127 ≡ true → IsChosen octets (Basic s) (Basic s') w w' x
-  basic_first (Message m h) n e f g =
-      let r = n.sends (not_below s.cursor (length w.unacked) e) (some_unsent w f) (below (length w.unacked) 127 g) in
-      record {
-        sent = rw (e, f, g) (m, r.first_unsent, ap (λ (k : Header). Message m k) (basic_head s _ h r.header));
-        after = rw (e, f, g) (ap Basic r.past_it);
-      }
-  basic_first (Fill h) n e f g = absurd (n.sends (not_below s.cursor (length w.unacked) e) (some_unsent w f) (below (length w.unacked) 127 g))
+  pub head_is : (choice : Choice) (c d : Control) → c ≡ d → head_of c (fsn_of choice w) ≡ head_of d (fsn_of choice v)
+  head_is choice c d f = ap (λ (x : WindowState). head_of c (fsn_of choice x)) is ∙ ap (head_of c) (fsn_roomless w.room choice v) ∙ ap (λ (x : Control). head_of x (fsn_of choice v)) f
 
-  basic_idle : (x : Sending) → basic.IsNext s s' w w' x → nat_lt s.cursor (length w.unacked) ≡ false → nat_lt 0 (length w.unsent) ≡ false → IsChosen octets (Basic s) (Basic s') w w' x
-  basic_idle (Message m h) n e f = absurd (n.idle (not_below s.cursor (length w.unacked) e) (none_unsent w f))
-  basic_idle (Fill h) n e f =
-      let r = n.idle (not_below s.cursor (length w.unacked) e) (none_unsent w f) in
-      record {
-        sent = rw (e, f) (r.same_window, ap Fill (basic_head s _ h r.header));
-        after = rw (e, f) (ap Basic r.same_control);
-      }
+  pub part_is : (c d : Control) (head : Header) (msu : Bool) → c ≡ d → part_of c w head msu ≡ part_of d v head msu
+  part_is c d head msu f = ap (λ (x : WindowState). part_of c x head msu) is ∙ part_roomless w.room c v head msu ∙ ap (λ (x : Control). part_of x v head msu) f
 
-  basic_full : (x : Sending) → basic.IsNext s s' w w' x → nat_lt s.cursor (length w.unacked) ≡ false → nat_lt 0 (length w.unsent) ≡ true → nat_lt (length w.unacked) 127 ≡ false → IsChosen octets (Basic s) (Basic s') w w' x
-  basic_full (Message m h) n e f g = absurd (n.full (not_below s.cursor (length w.unacked) e) (not_below (length w.unacked) 127 g))
-  basic_full (Fill h) n e f g =
-      let r = n.full (not_below s.cursor (length w.unacked) e) (not_below (length w.unacked) 127 g) in
-      record {
-        sent = rw (e, f, g) (r.same_window, ap Fill (basic_head s _ h r.header));
-        after = rw (e, f, g) (ap Basic r.same_control);
-      }
+  pub heard_is : (c d : Control) (head : Header) (msu : Bool) → c ≡ d → control_heard c w head msu ≡ control_heard d v head msu
+  heard_is c d head msu f = ap (λ (x : WindowState). control_heard c x head msu) is ∙ heard_roomless w.room c v head msu ∙ ap (λ (x : Control). control_heard x v head msu) f
 
-  basic_by : (x y z : Bool) (sending : Sending) → basic.IsNext s s' w w' sending → nat_lt s.cursor (length w.unacked) ≡ x → nat_lt 0 (length w.unsent) ≡ y → nat_lt (length w.unacked) 127 ≡ z → IsChosen octets (Basic s) (Basic s') w w' sending
-  basic_by true y z sending n e f g = basic_again sending n e
-  basic_by false true true sending n e f g = basic_first sending n e f g
-  basic_by false true false sending n e f g = basic_full sending n e f g
-  basic_by false false z sending n e f g = basic_idle sending n e f
-
-  pub basic_chosen : (sending : Sending) → basic.IsNext s s' w w' sending → IsChosen octets (Basic s) (Basic s') w w' sending
-  basic_chosen sending n = basic_by _ _ _ sending n refl refl refl
-
--- Preventive cyclic retransmission.
-module _ (octets : ℕ) (s s' : cyclic.PcrState) (w w' : WindowState) where
-  cyclic_forced : (x : Sending) → cyclic.IsNext octets s s' w w' x → cyclic.is_forced s w octets ≡ true → IsChosen octets (Cyclic s) (Cyclic s') w w' x
-  cyclic_forced (Message m h) n e =
-      let r = n.forced e in
-      record {
-        sent = rw e (m, r.at_place, r.same_window, ap (λ (k : Header). Message m k) (cyclic_head s _ h r.header));
-        after = rw (e, e) (ap Cyclic r.moves_on);
-      }
-  cyclic_forced (Fill h) n e = absurd (n.forced e)
-
-  cyclic_first : (x : Sending) → cyclic.IsNext octets s s' w w' x → cyclic.is_forced s w octets ≡ false → nat_lt 0 (length w.unsent) ≡ true → nat_lt (length w.unacked) 127 ≡ true → IsChosen octets (Cyclic s) (Cyclic s') w w' x
-  cyclic_first (Message m h) n e f g =
-      let r = n.sends e (some_unsent w f) (below (length w.unacked) 127 g) in
-      record {
-        sent = rw (e, f, g) (m, r.first_unsent, ap (λ (k : Header). Message m k) (cyclic_head s _ h r.header));
-        after = rw (e, f, g) (ap Cyclic r.same_control);
-      }
-  cyclic_first (Fill h) n e f g = absurd (n.sends e (some_unsent w f) (below (length w.unacked) 127 g))
-
-  cyclic_idle : (x : Sending) → cyclic.IsNext octets s s' w w' x → cyclic.is_forced s w octets ≡ false → nat_lt 0 (length w.unsent) ≡ false → nat_lt 0 (length w.unacked) ≡ false → IsChosen octets (Cyclic s) (Cyclic s') w w' x
-  cyclic_idle (Message m h) n e f g = absurd (n.idle e (none_unsent w f) (none_unacked g))
-    where
-      none_unacked : nat_lt 0 (length w.unacked) ≡ false → w.unacked ≡ []
-      none_unacked g = nil_from_length w.unacked (let few : length w.unacked ≤ 0 = not_below 0 (length w.unacked) g in omega arith)
-  cyclic_idle (Fill h) n e f g =
-      let r = n.idle e (none_unsent w f) (nil_from_length w.unacked (let few : length w.unacked ≤ 0 = not_below 0 (length w.unacked) g in omega arith)) in
-      record {
-        sent = rw (e, f, g) (r.same_window, ap Fill (cyclic_head s _ h r.header));
-        after = rw (e, f, g) (ap Cyclic r.same_control);
-      }
-
-  cyclic_again : (x : Sending) → cyclic.IsNext octets s s' w w' x → cyclic.is_forced s w octets ≡ false → nat_lt 0 (length w.unsent) ≡ false → nat_lt 0 (length w.unacked) ≡ true → IsChosen octets (Cyclic s) (Cyclic s') w w' x
-  cyclic_again (Message m h) n e f g =
-      let r = n.cyclic e (none_unsent w f) (below 0 (length w.unacked) g) in
-      record {
-        sent = rw (e, f, g) (m, r.at_place, r.same_window, ap (λ (k : Header). Message m k) (cyclic_head s _ h r.header));
-        after = rw (e, f, g, e) (ap Cyclic r.moves_on);
-      }
-  cyclic_again (Fill h) n e f g = absurd (n.cyclic e (none_unsent w f) (below 0 (length w.unacked) g))
-
-  cyclic_full : (x : Sending) → cyclic.IsNext octets s s' w w' x → cyclic.is_forced s w octets ≡ false → nat_lt 0 (length w.unsent) ≡ true → nat_lt (length w.unacked) 127 ≡ false → IsChosen octets (Cyclic s) (Cyclic s') w w' x
-  cyclic_full (Message m h) n e f g =
-      let many : 127 ≤ length w.unacked = not_below (length w.unacked) 127 g in
-      let some : nat_lt 0 (length w.unacked) ≡ true = grind (arith, nat_tests) in
-      let r = n.full e many in
-      record {
-        sent = rw (e, f, g, some) (m, r.at_place, r.same_window, ap (λ (k : Header). Message m k) (cyclic_head s _ h r.header));
-        after = rw (e, f, g, some, e) (ap Cyclic r.moves_on);
-      }
-  cyclic_full (Fill h) n e f g = absurd (n.full e (not_below (length w.unacked) 127 g))
-
-  cyclic_by : (x y z v : Bool) (sending : Sending) → cyclic.IsNext octets s s' w w' sending → cyclic.is_forced s w octets ≡ x → nat_lt 0 (length w.unsent) ≡ y → nat_lt (length w.unacked) 127 ≡ z → nat_lt 0 (length w.unacked) ≡ v → IsChosen octets (Cyclic s) (Cyclic s') w w' sending
-  cyclic_by true y z v sending n e f g h = cyclic_forced sending n e
-  cyclic_by false true true v sending n e f g h = cyclic_first sending n e f g
-  cyclic_by false true false v sending n e f g h = cyclic_full sending n e f g
-  cyclic_by false false z true sending n e f g h = cyclic_again sending n e f h
-  cyclic_by false false z false sending n e f g h = cyclic_idle sending n e f h
-
-  pub cyclic_chosen : (sending : Sending) → cyclic.IsNext octets s s' w w' sending → IsChosen octets (Cyclic s) (Cyclic s') w w' sending
-  cyclic_chosen sending n = cyclic_by _ _ _ _ sending n refl refl refl refl
+-- The octets that are kept are the rows'.
+pub weighs : (k : Kept) (s : State) (n octets : ℕ) → Agrees k s → octets ≡ octets_of (queue_at (Unacked n) k.lists) k.messages → octets ≡ octets_in (unack n s.rows)
+weighs k s n octets a e = e ∙ weight_is k.lists k.messages s.rows n a.stands.stands a.sound.fit

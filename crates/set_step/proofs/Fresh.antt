@@ -1,46 +1,139 @@
--- Links that never were up, and what holds of every link.
-use Rattle.std.proofs.Common.{refl, arith, ◌≡◌, ◌∙◌, ap, sym, subst, length, ℕ, zero, suc, ◌%◌, List, [], ◌∷◌, ◌++◌, map, slice_get, Some, ◌⊎◌, inl, inr}
-use Rattle.std.specs.Prelude.{replicate}
+-- A set of which nothing was asked, and what holds after each event.
+use Rattle.std.proofs.Common.{refl, arith, ◌≡◌, ◌∙◌, ap, sym, subst, ℕ, zero, suc, ◌^◌, ◌+◌, ◌%◌, List, [], map, slice_get, Some, Bool, cond}
+use Rattle.std.specs.Prelude.{replicate, Result, Ok, Err, IfOk, OnErr}
+use Rattle.std.proofs.lemmas.List.{length-replicate}
 use Rattle.std.proofs.lemmas.Option.{same_Some}
-use Rattle.l2_window.specs.Window.{IsEmpty}
-use Rattle.set_events.specs.declared.config.Method.{Method}
-use Rattle.set_route.specs.declared.stream.Stream.{Stream}
-use Rattle.set_route.specs.Routing.{new_routing, new_stream, stream_numbers}
-use Rattle.set_step.specs.declared.link.Link.{Link}
-use Rattle.set_step.specs.Agreement.{IsKept, AtLink, IsPlaced, ArePlaced, link_of}
-use Rattle.set_model.specs.Control.{accepted_of}
-use Rattle.set_model.specs.State.{LinkState, new_link}
-use Rattle.set_model.proofs.Lists.{at_map}
-use Rattle.set_model.proofs.SoundMoves.{start_counted}
+use Rattle.std.proofs.lemmas.Bool.{le-ltb}
+use Rattle.set_events.specs.declared.answer.Answer.{Answer}
+use Rattle.set_events.specs.declared.answer.Fate.{Fate}
+use Rattle.set_events.specs.declared.answer.Fate.TheVariants.{Waiting, Unacked, Acked, Held, Parked, Discarded}
+use Rattle.set_events.specs.declared.config.SetConfig.{SetConfig}
+use Rattle.set_events.specs.declared.event.Event.{Event}
+use Rattle.set_queues.specs.Buffers.{Lists, LinkLists, queue_at, list_in, last_at}
+use Rattle.set_route.specs.Routing.{new_routing}
+use Rattle.set_model.specs.Rows.{numbers}
+use Rattle.set_model.specs.Sound.{IsSettings, IsSound, IsAsked}
+use Rattle.set_model.specs.State.{State, LinkState, settings_of, new_link, new_state}
+use Rattle.set_model.specs.Step.{step, stepped}
+use Rattle.set_model.proofs.Lists.{map_at}
+use Rattle.set_model.proofs.Soundness.{opened_sound, step_sound}
+use Rattle.set_model.proofs.Stepping.{step_is}
+use Rattle.set_step.specs.declared.fault.SetFault.{SetFault}
+use Rattle.set_step.specs.declared.parts.Parts.{Parts}
+use Rattle.set_step.specs.Agreement.{Kept, Agrees, Holds, HoldsFew, Stands, rows_at}
+use Rattle.set_step.specs.Answering.{AnswersFor}
+use Rattle.set_step.specs.Parts.{Answers, AreCounted, kept_of, link_of}
 
-pub at_push : (xs : List Link) (x : Link) (n : ℕ) (y : Link) → slice_get (xs ++ x ∷ []) n ≡ Some y → (slice_get xs n ≡ Some y) ⊎ (y ≡ x)
-at_push [] x zero y e = inr (sym (same_Some x y e))
-at_push [] x (suc n) y e = absurd cc
-at_push (z ∷ xs) x zero y e = inl e
-at_push (z ∷ xs) x (suc n) y e = at_push xs x n y e
+-- NO MESSAGE
 
-pub all_same : (links : List Link) (link : LinkState) → ((n : ℕ) → AtLink n links (λ l. link_of l ≡ link)) → map link_of links ≡ replicate (length links) link
-all_same [] link all = refl
-all_same (x ∷ links) link all = ap (λ (l : LinkState). l ∷ map link_of links) (all 0 x refl) ∙ ap (λ (ls : List LinkState). link ∷ ls) (all_same links link (λ n l there. all (suc n) l there))
+abbrev pub new_lists : LinkLists
+new_lists = record { last = 127; unacked = []; unsent = []; held = [] }
 
-pub fresh_kept : (method : Method) (n : ℕ) (link : Link) → link_of link ≡ new_link method → IsEmpty link.window → link.octets ≡ 0 → IsKept n link []
-fresh_kept method n link same empty octets =
-    let acked : link.acked ≡ 0 = ap (λ (l : LinkState). l.acked) same in
-    let accepted : link.accepted ≡ 0 = ap (λ (l : LinkState). l.accepted) same in
-    let control : accepted_of link.control ≡ 127 = ap (λ (l : LinkState). accepted_of l.control) same ∙ start_counted method in
-    let last = empty.last in
-    record {
-      last = omega (arith, acked, last);
-      unacked = empty.unacked;
-      unsent = empty.unsent;
-      accepted = omega (arith, accepted, control);
-      octets = octets;
-      in_order = tt;
-      settled = λ s. refl;
-    }
+none_in : (list : LinkLists → List ℕ) (n k : ℕ) → list new_lists ≡ [] → list_in list (slice_get (replicate n new_lists) k) ≡ []
+none_in list zero k e = refl
+none_in list (suc n) zero e = e
+none_in list (suc n) (suc k) e = none_in list n k e
 
--- no stream runs on a link before one was up
-pub fresh_placed : (links : List Link) (count : ℕ) → ArePlaced links (new_routing count).streams
-fresh_placed links count k stream there =
-    let old = at_map (λ (s : ℕ). new_stream (s % count)) stream_numbers k stream there in
-    subst (λ (s : Stream). IsPlaced links s.place) old.2 tt
+fsn_in : (n k : ℕ) (link other : LinkState) → slice_get (replicate n link) k ≡ Some other → last_at k (record { links = replicate n new_lists; parked = [] }) ≡ 127
+fsn_in zero k link other e = absurd cc
+fsn_in (suc n) zero link other e = refl
+fsn_in (suc n) (suc k) link other e = fsn_in n k link other e
+
+new_there : (n k : ℕ) (link other : LinkState) → slice_get (replicate n link) k ≡ Some other → other ≡ link
+new_there zero k link other e = absurd cc
+new_there (suc n) zero link other e = sym (same_Some link other e)
+new_there (suc n) (suc k) link other e = new_there n k link other e
+
+-- the lists of a set of so many links in which nothing stands
+abbrev pub no_lists : ℕ → Lists
+no_lists n = record { links = replicate n new_lists; parked = [] }
+
+empty : (n : ℕ) (fate : Fate) → queue_at fate (no_lists n) ≡ []
+empty n (Waiting l) = none_in (λ (z : LinkLists). z.unsent) n l refl
+empty n (Unacked l) = none_in (λ (z : LinkLists). z.unacked) n l refl
+empty n (Held l) = none_in (λ (z : LinkLists). z.held) n l refl
+empty n Parked = refl
+empty n (Acked l) = refl
+empty n (Discarded c) = refl
+
+none_stands : (fate : Fate) → numbers (rows_at fate []) ≡ []
+none_stands (Waiting l) = refl
+none_stands (Unacked l) = refl
+none_stands (Held l) = refl
+none_stands Parked = refl
+none_stands (Acked l) = refl
+none_stands (Discarded c) = refl
+
+-- what is kept of a set of which nothing was asked
+abbrev pub new_kept : SetConfig → Kept
+new_kept config = record {
+  settings = settings_of config;
+  lists = no_lists config.links;
+  messages = [];
+  bodies = [];
+  links = replicate config.links (new_link config.method);
+  routing = new_routing config.links;
+  inbox = [];
+}
+
+module _ (config : SetConfig) where
+  settings_fit : IsSettings (settings_of config)
+  settings_fit = record { some_link = config.has_links; at_most_16 = config.links_in_range; managed = config.management }
+
+  stands_new : Stands (no_lists config.links) [] []
+  stands_new = record {
+    queues = λ fate. empty config.links fate ∙ sym (none_stands fate);
+    fates = λ number. refl;
+    labels = λ number. refl;
+    count = refl;
+    numbered = λ number. sym (ap (λ (b : Bool). cond b 1 0) (le-ltb number 0 (omega arith)));
+  }
+
+  pub new_agrees : Agrees (new_kept config) (new_state config)
+  new_agrees = record {
+    stands = record {
+      settings = refl;
+      stands = stands_new;
+      bodies = λ number. refl;
+      held_bodies = refl;
+      links = refl;
+      as_many = length-replicate config.links new_lists ∙ sym (length-replicate config.links (new_link config.method));
+      fsns = λ number link there. fsn_in config.links number (new_link config.method) link there ∙ sym (ap (λ (l : LinkState). (l.acked + 127) % 128) (new_there config.links number (new_link config.method) link there));
+      routing = refl;
+      inbox = refl;
+    };
+    sound = opened_sound (settings_of config) settings_fit;
+  }
+
+-- AFTER AN EVENT
+
+pub answers_for : (old new : Parts) (event : Event) (answer : Answer) → IsAsked event → Answers old new answer (λ s. stepped s event) → (s : State) → Agrees (kept_of old) s → AnswersFor (step s event) answer (kept_of new)
+answers_for old new event answer asked ok s a =
+    let gives = ok s a in
+    subst (λ o. AnswersFor o answer (kept_of new)) (sym (step_is s event)) (record {
+      answer_is = gives.answer_is;
+      agrees = record { stands = gives.stands; sound = subst (λ o. IsSound o.state) (step_is s event) (step_sound s event asked a.sound) };
+    })
+
+pub holds_after : (old new : Parts) (event : Event) (result : Result Answer SetFault) → IsAsked event → IfOk result (λ answer. Answers old new answer (λ s. stepped s event)) → OnErr result (kept_of new ≡ kept_of old) → Holds (kept_of old) → Holds (kept_of new)
+holds_after old new event (Ok answer) asked ok err h = ((step h.0 event).state, (answers_for old new event answer asked ok h.0 h.1).agrees)
+holds_after old new event (Err fault) asked ok err h = (h.0, subst (λ k. Agrees k h.0) (sym err) h.1)
+
+-- whole numbers of a set are far from the end of their range
+pub counted_of : (parts : Parts) → HoldsFew (2 ^ 48) (kept_of parts) → AreCounted (2 ^ 60) parts.links.items
+counted_of parts h number link there =
+    let few = h.2 number (link_of link) (subst (λ (ls : List LinkState). slice_get ls number ≡ Some (link_of link)) h.1.stands.links (map_at link_of parts.links.items number link there)) in
+    let sent = few.sent in
+    let accepted = few.accepted in
+    record { acked = omega (arith, sent); accepted = omega (arith, accepted) }
+
+pub if_ok : (old new : Parts) (event : Event) (result : Result Answer SetFault) → IsAsked event → IfOk result (λ answer. Answers old new answer (λ s. stepped s event)) → IfOk result (λ answer. (s : State) → Agrees (kept_of old) s → AnswersFor (step s event) answer (kept_of new))
+if_ok old new event (Ok answer) asked ok = answers_for old new event answer asked ok
+if_ok old new event (Err fault) asked ok = ok
+
+-- what is kept at first: links that stand for new ones, queues with nothing, and nothing else
+pub new_is : (config : SetConfig) (parts : Parts) → parts.config ≡ config → map link_of parts.links.items ≡ replicate config.links (new_link config.method) → parts.queues.lists.links ≡ replicate config.links new_lists → parts.queues.lists.parked ≡ [] → parts.queues.messages ≡ [] → parts.bodies.items ≡ [] → parts.routes ≡ new_routing config.links → parts.inbox.items ≡ [] → kept_of parts ≡ new_kept config
+new_is config parts c links queues parked messages bodies routes inbox = rw (c, links, lists, messages, bodies, routes, inbox) refl
+  where
+    lists : parts.queues.lists ≡ no_lists config.links
+    lists = rw (← queues, ← parked) refl

@@ -1,32 +1,59 @@
--- What a link's window tells of its unacknowledged messages.
-use Rattle.std.proofs.Common.{refl, arith, ◌≡◌, ◌∙◌, ap, sym, ℕ, ◌+◌, ◌%◌, List, slice_get, Option, Some, None}
+-- What is read of a set: how many messages stand in each place, and the unacknowledged ones of a link.
+use Rattle.std.proofs.Common.{refl, arith, ◌≡◌, ◌∙◌, ap, sym, ℕ, zero, suc, ◌+◌, ◌%◌, ◌<◌, ◌==◌, ◌&&◌, Bool, true, false, List, [], ◌∷◌, length, slice_get, Option, Some, None}
+use Rattle.std.specs.Prelude.{filter}
 use Rattle.std.specs.Option.{option_map}
-use Rattle.set_model.specs.Rows.{Row, unack, numbers}
-use Rattle.set_model.proofs.Lookups.{row_at_number}
+use Rattle.set_events.specs.declared.answer.DiscardCause.{DiscardCause}
+use Rattle.set_events.specs.declared.answer.Fate.{Fate}
+use Rattle.set_events.specs.declared.answer.Fate.TheVariants.{Waiting, Unacked, Acked, Held, Parked, Discarded}
+use Rattle.set_queues.specs.declared.message.Message.{Message}
+use Rattle.set_queues.specs.Buffers.{Lists, queue_at, last_at}
+use Rattle.set_queues.specs.Counts.{waits, was_sent, was_acked, was_held, is_parked, was_discarded}
+use Rattle.set_queues.specs.Kind.{is_users}
+use Rattle.set_queues.specs.Messages.{count_of, counts_of}
+use Rattle.set_model.specs.Rows.{Row, service_indicator, standing, users, numbers, unack, counts_of as counts_in, waits as waits_in, was_sent as was_sent_in, was_acked as was_acked_in, was_held as was_held_in, is_parked as is_parked_in, was_discarded as was_discarded_in}
+use Rattle.set_model.specs.State.{State, LinkState, unacked_of, unacked_in}
 use Rattle.set_model.specs.declared.numbered.Numbered.{Numbered}
-use Rattle.set_step.specs.declared.link.Link.{Link}
-use Rattle.set_step.specs.declared.parts.Parts.{Parts}
-use Rattle.set_step.specs.Agreement.{Agrees, link_of, state_of}
-use Rattle.set_model.specs.State.{LinkState, unacked_of, unacked_in}
 use Rattle.set_model.proofs.Lists.{map_at}
+use Rattle.set_model.proofs.Lookups.{row_at_number}
+use Rattle.set_step.specs.Agreement.{Kept, StandsFor, Stands, kind_of}
+use Rattle.set_step.proofs.Counting.{counted}
 
+-- THE USERS' MESSAGES of one place
+two_filters : (test like : Fate → Bool) → ((fate : Fate) → test fate ≡ like fate) → (rows : List Row) → length (filter (λ (r : Row). is_users (kind_of r.body) && test r.fate) rows) ≡ length (standing like (users rows))
+two_filters test like same [] = refl
+two_filters test like same (x ∷ rows) = go (service_indicator x.body == 0) refl (test x.fate) refl (same x.fate) (two_filters test like same rows)
+  where
+    go : (b : Bool) → (service_indicator x.body == 0) ≡ b → (t : Bool) → test x.fate ≡ t → test x.fate ≡ like x.fate → length (filter (λ (r : Row). is_users (kind_of r.body) && test r.fate) rows) ≡ length (standing like (users rows)) → length (filter (λ (r : Row). is_users (kind_of r.body) && test r.fate) (x ∷ rows)) ≡ length (standing like (users (x ∷ rows)))
+    go true e t h s rest = rw e rest
+    go false e true h s rest = let l : like x.fate ≡ true = sym s ∙ h in rw (e, h, l) (omega (arith, rest))
+    go false e false h s rest = let l : like x.fate ≡ false = sym s ∙ h in rw (e, h, l) rest
+
+in_place : (test like : Fate → Bool) → ((fate : Fate) → test fate ≡ like fate) → (q : Lists) (ms : List Message) (rows : List Row) → Stands q ms rows → count_of test ms ≡ length (standing like (users rows))
+in_place test like same q ms rows s = counted (λ l fate. is_users l.kind && test fate) q ms rows s ∙ two_filters test like same rows
+
+-- tests that agree on each kind of fate agree
+same_test : (test like : Fate → Bool) → ((l : ℕ) → test (Waiting l) ≡ like (Waiting l)) → ((l : ℕ) → test (Unacked l) ≡ like (Unacked l)) → ((l : ℕ) → test (Acked l) ≡ like (Acked l)) → ((l : ℕ) → test (Held l) ≡ like (Held l)) → test Parked ≡ like Parked → ((c : DiscardCause) → test (Discarded c) ≡ like (Discarded c)) → (fate : Fate) → test fate ≡ like fate
+same_test test like w u a h p d (Waiting l) = w l
+same_test test like w u a h p d (Unacked l) = u l
+same_test test like w u a h p d (Acked l) = a l
+same_test test like w u a h p d (Held l) = h l
+same_test test like w u a h p d Parked = p
+same_test test like w u a h p d (Discarded c) = d c
+
+pub counts_are : (q : Lists) (ms : List Message) (rows : List Row) → Stands q ms rows → counts_of ms ≡ counts_in rows
+counts_are q ms rows s =
+    let waiting : count_of waits ms ≡ length (standing waits_in (users rows)) = in_place waits waits_in (same_test waits waits_in (λ l. refl) (λ l. refl) (λ l. refl) (λ l. refl) refl (λ c. refl)) q ms rows s in
+    let unacked : count_of was_sent ms ≡ length (standing was_sent_in (users rows)) = in_place was_sent was_sent_in (same_test was_sent was_sent_in (λ l. refl) (λ l. refl) (λ l. refl) (λ l. refl) refl (λ c. refl)) q ms rows s in
+    let acked : count_of was_acked ms ≡ length (standing was_acked_in (users rows)) = in_place was_acked was_acked_in (same_test was_acked was_acked_in (λ l. refl) (λ l. refl) (λ l. refl) (λ l. refl) refl (λ c. refl)) q ms rows s in
+    let held : count_of was_held ms ≡ length (standing was_held_in (users rows)) = in_place was_held was_held_in (same_test was_held was_held_in (λ l. refl) (λ l. refl) (λ l. refl) (λ l. refl) refl (λ c. refl)) q ms rows s in
+    let parked : count_of is_parked ms ≡ length (standing is_parked_in (users rows)) = in_place is_parked is_parked_in (same_test is_parked is_parked_in (λ l. refl) (λ l. refl) (λ l. refl) (λ l. refl) refl (λ c. refl)) q ms rows s in
+    let discarded : count_of was_discarded ms ≡ length (standing was_discarded_in (users rows)) = in_place was_discarded was_discarded_in (same_test was_discarded was_discarded_in (λ l. refl) (λ l. refl) (λ l. refl) (λ l. refl) refl (λ c. refl)) q ms rows s in
+    cc
+
+-- THE UNACKNOWLEDGED MESSAGES of a link
 abbrev numbered : ℕ → ℕ → Numbered
 numbered number fsn = record { number = number; fsn = fsn }
 
--- it's found under its number
-pub unacked_there : (parts : Parts) (n place number : ℕ) (link : Link) → Agrees parts → slice_get parts.links.items n ≡ Some link → slice_get link.window.unacked place ≡ Some number → unacked_in (state_of parts) n place ≡ Some (record { number = number; fsn = (link.window.last + 1 + place) % 128 })
-unacked_there parts n place number link agrees there at =
-    let k = agrees.kept n link there in
-    let rows = parts.rows.rows in
-    let r = row_at_number (unack n rows) place number (ap (λ (ns : List ℕ). slice_get ns place) (sym k.unacked) ∙ at) in
-    let last = k.last in
-    let fsn : (link.acked + place) % 128 ≡ (link.window.last + 1 + place) % 128 = omega (arith, last) in
-    ap (λ (o : Option LinkState). unacked_of o n place rows) (map_at link_of parts.links.items n link there)
-    ∙ ap (option_map (λ (row : Row). numbered row.number ((link.acked + place) % 128))) r.1
-    ∙ ap (λ (i : ℕ). Some (numbered i ((link.acked + place) % 128))) r.2
-    ∙ ap (λ (i : ℕ). Some (numbered number i)) fsn
-
--- there is none at that place
 none_at : (rows : List Row) (place : ℕ) → slice_get (numbers rows) place ≡ None → slice_get rows place ≡ None
 none_at rows place none = go (slice_get rows place) refl
   where
@@ -34,10 +61,33 @@ none_at rows place none = go (slice_get rows place) refl
     go None e = e
     go (Some row) e = absurd (let f = sym (map_at (λ (r : Row). r.number) rows place row e) ∙ none in cc)
 
-pub unacked_none : (parts : Parts) (n place : ℕ) (link : Link) → Agrees parts → slice_get parts.links.items n ≡ Some link → slice_get link.window.unacked place ≡ None → unacked_in (state_of parts) n place ≡ None
-unacked_none parts n place link agrees there at =
-    let k = agrees.kept n link there in
-    let rows = parts.rows.rows in
-    let none = none_at (unack n rows) place (ap (λ (ns : List ℕ). slice_get ns place) (sym k.unacked) ∙ at) in
-    ap (λ (o : Option LinkState). unacked_of o n place rows) (map_at link_of parts.links.items n link there)
-    ∙ ap (option_map (λ (row : Row). numbered row.number ((link.acked + place) % 128))) none
+-- it's found under its number
+unacked_one : (k : Kept) (s : State) (n place number : ℕ) (link : LinkState) → StandsFor k s → slice_get s.links n ≡ Some link → slice_get (queue_at (Unacked n) k.lists) place ≡ Some number → unacked_in s n place ≡ Some (numbered number ((last_at n k.lists + 1 + place) % 128))
+unacked_one k s n place number link st there at =
+    let rows = s.rows in
+    let r = row_at_number (unack n rows) place number (ap (λ (ns : List ℕ). slice_get ns place) (sym (st.stands.queues (Unacked n))) ∙ at) in
+    let last = st.fsns n link there in
+    let fsn : (link.acked + place) % 128 ≡ (last_at n k.lists + 1 + place) % 128 = omega (arith, last) in
+    ap (λ (o : Option LinkState). unacked_of o n place rows) there
+    ∙ ap (option_map (λ (row : Row). numbered row.number ((link.acked + place) % 128))) r.1
+    ∙ ap (λ (i : ℕ). Some (numbered i ((link.acked + place) % 128))) r.2
+    ∙ ap (λ (i : ℕ). Some (numbered number i)) fsn
+
+-- the set has the link
+link_there : (links : List LinkState) (n : ℕ) → n < length links → (link : LinkState) × (slice_get links n ≡ Some link)
+link_there [] n low = absurd (omega (arith, low))
+link_there (x ∷ links) zero low = (x, refl)
+link_there (x ∷ links) (suc n) low = link_there links n (omega (arith, low))
+
+pub unacked_there : (k : Kept) (s : State) (n place number : ℕ) → StandsFor k s → n < length k.links → slice_get (queue_at (Unacked n) k.lists) place ≡ Some number → unacked_in s n place ≡ Some (numbered number ((last_at n k.lists + 1 + place) % 128))
+unacked_there k s n place number st low at =
+    let l = link_there s.links n (omega (arith, low, ap length st.links)) in
+    unacked_one k s n place number l.0 st l.1 at
+
+-- there is none at that place
+pub unacked_none : (k : Kept) (s : State) (n place : ℕ) → StandsFor k s → slice_get (queue_at (Unacked n) k.lists) place ≡ None → unacked_in s n place ≡ None
+unacked_none k s n place st at = go (slice_get s.links n) (none_at (unack n s.rows) place (ap (λ (ns : List ℕ). slice_get ns place) (sym (st.stands.queues (Unacked n))) ∙ at))
+  where
+    go : (o : Option LinkState) → slice_get (unack n s.rows) place ≡ None → unacked_of o n place s.rows ≡ None
+    go None none = refl
+    go (Some link) none = ap (option_map (λ (row : Row). numbered row.number ((link.acked + place) % 128))) none

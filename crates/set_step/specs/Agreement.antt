@@ -1,166 +1,83 @@
--- THE AGREEMENT of what a set keeps with the rows that it stands for.
-use Rattle.std.specs.Prelude.{◌≡◌, ℕ, Bool, true, false, ◌+◌, ◌%◌, ◌≤◌, ◌<◌, List, [], ◌++◌, length, map, is_some, Option, None, Some, slice_get, slice_set, if◌then◌else◌}
-use Rattle.l2_window.specs.Window.{WindowState}
-use Rattle.l2_units.specs.declared.unit.Unit.{Unit as SignalUnit}
-use Rattle.l2_units.specs.declared.unit.Unit.TheVariants.{Fisu, Lssu, Msu}
-use Rattle.l3_orders.specs.declared.order.Order.{Order}
-use Rattle.l3_orders.specs.Grammar.{order_of}
-use Rattle.arrayvec.specs.declared.array_vec.ArrayVec.{ArrayVec}
+-- WHAT A SET KEEPS, AND HOW IT AGREES WITH THE STATE that it stands for. Read this file first.
+use Rattle.std.specs.Prelude.{◌≡◌, ℕ, ◌+◌, ◌%◌, ◌==◌, List, [], length, Some, slice_get, if◌then◌else◌}
+use Rattle.std.specs.Option.{option_map}
 use Rattle.set_events.specs.declared.answer.Fate.{Fate}
 use Rattle.set_events.specs.declared.answer.Fate.TheVariants.{Waiting, Unacked, Acked, Held, Parked, Discarded}
-use Rattle.set_events.specs.declared.answer.Refusal.{Refusal as SetRefusal}
-use Rattle.set_events.specs.declared.answer.Refusal.TheVariants.{NotUp, NotDown, Unsettled, Nothing, NoSuchLink}
-use Rattle.set_model.specs.Rows.{Row, unack, wait, on, numbers, octets_in, IsInOrder}
-use Rattle.set_route.specs.declared.place.Place.{Place}
-use Rattle.set_route.specs.declared.place.Place.TheVariants.{On, Nowhere}
-use Rattle.set_route.specs.declared.stream.Stream.{Stream}
-use Rattle.set_step.specs.declared.link.Link.{Link}
-use Rattle.set_step.specs.declared.parts.Parts.{Parts}
-use Rattle.set_model.specs.declared.reached.Reached.{Reached}
-use Rattle.set_model.specs.declared.reached.Reached.TheVariants.{Upto, Unknown, Unanswered}
-use Rattle.set_model.specs.declared.phase.Phase.{Phase}
-use Rattle.set_model.specs.declared.phase.Phase.TheVariants.{Up, Down, Settled}
-use Rattle.set_model.specs.Control.{accepted_of}
-use Rattle.set_model.specs.Sound.{IsSound}
-use Rattle.set_model.specs.State.{LinkState, State, settings_of, has_phase_up, has_phase_settled}
+use Rattle.set_queues.specs.declared.message.Kind.{Kind}
+use Rattle.set_queues.specs.declared.message.Kind.TheVariants.{User, Order}
+use Rattle.set_queues.specs.declared.message.Message.{Message}
+use Rattle.set_queues.specs.Buffers.{Lists, queue_at, last_at}
+use Rattle.set_queues.specs.Messages.{fate_at}
+use Rattle.set_route.specs.Routing.{Routing}
+use Rattle.set_model.specs.Rows.{Row, numbers, unack, wait, held, parked, place, body_at, service_indicator, stream_of, IsNumbered}
+use Rattle.set_model.specs.Sound.{IsSound, AreFew}
+use Rattle.set_model.specs.State.{LinkState, State, Settings}
 
--- what the kept link stands for
-abbrev pub link_of : Link → LinkState
-link_of link = record { phase = link.phase; blind = link.blind; acked = link.acked; accepted = link.accepted; control = link.control }
+-- what contracts see of what a set keeps
+pub record Kept : Type 0 where
+  pub settings : Settings
+  -- the queues of numbers, and by its number each message's fate, whose it is, and its octets
+  pub lists : Lists
+  pub messages : List Message
+  -- each message's body, by its number
+  pub bodies : List (List ℕ)
+  pub links : List LinkState
+  pub routing : Routing
+  pub inbox : List (List ℕ)
 
--- the octets of the bodies in the inbox
-abbrev pub bodies_in : List (ArrayVec ℕ 273 (Unit {0})) → List (List ℕ)
-bodies_in inbox = map (λ body. body.items) inbox
+-- the rows that stand where the fate tells, if it isn't final
+abbrev pub rows_at : Fate → List Row → List Row
+rows_at (Waiting link) rows = wait link rows
+rows_at (Unacked link) rows = unack link rows
+rows_at (Held link) rows = held link rows
+rows_at Parked rows = parked rows
+rows_at (Acked link) rows = []
+rows_at (Discarded cause) rows = []
 
--- what is kept stands for this state
-abbrev pub state_of : Parts → State
-state_of parts = record {
-  settings = settings_of parts.config;
-  rows = parts.rows.rows;
-  links = map link_of parts.links.items;
-  routing = parts.routes;
-  inbox = bodies_in parts.inbox.items;
-}
+-- whose a body is
+abbrev pub kind_of : List ℕ → Kind
+kind_of body = if service_indicator body == 0 then Order else User (stream_of body)
 
--- a fact of the link of this number, if there is one
-abbrev pub AtLink : ℕ → List Link → (Link → Type 0) → Type 0
-AtLink number links fact = (link : Link) → slice_get links number ≡ Some link → fact link
+-- what is kept of a body beside it
+pub record Label : Type 0 where
+  pub kind : Kind
+  pub octets : ℕ
 
--- of one link: the window's lists are the filters of the rows, its number and the control's are the whole numbers',
--- the octets are the sum over the unacknowledged bodies; no message was sent before one that still waits; and once
--- the link settled nothing stands on it
-pub record IsKept (number : ℕ) (link : Link) (rows : List Row) : Type 0 where
-  pub last : link.window.last ≡ (link.acked + 127) % 128
-  pub unacked : link.window.unacked ≡ numbers (unack number rows)
-  pub unsent : link.window.unsent ≡ numbers (wait number rows)
-  pub accepted : accepted_of link.control ≡ (link.accepted + 127) % 128
-  pub octets : link.octets ≡ octets_in (unack number rows)
-  pub in_order : IsInOrder number rows
-  pub settled : has_phase_settled link.phase ≡ true → on number rows ≡ []
+abbrev pub label_in : Message → Label
+label_in m = record { kind = m.kind; octets = m.octets }
 
-abbrev pub AreKept : List Link → List Row → Type 0
-AreKept links rows = (number : ℕ) → AtLink number links (λ link. IsKept number link rows)
+abbrev pub label_of : List ℕ → Label
+label_of body = record { kind = kind_of body; octets = length body }
 
--- a stream runs on a link that isn't settled, or nowhere
-abbrev pub IsPlaced : List Link → Place → Type 0
-IsPlaced links (On number) = (link : Link) × (slice_get links number ≡ Some link) × (has_phase_settled link.phase ≡ false)
-IsPlaced links Nowhere = Unit {0}
+-- THE QUEUES STAND FOR THE ROWS: each queue holds the numbers of the rows of its fate, in their order; each number's fate
+-- is its row's, and its label its body's
+pub record Stands (q : Lists) (ms : List Message) (rows : List Row) : Type 0 where
+  pub queues : (fate : Fate) → queue_at fate q ≡ numbers (rows_at fate rows)
+  pub fates : (number : ℕ) → fate_at number ms ≡ place number rows
+  pub labels : (number : ℕ) → option_map label_in (slice_get ms number) ≡ option_map label_of (body_at number rows)
+  pub count : length ms ≡ length rows
+  pub numbered : IsNumbered rows
 
-abbrev pub ArePlaced : List Link → List Stream → Type 0
-ArePlaced links streams = (number : ℕ) (stream : Stream) → slice_get streams number ≡ Some stream → IsPlaced links stream.place
+-- WHAT IS KEPT STANDS FOR THE STATE. The FSN last acknowledged on a link is its whole number's (Q.703 2.2).
+pub record StandsFor (k : Kept) (s : State) : Type 0 where
+  pub settings : k.settings ≡ s.settings
+  pub stands : Stands k.lists k.messages s.rows
+  pub bodies : (number : ℕ) → slice_get k.bodies number ≡ body_at number s.rows
+  pub held_bodies : length k.bodies ≡ length k.messages
+  pub links : k.links ≡ s.links
+  pub as_many : length k.lists.links ≡ length s.links
+  pub fsns : (number : ℕ) (link : LinkState) → slice_get s.links number ≡ Some link → last_at number k.lists ≡ (link.acked + 127) % 128
+  pub routing : k.routing ≡ s.routing
+  pub inbox : k.inbox ≡ s.inbox
 
-pub record Agrees (parts : Parts) : Type 0 where
-  pub count : length parts.links.items ≡ parts.config.links
-  pub routed : parts.routes.links ≡ parts.config.links
-  pub kept : AreKept parts.links.items parts.rows.rows
-  pub placed : ArePlaced parts.links.items parts.routes.streams
+-- it agrees with the state: it stands for it, and the state is one that a set can have
+pub record Agrees (k : Kept) (s : State) : Type 0 where
+  pub stands : StandsFor k s
+  pub sound : IsSound s
 
--- what holds of every set: what it keeps agrees, and what that stands for is sound
-pub record Holds (parts : Parts) : Type 0 where
-  pub agrees : Agrees parts
-  pub sound : IsSound (state_of parts)
+-- there is such a state; and one whose whole numbers are below a bound
+abbrev pub Holds : Kept → Type 0
+Holds k = (s : State) × Agrees k s
 
--- so many messages can be queued on each link without memory
-abbrev pub AreRoomy : ℕ → List Link → Type 0
-AreRoomy pushes links = (number : ℕ) → AtLink number links (λ link. pushes ≤ link.window.room)
-
--- a link but for its window's room
-abbrev pub bare : Link → Link
-bare link = record link { window = record link.window { room = 0 } }
-
--- a fate that a new row can have: on no link that settled, and waiting only where the link is up
-abbrev pub IsOpenTo : Fate → List Link → Type 0
-IsOpenTo (Waiting number) links = (link : Link) × (slice_get links number ≡ Some link) × (has_phase_up link.phase ≡ true)
-IsOpenTo (Held number) links = (link : Link) × (slice_get links number ≡ Some link) × (has_phase_settled link.phase ≡ false)
-IsOpenTo Parked links = Unit {0}
-IsOpenTo (Unacked number) links = ⊥
-IsOpenTo (Acked number) links = ⊥
-IsOpenTo (Discarded cause) links = ⊥
-
--- the whole numbers are far from the end of their range
-pub record IsCounted (bound : ℕ) (link : Link) : Type 0 where
-  pub acked : link.acked < bound
-  pub accepted : link.accepted < bound
-
-abbrev pub AreCounted : ℕ → List Link → Type 0
-AreCounted bound links = (number : ℕ) → AtLink number links (IsCounted bound)
-
--- an FSN has 7 bits
-abbrev pub IsReach : Reached → Type 0
-IsReach (Upto number) = number < 128
-IsReach Unknown = Unit {0}
-IsReach Unanswered = Unit {0}
-
-abbrev pub IsOut : Link → Type 0
-IsOut link = has_phase_up link.phase ≡ false
-
-abbrev pub IsIn : Link → Type 0
-IsIn link = has_phase_up link.phase ≡ true
-
--- no more stands on the link than before, no link has less room, and none changes its phase
-pub record Keeps (number : ℕ) (old new : Parts) : Type 0 where
-  pub fewer : length (on number new.rows.rows) ≤ length (on number old.rows.rows)
-  pub room : (pushes : ℕ) → AreRoomy pushes old.links.items → AreRoomy pushes new.links.items
-  pub phases : map (λ link. link.phase) new.links.items ≡ map (λ link. link.phase) old.links.items
-
--- why an event that needs the link in service is refused, if it is
-abbrev pub service_refusal : Option Link → Option SetRefusal
-service_refusal None = Some NoSuchLink
-service_refusal (Some link) = if has_phase_up link.phase then None else Some NotUp
-
-abbrev pub refusal_in : Phase → Option SetRefusal → Option SetRefusal → Option SetRefusal → Option SetRefusal
-refusal_in Up up down settled = up
-refusal_in Down up down settled = down
-refusal_in Settled up down settled = settled
-
--- why a link can't come up, and why no answer is waited for, if so
-abbrev pub rising_refusal : Option Link → Option SetRefusal
-rising_refusal None = Some NoSuchLink
-rising_refusal (Some link) = refusal_in link.phase (Some NotDown) (Some Unsettled) None
-
-abbrev pub waiting_refusal : Option Link → Option SetRefusal
-waiting_refusal None = Some NoSuchLink
-waiting_refusal (Some link) = refusal_in link.phase (Some Nothing) None (Some Nothing)
-
--- the order that a unit brings, if it brings one
-abbrev pub order_brought : SignalUnit → Option Order
-order_brought (Fisu head) = None
-order_brought (Lssu head status) = None
-order_brought (Msu head body) = order_of body.items
-
-abbrev pub has_order : SignalUnit → Bool
-has_order unit = is_some (order_brought unit)
-
--- so many messages wait last in the window of this link, and nothing else changed
-pub record Queues (to : ℕ) (messages : List ℕ) (old new : List Link) : Type 0 where
-  pub link : Link
-  pub window : WindowState
-  pub there : slice_get old to ≡ Some link
-  pub new_is : new ≡ slice_set old to (record link { window = window })
-  pub last : window.last ≡ link.window.last
-  pub unacked : window.unacked ≡ link.window.unacked
-  pub unsent : window.unsent ≡ link.window.unsent ++ messages
-
-abbrev pub IsQueued : Option ℕ → List ℕ → List Link → List Link → Type 0
-IsQueued None messages old new = new ≡ old
-IsQueued (Some to) messages old new = Queues to messages old new
+abbrev pub HoldsFew : ℕ → Kept → Type 0
+HoldsFew events k = (s : State) × Agrees k s × AreFew events s

@@ -1,14 +1,18 @@
 //! Changeover: a link is left, orders tell the far end, and the link settles (Q.704 5).
-ghost use Rattle.std.specs.Prelude.{◌≡◌, ◌+◌, ◌<◌, ◌≤◌, ◌^◌, ◌%◌, ℕ, false, map, length, slice_get, IfOk};
+ghost use Rattle.std.specs.Prelude.{◌≡◌, ◌+◌, ◌<◌, ◌≤◌, ◌^◌, ◌%◌, ℕ, false, map, length, slice_get, slice_set, Some, IfOk};
 ghost use Rattle.std.specs.Vec.{vec_len, vec_capacity};
-ghost use Rattle.l3_orders.specs.Grammar.{IsOrder, text as text_of};
-ghost use Rattle.set_model.specs.Rows.{on};
-ghost use Rattle.set_step.specs.Agreement.{Agrees, AreRoomy, AreCounted, AtLink, IsOut, IsReach, state_of, link_of};
-ghost use Rattle.set_model.specs.State.{last_accepted};
-ghost use Rattle.set_model.specs.Changeover.{queue as queued, leave as left, left_link, settle as settled, obeys as obeyed, at_link, changes_over as changed_over, is_answered as answered, reply as reply_of};
+ghost use Rattle.l3_orders.specs.Grammar.{IsOrder, link_of as link_in, text as text_of};
+ghost use Rattle.set_queues.specs.Buffers.{TakesRoom};
+ghost use Rattle.set_queues.specs.Settling.{on};
+ghost use Rattle.set_model.specs.Changeover.{queue as queued, leave as left, settle as settled, left_link, obeys as obeyed, changes_over as changed_over, is_answered as answered, reply as reply_of, at_link, fate_on};
+ghost use Rattle.set_model.specs.State.{State, LinkState, last_accepted, target};
+ghost use Rattle.set_model.specs.declared.phase.Phase.TheVariants.{Up, Down};
+ghost use Rattle.set_step.specs.Agreement.{StandsFor, Agrees, Holds};
+ghost use Rattle.set_step.specs.Parts.{IsWhole, AreCounted, AtLink, IsOut, IsReach, Becomes, BecomesAt, Obeys, link_of, kept_of};
+ghost use Rattle.set_step.specs.Room.{HasRoom, IsReady};
 
 use super::link::Link;
-use super::parts::{Parts, fate_of, stand_last, target_of};
+use super::parts::{Parts, fate_of, phase_of, stand_last, target_of};
 use super::settling::settle;
 use l3_orders::{Order, write_order};
 use set_events::{Body, Took};
@@ -31,16 +35,16 @@ pub(crate) fn order_space(links: &Vec<Link>) -> Result<Vec<u8>, AllocError>
 
 /// An order stands last, for the target. `space` holds it.
 pub(crate) fn queue(parts: &mut Parts, order: Order, space: Vec<u8>)
-    requires agrees { Agrees parts.old }
+    requires whole { IsWhole parts.old }
     requires order { IsOrder order }
     requires space { (vec_len space ≡ 0) × (7 ≤ vec_capacity space) }
-    requires row { 0 < parts.old.rows.room }
-    requires room { AreRoomy 1 parts.old.links.items }
-    ensures state { state_of parts.new ≡ queued order (state_of parts.old) }
-    ensures agrees { Agrees parts.new }
-    ensures room { (more : ℕ) → AreRoomy (more + 1) parts.old.links.items → AreRoomy more parts.new.links.items }
-    ensures links { map link_of parts.new.links.items ≡ map link_of parts.old.links.items }
-    ensures elsewhere { (number : ℕ) → AtLink number parts.old.links.items IsOut → on number parts.new.rows.rows ≡ on number parts.old.rows.rows }
+    requires room { HasRoom (fate_on (target (map link_of parts.old.links.items))) parts.old }
+    ensures stands { Becomes parts.old parts.new (queued order) }
+    ensures rooms { TakesRoom (fate_on (target (map link_of parts.old.links.items))) 1 parts.old.queues.rooms parts.new.queues.rooms }
+    ensures elsewhere { (number : ℕ) → number < length parts.old.links.items → AtLink number parts.old.links.items IsOut
+        → on number parts.new.queues.lists ≡ on number parts.old.queues.lists }
+    ensures links { parts.new.links ≡ parts.old.links }
+    ensures whole { IsWhole parts.new }
 {
     let fate = fate_of(target_of(&parts.links));
     let config = parts.config;
@@ -67,15 +71,14 @@ fn body_of(order: &Order, sio: u8, dpc: u16, opc: u16, space: Vec<u8>) -> Body
 
 /// The link is left: out of service, its messages stay on it until it settles (5.3).
 pub(crate) fn leave(parts: &mut Parts, number: u8, blind: bool)
-    requires agrees { Agrees parts.old }
+    requires whole { IsWhole parts.old }
     requires known { number < length parts.old.links.items }
-    ensures state { AtLink number parts.old.links.items (λ link. state_of parts.new ≡ left blind number (link_of link) (state_of parts.old)) }
-    ensures out { AtLink number parts.new.links.items IsOut }
-    ensures agrees { Agrees parts.new }
-    ensures rows { parts.new.rows ≡ parts.old.rows }
-    ensures counted { (bound : ℕ) → AreCounted bound parts.old.links.items → AreCounted bound parts.new.links.items }
-    ensures length { length parts.new.links.items ≡ length parts.old.links.items }
-    ensures room { (pushes : ℕ) → AreRoomy pushes parts.old.links.items → AreRoomy pushes parts.new.links.items }
+    ensures stands { BecomesAt number parts.old parts.new (left blind number) }
+    ensures links { AtLink number parts.old.links.items (λ link. parts.new.links.items
+        ≡ slice_set parts.old.links.items number (record link { phase = Down; blind = blind })) }
+    ensures queues { parts.new.queues ≡ parts.old.queues }
+    ensures bodies { parts.new.bodies ≡ parts.old.bodies }
+    ensures whole { IsWhole parts.new }
 {
     let link = &mut parts.links[usize::from(number)];
     link.phase = Phase::Down;
@@ -85,14 +88,12 @@ pub(crate) fn leave(parts: &mut Parts, number: u8, blind: bool)
 
 /// An order is carried out (5.4, 5.6). `space` holds the order that answers it.
 pub(crate) fn obey(parts: &mut Parts, order: Order, space: Vec<u8>) -> Took
-    requires agrees { Agrees parts.old }
+    requires holds { Holds (kept_of parts.old) }
     requires counted { AreCounted (2 ^ 61) parts.old.links.items }
     requires order { IsOrder order }
     requires space { (vec_len space ≡ 0) × (7 ≤ vec_capacity space) }
-    requires row { 0 < parts.old.rows.room }
-    requires room { (number : ℕ) → AreRoomy (length (on number parts.old.rows.rows) + 1) parts.old.links.items }
-    ensures state { obeyed order (state_of parts.old) ≡ record { took = result; state = state_of parts.new } }
-    ensures agrees { Agrees parts.new }
+    requires room { link_in order < length parts.old.links.items → IsReady (link_in order) 1 parts.old }
+    ensures stands { (s : State) → Agrees (kept_of parts.old) s → Obeys (obeyed order s) result parts.new }
 {
     match order {
         Order::Coo { link, number } => change_over(parts, link, Reached::Upto { number }, space),
@@ -106,39 +107,36 @@ pub(crate) fn obey(parts: &mut Parts, order: Order, space: Vec<u8>) -> Took
 /// A changeover order: a link that is up is left and answered for; a link that was left settles, with
 /// no answer (own); for one that settled already the answer of its last life goes out again (own).
 fn change_over(parts: &mut Parts, number: u8, reached: Reached, space: Vec<u8>) -> Took
-    requires agrees { Agrees parts.old }
+    requires holds { Holds (kept_of parts.old) }
     requires counted { AreCounted (2 ^ 61) parts.old.links.items }
     requires reached { IsReach reached }
     requires number { number < 16 }
     requires space { (vec_len space ≡ 0) × (7 ≤ vec_capacity space) }
-    requires row { 0 < parts.old.rows.room }
-    requires room { AreRoomy (length (on number parts.old.rows.rows) + 1) parts.old.links.items }
-    ensures state { at_link number (state_of parts.old) (λ link. changed_over reached number link link.phase (state_of parts.old)) (slice_get (map link_of parts.old.links.items) number) ≡ record { took = result; state = state_of parts.new } }
-    ensures agrees { Agrees parts.new }
+    requires room { number < length parts.old.links.items → IsReady number 1 parts.old }
+    ensures stands { (s : State) → Agrees (kept_of parts.old) s → Obeys (at_link number s (λ link.
+        changed_over reached number link link.phase s) (slice_get s.links number)) result parts.new }
 {
-    let Some(link) = parts.links.get(usize::from(number)) else {
-        return Took::Ignored;
-    };
-    match link.phase {
-        Phase::Up => answer_and_settle(parts, number, reached, space),
-        Phase::Down => settle(parts, number, reached),
-        Phase::Settled => reply_again(parts, number, space),
+    match phase_of(&parts.links, number) {
+        None => return Took::Ignored,
+        Some(Phase::Up) => answer_and_settle(parts, number, reached, space),
+        Some(Phase::Down) => settle(parts, number, reached),
+        Some(Phase::Settled) => reply_again(parts, number, space),
     }
     Took::Order
 }
 
 /// A link that is up is left; the far end's order is acknowledged, and the link settles.
 fn answer_and_settle(parts: &mut Parts, number: u8, reached: Reached, space: Vec<u8>)
-    requires agrees { Agrees parts.old }
+    requires whole { IsWhole parts.old }
     requires counted { AreCounted (2 ^ 61) parts.old.links.items }
     requires reached { IsReach reached }
     requires number { number < 16 }
     requires known { number < length parts.old.links.items }
     requires space { (vec_len space ≡ 0) × (7 ≤ vec_capacity space) }
-    requires row { 0 < parts.old.rows.room }
-    requires room { AreRoomy (length (on number parts.old.rows.rows) + 1) parts.old.links.items }
-    ensures state { AtLink number parts.old.links.items (λ link. state_of parts.new ≡ settled reached number (left_link false (link_of link)) (queued (Order.Coa number (last_accepted (link_of link))) (left false number (link_of link) (state_of parts.old)))) }
-    ensures agrees { Agrees parts.new }
+    requires room { IsReady number 1 parts.old }
+    ensures stands { (s : State) (link : LinkState) → slice_get s.links number ≡ Some link → link.phase ≡ Up
+        → Agrees (kept_of parts.old) s → StandsFor (kept_of parts.new) (settled reached number (left_link false link)
+        (queued (Order.Coa number (last_accepted link)) (left false number link s))) }
 {
     let order = Order::Coa {
         link: number,
@@ -151,15 +149,14 @@ fn answer_and_settle(parts: &mut Parts, number: u8, reached: Reached, space: Vec
 
 /// A link that settled is answered for again, as its last life would have been (own).
 fn reply_again(parts: &mut Parts, number: u8, space: Vec<u8>)
-    requires agrees { Agrees parts.old }
+    requires whole { IsWhole parts.old }
     requires counted { AreCounted (2 ^ 61) parts.old.links.items }
     requires number { number < 16 }
     requires known { number < length parts.old.links.items }
+    requires out { AtLink number parts.old.links.items IsOut }
     requires space { (vec_len space ≡ 0) × (7 ≤ vec_capacity space) }
-    requires row { 0 < parts.old.rows.room }
-    requires room { AreRoomy 1 parts.old.links.items }
-    ensures state { AtLink number parts.old.links.items (λ link. state_of parts.new ≡ queued (reply_of number (link_of link)) (state_of parts.old)) }
-    ensures agrees { Agrees parts.new }
+    requires room { IsReady number 1 parts.old }
+    ensures stands { BecomesAt number parts.old parts.new (λ link s. queued (reply_of number link) s) }
 {
     let order = reply(&parts.links[usize::from(number)], number);
     queue(parts, order, space);
@@ -183,19 +180,20 @@ fn reply(link: &Link, number: u8) -> Order
 
 /// An acknowledgement settles a link that waits for one (5.4.3, 5.6.3).
 fn answer(parts: &mut Parts, number: u8, reached: Reached) -> Took
-    requires agrees { Agrees parts.old }
+    requires holds { Holds (kept_of parts.old) }
     requires counted { AreCounted (2 ^ 61) parts.old.links.items }
     requires reached { IsReach reached }
-    requires room { AreRoomy (length (on number parts.old.rows.rows)) parts.old.links.items }
-    ensures state { at_link number (state_of parts.old) (λ link. answered reached number link link.phase (state_of parts.old)) (slice_get (map link_of parts.old.links.items) number) ≡ record { took = result; state = state_of parts.new } }
-    ensures agrees { Agrees parts.new }
+    requires room { number < length parts.old.links.items → IsReady number 1 parts.old }
+    ensures stands { (s : State) → Agrees (kept_of parts.old) s → Obeys (at_link number s (λ link.
+        answered reached number link link.phase s) (slice_get s.links number)) result parts.new }
 {
-    let Some(link) = parts.links.get(usize::from(number)) else {
-        return Took::Ignored;
-    };
-    if link.phase != Phase::Down {
-        return Took::Ignored;
+    match phase_of(&parts.links, number) {
+        Some(Phase::Down) => {
+            settle(parts, number, reached);
+            Took::Order
+        }
+        Some(Phase::Up) => Took::Ignored,
+        Some(Phase::Settled) => Took::Ignored,
+        None => Took::Ignored,
     }
-    settle(parts, number, reached);
-    Took::Order
 }

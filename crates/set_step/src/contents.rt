@@ -1,8 +1,7 @@
-//! What a set holds, as one event after another changes it.
-ghost use Rattle.std.specs.Prelude.{◌≡◌, ◌≤◌, ℕ, IfOk, IfErr, length};
-ghost use Rattle.l2_window.specs.Window.{IsEmpty};
-ghost use Rattle.set_step.specs.Agreement.{AtLink, link_of};
+//! What a set keeps, as one event after another changes it.
+ghost use Rattle.std.specs.Prelude.{◌≡◌, IfOk, map, replicate};
 ghost use Rattle.set_model.specs.State.{new_link};
+ghost use Rattle.set_step.specs.Parts.{link_of};
 
 use super::fault::SetFault;
 use super::link::Link;
@@ -10,71 +9,72 @@ use super::parts::Parts;
 use super::step::{answered, is_asked};
 use set_events::{Answer, Counts, Event, Fate, SetConfig};
 use set_model::{Numbered, Phase};
+use set_queues::Queues;
 use set_route::Routes;
-use set_rows::Rows;
-use std::alloc::Global;
+use std::alloc::{AllocError, Global};
 use std::collections::VecDeque;
 use std::marker::Model;
 
-/// What a set of links holds: its messages, its links, where its streams run, and the messages heard
-/// for users.
+/// What a set of links keeps: where its messages stand, their bodies, its links, where its streams run,
+/// and the messages heard for users.
 ///
-/// Readers: [`Core::place_of`], [`Core::counts`], [`Core::links`], [`Core::is_up`],
-/// [`Core::is_settled`], [`Core::unacked_at`]. The one input: [`Core::apply`].
+/// Contracts see what is kept, and say of every state of the model that it agrees with what becomes of it.
+/// Readers: [`Core::place_of`], [`Core::links`], [`Core::is_up`], [`Core::is_settled`],
+/// [`Core::counts`], [`Core::unacked_at`]. The one input: [`Core::apply`].
 #[derive(Drop)]
 pub struct Core {
     parts: Parts,
 }
 
 impl Model for Core {
-    ghost use Rattle.set_model.specs.State.{State};
+    ghost use Rattle.set_step.specs.Agreement.{Kept, Holds};
 
-    ghost Value = { State };
+    ghost Value = { Kept };
 
-    ghost use Rattle.set_step.specs.Agreement.{state_of, Holds};
+    ghost use Rattle.set_step.specs.Parts.{kept_of};
 
-    ghost view = { λ c. state_of c.parts };
+    ghost view = { λ c. kept_of c.parts };
 
-    ghost invariant = { λ c. Holds c.parts };
+    ghost invariant = { λ c. Holds (kept_of c.parts) };
 }
 
 impl Core {
-    ghost use Rattle.std.specs.Prelude.{◌≡◌, ◌<◌, ◌≤◌, ◌^◌, ◌+◌, ℕ, IfOk, IfErr, OnErr, length};
+    ghost use Rattle.std.specs.Prelude.{◌≡◌, ◌≤◌, ◌<◌, ◌^◌, length, IfOk, IfErr, OnErr};
     ghost use Rattle.set_model.specs.Rows.{place, counts_of, total_of, users};
-    ghost use Rattle.set_model.specs.State.{new_state, link_count, is_up as is_up_in, is_settled as is_settled_in, no_counts, unacked_in};
-    ghost use Rattle.set_model.specs.Sound.{AreFew, IsSound};
-    ghost use Rattle.set_model.specs.Step.{step, Gains};
+    ghost use Rattle.set_model.specs.State.{State, new_state, link_count, is_up as is_up_in, is_settled as is_settled_in, unacked_in};
+    ghost use Rattle.set_model.specs.Step.{step};
+    ghost use Rattle.set_step.specs.Agreement.{Agrees, StandsFor, Holds, HoldsFew};
+    ghost use Rattle.set_step.specs.Answering.{AnswersFor};
 
     /// A set as this configuration has it: no messages, no link up.
     ///
     /// Fault: 1 [`SetFault::NoMemory`], only where memory was refused.
     pub fn new(alloc: Global, config: &SetConfig) -> Result<Core, SetFault>
-        ensures ok { IfOk result (λ core. core ≡ new_state config.now) }
-        ensures few { IfOk result (λ core. AreFew 0 core) }
-        ensures empty { IfOk result (λ core. counts_of core.rows ≡ no_counts) }
+        ensures ok { IfOk result (λ core. Agrees core (new_state config.now)) }
         ensures fault { IfErr result (λ fault. fault ≡ SetFault.NoMemory) }
     {
         let links = new_links(alloc, config)?;
+        let queues = Queues::new(alloc, config.links)?;
         Ok(Core {
             parts: Parts {
                 config: *config,
                 links,
-                rows: Rows::new(alloc),
+                queues,
+                bodies: Vec::new(alloc),
                 routes: Routes::new(config.links),
                 inbox: VecDeque::new(alloc),
             },
         })
     }
 
-    /// What the set answers to this event: the answer and what it holds then are those of its step.
+    /// What the set answers to this event: of whatever state it agreed with, the answer is that of the
+    /// step, and it agrees with the state that the step leads to.
     ///
-    /// Refusals are answers. Fault: 1 [`SetFault::NoMemory`], only where memory was refused; the set
+    /// Refusals are answers. Fault: 1 [`SetFault::NoMemory`], only where memory was refused; what is kept
     /// is then as it was.
     pub fn apply(&mut self, event: &Event) -> Result<Answer, SetFault>
-        requires { AreFew (2 ^ 48) self.old }
-        ensures ok { IfOk result (λ answer. step self.old event.now ≡ record { answer = answer; state = self.new }) }
-        ensures gains { IfOk result (λ answer. Gains self.old event.now answer self.new) }
-        ensures few { (events : ℕ) → AreFew events self.old → AreFew (events + 1) self.new }
+        requires { HoldsFew (2 ^ 48) self.old }
+        ensures ok { IfOk result (λ answer. (s : State) → Agrees self.old s → AnswersFor (step s event.now) answer self.new) }
         ensures err { OnErr result (self.new ≡ self.old) }
         ensures fault { IfErr result (λ fault. fault ≡ SetFault.NoMemory) }
     {
@@ -82,17 +82,23 @@ impl Core {
         answered(&mut self.parts, event)
     }
 
+    /// A law: there is a state that it agrees with.
+    pub fn holds(&self)
+        ensures { Holds self.now }
+    {
+        let _ = &self.parts;
+    }
+
     /// How many links the set has, 1 to 16.
     pub fn links(&self) -> u8
-        ensures links { result ≡ link_count self.now }
-        ensures few { (1 ≤ result) × (result ≤ 16) }
+        ensures { (s : State) → StandsFor self.now s → result ≡ link_count s }
     {
-        self.parts.config.links
+        self.parts.links.len() as u8
     }
 
     /// Whether this link of the set is up.
     pub fn is_up(&self, link: u8) -> bool
-        ensures { result ≡ is_up_in link self.now }
+        ensures { (s : State) → StandsFor self.now s → result ≡ is_up_in link s }
     {
         match self.parts.links.get(usize::from(link)) {
             Some(link) => link.phase == Phase::Up,
@@ -102,7 +108,7 @@ impl Core {
 
     /// Whether this link of the set is settled, as one is that never was up.
     pub fn is_settled(&self, link: u8) -> bool
-        ensures { result ≡ is_settled_in link self.now }
+        ensures { (s : State) → StandsFor self.now s → result ≡ is_settled_in link s }
     {
         match self.parts.links.get(usize::from(link)) {
             Some(link) => link.phase == Phase::Settled,
@@ -112,60 +118,49 @@ impl Core {
 
     /// Where the message of this number stands; none has it: `None`.
     pub fn place_of(&self, number: u64) -> Option<Fate>
-        ensures { result ≡ place number self.now.rows }
+        ensures { (s : State) → StandsFor self.now s → result ≡ place number s.rows }
     {
-        self.parts.rows.place_of(number)
+        self.parts.queues.fate_of(number)
     }
 
     /// How many of the users' messages stand in each place; each stands in one.
     pub fn counts(&self) -> Counts
-        ensures value { result ≡ counts_of self.now.rows }
-        ensures all { total_of result ≡ length (users self.now.rows) }
+        ensures value { (s : State) → StandsFor self.now s → result ≡ counts_of s.rows }
+        ensures all { (s : State) → StandsFor self.now s → total_of result ≡ length (users s.rows) }
         ensures few { total_of result < 2 ^ 64 }
     {
-        let _ = self.parts.rows.len();
-        self.parts.rows.counts()
+        let _ = self.parts.queues.len();
+        self.parts.queues.counts()
     }
 
-    /// The message at this place of the link's unacknowledged ones, the oldest at 0: the number of
-    /// its row, and the FSN that it carries. Past the last one, or on a link that the set hasn't:
-    /// `None`.
+    /// The message at this place of the link's unacknowledged ones, the oldest at 0: its number, and the FSN
+    /// that it carries (Q.703 2.2). Past the last one, or on a link that the set hasn't: `None`.
     pub fn unacked_at(&self, link: u8, place: u8) -> Option<Numbered>
-        ensures { result ≡ unacked_in self.now link place }
+        ensures { (s : State) → StandsFor self.now s → result ≡ unacked_in s link place }
     {
-        let Some(link) = self.parts.links.get(usize::from(link)) else {
+        if usize::from(link) >= self.parts.links.len() {
+            return None;
+        }
+        let sent = Fate::Unacked { link };
+        let Some(number) = self.parts.queues.number_at(sent, usize::from(place)) else {
             return None;
         };
-        let Some(number) = link.window.unacked_at(usize::from(place)) else {
-            return None;
-        };
-        let fsn = (link.window.last() + 1 + place) % 128;
-        Some(Numbered { number, fsn })
-    }
-
-    /// A law: what holds of every set's state (`specs/Sound.antt` of `set_model`). The numbers 0, 1, ..
-    /// stand in one row each. Of each link, at most 127 messages are unacknowledged, and they stand before
-    /// those that wait, and these before those that are held; the BSN that it sends is the number of the
-    /// body it last accepted; nothing is held for it while it's up, and once it settled no message stands
-    /// on it. A stream runs on a link that isn't settled, its unfinished messages together and in the order
-    /// of their numbers; while a link is up none is parked.
-    pub fn is_sound(&self)
-        ensures { IsSound self.now }
-    {
-        let _ = &self.parts;
+        let last = self.parts.queues.window(link).last();
+        let fsn = (u16::from(last) + 1 + u16::from(place)) % 128;
+        Some(Numbered {
+            number,
+            fsn: fsn as u8,
+        })
     }
 }
 
 /// The links of a set, none of which was up.
-fn new_links(alloc: Global, config: &SetConfig) -> Result<Vec<Link>, SetFault>
-    ensures count { IfOk result (λ links. length links.items ≡ config.now.links) }
-    ensures fresh { IfOk result (λ links. (number : ℕ) → AtLink number links.items (λ link. (link_of link ≡ new_link config.now.method) × IsEmpty link.window × (link.octets ≡ 0))) }
-    ensures fault { IfErr result (λ fault. fault ≡ SetFault.NoMemory) }
+fn new_links(alloc: Global, config: &SetConfig) -> Result<Vec<Link>, AllocError>
+    ensures { IfOk result (λ links. map link_of links.items ≡ replicate config.now.links (new_link config.now.method)) }
 {
     let mut links = Vec::new(alloc);
     for _ in 0..config.links {
-        let link = Link::new(alloc, config.method)?;
-        links.push(link)?;
+        links.push(Link::new(config.method))?;
     }
     Ok(links)
 }

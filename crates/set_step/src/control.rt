@@ -1,12 +1,13 @@
 //! The error control of a link: one of the two methods.
-ghost use Rattle.std.specs.Prelude.{◌≡◌, ◌<◌};
-ghost use Rattle.set_model.specs.Control.{start_of, accepted_of};
-ghost use Rattle.set_step.specs.Controls.{IsChosen, IsHeard, control_of};
+ghost use Rattle.std.specs.Prelude.{◌≡◌};
+ghost use Rattle.l2_window.specs.Control.{fsn_of};
+ghost use Rattle.set_model.specs.Control.{start_of, choice_of, head_of, control_after, part_of, control_heard};
+ghost use Rattle.set_step.specs.Controls.{IsPossible, control_of};
 
 use l2_basic::Basic;
 use l2_pcr::Pcr;
 use l2_units::Header;
-use l2_window::{HeardPart, Sending, Window};
+use l2_window::{Choice, HeardPart, Window};
 use set_events::Method;
 use std::marker::Model;
 
@@ -45,18 +46,30 @@ impl Control {
         }
     }
 
-    /// What is sent next, where the bodies of the unacknowledged messages have so many octets.
-    pub(crate) fn next(&mut self, window: &mut Window, octets: u32) -> Sending
-        ensures { IsChosen octets self.old self.new window.old window.new result }
+    /// What is to be sent next, where the bodies of the unacknowledged messages have so many octets.
+    pub(crate) fn choice(&self, window: &Window, octets: u32) -> Choice
+        ensures value { result ≡ choice_of octets self.now window.now }
+        ensures possible { IsPossible result window.now }
     {
-        self.by.next(window, octets)
+        self.by.choice(window, octets)
     }
 
-    /// What a heard unit with this header means; `is_msu` tells an MSU from a FISU.
-    pub(crate) fn heard(&mut self, window: &mut Window, head: Header, is_msu: bool) -> HeardPart
-        ensures { IsHeard head is_msu self.old self.new window.old window.new result }
+    /// Sends what was chosen: the header of the unit.
+    pub(crate) fn send(&mut self, choice: Choice, window: &Window, octets: u32) -> Header
+        requires { choice ≡ choice_of octets self.old window.now }
+        ensures head { result ≡ head_of self.old (fsn_of choice window.now) }
+        ensures state { self.new ≡ control_after choice octets self.old window.now }
     {
-        self.by.heard(window, head, is_msu)
+        self.by.send(choice, window, octets)
+    }
+
+    /// What a heard unit with this header means; `is_msu` tells an MSU from a FISU. The messages that
+    /// it acknowledges still stand in the window.
+    pub(crate) fn hear(&mut self, window: &Window, head: Header, is_msu: bool) -> HeardPart
+        ensures part { result ≡ part_of self.old window.now head is_msu }
+        ensures state { self.new ≡ control_heard self.old window.now head is_msu }
+    {
+        self.by.hear(window, head, is_msu)
     }
 }
 
@@ -70,21 +83,34 @@ impl ByMethod {
         }
     }
 
-    fn next(&mut self, window: &mut Window, octets: u32) -> Sending
-        ensures { IsChosen octets (control_of self.old) (control_of self.new) window.old window.new result }
+    fn choice(&self, window: &Window, octets: u32) -> Choice
+        ensures value { result ≡ choice_of octets (control_of self.now) window.now }
+        ensures possible { IsPossible result window.now }
     {
         match self {
-            ByMethod::Basic(basic) => basic.next(window),
-            ByMethod::Cyclic(pcr) => pcr.next(window, octets),
+            ByMethod::Basic(basic) => basic.choice(window),
+            ByMethod::Cyclic(pcr) => pcr.choice(window, octets),
         }
     }
 
-    fn heard(&mut self, window: &mut Window, head: Header, is_msu: bool) -> HeardPart
-        ensures { IsHeard head is_msu (control_of self.old) (control_of self.new) window.old window.new result }
+    fn send(&mut self, choice: Choice, window: &Window, octets: u32) -> Header
+        requires { choice ≡ choice_of octets (control_of self.old) window.now }
+        ensures head { result ≡ head_of (control_of self.old) (fsn_of choice window.now) }
+        ensures state { control_of self.new ≡ control_after choice octets (control_of self.old) window.now }
     {
         match self {
-            ByMethod::Basic(basic) => basic.heard(window, head, is_msu),
-            ByMethod::Cyclic(pcr) => pcr.heard(window, head, is_msu),
+            ByMethod::Basic(basic) => basic.send(choice, window),
+            ByMethod::Cyclic(pcr) => pcr.send(choice, window, octets),
+        }
+    }
+
+    fn hear(&mut self, window: &Window, head: Header, is_msu: bool) -> HeardPart
+        ensures part { result ≡ part_of (control_of self.old) window.now head is_msu }
+        ensures state { control_of self.new ≡ control_heard (control_of self.old) window.now head is_msu }
+    {
+        match self {
+            ByMethod::Basic(basic) => basic.hear(window, head, is_msu),
+            ByMethod::Cyclic(pcr) => pcr.hear(window, head, is_msu),
         }
     }
 }

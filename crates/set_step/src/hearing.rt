@@ -1,38 +1,38 @@
 //! What a heard unit does to a set.
-ghost use Rattle.std.specs.Prelude.{◌≡◌, ◌+◌, ◌<◌, ◌≤◌, ◌^◌, ℕ, true, length, map, slice_get, Some, IfOk, IfErr, IfSome, OnErr, OnOk};
-ghost use Rattle.std.specs.Option.{option_map};
+ghost use Rattle.std.specs.Prelude.{◌≡◌, ◌<◌, ◌≤◌, ◌^◌, true, length, slice_get, Some, IfOk, IfErr, OnErr, OnOk};
 ghost use Rattle.std.specs.VecDeque.{deque_len, deque_capacity};
 ghost use Rattle.std.specs.Vec.{vec_len, vec_capacity};
-ghost use Rattle.l3_orders.specs.Grammar.{IsOrder, order_of};
-ghost use Rattle.set_events.specs.declared.event.Event.TheVariants.{Heard};
-ghost use Rattle.set_model.specs.Rows.{on, service_indicator as indicator_of};
-ghost use Rattle.set_step.specs.Agreement.{Agrees, AreCounted, AreRoomy, AtLink, IsIn, state_of, link_of, bodies_in, bare, order_brought, has_order};
 ghost use Rattle.l2_units.specs.Grammar.{head_of as header_of};
+ghost use Rattle.l3_orders.specs.Grammar.{link_of as link_in};
 ghost use Rattle.set_model.specs.Control.{part_of};
-ghost use Rattle.set_model.specs.State.{window_of};
-ghost use Rattle.set_model.specs.Step.{stepped, is_msu as is_message, brought, takes, after_control, report_of as report_for, fault_of as fault_for};
+ghost use Rattle.set_model.specs.Rows.{service_indicator as indicator_of};
+ghost use Rattle.set_model.specs.State.{State, LinkState, window_of};
+ghost use Rattle.set_model.specs.Step.{in_service, heard as heard_of, is_msu as is_message, brought, takes, after_control, report_of as report_for};
+ghost use Rattle.set_step.specs.Agreement.{Agrees, Holds, StandsFor};
+ghost use Rattle.set_step.specs.Hearing.{IsSpacious, KeepsSpace, order_brought, has_order};
+ghost use Rattle.set_step.specs.Parts.{Answers, AreCounted, IsWhole, Obeys, kept_of};
 
 use super::changeover::{obey, order_space};
 use super::fault::SetFault;
-use super::parts::{Parts, reserve};
+use super::parts::{Parts, make_room_beside};
 use super::sending::out_of_service;
 use arrayvec::ArrayVec;
 use l2_units::{LONGEST_BODY, Unit, header_in};
-use l2_window::{ControlFault as FaultFound, HeardPart};
+use l2_window::HeardPart;
 use l3_orders::{Order, read_order};
-use set_events::{Answer, ControlFault, Refusal, Report, Took};
+use set_events::{Answer, Refusal, Report, Took};
 
 /// A unit was heard: a FISU or MSU acknowledges, may bring a body, and may ask for retransmission.
 /// An LSSU is refused, since the error control has nothing to do with it.
 ///
 /// All memory that the body may want is taken first, so a fault leaves everything as it was.
 pub(crate) fn heard(parts: &mut Parts, number: u8, unit: &Unit) -> Result<Answer, SetFault>
-    requires agrees { Agrees parts.old }
+    requires holds { Holds (kept_of parts.old) }
     requires counted { AreCounted (2 ^ 60) parts.old.links.items }
-    ensures ok { IfOk result (λ answer. stepped (state_of parts.old) (Heard number unit.now) ≡ record { answer = answer; state = state_of parts.new }) }
-    ensures err { OnErr result (state_of parts.new ≡ state_of parts.old) }
+    ensures ok { IfOk result (λ answer. Answers parts.old parts.new answer (λ s. in_service number s
+        (heard_of unit.now number s))) }
+    ensures err { OnErr result (kept_of parts.new ≡ kept_of parts.old) }
     ensures fault { IfErr result (λ fault. fault ≡ SetFault.NoMemory) }
-    ensures agrees { Agrees parts.new }
 {
     if let Some(why) = out_of_service(&parts.links, number) {
         return Ok(Answer::Refused { why });
@@ -42,10 +42,7 @@ pub(crate) fn heard(parts: &mut Parts, number: u8, unit: &Unit) -> Result<Answer
             why: Refusal::Nothing,
         });
     }
-    let space = match make_space(parts, unit) {
-        Ok(space) => space,
-        Err(fault) => return Err(fault),
-    };
+    let space = make_space(parts, unit)?;
     let part = control_hears(parts, number, unit);
     let took = take_in(parts, part.accept, unit, space);
     Ok(Answer::Heard {
@@ -56,33 +53,27 @@ pub(crate) fn heard(parts: &mut Parts, number: u8, unit: &Unit) -> Result<Answer
 /// Takes the memory that the unit's body may want: in the inbox, or for an order that answers it and
 /// for the messages that it may move. A fill-in unit wants none.
 fn make_space(parts: &mut Parts, unit: &Unit) -> Result<Vec<u8>, SetFault>
-    requires { Agrees parts.old }
+    requires { IsWhole parts.old }
     ensures space { IfOk result (λ space. has_order unit.now ≡ true → (vec_len space ≡ 0) × (7 ≤ vec_capacity space)) }
     ensures inbox { OnOk result (is_message unit.now ≡ true → deque_len parts.new.inbox < deque_capacity parts.new.inbox) }
-    ensures row { OnOk result (has_order unit.now ≡ true → 0 < parts.new.rows.room) }
-    ensures room { OnOk result (has_order unit.now ≡ true → AreRoomy (length parts.new.rows.rows + 1) parts.new.links.items) }
-    ensures same { state_of parts.new ≡ state_of parts.old }
-    ensures links { map bare parts.new.links.items ≡ map bare parts.old.links.items }
+    ensures room { OnOk result (IsSpacious (order_brought unit.now) parts.new) }
+    ensures same { kept_of parts.new ≡ kept_of parts.old }
+    ensures links { parts.new.links ≡ parts.old.links }
     ensures fault { IfErr result (λ fault. fault ≡ SetFault.NoMemory) }
-    ensures agrees { Agrees parts.new }
 {
     if !is_msu(unit) {
         return Ok(Vec::new(*parts.links.allocator()));
     }
-    if parts.inbox.reserve(1).is_err() {
-        return Err(SetFault::NoMemory);
-    }
-    if order_in(unit).is_none() {
+    parts.inbox.reserve(1)?;
+    let Some(order) = order_in(unit) else {
         return Ok(Vec::new(*parts.links.allocator()));
-    }
-    let Ok(space) = order_space(&parts.links) else {
-        return Err(SetFault::NoMemory);
     };
-    let messages = parts.rows.len() + 1;
-    match reserve(parts, 1, messages) {
-        Ok(()) => Ok(space),
-        Err(_) => Err(SetFault::NoMemory),
+    let space = order_space(&parts.links)?;
+    let link = link_of(&order);
+    if usize::from(link) < parts.links.len() {
+        make_room_beside(parts, link, 1)?;
     }
+    Ok(space)
 }
 
 /// The order that the unit's body stands for, if it brings one.
@@ -95,26 +86,44 @@ fn order_in(unit: &Unit) -> Option<Order>
     }
 }
 
+/// The link that an order is about.
+fn link_of(order: &Order) -> u8
+    ensures { result ≡ link_in order.now }
+{
+    match order {
+        Order::Coo { link, .. }
+        | Order::Coa { link, .. }
+        | Order::Eco { link }
+        | Order::Eca { link }
+        | Order::Cbd { link, .. }
+        | Order::Cba { link, .. } => *link,
+    }
+}
+
 /// The control hears the unit: acknowledged messages are the first ones, and so many.
 fn control_hears(parts: &mut Parts, number: u8, unit: &Unit) -> HeardPart
-    requires agrees { Agrees parts.old }
+    requires holds { Holds (kept_of parts.old) }
     requires counted { AreCounted (2 ^ 60) parts.old.links.items }
-    requires up { AtLink number parts.old.links.items IsIn }
     requires known { number < length parts.old.links.items }
-    ensures part { AtLink number parts.old.links.items (λ link. result ≡ part_of link.control (window_of number (link_of link) parts.old.rows.rows) (header_of unit.now) (is_message unit.now)) }
-    ensures state { AtLink number parts.old.links.items (λ link. state_of parts.new ≡ after_control result (header_of unit.now) unit.now number (state_of parts.old) (link_of link)) }
-    ensures agrees { Agrees parts.new }
-    ensures same { (parts.new.inbox ≡ parts.old.inbox) × (parts.new.rows.room ≡ parts.old.rows.room) × (length parts.new.rows.rows ≡ length parts.old.rows.rows) }
-    ensures room { (pushes : ℕ) → AreRoomy pushes parts.old.links.items → AreRoomy pushes parts.new.links.items }
+    ensures part { (s : State) (link : LinkState) → slice_get s.links number ≡ Some link → StandsFor (kept_of parts.old) s
+        → result ≡ part_of link.control (window_of number link s.rows) (header_of unit.now) (is_message unit.now) }
+    ensures stands { (s : State) (link : LinkState) → slice_get s.links number ≡ Some link → StandsFor (kept_of parts.old) s
+        → StandsFor (kept_of parts.new) (after_control result (header_of unit.now) unit.now number s link) }
     ensures counted { AreCounted (2 ^ 61) parts.new.links.items }
+    ensures keeps { KeepsSpace parts.old parts.new }
 {
+    let window = parts.queues.window(number);
     let link = &mut parts.links[usize::from(number)];
-    let part = link
-        .control
-        .heard(&mut link.window, header_in(unit), is_msu(unit));
-    link.octets -= parts.rows.acknowledge(number, part.acked);
+    let head = header_in(unit);
+    let part = link.control.hear(window, head, is_msu(unit));
     link.acked += u64::from(part.acked);
     link.accepted += u64::from(part.accept);
+    if part.acked > 0 {
+        match parts.queues.acknowledge(number, head.bsn) {
+            Ok(_) => (),
+            Err(_) => unreachable!(),
+        }
+    }
     part
 }
 
@@ -128,14 +137,12 @@ fn is_msu(unit: &Unit) -> bool
 /// Where the unit's body goes, if it's accepted: to the users' inbox, or if it's the management's, to
 /// the rules of changeover. `space` holds the order that may answer it.
 fn take_in(parts: &mut Parts, accept: bool, unit: &Unit, space: Vec<u8>) -> Took
-    requires agrees { Agrees parts.old }
+    requires holds { Holds (kept_of parts.old) }
     requires counted { AreCounted (2 ^ 61) parts.old.links.items }
     requires space { has_order unit.now ≡ true → (vec_len space ≡ 0) × (7 ≤ vec_capacity space) }
     requires inbox { is_message unit.now ≡ true → deque_len parts.old.inbox < deque_capacity parts.old.inbox }
-    requires row { has_order unit.now ≡ true → 0 < parts.old.rows.room }
-    requires room { has_order unit.now ≡ true → AreRoomy (length parts.old.rows.rows + 1) parts.old.links.items }
-    ensures state { takes (brought accept unit.now) (state_of parts.old) ≡ record { took = result; state = state_of parts.new } }
-    ensures agrees { Agrees parts.new }
+    requires room { IsSpacious (order_brought unit.now) parts.old }
+    ensures { (s : State) → Agrees (kept_of parts.old) s → Obeys (takes (brought accept unit.now) s) result parts.new }
 {
     let Unit::Msu { body, .. } = unit else {
         return Took::Nothing;
@@ -182,16 +189,6 @@ fn report_of(part: HeardPart, took: Took) -> Report
         took,
         asked: part.asked,
         resend: part.resend,
-        fault: part.fault.map(fault_of),
-    }
-}
-
-/// The fault as a set tells it.
-fn fault_of(fault: FaultFound) -> ControlFault
-    ensures { Some result ≡ fault_for (Some fault) }
-{
-    match fault {
-        FaultFound::Bsn => ControlFault::Bsn,
-        FaultFound::Fib => ControlFault::Fib,
+        fault: part.fault,
     }
 }

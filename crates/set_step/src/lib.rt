@@ -1,32 +1,25 @@
-//! The step of a set of links: what it answers to an event, and what it holds then (ITU-T Q.703 5,
-//! Q.704 5).
+//! The rules of a set over its bookkeeping: which event makes which changes (ITU-T Q.703 5, Q.704 5).
 //!
-//! A [`Core`] holds the messages that users offered, each in exactly one place, its links, where its
-//! streams run, and the messages heard for users. [`Core::apply`] is the one call that changes it. The
-//! history of all that was asked and answered is kept above it.
-//!
-//! This crate reads no clock, waits for nothing, takes no lock and does no IO. Links and users are
-//! numbers to it.
-//!
-//! Where a message can stand:
+//! What a set keeps, [`Core`], is queues of numbers and a fate for each (`set_queues`), the bodies by their
+//! numbers, its links, where its streams run, and the messages heard for users. It isn't a function of
+//! the state of the model (`set_model`), nor the other way round: it agrees with a state
+//! (`specs/Agreement.antt`), and [`Core::apply`] says of every state that it agreed with that it agrees with what
+//! the model's step makes of it, and answers as that step does.
 //!
 //! ```text
-//!             Offer              Up            Next            Heard
-//! (none) ---------------> Parked ---> Waiting -------> Unacked ------> Acked
-//!        \-- on a link that is up -----^  ^               |
-//!        \-- on one that was left -> Held |               v
-//!                                      \--+---------------+---> Discarded
-//!                            the link settles: moved to the target, or Parked
+//!   what is kept  --- apply --->  what is kept        queues, fates, bodies, links
+//!        |                             |              agrees with
+//!      state      --- step ---->     state            rows in the order of queueing
 //! ```
 //!
-//! Each link has a window (`l2_window`) and an error control (`l2_basic` or `l2_pcr`), which choose
-//! what is sent and say what a heard unit means. An accepted message goes to the inbox, from which
-//! users take it; an accepted order of the management goes to the rules of changeover.
+//! By its form an event costs what it moves, however many messages there ever were; that isn't measured yet.
 //!
-//! The files: `parts` what a set holds; `link` and `control` one link; `sending` and `hearing` what a
-//! link's terminal asks and tells; `changeover` how a link is left and orders are obeyed; `settling`
-//! what becomes of its messages; `step` the case of each event; `contents` the whole.
-//! What a set holds and what an event does to it are definitions of `set_model`.
+//! The files: `parts` what a set holds; `link` and `control` one link; `sending` and `hearing` what a link's
+//! terminal asks and tells; `changeover` how a link is left and orders are obeyed; `settling` what becomes
+//! of its messages; `step` the case of each event; `contents` the whole. No crate stands on this one yet.
+//!
+//! This crate reads no clock, waits for nothing, takes no lock and does no IO. A call that may want memory
+//! takes it before it changes anything.
 #![tactic(auto)]
 
 mod changeover;

@@ -1,32 +1,39 @@
-//! What a set holds, and what a changed message or link changes beside it.
-ghost use Rattle.std.specs.Prelude.{◌≡◌, ◌+◌, ◌<◌, ◌≤◌, ◌^◌, ℕ, map, length, slice_get, Some, IfErr, IfSome, OnOk, true};
-ghost use Rattle.set_model.specs.Rows.{appended};
-ghost use Rattle.set_step.specs.Agreement.{Agrees, AreRoomy, IsOpenTo, state_of, link_of, bare};
+//! What a set keeps, and what is common to all events: the target, room, and a new message.
+ghost use Rattle.std.specs.Prelude.{◌≡◌, ◌+◌, ◌<◌, ◌≤◌, ◌++◌, [], ◌∷◌, map, length, IfSome, OnOk, slice_get, slice_set, true, false};
+ghost use Rattle.std.specs.Option.{option_map};
+ghost use Rattle.set_queues.specs.Buffers.{IsKnown, IsQueued, TakesRoom, queue_at, room_at, with_queue};
+ghost use Rattle.set_queues.specs.Kind.{is_kind};
+ghost use Rattle.set_model.specs.Rows.{appended, stream_of as stream_in};
 ghost use Rattle.set_model.specs.State.{target, has_phase_up};
 ghost use Rattle.set_model.specs.Changeover.{fate_on};
+ghost use Rattle.set_step.specs.Agreement.{StandsFor, kind_of as kind_in};
+ghost use Rattle.set_step.specs.Parts.{IsWhole, Becomes, link_of, kept_of};
+ghost use Rattle.set_step.specs.Room.{HasRoom, IsReady, SameButRoom, target_beside as target_without};
 
-use super::link::{Link, queue};
+use super::link::Link;
 use arrayvec::ArrayVec;
 use l2_units::LONGEST_BODY;
 use set_events::{Body, Fate, SetConfig};
 use set_model::Phase;
-use set_route::{MOST_LINKS, Routes};
-use set_rows::Rows;
+use set_queues::{Kind, Message, Queues};
+use set_route::Routes;
 use std::alloc::AllocError;
 use std::collections::VecDeque;
 
 /// The messages heard for users, oldest first.
 pub(crate) type Inbox = VecDeque<ArrayVec<u8, LONGEST_BODY>>;
 
-/// What a set holds.
+/// What a set keeps.
 #[derive(Drop)]
 pub struct Parts {
     /// What it was opened with.
     pub(crate) config: SetConfig,
     /// Its links, by their numbers.
     pub(crate) links: Vec<Link>,
-    /// Its messages, in the order of queueing.
-    pub(crate) rows: Rows,
+    /// Where its messages stand.
+    pub(crate) queues: Queues,
+    /// The bodies of its messages, by their numbers.
+    pub(crate) bodies: Vec<Body>,
     /// Where its streams run.
     pub(crate) routes: Routes,
     /// The messages heard for users.
@@ -37,10 +44,21 @@ pub struct Parts {
 pub(crate) fn target_of(links: &[Link]) -> Option<u8>
     requires { length links.now ≤ 16 }
     ensures value { result ≡ target (map link_of links.now) }
-    ensures open { IsOpenTo (fate_on result) links.now }
     ensures below { IfSome result (λ to. to < length links.now) }
 {
     set_route::target(up_links(links).as_slice())
+}
+
+/// The lowest-numbered link that is up beside this one: the target once this one is out of service.
+fn target_beside(links: &[Link], number: u8) -> Option<u8>
+    requires few { length links.now ≤ 16 }
+    requires known { number < length links.now }
+    ensures value { result ≡ target_without number links.now }
+    ensures below { IfSome result (λ to. to < length links.now) }
+{
+    let mut up = up_links(links);
+    up.as_mut_slice()[usize::from(number)] = false;
+    set_route::target(up.as_slice())
 }
 
 /// Which links are up.
@@ -55,9 +73,20 @@ fn up_links(links: &[Link]) -> ArrayVec<bool, 16>
     up
 }
 
+/// Where the link of this number stands in its life, if there is one.
+pub(crate) fn phase_of(links: &[Link], number: u8) -> Option<Phase>
+    ensures { result ≡ option_map (λ link. link.phase) (slice_get links.now number) }
+{
+    match links.get(usize::from(number)) {
+        Some(link) => Some(link.phase),
+        None => None,
+    }
+}
+
 /// Where a message goes that is moved.
 pub(crate) fn fate_of(target: Option<u8>) -> Fate
-    ensures { result ≡ fate_on target }
+    ensures value { result ≡ fate_on target }
+    ensures queued { IsQueued result }
 {
     match target {
         Some(link) => Fate::Waiting { link },
@@ -65,52 +94,93 @@ pub(crate) fn fate_of(target: Option<u8>) -> Fate
     }
 }
 
-/// Makes room for so many messages more on each link.
-pub(crate) fn make_room(links: &mut Vec<Link>, messages: usize) -> Result<(), AllocError>
-    ensures room { OnOk result (AreRoomy messages links.new.items) }
-    ensures same { map bare links.new.items ≡ map bare links.old.items }
+/// Takes room for one more message there. Nothing else changes, also where memory is refused.
+pub(crate) fn make_room(parts: &mut Parts, fate: Fate) -> Result<(), AllocError>
+    requires known { IsKnown fate parts.old.queues.lists }
+    requires queued { IsQueued fate }
+    ensures room { OnOk result (HasRoom fate parts.new) }
+    ensures same { SameButRoom parts.old parts.new }
 {
-    for place in 0..links.len() {
-        links[place].window.reserve(messages)?;
-    }
-    Ok(())
+    parts.bodies.reserve(1)?;
+    parts.queues.reserve(1)?;
+    parts.queues.reserve_at(fate, 1)
 }
 
-/// Makes room for so many rows more, and for so many messages more on each link, which then want no
-/// memory. What the set stands for stays, also where memory is refused.
-pub(crate) fn reserve(parts: &mut Parts, rows: usize, messages: usize) -> Result<(), AllocError>
-    requires { Agrees parts.old }
-    ensures row { OnOk result (rows ≤ parts.new.rows.room) }
-    ensures room { OnOk result (AreRoomy messages parts.new.links.items) }
-    ensures same { state_of parts.new ≡ state_of parts.old }
-    ensures links { map bare parts.new.links.items ≡ map bare parts.old.links.items }
-    ensures inbox { parts.new.inbox ≡ parts.old.inbox }
-    ensures agrees { Agrees parts.new }
+/// Takes room for all that stand on the link where they go once it's out of service, and for so many
+/// orders. Nothing else changes, also where memory is refused.
+pub(crate) fn make_room_beside(
+    parts: &mut Parts,
+    number: u8,
+    orders: usize,
+) -> Result<(), AllocError>
+    requires whole { IsWhole parts.old }
+    requires known { number < length parts.old.links.items }
+    ensures room { OnOk result (IsReady number orders parts.new) }
+    ensures same { SameButRoom parts.old parts.new }
 {
-    match parts.rows.reserve(rows) {
-        Ok(()) => make_room(&mut parts.links, messages),
-        Err(fault) => Err(fault),
-    }
+    let fate = fate_of(target_beside(&parts.links, number));
+    parts.bodies.reserve(orders)?;
+    parts.queues.reserve(orders)?;
+    parts.queues.reserve_all(fate, number, orders)
 }
 
-/// A new row stands last, and if it waits, it does so on its link. Its number.
+/// Takes room in the link's queue for all that is parked. Nothing else changes, also where memory is
+/// refused.
+pub(crate) fn make_room_parked(parts: &mut Parts, number: u8) -> Result<(), AllocError>
+    requires known { IsKnown (Fate.Waiting number) parts.old.queues.lists }
+    ensures room { OnOk result (length parts.new.queues.lists.parked
+        ≤ room_at (Fate.Waiting number) parts.new.queues.rooms) }
+    ensures same { SameButRoom parts.old parts.new }
+{
+    let parked = parts.queues.count_at(Fate::Parked);
+    parts
+        .queues
+        .reserve_at(Fate::Waiting { link: number }, parked)
+}
+
+/// A new message stands last where its fate tells: its number.
 pub(crate) fn stand_last(parts: &mut Parts, body: Body, fate: Fate) -> u64
-    requires agrees { Agrees parts.old }
     requires fits { length body ≤ 273 }
-    requires row { 0 < parts.old.rows.room }
-    requires room { AreRoomy 1 parts.old.links.items }
-    requires open { IsOpenTo fate parts.old.links.items }
-    ensures number { result ≡ length parts.old.rows.rows }
-    ensures state { state_of parts.new ≡ record (state_of parts.old) { rows = appended parts.old.rows.rows body fate } }
-    ensures agrees { Agrees parts.new }
-    ensures room { (more : ℕ) → AreRoomy (more + 1) parts.old.links.items → AreRoomy more parts.new.links.items }
+    requires known { IsKnown fate parts.old.queues.lists }
+    requires queued { IsQueued fate }
+    requires room { HasRoom fate parts.old }
+    ensures number { result ≡ length parts.old.queues.messages }
+    ensures stands { Becomes parts.old parts.new (λ s. record s { rows = appended s.rows body fate }) }
+    ensures rooms { TakesRoom fate 1 parts.old.queues.rooms parts.new.queues.rooms }
+    ensures lists { parts.new.queues.lists ≡ with_queue fate (queue_at fate parts.old.queues.lists
+        ++ length parts.old.queues.messages ∷ []) parts.old.queues.lists }
+    ensures links { parts.new.links ≡ parts.old.links }
+    ensures routes { parts.new.routes ≡ parts.old.routes }
 {
-    match fate {
-        Fate::Waiting { link } => {
-            let number = parts.rows.len() as u64;
-            queue(&mut parts.links[usize::from(link)].window, number);
-            parts.rows.add(body, fate)
-        }
-        _ => parts.rows.add(body, fate),
+    let message = Message {
+        fate,
+        kind: kind_of(&body),
+        octets: body.len() as u16,
+    };
+    parts.bodies.push_reserved(body);
+    parts.queues.add(message)
+}
+
+/// Whose a body is.
+fn kind_of(body: &Body) -> Kind
+    ensures value { result ≡ kind_in body.now }
+    ensures known { is_kind result ≡ true }
+{
+    match body.octets().first() {
+        Some(sio) if *sio % 16 != 0 => Kind::User {
+            stream: stream_of(body),
+        },
+        _ => Kind::Order,
+    }
+}
+
+/// The stream of a body: the high four bits of its fifth octet, 0 where there is none.
+pub(crate) fn stream_of(body: &Body) -> u8
+    ensures value { result ≡ stream_in body.now }
+    ensures few { result < 16 }
+{
+    match body.octets().get(4) {
+        Some(octet) => *octet / 16,
+        None => 0,
     }
 }

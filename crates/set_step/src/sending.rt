@@ -1,15 +1,22 @@
 //! What a link's terminal sends next.
-ghost use Rattle.std.specs.Prelude.{◌≡◌, ◌≤◌, length, slice_get, Some};
-ghost use Rattle.set_events.specs.declared.event.Event.TheVariants.{Next};
-ghost use Rattle.set_step.specs.Agreement.{Agrees, state_of, service_refusal};
-ghost use Rattle.set_model.specs.Step.{stepped};
+ghost use Rattle.std.specs.Prelude.{◌≡◌, ◌<◌, ◌≤◌, length, slice_get, Some};
+ghost use Rattle.l2_window.specs.Control.{fsn_of};
+ghost use Rattle.set_queues.specs.Buffers.{IsKnown, queue_at};
+ghost use Rattle.set_model.specs.Rows.{Row, IsInOrder, is_waiting, turned};
+ghost use Rattle.set_model.specs.Control.{head_of};
+ghost use Rattle.set_model.specs.State.{State, LinkState, window_of};
+ghost use Rattle.set_model.specs.Step.{next as next_of, in_service};
+ghost use Rattle.set_step.specs.Agreement.{Agrees, Holds, StandsFor, rows_at};
+ghost use Rattle.set_step.specs.Parts.{Answers, Gives, kept_of};
+ghost use Rattle.set_step.specs.Refusing.{service_refusal};
+ghost use Rattle.set_step.specs.Sending.{IsThere, choice_in, goes_on};
 
 use super::link::Link;
 use super::parts::Parts;
 use arrayvec::ArrayVec;
-use l2_units::{LONGEST_BODY, Unit};
-use l2_window::Sending;
-use set_events::{Answer, Body, Refusal};
+use l2_units::{Header, LONGEST_BODY, Unit};
+use l2_window::Choice;
+use set_events::{Answer, Body, Fate, Refusal};
 use set_model::Phase;
 
 /// Why an event of this link that needs it in service is refused, if it is.
@@ -25,38 +32,109 @@ pub(crate) fn out_of_service(links: &[Link], number: u8) -> Option<Refusal>
 
 /// The next unit to send.
 pub(crate) fn next(parts: &mut Parts, number: u8) -> Answer
-    requires { Agrees parts.old }
-    ensures step { stepped (state_of parts.old) (Next number) ≡ record { answer = result; state = state_of parts.new } }
-    ensures agrees { Agrees parts.new }
+    requires { Holds (kept_of parts.old) }
+    ensures { Answers parts.old parts.new result (λ s. in_service number s (next_of number s)) }
 {
     if let Some(why) = out_of_service(&parts.links, number) {
         return Answer::Refused { why };
     }
-    let link = &mut parts.links[usize::from(number)];
-    let waiting = link.window.unsent_len();
-    parts.rows.is_sound();
-    match link.control.next(&mut link.window, link.octets) {
-        Sending::Fill { head } => Answer::Sent {
-            unit: Unit::Fisu { head },
-        },
-        Sending::Message {
-            number: message,
-            head,
-        } => {
-            let body = body_of(parts.rows.body_of(message));
-            if link.window.unsent_len() < waiting {
-                parts.rows.send_first(number);
-                link.octets += body.len() as u32;
-            }
-            Answer::Sent {
-                unit: Unit::Msu { head, body },
-            }
+    Answer::Sent {
+        unit: unit_of(parts, number),
+    }
+}
+
+/// The next unit of a link that is in service.
+fn unit_of(parts: &mut Parts, number: u8) -> Unit
+    requires holds { Holds (kept_of parts.old) }
+    requires known { number < length parts.old.links.items }
+    ensures { (s : State) (link : LinkState) → slice_get s.links number ≡ Some link → Agrees (kept_of parts.old) s
+        → Gives (next_of number s link) (Answer.Sent result) parts.new }
+{
+    let choice = choice_for(parts, number);
+    match choice {
+        Choice::Again { place } => {
+            let body = body_at(parts, Fate::Unacked { link: number }, place);
+            let head = go_on(parts, number, choice);
+            Unit::Msu { head, body }
+        }
+        Choice::First => {
+            let body = body_at(parts, Fate::Waiting { link: number }, 0);
+            let head = go_on(parts, number, choice);
+            send_first(parts, number);
+            Unit::Msu { head, body }
+        }
+        Choice::Fill => {
+            let head = go_on(parts, number, choice);
+            Unit::Fisu { head }
         }
     }
 }
 
+/// What the link's control chooses.
+fn choice_for(parts: &Parts, number: u8) -> Choice
+    requires holds { Holds (kept_of parts.now) }
+    requires known { number < length parts.now.links.items }
+    ensures chosen { (s : State) (link : LinkState) → slice_get s.links number ≡ Some link → Agrees (kept_of parts.now) s
+        → result ≡ choice_in number link s }
+    ensures there { IsThere result number parts.now.queues.lists }
+{
+    let window = parts.queues.window(number);
+    let octets = parts.queues.octets(number);
+    parts.links[usize::from(number)]
+        .control
+        .choice(window, octets)
+}
+
+/// The link's control goes on as that is sent, before the message moves: the header of the unit.
+fn go_on(parts: &mut Parts, number: u8, choice: Choice) -> Header
+    requires holds { Holds (kept_of parts.old) }
+    requires known { number < length parts.old.links.items }
+    requires chosen { (s : State) (link : LinkState) → slice_get s.links number ≡ Some link → Agrees (kept_of parts.old) s
+        → choice ≡ choice_in number link s }
+    ensures head { (s : State) (link : LinkState) → slice_get s.links number ≡ Some link → Agrees (kept_of parts.old) s
+        → result ≡ head_of link.control (fsn_of choice (window_of number link s.rows)) }
+    ensures stands { (s : State) (link : LinkState) → slice_get s.links number ≡ Some link → Agrees (kept_of parts.old) s
+        → StandsFor (kept_of parts.new) (goes_on number choice link s) }
+    ensures queues { parts.new.queues ≡ parts.old.queues }
+{
+    let window = parts.queues.window(number);
+    let octets = parts.queues.octets(number);
+    parts.links[usize::from(number)]
+        .control
+        .send(choice, window, octets)
+}
+
+/// The body of the message at this place of a queue.
+fn body_at(parts: &Parts, fate: Fate, place: usize) -> ArrayVec<u8, LONGEST_BODY>
+    requires holds { Holds (kept_of parts.now) }
+    requires known { IsKnown fate parts.now.queues.lists }
+    requires place { place < length (queue_at fate parts.now.queues.lists) }
+    ensures { (s : State) (row : Row) → Agrees (kept_of parts.now) s → slice_get (rows_at fate s.rows) place ≡ Some row
+        → result.items ≡ row.body }
+{
+    match parts.queues.number_at(fate, place) {
+        Some(message) => copy_of(&parts.bodies[message as usize]),
+        None => unreachable!(),
+    }
+}
+
+/// The first message that waits for the link is sent for the first time.
+fn send_first(parts: &mut Parts, number: u8)
+    requires known { number < length parts.old.queues.lists.links }
+    requires some { 0 < length (queue_at (Fate.Waiting number) parts.old.queues.lists) }
+    requires few { length (queue_at (Fate.Unacked number) parts.old.queues.lists) < 127 }
+    ensures { (s : State) (link : LinkState) → slice_get s.links number ≡ Some link → StandsFor (kept_of parts.old) s
+        → IsInOrder number s.rows → StandsFor (kept_of parts.new)
+        (record s { rows = turned (is_waiting number) (Fate.Unacked number) 1 s.rows }) }
+{
+    match parts.queues.send(number) {
+        Ok(_) => (),
+        Err(_) => unreachable!(),
+    }
+}
+
 /// A unit's body of these octets.
-fn body_of(body: &Body) -> ArrayVec<u8, LONGEST_BODY>
+fn copy_of(body: &Body) -> ArrayVec<u8, LONGEST_BODY>
     requires { length body.now ≤ 273 }
     ensures { result.items ≡ body.now }
 {

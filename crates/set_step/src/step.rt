@@ -1,50 +1,49 @@
 //! What an event does to a set. Each function is a case of the set's step.
-ghost use Rattle.std.specs.Prelude.{◌≡◌, ◌+◌, ◌<◌, ◌≤◌, ◌^◌, ◌++◌, length, slice_get, None, IfOk, IfErr, OnErr};
-ghost use Rattle.set_events.specs.declared.event.Event.TheVariants.{Up, Down, DownBlind, NoAnswer};
-ghost use Rattle.l3_orders.specs.Grammar.{IsOrder};
-ghost use Rattle.set_route.specs.Routing.{place_of};
-ghost use Rattle.set_model.specs.Rows.{parked, numbers, stream_of as stream_in};
-ghost use Rattle.set_step.specs.Agreement.{Agrees, AreCounted, AreRoomy, AtLink, IsOpenTo, state_of, link_of, rising_refusal, waiting_refusal};
-ghost use Rattle.set_model.specs.Changeover.{leaving_order as order_of_leaving};
-ghost use Rattle.set_model.specs.State.{State};
-ghost use Rattle.set_model.specs.Step.{stepped, offer_refusal, offered as offered_with, fate_at, in_service, rises, falls};
-ghost use Rattle.set_model.specs.Sound.{IsAsked};
+ghost use Rattle.std.specs.Prelude.{◌≡◌, ◌≢◌, ◌<◌, ◌≤◌, ◌^◌, length, slice_get, Some, IfOk, IfErr, OnErr};
 ghost use Rattle.std.specs.Vec.{vec_len, vec_capacity};
+ghost use Rattle.l3_orders.specs.Grammar.{IsOrder};
+ghost use Rattle.set_queues.specs.Buffers.{IsKnown, IsQueued, room_at};
+ghost use Rattle.set_queues.specs.Messages.{unsent_of};
+ghost use Rattle.set_route.specs.Routing.{place_of, accepted as accepted_by};
+ghost use Rattle.set_model.specs.Changeover.{leaving_order as order_of_leaving, leave as left_by, queue as queued};
+ghost use Rattle.set_model.specs.Sound.{IsAsked};
+ghost use Rattle.set_model.specs.State.{State, LinkState};
+ghost use Rattle.set_model.specs.Step.{offer_refusal, offered as offered_with, fate_at, on_link, in_service, rises, falls, gives_up, taken as taken_of, found as found_of, stepped};
+ghost use Rattle.set_model.specs.Rows.{appended, place, stream_of as stream_in};
+ghost use Rattle.set_model.specs.declared.phase.Phase.TheVariants.{Up, Settled};
+ghost use Rattle.set_step.specs.Agreement.{Agrees, Holds, StandsFor};
+ghost use Rattle.set_step.specs.Parts.{Answers, AreCounted, Becomes, IsWhole, AtLink, IsOut, link_of, kept_of};
+ghost use Rattle.set_step.specs.Refusing.{refusal_by, rising_refusal, waiting_refusal};
+ghost use Rattle.set_step.specs.Room.{HasRoom, IsReady, SameButRoom};
 
 use super::changeover::{leave, order_space, queue};
 use super::fault::SetFault;
 use super::hearing::heard;
-use super::link::{Link, queue as queue_on};
-use super::parts::{Parts, reserve, stand_last};
+use super::link::Link;
+use super::parts::{
+    Parts, make_room, make_room_beside, make_room_parked, phase_of, stand_last, stream_of,
+};
 use super::sending::{next, out_of_service};
 use super::settling::settle;
 use l2_units::LONGEST_BODY;
-use l2_window::Window;
 use l3_orders::Order;
 use set_events::{Answer, Body, Event, Fate, Refusal};
 use set_model::{Phase, Reached};
+use set_queues::Queues;
 use set_route::Place;
-use set_rows::{Row, Rows};
-
-/// The fewest octets of an offered body: the SIO and a label (own).
-const SHORTEST_OFFER: usize = 5;
-
-/// How many unsent messages of a stream close it for offers.
-const STREAM_LIMIT: usize = 1024;
 
 /// The answer to an event; on a fault nothing has changed.
 pub(crate) fn answered(parts: &mut Parts, event: &Event) -> Result<Answer, SetFault>
-    requires agrees { Agrees parts.old }
+    requires holds { Holds (kept_of parts.old) }
     requires counted { AreCounted (2 ^ 60) parts.old.links.items }
-    ensures ok { IfOk result (λ answer. stepped (state_of parts.old) event.now ≡ record { answer = answer; state = state_of parts.new }) }
-    ensures err { OnErr result (state_of parts.new ≡ state_of parts.old) }
+    ensures ok { IfOk result (λ answer. Answers parts.old parts.new answer (λ s. stepped s event.now)) }
+    ensures err { OnErr result (kept_of parts.new ≡ kept_of parts.old) }
     ensures fault { IfErr result (λ fault. fault ≡ SetFault.NoMemory) }
-    ensures agrees { Agrees parts.new }
 {
     match event {
         Event::Offer { body } => offered(parts, body),
         Event::Take => Ok(taken(parts)),
-        Event::Find { number } => Ok(found(&parts.rows, *number)),
+        Event::Find { number } => Ok(found(parts, *number)),
         Event::Next { link } => Ok(next(parts, *link)),
         Event::Heard { link, unit } => heard(parts, *link, unit),
         Event::Up { link } => raised(parts, *link),
@@ -54,73 +53,58 @@ pub(crate) fn answered(parts: &mut Parts, event: &Event) -> Result<Answer, SetFa
     }
 }
 
-/// A message is offered: refused, or the last row from now on.
+/// The fewest octets of an offered body: the SIO and a label (own).
+const SHORTEST_OFFER: usize = 5;
+
+/// How many unsent messages of a stream close it for offers.
+const STREAM_LIMIT: u64 = 1024;
+
+/// A message is offered: refused, or the last of its queue from now on.
 fn offered(parts: &mut Parts, body: &Body) -> Result<Answer, SetFault>
-    requires agrees { Agrees parts.old }
-    ensures ok { IfOk result (λ answer. stepped (state_of parts.old) (Event.Offer body.now) ≡ record { answer = answer; state = state_of parts.new }) }
-    ensures err { OnErr result (state_of parts.new ≡ state_of parts.old) }
+    requires holds { Holds (kept_of parts.old) }
+    ensures ok { IfOk result (λ answer. Answers parts.old parts.new answer (λ s. offered_with
+        (offer_refusal s.rows body.now) s body.now)) }
+    ensures err { OnErr result (kept_of parts.new ≡ kept_of parts.old) }
     ensures fault { IfErr result (λ fault. fault ≡ SetFault.NoMemory) }
-    ensures agrees { Agrees parts.new }
 {
-    if let Some(why) = refusal_of(&parts.rows, body) {
+    if let Some(why) = refusal_of(&parts.queues, body) {
         return Ok(Answer::Refused { why });
     }
-    let Ok(body) = body.try_copy() else {
-        return Err(SetFault::NoMemory);
-    };
-    if reserve(parts, 1, 1).is_err() {
-        return Err(SetFault::NoMemory);
-    }
-    let number = accept(parts, body);
+    let copy = body.try_copy()?;
+    let fate = fate_of_new(parts, stream_of(body));
+    make_room(parts, fate)?;
+    let number = accept(parts, copy, fate);
     Ok(Answer::Accepted { number })
 }
 
-/// The offered message is the last row from now on.
-fn accept(parts: &mut Parts, body: Body) -> u64
-    requires agrees { Agrees parts.old }
+/// The offered message is the last of its queue from now on: its number.
+fn accept(parts: &mut Parts, body: Body, fate: Fate) -> u64
     requires fits { length body ≤ 273 }
-    requires row { 0 < parts.old.rows.room }
-    requires room { AreRoomy 1 parts.old.links.items }
-    ensures number { result ≡ length parts.old.rows.rows }
-    ensures state { offered_with None (state_of parts.old) body ≡ record { answer = Answer.Accepted (length parts.old.rows.rows); state = state_of parts.new } }
-    ensures agrees { Agrees parts.new }
+    requires known { IsKnown fate parts.old.queues.lists }
+    requires queued { IsQueued fate }
+    requires room { HasRoom fate parts.old }
+    ensures number { result ≡ length parts.old.queues.messages }
+    ensures stands { Becomes parts.old parts.new (λ s. record s {
+      rows = appended s.rows body fate;
+      routing = accepted_by (stream_in body) s.routing;
+    }) }
 {
     let stream = stream_of(&body);
-    let fate = fate_of_new(parts, stream);
     let number = stand_last(parts, body, fate);
     parts.routes.accepted(stream);
     number
 }
 
-/// The stream of a body: the high four bits of its fifth octet, 0 where there is none.
-fn stream_of(body: &Body) -> u8
-    ensures value { result ≡ stream_in body.now }
-    ensures few { result < 16 }
-{
-    match body.octets().get(4) {
-        Some(octet) => *octet / 16,
-        None => 0,
-    }
-}
-
-/// A law: the octets of a label tell one of 16 streams.
-pub(crate) fn is_asked(event: &Event)
-    ensures { IsAsked event.now }
-{
-    if let Event::Offer { body } = event {
-        stream_of(body);
-    }
-}
-
 /// Where a new message of this stream stands.
 fn fate_of_new(parts: &Parts, stream: u8) -> Fate
-    requires agrees { Agrees parts.now }
+    requires holds { Holds (kept_of parts.now) }
     requires stream { stream < 16 }
-    ensures value { result ≡ fate_at (place_of stream parts.now.routes) (state_of parts.now) }
-    ensures open { IsOpenTo result parts.now.links.items }
+    ensures value { (s : State) → StandsFor (kept_of parts.now) s → result ≡ fate_at (place_of stream s.routing) s }
+    ensures known { IsKnown result parts.now.queues.lists }
+    ensures queued { IsQueued result }
 {
     match parts.routes.place(stream) {
-        Place::On { link } if parts.links[usize::from(link)].phase == Phase::Up => {
+        Place::On { link } if phase_of(&parts.links, link) == Some(Phase::Up) => {
             Fate::Waiting { link }
         }
         Place::On { link } => Fate::Held { link },
@@ -129,8 +113,8 @@ fn fate_of_new(parts: &Parts, stream: u8) -> Fate
 }
 
 /// Why an offer is refused, if it is: the first reason in the order of the refusals.
-fn refusal_of(rows: &Rows, body: &Body) -> Option<Refusal>
-    ensures { result ≡ offer_refusal rows.now.rows body.now }
+fn refusal_of(queues: &Queues, body: &Body) -> Option<Refusal>
+    ensures { result ≡ refusal_by (unsent_of (stream_in body.now) queues.now.messages) body.now }
 {
     let octets = body.octets();
     if octets.len() < SHORTEST_OFFER {
@@ -142,7 +126,7 @@ fn refusal_of(rows: &Rows, body: &Body) -> Option<Refusal>
     if octets[0] % 16 == 0 {
         return Some(Refusal::Reserved);
     }
-    if rows.unsent_count(octets[4] / 16) >= STREAM_LIMIT {
+    if queues.unsent(stream_of(body)) >= STREAM_LIMIT {
         return Some(Refusal::StreamFull);
     }
     None
@@ -150,9 +134,7 @@ fn refusal_of(rows: &Rows, body: &Body) -> Option<Refusal>
 
 /// The oldest message of the inbox is taken.
 fn taken(parts: &mut Parts) -> Answer
-    requires agrees { Agrees parts.old }
-    ensures step { stepped (state_of parts.old) Event.Take ≡ record { answer = result; state = state_of parts.new } }
-    ensures agrees { Agrees parts.new }
+    ensures { Answers parts.old parts.new result (λ s. taken_of s.inbox s) }
 {
     match parts.inbox.pop_front() {
         Some(body) => Answer::Taken { body },
@@ -163,10 +145,10 @@ fn taken(parts: &mut Parts) -> Answer
 }
 
 /// A message is looked for by its number.
-fn found(rows: &Rows, number: u64) -> Answer
-    ensures { (s : State) → s.rows ≡ rows.now.rows → stepped s (Event.Find number) ≡ record { answer = result; state = s } }
+fn found(parts: &Parts, number: u64) -> Answer
+    ensures { Answers parts.now parts.now result (λ s. found_of (place number s.rows) s) }
 {
-    match rows.place_of(number) {
+    match parts.queues.fate_of(number) {
         Some(fate) => Answer::Found { fate },
         None => Answer::Refused {
             why: Refusal::UnknownNumber,
@@ -174,105 +156,63 @@ fn found(rows: &Rows, number: u64) -> Answer
     }
 }
 
-/// The link is in service from now on: its error control starts anew, streams move to it, and what
-/// was parked waits for it.
-///
-/// Room in its window is made first, so a fault leaves everything as it was.
-fn raised(parts: &mut Parts, number: u8) -> Result<Answer, SetFault>
-    requires agrees { Agrees parts.old }
-    ensures ok { IfOk result (λ answer. stepped (state_of parts.old) (Up number) ≡ record { answer = answer; state = state_of parts.new }) }
-    ensures err { OnErr result (state_of parts.new ≡ state_of parts.old) }
+/// No answer came from the far end: a link that was left settles, and what was sent on it or waited
+/// is discarded (own).
+fn given_up(parts: &mut Parts, number: u8) -> Result<Answer, SetFault>
+    requires holds { Holds (kept_of parts.old) }
+    requires counted { AreCounted (2 ^ 60) parts.old.links.items }
+    ensures ok { IfOk result (λ answer. Answers parts.old parts.new answer (λ s. on_link number s (λ link.
+        gives_up number s link link.phase))) }
+    ensures err { OnErr result (kept_of parts.new ≡ kept_of parts.old) }
     ensures fault { IfErr result (λ fault. fault ≡ SetFault.NoMemory) }
-    ensures agrees { Agrees parts.new }
 {
-    if let Some(why) = out_of_rising(&parts.links, number) {
+    if let Some(why) = out_of_waiting(&parts.links, number) {
         return Ok(Answer::Refused { why });
     }
-    let parked = parts.rows.count_parked();
-    if reserve(parts, 0, parked).is_err() {
-        return Err(SetFault::NoMemory);
-    }
-    rise(parts, number);
+    make_room_beside(parts, number, 0)?;
+    settle(parts, number, Reached::Unanswered);
     Ok(Answer::Done)
 }
 
-/// The settled link is in service from now on.
-fn rise(parts: &mut Parts, number: u8)
-    requires agrees { Agrees parts.old }
-    requires known { number < length parts.old.links.items }
-    requires settled { AtLink number parts.old.links.items (λ link. link.phase ≡ Phase.Settled) }
-    requires room { AreRoomy (length (parked parts.old.rows.rows)) parts.old.links.items }
-    ensures state { rises number (state_of parts.old) Phase.Settled ≡ record { answer = Answer.Done; state = state_of parts.new } }
-    ensures agrees { Agrees parts.new }
-{
-    let method = parts.config.method;
-    let link = &mut parts.links[usize::from(number)];
-    link.window.reset();
-    queue_parked(&mut link.window, parts.rows.as_slice());
-    link.rise(method);
-    parts.rows.unpark(number);
-    parts.routes.raise(number);
-}
-
-/// Why a link can't come up, if it can't.
-fn out_of_rising(links: &[Link], number: u8) -> Option<Refusal>
-    ensures { result ≡ rising_refusal (slice_get links.now number) }
+/// Why no answer is waited for on this link, if none is.
+fn out_of_waiting(links: &[Link], number: u8) -> Option<Refusal>
+    ensures { result ≡ waiting_refusal (slice_get links.now number) }
 {
     match links.get(usize::from(number)).map(|link| link.phase) {
         None => Some(Refusal::NoSuchLink),
-        Some(Phase::Up) => Some(Refusal::NotDown),
-        Some(Phase::Down) => Some(Refusal::Unsettled),
-        Some(Phase::Settled) => None,
-    }
-}
-
-/// The parked messages wait in this window, in their order.
-fn queue_parked(window: &mut Window, rows: &[Row])
-    requires { length (parked rows.now) ≤ window.old.room }
-    ensures last { window.new.last ≡ window.old.last }
-    ensures unacked { window.new.unacked ≡ window.old.unacked }
-    ensures unsent { window.new.unsent ≡ window.old.unsent ++ numbers (parked rows.now) }
-{
-    for row in rows {
-        if row.fate == Fate::Parked {
-            queue_on(window, row.number);
-        }
+        Some(Phase::Down) => None,
+        Some(Phase::Up | Phase::Settled) => Some(Refusal::Nothing),
     }
 }
 
 /// The link is left, and an order tells the far end: a changeover order with the FSN last accepted,
 /// or blind an emergency changeover order without it.
 fn left(parts: &mut Parts, number: u8, blind: bool) -> Result<Answer, SetFault>
-    requires agrees { Agrees parts.old }
+    requires holds { Holds (kept_of parts.old) }
     requires counted { AreCounted (2 ^ 60) parts.old.links.items }
-    ensures ok { IfOk result (λ answer. in_service number (state_of parts.old) (falls blind number (state_of parts.old)) ≡ record { answer = answer; state = state_of parts.new }) }
-    ensures err { OnErr result (state_of parts.new ≡ state_of parts.old) }
+    ensures ok { IfOk result (λ answer. Answers parts.old parts.new answer (λ s. in_service number s
+        (falls blind number s))) }
+    ensures err { OnErr result (kept_of parts.new ≡ kept_of parts.old) }
     ensures fault { IfErr result (λ fault. fault ≡ SetFault.NoMemory) }
-    ensures agrees { Agrees parts.new }
 {
     if let Some(why) = out_of_service(&parts.links, number) {
         return Ok(Answer::Refused { why });
     }
-    let Ok(space) = order_space(&parts.links) else {
-        return Err(SetFault::NoMemory);
-    };
-    if reserve(parts, 1, 1).is_err() {
-        return Err(SetFault::NoMemory);
-    }
+    let space = order_space(&parts.links)?;
+    make_room_beside(parts, number, 1)?;
     fall(parts, number, blind, space);
     Ok(Answer::Done)
 }
 
 /// The link is left, and an order tells the far end.
 fn fall(parts: &mut Parts, number: u8, blind: bool, space: Vec<u8>)
-    requires agrees { Agrees parts.old }
+    requires whole { IsWhole parts.old }
     requires counted { AreCounted (2 ^ 60) parts.old.links.items }
     requires known { number < length parts.old.links.items }
     requires space { (vec_len space ≡ 0) × (7 ≤ vec_capacity space) }
-    requires row { 0 < parts.old.rows.room }
-    requires room { AreRoomy 1 parts.old.links.items }
-    ensures state { AtLink number parts.old.links.items (λ link. falls blind number (state_of parts.old) (link_of link) ≡ record { answer = Answer.Done; state = state_of parts.new }) }
-    ensures agrees { Agrees parts.new }
+    requires room { IsReady number 1 parts.old }
+    ensures stands { (s : State) (link : LinkState) → slice_get s.links number ≡ Some link → StandsFor (kept_of parts.old) s
+        → StandsFor (kept_of parts.new) (queued (order_of_leaving blind number link) (left_by blind number link s)) }
 {
     let order = leaving_order(&parts.links[usize::from(number)], number, blind);
     leave(parts, number, blind);
@@ -295,34 +235,59 @@ fn leaving_order(link: &Link, number: u8, blind: bool) -> Order
     }
 }
 
-/// No answer came from the far end: a link that was left settles, and what was sent on it or waited
-/// is discarded (own).
-fn given_up(parts: &mut Parts, number: u8) -> Result<Answer, SetFault>
-    requires agrees { Agrees parts.old }
-    requires counted { AreCounted (2 ^ 60) parts.old.links.items }
-    ensures ok { IfOk result (λ answer. stepped (state_of parts.old) (NoAnswer number) ≡ record { answer = answer; state = state_of parts.new }) }
-    ensures err { OnErr result (state_of parts.new ≡ state_of parts.old) }
+/// The link is in service from now on: its error control starts anew, streams move to it, and what
+/// was parked waits for it.
+///
+/// Room in its queue is taken first, so a fault leaves everything as it was.
+fn raised(parts: &mut Parts, number: u8) -> Result<Answer, SetFault>
+    requires holds { Holds (kept_of parts.old) }
+    ensures ok { IfOk result (λ answer. Answers parts.old parts.new answer (λ s. on_link number s (λ link.
+        rises number s link.phase))) }
+    ensures err { OnErr result (kept_of parts.new ≡ kept_of parts.old) }
     ensures fault { IfErr result (λ fault. fault ≡ SetFault.NoMemory) }
-    ensures agrees { Agrees parts.new }
 {
-    if let Some(why) = out_of_waiting(&parts.links, number) {
+    if let Some(why) = out_of_rising(&parts.links, number) {
         return Ok(Answer::Refused { why });
     }
-    let standing = parts.rows.count_on(number);
-    if reserve(parts, 0, standing).is_err() {
-        return Err(SetFault::NoMemory);
-    }
-    settle(parts, number, Reached::Unanswered);
+    make_room_parked(parts, number)?;
+    rise(parts, number);
     Ok(Answer::Done)
 }
 
-/// Why no answer is waited for on this link, if none is.
-fn out_of_waiting(links: &[Link], number: u8) -> Option<Refusal>
-    ensures { result ≡ waiting_refusal (slice_get links.now number) }
+/// The settled link is in service from now on.
+fn rise(parts: &mut Parts, number: u8)
+    requires holds { Holds (kept_of parts.old) }
+    requires known { number < length parts.old.links.items }
+    requires settled { AtLink number parts.old.links.items (λ link. link.phase ≡ Settled) }
+    requires room { length parts.old.queues.lists.parked ≤ room_at (Fate.Waiting number) parts.old.queues.rooms }
+    ensures stands { (s : State) (link : LinkState) → slice_get s.links number ≡ Some link → StandsFor (kept_of parts.old) s
+        → StandsFor (kept_of parts.new) (rises number s Settled).state }
+{
+    parts.queues.reset(number);
+    parts
+        .queues
+        .divert(Fate::Parked, Fate::Waiting { link: number });
+    parts.links[usize::from(number)].rise(parts.config.method);
+    parts.routes.raise(number);
+}
+
+/// Why a link can't come up, if it can't.
+fn out_of_rising(links: &[Link], number: u8) -> Option<Refusal>
+    ensures { result ≡ rising_refusal (slice_get links.now number) }
 {
     match links.get(usize::from(number)).map(|link| link.phase) {
         None => Some(Refusal::NoSuchLink),
-        Some(Phase::Down) => None,
-        Some(Phase::Up | Phase::Settled) => Some(Refusal::Nothing),
+        Some(Phase::Up) => Some(Refusal::NotDown),
+        Some(Phase::Down) => Some(Refusal::Unsettled),
+        Some(Phase::Settled) => None,
+    }
+}
+
+/// A law: the octets of a label tell one of 16 streams.
+pub(crate) fn is_asked(event: &Event)
+    ensures { IsAsked event.now }
+{
+    if let Event::Offer { body } = event {
+        stream_of(body);
     }
 }

@@ -1,43 +1,59 @@
-use Rattle.std.proofs.Common.{arith, ◌≡◌, ◌∙◌, ap, sym, subst, length, ◌≤◌, List, map, slice_get, Some, false}
+use Rattle.std.proofs.Common.{refl, ◌∙◌, ap, subst, ℕ, false, map, slice_get}
 use Rattle.l3_orders.specs.declared.order.Order.TheVariants.{Coa}
-use Rattle.set_model.specs.Rows.{Row, on}
-use Rattle.set_rows.specs.Rows.{RowsState}
-use Rattle.set_step.specs.declared.link.Link.{Link}
-use Rattle.set_step.specs.Agreement.{link_of, state_of}
-use Rattle.set_model.specs.Changeover.{queue as queued, settle as settled, left_link}
-use Rattle.set_model.specs.State.{State, last_accepted}
-use Rattle.set_step.proofs.Linked.{out_linked, counted_linked, length_linked}
-use Rattle.set_model.proofs.Lists.{here, same_at, at_map, get_set_same}
-use Rattle.std.proofs.lemmas.List.{length-map}
+use Rattle.set_queues.specs.Settling.{on}
+use Rattle.set_model.specs.declared.phase.Phase.TheVariants.{Up, Down}
+use Rattle.set_model.specs.Changeover.{queue as queued, leave as left, left_link}
+use Rattle.set_model.specs.State.{last_accepted, target}
+use Rattle.set_model.proofs.Lists.{within, get_set_same}
+use Rattle.set_model.proofs.SoundLink.{leaves}
+use Rattle.set_model.proofs.SoundNew.{queues}
+use Rattle.set_model.proofs.Walk.{IsAt}
+use Rattle.set_step.specs.Agreement.{StandsFor}
+use Rattle.set_step.specs.Parts.{link_of, kept_of}
+use Rattle.set_step.proofs.Links.{found, stands_for}
+use Rattle.set_step.proofs.Rooms.{has_room_left, beside_left, room_after, still_low, counted_set, is_out}
 use Rattle.set_step.proofs.changeover.answer_and_settle.Goals as goal
 
 pub queue-requires-clause-room : goal.queue-requires-clause-room
-queue-requires-clause-room c = c.leave.ensures.room 1 (λ number link there. let room = c.requires.room number link there in omega (arith, room))
+queue-requires-clause-room c =
+    let left = c.leave.ensures.links c.index.result.now (found c.args.parts.now.links.items c.args.number c.from.result c.index.result.now c.from.ensures c.requires.known c.index.ensures) in
+    has_room_left c.args.number c.args.parts.now c.leave.new.parts c.requires.room c.leave.ensures.queues c.leave.ensures.bodies (beside_left c.args.parts.now.links.items c.leave.new.parts.links.items c.args.number _ left refl)
 
 pub settle-requires-clause-counted : goal.settle-requires-clause-counted
-settle-requires-clause-counted c = counted_linked c.leave.new.parts.links.items c.queue.new.parts.links.items _ c.queue.ensures.links (c.leave.ensures.counted _ c.requires.counted)
-
-pub settle-requires-clause-known : goal.settle-requires-clause-known
-settle-requires-clause-known c = let same = length_linked c.leave.new.parts.links.items c.queue.new.parts.links.items c.queue.ensures.links in omega (arith, same, c.leave.ensures.length, c.requires.known)
+settle-requires-clause-counted c =
+    let at = found c.args.parts.now.links.items c.args.number c.from.result c.index.result.now c.from.ensures c.requires.known c.index.ensures in
+    let left = ap (λ ls. ls.items) c.queue.ensures.links ∙ c.leave.ensures.links c.index.result.now at in
+    counted_set _ c.args.parts.now.links.items c.queue.new.parts.links.items c.args.number _ c.requires.counted left (record { acked = (c.requires.counted c.args.number _ at).acked; accepted = (c.requires.counted c.args.number _ at).accepted })
 
 pub settle-requires-clause-out : goal.settle-requires-clause-out
-settle-requires-clause-out c = out_linked c.leave.new.parts.links.items c.queue.new.parts.links.items c.args.number c.queue.ensures.links c.leave.ensures.out
+settle-requires-clause-out c =
+    let at = found c.args.parts.now.links.items c.args.number c.from.result c.index.result.now c.from.ensures c.requires.known c.index.ensures in
+    let left = ap (λ ls. ls.items) c.queue.ensures.links ∙ c.leave.ensures.links c.index.result.now at in
+    is_out c.queue.new.parts.links.items c.args.number _ Down (ap (λ ls. slice_get ls c.args.number) left ∙ get_set_same c.args.parts.now.links.items c.args.number _ c.requires.known) refl refl
 
 pub settle-requires-clause-room : goal.settle-requires-clause-room
-settle-requires-clause-room c = λ number link there.
-    let room = c.queue.ensures.room (length (on c.args.number c.args.parts.now.rows.rows)) (c.leave.ensures.room _ c.requires.room) number link there in
-    let same = c.queue.ensures.elsewhere c.args.number c.leave.ensures.out ∙ ap (λ (r : RowsState). on c.args.number r.rows) c.leave.ensures.rows in
-    subst (λ (rows : List Row). length rows ≤ link.window.room) (sym same) room
-
-pub returns-clause-state : goal.returns-clause-state
-returns-clause-state c = λ link there.
-    let n = c.args.number in
+settle-requires-clause-room c =
     let links = c.args.parts.now.links.items in
-    let first = c.leave.ensures.state link there in
-    let seen : slice_get (map link_of c.queue.new.parts.links.items) n ≡ Some (left_link false (link_of link)) = ap (λ ls. slice_get ls n) c.queue.ensures.links ∙ ap (λ (s : State). slice_get s.links n) first ∙ get_set_same (map link_of links) n (left_link false (link_of link)) (let same = length-map links link_of in omega (arith, same, c.requires.known)) in
-    let mid = at_map link_of c.queue.new.parts.links.items n _ seen in
-    let this = same_at links n link c.index.result.now there (here links c.from.result n c.index.result.now c.from.ensures c.requires.known c.index.ensures) in
-    let number : c.last_accepted.result ≡ last_accepted (link_of link) = c.last_accepted.ensures.value ∙ ap (λ (l : Link). last_accepted (link_of l)) this in
-    c.settle.ensures.state mid.0 mid.1
-    ∙ ap (λ l. settled c.args.reached n l (state_of c.queue.new.parts)) mid.2
-    ∙ ap (λ s. settled c.args.reached n (left_link false (link_of link)) s) (c.queue.ensures.state ∙ ap (λ k. queued (Coa n k) (state_of c.leave.new.parts)) number ∙ ap (λ s. queued (Coa n (last_accepted (link_of link))) s) first)
+    let n = c.args.number in
+    let at = found links n c.from.result c.index.result.now c.from.ensures c.requires.known c.index.ensures in
+    let left = c.leave.ensures.links c.index.result.now at in
+    let out = is_out c.leave.new.parts.links.items n _ Down (ap (λ ls. slice_get ls n) left ∙ get_set_same links n _ c.requires.known) refl refl in
+    let low = still_low n links c.leave.new.parts.links.items _ left c.requires.known in
+    let elsewhere = c.queue.ensures.elsewhere n low out ∙ ap (λ q. on n q.lists) c.leave.ensures.queues in
+    let same = ap (λ ls. target (map link_of ls.items)) c.queue.ensures.links in
+    let beside = beside_left links c.leave.new.parts.links.items n _ left refl in
+    room_after n c.args.parts.now c.leave.new.parts c.queue.new.parts c.requires.room c.leave.ensures.queues beside same elsewhere c.queue.ensures.rooms
+
+pub returns : goal.returns
+returns c = record {
+  stands = λ s link there up a.
+      let n = c.args.number in
+      let at : IsAt n link Up s = record { there = there; phase_is = up } in
+      let same = stands_for c.args.parts.now.links.items n c.from.result c.index.result.now c.from.ensures c.requires.known c.index.ensures s.links link a.stands.links there in
+      let fsn = c.last_accepted.ensures.value ∙ ap last_accepted same in
+      let mid = left false n link s in
+      let first = c.leave.ensures.stands s link there a.stands in
+      let told = subst (λ (f : ℕ). StandsFor (kept_of c.queue.new.parts) (queued (Coa n f) mid)) fsn (c.queue.ensures.stands mid first) in
+      let sound = queues (Coa n (last_accepted link)) mid (leaves false n link s at a.sound) in
+      c.settle.ensures.stands (queued (Coa n (last_accepted link)) mid) (left_link false link) (get_set_same s.links n (left_link false link) (within s.links n link there)) refl (record { stands = told; sound = sound });
+}

@@ -1,47 +1,32 @@
-use Rattle.std.proofs.Common.{refl, ◌∙◌, ap}
-use Rattle.set_step.specs.Agreement.{state_of, link_of}
-use Rattle.set_model.proofs.Lists.{here, same_at, map_set, length_set}
-use Rattle.set_step.proofs.Keeping.{kept_set, counted_set, placed_set, roomy_set, set_here, untouched_self}
+use Rattle.std.proofs.Common.{refl, arith, ◌∙◌, ap, sym, subst}
+use Rattle.set_model.specs.declared.phase.Phase.TheVariants.{Down}
+use Rattle.set_model.specs.Changeover.{leave as left, left_link}
+use Rattle.set_model.proofs.Lists.{same_at, length_set}
+use Rattle.set_route.specs.Routing.{Routing, left as streams_left}
+use Rattle.set_step.specs.Agreement.{StandsFor}
+use Rattle.set_step.specs.Parts.{kept_of}
+use Rattle.set_step.proofs.Links.{found, link_set}
+use Rattle.set_step.proofs.States.{link_for, kept_is}
 use Rattle.set_step.proofs.changeover.leave.Goals as goal
 
-pub returns-clause-state : goal.returns-clause-state
-returns-clause-state c = λ link there.
-    let found = here c.args.parts.now.links.items c.from.result c.args.number c.index_mut-link.result.now c.from.ensures c.requires.known c.index_mut-link.ensures.value in
-    rw (c.from.ensures) (rw (c.divert.ensures) (rw (same_at _ c.args.number _ link found there) (ap (λ links. record (state_of c.args.parts.now) { links = links }) (map_set link_of c.args.parts.now.links.items c.args.number _))))
+pub returns-clause-stands : goal.returns-clause-stands
+returns-clause-stands c = λ s link there f.
+    let links = c.args.parts.now.links.items in
+    let n = c.args.number in
+    let x = c.index_mut-link.result.now in
+    let set = link_set links n c.from.result x c.from.ensures c.requires.known c.index_mut-link.ensures.value (record x { phase = Down; blind = c.args.blind }) s.links link (left_link c.args.blind link) f.links there (λ e. ap (left_link c.args.blind) e) in
+    subst (λ k. StandsFor k (left c.args.blind n link s)) (kept_is _ _ _ _ _ _ _ refl refl refl set (c.divert.ensures ∙ f.routing) refl)
+    (link_for (kept_of c.args.parts.now) s n link (left_link c.args.blind link) (streams_left n s.routing) f there refl)
 
-pub returns-clause-out : goal.returns-clause-out
-returns-clause-out c = λ link there.
-    rw (set_here c.args.parts.now.links.items c.from.result c.args.number _ link c.from.ensures there) refl
+pub returns-clause-links : goal.returns-clause-links
+returns-clause-links c = λ link there.
+    let links = c.args.parts.now.links.items in
+    let x = c.index_mut-link.result.now in
+    rw (c.from.ensures, same_at links c.args.number x link (found links c.args.number c.from.result x c.from.ensures c.requires.known c.index_mut-link.ensures.value) there) refl
 
-pub returns-clause-agrees : goal.returns-clause-agrees
-returns-clause-agrees c =
-    let found = here c.args.parts.now.links.items c.from.result c.args.number c.index_mut-link.result.now c.from.ensures c.requires.known c.index_mut-link.ensures.value in
-    let k = c.requires.agrees.kept c.args.number _ found in
-    rw (c.from.ensures) (rw (c.divert.ensures) (record {
-      count = length_set c.args.parts.now.links.items c.args.number _ ∙ c.requires.agrees.count;
-      routed = c.requires.agrees.routed;
-      kept = kept_set c.args.parts.now.links.items c.args.number _ c.args.parts.now.rows.rows c.args.parts.now.rows.rows c.requires.agrees.kept (record {
-        last = k.last;
-        unacked = k.unacked;
-        unsent = k.unsent;
-        accepted = k.accepted;
-        octets = k.octets;
-        in_order = k.in_order;
-        settled = λ s. absurd cc;
-      }) (λ m d. untouched_self m c.args.parts.now.rows.rows);
-      placed = placed_set c.args.parts.now.links.items c.args.number _ c.args.parts.now.routes.streams c.requires.agrees.placed (λ old there unsettled. refl);
-    }))
-
-pub returns-clause-room : goal.returns-clause-room
-returns-clause-room c = λ pushes all.
-    let found = here c.args.parts.now.links.items c.from.result c.args.number c.index_mut-link.result.now c.from.ensures c.requires.known c.index_mut-link.ensures.value in
-    rw (c.from.ensures) (roomy_set c.args.parts.now.links.items c.args.number _ pushes all (all c.args.number _ found))
-
-pub returns-clause-counted : goal.returns-clause-counted
-returns-clause-counted c = λ bound all.
-    let found = here c.args.parts.now.links.items c.from.result c.args.number c.index_mut-link.result.now c.from.ensures c.requires.known c.index_mut-link.ensures.value in
-    let one = all c.args.number _ found in
-    rw (c.from.ensures) (counted_set c.args.parts.now.links.items c.args.number _ bound all (record { acked = one.acked; accepted = one.accepted }))
-
-pub returns-clause-length : goal.returns-clause-length
-returns-clause-length c = length_set c.args.parts.now.links.items c.from.result _
+pub returns-clause-whole : goal.returns-clause-whole
+returns-clause-whole c = record {
+  as_many = c.requires.whole.as_many ∙ sym (length_set c.args.parts.now.links.items c.from.result _);
+  routed = ap (λ (r : Routing). r.links) c.divert.ensures ∙ c.requires.whole.routed ∙ sym (length_set c.args.parts.now.links.items c.from.result _);
+  few = let many = length_set c.args.parts.now.links.items c.from.result (record c.index_mut-link.result.now { phase = Down; blind = c.args.blind }) in let few = c.requires.whole.few in omega (arith, many, few);
+}

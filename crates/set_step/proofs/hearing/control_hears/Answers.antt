@@ -1,100 +1,150 @@
-use Rattle.std.proofs.Common.{refl, arith, ◌≡◌, ◌∙◌, ap, sym, subst, ◌≤◌, Bool, List, slice_get, Some}
+use Rattle.std.proofs.Common.{refl, arith, ◌≡◌, ◌∙◌, ap, sym, subst, ◌<◌, ◌+◌, ℕ, take, ◌≤◌, slice_set}
+use Rattle.std.proofs.lemmas.Bool.Decides.{nat_tests}
 use Rattle.l2_units.specs.declared.unit.Header.{Header}
 use Rattle.l2_units.specs.Grammar.{head_of}
-use Rattle.set_events.specs.declared.answer.Fate.TheVariants.{Acked}
-use Rattle.set_model.specs.Rows.{is_unacked, turned}
-use Rattle.set_model.proofs.Events.{acknowledged}
-use Rattle.set_step.specs.Agreement.{IsKept, state_of, link_of}
-use Rattle.set_step.specs.Controls.{IsHeard}
-use Rattle.set_model.specs.State.{LinkState}
+use Rattle.set_events.specs.declared.answer.Fate.TheVariants.{Unacked, Acked}
+use Rattle.set_queues.specs.Buffers.{queue_at}
+use Rattle.set_queues.specs.Messages.{restood}
+use Rattle.set_queues.specs.Sending.{acknowledged as acked_lists, reach}
+use Rattle.set_model.specs.Control.{Control}
+use Rattle.set_model.specs.State.{LinkState, window_of}
 use Rattle.set_model.specs.Step.{is_msu}
-use Rattle.set_step.proofs.Acknowledging.{few_octets}
-use Rattle.set_step.proofs.Incoming.{part_heard, control_is, low_acked, room_heard, heard_kept, one_byte, one_low}
-use Rattle.set_step.proofs.Keeping.{kept_set, counted_set, placed_set, roomy_set}
-use Rattle.set_model.proofs.Lists.{here, same_at, map_set, length_set}
+use Rattle.set_step.specs.declared.link.Link.{Link}
+use Rattle.set_step.specs.Parts.{IsCounted, link_of, kept_of}
+use Rattle.set_step.proofs.Choosing.{window_is}
+use Rattle.set_step.proofs.Heard.{some_heard, none_heard, low_part, part_told, heard_told, reach_told, heard_link, counts, one_byte, one_low}
+use Rattle.set_step.proofs.Links.{found, link_set, set_view, stands_for}
+use Rattle.set_step.proofs.Less.{NoLonger, acked_less, on_less}
+use Rattle.set_step.proofs.Rooms.{counted_set, wider, whole_of}
 use Rattle.set_step.proofs.hearing.control_hears.Goals as goal
-use Rattle.set_step.proofs.hearing.control_hears.Goals.{After-acknowledge}
-
-found : (c : goal.After-acknowledge) → slice_get c.args.parts.now.links.items c.args.number ≡ Some c.index_mut-link.result.now
-found c = here c.args.parts.now.links.items c.from.result c.args.number c.index_mut-link.result.now c.from.ensures c.requires.known c.index_mut-link.ensures.value
-
-kept : (c : goal.After-acknowledge) → IsKept c.args.number c.index_mut-link.result.now c.args.parts.now.rows.rows
-kept c = c.requires.agrees.kept c.args.number _ (found c)
-
-heard_by : (c : goal.After-acknowledge) → IsHeard (head_of c.args.unit.now) (is_msu c.args.unit.now) c.index_mut-link.result.now.control c.heard-part.new.self c.index_mut-link.result.now.window c.heard-part.new.window c.heard-part.result
-heard_by c =
-    subst (λ (b : Bool). IsHeard (head_of c.args.unit.now) b c.index_mut-link.result.now.control c.heard-part.new.self c.index_mut-link.result.now.window c.heard-part.new.window c.heard-part.result) c.is_msu.ensures
-    (subst (λ (h : Header). IsHeard h c.is_msu.result c.index_mut-link.result.now.control c.heard-part.new.self c.index_mut-link.result.now.window c.heard-part.new.window c.heard-part.result) c.header_in.ensures c.heard-part.ensures)
-
-few : (c : goal.After-acknowledge) → c.heard-part.result.acked ≤ 127
-few c = low_acked c.args.number c.index_mut-link.result.now c.args.parts.now.rows.rows (kept c) _ _ _ _ c.heard-part.result (heard_by c)
-
-pub overflow_sub-link : goal.overflow_sub-link
-overflow_sub-link c = rw (c.acknowledge.ensures.octets) (few_octets c.args.number c.heard-part.result.acked c.index_mut-link.result.now c.args.parts.now.rows.rows (kept c))
 
 pub overflow_add-link : goal.overflow_add-link
 overflow_add-link c =
-    let a = (goal.at.overflow_add-link c).After-acknowledge in
-    let low = (c.requires.counted c.args.number _ (found a)).acked in
-    let small = few a in
+    let at = found c.args.parts.now.links.items c.args.number c.from.result c.index_mut-link.result.now c.from.ensures c.requires.known c.index_mut-link.ensures.value in
+    let low = (c.requires.counted c.args.number _ at).acked in
+    let small = low_part c.index_mut-link.result.now.control c.window-window.result.now c.header_in-head.result c.is_msu.result c.hear-part.result c.hear-part.ensures.part in
     omega (arith, low, small, c.from-2.ensures)
 
 pub overflow_add-link-2 : goal.overflow_add-link-2
 overflow_add-link-2 c =
-    let a = (goal.at.overflow_add-link-2 c).After-acknowledge in
-    let low = (c.requires.counted c.args.number _ (found a)).accepted in
-    let small = one_low c.heard-part.result.accept in
-    let same = c.from-3.ensures ∙ one_byte c.heard-part.result.accept in
+    let at = found c.args.parts.now.links.items c.args.number c.from.result c.index_mut-link.result.now c.from.ensures c.requires.known c.index_mut-link.ensures.value in
+    let low = (c.requires.counted c.args.number _ at).accepted in
+    let small = one_low c.hear-part.result.accept in
+    let same = c.from-3.ensures ∙ one_byte c.hear-part.result.accept in
     omega (arith, low, small, same)
 
-pub returns-clause-part : goal.returns-clause-part
-returns-clause-part c = λ link there.
-    let a = (goal.at.returns-clause-part c).After-acknowledge in
-    rw (same_at c.args.parts.now.links.items c.args.number c.index_mut-link.result.now link (found a) there) (part_heard c.args.number c.index_mut-link.result.now c.args.parts.now.rows.rows (kept a) _ _ _ _ c.heard-part.result (heard_by a))
+pub returns-in-Ok-clause-part : goal.returns-in-Ok-clause-part
+returns-in-Ok-clause-part c = λ s link there f.
+    let n = c.args.number in
+    let x = c.index_mut-link.result.now in
+    let w = c.window-window.result.now in
+    let is = window_is (kept_of c.args.parts.now) s n link w f there c.window-window.ensures.last c.window-window.ensures.unacked c.window-window.ensures.unsent in
+    let control = ap (λ (l : LinkState). l.control) (stands_for c.args.parts.now.links.items n c.from.result x c.from.ensures c.requires.known c.index_mut-link.ensures.value s.links link f.links there) in
+    part_told w (window_of n link s.rows) is x.control link.control control c.header_in-head.result (head_of c.args.unit.now) c.header_in-head.ensures c.is_msu.result (is_msu c.args.unit.now) c.is_msu.ensures c.hear-part.result c.hear-part.ensures.part
 
-pub returns-clause-state : goal.returns-clause-state
-returns-clause-state c = λ link there.
-    let a = (goal.at.returns-clause-state c).After-acknowledge in
-    let accepted = c.from-3.ensures ∙ one_byte c.heard-part.result.accept in
-    let control = control_is c.args.number c.index_mut-link.result.now c.args.parts.now.rows.rows (kept a) _ _ _ _ c.heard-part.result (heard_by a) in
-    rw (same_at c.args.parts.now.links.items c.args.number c.index_mut-link.result.now link (found a) there) (rw (c.from.ensures) (rw (c.from-2.ensures) (rw accepted (rw (c.acknowledge.ensures.rows) (rw (sym control)
-    (ap (λ (links : List LinkState). record (state_of c.args.parts.now) { rows = turned (is_unacked c.args.number) (Acked c.args.number) c.heard-part.result.acked c.args.parts.now.rows.rows; links = links }) (map_set link_of c.args.parts.now.links.items c.args.number _)))))))
+pub returns-else-part-gt0-clause-part : goal.returns-else-part-gt0-clause-part
+returns-else-part-gt0-clause-part c = λ s link there f.
+    let n = c.args.number in
+    let x = c.index_mut-link.result.now in
+    let w = c.window-window.result.now in
+    let is = window_is (kept_of c.args.parts.now) s n link w f there c.window-window.ensures.last c.window-window.ensures.unacked c.window-window.ensures.unsent in
+    let control = ap (λ (l : LinkState). l.control) (stands_for c.args.parts.now.links.items n c.from.result x c.from.ensures c.requires.known c.index_mut-link.ensures.value s.links link f.links there) in
+    part_told w (window_of n link s.rows) is x.control link.control control c.header_in-head.result (head_of c.args.unit.now) c.header_in-head.ensures c.is_msu.result (is_msu c.args.unit.now) c.is_msu.ensures c.hear-part.result c.hear-part.ensures.part
 
-pub returns-clause-agrees : goal.returns-clause-agrees
-returns-clause-agrees c =
-    let a = (goal.at.returns-clause-agrees c).After-acknowledge in
-    let rows = c.args.parts.now.rows.rows in
-    let accepted = c.from-3.ensures ∙ one_byte c.heard-part.result.accept in
-    rw (c.from.ensures) (rw (c.from-2.ensures) (rw accepted (rw (c.acknowledge.ensures.rows) (record {
-      count = length_set c.args.parts.now.links.items c.args.number _ ∙ c.requires.agrees.count;
-      routed = c.requires.agrees.routed;
-      kept = kept_set c.args.parts.now.links.items c.args.number _ rows (turned (is_unacked c.args.number) (Acked c.args.number) c.heard-part.result.acked rows) c.requires.agrees.kept
-          (heard_kept c.args.number c.index_mut-link.result.now rows (kept a) _ _ _ _ c.heard-part.result (heard_by a) c.acknowledge.result c.acknowledge.ensures.octets)
-          (λ m apart. (acknowledged c.args.number c.heard-part.result.acked rows).others m apart);
-      placed = placed_set c.args.parts.now.links.items c.args.number _ c.args.parts.now.routes.streams c.requires.agrees.placed (λ was there unsettled. rw (same_at c.args.parts.now.links.items c.args.number was c.index_mut-link.result.now there (found a)) unsettled);
-    }))))
+pub returns-in-Ok-clause-stands : goal.returns-in-Ok-clause-stands
+returns-in-Ok-clause-stands c = λ s link there f.
+    let k = kept_of c.args.parts.now in
+    let n = c.args.number in
+    let x = c.index_mut-link.result.now in
+    let w = c.window-window.result.now in
+    let head = head_of c.args.unit.now in
+    let is = window_is k s n link w f there c.window-window.ensures.last c.window-window.ensures.unacked c.window-window.ensures.unsent in
+    let same = stands_for c.args.parts.now.links.items n c.from.result x c.from.ensures c.requires.known c.index_mut-link.ensures.value s.links link f.links there in
+    let control = ap (λ (l : LinkState). l.control) same in
+    let state = heard_told w (window_of n link s.rows) is x.control link.control control c.header_in-head.result head c.header_in-head.ensures c.is_msu.result (is_msu c.args.unit.now) c.is_msu.ensures c.hear-part.new.self c.hear-part.ensures.state in
+    let some : 0 < c.hear-part.result.acked = grind (arith, nat_tests, c.if-part-gt0.true) in
+    let reaches = reach_told w (window_of n link s.rows) is x.control link.control control c.header_in-head.result head c.header_in-head.ensures c.is_msu.result (is_msu c.args.unit.now) c.is_msu.ensures c.hear-part.result n k c.hear-part.ensures.part c.window-window.ensures.last some in
+    some_heard k _ s n link f there c.hear-part.result head c.args.unit.now head.bsn_in_range reaches (record {
+      settings_same = refl;
+      lists_are = c.in-Ok.ensures.lists ∙ ap (λ (h : Header). acked_lists n h.bsn c.args.parts.now.queues.lists) c.header_in-head.ensures;
+      messages_are = c.in-Ok.ensures.messages ∙ ap (λ (h : Header). restood (take (reach n h.bsn c.args.parts.now.queues.lists) (queue_at (Unacked n) c.args.parts.now.queues.lists)) (Acked n) c.args.parts.now.queues.messages) c.header_in-head.ensures;
+      bodies_are = refl;
+      links_are = link_set c.args.parts.now.links.items n c.from.result x c.from.ensures c.requires.known c.index_mut-link.ensures.value _ s.links link (heard_link c.hear-part.result head c.args.unit.now n s link) f.links there (λ e. counts (link_of x) link c.hear-part.result head c.args.unit.now n s c.from-2.result c.from-3.result c.hear-part.new.self e c.from-2.ensures (c.from-3.ensures ∙ one_byte c.hear-part.result.accept) state);
+      routing_is = refl;
+      inbox_same = refl;
+    })
 
-pub returns-clause-same : goal.returns-clause-same
-returns-clause-same c = rw (c.acknowledge.ensures.rows) (refl, refl, (acknowledged c.args.number c.heard-part.result.acked c.args.parts.now.rows.rows).kept.count)
+pub returns-else-part-gt0-clause-stands : goal.returns-else-part-gt0-clause-stands
+returns-else-part-gt0-clause-stands c = λ s link there f.
+    let k = kept_of c.args.parts.now in
+    let n = c.args.number in
+    let x = c.index_mut-link.result.now in
+    let w = c.window-window.result.now in
+    let head = head_of c.args.unit.now in
+    let is = window_is k s n link w f there c.window-window.ensures.last c.window-window.ensures.unacked c.window-window.ensures.unsent in
+    let same = stands_for c.args.parts.now.links.items n c.from.result x c.from.ensures c.requires.known c.index_mut-link.ensures.value s.links link f.links there in
+    let state = heard_told w (window_of n link s.rows) is x.control link.control (ap (λ (l : LinkState). l.control) same) c.header_in-head.result head c.header_in-head.ensures c.is_msu.result (is_msu c.args.unit.now) c.is_msu.ensures c.hear-part.new.self c.hear-part.ensures.state in
+    let none : c.hear-part.result.acked ≡ 0 = grind (arith, nat_tests, c.if-part-gt0.false) in
+    none_heard k _ s n link f there c.hear-part.result head c.args.unit.now none (record {
+      settings_same = refl;
+      lists_are = refl;
+      messages_are = refl;
+      bodies_are = refl;
+      links_are = link_set c.args.parts.now.links.items n c.from.result x c.from.ensures c.requires.known c.index_mut-link.ensures.value _ s.links link (heard_link c.hear-part.result head c.args.unit.now n s link) f.links there (λ e. counts (link_of x) link c.hear-part.result head c.args.unit.now n s c.from-2.result c.from-3.result c.hear-part.new.self e c.from-2.ensures (c.from-3.ensures ∙ one_byte c.hear-part.result.accept) state);
+      routing_is = f.routing;
+      inbox_same = refl;
+    })
 
-pub returns-clause-room : goal.returns-clause-room
-returns-clause-room c = λ pushes all.
-    let a = (goal.at.returns-clause-room c).After-acknowledge in
-    let one = all c.args.number _ (found a) in
-    let room = room_heard c.args.number c.index_mut-link.result.now c.args.parts.now.rows.rows (kept a) _ _ _ _ c.heard-part.result (heard_by a) in
-    rw (c.from.ensures) (roomy_set c.args.parts.now.links.items c.args.number _ pushes all (omega (arith, one, room)))
+more_counted : (x : Link) (acked accepted : ℕ) (control : Control) → IsCounted 1152921504606846976 x → acked < 128 → accepted ≤ 1 → IsCounted 2305843009213693952 (record x { acked = x.acked + acked; accepted = x.accepted + accepted; control = control })
+more_counted x acked accepted control k a b = record { acked = let low = k.acked in omega (arith, low, a); accepted = let low = k.accepted in omega (arith, low, b) }
 
-pub returns-clause-counted : goal.returns-clause-counted
-returns-clause-counted c =
-    let a = (goal.at.returns-clause-counted c).After-acknowledge in
-    let low = c.requires.counted c.args.number _ (found a) in
-    let acked = low.acked in
-    let accepted = low.accepted in
-    let small = few a in
-    let one = one_low c.heard-part.result.accept in
-    let same = c.from-3.ensures ∙ one_byte c.heard-part.result.accept in
-    rw (c.from.ensures) (counted_set c.args.parts.now.links.items c.args.number _ _ (λ m other there.
-    let l = c.requires.counted m other there in
-    let x = l.acked in
-    let y = l.accepted in
-    record { acked = omega (arith, x); accepted = omega (arith, y) }) (record { acked = omega (arith, acked, small, c.from-2.ensures); accepted = omega (arith, accepted, one, same) }))
+low : (n a b : ℕ) → a ≡ b → n < b → n < a
+low n a b e h = omega (arith, e, h)
+
+few : (d acked : ℕ) → d ≡ acked → acked < 128 → d < 128
+few d acked e h = omega (arith, e, h)
+
+at_most : (d one : ℕ) → d ≡ one → one ≤ 1 → d ≤ 1
+at_most d one e h = omega (arith, e, h)
+
+pub returns-in-Ok-clause-counted : goal.returns-in-Ok-clause-counted
+returns-in-Ok-clause-counted c =
+    let links = c.args.parts.now.links.items in
+    let n = c.args.number in
+    let at = found links n c.from.result c.index_mut-link.result.now c.from.ensures c.requires.known c.index_mut-link.ensures.value in
+    let small = low_part c.index_mut-link.result.now.control c.window-window.result.now c.header_in-head.result c.is_msu.result c.hear-part.result c.hear-part.ensures.part in
+    let one = more_counted c.index_mut-link.result.now c.from-2.result c.from-3.result c.hear-part.new.self (c.requires.counted n _ at) (few c.from-2.result c.hear-part.result.acked c.from-2.ensures small) (at_most c.from-3.result _ (c.from-3.ensures ∙ one_byte c.hear-part.result.accept) (one_low c.hear-part.result.accept)) in
+    counted_set 2305843009213693952 links _ n (record c.index_mut-link.result.now { acked = c.index_mut-link.result.now.acked + c.from-2.result; accepted = c.index_mut-link.result.now.accepted + c.from-3.result; control = c.hear-part.new.self }) (wider 1152921504606846976 2305843009213693952 links (omega arith) c.requires.counted) (ap (λ k. slice_set links k (record c.index_mut-link.result.now { acked = c.index_mut-link.result.now.acked + c.from-2.result; accepted = c.index_mut-link.result.now.accepted + c.from-3.result; control = c.hear-part.new.self })) c.from.ensures) one
+
+pub returns-else-part-gt0-clause-counted : goal.returns-else-part-gt0-clause-counted
+returns-else-part-gt0-clause-counted c =
+    let links = c.args.parts.now.links.items in
+    let n = c.args.number in
+    let at = found links n c.from.result c.index_mut-link.result.now c.from.ensures c.requires.known c.index_mut-link.ensures.value in
+    let small = low_part c.index_mut-link.result.now.control c.window-window.result.now c.header_in-head.result c.is_msu.result c.hear-part.result c.hear-part.ensures.part in
+    let one = more_counted c.index_mut-link.result.now c.from-2.result c.from-3.result c.hear-part.new.self (c.requires.counted n _ at) (few c.from-2.result c.hear-part.result.acked c.from-2.ensures small) (at_most c.from-3.result _ (c.from-3.ensures ∙ one_byte c.hear-part.result.accept) (one_low c.hear-part.result.accept)) in
+    counted_set 2305843009213693952 links _ n (record c.index_mut-link.result.now { acked = c.index_mut-link.result.now.acked + c.from-2.result; accepted = c.index_mut-link.result.now.accepted + c.from-3.result; control = c.hear-part.new.self }) (wider 1152921504606846976 2305843009213693952 links (omega arith) c.requires.counted) (ap (λ k. slice_set links k (record c.index_mut-link.result.now { acked = c.index_mut-link.result.now.acked + c.from-2.result; accepted = c.index_mut-link.result.now.accepted + c.from-3.result; control = c.hear-part.new.self })) c.from.ensures) one
+
+pub returns-in-Ok-clause-keeps : goal.returns-in-Ok-clause-keeps
+returns-in-Ok-clause-keeps c =
+    let q = c.args.parts.now.queues.lists in
+    let n = c.args.number in
+    let known = low n _ _ (whole_of c.args.parts.now c.requires.holds).as_many c.requires.known in
+    record {
+      message = c.in-Ok.ensures.rooms.1;
+      bodies = refl;
+      rooms = c.in-Ok.ensures.rooms.0;
+      fewer = λ k. on_less k q c.acknowledge.new.self.lists (subst (NoLonger q) (sym c.in-Ok.ensures.lists) (acked_less n c.header_in-head.result.bsn q known));
+      phases = set_view c.args.parts.now.links.items n c.from.result c.index_mut-link.result.now c.from.ensures c.requires.known c.index_mut-link.ensures.value (λ (l : Link). l.phase) _ refl;
+      inbox = refl;
+    }
+
+pub returns-else-part-gt0-clause-keeps : goal.returns-else-part-gt0-clause-keeps
+returns-else-part-gt0-clause-keeps c = record {
+  message = refl;
+  bodies = refl;
+  rooms = λ f. omega arith;
+  fewer = λ k. omega arith;
+  phases = set_view c.args.parts.now.links.items c.args.number c.from.result c.index_mut-link.result.now c.from.ensures c.requires.known c.index_mut-link.ensures.value (λ (l : Link). l.phase) _ refl;
+  inbox = refl;
+}

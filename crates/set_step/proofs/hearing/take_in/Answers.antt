@@ -1,17 +1,11 @@
-use Rattle.std.proofs.Common.{arith, ◌≡◌, ◌∙◌, ap, sym, Some, true, is_some, Option}
-use Rattle.std.specs.Result.{result_ok}
-use Rattle.l3_orders.specs.declared.order.Order.{Order}
-use Rattle.l3_orders.specs.Grammar.{order_of}
-use Rattle.set_model.specs.Rows.{is_on}
-use Rattle.set_step.specs.Agreement.{has_order}
-use Rattle.set_model.proofs.Filters.{fewer_filter}
+use Rattle.std.proofs.Common.{refl, ◌∙◌, ap}
+use Rattle.std.proofs.lemmas.Bool.{ne_eqb}
+use Rattle.set_model.specs.Rows.{service_indicator}
+use Rattle.set_step.specs.Parts.{kept_of}
+use Rattle.set_step.proofs.Told.{message_taken, delivered}
 use Rattle.set_step.proofs.hearing.take_in.Goals as goal
 
-pub obey-requires-clause-room : goal.obey-requires-clause-room
-obey-requires-clause-room c = λ number other link there.
-    let octets = c.as_slice-then-service_indicator-eq0.ensures.value in
-    let order : order_of c.in-Msu.body.items ≡ Some c.in-Ok.order = ap order_of (sym octets) ∙ sym c.read_order.ensures.exact ∙ ap result_ok c.in-Ok.is in
-    let has : has_order c.args.unit.now ≡ true = ap has_order c.in-Msu.is ∙ ap (λ (o : Option Order). is_some o) order in
-    let room = c.requires.room has other link there in
-    let fewer = fewer_filter (λ row. is_on number row.fate) c.args.parts.now.rows.rows in
-    omega (arith, room, fewer)
+pub returns : goal.returns
+returns c = λ s a.
+    message_taken _ s c.args.accept c.args.unit.now c.in-Msu.head c.in-Msu.body c.in-Msu.is c.if-not-accept.false (ne_eqb (service_indicator c.in-Msu.body.items) 0 (λ e. c.if-service_indicator-eq0.false (c.service_indicator.ensures ∙ ap service_indicator c.as_slice.ensures.value ∙ e)))
+    (delivered (kept_of c.args.parts.now) s c.args.parts.now.inbox.items c.push_back_reserved.new.self.items c.in-Msu.body c.copy_of.result a.stands refl c.push_back_reserved.ensures.items c.copy_of.ensures)

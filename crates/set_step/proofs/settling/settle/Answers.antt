@@ -1,24 +1,29 @@
-use Rattle.std.proofs.Common.{arith, ◌∙◌, ap, slice_get}
-use Rattle.set_step.specs.Agreement.{link_of, state_of}
-use Rattle.set_model.specs.Changeover.{judged, move_off}
-use Rattle.set_model.specs.State.{State}
-use Rattle.set_step.proofs.Judging.{judged_at, out_kept}
-use Rattle.set_model.proofs.Lists.{at_map, map_at}
+use Rattle.std.proofs.Common.{arith, ◌≤◌, ◌∙◌, ap, sym, subst, ℕ, Option, length, map}
+use Rattle.set_queues.specs.Buffers.{room_at}
+use Rattle.set_queues.specs.Settling.{on as on_lists}
+use Rattle.set_model.specs.Changeover.{judge as judged_state, judged, fate_on}
+use Rattle.set_model.specs.State.{target, has_phase_up}
+use Rattle.set_step.specs.Parts.{link_of}
+use Rattle.set_step.proofs.Judged.{is_judged}
+use Rattle.set_step.proofs.Targets.{same_target, phase_at}
 use Rattle.set_step.proofs.settling.settle.Goals as goal
 
 pub move_all-requires-clause-out : goal.move_all-requires-clause-out
-move_all-requires-clause-out c = out_kept c.args.parts.now.links.items c.judge.new.parts.links.items c.args.number c.judge.ensures.keeps.phases c.requires.out
+move_all-requires-clause-out c = λ link there.
+    let x = phase_at c.args.parts.now.links.items c.judge.new.parts.links.items c.args.number link c.judge.ensures.phases there in
+    ap has_phase_up (sym x.2) ∙ c.requires.out x.0 x.1
+
+enough : (on' on room room' : ℕ) → on' ≤ on → on ≤ room → room ≤ room' → on' ≤ room'
+enough on' on room room' a b d = omega (arith, a, b, d)
 
 pub move_all-requires-clause-room : goal.move_all-requires-clause-room
-move_all-requires-clause-room c = λ number link there.
-    let room = c.judge.ensures.keeps.room _ c.requires.room number link there in
-    omega (arith, room, c.judge.ensures.keeps.fewer)
+move_all-requires-clause-room c =
+    let same = same_target c.args.parts.now.links.items c.judge.new.parts.links.items c.judge.ensures.phases in
+    subst (λ (t : Option ℕ). length (on_lists c.args.number c.judge.new.parts.queues.lists) ≤ room_at (fate_on t) c.judge.new.parts.queues.rooms) (sym same) (enough _ _ _ _ c.judge.ensures.fewer c.requires.room (c.judge.ensures.rooms (fate_on (target (map link_of c.args.parts.now.links.items)))))
 
-pub returns-clause-state : goal.returns-clause-state
-returns-clause-state c = λ link there.
-    let first = c.judge.ensures.state link there in
-    let seen = ap (λ (s : State). slice_get s.links c.args.number) first ∙ judged_at c.args.reached c.args.number (link_of link) (state_of c.args.parts.now) (map_at link_of c.args.parts.now.links.items c.args.number link there) in
-    let mid = at_map link_of c.judge.new.parts.links.items c.args.number _ seen in
-    c.move_all.ensures.state mid.0 mid.1
-    ∙ ap (λ l. move_off c.args.number l (state_of c.judge.new.parts)) mid.2
-    ∙ ap (λ s. move_off c.args.number (judged c.args.reached c.args.number (link_of link) c.args.parts.now.rows.rows) s) first
+pub returns : goal.returns
+returns c = record {
+  stands = λ s link there down a.
+      let j = is_judged c.args.number link s (record { there = there; phase_is = down }) a.sound c.args.reached in
+      c.move_all.ensures.stands (judged_state c.args.reached c.args.number link s) (judged c.args.reached c.args.number link s.rows) j.at.there (record { stands = c.judge.ensures.stands s link there a.stands; sound = j.sound });
+}

@@ -1,24 +1,22 @@
-use Rattle.std.proofs.Common.{◌∙◌, ap, sym}
-use Rattle.set_events.specs.declared.answer.Answer.TheVariants.{Done}
-use Rattle.set_step.specs.declared.link.Link.{Link}
-use Rattle.set_step.specs.Agreement.{link_of, state_of}
-use Rattle.set_model.specs.Changeover.{queue as queued, leaving_order}
-use Rattle.set_model.specs.State.{State}
-use Rattle.set_model.specs.Step.{Outcome}
-use Rattle.set_model.proofs.Lists.{here, same_at}
+use Rattle.std.proofs.Common.{refl, ◌∙◌, ap, subst}
+use Rattle.set_model.specs.Changeover.{leaving_order, leave as left_by, queue as queued}
+use Rattle.set_step.specs.Agreement.{StandsFor}
+use Rattle.set_step.specs.Parts.{kept_of}
+use Rattle.set_step.proofs.Links.{found, stands_for}
+use Rattle.set_step.proofs.Rooms.{has_room_left, beside_left}
 use Rattle.set_step.proofs.step.fall.Goals as goal
 
-abbrev done_with : State → Outcome
-done_with s = record { answer = Done; state = s }
-
 pub queue-requires-clause-room : goal.queue-requires-clause-room
-queue-requires-clause-room c = c.leave.ensures.room 1 c.requires.room
+queue-requires-clause-room c =
+    let left = c.leave.ensures.links c.index.result.now (found c.args.parts.now.links.items c.args.number c.from.result c.index.result.now c.from.ensures c.requires.known c.index.ensures) in
+    has_room_left c.args.number c.args.parts.now c.leave.new.parts c.requires.room c.leave.ensures.queues c.leave.ensures.bodies (beside_left c.args.parts.now.links.items c.leave.new.parts.links.items c.args.number _ left refl)
 
-pub returns-clause-state : goal.returns-clause-state
-returns-clause-state c = λ link there.
-    let n = c.args.number in
-    let links = c.args.parts.now.links.items in
-    let this = same_at links n link c.index.result.now there (here links c.from.result n c.index.result.now c.from.ensures c.requires.known c.index.ensures) in
-    let order = c.leaving_order-order.ensures.order ∙ ap (λ (l : Link). leaving_order c.args.blind n (link_of l)) this in
-    let after = c.queue.ensures.state ∙ ap (λ o. queued o (state_of c.leave.new.parts)) order ∙ ap (λ s. queued (leaving_order c.args.blind n (link_of link)) s) (c.leave.ensures.state link there) in
-    sym (ap (done_with) after)
+pub returns : goal.returns
+returns c = record {
+  stands = λ s link there f.
+      let n = c.args.number in
+      let same = stands_for c.args.parts.now.links.items n c.from.result c.index.result.now c.from.ensures c.requires.known c.index.ensures s.links link f.links there in
+      let order = c.leaving_order-order.ensures.order ∙ ap (leaving_order c.args.blind n) same in
+      let mid = left_by c.args.blind n link s in
+      subst (λ o. StandsFor (kept_of c.queue.new.parts) (queued o mid)) order (c.queue.ensures.stands mid (c.leave.ensures.stands s link there f));
+}

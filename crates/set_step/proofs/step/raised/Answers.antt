@@ -1,27 +1,38 @@
-use Rattle.std.proofs.Common.{◌∙◌, ap, sym, slice_get}
-use Rattle.set_step.specs.declared.link.Link.{Link}
-use Rattle.set_model.specs.declared.phase.Phase.{Phase}
+use Rattle.std.proofs.Common.{arith, ◌≡◌, ◌<◌, ◌∙◌, ap, sym, slice_get, ℕ}
 use Rattle.set_model.specs.declared.phase.Phase.TheVariants.{Settled}
-use Rattle.set_step.specs.Agreement.{link_of, state_of, rising_refusal}
-use Rattle.set_model.specs.State.{LinkState, State}
-use Rattle.set_model.specs.Step.{rises}
-use Rattle.set_step.proofs.Admitting.{can_rise, on_link_at, same_there}
-use Rattle.set_model.proofs.Lists.{map_at, same_at}
+use Rattle.set_model.proofs.Lists.{same_at}
+use Rattle.set_step.specs.declared.link.Link.{Link}
+use Rattle.set_step.specs.Refusing.{rising_refusal}
+use Rattle.set_step.proofs.Admitting.{can_rise, unraised, is_in, here_same, agrees_same, risen_done}
+use Rattle.set_step.proofs.Rooms.{whole_of}
 use Rattle.set_step.proofs.step.raised.Goals as goal
+
+pub returns-in-Some-clause-ok : goal.returns-in-Some-clause-ok
+returns-in-Some-clause-ok c = λ s a. unraised c.args.parts.now s a c.args.number c.in-Some.why (ap (λ links. rising_refusal (slice_get links c.args.number)) (sym c.deref.ensures.value) ∙ sym c.out_of_rising.ensures ∙ c.in-Some.is)
+
+low : (n a b : ℕ) → a ≡ b → n < b → n < a
+low n a b e h = omega (arith, e, h)
+
+pub make_room_parked-requires : goal.make_room_parked-requires
+make_room_parked-requires c =
+    let h = can_rise c.args.parts.now.links.items c.args.number (ap (λ links. rising_refusal (slice_get links c.args.number)) (sym c.deref.ensures.value) ∙ sym c.out_of_rising.ensures ∙ c.in_default.is) in
+    record { known = low c.args.number _ _ (whole_of c.args.parts.now c.requires.holds).as_many h.known }
+
+pub rise-requires-clause-known : goal.rise-requires-clause-known
+rise-requires-clause-known c =
+    let h = can_rise c.args.parts.now.links.items c.args.number (ap (λ links. rising_refusal (slice_get links c.args.number)) (sym c.deref.ensures.value) ∙ sym c.out_of_rising.ensures ∙ c.in_default.is) in
+    (here_same c.args.parts.now c.make_room_parked.new.parts c.args.number Settled c.in_ok-make_room_parked.ensures.same h).known
 
 pub rise-requires-clause-settled : goal.rise-requires-clause-settled
 rise-requires-clause-settled c = λ link there.
-    let off = can_rise c.args.parts.now.links.items c.args.number (ap (λ ls. rising_refusal (slice_get ls c.args.number)) (sym c.deref.ensures.value) ∙ sym c.out_of_rising.ensures ∙ c.in_default.is) in
-    let new = same_there c.args.parts.now.links.items c.reserve.new.parts.links.items c.args.number off.0 (ap (λ (s : State). s.links) c.reserve.ensures.same) off.1 in
-    let this = same_at c.reserve.new.parts.links.items c.args.number new.0 link new.1 there in
-    ap (λ (l : Link). l.phase) this ∙ ap (λ (l : LinkState). l.phase) new.2 ∙ off.2
+    let h = can_rise c.args.parts.now.links.items c.args.number (ap (λ links. rising_refusal (slice_get links c.args.number)) (sym c.deref.ensures.value) ∙ sym c.out_of_rising.ensures ∙ c.in_default.is) in
+    let now = here_same c.args.parts.now c.make_room_parked.new.parts c.args.number Settled c.in_ok-make_room_parked.ensures.same h in
+    ap (λ (l : Link). l.phase) (same_at c.make_room_parked.new.parts.links.items c.args.number now.link link now.there there) ∙ now.phase_is
 
 pub returns-clause-ok : goal.returns-clause-ok
-returns-clause-ok c =
-    let n = c.args.number in
-    let links = c.args.parts.now.links.items in
-    let off = can_rise links n (ap (λ ls. rising_refusal (slice_get ls c.args.number)) (sym c.deref.ensures.value) ∙ sym c.out_of_rising.ensures ∙ c.in_default.is) in
-    on_link_at n (state_of c.args.parts.now) (λ l. rises n (state_of c.args.parts.now) l.phase) (link_of off.0) (map_at link_of links n off.0 off.1)
-    ∙ ap (λ (p : Phase). rises n (state_of c.args.parts.now) p) off.2
-    ∙ ap (λ s. rises n s Settled) (sym c.reserve.ensures.same)
-    ∙ c.rise.ensures.state
+returns-clause-ok c = λ s a.
+    let h = can_rise c.args.parts.now.links.items c.args.number (ap (λ links. rising_refusal (slice_get links c.args.number)) (sym c.deref.ensures.value) ∙ sym c.out_of_rising.ensures ∙ c.in_default.is) in
+    let same = c.in_ok-make_room_parked.ensures.same in
+    let now = agrees_same c.args.parts.now c.make_room_parked.new.parts s same a in
+    let i = is_in c.make_room_parked.new.parts s c.args.number Settled now (here_same c.args.parts.now c.make_room_parked.new.parts c.args.number Settled same h) in
+    risen_done s c.args.number c.rise.new.parts i (c.rise.ensures.stands s i.link i.there now.stands)

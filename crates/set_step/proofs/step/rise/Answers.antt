@@ -1,78 +1,63 @@
-use Rattle.std.proofs.Common.{refl, arith, ◌∙◌, ap, sym, subst, length, List, ◌++◌, map, slice_set}
-use Rattle.l2_window.specs.Window.{WindowState}
-use Rattle.set_events.specs.declared.answer.Fate.TheVariants.{Waiting}
-use Rattle.set_events.specs.declared.answer.Answer.TheVariants.{Done}
-use Rattle.set_model.specs.Rows.{Row, wait, parked, numbers, octets_in, is_parked, moved, all_with}
-use Rattle.set_rows.specs.Rows.{RowsState}
-use Rattle.set_model.proofs.Events.{unparked}
-use Rattle.set_route.specs.Routing.{Routing}
-use Rattle.set_step.specs.declared.link.Link.{Link}
-use Rattle.set_step.specs.Agreement.{IsKept, AreKept, ArePlaced, link_of}
-use Rattle.set_model.specs.State.{State, has_phase_settled}
-use Rattle.set_model.specs.Step.{Outcome}
-use Rattle.set_step.proofs.Keeping.{kept_set}
-use Rattle.set_model.proofs.Lists.{here, map_set, length_set}
-use Rattle.set_step.proofs.Placing.{raised_placed}
-use Rattle.set_model.proofs.Settling.{none_unack, none_wait}
-use Rattle.set_model.proofs.SoundMoves.{start_counted}
-use Rattle.set_step.proofs.States.{state_is}
+use Rattle.std.proofs.Common.{refl, arith, ◌≡◌, ◌<◌, ◌∙◌, ap, sym, slice_get, slice_set, ℕ, [], length, map}
+use Rattle.set_events.specs.declared.answer.Fate.TheVariants.{Unacked, Waiting, Parked}
+use Rattle.set_queues.specs.Buffers.{Lists, queue_at}
+use Rattle.set_queues.specs.Messages.{restood}
+use Rattle.set_queues.specs.Queues.{passed}
+use Rattle.set_queues.proofs.Soundness.{last_links}
+use Rattle.set_route.specs.Routing.{raised}
+use Rattle.set_model.specs.declared.phase.Phase.TheVariants.{Settled}
+use Rattle.set_model.specs.Rows.{numbers}
+use Rattle.set_model.specs.State.{Settings}
+use Rattle.set_model.specs.Step.{risen_link}
+use Rattle.set_model.proofs.Lists.{map_at, map_set, present}
+use Rattle.set_model.proofs.Settling.{settled_empty}
+use Rattle.set_step.specs.declared.parts.Parts.{Parts}
+use Rattle.set_step.specs.Agreement.{Holds}
+use Rattle.set_step.specs.Parts.{AtLink, link_of, kept_of}
+use Rattle.set_step.proofs.Becoming.{risen_then}
+use Rattle.set_step.proofs.Rooms.{whole_of}
 use Rattle.set_step.proofs.step.rise.Goals as goal
 
+-- nothing stands on a link that settled
+empty : (parts : Parts) (n : ℕ) → Holds (kept_of parts) → n < length parts.links.items → AtLink n parts.links.items (λ link. link.phase ≡ Settled) → (queue_at (Unacked n) parts.queues.lists ≡ []) × (queue_at (Waiting n) parts.queues.lists ≡ [])
+empty parts n holds known settled =
+    let a = holds.1 in
+    let x = present parts.links.items n known in
+    let there = sym (ap (λ links. slice_get links n) a.stands.links) ∙ map_at link_of parts.links.items n x.0 x.1 in
+    let e = settled_empty holds.0 n (link_of x.0) a.sound there (settled x.0 x.1) in
+    (a.stands.stands.queues (Unacked n) ∙ ap numbers e.unack_none, a.stands.stands.queues (Waiting n) ∙ ap numbers e.wait_none)
+
 pub reset-requires-clause-unacked : goal.reset-requires-clause-unacked
-reset-requires-clause-unacked c =
-    let found = here c.args.parts.now.links.items c.from.result c.args.number c.index_mut-link.result.now c.from.ensures c.requires.known c.index_mut-link.ensures.value in
-    let k = c.requires.agrees.kept c.args.number _ found in
-    k.unacked ∙ ap numbers (none_unack c.args.number c.args.parts.now.rows.rows (k.settled (ap has_phase_settled (c.requires.settled _ found))))
+reset-requires-clause-unacked c = (empty c.args.parts.now c.args.number c.requires.holds c.requires.known c.requires.settled).0
 
 pub reset-requires-clause-unsent : goal.reset-requires-clause-unsent
-reset-requires-clause-unsent c =
-    let found = here c.args.parts.now.links.items c.from.result c.args.number c.index_mut-link.result.now c.from.ensures c.requires.known c.index_mut-link.ensures.value in
-    let k = c.requires.agrees.kept c.args.number _ found in
-    k.unsent ∙ ap numbers (none_wait c.args.number c.args.parts.now.rows.rows (k.settled (ap has_phase_settled (c.requires.settled _ found))))
+reset-requires-clause-unsent c = (empty c.args.parts.now c.args.number c.requires.holds c.requires.known c.requires.settled).1
 
-pub queue_parked-requires : goal.queue_parked-requires
-queue_parked-requires c =
-    let found = here c.args.parts.now.links.items c.from.result c.args.number c.index_mut-link.result.now c.from.ensures c.requires.known c.index_mut-link.ensures.value in
-    let room = c.requires.room c.args.number _ found in
-    let same = ap (λ rows. length (parked rows)) c.as_slice.ensures in
-    let kept = ap (λ (w : WindowState). w.room) c.reset.ensures in
-    omega (arith, room, same, kept)
+low : (n a b : ℕ) → a ≡ b → n < b → n < a
+low n a b e h = omega (arith, e, h)
 
-abbrev done_with : State → Outcome
-done_with s = record { answer = Done; state = s }
+pub divert-requires-clause-other : goal.divert-requires-clause-other
+divert-requires-clause-other c = low c.args.number _ _ (ap (λ (q : Lists). length q.links) c.reset.ensures.lists ∙ last_links c.args.number 127 c.args.parts.now.queues.lists ∙ (whole_of c.args.parts.now c.requires.holds).as_many) c.requires.known
 
-pub returns-clause-state : goal.returns-clause-state
-returns-clause-state c = ap done_with (state_is refl
-    (sym (ap (λ (r : RowsState). r.rows) c.unpark.ensures))
-    (sym (ap (λ k. map link_of (slice_set c.args.parts.now.links.items k c.rise.new.self)) c.from.ensures ∙ map_set link_of c.args.parts.now.links.items c.args.number c.rise.new.self ∙ ap (λ (l : Link). slice_set (map link_of c.args.parts.now.links.items) c.args.number (link_of l)) c.rise.ensures))
-    (sym c.raise.ensures)
-    refl)
+pub divert-requires-clause-room : goal.divert-requires-clause-room
+divert-requires-clause-room c =
+    let same = ap (λ (q : Lists). length q.parked) c.reset.ensures.lists in
+    let room = c.reset.ensures.rooms (Waiting c.args.number) in
+    let enough = c.requires.room in
+    omega (arith, same, room, enough)
 
-risen : (c : goal.After-raise) → IsKept c.args.number c.rise.new.self (moved is_parked (all_with (Waiting c.args.number)) c.args.parts.now.rows.rows)
-risen c =
-    let rows = c.args.parts.now.rows.rows in
-    let found = here c.args.parts.now.links.items c.from.result c.args.number c.index_mut-link.result.now c.from.ensures c.requires.known c.index_mut-link.ensures.value in
-    let k = c.requires.agrees.kept c.args.number _ found in
-    let u = unparked c.args.number rows in
-    rw (c.rise.ensures) (record {
-      last = c.queue_parked.ensures.last ∙ ap (λ (w : WindowState). w.last) c.reset.ensures;
-      unacked = c.queue_parked.ensures.unacked ∙ ap (λ (w : WindowState). w.unacked) c.reset.ensures ∙ k.unacked ∙ ap numbers (sym u.unack_same);
-      unsent = c.queue_parked.ensures.unsent ∙ ap (λ (w : WindowState). w.unsent ++ numbers (parked c.as_slice.result.now)) c.reset.ensures ∙ ap (λ ns. ns ++ numbers (parked c.as_slice.result.now)) k.unsent ∙ ap (λ rs. numbers (wait c.args.number rows) ++ numbers (parked rs)) c.as_slice.ensures ∙ sym u.wait_numbers;
-      accepted = start_counted c.args.parts.now.config.method;
-      octets = k.octets ∙ ap octets_in (sym u.unack_same);
-      in_order = u.order_kept k.in_order;
-      settled = λ s. absurd cc;
-    })
-
-pub returns-clause-agrees : goal.returns-clause-agrees
-returns-clause-agrees c =
-    let links = c.args.parts.now.links.items in
-    let n = c.args.number in
-    let rows = c.args.parts.now.rows.rows in
-    let a = c.requires.agrees in
-    rw (c.from.ensures) (record {
-      count = length_set links n c.rise.new.self ∙ a.count;
-      routed = ap (λ (r : Routing). r.links) c.raise.ensures ∙ a.routed;
-      kept = subst (λ (rs : List Row). AreKept (slice_set links n c.rise.new.self) rs) (sym (ap (λ (r : RowsState). r.rows) c.unpark.ensures)) (kept_set links n c.rise.new.self rows (moved is_parked (all_with (Waiting n)) rows) a.kept (risen c) (λ m d. (unparked n rows).others m d));
-      placed = subst (λ (r : Routing). ArePlaced (slice_set links n c.rise.new.self) r.streams) (sym c.raise.ensures) (raised_placed links n c.rise.new.self c.args.parts.now.routes.streams a.placed c.requires.known (ap (λ (l : Link). has_phase_settled l.phase) c.rise.ensures));
-    })
+pub returns : goal.returns
+returns c = record {
+  stands = λ s link there f.
+      let n = c.args.number in
+      let k = kept_of c.args.parts.now in
+      risen_then k _ s n link (risen_link s.settings.method) (raised n s.routing) f there refl (record {
+        settings_same = refl;
+        lists_are = c.divert.ensures.lists ∙ ap (λ q. passed Parked (Waiting n) q) c.reset.ensures.lists;
+        messages_are = c.divert.ensures.messages ∙ ap (λ (q : Lists). restood q.parked (Waiting n) c.reset.new.self.messages) c.reset.ensures.lists ∙ ap (λ ms. restood c.args.parts.now.queues.lists.parked (Waiting n) ms) c.reset.ensures.same.0;
+        bodies_are = refl;
+        links_are = ap (λ i. map link_of (slice_set c.args.parts.now.links.items i c.rise.new.self)) c.from.ensures ∙ map_set link_of c.args.parts.now.links.items n c.rise.new.self ∙ ap (λ ls. slice_set ls n (link_of c.rise.new.self)) f.links ∙ ap (slice_set s.links n) (ap link_of c.rise.ensures ∙ ap (λ (settings : Settings). risen_link settings.method) f.settings);
+        routing_is = c.raise.ensures ∙ ap (raised n) f.routing;
+        inbox_same = refl;
+      });
+}

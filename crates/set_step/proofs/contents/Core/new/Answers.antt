@@ -1,37 +1,20 @@
-use Rattle.std.proofs.Common.{refl, ◌≡◌, ◌∙◌, ap, sym, subst, ℕ, map}
-use Rattle.std.specs.Prelude.{replicate}
-use Rattle.set_model.specs.State.{State, settings_of, new_link, new_state}
-use Rattle.set_model.specs.Sound.{IsSettings, IsSound, AreFew}
-use Rattle.set_model.proofs.Soundness.{opened_sound, opened_few}
-use Rattle.set_step.specs.Agreement.{link_of, bodies_in}
-use Rattle.set_step.proofs.Fresh.{all_same, fresh_kept, fresh_placed}
+use Rattle.std.proofs.Common.{refl, sym, subst}
+use Rattle.set_model.specs.State.{new_state}
+use Rattle.set_step.specs.declared.parts.Parts.{Parts}
+use Rattle.set_step.specs.Agreement.{Agrees}
+use Rattle.set_step.specs.Parts.{kept_of}
+use Rattle.set_step.proofs.Fresh.{new_is, new_agrees}
 use Rattle.set_step.proofs.contents.Core.new.Goals as goal
-use Rattle.set_step.proofs.contents.Core.new.Goals.{After-new-3}
+use Rattle.set_step.proofs.contents.Core.new.Goals.{After-new-4}
 
-settings : (c : After-new-3) → IsSettings (settings_of c.args.config.now)
-settings c = record { some_link = c.args.config.now.has_links; at_most_16 = c.args.config.now.links_in_range; managed = c.args.config.now.management }
+abbrev parts_of : After-new-4 → Parts
+parts_of c = record { config = c.args.config.now; links = c.in_ok-links.links; queues = c.in_ok-queues.queues; bodies = c.new-2.result; routes = c.new-3.result; inbox = c.new-4.result }
 
--- the links are those of a new set
-links_are : (c : After-new-3) → map link_of c.in_ok-links.links.items ≡ replicate c.args.config.now.links (new_link c.args.config.now.method)
-links_are c =
-    all_same c.in_ok-links.links.items (new_link c.args.config.now.method) (λ n link there. (c.in_ok-links.ensures.fresh n link there).0) ∙ ap (λ (k : ℕ). replicate k (new_link c.args.config.now.method)) c.in_ok-links.ensures.count
-
-is_new : (c : After-new-3) → ◌≡◌ {A = State} (record { settings = settings_of c.args.config.now; rows = c.new.result.rows; links = map link_of c.in_ok-links.links.items; routing = c.new-2.result; inbox = bodies_in c.new-3.result.items }) (new_state c.args.config.now)
-is_new c = rw (c.new.ensures.rows) (rw (c.new-2.ensures) (rw (c.new-3.ensures.items) (rw (links_are c) refl)))
+agrees : (c : After-new-4) → Agrees (kept_of (parts_of c)) (new_state c.args.config.now)
+agrees c = subst (λ k. Agrees k (new_state c.args.config.now)) (sym (new_is c.args.config.now (parts_of c) refl c.in_ok-links.ensures c.in_ok-queues.ensures.links c.in_ok-queues.ensures.parked c.in_ok-queues.ensures.messages c.new-2.ensures.items c.new-3.ensures c.new-4.ensures.items)) (new_agrees c.args.config.now)
 
 pub invariant_of-result : goal.invariant_of-result
-invariant_of-result c = record {
-  agrees = rw (c.new.ensures.rows) (rw (c.new-2.ensures) (record {
-    count = c.in_ok-links.ensures.count;
-    routed = refl;
-    kept = λ n link there. let is = c.in_ok-links.ensures.fresh n link there in fresh_kept c.args.config.now.method n link is.0 is.1 is.2;
-    placed = fresh_placed c.in_ok-links.links.items c.args.config.now.links;
-  }));
-  sound = subst IsSound (sym (is_new c)) (opened_sound (settings_of c.args.config.now) (settings c));
-}
+invariant_of-result c = (new_state c.args.config.now, agrees c)
 
 pub returns-clause-ok : goal.returns-clause-ok
-returns-clause-ok c = is_new c
-
-pub returns-clause-few : goal.returns-clause-few
-returns-clause-few c = subst (AreFew 0) (sym (is_new c)) (opened_few (settings_of c.args.config.now) (settings c))
+returns-clause-ok c = agrees c

@@ -1,4 +1,0 @@
-pub mod Gathering
-pub mod Keeping
-pub mod Turning
-pub mod Written

@@ -1,8 +1,0 @@
-use Rattle.std.proofs.Common.{◌≡◌, map}
-use Rattle.std.specs.Prelude.{replicate}
-use Rattle.set_model.specs.State.{new_link}
-use Rattle.set_rules.specs.Parts.{link_of}
-use Rattle.set_rules.proofs.contents.new_links.Given as goal
-
-abbrev pub invariant-loop : goal.invariant-loop
-invariant-loop l = map link_of l.links.items ≡ replicate l.counter (new_link l.config.method)

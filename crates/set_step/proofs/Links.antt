@@ -1,0 +1,24 @@
+-- One link of the list changes, and what the list stands for with it.
+use Rattle.std.proofs.Common.{◌≡◌, ◌∙◌, ap, sym, ◌<◌, ℕ, List, map, length, slice_get, slice_set, slice_index_or, Some}
+use Rattle.std.proofs.lemmas.Option.{same_Some}
+use Rattle.set_step.specs.declared.link.Link.{Link}
+use Rattle.set_step.specs.Parts.{link_of}
+use Rattle.set_model.specs.State.{LinkState}
+use Rattle.set_model.proofs.Lists.{here, map_at, map_set, map_set_same}
+
+-- the link that an index of this number read
+module _ (links : List Link) (n i : ℕ) (x : Link) (is : i ≡ n) (known : n < length links) (read : x ≡ slice_index_or links i x) where
+  pub found : slice_get links n ≡ Some x
+  found = here links i n x is known read
+
+  pub stands_for : (ls : List LinkState) (link : LinkState) → map link_of links ≡ ls → slice_get ls n ≡ Some link → link_of x ≡ link
+  stands_for ls link all there = same_Some (link_of x) link (sym (map_at link_of links n x found) ∙ ap (λ xs. slice_get xs n) all ∙ there)
+
+  -- it changes
+  pub link_set : (y : Link) (ls : List LinkState) (link link' : LinkState) → map link_of links ≡ ls → slice_get ls n ≡ Some link → (link_of x ≡ link → link_of y ≡ link') → map link_of (slice_set links i y) ≡ slice_set ls n link'
+  link_set y ls link link' all there e =
+      ap (λ k. map link_of (slice_set links k y)) is ∙ map_set link_of links n y ∙ ap (λ xs. slice_set xs n (link_of y)) all ∙ ap (slice_set ls n) (e (stands_for ls link all there))
+
+  -- and nothing that this tells of it
+  pub set_view : {Y : Type 0} (f : Link → Y) (y : Link) → f y ≡ f x → map f (slice_set links i y) ≡ map f links
+  set_view f y e = ap (λ k. map f (slice_set links k y)) is ∙ map_set_same f links n x y found e

@@ -1,0 +1,94 @@
+-- What a heard unit brings, as the step has it; and that hearing takes no room.
+use Rattle.std.proofs.Common.{refl, arith, ◌≡◌, ◌∙◌, ap, sym, subst, ◌≤◌, ◌+◌, ◌++◌, [], ◌∷◌, List, ℕ, Bool, true, false, ◌==◌, length, Option, Some, None, slice_set}
+use Rattle.std.proofs.lemmas.List.{length-map, map-append}
+use Rattle.arrayvec.specs.declared.array_vec.ArrayVec.{ArrayVec}
+use Rattle.l2_units.specs.declared.unit.Header.{Header}
+use Rattle.l2_units.specs.declared.unit.Unit.{Unit as SignalUnit}
+use Rattle.l2_units.specs.declared.unit.Unit.TheVariants.{Fisu, Lssu, Msu}
+use Rattle.l2_units.specs.Grammar.{head_of as header_in}
+use Rattle.l2_window.specs.declared.control.HeardPart.{HeardPart}
+use Rattle.l3_orders.specs.declared.order.Order.{Order}
+use Rattle.l3_orders.specs.Grammar.{link_of}
+use Rattle.set_events.specs.declared.answer.Answer.TheVariants.{Heard as HeardBack}
+use Rattle.set_events.specs.declared.answer.Report.{Report}
+use Rattle.set_events.specs.declared.answer.Took.{Took}
+use Rattle.set_events.specs.declared.answer.Took.TheVariants.{Message}
+use Rattle.set_queues.specs.Buffers.{room_at}
+use Rattle.set_queues.specs.Settling.{on}
+use Rattle.set_route.specs.Target.{target_of}
+use Rattle.set_model.specs.declared.phase.Phase.TheVariants.{Up}
+use Rattle.set_model.specs.Control.{part_of}
+use Rattle.set_model.specs.Rows.{service_indicator}
+use Rattle.set_model.specs.Changeover.{fate_on}
+use Rattle.set_model.specs.Sound.{IsSound}
+use Rattle.set_model.specs.State.{LinkState, State, window_of}
+use Rattle.set_model.specs.Step.{heard as heard_of, controls, hears, takes, brought, after_control, report_of, is_msu}
+use Rattle.set_model.proofs.SoundLink.{hears_sound}
+use Rattle.set_model.proofs.Walk.{IsAt}
+use Rattle.set_step.specs.declared.link.Link.{Link}
+use Rattle.set_step.specs.declared.parts.Parts.{Parts}
+use Rattle.set_step.specs.Agreement.{Kept, StandsFor}
+use Rattle.set_step.specs.Hearing.{IsSpacious, KeepsSpace}
+use Rattle.set_step.specs.Parts.{Gives, Obeys, bodies_in, kept_of}
+use Rattle.set_step.specs.Room.{IsReady, target_beside}
+use Rattle.set_step.proofs.Targets.{same_ups}
+
+-- THE INBOX
+pub inbox_for : (k : Kept) (s : State) (inbox : List (List ℕ)) → StandsFor k s → StandsFor (record k { inbox = inbox }) (record s { inbox = inbox })
+inbox_for k s inbox f = record {
+  settings = f.settings;
+  stands = f.stands;
+  bodies = f.bodies;
+  held_bodies = f.held_bodies;
+  links = f.links;
+  as_many = f.as_many;
+  fsns = f.fsns;
+  routing = f.routing;
+  inbox = refl;
+}
+
+pub delivered : (k : Kept) (s : State) (old new : List (ArrayVec ℕ 273 (Unit {0}))) (body copy : ArrayVec ℕ 273 (Unit {0})) → StandsFor k s → k.inbox ≡ bodies_in old → new ≡ old ++ copy ∷ [] → copy ≡ body → StandsFor (record k { inbox = bodies_in new }) (record s { inbox = s.inbox ++ body.items ∷ [] })
+delivered k s old new body copy f was is same =
+    let more : bodies_in new ≡ s.inbox ++ body.items ∷ [] =
+    ap bodies_in is ∙ map-append (λ (b : ArrayVec ℕ 273 (Unit {0})). b.items) old (copy ∷ [])
+    ∙ ap (λ (xs : List (List ℕ)). xs ++ copy.items ∷ []) (sym was ∙ f.inbox)
+    ∙ ap (λ (b : ArrayVec ℕ 273 (Unit {0})). s.inbox ++ b.items ∷ []) same in
+    subst (λ (i : List (List ℕ)). StandsFor (record k { inbox = i }) (record s { inbox = s.inbox ++ body.items ∷ [] })) (sym more) (inbox_for k s (s.inbox ++ body.items ∷ []) f)
+
+pub message_taken : (parts : Parts) (s : State) (accept : Bool) (unit : SignalUnit) (head : Header) (body : ArrayVec ℕ 273 (Unit {0})) → unit ≡ Msu head body → accept ≡ true → (service_indicator body.items == 0) ≡ false → StandsFor (kept_of parts) (record s { inbox = s.inbox ++ body.items ∷ [] }) → Obeys (takes (brought accept unit) s) Message parts
+message_taken parts s accept unit head body e g h stands = rw (e, g) (rw h (record { took_is = refl; stands = stands }))
+
+-- THE REPORT
+module _ (n : ℕ) (s : State) (link : LinkState) (unit : SignalUnit) where
+  pub heard_gives : (part : HeardPart) (took : Took) (report : Report) (parts : Parts) → part ≡ part_of link.control (window_of n link s.rows) (header_in unit) (is_msu unit) → report ≡ report_of part took → Obeys (takes (brought part.accept unit) (after_control part (header_in unit) unit n s link)) took parts
+      → Gives (controls unit n s link) (HeardBack report) parts
+  heard_gives part took report parts e is o = subst (λ (p : HeardPart). Gives (hears p (header_in unit) unit n s link) (HeardBack report) parts) e (record { answer_is = ap HeardBack (is ∙ ap (report_of part) o.took_is); stands = o.stands })
+
+  pub heard_controls : ((head : Header) (status : ℕ) → unit ≡ Lssu head status → ⊥) → heard_of unit n s link ≡ controls unit n s link
+  heard_controls other = go unit other
+    where
+      go : (u : SignalUnit) → ((head : Header) (status : ℕ) → u ≡ Lssu head status → ⊥) → heard_of u n s link ≡ controls u n s link
+      go (Fisu head) o = refl
+      go (Lssu head status) o = absurd (o head status refl)
+      go (Msu head body) o = refl
+
+  pub heard_sound : (part : HeardPart) → part ≡ part_of link.control (window_of n link s.rows) (header_in unit) (is_msu unit) → IsAt n link Up s → IsSound s → IsSound (after_control part (header_in unit) unit n s link)
+  heard_sound part e at t = subst (λ (p : HeardPart). IsSound (after_control p (header_in unit) unit n s link)) (sym e) (hears_sound n link s at t unit)
+
+-- ROOM
+same_beside : (n : ℕ) (old new : Parts) → KeepsSpace old new → target_beside n new.links.items ≡ target_beside n old.links.items
+same_beside n old new k = ap (λ ups. target_of (slice_set ups n false)) (same_ups old.links.items new.links.items k.phases)
+
+pub ready_still : (n orders : ℕ) (old new : Parts) → KeepsSpace old new → IsReady n orders old → IsReady n orders new
+ready_still n orders old new k r = record {
+  message = rw (k.message) r.message;
+  body = rw (k.bodies) r.body;
+  place = subst (λ (o : Option ℕ). length (on n new.queues.lists) + orders ≤ room_at (fate_on o) new.queues.rooms) (sym (same_beside n old new k))
+      (let fewer = k.fewer n in let room = k.rooms (fate_on (target_beside n old.links.items)) in let enough = r.place in omega (arith, fewer, room, enough));
+}
+
+pub spacious_still : (order : Option Order) (old new : Parts) → KeepsSpace old new → IsSpacious order old → IsSpacious order new
+spacious_still None old new k p = tt
+spacious_still (Some order) old new k p = λ low.
+    let many : length new.links.items ≡ length old.links.items = sym (length-map new.links.items (λ (l : Link). l.phase)) ∙ ap length k.phases ∙ length-map old.links.items (λ (l : Link). l.phase) in
+    ready_still (link_of order) 1 old new k (p (omega (arith, many, low)))

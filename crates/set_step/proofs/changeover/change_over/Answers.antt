@@ -1,0 +1,40 @@
+use Rattle.std.proofs.Common.{refl, ◌∙◌, ap, Some}
+use Rattle.set_model.specs.declared.phase.Phase.TheVariants.{Up, Down, Settled}
+use Rattle.set_step.proofs.Admitting.{phase_in, is_in, ordered_at}
+use Rattle.set_step.proofs.Rooms.{here_room}
+use Rattle.set_step.proofs.changeover.change_over.Goals as goal
+
+pub settle-requires-clause-room : goal.settle-requires-clause-room
+settle-requires-clause-room c =
+    let h = phase_in c.args.parts.now.links.items c.deref.result.now c.args.number Down c.phase_of.result c.deref.ensures.value c.phase_of.ensures (c.in-Some-Down.is ∙ ap Some c.in-Some-Down.field-0-is) in
+    here_room c.args.parts.now c.args.number 1 Down h refl (c.requires.room h.known)
+
+pub reply_again-requires-clause-known : goal.reply_again-requires-clause-known
+reply_again-requires-clause-known c = (phase_in c.args.parts.now.links.items c.deref.result.now c.args.number Settled c.phase_of.result c.deref.ensures.value c.phase_of.ensures (c.in-Some-Settled.is ∙ ap Some c.in-Some-Settled.field-0-is)).known
+
+pub reply_again-requires-clause-room : goal.reply_again-requires-clause-room
+reply_again-requires-clause-room c = c.requires.room (phase_in c.args.parts.now.links.items c.deref.result.now c.args.number Settled c.phase_of.result c.deref.ensures.value c.phase_of.ensures (c.in-Some-Settled.is ∙ ap Some c.in-Some-Settled.field-0-is)).known
+
+pub returns-in-Some-Up : goal.returns-in-Some-Up
+returns-in-Some-Up c = record {
+  stands = λ s a.
+      let h = phase_in c.args.parts.now.links.items c.deref.result.now c.args.number Up c.phase_of.result c.deref.ensures.value c.phase_of.ensures (c.in-Some-Up.is ∙ ap Some c.in-Some-Up.field-0-is) in
+      let i = is_in c.args.parts.now s c.args.number Up a h in
+      ordered_at s c.args.number c.args.reached Up c.answer_and_settle.new.parts i refl (c.answer_and_settle.ensures.stands s i.link i.there i.phase_is a);
+}
+
+pub returns-in-Some-Down : goal.returns-in-Some-Down
+returns-in-Some-Down c = record {
+  stands = λ s a.
+      let h = phase_in c.args.parts.now.links.items c.deref.result.now c.args.number Down c.phase_of.result c.deref.ensures.value c.phase_of.ensures (c.in-Some-Down.is ∙ ap Some c.in-Some-Down.field-0-is) in
+      let i = is_in c.args.parts.now s c.args.number Down a h in
+      ordered_at s c.args.number c.args.reached Down c.settle.new.parts i refl (c.settle.ensures.stands s i.link i.there i.phase_is a);
+}
+
+pub returns-in-Some-Settled : goal.returns-in-Some-Settled
+returns-in-Some-Settled c = record {
+  stands = λ s a.
+      let h = phase_in c.args.parts.now.links.items c.deref.result.now c.args.number Settled c.phase_of.result c.deref.ensures.value c.phase_of.ensures (c.in-Some-Settled.is ∙ ap Some c.in-Some-Settled.field-0-is) in
+      let i = is_in c.args.parts.now s c.args.number Settled a h in
+      ordered_at s c.args.number c.args.reached Settled c.reply_again.new.parts i refl (c.reply_again.ensures.stands s i.link i.there a.stands);
+}

@@ -1,0 +1,48 @@
+use Rattle.std.proofs.Common.{refl, ◌≡◌, ◌∙◌, ap, sym, subst, List, ℕ, length, Option, Some, None}
+use Rattle.set_events.specs.declared.answer.Answer.TheVariants.{Refused, Accepted}
+use Rattle.set_events.specs.declared.answer.Fate.{Fate}
+use Rattle.set_events.specs.declared.answer.Refusal.{Refusal as SetRefusal}
+use Rattle.set_queues.specs.Messages.{unsent_of}
+use Rattle.set_route.specs.Routing.{place_of, accepted}
+use Rattle.set_model.specs.Rows.{appended, stream_of}
+use Rattle.set_model.specs.State.{State}
+use Rattle.set_model.specs.Step.{offered, offer_refusal, fate_at}
+use Rattle.set_step.specs.declared.parts.Parts.{Parts}
+use Rattle.set_step.specs.Agreement.{Kept, StandsFor, Agrees}
+use Rattle.set_step.specs.Refusing.{refusal_by}
+use Rattle.set_step.specs.Parts.{Gives, kept_of}
+use Rattle.set_step.proofs.Admitting.{agrees_same}
+use Rattle.set_step.proofs.Counting.{unsent_is}
+use Rattle.set_step.proofs.step.offered.Goals as goal
+
+same_refusal : (k : Kept) (s : State) (body : List ℕ) → StandsFor k s → refusal_by (unsent_of (stream_of body) k.messages) body ≡ offer_refusal s.rows body
+same_refusal k s body f = ap (λ n. refusal_by n body) (unsent_is (stream_of body) k.lists k.messages s.rows f.stands)
+
+pub returns-in-Some-clause-ok : goal.returns-in-Some-clause-ok
+returns-in-Some-clause-ok c = λ s a.
+    let body = c.args.body.now in
+    refused_so c.args.parts.now s body c.in-Some.why a (sym (same_refusal (kept_of c.args.parts.now) s body a.stands) ∙ sym c.refusal_of.ensures ∙ c.in-Some.is)
+  where
+    refused_so : (parts : Parts) (s : State) (body : List ℕ) (why : SetRefusal) → Agrees (kept_of parts) s → offer_refusal s.rows body ≡ Some why → Gives (offered (offer_refusal s.rows body) s body) (Refused why) parts
+    refused_so parts s body why a e = subst (λ (o : Option SetRefusal). Gives (offered o s body) (Refused why) parts) (sym e) (record { answer_is = refl; stands = a.stands })
+
+accepted_so : (parts : Parts) (s : State) (body copy : List ℕ) (fate : Fate) (number : ℕ) → offer_refusal s.rows body ≡ None → copy ≡ body → fate ≡ fate_at (place_of (stream_of body) s.routing) s → number ≡ length s.rows
+    → StandsFor (kept_of parts) (record s { rows = appended s.rows copy fate; routing = accepted (stream_of copy) s.routing }) → Gives (offered (offer_refusal s.rows body) s body) (Accepted number) parts
+accepted_so parts s body copy fate number none same there is stands =
+    subst (λ (o : Option SetRefusal). Gives (offered o s body) (Accepted number) parts) (sym none) (record {
+      answer_is = ap Accepted is;
+      stands = subst (λ (f : Fate). StandsFor (kept_of parts) (record s { rows = appended s.rows body f; routing = accepted (stream_of body) s.routing })) there
+          (subst (λ (b : List ℕ). StandsFor (kept_of parts) (record s { rows = appended s.rows b fate; routing = accepted (stream_of b) s.routing })) same stands);
+    })
+
+pub returns-clause-ok : goal.returns-clause-ok
+returns-clause-ok c = λ s a.
+    let body = c.args.body.now in
+    let same = c.in_ok-make_room.ensures.same in
+    let now = agrees_same c.args.parts.now c.make_room.new.parts s same a in
+    accepted_so c.accept-number.new.parts s body c.in_ok-copy.copy c.fate_of_new-fate.result c.accept-number.result
+    (sym (same_refusal (kept_of c.args.parts.now) s body a.stands) ∙ sym c.refusal_of.ensures ∙ c.in_default.is)
+    c.in_ok-copy.ensures
+    (c.fate_of_new-fate.ensures.value s a.stands ∙ ap (λ stream. fate_at (place_of stream s.routing) s) c.stream_of.ensures.value)
+    (c.accept-number.ensures.number ∙ now.stands.stands.count)
+    (c.accept-number.ensures.stands s now.stands)

@@ -1,0 +1,33 @@
+-- What a heard unit brings, and the space that it may want.
+use Rattle.std.specs.Prelude.{◌≡◌, ℕ, ◌<◌, ◌≤◌, Bool, is_some, Option, Some, None, length, map}
+use Rattle.l2_units.specs.declared.unit.Unit.{Unit as SignalUnit}
+use Rattle.l2_units.specs.declared.unit.Unit.TheVariants.{Fisu, Lssu, Msu}
+use Rattle.l3_orders.specs.declared.order.Order.{Order}
+use Rattle.l3_orders.specs.Grammar.{order_of, link_of}
+use Rattle.set_queues.specs.Buffers.{KeepsRoom}
+use Rattle.set_queues.specs.Settling.{on}
+use Rattle.set_step.specs.declared.parts.Parts.{Parts}
+use Rattle.set_step.specs.Room.{IsReady}
+
+-- the order that a unit brings, if it brings one
+abbrev pub order_brought : SignalUnit → Option Order
+order_brought (Fisu head) = None
+order_brought (Lssu head status) = None
+order_brought (Msu head body) = order_of body.items
+
+abbrev pub has_order : SignalUnit → Bool
+has_order unit = is_some (order_brought unit)
+
+-- there is room for what an order about a link of the set moves, and for the one that answers it
+abbrev pub IsSpacious : Option Order → Parts → Type 0
+IsSpacious None parts = Unit {0}
+IsSpacious (Some order) parts = link_of order < length parts.links.items → IsReady (link_of order) 1 parts
+
+-- no room is taken, no more stands on a link than before, and no link changes its phase
+pub record KeepsSpace (old new : Parts) : Type 0 where
+  pub message : new.queues.room ≡ old.queues.room
+  pub bodies : new.bodies ≡ old.bodies
+  pub rooms : KeepsRoom old.queues.rooms new.queues.rooms
+  pub fewer : (number : ℕ) → length (on number new.queues.lists) ≤ length (on number old.queues.lists)
+  pub phases : map (λ link. link.phase) new.links.items ≡ map (λ link. link.phase) old.links.items
+  pub inbox : new.inbox ≡ old.inbox

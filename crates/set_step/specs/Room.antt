@@ -1,0 +1,34 @@
+-- ROOM that an event takes before it changes anything.
+use Rattle.std.specs.Prelude.{◌≡◌, ℕ, ◌+◌, ◌<◌, ◌≤◌, false, List, length, map, Option, slice_set}
+use Rattle.std.specs.Vec.{vec_len, vec_capacity}
+use Rattle.set_events.specs.declared.answer.Fate.{Fate}
+use Rattle.set_queues.specs.Buffers.{room_at}
+use Rattle.set_queues.specs.Settling.{on}
+use Rattle.set_route.specs.Target.{target_of}
+use Rattle.set_model.specs.Changeover.{fate_on}
+use Rattle.set_model.specs.State.{has_phase_up}
+use Rattle.set_step.specs.declared.link.Link.{Link}
+use Rattle.set_step.specs.declared.parts.Parts.{Parts}
+use Rattle.set_step.specs.Parts.{kept_of}
+
+-- the link that messages go to once this one is out of service
+abbrev pub target_beside : ℕ → List Link → Option ℕ
+target_beside number links = target_of (slice_set (map (λ link. has_phase_up link.phase) links) number false)
+
+-- for one new message there
+pub record HasRoom (fate : Fate) (parts : Parts) : Type 0 where
+  pub message : 0 < parts.queues.room
+  pub body : vec_len parts.bodies < vec_capacity parts.bodies
+  pub place : 0 < room_at fate parts.queues.rooms
+
+-- for all that stand on the link where they go once it's out of service, and for so many orders
+pub record IsReady (number orders : ℕ) (parts : Parts) : Type 0 where
+  pub message : orders ≤ parts.queues.room
+  pub body : vec_len parts.bodies + orders ≤ vec_capacity parts.bodies
+  pub place : length (on number parts.queues.lists) + orders ≤ room_at (fate_on (target_beside number parts.links.items)) parts.queues.rooms
+
+-- nothing changed but the room
+pub record SameButRoom (old new : Parts) : Type 0 where
+  pub kept : kept_of new ≡ kept_of old
+  pub links : new.links ≡ old.links
+  pub inbox : new.inbox ≡ old.inbox
