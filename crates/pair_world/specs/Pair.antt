@@ -28,10 +28,10 @@ pub record Pair : Type 0 where
   pub to_a : List (List SignalUnit)
   pub to_b : List (List SignalUnit)
 
--- what each end is opened with: its own point code is the far end's for the other
+-- what each end is opened with, set 0: its own point code is the far end's for the other
 abbrev pub settings_at : Values → End → Settings
-settings_at v A = record { links = v.links; method = v.method; sio = v.sio; dpc = v.code_b; opc = v.code_a }
-settings_at v B = record { links = v.links; method = v.method; sio = v.sio; dpc = v.code_a; opc = v.code_b }
+settings_at v A = record { set = 0; links = v.links; method = v.method; sio = v.sio; dpc = v.code_b; opc = v.code_a }
+settings_at v B = record { set = 0; links = v.links; method = v.method; sio = v.sio; dpc = v.code_a; opc = v.code_b }
 
 -- a set that nothing was asked of
 abbrev pub opened_set : Settings → LinkSet

@@ -1,6 +1,6 @@
 -- What a set keeps, entry by entry.
-use Rattle.std.proofs.Common.{refl, arith, ◌≡◌, ◌∙◌, ap, sym, subst, ◌<◌, ◌≤◌, ◌^◌, [], ◌∷◌, length, ℕ, ◌+◌, sum, List, ◌++◌, ◌↔◌}
-use Rattle.std.proofs.lemmas.List.{length-append}
+use Rattle.std.proofs.Common.{refl, arith, ◌≡◌, ◌∙◌, ap, sym, subst, take, drop, get_or, ◌<◌, ◌≤◌, ◌^◌, [], ◌∷◌, length, ℕ, ◌+◌, sum, List, ◌++◌, ◌↔◌}
+use Rattle.std.proofs.lemmas.List.{length-append, drop_more, take_more}
 use Rattle.set_events.specs.declared.answer.Answer.{Answer}
 use Rattle.set_events.specs.declared.answer.Answer.TheVariants.{Accepted}
 use Rattle.set_events.specs.declared.answer.Counts.{Counts}
@@ -8,13 +8,19 @@ use Rattle.set_events.specs.declared.event.Actor.{Actor}
 use Rattle.set_events.specs.declared.event.Actor.TheVariants.{User, Terminal}
 use Rattle.set_events.specs.declared.history.Entry.{Entry}
 use Rattle.set_core.specs.declared.tally.Tally.{Tally}
-use Rattle.set_model.specs.State.{State}
+use Rattle.set_events.specs.declared.config.SetConfig.{SetConfig}
+use Rattle.set_model.specs.State.{State, new_state, settings_of}
 use Rattle.set_model.specs.Sound.{AreFew}
 use Rattle.set_model.specs.Rows.{counts_of, total_of}
-use Rattle.set_model.specs.Step.{Outcome, Gains, step, messages_in, octets_of}
+use Rattle.set_model.specs.Step.{Gains, step, messages_in, octets_of}
+use Rattle.set_model.proofs.Gaining.{step_gains}
+use Rattle.set_model.proofs.Ranging.{step_few}
+use Rattle.set_model.proofs.Soundness.{opened_few}
+use Rattle.set_step.specs.Agreement.{Kept, Agrees}
+use Rattle.set_step.specs.Answering.{AnswersFor}
 use Rattle.set_core.specs.Gaining.{BooksGain, AreBounded, users_after, terminals_after}
-use Rattle.set_model.specs.History.{IsActor, IsLegal, after, books_of, is_user, is_terminal, calls_from, messages_of, octets_in_all}
-use Rattle.set_core.specs.Keeping.{IsTally, IsKept}
+use Rattle.set_model.specs.History.{IsActor, IsStep, IsLegal, after, books_of, is_user, is_terminal, calls_from, messages_of, octets_in_all}
+use Rattle.set_core.specs.Keeping.{with_history, IsTally, IsKept}
 use Rattle.set_core.proofs.Calls.{all_few, others, its_own, length-calls, sums_more}
 
 pub legal_more : (s : State) (history : List Entry) (entry : Entry) → IsLegal s history → IsActor entry.who → entry.answer ≡ (step (after s history) entry.event).answer → IsLegal s (history ++ entry ∷ [])
@@ -83,12 +89,15 @@ tally_more old new history entry t a c = record {
 }
 
 -- The step was made, and its entry stands last.
-module _ (opening old new : State) (history : List Entry) (entry : Entry) (agrees : old ≡ after opening history) (actor : IsActor entry.who) (stepped : step old entry.event ≡ record { answer = entry.answer; state = new }) (gains : Gains old entry.event entry.answer new) where
-  pub agrees_more : new ≡ after opening (history ++ entry ∷ [])
-  agrees_more = sym (ap (λ (o : Outcome). o.state) stepped) ∙ ap (λ (s : State). (step s entry.event).state) agrees ∙ sym (after_more opening history entry)
+module _ (opening : State) (old new : Kept) (history : List Entry) (entry : Entry) (actor : IsActor entry.who) (agrees : Agrees old (after opening history)) (answers : AnswersFor (step (after opening history) entry.event) entry.answer new) where
+  pub agrees_more : Agrees new (after opening (history ++ entry ∷ []))
+  agrees_more = rw (after_more opening history entry) answers.agrees
 
-  answered : entry.answer ≡ (step (after opening history) entry.event).answer
-  answered = sym (ap (λ (o : Outcome). o.answer) stepped) ∙ ap (λ (s : State). (step s entry.event).answer) agrees
+  pub gains_more : Gains (after opening history) entry.event entry.answer (after opening (history ++ entry ∷ []))
+  gains_more = rw (after_more opening history entry, answers.answer_is) (step_gains (after opening history) entry.event agrees.sound.managed)
+
+  pub is_step : IsStep (with_history opening history) entry.who entry.event entry.answer (with_history opening (history ++ entry ∷ []))
+  is_step = record { opening_is = refl; answer_is = answers.answer_is; state_is = after_more opening history entry; history_is = refl }
 
   pub gained : BooksGain (books_of opening history) entry.who entry.event entry.answer (books_of opening (history ++ entry ∷ []))
   gained = record {
@@ -96,39 +105,79 @@ module _ (opening old new : State) (history : List Entry) (entry : Entry) (agree
     term_calls = terminals_more history entry actor;
     messages = messages_more history entry;
     octets = octets_more history entry;
-    acknowledged = rw (← agrees_more, ← agrees) gains.acknowledged;
+    acknowledged = gains_more.acknowledged;
   }
 
-  pub kept_more : (tally tally' : Tally) → IsKept opening old tally history → length history < 2 ^ 48 → AreFew (length history + 1) new → Counted tally entry tally' → IsKept opening new tally' (history ++ entry ∷ [])
-  kept_more tally tally' k room few counted =
+  pub kept_more : (tally tally' : Tally) → IsKept opening old tally history → length history < 2 ^ 48 → Counted tally entry tally' → IsKept opening new tally' (history ++ entry ∷ [])
+  kept_more tally tally' k room counted =
       let long : length (history ++ entry ∷ []) ≡ length history + 1 = length-append history (entry ∷ []) in
+      let gains = gains_more in
       record {
-        legal = legal_more opening history entry k.legal actor answered;
+        legal = legal_more opening history entry k.legal actor answers.answer_is;
         agrees = agrees_more;
         counted = tally_more tally tally' history entry k.counted actor counted;
         calls = calls_more history entry k.calls actor;
         placed = gains.messages ∙ ap (λ (n : ℕ). n + messages_in entry.answer) k.placed ∙ sym (messages_more history entry);
         short = omega (arith, long, room);
         octets = omega (arith, long, octets_more history entry, k.octets, gains.octets);
-        few = rw long few;
+        few = rw (long, after_more opening history entry) (step_few (after opening history) entry.event (length history) k.few);
       }
 
 -- The bounds.
+pub few_more : (events more : ℕ) (s : State) → events ≤ more → AreFew events s → AreFew more s
+few_more events more s h a = λ number link there.
+    let f = a number link there in
+    record { sent = let low = f.sent in omega (arith, h, low); accepted = let low = f.accepted in omega (arith, h, low) }
+
 pub within : (c : Counts) → c.acked ≤ total_of c
 within c = omega arith
 
-pub bounded : (opening state : State) (tally : Tally) (history : List Entry) → IsKept opening state tally history → AreBounded (books_of opening history)
-bounded opening state tally history k = record {
+pub bounded : (opening : State) (kept : Kept) (tally : Tally) (history : List Entry) → IsKept opening kept tally history → AreBounded (books_of opening history)
+bounded opening kept tally history k = record {
   user_calls = all_few is_user 0 64 history (2 ^ 48) k.short;
   term_calls = all_few is_terminal 0 16 history (2 ^ 48) k.short;
   messages = omega (arith, messages_few history, k.short);
   octets = omega (arith, k.octets, k.short);
-  acknowledged = let all : total_of (counts_of (after opening history).rows) ≡ messages_of history = rw (← k.agrees) k.placed in omega (arith, all, within (counts_of (after opening history).rows));
+  acknowledged = omega (arith, k.placed, within (counts_of (after opening history).rows), messages_few history, k.short);
 }
 
--- An entry of a replayed history that is as the step has it.
-pub goes_on : (s new : State) (entry : Entry) (answer : Answer) (rest : List Entry) → step s entry.event ≡ record { answer = answer; state = new } → IsActor entry.who → answer ≡ entry.answer → IsLegal s (entry ∷ rest) ↔ IsLegal new rest
-goes_on s new entry answer rest stepped actor same =
-    let state : (step s entry.event).state ≡ new = ap (λ (o : Outcome). o.state) stepped in
-    let told : (step s entry.event).answer ≡ answer = ap (λ (o : Outcome). o.answer) stepped in
-    (λ l. subst (λ (t : State). IsLegal t rest) state l.2, λ l. (actor, sym same ∙ sym told, subst (λ (t : State). IsLegal t rest) (sym state) l))
+pub new_few : (config : SetConfig) → AreFew 0 (new_state config)
+new_few config = opened_few (settings_of config) (record { some_link = config.has_links; at_most_16 = config.links_in_range; managed = config.management })
+
+-- A REPLAY. So many entries were replayed, and the rest is left: what is kept agrees with the state after them, and the
+-- rest decides from there.
+pub record Replayed (opening : State) (entries : List Entry) (kept : Kept) (count : ℕ) (before rest : List Entry) : Type 0 where
+  pub agrees : Agrees kept (after opening before)
+  pub few : AreFew count (after opening before)
+  pub left : IsLegal (after opening before) rest ↔ IsLegal opening entries
+
+pub replay_none : (config : SetConfig) (entries : List Entry) (kept : Kept) → Agrees kept (new_state config) → Replayed (new_state config) entries kept 0 [] entries
+replay_none config entries kept agrees = record { agrees = agrees; few = new_few config; left = (λ l. l, λ l. l) }
+
+module _ (opening : State) (entries : List Entry) (kept : Kept) (count : ℕ) (before rest : List Entry) (entry : Entry) (replayed : Replayed opening entries kept count before (entry ∷ rest)) where
+  -- an entry that is as the step has it
+  pub replay_more : (new : Kept) (answer : Answer) → AnswersFor (step (after opening before) entry.event) answer new → IsActor entry.who → answer ≡ entry.answer → Replayed opening entries new (count + 1) (before ++ entry ∷ []) rest
+  replay_more new answer answers actor same =
+      let state : after opening (before ++ entry ∷ []) ≡ (step (after opening before) entry.event).state = after_more opening before entry in
+      record {
+        agrees = rw state answers.agrees;
+        few = rw state (step_few (after opening before) entry.event count replayed.few);
+        left = (λ l. replayed.left.0 (actor, sym same ∙ answers.answer_is, rw (← state) l), λ l. rw state (replayed.left.1 l).2);
+      }
+
+  pub replay_actor : IsLegal opening entries → IsActor entry.who
+  replay_actor legal = (replayed.left.1 legal).0
+
+  pub replay_answer : (new : Kept) (answer : Answer) → AnswersFor (step (after opening before) entry.event) answer new → IsLegal opening entries → answer ≡ entry.answer
+  replay_answer new answer answers legal = answers.answer_is ∙ sym (replayed.left.1 legal).1
+
+-- the next entry is the first that is left
+pub replay_next : (opening : State) (entries : List Entry) (kept : Kept) (i : ℕ) (entry : Entry) → Replayed opening entries kept i (take i entries) (drop i entries) → i < length entries → entry ≡ get_or entries i entry → Replayed opening entries kept i (take i entries) (entry ∷ drop (i + 1) entries)
+replay_next opening entries kept i entry replayed low is =
+    let split : drop i entries ≡ entry ∷ drop (i + 1) entries = drop_more entries i entry low ∙ ap (λ (e : Entry). e ∷ drop (i + 1) entries) (sym is) in
+    subst (λ rest. Replayed opening entries kept i (take i entries) rest) split replayed
+
+pub replay_taken : (opening : State) (entries : List Entry) (kept : Kept) (i : ℕ) (entry : Entry) → i < length entries → entry ≡ get_or entries i entry → Replayed opening entries kept (i + 1) (take i entries ++ entry ∷ []) (drop (i + 1) entries) → Replayed opening entries kept (i + 1) (take (i + 1) entries) (drop (i + 1) entries)
+replay_taken opening entries kept i entry low is replayed =
+    let grown : take i entries ++ entry ∷ [] ≡ take (i + 1) entries = ap (λ (e : Entry). take i entries ++ e ∷ []) is ∙ sym (take_more entries i entry low) in
+    subst (λ before. Replayed opening entries kept (i + 1) before (drop (i + 1) entries)) grown replayed

@@ -1,6 +1,6 @@
 //! One set of links with its history: all that was asked of it and answered.
 //!
-//! A [`SetCore`] is what a set holds (`set_step`) and a history. [`SetCore::apply`] is the one call
+//! A [`SetCore`] is what a set keeps (`set_step`) and a history. [`SetCore::apply`] is the one call
 //! that changes it: an event of an actor in, an answer back, and one entry at the end of the history.
 //!
 //! ```text
@@ -20,4 +20,4 @@ mod tally;
 
 pub use auditing::audit;
 pub use set::SetCore;
-pub use set_step::{Numbered, SetFault};
+pub use set_step::{Core, Numbered, SetFault};

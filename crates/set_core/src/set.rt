@@ -17,8 +17,9 @@ const LONGEST_HISTORY: usize = 0x1_0000_0000_0000;
 /// [`SetCore::unacked_at`].
 /// The one input: [`SetCore::apply`].
 ///
-/// Of every value it holds that the history is legal, that it leads from the opening to what the set
-/// holds, and that the tally is the history's; [`SetCore::replays`] and the readers say so.
+/// What it holds is what the history leads to from the opening. Of every value it holds that the history
+/// is legal, that what is kept ([`SetCore::kept`]) agrees with what it leads to, and that the tally is the
+/// history's; [`SetCore::replays`] and the readers say so.
 #[derive(Drop)]
 pub struct SetCore {
     config: SetConfig,
@@ -33,9 +34,9 @@ impl Model for SetCore {
     ghost Value = { LinkSet };
 
     ghost use Rattle.set_model.specs.State.{new_state};
-    ghost use Rattle.set_core.specs.Keeping.{IsKept};
+    ghost use Rattle.set_core.specs.Keeping.{with_history, IsKept};
 
-    ghost view = { λ s. record { opening = new_state s.config; state = s.core; history = s.history.items } };
+    ghost view = { λ s. with_history (new_state s.config) s.history.items };
 
     ghost invariant = { λ s. IsKept (new_state s.config) s.core s.tally s.history.items };
 }
@@ -46,6 +47,7 @@ impl SetCore {
     ghost use Rattle.set_model.specs.Sound.{IsSound};
     ghost use Rattle.set_model.specs.Rows.{place, counts_of, total_of};
     ghost use Rattle.set_core.specs.Gaining.{BooksGain, AreBounded};
+    ghost use Rattle.set_step.specs.Agreement.{Agrees};
     ghost use Rattle.set_model.specs.History.{new_set, IsStep, IsActor, IsLegal, after, books_of, messages_of};
 
     /// A set as this configuration has it: no messages, no link up, no history.
@@ -184,12 +186,20 @@ impl SetCore {
         let _ = &self.core;
     }
 
+    /// What the set keeps: queues of numbers and a fate for each, the bodies, the links, and where its
+    /// streams run. It agrees with what the set holds.
+    pub fn kept(&self) -> &Core
+        ensures { Agrees result.now self.now.state }
+    {
+        &self.core
+    }
+
     /// A law: the numbers 0, 1, .. stand in one row each, no link has more than 127 unacknowledged
     /// messages, and the BSN that a link sends is the number of the body it last accepted.
     pub fn is_sound(&self)
         ensures { IsSound self.now.state }
     {
-        self.core.is_sound();
+        let _ = &self.core;
     }
 }
 

@@ -25,8 +25,9 @@ pub record LinkState : Type 0 where
   -- the error control: indicator bits, cursor or place in the cycle, and the memory of faults
   pub control : Control
 
--- what a set is opened with: how many links; how their messages are kept safe; the SIO and the point codes of its orders
+-- what a set is opened with: its own number; how many links; how their messages are kept safe; the SIO and the point codes of its orders
 pub record Settings : Type 0 where
+  pub set : ℕ
   pub links : ℕ
   pub method : Method
   pub sio : ℕ
@@ -34,7 +35,7 @@ pub record Settings : Type 0 where
   pub opc : ℕ
 
 abbrev pub settings_of : SetConfig → Settings
-settings_of config = record { links = config.links; method = config.method; sio = config.sio; dpc = config.dpc; opc = config.opc }
+settings_of config = record { set = config.set; links = config.links; method = config.method; sio = config.sio; dpc = config.dpc; opc = config.opc }
 
 -- what the set was opened with; the rows in the order of queueing; the links, by their numbers; where the streams
 -- run; the messages heard for users, oldest first

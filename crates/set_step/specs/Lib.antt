@@ -1,6 +1,7 @@
 pub mod Agreement
 pub mod Answering
 pub mod Controls
+pub mod Faults
 pub mod Hearing
 pub mod Parts
 pub mod Refusing

@@ -16,6 +16,20 @@ pub enum SetFault {
     Exhausted = 2,
 }
 
+impl SetFault {
+    ghost use Rattle.set_step.specs.Faults.{fault_number};
+
+    /// The fault's number: 1 memory is wanted, 2 the history is full.
+    pub fn number(self) -> u8
+        ensures { result ≡ fault_number self }
+    {
+        match self {
+            SetFault::NoMemory => 1,
+            SetFault::Exhausted => 2,
+        }
+    }
+}
+
 impl From<AllocError> for SetFault {
     ghost from_gives = { λ _ fault. fault ≡ NoMemory };
 

@@ -1,5 +1,5 @@
 //! What a heard unit does to a set.
-ghost use Rattle.std.specs.Prelude.{◌≡◌, ◌<◌, ◌≤◌, ◌^◌, true, length, slice_get, Some, IfOk, IfErr, OnErr, OnOk};
+ghost use Rattle.std.specs.Prelude.{◌≡◌, ◌<◌, ◌≤◌, ◌^◌, true, false, length, slice_get, Some, IsOk, IfOk, IfErr, OnErr, OnOk};
 ghost use Rattle.std.specs.VecDeque.{deque_len, deque_capacity};
 ghost use Rattle.std.specs.Vec.{vec_len, vec_capacity};
 ghost use Rattle.l2_units.specs.Grammar.{head_of as header_of};
@@ -33,6 +33,7 @@ pub(crate) fn heard(parts: &mut Parts, number: u8, unit: &Unit) -> Result<Answer
         (heard_of unit.now number s))) }
     ensures err { OnErr result (kept_of parts.new ≡ kept_of parts.old) }
     ensures fault { IfErr result (λ fault. fault ≡ SetFault.NoMemory) }
+    ensures none { is_message unit.now ≡ false → IsOk result }
 {
     if let Some(why) = out_of_service(&parts.links, number) {
         return Ok(Answer::Refused { why });
@@ -60,6 +61,7 @@ fn make_space(parts: &mut Parts, unit: &Unit) -> Result<Vec<u8>, SetFault>
     ensures same { kept_of parts.new ≡ kept_of parts.old }
     ensures links { parts.new.links ≡ parts.old.links }
     ensures fault { IfErr result (λ fault. fault ≡ SetFault.NoMemory) }
+    ensures none { is_message unit.now ≡ false → IsOk result }
 {
     if !is_msu(unit) {
         return Ok(Vec::new(*parts.links.allocator()));

@@ -1,5 +1,5 @@
 //! What an event does to a set. Each function is a case of the set's step.
-ghost use Rattle.std.specs.Prelude.{◌≡◌, ◌≢◌, ◌<◌, ◌≤◌, ◌^◌, length, slice_get, Some, IfOk, IfErr, OnErr};
+ghost use Rattle.std.specs.Prelude.{◌≡◌, ◌≢◌, ◌<◌, ◌≤◌, ◌^◌, length, slice_get, Some, true, IsOk, IfOk, IfErr, OnErr};
 ghost use Rattle.std.specs.Vec.{vec_len, vec_capacity};
 ghost use Rattle.l3_orders.specs.Grammar.{IsOrder};
 ghost use Rattle.set_queues.specs.Buffers.{IsKnown, IsQueued, room_at};
@@ -12,6 +12,7 @@ ghost use Rattle.set_model.specs.Step.{offer_refusal, offered as offered_with, f
 ghost use Rattle.set_model.specs.Rows.{appended, place, stream_of as stream_in};
 ghost use Rattle.set_model.specs.declared.phase.Phase.TheVariants.{Up, Settled};
 ghost use Rattle.set_step.specs.Agreement.{Agrees, Holds, StandsFor};
+ghost use Rattle.set_step.specs.Faults.{wants_none};
 ghost use Rattle.set_step.specs.Parts.{Answers, AreCounted, Becomes, IsWhole, AtLink, IsOut, link_of, kept_of};
 ghost use Rattle.set_step.specs.Refusing.{refusal_by, rising_refusal, waiting_refusal};
 ghost use Rattle.set_step.specs.Room.{HasRoom, IsReady, SameButRoom};
@@ -39,6 +40,7 @@ pub(crate) fn answered(parts: &mut Parts, event: &Event) -> Result<Answer, SetFa
     ensures ok { IfOk result (λ answer. Answers parts.old parts.new answer (λ s. stepped s event.now)) }
     ensures err { OnErr result (kept_of parts.new ≡ kept_of parts.old) }
     ensures fault { IfErr result (λ fault. fault ≡ SetFault.NoMemory) }
+    ensures none { wants_none event.now ≡ true → IsOk result }
 {
     match event {
         Event::Offer { body } => offered(parts, body),

@@ -10,6 +10,8 @@ mod events;
 #[cfg(test)]
 mod lines;
 #[cfg(test)]
+mod many;
+#[cfg(test)]
 mod orders;
 #[cfg(test)]
 mod queues;

@@ -1,12 +1,7 @@
-use Rattle.std.proofs.Common.{◌↔◌, drop}
+use Rattle.std.proofs.Common.{drop, take}
 use Rattle.set_model.specs.State.{new_state}
-use Rattle.set_model.specs.Sound.{AreFew}
-use Rattle.set_model.specs.History.{IsLegal}
+use Rattle.set_core.proofs.Keeping.{Replayed}
 use Rattle.set_core.proofs.auditing.audit.Given as goal
 
--- the entries that are left decide, from what the replayed set holds
 abbrev pub invariant-loop-entry : goal.invariant-loop-entry
-invariant-loop-entry l = record {
-  few : AreFew l.entry-index l.core;
-  left : IsLegal l.core (drop l.entry-index l.entries) ↔ IsLegal (new_state l.config) l.entries;
-}
+invariant-loop-entry l = Replayed (new_state l.config) l.entries l.core l.entry-index (take l.entry-index l.entries) (drop l.entry-index l.entries)

@@ -1,4 +1,4 @@
-use Rattle.std.proofs.Common.{◌≡◌, ◌∙◌, ap, sym, subst, ℕ, slice_get}
+use Rattle.std.proofs.Common.{refl, ◌≡◌, ◌∙◌, ap, sym, subst, ℕ, slice_get}
 use Rattle.l2_units.specs.declared.unit.Unit.{Unit as SignalUnit}
 use Rattle.l2_units.specs.Grammar.{head_of as header_in}
 use Rattle.l2_window.specs.declared.control.HeardPart.{HeardPart}
@@ -56,4 +56,5 @@ returns c = record {
       (subst (λ (o : Outcome). Gives o (HeardBack c.report_of.result) c.take_in-took.new.parts) (sym (heard_controls n s i.link unit (λ head status e. c.in_default-unit.not-Lssu head status e))) gives);
   err = tt;
   fault = tt;
+  none = λ e. refl;
 }

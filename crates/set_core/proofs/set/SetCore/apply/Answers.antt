@@ -2,17 +2,22 @@ use Rattle.std.proofs.Common.{arith, ◌≡◌, ◌∙◌, ap, ◌<◌, ◌^◌,
 use Rattle.set_events.specs.declared.answer.Answer.{Answer}
 use Rattle.set_events.specs.declared.event.Event.{Event}
 use Rattle.set_events.specs.declared.history.Entry.{Entry}
-use Rattle.set_model.specs.State.{new_state}
-use Rattle.set_step.proofs.Bounds.{few_more}
-use Rattle.set_model.specs.History.{is_user, is_terminal}
+use Rattle.set_model.specs.History.{is_user, is_terminal, after}
+use Rattle.set_model.specs.State.{State, new_state}
+use Rattle.set_model.specs.Step.{step}
+use Rattle.set_model.proofs.Gaining.{step_gains}
+use Rattle.set_step.specs.Answering.{AnswersFor}
 use Rattle.set_core.specs.Keeping.{IsKept}
 use Rattle.set_core.proofs.Calls.{any_few}
-use Rattle.set_core.proofs.Keeping.{messages_few, kept_more, gained, bounded}
+use Rattle.set_core.proofs.Keeping.{messages_few, few_more, kept_more, gained, is_step, bounded}
 use Rattle.set_core.proofs.set.SetCore.apply.Goals as goal
 use Rattle.set_core.proofs.set.SetCore.apply.Goals.{In-Ok}
 
 abbrev entry : In-Ok → Entry
 entry c = record { who = c.args.who; event = c.args.event.now; answer = c.in_ok-answer.answer }
+
+abbrev opening : In-Ok → State
+opening c = new_state c.self.inside.config
 
 -- the entry stands last
 grown : (c : In-Ok) → c.push.new.self.items ≡ c.self.inside.history.items ++ entry c ∷ []
@@ -22,17 +27,22 @@ grown c =
     ∙ ap (λ (event : Event). c.self.inside.history.items ++ record { who = c.args.who; event = event; answer = c.copy_of.result } ∷ []) c.in_ok-kept.ensures
     ∙ ap (λ (answer : Answer). c.self.inside.history.items ++ record { who = c.args.who; event = c.args.event.now; answer = answer } ∷ []) c.copy_of.ensures
 
-kept : (c : In-Ok) → IsKept (new_state c.self.inside.config) c.apply.new.self c.count.new.self c.push.new.self.items
+-- what is kept agreed with the state after the history, and is answered for
+told : (c : In-Ok) → AnswersFor (step (after (opening c) c.self.inside.history.items) (entry c).event) (entry c).answer c.apply.new.self
+told c = c.in_ok-answer.ensures.ok (after (opening c) c.self.inside.history.items) c.self.invariant.agrees
+
+kept : (c : In-Ok) → IsKept (opening c) c.apply.new.self c.count.new.self c.push.new.self.items
 kept c =
     let k = c.self.invariant in
-    let e = c.in_ok-answer.ensures in
     let room : length c.self.inside.history.items < 2 ^ 48 = omega (arith, c.if-len-ge-LONGEST_HISTORY.false, c.len.ensures) in
-    rw (grown c) (kept_more (new_state c.self.inside.config) c.self.inside.core c.apply.new.self c.self.inside.history.items (entry c) k.agrees c.requires e.ok e.gains
-    c.self.inside.tally c.count.new.self k room (c.apply.ensures.few (length c.self.inside.history.items) k.few)
+    rw (grown c) (kept_more (opening c) c.self.inside.core c.apply.new.self c.self.inside.history.items (entry c) c.requires k.agrees (told c) c.self.inside.tally c.count.new.self k room
     (record { user_calls = c.count.ensures.user_calls; term_calls = c.count.ensures.term_calls; messages = c.count.ensures.messages; octets = c.count.ensures.octets }))
 
 pub apply-requires : goal.apply-requires
-apply-requires c = few_more (length c.self.inside.history.items) (2 ^ 48) c.self.inside.core c.self.invariant.short c.self.invariant.few
+apply-requires c =
+    let k = c.self.invariant in
+    let s = after (new_state c.self.inside.config) c.self.inside.history.items in
+    (s, k.agrees, few_more (length c.self.inside.history.items) (2 ^ 48) s k.short k.few)
 
 pub count-requires-clause-user_calls : goal.count-requires-clause-user_calls
 count-requires-clause-user_calls c n =
@@ -49,17 +59,26 @@ count-requires-clause-messages c =
     let k = c.self.invariant in
     omega (arith, k.counted.messages, messages_few c.self.inside.history.items, k.short)
 
+pub count-requires-clause-body : goal.count-requires-clause-body
+count-requires-clause-body c =
+    let k = c.self.invariant in
+    let s = after (new_state c.self.inside.config) c.self.inside.history.items in
+    let told = c.in_ok-answer.ensures.ok s k.agrees in
+    rw told.answer_is (step_gains s c.args.event.now k.agrees.sound.managed).octets
+
 pub invariant_of-self-2 : goal.invariant_of-self-2
 invariant_of-self-2 c = kept c
 
+pub returns-clause-ok : goal.returns-clause-ok
+returns-clause-ok c =
+    rw (← c.self.view_is, grown c) (is_step (opening c) c.self.inside.core c.apply.new.self c.self.inside.history.items (entry c) c.requires c.self.invariant.agrees (told c))
+
 pub returns-clause-gains : goal.returns-clause-gains
 returns-clause-gains c =
-    let k = c.self.invariant in
-    let e = c.in_ok-answer.ensures in
-    rw (← c.self.view_is, grown c) (gained (new_state c.self.inside.config) c.self.inside.core c.apply.new.self c.self.inside.history.items (entry c) k.agrees c.requires e.ok e.gains)
+    rw (← c.self.view_is, grown c) (gained (opening c) c.self.inside.core c.apply.new.self c.self.inside.history.items (entry c) c.requires c.self.invariant.agrees (told c))
 
 pub returns-clause-bounded : goal.returns-clause-bounded
-returns-clause-bounded c = bounded (new_state c.self.inside.config) c.apply.new.self c.count.new.self c.push.new.self.items (kept c)
+returns-clause-bounded c = bounded (opening c) c.apply.new.self c.count.new.self c.push.new.self.items (kept c)
 
 pub invariant_of-self : goal.invariant_of-self
 invariant_of-self c = rw (c.reserve.ensures.items) c.self.invariant

@@ -1,19 +1,18 @@
-use Rattle.std.proofs.Common.{arith, ap}
-use Rattle.set_events.specs.declared.answer.Counts.{Counts}
-use Rattle.set_model.specs.Rows.{total_of}
+use Rattle.std.proofs.Common.{arith, refl}
 use Rattle.set_core.proofs.Calls.{no_calls}
+use Rattle.set_core.proofs.Keeping.{new_few}
 use Rattle.set_core.proofs.set.SetCore.new.Goals as goal
 
 pub invariant_of-result : goal.invariant_of-result
 invariant_of-result c =
-    let e = c.in_ok-new.ensures in
+    let agrees = c.in_ok-new.ensures.ok in
     rw c.new-3.ensures.items (record {
       legal = tt;
-      agrees = e.ok;
+      agrees = agrees;
       counted = c.new-2.ensures;
       calls = no_calls;
-      placed = ap (λ (n : Counts). total_of n) e.empty;
+      placed = refl;
       short = omega arith;
       octets = omega arith;
-      few = e.few;
+      few = new_few c.args.config.now;
     })
