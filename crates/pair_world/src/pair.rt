@@ -54,10 +54,10 @@ impl Pair {
         ensures ok { IfOk result (λ pair. (values : Values) → IsMadeOf values opening.now → pair ≡ new_pair values) }
         ensures err { IfErr result (λ fault. fault ≡ StepFault.Memory) }
     {
+        let to_a = Lines::new(alloc, opening.a.links)?;
+        let to_b = Lines::new(alloc, opening.a.links)?;
         let a = set_of(alloc, &opening.a)?;
         let b = set_of(alloc, &opening.b)?;
-        let to_a = Lines::new(alloc, a.links())?;
-        let to_b = Lines::new(alloc, a.links())?;
         Ok(Pair { a, b, to_a, to_b })
     }
 
