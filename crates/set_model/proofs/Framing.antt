@@ -18,7 +18,7 @@ use Rattle.set_model.specs.declared.phase.Phase.TheVariants.{Up, Down}
 use Rattle.set_model.specs.Rows.{Row, is_on, is_waiting, is_unacked, is_held, unack, wait, on, numbers, octets_in, service_indicator, turned, appended, with_fate, IsInOrder}
 use Rattle.set_model.specs.Control.{Choice, again, first, fill, choice_of, part_of, control_heard, window_heard, acked_by}
 use Rattle.set_model.specs.State.{LinkState, State, is_up, link_is_up, has_phase_up, target, window_of}
-use Rattle.set_model.specs.Changeover.{fate_on, left_link, acknowledged as acknowledged_link, settled_link, move_off}
+use Rattle.set_model.specs.Changeover.{fate_on, left_link, acknowledged as acknowledged_link, settled_link, moved_over}
 use Rattle.set_model.specs.Step.{rows_sent, fate_at, is_msu, one_if, brought, takes, after_control, step}
 use Rattle.set_model.specs.Sound.{IsSound}
 use Rattle.set_model.specs.Frame.{BringsAbout, Concerns, LeavesAlone, window_after, MovesAsItsControl}
@@ -71,7 +71,7 @@ alone_new n body s (Some to) e = go (to == n) refl
           none_more = λ f. false_true (is_up n s) f is;
         }
 
-alone_off : (n m : ℕ) (link : LinkState) (s : State) → (m == n) ≡ false → IsAt m link Down s → LeavesAlone n s (move_off m link s)
+alone_off : (n m : ℕ) (link : LinkState) (s : State) → (m == n) ≡ false → IsAt m link Down s → LeavesAlone n s (moved_over m link s)
 alone_off n m link s d at = go (target s.links) refl
   where
     apart_target : (to : ℕ) → target s.links ≡ Some to → (m == to) ≡ false
@@ -79,8 +79,8 @@ alone_off n m link s d at = go (target s.links) refl
         let up = target_up s.links to e in
         apart m to (λ same. let it : up.0 ≡ link = same_at s.links m link up.0 at.there (ap (slice_get s.links) same ∙ up.1) in let no : true ≡ false = sym up.2 ∙ ap (λ (l : LinkState). has_phase_up l.phase) it ∙ ap has_phase_up at.phase_is in cc)
 
-    joins : (to : ℕ) → target s.links ≡ Some to → (b : Bool) → (to == n) ≡ b → LeavesAlone n s (move_off m link s)
-    joins to e false f = alone_set n m (settled_link link) s (move_off m link s) d refl (rw e ((moved_to m to s.rows (apart_target to e)).left_is.others n d f))
+    joins : (to : ℕ) → target s.links ≡ Some to → (b : Bool) → (to == n) ≡ b → LeavesAlone n s (moved_over m link s)
+    joins to e false f = alone_set n m (settled_link link) s (moved_over m link s) d refl (rw e ((moved_to m to s.rows (apart_target to e)).left_is.others n d f))
     joins to e true f =
         let same : n ≡ to = sym (eqb-true to n f) in
         let up = target_up s.links to e in
@@ -95,8 +95,8 @@ alone_off n m link s d at = go (target s.links) refl
           none_more = λ g. false_true (is_up n s) g is;
         }
 
-    go : (to : Option ℕ) → target s.links ≡ to → LeavesAlone n s (move_off m link s)
-    go None e = alone_set n m (settled_link link) s (move_off m link s) d refl (rw e ((moved_aside m s.rows).left_is.others n d refl))
+    go : (to : Option ℕ) → target s.links ≡ to → LeavesAlone n s (moved_over m link s)
+    go None e = alone_set n m (settled_link link) s (moved_over m link s) d refl (rw e ((moved_aside m s.rows).left_is.others n d refl))
     go (Some to) e = joins to e (to == n) refl
 
 module _ (n : ℕ) (event : Event) (s : State) (free : Concerns event n s → ⊥) where

@@ -16,7 +16,7 @@ use Rattle.set_model.specs.declared.phase.Phase.TheVariants.{Up, Down, Settled}
 use Rattle.set_model.specs.Rows.{Row, is_on, was_acked, moved, all_with, service_indicator, counts_of, total_of, place, unsent, stream_of}
 use Rattle.set_model.specs.State.{LinkState, State, has_phase_up, target}
 use Rattle.set_model.specs.Control.{Choice, again, first, fill}
-use Rattle.set_model.specs.Changeover.{fate_on, queue}
+use Rattle.set_model.specs.Changeover.{fate_on, queued}
 use Rattle.set_model.specs.Step.{Outcome, refused, offer_refusal, offered, taken, found, with_known, in_service, next, rows_sent, heard, rises, falls, gives_up, step, messages_in, octets_of, Gains}
 use Rattle.set_model.specs.Sound.{IsManaged}
 use Rattle.set_model.proofs.Counting.{total_appended, acked_appended, total_moved, acked_moved}
@@ -48,7 +48,7 @@ counted_moved n to rows =
     record { total = total_moved (is_on n) (all_with (fate_on to)) rows; acked = omega (arith, same) }
 
 -- an order is no user's
-counted_queue : (order : Order) (s : State) → IsManaged s.settings → Counted s.rows (queue order s).rows
+counted_queue : (order : Order) (s : State) → IsManaged s.settings → Counted s.rows (queued order s).rows
 counted_queue order s management =
     let body = text order s.settings.sio s.settings.dpc s.settings.opc in
     let own : (s.settings.sio % 16 == 0) ≡ true = grind (arith, nat_tests) in

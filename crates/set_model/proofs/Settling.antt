@@ -6,7 +6,7 @@ use Rattle.set_model.specs.declared.phase.Phase.TheVariants.{Down, Settled}
 use Rattle.set_model.specs.declared.reached.Reached.TheVariants.{Upto}
 use Rattle.set_model.specs.Rows.{Row, standing, is_unacked, is_waiting, is_held, is_on, unack, wait, held, on, parked, numbers, moved, all_with, IsInOrder, IsHeldLast}
 use Rattle.set_model.specs.State.{LinkState, State, target, has_phase_up, has_phase_settled}
-use Rattle.set_model.specs.Changeover.{fate_on, reached_by, is_reasonable, acknowledge, settle}
+use Rattle.set_model.specs.Changeover.{fate_on, reached_by, is_reasonable, acknowledged_by, settled}
 use Rattle.set_model.specs.Sound.{IsSound}
 use Rattle.set_model.specs.Laws.{IsEmptyLink, MovesTheRest, DivertsTo, arrived, rest_of}
 use Rattle.set_model.proofs.Events.{acknowledged, moved_to, moved_aside}
@@ -35,10 +35,10 @@ module _ (fsn n : ℕ) (link : LinkState) (s : State) (there : slice_get s.links
   abbrev count : ℕ
   count = reached_by fsn n link s.rows
 
-  same_target : target (acknowledge count n link s).links ≡ target s.links
+  same_target : target (acknowledged_by count n link s).links ≡ target s.links
   same_target = ap target_of (map_set_same (λ (l : LinkState). has_phase_up l.phase) s.links n link _ there refl)
 
-  settled_rows : (settle (Upto fsn) n link s).rows ≡ moved (is_on n) (all_with (fate_on (target s.links))) (arrived count n s.rows)
+  settled_rows : (settled (Upto fsn) n link s).rows ≡ moved (is_on n) (all_with (fate_on (target s.links))) (arrived count n s.rows)
   settled_rows = rw (reasonable, same_target) refl
 
   pub moves_the_rest : MovesTheRest fsn n link s
@@ -72,7 +72,7 @@ module _ (fsn n : ℕ) (link : LinkState) (s : State) (there : slice_get s.links
       let no : true ≡ false = sym up.2 ∙ ap (λ (l : LinkState). has_phase_up l.phase) found ∙ ap has_phase_up down in
       cc
 
-  pub diverts_the_rest : IsSound s → link.phase ≡ Down → DivertsTo (target s.links) (rest_of n count s.rows) s.rows (settle (Upto fsn) n link s).rows
+  pub diverts_the_rest : IsSound s → link.phase ≡ Down → DivertsTo (target s.links) (rest_of n count s.rows) s.rows (settled (Upto fsn) n link s).rows
   diverts_the_rest sound down =
       let t = sound.links n link there in
       subst (DivertsTo (target s.links) (rest_of n count s.rows) s.rows) (sym settled_rows) (diverts_by count s.rows t.in_order t.held_last (target s.links) (no_target down))

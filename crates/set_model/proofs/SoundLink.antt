@@ -18,7 +18,7 @@ use Rattle.set_model.specs.declared.phase.Phase.TheVariants.{Up, Down, Settled}
 use Rattle.set_model.specs.Rows.{Row, is_waiting, is_unacked, unack, wait, held, parked, numbers, octets_in, turned, changed, with_fate, AreFit, IsNumbered, IsInOrder, IsHeldLast}
 use Rattle.set_model.specs.Control.{Choice, again, first, fill, choice_of, control_after, part_of, control_heard, acked_by}
 use Rattle.set_model.specs.State.{LinkState, State, has_phase_up, has_phase_settled, window_of}
-use Rattle.set_model.specs.Changeover.{leave, left_link, acknowledge, acknowledged as acknowledged_link}
+use Rattle.set_model.specs.Changeover.{left_by, left_link, acknowledged_by, acknowledged as acknowledged_link}
 use Rattle.set_model.specs.Step.{sends, one_if, is_msu, next, after_control}
 use Rattle.set_model.specs.Sound.{IsInRange, IsSoundLink, IsPlaced, IsSoundStream, IsSound}
 use Rattle.set_model.proofs.Controlling.{accepted_after, method_after, first_chosen, range_after, method_heard, part_acked, part_accept, accepted_heard, range_heard}
@@ -127,7 +127,7 @@ down_unsettled : (phase : Phase) → phase ≡ Down → has_phase_settled phase 
 down_unsettled phase e = ap has_phase_settled e
 
 -- LEAVING.
-pub leaves : (blind : Bool) (n : ℕ) (link : LinkState) (s : State) → IsAt n link Up s → IsSound s → IsSound (leave blind n link s)
+pub leaves : (blind : Bool) (n : ℕ) (link : LinkState) (s : State) → IsAt n link Up s → IsSound s → IsSound (left_by blind n link s)
 leaves blind n link s at t =
     let l = t.links n link at.there in
     changes n link (left_link blind link) s s.rows t (record {
@@ -143,7 +143,7 @@ leaves blind n link s at t =
     })
 
 -- WHAT IS ACKNOWLEDGED OR GIVEN UP on a link that was left.
-pub acknowledges : (count n : ℕ) (link : LinkState) (s : State) → IsAt n link Down s → IsSound s → IsSound (acknowledge count n link s)
+pub acknowledges : (count n : ℕ) (link : LinkState) (s : State) → IsAt n link Down s → IsSound s → IsSound (acknowledged_by count n link s)
 acknowledges count n link s at t =
     let l = t.links n link at.there in
     let a = acknowledged n count s.rows in

@@ -15,7 +15,7 @@ use Rattle.set_model.specs.declared.phase.Phase.TheVariants.{Down, Settled}
 use Rattle.set_model.specs.Rows.{Row, is_on, is_parked, unack, on, parked, moved, all_with, IsInOrder, IsHeldLast}
 use Rattle.set_model.specs.Control.{accepted_of, start_of}
 use Rattle.set_model.specs.State.{LinkState, State, has_phase_up, has_phase_settled, target}
-use Rattle.set_model.specs.Changeover.{fate_on, settled_link, move_off}
+use Rattle.set_model.specs.Changeover.{fate_on, settled_link, moved_over}
 use Rattle.set_model.specs.Step.{risen_link, rises}
 use Rattle.set_model.specs.Sound.{IsOf, IsInRange, IsSoundLink, is_unfinished, stands_at, IsPlaced, IsSoundStream, IsSound}
 use Rattle.set_model.proofs.Events.{MovedTo, moved_to, moved_aside, unparked}
@@ -252,7 +252,7 @@ module _ (n : ℕ) (link : LinkState) (s : State) (at : IsAt n link Down s) (t :
       let routed = t.routed in
       omega (arith, low, links, routed)
 
-  pub moves_off_sound : IsSound (move_off n link s)
+  pub moves_off_sound : IsSound (moved_over n link s)
   moves_off_sound =
       let to = target s.links in
       let before = up_before s.links n link (settled_link link) at.there (λ e. absurd cc) in

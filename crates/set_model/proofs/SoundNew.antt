@@ -14,7 +14,7 @@ use Rattle.set_route.proofs.Alone.{alone}
 use Rattle.set_route.proofs.Places.{accepted_sound}
 use Rattle.set_model.specs.Rows.{is_unacked, is_held, is_on, is_parked, is_users, stream_of, parked, appended}
 use Rattle.set_model.specs.State.{LinkState, State, is_up, link_is_up, has_phase_up, has_phase_settled, target}
-use Rattle.set_model.specs.Changeover.{fate_on, queue}
+use Rattle.set_model.specs.Changeover.{fate_on, queued}
 use Rattle.set_model.specs.Step.{fate_at, offer_refusal, offered}
 use Rattle.set_model.specs.Sound.{IsSoundLink, is_unfinished, stands_at, is_live, IsPlaced, IsManaged, IsSound}
 use Rattle.set_model.proofs.Events.{appended_out, appended_untouched}
@@ -114,7 +114,7 @@ order_fits (Cba n code) s = omega arith
 order_fits (Eco n) s = omega arith
 order_fits (Eca n) s = omega arith
 
-pub queues : (order : Order) (s : State) → IsSound s → IsSound (queue order s)
+pub queues : (order : Order) (s : State) → IsSound s → IsSound (queued order s)
 queues order s t =
     let body = text order s.settings.sio s.settings.dpc s.settings.opc in
     let fate = fate_on (target s.links) in

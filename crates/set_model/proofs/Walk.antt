@@ -22,7 +22,7 @@ use Rattle.set_model.specs.declared.reached.Reached.TheVariants.{Upto, Unknown, 
 use Rattle.set_model.specs.Rows.{unack, is_unacked, is_waiting, changed, place, service_indicator}
 use Rattle.set_model.specs.State.{LinkState, State, has_phase_up, window_of, last_accepted}
 use Rattle.set_model.specs.Control.{part_of}
-use Rattle.set_model.specs.Changeover.{Obeyed, queue, leave, left_link, leaving_order, is_reasonable, reached_by, acknowledge, acknowledged, move_off, settle, reply, changes_over, is_answered, at_link, obeys, obeyed}
+use Rattle.set_model.specs.Changeover.{Obeyed, queued, left_by, left_link, leaving_order, is_reasonable, reached_by, acknowledged_by, acknowledged, moved_over, settled, reply_of, changed_over, answered, at_link, order_obeyed, obeyed}
 use Rattle.set_model.specs.Step.{Outcome, refused, offer_refusal, offered, taken, found, with_known, in_service, next, is_msu, brought, takes, after_control, controls, heard, rises, gives_up, step}
 use Rattle.set_model.specs.Frame.{BringsAbout, Concerns}
 use Rattle.set_model.proofs.Lists.{within, get_set_same}
@@ -37,12 +37,12 @@ pub record KeptBy (Known : ℕ → Type 0) (R : State → State → Type 0) : Ty
   pub same : (s : State) → R s s
   pub after : (a b c : State) → R a b → R b c → R a c
   pub delivers : (body : List ℕ) (s : State) → R s (record s { inbox = s.inbox ++ body ∷ [] })
-  pub queues : (order : Order) (s : State) → R s (queue order s)
-  pub leaves : (blind : Bool) (n : ℕ) (link : LinkState) (s : State) → Known n → IsAt n link Up s → R s (leave blind n link s)
-  pub acknowledges : (count n : ℕ) (link : LinkState) (s : State) → Known n → IsAt n link Down s → count ≤ length (unack n s.rows) → R s (acknowledge count n link s)
+  pub queues : (order : Order) (s : State) → R s (queued order s)
+  pub leaves : (blind : Bool) (n : ℕ) (link : LinkState) (s : State) → Known n → IsAt n link Up s → R s (left_by blind n link s)
+  pub acknowledges : (count n : ℕ) (link : LinkState) (s : State) → Known n → IsAt n link Down s → count ≤ length (unack n s.rows) → R s (acknowledged_by count n link s)
   pub gives_up_sent : (cause : DiscardCause) (n : ℕ) (link : LinkState) (s : State) → Known n → IsAt n link Down s → R s (record s { rows = changed (is_unacked n) (Discarded cause) s.rows })
   pub gives_up_waiting : (cause : DiscardCause) (n : ℕ) (link : LinkState) (s : State) → Known n → IsAt n link Down s → R s (record s { rows = changed (is_waiting n) (Discarded cause) s.rows })
-  pub moves_off : (n : ℕ) (link : LinkState) (s : State) → Known n → IsAt n link Down s → R s (move_off n link s)
+  pub moves_off : (n : ℕ) (link : LinkState) (s : State) → Known n → IsAt n link Down s → R s (moved_over n link s)
 
 module _ (Known : ℕ → Type 0) (R : State → State → Type 0) (k : KeptBy Known R) where
   -- settling
@@ -51,32 +51,32 @@ module _ (Known : ℕ → Type 0) (R : State → State → Type 0) (k : KeptBy K
       let mid : State = record s { rows = changed (is_unacked n) (Discarded cause) s.rows } in
       k.after s mid (record mid { rows = changed (is_waiting n) (Discarded cause) mid.rows }) (k.gives_up_sent cause n link s known at) (k.gives_up_waiting cause n link mid known (record { there = at.there; phase_is = at.phase_is }))
 
-  off : (n : ℕ) (link : LinkState) (s mid : State) → Known n → R s mid → IsAt n link Down mid → R s (move_off n link mid)
-  off n link s mid known r at = k.after s mid (move_off n link mid) r (k.moves_off n link mid known at)
+  off : (n : ℕ) (link : LinkState) (s mid : State) → Known n → R s mid → IsAt n link Down mid → R s (moved_over n link mid)
+  off n link s mid known r at = k.after s mid (moved_over n link mid) r (k.moves_off n link mid known at)
 
-  pub settle_walks : (reached : Reached) (n : ℕ) (link : LinkState) (s : State) → Known n → IsAt n link Down s → R s (settle reached n link s)
+  pub settle_walks : (reached : Reached) (n : ℕ) (link : LinkState) (s : State) → Known n → IsAt n link Down s → R s (settled reached n link s)
   settle_walks Unknown n link s known at = off n link s _ known (k.gives_up_sent Emergency n link s known at) (record { there = at.there; phase_is = at.phase_is })
   settle_walks Unanswered n link s known at = off n link s _ known (given_up NoAnswerCame n link s known at) (record { there = at.there; phase_is = at.phase_is })
   settle_walks (Upto fsn) n link s known at = go (is_reasonable fsn n link s.rows) refl
     where
-      go : (b : Bool) → is_reasonable fsn n link s.rows ≡ b → R s (settle (Upto fsn) n link s)
+      go : (b : Bool) → is_reasonable fsn n link s.rows ≡ b → R s (settled (Upto fsn) n link s)
       go true e =
           let count = reached_by fsn n link s.rows in
           let few : count ≤ length (unack n s.rows) = grind (arith, nat_tests, e) in
-          rw e (off n (acknowledged count link) s (acknowledge count n link s) known (k.acknowledges count n link s known at few) (record { there = get_set_same s.links n (acknowledged count link) (within s.links n link at.there); phase_is = at.phase_is }))
+          rw e (off n (acknowledged count link) s (acknowledged_by count n link s) known (k.acknowledges count n link s known at few) (record { there = get_set_same s.links n (acknowledged count link) (within s.links n link at.there); phase_is = at.phase_is }))
       go false e = rw e (off n link s _ known (given_up Unreasonable n link s known at) (record { there = at.there; phase_is = at.phase_is }))
 
   -- orders
-  over_walks : (reached : Reached) (n : ℕ) (link : LinkState) (phase : Phase) (s : State) → Known n → IsAt n link phase s → R s (changes_over reached n link phase s).state
+  over_walks : (reached : Reached) (n : ℕ) (link : LinkState) (phase : Phase) (s : State) → Known n → IsAt n link phase s → R s (changed_over reached n link phase s).state
   over_walks reached n link Up s known at =
-      let left = leave false n link s in
-      let told = queue (Coa n (last_accepted link)) left in
-      k.after s told (settle reached n (left_link false link) told) (k.after s left told (k.leaves false n link s known at) (k.queues (Coa n (last_accepted link)) left))
+      let left = left_by false n link s in
+      let told = queued (Coa n (last_accepted link)) left in
+      k.after s told (settled reached n (left_link false link) told) (k.after s left told (k.leaves false n link s known at) (k.queues (Coa n (last_accepted link)) left))
       (settle_walks reached n (left_link false link) told known (record { there = get_set_same s.links n (left_link false link) (within s.links n link at.there); phase_is = refl }))
   over_walks reached n link Down s known at = settle_walks reached n link s known at
-  over_walks reached n link Settled s known at = k.queues (reply n link) s
+  over_walks reached n link Settled s known at = k.queues (reply_of n link) s
 
-  answer_walks : (reached : Reached) (n : ℕ) (link : LinkState) (phase : Phase) (s : State) → Known n → IsAt n link phase s → R s (is_answered reached n link phase s).state
+  answer_walks : (reached : Reached) (n : ℕ) (link : LinkState) (phase : Phase) (s : State) → Known n → IsAt n link phase s → R s (answered reached n link phase s).state
   answer_walks reached n link Up s known at = k.same s
   answer_walks reached n link Down s known at = settle_walks reached n link s known at
   answer_walks reached n link Settled s known at = k.same s
@@ -85,11 +85,11 @@ module _ (Known : ℕ → Type 0) (R : State → State → Type 0) (k : KeptBy K
   at_walks n s f all None e = k.same s
   at_walks n s f all (Some link) e = all link e
 
-  pub obeys_walks : (order : Order) (s : State) → ((n : ℕ) → link_of order ≡ n → Known n) → R s (obeys order s).state
-  obeys_walks (Coo n fsn) s known = at_walks n s (λ link. changes_over (Upto fsn) n link link.phase s) (λ link e. over_walks (Upto fsn) n link link.phase s (known n refl) (record { there = e; phase_is = refl })) (slice_get s.links n) refl
-  obeys_walks (Eco n) s known = at_walks n s (λ link. changes_over Unknown n link link.phase s) (λ link e. over_walks Unknown n link link.phase s (known n refl) (record { there = e; phase_is = refl })) (slice_get s.links n) refl
-  obeys_walks (Coa n fsn) s known = at_walks n s (λ link. is_answered (Upto fsn) n link link.phase s) (λ link e. answer_walks (Upto fsn) n link link.phase s (known n refl) (record { there = e; phase_is = refl })) (slice_get s.links n) refl
-  obeys_walks (Eca n) s known = at_walks n s (λ link. is_answered Unknown n link link.phase s) (λ link e. answer_walks Unknown n link link.phase s (known n refl) (record { there = e; phase_is = refl })) (slice_get s.links n) refl
+  pub obeys_walks : (order : Order) (s : State) → ((n : ℕ) → link_of order ≡ n → Known n) → R s (order_obeyed order s).state
+  obeys_walks (Coo n fsn) s known = at_walks n s (λ link. changed_over (Upto fsn) n link link.phase s) (λ link e. over_walks (Upto fsn) n link link.phase s (known n refl) (record { there = e; phase_is = refl })) (slice_get s.links n) refl
+  obeys_walks (Eco n) s known = at_walks n s (λ link. changed_over Unknown n link link.phase s) (λ link e. over_walks Unknown n link link.phase s (known n refl) (record { there = e; phase_is = refl })) (slice_get s.links n) refl
+  obeys_walks (Coa n fsn) s known = at_walks n s (λ link. answered (Upto fsn) n link link.phase s) (λ link e. answer_walks (Upto fsn) n link link.phase s (known n refl) (record { there = e; phase_is = refl })) (slice_get s.links n) refl
+  obeys_walks (Eca n) s known = at_walks n s (λ link. answered Unknown n link link.phase s) (λ link e. answer_walks Unknown n link link.phase s (known n refl) (record { there = e; phase_is = refl })) (slice_get s.links n) refl
   obeys_walks (Cbd n code) s known = k.same s
   obeys_walks (Cba n code) s known = k.same s
 
@@ -174,12 +174,12 @@ module _ (s : State) (R : State → State → Type 0) (S : State → Type 0) whe
   give_walks : (n : ℕ) (link : LinkState) (phase : Phase) → WalkedBy s (NoAnswer n) R S → IsAt n link phase s → S (gives_up n s link phase).state
   give_walks n link Up w at = w.unmoved
   give_walks n link Settled w at = w.unmoved
-  give_walks n link Down w at = w.rests s (settle Unanswered n link s) w.unmoved (settle_walks (λ m. Concerns (NoAnswer n) m s) R w.small Unanswered n link s refl at)
+  give_walks n link Down w at = w.rests s (settled Unanswered n link s) w.unmoved (settle_walks (λ m. Concerns (NoAnswer n) m s) R w.small Unanswered n link s refl at)
 
-  fall_walks : (event : Event) (blind : Bool) (n : ℕ) (link : LinkState) → WalkedBy s event R S → Concerns event n s → IsAt n link Up s → S (queue (leaving_order blind n link) (leave blind n link s))
+  fall_walks : (event : Event) (blind : Bool) (n : ℕ) (link : LinkState) → WalkedBy s event R S → Concerns event n s → IsAt n link Up s → S (queued (leaving_order blind n link) (left_by blind n link s))
   fall_walks event blind n link w known at =
-      let left = leave blind n link s in
-      w.rests s (queue (leaving_order blind n link) left) w.unmoved (w.small.after s left (queue (leaving_order blind n link) left) (w.small.leaves blind n link s known at) (w.small.queues (leaving_order blind n link) left))
+      let left = left_by blind n link s in
+      w.rests s (queued (leaving_order blind n link) left) w.unmoved (w.small.after s left (queued (leaving_order blind n link) left) (w.small.leaves blind n link s known at) (w.small.queues (leaving_order blind n link) left))
 
   pub step_walks : (event : Event) → WalkedBy s event R S → S (step s event).state
   unfolding step

@@ -8,7 +8,7 @@ use Rattle.set_model.specs.declared.phase.Phase.TheVariants.{Down, Settled}
 use Rattle.set_model.specs.declared.reached.Reached.TheVariants.{Upto}
 use Rattle.set_model.specs.Rows.{Row, standing, is_unacked, is_on, unack, wait, held, on, parked, numbers, with_fate, turned, changed, moved, appended, row_of, place, body_at, IsNumbered}
 use Rattle.set_model.specs.State.{LinkState, State, Settings, opened_with, target}
-use Rattle.set_model.specs.Changeover.{fate_on, reached_by, is_reasonable, settle}
+use Rattle.set_model.specs.Changeover.{fate_on, reached_by, is_reasonable, settled}
 use Rattle.set_model.specs.Step.{step, Gains}
 use Rattle.set_model.specs.Sound.{IsSettings, IsSound, IsAsked, AreFew, IsManaged}
 
@@ -97,7 +97,7 @@ moved_off count number s =
     standing (λ f. not (is_on number f)) (arrived count number s.rows) ++ map (with_fate (fate_on (target s.links))) (on number (arrived count number s.rows))
 
 pub record MovesTheRest (fsn number : ℕ) (link : LinkState) (s : State) : Type 0 where
-  pub rows_are : (settle (Upto fsn) number link s).rows ≡ moved_off (reached_by fsn number link s.rows) number s
+  pub rows_are : (settled (Upto fsn) number link s).rows ≡ moved_off (reached_by fsn number link s.rows) number s
   -- of what was on the link, just the acknowledged ones aren't moved
   pub sent_rest : unack number (arrived (reached_by fsn number link s.rows) number s.rows) ≡ drop (reached_by fsn number link s.rows) (unack number s.rows)
   pub waiting_all : wait number (arrived (reached_by fsn number link s.rows) number s.rows) ≡ wait number s.rows
@@ -123,4 +123,4 @@ DivertsTo None rest old new = numbers (parked new) ≡ numbers (parked old) ++ r
 abbrev pub AChangeoverDivertsTheRest : Type 0
 AChangeoverDivertsTheRest =
     (fsn number : ℕ) (link : LinkState) (s : State) → IsSound s → slice_get s.links number ≡ Some link → link.phase ≡ Down → is_reasonable fsn number link s.rows ≡ true
-    → DivertsTo (target s.links) (rest_of number (reached_by fsn number link s.rows) s.rows) s.rows (settle (Upto fsn) number link s).rows
+    → DivertsTo (target s.links) (rest_of number (reached_by fsn number link s.rows) s.rows) s.rows (settled (Upto fsn) number link s).rows

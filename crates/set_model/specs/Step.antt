@@ -29,7 +29,7 @@ use Rattle.set_model.specs.declared.phase.Phase.TheVariants.{Up, Down, Settled}
 use Rattle.set_model.specs.declared.reached.Reached.TheVariants.{Unanswered}
 use Rattle.set_model.specs.State.{LinkState, State, with_link, is_up, has_phase_up, window_of}
 use Rattle.set_model.specs.Control.{Choice, again, first, fill, start_of, choice_of, fsn_of, head_of, control_after, part_of, control_heard}
-use Rattle.set_model.specs.Changeover.{Obeyed, leave, leaving_order, queue, settle, obeyed}
+use Rattle.set_model.specs.Changeover.{Obeyed, left_by, leaving_order, queued, settled, obeyed}
 
 -- what is answered, and what the set holds then
 pub record Outcome : Type 0 where
@@ -193,11 +193,11 @@ rises number s Settled = record {
 
 -- DOWN. The link is left, and an order tells the far end (Q.704 5.3, 5.4.1); blind, it's an emergency (5.6.1).
 abbrev pub falls : Bool → ℕ → State → LinkState → Outcome
-falls blind number s link = record { answer = Done; state = queue (leaving_order blind number link) (leave blind number link s) }
+falls blind number s link = record { answer = Done; state = queued (leaving_order blind number link) (left_by blind number link s) }
 
 -- NO ANSWER came from the far end (5.7.2): what was sent or waited may have arrived or not, and is discarded (own).
 abbrev pub gives_up : ℕ → State → LinkState → Phase → Outcome
-gives_up number s link Down = record { answer = Done; state = settle Unanswered number link s }
+gives_up number s link Down = record { answer = Done; state = settled Unanswered number link s }
 gives_up number s link Up = refused s Nothing
 gives_up number s link Settled = refused s Nothing
 

@@ -17,7 +17,7 @@ use Rattle.set_events.specs.declared.answer.Took.TheVariants.{Order as OrderTake
 use Rattle.set_model.specs.declared.reached.Reached.{Reached}
 use Rattle.set_model.specs.declared.reached.Reached.TheVariants.{Unanswered}
 use Rattle.set_step.specs.Room.{SameButRoom}
-use Rattle.set_model.specs.Changeover.{Obeyed, ignores, at_link, settle, changes_over, is_answered}
+use Rattle.set_model.specs.Changeover.{Obeyed, ignored, at_link, settled, changed_over, answered}
 use Rattle.set_step.specs.Parts.{Gives, Obeys, link_of, kept_of}
 use Rattle.set_model.specs.State.{LinkState, State, has_phase_up}
 use Rattle.set_model.specs.Step.{Outcome, on_link, in_service, rises, falls, gives_up}
@@ -160,7 +160,7 @@ pub obeyed_at : (s : State) (n : ℕ) (f : LinkState → Obeyed) (took : Took) (
 obeyed_at s n f took parts link there g = rw there g
 
 module _ (parts : Parts) (s : State) (a : Agrees (kept_of parts) s) (n : ℕ) where
-  ignored : Obeys (ignores s) Ignored parts
+  ignored : Obeys (ignored s) Ignored parts
   ignored = record { took_is = refl; stands = a.stands }
 
   -- with no such link
@@ -171,12 +171,12 @@ module _ (parts : Parts) (s : State) (a : Agrees (kept_of parts) s) (n : ℕ) wh
       go None h g = rw (absent parts s a n NoSuchLink h) ignored
       go (Some link) h g = absurd (cc)
 
-  pub unanswered : (reached : Reached) (phase : Phase) → IsHere parts.links.items n phase → (phase ≡ Down → ⊥) → Obeys (at_link n s (λ link. is_answered reached n link link.phase s) (slice_get s.links n)) Ignored parts
+  pub unanswered : (reached : Reached) (phase : Phase) → IsHere parts.links.items n phase → (phase ≡ Down → ⊥) → Obeys (at_link n s (λ link. answered reached n link link.phase s) (slice_get s.links n)) Ignored parts
   unanswered reached phase h other =
       let i = is_in parts s n phase a h in
-      obeyed_at s n (λ link. is_answered reached n link link.phase s) Ignored parts i.link i.there (go i.link i.link.phase i.phase_is)
+      obeyed_at s n (λ link. answered reached n link link.phase s) Ignored parts i.link i.there (go i.link i.link.phase i.phase_is)
     where
-      go : (link : LinkState) (now : Phase) → now ≡ phase → Obeys (is_answered reached n link now s) Ignored parts
+      go : (link : LinkState) (now : Phase) → now ≡ phase → Obeys (answered reached n link now s) Ignored parts
       go link Up e = ignored
       go link Down e = absurd (other (sym e))
       go link Settled e = ignored
@@ -186,15 +186,15 @@ pub phase_in : (links read : List Link) (n : ℕ) (phase : Phase) (told : Option
 phase_in links read n phase told same is e = phase_here links n phase told (is ∙ ap (λ ls. option_map (λ (l : Link). l.phase) (slice_get ls n)) same) e
 
 module _ (s : State) (n : ℕ) (reached : Reached) where
-  pub ordered_at : (phase : Phase) (parts : Parts) (i : IsIn s n phase) → (changes_over reached n i.link phase s).took ≡ OrderTaken → StandsFor (kept_of parts) (changes_over reached n i.link phase s).state → Obeys (at_link n s (λ link. changes_over reached n link link.phase s) (slice_get s.links n)) OrderTaken parts
+  pub ordered_at : (phase : Phase) (parts : Parts) (i : IsIn s n phase) → (changed_over reached n i.link phase s).took ≡ OrderTaken → StandsFor (kept_of parts) (changed_over reached n i.link phase s).state → Obeys (at_link n s (λ link. changed_over reached n link link.phase s) (slice_get s.links n)) OrderTaken parts
   ordered_at phase parts i took stands =
-      obeyed_at s n (λ link. changes_over reached n link link.phase s) OrderTaken parts i.link i.there
-      (subst (λ (p : Phase). Obeys (changes_over reached n i.link p s) OrderTaken parts) (sym i.phase_is) (record { took_is = sym took; stands = stands }))
+      obeyed_at s n (λ link. changed_over reached n link link.phase s) OrderTaken parts i.link i.there
+      (subst (λ (p : Phase). Obeys (changed_over reached n i.link p s) OrderTaken parts) (sym i.phase_is) (record { took_is = sym took; stands = stands }))
 
-  pub answered_at : (parts : Parts) (i : IsIn s n Down) → StandsFor (kept_of parts) (settle reached n i.link s) → Obeys (at_link n s (λ link. is_answered reached n link link.phase s) (slice_get s.links n)) OrderTaken parts
+  pub answered_at : (parts : Parts) (i : IsIn s n Down) → StandsFor (kept_of parts) (settled reached n i.link s) → Obeys (at_link n s (λ link. answered reached n link link.phase s) (slice_get s.links n)) OrderTaken parts
   answered_at parts i stands =
-      obeyed_at s n (λ link. is_answered reached n link link.phase s) OrderTaken parts i.link i.there
-      (subst (λ (p : Phase). Obeys (is_answered reached n i.link p s) OrderTaken parts) (sym i.phase_is) (record { took_is = refl; stands = stands }))
+      obeyed_at s n (λ link. answered reached n link link.phase s) OrderTaken parts i.link i.there
+      (subst (λ (p : Phase). Obeys (answered reached n i.link p s) OrderTaken parts) (sym i.phase_is) (record { took_is = refl; stands = stands }))
 
 -- After room was taken.
 pub agrees_same : (old new : Parts) (s : State) → SameButRoom old new → Agrees (kept_of old) s → Agrees (kept_of new) s
@@ -204,7 +204,7 @@ pub here_same : (old new : Parts) (n : ℕ) (phase : Phase) → SameButRoom old 
 here_same old new n phase same h = subst (λ ls. IsHere ls n phase) (sym (ap (λ ls. ls.items) same.links)) h
 
 -- What is done at a link in its phase.
-pub given_done : (s : State) (n : ℕ) (parts : Parts) (i : IsIn s n Down) → StandsFor (kept_of parts) (settle Unanswered n i.link s) → Gives (on_link n s (λ link. gives_up n s link link.phase)) Done parts
+pub given_done : (s : State) (n : ℕ) (parts : Parts) (i : IsIn s n Down) → StandsFor (kept_of parts) (settled Unanswered n i.link s) → Gives (on_link n s (λ link. gives_up n s link link.phase)) Done parts
 given_done s n parts i stands = on_it s n (λ link. gives_up n s link link.phase) Done parts i.link i.there (subst (λ (p : Phase). Gives (gives_up n s i.link p) Done parts) (sym i.phase_is) (record { answer_is = refl; stands = stands }))
 
 pub risen_done : (s : State) (n : ℕ) (parts : Parts) (i : IsIn s n Settled) → StandsFor (kept_of parts) (rises n s Settled).state → Gives (on_link n s (λ link. rises n s link.phase)) Done parts

@@ -16,7 +16,7 @@ use Rattle.set_route.specs.Routing.{Routing, settled as streams_settled}
 use Rattle.set_model.specs.declared.reached.Reached.{Reached}
 use Rattle.set_model.specs.declared.reached.Reached.TheVariants.{Upto, Unknown, Unanswered}
 use Rattle.set_model.specs.Rows.{Row, appended, changed, turned, is_unacked, is_waiting, is_on, is_parked, moved, all_with, IsInOrder}
-use Rattle.set_model.specs.Changeover.{judge as judged, discard as discarded, acknowledge, acknowledged, move_off, settled_link, fate_on}
+use Rattle.set_model.specs.Changeover.{judged, discarded, acknowledged_by, acknowledged, moved_over, settled_link, fate_on}
 use Rattle.set_model.specs.State.{State, LinkState, target, with_link}
 use Rattle.set_model.proofs.Events.{Kept as RowsKept, moved_to, moved_aside}
 use Rattle.set_model.proofs.Lists.{set_same}
@@ -81,8 +81,8 @@ module _ (old new : Kept) (s : State) (n fsn : ℕ) (link : LinkState) (reached 
       → Becoming old new (acked_lists n fsn old.lists) (restood (take (reach n fsn old.lists) (queue_at (Unacked n) old.lists)) (Acked n) old.messages) old.bodies (slice_set s.links n (acknowledged (reach n fsn old.lists) link)) old.routing
       → StandsFor new (judged reached n link s)
   reached_then low h b =
-      let done : StandsFor new (acknowledge (reach n fsn old.lists) n link s) = becomes old new _ _ _ _ _ _ b (acked_for old s n fsn link (acknowledged (reach n fsn old.lists) link) f there (is_low reached fsn is low) refl) in
-      subst (λ (r : Reached). StandsFor new (judged r n link s)) (sym is) (rw (is_reached old s n fsn link f there h) (subst (λ (count : ℕ). StandsFor new (acknowledge count n link s)) (reach_is old s n fsn link f there) done))
+      let done : StandsFor new (acknowledged_by (reach n fsn old.lists) n link s) = becomes old new _ _ _ _ _ _ b (acked_for old s n fsn link (acknowledged (reach n fsn old.lists) link) f there (is_low reached fsn is low) refl) in
+      subst (λ (r : Reached). StandsFor new (judged r n link s)) (sym is) (rw (is_reached old s n fsn link f there h) (subst (λ (count : ℕ). StandsFor new (acknowledged_by count n link s)) (reach_is old s n fsn link f there) done))
 
   pub unreached_then : (reach n fsn old.lists ≤ length (queue_at (Unacked n) old.lists) → ⊥) → StandsFor new (discarded Unreasonable n s) → StandsFor new (judged reached n link s)
   unreached_then h done = subst (λ (r : Reached). StandsFor new (judged r n link s)) (sym is) (rw (is_unreached old s n fsn link f there h) done)
@@ -94,7 +94,7 @@ moved_rows n (Some t) s apart = (moved_to n t s.rows (apart t refl)).left_is.kep
 
 pub moved_then : (old new : Kept) (s : State) (n : ℕ) (link : LinkState) → Agrees old s → slice_get s.links n ≡ Some link → IsAside n (fate_on (target s.links)) old.lists → ((k : ℕ) → target s.links ≡ Some k → (n == k) ≡ false)
     → Becoming old new (settled_lists n (fate_on (target s.links)) old.lists) (restood (on_lists n old.lists) (fate_on (target s.links)) old.messages) old.bodies (slice_set s.links n (settled_link link)) (streams_settled n (target s.links) s.routing)
-    → StandsFor new (move_off n link s)
+    → StandsFor new (moved_over n link s)
 moved_then old new s n link a there aside apart b =
     let one = a.sound.links n link there in
     becomes old new _ _ _ _ _ _ b (settled_for old s n (target s.links) link (settled_link link) (streams_settled n (target s.links) s.routing) a.stands one.in_order one.held_last there refl aside apart (moved_rows n (target s.links) s apart))

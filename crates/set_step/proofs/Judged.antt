@@ -7,7 +7,7 @@ use Rattle.set_model.specs.declared.phase.Phase.TheVariants.{Down}
 use Rattle.set_model.specs.declared.reached.Reached.{Reached}
 use Rattle.set_model.specs.declared.reached.Reached.TheVariants.{Upto, Unknown, Unanswered}
 use Rattle.set_model.specs.Rows.{is_waiting, is_unacked, changed}
-use Rattle.set_model.specs.Changeover.{judge as judged_state, judged, discard, acknowledged, is_reasonable, reached_by}
+use Rattle.set_model.specs.Changeover.{judged, judged_link, discarded, acknowledged, is_reasonable, reached_by}
 use Rattle.set_model.specs.State.{State, LinkState}
 use Rattle.set_model.specs.Sound.{IsSound}
 use Rattle.set_model.proofs.Events.{sent_given_up, waiting_given_up}
@@ -18,14 +18,14 @@ use Rattle.set_model.proofs.Walk.{IsAt}
 
 -- the state is still one that a set can have, and the link is there, still left
 pub record IsJudged (reached : Reached) (n : ℕ) (link : LinkState) (s : State) : Type 0 where
-  pub sound : IsSound (judged_state reached n link s)
-  pub at : IsAt n (judged reached n link s.rows) Down (judged_state reached n link s)
+  pub sound : IsSound (judged reached n link s)
+  pub at : IsAt n (judged_link reached n link s.rows) Down (judged reached n link s)
 
 module _ (n : ℕ) (link : LinkState) (s : State) (at : IsAt n link Down s) (t : IsSound s) where
   sent_up : (cause : DiscardCause) → IsSound (record s { rows = changed (is_unacked n) (Discarded cause) s.rows })
   sent_up cause = gives_up (is_unacked n) cause n link s (sent_given_up n cause s.rows) (fewer_changed (is_unacked n) (is_unacked n) (Discarded cause) refl s.rows) at t
 
-  both_up : (cause : DiscardCause) → IsSound (discard cause n s)
+  both_up : (cause : DiscardCause) → IsSound (discarded cause n s)
   both_up cause =
       let mid : State = record s { rows = changed (is_unacked n) (Discarded cause) s.rows } in
       gives_up (is_waiting n) cause n link mid (waiting_given_up n cause mid.rows) (fewer_changed (is_waiting n) (is_unacked n) (Discarded cause) refl mid.rows) (record { there = at.there; phase_is = at.phase_is }) (sent_up cause)

@@ -4,7 +4,7 @@ ghost use Rattle.std.specs.Vec.{vec_len, vec_capacity};
 ghost use Rattle.l3_orders.specs.Grammar.{IsOrder, link_of as link_in, text as text_of};
 ghost use Rattle.set_queues.specs.Buffers.{TakesRoom};
 ghost use Rattle.set_queues.specs.Settling.{on};
-ghost use Rattle.set_model.specs.Changeover.{queue as queued, leave as left, settle as settled, left_link, obeys as obeyed, changes_over as changed_over, is_answered as answered, reply as reply_of, at_link, fate_on};
+ghost use Rattle.set_model.specs.Changeover.{queued, left_by, settled, left_link, order_obeyed, changed_over, answered, reply_of, at_link, fate_on};
 ghost use Rattle.set_model.specs.State.{State, LinkState, last_accepted, target};
 ghost use Rattle.set_model.specs.declared.phase.Phase.TheVariants.{Up, Down};
 ghost use Rattle.set_step.specs.Agreement.{StandsFor, Agrees, Holds};
@@ -73,7 +73,7 @@ fn body_of(order: &Order, sio: u8, dpc: u16, opc: u16, space: Vec<u8>) -> Body
 pub(crate) fn leave(parts: &mut Parts, number: u8, blind: bool)
     requires whole { IsWhole parts.old }
     requires known { number < length parts.old.links.items }
-    ensures stands { BecomesAt number parts.old parts.new (left blind number) }
+    ensures stands { BecomesAt number parts.old parts.new (left_by blind number) }
     ensures links { AtLink number parts.old.links.items (λ link. parts.new.links.items
         ≡ slice_set parts.old.links.items number (record link { phase = Down; blind = blind })) }
     ensures queues { parts.new.queues ≡ parts.old.queues }
@@ -93,7 +93,7 @@ pub(crate) fn obey(parts: &mut Parts, order: Order, space: Vec<u8>) -> Took
     requires order { IsOrder order }
     requires space { (vec_len space ≡ 0) × (7 ≤ vec_capacity space) }
     requires room { link_in order < length parts.old.links.items → IsReady (link_in order) 1 parts.old }
-    ensures stands { (s : State) → Agrees (kept_of parts.old) s → Obeys (obeyed order s) result parts.new }
+    ensures stands { (s : State) → Agrees (kept_of parts.old) s → Obeys (order_obeyed order s) result parts.new }
 {
     match order {
         Order::Coo { link, number } => change_over(parts, link, Reached::Upto { number }, space),
@@ -136,7 +136,7 @@ fn answer_and_settle(parts: &mut Parts, number: u8, reached: Reached, space: Vec
     requires room { IsReady number 1 parts.old }
     ensures stands { (s : State) (link : LinkState) → slice_get s.links number ≡ Some link → link.phase ≡ Up
         → Agrees (kept_of parts.old) s → StandsFor (kept_of parts.new) (settled reached number (left_link false link)
-        (queued (Order.Coa number (last_accepted link)) (left false number link s))) }
+        (queued (Order.Coa number (last_accepted link)) (left_by false number link s))) }
 {
     let order = Order::Coa {
         link: number,

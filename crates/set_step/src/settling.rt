@@ -2,7 +2,7 @@
 ghost use Rattle.std.specs.Prelude.{◌≡◌, ◌<◌, ◌≤◌, ◌^◌, length, map, slice_get, Some};
 ghost use Rattle.set_queues.specs.Buffers.{KeepsRoom, room_at};
 ghost use Rattle.set_queues.specs.Settling.{on};
-ghost use Rattle.set_model.specs.Changeover.{settle as settled, judge as judged, discard as discarded, move_off, fate_on};
+ghost use Rattle.set_model.specs.Changeover.{settled, judged, discarded, moved_over, fate_on};
 ghost use Rattle.set_model.specs.State.{State, LinkState, target};
 ghost use Rattle.set_step.specs.Agreement.{StandsFor, Agrees};
 ghost use Rattle.set_step.specs.Parts.{IsWhole, AreCounted, AtLink, IsOut, IsReach, Becomes, BecomesAt, link_of, kept_of};
@@ -76,7 +76,7 @@ fn move_all(parts: &mut Parts, number: u8)
     requires room { length (on number parts.old.queues.lists) ≤ room_at (fate_on
         (target (map link_of parts.old.links.items))) parts.old.queues.rooms }
     ensures stands { (s : State) (link : LinkState) → slice_get s.links number ≡ Some link
-        → Agrees (kept_of parts.old) s → StandsFor (kept_of parts.new) (move_off number link s) }
+        → Agrees (kept_of parts.old) s → StandsFor (kept_of parts.new) (moved_over number link s) }
 {
     let target = target_of(&parts.links);
     parts.queues.settle(number, target);

@@ -5,7 +5,7 @@ ghost use Rattle.l3_orders.specs.Grammar.{IsOrder};
 ghost use Rattle.set_queues.specs.Buffers.{IsKnown, IsQueued, room_at};
 ghost use Rattle.set_queues.specs.Messages.{unsent_of};
 ghost use Rattle.set_route.specs.Routing.{place_of, accepted as accepted_by};
-ghost use Rattle.set_model.specs.Changeover.{leaving_order as order_of_leaving, leave as left_by, queue as queued};
+ghost use Rattle.set_model.specs.Changeover.{leaving_order as order_of_leaving, left_by, queued};
 ghost use Rattle.set_model.specs.Sound.{IsAsked};
 ghost use Rattle.set_model.specs.State.{State, LinkState};
 ghost use Rattle.set_model.specs.Step.{offer_refusal, offered as offered_with, fate_at, on_link, in_service, rises, falls, gives_up, taken as taken_of, found as found_of, stepped};

@@ -2,7 +2,7 @@ use Rattle.std.proofs.Common.{refl, ◌∙◌, ap, subst, ℕ, false, map, slice
 use Rattle.l3_orders.specs.declared.order.Order.TheVariants.{Coa}
 use Rattle.set_queues.specs.Settling.{on}
 use Rattle.set_model.specs.declared.phase.Phase.TheVariants.{Up, Down}
-use Rattle.set_model.specs.Changeover.{queue as queued, leave as left, left_link}
+use Rattle.set_model.specs.Changeover.{queued, left_by, left_link}
 use Rattle.set_model.specs.State.{last_accepted, target}
 use Rattle.set_model.proofs.Lists.{within, get_set_same}
 use Rattle.set_model.proofs.SoundLink.{leaves}
@@ -16,32 +16,32 @@ use Rattle.set_step.proofs.changeover.answer_and_settle.Goals as goal
 
 pub queue-requires-clause-room : goal.queue-requires-clause-room
 queue-requires-clause-room c =
-    let left = c.leave.ensures.links c.index.result.now (found c.args.parts.now.links.items c.args.number c.from.result c.index.result.now c.from.ensures c.requires.known c.index.ensures) in
-    has_room_left c.args.number c.args.parts.now c.leave.new.parts c.requires.room c.leave.ensures.queues c.leave.ensures.bodies (beside_left c.args.parts.now.links.items c.leave.new.parts.links.items c.args.number _ left refl)
+    let left_by = c.leave.ensures.links c.index.result.now (found c.args.parts.now.links.items c.args.number c.from.result c.index.result.now c.from.ensures c.requires.known c.index.ensures) in
+    has_room_left c.args.number c.args.parts.now c.leave.new.parts c.requires.room c.leave.ensures.queues c.leave.ensures.bodies (beside_left c.args.parts.now.links.items c.leave.new.parts.links.items c.args.number _ left_by refl)
 
 pub settle-requires-clause-counted : goal.settle-requires-clause-counted
 settle-requires-clause-counted c =
     let at = found c.args.parts.now.links.items c.args.number c.from.result c.index.result.now c.from.ensures c.requires.known c.index.ensures in
-    let left = ap (λ ls. ls.items) c.queue.ensures.links ∙ c.leave.ensures.links c.index.result.now at in
-    counted_set _ c.args.parts.now.links.items c.queue.new.parts.links.items c.args.number _ c.requires.counted left (record { acked = (c.requires.counted c.args.number _ at).acked; accepted = (c.requires.counted c.args.number _ at).accepted })
+    let left_by = ap (λ ls. ls.items) c.queue.ensures.links ∙ c.leave.ensures.links c.index.result.now at in
+    counted_set _ c.args.parts.now.links.items c.queue.new.parts.links.items c.args.number _ c.requires.counted left_by (record { acked = (c.requires.counted c.args.number _ at).acked; accepted = (c.requires.counted c.args.number _ at).accepted })
 
 pub settle-requires-clause-out : goal.settle-requires-clause-out
 settle-requires-clause-out c =
     let at = found c.args.parts.now.links.items c.args.number c.from.result c.index.result.now c.from.ensures c.requires.known c.index.ensures in
-    let left = ap (λ ls. ls.items) c.queue.ensures.links ∙ c.leave.ensures.links c.index.result.now at in
-    is_out c.queue.new.parts.links.items c.args.number _ Down (ap (λ ls. slice_get ls c.args.number) left ∙ get_set_same c.args.parts.now.links.items c.args.number _ c.requires.known) refl refl
+    let left_by = ap (λ ls. ls.items) c.queue.ensures.links ∙ c.leave.ensures.links c.index.result.now at in
+    is_out c.queue.new.parts.links.items c.args.number _ Down (ap (λ ls. slice_get ls c.args.number) left_by ∙ get_set_same c.args.parts.now.links.items c.args.number _ c.requires.known) refl refl
 
 pub settle-requires-clause-room : goal.settle-requires-clause-room
 settle-requires-clause-room c =
     let links = c.args.parts.now.links.items in
     let n = c.args.number in
     let at = found links n c.from.result c.index.result.now c.from.ensures c.requires.known c.index.ensures in
-    let left = c.leave.ensures.links c.index.result.now at in
-    let out = is_out c.leave.new.parts.links.items n _ Down (ap (λ ls. slice_get ls n) left ∙ get_set_same links n _ c.requires.known) refl refl in
-    let low = still_low n links c.leave.new.parts.links.items _ left c.requires.known in
+    let left_by = c.leave.ensures.links c.index.result.now at in
+    let out = is_out c.leave.new.parts.links.items n _ Down (ap (λ ls. slice_get ls n) left_by ∙ get_set_same links n _ c.requires.known) refl refl in
+    let low = still_low n links c.leave.new.parts.links.items _ left_by c.requires.known in
     let elsewhere = c.queue.ensures.elsewhere n low out ∙ ap (λ q. on n q.lists) c.leave.ensures.queues in
     let same = ap (λ ls. target (map link_of ls.items)) c.queue.ensures.links in
-    let beside = beside_left links c.leave.new.parts.links.items n _ left refl in
+    let beside = beside_left links c.leave.new.parts.links.items n _ left_by refl in
     room_after n c.args.parts.now c.leave.new.parts c.queue.new.parts c.requires.room c.leave.ensures.queues beside same elsewhere c.queue.ensures.rooms
 
 pub returns : goal.returns
@@ -51,7 +51,7 @@ returns c = record {
       let at : IsAt n link Up s = record { there = there; phase_is = up } in
       let same = stands_for c.args.parts.now.links.items n c.from.result c.index.result.now c.from.ensures c.requires.known c.index.ensures s.links link a.stands.links there in
       let fsn = c.last_accepted.ensures.value ∙ ap last_accepted same in
-      let mid = left false n link s in
+      let mid = left_by false n link s in
       let first = c.leave.ensures.stands s link there a.stands in
       let told = subst (λ (f : ℕ). StandsFor (kept_of c.queue.new.parts) (queued (Coa n f) mid)) fsn (c.queue.ensures.stands mid first) in
       let sound = queues (Coa n (last_accepted link)) mid (leaves false n link s at a.sound) in

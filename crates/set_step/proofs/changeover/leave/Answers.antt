@@ -1,8 +1,8 @@
 use Rattle.std.proofs.Common.{refl, arith, ◌∙◌, ap, sym, subst}
 use Rattle.set_model.specs.declared.phase.Phase.TheVariants.{Down}
-use Rattle.set_model.specs.Changeover.{leave as left, left_link}
+use Rattle.set_model.specs.Changeover.{left_by, left_link}
 use Rattle.set_model.proofs.Lists.{same_at, length_set}
-use Rattle.set_route.specs.Routing.{Routing, left as streams_left}
+use Rattle.set_route.specs.Routing.{Routing, left_by as streams_left}
 use Rattle.set_step.specs.Agreement.{StandsFor}
 use Rattle.set_step.specs.Parts.{kept_of}
 use Rattle.set_step.proofs.Links.{found, link_set}
@@ -15,7 +15,7 @@ returns-clause-stands c = λ s link there f.
     let n = c.args.number in
     let x = c.index_mut-link.result.now in
     let set = link_set links n c.from.result x c.from.ensures c.requires.known c.index_mut-link.ensures.value (record x { phase = Down; blind = c.args.blind }) s.links link (left_link c.args.blind link) f.links there (λ e. ap (left_link c.args.blind) e) in
-    subst (λ k. StandsFor k (left c.args.blind n link s)) (kept_is _ _ _ _ _ _ _ refl refl refl set (c.divert.ensures ∙ f.routing) refl)
+    subst (λ k. StandsFor k (left_by c.args.blind n link s)) (kept_is _ _ _ _ _ _ _ refl refl refl set (c.divert.ensures ∙ f.routing) refl)
     (link_for (kept_of c.args.parts.now) s n link (left_link c.args.blind link) (streams_left n s.routing) f there refl)
 
 pub returns-clause-links : goal.returns-clause-links

@@ -1,5 +1,5 @@
 use Rattle.std.proofs.Common.{◌∙◌, ap, sym, subst}
-use Rattle.set_model.specs.Changeover.{queue as queued, reply as reply_of, fate_on}
+use Rattle.set_model.specs.Changeover.{queued, reply_of, fate_on}
 use Rattle.set_step.specs.Agreement.{StandsFor}
 use Rattle.set_step.specs.Parts.{kept_of}
 use Rattle.set_step.proofs.Links.{stands_for}

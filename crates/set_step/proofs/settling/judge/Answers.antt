@@ -7,7 +7,7 @@ use Rattle.set_queues.proofs.Passing.{links_stay}
 use Rattle.set_queues.proofs.Soundness.{acked_links}
 use Rattle.set_model.specs.declared.reached.Reached.{Reached}
 use Rattle.set_model.specs.declared.reached.Reached.TheVariants.{Unknown}
-use Rattle.set_model.specs.Changeover.{judge as judged, acknowledged}
+use Rattle.set_model.specs.Changeover.{judged, acknowledged}
 use Rattle.set_model.specs.State.{State, LinkState}
 use Rattle.set_model.proofs.Lists.{length_set}
 use Rattle.set_step.specs.declared.link.Link.{Link}

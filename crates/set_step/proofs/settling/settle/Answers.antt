@@ -1,7 +1,7 @@
 use Rattle.std.proofs.Common.{arith, ◌≤◌, ◌∙◌, ap, sym, subst, ℕ, Option, length, map}
 use Rattle.set_queues.specs.Buffers.{room_at}
 use Rattle.set_queues.specs.Settling.{on as on_lists}
-use Rattle.set_model.specs.Changeover.{judge as judged_state, judged, fate_on}
+use Rattle.set_model.specs.Changeover.{judged, judged_link, fate_on}
 use Rattle.set_model.specs.State.{target, has_phase_up}
 use Rattle.set_step.specs.Parts.{link_of}
 use Rattle.set_step.proofs.Judged.{is_judged}
@@ -25,5 +25,5 @@ pub returns : goal.returns
 returns c = record {
   stands = λ s link there down a.
       let j = is_judged c.args.number link s (record { there = there; phase_is = down }) a.sound c.args.reached in
-      c.move_all.ensures.stands (judged_state c.args.reached c.args.number link s) (judged c.args.reached c.args.number link s.rows) j.at.there (record { stands = c.judge.ensures.stands s link there a.stands; sound = j.sound });
+      c.move_all.ensures.stands (judged c.args.reached c.args.number link s) (judged_link c.args.reached c.args.number link s.rows) j.at.there (record { stands = c.judge.ensures.stands s link there a.stands; sound = j.sound });
 }

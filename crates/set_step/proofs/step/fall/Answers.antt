@@ -1,5 +1,5 @@
 use Rattle.std.proofs.Common.{refl, ◌∙◌, ap, subst}
-use Rattle.set_model.specs.Changeover.{leaving_order, leave as left_by, queue as queued}
+use Rattle.set_model.specs.Changeover.{leaving_order, left_by, queued}
 use Rattle.set_step.specs.Agreement.{StandsFor}
 use Rattle.set_step.specs.Parts.{kept_of}
 use Rattle.set_step.proofs.Links.{found, stands_for}
