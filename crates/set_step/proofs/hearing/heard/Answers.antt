@@ -1,4 +1,5 @@
 use Rattle.std.proofs.Common.{refl, arith, ◌≡◌, ◌≢◌, ◌∙◌, ap, sym, ℕ, slice_get}
+use Rattle.l2_signals.specs.declared.status.Status.{Status}
 use Rattle.l2_units.specs.declared.unit.Header.{Header}
 use Rattle.l2_units.specs.declared.unit.Unit.{Unit as SignalUnit}
 use Rattle.l2_units.specs.declared.unit.Unit.TheVariants.{Fisu, Lssu, Msu}
@@ -17,7 +18,7 @@ use Rattle.set_model.proofs.Lists.{map_at, same_at, within}
 use Rattle.set_step.proofs.Rooms.{counted_roomier}
 use Rattle.set_step.proofs.hearing.heard.Goals as goal
 
-heard_controls : (unit : SignalUnit) (n : ℕ) (s : State) (link : LinkState) → ((status : ℕ) (head : Header) → unit ≢ Lssu head status) → heard unit n s link ≡ controls unit n s link
+heard_controls : (unit : SignalUnit) (n : ℕ) (s : State) (link : LinkState) → ((status : Status) (head : Header) → unit ≢ Lssu head status) → heard unit n s link ≡ controls unit n s link
 heard_controls (Fisu head) n s link other = refl
 heard_controls (Lssu head status) n s link other = absurd (other status head refl)
 heard_controls (Msu head body) n s link other = refl
