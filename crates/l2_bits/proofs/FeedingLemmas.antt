@@ -1,5 +1,5 @@
 -- Some bits at once, of which none comes after five ones
-use Rattle.std.proofs.Common.{◌≡◌, ℕ, ◌+◌, ◌-◌, ◌*◌, ◌/◌, ◌%◌, ◌^◌, ◌<◌, ◌≤◌, inl, inr, Bool, List, [], ◌++◌, take, bit_and, Option, None, ap, sym, ◌∙◌, arith, append_assoc}
+use Rattle.std.proofs.Common.{◌≡◌, ℕ, suc, ◌+◌, ◌-◌, ◌*◌, ◌/◌, ◌%◌, ◌^◌, ◌<◌, ◌≤◌, ◌==◌, inl, inr, Bool, List, [], ◌∷◌, ◌++◌, take, bit_and, Option, None, refl, ap, sym, ◌∙◌, arith, append_assoc, append-nil}
 use Rattle.std.proofs.lemmas.List.{take_at}
 use Rattle.std.proofs.lemmas.Nat.{and_mask}
 use Rattle.std.proofs.lemmas.Nat.Bits.{bit_at-zero, bit_at-trailing_zeros}
@@ -12,8 +12,9 @@ use Rattle.l2_bits.specs.declared.deframing.Deframer.{Deframer}
 use Rattle.l2_bits.specs.declared.marks.Mark.{Mark}
 use Rattle.l2_bits.specs.LineBits.{bits_of}
 use Rattle.l2_bits.specs.Flags.{flag, EndsIn}
-use Rattle.l2_bits.specs.Deframing.{FeedsUpTo}
-use Rattle.l2_bits.proofs.BitLemmas.{bits_of-add, length-bits_of}
+use Rattle.l2_bits.specs.Marks.{IsMark}
+use Rattle.l2_bits.specs.Deframing.{StandsFor, FeedsUpTo}
+use Rattle.l2_bits.proofs.BitLemmas.{bits_of-add, bits_of-suc, length-bits_of}
 use Rattle.l2_bits.proofs.OctetLemmas.{bits_of_mod}
 use Rattle.l2_bits.proofs.PackingLemmas.{joined_bits}
 use Rattle.l2_bits.proofs.MarkLemmas.{marks-append}
@@ -83,4 +84,20 @@ fed_on past all mid rest a b mark first more = record {
       ∙ sym (append_assoc first.taken more.taken rest);
   stands = rw (append_assoc past first.taken more.taken) at more.stands;
   marks = marks-append past first.taken more.taken [] (option_to_list mark) first.marks more.marks;
+}
+
+-- the next bit
+next_bit : (left bits : ℕ) → 0 < left → bits_of left bits ≡ (bits % 2 == 1) ∷ bits_of (left - 1) (bits / 2)
+next_bit left bits some =
+    let split : left ≡ suc (left - 1) = omega arith in
+    ap (λ (k : ℕ). bits_of k bits) split ∙ bits_of-suc (left - 1) bits
+
+pub bit_fed : (past : List Bool) (left bits : ℕ) (new : Deframer) (mark : Option Mark) → 0 < left
+    → StandsFor (past ++ (bits % 2 == 1) ∷ []) new → IsMark past (bits % 2 == 1) mark
+    → FeedsUpTo past (bits_of left bits) (bits_of (left - 1) (bits / 2)) new mark
+bit_fed past left bits new mark some stands is = record {
+  taken = (bits % 2 == 1) ∷ [];
+  split = next_bit left bits some;
+  stands = stands;
+  marks = (mark, [], is, refl, sym (append-nil (option_to_list mark)));
 }

@@ -11,6 +11,8 @@
 
 ghost use Rattle.std.specs.Prelude.{
   ◌≡◌,
+  ◌↔◌,
+  IsTrue,
   ℕ,
   ◌-◌,
   ◌^◌,
@@ -122,7 +124,7 @@ impl Content {
         ensures some { IfSome result (λ n. n ≤ 276) }
         ensures lost { IfSome result (λ n. self.now.len < 279) }
     {
-        if self.more != 6 || self.part != FLAG_PART || self.len < 5 || self.len >= TOO_MANY {
+        if !self.has_flag_part() || self.len < 5 || self.len >= TOO_MANY {
             return None;
         }
         if is_sealed(&self.octets[..self.len as usize]) {
@@ -130,6 +132,13 @@ impl Content {
         } else {
             None
         }
+    }
+
+    /// Whether the bits that make no whole octet are those that a closing flag leaves: a zero and five ones.
+    fn has_flag_part(&self) -> bool
+        ensures { IsTrue result ↔ (self.now.more ≡ 6) × (self.now.part ≡ 62) }
+    {
+        self.more == 6 && self.part == FLAG_PART
     }
 
     /// These octets, at the front.

@@ -14,6 +14,8 @@ ghost use Rattle.std.specs.Prelude.{
   ◌+◌,
   ◌/◌,
   ◌%◌,
+  ◌-◌,
+  ◌==◌,
   ◌^◌,
   ◌<◌,
   ◌≤◌,
@@ -221,6 +223,23 @@ impl Deframer {
         let bits = rest.take(count);
         self.run(bits, count);
     }
+
+    /// Takes the next of these bits, and gives the kind of its mark.
+    #[inline(always)]
+    fn take_bit(&mut self, rest: &mut Rest) -> Option<MarkKind>
+        requires { 0 < rest.old.left }
+        ensures stands { (past : List Bool) → StandsFor past self.old →
+            StandsFor (past ++ (rest.old.bits % 2 == 1) ∷ []) self.new }
+        ensures mark { (past : List Bool) → StandsFor past self.old →
+            IsMark past (rest.old.bits % 2 == 1) (mark_of result (unit_of self.new)) }
+        ensures bits { rest.new.bits ≡ rest.old.bits / 2 }
+        ensures left { rest.new.left ≡ rest.old.left - 1 }
+    {
+        let bit = rest.bits % 2 == 1;
+        rest.bits /= 2;
+        rest.left -= 1;
+        self.step(bit)
+    }
 }
 
 /// The bits of an octet that are still to be fed, the next in the lowest place.
@@ -273,10 +292,7 @@ impl Deframer {
             if rest.left == 0 {
                 return None;
             }
-            let bit = rest.bits & 1 == 1;
-            rest.bits >>= 1;
-            rest.left -= 1;
-            let mark = self.step(bit);
+            let mark = self.take_bit(rest);
             if mark.is_some() {
                 return mark;
             }

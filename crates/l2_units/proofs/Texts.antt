@@ -3,10 +3,12 @@ use Rattle.std.proofs.Common.{refl, arith, ◌≡◌, ◌∙◌, ap, subst, sym,
 use Rattle.std.proofs.lemmas.Bool.Decides.{nat_tests}
 use Rattle.std.proofs.Props.{props}
 use Rattle.std.proofs.lemmas.Grind.{common_steps}
+use Rattle.l2_signals.specs.declared.status.Status.{Status}
+use Rattle.l2_signals.specs.Numbers.{status_number}
 use Rattle.l2_units.specs.declared.unit.Header.{Header}
 use Rattle.l2_units.specs.declared.unit.Unit.{Unit as SignalUnit}
 use Rattle.l2_units.specs.declared.unit.Unit.TheVariants.{Fisu, Lssu, Msu}
-use Rattle.l2_units.specs.Grammar.{StandsFor, IsBodyOf, header_text, sequence_octet, octets_with, length_indicator, unit_of, unit_with, header_in, head_of}
+use Rattle.l2_units.specs.Grammar.{StandsFor, IsBodyOf, header_text, sequence_octet, octets_with, length_indicator, status_of, unit_of, unit_with, header_in, head_of}
 
 -- a header of these fields
 header : (bsn : ℕ) → bsn < 2 ^ 7 → Bool → (fsn : ℕ) → fsn < 2 ^ 7 → Bool → Header
@@ -100,10 +102,21 @@ third_is body spare = let e : (length_indicator body + 64 * spare) % 64 ≡ leng
 read_with : (spare : ℕ) (h : Header) (body : List ℕ) → unit_of (octets_with spare h body) ≡ unit_with h body
 read_with spare h body = rw (third_is body spare, header_again h) refl
 
-status_read : (h : Header) (status : ℕ) (field : List ℕ) → IsBodyOf (Lssu h status) field → unit_with h field ≡ Some (Lssu h status)
+-- the status of a status' number
+status_again : (status : Status) → status_of (status_number status) ≡ status
+status_again Status.OutOfAlignment = refl
+status_again Status.Normal = refl
+status_again Status.Emergency = refl
+status_again Status.OutOfService = refl
+status_again Status.ProcessorOutage = refl
+status_again Status.Busy = refl
+status_again Status.Unassigned6 = refl
+status_again Status.Unassigned7 = refl
+
+status_read : (h : Header) (status : Status) (field : List ℕ) → IsBodyOf (Lssu h status) field → unit_with h field ≡ Some (Lssu h status)
 status_read h status [] is = absurd (omega (arith, is.0))
-status_read h status (x ∷ []) is = ap (λ (n : ℕ). Some (Lssu h n)) is.2
-status_read h status (x ∷ y ∷ []) is = ap (λ (n : ℕ). Some (Lssu h n)) is.2
+status_read h status (x ∷ []) is = rw (is.2, status_again status) refl
+status_read h status (x ∷ y ∷ []) is = rw (is.2, status_again status) refl
 status_read h status (x ∷ y ∷ z ∷ field) is = absurd (omega (arith, is.1))
 
 message_read : (h : Header) (body : List ℕ) → 3 ≤ length body → length body ≤ 273 → unit_with h body ≡ Some (Msu h (record { items = body }))

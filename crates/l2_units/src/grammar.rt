@@ -23,7 +23,7 @@ pub fn same_unit(unit: &Unit, other: &Unit) -> bool
     match (unit, other) {
         (Unit::Fisu { head: a }, Unit::Fisu { head: b }) => same_head(a, b),
         (Unit::Lssu { head: a, status: x }, Unit::Lssu { head: b, status: y }) => {
-            *x == *y && same_head(a, b)
+            x == y && same_head(a, b)
         }
         (Unit::Msu { head: a, body: x }, Unit::Msu { head: b, body: y }) => {
             if !same_head(a, b) {

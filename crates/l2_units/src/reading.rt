@@ -7,6 +7,7 @@ ghost use Rattle.l2_units.specs.Fault.{number_of};
 
 use super::unit::{Header, Unit};
 use arrayvec::ArrayVec;
+use l2_signals::Status;
 use thiserror::Error;
 
 /// Why octets are no signal unit. The first that applies, in this order, is answered.
@@ -59,7 +60,7 @@ pub fn read(octets: &[u8]) -> Result<Unit, UnitFault>
         0 => Ok(Unit::Fisu { head }),
         1 | 2 => Ok(Unit::Lssu {
             head,
-            status: rest[0] % 8,
+            status: Status::of(rest[0]),
         }),
         _ => Ok(Unit::Msu {
             head,

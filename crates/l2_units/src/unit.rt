@@ -2,6 +2,7 @@
 ghost use Rattle.std.specs.Prelude.{◌<◌, ◌^◌};
 
 use arrayvec::ArrayVec;
+use l2_signals::Status;
 
 /// The fewest octets of an MSU's body: the SIO and two octets of SIF (Q.703 2.3.3).
 pub const SHORTEST_BODY: usize = 3;
@@ -36,13 +37,9 @@ pub enum Unit {
         head: Header,
     },
     /// Link status signal unit: tells how the terminal at its sender stands. LI 1 or 2.
-    ///
-    /// The status is 0 to 7, three bits (Q.703 11.1): 0 out of alignment (O), 1 normal
-    /// alignment (N), 2 emergency alignment (E), 3 out of service (OS), 4 processor outage (PO),
-    /// 5 busy (B); 6 and 7 mean nothing.
     Lssu {
         head: Header,
-        status: u8,
+        status: Status,
     },
     /// Message signal unit: SIO and SIF, 3 to 273 octets. LI 3 to 63.
     Msu {

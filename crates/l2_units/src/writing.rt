@@ -1,24 +1,30 @@
 //! A unit to octets.
 ghost use Rattle.std.specs.Prelude.{◌≡◌, ◌+◌, ◌*◌, ◌≤◌, ◌<◌, ◌^◌, ◌++◌, if◌then◌else◌, length};
-ghost use Rattle.l2_units.specs.Grammar.{text, sequence_octet as octet_of};
+ghost use Rattle.l2_units.specs.Grammar.{text, octets_with, sequence_octet as octet_of};
 
-use super::unit::Unit;
+use super::unit::{Header, Unit};
 use arrayvec::ArrayVec;
-use std::slice;
 
 /// The octets of a unit, without check octets: its one text with spare bits 0. An LSSU is sent
 /// with a status field of one octet (own).
 ///
-/// A unit whose body has fewer than 3 octets, or whose status is over 7, is written as it stands,
-/// though no octets are read back as such a unit.
+/// A unit whose body has fewer than 3 octets is written as it stands, though no octets are read
+/// back as such a unit.
 pub fn write(unit: &Unit) -> ArrayVec<u8, 276>
     ensures { result.items ≡ text unit.now }
 {
-    let (head, body): (_, &[u8]) = match unit {
-        Unit::Fisu { head } => (head, &[]),
-        Unit::Lssu { head, status } => (head, slice::from_ref(status)),
-        Unit::Msu { head, body } => (head, body.as_slice()),
-    };
+    match unit {
+        Unit::Fisu { head } => with_body(head, &[]),
+        Unit::Lssu { head, status } => with_body(head, &[status.number()]),
+        Unit::Msu { head, body } => with_body(head, body.as_slice()),
+    }
+}
+
+/// The octets of a header, a length indicator and a body, with spare bits 0.
+fn with_body(head: &Header, body: &[u8]) -> ArrayVec<u8, 276>
+    requires { length body.now ≤ 273 }
+    ensures { result.items ≡ octets_with 0 head.now body.now }
+{
     let mut octets = ArrayVec::new();
     octets.push(sequence_octet(head.bsn, head.bib));
     octets.push(sequence_octet(head.fsn, head.fib));

@@ -1,5 +1,6 @@
 //! Units worked out by hand from Q.703 2.2 and 2.3.
 use arrayvec::ArrayVec;
+use l2_signals::Status;
 use l2_units::*;
 use std::test::Fail;
 
@@ -40,12 +41,22 @@ fn a_wrong_length_indicator_is_refused(rt: HostRuntime) -> Result<(), Fail> {
 fn an_lssu_is_read_by_three_bits(rt: HostRuntime) -> Result<(), Fail> {
     let busy = read(&[0xFF, 0xFF, 2, 5, 0]).map_err(|_| "no unit")?;
     let head = header_in(&busy);
-    assert!(rt; busy == Unit::Lssu { head, status: 5 });
+    assert!(rt;
+        busy == Unit::Lssu {
+            head,
+            status: Status::Busy
+        }
+    );
     assert_eq!(rt; write(&busy).as_slice(), [0xFF, 0xFF, 1, 5].as_slice());
     let spare = read(&[0xFF, 0xFF, 0xC1, 0xFD]).map_err(|_| "no unit")?;
     assert!(rt; same_unit(&busy, &spare));
     let out_of_alignment = read(&[0xFF, 0xFF, 1, 0]).map_err(|_| "no unit")?;
-    assert!(rt; out_of_alignment == Unit::Lssu { head, status: 0 });
+    assert!(rt;
+        out_of_alignment == Unit::Lssu {
+            head,
+            status: Status::OutOfAlignment
+        }
+    );
     assert!(rt; !same_unit(&busy, &out_of_alignment));
     Ok(())
 }

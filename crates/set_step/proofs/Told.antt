@@ -2,6 +2,7 @@
 use Rattle.std.proofs.Common.{refl, arith, ◌≡◌, ◌∙◌, ap, sym, subst, ◌≤◌, ◌+◌, ◌++◌, [], ◌∷◌, List, ℕ, Bool, true, false, ◌==◌, length, Option, Some, None, slice_set}
 use Rattle.std.proofs.lemmas.List.{length-map, map-append}
 use Rattle.arrayvec.specs.declared.array_vec.ArrayVec.{ArrayVec}
+use Rattle.l2_signals.specs.declared.status.Status.{Status}
 use Rattle.l2_units.specs.declared.unit.Header.{Header}
 use Rattle.l2_units.specs.declared.unit.Unit.{Unit as SignalUnit}
 use Rattle.l2_units.specs.declared.unit.Unit.TheVariants.{Fisu, Lssu, Msu}
@@ -64,10 +65,10 @@ module _ (n : ℕ) (s : State) (link : LinkState) (unit : SignalUnit) where
       → Gives (controls unit n s link) (HeardBack report) parts
   heard_gives part took report parts e is o = subst (λ (p : HeardPart). Gives (hears p (header_in unit) unit n s link) (HeardBack report) parts) e (record { answer_is = ap HeardBack (is ∙ ap (report_of part) o.took_is); stands = o.stands })
 
-  pub heard_controls : ((head : Header) (status : ℕ) → unit ≡ Lssu head status → ⊥) → heard_of unit n s link ≡ controls unit n s link
+  pub heard_controls : ((head : Header) (status : Status) → unit ≡ Lssu head status → ⊥) → heard_of unit n s link ≡ controls unit n s link
   heard_controls other = go unit other
     where
-      go : (u : SignalUnit) → ((head : Header) (status : ℕ) → u ≡ Lssu head status → ⊥) → heard_of u n s link ≡ controls u n s link
+      go : (u : SignalUnit) → ((head : Header) (status : Status) → u ≡ Lssu head status → ⊥) → heard_of u n s link ≡ controls u n s link
       go (Fisu head) o = refl
       go (Lssu head status) o = absurd (o head status refl)
       go (Msu head body) o = refl

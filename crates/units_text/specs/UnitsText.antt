@@ -6,6 +6,7 @@ use Rattle.l2_bits.specs.declared.marks.Mark.{Mark}
 use Rattle.l2_bits.specs.declared.marks.Mark.TheVariants.{Good, Bad, Sixteen}
 use Rattle.l2_bits.specs.LineBits.{line_bits}
 use Rattle.l2_bits.specs.Marks.{AreMarks}
+use Rattle.l2_signals.specs.Numbers.{status_number}
 use Rattle.l2_units.specs.declared.unit.Header.{Header}
 use Rattle.l2_units.specs.declared.unit.Unit.{Unit as SignalUnit}
 use Rattle.l2_units.specs.declared.unit.Unit.TheVariants.{Fisu, Lssu, Msu}
@@ -60,7 +61,7 @@ line_head kind h =
 
 abbrev pub unit_text : SignalUnit → List ℕ
 unit_text (Fisu head) = line_head (codes "good fisu") head ++ codes "\n"
-unit_text (Lssu head status) = line_head (codes "good lssu") head ++ (codes " status=" ++ (decimal status ++ codes "\n"))
+unit_text (Lssu head status) = line_head (codes "good lssu") head ++ (codes " status=" ++ (decimal (status_number status) ++ codes "\n"))
 unit_text (Msu head body) = line_head (codes "good msu") head ++ (codes " body=" ++ (hex_text body.items ++ codes "\n"))
 
 -- the number of what is wrong with octets that are no unit: 1 too short, 2 too long, 3 another length indicator

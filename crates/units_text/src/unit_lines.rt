@@ -59,7 +59,7 @@ fn push_unit(unit: &Unit, text: &mut Vec<u8>) -> Result<(), AllocError>
         Unit::Lssu { head, status } => {
             push_head(b"good lssu", *head, text)?;
             text.extend_from_slice(b" status=")?;
-            push_number(*status, text)?;
+            push_number(status.number(), text)?;
             text.extend_from_slice(b"\n")
         }
         Unit::Msu { head, body } => {

@@ -24,15 +24,15 @@ returns-in-0-clause-exact c = sym (stands_is c.args.octets.now (Fisu c.header_of
 
 pub returns-in-1-clause-found : goal.returns-in-1-clause-found
 returns-in-1-clause-found c =
-    text_stands c.args.octets.now _ c.header_of-head.result (Lssu c.header_of-head.result _) c.header_of-head.ensures c.in-len3-up.len_at_least (below c.args.octets.now 2 (c.type_inv.octets 2))
-    (rest_is c.args.octets.now c.in-len3-up.len_at_least) (c.if-third-min.false ∙ c.min.ensures) refl (omega arith, omega arith, refl)
+    text_stands c.args.octets.now _ c.header_of-head.result (Lssu c.header_of-head.result c.of.result) c.header_of-head.ensures c.in-len3-up.len_at_least (below c.args.octets.now 2 (c.type_inv.octets 2))
+    (rest_is c.args.octets.now c.in-len3-up.len_at_least) (c.if-third-min.false ∙ c.min.ensures) refl (omega arith, omega arith, sym c.of.ensures)
 
 pub returns-in-1-clause-only : goal.returns-in-1-clause-only
 returns-in-1-clause-only c unit stands =
-    ap Ok (same_unit c.args.octets.now (Lssu c.header_of-head.result _) unit (returns-in-1-clause-found c) stands)
+    ap Ok (same_unit c.args.octets.now (Lssu c.header_of-head.result c.of.result) unit (returns-in-1-clause-found c) stands)
 
 pub returns-in-1-clause-exact : goal.returns-in-1-clause-exact
-returns-in-1-clause-exact c = sym (stands_is c.args.octets.now (Lssu c.header_of-head.result _) (returns-in-1-clause-found c))
+returns-in-1-clause-exact c = sym (stands_is c.args.octets.now (Lssu c.header_of-head.result c.of.result) (returns-in-1-clause-found c))
 
 pub returns-in_default-len-clause-found : goal.returns-in_default-len-clause-found
 returns-in_default-len-clause-found c =
