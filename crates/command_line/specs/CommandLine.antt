@@ -18,11 +18,12 @@ program_itself = record (new_shape (codes "mtpbank")) {
   has_version = true;
 }
 
+abbrev pub without_subcommands : App
+without_subcommands = record { top = program_itself; subs = [] }
+
 -- two subcommands, which take no words
 abbrev pub program : App
-program =
-    with_subcommand (with_subcommand (record { top = program_itself; subs = [] }) (new_shape (codes "units")))
-    (new_shape (codes "play"))
+program = with_subcommand (with_subcommand without_subcommands (new_shape (codes "units"))) (new_shape (codes "play"))
 
 -- the subcommand that was asked for
 abbrev pub name_of : Words → List ℕ

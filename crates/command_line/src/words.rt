@@ -3,9 +3,9 @@ ghost use Rattle.std.specs.Prelude.{◌≡◌, ◌≢◌, IfErr, IfOk, MatchOpti
 ghost use Rattle.clap.specs.Words.{app_of, subcommand_name_of};
 ghost use Rattle.clap.specs.declared.error.ErrorKind.TheVariants.{InvalidSubcommand, MissingSubcommand, OutOfMemory};
 ghost use Rattle.clap.specs.Values.{kind_of};
-ghost use Rattle.command_line.specs.CommandLine.{program, name_of, named_by, AreWrong, IsKind, Refuses};
+ghost use Rattle.command_line.specs.CommandLine.{program, without_subcommands, name_of, named_by, AreWrong, IsKind, Refuses};
 
-use super::help::{HELP, PLAY_HELP, UNITS_HELP};
+use super::help::{HELP, PLAY_HELP, PLAY_PAGE, PROGRAM_PAGE, UNITS_HELP, UNITS_PAGE};
 use clap::error::ErrorKind;
 use clap::{ArgMatches, Command};
 use std::alloc::{AllocError, Global};
@@ -125,19 +125,28 @@ fn command<'a>(alloc: Global) -> Result<Command<'a>, AllocError>
     ensures { IfOk result (λ command. app_of command ≡ program) }
 {
     let units = Command::new(alloc, "units")
-        .about(
-            "Reads the octets of a line as hexadecimal digits and tells what a signalling terminal sees",
-        )
-        .after_help(UNITS_HELP);
+        .about("Tells what a signalling terminal sees of the octets of a line")
+        .after_help(UNITS_PAGE)
+        .after_long_help(UNITS_HELP);
     let play = Command::new(alloc, "play")
-        .about("Plays a script of two ends of a link set from standard input, line by line")
-        .after_help(PLAY_HELP);
-    Command::new(alloc, "mtpbank")
-        .version("0.1.0")
-        .about("A proved bank of signalling terminals for Signalling System No. 7")
-        .no_binary_name(true)
-        .subcommand_required(true)
-        .after_help(HELP)
-        .subcommand(units)?
-        .subcommand(play)
+        .about("Plays a script of two ends of a link set, line by line")
+        .after_help(PLAY_PAGE)
+        .after_long_help(PLAY_HELP);
+    itself(alloc)?.subcommand(units)?.subcommand(play)
+}
+
+/// The program's words but for its subcommands.
+fn itself<'a>(alloc: Global) -> Result<Command<'a>, AllocError>
+    ensures { IfOk result (λ command. app_of command ≡ without_subcommands) }
+{
+    let named = Command::new(alloc, "mtpbank").bin_name("mtpbank")?;
+    Ok(
+        named
+            .version("0.1.0")
+            .about("A proved bank of signalling terminals for Signalling System No. 7")
+            .no_binary_name(true)
+            .subcommand_required(true)
+            .after_help(PROGRAM_PAGE)
+            .after_long_help(HELP),
+    )
 }
