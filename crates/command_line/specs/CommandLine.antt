@@ -1,8 +1,10 @@
 -- THE COMMAND LINE: the words behind the program's name, as the library that reads them defines it.
-use Rattle.std.specs.Prelude.{◌≡◌, ◌≢◌, ℕ, true, List, [], codes, Option, Some, map}
+use Rattle.std.specs.Prelude.{◌≡◌, ◌≢◌, ℕ, true, List, [], codes, Option, Some}
 use Rattle.std.specs.Option.{option_map}
 use Rattle.clap.specs.Words.{App, Shape, with_subcommand, subcommand_of, takes}
 use Rattle.clap.specs.Simple.{new_shape}
+use Rattle.clap.specs.Values.{kind_of}
+use Rattle.clap.specs.declared.error.kind.ErrorKind.{ErrorKind}
 use Rattle.command_line.specs.declared.words.Words.{Words}
 use Rattle.command_line.specs.declared.words.Words.TheVariants.{Units, Play}
 use Rattle.command_line.specs.declared.words.WordsFault.{WordsFault}
@@ -10,13 +12,18 @@ use Rattle.command_line.specs.declared.words.WordsFault.TheVariants.{NoMemory, W
 
 -- no program's name comes first, there is a version, and a subcommand has to be there
 abbrev pub program_itself : Shape
-program_itself = record (new_shape (codes "mtpbank")) { no_binary_name = true; subcommand_required = true; has_version = true }
+program_itself = record (new_shape (codes "mtpbank")) {
+  no_binary_name = true;
+  subcommand_required = true;
+  has_version = true;
+}
+
+abbrev pub without_subcommands : App
+without_subcommands = record { top = program_itself; subs = [] }
 
 -- two subcommands, which take no words
 abbrev pub program : App
-program =
-    with_subcommand (with_subcommand (record { top = program_itself; subs = [] }) (new_shape (codes "units")))
-    (new_shape (codes "play"))
+program = with_subcommand (with_subcommand without_subcommands (new_shape (codes "units"))) (new_shape (codes "play"))
 
 -- the subcommand that was asked for
 abbrev pub name_of : Words → List ℕ
@@ -40,3 +47,8 @@ Refuses (WrongWords error) words = IsRefused words
 abbrev pub AreWrong : WordsFault → Type 0
 AreWrong NoMemory = ⊥
 AreWrong (WrongWords error) = Unit {0}
+
+-- the library tells the wrong words as this kind of error
+abbrev pub IsKind : ErrorKind → WordsFault → Type 0
+IsKind kind NoMemory = Unit {0}
+IsKind kind (WrongWords error) = kind_of error ≡ kind

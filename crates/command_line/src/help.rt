@@ -1,8 +1,39 @@
-//! What help says.
+//! What help says below usage and options: `-h` a page of at most 80 columns, `--help` all there is to say.
+
+pub(crate) const PROGRAM_PAGE: &str = "\
+Both read standard input to its end, and print what they see line by line:
+  mtpbank play < examples/changeover.play
+The status is 0, or 1 after a fault, or 2 where the words are wrong.
+`mtpbank play --help` and `mtpbank units --help` say how, and list each fault.";
+
+pub(crate) const UNITS_PAGE: &str = "\
+Standard input is hexadecimal digits, two an octet, fed lowest bit first:
+  echo 7edff705f8beaf1f | mtpbank units
+Each line that is printed is a mark: a good unit (fisu, lssu or msu), a bad one,
+or sixteen octets counted without a good one; the last line counts them.
+`mtpbank units --help` says what each mark tells, and each fault.";
+
+pub(crate) const PLAY_PAGE: &str = "\
+Standard input is a script of two ends, a and b. Its first line opens them,
+  set links=2 method=basic a=2 b=1 sio=80
+and each other asks end E for one thing, mostly on link L:
+  offer, take, find       a user's message is handed over, taken, looked for
+  emit, arrive, lose      a unit is sent, arrives at the other end, is lost
+  hear                    octets of any unit are heard
+  together                the link comes up, at both ends
+  down, blind             the link fails, and an order tells the other end
+  noanswer                nobody answered that order
+`mtpbank play --help` says how each line is written, what it prints, and each
+fault. Begin with `mtpbank play < examples/first_message.play`.";
 
 pub(crate) const HELP: &str = "\
 Both read standard input to its end, as in `mtpbank play < examples/changeover.play`. `mtpbank play --help` says
-how a script is written and what it prints, `mtpbank units --help` which digits are read and what is printed.
+how a script is written and what it prints, `mtpbank units --help` which digits are read and what is printed;
+with `-h` each is a page. A fault is one line on standard error, and what was printed before it stays:
+  fault line N text, fault line N step               a line of a script can't be read, or can't be done
+  fault octet P                                      a character is no hexadecimal digit, or one is left over
+  fault read, fault write, fault memory              standard input, standard output or memory failed
+  fault exhausted                                    the history of an end is full
 The status is 0, or 1 after a fault, or 2 where the words of the command line are wrong.";
 
 pub(crate) const UNITS_HELP: &str = "\

@@ -1,11 +1,11 @@
 //! The words of the command line.
 ghost use Rattle.std.specs.Prelude.{◌≡◌, ◌≢◌, IfErr, IfOk, MatchOption, Some, map};
 ghost use Rattle.clap.specs.Words.{app_of, subcommand_name_of};
-ghost use Rattle.clap.specs.declared.error.ErrorKind.TheVariants.{OutOfMemory};
+ghost use Rattle.clap.specs.declared.error.ErrorKind.TheVariants.{InvalidSubcommand, MissingSubcommand, OutOfMemory};
 ghost use Rattle.clap.specs.Values.{kind_of};
-ghost use Rattle.command_line.specs.CommandLine.{program, name_of, named_by, AreWrong, Refuses};
+ghost use Rattle.command_line.specs.CommandLine.{program, without_subcommands, name_of, named_by, AreWrong, IsKind, Refuses};
 
-use super::help::{HELP, PLAY_HELP, UNITS_HELP};
+use super::help::{HELP, PLAY_HELP, PLAY_PAGE, PROGRAM_PAGE, UNITS_HELP, UNITS_PAGE};
 use clap::error::ErrorKind;
 use clap::{ArgMatches, Command};
 use std::alloc::{AllocError, Global};
@@ -68,7 +68,9 @@ fn found_by<'a>(command: &mut Command<'a>, words: &'a [&'a str]) -> Result<Words
 
 /// The subcommand that was found.
 fn named(matches: &ArgMatches<'_>) -> Option<Words>
-    ensures { MatchOption result ((asked : Words) → subcommand_name_of matches.now ≢ Some (name_of asked)) (λ asked. subcommand_name_of matches.now ≡ Some (name_of asked)) }
+    ensures { MatchOption result
+        ((asked : Words) → subcommand_name_of matches.now ≢ Some (name_of asked))
+        (λ asked. subcommand_name_of matches.now ≡ Some (name_of asked)) }
 {
     match matches.subcommand_name() {
         Some("units") => Some(Words::Units),
@@ -78,15 +80,22 @@ fn named(matches: &ArgMatches<'_>) -> Option<Words>
 }
 
 /// The words name no subcommand of the program.
-fn nothing_asked(command: &mut Command<'_>) -> WordsFault {
+fn nothing_asked(command: &mut Command<'_>) -> WordsFault
+    ensures { IsKind MissingSubcommand result }
+{
     match command.error(ErrorKind::MissingSubcommand, "a subcommand is wanted") {
         Ok(error) => WordsFault::Words(error),
         Err(_) => WordsFault::NoMemory,
     }
 }
 
-/// A word that isn't Unicode is none of the program's.
-pub fn not_unicode(alloc: Global) -> WordsFault {
+/// What is answered where a word isn't Unicode: it's no subcommand of the program.
+///
+/// 1 [`WordsFault::NoMemory`] may come in its place; 2 [`WordsFault::Words`] is of the kind
+/// [`ErrorKind::InvalidSubcommand`], so it's told on standard error, with status 2.
+pub fn not_unicode(alloc: Global) -> WordsFault
+    ensures { IsKind InvalidSubcommand result }
+{
     match refusal(alloc) {
         Ok(error) => fault_of(error),
         Err(_) => WordsFault::NoMemory,
@@ -94,13 +103,16 @@ pub fn not_unicode(alloc: Global) -> WordsFault {
 }
 
 /// What is said of a word that isn't Unicode.
-fn refusal(alloc: Global) -> Result<clap::Error, AllocError> {
+fn refusal(alloc: Global) -> Result<clap::Error, AllocError>
+    ensures { IfOk result (λ error. kind_of error ≡ InvalidSubcommand) }
+{
     command(alloc)?.error(ErrorKind::InvalidSubcommand, "a word isn't Unicode")
 }
 
 /// Want of memory is no fault of the words.
 fn fault_of(error: clap::Error) -> WordsFault
-    ensures { AreWrong result → kind_of error ≢ OutOfMemory }
+    ensures wrong { AreWrong result → kind_of error ≢ OutOfMemory }
+    ensures kind { IsKind (kind_of error) result }
 {
     match error.kind() {
         ErrorKind::OutOfMemory => WordsFault::NoMemory,
@@ -113,19 +125,28 @@ fn command<'a>(alloc: Global) -> Result<Command<'a>, AllocError>
     ensures { IfOk result (λ command. app_of command ≡ program) }
 {
     let units = Command::new(alloc, "units")
-        .about(
-            "Reads the octets of a line as hexadecimal digits and tells what a signalling terminal sees",
-        )
-        .after_help(UNITS_HELP);
+        .about("Tells what a signalling terminal sees of the octets of a line")
+        .after_help(UNITS_PAGE)
+        .after_long_help(UNITS_HELP);
     let play = Command::new(alloc, "play")
-        .about("Plays a script of two ends of a link set from standard input, line by line")
-        .after_help(PLAY_HELP);
-    Command::new(alloc, "mtpbank")
-        .version("0.1.0")
-        .about("A proved bank of signalling terminals for Signalling System No. 7")
-        .no_binary_name(true)
-        .subcommand_required(true)
-        .after_help(HELP)
-        .subcommand(units)?
-        .subcommand(play)
+        .about("Plays a script of two ends of a link set, line by line")
+        .after_help(PLAY_PAGE)
+        .after_long_help(PLAY_HELP);
+    itself(alloc)?.subcommand(units)?.subcommand(play)
+}
+
+/// The program's words but for its subcommands.
+fn itself<'a>(alloc: Global) -> Result<Command<'a>, AllocError>
+    ensures { IfOk result (λ command. app_of command ≡ without_subcommands) }
+{
+    let named = Command::new(alloc, "mtpbank").bin_name("mtpbank")?;
+    Ok(
+        named
+            .version("0.1.0")
+            .about("A proved bank of signalling terminals for Signalling System No. 7")
+            .no_binary_name(true)
+            .subcommand_required(true)
+            .after_help(PROGRAM_PAGE)
+            .after_long_help(HELP),
+    )
 }

@@ -3,7 +3,7 @@
 //! | text | is read by | is written by |
 //! |---|---|---|
 //! | a decimal number below 2^64, without leading zeros | [`number_of`] | the standard library |
-//! | an octet: two hexadecimal digits, the high one first, of either case | [`octet_of`] | [`push_hex`], in lower case |
+//! | an octet: two hexadecimal digits, high one first | [`octet_of`], of either case | [`push_hex`], in lower case |
 //! | octets: two digits each, nothing between them | [`octets_of`] | [`push_hex`], in lower case |
 //! | yes or no, as 1 or 0 | | [`bit`] |
 //!

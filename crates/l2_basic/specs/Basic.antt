@@ -91,9 +91,12 @@ pub record IsNext (old new : BasicState) (window window' : WindowState) (sending
   -- (5.3.2) while messages wait for retransmission, they are sent in sequence
   pub repeats : old.cursor < length window.unacked → IsMessageAnd sending (Repeats old new window window')
   -- (5.3.2) new messages follow the last of those, (5.2.2) with at most 127 unacknowledged
-  pub sends : length window.unacked ≤ old.cursor → window.unsent ≢ [] → length window.unacked < 127 → IsMessageAnd sending (SendsNew old new window window')
-  pub idle : length window.unacked ≤ old.cursor → window.unsent ≡ [] → IsFillAnd sending (Fills old new window window')
-  pub full : length window.unacked ≤ old.cursor → 127 ≤ length window.unacked → IsFillAnd sending (Fills old new window window')
+  pub sends : length window.unacked ≤ old.cursor → window.unsent ≢ [] → length window.unacked < 127
+      → IsMessageAnd sending (SendsNew old new window window')
+  pub idle : length window.unacked ≤ old.cursor → window.unsent ≡ []
+      → IsFillAnd sending (Fills old new window window')
+  pub full : length window.unacked ≤ old.cursor → 127 ≤ length window.unacked
+      → IsFillAnd sending (Fills old new window window')
 
 -- WHAT A HEARD FISU OR MSU MEANS.
 
@@ -178,10 +181,14 @@ control_heard state window head is_msu = record {
 }
 
 -- The same as a relation of the control and of the window before and after.
-pub record Hears (head : Header) (is_msu : Bool) (old new : BasicState) (window window' : WindowState) (part : HeardPart) : Type 0 where
+pub record Hears (head : Header) (is_msu : Bool) (old new : BasicState)
+    (window window' : WindowState) (part : HeardPart) : Type 0 where
   -- (5.3.1) the messages up to the BSN are acknowledged, and only they
   pub acked : part.acked ≡ (if is_processed old window head then distance_to window head.bsn else 0)
-  pub acknowledges : window' ≡ record window { last = if is_processed old window head then head.bsn else window.last; unacked = drop part.acked window.unacked }
+  pub acknowledges : window' ≡ record window {
+    last = if is_processed old window head then head.bsn else window.last;
+    unacked = drop part.acked window.unacked;
+  }
   -- (5.2.2, 5.2.3) the FSN of an accepted message is the BSN from now on
   pub accept : part.accept ≡ is_accepted old window head is_msu
   pub accepted : new.accepted ≡ (if part.accept then head.fsn else old.accepted)

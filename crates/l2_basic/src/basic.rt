@@ -28,7 +28,15 @@ impl Model for Basic {
 
     ghost Value = { BasicState };
 
-    ghost view = { λ b. record { accepted = b.accepted; bib = b.bib; fib = b.fib; asked = b.asked; cursor = b.cursor; bsns = b.bsns; fibs = b.fibs } };
+    ghost view = { λ b. record {
+      accepted = b.accepted;
+      bib = b.bib;
+      fib = b.fib;
+      asked = b.asked;
+      cursor = b.cursor;
+      bsns = b.bsns;
+      fibs = b.fibs;
+    } };
 
     ghost invariant = { λ b. b.accepted < 128 };
 }
@@ -182,7 +190,10 @@ impl Basic {
     /// three consecutive units is a fault (Q.703 5.3.1, 5.3.2).
     fn told(&mut self, abnormal_bsn: bool, abnormal_fib: bool) -> Option<ControlFault>
         ensures fault { result ≡ told_fault abnormal_bsn abnormal_fib self.old }
-        ensures state { self.new ≡ record self.old { bsns = (abnormal_bsn, self.old.bsns.0); fibs = (abnormal_fib, self.old.fibs.0) } }
+        ensures state { self.new ≡ record self.old {
+          bsns = (abnormal_bsn, self.old.bsns.0);
+          fibs = (abnormal_fib, self.old.fibs.0);
+        } }
     {
         let second_bsn = abnormal_bsn && (self.bsns.0 || self.bsns.1);
         let second_fib = abnormal_fib && (self.fibs.0 || self.fibs.1);

@@ -47,7 +47,8 @@ is_over_a_limit state window octets = nat_le state.n1 (length window.unacked) ||
 
 -- (6.4.1) there is something to send again, and a forced cycle goes on or starts now
 abbrev pub is_forced : PcrState → WindowState → ℕ → Bool
-is_forced state window octets = nat_lt 0 (length window.unacked) && (state.forced || is_over_a_limit state window octets)
+is_forced state window octets =
+    nat_lt 0 (length window.unacked) && (state.forced || is_over_a_limit state window octets)
 
 -- where the cycle is; a forced one starts with the oldest message (own)
 abbrev pub cycle_place : Bool → PcrState → WindowState → ℕ
@@ -84,7 +85,8 @@ pub record IsHead (state : PcrState) (number : ℕ) (head : Header) : Type 0 whe
   pub fib : head.fib ≡ true
 
 -- the unacknowledged message at this place is sent again, and the next one is due
-pub record Repeats (place : ℕ) (forced : Bool) (old new : PcrState) (window window' : WindowState) (message : ℕ) (head : Header) : Type 0 where
+pub record Repeats (place : ℕ) (forced : Bool) (old new : PcrState)
+    (window window' : WindowState) (message : ℕ) (head : Header) : Type 0 where
   pub at_place : slice_get window.unacked place ≡ Some message
   pub header : IsHead old (fsn_at window place) head
   pub moves_on : new ≡ record old { place = round (length window.unacked) (place + 1); forced = forced }
@@ -104,13 +106,18 @@ pub record Fills (old new : PcrState) (window window' : WindowState) (head : Hea
 
 pub record IsNext (octets : ℕ) (old new : PcrState) (window window' : WindowState) (sending : Sending) : Type 0 where
   -- (6.4.1) a forced cycle sends all unacknowledged messages, and ends with the last
-  pub forced : is_forced old window octets ≡ true → let place = cycle_place (not old.forced) old window in IsMessageAnd sending (Repeats place (nat_lt (place + 1) (length window.unacked)) old new window window')
+  pub forced : is_forced old window octets ≡ true → let place = cycle_place (not old.forced) old window in
+      IsMessageAnd sending (Repeats place (nat_lt (place + 1) (length window.unacked)) old new window window')
   -- (6.3.2) else new messages go first, with at most 127 unacknowledged
-  pub sends : is_forced old window octets ≡ false → window.unsent ≢ [] → length window.unacked < 127 → IsMessageAnd sending (SendsNew old new window window')
+  pub sends : is_forced old window octets ≡ false → window.unsent ≢ [] → length window.unacked < 127
+      → IsMessageAnd sending (SendsNew old new window window')
   -- (6.3.2) with no new one the unacknowledged ones are sent cyclically
-  pub cyclic : is_forced old window octets ≡ false → window.unsent ≡ [] → 0 < length window.unacked → IsMessageAnd sending (Repeats (cycle_place false old window) false old new window window')
-  pub full : is_forced old window octets ≡ false → 127 ≤ length window.unacked → IsMessageAnd sending (Repeats (cycle_place false old window) false old new window window')
-  pub idle : is_forced old window octets ≡ false → window.unsent ≡ [] → window.unacked ≡ [] → IsFillAnd sending (Fills old new window window')
+  pub cyclic : is_forced old window octets ≡ false → window.unsent ≡ [] → 0 < length window.unacked
+      → IsMessageAnd sending (Repeats (cycle_place false old window) false old new window window')
+  pub full : is_forced old window octets ≡ false → 127 ≤ length window.unacked
+      → IsMessageAnd sending (Repeats (cycle_place false old window) false old new window window')
+  pub idle : is_forced old window octets ≡ false → window.unsent ≡ [] → window.unacked ≡ []
+      → IsFillAnd sending (Fills old new window window')
 
 -- WHAT A HEARD FISU OR MSU MEANS.
 
@@ -164,19 +171,26 @@ control_heard state window head is_msu =
     }
 
 -- The same as a relation of the control and of the window before and after.
-pub record Hears (head : Header) (is_msu : Bool) (old new : PcrState) (window window' : WindowState) (part : HeardPart) : Type 0 where
+pub record Hears (head : Header) (is_msu : Bool) (old new : PcrState)
+    (window window' : WindowState) (part : HeardPart) : Type 0 where
   -- (6.3.1) the messages up to the BSN are acknowledged, and only they
   pub acked : part.acked ≡ (if has_abnormal_bsn window head then 0 else distance_to window head.bsn)
-  pub acknowledges : window' ≡ record window { last = if has_abnormal_bsn window head then window.last else head.bsn; unacked = drop part.acked window.unacked }
+  pub acknowledges : window' ≡ record window {
+    last = if has_abnormal_bsn window head then window.last else head.bsn;
+    unacked = drop part.acked window.unacked;
+  }
   -- (6.2.2) the FSN of an accepted message is the BSN from now on
   pub accept : part.accept ≡ is_accepted old window head is_msu
   pub accepted : new.accepted ≡ (if part.accept then head.fsn else old.accepted)
   pub asked : part.asked ≡ false
   pub resend : part.resend ≡ false
   -- the cycle goes on at the message that was due, or with the oldest where that one left
-  pub place : new.place ≡ (if has_abnormal_bsn window head then old.place else round (length window'.unacked) (old.place - part.acked))
+  pub place : new.place
+      ≡ (if has_abnormal_bsn window head then old.place else round (length window'.unacked) (old.place - part.acked))
   -- a forced cycle ends where none of its messages is left
-  pub forced : new.forced ≡ (if has_abnormal_bsn window head then old.forced else old.forced && nat_lt (old.place - part.acked) (length window'.unacked))
+  pub forced : new.forced
+      ≡ (if has_abnormal_bsn window head then old.forced
+      else old.forced && nat_lt (old.place - part.acked) (length window'.unacked))
   -- two abnormal ones in three consecutive units are told
   pub fault : part.fault ≡ (if is_second (has_abnormal_bsn window head) old.bsns then Some Bsn else None)
   pub bsns : new.bsns ≡ (has_abnormal_bsn window head, old.bsns.0)

@@ -27,7 +27,14 @@ impl Model for Pcr {
 
     ghost Value = { PcrState };
 
-    ghost view = { λ p. record { n1 = p.n1; n2 = p.n2; accepted = p.accepted; place = p.place; forced = p.forced; bsns = p.bsns } };
+    ghost view = { λ p. record {
+      n1 = p.n1;
+      n2 = p.n2;
+      accepted = p.accepted;
+      place = p.place;
+      forced = p.forced;
+      bsns = p.bsns;
+    } };
 
     ghost invariant = { λ p. p.accepted < 128 };
 }

@@ -64,7 +64,8 @@ raised = sending Sending.Traffic (timing TimerOrder.Stop (telling Told.Up (silen
 
 -- out of service, for this cause
 abbrev pub down : Cause → Row
-down cause = sending Sending.OutOfService (timing TimerOrder.Stop (telling (Told.Down cause) (silent State.OutOfService)))
+down cause =
+    sending Sending.OutOfService (timing TimerOrder.Stop (telling (Told.Down cause) (silent State.OutOfService)))
 
 -- taken out of service at this end
 abbrev pub stopped : Row

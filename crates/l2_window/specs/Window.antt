@@ -71,7 +71,9 @@ pub record Pops (message : ℕ) (old new : WindowState) : Type 0 where
 
 -- LAW: the number of an unacknowledged message tells its place, and no two of them share a number
 abbrev pub NumbersTellPlaces : Type 0
-NumbersTellPlaces = (window : WindowState) (place number : ℕ) → IsWindow window → place < length window.unacked → number < 128 → (fsn_at window place ≡ number) ↔ (distance_to window number ≡ place + 1)
+NumbersTellPlaces =
+    (window : WindowState) (place number : ℕ) → IsWindow window → place < length window.unacked → number < 128
+    → (fsn_at window place ≡ number) ↔ (distance_to window number ≡ place + 1)
 
 -- One direction of a link, counted in whole numbers since its life began: of `acked` messages the
 -- window knows that they were accepted, `taken` were.
@@ -84,13 +86,18 @@ pub record IsOnLink (acked taken : ℕ) (window : WindowState) : Type 0 where
 -- LAW: numbers modulo 128 never mislead, since all that can meet lie in one span of 128
 pub record TellsCounts (acked taken : ℕ) (window : WindowState) : Type 0 where
   -- the BSN of a unit that was sent when so many had been accepted acknowledges just those
-  pub backward : (count : ℕ) → acked ≤ count → count ≤ taken → acked + distance_to window ((count + 127) % 128) ≡ count
+  pub backward : (count : ℕ) → acked ≤ count → count ≤ taken
+      → acked + distance_to window ((count + 127) % 128) ≡ count
   -- a message that was sent when so many had been sent is the next to be accepted exactly if its
   -- FSN is the next one
-  pub forward : (place sent : ℕ) → place < sent → sent ≤ place + 127 → taken ≤ sent → sent ≤ acked + length window.unacked → (place % 128 ≡ taken % 128) ↔ (place ≡ taken)
+  pub forward : (place sent : ℕ) → place < sent → sent ≤ place + 127
+      → taken ≤ sent → sent ≤ acked + length window.unacked
+      → (place % 128 ≡ taken % 128) ↔ (place ≡ taken)
   -- a FISU that was sent when so many had been sent has the FSN last accepted exactly if all those
   -- were accepted
-  pub fill : (sent : ℕ) → taken ≤ sent → sent ≤ acked + length window.unacked → ((sent + 127) % 128 ≡ (taken + 127) % 128) ↔ (sent ≡ taken)
+  pub fill : (sent : ℕ) → taken ≤ sent → sent ≤ acked + length window.unacked
+      → ((sent + 127) % 128 ≡ (taken + 127) % 128) ↔ (sent ≡ taken)
 
 abbrev pub NumbersNeverMislead : Type 0
-NumbersNeverMislead = (acked taken : ℕ) (window : WindowState) → IsOnLink acked taken window → TellsCounts acked taken window
+NumbersNeverMislead =
+    (acked taken : ℕ) (window : WindowState) → IsOnLink acked taken window → TellsCounts acked taken window

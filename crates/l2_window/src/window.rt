@@ -31,7 +31,12 @@ impl Model for Window {
 
     ghost Value = { WindowState };
 
-    ghost view = { λ w. record { last = w.last; unacked = w.unacked.items; unsent = w.unsent.messages; room = w.unsent.room } };
+    ghost view = { λ w. record {
+      last = w.last;
+      unacked = w.unacked.items;
+      unsent = w.unsent.messages;
+      room = w.unsent.room;
+    } };
 
     ghost use Rattle.l2_window.specs.Stored.{IsStored};
 
@@ -163,7 +168,10 @@ impl Window {
     pub fn ack(&mut self, number: u8) -> Result<u8, WindowFault>
         requires { number < 128 }
         ensures acked { OkIff result (IsReasonable self.old number) (distance_to self.old number) }
-        ensures ok { OnOk result (self.new ≡ record self.old { last = number; unacked = drop (distance_to self.old number) self.old.unacked }) }
+        ensures ok { OnOk result (self.new ≡ record self.old {
+          last = number;
+          unacked = drop (distance_to self.old number) self.old.unacked;
+        }) }
         ensures unreasonable { OnErr result (result ≡ Err WindowFault.Unreasonable) }
         ensures err { OnErr result (self.new ≡ self.old) }
     {

@@ -16,7 +16,9 @@ is_emergency code = (code == heading 2 1) || (code == heading 2 2)
 
 -- the six heading codes
 abbrev pub is_heading : ℕ → Bool
-is_heading code = (code == heading 1 1) || (code == heading 1 2) || (code == heading 1 5) || (code == heading 1 6) || is_emergency code
+is_heading code =
+    (code == heading 1 1) || (code == heading 1 2) || (code == heading 1 5) || (code == heading 1 6)
+    || is_emergency code
 
 -- a heading code with these octets after it is refused: it is none of the six, or has another length
 abbrev pub refusal_with : ℕ → List ℕ → Option OrderFault

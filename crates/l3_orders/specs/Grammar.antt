@@ -111,7 +111,9 @@ order_of [] = None
 
 -- LAW: read from the left or as a relation, the grammar says the same of whole octets
 abbrev pub IsOneGrammar : Type 0
-IsOneGrammar = (octets : List ℕ) (order : Order) → All (λ octet. octet < 256) octets → (order_of octets ≡ Some order) ↔ StandsFor octets order
+IsOneGrammar =
+    (octets : List ℕ) (order : Order) → All (λ octet. octet < 256) octets
+    → (order_of octets ≡ Some order) ↔ StandsFor octets order
 
 -- the text of an order stands for it, and for no other
 pub record IsTheTextOf (order : Order) (sio dpc opc : ℕ) : Type 0 where

@@ -1,11 +1,12 @@
 //! Laws that speak of the grammar alone.
 ghost use Rattle.std.specs.Prelude.{ℕ};
 ghost use Rattle.l3_orders.specs.Grammar.{IsEnvelope, IsOneGrammar, IsOrder, IsTheTextOf};
-ghost use Rattle.l3_orders.specs.declared.order.Order.{Order as AnyOrder};
+ghost use Rattle.l3_orders.specs.declared.order.Order.{Order};
 
 /// The text of an order stands for that order, and for no other.
 pub fn one_text()
-    ensures { (order : AnyOrder) (sio dpc opc : ℕ) → IsOrder order → IsEnvelope sio dpc opc → IsTheTextOf order sio dpc opc }
+    ensures { (order : Order) (sio dpc opc : ℕ)
+        → IsOrder order → IsEnvelope sio dpc opc → IsTheTextOf order sio dpc opc }
 {}
 
 /// The grammar read from the left finds an order exactly where octets stand for it.

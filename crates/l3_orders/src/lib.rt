@@ -29,7 +29,7 @@
 //! | ECO emergency changeover order | 0x12 | 2 | 1 | none | 6 |
 //! | ECA its acknowledgement | 0x22 | 2 | 2 | none | 6 |
 //!
-//! The spare bit is sent as 0 and not looked at when read. Point codes aren't looked at when read.
+//! The spare bit is sent as 0; when read, it isn't looked at, nor are the point codes and the subservice field (own).
 //!
 //! This crate never acts on an order, knows neither links nor messages, and takes no memory.
 #![tactic(auto)]

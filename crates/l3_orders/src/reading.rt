@@ -1,7 +1,7 @@
 //! A body to an order.
 ghost use Rattle.std.specs.Prelude.{◌≡◌, IfOk};
 ghost use Rattle.std.specs.Result.{result_ok, result_err};
-ghost use Rattle.l3_orders.specs.declared.order.Order.{Order as AnyOrder};
+ghost use Rattle.l3_orders.specs.declared.order.Order.{Order};
 ghost use Rattle.l3_orders.specs.Grammar.{StandsFor, order_of, order_with};
 ghost use Rattle.l3_orders.specs.Fault.{number_of, refusal_of, refusal_with};
 
@@ -39,7 +39,7 @@ impl OrderFault {
 /// codes and the spare bit aren't looked at.
 pub fn read_order(octets: &[u8]) -> Result<Order, OrderFault>
     ensures found { IfOk result (λ order. StandsFor octets.now order) }
-    ensures only { (order : AnyOrder) → StandsFor octets.now order → result ≡ Ok order }
+    ensures only { (order : Order) → StandsFor octets.now order → result ≡ Ok order }
     ensures exact { result_ok result ≡ order_of octets.now }
     ensures refused { result_err result ≡ refusal_of octets.now }
 {

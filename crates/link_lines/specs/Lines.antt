@@ -34,4 +34,6 @@ IsTakenFrom (Some unit) old place new = (slice_get old place ≡ Some unit) × (
 -- the same on a link
 abbrev pub IsTakenOut : Option SignalUnit → ℕ → ℕ → List (List SignalUnit) → List (List SignalUnit) → Type 0
 IsTakenOut None link place old new = (length (units_on link old) ≤ place) × (new ≡ old)
-IsTakenOut (Some unit) link place old new = (slice_get (units_on link old) place ≡ Some unit) × (new ≡ with_units link (without place (units_on link old)) old)
+IsTakenOut (Some unit) link place old new =
+    (slice_get (units_on link old) place ≡ Some unit)
+    × (new ≡ with_units link (without place (units_on link old)) old)

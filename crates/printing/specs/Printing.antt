@@ -39,19 +39,29 @@ IsOfText Exhausted = Unit {0}
 IsOfText Read = ⊥
 IsOfText Write = ⊥
 
--- In what follows HasRead tells of an input's octets and what they have printed that a printer has come so far, and
--- IsText which text an input has. An input has at most 2^24 octets.
+-- which text an input has
+abbrev pub Texts : Type 1
+Texts = List ℕ → Printed → Type 0
+
+-- how far a printer has come: that it has read these octets, and they have printed these
+abbrev pub Progress : Type 1
+Progress = List ℕ → List ℕ → Type 0
+
+-- In what follows IsText is such a text, HadRead and HasRead how far a printer had and has come. An input has at most
+-- 2^24 octets.
 
 -- these octets were read, and what they print was added; it is the beginning of the text, whatever follows
-pub record Reads (IsText : List ℕ → Printed → Type 0) (HadRead : List ℕ → List ℕ → Type 0) (octets before after : List ℕ) (HasRead : List ℕ → List ℕ → Type 0) : Type 0 where
+pub record Reads (IsText : Texts) (HadRead : Progress)
+    (octets before after : List ℕ) (HasRead : Progress) : Type 0 where
   pub printed : List ℕ
   pub added : after ≡ before ++ printed
-  pub goes_on : (past lines : List ℕ) → length past + length octets ≤ 2 ^ 24 → HadRead past lines → HasRead (past ++ octets) (lines ++ printed)
+  pub goes_on : (past lines : List ℕ) → length past + length octets ≤ 2 ^ 24 → HadRead past lines
+      → HasRead (past ++ octets) (lines ++ printed)
   pub begun : (past lines : List ℕ) → length past + length octets ≤ 2 ^ 24 → HadRead past lines
       → (left : List ℕ) → IsBegun (IsText (past ++ (octets ++ left))) (lines ++ printed)
 
 -- these octets ended the text with a fault, whatever follows
-pub record Stops (IsText : List ℕ → Printed → Type 0) (fault : Fault) (HadRead : List ℕ → List ℕ → Type 0) (octets before after : List ℕ) : Type 0 where
+pub record Stops (IsText : Texts) (fault : Fault) (HadRead : Progress) (octets before after : List ℕ) : Type 0 where
   pub printed : List ℕ
   pub added : after ≡ before ++ printed
   pub of_text : IsOfText fault
@@ -60,21 +70,29 @@ pub record Stops (IsText : List ℕ → Printed → Type 0) (fault : Fault) (Had
   pub begun : (past lines : List ℕ) → length past + length octets ≤ 2 ^ 24 → HadRead past lines
       → (left : List ℕ) → IsBegun (IsText (past ++ (octets ++ left))) (lines ++ printed)
 
-abbrev pub ReadsOrStops : (List ℕ → Printed → Type 0) → Result (Unit {0}) Fault → (List ℕ → List ℕ → Type 0) → List ℕ → List ℕ → List ℕ → (List ℕ → List ℕ → Type 0) → Type 0
+abbrev pub ReadsOrStops : Texts → Result (Unit {0}) Fault → Progress → List ℕ → List ℕ → List ℕ → Progress → Type 0
 ReadsOrStops IsText result HadRead octets before after HasRead =
-    MatchResult result (λ done. Reads IsText HadRead octets before after HasRead) (λ fault. Stops IsText fault HadRead octets before after)
+    MatchResult result
+    (λ done. Reads IsText HadRead octets before after HasRead)
+    (λ fault. Stops IsText fault HadRead octets before after)
 
 -- the text was printed to its end, or a fault ended it
 abbrev pub IsEnd : Result (Unit {0}) Fault → (Printed → Type 0) → List ℕ → Type 0
-IsEnd result IsIt printed = MatchResult result (λ done. IsIt (record { printed = printed; fault = None })) (λ fault. EndsIn fault IsIt printed)
+IsEnd result IsIt printed =
+    MatchResult result
+    (λ done. IsIt (record { printed = printed; fault = None }))
+    (λ fault. EndsIn fault IsIt printed)
 
 -- nothing is left to read, and what the text prints then was added
-pub record Ends (IsText : List ℕ → Printed → Type 0) (result : Result (Unit {0}) Fault) (HadRead : List ℕ → List ℕ → Type 0) (before after : List ℕ) : Type 0 where
+pub record Ends (IsText : Texts) (result : Result (Unit {0}) Fault) (HadRead : Progress)
+    (before after : List ℕ) : Type 0 where
   pub printed : List ℕ
   pub added : after ≡ before ++ printed
   pub of_text : IfErr result IsOfText
-  pub ends : (past lines : List ℕ) → length past ≤ 2 ^ 24 → HadRead past lines → IsEnd result (IsText past) (lines ++ printed)
-  pub begun : (past lines : List ℕ) → length past ≤ 2 ^ 24 → HadRead past lines → IsBegun (IsText past) (lines ++ printed)
+  pub ends : (past lines : List ℕ) → length past ≤ 2 ^ 24 → HadRead past lines
+      → IsEnd result (IsText past) (lines ++ printed)
+  pub begun : (past lines : List ℕ) → length past ≤ 2 ^ 24 → HadRead past lines
+      → IsBegun (IsText past) (lines ++ printed)
 
 -- The same onto what was written, where that is known.
 
@@ -87,32 +105,41 @@ pub record Writes (result : Result (Unit {0}) Fault) (octets : List ℕ) (old ne
   pub ends : MatchResult result (λ done. more ≡ []) (λ fault. fault ≡ Write)
 
 -- these octets were read, and what they print was written
-pub record Passes (IsText : List ℕ → Printed → Type 0) (HadRead : List ℕ → List ℕ → Type 0) (octets : List ℕ) (before after : Option (List ℕ)) (HasRead : List ℕ → List ℕ → Type 0) : Type 0 where
+pub record Passes (IsText : Texts) (HadRead : Progress) (octets : List ℕ)
+    (before after : Option (List ℕ)) (HasRead : Progress) : Type 0 where
   pub printed : List ℕ
   pub added : Appends before after printed
-  pub goes_on : (past lines : List ℕ) → length past + length octets ≤ 2 ^ 24 → HadRead past lines → HasRead (past ++ octets) (lines ++ printed)
+  pub goes_on : (past lines : List ℕ) → length past + length octets ≤ 2 ^ 24 → HadRead past lines
+      → HasRead (past ++ octets) (lines ++ printed)
   pub begun : (past lines : List ℕ) → length past + length octets ≤ 2 ^ 24 → HadRead past lines
       → (left : List ℕ) → IsBegun (IsText (past ++ (octets ++ left))) (lines ++ printed)
 
 -- among these octets the text ended with a fault, after what was written
-pub record Breaks (IsText : List ℕ → Printed → Type 0) (fault : Fault) (HadRead : List ℕ → List ℕ → Type 0) (octets : List ℕ) (before after : Option (List ℕ)) : Type 0 where
+pub record Breaks (IsText : Texts) (fault : Fault) (HadRead : Progress) (octets : List ℕ)
+    (before after : Option (List ℕ)) : Type 0 where
   pub printed : List ℕ
   pub added : Appends before after printed
   pub ends : (past lines : List ℕ) → length past + length octets ≤ 2 ^ 24 → HadRead past lines
       → (left : List ℕ) → EndsIn fault (IsText (past ++ (octets ++ left))) (lines ++ printed)
 
-abbrev pub PassesOrBreaks : (List ℕ → Printed → Type 0) → Result (Unit {0}) Fault → (List ℕ → List ℕ → Type 0) → List ℕ → Option (List ℕ) → Option (List ℕ) → (List ℕ → List ℕ → Type 0) → Type 0
+abbrev pub PassesOrBreaks : Texts → Result (Unit {0}) Fault → Progress → List ℕ
+    → Option (List ℕ) → Option (List ℕ) → Progress → Type 0
 PassesOrBreaks IsText result HadRead octets before after HasRead =
-    MatchResult result (λ done. Passes IsText HadRead octets before after HasRead) (λ fault. Breaks IsText fault HadRead octets before after)
+    MatchResult result
+    (λ done. Passes IsText HadRead octets before after HasRead)
+    (λ fault. Breaks IsText fault HadRead octets before after)
 
 -- nothing is left to read, and what the text prints then was written
-pub record Closes (IsText : List ℕ → Printed → Type 0) (result : Result (Unit {0}) Fault) (HadRead : List ℕ → List ℕ → Type 0) (before after : Option (List ℕ)) : Type 0 where
+pub record Closes (IsText : Texts) (result : Result (Unit {0}) Fault) (HadRead : Progress)
+    (before after : Option (List ℕ)) : Type 0 where
   pub printed : List ℕ
   pub added : Appends before after printed
-  pub ends : (past lines : List ℕ) → length past ≤ 2 ^ 24 → HadRead past lines → IsEnd result (IsText past) (lines ++ printed)
+  pub ends : (past lines : List ℕ) → length past ≤ 2 ^ 24 → HadRead past lines
+      → IsEnd result (IsText past) (lines ++ printed)
 
 -- all of a text was written, or, where a device failed or memory was wanted, a prefix of it
-pub record Prints (result : Result (Unit {0}) Fault) (IsIt : Printed → Type 0) (old new : Option (List ℕ)) : Type 0 where
+pub record Prints (result : Result (Unit {0}) Fault) (IsIt : Printed → Type 0)
+    (old new : Option (List ℕ)) : Type 0 where
   pub printed : List ℕ
   pub added : Appends old new printed
   pub ends : IsEnd result IsIt printed

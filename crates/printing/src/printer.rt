@@ -16,7 +16,8 @@ pub trait Printer {
 
     /// Reads these octets, and appends what they print.
     fn read(&mut self, octets: &[u8], out: &mut Vec<u8>) -> Result<(), Fault>
-        ensures { ReadsOrStops is_text result (has_read self.old) octets.now out.old.items out.new.items (has_read self.new) };
+        ensures { ReadsOrStops is_text result (has_read self.old) octets.now
+            out.old.items out.new.items (has_read self.new) };
 
     /// The octets have ended: appends what is printed then.
     fn end(self, out: &mut Vec<u8>) -> Result<(), Fault>

@@ -28,9 +28,11 @@ pub fn print_all<P: Printer + Drop, S: Source, W: Sink>(
     sink: &mut W,
 ) -> Result<(), Fault>
     requires { P.has_read printer [] [] }
-    ensures text { IfSome (S.left source.old) (λ input. Prints result (P.is_text input) (W.written sink.old) (W.written sink.new)) }
+    ensures text { IfSome (S.left source.old)
+        (λ input. Prints result (P.is_text input) (W.written sink.old) (W.written sink.new)) }
     ensures bounded { IfSome (S.left source.old) (λ input. OnOk result (length input ≤ 2 ^ 24)) }
-    ensures devices { IfSome (S.left source.old) (λ input. IfErr result (λ fault. IsDevices fault (HasFailed (S.has_failed source.new) input) (W.has_failed sink.new ≡ true))) }
+    ensures devices { IfSome (S.left source.old) (λ input. IfErr result
+        (λ fault. IsDevices fault (HasFailed (S.has_failed source.new) input) (W.has_failed sink.new ≡ true))) }
 {
     let mut left = LONGEST_INPUT as usize;
     for _ in 0..LONGEST_INPUT {
@@ -71,7 +73,8 @@ fn pass<P: Printer, W: Sink>(
     octets: &[u8],
     sink: &mut W,
 ) -> Result<(), Fault>
-    ensures passes { PassesOrBreaks P.is_text result (P.has_read printer.old) octets.now (W.written sink.old) (W.written sink.new) (P.has_read printer.new) }
+    ensures passes { PassesOrBreaks P.is_text result (P.has_read printer.old) octets.now
+        (W.written sink.old) (W.written sink.new) (P.has_read printer.new) }
     ensures failed { IfErr result (λ fault. IsDevices fault ⊥ (W.has_failed sink.new ≡ true)) }
 {
     let mut out = Vec::new(alloc);

@@ -9,7 +9,8 @@ use Rattle.set_events.specs.declared.config.ConfigFault.TheVariants.{Cyclic}
 abbrev pub is_limit : ℕ → ℕ → Bool
 is_limit greatest limit = nat_le 1 limit && nat_le limit greatest
 
--- a forced cycle starts at N1 messages or N2 octets (Q.703 6.4.2): at most 127 messages, of 273 octets each, are unacknowledged
+-- a forced cycle starts at N1 messages or N2 octets (Q.703 6.4.2): at most 127 messages, of 273 octets each, are
+-- unacknowledged
 abbrev pub is_method : Method → Bool
 is_method Basic = true
 is_method (CyclicMethod n1 n2) = is_limit 127 n1 && is_limit 34671 n2

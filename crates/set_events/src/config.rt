@@ -84,8 +84,12 @@ impl SetConfig {
         sio: u8,
         method: Method,
     ) -> Result<SetConfig, ConfigFault>
-        ensures ok { MatchResult result (λ config. fault_of links opc dpc sio method ≡ None) (λ fault. fault_of links opc dpc sio method ≡ Some fault) }
-        ensures made { MatchResult result (λ config. IsConfigOf config set links opc dpc sio method) (λ fault. Unit {0}) }
+        ensures ok { MatchResult result
+            (λ config. fault_of links opc dpc sio method ≡ None)
+            (λ fault. fault_of links opc dpc sio method ≡ Some fault) }
+        ensures made { MatchResult result
+            (λ config. IsConfigOf config set links opc dpc sio method)
+            (λ fault. Unit {0}) }
     {
         if links == 0 || links > MOST_LINKS {
             return Err(ConfigFault::Links);

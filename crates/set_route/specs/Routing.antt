@@ -86,12 +86,16 @@ pub record IsRouting (routing : Routing) : Type 0 where
 
 -- LAW: a call moves just the streams that it names. Here is all that one stream sees of each call.
 pub record MovesAlone (routing : Routing) (stream : ℕ) : Type 0 where
-  pub raised_place : (link : ℕ) → place_of stream (raised link routing) ≡ place_raised link (stream % routing.links) (has_messages stream routing) (place_of stream routing)
+  pub raised_place : (link : ℕ) → place_of stream (raised link routing)
+      ≡ place_raised link (stream % routing.links) (has_messages stream routing) (place_of stream routing)
   pub raised_messages : (link : ℕ) → has_messages stream (raised link routing) ≡ has_messages stream routing
-  pub settled_place : (link : ℕ) (target : Option ℕ) → place_of stream (settled link target routing) ≡ place_settled link target (place_of stream routing)
-  pub settled_messages : (link : ℕ) (target : Option ℕ) → has_messages stream (settled link target routing) ≡ has_messages stream routing
+  pub settled_place : (link : ℕ) (target : Option ℕ) → place_of stream (settled link target routing)
+      ≡ place_settled link target (place_of stream routing)
+  pub settled_messages : (link : ℕ) (target : Option ℕ) → has_messages stream (settled link target routing)
+      ≡ has_messages stream routing
   pub accepted_place : (other : ℕ) → place_of stream (accepted other routing) ≡ place_of stream routing
-  pub accepted_messages : (other : ℕ) → has_messages stream (accepted other routing) ≡ ((stream == other) || has_messages stream routing)
+  pub accepted_messages : (other : ℕ) → has_messages stream (accepted other routing)
+      ≡ ((stream == other) || has_messages stream routing)
 
 abbrev pub StreamsMoveAlone : Type 0
 StreamsMoveAlone = (routing : Routing) (stream : ℕ) → IsRouting routing → stream < 16 → MovesAlone routing stream

@@ -10,5 +10,6 @@ target_of (false ∷ rest) = option_map suc (target_of rest)
 
 -- it is up and no lower one is, or there is none
 abbrev pub IsTarget : List Bool → Option ℕ → Type 0
-IsTarget up (Some link) = (slice_get up link ≡ Some true) × ((lower : ℕ) → lower < link → slice_get up lower ≢ Some true)
+IsTarget up (Some link) =
+    (slice_get up link ≡ Some true) × ((lower : ℕ) → lower < link → slice_get up lower ≢ Some true)
 IsTarget up None = (link : ℕ) → slice_get up link ≢ Some true

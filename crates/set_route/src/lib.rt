@@ -8,8 +8,8 @@
 //!
 //! | input | what it does |
 //! |---|---|
-//! | [`Routes::accepted`], a message of the stream was accepted | from now on an Up of its home leaves the stream where it runs |
-//! | [`Routes::raise`], a link is up | streams that run nowhere, and streams of this home of which no message was ever accepted, run on it |
+//! | [`Routes::accepted`], a message was accepted | from now on an Up of its home leaves its stream where it runs |
+//! | [`Routes::raise`], a link is up | streams that run nowhere, and those of its home without a message, run on it |
 //! | [`Routes::divert`], a link is left | nothing: its streams stay, and their messages wait until it settles |
 //! | [`Routes::settle`], a link that was left settles | its streams run on the target, or nowhere |
 //!

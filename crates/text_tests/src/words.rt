@@ -50,6 +50,27 @@ fn a_word_that_is_not_unicode(rt: HostRuntime) {
     assert!(rt; matches!(not_unicode(rt.alloc()), WordsFault::Words(_)));
 }
 
+/// `-h` is a page of at most 25 rows and 80 columns, which names the program and leads to `--help`; that says more.
+#[test]
+fn short_help_is_a_page(rt: HostRuntime) -> Result<(), Fail> {
+    let asked: [(&[&str], &[&str], &str); 3] = [
+        (&["-h"], &["--help"], "\nUsage: mtpbank <COMMAND>\n"),
+        (&["units", "-h"], &["units", "--help"], "\nUsage: mtpbank units\n"),
+        (&["play", "-h"], &["play", "--help"], "\nUsage: mtpbank play\n"),
+    ];
+    for (short, long, usage) in asked {
+        let page = told_of(rt.alloc(), short)?;
+        assert!(rt; page.contains(usage), "{page}");
+        assert!(rt; page.contains("--help` say"), "{page}");
+        assert!(rt; page.lines().count() <= 25, "{page}");
+        assert!(rt; page.lines().all(|line| line.len() <= 80), "{page}");
+        let whole = told_of(rt.alloc(), long)?;
+        assert!(rt; whole.contains(usage), "{whole}");
+        assert!(rt; whole.len() > page.len(), "{whole}");
+    }
+    Ok(())
+}
+
 /// A script can be written by its help: each line's words stand in it, and each line that is printed.
 #[test]
 fn the_help_shows_each_line(rt: HostRuntime) -> Result<(), Fail> {
