@@ -1,4 +1,4 @@
--- THE PRINTED TEXTS: what a line of the script prints, each ended by LF.
+-- THE PRINTED TEXTS: what a step of the world shows, and how an end stands, each ended by LF.
 use Rattle.std.specs.Prelude.{ℕ, List, ◌++◌, Option, Some, None, codes, decimal}
 use Rattle.l2_bits.specs.SealedText.{sealed_text}
 use Rattle.l2_units.specs.Grammar.{text}
@@ -12,10 +12,10 @@ use Rattle.set_events.specs.declared.answer.Counts.{Counts}
 use Rattle.set_events.specs.declared.answer.Answer.{Answer}
 use Rattle.set_events.specs.declared.answer.Answer.TheVariants.{Accepted, Taken, Found, Sent, Heard, Done, Refused}
 use Rattle.set_model.specs.Rows.{total_of}
-use Rattle.play_script.specs.declared.script.End.{End}
-use Rattle.play_script.specs.declared.script.End.TheVariants.{A, B}
-use Rattle.play_script.specs.declared.shown.Shown.{Shown}
-use Rattle.play_script.specs.declared.shown.Shown.TheVariants.{Up, Lost, Answered}
+use Rattle.pair_world.specs.declared.step.End.{End}
+use Rattle.pair_world.specs.declared.step.End.TheVariants.{A, B}
+use Rattle.pair_world.specs.declared.step.Shown.{Shown}
+use Rattle.pair_world.specs.declared.step.Shown.TheVariants.{Up, Lost, Answered}
 use Rattle.figures.specs.Figures.{hex_text, bit}
 
 abbrev pub fate_text : Fate → List ℕ
@@ -56,7 +56,7 @@ shown_line Up = codes "up\n"
 shown_line Lost = codes "lost\n"
 shown_line (Answered answer) = answer_text answer
 
--- THE TEXT of what a line shows; a name of its own, so that who speaks of it doesn't compute it
+-- THE TEXT of what a step shows; a name of its own, so that who speaks of it doesn't compute it
 unfoldable pub shown_text : Shown → List ℕ
 shown_text shown = shown_line shown
 

@@ -1,13 +1,13 @@
-//! The texts of what a script's lines show, and of how its ends stand at last.
+//! The texts of what a world's steps show, and of how its ends stand.
 //!
 //! | what | its text |
 //! |---|---|
-//! | [`play_script::Shown`], what a line showed: an answer of a set, an up, a loss | [`shown_text`] |
+//! | [`pair_world::Shown`], what a step showed: an answer of a set, an up, a loss | [`shown_text`] |
 //! | [`set_events::Counts`] of an end | [`end_text`] |
 //!
 //! Each text is a line, ended by LF, and fails only where memory is wanted. Numbers are decimal, octets are
 //! hexadecimal in lower case, and a sent unit is printed with its check octets. `specs/Texts.antt` has the
-//! words. This crate knows no set and no pair.
+//! words. This crate knows no set and no script.
 #![tactic(auto)]
 
 mod texts;

@@ -9,11 +9,11 @@ ghost use Rattle.answer_texts.specs.Texts.{fate_text as text_of_fate, took_text 
 use figures::{bit, push_hex};
 use l2_bits::seal;
 use l2_units::{Unit, write};
-use play_script::{End, Shown};
+use pair_world::{End, Shown};
 use set_events::{Answer, ControlFault, Counts, Fate, Report, Took};
 use std::alloc::{AllocError, Global};
 
-/// The text of what a line shows.
+/// The text of what a step shows.
 pub fn shown_text(alloc: Global, shown: &Shown) -> Result<Vec<u8>, AllocError>
     ensures { IfOk result (λ text. text.items ≡ text_of_shown shown.now) }
 {

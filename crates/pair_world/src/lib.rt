@@ -1,4 +1,4 @@
-//! Two ends with the same links, and the units under way between them.
+//! A world of two ends with the same links, and the units under way between them.
 //!
 //! ```text
 //!            to_b: a line for each link, units oldest first
@@ -7,17 +7,19 @@
 //!            to_a: a line for each link, units oldest first
 //! ```
 //!
-//! A [`Pair`] carries out the lines of a script, one after another: [`Pair::carried_out`] gives what a
-//! line shows ([`play_script::Shown`]), or why it can't be done ([`StepFault`]). A unit that an end sends joins the
-//! line of its link to the other end, from which it arrives in its order or is lost; nothing else happens to
-//! it, but that the lines of a link are empty when it comes up (`link_lines` keeps them).
+//! A [`World`] carries out one [`Step`] after another: [`World::carry_out`] gives what a step shows
+//! ([`Shown`]), or why it can't be done ([`PlayFault`]). A unit that an end emits joins the line of its link
+//! to the other end, from which it arrives in its order or is lost; nothing else happens to it, but that the
+//! lines of a link are empty when it comes up at both ends (`link_lines` keeps them).
 //!
-//! This crate reads and prints no text (`play_script`, `play_text`), and decides nothing of its own: each
-//! end is a set (`set_core`). `specs/Pair.antt` is the step of the pair, line by line.
+//! This crate knows no script and no text (`play_script`, `play_text`), and decides nothing of its own: each
+//! end is a set (`set_core`). `specs/World.antt` is the step of the world, case by case.
 #![tactic(auto)]
 
-mod pair;
-mod step_fault;
+mod fault;
+mod step;
+mod world;
 
-pub use pair::Pair;
-pub use step_fault::StepFault;
+pub use fault::PlayFault;
+pub use step::{End, Shown, Step};
+pub use world::World;

@@ -3,16 +3,19 @@ use Rattle.std.specs.Prelude.{ℕ, Bool, ◌==◌, ◌&&◌, ◌^◌, nat_lt, Li
 use Rattle.std.specs.Option.{option_map, option_and_then}
 use Rattle.std.specs.List.{position_or_len, before_first, after_first}
 use Rattle.std.specs.Str.{bytes_eq}
-use Rattle.l2_units.specs.Grammar.{unit_of}
+use Rattle.l2_units.specs.declared.unit.Unit.{Unit as SignalUnit}
+use Rattle.l2_units.specs.Grammar.{unit_of as unit_of_octets}
 use Rattle.set_events.specs.Config.{fault_of}
+use Rattle.set_events.specs.declared.event.Event.{Event}
+use Rattle.set_events.specs.declared.event.Event.TheVariants.{Offer, Take, Find, Down, DownBlind, NoAnswer}
 use Rattle.set_events.specs.declared.config.Method.{Method}
 use Rattle.set_events.specs.declared.config.Method.TheVariants.{Basic, Cyclic}
 use Rattle.figures.specs.Figures.{number_of, number_below, octet_of, octets_of}
-use Rattle.play_script.specs.declared.script.End.{End}
-use Rattle.play_script.specs.declared.script.End.TheVariants.{A, B}
-use Rattle.play_script.specs.declared.script.ScriptLine.{ScriptLine}
+use Rattle.pair_world.specs.declared.step.End.{End}
+use Rattle.pair_world.specs.declared.step.End.TheVariants.{A, B}
+use Rattle.pair_world.specs.declared.step.Step.{Step}
+use Rattle.pair_world.specs.declared.step.Step.TheVariants.{Act, Emit, Arrive, Lose, Together, Inject}
 use Rattle.play_script.specs.declared.script.Values.{Values}
-use Rattle.play_script.specs.declared.script.ScriptLine.TheVariants.{Together, Offer, Take, Emit, Arrive, Lose, Find, Hear, Down, Blind, NoAnswer}
 
 -- Words.
 
@@ -31,90 +34,94 @@ other_words words =
 abbrev pub end_of : List ℕ → Option End
 end_of word = if bytes_eq word (codes "a") then Some A else (if bytes_eq word (codes "b") then Some B else None)
 
+-- a link's number; one over 255 is read as 255, since no world has either link
+abbrev pub link_of : List ℕ → Option ℕ
+link_of word = option_map (λ number. if nat_lt number 256 then number else 255) (number_of word)
+
 -- octets in hexadecimal, at least one
 abbrev pub some_octets : List ℕ → Option (List ℕ)
 some_octets word = if length word == 0 then None else octets_of word
 
--- The lines, by the words behind the first.
+-- the unit that a word gives: its octets, without check octets
+abbrev pub unit_of : List ℕ → Option SignalUnit
+unit_of word = option_and_then unit_of_octets (some_octets word)
+
+-- The steps, by the words behind the name, and behind the end where there is one.
 
 -- together LINK
-abbrev pub together_line : List ℕ → Option ScriptLine
-together_line words = option_map Together (number_of words)
+abbrev pub together : List ℕ → Option Step
+together words = option_map Together (link_of words)
 
 -- offer END HEX, or offer END for the empty body
 abbrev pub body_of : Option (List ℕ) → Option (List ℕ)
 body_of None = Some []
 body_of (Some word) = some_octets word
 
-abbrev pub offer_line : List ℕ → Option ScriptLine
-offer_line words = option_and_then (λ end. option_map (Offer end) (body_of (other_words words))) (end_of (first_word words))
+abbrev pub offer : End → Option (List ℕ) → Option Step
+offer end words = option_map (λ body. Act end (Offer body)) (body_of words)
 
 -- take END
-abbrev pub take_line : List ℕ → Option ScriptLine
-take_line words = option_map Take (end_of words)
+abbrev pub take_message : End → Option (List ℕ) → Option Step
+take_message end None = Some (Act end Take)
+take_message end (Some words) = None
 
--- emit END LINK, arrive END LINK, down END LINK, blind END LINK, noanswer END LINK, find END NUMBER
-abbrev pub last_number : Option (List ℕ) → Option ℕ
-last_number None = None
-last_number (Some word) = number_of word
-
-abbrev pub emit_line : List ℕ → Option ScriptLine
-emit_line words = option_and_then (λ end. option_map (Emit end) (last_number (other_words words))) (end_of (first_word words))
-
-abbrev pub arrive_line : List ℕ → Option ScriptLine
-arrive_line words = option_and_then (λ end. option_map (Arrive end) (last_number (other_words words))) (end_of (first_word words))
-
-abbrev pub down_line : List ℕ → Option ScriptLine
-down_line words = option_and_then (λ end. option_map (Down end) (last_number (other_words words))) (end_of (first_word words))
-
-abbrev pub blind_line : List ℕ → Option ScriptLine
-blind_line words = option_and_then (λ end. option_map (Blind end) (last_number (other_words words))) (end_of (first_word words))
-
-abbrev pub no_answer_line : List ℕ → Option ScriptLine
-no_answer_line words = option_and_then (λ end. option_map (NoAnswer end) (last_number (other_words words))) (end_of (first_word words))
-
-abbrev pub find_line : List ℕ → Option ScriptLine
-find_line words = option_and_then (λ end. option_map (Find end) (last_number (other_words words))) (end_of (first_word words))
+-- find END NUMBER
+abbrev pub find : End → List ℕ → Option Step
+find end words = option_map (λ number. Act end (Find number)) (number_of words)
 
 -- lose END LINK PLACE
-abbrev pub link_and_place : End → Option (List ℕ) → Option ScriptLine
-link_and_place end None = None
-link_and_place end (Some words) = option_and_then (λ link. option_map (Lose end link) (last_number (other_words words))) (number_of (first_word words))
+abbrev pub lose : End → List ℕ → Option Step
+lose end words =
+    option_and_then (λ link. option_map (Lose end link) (option_and_then number_of (other_words words)))
+    (link_of (first_word words))
 
-abbrev pub lose_line : List ℕ → Option ScriptLine
-lose_line words = option_and_then (λ end. link_and_place end (other_words words)) (end_of (first_word words))
+-- hear END LINK HEX
+abbrev pub hear : End → List ℕ → Option Step
+hear end words =
+    option_and_then (λ link. option_map (Inject end link) (option_and_then unit_of (other_words words)))
+    (link_of (first_word words))
 
--- hear END LINK HEX: the octets of a unit, without check octets
-abbrev pub last_unit : End → ℕ → Option (List ℕ) → Option ScriptLine
-last_unit end link None = None
-last_unit end link (Some word) = option_map (Hear end link) (option_and_then unit_of (some_octets word))
+-- down END LINK, blind END LINK, noanswer END LINK
+abbrev pub failure_of : List ℕ → ℕ → Option Event
+failure_of name link =
+    if bytes_eq name (codes "down") then Some (Down link)
+    else (if bytes_eq name (codes "blind") then Some (DownBlind link)
+    else (if bytes_eq name (codes "noanswer") then Some (NoAnswer link)
+    else None))
 
-abbrev pub link_and_unit : End → Option (List ℕ) → Option ScriptLine
-link_and_unit end None = None
-link_and_unit end (Some words) = option_and_then (λ link. last_unit end link (other_words words)) (number_of (first_word words))
+-- those, and emit END LINK, arrive END LINK
+abbrev pub step_on : List ℕ → End → ℕ → Option Step
+step_on name end link =
+    if bytes_eq name (codes "emit") then Some (Emit end link)
+    else (if bytes_eq name (codes "arrive") then Some (Arrive end link)
+    else option_map (Act end) (failure_of name link))
 
-abbrev pub hear_line : List ℕ → Option ScriptLine
-hear_line words = option_and_then (λ end. link_and_unit end (other_words words)) (end_of (first_word words))
+abbrev pub on_link : List ℕ → End → List ℕ → Option Step
+on_link name end words = option_and_then (step_on name end) (link_of words)
 
-abbrev pub line_by : List ℕ → Option (List ℕ) → Option ScriptLine
-line_by word None = None
-line_by word (Some words) =
-    if bytes_eq word (codes "together") then together_line words
-    else (if bytes_eq word (codes "offer") then offer_line words
-    else (if bytes_eq word (codes "take") then take_line words
-    else (if bytes_eq word (codes "emit") then emit_line words
-    else (if bytes_eq word (codes "arrive") then arrive_line words
-    else (if bytes_eq word (codes "lose") then lose_line words
-    else (if bytes_eq word (codes "find") then find_line words
-    else (if bytes_eq word (codes "hear") then hear_line words
-    else (if bytes_eq word (codes "down") then down_line words
-    else (if bytes_eq word (codes "blind") then blind_line words
-    else (if bytes_eq word (codes "noanswer") then no_answer_line words
-    else None))))))))))
+abbrev pub step_with : List ℕ → End → Option (List ℕ) → Option Step
+step_with name end None = None
+step_with name end (Some words) =
+    if bytes_eq name (codes "find") then find end words
+    else (if bytes_eq name (codes "lose") then lose end words
+    else (if bytes_eq name (codes "hear") then hear end words
+    else on_link name end words))
 
--- what a line after the first asks for; None: it's unreadable
-abbrev pub line_of : List ℕ → Option ScriptLine
-line_of text = line_by (first_word text) (other_words text)
+abbrev pub step_at : List ℕ → End → Option (List ℕ) → Option Step
+step_at name end words =
+    if bytes_eq name (codes "offer") then offer end words
+    else (if bytes_eq name (codes "take") then take_message end words
+    else step_with name end words)
+
+abbrev pub step_by : List ℕ → Option (List ℕ) → Option Step
+step_by name None = None
+step_by name (Some words) =
+    if bytes_eq name (codes "together") then together words
+    else option_and_then (λ end. step_at name end (other_words words)) (end_of (first_word words))
+
+-- the step that a line after the first asks for; None: it's unreadable
+abbrev pub step_of : List ℕ → Option Step
+step_of text = step_by (first_word text) (other_words text)
 
 -- The first line: set links=L method=W a=X b=Y sio=HH.
 

@@ -1,48 +1,32 @@
-//! A line of the script, from its octets.
-ghost use Rattle.std.specs.Prelude.{◌≡◌, [], ◌∷◌, ◌^◌, IfOk, MatchOption, None, Some, codes, length, position, ◌<◌, OnSome};
-ghost use Rattle.std.specs.Option.{option_and_then, option_map, option_copied, ForSome};
+//! A step, from the octets of its line.
+ghost use Rattle.std.specs.Prelude.{◌≡◌, ◌<◌, IfOk, length, position};
+ghost use Rattle.std.specs.Option.{option_map, option_copied, ForSome};
 ghost use Rattle.std.specs.Str.{bytes_eq};
-ghost use Rattle.figures.specs.Figures.{number_below};
-ghost use Rattle.play_script.specs.Script.{is_space, first_word, other_words, end_of as end_in, some_octets as octets_in, together_line as together_in, offer_line as offer_in, take_line as take_in, emit_line as emit_in, arrive_line as arrive_in, down_line as down_in, blind_line as blind_in, no_answer_line as no_answer_in, lose_line as lose_in, link_and_place as link_and_place_in, find_line as find_in, hear_line as hear_in, line_of as line_in, body_of as body_in, last_number as number_in, last_unit as unit_in, link_and_unit as link_and_unit_in};
+ghost use Rattle.play_script.specs.Script.{is_space, first_word, other_words, end_of as end_in, link_of as link_in, some_octets as octets_in, step_of as step_in, step_at as step_at_in, together as together_in, offer as offer_in, body_of as body_in, take_message as take_in, find as find_in, lose as lose_in, hear as hear_in, unit_of as unit_in, on_link as on_link_in, failure_of as failure_in};
 
-use super::script::{End, ScriptLine};
 use figures::{number_of, octets_of};
-use l2_units::read;
-use set_events::Body;
+use l2_units::{Unit, read};
+use pair_world::{End, Step};
+use set_events::{Body, Event};
 use std::alloc::{AllocError, Global};
 
-/// What a line after the first asks for; `None`: it's unreadable.
-pub fn line_of(alloc: Global, text: &[u8]) -> Result<Option<ScriptLine>, AllocError>
-    ensures { IfOk result (λ line. line ≡ line_in text.now) }
+/// The step that a line after the first asks for; `None`: it's unreadable.
+///
+/// A link's number over 255 is read as 255, since no world has either link.
+pub fn step_of(alloc: Global, text: &[u8]) -> Result<Option<Step>, AllocError>
+    ensures { IfOk result (λ step. step ≡ step_in text.now) }
 {
-    let (word, words) = cut(text);
+    let (name, words) = cut(text);
     let Some(words) = words else {
         return Ok(None);
     };
-    if is_word(word, b"together") {
-        Ok(together_line(words))
-    } else if is_word(word, b"offer") {
-        offer_line(alloc, words)
-    } else if is_word(word, b"take") {
-        Ok(take_line(words))
-    } else if is_word(word, b"emit") {
-        Ok(emit_line(words))
-    } else if is_word(word, b"arrive") {
-        Ok(arrive_line(words))
-    } else if is_word(word, b"lose") {
-        Ok(lose_line(words))
-    } else if is_word(word, b"find") {
-        Ok(find_line(words))
-    } else if is_word(word, b"hear") {
-        hear_line(alloc, words)
-    } else if is_word(word, b"down") {
-        Ok(down_line(words))
-    } else if is_word(word, b"blind") {
-        Ok(blind_line(words))
-    } else if is_word(word, b"noanswer") {
-        Ok(no_answer_line(words))
-    } else {
-        Ok(None)
+    if is_word(name, b"together") {
+        return Ok(together(words));
+    }
+    let (word, words) = cut(words);
+    match end_of(word) {
+        Some(end) => step_at(alloc, name, end, words),
+        None => Ok(None),
     }
 }
 
@@ -85,6 +69,18 @@ fn end_of(word: &[u8]) -> Option<End>
     }
 }
 
+/// A link's number.
+fn link_of(word: &[u8]) -> Option<u8>
+    ensures { result ≡ link_in word.now }
+{
+    let number = number_of(word)?;
+    if number < 256 {
+        Some(number as u8)
+    } else {
+        Some(255)
+    }
+}
+
 /// Octets in hexadecimal, at least one.
 fn some_octets(alloc: Global, word: &[u8]) -> Result<Option<Vec<u8>>, AllocError>
     ensures { IfOk result (λ found. option_map (λ octets. octets.items) found ≡ octets_in word.now) }
@@ -95,24 +91,52 @@ fn some_octets(alloc: Global, word: &[u8]) -> Result<Option<Vec<u8>>, AllocError
     octets_of(alloc, word)
 }
 
-/// `together LINK`
-fn together_line(words: &[u8]) -> Option<ScriptLine>
+/// `together LINK`, behind the name.
+fn together(words: &[u8]) -> Option<Step>
     ensures { result ≡ together_in words.now }
 {
-    let link = number_of(words)?;
-    Some(ScriptLine::Together { link })
+    let link = link_of(words)?;
+    Some(Step::Together { link })
+}
+
+/// The step of this name at an end, from the words behind the end.
+fn step_at(
+    alloc: Global,
+    name: &[u8],
+    end: End,
+    words: Option<&[u8]>,
+) -> Result<Option<Step>, AllocError>
+    ensures { IfOk result (λ step. step ≡ step_at_in name.now end (option_copied words.entry)) }
+{
+    if is_word(name, b"offer") {
+        return offer(alloc, end, words);
+    }
+    if is_word(name, b"take") {
+        return Ok(take(end, words));
+    }
+    let Some(words) = words else {
+        return Ok(None);
+    };
+    if is_word(name, b"find") {
+        Ok(find(end, words))
+    } else if is_word(name, b"lose") {
+        Ok(lose(end, words))
+    } else if is_word(name, b"hear") {
+        hear(alloc, end, words)
+    } else {
+        Ok(on_link(name, end, words))
+    }
 }
 
 /// `offer END HEX`, or `offer END` for the empty body.
-fn offer_line(alloc: Global, words: &[u8]) -> Result<Option<ScriptLine>, AllocError>
-    ensures { IfOk result (λ line. line ≡ offer_in words.now) }
+fn offer(alloc: Global, end: End, words: Option<&[u8]>) -> Result<Option<Step>, AllocError>
+    ensures { IfOk result (λ step. step ≡ offer_in end (option_copied words.entry)) }
 {
-    let (word, words) = cut(words);
-    let Some(end) = end_of(word) else {
-        return Ok(None);
-    };
     match body_of(alloc, words)? {
-        Some(body) => Ok(Some(ScriptLine::Offer { end, body })),
+        Some(body) => Ok(Some(Step::Act {
+            end,
+            event: Event::Offer { body },
+        })),
         None => Ok(None),
     }
 }
@@ -130,136 +154,93 @@ fn body_of(alloc: Global, word: Option<&[u8]>) -> Result<Option<Body>, AllocErro
     }
 }
 
-/// The number that the last word gives.
-fn last_number(word: Option<&[u8]>) -> Option<u64>
-    ensures { result ≡ number_in (option_copied word.entry) }
-{
-    number_of(word?)
-}
-
 /// `take END`
-fn take_line(words: &[u8]) -> Option<ScriptLine>
-    ensures { result ≡ take_in words.now }
+fn take(end: End, words: Option<&[u8]>) -> Option<Step>
+    ensures { result ≡ take_in end (option_copied words.entry) }
 {
-    let end = end_of(words)?;
-    Some(ScriptLine::Take { end })
-}
-
-/// `emit END LINK`
-fn emit_line(words: &[u8]) -> Option<ScriptLine>
-    ensures { result ≡ emit_in words.now }
-{
-    let (word, words) = cut(words);
-    let end = end_of(word)?;
-    let link = last_number(words)?;
-    Some(ScriptLine::Emit { end, link })
-}
-
-/// `arrive END LINK`
-fn arrive_line(words: &[u8]) -> Option<ScriptLine>
-    ensures { result ≡ arrive_in words.now }
-{
-    let (word, words) = cut(words);
-    let end = end_of(word)?;
-    let link = last_number(words)?;
-    Some(ScriptLine::Arrive { end, link })
-}
-
-/// `down END LINK`
-fn down_line(words: &[u8]) -> Option<ScriptLine>
-    ensures { result ≡ down_in words.now }
-{
-    let (word, words) = cut(words);
-    let end = end_of(word)?;
-    let link = last_number(words)?;
-    Some(ScriptLine::Down { end, link })
-}
-
-/// `blind END LINK`
-fn blind_line(words: &[u8]) -> Option<ScriptLine>
-    ensures { result ≡ blind_in words.now }
-{
-    let (word, words) = cut(words);
-    let end = end_of(word)?;
-    let link = last_number(words)?;
-    Some(ScriptLine::Blind { end, link })
-}
-
-/// `noanswer END LINK`
-fn no_answer_line(words: &[u8]) -> Option<ScriptLine>
-    ensures { result ≡ no_answer_in words.now }
-{
-    let (word, words) = cut(words);
-    let end = end_of(word)?;
-    let link = last_number(words)?;
-    Some(ScriptLine::NoAnswer { end, link })
-}
-
-/// `lose END LINK PLACE`
-fn lose_line(words: &[u8]) -> Option<ScriptLine>
-    ensures { result ≡ lose_in words.now }
-{
-    let (word, words) = cut(words);
-    let end = end_of(word)?;
-    link_and_place(end, words?)
-}
-
-/// The link and the place of the unit that is lost.
-fn link_and_place(end: End, words: &[u8]) -> Option<ScriptLine>
-    ensures { result ≡ link_and_place_in end (Some words.now) }
-{
-    let (word, words) = cut(words);
-    let link = number_of(word)?;
-    let place = last_number(words)?;
-    Some(ScriptLine::Lose { end, link, place })
+    match words {
+        Some(_) => None,
+        None => Some(Step::Act {
+            end,
+            event: Event::Take,
+        }),
+    }
 }
 
 /// `find END NUMBER`
-fn find_line(words: &[u8]) -> Option<ScriptLine>
-    ensures { result ≡ find_in words.now }
+fn find(end: End, words: &[u8]) -> Option<Step>
+    ensures { result ≡ find_in end words.now }
+{
+    let number = number_of(words)?;
+    Some(Step::Act {
+        end,
+        event: Event::Find { number },
+    })
+}
+
+/// `lose END LINK PLACE`
+fn lose(end: End, words: &[u8]) -> Option<Step>
+    ensures { result ≡ lose_in end words.now }
 {
     let (word, words) = cut(words);
-    let end = end_of(word)?;
-    let number = last_number(words)?;
-    Some(ScriptLine::Find { end, number })
+    let link = link_of(word)?;
+    let place = number_of(words?)?;
+    Some(Step::Lose { end, link, place })
 }
 
 /// `hear END LINK HEX`
-fn hear_line(alloc: Global, words: &[u8]) -> Result<Option<ScriptLine>, AllocError>
-    ensures { IfOk result (λ line. line ≡ hear_in words.now) }
+fn hear(alloc: Global, end: End, words: &[u8]) -> Result<Option<Step>, AllocError>
+    ensures { IfOk result (λ step. step ≡ hear_in end words.now) }
 {
     let (word, words) = cut(words);
-    match (end_of(word), words) {
-        (Some(end), Some(words)) => link_and_unit(alloc, end, words),
-        _ => Ok(None),
+    let (Some(link), Some(word)) = (link_of(word), words) else {
+        return Ok(None);
+    };
+    match unit_of(alloc, word)? {
+        Some(unit) => Ok(Some(Step::Inject { end, link, unit })),
+        None => Ok(None),
     }
 }
 
-/// The link and the unit that an end hears.
-fn link_and_unit(alloc: Global, end: End, words: &[u8]) -> Result<Option<ScriptLine>, AllocError>
-    ensures { IfOk result (λ line. line ≡ link_and_unit_in end (Some words.now)) }
-{
-    let (word, words) = cut(words);
-    match (number_of(word), words) {
-        (Some(link), Some(word)) => last_unit(alloc, end, link, word),
-        _ => Ok(None),
-    }
-}
-
-/// The unit that the last word gives.
-fn last_unit(
-    alloc: Global,
-    end: End,
-    link: u64,
-    word: &[u8],
-) -> Result<Option<ScriptLine>, AllocError>
-    ensures { IfOk result (λ line. line ≡ unit_in end link (Some word.now)) }
+/// The unit that a word gives: its octets, without check octets.
+fn unit_of(alloc: Global, word: &[u8]) -> Result<Option<Unit>, AllocError>
+    ensures { IfOk result (λ unit. unit ≡ unit_in word.now) }
 {
     let Some(octets) = some_octets(alloc, word)? else {
         return Ok(None);
     };
     match read(&octets) {
-        Ok(unit) => Ok(Some(ScriptLine::Hear { end, link, unit })),
+        Ok(unit) => Ok(Some(unit)),
         Err(_) => Ok(None),
+    }
+}
+
+/// `emit END LINK`, `arrive END LINK`, `down END LINK`, `blind END LINK`, `noanswer END LINK`
+fn on_link(name: &[u8], end: End, words: &[u8]) -> Option<Step>
+    ensures { result ≡ on_link_in name.now end words.now }
+{
+    let link = link_of(words)?;
+    if is_word(name, b"emit") {
+        return Some(Step::Emit { end, link });
+    }
+    if is_word(name, b"arrive") {
+        return Some(Step::Arrive { end, link });
+    }
+    let event = failure_of(name, link)?;
+    Some(Step::Act { end, event })
+}
+
+/// What `down`, `blind` and `noanswer` tell of a link.
+fn failure_of(name: &[u8], link: u8) -> Option<Event>
+    ensures { result ≡ failure_in name.now link }
+{
+    if is_word(name, b"down") {
+        Some(Event::Down { link })
+    } else if is_word(name, b"blind") {
+        Some(Event::DownBlind { link })
+    } else if is_word(name, b"noanswer") {
+        Some(Event::NoAnswer { link })
+    } else {
+        None
     }
 }

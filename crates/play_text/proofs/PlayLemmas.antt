@@ -4,8 +4,8 @@ use Rattle.std.proofs.lemmas.Bool.Decides.{nat_tests}
 use Rattle.printing.proofs.PrintLemmas.{begun_of_end}
 use Rattle.printing.specs.declared.fault.Fault.{Fault}
 use Rattle.printing.specs.declared.fault.Fault.TheVariants.{Text, Step, Octet, Memory, Exhausted, Read, Write}
-use Rattle.pair_world.specs.Pair.{Pair, counts_at}
-use Rattle.play_script.specs.declared.script.End.TheVariants.{A, B}
+use Rattle.pair_world.specs.World.{World, counts_at}
+use Rattle.pair_world.specs.declared.step.End.TheVariants.{A, B}
 use Rattle.answer_texts.specs.Texts.{end_text}
 use Rattle.printing.specs.Printing.{Printed, behind, IsBegun, EndsIn, IsOfText, ReadsOrStops, Ends}
 use Rattle.play_text.specs.PlayText.{ends_text, LineOutcome, prints, goes_on, lines_of, onto_first, play_lines, on_line, at_the_end, play_text}
@@ -52,28 +52,28 @@ open_push (x ∷ xs) c o h = (o.0, open_push xs c o.1 h)
 -- One octet.
 
 -- it goes onto the line
-pub adds_octet : (old : Reading) (c : ℕ) (before : List ℕ) (new : Reading) → new.line ≡ old.line → new.pair ≡ old.pair → new.text ≡ old.text ++ c ∷ [] → Advances old (c ∷ []) before before new
+pub adds_octet : (old : Reading) (c : ℕ) (before : List ℕ) (new : Reading) → new.line ≡ old.line → new.world ≡ old.world → new.text ≡ old.text ++ c ∷ [] → Advances old (c ∷ []) before before new
 adds_octet old c before new e f g = record {
   printed = [];
   added = sym (append-nil before);
   counted = omega (arith, e);
-  goes_on = λ room left. rw (e, f, g) (ap (λ (octets : List ℕ). play_lines old.line old.pair (lines_of octets)) (sym (append_assoc old.text (c ∷ []) left)));
+  goes_on = λ room left. rw (e, f, g) (ap (λ (octets : List ℕ). play_lines old.line old.world (lines_of octets)) (sym (append_assoc old.text (c ∷ []) left)));
 }
 
 -- it ends the line
-pub ends_a_line : (old : Reading) (before after : List ℕ) (pair : Option Pair) (new : Reading) → IsOpen old.text → Does (on_line old.line old.pair old.text) before after pair → new.line ≤ old.line + 1 → (old.line + 1 < 2 ^ 64 → new.line ≡ old.line + 1) → new.text ≡ [] → new.pair ≡ pair → Advances old (10 ∷ []) before after new
-ends_a_line old before after pair new o l few e f g = record {
+pub ends_a_line : (old : Reading) (before after : List ℕ) (world : Option World) (new : Reading) → IsOpen old.text → Does (on_line old.line old.world old.text) before after world → new.line ≤ old.line + 1 → (old.line + 1 < 2 ^ 64 → new.line ≡ old.line + 1) → new.text ≡ [] → new.world ≡ world → Advances old (10 ∷ []) before after new
+ends_a_line old before after world new o l few e f g = record {
   printed = l.printed;
   added = l.added;
   counted = omega (arith, few);
   goes_on = λ room left.
-      ap (λ (lines : List (List ℕ)). play_lines old.line old.pair lines) (line_ends old.text left o)
+      ap (λ (lines : List (List ℕ)). play_lines old.line old.world lines) (line_ends old.text left o)
       ∙ ap (λ (outcome : LineOutcome). goes_on outcome (λ next. play_lines (suc old.line) next (lines_of left))) l.outcome_is
       ∙ rw (e room, f, g, add-one) refl;
 }
 
 -- a fault of the line that it ends
-told : (fault : Fault) (outcome : LineOutcome) (next : Option Pair → Printed) → Tells fault outcome → Faults fault (goes_on outcome next) []
+told : (fault : Fault) (outcome : LineOutcome) (next : Option World → Printed) → Tells fault outcome → Faults fault (goes_on outcome next) []
 told (Text n) outcome next e = ap (λ (o : LineOutcome). goes_on o next) e
 told (Step n) outcome next e = ap (λ (o : LineOutcome). goes_on o next) e
 told (Octet place) outcome next e = absurd e
@@ -91,18 +91,18 @@ told_of_text Exhausted outcome e = tt
 told_of_text Read outcome e = e
 told_of_text Write outcome e = e
 
-pub halts_line : (fault : Fault) (old : Reading) (before after : List ℕ) → IsOpen old.text → Tells fault (on_line old.line old.pair old.text) → after ≡ before → Halts fault old (10 ∷ []) before after
+pub halts_line : (fault : Fault) (old : Reading) (before after : List ℕ) → IsOpen old.text → Tells fault (on_line old.line old.world old.text) → after ≡ before → Halts fault old (10 ∷ []) before after
 halts_line fault old before after o t e = record {
   printed = [];
   added = e ∙ sym (append-nil before);
-  of_text = told_of_text fault (on_line old.line old.pair old.text) t;
+  of_text = told_of_text fault (on_line old.line old.world old.text) t;
   ends = λ room left.
-      rw (line_ends old.text left o) (told fault (on_line old.line old.pair old.text) (λ next. play_lines (suc old.line) next (lines_of left)) t);
+      rw (line_ends old.text left o) (told fault (on_line old.line old.world old.text) (λ next. play_lines (suc old.line) next (lines_of left)) t);
 }
 
 -- the line is too long
-too_long : (n : ℕ) (pair : Option Pair) (text : List ℕ) (lines : List (List ℕ)) → 4096 < length text → Begins text lines → play_lines n pair lines ≡ record { printed = []; fault = Some (Text n) }
-too_long n pair text lines h b =
+too_long : (n : ℕ) (world : Option World) (text : List ℕ) (lines : List (List ℕ)) → 4096 < length text → Begins text lines → play_lines n world lines ≡ record { printed = []; fault = Some (Text n) }
+too_long n world text lines h b =
     let long : nat_lt 4096 (length (text ++ b.more)) ≡ true = grind (arith, nat_tests, length-append text b.more) in
     rw (b.lines_are, long) refl
 
@@ -112,7 +112,7 @@ halts_long old c before o h long = record {
   added = sym (append-nil before);
   of_text = tt;
   ends = λ room left.
-      too_long old.line old.pair (old.text ++ c ∷ []) _ (omega (arith, long, length-append old.text (c ∷ [])))
+      too_long old.line old.world (old.text ++ c ∷ []) _ (omega (arith, long, length-append old.text (c ∷ [])))
       (begins_at (old.text ++ c ∷ []) left (open_push old.text c o h) (omega (arith, long, length-append old.text (c ∷ []))) (append_assoc old.text (c ∷ []) left));
 }
   where
@@ -171,7 +171,7 @@ halts_more fault a b xs ys zs p q r f g = record {
 -- The end of the input.
 
 -- both ends are told
-pub both_ends : (p : Pair) (a b whole : List ℕ) → a ≡ end_text A (counts_at p A) → b ≡ end_text B (counts_at p B) → whole ≡ a ++ b → whole ≡ ends_text p
+pub both_ends : (p : World) (a b whole : List ℕ) → a ≡ end_text A (counts_at p A) → b ≡ end_text B (counts_at p B) → whole ≡ a ++ b → whole ≡ ends_text p
 unfolding ends_text
 both_ends p a b whole e f g = rw (g, e, f) refl
 
@@ -184,49 +184,49 @@ something_read [] n e h = absurd (grind (arith, nat_tests, e, h))
 something_read (c ∷ cs) n e h = omega arith
 
 -- between lines
-pub ends_none : (result : Result (Unit {0}) Fault) (n : ℕ) (pair : Option Pair) (text before after : List ℕ) → text ≡ []
-    → MatchResult result (λ done. after ≡ before ++ at_the_end pair) (λ fault. (fault ≡ Memory) × (after ≡ before))
-    → Finishes result (record { line = n; text = text; pair = pair }) before after
-ends_none (Ok done) n pair text before after e h = rw e (record { printed = at_the_end pair; added = h; ends = refl })
-ends_none (Err fault) n pair text before after e h = rw (e, h.0) (record {
+pub ends_none : (result : Result (Unit {0}) Fault) (n : ℕ) (world : Option World) (text before after : List ℕ) → text ≡ []
+    → MatchResult result (λ done. after ≡ before ++ at_the_end world) (λ fault. (fault ≡ Memory) × (after ≡ before))
+    → Finishes result (record { line = n; text = text; world = world }) before after
+ends_none (Ok done) n world text before after e h = rw e (record { printed = at_the_end world; added = h; ends = refl })
+ends_none (Err fault) n world text before after e h = rw (e, h.0) (record {
   printed = [];
   added = h.1 ∙ sym (append-nil before);
-  ends = (at_the_end pair, refl);
+  ends = (at_the_end world, refl);
 })
 
 -- in mid-line: the last line is carried out
-last_text : (n : ℕ) (pair next : Option Pair) (text printed : List ℕ) → 0 < length text → IsOpen text → on_line n pair text ≡ prints printed next → text_from (record { line = n; text = text; pair = pair }) [] ≡ record { printed = printed ++ at_the_end next; fault = None }
-last_text n pair next [] printed h o d = absurd (omega arith)
-last_text n pair next (c ∷ cs) printed h o d =
-    ap (λ (lines : List (List ℕ)). play_lines n pair lines) (last_line c cs o)
+last_text : (n : ℕ) (world next : Option World) (text printed : List ℕ) → 0 < length text → IsOpen text → on_line n world text ≡ prints printed next → text_from (record { line = n; text = text; world = world }) [] ≡ record { printed = printed ++ at_the_end next; fault = None }
+last_text n world next [] printed h o d = absurd (omega arith)
+last_text n world next (c ∷ cs) printed h o d =
+    ap (λ (lines : List (List ℕ)). play_lines n world lines) (last_line c cs o)
     ∙ ap (λ (outcome : LineOutcome). goes_on outcome (λ p. play_lines (suc n) p [])) d
 
-pub ends_line : (result : Result (Unit {0}) Fault) (n : ℕ) (pair next : Option Pair) (text before middle after : List ℕ) → 0 < length text → IsOpen text → Does (on_line n pair text) before middle next
+pub ends_line : (result : Result (Unit {0}) Fault) (n : ℕ) (world next : Option World) (text before middle after : List ℕ) → 0 < length text → IsOpen text → Does (on_line n world text) before middle next
     → MatchResult result (λ done. after ≡ middle ++ at_the_end next) (λ fault. (fault ≡ Memory) × (after ≡ middle))
-    → Finishes result (record { line = n; text = text; pair = pair }) before after
-ends_line (Ok done) n pair next text before middle after h o d e = record {
+    → Finishes result (record { line = n; text = text; world = world }) before after
+ends_line (Ok done) n world next text before middle after h o d e = record {
   printed = d.printed ++ at_the_end next;
   added = e ∙ ap (λ (x : List ℕ). x ++ at_the_end next) d.added ∙ append_assoc before d.printed (at_the_end next);
-  ends = last_text n pair next text d.printed h o d.outcome_is;
+  ends = last_text n world next text d.printed h o d.outcome_is;
 }
-ends_line (Err fault) n pair next text before middle after h o d e = rw e.0 (record {
+ends_line (Err fault) n world next text before middle after h o d e = rw e.0 (record {
   printed = d.printed;
   added = e.1 ∙ d.added;
-  ends = (at_the_end next, ap (λ (t : Printed). t.printed) (last_text n pair next text d.printed h o d.outcome_is));
+  ends = (at_the_end next, ap (λ (t : Printed). t.printed) (last_text n world next text d.printed h o d.outcome_is));
 })
 
 -- the last line tells a fault
-pub halts_last : (fault : Fault) (n : ℕ) (pair : Option Pair) (text before after : List ℕ) → 0 < length text → IsOpen text → Tells fault (on_line n pair text) → after ≡ before → Finishes (Err fault) (record { line = n; text = text; pair = pair }) before after
-halts_last fault n pair [] before after h o t e = absurd (omega arith)
-halts_last fault n pair (c ∷ cs) before after h o t e = record {
+pub halts_last : (fault : Fault) (n : ℕ) (world : Option World) (text before after : List ℕ) → 0 < length text → IsOpen text → Tells fault (on_line n world text) → after ≡ before → Finishes (Err fault) (record { line = n; text = text; world = world }) before after
+halts_last fault n world [] before after h o t e = absurd (omega arith)
+halts_last fault n world (c ∷ cs) before after h o t e = record {
   printed = [];
   added = e ∙ sym (append-nil before);
-  ends = rw (last_line c cs o) (told fault (on_line n pair (c ∷ cs)) (λ next. play_lines (suc n) next []) t);
+  ends = rw (last_line c cs o) (told fault (on_line n world (c ∷ cs)) (λ next. play_lines (suc n) next []) t);
 }
 
 -- As a text that is printed while another is read.
 
-pub begins_to_play : HasPlayed [] [] (record { line = 1; text = []; pair = None })
+pub begins_to_play : HasPlayed [] [] (record { line = 1; text = []; world = None })
 begins_to_play = record { counted = omega arith; goes_on = λ left. refl }
 
 of_fault : (fault : Fault) (text : Printed) (printed : List ℕ) → Faults fault text printed → IsOfText fault

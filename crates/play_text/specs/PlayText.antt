@@ -2,11 +2,14 @@
 use Rattle.std.specs.Prelude.{ℕ, Bool, true, ◌==◌, nat_lt, suc, List, [], ◌∷◌, ◌++◌, length, Option, Some, None, if◌then◌else◌}
 use Rattle.printing.specs.declared.fault.Fault.{Fault}
 use Rattle.printing.specs.declared.fault.Fault.TheVariants.{Text, Step, Exhausted}
-use Rattle.play_script.specs.declared.script.ScriptLine.{ScriptLine}
+use Rattle.set_model.specs.State.{Settings, opened_with}
+use Rattle.set_model.specs.History.{LinkSet}
+use Rattle.pair_world.specs.declared.step.End.{End}
+use Rattle.pair_world.specs.declared.step.End.TheVariants.{A, B}
+use Rattle.pair_world.specs.declared.step.Step.{Step as WorldStep}
+use Rattle.pair_world.specs.World.{World, Outcome, shows, impossible, exhausted, world_of, carried_out, counts_at}
 use Rattle.play_script.specs.declared.script.Values.{Values}
-use Rattle.play_script.specs.Script.{line_of, first_line}
-use Rattle.play_script.specs.declared.script.End.TheVariants.{A, B}
-use Rattle.pair_world.specs.Pair.{Pair, Outcome, shows, impossible, exhausted, new_pair, carried_out, counts_at}
+use Rattle.play_script.specs.Script.{step_of, first_line}
 use Rattle.answer_texts.specs.Texts.{shown_text, end_text}
 use Rattle.printing.specs.Printing.{Printed, behind}
 
@@ -20,9 +23,9 @@ abbrev pub lines_of : List ℕ → List (List ℕ)
 lines_of [] = []
 lines_of (octet ∷ octets) = if octet == 10 then [] ∷ lines_of octets else onto_first octet (lines_of octets)
 
--- A line prints this and leaves a pair, if one is made yet; or it ends the script with a fault.
+-- A line prints this and leaves a world, if one is made yet; or it ends the script with a fault.
 pub data LineOutcome : Type 0 where
-  prints : List ℕ → Option Pair → LineOutcome
+  prints : List ℕ → Option World → LineOutcome
   stops : Fault → LineOutcome
 
 -- an empty line, or one that begins with # (35)
@@ -30,48 +33,57 @@ abbrev pub is_remark : List ℕ → Bool
 is_remark [] = true
 is_remark (octet ∷ octets) = octet == 35
 
--- the first line that is no remark makes the pair
+-- what each end is opened with: its own point code is the far end's for the other
+abbrev pub settings_at : Values → End → Settings
+settings_at v A = record { links = v.links; method = v.method; sio = v.sio; dpc = v.code_b; opc = v.code_a }
+settings_at v B = record { links = v.links; method = v.method; sio = v.sio; dpc = v.code_a; opc = v.code_b }
+
+-- a set that nothing was asked of
+abbrev pub opened_set : Settings → LinkSet
+opened_set settings = record { opening = opened_with settings; state = opened_with settings; history = [] }
+
+-- the first line that is no remark makes the world
 abbrev pub opened : ℕ → Option Values → LineOutcome
 opened n None = stops (Text n)
-opened n (Some values) = prints [] (Some (new_pair values))
+opened n (Some v) = prints [] (Some (world_of (opened_set (settings_at v A)) (opened_set (settings_at v B))))
 
--- each further one is carried out
+-- each further one asks for a step, which is carried out
 abbrev pub shown : ℕ → Outcome → LineOutcome
-shown n (shows s p) = prints (shown_text s) (Some p)
+shown n (shows s w) = prints (shown_text s) (Some w)
 shown n impossible = stops (Step n)
 shown n exhausted = stops Exhausted
 
-abbrev pub asked : ℕ → Pair → Option ScriptLine → LineOutcome
-asked n p None = stops (Text n)
-asked n p (Some line) = shown n (carried_out p line)
+abbrev pub asked : ℕ → World → Option WorldStep → LineOutcome
+asked n w None = stops (Text n)
+asked n w (Some step) = shown n (carried_out w step)
 
-abbrev pub read_line : ℕ → Option Pair → List ℕ → LineOutcome
+abbrev pub read_line : ℕ → Option World → List ℕ → LineOutcome
 read_line n None text = opened n (first_line text)
-read_line n (Some p) text = asked n p (line_of text)
+read_line n (Some w) text = asked n w (step_of text)
 
 -- the line of this number: one of over 4,096 octets is unreadable, a remark prints nothing
-abbrev pub on_line : ℕ → Option Pair → List ℕ → LineOutcome
-on_line n pair text =
+abbrev pub on_line : ℕ → Option World → List ℕ → LineOutcome
+on_line n world text =
     if nat_lt 4096 (length text) then stops (Text n)
-    else (if is_remark text then prints [] pair else read_line n pair text)
+    else (if is_remark text then prints [] world else read_line n world text)
 
 -- how the ends stand when the script has ended, a first
-unfoldable pub ends_text : Pair → List ℕ
-ends_text p = end_text A (counts_at p A) ++ end_text B (counts_at p B)
+unfoldable pub ends_text : World → List ℕ
+ends_text w = end_text A (counts_at w A) ++ end_text B (counts_at w B)
 
-abbrev pub at_the_end : Option Pair → List ℕ
+abbrev pub at_the_end : Option World → List ℕ
 at_the_end None = []
-at_the_end (Some p) = ends_text p
+at_the_end (Some w) = ends_text w
 
--- a line, and what goes on from the pair that it leaves
-abbrev pub goes_on : LineOutcome → (Option Pair → Printed) → Printed
-goes_on (prints printed pair) next = behind printed (next pair)
+-- a line, and what goes on from the world that it leaves
+abbrev pub goes_on : LineOutcome → (Option World → Printed) → Printed
+goes_on (prints printed world) next = behind printed (next world)
 goes_on (stops fault) next = record { printed = []; fault = Some fault }
 
 -- the lines from this number on
-abbrev pub play_lines : ℕ → Option Pair → List (List ℕ) → Printed
-play_lines n pair [] = record { printed = at_the_end pair; fault = None }
-play_lines n pair (line ∷ lines) = goes_on (on_line n pair line) (λ next. play_lines (suc n) next lines)
+abbrev pub play_lines : ℕ → Option World → List (List ℕ) → Printed
+play_lines n world [] = record { printed = at_the_end world; fault = None }
+play_lines n world (line ∷ lines) = goes_on (on_line n world line) (λ next. play_lines (suc n) next lines)
 
 -- THE TEXT
 abbrev pub play_text : List ℕ → Printed

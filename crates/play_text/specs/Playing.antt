@@ -2,15 +2,15 @@
 use Rattle.std.specs.Prelude.{◌≡◌, ℕ, ◌≤◌, ◌≢◌, List, [], ◌∷◌, ◌++◌, ◌+◌, ◌<◌, ◌^◌, length, Option, Some, None, Result, MatchResult}
 use Rattle.printing.specs.declared.fault.Fault.{Fault}
 use Rattle.printing.specs.declared.fault.Fault.TheVariants.{Text, Step, Octet, Memory, Exhausted, Read, Write}
-use Rattle.pair_world.specs.Pair.{Pair}
+use Rattle.pair_world.specs.World.{World}
 use Rattle.printing.specs.Printing.{Printed, behind, IsOfText}
 use Rattle.play_text.specs.PlayText.{LineOutcome, stops, prints, lines_of, play_lines, play_text}
 
--- the number of the line that is being read, its octets so far, and the pair, if it's made yet
+-- the number of the line that is being read, its octets so far, and the world, if it's made yet
 pub record Reading : Type 0 where
   pub line : ℕ
   pub text : List ℕ
-  pub pair : Option Pair
+  pub world : Option World
 
 -- no octet ends the line
 abbrev pub IsOpen : List ℕ → Type 0
@@ -24,7 +24,7 @@ pub record IsReading (text : List ℕ) : Type 0 where
 
 -- what the script prints from here on, with these octets left to read
 abbrev pub text_from : Reading → List ℕ → Printed
-text_from r left = play_lines r.line r.pair (lines_of (r.text ++ left))
+text_from r left = play_lines r.line r.world (lines_of (r.text ++ left))
 
 -- a fault that a line tells is that of its definition; want of memory tells nothing
 abbrev pub Tells : Fault → LineOutcome → Type 0
@@ -36,14 +36,14 @@ Tells Exhausted outcome = outcome ≡ stops Exhausted
 Tells Read outcome = ⊥
 Tells Write outcome = ⊥
 
--- a line prints this and leaves this pair
-pub record Does (outcome : LineOutcome) (before after : List ℕ) (new : Option Pair) : Type 0 where
+-- a line prints this and leaves this world
+pub record Does (outcome : LineOutcome) (before after : List ℕ) (new : Option World) : Type 0 where
   pub printed : List ℕ
   pub added : after ≡ before ++ printed
   pub outcome_is : outcome ≡ prints printed new
 
 -- a line was carried out, and what it prints was added; or it tells a fault, and nothing was added
-abbrev pub IsDone : Result (Unit {0}) Fault → LineOutcome → List ℕ → List ℕ → Option Pair → Type 0
+abbrev pub IsDone : Result (Unit {0}) Fault → LineOutcome → List ℕ → List ℕ → Option World → Type 0
 IsDone result outcome before after new = MatchResult result (λ done. Does outcome before after new) (λ fault. Tells fault outcome × (after ≡ before))
 
 -- The text that a script prints from a reading on.

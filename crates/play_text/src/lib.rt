@@ -9,7 +9,7 @@
 //! the octets that are printed and the fault that it ends with, if any.
 //!
 //! What comes in pieces is kept by a type of this crate, a player: the number of the line that is being
-//! read, its octets so far, and the pair.
+//! read, its octets so far, and the world.
 #![tactic(auto)]
 
 mod player;

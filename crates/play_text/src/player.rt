@@ -1,7 +1,7 @@
-//! A script under way: the line that is being read, and the pair.
+//! A script under way: the line that is being read, and the world.
 
 use super::whole_line::{add_ends, end_line};
-use pair_world::Pair;
+use pair_world::World;
 use printing::{Fault, Printer};
 use std::alloc::Global;
 use std::marker::Model;
@@ -17,8 +17,8 @@ pub(crate) struct Player {
     line: u64,
     /// The octets of that line so far.
     text: Vec<u8>,
-    /// The pair, once the first line has made it.
-    pair: Option<Pair>,
+    /// The world, once the first line has made it.
+    world: Option<World>,
 }
 
 impl Model for Player {
@@ -26,7 +26,7 @@ impl Model for Player {
 
     ghost Value = { Reading };
 
-    ghost view = { λ p. record { line = p.line; text = p.text.items; pair = p.pair } };
+    ghost view = { λ p. record { line = p.line; text = p.text.items; world = p.world } };
 
     ghost invariant = { λ p. IsReading p.text.items };
 }
@@ -37,13 +37,13 @@ impl Player {
 
     /// Before the first octet.
     pub(crate) fn new(alloc: Global) -> Player
-        ensures { result ≡ record { line = 1; text = []; pair = None } }
+        ensures { result ≡ record { line = 1; text = []; world = None } }
     {
         Player {
             alloc,
             line: 1,
             text: Vec::new(alloc),
-            pair: None,
+            world: None,
         }
     }
 
@@ -62,7 +62,7 @@ impl Player {
     fn end_line(&mut self, out: &mut Vec<u8>) -> Result<(), Fault>
         ensures { AdvancesOrHalts result self.old (10 ∷ []) out.old.items out.new.items self.new }
     {
-        match end_line(self.alloc, &mut self.pair, &self.text, self.line, out) {
+        match end_line(self.alloc, &mut self.world, &self.text, self.line, out) {
             Ok(()) => {
                 self.text.clear();
                 self.line = self.line.saturating_add(1);
@@ -108,13 +108,13 @@ impl Player {
             alloc,
             line,
             text,
-            mut pair,
+            mut world,
         } = self;
         if text.is_empty() {
-            return add_ends(alloc, &pair, out);
+            return add_ends(alloc, &world, out);
         }
-        match end_line(alloc, &mut pair, &text, line, out) {
-            Ok(()) => add_ends(alloc, &pair, out),
+        match end_line(alloc, &mut world, &text, line, out) {
+            Ok(()) => add_ends(alloc, &world, out),
             Err(fault) => Err(fault),
         }
     }

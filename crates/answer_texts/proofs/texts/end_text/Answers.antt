@@ -1,4 +1,4 @@
-use Rattle.std.proofs.Common.{◌≡◌, ◌∙◌, ap, ap₂, ℕ, List, ◌++◌, sym}
+use Rattle.std.proofs.Common.{◌∙◌, ap₂, ℕ, List, ◌++◌, sym}
 use Rattle.answer_texts.proofs.Sealed.{end_is}
 use Rattle.answer_texts.proofs.texts.end_text.Goals as goal
 

@@ -1,4 +1,3 @@
-use Rattle.std.proofs.Common.{◌≡◌}
 use Rattle.answer_texts.proofs.Sealed.{shown_is}
 use Rattle.answer_texts.proofs.texts.shown_text.Goals as goal
 

@@ -1,0 +1,276 @@
+//! Two ends, and the units under way between them.
+ghost use Rattle.std.specs.Prelude.{◌≡◌, ◌<◌, IfErr, IfOk};
+ghost use Rattle.set_model.specs.History.{IsActor, new_set};
+ghost use Rattle.set_model.specs.State.{link_count};
+ghost use Rattle.set_step.specs.declared.fault.SetFault.TheVariants.{NoMemory};
+ghost use Rattle.pair_world.specs.World.{actor_of};
+ghost use Rattle.pair_world.specs.Carried.{Applies};
+
+use super::fault::PlayFault;
+use super::step::{End, Shown, Step};
+use l2_units::Unit;
+use link_lines::Lines;
+use set_core::{SetCore, SetFault};
+use set_events::{Actor, Answer, Counts, Event, SetConfig};
+use std::alloc::Global;
+use std::marker::Model;
+
+/// Two ends with the same links, and the units under way to each on each link, oldest first.
+#[derive(Drop)]
+pub struct World {
+    a: SetCore,
+    b: SetCore,
+    to_a: Lines,
+    to_b: Lines,
+}
+
+impl Model for World {
+    ghost use Rattle.pair_world.specs.World.{World as WorldState};
+
+    ghost Value = { WorldState };
+
+    ghost view = { λ w. record { a = w.a; b = w.b; to_a = w.to_a; to_b = w.to_b } };
+
+    ghost use Rattle.pair_world.specs.Carried.{IsPaired};
+
+    ghost invariant = { λ w. IsPaired (record { a = w.a; b = w.b; to_a = w.to_a; to_b = w.to_b }) };
+}
+
+impl World {
+    ghost use Rattle.std.specs.Prelude.{◌≡◌, ◌<◌, ◌^◌, IfErr, IfSome, OnOk, MatchResult, is_some, true};
+    ghost use Rattle.set_model.specs.Rows.{total_of};
+    ghost use Rattle.set_model.specs.State.{is_up as is_up_in};
+    ghost use Rattle.pair_world.specs.World.{carried_out, done_by, acts, has_actor, with_sent, emits, arrives, loses, has_link as has_link_in, rises, at_end, counts_at};
+    ghost use Rattle.pair_world.specs.Carried.{IsBegun, FailsToBegin, IsCarriedOut, IsTakenFrom};
+
+    /// The world of these configurations: no messages, no link up, nothing under way.
+    ///
+    /// Faults: 4 [`PlayFault::Links`] exactly where the configurations differ in links, tested first;
+    /// 1 [`PlayFault::NoMemory`] only where memory was refused.
+    pub fn new(alloc: Global, a: &SetConfig, b: &SetConfig) -> Result<World, PlayFault>
+        ensures { MatchResult result (IsBegun a.now b.now) (λ fault. FailsToBegin fault a.now b.now) }
+    {
+        if a.links != b.links {
+            return Err(PlayFault::Links);
+        }
+        let a = new_end(alloc, a)?;
+        let b = new_end(alloc, b)?;
+        let to_a = Lines::new(alloc, a.links())?;
+        let to_b = Lines::new(alloc, a.links())?;
+        Ok(World { a, b, to_a, to_b })
+    }
+
+    /// Carries out a step, and tells what it shows.
+    ///
+    /// Faults: 2 [`PlayFault::Impossible`] and 3 [`PlayFault::Exhausted`] exactly where the step is, and an
+    /// impossible step is that whether a history is full or not; 1 [`PlayFault::NoMemory`] only where memory
+    /// was refused. After a fault the world isn't to be used again.
+    #[tactic(auto, unfolding(crate::specs::World::carried_out))]
+    pub fn carry_out(&mut self, step: &Step) -> Result<Shown, PlayFault>
+        ensures { IsCarriedOut result (carried_out self.old step.now) self.new }
+    {
+        self.dispatch(step)
+    }
+
+    /// Carries out a step, case by case.
+    fn dispatch(&mut self, step: &Step) -> Result<Shown, PlayFault>
+        ensures { IsCarriedOut result (done_by self.old step.now) self.new }
+    {
+        match step {
+            Step::Act { end, event } => self.act(*end, event),
+            Step::Emit { end, link } => self.emit(*end, *link),
+            Step::Arrive { end, link } => self.arrive(*end, *link),
+            Step::Lose { end, link, place } => self.lose(*end, *link, *place),
+            Step::Together { link } => self.raise(*link),
+            Step::Inject { end, link, unit } => {
+                let event = Event::Heard {
+                    link: *link,
+                    unit: copy_of(unit),
+                };
+                self.act(*end, &event)
+            }
+        }
+    }
+
+    /// How the messages of an end stand.
+    pub fn counts(&self, end: End) -> Counts
+        ensures value { result ≡ counts_at self.now end }
+        ensures few { total_of result < 2 ^ 64 }
+    {
+        match end {
+            End::A => self.a.counts(),
+            End::B => self.b.counts(),
+        }
+    }
+
+    /// One event at an end.
+    fn act(&mut self, end: End, event: &Event) -> Result<Shown, PlayFault>
+        ensures acts { IsCarriedOut result (acts self.old end event.now) self.new }
+        ensures known { OnOk result (has_actor self.old (actor_of event.now) ≡ true) }
+        ensures links { link_count self.new.a.state ≡ link_count self.old.a.state }
+    {
+        let Some(who) = self.actor_of(event) else {
+            return Err(PlayFault::Impossible);
+        };
+        match end {
+            End::A => Ok(Shown::Answered(apply(&mut self.a, who, event)?)),
+            End::B => Ok(Shown::Answered(apply(&mut self.b, who, event)?)),
+        }
+    }
+
+    /// Who makes this event; `None`: the terminal of a link that the world hasn't.
+    fn actor_of(&self, event: &Event) -> Option<Actor>
+        ensures known { is_some result ≡ has_actor self.now (actor_of event.now) }
+        ensures who { IfSome result (λ who. who ≡ actor_of event.now) }
+        ensures in_range { IfSome result IsActor }
+    {
+        match event {
+            Event::Offer { .. } | Event::Take | Event::Find { .. } => Some(Actor::User(0)),
+            Event::Next { link }
+            | Event::Heard { link, .. }
+            | Event::Up { link }
+            | Event::Down { link }
+            | Event::DownBlind { link }
+            | Event::NoAnswer { link } => self.terminal_of(*link),
+        }
+    }
+
+    /// The terminal of a link, if the world has that link.
+    fn terminal_of(&self, link: u8) -> Option<Actor>
+        ensures known { is_some result ≡ has_link_in self.now link }
+        ensures who { IfSome result (λ who. who ≡ Actor.Terminal link) }
+        ensures few { IfSome result (λ who. link < 16) }
+    {
+        if self.has_link(link) {
+            Some(Actor::Terminal(link))
+        } else {
+            None
+        }
+    }
+
+    /// Whether the world has this link.
+    fn has_link(&self, link: u8) -> bool
+        ensures value { result ≡ has_link_in self.now link }
+        ensures few { result ≡ true → link < 16 }
+    {
+        link < self.a.links()
+    }
+
+    /// The end sends its next unit on the link, which joins the link's line to the other end.
+    fn emit(&mut self, end: End, link: u8) -> Result<Shown, PlayFault>
+        ensures { IsCarriedOut result (emits self.old end link) self.new }
+    {
+        let shown = self.act(end, &Event::Next { link })?;
+        self.join(end, link, &shown)?;
+        Ok(shown)
+    }
+
+    /// A unit that an end sent on the link joins the link's line to the other end.
+    fn join(&mut self, end: End, link: u8, shown: &Shown) -> Result<(), PlayFault>
+        requires { has_link_in self.old link ≡ true }
+        ensures ok { OnOk result (self.new ≡ with_sent self.old end link shown.now) }
+        ensures err { IfErr result (λ fault. fault ≡ PlayFault.NoMemory) }
+    {
+        let Shown::Answered(Answer::Sent { unit }) = shown else {
+            return Ok(());
+        };
+        let unit = copy_of(unit);
+        match end {
+            End::A => self.to_b.join(link, unit)?,
+            End::B => self.to_a.join(link, unit)?,
+        }
+        Ok(())
+    }
+
+    /// The front of the link's line to the end arrives: it's heard where the link is up there, else lost.
+    fn arrive(&mut self, end: End, link: u8) -> Result<Shown, PlayFault>
+        ensures { IsCarriedOut result (arrives self.old end link) self.new }
+    {
+        if !self.has_link(link) {
+            return Err(PlayFault::Impossible);
+        }
+        let Some(unit) = self.take_out(end, link, 0) else {
+            return Err(PlayFault::Impossible);
+        };
+        if !self.is_up(end, link) {
+            return Ok(Shown::Lost);
+        }
+        self.act(end, &Event::Heard { link, unit })
+    }
+
+    /// The unit at this place of the link's line to the end is lost.
+    fn lose(&mut self, end: End, link: u8, place: u64) -> Result<Shown, PlayFault>
+        ensures { IsCarriedOut result (loses self.old end link place) self.new }
+    {
+        if !self.has_link(link) {
+            return Err(PlayFault::Impossible);
+        }
+        match self.take_out(end, link, place) {
+            Some(_) => Ok(Shown::Lost),
+            None => Err(PlayFault::Impossible),
+        }
+    }
+
+    /// Takes the unit at this place out of the link's line to the end, if there is one.
+    fn take_out(&mut self, end: End, link: u8, place: u64) -> Option<Unit>
+        requires { has_link_in self.old link ≡ true }
+        ensures { IsTakenFrom result self.old end link place self.new }
+    {
+        match end {
+            End::A => self.to_a.taken_out(link, place),
+            End::B => self.to_b.taken_out(link, place),
+        }
+    }
+
+    /// Whether the link is up at this end.
+    fn is_up(&self, end: End, link: u8) -> bool
+        ensures { result ≡ is_up_in link (at_end self.now end).state }
+    {
+        match end {
+            End::A => self.a.is_up(link),
+            End::B => self.b.is_up(link),
+        }
+    }
+
+    /// The link comes up at both ends, and nothing is under way on it.
+    fn raise(&mut self, link: u8) -> Result<Shown, PlayFault>
+        ensures { IsCarriedOut result (rises self.old link) self.new }
+    {
+        if !self.has_link(link) || !self.a.is_settled(link) || !self.b.is_settled(link) {
+            return Err(PlayFault::Impossible);
+        }
+        apply(&mut self.a, Actor::Terminal(link), &Event::Up { link })?;
+        apply(&mut self.b, Actor::Terminal(link), &Event::Up { link })?;
+        self.to_a.clear(link);
+        self.to_b.clear(link);
+        Ok(Shown::Up)
+    }
+}
+
+/// A set of this configuration. It has no history that could be full.
+fn new_end(alloc: Global, config: &SetConfig) -> Result<SetCore, PlayFault>
+    ensures ok { IfOk result (λ set. set ≡ new_set config.now) }
+    ensures err { IfErr result (λ fault. fault ≡ PlayFault.NoMemory) }
+{
+    Ok(SetCore::new(alloc, config)?)
+}
+
+/// One event at a set, by its actor.
+fn apply(set: &mut SetCore, who: Actor, event: &Event) -> Result<Answer, SetFault>
+    requires in_range { IsActor who }
+    requires who { who ≡ actor_of event.now }
+    ensures applies { Applies result set.old event.now set.new }
+    ensures links { link_count set.new.state ≡ link_count set.old.state }
+{
+    set.apply(who, event)
+}
+
+/// An equal unit. It takes no memory.
+fn copy_of(unit: &Unit) -> Unit
+    ensures { result ≡ unit.now }
+{
+    match unit.clone() {
+        Ok(copy) => copy,
+        Err(_) => unreachable!(),
+    }
+}
