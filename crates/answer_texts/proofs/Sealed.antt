@@ -1,8 +1,8 @@
 -- What the sealed texts are.
 use Rattle.std.proofs.Common.{◌≡◌, refl, ◌++◌}
 use Rattle.set_events.specs.declared.answer.Counts.{Counts}
-use Rattle.pair_world.specs.declared.step.End.{End}
-use Rattle.pair_world.specs.declared.step.Shown.{Shown}
+use Rattle.world_steps.specs.declared.step.End.{End}
+use Rattle.world_steps.specs.declared.step.Shown.{Shown}
 use Rattle.answer_texts.specs.Texts.{shown_line, shown_text, end_text, link_counts, other_counts}
 
 pub shown_is : (shown : Shown) → shown_text shown ≡ shown_line shown

@@ -12,10 +12,10 @@ use Rattle.set_events.specs.declared.answer.Counts.{Counts}
 use Rattle.set_events.specs.declared.answer.Answer.{Answer}
 use Rattle.set_events.specs.declared.answer.Answer.TheVariants.{Accepted, Taken, Found, Sent, Heard, Done, Refused}
 use Rattle.set_model.specs.Rows.{total_of}
-use Rattle.pair_world.specs.declared.step.End.{End}
-use Rattle.pair_world.specs.declared.step.End.TheVariants.{A, B}
-use Rattle.pair_world.specs.declared.step.Shown.{Shown}
-use Rattle.pair_world.specs.declared.step.Shown.TheVariants.{Up, Lost, Answered}
+use Rattle.world_steps.specs.declared.step.End.{End}
+use Rattle.world_steps.specs.declared.step.End.TheVariants.{A, B}
+use Rattle.world_steps.specs.declared.step.Shown.{Shown}
+use Rattle.world_steps.specs.declared.step.Shown.TheVariants.{Up, Lost, Answered}
 use Rattle.figures.specs.Figures.{hex_text, bit}
 
 abbrev pub fate_text : Fate → List ℕ

@@ -2,7 +2,7 @@
 //!
 //! | what | its text |
 //! |---|---|
-//! | [`pair_world::Shown`], what a step showed: an answer of a set, an up, a loss | [`shown_text`] |
+//! | [`world_steps::Shown`], what a step showed: an answer of a set, an up, a loss | [`shown_text`] |
 //! | [`set_events::Counts`] of an end | [`end_text`] |
 //!
 //! Each text is a line, ended by LF, and fails only where memory is wanted. Numbers are decimal, octets are

@@ -11,8 +11,8 @@ use Rattle.set_step.specs.declared.fault.SetFault.TheVariants.{NoMemory as SetNo
 use Rattle.l2_units.specs.declared.unit.Unit.{Unit as SignalUnit}
 use Rattle.pair_world.specs.declared.fault.PlayFault.{PlayFault}
 use Rattle.pair_world.specs.declared.fault.PlayFault.TheVariants.{NoMemory, Impossible, Exhausted, Links}
-use Rattle.pair_world.specs.declared.step.End.{End}
-use Rattle.pair_world.specs.declared.step.Shown.{Shown}
+use Rattle.world_steps.specs.declared.step.End.{End}
+use Rattle.world_steps.specs.declared.step.Shown.{Shown}
 use Rattle.pair_world.specs.World.{World, Outcome, world_of, shows, impossible, exhausted, is_full, answer_to, after, line_to, with_line}
 
 abbrev pub PlayFaultOf : SetFault → PlayFault → Type 0

@@ -13,12 +13,12 @@ use Rattle.set_model.specs.State.{link_count, is_up, is_settled}
 use Rattle.set_model.specs.History.{LinkSet}
 use Rattle.set_model.specs.Rows.{counts_of}
 use Rattle.set_model.specs.Step.{step}
-use Rattle.pair_world.specs.declared.step.End.{End}
-use Rattle.pair_world.specs.declared.step.End.TheVariants.{A, B}
-use Rattle.pair_world.specs.declared.step.Step.{Step}
-use Rattle.pair_world.specs.declared.step.Step.TheVariants.{Act, Emit, Arrive, Lose, Together, Inject}
-use Rattle.pair_world.specs.declared.step.Shown.{Shown}
-use Rattle.pair_world.specs.declared.step.Shown.TheVariants.{Answered, Up, Lost}
+use Rattle.world_steps.specs.declared.step.End.{End}
+use Rattle.world_steps.specs.declared.step.End.TheVariants.{A, B}
+use Rattle.world_steps.specs.declared.step.Step.{Step}
+use Rattle.world_steps.specs.declared.step.Step.TheVariants.{Act, Emit, Arrive, Lose, Together, Inject}
+use Rattle.world_steps.specs.declared.step.Shown.{Shown}
+use Rattle.world_steps.specs.declared.step.Shown.TheVariants.{Answered, Up, Lost}
 
 -- both ends, and the units under way to each: a line for each link
 pub record World : Type 0 where

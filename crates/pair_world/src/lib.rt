@@ -17,9 +17,8 @@
 #![tactic(auto)]
 
 mod fault;
-mod step;
 mod world;
 
 pub use fault::PlayFault;
-pub use step::{End, Shown, Step};
 pub use world::World;
+pub use world_steps::{End, Shown, Step};

@@ -7,13 +7,13 @@ ghost use Rattle.pair_world.specs.World.{actor_of};
 ghost use Rattle.pair_world.specs.Carried.{Applies};
 
 use super::fault::PlayFault;
-use super::step::{End, Shown, Step};
 use l2_units::Unit;
 use link_lines::Lines;
 use set_core::{SetCore, SetFault};
 use set_events::{Actor, Answer, Counts, Event, SetConfig};
 use std::alloc::Global;
 use std::marker::Model;
+use world_steps::{End, Shown, Step};
 
 /// Two ends with the same links, and the units under way to each on each link, oldest first.
 #[derive(Drop)]
@@ -53,10 +53,10 @@ impl World {
         if a.links != b.links {
             return Err(PlayFault::Links);
         }
+        let to_a = Lines::new(alloc, a.links)?;
+        let to_b = Lines::new(alloc, a.links)?;
         let a = new_end(alloc, a)?;
         let b = new_end(alloc, b)?;
-        let to_a = Lines::new(alloc, a.links())?;
-        let to_b = Lines::new(alloc, a.links())?;
         Ok(World { a, b, to_a, to_b })
     }
 

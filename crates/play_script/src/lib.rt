@@ -1,7 +1,7 @@
 //! The script of `play`: what each of its lines asks for.
 //!
 //! A line is words with one space between two. [`opening_of`] reads the first line, which says how both
-//! ends are made; [`step_of`] reads any other as a [`pair_world::Step`]. A line that is none of the script's
+//! ends are made; [`step_of`] reads any other as a [`world_steps::Step`]. A line that is none of the script's
 //! is answered by `None`, with no word about why; `step_of` fails only where memory is wanted.
 //!
 //! | line | asks for |

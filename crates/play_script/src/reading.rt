@@ -6,7 +6,7 @@ ghost use Rattle.play_script.specs.Script.{is_space, first_word, other_words, en
 
 use figures::{number_of, octets_of};
 use l2_units::{Unit, read};
-use pair_world::{End, Step};
+use world_steps::{End, Step};
 use set_events::{Body, Event};
 use std::alloc::{AllocError, Global};
 

@@ -4,9 +4,9 @@ use Rattle.printing.specs.declared.fault.Fault.{Fault}
 use Rattle.printing.specs.declared.fault.Fault.TheVariants.{Text, Step, Exhausted}
 use Rattle.set_model.specs.State.{Settings, opened_with}
 use Rattle.set_model.specs.History.{LinkSet}
-use Rattle.pair_world.specs.declared.step.End.{End}
-use Rattle.pair_world.specs.declared.step.End.TheVariants.{A, B}
-use Rattle.pair_world.specs.declared.step.Step.{Step as WorldStep}
+use Rattle.world_steps.specs.declared.step.End.{End}
+use Rattle.world_steps.specs.declared.step.End.TheVariants.{A, B}
+use Rattle.world_steps.specs.declared.step.Step.{Step as WorldStep}
 use Rattle.pair_world.specs.World.{World, Outcome, shows, impossible, exhausted, world_of, carried_out, counts_at}
 use Rattle.play_script.specs.declared.script.Values.{Values}
 use Rattle.play_script.specs.Script.{step_of, first_line}
@@ -35,8 +35,8 @@ is_remark (octet ∷ octets) = octet == 35
 
 -- what each end is opened with: its own point code is the far end's for the other
 abbrev pub settings_at : Values → End → Settings
-settings_at v A = record { links = v.links; method = v.method; sio = v.sio; dpc = v.code_b; opc = v.code_a }
-settings_at v B = record { links = v.links; method = v.method; sio = v.sio; dpc = v.code_a; opc = v.code_b }
+settings_at v A = record { set = 0; links = v.links; method = v.method; sio = v.sio; dpc = v.code_b; opc = v.code_a }
+settings_at v B = record { set = 0; links = v.links; method = v.method; sio = v.sio; dpc = v.code_a; opc = v.code_b }
 
 -- a set that nothing was asked of
 abbrev pub opened_set : Settings → LinkSet

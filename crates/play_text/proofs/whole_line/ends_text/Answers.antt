@@ -1,6 +1,6 @@
 use Rattle.std.proofs.Common.{ap, ◌∙◌, ℕ, List, ◌++◌}
 use Rattle.set_events.specs.declared.answer.Counts.{Counts}
-use Rattle.pair_world.specs.declared.step.End.TheVariants.{A, B}
+use Rattle.world_steps.specs.declared.step.End.TheVariants.{A, B}
 use Rattle.answer_texts.specs.Texts.{end_text}
 use Rattle.play_text.proofs.PlayLemmas.{both_ends}
 use Rattle.play_text.proofs.whole_line.ends_text.Goals as goal
