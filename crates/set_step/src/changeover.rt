@@ -27,10 +27,8 @@ pub(crate) fn order_space(links: &Vec<Link>) -> Result<Vec<u8>, AllocError>
     ensures { IfOk result (λ space. (vec_len space ≡ 0) × (7 ≤ vec_capacity space)) }
 {
     let mut space = Vec::new(*links.allocator());
-    match space.reserve(LONGEST_ORDER) {
-        Ok(()) => Ok(space),
-        Err(fault) => Err(fault),
-    }
+    space.reserve(LONGEST_ORDER)?;
+    Ok(space)
 }
 
 /// An order stands last, for the target. `space` holds it.

@@ -1,9 +1,9 @@
 //! What a heard unit does to a set.
-ghost use Rattle.std.specs.Prelude.{◌≡◌, ◌<◌, ◌≤◌, ◌^◌, true, false, length, slice_get, Some, IsOk, IfOk, IfErr, OnErr, OnOk};
+ghost use Rattle.std.specs.Prelude.{◌≡◌, ◌<◌, ◌≤◌, ◌^◌, true, false, length, slice_get, Some, IsOk, IfOk, IfSome, IfErr, OnErr, OnOk};
 ghost use Rattle.std.specs.VecDeque.{deque_len, deque_capacity};
 ghost use Rattle.std.specs.Vec.{vec_len, vec_capacity};
 ghost use Rattle.l2_units.specs.Grammar.{head_of as header_of};
-ghost use Rattle.l3_orders.specs.Grammar.{link_of as link_in};
+ghost use Rattle.l3_orders.specs.Grammar.{IsOrder, link_of as link_in};
 ghost use Rattle.set_model.specs.Control.{part_of};
 ghost use Rattle.set_model.specs.Rows.{service_indicator as indicator_of};
 ghost use Rattle.set_model.specs.State.{State, LinkState, window_of};
@@ -43,9 +43,10 @@ pub(crate) fn heard(parts: &mut Parts, number: u8, unit: &Unit) -> Result<Answer
             why: Refusal::Nothing,
         });
     }
-    let space = make_space(parts, unit)?;
+    let order = order_in(unit);
+    let space = make_space(parts, unit, order)?;
     let part = control_hears(parts, number, unit);
-    let took = take_in(parts, part.accept, unit, space);
+    let took = take_in(parts, part.accept, unit, order, space);
     Ok(Answer::Heard {
         report: report_of(part, took),
     })
@@ -53,8 +54,13 @@ pub(crate) fn heard(parts: &mut Parts, number: u8, unit: &Unit) -> Result<Answer
 
 /// Takes the memory that the unit's body may want: in the inbox, or for an order that answers it and
 /// for the messages that it may move. A fill-in unit wants none.
-fn make_space(parts: &mut Parts, unit: &Unit) -> Result<Vec<u8>, SetFault>
-    requires { IsWhole parts.old }
+fn make_space(
+    parts: &mut Parts,
+    unit: &Unit,
+    order: Option<Order>,
+) -> Result<Vec<u8>, SetFault>
+    requires whole { IsWhole parts.old }
+    requires order { order ≡ order_brought unit.now }
     ensures space { IfOk result (λ space. has_order unit.now ≡ true → (vec_len space ≡ 0) × (7 ≤ vec_capacity space)) }
     ensures inbox { OnOk result (is_message unit.now ≡ true → deque_len parts.new.inbox < deque_capacity parts.new.inbox) }
     ensures room { OnOk result (IsSpacious (order_brought unit.now) parts.new) }
@@ -67,7 +73,7 @@ fn make_space(parts: &mut Parts, unit: &Unit) -> Result<Vec<u8>, SetFault>
         return Ok(Vec::new(*parts.links.allocator()));
     }
     parts.inbox.reserve(1)?;
-    let Some(order) = order_in(unit) else {
+    let Some(order) = order else {
         return Ok(Vec::new(*parts.links.allocator()));
     };
     let space = order_space(&parts.links)?;
@@ -80,7 +86,8 @@ fn make_space(parts: &mut Parts, unit: &Unit) -> Result<Vec<u8>, SetFault>
 
 /// The order that the unit's body stands for, if it brings one.
 fn order_in(unit: &Unit) -> Option<Order>
-    ensures { result ≡ order_brought unit.now }
+    ensures value { result ≡ order_brought unit.now }
+    ensures fits { IfSome result IsOrder }
 {
     match unit {
         Unit::Msu { body, .. } => read_order(body.as_slice()).ok(),
@@ -137,8 +144,17 @@ fn is_msu(unit: &Unit) -> bool
 }
 
 /// Where the unit's body goes, if it's accepted: to the users' inbox, or if it's the management's, to
-/// the rules of changeover. `space` holds the order that may answer it.
-fn take_in(parts: &mut Parts, accept: bool, unit: &Unit, space: Vec<u8>) -> Took
+/// the rules of changeover. `order` is what it stands for there, and `space` holds the order that may
+/// answer it.
+fn take_in(
+    parts: &mut Parts,
+    accept: bool,
+    unit: &Unit,
+    order: Option<Order>,
+    space: Vec<u8>,
+) -> Took
+    requires order { order ≡ order_brought unit.now }
+    requires fits { IfSome order IsOrder }
     requires holds { Holds (kept_of parts.old) }
     requires counted { AreCounted (2 ^ 61) parts.old.links.items }
     requires space { has_order unit.now ≡ true → (vec_len space ≡ 0) × (7 ≤ vec_capacity space) }
@@ -153,9 +169,9 @@ fn take_in(parts: &mut Parts, accept: bool, unit: &Unit, space: Vec<u8>) -> Took
         return Took::Nothing;
     }
     if service_indicator(body.as_slice()) == 0 {
-        return match read_order(body.as_slice()) {
-            Ok(order) => obey(parts, order, space),
-            Err(_) => Took::Ignored,
+        return match order {
+            Some(order) => obey(parts, order, space),
+            None => Took::Ignored,
         };
     }
     parts.inbox.push_back_reserved(copy_of(body));
