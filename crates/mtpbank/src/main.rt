@@ -5,7 +5,7 @@
 //! `play` walks two ends of a link set through a script.
 #![tactic(auto)]
 
-ghost use Rattle.std.specs.Prelude.{◌≡◌, ◌≢◌, IfOk};
+ghost use Rattle.std.specs.Prelude.{◌≡◌, ◌≢◌, IsOk, IsErr, IfOk};
 ghost use Rattle.std.specs.Process.{exit_status};
 ghost use Rattle.clap.specs.Values.{kind_of};
 ghost use Rattle.clap.specs.declared.error.kind.ErrorKind.TheVariants.{DisplayHelp, DisplayVersion};
@@ -69,7 +69,15 @@ fn status_of(error: &clap::Error) -> ExitCode
 fn done(rt: &HostRuntime, words: Words) -> io::Result<ExitCode> {
     let mut source = Reader::new(rt.reader());
     let mut sink = Writer::new(io::writer(rt));
-    match run(rt.alloc(), words, &mut source, &mut sink) {
+    ended(rt, run(rt.alloc(), words, &mut source, &mut sink))
+}
+
+/// Ends with status 0, or with 1 and the fault in a line on standard error.
+fn ended(rt: &HostRuntime, ran: Result<(), Fault>) -> io::Result<ExitCode>
+    ensures done { IsOk ran → IfOk result (λ code. exit_status code ≡ 0) }
+    ensures fault { IsErr ran → IfOk result (λ code. exit_status code ≡ 1) }
+{
+    match ran {
         Ok(()) => Ok(ExitCode::SUCCESS),
         Err(fault) => told(rt, fault),
     }
