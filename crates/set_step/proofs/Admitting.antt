@@ -160,15 +160,15 @@ pub obeyed_at : (s : State) (n : ℕ) (f : LinkState → Obeyed) (took : Took) (
 obeyed_at s n f took parts link there g = rw there g
 
 module _ (parts : Parts) (s : State) (a : Agrees (kept_of parts) s) (n : ℕ) where
-  ignored : Obeys (ignored s) Ignored parts
-  ignored = record { took_is = refl; stands = a.stands }
+  no_change : Obeys (ignored s) Ignored parts
+  no_change = record { took_is = refl; stands = a.stands }
 
   -- with no such link
   pub obeyed_nowhere : (f : LinkState → Obeyed) (told : Option Phase) → told ≡ option_map (λ (l : Link). l.phase) (slice_get parts.links.items n) → told ≡ None → Obeys (at_link n s f (slice_get s.links n)) Ignored parts
   obeyed_nowhere f told is e = go (slice_get parts.links.items n) refl (sym is ∙ e)
     where
       go : (o : Option Link) → slice_get parts.links.items n ≡ o → option_map (λ (l : Link). l.phase) o ≡ None → Obeys (at_link n s f (slice_get s.links n)) Ignored parts
-      go None h g = rw (absent parts s a n NoSuchLink h) ignored
+      go None h g = rw (absent parts s a n NoSuchLink h) no_change
       go (Some link) h g = absurd (cc)
 
   pub unanswered : (reached : Reached) (phase : Phase) → IsHere parts.links.items n phase → (phase ≡ Down → ⊥) → Obeys (at_link n s (λ link. answered reached n link link.phase s) (slice_get s.links n)) Ignored parts
@@ -177,9 +177,9 @@ module _ (parts : Parts) (s : State) (a : Agrees (kept_of parts) s) (n : ℕ) wh
       obeyed_at s n (λ link. answered reached n link link.phase s) Ignored parts i.link i.there (go i.link i.link.phase i.phase_is)
     where
       go : (link : LinkState) (now : Phase) → now ≡ phase → Obeys (answered reached n link now s) Ignored parts
-      go link Up e = ignored
+      go link Up e = no_change
       go link Down e = absurd (other (sym e))
-      go link Settled e = ignored
+      go link Settled e = no_change
 
 -- The same, of links that were read.
 pub phase_in : (links read : List Link) (n : ℕ) (phase : Phase) (told : Option Phase) → read ≡ links → told ≡ option_map (λ (l : Link). l.phase) (slice_get read n) → told ≡ Some phase → IsHere links n phase

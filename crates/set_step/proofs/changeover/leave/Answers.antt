@@ -2,7 +2,7 @@ use Rattle.std.proofs.Common.{refl, arith, ◌∙◌, ap, sym, subst}
 use Rattle.set_model.specs.declared.phase.Phase.TheVariants.{Down}
 use Rattle.set_model.specs.Changeover.{left_by, left_link}
 use Rattle.set_model.proofs.Lists.{same_at, length_set}
-use Rattle.set_route.specs.Routing.{Routing, left_by as streams_left}
+use Rattle.set_route.specs.Routing.{Routing, left as streams_left}
 use Rattle.set_step.specs.Agreement.{StandsFor}
 use Rattle.set_step.specs.Parts.{kept_of}
 use Rattle.set_step.proofs.Links.{found, link_set}

@@ -30,8 +30,8 @@ take_in-took-requires c =
     let h = serves c.args.parts.now.links.items n (ap (λ links. service_refusal (slice_get links n)) (sym c.deref.ensures.value) ∙ sym c.out_of_service.ensures ∙ c.in_default.is) in
     let i = is_in mid s n Up now (subst (λ links. IsHere links n Up) (sym (ap (λ ls. ls.items) c.in_ok-space.ensures.links)) h) in
     record {
-      order = c.order_in.ensures.value;
-      fits = c.order_in.ensures.fits;
+      order = c.order_in-order.ensures.value;
+      fits = c.order_in-order.ensures.fits;
       holds = (
         after_control c.control_hears-part.result (header_in c.args.unit.now) c.args.unit.now n s i.link,
         agrees_then mid c.control_hears-part.new.parts s n c.args.unit.now c.control_hears-part.result now i (c.control_hears-part.ensures.part s i.link i.there now.stands) (c.control_hears-part.ensures.stands s i.link i.there now.stands),
