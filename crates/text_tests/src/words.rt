@@ -55,8 +55,16 @@ fn a_word_that_is_not_unicode(rt: HostRuntime) {
 fn short_help_is_a_page(rt: HostRuntime) -> Result<(), Fail> {
     let asked: [(&[&str], &[&str], &str); 3] = [
         (&["-h"], &["--help"], "\nUsage: mtpbank <COMMAND>\n"),
-        (&["units", "-h"], &["units", "--help"], "\nUsage: mtpbank units\n"),
-        (&["play", "-h"], &["play", "--help"], "\nUsage: mtpbank play\n"),
+        (
+            &["units", "-h"],
+            &["units", "--help"],
+            "\nUsage: mtpbank units\n",
+        ),
+        (
+            &["play", "-h"],
+            &["play", "--help"],
+            "\nUsage: mtpbank play\n",
+        ),
     ];
     for (short, long, usage) in asked {
         let page = told_of(rt.alloc(), short)?;
