@@ -49,7 +49,8 @@ fn asked(rt: &HostRuntime) -> Result<Words, WordsFault> {
 
 /// Says what is wrong with the words, on standard error and with status 2, or what they ask to be shown.
 fn said(rt: &HostRuntime, error: &clap::Error) -> io::Result<ExitCode>
-    ensures wrong { kind_of error.now ≢ DisplayHelp → kind_of error.now ≢ DisplayVersion → IfOk result (λ code. exit_status code ≡ 2) }
+    ensures wrong { kind_of error.now ≢ DisplayHelp → kind_of error.now ≢ DisplayVersion
+        → IfOk result (λ code. exit_status code ≡ 2) }
 {
     match error.print(rt) {
         Err(_) if !error.use_stderr() => told(rt, Fault::Write),

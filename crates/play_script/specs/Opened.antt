@@ -7,7 +7,14 @@ use Rattle.play_script.specs.declared.script.Values.{Values}
 use Rattle.play_script.specs.Script.{SixWords, fitting, first_line}
 
 abbrev pub six_of : Words → SixWords
-six_of w = record { kind = w.kind.now; links = w.links.now; method = w.method.now; code_a = w.code_a.now; code_b = w.code_b.now; sio = w.sio.now }
+six_of w = record {
+  kind = w.kind.now;
+  links = w.links.now;
+  method = w.method.now;
+  code_a = w.code_a.now;
+  code_b = w.code_b.now;
+  sio = w.sio.now;
+}
 
 -- an end, set 0, with its own point code and the far end's
 pub record IsEnd (values : Values) (own far : ℕ) (config : SetConfig) : Type 0 where

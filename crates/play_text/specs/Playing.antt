@@ -44,7 +44,8 @@ pub record Does (outcome : LineOutcome) (before after : List ℕ) (new : Option 
 
 -- a line was carried out, and what it prints was added; or it tells a fault, and nothing was added
 abbrev pub IsDone : Result (Unit {0}) Fault → LineOutcome → List ℕ → List ℕ → Option World → Type 0
-IsDone result outcome before after new = MatchResult result (λ done. Does outcome before after new) (λ fault. Tells fault outcome × (after ≡ before))
+IsDone result outcome before after new =
+    MatchResult result (λ done. Does outcome before after new) (λ fault. Tells fault outcome × (after ≡ before))
 
 -- The text that a script prints from a reading on.
 
@@ -71,17 +72,20 @@ pub record Advances (old : Reading) (octets before after : List ℕ) (new : Read
   pub printed : List ℕ
   pub added : after ≡ before ++ printed
   pub counted : new.line ≤ old.line + length octets
-  pub goes_on : old.line + length octets < 2 ^ 64 → (left : List ℕ) → text_from old (octets ++ left) ≡ behind printed (text_from new left)
+  pub goes_on : old.line + length octets < 2 ^ 64 → (left : List ℕ)
+      → text_from old (octets ++ left) ≡ behind printed (text_from new left)
 
 -- among these octets the script ended with a fault, after what was added
 pub record Halts (fault : Fault) (old : Reading) (octets before after : List ℕ) : Type 0 where
   pub printed : List ℕ
   pub added : after ≡ before ++ printed
   pub of_text : IsOfText fault
-  pub ends : old.line + length octets < 2 ^ 64 → (left : List ℕ) → Faults fault (text_from old (octets ++ left)) printed
+  pub ends : old.line + length octets < 2 ^ 64 → (left : List ℕ)
+      → Faults fault (text_from old (octets ++ left)) printed
 
 abbrev pub AdvancesOrHalts : Result (Unit {0}) Fault → Reading → List ℕ → List ℕ → List ℕ → Reading → Type 0
-AdvancesOrHalts result old octets before after new = MatchResult result (λ done. Advances old octets before after new) (λ fault. Halts fault old octets before after)
+AdvancesOrHalts result old octets before after new =
+    MatchResult result (λ done. Advances old octets before after new) (λ fault. Halts fault old octets before after)
 
 -- the script was played to its end, and what it prints then was added
 pub record Finishes (result : Result (Unit {0}) Fault) (old : Reading) (before after : List ℕ) : Type 0 where

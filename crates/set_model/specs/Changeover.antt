@@ -26,14 +26,19 @@ fate_on None = Parked
 
 -- QUEUE: an order stands last, as a row of its own, for the target
 abbrev pub queued : Order → State → State
-queued order s = record s { rows = appended s.rows (text order s.settings.sio s.settings.dpc s.settings.opc) (fate_on (target s.links)) }
+queued order s = record s {
+  rows = appended s.rows (text order s.settings.sio s.settings.dpc s.settings.opc) (fate_on (target s.links));
+}
 
 -- LEAVE (5.3): the link is out of service; its messages stay on it until it settles
 abbrev pub left_link : Bool → LinkState → LinkState
 left_link blind link = record link { phase = Down; blind = blind }
 
 abbrev pub left_by : Bool → ℕ → LinkState → State → State
-left_by blind number link s = record s { links = slice_set s.links number (left_link blind link); routing = left number s.routing }
+left_by blind number link s = record s {
+  links = slice_set s.links number (left_link blind link);
+  routing = left number s.routing;
+}
 
 -- (5.4.1, 5.6.1) the order with which an end leaves: with the FSN last accepted, or without it
 abbrev pub leaving_order : Bool → ℕ → LinkState → Order
@@ -51,7 +56,9 @@ is_reasonable fsn number link rows = nat_le (reached_by fsn number link rows) (l
 
 -- what was sent, or waits, on the link is discarded in its place
 abbrev pub discarded : DiscardCause → ℕ → State → State
-discarded cause number s = record s { rows = changed (is_waiting number) (Discarded cause) (changed (is_unacked number) (Discarded cause) s.rows) }
+discarded cause number s = record s {
+  rows = changed (is_waiting number) (Discarded cause) (changed (is_unacked number) (Discarded cause) s.rows);
+}
 
 abbrev pub acknowledged : ℕ → LinkState → LinkState
 acknowledged count link = record link { acked = link.acked + count }
@@ -72,7 +79,10 @@ judged Unknown number link s = record s { rows = changed (is_unacked number) (Di
 judged Unanswered number link s = discarded NoAnswer number s
 
 abbrev pub judged_link : Reached → ℕ → LinkState → List Row → LinkState
-judged_link (Upto fsn) number link rows = if is_reasonable fsn number link rows then acknowledged (reached_by fsn number link rows) link else link
+judged_link (Upto fsn) number link rows =
+    if is_reasonable fsn number link rows
+    then acknowledged (reached_by fsn number link rows) link
+    else link
 judged_link Unknown number link rows = link
 judged_link Unanswered number link rows = link
 
@@ -88,7 +98,8 @@ moved_over number link s = record s {
 }
 
 abbrev pub settled : Reached → ℕ → LinkState → State → State
-settled reached number link s = moved_over number (judged_link reached number link s.rows) (judged reached number link s)
+settled reached number link s =
+    moved_over number (judged_link reached number link s.rows) (judged reached number link s)
 
 -- ORDERS HEARD: what became of the body, and what the set holds then
 pub record Obeyed : Type 0 where
@@ -125,10 +136,14 @@ at_link number s obeyed (Some link) = obeyed link
 
 -- the link of the order need not be the one that it was heard on; until changeback comes its orders are ignored
 abbrev pub order_obeyed : Order → State → Obeyed
-order_obeyed (Coo number fsn) s = at_link number s (λ link. changed_over (Upto fsn) number link link.phase s) (slice_get s.links number)
-order_obeyed (Eco number) s = at_link number s (λ link. changed_over Unknown number link link.phase s) (slice_get s.links number)
-order_obeyed (Coa number fsn) s = at_link number s (λ link. answered (Upto fsn) number link link.phase s) (slice_get s.links number)
-order_obeyed (Eca number) s = at_link number s (λ link. answered Unknown number link link.phase s) (slice_get s.links number)
+order_obeyed (Coo number fsn) s =
+    at_link number s (λ link. changed_over (Upto fsn) number link link.phase s) (slice_get s.links number)
+order_obeyed (Eco number) s =
+    at_link number s (λ link. changed_over Unknown number link link.phase s) (slice_get s.links number)
+order_obeyed (Coa number fsn) s =
+    at_link number s (λ link. answered (Upto fsn) number link link.phase s) (slice_get s.links number)
+order_obeyed (Eca number) s =
+    at_link number s (λ link. answered Unknown number link link.phase s) (slice_get s.links number)
 order_obeyed (Cbd number code) s = ignored s
 order_obeyed (Cba number code) s = ignored s
 

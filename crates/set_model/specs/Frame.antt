@@ -47,7 +47,10 @@ pub record LeavesAlone (number : ℕ) (old new : State) : Type 0 where
 -- What is sent moves the window so.
 abbrev pub window_after : Choice → WindowState → WindowState
 window_after (again place) window = window
-window_after first window = record window { unacked = window.unacked ++ take 1 window.unsent; unsent = drop 1 window.unsent }
+window_after first window = record window {
+  unacked = window.unacked ++ take 1 window.unsent;
+  unsent = drop 1 window.unsent;
+}
 window_after fill window = window
 
 -- of a link that is up: what its control does when a unit is sent, and when one is heard, is done to its window
@@ -56,19 +59,25 @@ pub record MovesAsItsControl (number : ℕ) (link : LinkState) (s : State) : Typ
       (link' : LinkState) × (slice_get (next number s link).state.links number ≡ Some link')
       × (link'.control ≡ control_after choice (octets_in (unack number s.rows)) link.control (window_of number link s.rows))
       × (window_of number link' (next number s link).state.rows ≡ window_after choice (window_of number link s.rows))
-  pub heard : (unit : SignalUnit) → let part = part_of link.control (window_of number link s.rows) (header_in unit) (is_msu unit) in
+  pub heard : (unit : SignalUnit)
+      → let part = part_of link.control (window_of number link s.rows) (header_in unit) (is_msu unit) in
       (link' : LinkState) × (slice_get (after_control part (header_in unit) unit number s link).links number ≡ Some link')
       × (link'.control ≡ control_heard link.control (window_of number link s.rows) (header_in unit) (is_msu unit))
       × (window_of number link' (after_control part (header_in unit) unit number s link).rows ≡ window_heard link.control (window_of number link s.rows) (header_in unit))
   -- and where the unit brings no order that is all
-  pub no_more : (unit : SignalUnit) → ((about : ℕ) → BringsAbout about unit → ⊥) → let part = part_of link.control (window_of number link s.rows) (header_in unit) (is_msu unit) in
+  pub no_more : (unit : SignalUnit) → ((about : ℕ) → BringsAbout about unit → ⊥)
+      → let part = part_of link.control (window_of number link s.rows) (header_in unit) (is_msu unit) in
       let after = after_control part (header_in unit) unit number s link in
       ((controls unit number s link).state.links ≡ after.links) × ((controls unit number s link).state.rows ≡ after.rows)
 
 -- LAW: an event leaves alone what it doesn't concern
 abbrev pub AnEventLeavesTheRestAlone : Type 0
-AnEventLeavesTheRestAlone = (number : ℕ) (s : State) (event : Event) → (Concerns event number s → ⊥) → LeavesAlone number s (step s event).state
+AnEventLeavesTheRestAlone =
+    (number : ℕ) (s : State) (event : Event) → (Concerns event number s → ⊥)
+    → LeavesAlone number s (step s event).state
 
 -- LAW: Next and Heard move a link's window as its control does
 abbrev pub AWindowMovesAsItsControl : Type 0
-AWindowMovesAsItsControl = (number : ℕ) (link : LinkState) (s : State) → IsSound s → slice_get s.links number ≡ Some link → link.phase ≡ Up → MovesAsItsControl number link s
+AWindowMovesAsItsControl =
+    (number : ℕ) (link : LinkState) (s : State) → IsSound s → slice_get s.links number ≡ Some link → link.phase ≡ Up
+    → MovesAsItsControl number link s

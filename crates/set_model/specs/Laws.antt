@@ -26,22 +26,28 @@ pub record MessagesStay (test : Fate → Bool) (to : Fate) (fate : Row → Fate)
   pub changed_stay : SameMessages rows (changed test to rows)
   pub moved_stay : SameMessages rows (moved test fate rows)
   -- a new message leaves the others as they are, and is found under its number
-  pub others_stay : (body : List ℕ) (number : ℕ) → number < length rows → body_at number (appended rows body to) ≡ body_at number rows
+  pub others_stay : (body : List ℕ) (number : ℕ) → number < length rows
+      → body_at number (appended rows body to) ≡ body_at number rows
   pub new_found : (body : List ℕ) → body_at (length rows) (appended rows body to) ≡ Some body
   pub appended_numbered : (body : List ℕ) → IsNumbered (appended rows body to)
 
 -- LAW: no change takes a message out, or changes its number or body; each number stands in exactly one row
 abbrev pub NoMessageChanges : Type 0
-NoMessageChanges = (test : Fate → Bool) (to : Fate) (fate : Row → Fate) (rows : List Row) → IsNumbered rows → MessagesStay test to fate rows
+NoMessageChanges =
+    (test : Fate → Bool) (to : Fate) (fate : Row → Fate) (rows : List Row) → IsNumbered rows
+    → MessagesStay test to fate rows
 
 -- LAW: what leaves a link are just its rows. They are the last ones then, in their old order; each has its new place,
 -- and every other message its old one.
 pub record MovesTheLinksRows (link : ℕ) (fate : Row → Fate) (rows : List Row) : Type 0 where
-  pub last : numbers (drop (length rows - length (on link rows)) (moved (is_on link) fate rows)) ≡ numbers (on link rows)
-  pub places : (number : ℕ) → place number (moved (is_on link) fate rows) ≡ option_map (λ row. if is_on link row.fate then fate row else row.fate) (row_of number rows)
+  pub last : numbers (drop (length rows - length (on link rows)) (moved (is_on link) fate rows))
+      ≡ numbers (on link rows)
+  pub places : (number : ℕ) → place number (moved (is_on link) fate rows)
+      ≡ option_map (λ row. if is_on link row.fate then fate row else row.fate) (row_of number rows)
 
 abbrev pub AMoveMovesTheLinksRows : Type 0
-AMoveMovesTheLinksRows = (link : ℕ) (fate : Row → Fate) (rows : List Row) → IsNumbered rows → MovesTheLinksRows link fate rows
+AMoveMovesTheLinksRows =
+    (link : ℕ) (fate : Row → Fate) (rows : List Row) → IsNumbered rows → MovesTheLinksRows link fate rows
 
 -- THE STEP.
 
@@ -53,11 +59,13 @@ pub record KeepsMessages (old new : List Row) : Type 0 where
 
 -- LAW: whatever is asked of a set, in whatever state
 abbrev pub NoEventChangesAMessage : Type 0
-NoEventChangesAMessage = (s : State) (event : Event) → IsNumbered s.rows → KeepsMessages s.rows (step s event).state.rows
+NoEventChangesAMessage =
+    (s : State) (event : Event) → IsNumbered s.rows → KeepsMessages s.rows (step s event).state.rows
 
 -- LAW: each accepted message stands in one place more, and what is acknowledged stays so
 abbrev pub AStepGains : Type 0
-AStepGains = (s : State) (event : Event) → IsManaged s.settings → Gains s event (step s event).answer (step s event).state
+AStepGains =
+    (s : State) (event : Event) → IsManaged s.settings → Gains s event (step s event).answer (step s event).state
 
 -- LAW: an event sends at most one message, and accepts at most one body
 abbrev pub AStepCounts : Type 0
@@ -85,7 +93,9 @@ pub record IsEmptyLink (number : ℕ) (rows : List Row) : Type 0 where
 
 -- LAW: no message stays on a link that settled
 abbrev pub ASettledLinkIsEmpty : Type 0
-ASettledLinkIsEmpty = (s : State) (number : ℕ) (link : LinkState) → IsSound s → slice_get s.links number ≡ Some link → link.phase ≡ Settled → IsEmptyLink number s.rows
+ASettledLinkIsEmpty =
+    (s : State) (number : ℕ) (link : LinkState) → IsSound s → slice_get s.links number ≡ Some link
+    → link.phase ≡ Settled → IsEmptyLink number s.rows
 
 -- the rows where the far end has the first so many messages of the link: they are acknowledged
 abbrev pub arrived : ℕ → ℕ → List Row → List Row
@@ -94,24 +104,28 @@ arrived count number rows = turned (is_unacked number) (Acked number) count rows
 -- the rows that aren't on the link stand first; then exactly those that were on it, for the target; both in their order
 abbrev pub moved_off : ℕ → ℕ → State → List Row
 moved_off count number s =
-    standing (λ f. not (is_on number f)) (arrived count number s.rows) ++ map (with_fate (fate_on (target s.links))) (on number (arrived count number s.rows))
+    standing (λ f. not (is_on number f)) (arrived count number s.rows)
+      ++ map (with_fate (fate_on (target s.links))) (on number (arrived count number s.rows))
 
 pub record MovesTheRest (fsn number : ℕ) (link : LinkState) (s : State) : Type 0 where
   pub rows_are : (settled (Upto fsn) number link s).rows ≡ moved_off (reached_by fsn number link s.rows) number s
   -- of what was on the link, just the acknowledged ones aren't moved
-  pub sent_rest : unack number (arrived (reached_by fsn number link s.rows) number s.rows) ≡ drop (reached_by fsn number link s.rows) (unack number s.rows)
+  pub sent_rest : unack number (arrived (reached_by fsn number link s.rows) number s.rows)
+      ≡ drop (reached_by fsn number link s.rows) (unack number s.rows)
   pub waiting_all : wait number (arrived (reached_by fsn number link s.rows) number s.rows) ≡ wait number s.rows
   pub held_all : held number (arrived (reached_by fsn number link s.rows) number s.rows) ≡ held number s.rows
 
 -- LAW: a link that settles by a reasonable FSN (Q.704 5.4, 5.5)
 abbrev pub SettlingMovesTheRest : Type 0
 SettlingMovesTheRest =
-    (fsn number : ℕ) (link : LinkState) (s : State) → slice_get s.links number ≡ Some link → is_reasonable fsn number link s.rows ≡ true → MovesTheRest fsn number link s
+    (fsn number : ℕ) (link : LinkState) (s : State) → slice_get s.links number ≡ Some link
+    → is_reasonable fsn number link s.rows ≡ true → MovesTheRest fsn number link s
 
 -- the numbers of the link's messages past those that the far end has: first those that were sent, then those that
 -- waited, then those that were held
 abbrev pub rest_of : ℕ → ℕ → List Row → List ℕ
-rest_of link count rows = numbers (drop count (unack link rows)) ++ numbers (wait link rows) ++ numbers (held link rows)
+rest_of link count rows =
+    numbers (drop count (unack link rows)) ++ numbers (wait link rows) ++ numbers (held link rows)
 
 -- they stand, in this order, behind all that waited for the target before, or was parked
 abbrev pub DivertsTo : Option ℕ → List ℕ → List Row → List Row → Type 0
@@ -122,5 +136,6 @@ DivertsTo None rest old new = numbers (parked new) ≡ numbers (parked old) ++ r
 -- state a link that was left, and settles by a reasonable FSN, is so left by its messages.
 abbrev pub AChangeoverDivertsTheRest : Type 0
 AChangeoverDivertsTheRest =
-    (fsn number : ℕ) (link : LinkState) (s : State) → IsSound s → slice_get s.links number ≡ Some link → link.phase ≡ Down → is_reasonable fsn number link s.rows ≡ true
+    (fsn number : ℕ) (link : LinkState) (s : State) → IsSound s → slice_get s.links number ≡ Some link
+    → link.phase ≡ Down → is_reasonable fsn number link s.rows ≡ true
     → DivertsTo (target s.links) (rest_of number (reached_by fsn number link s.rows) s.rows) s.rows (settled (Upto fsn) number link s).rows

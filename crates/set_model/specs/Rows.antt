@@ -179,7 +179,8 @@ total_of c = c.waiting + c.unacked + c.acked + c.held + c.parked + c.back + c.di
 
 -- each number below the length stands in exactly one row, and no other number in any
 abbrev pub IsNumbered : List Row → Type 0
-IsNumbered rows = (number : ℕ) → length (filter (λ row. row.number == number) rows) ≡ (if nat_lt number (length rows) then 1 else 0)
+IsNumbered rows =
+    (number : ℕ) → length (filter (λ row. row.number == number) rows) ≡ (if nat_lt number (length rows) then 1 else 0)
 
 -- no body is longer than a unit's
 abbrev pub AreFit : List Row → Type 0
@@ -194,4 +195,5 @@ IsInOrder link (row ∷ rows) = (is_waiting link row.fate ≡ true → unack lin
 -- and no message that waits for it, or was sent on it, stands behind one that is held for it
 abbrev pub IsHeldLast : ℕ → List Row → Type 0
 IsHeldLast link [] = Unit {0}
-IsHeldLast link (row ∷ rows) = (is_held link row.fate ≡ true → (unack link rows ≡ []) × (wait link rows ≡ [])) × IsHeldLast link rows
+IsHeldLast link (row ∷ rows) =
+    (is_held link row.fate ≡ true → (unack link rows ≡ []) × (wait link rows ≡ [])) × IsHeldLast link rows

@@ -79,7 +79,8 @@ IsAscending (n ∷ ns) = AreAbove n ns × IsAscending ns
 
 -- a link of the set that isn't settled, or nowhere
 abbrev pub IsPlaced : List LinkState → Place → Type 0
-IsPlaced links (On number) = (link : LinkState) × (slice_get links number ≡ Some link) × (has_phase_settled link.phase ≡ false)
+IsPlaced links (On number) =
+    (link : LinkState) × (slice_get links number ≡ Some link) × (has_phase_settled link.phase ≡ false)
 IsPlaced links Nowhere = Unit {0}
 
 -- its unfinished messages stand in the order of their numbers, and all where it runs; one that never had a message
@@ -109,12 +110,16 @@ pub record IsSound (s : State) : Type 0 where
   -- the numbers 0, 1, .. stand in one row each
   pub numbered : IsNumbered s.rows
   pub fit : AreFit s.rows
-  pub links : (number : ℕ) (link : LinkState) → slice_get s.links number ≡ Some link → IsSoundLink s.settings.method number link s.rows
-  pub streams : (stream : ℕ) → stream < 16 → IsSoundStream stream (place_of stream s.routing) (has_messages stream s.routing) s.rows
+  pub links : (number : ℕ) (link : LinkState) → slice_get s.links number ≡ Some link
+      → IsSoundLink s.settings.method number link s.rows
+  pub streams : (stream : ℕ) → stream < 16
+      → IsSoundStream stream (place_of stream s.routing) (has_messages stream s.routing) s.rows
   pub placed : (stream : ℕ) → stream < 16 → IsPlaced s.links (place_of stream s.routing)
   -- while a link is up nothing is parked, and no stream runs nowhere
-  pub none_aside : (number : ℕ) (link : LinkState) → slice_get s.links number ≡ Some link → has_phase_up link.phase ≡ true → parked s.rows ≡ []
-  pub all_run : (number : ℕ) (link : LinkState) → slice_get s.links number ≡ Some link → has_phase_up link.phase ≡ true → (stream : ℕ) → stream < 16 → place_of stream s.routing ≢ Nowhere
+  pub none_aside : (number : ℕ) (link : LinkState) → slice_get s.links number ≡ Some link
+      → has_phase_up link.phase ≡ true → parked s.rows ≡ []
+  pub all_run : (number : ℕ) (link : LinkState) → slice_get s.links number ≡ Some link
+      → has_phase_up link.phase ≡ true → (stream : ℕ) → stream < 16 → place_of stream s.routing ≢ Nowhere
 
 -- what can be asked: the octets of a label tell one of 16 streams
 abbrev pub IsAsked : Event → Type 0
@@ -127,4 +132,5 @@ pub record AreFewOn (events number : ℕ) (link : LinkState) (rows : List Row) :
   pub accepted : link.accepted ≤ events
 
 abbrev pub AreFew : ℕ → State → Type 0
-AreFew events s = (number : ℕ) (link : LinkState) → slice_get s.links number ≡ Some link → AreFewOn events number link s.rows
+AreFew events s =
+    (number : ℕ) (link : LinkState) → slice_get s.links number ≡ Some link → AreFewOn events number link s.rows

@@ -35,7 +35,14 @@ pub record Settings : Type 0 where
   pub opc : ℕ
 
 abbrev pub settings_of : SetConfig → Settings
-settings_of config = record { set = config.set; links = config.links; method = config.method; sio = config.sio; dpc = config.dpc; opc = config.opc }
+settings_of config = record {
+  set = config.set;
+  links = config.links;
+  method = config.method;
+  sio = config.sio;
+  dpc = config.dpc;
+  opc = config.opc;
+}
 
 -- what the set was opened with; the rows in the order of queueing; the links, by their numbers; where the streams
 -- run; the messages heard for users, oldest first

@@ -85,7 +85,8 @@ on_link number s outcome = with_known (slice_get s.links number) s outcome
 
 -- one that needs the link in service is refused 5 where it isn't
 abbrev pub in_service : ℕ → State → (LinkState → Outcome) → Outcome
-in_service number s outcome = on_link number s (λ link. if has_phase_up link.phase then outcome link else refused s NotUp)
+in_service number s outcome =
+    on_link number s (λ link. if has_phase_up link.phase then outcome link else refused s NotUp)
 
 -- NEXT. The message that is chosen (a chosen place is always one of them).
 abbrev pub chosen : Choice → ℕ → List Row → Option Row
@@ -114,7 +115,8 @@ sends choice number s link =
 
 -- the control chooses by its state, the window, and the octets of the unacknowledged bodies
 abbrev pub next : ℕ → State → LinkState → Outcome
-next number s link = sends (choice_of (octets_in (unack number s.rows)) link.control (window_of number link s.rows)) number s link
+next number s link =
+    sends (choice_of (octets_in (unack number s.rows)) link.control (window_of number link s.rows)) number s link
 
 -- HEARD.
 abbrev pub is_msu : SignalUnit → Bool
@@ -143,7 +145,13 @@ fault_of (Some Bsn) = Some Bsn
 fault_of (Some Fib) = Some Fib
 
 abbrev pub report_of : HeardPart → Took → Report
-report_of part took = record { acked = part.acked; took = took; asked = part.asked; resend = part.resend; fault = fault_of part.fault }
+report_of part took = record {
+  acked = part.acked;
+  took = took;
+  asked = part.asked;
+  resend = part.resend;
+  fault = fault_of part.fault;
+}
 
 -- how many bodies a unit brought
 abbrev pub one_if : Bool → ℕ
@@ -193,7 +201,10 @@ rises number s Settled = record {
 
 -- DOWN. The link is left, and an order tells the far end (Q.704 5.3, 5.4.1); blind, it's an emergency (5.6.1).
 abbrev pub falls : Bool → ℕ → State → LinkState → Outcome
-falls blind number s link = record { answer = Done; state = queued (leaving_order blind number link) (left_by blind number link s) }
+falls blind number s link = record {
+  answer = Done;
+  state = queued (leaving_order blind number link) (left_by blind number link s);
+}
 
 -- NO ANSWER came from the far end (5.7.2): what was sent or waited may have arrived or not, and is discarded (own).
 abbrev pub gives_up : ℕ → State → LinkState → Phase → Outcome

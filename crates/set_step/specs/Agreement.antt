@@ -66,7 +66,8 @@ pub record StandsFor (k : Kept) (s : State) : Type 0 where
   pub held_bodies : length k.bodies ≡ length k.messages
   pub links : k.links ≡ s.links
   pub as_many : length k.lists.links ≡ length s.links
-  pub fsns : (number : ℕ) (link : LinkState) → slice_get s.links number ≡ Some link → last_at number k.lists ≡ (link.acked + 127) % 128
+  pub fsns : (number : ℕ) (link : LinkState) → slice_get s.links number ≡ Some link
+      → last_at number k.lists ≡ (link.acked + 127) % 128
   pub routing : k.routing ≡ s.routing
   pub inbox : k.inbox ≡ s.inbox
 

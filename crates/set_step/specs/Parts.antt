@@ -14,7 +14,13 @@ use Rattle.set_step.specs.Agreement.{Kept, StandsFor, Agrees}
 
 -- what the kept link stands for
 abbrev pub link_of : Link → LinkState
-link_of link = record { phase = link.phase; blind = link.blind; acked = link.acked; accepted = link.accepted; control = link.control }
+link_of link = record {
+  phase = link.phase;
+  blind = link.blind;
+  acked = link.acked;
+  accepted = link.accepted;
+  control = link.control;
+}
 
 -- the octets of the bodies in the inbox
 abbrev pub bodies_in : List (ArrayVec ℕ 273 (Unit {0})) → List (List ℕ)
@@ -64,7 +70,9 @@ Becomes old new change = (s : State) → StandsFor (kept_of old) s → StandsFor
 
 -- of a state that has this link
 abbrev pub BecomesAt : ℕ → Parts → Parts → (LinkState → State → State) → Type 0
-BecomesAt number old new change = (s : State) (link : LinkState) → slice_get s.links number ≡ Some link → StandsFor (kept_of old) s → StandsFor (kept_of new) (change link s)
+BecomesAt number old new change =
+    (s : State) (link : LinkState) → slice_get s.links number ≡ Some link → StandsFor (kept_of old) s
+    → StandsFor (kept_of new) (change link s)
 
 -- what is answered to a state, and kept then, are this outcome
 pub record Gives (outcome : Outcome) (answer : Answer) (parts : Parts) : Type 0 where
@@ -76,7 +84,9 @@ abbrev pub Answers : Parts → Parts → Answer → (State → Outcome) → Type
 Answers old new answer outcome = (s : State) → Agrees (kept_of old) s → Gives (outcome s) answer new
 
 abbrev pub AnswersAt : ℕ → Parts → Parts → Answer → (LinkState → State → Outcome) → Type 0
-AnswersAt number old new answer outcome = (s : State) (link : LinkState) → slice_get s.links number ≡ Some link → Agrees (kept_of old) s → Gives (outcome link s) answer new
+AnswersAt number old new answer outcome =
+    (s : State) (link : LinkState) → slice_get s.links number ≡ Some link → Agrees (kept_of old) s
+    → Gives (outcome link s) answer new
 
 -- what became of an order, and is kept then, are this
 pub record Obeys (obeyed : Obeyed) (took : Took) (parts : Parts) : Type 0 where

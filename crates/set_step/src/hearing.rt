@@ -160,7 +160,8 @@ fn take_in(
     requires space { has_order unit.now ≡ true → (vec_len space ≡ 0) × (7 ≤ vec_capacity space) }
     requires inbox { is_message unit.now ≡ true → deque_len parts.old.inbox < deque_capacity parts.old.inbox }
     requires room { IsSpacious (order_brought unit.now) parts.old }
-    ensures { (s : State) → Agrees (kept_of parts.old) s → Obeys (takes (brought accept unit.now) s) result parts.new }
+    ensures { (s : State) → Agrees (kept_of parts.old) s
+        → Obeys (takes (brought accept unit.now) s) result parts.new }
 {
     let Unit::Msu { body, .. } = unit else {
         return Took::Nothing;

@@ -39,7 +39,8 @@ impl Link {
 
     /// The link is in service from now on; its error control starts anew.
     pub(crate) fn rise(&mut self, method: Method)
-        ensures { self.new ≡ record { phase = Phase.Up; blind = false; acked = 0; accepted = 0; control = start_of method } }
+        ensures { self.new
+            ≡ record { phase = Phase.Up; blind = false; acked = 0; accepted = 0; control = start_of method } }
     {
         self.phase = Phase::Up;
         self.blind = false;

@@ -24,7 +24,8 @@ pub record IsLine (bits : List Bool) (lines : List ℕ) (line : MarkedLine) : Ty
 
 -- the marks of the bits print this first, and maybe more
 abbrev pub Begins : List Bool → List ℕ → Type 0
-Begins bits printed = (marks : List Mark) → AreMarks [] bits marks → (more : List ℕ) × (marks_text marks ≡ printed ++ more)
+Begins bits printed =
+    (marks : List Mark) → AreMarks [] bits marks → (more : List ℕ) × (marks_text marks ≡ printed ++ more)
 
 -- the line had these bits more, and what their marks print was added
 pub record Feeds (old : MarkedLine) (bits : List Bool) (before after : List ℕ) (new : MarkedLine) : Type 0 where
@@ -43,7 +44,8 @@ pub record Breaks (old : MarkedLine) (bits : List Bool) (before after : List ℕ
 -- the first of these bits were fed, and the line of their mark was added, if they gave one: what is done with the others
 -- completes what is done with all
 pub record FeedsFirst (old : MarkedLine) (bits : List Bool) (before : List ℕ) (rest : List Bool) (middle : List ℕ) (new : MarkedLine) : Type 0 where
-  pub feeds : (after : List ℕ) (last : MarkedLine) → Feeds new rest middle after last → Feeds old bits before after last
+  pub feeds : (after : List ℕ) (last : MarkedLine) → Feeds new rest middle after last
+      → Feeds old bits before after last
   pub breaks : (after : List ℕ) → Breaks new rest middle after → Breaks old bits before after
 
 -- The input.
@@ -57,7 +59,8 @@ pub record HasRead (past lines : List ℕ) (reader : UnitsReader) : Type 0 where
 
 -- what was printed is the beginning of the input's text
 abbrev pub IsBegun : List ℕ → List ℕ → Type 0
-IsBegun input printed = (played : Printed) → IsUnitsText input played → (more : List ℕ) × (played.printed ≡ printed ++ more)
+IsBegun input printed =
+    (played : Printed) → IsUnitsText input played → (more : List ℕ) × (played.printed ≡ printed ++ more)
 
 -- the fault is that of the input's text, of which all was printed; want of memory leaves its beginning
 abbrev pub EndsIn : Fault → List ℕ → List ℕ → Type 0

@@ -61,8 +61,10 @@ line_head kind h =
 
 abbrev pub unit_text : SignalUnit → List ℕ
 unit_text (Fisu head) = line_head (codes "good fisu") head ++ codes "\n"
-unit_text (Lssu head status) = line_head (codes "good lssu") head ++ (codes " status=" ++ (decimal (status_number status) ++ codes "\n"))
-unit_text (Msu head body) = line_head (codes "good msu") head ++ (codes " body=" ++ (hex_text body.items ++ codes "\n"))
+unit_text (Lssu head status) =
+    line_head (codes "good lssu") head ++ (codes " status=" ++ (decimal (status_number status) ++ codes "\n"))
+unit_text (Msu head body) =
+    line_head (codes "good msu") head ++ (codes " body=" ++ (hex_text body.items ++ codes "\n"))
 
 -- the number of what is wrong with octets that are no unit: 1 too short, 2 too long, 3 another length indicator
 abbrev pub unit_fault : List ℕ → ℕ
@@ -98,7 +100,11 @@ is_sixteen Bad = false
 is_sixteen Sixteen = true
 
 abbrev pub counts_of : List Mark → MarkCounts
-counts_of marks = record { good = count_by is_good marks; bad = count_by is_bad marks; sixteen = count_by is_sixteen marks }
+counts_of marks = record {
+  good = count_by is_good marks;
+  bad = count_by is_bad marks;
+  sixteen = count_by is_sixteen marks;
+}
 
 abbrev pub counts_text : MarkCounts → List ℕ
 counts_text c =

@@ -88,7 +88,8 @@ fn add_line(
     text: &mut Vec<u8>,
     out: &mut Vec<u8>,
 ) -> Result<(), AllocError>
-    ensures { out.new.items ≡ out.old.items ++ (if is_ok result then mark_text (marked kind (unit_of deframer.now)) else []) }
+    ensures { out.new.items
+        ≡ out.old.items ++ (if is_ok result then mark_text (marked kind (unit_of deframer.now)) else []) }
 {
     text.clear();
     match push_mark(kind, deframer.unit(), text) {
@@ -99,7 +100,8 @@ fn add_line(
 
 /// One mark more. An input of the program has too few for a count to end at its type's last number.
 fn counted(counts: MarkCounts, kind: MarkKind) -> MarkCounts
-    ensures { (marks : List Mark) (octets : List ℕ) → length marks + 1 < 2 ^ 64 → counts ≡ counts_of marks → result ≡ counts_of (marks ++ marked kind octets ∷ []) }
+    ensures { (marks : List Mark) (octets : List ℕ) → length marks + 1 < 2 ^ 64 → counts ≡ counts_of marks
+        → result ≡ counts_of (marks ++ marked kind octets ∷ []) }
 {
     let mut counts = counts;
     match kind {
