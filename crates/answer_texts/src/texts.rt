@@ -9,9 +9,9 @@ ghost use Rattle.answer_texts.specs.Texts.{fate_text as text_of_fate, took_text 
 use figures::{bit, push_hex};
 use l2_bits::seal;
 use l2_units::{Unit, write};
-use world_steps::{End, Shown};
 use set_events::{Answer, ControlFault, Counts, Fate, Report, Took};
 use std::alloc::{AllocError, Global};
+use world_steps::{End, Shown};
 
 /// The text of what a step shows.
 pub fn shown_text(alloc: Global, shown: &Shown) -> Result<Vec<u8>, AllocError>

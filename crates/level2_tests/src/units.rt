@@ -52,10 +52,11 @@ fn an_lssu_is_read_by_three_bits(rt: HostRuntime) -> Result<(), Fail> {
     assert!(rt; same_unit(&busy, &spare));
     let out_of_alignment = read(&[0xFF, 0xFF, 1, 0]).map_err(|_| "no unit")?;
     assert!(rt;
-        out_of_alignment == Unit::Lssu {
-            head,
-            status: Status::OutOfAlignment
-        }
+        out_of_alignment
+            == Unit::Lssu {
+                head,
+                status: Status::OutOfAlignment
+            }
     );
     assert!(rt; !same_unit(&busy, &out_of_alignment));
     Ok(())

@@ -6,9 +6,9 @@ ghost use Rattle.play_script.specs.Script.{is_space, first_word, other_words, en
 
 use figures::{number_of, octets_of};
 use l2_units::{Unit, read};
-use world_steps::{End, Step};
 use set_events::{Body, Event};
 use std::alloc::{AllocError, Global};
+use world_steps::{End, Step};
 
 /// The step that a line after the first asks for; `None`: it's unreadable.
 ///

@@ -105,7 +105,7 @@ arrived count number rows = turned (is_unacked number) (Acked number) count rows
 abbrev pub moved_off : ℕ → ℕ → State → List Row
 moved_off count number s =
     standing (λ f. not (is_on number f)) (arrived count number s.rows)
-      ++ map (with_fate (fate_on (target s.links))) (on number (arrived count number s.rows))
+    ++ map (with_fate (fate_on (target s.links))) (on number (arrived count number s.rows))
 
 pub record MovesTheRest (fsn number : ℕ) (link : LinkState) (s : State) : Type 0 where
   pub rows_are : (settled (Upto fsn) number link s).rows ≡ moved_off (reached_by fsn number link s.rows) number s

@@ -54,11 +54,7 @@ pub(crate) fn heard(parts: &mut Parts, number: u8, unit: &Unit) -> Result<Answer
 
 /// Takes the memory that the unit's body may want: in the inbox, or for an order that answers it and
 /// for the messages that it may move. A fill-in unit wants none.
-fn make_space(
-    parts: &mut Parts,
-    unit: &Unit,
-    order: Option<Order>,
-) -> Result<Vec<u8>, SetFault>
+fn make_space(parts: &mut Parts, unit: &Unit, order: Option<Order>) -> Result<Vec<u8>, SetFault>
     requires whole { IsWhole parts.old }
     requires order { order ≡ order_brought unit.now }
     ensures space { IfOk result (λ space. has_order unit.now ≡ true → (vec_len space ≡ 0) × (7 ≤ vec_capacity space)) }
