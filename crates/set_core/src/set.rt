@@ -177,7 +177,8 @@ impl SetCore {
         &self.history
     }
 
-    /// A law: the history is legal, and what the set holds is what it leads to.
+    /// A law: the history is legal, and what the set holds is what it leads to. To contracts it is that by
+    /// definition; that what is kept agrees with it, [`SetCore::kept`] says.
     pub fn replays(&self)
         ensures legal { IsLegal self.now.opening self.now.history }
         ensures agrees { self.now.state ≡ after self.now.opening self.now.history }

@@ -91,7 +91,7 @@ impl Core {
         let _ = &self.parts;
     }
 
-    /// How many links the set has, 1 to 16.
+    /// How many links the set has.
     pub fn links(&self) -> u8
         ensures { (s : State) → StandsFor self.now s → result ≡ link_count s }
     {

@@ -12,11 +12,11 @@
 //!      state      --- step ---->     state            rows in the order of queueing
 //! ```
 //!
-//! By its form an event costs what it moves, however many messages there ever were; that isn't measured yet.
+//! An event costs what it moves, however many messages there ever were (`tools/set-bench`).
 //!
 //! The files: `parts` what a set holds; `link` and `control` one link; `sending` and `hearing` what a link's
 //! terminal asks and tells; `changeover` how a link is left and orders are obeyed; `settling` what becomes
-//! of its messages; `step` the case of each event; `contents` the whole. No crate stands on this one yet.
+//! of its messages; `step` the case of each event; `contents` the whole.
 //!
 //! This crate reads no clock, waits for nothing, takes no lock and does no IO. A call that may want memory
 //! takes it before it changes anything.
