@@ -35,6 +35,16 @@ pub fn same_unit(unit: &Unit, other: &Unit) -> bool
     }
 }
 
+/// An equal unit. It takes no memory.
+pub fn copy_of_unit(unit: &Unit) -> Unit
+    ensures { result ≡ unit.now }
+{
+    match unit.clone() {
+        Ok(copy) => copy,
+        Err(_) => unreachable!(),
+    }
+}
+
 /// Whether both headers have the same numbers and indicators.
 #[tactic(auto, using(crate::proofs::Texts::same_header))]
 fn same_head(head: &Header, other: &Header) -> bool

@@ -23,7 +23,7 @@ mod reading;
 mod unit;
 mod writing;
 
-pub use grammar::{header_in, one_text, same_unit};
+pub use grammar::{copy_of_unit, header_in, one_text, same_unit};
 pub use reading::{UnitFault, read};
 pub use unit::{Header, LONGEST_BODY, LONGEST_UNIT, SHORTEST_BODY, Unit};
 pub use writing::write;

@@ -7,7 +7,7 @@ ghost use Rattle.pair_world.specs.World.{actor_of};
 ghost use Rattle.pair_world.specs.Carried.{Applies};
 
 use super::fault::PlayFault;
-use l2_units::Unit;
+use l2_units::{Unit, copy_of_unit};
 use link_lines::Lines;
 use set_core::{SetCore, SetFault};
 use set_events::{Actor, Answer, Counts, Event, SetConfig};
@@ -85,7 +85,7 @@ impl World {
             Step::Inject { end, link, unit } => {
                 let event = Event::Heard {
                     link: *link,
-                    unit: copy_of(unit),
+                    unit: copy_of_unit(unit),
                 };
                 self.act(*end, &event)
             }
@@ -174,7 +174,7 @@ impl World {
         let Shown::Answered(Answer::Sent { unit }) = shown else {
             return Ok(());
         };
-        let unit = copy_of(unit);
+        let unit = copy_of_unit(unit);
         match end {
             End::A => self.to_b.join(link, unit)?,
             End::B => self.to_a.join(link, unit)?,
@@ -263,14 +263,4 @@ fn apply(set: &mut SetCore, who: Actor, event: &Event) -> Result<Answer, SetFaul
     ensures links { link_count set.new.state ≡ link_count set.old.state }
 {
     set.apply(who, event)
-}
-
-/// An equal unit. It takes no memory.
-fn copy_of(unit: &Unit) -> Unit
-    ensures { result ≡ unit.now }
-{
-    match unit.clone() {
-        Ok(copy) => copy,
-        Err(_) => unreachable!(),
-    }
 }

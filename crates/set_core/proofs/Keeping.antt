@@ -6,6 +6,8 @@ use Rattle.set_events.specs.declared.answer.Answer.TheVariants.{Accepted}
 use Rattle.set_events.specs.declared.answer.Counts.{Counts}
 use Rattle.set_events.specs.declared.event.Actor.{Actor}
 use Rattle.set_events.specs.declared.event.Actor.TheVariants.{User, Terminal}
+use Rattle.set_events.specs.declared.event.Event.{Event}
+use Rattle.set_events.specs.declared.event.Event.TheVariants.{Offer, Take, Find, Next, Heard, Up, Down, DownBlind, NoAnswer}
 use Rattle.set_events.specs.declared.history.Entry.{Entry}
 use Rattle.set_core.specs.declared.tally.Tally.{Tally}
 use Rattle.set_events.specs.declared.config.SetConfig.{SetConfig}
@@ -13,12 +15,12 @@ use Rattle.set_model.specs.State.{State, new_state, settings_of}
 use Rattle.set_model.specs.Sound.{AreFew}
 use Rattle.set_model.specs.Rows.{counts_of, total_of}
 use Rattle.set_model.specs.Step.{Gains, step, messages_in, octets_of}
-use Rattle.set_model.proofs.Gaining.{step_gains}
+use Rattle.set_model.proofs.Gaining.{step_gains, AcceptsNone, accepts_none, offer_acknowledges_none, take_acknowledges_none, find_acknowledges_none}
 use Rattle.set_model.proofs.Ranging.{step_few}
 use Rattle.set_model.proofs.Soundness.{opened_few}
 use Rattle.set_step.specs.Agreement.{Kept, Agrees}
 use Rattle.set_step.specs.Answering.{AnswersFor}
-use Rattle.set_core.specs.Gaining.{BooksGain, AreBounded, users_after, terminals_after}
+use Rattle.set_core.specs.Gaining.{BooksGain, IsOwn, GainsNoOther, AreBounded, users_after, terminals_after}
 use Rattle.set_model.specs.History.{IsActor, IsStep, IsLegal, after, books_of, is_user, is_terminal, calls_from, messages_of, octets_in_all}
 use Rattle.set_core.specs.Keeping.{with_history, IsTally, IsKept}
 use Rattle.set_core.proofs.Calls.{all_few, others, its_own, length-calls, sums_more}
@@ -88,6 +90,25 @@ tally_more old new history entry t a c = record {
   octets = omega (arith, c.octets, t.octets, octets_more history entry);
 }
 
+-- what users ask acknowledges nothing
+asks_acknowledge_none : (s : State) (number : ℕ) (event : Event) → IsOwn (User number) event → (counts_of (step s event).state.rows).acked ≡ (counts_of s.rows).acked
+asks_acknowledge_none s number (Offer body) own = offer_acknowledges_none s body
+asks_acknowledge_none s number Take own = take_acknowledges_none s
+asks_acknowledge_none s number (Find message) own = find_acknowledges_none s message
+asks_acknowledge_none s number _ own = absurd own
+
+-- what terminals ask and tell accepts nothing
+tells_accept_none : (s : State) (link : ℕ) (event : Event) → IsOwn (Terminal link) event → AcceptsNone event (step s event).answer
+tells_accept_none s link (Offer body) own = absurd own
+tells_accept_none s link Take own = absurd own
+tells_accept_none s link (Find message) own = absurd own
+tells_accept_none s link (Next n) own = accepts_none s (Next n) refl
+tells_accept_none s link (Heard n unit) own = accepts_none s (Heard n unit) refl
+tells_accept_none s link (Up n) own = accepts_none s (Up n) refl
+tells_accept_none s link (Down n) own = accepts_none s (Down n) refl
+tells_accept_none s link (DownBlind n) own = accepts_none s (DownBlind n) refl
+tells_accept_none s link (NoAnswer n) own = accepts_none s (NoAnswer n) refl
+
 -- The step was made, and its entry stands last.
 module _ (opening : State) (old new : Kept) (history : List Entry) (entry : Entry) (actor : IsActor entry.who) (agrees : Agrees old (after opening history)) (answers : AnswersFor (step (after opening history) entry.event) entry.answer new) where
   pub agrees_more : Agrees new (after opening (history ++ entry ∷ []))
@@ -106,7 +127,16 @@ module _ (opening : State) (old new : Kept) (history : List Entry) (entry : Entr
     messages = messages_more history entry;
     octets = octets_more history entry;
     acknowledged = gains_more.acknowledged;
+    own = λ own. no_other entry.who refl own;
   }
+    where
+      no_other : (who : Actor) → entry.who ≡ who → IsOwn who entry.event → GainsNoOther who (books_of opening history) (books_of opening (history ++ entry ∷ []))
+      no_other (User number) e own = rw (after_more opening history entry) (asks_acknowledge_none (after opening history) number entry.event own)
+      no_other (Terminal link) e own =
+          let none = tells_accept_none (after opening history) link entry.event own in
+          let message : messages_in entry.answer ≡ 0 = ap messages_in answers.answer_is ∙ none.0 in
+          let octet : octets_of entry.event entry.answer ≡ 0 = ap (octets_of entry.event) answers.answer_is ∙ none.1 in
+          (omega (arith, messages_more history entry, message), omega (arith, octets_more history entry, octet))
 
   pub kept_more : (tally tally' : Tally) → IsKept opening old tally history → length history < 2 ^ 48 → Counted tally entry tally' → IsKept opening new tally' (history ++ entry ∷ [])
   kept_more tally tally' k room counted =

@@ -5,6 +5,7 @@ use Rattle.set_events.specs.declared.books.Books.{Books}
 use Rattle.set_events.specs.declared.event.Actor.{Actor}
 use Rattle.set_events.specs.declared.event.Actor.TheVariants.{User, Terminal}
 use Rattle.set_events.specs.declared.event.Event.{Event}
+use Rattle.set_events.specs.declared.event.Event.TheVariants.{Offer, Take, Find, Next, Heard, Up, Down, DownBlind, NoAnswer}
 use Rattle.set_model.specs.Step.{messages_in, octets_of}
 
 -- one call more of this number
@@ -20,6 +21,24 @@ abbrev pub terminals_after : Actor → List ℕ → List ℕ
 terminals_after (User number) calls = calls
 terminals_after (Terminal link) calls = one_more link calls
 
+-- WHOSE AN EVENT IS: a user offers, takes and finds; a terminal asks and tells of its own link.
+abbrev pub IsOwn : Actor → Event → Type 0
+IsOwn (User number) (Offer body) = Unit {0}
+IsOwn (User number) Take = Unit {0}
+IsOwn (User number) (Find message) = Unit {0}
+IsOwn (Terminal number) (Next link) = link ≡ number
+IsOwn (Terminal number) (Heard link unit) = link ≡ number
+IsOwn (Terminal number) (Up link) = link ≡ number
+IsOwn (Terminal number) (Down link) = link ≡ number
+IsOwn (Terminal number) (DownBlind link) = link ≡ number
+IsOwn (Terminal number) (NoAnswer link) = link ≡ number
+IsOwn _ _ = ⊥
+
+-- a user acknowledges nothing; a terminal accepts nothing
+abbrev pub GainsNoOther : Actor → Books → Books → Type 0
+GainsNoOther (User number) old new = new.acknowledged ≡ old.acknowledged
+GainsNoOther (Terminal link) old new = (new.messages ≡ old.messages) × (new.octets ≡ old.octets)
+
 -- the books before and after an entry
 pub record BooksGain (old : Books) (who : Actor) (event : Event) (answer : Answer) (new : Books) : Type 0 where
   pub user_calls : new.user_calls ≡ users_after who old.user_calls
@@ -27,6 +46,7 @@ pub record BooksGain (old : Books) (who : Actor) (event : Event) (answer : Answe
   pub messages : new.messages ≡ old.messages + messages_in answer
   pub octets : new.octets ≡ old.octets + octets_of event answer
   pub acknowledged : old.acknowledged ≤ new.acknowledged
+  pub own : IsOwn who event → GainsNoOther who old new
 
 -- a set has at most 2^48 entries, and each brings one call, at most one message, and at most 273 octets
 pub record AreBounded (books : Books) : Type 0 where

@@ -90,7 +90,7 @@ impl SetCore {
         let entry = Entry {
             who,
             event: kept,
-            answer: copy_of(&answer),
+            answer: answer.copy(),
         };
         match self.history.push(entry) {
             Ok(()) => Ok(answer),
@@ -177,6 +177,13 @@ impl SetCore {
         &self.history
     }
 
+    /// All that was asked and answered, in order, of a set that is given up. It takes no memory.
+    pub fn into_history(self) -> Vec<Entry>
+        ensures { result.items ≡ self.history }
+    {
+        self.history
+    }
+
     /// A law: the history is legal, and what the set holds is what it leads to. To contracts it is that by
     /// definition; that what is kept agrees with it, [`SetCore::kept`] says.
     pub fn replays(&self)
@@ -201,15 +208,5 @@ impl SetCore {
         ensures { IsSound self.now.state }
     {
         let _ = &self.core;
-    }
-}
-
-/// An equal answer. It takes no memory.
-fn copy_of(answer: &Answer) -> Answer
-    ensures { result ≡ answer.now }
-{
-    match answer.clone() {
-        Ok(copy) => copy,
-        Err(_) => unreachable!(),
     }
 }

@@ -143,6 +143,16 @@ pub enum Answer {
 }
 
 impl Answer {
+    /// An equal answer. It takes no memory.
+    pub fn copy(&self) -> Answer
+        ensures { result ≡ self.now }
+    {
+        match self.clone() {
+            Ok(copy) => copy,
+            Err(_) => unreachable!(),
+        }
+    }
+
     /// Whether both answers are the same.
     pub fn same(&self, other: &Answer) -> bool
         ensures { IsTrue result ↔ (self.now ≡ other.now) }

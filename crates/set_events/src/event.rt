@@ -2,7 +2,7 @@
 ghost use Rattle.std.specs.Prelude.{◌≡◌, ◌↔◌, IfOk, IsTrue};
 
 use super::body::Body;
-use l2_units::{Unit, same_unit};
+use l2_units::{Unit, copy_of_unit, same_unit};
 use std::alloc::AllocError;
 
 /// Who made an entry of the history.
@@ -58,10 +58,10 @@ impl Event {
             Event::Take => Ok(Event::Take),
             Event::Find { number } => Ok(Event::Find { number: *number }),
             Event::Next { link } => Ok(Event::Next { link: *link }),
-            Event::Heard { link, unit } => match unit.clone() {
-                Ok(unit) => Ok(Event::Heard { link: *link, unit }),
-                Err(_) => unreachable!(),
-            },
+            Event::Heard { link, unit } => Ok(Event::Heard {
+                link: *link,
+                unit: copy_of_unit(unit),
+            }),
             Event::Up { link } => Ok(Event::Up { link: *link }),
             Event::Down { link } => Ok(Event::Down { link: *link }),
             Event::DownBlind { link } => Ok(Event::DownBlind { link: *link }),

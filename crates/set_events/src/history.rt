@@ -21,15 +21,11 @@ impl Entry {
     pub fn try_copy(&self) -> Result<Entry, AllocError>
         ensures { IfOk result (λ copy. copy ≡ self.now) }
     {
-        let event = self.event.try_copy()?;
-        match self.answer.clone() {
-            Ok(answer) => Ok(Entry {
-                who: self.who,
-                event,
-                answer,
-            }),
-            Err(_) => unreachable!(),
-        }
+        Ok(Entry {
+            who: self.who,
+            event: self.event.try_copy()?,
+            answer: self.answer.copy(),
+        })
     }
 
     /// Whether both entries are the same, octet by octet.

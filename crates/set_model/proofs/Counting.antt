@@ -82,3 +82,13 @@ acked_appended rows body fate =
     ∙ ap length (filter-append (λ (row : Row). was_acked row.fate) (users rows) (users (new_row (length rows) body fate ∷ [])))
     ∙ length-append (standing was_acked (users rows)) (standing was_acked (users (new_row (length rows) body fate ∷ []))) in
     omega (arith, e)
+
+-- one that is appended elsewhere is none of them
+pub acked_appended_open : (rows : List Row) (body : List ℕ) (fate : Fate) → was_acked fate ≡ false → (counts_of (appended rows body fate)).acked ≡ (counts_of rows).acked
+acked_appended_open rows body fate other =
+    let row = new_row (length rows) body fate in
+    let e = ap (λ (xs : List Row). length (standing was_acked xs)) (filter-append is_users rows (row ∷ []))
+    ∙ ap length (filter-append (λ (row : Row). was_acked row.fate) (users rows) (users (row ∷ [])))
+    ∙ length-append (standing was_acked (users rows)) (standing was_acked (users (row ∷ []))) in
+    let none : length (standing was_acked (users (row ∷ []))) ≡ 0 = ap length (users_standing was_acked (row ∷ [])) ∙ rw other refl in
+    omega (arith, e, none)

@@ -3,10 +3,14 @@ use Rattle.std.proofs.Common.{refl, arith, ◌≡◌, ◌∙◌, ap, sym, ◌≤
 use Rattle.std.proofs.lemmas.Bool.Decides.{nat_tests}
 use Rattle.l2_units.specs.declared.unit.Unit.{Unit as SignalUnit}
 use Rattle.l2_units.specs.declared.unit.Unit.TheVariants.{Fisu, Lssu, Msu}
+use Rattle.set_route.specs.declared.place.Place.{Place}
+use Rattle.set_route.specs.declared.place.Place.TheVariants.{On, Nowhere}
+use Rattle.set_route.specs.Routing.{place_of}
 use Rattle.l3_orders.specs.declared.order.Order.{Order}
 use Rattle.l3_orders.specs.Grammar.{text}
 use Rattle.set_events.specs.declared.answer.Answer.{Answer}
 use Rattle.set_events.specs.declared.answer.Fate.{Fate}
+use Rattle.set_events.specs.declared.answer.Fate.TheVariants.{Waiting, Held}
 use Rattle.set_events.specs.declared.answer.Refusal.{Refusal as SetRefusal}
 use Rattle.set_events.specs.declared.answer.Refusal.TheVariants.{TooShort, TooLong, Reserved, StreamFull, NotUp}
 use Rattle.set_events.specs.declared.event.Event.{Event}
@@ -14,12 +18,12 @@ use Rattle.set_events.specs.declared.event.Event.TheVariants.{Offer, Take, Find,
 use Rattle.set_model.specs.declared.phase.Phase.{Phase}
 use Rattle.set_model.specs.declared.phase.Phase.TheVariants.{Up, Down, Settled}
 use Rattle.set_model.specs.Rows.{Row, is_on, was_acked, moved, all_with, service_indicator, counts_of, total_of, place, unsent, stream_of}
-use Rattle.set_model.specs.State.{LinkState, State, has_phase_up, target}
+use Rattle.set_model.specs.State.{LinkState, State, is_up, has_phase_up, target}
 use Rattle.set_model.specs.Control.{Choice, again, first, fill}
 use Rattle.set_model.specs.Changeover.{fate_on, queued}
-use Rattle.set_model.specs.Step.{Outcome, refused, offer_refusal, offered, taken, found, with_known, in_service, next, rows_sent, heard, rises, falls, gives_up, step, messages_in, octets_of, Gains}
+use Rattle.set_model.specs.Step.{Outcome, refused, offer_refusal, fate_at, offered, taken, found, with_known, in_service, next, rows_sent, heard, rises, falls, gives_up, step, messages_in, octets_of, Gains}
 use Rattle.set_model.specs.Sound.{IsManaged}
-use Rattle.set_model.proofs.Counting.{total_appended, acked_appended, total_moved, acked_moved}
+use Rattle.set_model.proofs.Counting.{total_appended, acked_appended, acked_appended_open, total_moved, acked_moved}
 use Rattle.set_model.proofs.Events.{Kept, sent, acknowledged, sent_given_up, waiting_given_up, unparked}
 use Rattle.set_model.proofs.Places.{on_not_acked}
 use Rattle.set_model.proofs.Walk.{KeptBy, step_walks}
@@ -77,7 +81,7 @@ small Known = record {
   moves_off = λ n link s known at m. (refl, counted_moved n (target s.links) s.rows);
 }
 
-abbrev is_offer : Event → Bool
+abbrev pub is_offer : Event → Bool
 is_offer (Offer body) = true
 is_offer _ = false
 
@@ -94,7 +98,7 @@ step_counted s event other = step_walks s CountedFrom (CountedFrom s) event (rec
 })
 
 -- only an offer is answered by a message
-abbrev AcceptsNone : Event → Answer → Type 0
+abbrev pub AcceptsNone : Event → Answer → Type 0
 AcceptsNone event answer = (messages_in answer ≡ 0) × (octets_of event answer ≡ 0)
 
 module _ (s : State) (event : Event) where
@@ -135,7 +139,7 @@ module _ (s : State) (event : Event) where
   give_none n link Down = (refl, refl)
   give_none n link Settled = (refl, refl)
 
-accepts_none : (s : State) (event : Event) → is_offer event ≡ false → AcceptsNone event (step s event).answer
+pub accepts_none : (s : State) (event : Event) → is_offer event ≡ false → AcceptsNone event (step s event).answer
 unfolding step
 accepts_none s (Offer body) e = absurd cc
 accepts_none s Take e = take_none s Take s.inbox
@@ -189,3 +193,39 @@ step_gains s (UpEvent n) m = other_gains s (UpEvent n) refl m
 step_gains s (DownEvent n) m = other_gains s (DownEvent n) refl m
 step_gains s (DownBlind n) m = other_gains s (DownBlind n) refl m
 step_gains s (NoAnswer n) m = other_gains s (NoAnswer n) refl m
+
+-- WHAT USERS ASK acknowledges nothing.
+abbrev AcknowledgesNone : State → State → Type 0
+AcknowledgesNone s t = (counts_of t.rows).acked ≡ (counts_of s.rows).acked
+
+fate_open : (p : Place) (s : State) → was_acked (fate_at p s) ≡ false
+fate_open (On link) s = go (is_up link s)
+  where
+    go : (b : Bool) → was_acked (if b then Waiting link else Held link) ≡ false
+    go true = refl
+    go false = refl
+fate_open Nowhere s = refl
+
+pub offer_acknowledges_none : (s : State) (body : List ℕ) → (counts_of (step s (Offer body)).state.rows).acked ≡ (counts_of s.rows).acked
+unfolding step
+offer_acknowledges_none s body = go (offer_refusal s.rows body)
+  where
+    go : (o : Option SetRefusal) → AcknowledgesNone s (offered o s body).state
+    go (Some why) = refl
+    go None = acked_appended_open s.rows body _ (fate_open (place_of (stream_of body) s.routing) s)
+
+pub take_acknowledges_none : (s : State) → (counts_of (step s Take).state.rows).acked ≡ (counts_of s.rows).acked
+unfolding step
+take_acknowledges_none s = go s.inbox
+  where
+    go : (inbox : List (List ℕ)) → AcknowledgesNone s (taken inbox s).state
+    go [] = refl
+    go (body ∷ rest) = refl
+
+pub find_acknowledges_none : (s : State) (number : ℕ) → (counts_of (step s (Find number)).state.rows).acked ≡ (counts_of s.rows).acked
+unfolding step
+find_acknowledges_none s number = go (place number s.rows)
+  where
+    go : (fate : Option Fate) → AcknowledgesNone s (found fate s).state
+    go None = refl
+    go (Some fate) = refl

@@ -23,9 +23,9 @@ opening c = new_state c.self.inside.config
 grown : (c : In-Ok) → c.push.new.self.items ≡ c.self.inside.history.items ++ entry c ∷ []
 grown c =
     c.in-Ok.ensures.items
-    ∙ ap (λ (xs : List Entry). xs ++ record { who = c.args.who; event = c.in_ok-kept.kept; answer = c.copy_of.result } ∷ []) c.reserve.ensures.items
-    ∙ ap (λ (event : Event). c.self.inside.history.items ++ record { who = c.args.who; event = event; answer = c.copy_of.result } ∷ []) c.in_ok-kept.ensures
-    ∙ ap (λ (answer : Answer). c.self.inside.history.items ++ record { who = c.args.who; event = c.args.event.now; answer = answer } ∷ []) c.copy_of.ensures
+    ∙ ap (λ (xs : List Entry). xs ++ record { who = c.args.who; event = c.in_ok-kept.kept; answer = c.copy.result } ∷ []) c.reserve.ensures.items
+    ∙ ap (λ (event : Event). c.self.inside.history.items ++ record { who = c.args.who; event = event; answer = c.copy.result } ∷ []) c.in_ok-kept.ensures
+    ∙ ap (λ (answer : Answer). c.self.inside.history.items ++ record { who = c.args.who; event = c.args.event.now; answer = answer } ∷ []) c.copy.ensures
 
 -- what is kept agreed with the state after the history, and is answered for
 told : (c : In-Ok) → AnswersFor (step (after (opening c) c.self.inside.history.items) (entry c).event) (entry c).answer c.apply.new.self
