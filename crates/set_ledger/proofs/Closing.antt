@@ -1,0 +1,85 @@
+-- What is needed where a set comes to its end.
+use Rattle.std.proofs.Common.{refl, arith, ◌≡◌, ◌∙◌, ap, sym, ◌≤◌, ◌↔◌, IsTrue, nat_eq, ◌==◌, Bool, true, false, [], length, drop, ℕ, List, ◌+◌, sum_by}
+use Rattle.std.proofs.lemmas.Bool.Decides.{nat_tests}
+use Rattle.std.proofs.lemmas.List.{drop_all, length-drop}
+use Rattle.std.specs.Prelude.{if◌then◌else◌}
+use Rattle.set_events.specs.declared.answer.Counts.{Counts}
+use Rattle.set_events.specs.declared.books.Books.{Books}
+use Rattle.set_events.specs.declared.history.Entry.{Entry}
+use Rattle.set_model.specs.State.{State}
+use Rattle.set_model.specs.Rows.{counts_of}
+use Rattle.set_model.specs.History.{LinkSet, IsLegal, after, books_of}
+use Rattle.set_ledger.specs.declared.share.SeatShare.{SeatShare}
+use Rattle.set_ledger.specs.Seats.{SeatState}
+use Rattle.set_ledger.specs.Ending.{is_complete, AreFaithful, IsClosed, IsMerged}
+use Rattle.set_ledger.specs.Totals.{AreTotals}
+
+-- nothing is left to be found, so all receipts were found if none of them is left
+pub both_end : (next : ℕ) (receipts found rest : List Entry) → next ≤ length receipts → (receipts ≡ found ↔ drop next receipts ≡ rest) → rest ≡ [] → (IsTrue (nat_eq next (length receipts)) ↔ receipts ≡ found)
+both_end next receipts found rest few way none = (all_found, none_left)
+  where
+    all_found : IsTrue (nat_eq next (length receipts)) → receipts ≡ found
+    all_found t =
+        let same : next ≡ length receipts = grind (arith, nat_tests, t) in
+        way.1 (drop_all next receipts (omega (arith, same)) ∙ sym none)
+
+    none_left : receipts ≡ found → IsTrue (nat_eq next (length receipts))
+    none_left e =
+        let gone : length (drop next receipts) ≡ 0 = ap length (way.0 e ∙ none) in
+        let left = length-drop next receipts in
+        let same : next ≡ length receipts = omega (arith, few, gone, left) in
+        grind (arith, nat_tests, same)
+
+-- a complete set of seats has as many as there are users and links
+as_many : (b rest : Bool) → (if b then rest else false) ≡ true → b ≡ true
+as_many true rest e = refl
+as_many false rest e = absurd cc
+
+then_all : (b rest : Bool) → (if b then rest else false) ≡ true → rest ≡ true
+then_all true rest e = e
+then_all false rest e = absurd cc
+
+pub complete_lengths : (users links : ℕ) (us ts : List SeatState) → is_complete users links us ts ≡ true → (length us ≡ users) × (length ts ≡ links)
+complete_lengths users links us ts e =
+    let user_seats = as_many _ _ e in
+    let term_seats = then_all _ _ e in
+    let some : (length us == users) ≡ true = as_many _ _ user_seats in
+    let more : (length ts == links) ≡ true = as_many _ _ term_seats in
+    (grind (arith, nat_tests, some), grind (arith, nat_tests, more))
+
+-- The seats have all parts of a ledger, so what their shares tell is its total.
+pub whole_sum : (number : SeatShare → ℕ) (seats : List SeatState) (parts amount parts' amount' all total : ℕ) → parts ≡ 0 → amount ≡ 0 → IsMerged number seats parts amount parts' amount' → length seats ≡ all → (parts' ≡ all → amount' ≡ total)
+    → total ≡ sum_by (λ (seat : SeatState). number seat.share) seats
+whole_sum number seats parts amount parts' amount' all total none nothing merged many whole =
+    let parts_are = merged.parts_are in
+    let amount_is = merged.amount_is in
+    let is : amount' ≡ total = whole (omega (arith, none, parts_are, many)) in
+    omega (arith, is, amount_is, nothing)
+
+-- likewise where two kinds of seats have them
+pub whole_sums : (number : SeatShare → ℕ) (us ts : List SeatState) (parts amount parts' amount' parts'' amount'' all total : ℕ) → parts ≡ 0 → amount ≡ 0 → IsMerged number us parts amount parts' amount' → IsMerged number ts parts' amount' parts'' amount''
+    → length us + length ts ≡ all → (parts'' ≡ all → amount'' ≡ total)
+    → total ≡ sum_by (λ (seat : SeatState). number seat.share) us + sum_by (λ (seat : SeatState). number seat.share) ts
+whole_sums number us ts parts amount parts' amount' parts'' amount'' all total none nothing one other many whole =
+    let parts_first = one.parts_are in
+    let amount_first = one.amount_is in
+    let parts_then = other.parts_are in
+    let amount_then = other.amount_is in
+    let is : amount'' ≡ total = whole (omega (arith, none, parts_first, parts_then, many)) in
+    omega (arith, is, amount_first, amount_then, nothing)
+
+pub closes : (us ts : List SeatState) (set : LinkSet) (books : Books) (counts : Counts) (calls messages octets acknowledged : ℕ) → IsLegal set.opening set.history → set.state ≡ after set.opening set.history → books ≡ books_of set.opening set.history → counts ≡ counts_of set.state.rows → AreFaithful set.history us ts
+    → AreTotals calls messages octets acknowledged set
+    → calls ≡ sum_by (λ (seat : SeatState). seat.share.calls) us + sum_by (λ (seat : SeatState). seat.share.calls) ts → messages ≡ sum_by (λ (seat : SeatState). seat.share.messages) us → octets ≡ sum_by (λ (seat : SeatState). seat.share.octets) us → acknowledged ≡ sum_by (λ (seat : SeatState). seat.share.acknowledged) ts
+    → IsClosed us ts set.opening set.history books counts
+closes us ts set books counts calls messages octets acknowledged legal replays books_are counts_are faithful totals c m o a = record {
+  legal = legal;
+  books_are = books_are;
+  counts_are = counts_are ∙ ap (λ (state : State). counts_of state.rows) replays;
+  users_faithful = faithful.0;
+  terminals_faithful = faithful.1;
+  calls = sym totals.calls_is ∙ c;
+  messages = ap (λ (b : Books). b.messages) books_are ∙ sym totals.messages_is ∙ m;
+  octets = ap (λ (b : Books). b.octets) books_are ∙ sym totals.octets_is ∙ o;
+  acknowledged = ap (λ (b : Books). b.acknowledged) books_are ∙ sym (ap (λ (state : State). (counts_of state.rows).acked) replays) ∙ sym totals.acknowledged_is ∙ a;
+}

@@ -1,0 +1,33 @@
+use Rattle.std.proofs.Common.{arith, ◌≡◌, ap, sym, subst, length}
+use Rattle.set_ledger.specs.declared.share.SeatShare.{SeatShare}
+use Rattle.set_ledger.specs.Ending.{AreFaithful}
+use Rattle.set_ledger.specs.Totals.{HeldState}
+use Rattle.set_ledger.proofs.Closing.{complete_lengths, whole_sum, whole_sums, closes}
+use Rattle.set_ledger.proofs.held.Held.closed.Goals as goal
+
+-- all seats are there, so together they have every part of each ledger
+pub returns-clause-closed : goal.returns-clause-closed
+returns-clause-closed g c =
+    let us = c.args.users.items in
+    let ts = c.args.terminals.items in
+    let held = c.self.view_is in
+    let rest = c.self.inside.rest in
+    let complete = complete_lengths c.args.self.users c.args.self.links us ts c.requires.complete in
+    let users_are : c.self.inside.users ≡ c.args.self.users = ap (λ (h : HeldState). h.users) held in
+    let links_are : c.self.inside.links ≡ c.args.self.links = ap (λ (h : HeldState). h.links) held in
+    let many : length us ≡ c.args.self.users = complete.0 in
+    let many_links : length ts ≡ c.args.self.links = complete.1 in
+    let faithful : AreFaithful c.self.inside.core.history us ts = subst (λ (h : HeldState). AreFaithful h.set.history us ts) (sym held) c.requires.faithful in
+    let totals = c.self.invariant.0 in
+    let cut = c.self.invariant.1 in
+    let calls_cut = cut.calls_cut in
+    let messages_cut = cut.messages_cut in
+    let octets_cut = cut.octets_cut in
+    let acked_cut = cut.acknowledged_cut in
+    rw (c.config-config.ensures, c.into_history.ensures) (closes us ts c.self.inside.core c.books-books.result c.counts-counts.result
+    c.self.inside.calls.total c.self.inside.messages.total c.self.inside.octets.total c.self.inside.acknowledged.total
+    c.replays.ensures.legal c.replays.ensures.agrees c.books-books.ensures.value c.counts-counts.ensures.value faithful totals
+    (whole_sums (λ (share : SeatShare). share.calls) us ts _ _ _ _ _ _ _ _ rest.no_parts.0 rest.no_amount.0 c.merge_users.ensures.calls c.merge_terminals.ensures.calls (omega (arith, users_are, links_are, many, many_links, calls_cut)) c.audit.ensures.whole)
+    (whole_sum (λ (share : SeatShare). share.messages) us _ _ _ _ _ _ rest.no_parts.1 rest.no_amount.1 c.merge_users.ensures.messages (omega (arith, users_are, many, messages_cut)) c.audit-2.ensures.whole)
+    (whole_sum (λ (share : SeatShare). share.octets) us _ _ _ _ _ _ rest.no_parts.2 rest.no_amount.2 c.merge_users.ensures.octets (omega (arith, users_are, many, octets_cut)) c.audit-3.ensures.whole)
+    (whole_sum (λ (share : SeatShare). share.acknowledged) ts _ _ _ _ _ _ rest.no_parts.3 rest.no_amount.3 c.merge_terminals.ensures.acknowledged (omega (arith, links_are, many_links, acked_cut)) c.audit-4.ensures.whole))

@@ -1,0 +1,60 @@
+-- THE END of a set: all its seats are back, and their receipts are its history.
+use Rattle.std.specs.Prelude.{◌≡◌, ◌+◌, ◌==◌, ℕ, zero, suc, Bool, true, false, List, [], ◌∷◌, length, filter, sum_by, All, if◌then◌else◌}
+use Rattle.set_events.specs.declared.event.Actor.{Actor}
+use Rattle.set_events.specs.declared.event.Actor.TheVariants.{User, Terminal}
+use Rattle.set_events.specs.declared.history.Entry.{Entry}
+use Rattle.set_events.specs.declared.answer.Counts.{Counts}
+use Rattle.set_events.specs.declared.books.Books.{Books}
+use Rattle.set_model.specs.State.{State}
+use Rattle.set_model.specs.Rows.{counts_of}
+use Rattle.set_model.specs.History.{IsLegal, after, books_of, is_user, is_terminal}
+use Rattle.set_ledger.specs.declared.share.SeatShare.{SeatShare}
+use Rattle.set_ledger.specs.Seats.{SeatState}
+
+-- COMPLETE: a seat of each user 0, 1, .. and of each terminal, and no seat more.
+abbrev pub is_actor : Actor → Actor → Bool
+is_actor (User number) who = is_user number who
+is_actor (Terminal link) who = is_terminal link who
+
+abbrev pub has_seat : {S : Type 0} → (S → SeatState) → Actor → List S → Bool
+has_seat of who [] = false
+has_seat of who (seat ∷ seats) = if is_actor who (of seat).who then true else has_seat of who seats
+
+abbrev pub all_below : ℕ → (ℕ → Bool) → Bool
+all_below zero holds = true
+all_below (suc n) holds = if all_below n holds then holds n else false
+
+abbrev pub are_seats : {S : Type 0} → (S → SeatState) → (ℕ → Actor) → ℕ → List S → Bool
+are_seats of actor n seats = if length seats == n then all_below n (λ k. has_seat of (actor k) seats) else false
+
+abbrev pub is_complete : ℕ → ℕ → List SeatState → List SeatState → Bool
+is_complete users links user_seats term_seats =
+    if are_seats (λ seat. seat) User users user_seats then are_seats (λ seat. seat) Terminal links term_seats else false
+
+-- FAITHFUL: a seat's receipts are its entries of the history, in order.
+abbrev pub is_by : Actor → Entry → Bool
+is_by who entry = is_actor who entry.who
+
+abbrev pub IsFaithful : List Entry → SeatState → Type 0
+IsFaithful history seat = seat.receipts ≡ filter (is_by seat.who) history
+
+abbrev pub AreFaithful : List Entry → List SeatState → List SeatState → Type 0
+AreFaithful history users terminals = All (IsFaithful history) users × All (IsFaithful history) terminals
+
+-- CLOSED: what a set was opened as, its history and totals, once its seats are back.
+pub record IsClosed (users terminals : List SeatState) (opening : State) (history : List Entry) (books : Books) (counts : Counts) : Type 0 where
+  pub legal : IsLegal opening history
+  pub books_are : books ≡ books_of opening history
+  pub counts_are : counts ≡ counts_of (after opening history).rows
+  pub users_faithful : All (IsFaithful history) users
+  pub terminals_faithful : All (IsFaithful history) terminals
+  -- the totals are the sums of the shares
+  pub calls : length history ≡ sum_by (λ (seat : SeatState). seat.share.calls) users + sum_by (λ (seat : SeatState). seat.share.calls) terminals
+  pub messages : books.messages ≡ sum_by (λ (seat : SeatState). seat.share.messages) users
+  pub octets : books.octets ≡ sum_by (λ (seat : SeatState). seat.share.octets) users
+  pub acknowledged : books.acknowledged ≡ sum_by (λ (seat : SeatState). seat.share.acknowledged) terminals
+
+-- seats were taken apart: each has one part of a ledger, and its share's number is the amount
+pub record IsMerged (number : SeatShare → ℕ) (seats : List SeatState) (parts amount parts' amount' : ℕ) : Type 0 where
+  pub parts_are : parts' ≡ parts + length seats
+  pub amount_is : amount' ≡ amount + sum_by (λ (seat : SeatState). number seat.share) seats

@@ -1,0 +1,4 @@
+pub mod Seats
+pub mod Totals
+pub mod Ending
+pub mod Numbers

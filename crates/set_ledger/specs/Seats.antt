@@ -1,0 +1,50 @@
+-- SEATS: who asks a set, what share of the totals each has, and a receipt for each step that it made.
+use Rattle.std.specs.Prelude.{◌≡◌, ℕ, zero, suc, List, [], ◌∷◌, ◌++◌, ◌+◌, length}
+use Rattle.set_events.specs.declared.answer.Answer.{Answer}
+use Rattle.set_events.specs.declared.event.Actor.{Actor}
+use Rattle.set_events.specs.declared.event.Event.{Event}
+use Rattle.set_events.specs.declared.history.Entry.{Entry}
+use Rattle.set_ledger.specs.declared.share.SeatShare.{SeatShare}
+use Rattle.set_model.specs.History.{LinkSet, messages_of, octets_in_all}
+use Rattle.set_model.specs.Rows.{counts_of}
+use Rattle.set_model.specs.Step.{messages_in, octets_of}
+
+pub record SeatState : Type 0 where
+  pub who : Actor
+  pub share : SeatShare
+  pub receipts : List Entry
+
+-- a seat from which nothing was asked
+abbrev pub new_seat : Actor → SeatState
+new_seat who = record { who = who; share = record { calls = 0; messages = 0; octets = 0; acknowledged = 0 }; receipts = [] }
+
+-- the seats of the actors 0, 1, .. below a number
+abbrev pub new_seats : (ℕ → Actor) → ℕ → List SeatState
+new_seats actor zero = []
+new_seats actor (suc n) = new_seats actor n ++ new_seat (actor n) ∷ []
+
+-- A SHARE is what the receipts add up to, but for what was acknowledged, which no answer tells.
+pub record AddsUp (seat : SeatState) : Type 0 where
+  pub calls : seat.share.calls ≡ length seat.receipts
+  pub messages : seat.share.messages ≡ messages_of seat.receipts
+  pub octets : seat.share.octets ≡ octets_in_all seat.receipts
+
+-- what an entry brings to the share of the seat that made it, but for acknowledgements
+pub record ShareGrows (old : SeatShare) (event : Event) (answer : Answer) (new : SeatShare) : Type 0 where
+  pub calls : new.calls ≡ old.calls + 1
+  pub messages : new.messages ≡ old.messages + messages_in answer
+  pub octets : new.octets ≡ old.octets + octets_of event answer
+
+-- the users' messages that are acknowledged
+abbrev pub acked_in : LinkSet → ℕ
+acked_in set = (counts_of set.state.rows).acked
+
+-- A RECEIPT: the entry that was made stands last among the seat's, and its share grows by what that entry brought.
+pub record Receives (old : SeatState) (event : Event) (answer : Answer) (new : SeatState) : Type 0 where
+  pub who_same : new.who ≡ old.who
+  pub receipt : new.receipts ≡ old.receipts ++ record { who = old.who; event = event; answer = answer } ∷ []
+  pub grows : ShareGrows old.share event answer new.share
+
+-- what a step acknowledged is the share's of the seat that made it
+abbrev pub AcknowledgesAs : LinkSet → LinkSet → SeatShare → SeatShare → Type 0
+AcknowledgesAs set set' old new = new.acknowledged + acked_in set ≡ old.acknowledged + acked_in set'

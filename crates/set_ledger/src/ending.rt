@@ -1,0 +1,198 @@
+//! The end of a set: all its seats are back, and their receipts are held against its history.
+ghost use Rattle.std.specs.Prelude.{◌≡◌, ◌↔◌, true, IsTrue, IfOk, IfErr, OnOk, OnErr, if◌then◌else◌};
+ghost use Rattle.set_model.specs.State.{new_state};
+ghost use Rattle.set_ledger.specs.Ending.{is_complete as is_complete_of, AreFaithful, IsClosed, IsMerged};
+
+use super::checking::{are_faithful, are_terminals, are_users};
+use super::held::{Held, Rest};
+use super::seat::{TermSeat, UserSeat};
+use set_events::{Books, Counts, Entry, SetConfig};
+use std::sync::ledger::{Ledger, Share};
+
+/// A set that came to its end, with its totals.
+#[derive(Drop)]
+pub struct Closed {
+    /// What the set was opened with: its history replays from there.
+    pub config: SetConfig,
+    /// All that was asked and answered, in order.
+    pub history: Vec<Entry>,
+    /// What it adds up to.
+    pub books: Books,
+    /// How many messages stand in each place.
+    pub counts: Counts,
+}
+
+/// A set that didn't come to its end, and the seats that were handed in.
+#[derive(Drop)]
+pub struct Back<C: Ledger, M: Ledger, O: Ledger, A: Ledger> {
+    pub held: Held<C, M, O, A>,
+    pub users: Vec<UserSeat<C, M, O, A>>,
+    pub terminals: Vec<TermSeat<C, M, O, A>>,
+}
+
+/// Why a set can't end. It is handed back with all seats.
+#[derive(Drop)]
+pub enum EndFault<C: Ledger, M: Ledger, O: Ledger, A: Ledger> {
+    /// 1: a seat of the set isn't there. It's tested first.
+    Missing(Back<C, M, O, A>),
+    /// 2: the receipts of a seat aren't its entries of the history, in order.
+    Strange(Back<C, M, O, A>),
+}
+
+impl<C: Ledger, M: Ledger, O: Ledger, A: Ledger> EndFault<C, M, O, A> {
+    /// The fault's number: 1 a seat is missing, 2 its receipts are strange.
+    pub fn number(&self) -> u8
+        ensures missing { (back : _) → self.now ≡ EndFault.Missing back → result ≡ 1 }
+        ensures strange { (back : _) → self.now ≡ EndFault.Strange back → result ≡ 2 }
+    {
+        match self {
+            EndFault::Missing(_) => 1,
+            EndFault::Strange(_) => 2,
+        }
+    }
+}
+
+impl<C: Ledger, M: Ledger, O: Ledger, A: Ledger> Held<C, M, O, A> {
+    /// Ends a set with all its seats: the history is legal, each seat's receipts are its entries in order, and the totals
+    /// are the sums of the shares. It takes no memory.
+    ///
+    /// Faults, which hand back the set and the seats: 1 [`EndFault::Missing`] exactly where there isn't one seat for each
+    /// user and each link of the set and no other; else 2 [`EndFault::Strange`] exactly where the receipts of a
+    /// seat aren't its entries.
+    pub fn end(
+        self,
+        users: Vec<UserSeat<C, M, O, A>>,
+        terminals: Vec<TermSeat<C, M, O, A>>,
+    ) -> Result<Closed, EndFault<C, M, O, A>>
+        ensures complete { OnOk result (is_complete_of self.users self.links users.items terminals.items ≡ true) }
+        ensures closed { IfOk result (λ closed. IsClosed users.items terminals.items (new_state closed.config) closed.history.items closed.books closed.counts) }
+        ensures config { IfOk result (λ closed. new_state closed.config ≡ self.set.opening) }
+        ensures history { IfOk result (λ closed. closed.history.items ≡ self.set.history) }
+        ensures back { IfErr result (λ fault. fault ≡
+            (if is_complete_of self.users self.links users.items terminals.items then EndFault.Strange else EndFault.Missing)
+            (record { held = self; users = users; terminals = terminals })) }
+        ensures strange { OnErr result (is_complete_of self.users self.links users.items terminals.items ≡ true
+            → AreFaithful self.set.history users.items terminals.items → ⊥) }
+    {
+        if !self.is_complete(&users, &terminals) {
+            return Err(EndFault::Missing(Back {
+                held: self,
+                users,
+                terminals,
+            }));
+        }
+        if !self.are_faithful(&users, &terminals) {
+            return Err(EndFault::Strange(Back {
+                held: self,
+                users,
+                terminals,
+            }));
+        }
+        Ok(self.closed(users, terminals))
+    }
+
+    /// Whether there is one seat for each user and each link of the set, and no other.
+    fn is_complete(
+        &self,
+        users: &[UserSeat<C, M, O, A>],
+        terminals: &[TermSeat<C, M, O, A>],
+    ) -> bool
+        ensures { result ≡ is_complete_of self.now.users self.now.links users.now terminals.now }
+    {
+        are_users(users, self.users) && are_terminals(terminals, self.links)
+    }
+
+    /// Whether the receipts of each seat are its entries of the history, in order.
+    fn are_faithful(
+        &self,
+        users: &[UserSeat<C, M, O, A>],
+        terminals: &[TermSeat<C, M, O, A>],
+    ) -> bool
+        ensures { IsTrue result ↔ AreFaithful self.now.set.history users.now terminals.now }
+    {
+        let history = self.core.history();
+        are_faithful::<C, M, O, A, UserSeat<C, M, O, A>>(history, users)
+            && are_faithful::<C, M, O, A, TermSeat<C, M, O, A>>(history, terminals)
+    }
+
+    /// The end of a set whose seats are all there.
+    fn closed(
+        self,
+        users: Vec<UserSeat<C, M, O, A>>,
+        terminals: Vec<TermSeat<C, M, O, A>>,
+    ) -> Closed
+        requires complete { is_complete_of self.users self.links users.items terminals.items ≡ true }
+        requires faithful { AreFaithful self.set.history users.items terminals.items }
+        ensures closed { IsClosed users.items terminals.items (new_state result.config) result.history.items result.books result.counts }
+        ensures config { new_state result.config ≡ self.set.opening }
+        ensures history { result.history.items ≡ self.set.history }
+    {
+        self.core.replays();
+        let config = *self.core.config();
+        let books = self.core.books();
+        let counts = self.core.counts();
+        let Held {
+            core,
+            users: _,
+            links: _,
+            calls: mut call_book,
+            messages: mut message_book,
+            octets: mut octet_book,
+            acknowledged: mut acked_book,
+            rest,
+        } = self;
+        let Rest {
+            mut calls,
+            mut messages,
+            mut octets,
+            mut acknowledged,
+        } = rest;
+        merge_users(users, &mut calls, &mut messages, &mut octets);
+        merge_terminals(terminals, &mut calls, &mut acknowledged);
+        call_book.audit(&mut calls);
+        message_book.audit(&mut messages);
+        octet_book.audit(&mut octets);
+        acked_book.audit(&mut acknowledged);
+        Closed {
+            config,
+            history: core.into_history(),
+            books,
+            counts,
+        }
+    }
+}
+
+/// Takes the users' seats apart: their shares of the ledgers, together.
+fn merge_users<C: Ledger, M: Ledger, O: Ledger, A: Ledger>(
+    seats: Vec<UserSeat<C, M, O, A>>,
+    calls: &mut Share<C>,
+    messages: &mut Share<M>,
+    octets: &mut Share<O>,
+)
+    ensures calls { IsMerged (λ share. share.calls) seats.items calls.old.parts calls.old.amount calls.new.parts calls.new.amount }
+    ensures messages { IsMerged (λ share. share.messages) seats.items messages.old.parts messages.old.amount messages.new.parts messages.new.amount }
+    ensures octets { IsMerged (λ share. share.octets) seats.items octets.old.parts octets.old.amount octets.new.parts octets.new.amount }
+{
+    for seat in seats {
+        let shares = seat.into_shares();
+        calls.merge(shares.calls);
+        messages.merge(shares.messages);
+        octets.merge(shares.octets);
+    }
+}
+
+/// Takes the terminals' seats apart: their shares of the ledgers, together.
+fn merge_terminals<C: Ledger, M: Ledger, O: Ledger, A: Ledger>(
+    seats: Vec<TermSeat<C, M, O, A>>,
+    calls: &mut Share<C>,
+    acknowledged: &mut Share<A>,
+)
+    ensures calls { IsMerged (λ share. share.calls) seats.items calls.old.parts calls.old.amount calls.new.parts calls.new.amount }
+    ensures acknowledged { IsMerged (λ share. share.acknowledged) seats.items acknowledged.old.parts acknowledged.old.amount acknowledged.new.parts acknowledged.new.amount }
+{
+    for seat in seats {
+        let shares = seat.into_shares();
+        calls.merge(shares.calls);
+        acknowledged.merge(shares.acknowledged);
+    }
+}

@@ -1,0 +1,33 @@
+//! Seats, and the ledgers that say that a set's totals are the sums of the seats' shares.
+//!
+//! A [`Held`] is what stands under the lock of a set: a `SetCore` and the books of four ledgers, which count
+//! calls, accepted messages, their octets, and acknowledged messages. Each user and each link's terminal has a
+//! seat: its actor, a share of each ledger that it moves, and a receipt for each step that it made. A share
+//! moves only together with its book, and [`step_in`] alone makes receipts, so that whoever gets all seats back
+//! can hold them against the history: [`Held::end`] does.
+//!
+//! ```text
+//! users      UserSeat 0, 1, ..     calls, messages, octets        \
+//!                                                                   step_in -> Held: SetCore and the books
+//! terminals  TermSeat 0, 1, ..     calls, acknowledged messages   /
+//! ```
+//!
+//! Each ledger is named by a type parameter: `C` of calls, `M` of messages, `O` of octets, `A` of
+//! acknowledgements. Whoever opens a set picks the names anew, for a function that is generic over them, so a seat of
+//! another set doesn't compile: "expected `&mut UserSeat<C, M, O, A>`, found `&mut UserSeat<D, N, P, B>`". The fields
+//! of `Held` and of the seats are private here, so no other crate changes one or makes a receipt.
+//!
+//! This crate takes no lock and waits for nothing.
+#![tactic(auto)]
+
+mod checking;
+mod ending;
+mod held;
+mod seat;
+mod share;
+
+pub use ending::{Back, Closed, EndFault};
+pub use held::{CreateFault, Held, Opened};
+pub use seat::{Seat, TermSeat, UserSeat, step_in};
+pub use set_core::{SetCore, SetFault};
+pub use share::{Blanks, SeatShare};

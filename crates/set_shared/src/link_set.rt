@@ -1,0 +1,203 @@
+//! The set under its lock.
+ghost use Rattle.std.specs.Prelude.{◌≡◌, ◌<◌, ◌≤◌, ◌↔◌, ◌⊎◌, true, IfOk, IfErr, OnOk, OnErr, if◌then◌else◌};
+ghost use Rattle.set_events.specs.declared.event.Actor.TheVariants.{User, Terminal};
+ghost use Rattle.set_events.specs.declared.event.Event.TheVariants.{Offer, Take, Find};
+ghost use Rattle.set_core.specs.Gaining.{IsOwn};
+ghost use Rattle.set_ledger.specs.Seats.{Receives, new_seats};
+ghost use Rattle.set_ledger.specs.Totals.{AreParts, HeldState};
+ghost use Rattle.set_ledger.specs.Ending.{is_complete, AreFaithful, IsClosed};
+ghost use Rattle.set_model.specs.State.{new_state};
+
+use set_events::{Answer, Body, Event, SetConfig};
+use set_ledger::{
+    Blanks, Closed, CreateFault, EndFault, Held, SetFault, TermSeat, UserSeat, step_in,
+};
+use std::alloc::Global;
+use std::marker::Model;
+use std::sync::ledger::Ledger;
+use std::sync::{Mutex, Wait};
+
+/// A link set that threads share. Contracts see how many seats it has; of what stands under its lock they know
+/// what every `Held` keeps.
+#[derive(Drop)]
+pub struct LinkSet<C: Ledger, M: Ledger, O: Ledger, A: Ledger> {
+    held: Mutex<Held<C, M, O, A>>,
+    users: u16,
+    links: u8,
+    alloc: Global,
+}
+
+impl<C: Ledger, M: Ledger, O: Ledger, A: Ledger> Model for LinkSet<C, M, O, A> {
+    ghost use Rattle.set_shared.specs.Seating.{Seating};
+
+    ghost Value = { Seating };
+
+    ghost use Rattle.std.specs.Prelude.{◌≡◌};
+
+    ghost view = { λ s. record { users = s.users; links = s.links } };
+
+    ghost invariant = { λ s. (s.users ≡ M.parts) × (s.links ≡ A.parts) };
+}
+
+/// A set that was opened, and its seats.
+#[derive(Drop)]
+pub struct Opened<C: Ledger, M: Ledger, O: Ledger, A: Ledger> {
+    /// The set.
+    pub set: LinkSet<C, M, O, A>,
+    /// A seat for each user, 0, 1, ..
+    pub users: Vec<UserSeat<C, M, O, A>>,
+    /// A seat for the terminal of each link, 0, 1, ..
+    pub terminals: Vec<TermSeat<C, M, O, A>>,
+}
+
+impl<C: Ledger, M: Ledger, O: Ledger, A: Ledger> LinkSet<C, M, O, A> {
+    /// Opens a set as this configuration has it, for so many users: the set, a seat for each user, and one for the
+    /// terminal of each link.
+    ///
+    /// Faults: 2 [`CreateFault::Users`] exactly where there is no user or more than 64, tested first;
+    /// 1 [`CreateFault::NoMemory`] only where memory was refused.
+    pub fn create(
+        alloc: Global,
+        config: &SetConfig,
+        users: u16,
+        blanks: Blanks,
+    ) -> Result<Opened<C, M, O, A>, CreateFault>
+        requires calls { (0 < users) × (users ≤ 64) → (blanks.calls.name ≡ C.name) × (blanks.calls.parts ≡ C.parts) }
+        requires messages { (0 < users) × (users ≤ 64) → (blanks.messages.name ≡ M.name) × (blanks.messages.parts ≡ M.parts) }
+        requires octets { (0 < users) × (users ≤ 64) → (blanks.octets.name ≡ O.name) × (blanks.octets.parts ≡ O.parts) }
+        requires acknowledged { (0 < users) × (users ≤ 64) → (blanks.acknowledged.name ≡ A.name) × (blanks.acknowledged.parts ≡ A.parts) }
+        requires parts { (0 < users) × (users ≤ 64) → AreParts C.parts M.parts O.parts A.parts users config.now.links }
+        ensures set { IfOk result (λ opened. opened.set ≡ record { users = users; links = config.now.links }) }
+        ensures users { IfOk result (λ opened. opened.users.items ≡ new_seats User users) }
+        ensures terminals { IfOk result (λ opened. opened.terminals.items ≡ new_seats Terminal config.now.links) }
+        ensures range { (result ≡ Err CreateFault.Users) ↔ ((users ≡ 0) ⊎ (64 < users)) }
+    {
+        match Held::open(alloc, config, users, blanks) {
+            Ok(opened) => Ok(Opened {
+                set: LinkSet::of(alloc, opened.held),
+                users: opened.users,
+                terminals: opened.terminals,
+            }),
+            Err(fault) => Err(fault),
+        }
+    }
+
+    /// A set that threads share, of one that isn't under a lock: as [`LinkSet::close`] hands it back.
+    pub fn of(alloc: Global, held: Held<C, M, O, A>) -> LinkSet<C, M, O, A>
+        ensures { result ≡ record { users = held.users; links = held.links } }
+    {
+        let users = held.users();
+        let links = held.links();
+        LinkSet {
+            held: Mutex::new(held),
+            users,
+            links,
+            alloc,
+        }
+    }
+
+    /// A user offers a message of these octets: what the set answers. The seat has a receipt of it.
+    ///
+    /// Faults, after which the seat is as it was: 2 [`SetFault::Exhausted`], 1 [`SetFault::NoMemory`].
+    pub fn offer<R: Wait>(
+        &self,
+        rt: &R,
+        seat: &mut UserSeat<C, M, O, A>,
+        octets: &[u8],
+    ) -> Result<Answer, SetFault>
+        ensures receipt { IfOk result (λ answer. Receives seat.old (Offer octets.now) answer seat.new) }
+        ensures err { OnErr result (seat.new ≡ seat.old) }
+    {
+        let _ = seat.number();
+        let body = Body::from_slice(self.alloc, octets)?;
+        step_in(&mut *self.held.lock(rt), seat, &Event::Offer { body })
+    }
+
+    /// A user takes the oldest message that was heard for users: what the set answers. The seat has a receipt of it.
+    ///
+    /// Faults, after which the seat is as it was: 2 [`SetFault::Exhausted`], 1 [`SetFault::NoMemory`].
+    pub fn take<R: Wait>(&self, rt: &R, seat: &mut UserSeat<C, M, O, A>) -> Result<Answer, SetFault>
+        ensures receipt { IfOk result (λ answer. Receives seat.old Take answer seat.new) }
+        ensures err { OnErr result (seat.new ≡ seat.old) }
+    {
+        let _ = seat.number();
+        step_in(&mut *self.held.lock(rt), seat, &Event::Take)
+    }
+
+    /// A user asks where the message of this number stands: what the set answers. The seat has a receipt of it.
+    ///
+    /// Faults, after which the seat is as it was: 2 [`SetFault::Exhausted`], 1 [`SetFault::NoMemory`].
+    pub fn find<R: Wait>(
+        &self,
+        rt: &R,
+        seat: &mut UserSeat<C, M, O, A>,
+        number: u64,
+    ) -> Result<Answer, SetFault>
+        ensures receipt { IfOk result (λ answer. Receives seat.old (Find number) answer seat.new) }
+        ensures err { OnErr result (seat.new ≡ seat.old) }
+    {
+        let _ = seat.number();
+        step_in(&mut *self.held.lock(rt), seat, &Event::Find { number })
+    }
+
+    /// One step of a terminal on its own link: what the set answers. The seat has a receipt of it.
+    ///
+    /// Faults, after which the seat is as it was: 2 [`SetFault::Exhausted`], 1 [`SetFault::NoMemory`].
+    pub fn term_step<R: Wait>(
+        &self,
+        rt: &R,
+        seat: &mut TermSeat<C, M, O, A>,
+        event: &Event,
+    ) -> Result<Answer, SetFault>
+        requires { IsOwn seat.old.who event.now }
+        ensures receipt { IfOk result (λ answer. Receives seat.old event.now answer seat.new) }
+        ensures err { OnErr result (seat.new ≡ seat.old) }
+    {
+        step_in(&mut *self.held.lock(rt), seat, event)
+    }
+
+    /// [`LinkSet::term_step`] that calls `held` once it has the lock.
+    pub fn term_step_held<R: Wait, F: FnOnce()>(
+        &self,
+        rt: &R,
+        seat: &mut TermSeat<C, M, O, A>,
+        event: &Event,
+        held: F,
+    ) -> Result<Answer, SetFault>
+        requires own { IsOwn seat.old.who event.now }
+        requires callable { F.IsAlwaysCallable held }
+        ensures receipt { IfOk result (λ answer. Receives seat.old event.now answer seat.new) }
+        ensures err { OnErr result (seat.new ≡ seat.old) }
+    {
+        let mut guard = self.held.lock(rt);
+        held();
+        step_in(&mut *guard, seat, event)
+    }
+
+    /// Ends a set with all its seats, under no lock: the history is legal, each seat's receipts are its entries in order, and
+    /// the totals are the sums of the shares. It takes no memory, and waits for nothing.
+    ///
+    /// Faults, which hand back the set, unlocked ([`LinkSet::of`] makes it shared again), and all seats:
+    /// 1 [`EndFault::Missing`] exactly where there isn't one seat for each user and each link of the set and no other; else
+    /// 2 [`EndFault::Strange`] exactly where the receipts of a seat aren't its entries.
+    pub fn close(
+        self,
+        users: Vec<UserSeat<C, M, O, A>>,
+        terminals: Vec<TermSeat<C, M, O, A>>,
+    ) -> Result<Closed, EndFault<C, M, O, A>>
+        ensures complete { OnOk result (is_complete self.users self.links users.items terminals.items ≡ true) }
+        ensures closed { IfOk result (λ closed. IsClosed users.items terminals.items (new_state closed.config) closed.history.items closed.books closed.counts) }
+        ensures back { IfErr result (λ fault. (held : HeldState) × (held.users ≡ self.users) × (held.links ≡ self.links)
+            × (fault ≡ (if is_complete self.users self.links users.items terminals.items then EndFault.Strange else EndFault.Missing)
+            (record { held = held; users = users; terminals = terminals }))
+            × (is_complete self.users self.links users.items terminals.items ≡ true → AreFaithful held.set.history users.items terminals.items → ⊥)) }
+    {
+        let held = self.held.into_inner();
+        let _ = held.users();
+        let _ = held.links();
+        match held.end(users, terminals) {
+            Ok(closed) => Ok(closed),
+            Err(fault) => Err(fault),
+        }
+    }
+}
