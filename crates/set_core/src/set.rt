@@ -12,8 +12,8 @@ const LONGEST_HISTORY: usize = 0x1_0000_0000_0000;
 
 /// One set of links. Contracts see what it held when it was opened, what it holds, and its history.
 ///
-/// Readers: [`SetCore::place_of`], [`SetCore::counts`], [`SetCore::books`], [`SetCore::history`],
-/// [`SetCore::config`], [`SetCore::links`], [`SetCore::is_up`], [`SetCore::is_settled`],
+/// Readers: [`SetCore::place_of`], [`SetCore::counts`], [`SetCore::books`], [`SetCore::acknowledged`],
+/// [`SetCore::history`], [`SetCore::config`], [`SetCore::links`], [`SetCore::is_up`], [`SetCore::is_settled`],
 /// [`SetCore::unacked_at`].
 /// The one input: [`SetCore::apply`].
 ///
@@ -168,6 +168,13 @@ impl SetCore {
             octets: self.tally.octets,
             acknowledged: self.core.counts().acked,
         }
+    }
+
+    /// How many of the users' messages are acknowledged, as [`SetCore::books`] tells it too.
+    pub fn acknowledged(&self) -> u64
+        ensures { result ≡ (books_of self.now.opening self.now.history).acknowledged }
+    {
+        self.core.counts().acked
     }
 
     /// All that was asked and answered, in order.

@@ -5,13 +5,14 @@ use Rattle.std.proofs.lemmas.List.{drop_all, length-drop}
 use Rattle.std.specs.Prelude.{if◌then◌else◌}
 use Rattle.set_events.specs.declared.answer.Counts.{Counts}
 use Rattle.set_events.specs.declared.books.Books.{Books}
+use Rattle.set_events.specs.declared.event.Actor.TheVariants.{User, Terminal}
 use Rattle.set_events.specs.declared.history.Entry.{Entry}
 use Rattle.set_model.specs.State.{State}
 use Rattle.set_model.specs.Rows.{counts_of}
 use Rattle.set_model.specs.History.{LinkSet, IsLegal, after, books_of}
 use Rattle.set_ledger.specs.declared.share.SeatShare.{SeatShare}
 use Rattle.set_ledger.specs.Seats.{SeatState}
-use Rattle.set_ledger.specs.Ending.{is_complete, AreFaithful, IsClosed, IsMerged}
+use Rattle.set_ledger.specs.Ending.{are_seats, is_complete, AreFaithful, IsClosed, IsMerged}
 use Rattle.set_ledger.specs.Totals.{AreTotals}
 
 -- nothing is left to be found, so all receipts were found if none of them is left
@@ -41,8 +42,8 @@ then_all false rest e = absurd cc
 
 pub complete_lengths : (users links : ℕ) (us ts : List SeatState) → is_complete users links us ts ≡ true → (length us ≡ users) × (length ts ≡ links)
 complete_lengths users links us ts e =
-    let user_seats = as_many _ _ e in
-    let term_seats = then_all _ _ e in
+    let user_seats : are_seats (λ seat. seat) User users us ≡ true = as_many _ (are_seats (λ seat. seat) Terminal links ts) e in
+    let term_seats : are_seats (λ seat. seat) Terminal links ts ≡ true = then_all (are_seats (λ seat. seat) User users us) _ e in
     let some : (length us == users) ≡ true = as_many _ _ user_seats in
     let more : (length ts == links) ≡ true = as_many _ _ term_seats in
     (grind (arith, nat_tests, some), grind (arith, nat_tests, more))
@@ -81,5 +82,5 @@ closes us ts set books counts calls messages octets acknowledged legal replays b
   calls = sym totals.calls_is ∙ c;
   messages = ap (λ (b : Books). b.messages) books_are ∙ sym totals.messages_is ∙ m;
   octets = ap (λ (b : Books). b.octets) books_are ∙ sym totals.octets_is ∙ o;
-  acknowledged = ap (λ (b : Books). b.acknowledged) books_are ∙ sym (ap (λ (state : State). (counts_of state.rows).acked) replays) ∙ sym totals.acknowledged_is ∙ a;
+  acknowledged = ap (λ (b : Books). b.acknowledged) books_are ∙ sym totals.acknowledged_is ∙ a;
 }

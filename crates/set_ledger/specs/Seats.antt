@@ -5,8 +5,7 @@ use Rattle.set_events.specs.declared.event.Actor.{Actor}
 use Rattle.set_events.specs.declared.event.Event.{Event}
 use Rattle.set_events.specs.declared.history.Entry.{Entry}
 use Rattle.set_ledger.specs.declared.share.SeatShare.{SeatShare}
-use Rattle.set_model.specs.History.{LinkSet, messages_of, octets_in_all}
-use Rattle.set_model.specs.Rows.{counts_of}
+use Rattle.set_model.specs.History.{LinkSet, books_of, messages_of, octets_in_all}
 use Rattle.set_model.specs.Step.{messages_in, octets_of}
 
 pub record SeatState : Type 0 where
@@ -35,9 +34,9 @@ pub record ShareGrows (old : SeatShare) (event : Event) (answer : Answer) (new :
   pub messages : new.messages ≡ old.messages + messages_in answer
   pub octets : new.octets ≡ old.octets + octets_of event answer
 
--- the users' messages that are acknowledged
+-- the users' messages that are acknowledged, by the books of the history
 abbrev pub acked_in : LinkSet → ℕ
-acked_in set = (counts_of set.state.rows).acked
+acked_in set = (books_of set.opening set.history).acknowledged
 
 -- A RECEIPT: the entry that was made stands last among the seat's, and its share grows by what that entry brought.
 pub record Receives (old : SeatState) (event : Event) (answer : Answer) (new : SeatState) : Type 0 where

@@ -150,7 +150,6 @@ impl<C: Ledger, M: Ledger, O: Ledger, A: Ledger> Held<C, M, O, A> {
         ensures exhausted { (result ≡ Err SetFault.Exhausted) ↔ (2 ^ 48 ≤ length self.old.set.history) }
         ensures err { OnErr result ((self.new ≡ self.old) × (shares.new.told ≡ shares.old.told)) }
     {
-        self.core.replays();
         let answer = self.core.apply(Actor::User(number), event)?;
         self.core.replays();
         let UserShares {
@@ -188,11 +187,10 @@ impl<C: Ledger, M: Ledger, O: Ledger, A: Ledger> Held<C, M, O, A> {
         ensures exhausted { (result ≡ Err SetFault.Exhausted) ↔ (2 ^ 48 ≤ length self.old.set.history) }
         ensures err { OnErr result ((self.new ≡ self.old) × (shares.new.told ≡ shares.old.told)) }
     {
-        self.core.replays();
-        let before = self.core.counts().acked;
+        let before = self.core.acknowledged();
         let answer = self.core.apply(Actor::Terminal(link), event)?;
         self.core.replays();
-        let gained = self.core.counts().acked - before;
+        let gained = self.core.acknowledged() - before;
         let TermShares {
             told,
             calls,

@@ -109,15 +109,9 @@ impl<C: Ledger, M: Ledger, O: Ledger, A: Ledger> Seat<C, M, O, A> for UserSeat<C
         let kept = event.try_copy()?;
         self.receipts.reserve(1)?;
         let answer = held.apply_of_user(self.number, &mut self.shares, event)?;
-        let receipt = Entry {
-            who: Actor::User(self.number),
-            event: kept,
-            answer: answer.copy(),
-        };
-        match self.receipts.push(receipt) {
-            Ok(()) => Ok(answer),
-            Err(_) => unreachable!(),
-        }
+        self.receipts
+            .push_reserved(receipt_of(Actor::User(self.number), kept, &answer));
+        Ok(answer)
     }
 }
 
@@ -140,15 +134,9 @@ impl<C: Ledger, M: Ledger, O: Ledger, A: Ledger> Seat<C, M, O, A> for TermSeat<C
         let kept = event.try_copy()?;
         self.receipts.reserve(1)?;
         let answer = held.apply_of_terminal(self.link, &mut self.shares, event)?;
-        let receipt = Entry {
-            who: Actor::Terminal(self.link),
-            event: kept,
-            answer: answer.copy(),
-        };
-        match self.receipts.push(receipt) {
-            Ok(()) => Ok(answer),
-            Err(_) => unreachable!(),
-        }
+        self.receipts
+            .push_reserved(receipt_of(Actor::Terminal(self.link), kept, &answer));
+        Ok(answer)
     }
 }
 
@@ -185,6 +173,17 @@ impl<C: Ledger, M: Ledger, O: Ledger, A: Ledger> TermSeat<C, M, O, A> {
     {
         let TermSeat { shares, .. } = self;
         shares
+    }
+}
+
+/// The receipt of a step: its entry.
+fn receipt_of(who: Actor, event: Event, answer: &Answer) -> Entry
+    ensures { result ≡ record { who = who; event = event; answer = answer.now } }
+{
+    Entry {
+        who,
+        event,
+        answer: answer.copy(),
     }
 }
 

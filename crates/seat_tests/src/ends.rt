@@ -1,0 +1,104 @@
+//! The end of a set that threads share.
+ghost use Rattle.std.specs.Prelude.{◌≡◌};
+ghost use Rattle.set_ledger.specs.Totals.{AreParts};
+
+use super::openings::{MESSAGE, blanks_of, config_of, holds};
+use set_events::{Answer, Event, SetConfig};
+use set_shared::{Blanks, EndFault, LinkSet, Opened, Seat, TermSeat, UserSeat};
+use std::alloc::Global;
+use std::cell::Cell;
+use std::marker::Brand;
+use std::sync::Wait;
+use std::sync::ledger::Ledger;
+use std::test::Fail;
+
+/// A user offers a message and finds it again.
+fn offers<C: Ledger, M: Ledger, O: Ledger, A: Ledger, R: Wait>(
+    rt: &R,
+    set: &LinkSet<C, M, O, A>,
+    seat: &mut UserSeat<C, M, O, A>,
+) -> Result<(), Fail> {
+    let Ok(Answer::Accepted { number }) = set.offer(rt, seat, &MESSAGE) else {
+        return Err(Fail::from("not accepted"));
+    };
+    let Ok(Answer::Found { .. }) = set.find(rt, seat, number) else {
+        return Err(Fail::from("not found"));
+    };
+    Ok(())
+}
+
+/// A terminal tells that its link is up, and what it was handed is called under the lock.
+fn rises<C: Ledger, M: Ledger, O: Ledger, A: Ledger, R: Wait>(
+    rt: &R,
+    set: &LinkSet<C, M, O, A>,
+    seat: &mut TermSeat<C, M, O, A>,
+) -> Result<(), Fail> {
+    let called = Cell::new(false);
+    let event = Event::Up { link: seat.link() };
+    match set.term_step_held(rt, seat, &event, || called.set(true)) {
+        Ok(answer) => holds(called.get() && answer.same(&Answer::Done)),
+        Err(_) => Err(Fail::from("no memory")),
+    }
+}
+
+/// A seat is kept back: the set comes back with the others, and ends once all are there.
+fn ends_once_complete<C: Ledger, M: Ledger, O: Ledger, A: Ledger>(
+    alloc: Global,
+    set: LinkSet<C, M, O, A>,
+    users: Vec<UserSeat<C, M, O, A>>,
+    terminals: Vec<TermSeat<C, M, O, A>>,
+) -> Result<(), Fail> {
+    let mut users = users;
+    let Some(kept) = users.pop() else {
+        return Err(Fail::from("no seat"));
+    };
+    let Err(EndFault::Missing(back)) = set.close(users, terminals) else {
+        return Err(Fail::from("not missing"));
+    };
+    holds(back.users.len() == 1 && back.terminals.len() == 1)?;
+    let again = LinkSet::of(alloc, back.held);
+    let mut all = back.users;
+    if all.push(kept).is_err() {
+        return Err(Fail::from("no memory"));
+    }
+    match again.close(all, back.terminals) {
+        Ok(closed) => holds(closed.books.messages == 2 && closed.history.len() == 5),
+        Err(_) => Err(Fail::from("not ended")),
+    }
+}
+
+/// Two users and the terminal of one link, in one thread.
+fn two_users<C: Ledger, M: Ledger, O: Ledger, A: Ledger, R: Wait>(
+    rt: &R,
+    alloc: Global,
+    config: &SetConfig,
+    blanks: Blanks,
+) -> Result<(), Fail>
+    requires calls { (blanks.calls.name ≡ C.name) × (blanks.calls.parts ≡ C.parts) }
+    requires messages { (blanks.messages.name ≡ M.name) × (blanks.messages.parts ≡ M.parts) }
+    requires octets { (blanks.octets.name ≡ O.name) × (blanks.octets.parts ≡ O.parts) }
+    requires acknowledged { (blanks.acknowledged.name ≡ A.name) × (blanks.acknowledged.parts ≡ A.parts) }
+    requires parts { AreParts C.parts M.parts O.parts A.parts 2 config.now.links }
+{
+    let Ok(opened) = LinkSet::<C, M, O, A>::create(alloc, config, 2, blanks) else {
+        return Err(Fail::from("not opened"));
+    };
+    let Opened {
+        set,
+        mut users,
+        mut terminals,
+    } = opened;
+    for seat in users.iter_mut() {
+        offers(rt, &set, seat)?;
+    }
+    for seat in terminals.iter_mut() {
+        rises(rt, &set, seat)?;
+    }
+    ends_once_complete(alloc, set, users, terminals)
+}
+
+#[test]
+fn a_set_ends_once_all_seats_are_back(rt: HostRuntime) -> Result<(), Fail> {
+    let config = config_of()?;
+    two_users::<Brand, Brand, Brand, Brand, HostRuntime>(&rt, rt.alloc(), &config, blanks_of(2))
+}

@@ -1,0 +1,45 @@
+//! What the tests open sets with, and ask through.
+ghost use Rattle.std.specs.Prelude.{◌≡◌, ◌<◌, ◌+◌, IfOk};
+
+use set_events::{Method, SetConfig};
+use set_ledger::Blanks;
+use std::sync::ledger::Blank;
+use std::test::Fail;
+
+/// The octets of a message of stream 3.
+pub(crate) const MESSAGE: [u8; 5] = [0x85, 1, 0x80, 0, 0x30];
+
+/// A set of one link.
+pub(crate) fn config_of() -> Result<SetConfig, Fail>
+    ensures { IfOk result (λ config. config.links ≡ 1) }
+{
+    match SetConfig::new(0, 1, 2, 1, 0x80, Method::Basic) {
+        Ok(config) => Ok(config),
+        Err(_) => Err(Fail::from("refused")),
+    }
+}
+
+/// Blanks for a set of one link and so many users.
+pub(crate) fn blanks_of(users: u64) -> Blanks
+    requires { users < 100 }
+    ensures calls { result.calls.parts ≡ users + 1 }
+    ensures messages { result.messages.parts ≡ users }
+    ensures octets { result.octets.parts ≡ users }
+    ensures acknowledged { result.acknowledged.parts ≡ 1 }
+{
+    Blanks {
+        calls: Blank::new(users + 1),
+        messages: Blank::new(users),
+        octets: Blank::new(users),
+        acknowledged: Blank::new(1),
+    }
+}
+
+/// So it is.
+pub(crate) fn holds(fact: bool) -> Result<(), Fail> {
+    if fact {
+        Ok(())
+    } else {
+        Err(Fail::from("it isn't so"))
+    }
+}

@@ -1,0 +1,85 @@
+//! Seats at a set that no thread shares.
+ghost use Rattle.std.specs.Prelude.{◌≡◌, ◌<◌, ◌+◌, ◌⊎◌, IfOk};
+ghost use Rattle.set_ledger.specs.Totals.{AreParts};
+
+use super::openings::{MESSAGE, blanks_of, config_of, holds};
+use set_events::{Actor, Answer, Body, Event, SetConfig};
+use set_ledger::{Blanks, CreateFault, Held, Opened, Seat, UserSeat, step_in};
+use std::alloc::Global;
+use std::marker::Brand;
+use std::sync::ledger::Ledger;
+use std::test::Fail;
+
+/// The seat offers a message: what the set answers.
+fn offered<C: Ledger, M: Ledger, O: Ledger, A: Ledger>(
+    alloc: Global,
+    held: &mut Held<C, M, O, A>,
+    seat: &mut UserSeat<C, M, O, A>,
+) -> Result<Answer, Fail> {
+    let _ = seat.number();
+    let event = Event::Offer {
+        body: Body::from_slice(alloc, &MESSAGE)?,
+    };
+    match step_in(held, seat, &event) {
+        Ok(answer) => Ok(answer),
+        Err(_) => Err(Fail::from("no memory")),
+    }
+}
+
+/// One user offers one message: the receipt, the share and the end tell it.
+fn one_message<C: Ledger, M: Ledger, O: Ledger, A: Ledger>(
+    alloc: Global,
+    config: &SetConfig,
+    blanks: Blanks,
+) -> Result<(), Fail>
+    requires calls { (blanks.calls.name ≡ C.name) × (blanks.calls.parts ≡ C.parts) }
+    requires messages { (blanks.messages.name ≡ M.name) × (blanks.messages.parts ≡ M.parts) }
+    requires octets { (blanks.octets.name ≡ O.name) × (blanks.octets.parts ≡ O.parts) }
+    requires acknowledged { (blanks.acknowledged.name ≡ A.name) × (blanks.acknowledged.parts ≡ A.parts) }
+    requires parts { AreParts C.parts M.parts O.parts A.parts 1 config.now.links }
+{
+    let Ok(opened) = Held::<C, M, O, A>::open(alloc, config, 1, blanks) else {
+        return Err(Fail::from("not opened"));
+    };
+    let Opened {
+        mut held,
+        mut users,
+        terminals,
+    } = opened;
+    let Some(seat) = users.first_mut() else {
+        return Err(Fail::from("no seat"));
+    };
+    holds(seat.actor() == Actor::User(0))?;
+    let answer = offered(alloc, &mut held, seat)?;
+    holds(answer.same(&Answer::Accepted { number: 0 }))?;
+    holds(seat.receipts().len() == 1 && seat.share().octets == 5)?;
+    match held.end(users, terminals) {
+        Ok(closed) => holds(
+            closed.books.messages == 1 && closed.books.octets == 5 && closed.history.len() == 1,
+        ),
+        Err(_) => Err(Fail::from("not ended")),
+    }
+}
+
+#[test]
+fn a_step_has_its_receipt(rt: HostRuntime) -> Result<(), Fail> {
+    let config = config_of()?;
+    one_message::<Brand, Brand, Brand, Brand>(rt.alloc(), &config, blanks_of(1))
+}
+
+/// A set isn't opened for so many users.
+fn is_refused(alloc: Global, users: u16) -> Result<(), Fail>
+    requires { (users ≡ 0) ⊎ (64 < users) }
+{
+    let config = config_of()?;
+    match Held::<Brand, Brand, Brand, Brand>::open(alloc, &config, users, blanks_of(1)) {
+        Ok(_) => Err(Fail::from("opened")),
+        Err(fault) => holds(fault == CreateFault::Users && fault.number() == 2),
+    }
+}
+
+#[test]
+fn a_set_has_1_to_64_users(rt: HostRuntime) -> Result<(), Fail> {
+    is_refused(rt.alloc(), 0)?;
+    is_refused(rt.alloc(), 65)
+}
