@@ -7,15 +7,16 @@ use Rattle.l2_bits.specs.declared.marks.Mark.{Mark}
 use Rattle.l2_bits.specs.LineBits.{bits_of, line_bits}
 use Rattle.l2_bits.proofs.BitLemmas.{length-bits_of}
 use Rattle.l2_bits.proofs.OctetLemmas.{length-line_bits}
-use Rattle.printing.specs.declared.fault.Fault.{Fault}
-use Rattle.printing.specs.declared.fault.Fault.TheVariants.{Text, Step, Octet, Memory, Exhausted, Read, Write}
+use Rattle.printing.specs.declared.fault.Stop.{Stop}
+use Rattle.printing.specs.declared.fault.Stop.TheVariants.{Input, Memory}
 use Rattle.units_text.specs.declared.digit.Digit.{Digit}
 use Rattle.units_text.specs.declared.units_reading.UnitsReader.{UnitsReader}
+use Rattle.units_text.specs.declared.fault.UnreadableOctet.{UnreadableOctet}
 use Rattle.figures.specs.Figures.{hex_value}
-use Rattle.printing.specs.Printing.{Printed, ReadsOrStops, EndsIn as EndsAsTextIn, Ends as EndsAsText}
+use Rattle.printing.specs.Printing.{Printed, IsBegun, ReadsOrStops, Ends as EndsAsText}
 use Rattle.printing.proofs.PrintLemmas.{begun_of_end}
 use Rattle.units_text.specs.UnitsText.{IsUnitsText, is_blank, readable, values_of, paired, left_over, octets_in, fault_place, marks_text, counts_of, counts_text, with_end}
-use Rattle.units_text.specs.UnitsReading.{Feeds, Breaks, HasRead, IsBegun, EndsIn, Reads, Stops, Ends}
+use Rattle.units_text.specs.UnitsReading.{Feeds, Breaks, HasRead, Reads, Stops, Ends}
 use Rattle.units_text.proofs.UnitsLemmas.{line_begins, one_text}
 
 -- Digits.
@@ -166,22 +167,20 @@ pub stops_second : (old : UnitsReader) (c h v : ℕ) (before after : List ℕ) �
 stops_second old c h v before after value high_is breaks = record {
   printed = breaks.printed;
   added = breaks.added;
-  of_text = tt;
   ends = λ past lines fits has left played text.
       let odd : left_over (values_of past) ≡ Some h = sym has.digit ∙ high_is in
       let begins =
       breaks.begins (line_bits (paired (values_of past))) lines (few_bits past (16 * h + v) (omega (arith, fits))) has.line (line_bits (paired (values_of (readable left)))) text.marks
       (rw (second_bits past left c h v has.all_readable value odd) at text.are) in
       let rest = printed_begins (fault_place (past ++ c ∷ left)) text.marks (lines ++ breaks.printed) begins.0 begins.1 in
-      (rest.0, ap (λ (p : Printed). p.printed) text.played_is ∙ rest.1);
+      (rest.0, ap (λ (p : Printed UnreadableOctet). p.printed) text.played_is ∙ rest.1);
 }
 
 -- a character that can't be read
-pub stops_bad : (old : UnitsReader) (c : ℕ) (before : List ℕ) → is_blank c ≡ false → hex_value c ≡ None → Stops (Octet old.place) old (c ∷ []) before before
+pub stops_bad : (old : UnitsReader) (c : ℕ) (before : List ℕ) → is_blank c ≡ false → hex_value c ≡ None → Stops (Input (record { place = old.place })) old (c ∷ []) before before
 stops_bad old c before no_blank no_digit = record {
   printed = [];
   added = sym (append-nil before);
-  of_text = tt;
   ends = λ past lines fits has left.
       let front : readable (past ++ c ∷ left) ≡ past =
       readable_front past (c ∷ left) has.all_readable ∙ ap (λ (cs : List ℕ). past ++ cs) (bad_front c left no_blank no_digit) ∙ append-nil past in
@@ -190,7 +189,7 @@ stops_bad old c before no_blank no_digit = record {
       record {
         marks = has.line.marks;
         are = rw front has.line.are;
-        played_is = rw (place, append-nil lines) (ap (λ (printed : List ℕ). record { printed = printed; fault = Some (Octet old.place) }) has.line.printed);
+        played_is = rw (place, append-nil lines) (ap (λ (printed : List ℕ). record { printed = printed; fault = Some (record { place = old.place }) }) has.line.printed);
       };
 }
 
@@ -201,17 +200,16 @@ ends_at past high all e =
     let inside : nat_lt (length past) (length past) ≡ false = grind (arith, nat_tests) in
     rw (all, inside, ← e) refl
 
-pub ends_left : (reader : UnitsReader) (before : List ℕ) → is_some reader.high ≡ true → Ends (Err (Octet reader.place)) reader before before
+pub ends_left : (reader : UnitsReader) (before : List ℕ) → is_some reader.high ≡ true → Ends (Err (Input (record { place = reader.place }))) reader before before
 ends_left reader before some = record {
   printed = [];
   added = sym (append-nil before);
-  of_text = tt;
   ends = λ past lines fits has.
       let place : fault_place past ≡ Some reader.place = go reader.high some past has.all_readable has.digit ∙ ap Some (sym has.place) in
       record {
         marks = has.line.marks;
         are = rw has.all_readable has.line.are;
-        played_is = rw (place, append-nil lines) (ap (λ (printed : List ℕ). record { printed = printed; fault = Some (Octet reader.place) }) has.line.printed);
+        played_is = rw (place, append-nil lines) (ap (λ (printed : List ℕ). record { printed = printed; fault = Some (record { place = reader.place }) }) has.line.printed);
       };
 }
   where
@@ -240,11 +238,10 @@ reads_then a b d c cs x y z f g = record {
       (f.goes_on past lines (omega (arith, fits)) has));
 }
 
-pub reads_stops : (fault : Fault) (a b : UnitsReader) (c : ℕ) (cs : List ℕ) (x y z : List ℕ) → Reads a (c ∷ []) x y b → Stops fault b cs y z → Stops fault a (c ∷ cs) x z
-reads_stops fault a b c cs x y z f g = record {
+pub reads_stops : (stop : Stop UnreadableOctet) (a b : UnitsReader) (c : ℕ) (cs : List ℕ) (x y z : List ℕ) → Reads a (c ∷ []) x y b → Stops stop b cs y z → Stops stop a (c ∷ cs) x z
+reads_stops stop a b c cs x y z f g = record {
   printed = f.printed ++ g.printed;
   added = g.added ∙ ap (λ (front : List ℕ). front ++ g.printed) f.added ∙ append_assoc x f.printed g.printed;
-  of_text = g.of_text;
   ends = λ past lines fits has left.
       let past_is : (past ++ c ∷ []) ++ (cs ++ left) ≡ past ++ c ∷ (cs ++ left) = append_assoc past (c ∷ []) (cs ++ left) in
       let lines_are : (lines ++ f.printed) ++ g.printed ≡ lines ++ (f.printed ++ g.printed) = append_assoc lines f.printed g.printed in
@@ -253,11 +250,10 @@ reads_stops fault a b c cs x y z f g = record {
       (f.goes_on past lines (omega (arith, fits)) has) left);
 }
 
-pub stops_more : (fault : Fault) (a : UnitsReader) (c : ℕ) (cs : List ℕ) (x z : List ℕ) → Stops fault a (c ∷ []) x z → Stops fault a (c ∷ cs) x z
-stops_more fault a c cs x z stops = record {
+pub stops_more : (stop : Stop UnreadableOctet) (a : UnitsReader) (c : ℕ) (cs : List ℕ) (x z : List ℕ) → Stops stop a (c ∷ []) x z → Stops stop a (c ∷ cs) x z
+stops_more stop a c cs x z stops = record {
   printed = stops.printed;
   added = stops.added;
-  of_text = stops.of_text;
   ends = λ past lines fits has left. stops.ends past lines (omega (arith, fits)) has (cs ++ left);
 }
 
@@ -279,18 +275,17 @@ past_bits past left all =
       rw (readable_front past left all, values_front past (readable left), rest.1) (flat_map-append (bits_of 8) (paired (values_of past)) rest.0),
     )
 
-has_begun : (past lines left : List ℕ) (reader : UnitsReader) → HasRead past lines reader → IsBegun (past ++ left) lines
+has_begun : (past lines left : List ℕ) (reader : UnitsReader) → HasRead past lines reader → IsBegun (IsUnitsText (past ++ left)) lines
 has_begun past lines left reader has = λ played text.
     let bits = past_bits past left has.all_readable in
     let begins = line_begins (line_bits (paired (values_of past))) bits.0 lines reader.line has.line text.marks (rw bits.1 at text.are) in
     let rest = printed_begins (fault_place (past ++ left)) text.marks lines begins.0 begins.1 in
-    (rest.0, ap (λ (p : Printed). p.printed) text.played_is ∙ rest.1)
+    (rest.0, ap (λ (p : Printed UnreadableOctet). p.printed) text.played_is ∙ rest.1)
 
 pub ends_memory : (reader : UnitsReader) (before after : List ℕ) → after ≡ before → Ends (Err Memory) reader before after
 ends_memory reader before after same = record {
   printed = [];
   added = same ∙ sym (append-nil before);
-  of_text = tt;
   ends = λ past lines fits has.
       let here : past ++ [] ≡ past = append-nil past in
       rw (append-nil lines) (rw here at (has_begun past lines [] reader has));
@@ -298,16 +293,7 @@ ends_memory reader before after same = record {
 
 -- As a text that is printed while another is read.
 
-ends_in : (fault : Fault) (input printed : List ℕ) → EndsIn fault input printed → EndsAsTextIn fault (IsUnitsText input) printed
-ends_in (Text line) input printed e = absurd e
-ends_in (Step line) input printed e = absurd e
-ends_in (Octet place) input printed e = e
-ends_in Memory input printed e = e
-ends_in Exhausted input printed e = absurd e
-ends_in Read input printed e = absurd e
-ends_in Write input printed e = absurd e
-
-pub units_reads : (result : Result (Unit {0}) Fault) (old new : UnitsReader) (octets before after : List ℕ) → MatchResult result (λ done. Reads old octets before after new) (λ fault. Stops fault old octets before after)
+pub units_reads : (result : Result (Unit {0}) (Stop UnreadableOctet)) (old new : UnitsReader) (octets before after : List ℕ) → MatchResult result (λ done. Reads old octets before after new) (λ stop. Stops stop old octets before after)
     → ReadsOrStops IsUnitsText result (λ past lines. HasRead past lines old) octets before after (λ past lines. HasRead past lines new)
 units_reads (Ok done) old new octets before after f = record {
   printed = f.printed;
@@ -315,27 +301,24 @@ units_reads (Ok done) old new octets before after f = record {
   goes_on = f.goes_on;
   begun = λ past lines fits has left. rw (← append_assoc past octets left) (has_begun (past ++ octets) (lines ++ f.printed) left new (f.goes_on past lines fits has));
 }
-units_reads (Err fault) old new octets before after f = record {
+units_reads (Err stop) old new octets before after f = record {
   printed = f.printed;
   added = f.added;
-  of_text = f.of_text;
-  ends = λ past lines fits has left. ends_in fault (past ++ (octets ++ left)) (lines ++ f.printed) (f.ends past lines fits has left);
+  ends = f.ends;
   begun = λ past lines fits has left.
-      begun_of_end fault (IsUnitsText (past ++ (octets ++ left))) (lines ++ f.printed) (one_text (past ++ (octets ++ left))) (ends_in fault (past ++ (octets ++ left)) (lines ++ f.printed) (f.ends past lines fits has left));
+      begun_of_end stop (IsUnitsText (past ++ (octets ++ left))) (lines ++ f.printed) (one_text (past ++ (octets ++ left))) (f.ends past lines fits has left);
 }
 
-pub units_ends : (result : Result (Unit {0}) Fault) (old : UnitsReader) (before after : List ℕ) → Ends result old before after → EndsAsText IsUnitsText result (λ past lines. HasRead past lines old) before after
+pub units_ends : (result : Result (Unit {0}) (Stop UnreadableOctet)) (old : UnitsReader) (before after : List ℕ) → Ends result old before after → EndsAsText IsUnitsText result (λ past lines. HasRead past lines old) before after
 units_ends (Ok done) old before after f = record {
   printed = f.printed;
   added = f.added;
-  of_text = tt;
   ends = f.ends;
-  begun = λ past lines fits has text is. ([], ap (λ (t : Printed). t.printed) (one_text past text _ is (f.ends past lines fits has)) ∙ sym (append-nil (lines ++ f.printed)));
+  begun = λ past lines fits has text is. ([], ap (λ (t : Printed UnreadableOctet). t.printed) (one_text past text _ is (f.ends past lines fits has)) ∙ sym (append-nil (lines ++ f.printed)));
 }
-units_ends (Err fault) old before after f = record {
+units_ends (Err stop) old before after f = record {
   printed = f.printed;
   added = f.added;
-  of_text = f.of_text;
-  ends = λ past lines fits has. ends_in fault past (lines ++ f.printed) (f.ends past lines fits has);
-  begun = λ past lines fits has. begun_of_end fault (IsUnitsText past) (lines ++ f.printed) (one_text past) (ends_in fault past (lines ++ f.printed) (f.ends past lines fits has));
+  ends = f.ends;
+  begun = λ past lines fits has. begun_of_end stop (IsUnitsText past) (lines ++ f.printed) (one_text past) (f.ends past lines fits has);
 }

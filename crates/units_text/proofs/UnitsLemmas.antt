@@ -9,11 +9,12 @@ use Rattle.l2_bits.specs.Deframing.{StandsFor, FeedsUpTo}
 use Rattle.l2_bits.proofs.MarkLemmas.{mark_alone, marks_alone, marks-append}
 use Rattle.units_text.specs.declared.marked_line.MarkedLine.{MarkedLine}
 use Rattle.printing.specs.Printing.{Printed}
+use Rattle.units_text.specs.declared.fault.UnreadableOctet.{UnreadableOctet}
 use Rattle.units_text.specs.UnitsText.{IsUnitsText, mark_text, marks_text, counts_of, with_end, fault_place}
 use Rattle.units_text.specs.UnitsReading.{IsLine, Begins, Feeds, FeedsFirst, Breaks}
 
 -- an input has one text
-pub one_text : (input : List ℕ) (a b : Printed) → IsUnitsText input a → IsUnitsText input b → a ≡ b
+pub one_text : (input : List ℕ) (a b : Printed UnreadableOctet) → IsUnitsText input a → IsUnitsText input b → a ≡ b
 one_text input a b p q = p.played_is ∙ ap (with_end (fault_place input)) (marks_alone [] _ p.marks q.marks p.are q.are) ∙ sym q.played_is
 
 -- a bit gives one mark at most

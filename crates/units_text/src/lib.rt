@@ -14,6 +14,7 @@
 #![tactic(auto)]
 
 mod digit;
+mod fault;
 mod marked_line;
 #[cfg(test)]
 mod tests;
@@ -21,5 +22,6 @@ mod text;
 mod unit_lines;
 mod units_reading;
 
+pub use fault::UnreadableOctet;
 pub use text::units;
 pub use unit_lines::one_units_text;

@@ -1,5 +1,6 @@
 use Rattle.std.proofs.Common.{List, ℕ, drop}
-use Rattle.printing.specs.declared.fault.Fault.{Fault}
+use Rattle.printing.specs.declared.fault.Stop.{Stop}
+use Rattle.units_text.specs.declared.fault.UnreadableOctet.{UnreadableOctet}
 use Rattle.units_text.specs.declared.units_reading.UnitsReader.{UnitsReader}
 use Rattle.units_text.specs.UnitsReading.{Reads, Stops}
 use Rattle.units_text.proofs.units_reading.UnitsReader.read_all.Given as goal
@@ -9,6 +10,6 @@ abbrev pub invariant-loop-octet : goal.invariant-loop-octet
 invariant-loop-octet l = record {
   reads : (after : List ℕ) (new : UnitsReader) → Reads l.self (drop l.octet-index l.octets) l.out.items after new
       → Reads l.initial.self l.octets l.initial.out.items after new;
-  stops : (fault : Fault) (after : List ℕ) → Stops fault l.self (drop l.octet-index l.octets) l.out.items after
-      → Stops fault l.initial.self l.octets l.initial.out.items after;
+  stops : (stop : Stop UnreadableOctet) (after : List ℕ) → Stops stop l.self (drop l.octet-index l.octets) l.out.items after
+      → Stops stop l.initial.self l.octets l.initial.out.items after;
 }
