@@ -44,23 +44,7 @@ line_begins bits left lines line is = λ all are.
       ap marks_text split.1 ∙ flat_map-append mark_text is.marks split.0 ∙ ap (λ (front : List ℕ). front ++ marks_text split.0) (sym is.printed),
     )
 
--- bits that give no mark
-pub feeds_passed : (old new : MarkedLine) (bits : List Bool) (before : List ℕ)
-    → ((past : List Bool) → StandsFor past old.deframer → StandsFor (past ++ bits) new.deframer)
-    → ((past : List Bool) → StandsFor past old.deframer → AreMarks past bits [])
-    → new.counts ≡ old.counts → Feeds old bits before before new
-feeds_passed old new bits before stands none same = record {
-  printed = [];
-  added = sym (append-nil before);
-  goes_on = λ past lines fits line. record {
-    marks = line.marks;
-    are = rw append-nil at (marks-append [] past bits line.marks [] line.are (none past line.deframed));
-    printed = append-nil lines ∙ line.printed;
-    counted = same ∙ line.counted;
-    deframed = stands past line.deframed;
-  };
-}
-
+-- nothing is fed
 pub feeds_none : (line : MarkedLine) (before : List ℕ) → Feeds line [] before before line
 feeds_none line before = record {
   printed = [];

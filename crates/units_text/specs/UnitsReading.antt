@@ -1,16 +1,18 @@
 -- What a reader of `units` under way stands for, and what calls on it print.
-use Rattle.std.specs.Prelude.{◌≡◌, ℕ, ◌+◌, ◌≤◌, ◌<◌, ◌^◌, Bool, List, [], ◌++◌, length, Result, MatchResult}
+use Rattle.std.specs.Prelude.{◌≡◌, ℕ, ◌+◌, ◌≤◌, ◌<◌, ◌^◌, Bool, List, [], ◌++◌, length, Some, Result, MatchResult}
 use Rattle.std.specs.Option.{option_map}
 use Rattle.l2_bits.specs.declared.marks.Mark.{Mark}
 use Rattle.l2_bits.specs.LineBits.{line_bits}
 use Rattle.l2_bits.specs.Marks.{AreMarks}
 use Rattle.l2_bits.specs.Deframing.{StandsFor}
 use Rattle.printing.specs.declared.fault.Stop.{Stop}
+use Rattle.printing.specs.declared.fault.Stop.TheVariants.{Input, Memory}
+use Rattle.units_text.specs.declared.digits.Digits.{Digits}
 use Rattle.units_text.specs.declared.marked_line.MarkedLine.{MarkedLine}
 use Rattle.units_text.specs.declared.units_reading.UnitsReader.{UnitsReader}
 use Rattle.units_text.specs.declared.fault.UnreadableOctet.{UnreadableOctet}
 use Rattle.printing.specs.Printing.{IsWhole, StopsIn}
-use Rattle.units_text.specs.UnitsText.{IsUnitsText, readable, values_of, paired, left_over, marks_text, counts_of}
+use Rattle.units_text.specs.UnitsText.{IsUnitsText, readable, values_of, paired, left_over, octets_in, fault_place, marks_text, counts_of}
 
 -- The line.
 
@@ -50,11 +52,36 @@ pub record FeedsFirst (old : MarkedLine) (bits : List Bool) (before : List ℕ) 
 
 -- The input.
 
+-- the characters of an input: this was read without a fault
+pub record HasDigits (past : List ℕ) (digits : Digits) : Type 0 where
+  pub all_readable : readable past ≡ past
+  pub place : digits.place ≡ length past
+  pub digit : option_map (λ digit. digit.value) digits.high ≡ left_over (values_of past)
+
+-- these were read, and the octets that they complete were added; an input has at most 2^24 characters
+pub record Decodes (old : Digits) (text before after : List ℕ) (new : Digits) : Type 0 where
+  pub octets : List ℕ
+  pub added : after ≡ before ++ octets
+  pub few : length octets ≤ length text
+  pub goes_on : (past : List ℕ) → length past + length text ≤ 2 ^ 24 → HasDigits past old
+      → HasDigits (past ++ text) new × (paired (values_of (past ++ text)) ≡ paired (values_of past) ++ octets)
+
+-- the input's octets are these up to the fault; where memory was wanted, they begin so
+abbrev pub HaltsIn : Stop UnreadableOctet → List ℕ → List ℕ → Type 0
+HaltsIn (Input fault) input octets = (octets_in input ≡ octets) × (fault_place input ≡ Some fault.place)
+HaltsIn Memory input octets = (more : List ℕ) × (octets_in input ≡ octets ++ more)
+
+-- among these it stopped, whatever follows, and the octets before were added
+pub record Halts (stop : Stop UnreadableOctet) (old : Digits) (text before after : List ℕ) : Type 0 where
+  pub octets : List ℕ
+  pub added : after ≡ before ++ octets
+  pub few : length octets ≤ length text
+  pub ends : (past : List ℕ) → length past + length text ≤ 2 ^ 24 → HasDigits past old
+      → (left : List ℕ) → HaltsIn stop (past ++ (text ++ left)) (paired (values_of past) ++ octets)
+
 -- the reader has read this without a fault, and has printed these lines
 pub record HasRead (past lines : List ℕ) (reader : UnitsReader) : Type 0 where
-  pub all_readable : readable past ≡ past
-  pub place : reader.place ≡ length past
-  pub digit : option_map (λ digit. digit.value) reader.high ≡ left_over (values_of past)
+  pub digits : HasDigits past reader.digits
   pub line : IsLine (line_bits (paired (values_of past))) lines reader.line
 
 -- these octets were read, and what they print was added; an input has at most 2^24 octets
