@@ -213,8 +213,8 @@ impl Deframer {
         self.room -= u16::from(count);
     }
 
-    /// Takes the next of these bits up to the first that comes after five ones, and to the last but one with
-    /// which nothing can be counted.
+    /// Takes the next of these bits, up to the first that comes after five ones or with which something may be
+    /// counted.
     #[inline(always)]
     fn take_run(&mut self, rest: &mut Rest)
         ensures takes { (past : List Bool) → StandsFor past self.old →

@@ -6,9 +6,7 @@ use Rattle.command_line.specs.declared.words.Words.TheVariants.{Units, Play}
 use Rattle.printing.specs.declared.fault.Fault.{Fault}
 use Rattle.printing.specs.declared.fault.Fault.TheVariants.{Input, Memory, Read, Write}
 use Rattle.printing.specs.Printing.{Printed}
-use Rattle.play_text.specs.declared.fault.ScriptFault.{ScriptFault}
 use Rattle.play_text.specs.Playing.{IsPlayText}
-use Rattle.units_text.specs.declared.fault.UnreadableOctet.{UnreadableOctet}
 use Rattle.units_text.specs.UnitsText.{IsUnitsText}
 use Rattle.mtpbank.specs.declared.running.TextFault.{TextFault}
 use Rattle.mtpbank.specs.declared.running.TextFault.TheVariants.{Units as UnitsFault, Play as PlayFault}

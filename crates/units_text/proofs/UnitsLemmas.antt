@@ -44,14 +44,6 @@ line_begins bits left lines line is = λ all are.
       ap marks_text split.1 ∙ flat_map-append mark_text is.marks split.0 ∙ ap (λ (front : List ℕ). front ++ marks_text split.0) (sym is.printed),
     )
 
--- nothing is fed
-pub feeds_none : (line : MarkedLine) (before : List ℕ) → Feeds line [] before before line
-feeds_none line before = record {
-  printed = [];
-  added = sym (append-nil before);
-  goes_on = λ past lines fits is. rw (append-nil past, append-nil lines) is;
-}
-
 -- bits up to a mark
 module _ (old new : MarkedLine) (bits rest : List Bool) (mark : Option Mark)
     (fed : (past : List Bool) → StandsFor past old.deframer → FeedsUpTo past bits rest new.deframer mark)
