@@ -7,6 +7,7 @@ pub mod StuffingLemmas
 pub mod RunLemmas
 pub mod TakingOutLemmas
 pub mod ContentLemmas
+pub mod ByteLemmas
 pub mod PackingLemmas
 pub mod LineLemmas
 pub mod FlagLemmas

@@ -1,5 +1,5 @@
 -- Octets and their bits on the line, read back
-use Rattle.std.proofs.Common.{◌≡◌, ℕ, ◌+◌, ◌*◌, ◌/◌, ◌%◌, ◌^◌, ◌<◌, ◌≤◌, Bool, true, false, List, [], ◌∷◌, ◌++◌, length, take, drop, bit_or, All, refl, ap, sym, ◌∙◌, arith, append_assoc, length-append}
+use Rattle.std.proofs.Common.{◌≡◌, ℕ, ◌+◌, ◌-◌, ◌*◌, ◌/◌, ◌%◌, ◌^◌, ◌<◌, ◌≤◌, Bool, true, false, List, [], ◌∷◌, ◌++◌, length, take, drop, bit_or, All, refl, ap, sym, ◌∙◌, arith, append_assoc, length-append}
 use Rattle.std.proofs.lemmas.List.{take_at, drop_at, drop-append-le, drop-drop}
 use Rattle.std.proofs.lemmas.List.Elements.{All-head, All-tail}
 use Rattle.std.proofs.Math.Nat.{mod-eq_of_lt}
@@ -13,6 +13,13 @@ pub bits_of_mod : (k n : ℕ) → bits_of k (n % 2 ^ k) ≡ bits_of k n
 bits_of_mod k n =
     ap (bits_of k) (sym (number_of-bits_of k n))
     ∙ rw length-bits_of at (bits_of-number_of (bits_of k n))
+
+-- the first i of them
+pub first_bits : (i k n : ℕ) → i ≤ k → take i (bits_of k n) ≡ bits_of i n
+first_bits i k n within =
+    let split : k ≡ i + (k - i) = omega arith in
+    ap (λ (m : ℕ). take i (bits_of m n)) split ∙ ap (take i) (bits_of-add i (k - i) n)
+    ∙ take_at (bits_of i n) (bits_of (k - i) (n / 2 ^ i)) i (length-bits_of i n)
 
 -- a register of eight bits after one more: the lowest goes, the new one comes in at the top
 pub shifted_one : (register : ℕ) → register < 2 ^ 8

@@ -1,12 +1,12 @@
 -- Bits packed into octets as they come
-use Rattle.std.proofs.Common.{◌≡◌, ℕ, suc, ◌+◌, ◌-◌, ◌*◌, ◌/◌, ◌%◌, ◌^◌, ◌<◌, ◌≤◌, Bool, false, List, [], ◌∷◌, ◌++◌, length, take, drop, set, bit_and, bit_or, All, refl, ap, sym, ◌∙◌, arith, append_assoc, length-append}
-use Rattle.std.proofs.lemmas.List.{append-nil, take_at, drop_at, take-take, length-set, length-take-le}
-use Rattle.std.proofs.lemmas.List.Elements.{All-set, All-take}
-use Rattle.std.proofs.Math.Seq.{take-suc-set}
-use Rattle.std.proofs.Math.Nat.{mod-eq_of_lt, mul_comm, div-lt_iff_lt-mul}
+use Rattle.std.proofs.Common.{inl, inr, min, ◌≡◌, ℕ, ◌+◌, ◌-◌, ◌*◌, ◌/◌, ◌%◌, ◌^◌, ◌<◌, ◌≤◌, Bool, false, List, [], ◌∷◌, ◌++◌, length, take, drop, bit_and, bit_or, All, refl, ap, sym, ◌∙◌, arith, append_assoc, length-append}
+use Rattle.std.proofs.lemmas.List.{take_at, drop_at, take-take, length-take-le, length-drop}
+use Rattle.std.proofs.lemmas.List.Elements.{All-append, All-take, All-drop}
+use Rattle.std.proofs.lemmas.Bool.{cases_lt}
+use Rattle.std.specs.Int.{bytes_low_first}
+use Rattle.std.proofs.Math.Nat.{mod-eq_of_lt}
 use Rattle.std.proofs.Math.Pow.{pow_mono}
-use Rattle.std.proofs.lemmas.Nat.{mod-mul-add, div-mul-add, mul-add-lt, or_block, pow-add, pow_pos, and_mask}
-use Rattle.std.specs.Int.Bits.{or_zero_r, or_zero_l}
+use Rattle.std.proofs.lemmas.Nat.{mod-mul-add, div-mul-add, mul-add-lt, or_shifted, or_comm, shl_whole, shr_below, pow-add, and_mask}
 use Rattle.l2_bits.specs.declared.content.Content.{Content}
 use Rattle.l2_bits.specs.LineBits.{bits_of, number_of, line_bits}
 use Rattle.l2_bits.specs.Stuffing.{ones}
@@ -17,6 +17,7 @@ use Rattle.l2_bits.proofs.BitLemmas.{bits_of-add, length-bits_of, number_of-bits
 use Rattle.l2_bits.proofs.OctetLemmas.{IsOctet, bits_of_mod, line_bits-append, length-line_bits, octets_alone}
 use Rattle.l2_bits.proofs.SealedTextLemmas.{sealed_front, check_in_range}
 use Rattle.l2_bits.proofs.ContentLemmas.{good_length}
+use Rattle.l2_bits.proofs.ByteLemmas.{lowest_bytes, length-bytes, first_bytes, take_behind, bytes_in_range}
 
 -- a number's bits and then another's, in one number
 pub joined_bits : (more count part bits : ℕ) → part < 2 ^ more
@@ -32,26 +33,23 @@ joined_bits more count part bits fits =
 joined_fits : (more count part bits : ℕ) → part < 2 ^ more → bits < 2 ^ count → bits * 2 ^ more + part < 2 ^ (more + count)
 joined_fits more count part bits fits bits_fit = rw pow-add (mul-add-lt bits (2 ^ more) part (2 ^ count) bits_fit fits)
 
-module _ (old : Content) (content : List Bool) (bits count : ℕ) (holds : Holds content old) (few : count ≤ 8) (bits_fit : bits < 2 ^ count) where
-  -- the number that the code makes of them, and its parts
+-- the octets, with those of a number put at a place
+abbrev pub put_at : List ℕ → ℕ → ℕ → List ℕ
+put_at octets place whole = take place octets ++ (bytes_low_first 0 8 whole ++ drop (place + 8) octets)
+
+module _ (old : Content) (content : List Bool) (bits count : ℕ) (holds : Holds content old) (few : count ≤ 56) (bits_fit : bits < 2 ^ count) where
+  -- the number that the code makes of them
   pub same_more : bit_and old.more 7 ≡ old.more
   same_more = and_mask old.more 3 ∙ mod-eq_of_lt holds.less
 
-  pub whole_fits : bits * 2 ^ old.more + old.part < 2 ^ (old.more + count)
+  whole_fits : bits * 2 ^ old.more + old.part < 2 ^ (old.more + count)
   whole_fits = joined_fits old.more count old.part bits holds.part_fits bits_fit
 
-  pub whole_is : bit_or old.part (bits * 2 ^ bit_and old.more 7 % 65536) ≡ bits * 2 ^ old.more + old.part
+  pub whole_is : bit_or old.part (bits * 2 ^ bit_and old.more 7 % 2 ^ 64) ≡ bits * 2 ^ old.more + old.part
   whole_is =
-      let few_bits : old.more + count ≤ 15 = omega (arith, holds.less) in
-      let most : 2 ^ (old.more + count) ≤ 2 ^ 15 = pow_mono few_bits in
-      let no_more : bits * 2 ^ old.more % 65536 ≡ bits * 2 ^ old.more = mod-eq_of_lt (omega (arith, whole_fits)) in
-      let parts : bit_or (0 * 2 ^ old.more + old.part) (bits * 2 ^ old.more + 0) ≡ bit_or 0 bits * 2 ^ old.more + bit_or old.part 0 =
-      or_block old.more 0 bits old.part 0 holds.part_fits (pow_pos old.more) in
-      let left : 0 * 2 ^ old.more + old.part ≡ old.part = omega arith in
-      let right : bits * 2 ^ old.more + 0 ≡ bits * 2 ^ old.more = omega arith in
-      ap (λ (n : ℕ). bit_or old.part (bits * 2 ^ n % 65536)) same_more ∙ ap (bit_or old.part) no_more
-      ∙ ap (λ (n : ℕ). bit_or n (bits * 2 ^ old.more)) (sym left) ∙ ap (bit_or (0 * 2 ^ old.more + old.part)) (sym right) ∙ parts
-      ∙ rw (or_zero_l bits, or_zero_r old.part) refl
+      let no_more : bits * 2 ^ old.more % 2 ^ 64 ≡ bits * 2 ^ old.more = shl_whole bits count old.more 64 bits_fit (omega (arith, holds.less)) in
+      ap (λ (n : ℕ). bit_or old.part (bits * 2 ^ n % 2 ^ 64)) same_more ∙ ap (bit_or old.part) no_more
+      ∙ or_comm old.part (bits * 2 ^ old.more) ∙ or_shifted bits old.more old.part holds.part_fits
 
   content_joined : old.len < 279
       → content ++ bits_of count bits
@@ -64,89 +62,73 @@ module _ (old : Content) (content : List Bool) (bits count : ℕ) (holds : Holds
   longer : length (content ++ bits_of count bits) ≡ length content + count
   longer = length-append content (bits_of count bits) ∙ ap (λ (n : ℕ). length content + n) (length-bits_of count bits)
 
-  -- the parts that the code takes of it
-  pub low_part : bit_and (bit_or old.part (bits * 2 ^ bit_and old.more 7 % 65536)) 255 ≡ (bits * 2 ^ old.more + old.part) % 2 ^ 8
-  low_part = and_mask _ 8 ∙ ap (λ (n : ℕ). n % 2 ^ 8) whole_is
+  -- so many of them are whole octets, and so many bits are left
+  module _ (octets more part whole : ℕ) (is_whole : whole ≡ bits * 2 ^ old.more + old.part) (split : old.more + count ≡ 8 * octets + more) (less : more < 8) (is_part : part ≡ whole / 2 ^ (8 * octets) % 2 ^ 8) where
+    left_fits : whole / 2 ^ (8 * octets) < 2 ^ more
+    left_fits =
+        let turned : 8 * octets + more ≡ more + 8 * octets = omega arith in
+        shr_below whole more (8 * octets) (rw (← turned, ← split, is_whole) whole_fits)
 
-  pub short_part : old.more + count < 8 → bit_and (bit_or old.part (bits * 2 ^ bit_and old.more 7 % 65536)) 255 ≡ bits * 2 ^ old.more + old.part
-  short_part short =
-      let few_bits : old.more + count ≤ 8 = omega arith in
-      let most : 2 ^ (old.more + count) ≤ 2 ^ 8 = pow_mono few_bits in
-      low_part ∙ mod-eq_of_lt (omega (arith, whole_fits))
+    part_is : part ≡ whole / 2 ^ (8 * octets)
+    part_is =
+        let low : more ≤ 8 = omega (arith, less) in
+        let most : 2 ^ more ≤ 2 ^ 8 = pow_mono low in
+        is_part ∙ mod-eq_of_lt (omega (arith, left_fits))
 
-  pub high_part : bit_or old.part (bits * 2 ^ bit_and old.more 7 % 65536) / 256 ≡ (bits * 2 ^ old.more + old.part) / 2 ^ 8
-  high_part = ap (λ (n : ℕ). n / 2 ^ 8) whole_is
+    -- the bits of the whole octets and those that are left
+    bits_apart : bits_of (old.more + count) (bits * 2 ^ old.more + old.part) ≡ line_bits (bytes_low_first 0 octets whole) ++ bits_of more part
+    bits_apart =
+        ap (bits_of (old.more + count)) (sym is_whole) ∙ ap (λ (k : ℕ). bits_of k whole) split ∙ bits_of-add (8 * octets) more whole
+        ∙ ap (λ (front : List Bool). front ++ bits_of more (whole / 2 ^ (8 * octets))) (sym (lowest_bytes octets whole))
+        ∙ ap (λ (n : ℕ). line_bits (bytes_low_first 0 octets whole) ++ bits_of more n) (sym part_is)
 
-  -- no octet is whole
-  module _ (part more : ℕ) (is_part : part ≡ bits * 2 ^ old.more + old.part) (is_more : more ≡ old.more + count) (short : more < 8) where
-    pub added_part : Holds (content ++ bits_of count bits) (record { octets = old.octets; len = old.len; part = part; more = more })
-    added_part = record {
-      room = holds.room;
-      few = holds.few;
-      in_range = holds.in_range;
-      less = short;
-      part_fits = rw (is_part, is_more) whole_fits;
-      packed = λ below. rw (is_part, is_more) (content_joined below);
-      long = λ full. omega (arith, holds.long full, longer);
+    few_octets : octets ≤ 8
+    few_octets = omega (arith, holds.less)
+
+    room_kept : length (put_at old.octets old.len whole) ≡ 287
+    room_kept =
+        omega (
+          arith,
+          holds.room,
+          holds.few,
+          length-append (take old.len old.octets) (bytes_low_first 0 8 whole ++ drop (old.len + 8) old.octets),
+          length-append (bytes_low_first 0 8 whole) (drop (old.len + 8) old.octets),
+          length-take-le old.len old.octets (omega (arith, holds.room, holds.few)),
+          length-bytes 0 8 whole,
+          length-drop (old.len + 8) old.octets,
+        )
+
+    octets_more : take (old.len + octets) (put_at old.octets old.len whole) ≡ take old.len old.octets ++ bytes_low_first 0 octets whole
+    octets_more =
+        let front : length (take old.len old.octets) ≡ old.len = length-take-le old.len old.octets (omega (arith, holds.room, holds.few)) in
+        take_behind (take old.len old.octets) (bytes_low_first 0 8 whole ++ drop (old.len + 8) old.octets) old.len octets front
+        ∙ ap (λ (rest : List ℕ). take old.len old.octets ++ rest) (first_bytes octets whole (drop (old.len + 8) old.octets) few_octets)
+
+    pub added : (len : ℕ) → len ≡ min (old.len + octets) 279
+        → Holds (content ++ bits_of count bits) (record { octets = put_at old.octets old.len whole; len = len; part = part; more = more })
+    added len is_len = record {
+      room = room_kept;
+      few = omega (arith, is_len);
+      in_range =
+          All-append IsOctet (take old.len old.octets) (bytes_low_first 0 8 whole ++ drop (old.len + 8) old.octets) (All-take IsOctet old.len old.octets holds.in_range)
+          (All-append IsOctet (bytes_low_first 0 8 whole) (drop (old.len + 8) old.octets) (bytes_in_range 0 8 whole) (All-drop IsOctet (old.len + 8) old.octets holds.in_range));
+      less = less;
+      part_fits = rw part_is left_fits;
+      packed = λ below.
+          let below_before : old.len < 279 = omega (arith, is_len) in
+          let same : len ≡ old.len + octets = omega (arith, is_len) in
+          content_joined below_before ∙ ap (λ (rest : List Bool). line_bits (take old.len old.octets) ++ rest) bits_apart
+          ∙ sym (append_assoc (line_bits (take old.len old.octets)) (line_bits (bytes_low_first 0 octets whole)) (bits_of more part))
+          ∙ ap (λ (front : List Bool). front ++ bits_of more part) (sym (line_bits-append (take old.len old.octets) (bytes_low_first 0 octets whole)) ∙ ap line_bits (sym octets_more) ∙ ap (λ (n : ℕ). line_bits (take n (put_at old.octets old.len whole))) (sym same));
+      long = λ full. elim (cases_lt old.len 279) [
+        | inl below ↦
+            omega (arith, is_len, split, longer, ap length (holds.packed below), length-append (line_bits (take old.len old.octets)) (bits_of old.more old.part), length-line_bits (take old.len old.octets), length-take-le old.len old.octets (omega (arith, holds.room)), length-bits_of old.more old.part)
+        | inr all ↦ omega (arith, longer, holds.long (omega (arith, all, holds.few)))
+      ];
     }
-
-  -- an octet is whole
-  module _ (octet part more : ℕ) (is_octet : octet ≡ (bits * 2 ^ old.more + old.part) % 2 ^ 8)
-      (is_part : part ≡ (bits * 2 ^ old.more + old.part) / 2 ^ 8) (is_more : old.more + count ≡ 8 + more) where
-    rest_fits : part < 2 ^ more
-    rest_fits =
-        let wide : bits * 2 ^ old.more + old.part < 2 ^ more * 2 ^ 8 = rw (is_more, pow-add 2 8 more, mul_comm (2 ^ 8) (2 ^ more)) at whole_fits in
-        rw is_part ((div-lt_iff_lt-mul (pow_pos 8)).1 wide)
-
-    -- but there are too many
-    pub added_none : (len : ℕ) → len ≡ 279 → len ≡ old.len
-        → Holds (content ++ bits_of count bits) (record { octets = old.octets; len = len; part = part; more = more })
-    added_none len full same = record {
-      room = holds.room;
-      few = omega arith;
-      in_range = holds.in_range;
-      less = omega (arith, holds.less);
-      part_fits = rest_fits;
-      packed = λ below. absurd (omega arith);
-      long = λ _. omega (arith, holds.long (sym same ∙ full), longer);
-    }
-
-    octets_more : old.len < 279 → take (old.len + 1) (set old.octets old.len octet) ≡ take old.len old.octets ++ octet ∷ []
-    octets_more below =
-        let next : old.len + 1 ≡ suc old.len = omega arith in
-        rw next (take-suc-set old.octets old.len octet (omega (arith, holds.room)))
-
-    octet_fits : octet < 2 ^ 8
-    octet_fits = omega arith
-
-    pub added_octet : old.len < 279
-        → Holds (content ++ bits_of count bits) (record { octets = set old.octets old.len octet; len = old.len + 1; part = part; more = more })
-    added_octet below =
-        let all : content ++ bits_of count bits ≡ line_bits (take old.len old.octets ++ octet ∷ []) ++ bits_of more part =
-        content_joined below
-        ∙ ap (λ (n : ℕ). line_bits (take old.len old.octets) ++ bits_of n (bits * 2 ^ old.more + old.part)) is_more
-        ∙ ap (λ (rest : List Bool). line_bits (take old.len old.octets) ++ rest)
-        (bits_of-add 8 more (bits * 2 ^ old.more + old.part)
-        ∙ ap (λ (front : List Bool). front ++ bits_of more ((bits * 2 ^ old.more + old.part) / 2 ^ 8)) (sym (bits_of_mod 8 (bits * 2 ^ old.more + old.part)) ∙ ap (bits_of 8) (sym is_octet))
-        ∙ ap (λ (n : ℕ). bits_of 8 octet ++ bits_of more n) (sym is_part))
-        ∙ sym (append_assoc (line_bits (take old.len old.octets)) (bits_of 8 octet) (bits_of more part))
-        ∙ ap (λ (front : List Bool). front ++ bits_of more part)
-        (ap (λ (rest : List Bool). line_bits (take old.len old.octets) ++ rest) (sym (append-nil (bits_of 8 octet)))
-        ∙ sym (line_bits-append (take old.len old.octets) (octet ∷ []))) in
-        record {
-          room = length-set old.octets old.len octet ∙ holds.room;
-          few = omega arith;
-          in_range =
-              All-set IsOctet old.octets old.len octet octet_fits holds.in_range;
-          less = omega (arith, holds.less);
-          part_fits = rest_fits;
-          packed = λ _. rw (octets_more below) all;
-          long = λ full.
-              omega (arith, longer, ap length (holds.packed below), length-append (line_bits (take old.len old.octets)) (bits_of old.more old.part), length-line_bits (take old.len old.octets), length-take-le old.len old.octets (omega (arith, holds.room)), length-bits_of old.more old.part);
-        }
 
 -- no bits
-pub none_held : (content : Content) → length content.octets ≡ 279 → All IsOctet content.octets
+pub none_held : (content : Content) → length content.octets ≡ 287 → All IsOctet content.octets
     → Holds [] (record { octets = content.octets; len = 0; part = 0; more = 0 })
 unfolding bits_of
 none_held content room in_range = record {

@@ -2,7 +2,8 @@
 use Rattle.std.specs.Prelude.{◌≡◌, ℕ, ◌+◌, ◌*◌, ◌%◌, ◌^◌, ◌<◌, ◌≤◌, Bool, true, false, List, [], ◌∷◌, ◌++◌, length, take, All, Option, Some, None}
 use Rattle.l2_bits.specs.declared.content.Content.{Content}
 use Rattle.l2_bits.specs.declared.deframing.Deframer.{Deframer}
-use Rattle.l2_bits.specs.declared.deframing.Rest.{Rest}
+use Rattle.l2_bits.specs.declared.rest.Rest.{Rest}
+use Rattle.l2_bits.specs.declared.rest.Octets.{Octets}
 use Rattle.l2_bits.specs.declared.marks.Mark.{Mark}
 use Rattle.l2_bits.specs.declared.marks.Mark.TheVariants.{Good, Bad, Sixteen}
 use Rattle.l2_bits.specs.declared.marks.MarkKind.{MarkKind}
@@ -17,7 +18,7 @@ use Rattle.l2_bits.specs.OctetCounting.{Counts, IsAligned}
 
 -- these bits are packed into whole octets and a part of one, unless they are too many
 pub record Holds (bits : List Bool) (content : Content) : Type 0 where
-  pub room : length content.octets ≡ 279
+  pub room : length content.octets ≡ 287
   pub few : content.len ≤ 279
   pub in_range : All (λ octet. octet < 2 ^ 8) content.octets
   pub less : content.more < 8
@@ -79,9 +80,13 @@ mark_of (Some kind) octets = Some (marked kind octets)
 abbrev pub unit_of : Deframer → List ℕ
 unit_of deframer = take deframer.unit deframer.content.octets
 
--- the bits of an octet that are still to be fed
+-- the bits of an octet, or of a few, that are still to be fed
 abbrev pub rest_of : Rest → List Bool
 rest_of rest = bits_of rest.left rest.bits
+
+-- the bits of octets that are still to be fed
+abbrev pub left_in : Octets → List Bool
+left_in octets = rest_of octets.first ++ line_bits octets.others.now
 
 -- none of these bits comes after five ones, where those are the last eight before them
 abbrev pub NoneAfterFive : ℕ → List Bool → Type 0

@@ -14,6 +14,7 @@ ghost use Rattle.std.specs.Prelude.{
   ◌↔◌,
   IsTrue,
   ℕ,
+  ◌+◌,
   ◌-◌,
   ◌^◌,
   ◌<◌,
@@ -25,11 +26,13 @@ ghost use Rattle.std.specs.Prelude.{
   ◌++◌,
   length,
   take,
+  drop,
   IfSome,
   IfNone,
   true,
   false,
 };
+ghost use Rattle.std.specs.Int.{bytes_low_first};
 ghost use Rattle.l2_bits.specs.LineBits.{bits_of};
 ghost use Rattle.l2_bits.specs.SealedText.{sealed_text};
 ghost use Rattle.l2_bits.specs.Contents.{IsClosed};
@@ -41,6 +44,9 @@ use crate::check::check_of;
 /// no good unit can end at the next flag.
 const TOO_MANY: u16 = 279;
 
+/// Room for as many and for eight more, which are put there at once.
+const BUFFER: usize = 287;
+
 /// The part that the closing flag leaves.
 const FLAG_PART: u8 = 0b11_1110;
 
@@ -48,7 +54,7 @@ const FLAG_PART: u8 = 0b11_1110;
 #[derive(Drop)]
 pub(crate) struct Content {
     /// The whole octets, at the front.
-    octets: [u8; 279],
+    octets: [u8; BUFFER],
     /// How many they are, or 279 where no good unit can end at the next flag.
     len: u16,
     /// The bits that make no whole octet yet, the oldest in the lowest place.
@@ -64,7 +70,7 @@ impl Content {
         ensures none { result.len ≡ 0 }
     {
         Content {
-            octets: [0; 279],
+            octets: [0; BUFFER],
             len: 0,
             part: 0,
             more: 0,
@@ -91,28 +97,26 @@ impl Content {
         self.len = TOO_MANY;
     }
 
-    /// Takes up to eight bits, the lowest of the octet first.
+    /// Takes up to 56 bits, the lowest first.
+    ///
+    /// Eight octets are put behind those that are there, though only some of them are whole: no octet is asked
+    /// after by itself.
     #[inline(always)]
-    pub(crate) fn add(&mut self, bits: u8, count: u8)
-        requires few { count ≤ 8 }
+    pub(crate) fn add(&mut self, bits: u64, count: u8)
+        requires few { count ≤ 56 }
         requires fits { bits < 2 ^ count }
         ensures holds { (content : List Bool) →
             Holds content self.old → Holds (content ++ bits_of count bits) self.new }
         ensures lost { self.old.len ≡ 279 → self.new.len ≡ 279 }
     {
         let more = (self.more & 7) + count;
-        let whole = u16::from(self.part) | u16::from(bits) << (self.more & 7);
-        if more < 8 {
-            self.part = (whole & 0xFF) as u8;
-            self.more = more;
-        } else {
-            self.part = (whole >> 8) as u8;
-            self.more = more - 8;
-            if self.len < TOO_MANY {
-                self.octets[self.len as usize] = (whole & 0xFF) as u8;
-                self.len += 1;
-            }
-        }
+        let whole = u64::from(self.part) | bits << (self.more & 7);
+        let len = self.len.min(TOO_MANY);
+        let octets = more / 8;
+        put(&mut self.octets, len as usize, whole);
+        self.len = (len + u16::from(octets)).min(TOO_MANY);
+        self.part = (whole >> (octets * 8) & 0xFF) as u8;
+        self.more = more & 7;
     }
 
     /// How many octets the good unit has that a flag closes now.
@@ -146,12 +150,21 @@ impl Content {
         ensures { result.now ≡ take n self.now.octets }
     {
         let n = n as usize;
-        if n < 279 {
+        if n < BUFFER {
             &self.octets[..n]
         } else {
             &self.octets
         }
     }
+}
+
+/// Puts the eight octets of a number here, the lowest first.
+#[inline(always)]
+fn put(octets: &mut [u8; BUFFER], place: usize, whole: u64)
+    requires { place ≤ 279 }
+    ensures { octets.new ≡ take place octets.old ++ (bytes_low_first 0 8 whole ++ drop (place + 8) octets.old) }
+{
+    octets[place..place + 8].copy_from_slice(&whole.to_le_bytes());
 }
 
 /// Whether the last two octets are the check octets of the others.

@@ -48,11 +48,13 @@ ghost use Rattle.l2_bits.specs.Deframing.{
   GoesOn,
   mark_of,
   rest_of,
+  left_in,
   unit_of,
 };
 
 use crate::content::Content;
 use crate::marks::{Mark, MarkKind};
+use crate::rest::{Octets, Rest};
 use crate::shift::{all_shifted_in, shifted_in};
 use arrayvec::ArrayVec;
 
@@ -70,6 +72,9 @@ const SEVEN_ONES: u8 = 0b0111_1111;
 
 /// The bits without a flag with which octet counting begins (own).
 const LONGEST_WAIT: u16 = 2677;
+
+/// The most bits that are taken at once, those of seven octets: with the eight before them they stand in one number.
+const MOST_BITS: u16 = 56;
 
 /// The bits of sixteen octets.
 const SIXTEEN_OCTETS: u16 = 128;
@@ -185,18 +190,19 @@ impl Deframer {
             AreMarks past (bits_of 8 octet) [] }
         ensures refused { result ≡ false → self.new ≡ self.old }
     {
-        if self.room <= 8 || fives(self.last, octet) != 0 {
+        let bits = u64::from(octet);
+        if self.room <= 8 || fives(self.last, bits) & 0xFF != 0 {
             return false;
         }
-        self.run(octet, 8);
+        self.run(bits, 8);
         true
     }
 
-    /// Takes up to eight bits, the lowest first, where none of them gives a mark and none of them comes
-    /// after five ones.
+    /// Takes up to 56 bits, the lowest first, where none of them gives a mark and none of them comes after
+    /// five ones.
     #[inline(always)]
-    fn run(&mut self, bits: u8, count: u8)
-        requires few { count ≤ 8 }
+    fn run(&mut self, bits: u64, count: u8)
+        requires few { count ≤ 56 }
         requires fits { bits < 2 ^ count }
         requires room { count < self.old.room }
         ensures { (past : List Bool) → StandsFor past self.old
@@ -207,19 +213,20 @@ impl Deframer {
         self.room -= u16::from(count);
     }
 
-    /// Takes the next of these bits up to the first that comes after five ones, where none of them can
-    /// give a mark.
+    /// Takes the next of these bits, up to the first that comes after five ones or with which something may be
+    /// counted.
     #[inline(always)]
     fn take_run(&mut self, rest: &mut Rest)
         ensures takes { (past : List Bool) → StandsFor past self.old →
             FeedsUpTo past (rest_of rest.old) (rest_of rest.new) self.new None }
         ensures fewer { rest.new.left ≤ rest.old.left }
     {
-        if self.room <= 8 {
+        if self.room == 0 {
             return;
         }
         let plain = fives(self.last, rest.bits).trailing_zeros() as u8;
-        let count = plain.min(rest.left);
+        let uncounted = (self.room - 1).min(MOST_BITS) as u8;
+        let count = plain.min(rest.left).min(uncounted);
         let bits = rest.take(count);
         self.run(bits, count);
     }
@@ -240,43 +247,7 @@ impl Deframer {
         rest.left -= 1;
         self.step(bit)
     }
-}
 
-/// The bits of an octet that are still to be fed, the next in the lowest place.
-#[derive(Clone, Copy, Debug, PartialEq, Eq)]
-pub struct Rest {
-    bits: u8,
-    left: u8,
-}
-
-impl Rest {
-    /// All eight bits of an octet.
-    pub fn new(octet: u8) -> Rest
-        ensures { rest_of result ≡ bits_of 8 octet }
-    {
-        Rest {
-            bits: octet,
-            left: 8,
-        }
-    }
-
-    /// Takes so many of them.
-    #[inline(always)]
-    fn take(&mut self, count: u8) -> u8
-        requires few { count ≤ 8 }
-        requires there { count ≤ self.old.left }
-        ensures split { rest_of self.old ≡ bits_of count result ++ rest_of self.new }
-        ensures taken { result ≡ self.old.bits % 2 ^ count }
-        ensures left { self.new.left + count ≡ self.old.left }
-    {
-        let taken = self.bits & ((1u16 << count) - 1) as u8;
-        self.bits = (u16::from(self.bits) >> count) as u8;
-        self.left -= count;
-        taken
-    }
-}
-
-impl Deframer {
     /// Takes the bits of an octet, the lowest first, up to the first with which a mark ends, and gives its
     /// kind; the others stay for the next call. None where no mark ends with any of them. The octets of a
     /// good unit are those of `unit`.
@@ -299,6 +270,26 @@ impl Deframer {
         }
         None
     }
+
+    /// Takes the bits of these octets as `feed_octet` does those of one: up to the first with which a mark ends,
+    /// and gives its kind; the others stay for the next call. None where no mark ends with any of them.
+    pub fn feed_octets(&mut self, octets: &mut Octets<'_>) -> Option<MarkKind>
+        ensures marks { (past : List Bool) → StandsFor past self.old →
+            FeedsUpTo past (left_in octets.old) (left_in octets.new) self.new
+            (mark_of result (unit_of self.new)) }
+        ensures all { result ≡ None → left_in octets.new ≡ [] }
+        ensures fewer { result ≢ None → length (left_in octets.new) < length (left_in octets.old) }
+    {
+        loop {
+            let mark = self.feed_octet(&mut octets.first);
+            if mark.is_some() {
+                return mark;
+            }
+            if !octets.refill() {
+                return None;
+            }
+        }
+    }
 }
 
 /// Keeps a bit that ends no flag, where these are the last eight before it: not the one after five ones,
@@ -316,7 +307,7 @@ fn keep(content: &mut Content, before: u8, bit: bool)
     if before >= FIVE_ONES {
         return;
     }
-    content.add(u8::from(bit), 1);
+    content.add(u64::from(bit), 1);
 }
 
 /// A bit that ends no flag has come, the newest of these eight: counts it in octet counting, or else sees
@@ -355,13 +346,13 @@ fn count(room: &mut u16) -> Option<MarkKind>
     Some(MarkKind::Sixteen)
 }
 
-/// The bits of an octet before which five ones stand, where these are the last eight bits before it.
+/// The bits before which five ones stand, of those that come after these last eight: right for 56 of them.
 #[inline(always)]
-fn fives(last: u8, octet: u8) -> u8
-    ensures { (front : List Bool) (i : ℕ) → i < 8 → result / 2 ^ i % 2 ≡ 0
-        → EndsIn (front ++ (bits_of 8 last ++ take i (bits_of 8 octet))) (ones 5) → ⊥ }
+fn fives(last: u8, bits: u64) -> u64
+    ensures { (front : List Bool) (i : ℕ) → i < 56 → result / 2 ^ i % 2 ≡ 0
+        → EndsIn (front ++ (bits_of 8 last ++ take i (bits_of 56 bits))) (ones 5) → ⊥ }
 {
-    let window = (u16::from(octet) << 8 | u16::from(last)) >> 3;
+    let window = (bits << 8 | u64::from(last)) >> 3;
     let pairs = window & (window >> 1);
-    (pairs & (pairs >> 2) & (window >> 4) & 0xFF) as u8
+    pairs & (pairs >> 2) & (window >> 4)
 }

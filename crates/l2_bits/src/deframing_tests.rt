@@ -1,7 +1,9 @@
 //! Marks of lines that were worked out by hand, by calls of all kinds.
 
-use crate::deframing::{Deframer, Rest};
+use crate::check::check_of;
+use crate::deframing::Deframer;
 use crate::marks::{Mark, MarkKind};
+use crate::rest::{Octets, Rest};
 use arrayvec::ArrayVec;
 use std::alloc::{AllocError, Global};
 use std::test::Fail;
@@ -40,6 +42,24 @@ fn marks_mixed(alloc: Global, octets: &[u8]) -> Result<Vec<Mark>, AllocError> {
                     Some(MarkKind::Sixteen) => marks.push(Mark::Sixteen)?,
                     None => break,
                 }
+            }
+        }
+    }
+    Ok(marks)
+}
+
+/// The same by slices of so many octets.
+fn marks_of_slices(alloc: Global, octets: &[u8], piece: usize) -> Result<Vec<Mark>, AllocError> {
+    let mut marks = Vec::new(alloc);
+    let mut deframer = Deframer::new();
+    for piece in octets.chunks(piece.max(1)) {
+        let mut left = Octets::new(piece);
+        for _ in 0..9999u16 {
+            match deframer.feed_octets(&mut left) {
+                Some(MarkKind::Good) => marks.push(good(deframer.unit()))?,
+                Some(MarkKind::Bad) => marks.push(Mark::Bad)?,
+                Some(MarkKind::Sixteen) => marks.push(Mark::Sixteen)?,
+                None => break,
             }
         }
     }
@@ -130,6 +150,36 @@ fn calls_of_all_kinds_give_the_marks_of_bits(rt: HostRuntime) -> Result<(), Fail
             marks_mixed(rt.alloc(), &line[cut..])?.as_slice(),
             by_bits.as_slice()
         );
+        for piece in [1, 6, 7, 8, 29, 420usize] {
+            assert_eq!(rt;
+                marks_of_slices(rt.alloc(), &line[cut..], piece)?.as_slice(),
+                by_bits.as_slice()
+            );
+        }
     }
     Ok(())
+}
+
+#[test]
+fn the_longest_unit_by_slices(rt: HostRuntime) -> Result<(), Fail> {
+    // 276 octets, and one more: without its flags the text of the first ends in the last octets that there is room for.
+    for (count, whole) in [(276usize, true), (277, false)] {
+        let octets = Vec::from_elem(rt.alloc(), 0x55, count)?;
+        let line = line_of(rt.alloc(), &octets)?;
+        let marks = marks_of_slices(rt.alloc(), &line, 4096)?;
+        let unit = if whole { good(&octets) } else { Mark::Bad };
+        assert_eq!(rt; marks.as_slice(), [unit].as_slice());
+    }
+    Ok(())
+}
+
+/// A line of these octets between flags; no ones stand in a row in them.
+fn line_of(alloc: Global, octets: &[u8]) -> Result<Vec<u8>, AllocError> {
+    let check = check_of(octets);
+    let mut line = Vec::new(alloc);
+    line.push(0x7E)?;
+    line.extend_from_slice(octets)?;
+    line.extend_from_slice(&check.to_le_bytes())?;
+    line.push(0x7E)?;
+    Ok(line)
 }

@@ -6,7 +6,7 @@
 //! To the line: `seal` gives the octets of a signal unit with their two check octets behind them
 //! (`check_of` gives those alone), `stuff_into` appends their text to the bits of the line, and
 //! `flag_into` a flag. From the line: a `Deframer` takes its bits one by one (`feed`, `step`) or its octets
-//! (`pass`, `feed_octet`), and gives a mark where a signal unit ends, a good one or a damaged one, or where
+//! (`pass`, `feed_octet`, `feed_octets`), and gives a mark where a signal unit ends, a good one or a damaged one, or where
 //! octet counting tells an error.
 //!
 //! ```text
@@ -27,13 +27,15 @@ mod deframing;
 mod deframing_tests;
 mod flags;
 mod marks;
+mod rest;
 mod sealed_text;
 mod shift;
 mod stuffing;
 
 pub use check::check_of;
-pub use deframing::{Deframer, Rest};
+pub use deframing::Deframer;
 pub use flags::flag_into;
 pub use marks::{Mark, MarkKind, octet_counting, one_mark};
+pub use rest::{Octets, Rest};
 pub use sealed_text::{one_sealed_text, seal};
 pub use stuffing::{one_text, stuff_into};

@@ -1,6 +1,6 @@
 //! A shift register of eight bits, which takes the bits of the line in their order (Q.703 2.4).
 
-ghost use Rattle.std.specs.Prelude.{◌≡◌, ◌≤◌, [], ◌∷◌, ◌++◌, drop};
+ghost use Rattle.std.specs.Prelude.{◌≡◌, ◌^◌, ◌<◌, ◌≤◌, [], ◌∷◌, ◌++◌, drop};
 ghost use Rattle.l2_bits.specs.LineBits.{bits_of};
 ghost use Rattle.l2_bits.specs.Flags.{EndsIn};
 
@@ -12,12 +12,13 @@ pub(crate) fn shifted_in(register: u8, bit: bool) -> u8
     if bit { shifted | 0x80 } else { shifted }
 }
 
-/// The register after up to eight bits more, the lowest first: the last eight of all of them.
+/// The register after up to 56 bits more, the lowest first: the last eight of all of them.
 #[inline(always)]
-pub(crate) fn all_shifted_in(register: u8, bits: u8, count: u8) -> u8
-    requires { count ≤ 8 }
+pub(crate) fn all_shifted_in(register: u8, bits: u64, count: u8) -> u8
+    requires few { count ≤ 56 }
+    requires fits { bits < 2 ^ count }
     ensures { EndsIn (bits_of 8 register ++ bits_of count bits) (bits_of 8 result) }
 {
-    let window = u16::from(bits) << 8 | u16::from(register);
+    let window = bits << 8 | u64::from(register);
     ((window >> count) & 0xFF) as u8
 }

@@ -1,11 +1,30 @@
 -- WHAT EACH SUBCOMMAND MAKES OF AN INPUT.
-use Rattle.std.specs.Prelude.{ℕ, List}
+use Rattle.std.specs.Prelude.{◌≡◌, ℕ, List, Result, Ok, Err}
+use Rattle.std.specs.Option.{option_map}
 use Rattle.command_line.specs.declared.words.Words.{Words}
 use Rattle.command_line.specs.declared.words.Words.TheVariants.{Units, Play}
+use Rattle.printing.specs.declared.fault.Fault.{Fault}
+use Rattle.printing.specs.declared.fault.Fault.TheVariants.{Input, Memory, Read, Write}
 use Rattle.printing.specs.Printing.{Printed}
 use Rattle.play_text.specs.Playing.{IsPlayText}
 use Rattle.units_text.specs.UnitsText.{IsUnitsText}
+use Rattle.mtpbank.specs.declared.running.TextFault.{TextFault}
+use Rattle.mtpbank.specs.declared.running.TextFault.TheVariants.{Units as UnitsFault, Play as PlayFault}
 
-abbrev pub IsTextOf : Words → List ℕ → Printed → Type 0
-IsTextOf Units input text = IsUnitsText input text
-IsTextOf Play input text = IsPlayText input text
+-- a text of which only the fault, if any, has another type
+pub record IsText {F : Type 0} (IsIt : Printed F → Type 0) (of : F → TextFault) (text : Printed TextFault) : Type 0 where
+  pub own : Printed F
+  pub is_it : IsIt own
+  pub same : text ≡ record { printed = own.printed; fault = option_map of own.fault }
+
+abbrev pub IsTextOf : Words → List ℕ → Printed TextFault → Type 0
+IsTextOf Units input text = IsText (IsUnitsText input) UnitsFault text
+IsTextOf Play input text = IsText (IsPlayText input) PlayFault text
+
+-- the same answer with a fault of that type
+abbrev pub with_fault : {F : Type 0} → (F → TextFault) → Result (Unit {0}) (Fault F) → Result (Unit {0}) (Fault TextFault)
+with_fault of (Ok done) = Ok done
+with_fault of (Err (Input fault)) = Err (Input (of fault))
+with_fault of (Err Memory) = Err Memory
+with_fault of (Err Read) = Err Read
+with_fault of (Err Write) = Err Write

@@ -14,7 +14,7 @@ mod running;
 
 use command_line::{Words, WordsFault, not_unicode, words_of};
 use printing::{Fault, Reader, Writer};
-use running::run;
+use running::{TextFault, run};
 use std::io;
 use std::process::ExitCode;
 
@@ -74,7 +74,7 @@ fn done(rt: &HostRuntime, words: Words) -> io::Result<ExitCode> {
 }
 
 /// Ends with status 0, or with 1 and the fault in a line on standard error.
-fn ended(rt: &HostRuntime, ran: Result<(), Fault>) -> io::Result<ExitCode>
+fn ended(rt: &HostRuntime, ran: Result<(), Fault<TextFault>>) -> io::Result<ExitCode>
     ensures done { IsOk ran → IfOk result (λ code. exit_status code ≡ 0) }
     ensures fault { IsErr ran → IfOk result (λ code. exit_status code ≡ 1) }
 {
@@ -85,7 +85,7 @@ fn ended(rt: &HostRuntime, ran: Result<(), Fault>) -> io::Result<ExitCode>
 }
 
 /// Tells a fault in one line on standard error, and ends with status 1.
-fn told(rt: &HostRuntime, fault: Fault) -> io::Result<ExitCode>
+fn told(rt: &HostRuntime, fault: Fault<TextFault>) -> io::Result<ExitCode>
     ensures { IfOk result (λ code. exit_status code ≡ 1) }
 {
     rt.eprintln(fault)?;

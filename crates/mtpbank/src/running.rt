@@ -1,13 +1,26 @@
 //! What the subcommands do, over any source and sink.
 ghost use Rattle.std.specs.Prelude.{◌≡◌, ◌≤◌, ◌^◌, true, length, IfErr, IfSome, OnOk};
 ghost use Rattle.printing.specs.Printing.{Prints, IsDevices, HasFailed};
-ghost use Rattle.mtpbank.specs.Running.{IsTextOf};
+ghost use Rattle.mtpbank.specs.declared.running.TextFault.TheVariants.{Play as PlayFault, Units as UnitsFault};
+ghost use Rattle.mtpbank.specs.Running.{IsTextOf, with_fault};
 
 use command_line::Words;
-use play_text::play;
+use play_text::{ScriptFault, play};
 use printing::{Fault, Sink, Source};
 use std::alloc::Global;
-use units_text::units;
+use thiserror::Error;
+use units_text::{UnreadableOctet, units};
+
+/// How the input of a subcommand can be at fault.
+#[derive(Clone, Copy, Debug, Drop, PartialEq, Eq, Error)]
+pub enum TextFault {
+    /// In a way of `units`.
+    #[error("{0}")]
+    Units(UnreadableOctet),
+    /// In a way of `play`.
+    #[error("{0}")]
+    Play(ScriptFault),
+}
 
 /// Reads what the source gives, and writes what the subcommand makes of it, up to the first fault.
 pub fn run<S: Source, W: Sink>(
@@ -15,13 +28,39 @@ pub fn run<S: Source, W: Sink>(
     words: Words,
     source: &mut S,
     sink: &mut W,
-) -> Result<(), Fault>
+) -> Result<(), Fault<TextFault>>
     ensures text { IfSome (S.left source.old) (λ input. Prints result (IsTextOf words input) (W.written sink.old) (W.written sink.new)) }
     ensures bounded { IfSome (S.left source.old) (λ input. OnOk result (length input ≤ 2 ^ 24)) }
     ensures devices { IfSome (S.left source.old) (λ input. IfErr result (λ fault. IsDevices fault (HasFailed (S.has_failed source.new) input) (W.has_failed sink.new ≡ true))) }
 {
     match words {
-        Words::Units => units(alloc, source, sink),
-        Words::Play => play(alloc, source, sink),
+        Words::Units => of_units(units(alloc, source, sink)),
+        Words::Play => of_play(play(alloc, source, sink)),
+    }
+}
+
+/// What `units` answered, with a fault of either text.
+fn of_units(ran: Result<(), Fault<UnreadableOctet>>) -> Result<(), Fault<TextFault>>
+    ensures { result ≡ with_fault UnitsFault ran }
+{
+    match ran {
+        Ok(()) => Ok(()),
+        Err(Fault::Input(fault)) => Err(Fault::Input(TextFault::Units(fault))),
+        Err(Fault::Memory) => Err(Fault::Memory),
+        Err(Fault::Read) => Err(Fault::Read),
+        Err(Fault::Write) => Err(Fault::Write),
+    }
+}
+
+/// What `play` answered, with a fault of either text.
+fn of_play(ran: Result<(), Fault<ScriptFault>>) -> Result<(), Fault<TextFault>>
+    ensures { result ≡ with_fault PlayFault ran }
+{
+    match ran {
+        Ok(()) => Ok(()),
+        Err(Fault::Input(fault)) => Err(Fault::Input(TextFault::Play(fault))),
+        Err(Fault::Memory) => Err(Fault::Memory),
+        Err(Fault::Read) => Err(Fault::Read),
+        Err(Fault::Write) => Err(Fault::Write),
     }
 }

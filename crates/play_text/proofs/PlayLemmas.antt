@@ -2,12 +2,14 @@
 use Rattle.std.proofs.Common.{refl, arith, ◌≡◌, ◌≢◌, ◌∙◌, ap, sym, ◌<◌, ◌≤◌, [], ◌∷◌, length, ℕ, suc, ◌+◌, ◌^◌, true, false, nat_lt, ◌==◌, List, ◌++◌, Option, Some, None, Result, Ok, Err, MatchResult, append_assoc, append-nil, add-one, length-append}
 use Rattle.std.proofs.lemmas.Bool.Decides.{nat_tests}
 use Rattle.printing.proofs.PrintLemmas.{begun_of_end}
-use Rattle.printing.specs.declared.fault.Fault.{Fault}
-use Rattle.printing.specs.declared.fault.Fault.TheVariants.{Text, Step, Octet, Memory, Exhausted, Read, Write}
+use Rattle.printing.specs.declared.fault.Stop.{Stop}
+use Rattle.printing.specs.declared.fault.Stop.TheVariants.{Input, Memory}
+use Rattle.play_text.specs.declared.fault.ScriptFault.{ScriptFault}
+use Rattle.play_text.specs.declared.fault.ScriptFault.TheVariants.{Text}
 use Rattle.pair_world.specs.World.{World, counts_at}
 use Rattle.world_steps.specs.declared.step.End.TheVariants.{A, B}
 use Rattle.answer_texts.specs.Texts.{end_text}
-use Rattle.printing.specs.Printing.{Printed, behind, IsBegun, EndsIn, IsOfText, ReadsOrStops, Ends}
+use Rattle.printing.specs.Printing.{Printed, behind, IsBegun, StopsIn, ReadsOrStops, Ends}
 use Rattle.play_text.specs.PlayText.{ends_text, LineOutcome, prints, goes_on, lines_of, onto_first, play_lines, on_line, at_the_end, play_text}
 use Rattle.play_text.specs.Playing.{Reading, IsOpen, text_from, Tells, Does, Faults, Advances, Halts, AdvancesOrHalts, Finishes, HasPlayed, IsPlayText}
 
@@ -73,31 +75,16 @@ ends_a_line old before after world new o l few e f g = record {
 }
 
 -- a fault of the line that it ends
-told : (fault : Fault) (outcome : LineOutcome) (next : Option World → Printed) → Tells fault outcome → Faults fault (goes_on outcome next) []
-told (Text n) outcome next e = ap (λ (o : LineOutcome). goes_on o next) e
-told (Step n) outcome next e = ap (λ (o : LineOutcome). goes_on o next) e
-told (Octet place) outcome next e = absurd e
+told : (stop : Stop ScriptFault) (outcome : LineOutcome) (next : Option World → Printed ScriptFault) → Tells stop outcome → Faults stop (goes_on outcome next) []
+told (Input fault) outcome next e = ap (λ (o : LineOutcome). goes_on o next) e
 told Memory outcome next e = ((goes_on outcome next).printed, refl)
-told Exhausted outcome next e = ap (λ (o : LineOutcome). goes_on o next) e
-told Read outcome next e = absurd e
-told Write outcome next e = absurd e
 
-told_of_text : (fault : Fault) (outcome : LineOutcome) → Tells fault outcome → IsOfText fault
-told_of_text (Text n) outcome e = tt
-told_of_text (Step n) outcome e = tt
-told_of_text (Octet place) outcome e = tt
-told_of_text Memory outcome e = tt
-told_of_text Exhausted outcome e = tt
-told_of_text Read outcome e = e
-told_of_text Write outcome e = e
-
-pub halts_line : (fault : Fault) (old : Reading) (before after : List ℕ) → IsOpen old.text → Tells fault (on_line old.line old.world old.text) → after ≡ before → Halts fault old (10 ∷ []) before after
-halts_line fault old before after o t e = record {
+pub halts_line : (stop : Stop ScriptFault) (old : Reading) (before after : List ℕ) → IsOpen old.text → Tells stop (on_line old.line old.world old.text) → after ≡ before → Halts stop old (10 ∷ []) before after
+halts_line stop old before after o t e = record {
   printed = [];
   added = e ∙ sym (append-nil before);
-  of_text = told_of_text fault (on_line old.line old.world old.text) t;
   ends = λ room left.
-      rw (line_ends old.text left o) (told fault (on_line old.line old.world old.text) (λ next. play_lines (suc old.line) next (lines_of left)) t);
+      rw (line_ends old.text left o) (told stop (on_line old.line old.world old.text) (λ next. play_lines (suc old.line) next (lines_of left)) t);
 }
 
 -- the line is too long
@@ -106,11 +93,10 @@ too_long n world text lines h b =
     let long : nat_lt 4096 (length (text ++ b.more)) ≡ true = grind (arith, nat_tests, length-append text b.more) in
     rw (b.lines_are, long) refl
 
-pub halts_long : (old : Reading) (c : ℕ) (before : List ℕ) → IsOpen old.text → c ≢ 10 → 4096 ≤ length old.text → Halts (Text old.line) old (c ∷ []) before before
+pub halts_long : (old : Reading) (c : ℕ) (before : List ℕ) → IsOpen old.text → c ≢ 10 → 4096 ≤ length old.text → Halts (Input (Text old.line)) old (c ∷ []) before before
 halts_long old c before o h long = record {
   printed = [];
   added = sym (append-nil before);
-  of_text = tt;
   ends = λ room left.
       too_long old.line old.world (old.text ++ c ∷ []) _ (omega (arith, long, length-append old.text (c ∷ [])))
       (begins_at (old.text ++ c ∷ []) left (open_push old.text c o h) (omega (arith, long, length-append old.text (c ∷ []))) (append_assoc old.text (c ∷ []) left));
@@ -125,24 +111,18 @@ pub halts_for_memory : (old : Reading) (octets before : List ℕ) → Halts Memo
 halts_for_memory old octets before = record {
   printed = [];
   added = sym (append-nil before);
-  of_text = tt;
   ends = λ room left. ((text_from old (octets ++ left)).printed, refl);
 }
 
 -- Octets one after another.
 
 -- what is printed behind what was printed
-behind_twice : (p q : List ℕ) (text : Printed) → behind p (behind q text) ≡ behind (p ++ q) text
+behind_twice : (p q : List ℕ) (text : Printed ScriptFault) → behind p (behind q text) ≡ behind (p ++ q) text
 behind_twice p q text = ap (λ (x : List ℕ). record { printed = x; fault = text.fault }) (sym (append_assoc p q text.printed))
 
-faults_behind : (fault : Fault) (text : Printed) (p q : List ℕ) → Faults fault text q → Faults fault (behind p text) (p ++ q)
-faults_behind (Text n) text p q e = ap (λ (x : Printed). behind p x) e
-faults_behind (Step n) text p q e = ap (λ (x : Printed). behind p x) e
-faults_behind (Octet place) text p q e = e
+faults_behind : (stop : Stop ScriptFault) (text : Printed ScriptFault) (p q : List ℕ) → Faults stop text q → Faults stop (behind p text) (p ++ q)
+faults_behind (Input fault) text p q e = ap (λ (x : Printed ScriptFault). behind p x) e
 faults_behind Memory text p q e = (e.0, ap (λ (x : List ℕ). p ++ x) e.1 ∙ sym (append_assoc p q e.0))
-faults_behind Exhausted text p q e = ap (λ (x : Printed). behind p x) e
-faults_behind Read text p q e = e
-faults_behind Write text p q e = e
 
 pub advances_none : (old : Reading) (before : List ℕ) → Advances old [] before before old
 advances_none old before = record { printed = []; added = sym (append-nil before); counted = omega arith; goes_on = λ room left. refl }
@@ -154,18 +134,17 @@ advances_more a b c xs ys p q r f g = record {
   counted = omega (arith, f.counted, g.counted, length-append xs ys);
   goes_on = λ room left.
       ap (λ (x : List ℕ). text_from a x) (append_assoc xs ys left) ∙ f.goes_on (omega (arith, room, length-append xs ys)) (ys ++ left)
-      ∙ ap (λ (x : Printed). behind f.printed x) (g.goes_on (omega (arith, room, f.counted, length-append xs ys)) left)
+      ∙ ap (λ (x : Printed ScriptFault). behind f.printed x) (g.goes_on (omega (arith, room, f.counted, length-append xs ys)) left)
       ∙ behind_twice f.printed g.printed (text_from c left);
 }
 
-pub halts_more : (fault : Fault) (a b : Reading) (xs ys zs p q r : List ℕ) → Advances a xs p q b → Halts fault b ys q r → Halts fault a ((xs ++ ys) ++ zs) p r
-halts_more fault a b xs ys zs p q r f g = record {
+pub halts_more : (stop : Stop ScriptFault) (a b : Reading) (xs ys zs p q r : List ℕ) → Advances a xs p q b → Halts stop b ys q r → Halts stop a ((xs ++ ys) ++ zs) p r
+halts_more stop a b xs ys zs p q r f g = record {
   printed = f.printed ++ g.printed;
   added = g.added ∙ ap (λ (x : List ℕ). x ++ g.printed) f.added ∙ append_assoc p f.printed g.printed;
-  of_text = g.of_text;
   ends = λ room left.
       rw (append_assoc (xs ++ ys) zs left, append_assoc xs ys (zs ++ left), f.goes_on (omega (arith, room, length-append (xs ++ ys) zs, length-append xs ys)) (ys ++ (zs ++ left)))
-      (faults_behind fault (text_from b (ys ++ (zs ++ left))) f.printed g.printed (g.ends (omega (arith, room, f.counted, length-append (xs ++ ys) zs, length-append xs ys)) (zs ++ left)));
+      (faults_behind stop (text_from b (ys ++ (zs ++ left))) f.printed g.printed (g.ends (omega (arith, room, f.counted, length-append (xs ++ ys) zs, length-append xs ys)) (zs ++ left)));
 }
 
 -- The end of the input.
@@ -184,11 +163,11 @@ something_read [] n e h = absurd (grind (arith, nat_tests, e, h))
 something_read (c ∷ cs) n e h = omega arith
 
 -- between lines
-pub ends_none : (result : Result (Unit {0}) Fault) (n : ℕ) (world : Option World) (text before after : List ℕ) → text ≡ []
-    → MatchResult result (λ done. after ≡ before ++ at_the_end world) (λ fault. (fault ≡ Memory) × (after ≡ before))
+pub ends_none : (result : Result (Unit {0}) (Stop ScriptFault)) (n : ℕ) (world : Option World) (text before after : List ℕ) → text ≡ []
+    → MatchResult result (λ done. after ≡ before ++ at_the_end world) (λ stop. (stop ≡ Memory) × (after ≡ before))
     → Finishes result (record { line = n; text = text; world = world }) before after
 ends_none (Ok done) n world text before after e h = rw e (record { printed = at_the_end world; added = h; ends = refl })
-ends_none (Err fault) n world text before after e h = rw (e, h.0) (record {
+ends_none (Err stop) n world text before after e h = rw (e, h.0) (record {
   printed = [];
   added = h.1 ∙ sym (append-nil before);
   ends = (at_the_end world, refl);
@@ -201,27 +180,27 @@ last_text n world next (c ∷ cs) printed h o d =
     ap (λ (lines : List (List ℕ)). play_lines n world lines) (last_line c cs o)
     ∙ ap (λ (outcome : LineOutcome). goes_on outcome (λ p. play_lines (suc n) p [])) d
 
-pub ends_line : (result : Result (Unit {0}) Fault) (n : ℕ) (world next : Option World) (text before middle after : List ℕ) → 0 < length text → IsOpen text → Does (on_line n world text) before middle next
-    → MatchResult result (λ done. after ≡ middle ++ at_the_end next) (λ fault. (fault ≡ Memory) × (after ≡ middle))
+pub ends_line : (result : Result (Unit {0}) (Stop ScriptFault)) (n : ℕ) (world next : Option World) (text before middle after : List ℕ) → 0 < length text → IsOpen text → Does (on_line n world text) before middle next
+    → MatchResult result (λ done. after ≡ middle ++ at_the_end next) (λ stop. (stop ≡ Memory) × (after ≡ middle))
     → Finishes result (record { line = n; text = text; world = world }) before after
 ends_line (Ok done) n world next text before middle after h o d e = record {
   printed = d.printed ++ at_the_end next;
   added = e ∙ ap (λ (x : List ℕ). x ++ at_the_end next) d.added ∙ append_assoc before d.printed (at_the_end next);
   ends = last_text n world next text d.printed h o d.outcome_is;
 }
-ends_line (Err fault) n world next text before middle after h o d e = rw e.0 (record {
+ends_line (Err stop) n world next text before middle after h o d e = rw e.0 (record {
   printed = d.printed;
   added = e.1 ∙ d.added;
-  ends = (at_the_end next, ap (λ (t : Printed). t.printed) (last_text n world next text d.printed h o d.outcome_is));
+  ends = (at_the_end next, ap (λ (t : Printed ScriptFault). t.printed) (last_text n world next text d.printed h o d.outcome_is));
 })
 
 -- the last line tells a fault
-pub halts_last : (fault : Fault) (n : ℕ) (world : Option World) (text before after : List ℕ) → 0 < length text → IsOpen text → Tells fault (on_line n world text) → after ≡ before → Finishes (Err fault) (record { line = n; text = text; world = world }) before after
-halts_last fault n world [] before after h o t e = absurd (omega arith)
-halts_last fault n world (c ∷ cs) before after h o t e = record {
+pub halts_last : (stop : Stop ScriptFault) (n : ℕ) (world : Option World) (text before after : List ℕ) → 0 < length text → IsOpen text → Tells stop (on_line n world text) → after ≡ before → Finishes (Err stop) (record { line = n; text = text; world = world }) before after
+halts_last stop n world [] before after h o t e = absurd (omega arith)
+halts_last stop n world (c ∷ cs) before after h o t e = record {
   printed = [];
   added = e ∙ sym (append-nil before);
-  ends = rw (last_line c cs o) (told fault (on_line n world (c ∷ cs)) (λ next. play_lines (suc n) next []) t);
+  ends = rw (last_line c cs o) (told stop (on_line n world (c ∷ cs)) (λ next. play_lines (suc n) next []) t);
 }
 
 -- As a text that is printed while another is read.
@@ -229,44 +208,30 @@ halts_last fault n world (c ∷ cs) before after h o t e = record {
 pub begins_to_play : HasPlayed [] [] (record { line = 1; text = []; world = None })
 begins_to_play = record { counted = omega arith; goes_on = λ left. refl }
 
-of_fault : (fault : Fault) (text : Printed) (printed : List ℕ) → Faults fault text printed → IsOfText fault
-of_fault (Text n) text printed e = tt
-of_fault (Step n) text printed e = tt
-of_fault (Octet place) text printed e = tt
-of_fault Memory text printed e = tt
-of_fault Exhausted text printed e = tt
-of_fault Read text printed e = e
-of_fault Write text printed e = e
-
-ends_in : (fault : Fault) (whole text : Printed) (lines printed : List ℕ) → whole ≡ behind lines text → Faults fault text printed → EndsIn fault (λ (t : Printed). t ≡ whole) (lines ++ printed)
-ends_in (Text n) whole text lines printed e f = sym (e ∙ ap (λ (t : Printed). behind lines t) f)
-ends_in (Step n) whole text lines printed e f = sym (e ∙ ap (λ (t : Printed). behind lines t) f)
-ends_in (Octet place) whole text lines printed e f = absurd f
-ends_in Memory whole text lines printed e f = λ t is. (f.0, ap (λ (x : Printed). x.printed) (is ∙ e) ∙ ap (λ (x : List ℕ). lines ++ x) f.1 ∙ sym (append_assoc lines printed f.0))
-ends_in Exhausted whole text lines printed e f = sym (e ∙ ap (λ (t : Printed). behind lines t) f)
-ends_in Read whole text lines printed e f = absurd f
-ends_in Write whole text lines printed e f = absurd f
+ends_in : (stop : Stop ScriptFault) (whole text : Printed ScriptFault) (lines printed : List ℕ) → whole ≡ behind lines text → Faults stop text printed → StopsIn stop (λ (t : Printed ScriptFault). t ≡ whole) (lines ++ printed)
+ends_in (Input fault) whole text lines printed e f = sym (e ∙ ap (λ (t : Printed ScriptFault). behind lines t) f)
+ends_in Memory whole text lines printed e f = λ t is. (f.0, ap (λ (x : Printed ScriptFault). x.printed) (is ∙ e) ∙ ap (λ (x : List ℕ). lines ++ x) f.1 ∙ sym (append_assoc lines printed f.0))
 
 few_lines : (line past more : ℕ) → line ≤ 1 + past → past + more ≤ 2 ^ 24 → line + more < 2 ^ 64
 few_lines line past more h k = omega (arith, h, k)
 
 -- what was printed is the beginning of the text
 begun_to_play : (past lines : List ℕ) (r : Reading) → HasPlayed past lines r → (left : List ℕ) → IsBegun (IsPlayText (past ++ left)) lines
-begun_to_play past lines r has left text is = ((text_from r left).printed, ap (λ (t : Printed). t.printed) (is ∙ has.goes_on left))
+begun_to_play past lines r has left text is = ((text_from r left).printed, ap (λ (t : Printed ScriptFault). t.printed) (is ∙ has.goes_on left))
 
 has_advanced : (old new : Reading) (octets before after : List ℕ) (f : Advances old octets before after new) (past lines : List ℕ) → length past + length octets ≤ 2 ^ 24 → HasPlayed past lines old → HasPlayed (past ++ octets) (lines ++ f.printed) new
 has_advanced old new octets before after f past lines fits has = record {
   counted = omega (arith, f.counted, has.counted, length-append past octets);
   goes_on = λ left.
       ap (λ (x : List ℕ). play_text x) (append_assoc past octets left) ∙ has.goes_on (octets ++ left)
-      ∙ ap (λ (t : Printed). behind lines t) (f.goes_on (few_lines old.line (length past) (length octets) has.counted fits) left)
+      ∙ ap (λ (t : Printed ScriptFault). behind lines t) (f.goes_on (few_lines old.line (length past) (length octets) has.counted fits) left)
       ∙ behind_twice lines f.printed (text_from new left);
 }
 
-one_play_text : (whole a b : Printed) → a ≡ whole → b ≡ whole → a ≡ b
+one_play_text : (whole a b : Printed ScriptFault) → a ≡ whole → b ≡ whole → a ≡ b
 one_play_text whole a b p q = p ∙ sym q
 
-pub play_reads : (result : Result (Unit {0}) Fault) (old new : Reading) (octets before after : List ℕ) → AdvancesOrHalts result old octets before after new
+pub play_reads : (result : Result (Unit {0}) (Stop ScriptFault)) (old new : Reading) (octets before after : List ℕ) → AdvancesOrHalts result old octets before after new
     → ReadsOrStops IsPlayText result (λ past lines. HasPlayed past lines old) octets before after (λ past lines. HasPlayed past lines new)
 play_reads (Ok done) old new octets before after f = record {
   printed = f.printed;
@@ -274,33 +239,30 @@ play_reads (Ok done) old new octets before after f = record {
   goes_on = has_advanced old new octets before after f;
   begun = λ past lines fits has left. rw (← append_assoc past octets left) (begun_to_play (past ++ octets) (lines ++ f.printed) new (has_advanced old new octets before after f past lines fits has) left);
 }
-play_reads (Err fault) old new octets before after f =
-    let ends : (past lines : List ℕ) → length past + length octets ≤ 2 ^ 24 → HasPlayed past lines old → (left : List ℕ) → EndsIn fault (IsPlayText (past ++ (octets ++ left))) (lines ++ f.printed) =
+play_reads (Err stop) old new octets before after f =
+    let ends : (past lines : List ℕ) → length past + length octets ≤ 2 ^ 24 → HasPlayed past lines old → (left : List ℕ) → StopsIn stop (IsPlayText (past ++ (octets ++ left))) (lines ++ f.printed) =
     λ past lines fits has left.
-    ends_in fault (play_text (past ++ (octets ++ left))) (text_from old (octets ++ left)) lines f.printed (has.goes_on (octets ++ left)) (f.ends (few_lines old.line (length past) (length octets) has.counted fits) left) in record {
+    ends_in stop (play_text (past ++ (octets ++ left))) (text_from old (octets ++ left)) lines f.printed (has.goes_on (octets ++ left)) (f.ends (few_lines old.line (length past) (length octets) has.counted fits) left) in record {
       printed = f.printed;
       added = f.added;
-      of_text = f.of_text;
       ends = ends;
-      begun = λ past lines fits has left. begun_of_end fault (IsPlayText (past ++ (octets ++ left))) (lines ++ f.printed) (one_play_text (play_text (past ++ (octets ++ left)))) (ends past lines fits has left);
+      begun = λ past lines fits has left. begun_of_end stop (IsPlayText (past ++ (octets ++ left))) (lines ++ f.printed) (one_play_text (play_text (past ++ (octets ++ left)))) (ends past lines fits has left);
     }
 
-pub play_ends : (result : Result (Unit {0}) Fault) (old : Reading) (before after : List ℕ) → Finishes result old before after → Ends IsPlayText result (λ past lines. HasPlayed past lines old) before after
+pub play_ends : (result : Result (Unit {0}) (Stop ScriptFault)) (old : Reading) (before after : List ℕ) → Finishes result old before after → Ends IsPlayText result (λ past lines. HasPlayed past lines old) before after
 play_ends (Ok done) old before after f =
     let ends : (past lines : List ℕ) → HasPlayed past lines old → record { printed = lines ++ f.printed; fault = None } ≡ play_text past =
-    λ past lines has. sym (rw (append-nil past) at (has.goes_on []) ∙ ap (λ (t : Printed). behind lines t) f.ends) in record {
+    λ past lines has. sym (rw (append-nil past) at (has.goes_on []) ∙ ap (λ (t : Printed ScriptFault). behind lines t) f.ends) in record {
       printed = f.printed;
       added = f.added;
-      of_text = tt;
       ends = λ past lines fits has. ends past lines has;
-      begun = λ past lines fits has text is. ([], ap (λ (t : Printed). t.printed) (is ∙ sym (ends past lines has)) ∙ sym (append-nil (lines ++ f.printed)));
+      begun = λ past lines fits has text is. ([], ap (λ (t : Printed ScriptFault). t.printed) (is ∙ sym (ends past lines has)) ∙ sym (append-nil (lines ++ f.printed)));
     }
-play_ends (Err fault) old before after f =
-    let ends : (past lines : List ℕ) → HasPlayed past lines old → EndsIn fault (IsPlayText past) (lines ++ f.printed) =
-    λ past lines has. ends_in fault (play_text past) (text_from old []) lines f.printed (rw (append-nil past) at (has.goes_on [])) f.ends in record {
+play_ends (Err stop) old before after f =
+    let ends : (past lines : List ℕ) → HasPlayed past lines old → StopsIn stop (IsPlayText past) (lines ++ f.printed) =
+    λ past lines has. ends_in stop (play_text past) (text_from old []) lines f.printed (rw (append-nil past) at (has.goes_on [])) f.ends in record {
       printed = f.printed;
       added = f.added;
-      of_text = of_fault fault (text_from old []) f.printed f.ends;
       ends = λ past lines fits has. ends past lines has;
-      begun = λ past lines fits has. begun_of_end fault (IsPlayText past) (lines ++ f.printed) (one_play_text (play_text past)) (ends past lines has);
+      begun = λ past lines fits has. begun_of_end stop (IsPlayText past) (lines ++ f.printed) (one_play_text (play_text past)) (ends past lines has);
     }

@@ -1,7 +1,7 @@
 -- THE TEXT OF `play`: from the octets that are read to the octets that are printed and the answer.
 use Rattle.std.specs.Prelude.{ℕ, Bool, true, ◌==◌, nat_lt, suc, List, [], ◌∷◌, ◌++◌, length, Option, Some, None, if◌then◌else◌}
-use Rattle.printing.specs.declared.fault.Fault.{Fault}
-use Rattle.printing.specs.declared.fault.Fault.TheVariants.{Text, Step, Exhausted}
+use Rattle.play_text.specs.declared.fault.ScriptFault.{ScriptFault}
+use Rattle.play_text.specs.declared.fault.ScriptFault.TheVariants.{Text, Step, Exhausted}
 use Rattle.set_model.specs.State.{Settings, opened_with}
 use Rattle.set_model.specs.History.{LinkSet}
 use Rattle.world_steps.specs.declared.step.End.{End}
@@ -26,7 +26,7 @@ lines_of (octet ∷ octets) = if octet == 10 then [] ∷ lines_of octets else on
 -- A line prints this and leaves a world, if one is made yet; or it ends the script with a fault.
 pub data LineOutcome : Type 0 where
   prints : List ℕ → Option World → LineOutcome
-  stops : Fault → LineOutcome
+  stops : ScriptFault → LineOutcome
 
 -- an empty line, or one that begins with # (35)
 abbrev pub is_remark : List ℕ → Bool
@@ -76,15 +76,15 @@ at_the_end None = []
 at_the_end (Some w) = ends_text w
 
 -- a line, and what goes on from the world that it leaves
-abbrev pub goes_on : LineOutcome → (Option World → Printed) → Printed
+abbrev pub goes_on : LineOutcome → (Option World → Printed ScriptFault) → Printed ScriptFault
 goes_on (prints printed world) next = behind printed (next world)
 goes_on (stops fault) next = record { printed = []; fault = Some fault }
 
 -- the lines from this number on
-abbrev pub play_lines : ℕ → Option World → List (List ℕ) → Printed
+abbrev pub play_lines : ℕ → Option World → List (List ℕ) → Printed ScriptFault
 play_lines n world [] = record { printed = at_the_end world; fault = None }
 play_lines n world (line ∷ lines) = goes_on (on_line n world line) (λ next. play_lines (suc n) next lines)
 
 -- THE TEXT
-abbrev pub play_text : List ℕ → Printed
+abbrev pub play_text : List ℕ → Printed ScriptFault
 play_text input = play_lines 1 None (lines_of input)

@@ -12,8 +12,10 @@
 //! read, its octets so far, and the world.
 #![tactic(auto)]
 
+mod fault;
 mod player;
 mod text;
 mod whole_line;
 
+pub use fault::ScriptFault;
 pub use text::play;

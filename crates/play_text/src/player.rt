@@ -1,8 +1,9 @@
 //! A script under way: the line that is being read, and the world.
 
+use super::fault::ScriptFault;
 use super::whole_line::{add_ends, end_line};
 use pair_world::World;
-use printing::{Fault, Printer};
+use printing::{Printer, Stop};
 use std::alloc::Global;
 use std::marker::Model;
 
@@ -48,7 +49,7 @@ impl Player {
     }
 
     /// Reads one octet.
-    fn take(&mut self, octet: u8, out: &mut Vec<u8>) -> Result<(), Fault>
+    fn take(&mut self, octet: u8, out: &mut Vec<u8>) -> Result<(), Stop<ScriptFault>>
         ensures { AdvancesOrHalts result self.old (octet ∷ []) out.old.items out.new.items self.new }
     {
         if octet == b'\n' {
@@ -59,7 +60,7 @@ impl Player {
     }
 
     /// Reads the LF that ends a line.
-    fn end_line(&mut self, out: &mut Vec<u8>) -> Result<(), Fault>
+    fn end_line(&mut self, out: &mut Vec<u8>) -> Result<(), Stop<ScriptFault>>
         ensures { AdvancesOrHalts result self.old (10 ∷ []) out.old.items out.new.items self.new }
     {
         match end_line(self.alloc, &mut self.world, &self.text, self.line, out) {
@@ -68,40 +69,40 @@ impl Player {
                 self.line = self.line.saturating_add(1);
                 Ok(())
             }
-            Err(fault) => Err(fault),
+            Err(stop) => Err(stop),
         }
     }
 
     /// Reads an octet that ends no line.
-    fn add(&mut self, octet: u8, out: &mut Vec<u8>) -> Result<(), Fault>
+    fn add(&mut self, octet: u8, out: &mut Vec<u8>) -> Result<(), Stop<ScriptFault>>
         requires { octet ≢ 10 }
         ensures { AdvancesOrHalts result self.old (octet ∷ []) out.old.items out.new.items self.new }
     {
         let _ = out;
         if self.text.len() >= LONGEST_LINE {
-            return Err(Fault::Text { line: self.line });
+            return Err(Stop::Input(ScriptFault::Text { line: self.line }));
         }
         let Ok(()) = self.text.push(octet) else {
-            return Err(Fault::Memory);
+            return Err(Stop::Memory);
         };
         Ok(())
     }
 
     /// Reads these octets.
-    fn read_all(&mut self, octets: &[u8], out: &mut Vec<u8>) -> Result<(), Fault>
+    fn read_all(&mut self, octets: &[u8], out: &mut Vec<u8>) -> Result<(), Stop<ScriptFault>>
         ensures { AdvancesOrHalts result self.old octets.now out.old.items out.new.items self.new }
     {
         for octet in octets {
             match self.take(*octet, out) {
                 Ok(()) => (),
-                Err(fault) => return Err(fault),
+                Err(stop) => return Err(stop),
             }
         }
         Ok(())
     }
 
     /// The input has ended: the last line may lack its LF, and both ends are told.
-    fn finish(self, out: &mut Vec<u8>) -> Result<(), Fault>
+    fn finish(self, out: &mut Vec<u8>) -> Result<(), Stop<ScriptFault>>
         ensures { Finishes result self out.old.items out.new.items }
     {
         let Player {
@@ -115,23 +116,25 @@ impl Player {
         }
         match end_line(alloc, &mut world, &text, line, out) {
             Ok(()) => add_ends(alloc, &world, out),
-            Err(fault) => Err(fault),
+            Err(stop) => Err(stop),
         }
     }
 }
 
 impl Printer for Player {
+    type Fault = ScriptFault;
+
     ghost use Rattle.play_text.specs.Playing.{HasPlayed, IsPlayText};
 
     ghost is_text = { IsPlayText };
 
     ghost has_read = { λ player past lines. HasPlayed past lines player };
 
-    fn read(&mut self, octets: &[u8], out: &mut Vec<u8>) -> Result<(), Fault> {
+    fn read(&mut self, octets: &[u8], out: &mut Vec<u8>) -> Result<(), Stop<ScriptFault>> {
         self.read_all(octets, out)
     }
 
-    fn end(self, out: &mut Vec<u8>) -> Result<(), Fault> {
+    fn end(self, out: &mut Vec<u8>) -> Result<(), Stop<ScriptFault>> {
         self.finish(out)
     }
 }

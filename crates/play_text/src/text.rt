@@ -3,6 +3,7 @@ ghost use Rattle.std.specs.Prelude.{◌≡◌, ◌≤◌, ◌^◌, true, length,
 ghost use Rattle.printing.specs.Printing.{Prints, IsDevices, HasFailed};
 ghost use Rattle.play_text.specs.Playing.{IsPlayText};
 
+use super::fault::ScriptFault;
 use super::player::Player;
 use printing::{Fault, Sink, Source, print_all};
 use std::alloc::Global;
@@ -11,7 +12,11 @@ use std::alloc::Global;
 ///
 /// Ends with the first fault; what was printed before it stays printed. An input of more than 2^24 octets
 /// is never answered Ok, and one of 2^24 or more may be [`Fault::Read`], as [`print_all`] tells.
-pub fn play<S: Source, W: Sink>(alloc: Global, source: &mut S, sink: &mut W) -> Result<(), Fault>
+pub fn play<S: Source, W: Sink>(
+    alloc: Global,
+    source: &mut S,
+    sink: &mut W,
+) -> Result<(), Fault<ScriptFault>>
     ensures text { IfSome (S.left source.old) (λ input. Prints result (IsPlayText input) (W.written sink.old) (W.written sink.new)) }
     ensures bounded { IfSome (S.left source.old) (λ input. OnOk result (length input ≤ 2 ^ 24)) }
     ensures devices { IfSome (S.left source.old) (λ input. IfErr result (λ fault. IsDevices fault (HasFailed (S.has_failed source.new) input) (W.has_failed sink.new ≡ true))) }

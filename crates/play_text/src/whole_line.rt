@@ -1,15 +1,16 @@
 //! What a whole line of a script does, and what is printed when the script has ended.
 ghost use Rattle.std.specs.Prelude.{◌≡◌, ◌≤◌, ◌++◌, [], Some, length, IfOk, MatchResult};
 ghost use Rattle.std.specs.Option.{option_copied};
-ghost use Rattle.printing.specs.declared.fault.Fault.TheVariants.{Memory};
+ghost use Rattle.printing.specs.declared.fault.Stop.TheVariants.{Memory};
 ghost use Rattle.play_script.specs.Script.{first_line, step_of as step_in};
 ghost use Rattle.play_text.specs.PlayText.{ends_text as text_of_ends, is_remark as is_remark_in, prints, opened as opened_in, asked, on_line, at_the_end};
 ghost use Rattle.play_text.specs.Playing.{Tells, IsDone};
 
+use super::fault::ScriptFault;
 use answer_texts::{end_text, shown_text};
 use pair_world::{End, PlayFault, World};
 use play_script::{opening_of, step_of};
-use printing::Fault;
+use printing::Stop;
 use std::alloc::{AllocError, Global};
 
 /// Carries out the line of this number, and appends what it prints.
@@ -19,7 +20,7 @@ pub(crate) fn end_line(
     text: &[u8],
     line: u64,
     out: &mut Vec<u8>,
-) -> Result<(), Fault>
+) -> Result<(), Stop<ScriptFault>>
     requires { length text.now ≤ 4096 }
     ensures { IsDone result (on_line line world.old text.now) out.old.items out.new.items world.new }
 {
@@ -32,7 +33,7 @@ pub(crate) fn end_line(
                 *world = Some(made);
                 Ok(())
             }
-            Err(fault) => Err(fault),
+            Err(stop) => Err(stop),
         },
         Some(world) => carry_out(alloc, world, text, line, out),
     }
@@ -49,15 +50,15 @@ fn is_remark(text: &[u8]) -> bool
 }
 
 /// The world that the first line asks for.
-fn opened(alloc: Global, text: &[u8], line: u64) -> Result<World, Fault>
-    ensures { MatchResult result (λ world. opened_in line (first_line text.now) ≡ prints [] (Some world)) (λ fault. Tells fault (opened_in line (first_line text.now))) }
+fn opened(alloc: Global, text: &[u8], line: u64) -> Result<World, Stop<ScriptFault>>
+    ensures { MatchResult result (λ world. opened_in line (first_line text.now) ≡ prints [] (Some world)) (λ stop. Tells stop (opened_in line (first_line text.now))) }
 {
     let Some(opening) = opening_of(text) else {
-        return Err(Fault::Text { line });
+        return Err(Stop::Input(ScriptFault::Text { line }));
     };
     match World::new(alloc, &opening.a, &opening.b) {
         Ok(world) => Ok(world),
-        Err(PlayFault::NoMemory) => Err(Fault::Memory),
+        Err(PlayFault::NoMemory) => Err(Stop::Memory),
         Err(_) => unreachable!(),
     }
 }
@@ -69,43 +70,47 @@ fn carry_out(
     text: &[u8],
     line: u64,
     out: &mut Vec<u8>,
-) -> Result<(), Fault>
+) -> Result<(), Stop<ScriptFault>>
     ensures { IsDone result (asked line world.old (step_in text.now)) out.old.items out.new.items (Some world.new) }
 {
     let step = match step_of(alloc, text) {
         Ok(Some(step)) => step,
-        Ok(None) => return Err(Fault::Text { line }),
-        Err(_) => return Err(Fault::Memory),
+        Ok(None) => return Err(Stop::Input(ScriptFault::Text { line })),
+        Err(_) => return Err(Stop::Memory),
     };
     let shown = match world.carry_out(&step) {
         Ok(shown) => shown,
-        Err(PlayFault::NoMemory) => return Err(Fault::Memory),
-        Err(PlayFault::Impossible) => return Err(Fault::Step { line }),
-        Err(PlayFault::Exhausted) => return Err(Fault::Exhausted),
+        Err(PlayFault::NoMemory) => return Err(Stop::Memory),
+        Err(PlayFault::Impossible) => return Err(Stop::Input(ScriptFault::Step { line })),
+        Err(PlayFault::Exhausted) => return Err(Stop::Input(ScriptFault::Exhausted)),
         Err(PlayFault::Links) => unreachable!(),
     };
     let Ok(text) = shown_text(alloc, &shown) else {
-        return Err(Fault::Memory);
+        return Err(Stop::Memory);
     };
     match out.extend_from_slice(&text) {
         Ok(()) => Ok(()),
-        Err(_) => Err(Fault::Memory),
+        Err(_) => Err(Stop::Memory),
     }
 }
 
 /// Appends how the ends stand, if there are any.
-pub(crate) fn add_ends(alloc: Global, world: &Option<World>, out: &mut Vec<u8>) -> Result<(), Fault>
-    ensures { MatchResult result (λ done. out.new.items ≡ out.old.items ++ at_the_end world.now) (λ fault. (fault ≡ Memory) × (out.new.items ≡ out.old.items)) }
+pub(crate) fn add_ends(
+    alloc: Global,
+    world: &Option<World>,
+    out: &mut Vec<u8>,
+) -> Result<(), Stop<ScriptFault>>
+    ensures { MatchResult result (λ done. out.new.items ≡ out.old.items ++ at_the_end world.now) (λ stop. (stop ≡ Memory) × (out.new.items ≡ out.old.items)) }
 {
     let Some(world) = world else {
         return Ok(());
     };
     let Ok(text) = ends_text(alloc, world) else {
-        return Err(Fault::Memory);
+        return Err(Stop::Memory);
     };
     match out.extend_from_slice(&text) {
         Ok(()) => Ok(()),
-        Err(_) => Err(Fault::Memory),
+        Err(_) => Err(Stop::Memory),
     }
 }
 

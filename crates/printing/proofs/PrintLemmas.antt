@@ -1,12 +1,15 @@
 -- What is printed and written, piece after piece.
-use Rattle.std.proofs.Common.{refl, arith, ◌≡◌, ◌∙◌, ap, sym, ◌<◌, ◌≤◌, [], length, ℕ, ◌+◌, ◌-◌, ◌^◌, List, ◌++◌, take, drop, Option, Some, None, Result, Ok, Err, IfErr, IfSome, OnOk, subst, length-append, append_assoc, append-nil, take-append-drop}
+use Rattle.std.proofs.Common.{refl, arith, ◌≡◌, ◌∙◌, ap, sym, ◌<◌, ◌≤◌, [], length, ℕ, ◌+◌, ◌-◌, ◌^◌, List, ◌++◌, take, drop, Option, Some, None, Result, Ok, Err, IfErr, IfSome, OnOk, OnErr, subst, length-append, append_assoc, append-nil, take-append-drop}
 use Rattle.std.proofs.lemmas.Grind.{common_steps}
 use Rattle.std.proofs.Math.Seq.{take-add}
 use Rattle.std.specs.Io.KnownBytes.{Appends, Consumes, IsAtEnd}
 use Rattle.std.proofs.KnownBytes.{Appends-trans, Appends-nil, Consumes-trans, Consumes-nil, Consumes-whole}
+use Rattle.printing.specs.declared.device.DeviceFault.{DeviceFault}
+use Rattle.printing.specs.declared.fault.Stop.{Stop}
+use Rattle.printing.specs.declared.fault.Stop.TheVariants.{Input as InputStops, Memory as MemoryStops}
 use Rattle.printing.specs.declared.fault.Fault.{Fault}
-use Rattle.printing.specs.declared.fault.Fault.TheVariants.{Text, Step, Octet, Memory, Exhausted, Read, Write}
-use Rattle.printing.specs.Printing.{Printed, IsBegun, EndsIn, IsOfText, Ends, ReadsOrStops, Writes, Passes, Breaks, PassesOrBreaks, Closes, Prints, IsDevices}
+use Rattle.printing.specs.declared.fault.Fault.TheVariants.{Read}
+use Rattle.printing.specs.Printing.{Printed, IsBegun, StopsIn, EndsIn, fault_of, answer_of, Texts, Progress, Ends, ReadsOrStops, Writes, Passes, Breaks, PassesOrBreaks, Closes, Prints, IsDevices}
 
 -- what is written after what was written
 pub appends_more : (a b c : Option (List ℕ)) (xs ys zs : List ℕ) → Appends a b xs → Appends b c ys → zs ≡ xs ++ ys → Appends a c zs
@@ -30,29 +33,25 @@ front_of_piece buffer few count h =
 -- Beginnings.
 
 -- what was printed before a fault is a beginning of the text
-pub begun_of_end : (fault : Fault) (IsIt : Printed → Type 0) (printed : List ℕ) → ((a b : Printed) → IsIt a → IsIt b → a ≡ b) → EndsIn fault IsIt printed → IsBegun IsIt printed
-begun_of_end (Text n) IsIt printed one e text is = ([], ap (λ (t : Printed). t.printed) (one text _ is e) ∙ sym (append-nil printed))
-begun_of_end (Step n) IsIt printed one e text is = ([], ap (λ (t : Printed). t.printed) (one text _ is e) ∙ sym (append-nil printed))
-begun_of_end (Octet place) IsIt printed one e text is = ([], ap (λ (t : Printed). t.printed) (one text _ is e) ∙ sym (append-nil printed))
-begun_of_end Memory IsIt printed one e text is = e text is
-begun_of_end Exhausted IsIt printed one e text is = ([], ap (λ (t : Printed). t.printed) (one text _ is e) ∙ sym (append-nil printed))
-begun_of_end Read IsIt printed one e text is = e text is
-begun_of_end Write IsIt printed one e text is = e text is
+pub begun_of_end : {F : Type 0} (stop : Stop F) (IsIt : Printed F → Type 0) (printed : List ℕ) → ((a b : Printed F) → IsIt a → IsIt b → a ≡ b) → StopsIn stop IsIt printed → IsBegun IsIt printed
+begun_of_end {F} (InputStops fault) IsIt printed one e text is = ([], ap (λ (t : Printed F). t.printed) (one text _ is e) ∙ sym (append-nil printed))
+begun_of_end MemoryStops IsIt printed one e text is = e text is
+
+-- a printer's fault ends the whole so
+ends_so : {F : Type 0} (stop : Stop F) (IsIt : Printed F → Type 0) (printed : List ℕ) → StopsIn stop IsIt printed → EndsIn (fault_of stop) IsIt printed
+ends_so (InputStops fault) IsIt printed e = e
+ends_so MemoryStops IsIt printed e = e
 
 -- and so is what was written of it
-shorter : (IsIt : Printed → Type 0) (lines printed written rest : List ℕ) → printed ≡ written ++ rest → IsBegun IsIt (lines ++ printed) → IsBegun IsIt (lines ++ written)
+shorter : {F : Type 0} (IsIt : Printed F → Type 0) (lines printed written rest : List ℕ) → printed ≡ written ++ rest → IsBegun IsIt (lines ++ printed) → IsBegun IsIt (lines ++ written)
 shorter IsIt lines printed written rest e b text is =
     let more = b text is in
     (rest ++ more.0, more.1 ∙ ap (λ (x : List ℕ). (lines ++ x) ++ more.0) e ∙ ap (λ (x : List ℕ). x ++ more.0) (sym (append_assoc lines written rest)) ∙ append_assoc (lines ++ written) rest more.0)
 
-of_text_devices : (fault : Fault) (R W : Type 0) → IsOfText fault → IsDevices fault R W
-of_text_devices (Text n) R W h = tt
-of_text_devices (Step n) R W h = tt
-of_text_devices (Octet place) R W h = tt
-of_text_devices Memory R W h = tt
-of_text_devices Exhausted R W h = tt
-of_text_devices Read R W h = absurd h
-of_text_devices Write R W h = absurd h
+-- and is none of a device
+no_device : {F : Type 0} (stop : Stop F) (R W : Type 0) → IsDevices (fault_of stop) R W
+no_device (InputStops fault) R W = tt
+no_device MemoryStops R W = tt
 
 -- What was added is then written.
 
@@ -63,53 +62,65 @@ all_written before after a b printed e f w =
     rw (← whole) w.added
 
 -- or a front, before the writer failed
-some_written : (before after : List ℕ) (a b : Option (List ℕ)) (printed : List ℕ) (fault : Fault) → before ≡ [] → after ≡ before ++ printed → (w : Writes (Err fault) after a b) → printed ≡ w.written ++ w.more
+some_written : (before after : List ℕ) (a b : Option (List ℕ)) (printed : List ℕ) (fault : DeviceFault) → before ≡ [] → after ≡ before ++ printed → (w : Writes (Err fault) after a b) → printed ≡ w.written ++ w.more
 some_written before after a b printed fault e f w = ap (λ (x : List ℕ). x ++ printed) (sym e) ∙ sym f ∙ w.split
 
-module _ (IsText : List ℕ → Printed → Type 0) where
-  pub passes : (result : Result (Unit {0}) Fault) (HadRead HasRead : List ℕ → List ℕ → Type 0) (octets before after : List ℕ) (a b : Option (List ℕ)) → before ≡ [] → ReadsOrStops IsText result HadRead octets before after HasRead → Writes (Ok tt) after a b → PassesOrBreaks IsText result HadRead octets a b HasRead
-  passes (Ok done) HadRead HasRead octets before after a b e r w = record { printed = r.printed; added = all_written before after a b r.printed e r.added w; goes_on = r.goes_on; begun = r.begun }
-  passes (Err fault) HadRead HasRead octets before after a b e r w = record { printed = r.printed; added = all_written before after a b r.printed e r.added w; ends = r.ends }
-
-  pub breaks : (result : Result (Unit {0}) Fault) (fault : Fault) (HadRead HasRead : List ℕ → List ℕ → Type 0) (octets before after : List ℕ) (a b : Option (List ℕ)) → before ≡ []
-      → ReadsOrStops IsText result HadRead octets before after HasRead → Writes (Err fault) after a b → Breaks IsText fault HadRead octets a b
-  breaks (Ok done) fault HadRead HasRead octets before after a b e r w = rw w.ends (record {
+module _ {F : Type 0} (IsText : Texts F) where
+  -- what a piece prints, as far as it was written
+  pub passes : (read : Result (Unit {0}) (Stop F)) (wrote : Result (Unit {0}) DeviceFault) (HadRead HasRead : Progress) (octets before after : List ℕ) (a b : Option (List ℕ)) → before ≡ []
+      → ReadsOrStops IsText read HadRead octets before after HasRead → Writes wrote after a b → PassesOrBreaks IsText (answer_of read wrote) HadRead octets a b HasRead
+  passes (Ok done) (Ok all) HadRead HasRead octets before after a b e r w = record { printed = r.printed; added = all_written before after a b r.printed e r.added w; goes_on = r.goes_on; begun = r.begun }
+  passes (Err stop) (Ok all) HadRead HasRead octets before after a b e r w = record {
+    printed = r.printed;
+    added = all_written before after a b r.printed e r.added w;
+    ends = λ past lines fits had left. ends_so stop (IsText (past ++ (octets ++ left))) (lines ++ r.printed) (r.ends past lines fits had left);
+  }
+  passes (Ok done) (Err fault) HadRead HasRead octets before after a b e r w = record {
     printed = w.written;
     added = w.added;
     ends = λ past lines fits had left.
         shorter (IsText (past ++ (octets ++ left))) lines r.printed w.written w.more (some_written before after a b r.printed fault e r.added w) (r.begun past lines fits had left);
-  })
-  breaks (Err other) fault HadRead HasRead octets before after a b e r w = rw w.ends (record {
+  }
+  passes (Err stop) (Err fault) HadRead HasRead octets before after a b e r w = record {
     printed = w.written;
     added = w.added;
     ends = λ past lines fits had left.
         shorter (IsText (past ++ (octets ++ left))) lines r.printed w.written w.more (some_written before after a b r.printed fault e r.added w) (r.begun past lines fits had left);
-  })
+  }
 
-  pub closes : (result : Result (Unit {0}) Fault) (HadRead : List ℕ → List ℕ → Type 0) (before after : List ℕ) (a b : Option (List ℕ)) → before ≡ [] → Ends IsText result HadRead before after → Writes (Ok tt) after a b → Closes IsText result HadRead a b
-  closes result HadRead before after a b e r w = record { printed = r.printed; added = all_written before after a b r.printed e r.added w; ends = r.ends }
-
-  pub breaks_off : (result : Result (Unit {0}) Fault) (fault : Fault) (HadRead : List ℕ → List ℕ → Type 0) (before after : List ℕ) (a b : Option (List ℕ)) → before ≡ [] → Ends IsText result HadRead before after → Writes (Err fault) after a b → Closes IsText (Err fault) HadRead a b
-  breaks_off result fault HadRead before after a b e r w = rw w.ends (record {
+  -- and what the end prints
+  pub closes : (ended : Result (Unit {0}) (Stop F)) (wrote : Result (Unit {0}) DeviceFault) (HadRead : Progress) (before after : List ℕ) (a b : Option (List ℕ)) → before ≡ []
+      → Ends IsText ended HadRead before after → Writes wrote after a b → Closes IsText (answer_of ended wrote) HadRead a b
+  closes (Ok done) (Ok all) HadRead before after a b e r w = record { printed = r.printed; added = all_written before after a b r.printed e r.added w; ends = r.ends }
+  closes (Err stop) (Ok all) HadRead before after a b e r w = record {
+    printed = r.printed;
+    added = all_written before after a b r.printed e r.added w;
+    ends = λ past lines fits had. ends_so stop (IsText past) (lines ++ r.printed) (r.ends past lines fits had);
+  }
+  closes (Ok done) (Err fault) HadRead before after a b e r w = record {
     printed = w.written;
     added = w.added;
     ends = λ past lines fits had.
         shorter (IsText past) lines r.printed w.written w.more (some_written before after a b r.printed fault e r.added w) (r.begun past lines fits had);
-  })
+  }
+  closes (Err stop) (Err fault) HadRead before after a b e r w = record {
+    printed = w.written;
+    added = w.added;
+    ends = λ past lines fits had.
+        shorter (IsText past) lines r.printed w.written w.more (some_written before after a b r.printed fault e r.added w) (r.begun past lines fits had);
+  }
 
--- the fault of a text is none of a device
-pub devices_of_reads : (IsText : List ℕ → Printed → Type 0) (result : Result (Unit {0}) Fault) (HadRead HasRead : List ℕ → List ℕ → Type 0) (octets before after : List ℕ) (W : Type 0) → ReadsOrStops IsText result HadRead octets before after HasRead → IfErr result (λ fault. IsDevices fault ⊥ W)
-devices_of_reads IsText (Ok done) HadRead HasRead octets before after W r = tt
-devices_of_reads IsText (Err fault) HadRead HasRead octets before after W r = of_text_devices fault ⊥ W r.of_text
-
-pub devices_of_ends : (IsText : List ℕ → Printed → Type 0) (result : Result (Unit {0}) Fault) (HadRead : List ℕ → List ℕ → Type 0) (before after : List ℕ) (W : Type 0) → Ends IsText result HadRead before after → IfErr result (λ fault. IsDevices fault ⊥ W)
-devices_of_ends IsText (Ok done) HadRead before after W r = tt
-devices_of_ends IsText (Err fault) HadRead before after W r = of_text_devices fault ⊥ W r.of_text
+-- a writer's failure is told where a write failed, and a reader's never
+pub devices : {F : Type 0} (read : Result (Unit {0}) (Stop F)) (wrote : Result (Unit {0}) DeviceFault) (W : Type 0) → OnErr wrote W → IfErr (answer_of read wrote) (λ fault. IsDevices fault ⊥ W)
+devices (Ok done) (Ok all) W h = tt
+devices (Err stop) (Ok all) W h = no_device stop ⊥ W
+devices (Ok done) (Err fault) W h = h
+devices (Err stop) (Err fault) W h = h
 
 -- A source that is read piece by piece.
 
 -- some octets were read, what they print was written, and so many may still be read
-pub record Under (IsText : List ℕ → Printed → Type 0) (HasRead : List ℕ → List ℕ → Type 0) (source0 source sink0 sink : Option (List ℕ)) (left counter : ℕ) : Type 0 where
+pub record Under {F : Type 0} (IsText : Texts F) (HasRead : Progress) (source0 source sink0 sink : Option (List ℕ)) (left counter : ℕ) : Type 0 where
   pub octets : List ℕ
   pub printed : List ℕ
   pub consumed : Consumes source0 source octets
@@ -119,7 +130,7 @@ pub record Under (IsText : List ℕ → Printed → Type 0) (HasRead : List ℕ 
   pub count : length octets + left ≡ 2 ^ 24
   pub calls : counter ≤ length octets
 
-pub under_start : (IsText : List ℕ → Printed → Type 0) (HasRead : List ℕ → List ℕ → Type 0) (source sink : Option (List ℕ)) → HasRead [] [] → Under IsText HasRead source source sink sink (2 ^ 24) 0
+pub under_start : {F : Type 0} (IsText : Texts F) (HasRead : Progress) (source sink : Option (List ℕ)) → HasRead [] [] → Under IsText HasRead source source sink sink (2 ^ 24) 0
 under_start IsText HasRead source sink has = record {
   octets = [];
   printed = [];
@@ -140,7 +151,7 @@ read_front (Some x) (Some y) octets P c h = subst P (sym c) (h y)
 pub is_long : (s0 s1 : Option (List ℕ)) (octets : List ℕ) → Consumes s0 s1 octets → 2 ^ 24 ≤ length octets → IfSome s0 (λ input. 2 ^ 24 ≤ length input)
 is_long s0 s1 octets c h = read_front s0 s1 octets (λ input. 2 ^ 24 ≤ length input) c (λ rest. omega (arith, h, length-append octets rest))
 
-module _ (IsText : List ℕ → Printed → Type 0) (Had Has : List ℕ → List ℕ → Type 0) (s0 s1 s2 w0 w1 w2 : Option (List ℕ)) (left counter : ℕ) (u : Under IsText Had s0 s1 w0 w1 left counter) where
+module _ {F : Type 0} (IsText : Texts F) (Had Has : Progress) (s0 s1 s2 w0 w1 w2 : Option (List ℕ)) (left counter : ℕ) (u : Under IsText Had s0 s1 w0 w1 left counter) where
   -- the reader failed
   pub read_failed : IfSome s0 (λ input. Prints (Err Read) (IsText input) w0 w1)
   read_failed = read_front s0 s1 u.octets (λ input. Prints (Err Read) (IsText input) w0 w1) u.consumed
@@ -179,7 +190,7 @@ module _ (IsText : List ℕ → Printed → Type 0) (Had Has : List ℕ → List
   })
 
   -- a fault among the octets of a piece
-  pub piece_broke : (fault : Fault) (few count : ℕ) (buffer : List ℕ) → few ≤ count → few ≤ left → Consumes s1 s2 (take count buffer) → Breaks IsText fault Had (take few buffer) w1 w2 → IfSome s0 (λ input. Prints (Err fault) (IsText input) w0 w2)
+  pub piece_broke : (fault : Fault F) (few count : ℕ) (buffer : List ℕ) → few ≤ count → few ≤ left → Consumes s1 s2 (take count buffer) → Breaks IsText fault Had (take few buffer) w1 w2 → IfSome s0 (λ input. Prints (Err fault) (IsText input) w0 w2)
   piece_broke fault few count buffer h k c b = with_front few count buffer (λ input. Prints (Err fault) (IsText input) w0 w2) h c (λ rest. record {
     printed = u.printed ++ b.printed;
     added = Appends-trans w0 w1 w2 u.printed b.printed u.added b.added;
@@ -191,7 +202,7 @@ module _ (IsText : List ℕ → Printed → Type 0) (Had Has : List ℕ → List
   at_end count buffer P e h c p =
       Consumes-whole s0 s2 (u.octets ++ []) P (Consumes-trans s0 s1 s2 u.octets [] u.consumed (subst (λ (n : ℕ). Consumes s1 s2 (take n buffer)) e c.0)) (c.1 e h) (rw (append-nil u.octets) p)
 
-  pub piece_ended : (result : Result (Unit {0}) Fault) (count : ℕ) (buffer : List ℕ) → count ≡ 0 → 0 < length buffer → Consumes s1 s2 (take count buffer) × (count ≡ 0 → 0 < length buffer → IsAtEnd s2)
+  pub piece_ended : (result : Result (Unit {0}) (Fault F)) (count : ℕ) (buffer : List ℕ) → count ≡ 0 → 0 < length buffer → Consumes s1 s2 (take count buffer) × (count ≡ 0 → 0 < length buffer → IsAtEnd s2)
       → Closes IsText result Had w1 w2 → IfSome s0 (λ input. Prints result (IsText input) w0 w2)
   piece_ended result count buffer e h c p = at_end count buffer (λ input. Prints result (IsText input) w0 w2) e h c (record {
     printed = u.printed ++ p.printed;
@@ -200,10 +211,10 @@ module _ (IsText : List ℕ → Printed → Type 0) (Had Has : List ℕ → List
   })
 
   -- an input that was read to its end is no longer than may be read
-  pub piece_bounded : (result : Result (Unit {0}) Fault) (count : ℕ) (buffer : List ℕ) → count ≡ 0 → 0 < length buffer → Consumes s1 s2 (take count buffer) × (count ≡ 0 → 0 < length buffer → IsAtEnd s2)
+  pub piece_bounded : (result : Result (Unit {0}) (Fault F)) (count : ℕ) (buffer : List ℕ) → count ≡ 0 → 0 < length buffer → Consumes s1 s2 (take count buffer) × (count ≡ 0 → 0 < length buffer → IsAtEnd s2)
       → IfSome s0 (λ input. OnOk result (length input ≤ 2 ^ 24))
   piece_bounded result count buffer e h c = at_end count buffer (λ input. OnOk result (length input ≤ 2 ^ 24)) e h c (bounded result (omega (arith, u.count)))
     where
-      bounded : (result : Result (Unit {0}) Fault) {n : ℕ} → n ≤ 2 ^ 24 → OnOk result (n ≤ 2 ^ 24)
+      bounded : (result : Result (Unit {0}) (Fault F)) {n : ℕ} → n ≤ 2 ^ 24 → OnOk result (n ≤ 2 ^ 24)
       bounded (Ok done) h = h
       bounded (Err fault) h = tt

@@ -1,31 +1,45 @@
-//! Why a run of the program failed.
+//! Why a text ended before its end.
 
+ghost use Rattle.std.specs.Prelude.{◌≡◌};
+ghost use Rattle.printing.specs.Printing.{fault_of as fault_in};
+
+use std::fmt::Display;
 use thiserror::Error;
 
-/// Why a run of the program failed; each shows the line that the program prints. What was printed
-/// before it stays printed.
+/// Why a printer reads no more.
+#[derive(Clone, Copy, Debug, Drop, PartialEq, Eq)]
+pub enum Stop<T> {
+    /// The input is at fault itself, in a way that its text has.
+    Input(T),
+    /// Memory is wanted.
+    Memory,
+}
+
+/// Why a text was printed no further; each shows the line that the program prints. What was printed before it stays
+/// printed.
 #[derive(Clone, Copy, Debug, Drop, PartialEq, Eq, Error)]
-pub enum Fault {
-    /// The line of this number, counted from 1, is unreadable.
-    #[error("fault line {line} text")]
-    Text { line: u64 },
-    /// What the line of this number, counted from 1, asks for can't be done.
-    #[error("fault line {line} step")]
-    Step { line: u64 },
-    /// This octet of the input, counted from 0, is neither a hexadecimal digit nor skipped; or the
-    /// input ends here with a digit left over.
-    #[error("fault octet {place}")]
-    Octet { place: u64 },
+#[error_bound(T: Display)]
+pub enum Fault<T> {
+    /// The input is at fault itself, in a way that its text has.
+    #[error("fault {0}")]
+    Input(T),
     /// Memory is wanted.
     #[error("fault memory")]
     Memory,
-    /// A history is full.
-    #[error("fault exhausted")]
-    Exhausted,
     /// The input couldn't be read, or has 2^24 octets or more.
     #[error("fault read")]
     Read,
     /// The output couldn't be written.
     #[error("fault write")]
     Write,
+}
+
+/// What a printer that reads no more makes of the whole.
+pub(crate) fn fault_of<T>(stop: Stop<T>) -> Fault<T>
+    ensures { result ≡ fault_in stop }
+{
+    match stop {
+        Stop::Input(fault) => Fault::Input(fault),
+        Stop::Memory => Fault::Memory,
+    }
 }

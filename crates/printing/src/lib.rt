@@ -8,7 +8,10 @@
 //! [`Printer`]: a reader that appends what its input prints, in whatever pieces that comes, and that
 //! tells contracts which text an input has. [`Source`] and [`Sink`] are the edge: they tell contracts
 //! what is left to read, what was written, and whether the device has failed; [`Reader`] and
-//! [`Writer`] are the standard library's as such. [`Fault`] is why a run ended.
+//! [`Writer`] are the standard library's as such.
+//!
+//! How an input can be at fault is the text's own type. A printer stops for such a fault or for want of memory
+//! ([`Stop`]), and the whole also where a device fails ([`Fault`]).
 //!
 //! This crate knows no text: which one an input has is the printer's to say. `specs/Printing.antt` is
 //! the vocabulary.
@@ -20,6 +23,6 @@ mod printer;
 mod printing;
 
 pub use device::{DeviceFault, Reader, Sink, Source, Writer};
-pub use fault::Fault;
+pub use fault::{Fault, Stop};
 pub use printer::Printer;
 pub use printing::print_all;

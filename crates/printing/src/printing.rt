@@ -1,11 +1,9 @@
 //! Prints the whole text of a source to a sink.
-ghost use Rattle.std.specs.Prelude.{◌≡◌, ◌+◌, ◌<◌, ◌≤◌, ◌^◌, true, [], take, length, IfErr, IfOk, IfSome, OnOk, OnErr, MatchResult};
-ghost use Rattle.std.specs.Io.KnownBytes.{ReadConsumes};
-ghost use Rattle.printing.specs.declared.fault.Fault.TheVariants.{Read as ReadFault};
-ghost use Rattle.printing.specs.Printing.{Writes, PassesOrBreaks, Closes, Prints, IsDevices, HasFailed};
+ghost use Rattle.std.specs.Prelude.{◌≡◌, ◌+◌, ◌<◌, ◌≤◌, ◌^◌, true, [], take, length, IfErr, IfSome, OnOk, OnErr};
+ghost use Rattle.printing.specs.Printing.{Writes, answer_of, PassesOrBreaks, Closes, Prints, IsDevices, HasFailed};
 
-use super::device::{Sink, Source};
-use super::fault::Fault;
+use super::device::{DeviceFault, Sink, Source};
+use super::fault::{Fault, Stop, fault_of};
 use super::printer::Printer;
 use std::alloc::Global;
 
@@ -26,7 +24,7 @@ pub fn print_all<P: Printer + Drop, S: Source, W: Sink>(
     mut printer: P,
     source: &mut S,
     sink: &mut W,
-) -> Result<(), Fault>
+) -> Result<(), Fault<P::Fault>>
     requires { P.has_read printer [] [] }
     ensures text { IfSome (S.left source.old)
         (λ input. Prints result (P.is_text input) (W.written sink.old) (W.written sink.new)) }
@@ -37,10 +35,10 @@ pub fn print_all<P: Printer + Drop, S: Source, W: Sink>(
     let mut left = LONGEST_INPUT as usize;
     for _ in 0..LONGEST_INPUT {
         let mut buffer = [0; PIECE];
-        let count = match read_some(source, &mut buffer) {
+        let count = match source.read(&mut buffer) {
             Ok(0) => return end(alloc, printer, sink),
             Ok(count) => count,
-            Err(fault) => return Err(fault),
+            Err(_) => return Err(Fault::Read),
         };
         match pass(alloc, &mut printer, &buffer[..count.min(left)], sink) {
             Ok(()) => (),
@@ -54,52 +52,40 @@ pub fn print_all<P: Printer + Drop, S: Source, W: Sink>(
     Err(Fault::Read)
 }
 
-/// Reads some octets to the front of the buffer.
-fn read_some<S: Source>(source: &mut S, buffer: &mut [u8]) -> Result<usize, Fault>
-    ensures within { IfOk result (λ n. n ≤ length buffer.new) }
-    ensures octets { ReadConsumes (S.left source.old) (S.left source.new) result buffer.new }
-    ensures failed { IfErr result (λ fault. (fault ≡ ReadFault) × (S.has_failed source.new ≡ true)) }
-{
-    match source.read(buffer) {
-        Ok(count) => Ok(count),
-        Err(_) => Err(Fault::Read),
-    }
-}
-
 /// Reads these octets, and writes what they print.
 fn pass<P: Printer, W: Sink>(
     alloc: Global,
     printer: &mut P,
     octets: &[u8],
     sink: &mut W,
-) -> Result<(), Fault>
+) -> Result<(), Fault<P::Fault>>
     ensures passes { PassesOrBreaks P.is_text result (P.has_read printer.old) octets.now
         (W.written sink.old) (W.written sink.new) (P.has_read printer.new) }
     ensures failed { IfErr result (λ fault. IsDevices fault ⊥ (W.has_failed sink.new ≡ true)) }
 {
     let mut out = Vec::new(alloc);
     let read = printer.read(octets, &mut out);
-    match write_all(sink, &out) {
-        Ok(()) => read,
-        Err(fault) => Err(fault),
-    }
+    let written = write_all(sink, &out);
+    answered(read, written)
 }
 
 /// Writes what is printed when the octets have ended.
-fn end<P: Printer + Drop, W: Sink>(alloc: Global, printer: P, sink: &mut W) -> Result<(), Fault>
+fn end<P: Printer + Drop, W: Sink>(
+    alloc: Global,
+    printer: P,
+    sink: &mut W,
+) -> Result<(), Fault<P::Fault>>
     ensures closes { Closes P.is_text result (P.has_read printer) (W.written sink.old) (W.written sink.new) }
     ensures failed { IfErr result (λ fault. IsDevices fault ⊥ (W.has_failed sink.new ≡ true)) }
 {
     let mut out = Vec::new(alloc);
     let ended = printer.end(&mut out);
-    match write_all(sink, &out) {
-        Ok(()) => ended,
-        Err(fault) => Err(fault),
-    }
+    let written = write_all(sink, &out);
+    answered(ended, written)
 }
 
 /// Writes all these octets.
-fn write_all<W: Sink>(sink: &mut W, octets: &[u8]) -> Result<(), Fault>
+fn write_all<W: Sink>(sink: &mut W, octets: &[u8]) -> Result<(), DeviceFault>
     ensures writes { Writes result octets.now (W.written sink.old) (W.written sink.new) }
     ensures failed { OnErr result (W.has_failed sink.new ≡ true) }
 {
@@ -107,8 +93,22 @@ fn write_all<W: Sink>(sink: &mut W, octets: &[u8]) -> Result<(), Fault>
     while written < octets.len() {
         match sink.write(&octets[written..]) {
             Ok(count) => written += count,
-            Err(_) => return Err(Fault::Write),
+            Err(fault) => return Err(fault),
         }
     }
     Ok(())
+}
+
+/// What a printer answered, where all that it printed was written.
+fn answered<T: Drop>(
+    read: Result<(), Stop<T>>,
+    written: Result<(), DeviceFault>,
+) -> Result<(), Fault<T>>
+    ensures { result ≡ answer_of read written }
+{
+    match (read, written) {
+        (_, Err(_)) => Err(Fault::Write),
+        (Ok(()), Ok(())) => Ok(()),
+        (Err(stop), Ok(())) => Err(fault_of(stop)),
+    }
 }

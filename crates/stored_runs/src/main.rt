@@ -10,6 +10,7 @@
 use play_text::play;
 use printing::{Fault, Reader, Writer};
 use std::alloc::Global;
+use std::fmt::Display;
 use std::process::ExitCode;
 use std::{fs, io};
 use units_text::units;
@@ -86,19 +87,19 @@ fn beside(alloc: Global, name: &str, kind: &str) -> io::Result<String> {
 fn run_of(alloc: Global, name: &str, input: &[u8]) -> io::Result<Ran> {
     let mut source = Reader::new(input);
     let mut sink = Writer::new(Vec::new(alloc));
-    let ended = if name.ends_with(".units") {
-        units(alloc, &mut source, &mut sink)
+    let told = if name.ends_with(".units") {
+        told_of(alloc, units(alloc, &mut source, &mut sink))?
     } else {
-        play(alloc, &mut source, &mut sink)
+        told_of(alloc, play(alloc, &mut source, &mut sink))?
     };
     Ok(Ran {
         printed: sink.into_inner(),
-        told: told_of(alloc, ended)?,
+        told,
     })
 }
 
 /// The line that tells how a run ended, if it tells anything.
-fn told_of(alloc: Global, ended: Result<(), Fault>) -> io::Result<String> {
+fn told_of<T: Display + Drop>(alloc: Global, ended: Result<(), Fault<T>>) -> io::Result<String> {
     match ended {
         Ok(()) => Ok(String::new(alloc)),
         Err(fault) => Ok(format!(in alloc; "{fault}\n")?),

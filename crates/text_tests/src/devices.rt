@@ -1,22 +1,59 @@
 //! The texts of faults, and writes of any length.
+use play_text::ScriptFault;
 use printing::{Fault, Sink, Writer};
 use std::alloc::{AllocError, Global};
+use std::fmt::Display;
+use std::process::Abort;
 use std::test::Fail;
+use units_text::UnreadableOctet;
+
+/// The fault shows this line.
+fn shows<T: Display + Drop>(
+    rt: &impl Abort,
+    alloc: Global,
+    fault: Fault<T>,
+    line: &str,
+) -> Result<(), Fail> {
+    assert_eq!(rt; fault.to_string(alloc)?.as_str(), line);
+    Ok(())
+}
 
 #[test]
-fn faults_show_the_line_that_is_printed(rt: HostRuntime) -> Result<(), Fail> {
-    for (fault, text) in [
-        (Fault::Text { line: 2 }, "fault line 2 text"),
-        (Fault::Step { line: 7 }, "fault line 7 step"),
-        (Fault::Octet { place: 5 }, "fault octet 5"),
-        (Fault::Memory, "fault memory"),
-        (Fault::Exhausted, "fault exhausted"),
-        (Fault::Read, "fault read"),
-        (Fault::Write, "fault write"),
-    ] {
-        assert_eq!(rt; fault.to_string(rt.alloc())?.as_str(), text);
-    }
-    Ok(())
+fn faults_of_a_script_show_the_line_that_is_printed(rt: HostRuntime) -> Result<(), Fail> {
+    shows(
+        &rt,
+        rt.alloc(),
+        Fault::Input(ScriptFault::Text { line: 2 }),
+        "fault line 2 text",
+    )?;
+    shows(
+        &rt,
+        rt.alloc(),
+        Fault::Input(ScriptFault::Step { line: 7 }),
+        "fault line 7 step",
+    )?;
+    shows(
+        &rt,
+        rt.alloc(),
+        Fault::Input(ScriptFault::Exhausted),
+        "fault exhausted",
+    )?;
+    shows::<ScriptFault>(&rt, rt.alloc(), Fault::Memory, "fault memory")?;
+    shows::<ScriptFault>(&rt, rt.alloc(), Fault::Read, "fault read")?;
+    shows::<ScriptFault>(&rt, rt.alloc(), Fault::Write, "fault write")
+}
+
+#[test]
+fn faults_of_units_show_the_line_that_is_printed(rt: HostRuntime) -> Result<(), Fail> {
+    shows(
+        &rt,
+        rt.alloc(),
+        Fault::Input(UnreadableOctet { place: 5 }),
+        "fault octet 5",
+    )?;
+    shows::<UnreadableOctet>(&rt, rt.alloc(), Fault::Memory, "fault memory")?;
+    shows::<UnreadableOctet>(&rt, rt.alloc(), Fault::Read, "fault read")?;
+    shows::<UnreadableOctet>(&rt, rt.alloc(), Fault::Write, "fault write")
 }
 
 /// So many octets.

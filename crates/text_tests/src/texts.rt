@@ -3,11 +3,11 @@
 //! The expected lines are worked out by hand from Q.703 2 to 5 and the script's rules.
 ghost use Rattle.std.specs.Prelude.{◌≡◌, ◌≤◌, ◌<◌, Some};
 
-use play_text::play;
+use play_text::{ScriptFault, play};
 use printing::{DeviceFault, Fault, Sink, Source};
 use std::alloc::{AllocError, Global};
 use std::test::Fail;
-use units_text::units;
+use units_text::{UnreadableOctet, units};
 
 const OPENING: &[u8] = b"set links=1 method=basic a=2 b=1 sio=80\n";
 
@@ -82,7 +82,7 @@ pub(crate) fn run_of(
     piece: usize,
     reads: u32,
     writes: u32,
-) -> (Page, Result<(), Fault>)
+) -> (Page, Result<(), Fault<ScriptFault>>)
     requires { 0 < piece }
 {
     let mut text = Text {
@@ -166,7 +166,12 @@ fn a_writer_fails_at_each_call(rt: HostRuntime) -> Result<(), Fail> {
 }
 
 /// Reads digits in pieces of this many octets, and writes so too.
-fn seen_of(alloc: Global, digits: &[u8], piece: usize, writes: u32) -> (Page, Result<(), Fault>)
+fn seen_of(
+    alloc: Global,
+    digits: &[u8],
+    piece: usize,
+    writes: u32,
+) -> (Page, Result<(), Fault<UnreadableOctet>>)
     requires { 0 < piece }
 {
     let mut text = Text {
@@ -225,6 +230,6 @@ fn the_longest_line(rt: HostRuntime) -> Result<(), Fail> {
     assert!(rt; end == Ok(()));
     script.push(b'#')?;
     let (_, end) = run_of(rt.alloc(), &script, 4096, 1000, 1000);
-    assert!(rt; end == Err(Fault::Text { line: 2 }));
+    assert!(rt; end == Err(Fault::Input(ScriptFault::Text { line: 2 })));
     Ok(())
 }

@@ -1,3 +1,4 @@
+pub mod DigitLemmas
 pub mod ReaderLemmas
 pub mod TableLemmas
 pub mod UnitsLemmas

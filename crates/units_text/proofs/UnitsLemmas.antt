@@ -9,11 +9,12 @@ use Rattle.l2_bits.specs.Deframing.{StandsFor, FeedsUpTo}
 use Rattle.l2_bits.proofs.MarkLemmas.{mark_alone, marks_alone, marks-append}
 use Rattle.units_text.specs.declared.marked_line.MarkedLine.{MarkedLine}
 use Rattle.printing.specs.Printing.{Printed}
+use Rattle.units_text.specs.declared.fault.UnreadableOctet.{UnreadableOctet}
 use Rattle.units_text.specs.UnitsText.{IsUnitsText, mark_text, marks_text, counts_of, with_end, fault_place}
 use Rattle.units_text.specs.UnitsReading.{IsLine, Begins, Feeds, FeedsFirst, Breaks}
 
 -- an input has one text
-pub one_text : (input : List ℕ) (a b : Printed) → IsUnitsText input a → IsUnitsText input b → a ≡ b
+pub one_text : (input : List ℕ) (a b : Printed UnreadableOctet) → IsUnitsText input a → IsUnitsText input b → a ≡ b
 one_text input a b p q = p.played_is ∙ ap (with_end (fault_place input)) (marks_alone [] _ p.marks q.marks p.are q.are) ∙ sym q.played_is
 
 -- a bit gives one mark at most
@@ -42,30 +43,6 @@ line_begins bits left lines line is = λ all are.
       marks_text split.0,
       ap marks_text split.1 ∙ flat_map-append mark_text is.marks split.0 ∙ ap (λ (front : List ℕ). front ++ marks_text split.0) (sym is.printed),
     )
-
--- bits that give no mark
-pub feeds_passed : (old new : MarkedLine) (bits : List Bool) (before : List ℕ)
-    → ((past : List Bool) → StandsFor past old.deframer → StandsFor (past ++ bits) new.deframer)
-    → ((past : List Bool) → StandsFor past old.deframer → AreMarks past bits [])
-    → new.counts ≡ old.counts → Feeds old bits before before new
-feeds_passed old new bits before stands none same = record {
-  printed = [];
-  added = sym (append-nil before);
-  goes_on = λ past lines fits line. record {
-    marks = line.marks;
-    are = rw append-nil at (marks-append [] past bits line.marks [] line.are (none past line.deframed));
-    printed = append-nil lines ∙ line.printed;
-    counted = same ∙ line.counted;
-    deframed = stands past line.deframed;
-  };
-}
-
-pub feeds_none : (line : MarkedLine) (before : List ℕ) → Feeds line [] before before line
-feeds_none line before = record {
-  printed = [];
-  added = sym (append-nil before);
-  goes_on = λ past lines fits is. rw (append-nil past, append-nil lines) is;
-}
 
 -- bits up to a mark
 module _ (old new : MarkedLine) (bits rest : List Bool) (mark : Option Mark)

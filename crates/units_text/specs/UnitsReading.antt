@@ -1,16 +1,18 @@
 -- What a reader of `units` under way stands for, and what calls on it print.
-use Rattle.std.specs.Prelude.{◌≡◌, ℕ, ◌+◌, ◌≤◌, ◌<◌, ◌^◌, Bool, List, [], ◌++◌, length, Some, None, Result, IfErr, MatchResult}
+use Rattle.std.specs.Prelude.{◌≡◌, ℕ, ◌+◌, ◌≤◌, ◌<◌, ◌^◌, Bool, List, [], ◌++◌, length, Some, Result, MatchResult}
 use Rattle.std.specs.Option.{option_map}
 use Rattle.l2_bits.specs.declared.marks.Mark.{Mark}
 use Rattle.l2_bits.specs.LineBits.{line_bits}
 use Rattle.l2_bits.specs.Marks.{AreMarks}
 use Rattle.l2_bits.specs.Deframing.{StandsFor}
-use Rattle.printing.specs.declared.fault.Fault.{Fault}
-use Rattle.printing.specs.declared.fault.Fault.TheVariants.{Text, Step, Octet, Memory, Exhausted, Read, Write}
+use Rattle.printing.specs.declared.fault.Stop.{Stop}
+use Rattle.printing.specs.declared.fault.Stop.TheVariants.{Input, Memory}
+use Rattle.units_text.specs.declared.digits.Digits.{Digits}
 use Rattle.units_text.specs.declared.marked_line.MarkedLine.{MarkedLine}
 use Rattle.units_text.specs.declared.units_reading.UnitsReader.{UnitsReader}
-use Rattle.printing.specs.Printing.{Printed, IsOfText}
-use Rattle.units_text.specs.UnitsText.{IsUnitsText, readable, values_of, paired, left_over, marks_text, counts_of}
+use Rattle.units_text.specs.declared.fault.UnreadableOctet.{UnreadableOctet}
+use Rattle.printing.specs.Printing.{IsWhole, StopsIn}
+use Rattle.units_text.specs.UnitsText.{IsUnitsText, readable, values_of, paired, left_over, octets_in, fault_place, marks_text, counts_of}
 
 -- The line.
 
@@ -50,27 +52,37 @@ pub record FeedsFirst (old : MarkedLine) (bits : List Bool) (before : List ℕ) 
 
 -- The input.
 
+-- the characters of an input: this was read without a fault
+pub record HasDigits (past : List ℕ) (digits : Digits) : Type 0 where
+  pub all_readable : readable past ≡ past
+  pub place : digits.place ≡ length past
+  pub digit : option_map (λ digit. digit.value) digits.high ≡ left_over (values_of past)
+
+-- these were read, and the octets that they complete were added; an input has at most 2^24 characters
+pub record Decodes (old : Digits) (text before after : List ℕ) (new : Digits) : Type 0 where
+  pub octets : List ℕ
+  pub added : after ≡ before ++ octets
+  pub few : length octets ≤ length text
+  pub goes_on : (past : List ℕ) → length past + length text ≤ 2 ^ 24 → HasDigits past old
+      → HasDigits (past ++ text) new × (paired (values_of (past ++ text)) ≡ paired (values_of past) ++ octets)
+
+-- the input's octets are these up to the fault; where memory was wanted, they begin so
+abbrev pub HaltsIn : Stop UnreadableOctet → List ℕ → List ℕ → Type 0
+HaltsIn (Input fault) input octets = (octets_in input ≡ octets) × (fault_place input ≡ Some fault.place)
+HaltsIn Memory input octets = (more : List ℕ) × (octets_in input ≡ octets ++ more)
+
+-- among these it stopped, whatever follows, and the octets before were added
+pub record Halts (stop : Stop UnreadableOctet) (old : Digits) (text before after : List ℕ) : Type 0 where
+  pub octets : List ℕ
+  pub added : after ≡ before ++ octets
+  pub few : length octets ≤ length text
+  pub ends : (past : List ℕ) → length past + length text ≤ 2 ^ 24 → HasDigits past old
+      → (left : List ℕ) → HaltsIn stop (past ++ (text ++ left)) (paired (values_of past) ++ octets)
+
 -- the reader has read this without a fault, and has printed these lines
 pub record HasRead (past lines : List ℕ) (reader : UnitsReader) : Type 0 where
-  pub all_readable : readable past ≡ past
-  pub place : reader.place ≡ length past
-  pub digit : option_map (λ digit. digit.value) reader.high ≡ left_over (values_of past)
+  pub digits : HasDigits past reader.digits
   pub line : IsLine (line_bits (paired (values_of past))) lines reader.line
-
--- what was printed is the beginning of the input's text
-abbrev pub IsBegun : List ℕ → List ℕ → Type 0
-IsBegun input printed =
-    (played : Printed) → IsUnitsText input played → (more : List ℕ) × (played.printed ≡ printed ++ more)
-
--- the fault is that of the input's text, of which all was printed; want of memory leaves its beginning
-abbrev pub EndsIn : Fault → List ℕ → List ℕ → Type 0
-EndsIn (Octet place) input printed = IsUnitsText input (record { printed = printed; fault = Some (Octet place) })
-EndsIn Memory input printed = IsBegun input printed
-EndsIn Read input printed = ⊥
-EndsIn Write input printed = ⊥
-EndsIn (Text line) input printed = ⊥
-EndsIn (Step line) input printed = ⊥
-EndsIn Exhausted input printed = ⊥
 
 -- these octets were read, and what they print was added; an input has at most 2^24 octets
 pub record Reads (old : UnitsReader) (octets before after : List ℕ) (new : UnitsReader) : Type 0 where
@@ -80,17 +92,17 @@ pub record Reads (old : UnitsReader) (octets before after : List ℕ) (new : Uni
       → HasRead past lines old → HasRead (past ++ octets) (lines ++ printed) new
 
 -- these octets ended the input with a fault, whatever follows
-pub record Stops (fault : Fault) (old : UnitsReader) (octets before after : List ℕ) : Type 0 where
+pub record Stops (stop : Stop UnreadableOctet) (old : UnitsReader) (octets before after : List ℕ) : Type 0 where
   pub printed : List ℕ
   pub added : after ≡ before ++ printed
-  pub of_text : IsOfText fault
   pub ends : (past lines : List ℕ) → length past + length octets ≤ 2 ^ 24
-      → HasRead past lines old → (left : List ℕ) → EndsIn fault (past ++ (octets ++ left)) (lines ++ printed)
+      → HasRead past lines old → (left : List ℕ) → StopsIn stop (IsUnitsText (past ++ (octets ++ left))) (lines ++ printed)
 
 -- the input ended, and what its text still has was added
-pub record Ends (result : Result (Unit {0}) Fault) (old : UnitsReader) (before after : List ℕ) : Type 0 where
+pub record Ends (result : Result (Unit {0}) (Stop UnreadableOctet)) (old : UnitsReader) (before after : List ℕ) : Type 0 where
   pub printed : List ℕ
   pub added : after ≡ before ++ printed
-  pub of_text : IfErr result IsOfText
   pub ends : (past lines : List ℕ) → length past ≤ 2 ^ 24 → HasRead past lines old
-      → MatchResult result (λ done. IsUnitsText past (record { printed = lines ++ printed; fault = None })) (λ fault. EndsIn fault past (lines ++ printed))
+      → MatchResult result
+      (λ done. IsWhole (IsUnitsText past) (lines ++ printed))
+      (λ stop. StopsIn stop (IsUnitsText past) (lines ++ printed))

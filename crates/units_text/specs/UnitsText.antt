@@ -11,7 +11,7 @@ use Rattle.l2_units.specs.declared.unit.Header.{Header}
 use Rattle.l2_units.specs.declared.unit.Unit.{Unit as SignalUnit}
 use Rattle.l2_units.specs.declared.unit.Unit.TheVariants.{Fisu, Lssu, Msu}
 use Rattle.l2_units.specs.Grammar.{unit_of}
-use Rattle.printing.specs.declared.fault.Fault.TheVariants.{Octet}
+use Rattle.units_text.specs.declared.fault.UnreadableOctet.{UnreadableOctet}
 use Rattle.units_text.specs.declared.unit_lines.MarkCounts.{MarkCounts}
 use Rattle.figures.specs.Figures.{hex_value, hex_text, bit}
 use Rattle.printing.specs.Printing.{Printed}
@@ -111,16 +111,16 @@ counts_text c =
     codes "end good=" ++ (decimal c.good ++ (codes " bad=" ++ (decimal c.bad ++ (codes " sixteen=" ++ (decimal c.sixteen ++ codes "\n")))))
 
 -- a fault leaves out the last line
-abbrev pub with_end : Option ℕ → List Mark → Printed
+abbrev pub with_end : Option ℕ → List Mark → Printed UnreadableOctet
 with_end None marks = record { printed = marks_text marks ++ counts_text (counts_of marks); fault = None }
-with_end (Some place) marks = record { printed = marks_text marks; fault = Some (Octet place) }
+with_end (Some place) marks = record { printed = marks_text marks; fault = Some (record { place = place }) }
 
 -- THE TEXT: the lines of the marks that the octets' bits give, each octet's lowest bit first, and the last line or the fault
-pub record IsUnitsText (input : List ℕ) (played : Printed) : Type 0 where
+pub record IsUnitsText (input : List ℕ) (played : Printed UnreadableOctet) : Type 0 where
   pub marks : List Mark
   pub are : AreMarks [] (line_bits (octets_in input)) marks
   pub played_is : played ≡ with_end (fault_place input) marks
 
 -- there is one at most
 abbrev pub InputHasOneText : Type 0
-InputHasOneText = (input : List ℕ) (a b : Printed) → IsUnitsText input a → IsUnitsText input b → a ≡ b
+InputHasOneText = (input : List ℕ) (a b : Printed UnreadableOctet) → IsUnitsText input a → IsUnitsText input b → a ≡ b

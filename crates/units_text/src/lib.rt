@@ -9,11 +9,13 @@
 //! give, and the lines. It's a relation, since the marks of bits are related and not computed;
 //! [`one_units_text`] says that an input has one text at most.
 //!
-//! What comes in pieces is kept by two types of this crate: a reader keeps a lone first digit and the
-//! place in the input, a line keeps its deframer and how many marks it gave.
+//! A piece of the input is first read to octets, which are then fed at once. What comes in pieces is kept by types of this
+//! crate: the digits keep a lone first one and the place in the input, a line keeps its deframer and how many marks it gave.
 #![tactic(auto)]
 
 mod digit;
+mod digits;
+mod fault;
 mod marked_line;
 #[cfg(test)]
 mod tests;
@@ -21,5 +23,6 @@ mod text;
 mod unit_lines;
 mod units_reading;
 
+pub use fault::UnreadableOctet;
 pub use text::units;
 pub use unit_lines::one_units_text;

@@ -1,14 +1,14 @@
 //! The bits of a line, and the lines of their marks.
 ghost use Rattle.l2_bits.specs.declared.marks.Mark.{Mark};
-ghost use Rattle.l2_bits.specs.Deframing.{marked, rest_of, unit_of};
+ghost use Rattle.l2_bits.specs.Deframing.{marked, left_in, unit_of};
 ghost use Rattle.std.specs.Prelude.{◌≡◌, ℕ, ◌+◌, ◌<◌, ◌^◌, List, [], ◌∷◌, ◌++◌, length, if◌then◌else◌, IfOk, MatchResult, true, false};
 ghost use Rattle.std.specs.Result.{is_ok};
-ghost use Rattle.l2_bits.specs.LineBits.{bits_of};
+ghost use Rattle.l2_bits.specs.LineBits.{line_bits};
 ghost use Rattle.units_text.specs.UnitsText.{counts_of, mark_text};
 ghost use Rattle.units_text.specs.UnitsReading.{IsLine, Feeds, FeedsFirst, Breaks};
 
 use super::unit_lines::{MarkCounts, push_mark};
-use l2_bits::{Deframer, MarkKind, Rest};
+use l2_bits::{Deframer, MarkKind, Octets};
 use std::alloc::{AllocError, Global};
 
 /// A line under way: what its deframer keeps, and how many marks it has given.
@@ -36,24 +36,15 @@ impl MarkedLine {
         }
     }
 
-    /// Feeds an octet, its lowest bit first, and adds the lines of its marks.
-    #[inline(always)]
-    pub(crate) fn feed_octet(&mut self, octet: u8, out: &mut Vec<u8>) -> Result<(), AllocError>
-        ensures { MatchResult result (λ done. Feeds self.old (bits_of 8 octet) out.old.items out.new.items self.new) (λ error. Breaks self.old (bits_of 8 octet) out.old.items out.new.items) }
+    /// Feeds these octets, of each the lowest bit first, and adds the lines of their marks.
+    pub(crate) fn feed(&mut self, octets: &[u8], out: &mut Vec<u8>) -> Result<(), AllocError>
+        ensures { MatchResult result
+            (λ done. Feeds self.old (line_bits octets.now) out.old.items out.new.items self.new)
+            (λ error. Breaks self.old (line_bits octets.now) out.old.items out.new.items) }
     {
-        if self.deframer.pass(octet) {
-            return Ok(());
-        }
-        self.feed_marks(octet, out)
-    }
-
-    /// Feeds an octet mark by mark.
-    fn feed_marks(&mut self, octet: u8, out: &mut Vec<u8>) -> Result<(), AllocError>
-        ensures { MatchResult result (λ done. Feeds self.old (bits_of 8 octet) out.old.items out.new.items self.new) (λ error. Breaks self.old (bits_of 8 octet) out.old.items out.new.items) }
-    {
-        let mut rest = Rest::new(octet);
+        let mut left = Octets::new(octets);
         loop {
-            match self.feed_first(&mut rest, out) {
+            match self.feed_first(&mut left, out) {
                 Ok(true) => {}
                 Ok(false) => return Ok(()),
                 Err(error) => return Err(error),
@@ -63,14 +54,14 @@ impl MarkedLine {
 
     /// Feeds the first of these bits up to one that gives a mark, and adds its line; says whether one did.
     #[inline(always)]
-    fn feed_first(&mut self, rest: &mut Rest, out: &mut Vec<u8>) -> Result<bool, AllocError>
+    fn feed_first(&mut self, left: &mut Octets<'_>, out: &mut Vec<u8>) -> Result<bool, AllocError>
         ensures feeds { MatchResult result
-            (λ marked. FeedsFirst self.old (rest_of rest.old) out.old.items (rest_of rest.new) out.new.items self.new)
-            (λ error. Breaks self.old (rest_of rest.old) out.old.items out.new.items) }
-        ensures fewer { IfOk result (λ marked. marked ≡ true → length (rest_of rest.new) < length (rest_of rest.old)) }
-        ensures all { IfOk result (λ marked. marked ≡ false → rest_of rest.new ≡ []) }
+            (λ marked. FeedsFirst self.old (left_in left.old) out.old.items (left_in left.new) out.new.items self.new)
+            (λ error. Breaks self.old (left_in left.old) out.old.items out.new.items) }
+        ensures fewer { IfOk result (λ marked. marked ≡ true → length (left_in left.new) < length (left_in left.old)) }
+        ensures all { IfOk result (λ marked. marked ≡ false → left_in left.new ≡ []) }
     {
-        let Some(kind) = self.deframer.feed_octet(rest) else {
+        let Some(kind) = self.deframer.feed_octets(left) else {
             return Ok(false);
         };
         self.counts = counted(self.counts, kind);

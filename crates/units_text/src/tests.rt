@@ -1,12 +1,17 @@
 //! Lines of digits and what `units` prints for them, worked out by hand and by an independent encoder.
+use super::fault::UnreadableOctet;
 use super::units_reading::UnitsReader;
-use printing::{Fault, Printer};
+use printing::{Printer, Stop};
 use std::alloc::Global;
 use std::process::Abort;
 use std::test::Fail;
 
 /// Prints of the input, handed in by pieces of so many octets, and the fault that it ends with.
-fn read_by(alloc: Global, input: &[u8], piece: usize) -> Result<(Vec<u8>, Option<Fault>), Fail> {
+fn read_by(
+    alloc: Global,
+    input: &[u8],
+    piece: usize,
+) -> Result<(Vec<u8>, Option<Stop<UnreadableOctet>>), Fail> {
     let mut reader = UnitsReader::new(alloc);
     let mut out = Vec::new(alloc);
     for octets in input.chunks(piece.max(1)) {
@@ -24,7 +29,7 @@ fn prints(
     alloc: Global,
     input: &[u8],
     lines: &[u8],
-    fault: Option<Fault>,
+    fault: Option<Stop<UnreadableOctet>>,
 ) -> Result<(), Fail> {
     for piece in [4096usize, 1, 3] {
         let (printed, ended) = read_by(alloc, input, piece)?;
@@ -110,20 +115,26 @@ fn blanks_stand_anywhere_and_digits_have_either_case(rt: HostRuntime) -> Result<
 
 #[test]
 fn faults_tell_their_place(rt: HostRuntime) -> Result<(), Fail> {
-    prints(&rt, rt.alloc(), b"7", b"", Some(Fault::Octet { place: 1 }))?;
+    prints(
+        &rt,
+        rt.alloc(),
+        b"7",
+        b"",
+        Some(Stop::Input(UnreadableOctet { place: 1 })),
+    )?;
     prints(
         &rt,
         rt.alloc(),
         b"7e0\n",
         b"",
-        Some(Fault::Octet { place: 4 }),
+        Some(Stop::Input(UnreadableOctet { place: 4 })),
     )?;
     prints(
         &rt,
         rt.alloc(),
         b"7 g",
         b"",
-        Some(Fault::Octet { place: 2 }),
+        Some(Stop::Input(UnreadableOctet { place: 2 })),
     )?;
     let lines = b"good fisu bsn=127 bib=1 fsn=127 fib=1\n";
     prints(
@@ -131,7 +142,7 @@ fn faults_tell_their_place(rt: HostRuntime) -> Result<(), Fail> {
         rt.alloc(),
         b"7edff705f8beaf1f-7e00007e",
         lines,
-        Some(Fault::Octet { place: 16 }),
+        Some(Stop::Input(UnreadableOctet { place: 16 })),
     )
 }
 
@@ -145,7 +156,7 @@ fn a_refused_growth_prints_a_beginning(rt: HostRuntime) -> Result<(), Fail> {
     let lines = b"good fisu bsn=127 bib=1 fsn=127 fib=1\nbad\nbad\nend good=1 bad=2 sixteen=0\n";
     let (printed, ended) = read_by(rt.alloc(), input, 4)?;
     assert!(rt; lines.starts_with(&printed));
-    assert!(rt; ended.is_none() || ended == Some(Fault::Memory));
+    assert!(rt; ended.is_none() || ended == Some(Stop::Memory));
     assert!(rt; ended.is_some() || printed.len() == lines.len());
     Ok(())
 }

@@ -3,17 +3,22 @@ ghost use Rattle.std.specs.Prelude.{◌≡◌, ◌≤◌, ◌^◌, true, length,
 ghost use Rattle.printing.specs.Printing.{Prints, IsDevices, HasFailed};
 ghost use Rattle.units_text.specs.UnitsText.{IsUnitsText};
 
+use super::fault::UnreadableOctet;
 use super::units_reading::UnitsReader;
 use printing::{Fault, Sink, Source, print_all};
 use std::alloc::Global;
 
 /// Reads the hexadecimal digits that the source gives, and writes a line for each mark of their bits.
 ///
-/// Ends with the first fault; what was printed before it stays printed. [`Fault::Octet`] tells a
+/// Ends with the first fault; what was printed before it stays printed. [`UnreadableOctet`] tells a
 /// character that is neither a digit nor skipped, or the end of the input where a digit is left
 /// over. An input of more than 2^24 octets is never answered Ok, and one of 2^24 or more may be
 /// [`Fault::Read`], as [`print_all`] tells.
-pub fn units<S: Source, W: Sink>(alloc: Global, source: &mut S, sink: &mut W) -> Result<(), Fault>
+pub fn units<S: Source, W: Sink>(
+    alloc: Global,
+    source: &mut S,
+    sink: &mut W,
+) -> Result<(), Fault<UnreadableOctet>>
     ensures text { IfSome (S.left source.old) (λ input. Prints result (IsUnitsText input) (W.written sink.old) (W.written sink.new)) }
     ensures bounded { IfSome (S.left source.old) (λ input. OnOk result (length input ≤ 2 ^ 24)) }
     ensures devices { IfSome (S.left source.old) (λ input. IfErr result (λ fault. IsDevices fault (HasFailed (S.has_failed source.new) input) (W.has_failed sink.new ≡ true))) }

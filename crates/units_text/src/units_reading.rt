@@ -6,25 +6,24 @@
 //! bits      0 1 1 1 1 1 1 0  ..     fed lowest first
 //! marks     a line of the output each
 //! ```
-ghost use Rattle.std.specs.Prelude.{◌≡◌, [], ◌∷◌, MatchResult};
-ghost use Rattle.units_text.specs.UnitsText.{is_blank as is_blank_in};
+ghost use Rattle.std.specs.Prelude.{[], MatchResult};
 ghost use Rattle.units_text.specs.UnitsReading.{HasRead, Reads, Stops, Ends};
 
-use super::digit::{Digit, digit_of};
+use super::digits::Digits;
+use super::fault::UnreadableOctet;
 use super::marked_line::MarkedLine;
 use super::unit_lines::counts_line;
-use printing::{Fault, Printer};
+use printing::{Printer, Stop};
 use std::alloc::Global;
 
 /// An input of `units` under way: what the line has given, and what of the input waits.
 #[derive(Drop)]
 pub(crate) struct UnitsReader {
     alloc: Global,
+    digits: Digits,
+    /// The octets of a piece of the input, before they're fed; their memory is kept for the next.
+    octets: Vec<u8>,
     line: MarkedLine,
-    /// The first digit of an octet whose second is still to come.
-    high: Option<Digit>,
-    /// How many octets of the input were read.
-    place: u64,
 }
 
 impl UnitsReader {
@@ -34,69 +33,50 @@ impl UnitsReader {
     {
         UnitsReader {
             alloc,
+            digits: Digits::new(),
+            octets: Vec::new(alloc),
             line: MarkedLine::new(alloc),
-            high: None,
-            place: 0,
         }
     }
 
-    /// Reads these octets of the input, and adds the lines of the marks that they give.
+    /// Reads these characters of the input, and adds the lines of the marks that they give.
     ///
-    /// [`Fault::Octet`] at the first that is neither a digit nor skipped; the lines of the marks
-    /// before it are added.
-    fn read_all(&mut self, octets: &[u8], out: &mut Vec<u8>) -> Result<(), Fault>
-        ensures { MatchResult result (λ done. Reads self.old octets.now out.old.items out.new.items self.new) (λ fault. Stops fault self.old octets.now out.old.items out.new.items) }
+    /// Stops at the first that is neither a digit nor skipped; the lines of the marks before it are added.
+    fn read_all(&mut self, text: &[u8], out: &mut Vec<u8>) -> Result<(), Stop<UnreadableOctet>>
+        ensures { MatchResult result
+            (λ done. Reads self.old text.now out.old.items out.new.items self.new)
+            (λ stop. Stops stop self.old text.now out.old.items out.new.items) }
     {
-        for octet in octets {
-            match self.take(*octet, out) {
-                Ok(()) => {}
-                Err(fault) => return Err(fault),
-            }
-        }
-        Ok(())
-    }
-
-    /// Reads one octet of the input.
-    fn take(&mut self, c: u8, out: &mut Vec<u8>) -> Result<(), Fault>
-        ensures { MatchResult result (λ done. Reads self.old (c ∷ []) out.old.items out.new.items self.new) (λ fault. Stops fault self.old (c ∷ []) out.old.items out.new.items) }
-    {
-        let place = self.place;
-        self.place = place.saturating_add(1);
-        if is_blank(c) {
-            return Ok(());
-        }
-        let Some(digit) = digit_of(c) else {
-            return Err(Fault::Octet { place });
-        };
-        let Some(high) = self.high else {
-            self.high = Some(digit);
-            return Ok(());
-        };
-        self.high = None;
-        match self.line.feed_octet(16 * high.value + digit.value, out) {
-            Ok(()) => Ok(()),
-            Err(_) => Err(Fault::Memory),
+        self.octets.clear();
+        let read = self.digits.read(text, &mut self.octets);
+        match self.line.feed(&self.octets, out) {
+            Ok(()) => read,
+            Err(_) => Err(Stop::Memory),
         }
     }
 
     /// The input has ended: adds the last line, or tells the digit that is left over.
-    fn finish(self, out: &mut Vec<u8>) -> Result<(), Fault>
+    fn finish(self, out: &mut Vec<u8>) -> Result<(), Stop<UnreadableOctet>>
         ensures { Ends result self out.old.items out.new.items }
     {
-        if self.high.is_some() {
-            return Err(Fault::Octet { place: self.place });
+        if self.digits.high.is_some() {
+            return Err(Stop::Input(UnreadableOctet {
+                place: self.digits.place,
+            }));
         }
         let Ok(text) = counts_line(self.alloc, self.line.counts) else {
-            return Err(Fault::Memory);
+            return Err(Stop::Memory);
         };
         match out.extend_from_slice(&text) {
             Ok(()) => Ok(()),
-            Err(_) => Err(Fault::Memory),
+            Err(_) => Err(Stop::Memory),
         }
     }
 }
 
 impl Printer for UnitsReader {
+    type Fault = UnreadableOctet;
+
     ghost use Rattle.units_text.specs.UnitsText.{IsUnitsText};
     ghost use Rattle.units_text.specs.UnitsReading.{HasRead};
 
@@ -104,18 +84,11 @@ impl Printer for UnitsReader {
 
     ghost has_read = { λ reader past lines. HasRead past lines reader };
 
-    fn read(&mut self, octets: &[u8], out: &mut Vec<u8>) -> Result<(), Fault> {
+    fn read(&mut self, octets: &[u8], out: &mut Vec<u8>) -> Result<(), Stop<UnreadableOctet>> {
         self.read_all(octets, out)
     }
 
-    fn end(self, out: &mut Vec<u8>) -> Result<(), Fault> {
+    fn end(self, out: &mut Vec<u8>) -> Result<(), Stop<UnreadableOctet>> {
         self.finish(out)
     }
-}
-
-/// Whether the character is skipped.
-fn is_blank(c: u8) -> bool
-    ensures { result ≡ is_blank_in c }
-{
-    matches!(c, b' ' | b'\t' | b'\r' | b'\n')
 }

@@ -3,4 +3,4 @@ use Rattle.l2_bits.proofs.WindowLemmas.{no_five}
 use Rattle.l2_bits.proofs.deframing.fives.Goals as goal
 
 pub returns : goal.returns
-returns c = no_five c.args.last c.args.octet _ (omega arith) (omega arith) (rw (c.from.ensures, c.from-2.ensures) refl)
+returns c = no_five c.args.last c.args.bits _ (omega arith) (rw c.from.ensures refl)

@@ -1,8 +1,10 @@
-use Rattle.printing.proofs.PrintLemmas.{breaks}
+use Rattle.printing.proofs.PrintLemmas.{passes, devices}
 use Rattle.printing.proofs.printing.pass.Goals as goal
 
--- src/printing.rt:66:1
 pub returns-clause-passes : goal.returns-clause-passes
 returns-clause-passes g c =
-    breaks g.P.Printer.is_text _ c.in-Err.fault _ _ c.args.octets.now _ _ _ _ c.new-out.ensures.items
-    c.read-read.ensures (rw (← c.deref.ensures.value) c.in-Err.ensures.writes)
+    rw c.answered.ensures (passes g.P.Printer.is_text c.read-read.result c.write_all-written.result _ _ c.args.octets.now _ _ _ _ c.new-out.ensures.items
+    c.read-read.ensures (rw (← c.deref.ensures.value) c.write_all-written.ensures.writes))
+
+pub returns-clause-failed : goal.returns-clause-failed
+returns-clause-failed g c = rw c.answered.ensures (devices c.read-read.result c.write_all-written.result _ c.write_all-written.ensures.failed)

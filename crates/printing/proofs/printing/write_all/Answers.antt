@@ -1,4 +1,4 @@
-use Rattle.std.proofs.Common.{arith, refl, sym, take, drop, take-append-drop}
+use Rattle.std.proofs.Common.{arith, sym, take, drop, take-append-drop}
 use Rattle.std.proofs.KnownBytes.{Appends-kept}
 use Rattle.printing.proofs.PrintLemmas.{appends_more, take_then, length-slice}
 use Rattle.printing.proofs.printing.write_all.Goals as goal
@@ -17,5 +17,5 @@ returns-in-Err-clause-writes g c = record {
   more = drop c.loop-written.written c.args.octets.now;
   split = sym (take-append-drop c.loop-written.written c.args.octets.now);
   added = Appends-kept _ _ _ _ c.loop-written.invariant.1 c.in-Err.ensures.octets;
-  ends = refl;
+  ends = tt;
 }

@@ -1,15 +1,9 @@
-use Rattle.std.proofs.Common.{◌≡◌, ℕ, false, ◌++◌, Option, Some, None, refl, ap, sym, ◌∙◌, arith}
-use Rattle.std.proofs.lemmas.Bool.{false≢true}
-use Rattle.std.specs.Option.{is_some}
+use Rattle.std.proofs.Common.{◌≡◌, ℕ, ◌++◌, None, ap, sym, ◌∙◌, arith}
 use Rattle.l2_bits.specs.LineBits.{bits_of}
 use Rattle.l2_bits.specs.Deframing.{mark_of, unit_of, rest_of}
 use Rattle.l2_bits.proofs.BitLemmas.{bits_of-zero, length-bits_of}
-use Rattle.l2_bits.proofs.FeedingLemmas.{fed_on, bit_fed}
+use Rattle.l2_bits.proofs.FeedingLemmas.{fed_on, bit_fed, no_kind}
 use Rattle.l2_bits.proofs.deframing.Deframer.feed_octet.Goals as goal
-
-no_kind : {A : Type 0} (kind : Option A) → is_some kind ≡ false → kind ≡ None
-no_kind None none = refl
-no_kind (Some kind) none = absurd (false≢true (sym none))
 
 pub returns-then-rest-eq0-clause-marks : goal.returns-then-rest-eq0-clause-marks
 returns-then-rest-eq0-clause-marks c = λ past is.

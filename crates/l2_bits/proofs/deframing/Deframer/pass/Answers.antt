@@ -1,14 +1,10 @@
-use Rattle.std.proofs.Common.{arith}
-use Rattle.std.proofs.lemmas.Nat.Bits.{bit_at-zero}
-use Rattle.l2_bits.proofs.BitLemmas.{length-bits_of}
+use Rattle.l2_bits.proofs.FeedingLemmas.{none_of_eight}
 use Rattle.l2_bits.proofs.deframing.Deframer.pass.Goals as goal
 
 pub returns-clause-stands : goal.returns-clause-stands
 returns-clause-stands c = λ past is _.
-    (c.run.ensures past is
-    (λ front i within. c.fives.ensures front i (omega (arith, within, length-bits_of 8 c.args.octet)) (rw c.if-fives-ne0.false (bit_at-zero i)))).stands
+    rw (← c.from-bits.ensures) (c.run.ensures past is (none_of_eight c.args.self.now.last c.from-bits.result c.fives.result c.fives.ensures c.if-fives-ne0.false)).stands
 
 pub returns-clause-marks : goal.returns-clause-marks
 returns-clause-marks c = λ past is _.
-    (c.run.ensures past is
-    (λ front i within. c.fives.ensures front i (omega (arith, within, length-bits_of 8 c.args.octet)) (rw c.if-fives-ne0.false (bit_at-zero i)))).marks
+    rw (← c.from-bits.ensures) (c.run.ensures past is (none_of_eight c.args.self.now.last c.from-bits.result c.fives.result c.fives.ensures c.if-fives-ne0.false)).marks

@@ -11,4 +11,4 @@ returns-in-Ok c =
 -- src/player.rt:66:5
 pub returns-in-Err : goal.returns-in-Err
 returns-in-Err c =
-    rw (← c.self.view_is) (halts_line c.in-Err.fault _ _ _ c.self.invariant.is_open (rw (← c.deref.ensures.value) c.in-Err.ensures.0) c.in-Err.ensures.1)
+    rw (← c.self.view_is) (halts_line c.in-Err.stop _ _ _ c.self.invariant.is_open (rw (← c.deref.ensures.value) c.in-Err.ensures.0) c.in-Err.ensures.1)

@@ -12,4 +12,4 @@ returns-in-Ok c = rw (← c.self.view_is) (ends_line _ _ _ _ _ _ _ _ (something_
 
 -- src/player.rt:113:5
 pub returns : goal.returns
-returns c = rw (← c.self.view_is) (halts_last c.in-Err.fault _ _ _ _ _ (something_read c.self.inside.text.items _ c.self.inside.text.ok.0 (sym c.if-is_empty.ensures)) c.self.invariant.is_open (rw (← c.deref.ensures.value) c.in-Err.ensures.0) c.in-Err.ensures.1)
+returns c = rw (← c.self.view_is) (halts_last c.in-Err.stop _ _ _ _ _ (something_read c.self.inside.text.items _ c.self.inside.text.ok.0 (sym c.if-is_empty.ensures)) c.self.invariant.is_open (rw (← c.deref.ensures.value) c.in-Err.ensures.0) c.in-Err.ensures.1)

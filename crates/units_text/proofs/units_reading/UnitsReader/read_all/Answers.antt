@@ -1,27 +1,12 @@
-use Rattle.std.proofs.Common.{◌≡◌, ◌+◌, [], drop, arith}
-use Rattle.std.proofs.lemmas.List.{drop_all}
-use Rattle.units_text.proofs.ReaderLemmas.{reads_none, reads_then, reads_stops, stops_more, drop_step}
+use Rattle.units_text.proofs.ReaderLemmas.{read_fed, stops_broken}
 use Rattle.units_text.proofs.units_reading.UnitsReader.read_all.Goals as goal
+
+pub returns-in-Ok : goal.returns-in-Ok
+returns-in-Ok c =
+    read_fed c.read-read.result c.args.self.now _ c.args.text.now c.read-read.new.octets.items c.args.out.now.items c.feed.new.out.items
+    (rw c.clear.ensures.items at c.read-read.ensures) (rw c.deref.ensures.value at c.in-Ok.ensures)
 
 pub returns-in-Err : goal.returns-in-Err
 returns-in-Err c =
-    c.loop-octet.invariant.stops c.in-Err.fault c.take.new.out.items
-    (rw (drop_step c.args.octets.now c.loop-octet.octet-index 0 (omega arith))
-    (stops_more c.in-Err.fault c.loop-octet.self _ (drop (c.loop-octet.octet-index + 1) c.args.octets.now) c.loop-octet.out.items c.take.new.out.items c.in-Err.ensures))
-
-pub loop-octet-preserved : goal.loop-octet-preserved
-loop-octet-preserved c = record {
-  reads = λ after new later.
-      c.loop-octet.invariant.reads after new
-      (rw (drop_step c.args.octets.now c.loop-octet.octet-index 0 (omega arith))
-      (reads_then c.loop-octet.self c.take.new.self new _ _ c.loop-octet.out.items c.take.new.out.items after c.in-Ok.ensures later));
-  stops = λ fault after later.
-      c.loop-octet.invariant.stops fault after
-      (rw (drop_step c.args.octets.now c.loop-octet.octet-index 0 (omega arith))
-      (reads_stops fault c.loop-octet.self c.take.new.self _ _ c.loop-octet.out.items c.take.new.out.items after c.in-Ok.ensures later));
-}
-
-pub returns : goal.returns
-returns c =
-    let none : drop c.loop-octet.octet-index c.args.octets.now ≡ [] = drop_all c.loop-octet.octet-index c.args.octets.now (omega arith) in
-    c.loop-octet.invariant.reads c.loop-octet.out.items c.loop-octet.self (rw none (reads_none c.loop-octet.self c.loop-octet.out.items))
+    stops_broken c.read-read.result c.args.self.now c.read-read.new.self c.args.text.now c.read-read.new.octets.items c.args.out.now.items c.feed.new.out.items
+    (rw c.clear.ensures.items at c.read-read.ensures) (rw c.deref.ensures.value at c.in-Err.ensures)

@@ -1,9 +1,9 @@
 use Rattle.l2_bits.proofs.FeedingLemmas.{masked, bits_split}
-use Rattle.l2_bits.proofs.deframing.Rest.take.Goals as goal
+use Rattle.l2_bits.proofs.rest.Rest.take.Goals as goal
 
 pub returns-clause-split : goal.returns-clause-split
 returns-clause-split c =
-    rw (c.from.ensures, masked c.args.self.now.bits c.args.count c.requires.few)
+    rw (masked c.args.self.now.bits c.args.count c.requires.few)
     (bits_split c.args.self.now.left c.args.count c.args.self.now.bits c.requires.there)
 
 pub returns-clause-taken : goal.returns-clause-taken

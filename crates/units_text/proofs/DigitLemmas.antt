@@ -1,0 +1,233 @@
+-- The characters of an input, one by one.
+use Rattle.std.proofs.Common.{refl, arith, ◌≡◌, ◌∙◌, ap, sym, ◌<◌, ◌≤◌, [], ◌∷◌, length, ℕ, ◌+◌, ◌*◌, ◌^◌, Bool, true, false, nat_lt, ◌||◌, List, ◌++◌, drop, drop-cons, slice_index_or, suc, Option, Some, None, append_assoc, append-nil, length-append}
+use Rattle.std.proofs.lemmas.Grind.{flat_map-append}
+use Rattle.std.proofs.lemmas.Bool.Decides.{nat_tests}
+use Rattle.std.specs.Option.{option_to_list, option_map, is_some}
+use Rattle.printing.specs.declared.fault.Stop.{Stop}
+use Rattle.printing.specs.declared.fault.Stop.TheVariants.{Input, Memory}
+use Rattle.units_text.specs.declared.digit.Digit.{Digit}
+use Rattle.units_text.specs.declared.digits.Digits.{Digits}
+use Rattle.units_text.specs.declared.fault.UnreadableOctet.{UnreadableOctet}
+use Rattle.figures.specs.Figures.{hex_value}
+use Rattle.units_text.specs.UnitsText.{is_blank, readable, values_of, paired, left_over, octets_in}
+use Rattle.units_text.specs.UnitsReading.{Decodes, Halts, HaltsIn}
+
+-- Digits.
+
+-- what was read is read the same, whatever follows
+readable_front : (past cs : List ℕ) → readable past ≡ past → readable (past ++ cs) ≡ past ++ readable cs
+readable_front [] cs e = refl
+readable_front (c ∷ past) cs e = go (is_blank c || is_some (hex_value c)) refl (readable_front past cs)
+  where
+    go : (b : Bool) → (is_blank c || is_some (hex_value c)) ≡ b → (readable past ≡ past → readable (past ++ cs) ≡ past ++ readable cs) → readable (c ∷ (past ++ cs)) ≡ c ∷ (past ++ readable cs)
+    go true f later =
+        let whole : c ∷ readable past ≡ c ∷ past = rw f at e in
+        rw f (ap (λ (xs : List ℕ). c ∷ xs) (later (ap (drop 1) whole)))
+    go false f later = let none : [] ≡ c ∷ past = rw f at e in cc
+
+values_front : (xs ys : List ℕ) → values_of (xs ++ ys) ≡ values_of xs ++ values_of ys
+values_front xs ys = flat_map-append _ xs ys
+
+paired_even : (vs ws : List ℕ) → left_over vs ≡ None → paired (vs ++ ws) ≡ paired vs ++ paired ws
+paired_even [] ws e = refl
+paired_even (high ∷ []) ws e = cc
+paired_even (high ∷ low ∷ vs) ws e = ap (λ (octets : List ℕ). (16 * high + low) ∷ octets) (paired_even vs ws e)
+
+left_even : (vs ws : List ℕ) → left_over vs ≡ None → left_over (vs ++ ws) ≡ left_over ws
+left_even [] ws e = refl
+left_even (high ∷ []) ws e = cc
+left_even (high ∷ low ∷ vs) ws e = left_even vs ws e
+
+paired_odd : (vs ws : List ℕ) (high low : ℕ) → left_over vs ≡ Some high → paired (vs ++ low ∷ ws) ≡ paired vs ++ (16 * high + low) ∷ paired ws
+paired_odd [] ws high low e = cc
+paired_odd (first ∷ []) ws high low e = let same : first ≡ high = cc in ap (λ (n : ℕ). (16 * n + low) ∷ paired ws) same
+paired_odd (first ∷ second ∷ vs) ws high low e = ap (λ (octets : List ℕ). (16 * first + second) ∷ octets) (paired_odd vs ws high low e)
+
+left_odd : (vs ws : List ℕ) (high low : ℕ) → left_over vs ≡ Some high → left_over (vs ++ low ∷ ws) ≡ left_over ws
+left_odd [] ws high low e = cc
+left_odd (first ∷ []) ws high low e = refl
+left_odd (first ∷ second ∷ vs) ws high low e = left_odd vs ws high low e
+
+-- a line has few bits
+few_values : (cs : List ℕ) → length (values_of cs) ≤ length cs
+few_values [] = omega arith
+few_values (c ∷ cs) = one (hex_value c) (few_values cs)
+  where
+    one : (value : Option ℕ) → length (values_of cs) ≤ length cs → length (option_to_list value ++ values_of cs) ≤ length (c ∷ cs)
+    one None h = omega (arith, h)
+    one (Some v) h = omega (arith, h)
+
+few_octets : (vs : List ℕ) → length (paired vs) ≤ length vs
+few_octets [] = omega arith
+few_octets (high ∷ []) = omega arith
+few_octets (high ∷ low ∷ vs) = omega (arith, few_octets vs)
+
+pub few_paired : (past : List ℕ) → length (paired (values_of past)) ≤ length past
+few_paired past = omega (arith, few_octets (values_of past), few_values past)
+
+-- One character.
+
+or_true : (b : Bool) → (b || true) ≡ true
+or_true true = refl
+or_true false = refl
+
+-- a blank is no digit
+blank_alone : (c : ℕ) → is_blank c ≡ true → hex_value c ≡ None
+blank_alone c e = grind (arith, nat_tests)
+
+blank_front : (c : ℕ) (cs : List ℕ) → is_blank c ≡ true → readable (c ∷ cs) ≡ c ∷ readable cs
+blank_front c cs e = rw e refl
+
+digit_front : (c v : ℕ) (cs : List ℕ) → hex_value c ≡ Some v → readable (c ∷ cs) ≡ c ∷ readable cs
+digit_front c v cs e = rw (e, or_true (is_blank c)) refl
+
+bad_front : (c : ℕ) (cs : List ℕ) → is_blank c ≡ false → hex_value c ≡ None → readable (c ∷ cs) ≡ []
+bad_front c cs e f = rw (e, f) refl
+
+blank_values : (past : List ℕ) (c : ℕ) → hex_value c ≡ None → values_of (past ++ c ∷ []) ≡ values_of past
+blank_values past c e = values_front past (c ∷ []) ∙ rw e (append-nil (values_of past))
+
+digit_values : (past cs : List ℕ) (c v : ℕ) → hex_value c ≡ Some v → values_of (past ++ c ∷ cs) ≡ values_of past ++ v ∷ values_of cs
+digit_values past cs c v e = values_front past (c ∷ cs) ∙ rw e refl
+
+one_more : (old new : ℕ) (past : List ℕ) (c : ℕ) → length past + 1 ≤ 2 ^ 24 → (old + 1 < 2 ^ 64 → new ≡ old + 1) → old ≡ length past → new ≡ length (past ++ c ∷ [])
+one_more old new past c fits step is = omega (arith, fits, is, step (omega (arith, fits, is)), length-append past (c ∷ []))
+
+pub decodes_blank : (old new : Digits) (c : ℕ) (before : List ℕ) → hex_value c ≡ None → is_blank c ≡ true → new.high ≡ old.high → (old.place + 1 < 2 ^ 64 → new.place ≡ old.place + 1) → Decodes old (c ∷ []) before before new
+decodes_blank old new c before none blank high_is place_is = record {
+  octets = [];
+  added = sym (append-nil before);
+  few = omega arith;
+  goes_on = λ past fits has.
+      let same : values_of (past ++ c ∷ []) ≡ values_of past = blank_values past c none in (
+        record {
+          all_readable = readable_front past (c ∷ []) has.all_readable ∙ ap (λ (cs : List ℕ). past ++ cs) (blank_front c [] blank);
+          place = one_more old.place new.place past c fits place_is has.place;
+          digit = rw (same, high_is) has.digit;
+        },
+        ap paired same ∙ sym (append-nil (paired (values_of past))),
+      );
+}
+
+pub decodes_first : (old new : Digits) (c v : ℕ) (before : List ℕ) → hex_value c ≡ Some v → old.high ≡ None → option_map (λ (digit : Digit). digit.value) new.high ≡ Some v → (old.place + 1 < 2 ^ 64 → new.place ≡ old.place + 1) → Decodes old (c ∷ []) before before new
+decodes_first old new c v before value none high_is place_is = record {
+  octets = [];
+  added = sym (append-nil before);
+  few = omega arith;
+  goes_on = λ past fits has.
+      let more : values_of (past ++ c ∷ []) ≡ values_of past ++ v ∷ [] = digit_values past [] c v value in
+      let even : left_over (values_of past) ≡ None = sym has.digit ∙ ap (option_map (λ (digit : Digit). digit.value)) none in (
+        record {
+          all_readable = readable_front past (c ∷ []) has.all_readable ∙ ap (λ (cs : List ℕ). past ++ cs) (digit_front c v [] value);
+          place = one_more old.place new.place past c fits place_is has.place;
+          digit = high_is ∙ sym (ap left_over more ∙ left_even (values_of past) (v ∷ []) even);
+        },
+        ap paired more ∙ paired_even (values_of past) (v ∷ []) even,
+      );
+}
+
+pub decodes_second : (old new : Digits) (c h v : ℕ) (before after : List ℕ) → hex_value c ≡ Some v → option_map (λ (digit : Digit). digit.value) old.high ≡ Some h → new.high ≡ None → (old.place + 1 < 2 ^ 64 → new.place ≡ old.place + 1) → after ≡ before ++ (16 * h + v) ∷ [] → Decodes old (c ∷ []) before after new
+decodes_second old new c h v before after value high_is none place_is added = record {
+  octets = (16 * h + v) ∷ [];
+  added = added;
+  few = omega arith;
+  goes_on = λ past fits has.
+      let more : values_of (past ++ c ∷ []) ≡ values_of past ++ v ∷ [] = digit_values past [] c v value in
+      let odd : left_over (values_of past) ≡ Some h = sym has.digit ∙ high_is in (
+        record {
+          all_readable = readable_front past (c ∷ []) has.all_readable ∙ ap (λ (cs : List ℕ). past ++ cs) (digit_front c v [] value);
+          place = one_more old.place new.place past c fits place_is has.place;
+          digit = ap (option_map (λ (digit : Digit). digit.value)) none ∙ sym (ap left_over more ∙ left_odd (values_of past) [] h v odd);
+        },
+        ap paired more ∙ paired_odd (values_of past) [] h v odd,
+      );
+}
+
+paired_begins : (vs ws : List ℕ) → (more : List ℕ) × (paired (vs ++ ws) ≡ paired vs ++ more)
+paired_begins [] ws = (paired ws, refl)
+paired_begins (high ∷ []) ws = (paired (high ∷ ws), refl)
+paired_begins (high ∷ low ∷ vs) ws =
+    let rest = paired_begins vs ws in (rest.0, ap (λ (octets : List ℕ). (16 * high + low) ∷ octets) rest.1)
+
+-- what was read is read the same, whatever follows
+pub past_octets : (past left : List ℕ) → readable past ≡ past → (more : List ℕ) × (octets_in (past ++ left) ≡ paired (values_of past) ++ more)
+past_octets past left all =
+    let rest = paired_begins (values_of past) (values_of (readable left)) in
+    (rest.0, rw (readable_front past left all, values_front past (readable left)) rest.1)
+
+-- Where they stop.
+
+-- memory is wanted
+pub halts_for_memory : (old : Digits) (text before after : List ℕ) → after ≡ before → Halts Memory old text before after
+halts_for_memory old text before after same = record {
+  octets = [];
+  added = same ∙ sym (append-nil before);
+  few = omega arith;
+  ends = λ past fits has left.
+      let begun = past_octets past (text ++ left) has.all_readable in
+      (begun.0, begun.1 ∙ ap (λ (front : List ℕ). front ++ begun.0) (sym (append-nil (paired (values_of past)))));
+}
+
+-- a character that can't be read
+pub halts_bad : (old : Digits) (c : ℕ) (before : List ℕ) → is_blank c ≡ false → hex_value c ≡ None → Halts (Input (record { place = old.place })) old (c ∷ []) before before
+halts_bad old c before no_blank no_digit = record {
+  octets = [];
+  added = sym (append-nil before);
+  few = omega arith;
+  ends = λ past fits has left.
+      let front : readable (past ++ c ∷ left) ≡ past =
+      readable_front past (c ∷ left) has.all_readable ∙ ap (λ (cs : List ℕ). past ++ cs) (bad_front c left no_blank no_digit) ∙ append-nil past in
+      let inside : nat_lt (length past) (length (past ++ c ∷ left)) ≡ true = grind (arith, nat_tests, length-append past (c ∷ left)) in
+      (rw (front, append-nil (paired (values_of past))) refl, rw (front, inside, has.place) refl);
+}
+
+-- One after another.
+
+pub decodes_none : (digits : Digits) (before : List ℕ) → Decodes digits [] before before digits
+decodes_none digits before = record {
+  octets = [];
+  added = sym (append-nil before);
+  few = omega arith;
+  goes_on = λ past fits has. (rw (append-nil past) has, rw (append-nil past, append-nil (paired (values_of past))) refl);
+}
+
+pub decodes_then : (a b d : Digits) (c : ℕ) (cs : List ℕ) (x y z : List ℕ) → Decodes a (c ∷ []) x y b → Decodes b cs y z d → Decodes a (c ∷ cs) x z d
+decodes_then a b d c cs x y z f g = record {
+  octets = f.octets ++ g.octets;
+  added = g.added ∙ ap (λ (front : List ℕ). front ++ g.octets) f.added ∙ append_assoc x f.octets g.octets;
+  few = omega (arith, f.few, g.few, length-append f.octets g.octets);
+  goes_on = λ past fits has.
+      let past_is : (past ++ c ∷ []) ++ cs ≡ past ++ c ∷ cs = append_assoc past (c ∷ []) cs in
+      let first = f.goes_on past (omega (arith, fits)) has in
+      let more = g.goes_on (past ++ c ∷ []) (omega (arith, fits, length-append past (c ∷ []))) first.0 in (
+        rw past_is at more.0,
+        ap (λ (text : List ℕ). paired (values_of text)) (sym past_is) ∙ more.1 ∙ ap (λ (front : List ℕ). front ++ g.octets) first.1
+            ∙ append_assoc (paired (values_of past)) f.octets g.octets,
+      );
+}
+
+halts_on : (stop : Stop UnreadableOctet) (input before a b : List ℕ) → HaltsIn stop input ((before ++ a) ++ b) → HaltsIn stop input (before ++ (a ++ b))
+halts_on stop input before a b h = rw (append_assoc before a b) at h
+
+pub halts_then : (stop : Stop UnreadableOctet) (a b : Digits) (c : ℕ) (cs : List ℕ) (x y z : List ℕ) → Decodes a (c ∷ []) x y b → Halts stop b cs y z → Halts stop a (c ∷ cs) x z
+halts_then stop a b c cs x y z f g = record {
+  octets = f.octets ++ g.octets;
+  added = g.added ∙ ap (λ (front : List ℕ). front ++ g.octets) f.added ∙ append_assoc x f.octets g.octets;
+  few = omega (arith, f.few, g.few, length-append f.octets g.octets);
+  ends = λ past fits has left.
+      let past_is : (past ++ c ∷ []) ++ (cs ++ left) ≡ past ++ c ∷ (cs ++ left) = append_assoc past (c ∷ []) (cs ++ left) in
+      let first = f.goes_on past (omega (arith, fits)) has in
+      let more = g.ends (past ++ c ∷ []) (omega (arith, fits, length-append past (c ∷ []))) first.0 left in
+      halts_on stop (past ++ c ∷ (cs ++ left)) (paired (values_of past)) f.octets g.octets (rw (past_is, first.1) at more);
+}
+
+pub halts_more : (stop : Stop UnreadableOctet) (a : Digits) (c : ℕ) (cs : List ℕ) (x z : List ℕ) → Halts stop a (c ∷ []) x z → Halts stop a (c ∷ cs) x z
+halts_more stop a c cs x z halts = record {
+  octets = halts.octets;
+  added = halts.added;
+  few = omega (arith, halts.few);
+  ends = λ past fits has left. halts.ends past (omega (arith, fits)) has (cs ++ left);
+}
+
+pub drop_step : (xs : List ℕ) (i d : ℕ) → i < length xs → drop i xs ≡ slice_index_or xs i d ∷ drop (i + 1) xs
+drop_step xs i d h = let next : suc i ≡ i + 1 = omega arith in drop-cons xs i d h ∙ ap (λ (n : ℕ). slice_index_or xs i d ∷ drop n xs) next

@@ -1,0 +1,15 @@
+use Rattle.std.proofs.Common.{List, ℕ, drop}
+use Rattle.printing.specs.declared.fault.Stop.{Stop}
+use Rattle.units_text.specs.declared.digits.Digits.{Digits}
+use Rattle.units_text.specs.declared.fault.UnreadableOctet.{UnreadableOctet}
+use Rattle.units_text.specs.UnitsReading.{Decodes, Halts}
+use Rattle.units_text.proofs.digits.Digits.read.Given as goal
+
+-- what the characters that are left do completes what all do
+abbrev pub invariant-loop-c : goal.invariant-loop-c
+invariant-loop-c l = record {
+  decodes : (after : List ℕ) (new : Digits) → Decodes l.self (drop l.c-index l.text) l.octets.items after new
+      → Decodes l.initial.self l.text l.initial.octets.items after new;
+  halts : (stop : Stop UnreadableOctet) (after : List ℕ) → Halts stop l.self (drop l.c-index l.text) l.octets.items after
+      → Halts stop l.initial.self l.text l.initial.octets.items after;
+}
