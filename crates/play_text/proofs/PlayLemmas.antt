@@ -4,7 +4,7 @@ use Rattle.std.proofs.lemmas.Bool.Decides.{nat_tests}
 use Rattle.printing.proofs.PrintLemmas.{begun_of_end}
 use Rattle.printing.specs.declared.fault.Fault.{Fault}
 use Rattle.printing.specs.declared.fault.Fault.TheVariants.{Text, Step, Octet, Memory, Exhausted, Read, Write}
-use Rattle.pair_world.specs.World.{World, counts_at}
+use Rattle.pair_model.specs.World.{World, counts_at}
 use Rattle.world_steps.specs.declared.step.End.TheVariants.{A, B}
 use Rattle.answer_texts.specs.Texts.{end_text}
 use Rattle.printing.specs.Printing.{Printed, behind, IsBegun, EndsIn, IsOfText, ReadsOrStops, Ends}

@@ -2,7 +2,7 @@
 use Rattle.std.specs.Prelude.{◌≡◌, ℕ, ◌≤◌, ◌≢◌, List, [], ◌∷◌, ◌++◌, ◌+◌, ◌<◌, ◌^◌, length, Option, Some, None, Result, MatchResult}
 use Rattle.printing.specs.declared.fault.Fault.{Fault}
 use Rattle.printing.specs.declared.fault.Fault.TheVariants.{Text, Step, Octet, Memory, Exhausted, Read, Write}
-use Rattle.pair_world.specs.World.{World}
+use Rattle.pair_model.specs.World.{World}
 use Rattle.printing.specs.Printing.{Printed, behind, IsOfText}
 use Rattle.play_text.specs.PlayText.{LineOutcome, stops, prints, lines_of, play_lines, play_text}
 
@@ -46,6 +46,11 @@ pub record Does (outcome : LineOutcome) (before after : List ℕ) (new : Option 
 abbrev pub IsDone : Result (Unit {0}) Fault → LineOutcome → List ℕ → List ℕ → Option World → Type 0
 IsDone result outcome before after new =
     MatchResult result (λ done. Does outcome before after new) (λ fault. Tells fault outcome × (after ≡ before))
+
+-- the same, with the world that is left
+abbrev pub IsGone : Result World Fault → LineOutcome → List ℕ → List ℕ → Type 0
+IsGone result outcome before after =
+    MatchResult result (λ world. Does outcome before after (Some world)) (λ fault. Tells fault outcome × (after ≡ before))
 
 -- The text that a script prints from a reading on.
 
