@@ -39,6 +39,13 @@ impl Line {
         self.units.push(unit)
     }
 
+    /// The units, oldest first.
+    pub(crate) fn units(&self) -> &[Unit]
+        ensures { result.now ≡ self.now }
+    {
+        &self.units
+    }
+
     /// Takes the unit at this place out of the line, if there is one.
     pub(crate) fn taken_out(&mut self, place: u64) -> Option<Unit>
         ensures { IsTakenFrom result self.old place self.new }

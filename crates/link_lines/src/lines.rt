@@ -22,7 +22,7 @@ impl Model for Lines {
 
 impl Lines {
     ghost use Rattle.std.specs.Prelude.{◌≡◌, ◌<◌, ◌≤◌, [], length, IfOk, OnOk, OnErr};
-    ghost use Rattle.link_lines.specs.Lines.{no_units, joined_on, with_units, IsTakenOut};
+    ghost use Rattle.link_lines.specs.Lines.{no_units, units_on, joined_on, with_units, IsTakenOut};
 
     /// A line for each of so many links, with nothing under way; it fails only where memory is wanted.
     pub fn new(alloc: Global, links: u8) -> Result<Lines, AllocError>
@@ -44,6 +44,16 @@ impl Lines {
         ensures err { OnErr result (self.new ≡ self.old) }
     {
         self.lines[link as usize].join(unit)
+    }
+
+    /// The units under way on this link, oldest first; none on a link that there isn't.
+    pub fn units(&self, link: u8) -> &[Unit]
+        ensures { result.now ≡ units_on link self.now }
+    {
+        match self.lines.get(link as usize) {
+            Some(line) => line.units(),
+            None => &[],
+        }
     }
 
     /// Takes the unit at this place, from 0, out of the line of this link, if there is one.

@@ -11,7 +11,7 @@ use Rattle.set_step.specs.declared.fault.SetFault.{SetFault}
 use Rattle.set_model.proofs.LinkCount.{link_count_stays}
 use Rattle.std.proofs.lemmas.Option.{same_Some}
 use Rattle.world_steps.specs.declared.step.End.{End}
-use Rattle.pair_world.specs.World.{World, has_link, with_line, line_to, reaches, front_arrives, arrives}
+use Rattle.pair_model.specs.World.{World, has_link, with_line, line_to, reaches, front_arrives, arrives}
 use Rattle.pair_world.specs.Carried.{LeavesTo}
 
 -- An event changes no number of links.

@@ -1,9 +1,8 @@
 -- What a call gave, beside what the definition says.
-use Rattle.std.specs.Prelude.{◌≡◌, ◌≢◌, ◌≤◌, true, false, ℕ, length, slice_get, Option, Some, None, Result, MatchResult}
+use Rattle.std.specs.Prelude.{◌≡◌, ◌≢◌, ◌≤◌, true, false, ℕ, List, length, slice_get, Option, Some, None, Result, MatchResult}
 use Rattle.set_events.specs.declared.answer.Answer.{Answer}
 use Rattle.set_events.specs.declared.config.SetConfig.{SetConfig}
 use Rattle.set_events.specs.declared.event.Event.{Event}
-use Rattle.set_model.specs.State.{link_count}
 use Rattle.set_model.specs.History.{LinkSet, new_set}
 use Rattle.link_lines.specs.Lines.{without}
 use Rattle.set_step.specs.declared.fault.SetFault.{SetFault}
@@ -13,11 +12,19 @@ use Rattle.pair_world.specs.declared.fault.PlayFault.{PlayFault}
 use Rattle.pair_world.specs.declared.fault.PlayFault.TheVariants.{NoMemory, Impossible, Exhausted, Links}
 use Rattle.world_steps.specs.declared.step.End.{End}
 use Rattle.world_steps.specs.declared.step.Shown.{Shown}
-use Rattle.pair_world.specs.World.{World, Outcome, world_of, shows, impossible, exhausted, is_full, answer_to, after, line_to, with_line}
+use Rattle.world_steps.specs.declared.step.Step.{Step}
+use Rattle.pair_model.specs.Run.{Played, leads_to, stops_at, is_full_at, played_from, begun}
+use Rattle.pair_model.specs.World.{World, Outcome, world_of, shows, impossible, exhausted, is_full, answer_to, after, line_to, with_line}
 
 abbrev pub PlayFaultOf : SetFault → PlayFault → Type 0
 PlayFaultOf SetNoMemory fault = fault ≡ NoMemory
 PlayFaultOf SetExhausted fault = fault ≡ Exhausted
+
+abbrev pub fault_number : PlayFault → ℕ
+fault_number NoMemory = 1
+fault_number (Impossible place) = 2
+fault_number Exhausted = 3
+fault_number Links = 4
 
 -- a world of these configurations: both ends are new, and nothing is under way
 pub record IsBegun (a b : SetConfig) (world : World) : Type 0 where
@@ -27,20 +34,62 @@ pub record IsBegun (a b : SetConfig) (world : World) : Type 0 where
 -- why there is none
 abbrev pub FailsToBegin : PlayFault → SetConfig → SetConfig → Type 0
 FailsToBegin NoMemory a b = a.links ≡ b.links
-FailsToBegin Impossible a b = ⊥
+FailsToBegin (Impossible place) a b = ⊥
 FailsToBegin Exhausted a b = ⊥
 FailsToBegin Links a b = a.links ≢ b.links
 
 -- the fault of a step says what the definition says, unless memory was wanted
 abbrev pub Fails : PlayFault → Outcome → Type 0
 Fails NoMemory outcome = Unit {0}
-Fails Impossible outcome = outcome ≡ impossible
+Fails (Impossible place) outcome = (place ≡ 0) × (outcome ≡ impossible)
 Fails Exhausted outcome = outcome ≡ exhausted
 Fails Links outcome = ⊥
 
 abbrev pub IsCarriedOut : Result Shown PlayFault → Outcome → World → Type 0
 IsCarriedOut result outcome new =
     MatchResult result (λ shown. outcome ≡ shows shown new) (λ fault. Fails fault outcome)
+
+-- the step's world, and what it shows
+abbrev pub IsStepped : Result (World × Shown) PlayFault → Outcome → Type 0
+IsStepped result outcome =
+    MatchResult result (λ after. outcome ≡ shows after.1 after.0) (λ fault. Fails fault outcome)
+
+-- the fault of the step at a place
+abbrev pub fault_at : ℕ → PlayFault → PlayFault
+fault_at place NoMemory = NoMemory
+fault_at place (Impossible step) = Impossible place
+fault_at place Exhausted = Exhausted
+fault_at place Links = Links
+
+-- what steps led to, one after another, says what the definition says, unless memory was wanted
+abbrev pub FailsAlong : PlayFault → Played → Type 0
+FailsAlong NoMemory outcome = Unit {0}
+FailsAlong (Impossible place) outcome = outcome ≡ stops_at place
+FailsAlong Exhausted outcome = (place : ℕ) × (outcome ≡ is_full_at place)
+FailsAlong Links outcome = ⊥
+
+abbrev pub AreCarriedOut : Result (Unit {0}) PlayFault → Played → World → Type 0
+AreCarriedOut result outcome new =
+    MatchResult result (λ done. outcome ≡ leads_to new) (λ fault. FailsAlong fault outcome)
+
+-- THE RUN from two configurations
+abbrev pub played : SetConfig → SetConfig → List Step → Played
+played a b steps = played_from 0 (begun a b).world steps
+
+pub record LeadsTo (a b : SetConfig) (steps : List Step) (world : World) : Type 0 where
+  pub links : a.links ≡ b.links
+  pub world_is : played a b steps ≡ leads_to world
+
+-- why it leads to no world: the links are tested first, then step by step
+abbrev pub FailsToPlay : PlayFault → SetConfig → SetConfig → List Step → Type 0
+FailsToPlay NoMemory a b steps = a.links ≡ b.links
+FailsToPlay (Impossible place) a b steps = (a.links ≡ b.links) × (played a b steps ≡ stops_at place)
+FailsToPlay Exhausted a b steps = (a.links ≡ b.links) × ((place : ℕ) × (played a b steps ≡ is_full_at place))
+FailsToPlay Links a b steps = a.links ≢ b.links
+
+abbrev pub IsPlayed : Result World PlayFault → SetConfig → SetConfig → List Step → Type 0
+IsPlayed result a b steps =
+    MatchResult result (λ world. LeadsTo a b steps world) (λ fault. FailsToPlay fault a b steps)
 
 -- an event at one set
 abbrev pub FailsAt : SetFault → LinkSet → Type 0
@@ -64,9 +113,3 @@ pub record LeavesTo (old : World) (end : End) (link place : ℕ) (unit : SignalU
 abbrev pub IsTakenFrom : Option SignalUnit → World → End → ℕ → ℕ → World → Type 0
 IsTakenFrom None old end link place new = (length (line_to old end link) ≤ place) × (new ≡ old)
 IsTakenFrom (Some unit) old end link place new = LeavesTo old end link place unit new
-
--- what holds of every world: both ends have the same links, and there is a line for each to each end
-pub record IsPaired (w : World) : Type 0 where
-  pub links_b : link_count w.b.state ≡ link_count w.a.state
-  pub lines_a : length w.to_a ≡ link_count w.a.state
-  pub lines_b : length w.to_b ≡ link_count w.a.state

@@ -11,16 +11,17 @@ use thiserror::Error;
 pub enum PlayFault {
     /// 1: memory is wanted.
     #[error("out of memory")]
-    NoMemory = 1,
-    /// 2: the world has no such link, the link isn't settled, or no unit is at that place.
-    #[error("the step can't be done")]
-    Impossible = 2,
+    NoMemory,
+    /// 2: the step at this place, from 0, can't be done: the world has no such link, the link isn't settled, no
+    /// unit is at that place of the line, or the event has a step of its own.
+    #[error("the step at place {place} can't be done")]
+    Impossible { place: u64 },
     /// 3: a history is full.
     #[error("a history is full")]
-    Exhausted = 3,
+    Exhausted,
     /// 4: the two ends haven't as many links.
     #[error("the ends have different links")]
-    Links = 4,
+    Links,
 }
 
 impl From<SetFault> for PlayFault {
@@ -49,5 +50,31 @@ impl<T: Drop> From<AllocFailed<T>> for PlayFault {
 
     fn from(_error: AllocFailed<T>) -> PlayFault {
         PlayFault::NoMemory
+    }
+}
+
+impl PlayFault {
+    ghost use Rattle.pair_world.specs.Carried.{fault_at, fault_number};
+
+    /// The fault's number: 1 memory, 2 impossible, 3 a full history, 4 links.
+    pub fn number(self) -> u8
+        ensures { result ≡ fault_number self }
+    {
+        match self {
+            PlayFault::NoMemory => 1,
+            PlayFault::Impossible { .. } => 2,
+            PlayFault::Exhausted => 3,
+            PlayFault::Links => 4,
+        }
+    }
+
+    /// The fault of a step, of the step at this place.
+    pub(crate) fn at(self, place: u64) -> PlayFault
+        ensures { result ≡ fault_at place self }
+    {
+        match self {
+            PlayFault::Impossible { .. } => PlayFault::Impossible { place },
+            other => other,
+        }
     }
 }

@@ -3,14 +3,16 @@ ghost use Rattle.std.specs.Prelude.{◌≡◌, ◌<◌, IfErr, IfOk};
 ghost use Rattle.set_model.specs.History.{IsActor, new_set};
 ghost use Rattle.set_model.specs.State.{link_count};
 ghost use Rattle.set_step.specs.declared.fault.SetFault.TheVariants.{NoMemory};
-ghost use Rattle.pair_world.specs.World.{actor_of};
+ghost use Rattle.pair_model.specs.World.{actor_of, has_own_step as has_own_step_in};
+ghost use Rattle.pair_model.specs.Promises.{AreSteps, IsAskedStep};
+ghost use Rattle.set_model.specs.Rows.{stream_of as stream_in};
 ghost use Rattle.pair_world.specs.Carried.{Applies};
 
 use super::fault::PlayFault;
 use l2_units::{Unit, copy_of_unit};
 use link_lines::Lines;
 use set_core::{SetCore, SetFault};
-use set_events::{Actor, Answer, Counts, Event, SetConfig};
+use set_events::{Actor, Answer, Body, Counts, Event, SetConfig};
 use std::alloc::Global;
 use std::marker::Model;
 use world_steps::{End, Shown, Step};
@@ -25,13 +27,13 @@ pub struct World {
 }
 
 impl Model for World {
-    ghost use Rattle.pair_world.specs.World.{World as WorldState};
+    ghost use Rattle.pair_model.specs.World.{World as WorldState};
 
     ghost Value = { WorldState };
 
     ghost view = { λ w. record { a = w.a; b = w.b; to_a = w.to_a; to_b = w.to_b } };
 
-    ghost use Rattle.pair_world.specs.Carried.{IsPaired};
+    ghost use Rattle.pair_model.specs.World.{IsPaired};
 
     ghost invariant = { λ w. IsPaired (record { a = w.a; b = w.b; to_a = w.to_a; to_b = w.to_b }) };
 }
@@ -40,8 +42,10 @@ impl World {
     ghost use Rattle.std.specs.Prelude.{◌≡◌, ◌<◌, ◌^◌, IfErr, IfSome, OnOk, MatchResult, is_some, true};
     ghost use Rattle.set_model.specs.Rows.{total_of};
     ghost use Rattle.set_model.specs.State.{is_up as is_up_in};
-    ghost use Rattle.pair_world.specs.World.{carried_out, done_by, acts, has_actor, with_sent, emits, arrives, loses, has_link as has_link_in, rises, at_end, counts_at};
-    ghost use Rattle.pair_world.specs.Carried.{IsBegun, FailsToBegin, IsCarriedOut, IsTakenFrom};
+    ghost use Rattle.pair_model.specs.World.{carried_out, done_by, asks, acts, has_actor, with_sent, emits, arrives, loses, has_link as has_link_in, rises, at_end, line_to, counts_at};
+    ghost use Rattle.pair_model.specs.Run.{begun, played_from};
+    ghost use Rattle.pair_model.specs.Promises.{IsSoundRun, KeepsLinks};
+    ghost use Rattle.pair_world.specs.Carried.{IsBegun, FailsToBegin, IsCarriedOut, IsStepped, AreCarriedOut, IsPlayed, IsTakenFrom};
 
     /// The world of these configurations: no messages, no link up, nothing under way.
     ///
@@ -60,13 +64,79 @@ impl World {
         Ok(World { a, b, to_a, to_b })
     }
 
-    /// Carries out a step, and tells what it shows.
+    /// The world after a step, and what that shows.
     ///
-    /// Faults: 2 [`PlayFault::Impossible`] and 3 [`PlayFault::Exhausted`] exactly where the step is, and an
-    /// impossible step is that whether a history is full or not; 1 [`PlayFault::NoMemory`] only where memory
-    /// was refused. After a fault the world isn't to be used again.
-    #[tactic(auto, unfolding(crate::specs::World::carried_out))]
-    pub fn carry_out(&mut self, step: &Step) -> Result<Shown, PlayFault>
+    /// Faults: 2 [`PlayFault::Impossible`], with the place 0, and 3 [`PlayFault::Exhausted`] exactly where the step
+    /// is, and an impossible step is that whether a history is full or not; 1 [`PlayFault::NoMemory`] only where
+    /// memory was refused. A fault gives the world up.
+    pub fn step(mut self, step: &Step) -> Result<(World, Shown), PlayFault>
+        ensures { IsStepped result (carried_out self step.now) }
+    {
+        let shown = self.carry_out(step)?;
+        Ok((self, shown))
+    }
+
+    /// The world of these configurations after these steps, one after another.
+    ///
+    /// Faults: 4 [`PlayFault::Links`] exactly where the configurations differ in links, tested first, whatever
+    /// the steps are; then 2 [`PlayFault::Impossible`] and 3 [`PlayFault::Exhausted`] exactly where a step is, with
+    /// the place of the first one; 1 [`PlayFault::NoMemory`] only where memory was refused.
+    ///
+    /// Of every sound run it's proved here that each link keeps what passes on it, in both directions and after
+    /// every step: see `KeepsLinks`.
+    pub fn play(
+        alloc: Global,
+        a: &SetConfig,
+        b: &SetConfig,
+        steps: &[Step],
+    ) -> Result<World, PlayFault>
+        ensures world { IsPlayed result a.now b.now steps.now }
+        ensures promised { IsSoundRun a.now b.now steps.now → KeepsLinks (begun a.now b.now) steps.now }
+    {
+        are_asked(steps);
+        let mut world = World::new(alloc, a, b)?;
+        match world.carry_out_all(steps) {
+            Ok(()) => Ok(world),
+            Err(fault) => Err(fault),
+        }
+    }
+
+    /// The set at this end.
+    pub fn core(&self, end: End) -> &SetCore
+        ensures { result.now ≡ at_end self.now end }
+    {
+        match end {
+            End::A => &self.a,
+            End::B => &self.b,
+        }
+    }
+
+    /// The units under way to this end on the link, oldest first; none on a link that the world hasn't.
+    pub fn line(&self, end: End, link: u8) -> &[Unit]
+        ensures { result.now ≡ line_to self.now end link }
+    {
+        match end {
+            End::A => self.to_a.units(link),
+            End::B => self.to_b.units(link),
+        }
+    }
+
+    /// Carries out these steps, one after another; after a fault the world isn't to be used again.
+    fn carry_out_all(&mut self, steps: &[Step]) -> Result<(), PlayFault>
+        ensures { AreCarriedOut result (played_from 0 self.old steps.now) self.new }
+    {
+        for (place, step) in steps.iter().enumerate() {
+            match self.carry_out(step) {
+                Ok(_) => (),
+                Err(fault) => return Err(fault.at(place as u64)),
+            }
+        }
+        Ok(())
+    }
+
+    /// Carries out a step, and tells what it shows; after a fault the world isn't to be used again.
+    #[tactic(auto, unfolding(pair_model::specs::World::carried_out))]
+    fn carry_out(&mut self, step: &Step) -> Result<Shown, PlayFault>
         ensures { IsCarriedOut result (carried_out self.old step.now) self.new }
     {
         self.dispatch(step)
@@ -77,7 +147,7 @@ impl World {
         ensures { IsCarriedOut result (done_by self.old step.now) self.new }
     {
         match step {
-            Step::Act { end, event } => self.act(*end, event),
+            Step::Act { end, event } => self.ask(*end, event),
             Step::Emit { end, link } => self.emit(*end, *link),
             Step::Arrive { end, link } => self.arrive(*end, *link),
             Step::Lose { end, link, place } => self.lose(*end, *link, *place),
@@ -103,6 +173,16 @@ impl World {
         }
     }
 
+    /// One event at an end, if it has no step of its own.
+    fn ask(&mut self, end: End, event: &Event) -> Result<Shown, PlayFault>
+        ensures { IsCarriedOut result (asks self.old end event.now) self.new }
+    {
+        if has_own_step(event) {
+            return Err(PlayFault::Impossible { place: 0 });
+        }
+        self.act(end, event)
+    }
+
     /// One event at an end.
     fn act(&mut self, end: End, event: &Event) -> Result<Shown, PlayFault>
         ensures acts { IsCarriedOut result (acts self.old end event.now) self.new }
@@ -110,7 +190,7 @@ impl World {
         ensures links { link_count self.new.a.state ≡ link_count self.old.a.state }
     {
         let Some(who) = self.actor_of(event) else {
-            return Err(PlayFault::Impossible);
+            return Err(PlayFault::Impossible { place: 0 });
         };
         match end {
             End::A => Ok(Shown::Answered(apply(&mut self.a, who, event)?)),
@@ -187,10 +267,10 @@ impl World {
         ensures { IsCarriedOut result (arrives self.old end link) self.new }
     {
         if !self.has_link(link) {
-            return Err(PlayFault::Impossible);
+            return Err(PlayFault::Impossible { place: 0 });
         }
         let Some(unit) = self.take_out(end, link, 0) else {
-            return Err(PlayFault::Impossible);
+            return Err(PlayFault::Impossible { place: 0 });
         };
         if !self.is_up(end, link) {
             return Ok(Shown::Lost);
@@ -203,11 +283,11 @@ impl World {
         ensures { IsCarriedOut result (loses self.old end link place) self.new }
     {
         if !self.has_link(link) {
-            return Err(PlayFault::Impossible);
+            return Err(PlayFault::Impossible { place: 0 });
         }
         match self.take_out(end, link, place) {
             Some(_) => Ok(Shown::Lost),
-            None => Err(PlayFault::Impossible),
+            None => Err(PlayFault::Impossible { place: 0 }),
         }
     }
 
@@ -237,13 +317,56 @@ impl World {
         ensures { IsCarriedOut result (rises self.old link) self.new }
     {
         if !self.has_link(link) || !self.a.is_settled(link) || !self.b.is_settled(link) {
-            return Err(PlayFault::Impossible);
+            return Err(PlayFault::Impossible { place: 0 });
         }
         apply(&mut self.a, Actor::Terminal(link), &Event::Up { link })?;
         apply(&mut self.b, Actor::Terminal(link), &Event::Up { link })?;
         self.to_a.clear(link);
         self.to_b.clear(link);
         Ok(Shown::Up)
+    }
+}
+
+/// Whether an event is asked by a step of its own: a unit is sent, a unit is heard, a link comes up.
+fn has_own_step(event: &Event) -> bool
+    ensures { result ≡ has_own_step_in event.now }
+{
+    matches!(
+        event,
+        Event::Next { .. } | Event::Heard { .. } | Event::Up { .. }
+    )
+}
+
+/// A law: the octets of a label tell one of 16 streams.
+fn is_asked(step: &Step)
+    ensures { IsAskedStep step.now }
+{
+    if let Step::Act {
+        event: Event::Offer { body },
+        ..
+    } = step
+    {
+        stream_of(body);
+    }
+}
+
+/// The stream of a body: the high four bits of its fifth octet, 0 where there is none.
+fn stream_of(body: &Body) -> u8
+    ensures value { result ≡ stream_in body.now }
+    ensures few { result < 16 }
+{
+    match body.octets().get(4) {
+        Some(octet) => *octet / 16,
+        None => 0,
+    }
+}
+
+/// A law of all these steps: whatever octets are offered.
+fn are_asked(steps: &[Step])
+    ensures { AreSteps IsAskedStep steps.now }
+{
+    for step in steps {
+        is_asked(step);
     }
 }
 

@@ -6,7 +6,7 @@ use Rattle.printing.specs.declared.fault.Stop.{Stop}
 use Rattle.printing.specs.declared.fault.Stop.TheVariants.{Input, Memory}
 use Rattle.play_text.specs.declared.fault.ScriptFault.{ScriptFault}
 use Rattle.play_text.specs.declared.fault.ScriptFault.TheVariants.{Text}
-use Rattle.pair_world.specs.World.{World, counts_at}
+use Rattle.pair_model.specs.World.{World, counts_at}
 use Rattle.world_steps.specs.declared.step.End.TheVariants.{A, B}
 use Rattle.answer_texts.specs.Texts.{end_text}
 use Rattle.printing.specs.Printing.{Printed, behind, IsBegun, StopsIn, ReadsOrStops, Ends}

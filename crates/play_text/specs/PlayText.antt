@@ -7,7 +7,7 @@ use Rattle.set_model.specs.History.{LinkSet}
 use Rattle.world_steps.specs.declared.step.End.{End}
 use Rattle.world_steps.specs.declared.step.End.TheVariants.{A, B}
 use Rattle.world_steps.specs.declared.step.Step.{Step as WorldStep}
-use Rattle.pair_world.specs.World.{World, Outcome, shows, impossible, exhausted, world_of, carried_out, counts_at}
+use Rattle.pair_model.specs.World.{World, Outcome, shows, impossible, exhausted, world_of, carried_out, counts_at}
 use Rattle.play_script.specs.declared.script.Values.{Values}
 use Rattle.play_script.specs.Script.{step_of, first_line}
 use Rattle.answer_texts.specs.Texts.{shown_text, end_text}

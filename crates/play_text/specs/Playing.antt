@@ -3,7 +3,7 @@ use Rattle.std.specs.Prelude.{◌≡◌, ℕ, ◌≤◌, ◌≢◌, List, [], �
 use Rattle.printing.specs.declared.fault.Stop.{Stop}
 use Rattle.printing.specs.declared.fault.Stop.TheVariants.{Input, Memory}
 use Rattle.play_text.specs.declared.fault.ScriptFault.{ScriptFault}
-use Rattle.pair_world.specs.World.{World}
+use Rattle.pair_model.specs.World.{World}
 use Rattle.printing.specs.Printing.{Printed, behind}
 use Rattle.play_text.specs.PlayText.{LineOutcome, stops, prints, lines_of, play_lines, play_text}
 
@@ -42,6 +42,11 @@ pub record Does (outcome : LineOutcome) (before after : List ℕ) (new : Option 
 abbrev pub IsDone : Result (Unit {0}) (Stop ScriptFault) → LineOutcome → List ℕ → List ℕ → Option World → Type 0
 IsDone result outcome before after new =
     MatchResult result (λ done. Does outcome before after new) (λ stop. Tells stop outcome × (after ≡ before))
+
+-- the same, with the world that is left
+abbrev pub IsGone : Result World (Stop ScriptFault) → LineOutcome → List ℕ → List ℕ → Type 0
+IsGone result outcome before after =
+    MatchResult result (λ world. Does outcome before after (Some world)) (λ stop. Tells stop outcome × (after ≡ before))
 
 -- The text that a script prints from a reading on.
 

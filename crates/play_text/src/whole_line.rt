@@ -4,7 +4,7 @@ ghost use Rattle.std.specs.Option.{option_copied};
 ghost use Rattle.printing.specs.declared.fault.Stop.TheVariants.{Memory};
 ghost use Rattle.play_script.specs.Script.{first_line, step_of as step_in};
 ghost use Rattle.play_text.specs.PlayText.{ends_text as text_of_ends, is_remark as is_remark_in, prints, opened as opened_in, asked, on_line, at_the_end};
-ghost use Rattle.play_text.specs.Playing.{Tells, IsDone};
+ghost use Rattle.play_text.specs.Playing.{Tells, IsDone, IsGone};
 
 use super::fault::ScriptFault;
 use answer_texts::{end_text, shown_text};
@@ -27,7 +27,7 @@ pub(crate) fn end_line(
     if is_remark(text) {
         return Ok(());
     }
-    match world {
+    match world.take() {
         None => match opened(alloc, text, line) {
             Ok(made) => {
                 *world = Some(made);
@@ -35,7 +35,13 @@ pub(crate) fn end_line(
             }
             Err(stop) => Err(stop),
         },
-        Some(world) => carry_out(alloc, world, text, line, out),
+        Some(old) => match carry_out(alloc, old, text, line, out) {
+            Ok(new) => {
+                *world = Some(new);
+                Ok(())
+            }
+            Err(stop) => Err(stop),
+        },
     }
 }
 
@@ -63,25 +69,25 @@ fn opened(alloc: Global, text: &[u8], line: u64) -> Result<World, Stop<ScriptFau
     }
 }
 
-/// Carries out a line after the first, and appends what it prints.
+/// The world after a line that isn't the first; what it prints is appended.
 fn carry_out(
     alloc: Global,
-    world: &mut World,
+    world: World,
     text: &[u8],
     line: u64,
     out: &mut Vec<u8>,
-) -> Result<(), Stop<ScriptFault>>
-    ensures { IsDone result (asked line world.old (step_in text.now)) out.old.items out.new.items (Some world.new) }
+) -> Result<World, Stop<ScriptFault>>
+    ensures { IsGone result (asked line world (step_in text.now)) out.old.items out.new.items }
 {
     let step = match step_of(alloc, text) {
         Ok(Some(step)) => step,
         Ok(None) => return Err(Stop::Input(ScriptFault::Text { line })),
         Err(_) => return Err(Stop::Memory),
     };
-    let shown = match world.carry_out(&step) {
-        Ok(shown) => shown,
+    let (world, shown) = match world.step(&step) {
+        Ok(after) => after,
         Err(PlayFault::NoMemory) => return Err(Stop::Memory),
-        Err(PlayFault::Impossible) => return Err(Stop::Input(ScriptFault::Step { line })),
+        Err(PlayFault::Impossible { .. }) => return Err(Stop::Input(ScriptFault::Step { line })),
         Err(PlayFault::Exhausted) => return Err(Stop::Input(ScriptFault::Exhausted)),
         Err(PlayFault::Links) => unreachable!(),
     };
@@ -89,7 +95,7 @@ fn carry_out(
         return Err(Stop::Memory);
     };
     match out.extend_from_slice(&text) {
-        Ok(()) => Ok(()),
+        Ok(()) => Ok(world),
         Err(_) => Err(Stop::Memory),
     }
 }

@@ -65,7 +65,8 @@ impl<C: Ledger, M: Ledger, O: Ledger, A: Ledger> Held<C, M, O, A> {
         terminals: Vec<TermSeat<C, M, O, A>>,
     ) -> Result<Closed, EndFault<C, M, O, A>>
         ensures complete { OnOk result (is_complete_of self.users self.links users.items terminals.items ≡ true) }
-        ensures closed { IfOk result (λ closed. IsClosed users.items terminals.items (new_state closed.config) closed.history.items closed.books closed.counts) }
+        ensures closed { IfOk result (λ closed.
+            IsClosed users.items terminals.items (new_state closed.config) closed.history.items closed.books closed.counts) }
         ensures config { IfOk result (λ closed. new_state closed.config ≡ self.set.opening) }
         ensures history { IfOk result (λ closed. closed.history.items ≡ self.set.history) }
         ensures back { IfErr result (λ fault. fault ≡
@@ -123,7 +124,9 @@ impl<C: Ledger, M: Ledger, O: Ledger, A: Ledger> Held<C, M, O, A> {
     ) -> Closed
         requires complete { is_complete_of self.users self.links users.items terminals.items ≡ true }
         requires faithful { AreFaithful self.set.history users.items terminals.items }
-        ensures closed { IsClosed users.items terminals.items (new_state result.config) result.history.items result.books result.counts }
+        ensures closed {
+            IsClosed users.items terminals.items (new_state result.config) result.history.items result.books result.counts
+        }
         ensures config { new_state result.config ≡ self.set.opening }
         ensures history { result.history.items ≡ self.set.history }
     {
@@ -169,9 +172,12 @@ fn merge_users<C: Ledger, M: Ledger, O: Ledger, A: Ledger>(
     messages: &mut Share<M>,
     octets: &mut Share<O>,
 )
-    ensures calls { IsMerged (λ share. share.calls) seats.items calls.old.parts calls.old.amount calls.new.parts calls.new.amount }
-    ensures messages { IsMerged (λ share. share.messages) seats.items messages.old.parts messages.old.amount messages.new.parts messages.new.amount }
-    ensures octets { IsMerged (λ share. share.octets) seats.items octets.old.parts octets.old.amount octets.new.parts octets.new.amount }
+    ensures calls { IsMerged (λ share. share.calls) seats.items
+        calls.old.parts calls.old.amount calls.new.parts calls.new.amount }
+    ensures messages { IsMerged (λ share. share.messages) seats.items
+        messages.old.parts messages.old.amount messages.new.parts messages.new.amount }
+    ensures octets { IsMerged (λ share. share.octets) seats.items
+        octets.old.parts octets.old.amount octets.new.parts octets.new.amount }
 {
     for seat in seats {
         let shares = seat.into_shares();
@@ -187,8 +193,10 @@ fn merge_terminals<C: Ledger, M: Ledger, O: Ledger, A: Ledger>(
     calls: &mut Share<C>,
     acknowledged: &mut Share<A>,
 )
-    ensures calls { IsMerged (λ share. share.calls) seats.items calls.old.parts calls.old.amount calls.new.parts calls.new.amount }
-    ensures acknowledged { IsMerged (λ share. share.acknowledged) seats.items acknowledged.old.parts acknowledged.old.amount acknowledged.new.parts acknowledged.new.amount }
+    ensures calls { IsMerged (λ share. share.calls) seats.items
+        calls.old.parts calls.old.amount calls.new.parts calls.new.amount }
+    ensures acknowledged { IsMerged (λ share. share.acknowledged) seats.items
+        acknowledged.old.parts acknowledged.old.amount acknowledged.new.parts acknowledged.new.amount }
 {
     for seat in seats {
         let shares = seat.into_shares();

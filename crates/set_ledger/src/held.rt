@@ -4,7 +4,7 @@ ghost use Rattle.set_events.specs.declared.event.Actor.TheVariants.{User, Termin
 ghost use Rattle.set_core.specs.Gaining.{IsOwn};
 ghost use Rattle.set_model.specs.History.{IsStep, new_set};
 ghost use Rattle.set_ledger.specs.Seats.{new_seats, ShareGrows, AcknowledgesAs};
-ghost use Rattle.set_ledger.specs.Totals.{AreTotals, AreParts};
+ghost use Rattle.set_ledger.specs.Totals.{AreTotals, AreParts, Names};
 
 use super::seat::{TermSeat, UserSeat, term_seats, user_seats};
 use super::share::{Blanks, TermShares, UserShares, messages_in, octets_of};
@@ -56,8 +56,12 @@ pub(crate) struct Rest<C: Ledger, M: Ledger, O: Ledger, A: Ledger> {
     pub(crate) messages: Share<M>,
     pub(crate) octets: Share<O>,
     pub(crate) acknowledged: Share<A>,
-    pub(crate) ghost no_parts: { (calls.parts ≡ 0) × (messages.parts ≡ 0) × (octets.parts ≡ 0) × (acknowledged.parts ≡ 0) },
-    pub(crate) ghost no_amount: { (calls.amount ≡ 0) × (messages.amount ≡ 0) × (octets.amount ≡ 0) × (acknowledged.amount ≡ 0) },
+    pub(crate) ghost no_parts: {
+        (calls.parts ≡ 0) × (messages.parts ≡ 0) × (octets.parts ≡ 0) × (acknowledged.parts ≡ 0)
+    },
+    pub(crate) ghost no_amount: {
+        (calls.amount ≡ 0) × (messages.amount ≡ 0) × (octets.amount ≡ 0) × (acknowledged.amount ≡ 0)
+    },
 }
 
 /// Why a set can't be opened. The blanks are given up.
@@ -94,12 +98,14 @@ impl<C: Ledger, M: Ledger, O: Ledger, A: Ledger> Held<C, M, O, A> {
         users: u16,
         blanks: Blanks,
     ) -> Result<Opened<C, M, O, A>, CreateFault>
-        requires calls { (0 < users) × (users ≤ 64) → (blanks.calls.name ≡ C.name) × (blanks.calls.parts ≡ C.parts) }
-        requires messages { (0 < users) × (users ≤ 64) → (blanks.messages.name ≡ M.name) × (blanks.messages.parts ≡ M.parts) }
-        requires octets { (0 < users) × (users ≤ 64) → (blanks.octets.name ≡ O.name) × (blanks.octets.parts ≡ O.parts) }
-        requires acknowledged { (0 < users) × (users ≤ 64) → (blanks.acknowledged.name ≡ A.name) × (blanks.acknowledged.parts ≡ A.parts) }
-        requires parts { (0 < users) × (users ≤ 64) → AreParts C.parts M.parts O.parts A.parts users config.now.links }
-        ensures held { IfOk result (λ opened. opened.held ≡ record { users = users; links = config.now.links; set = new_set config.now }) }
+        requires calls { (0 < users) × (users ≤ 64) → Names blanks.calls C.name C.parts }
+        requires messages { (0 < users) × (users ≤ 64) → Names blanks.messages M.name M.parts }
+        requires octets { (0 < users) × (users ≤ 64) → Names blanks.octets O.name O.parts }
+        requires acknowledged { (0 < users) × (users ≤ 64) → Names blanks.acknowledged A.name A.parts }
+        requires parts { (0 < users) × (users ≤ 64)
+            → AreParts C.parts M.parts O.parts A.parts users config.now.links }
+        ensures held { IfOk result (λ opened.
+            opened.held ≡ record { users = users; links = config.now.links; set = new_set config.now }) }
         ensures users { IfOk result (λ opened. opened.users.items ≡ new_seats User users) }
         ensures terminals { IfOk result (λ opened. opened.terminals.items ≡ new_seats Terminal config.now.links) }
         ensures range { (result ≡ Err CreateFault.Users) ↔ ((users ≡ 0) ⊎ (64 < users)) }
@@ -216,10 +222,10 @@ fn with_seats<C: Ledger, M: Ledger, O: Ledger, A: Ledger>(
 ) -> Result<Opened<C, M, O, A>, CreateFault>
     requires few { (users ≤ 64) × (links ≤ 16) }
     requires new { AreTotals 0 0 0 0 core }
-    requires calls { (blanks.calls.name ≡ C.name) × (blanks.calls.parts ≡ C.parts) }
-    requires messages { (blanks.messages.name ≡ M.name) × (blanks.messages.parts ≡ M.parts) }
-    requires octets { (blanks.octets.name ≡ O.name) × (blanks.octets.parts ≡ O.parts) }
-    requires acknowledged { (blanks.acknowledged.name ≡ A.name) × (blanks.acknowledged.parts ≡ A.parts) }
+    requires calls { Names blanks.calls C.name C.parts }
+    requires messages { Names blanks.messages M.name M.parts }
+    requires octets { Names blanks.octets O.name O.parts }
+    requires acknowledged { Names blanks.acknowledged A.name A.parts }
     requires parts { AreParts C.parts M.parts O.parts A.parts users links }
     ensures held { IfOk result (λ opened. opened.held ≡ record { users = users; links = links; set = core }) }
     ensures users { IfOk result (λ opened. opened.users.items ≡ new_seats User users) }

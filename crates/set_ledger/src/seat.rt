@@ -38,7 +38,9 @@ pub trait Seat<C: Ledger, M: Ledger, O: Ledger, A: Ledger> {
         requires { IsOwn (state self.old).who event.now }
         ensures step { IfOk result (λ answer. IsStep held.old.set (state self.old).who event.now answer held.new.set) }
         ensures receipt { IfOk result (λ answer. Receives (state self.old) event.now answer (state self.new)) }
-        ensures acknowledged { OnOk result (AcknowledgesAs held.old.set held.new.set (state self.old).share (state self.new).share) }
+        ensures acknowledged {
+            OnOk result (AcknowledgesAs held.old.set held.new.set (state self.old).share (state self.new).share)
+        }
         ensures seats { (held.new.users ≡ held.old.users) × (held.new.links ≡ held.old.links) }
         ensures exhausted { result ≡ Err SetFault.Exhausted → 2 ^ 48 ≤ length held.old.set.history }
         ensures err { OnErr result ((held.new ≡ held.old) × (state self.new ≡ state self.old)) };
@@ -64,7 +66,9 @@ impl<C: Ledger, M: Ledger, O: Ledger, A: Ledger> Model for UserSeat<C, M, O, A> 
 
     ghost view = { λ s. record { who = User s.number; share = s.shares.told; receipts = s.receipts.items } };
 
-    ghost invariant = { λ s. (s.number < 64) × AddsUp (record { who = User s.number; share = s.shares.told; receipts = s.receipts.items }) };
+    ghost invariant = { λ s.
+        (s.number < 64) × AddsUp (record { who = User s.number; share = s.shares.told; receipts = s.receipts.items })
+    };
 }
 
 /// The seat of a link's terminal. Only [`step_in`] changes it.
@@ -87,7 +91,9 @@ impl<C: Ledger, M: Ledger, O: Ledger, A: Ledger> Model for TermSeat<C, M, O, A> 
 
     ghost view = { λ s. record { who = Terminal s.link; share = s.shares.told; receipts = s.receipts.items } };
 
-    ghost invariant = { λ s. (s.link < 16) × AddsUp (record { who = Terminal s.link; share = s.shares.told; receipts = s.receipts.items }) };
+    ghost invariant = { λ s.
+        (s.link < 16) × AddsUp (record { who = Terminal s.link; share = s.shares.told; receipts = s.receipts.items })
+    };
 }
 
 impl<C: Ledger, M: Ledger, O: Ledger, A: Ledger> Seat<C, M, O, A> for UserSeat<C, M, O, A> {
@@ -201,7 +207,9 @@ pub fn step_in<C: Ledger, M: Ledger, O: Ledger, A: Ledger, S: Seat<C, M, O, A>>(
     requires { IsOwn (S.state seat.old).who event.now }
     ensures step { IfOk result (λ answer. IsStep held.old.set (S.state seat.old).who event.now answer held.new.set) }
     ensures receipt { IfOk result (λ answer. Receives (S.state seat.old) event.now answer (S.state seat.new)) }
-    ensures acknowledged { OnOk result (AcknowledgesAs held.old.set held.new.set (S.state seat.old).share (S.state seat.new).share) }
+    ensures acknowledged {
+        OnOk result (AcknowledgesAs held.old.set held.new.set (S.state seat.old).share (S.state seat.new).share)
+    }
     ensures seats { (held.new.users ≡ held.old.users) × (held.new.links ≡ held.old.links) }
     ensures exhausted { result ≡ Err SetFault.Exhausted → 2 ^ 48 ≤ length held.old.set.history }
     ensures err { OnErr result ((held.new ≡ held.old) × (S.state seat.new ≡ S.state seat.old)) }
@@ -223,8 +231,10 @@ pub(crate) fn user_seats<C: Ledger, M: Ledger, O: Ledger, A: Ledger>(
     requires octets { (octets.old.amount ≡ 0) × (users ≤ octets.old.parts) }
     ensures seats { IfOk result (λ seats. seats.items ≡ new_seats User users) }
     ensures calls { IfOk result (λ seats. (calls.new.amount ≡ 0) × (calls.new.parts + users ≡ calls.old.parts)) }
-    ensures messages { IfOk result (λ seats. (messages.new.amount ≡ 0) × (messages.new.parts + users ≡ messages.old.parts)) }
-    ensures octets { IfOk result (λ seats. (octets.new.amount ≡ 0) × (octets.new.parts + users ≡ octets.old.parts)) }
+    ensures messages { IfOk result (λ seats.
+        (messages.new.amount ≡ 0) × (messages.new.parts + users ≡ messages.old.parts)) }
+    ensures octets { IfOk result (λ seats.
+        (octets.new.amount ≡ 0) × (octets.new.parts + users ≡ octets.old.parts)) }
 {
     let mut seats = Vec::new(alloc);
     for number in 0..users {
@@ -255,7 +265,8 @@ pub(crate) fn term_seats<C: Ledger, M: Ledger, O: Ledger, A: Ledger>(
     requires acknowledged { (acknowledged.old.amount ≡ 0) × (links ≤ acknowledged.old.parts) }
     ensures seats { IfOk result (λ seats. seats.items ≡ new_seats Terminal links) }
     ensures calls { IfOk result (λ seats. (calls.new.amount ≡ 0) × (calls.new.parts + links ≡ calls.old.parts)) }
-    ensures acknowledged { IfOk result (λ seats. (acknowledged.new.amount ≡ 0) × (acknowledged.new.parts + links ≡ acknowledged.old.parts)) }
+    ensures acknowledged { IfOk result (λ seats.
+        (acknowledged.new.amount ≡ 0) × (acknowledged.new.parts + links ≡ acknowledged.old.parts)) }
 {
     let mut seats = Vec::new(alloc);
     for link in 0..links {

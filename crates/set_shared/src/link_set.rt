@@ -4,7 +4,7 @@ ghost use Rattle.set_events.specs.declared.event.Actor.TheVariants.{User, Termin
 ghost use Rattle.set_events.specs.declared.event.Event.TheVariants.{Offer, Take, Find};
 ghost use Rattle.set_core.specs.Gaining.{IsOwn};
 ghost use Rattle.set_ledger.specs.Seats.{Receives, new_seats};
-ghost use Rattle.set_ledger.specs.Totals.{AreParts, HeldState};
+ghost use Rattle.set_ledger.specs.Totals.{AreParts, HeldState, Names};
 ghost use Rattle.set_ledger.specs.Ending.{is_complete, AreFaithful, IsClosed};
 ghost use Rattle.set_model.specs.State.{new_state};
 
@@ -62,11 +62,12 @@ impl<C: Ledger, M: Ledger, O: Ledger, A: Ledger> LinkSet<C, M, O, A> {
         users: u16,
         blanks: Blanks,
     ) -> Result<Opened<C, M, O, A>, CreateFault>
-        requires calls { (0 < users) × (users ≤ 64) → (blanks.calls.name ≡ C.name) × (blanks.calls.parts ≡ C.parts) }
-        requires messages { (0 < users) × (users ≤ 64) → (blanks.messages.name ≡ M.name) × (blanks.messages.parts ≡ M.parts) }
-        requires octets { (0 < users) × (users ≤ 64) → (blanks.octets.name ≡ O.name) × (blanks.octets.parts ≡ O.parts) }
-        requires acknowledged { (0 < users) × (users ≤ 64) → (blanks.acknowledged.name ≡ A.name) × (blanks.acknowledged.parts ≡ A.parts) }
-        requires parts { (0 < users) × (users ≤ 64) → AreParts C.parts M.parts O.parts A.parts users config.now.links }
+        requires calls { (0 < users) × (users ≤ 64) → Names blanks.calls C.name C.parts }
+        requires messages { (0 < users) × (users ≤ 64) → Names blanks.messages M.name M.parts }
+        requires octets { (0 < users) × (users ≤ 64) → Names blanks.octets O.name O.parts }
+        requires acknowledged { (0 < users) × (users ≤ 64) → Names blanks.acknowledged A.name A.parts }
+        requires parts { (0 < users) × (users ≤ 64)
+            → AreParts C.parts M.parts O.parts A.parts users config.now.links }
         ensures set { IfOk result (λ opened. opened.set ≡ record { users = users; links = config.now.links }) }
         ensures users { IfOk result (λ opened. opened.users.items ≡ new_seats User users) }
         ensures terminals { IfOk result (λ opened. opened.terminals.items ≡ new_seats Terminal config.now.links) }
@@ -186,11 +187,13 @@ impl<C: Ledger, M: Ledger, O: Ledger, A: Ledger> LinkSet<C, M, O, A> {
         terminals: Vec<TermSeat<C, M, O, A>>,
     ) -> Result<Closed, EndFault<C, M, O, A>>
         ensures complete { OnOk result (is_complete self.users self.links users.items terminals.items ≡ true) }
-        ensures closed { IfOk result (λ closed. IsClosed users.items terminals.items (new_state closed.config) closed.history.items closed.books closed.counts) }
+        ensures closed { IfOk result (λ closed.
+            IsClosed users.items terminals.items (new_state closed.config) closed.history.items closed.books closed.counts) }
         ensures back { IfErr result (λ fault. (held : HeldState) × (held.users ≡ self.users) × (held.links ≡ self.links)
-            × (fault ≡ (if is_complete self.users self.links users.items terminals.items then EndFault.Strange else EndFault.Missing)
-            (record { held = held; users = users; terminals = terminals }))
-            × (is_complete self.users self.links users.items terminals.items ≡ true → AreFaithful held.set.history users.items terminals.items → ⊥)) }
+            × (fault ≡ (if is_complete self.users self.links users.items terminals.items
+                then EndFault.Strange else EndFault.Missing) (record { held = held; users = users; terminals = terminals }))
+            × (is_complete self.users self.links users.items terminals.items ≡ true
+                → AreFaithful held.set.history users.items terminals.items → ⊥)) }
     {
         let held = self.held.into_inner();
         let _ = held.users();

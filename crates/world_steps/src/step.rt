@@ -14,7 +14,8 @@ pub enum End {
 #[derive(Debug, Drop)]
 pub enum Step {
     /// An event at the end, made by the terminal of the link that it names, or else by user 0. It moves
-    /// nothing on the lines, whichever event it is.
+    /// nothing on the lines. Those with a step of their own are impossible here: a unit is sent by `Emit` and
+    /// heard by `Arrive` or `Inject`, and a link comes up by `Together`.
     Act { end: End, event: Event },
     /// The end sends its next unit on the link, which joins the link's line to the other end.
     Emit { end: End, link: u8 },

@@ -1,7 +1,7 @@
 use Rattle.std.proofs.Common.{arith, ◌≡◌, ◌∙◌, sym, ◌≤◌, ℕ, List, [], length, nat_lt, false, Option, None, Some}
 use Rattle.std.proofs.lemmas.Bool.Decides.{nat_tests}
 use Rattle.std.proofs.lemmas.List.{append-nil}
-use Rattle.pair_world.specs.World.{World}
+use Rattle.pair_model.specs.World.{World}
 use Rattle.play_script.specs.Script.{first_line}
 use Rattle.play_text.specs.PlayText.{prints, opened, on_line, is_remark}
 use Rattle.play_text.specs.Playing.{Does}
@@ -17,4 +17,4 @@ opens n text before world made few plain none first =
     }
 
 pub returns-in-Ok : goal.returns-in-Ok
-returns-in-Ok c = opens c.args.line c.args.text.now c.args.out.now.items c.args.world.now c.in-Ok.made c.requires (sym c.is_remark.ensures ∙ c.if-is_remark.false) c.in-None.is c.in-Ok.ensures
+returns-in-Ok c = opens c.args.line c.args.text.now c.args.out.now.items c.args.world.now c.in-Ok.made c.requires (sym c.is_remark.ensures ∙ c.if-is_remark.false) (sym c.take.ensures.value ∙ c.in-None.is) c.in-Ok.ensures

@@ -1,5 +1,5 @@
 -- THE WORLD: two ends and the units under way between them on their links.
-use Rattle.std.specs.Prelude.{ℕ, Bool, true, ◌^◌, ◌&&◌, ◌||◌, nat_lt, nat_le, List, [], ◌∷◌, ◌++◌, length, if◌then◌else◌}
+use Rattle.std.specs.Prelude.{◌≡◌, ℕ, Bool, true, false, ◌^◌, ◌&&◌, ◌||◌, nat_lt, nat_le, List, [], ◌∷◌, ◌++◌, length, if◌then◌else◌}
 use Rattle.l2_units.specs.declared.unit.Unit.{Unit as SignalUnit}
 use Rattle.link_lines.specs.Lines.{no_units, units_on, with_units, joined_on, without}
 use Rattle.set_events.specs.declared.event.Actor.{Actor}
@@ -30,6 +30,16 @@ pub record World : Type 0 where
 -- these two sets, and nothing under way
 abbrev pub world_of : LinkSet → LinkSet → World
 world_of a b = record { a = a; b = b; to_a = no_units (link_count a.state); to_b = no_units (link_count a.state) }
+
+-- what holds of every world: both ends have the same links, and there is a line for each to each end
+pub record IsPaired (w : World) : Type 0 where
+  pub links_b : link_count w.b.state ≡ link_count w.a.state
+  pub lines_a : length w.to_a ≡ link_count w.a.state
+  pub lines_b : length w.to_b ≡ link_count w.a.state
+
+abbrev pub other : End → End
+other A = B
+other B = A
 
 abbrev pub at_end : World → End → LinkSet
 at_end w A = w.a
@@ -170,9 +180,19 @@ rises w link =
     then (if is_full w.a || is_full w.b then exhausted else shows Up (risen w link))
     else impossible)
 
+-- what is asked by a step of its own: a unit is sent by Emit, heard by Arrive or Inject, and a link comes up by Together
+abbrev pub has_own_step : Event → Bool
+has_own_step (Next link) = true
+has_own_step (HeardEvent link unit) = true
+has_own_step (UpEvent link) = true
+has_own_step _ = false
+
+abbrev pub asks : World → End → Event → Outcome
+asks w end event = if has_own_step event then impossible else acts w end event
+
 -- what each step does; where it's impossible, it's that whether a history is full or not
 abbrev pub done_by : World → Step → Outcome
-done_by w (Act end event) = acts w end event
+done_by w (Act end event) = asks w end event
 done_by w (Emit end link) = emits w end link
 done_by w (Arrive end link) = arrives w end link
 done_by w (Lose end link place) = loses w end link place

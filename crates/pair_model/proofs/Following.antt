@@ -1,0 +1,291 @@
+-- HOW A LINK GOES ON at an end by what isn't its own sending, hearing or coming up.
+use Rattle.std.proofs.Common.{refl, ◌≡◌, ◌≢◌, ◌∙◌, ap, sym, subst, ℕ, ◌<◌, ◌==◌, Bool, true, false, List, [], ◌∷◌, ◌++◌, length, map, slice_get, slice_set, Option, Some, None, append_assoc, cond}
+use Rattle.std.proofs.lemmas.Bool.{eqb-true}
+use Rattle.std.proofs.lemmas.List.{append-nil}
+use Rattle.l2_units.specs.declared.unit.Unit.{Unit as SignalUnit}
+use Rattle.l2_units.specs.declared.unit.Unit.TheVariants.{Fisu, Lssu, Msu}
+use Rattle.l2_units.specs.Grammar.{head_of as header_in}
+use Rattle.l3_orders.specs.declared.order.Order.{Order}
+use Rattle.l3_orders.specs.declared.order.Order.TheVariants.{Coo, Coa, Cbd, Cba, Eco, Eca}
+use Rattle.l3_orders.specs.Grammar.{text, order_of, link_of}
+use Rattle.set_events.specs.declared.answer.Fate.{Fate}
+use Rattle.set_events.specs.declared.answer.Fate.TheVariants.{Waiting}
+use Rattle.set_events.specs.declared.answer.Refusal.{Refusal as SetRefusal}
+use Rattle.set_events.specs.declared.answer.Refusal.TheVariants.{NotUp}
+use Rattle.set_events.specs.declared.event.Event.TheVariants.{Offer, Take, Find, Next, Heard, Up as UpEvent, Down as DownEvent}
+use Rattle.set_route.specs.declared.place.Place.{Place}
+use Rattle.set_route.specs.declared.place.Place.TheVariants.{On, Nowhere}
+use Rattle.set_route.specs.Routing.{place_of}
+use Rattle.set_model.specs.declared.phase.Phase.{Phase}
+use Rattle.set_model.specs.declared.phase.Phase.TheVariants.{Up, Down, Settled}
+use Rattle.set_model.specs.declared.reached.Reached.{Reached}
+use Rattle.set_model.specs.declared.reached.Reached.TheVariants.{Upto, Unknown, Unanswered}
+use Rattle.set_model.specs.Rows.{Row, is_waiting, is_unacked, unack, wait, on, appended, with_fate, service_indicator, stream_of}
+use Rattle.set_model.specs.State.{LinkState, State, has_phase_up, has_phase_settled, is_up, target, window_of}
+use Rattle.set_model.specs.Control.{part_of}
+use Rattle.set_model.specs.Changeover.{Obeyed, fate_on, left_link, acknowledged as acknowledged_link, settled_link, moved_over, queued, left_by, leaving_order, is_reasonable, judged, settled, changed_over, answered, at_link, order_obeyed, obeyed, reply_of}
+use Rattle.set_model.specs.Step.{Outcome, refused, offer_refusal, offered, fate_at, is_msu, brought, takes, after_control, controls, heard, falls, with_known, in_service, step}
+use Rattle.set_model.specs.Frame.{LeavesAlone}
+use Rattle.set_model.proofs.Events.{Untouched, acknowledged, sent_given_up, waiting_given_up, moved_to, moved_aside, appended_in, appended_out, untouched_self}
+use Rattle.set_model.proofs.Finding.{new_row}
+use Rattle.set_model.proofs.Framing.{leaves_alone}
+use Rattle.set_model.proofs.Lists.{get_set_same, get_set_other, same_at, within, length_set}
+use Rattle.set_model.proofs.Places.{false_true, itself, apart}
+use Rattle.set_model.proofs.Targets.{target_up}
+use Rattle.set_model.proofs.Walk.{IsAt, KeptBy, obeys_walks}
+
+-- it wasn't settled before; its control, its count and its unacknowledged messages are the same; and messages may have
+-- come to wait for it, last
+pub record GoesOn (l : ℕ) (s t : State) (after : LinkState) : Type 0 where
+  pub link : LinkState
+  pub there : slice_get s.links l ≡ Some link
+  pub unsettled : has_phase_settled link.phase ≡ false
+  pub control : after.control ≡ link.control
+  pub acked : after.acked ≡ link.acked
+  pub unack_same : unack l t.rows ≡ unack l s.rows
+  pub more : List Row
+  pub wait_more : wait l t.rows ≡ wait l s.rows ++ more
+
+-- where it isn't settled then
+abbrev pub Follows : ℕ → State → State → Type 0
+Follows l s t = (after : LinkState) → slice_get t.links l ≡ Some after → has_phase_settled after.phase ≡ false → GoesOn l s t after
+
+pub follows_by : (l : ℕ) (s t : State) (more : List Row) → slice_get t.links l ≡ slice_get s.links l → unack l t.rows ≡ unack l s.rows → wait l t.rows ≡ wait l s.rows ++ more → Follows l s t
+follows_by l s t more same unacked waiting = λ link there unsettled. record {
+  link = link;
+  there = sym same ∙ there;
+  unsettled = unsettled;
+  control = refl;
+  acked = refl;
+  unack_same = unacked;
+  more = more;
+  wait_more = waiting;
+}
+
+pub follows_untouched : (l : ℕ) (s t : State) → slice_get t.links l ≡ slice_get s.links l → Untouched l s.rows t.rows → Follows l s t
+follows_untouched l s t same u = follows_by l s t [] same u.unack_same (u.wait_same ∙ sym (append-nil (wait l s.rows)))
+
+pub follows_same : (l : ℕ) (s : State) → Follows l s s
+follows_same l s = follows_untouched l s s refl (untouched_self l s.rows)
+
+pub follows_alone : (l : ℕ) (s t : State) → LeavesAlone l s t → Follows l s t
+follows_alone l s t a = follows_by l s t a.more a.link_same a.unack_same a.wait_more
+
+pub follows_then : (l : ℕ) (a b c : State) → Follows l a b → Follows l b c → Follows l a c
+follows_then l a b c p q = λ link there unsettled.
+    let y = q link there unsettled in
+    let x = p y.link y.there y.unsettled in
+    record {
+      link = x.link;
+      there = x.there;
+      unsettled = x.unsettled;
+      control = y.control ∙ x.control;
+      acked = y.acked ∙ x.acked;
+      unack_same = y.unack_same ∙ x.unack_same;
+      more = x.more ++ y.more;
+      wait_more = y.wait_more ∙ ap (λ (xs : List Row). xs ++ y.more) x.wait_more ∙ append_assoc (wait l a.rows) x.more y.more;
+    }
+
+-- one that settled needn't have gone on so
+pub follows_settled : (l : ℕ) (s t : State) (link : LinkState) → slice_get t.links l ≡ Some link → has_phase_settled link.phase ≡ true → Follows l s t
+follows_settled l s t link there is = λ after at unsettled.
+    let same : after ≡ link = same_at t.links l link after there at in
+    absurd (false_true (has_phase_settled link.phase) (ap (λ (k : LinkState). has_phase_settled k.phase) (sym same) ∙ unsettled) is)
+
+-- another link changes, and rows that this one doesn't see
+follows_set : (l m : ℕ) (link : LinkState) (s t : State) → (m == l) ≡ false → t.links ≡ slice_set s.links m link → Untouched l s.rows t.rows → Follows l s t
+follows_set l m link s t d links u = follows_untouched l s t (ap (λ (ls : List LinkState). slice_get ls l) links ∙ get_set_other s.links m l link (λ same. false_true (m == l) d (rw same (itself l)))) u
+
+-- a new message that wasn't sent
+follows_new : (l : ℕ) (body : List ℕ) (fate : Fate) (s t : State) → is_unacked l fate ≡ false → slice_get t.links l ≡ slice_get s.links l → t.rows ≡ appended s.rows body fate → Follows l s t
+follows_new l body fate s t unsent links rows = go (is_waiting l fate) refl
+  where
+    unacked : unack l t.rows ≡ unack l s.rows
+    unacked = ap (unack l) rows ∙ appended_out s.rows body fate (is_unacked l) unsent
+
+    go : (b : Bool) → is_waiting l fate ≡ b → Follows l s t
+    go true e = follows_by l s t (new_row (length s.rows) body fate ∷ []) links unacked (ap (wait l) rows ∙ appended_in s.rows body fate (is_waiting l) e)
+    go false e = follows_by l s t [] links unacked (ap (wait l) rows ∙ appended_out s.rows body fate (is_waiting l) e ∙ sym (append-nil (wait l s.rows)))
+
+waits_or_parked : (l : ℕ) (to : Option ℕ) → is_unacked l (fate_on to) ≡ false
+waits_or_parked l None = refl
+waits_or_parked l (Some to) = refl
+
+pub follows_queued : (l : ℕ) (order : Order) (s : State) → Follows l s (queued order s)
+follows_queued l order s = follows_new l (text order s.settings.sio s.settings.dpc s.settings.opc) (fate_on (target s.links)) s (queued order s) (waits_or_parked l (target s.links)) refl refl
+
+-- a link that is left goes on too
+pub follows_left : (l : ℕ) (blind : Bool) (m : ℕ) (link : LinkState) (s : State) → IsAt m link Up s → Follows l s (left_by blind m link s)
+follows_left l blind m link s at = go (m == l) refl
+  where
+    go : (b : Bool) → (m == l) ≡ b → Follows l s (left_by blind m link s)
+    go false d = follows_set l m (left_link blind link) s (left_by blind m link s) d refl (untouched_self l s.rows)
+    go true d = λ after there unsettled.
+        let same : m ≡ l = eqb-true m l d in
+        let is : after ≡ left_link blind link = same_at (slice_set s.links m (left_link blind link)) l (left_link blind link) after (subst (λ (k : ℕ). slice_get (slice_set s.links m (left_link blind link)) k ≡ Some (left_link blind link)) same (get_set_same s.links m (left_link blind link) (within s.links m link at.there))) there in
+        record {
+          link = link;
+          there = subst (λ (k : ℕ). slice_get s.links k ≡ Some link) same at.there;
+          unsettled = ap has_phase_settled at.phase_is;
+          control = ap (λ (k : LinkState). k.control) is;
+          acked = ap (λ (k : LinkState). k.acked) is;
+          unack_same = refl;
+          more = [];
+          wait_more = sym (append-nil (wait l s.rows));
+        }
+
+-- ANOTHER LINK SETTLES
+follows_off : (l m : ℕ) (link : LinkState) (s : State) → (m == l) ≡ false → IsAt m link Down s → Follows l s (moved_over m link s)
+follows_off l m link s d at = go (target s.links) refl
+  where
+    apart_target : (to : ℕ) → target s.links ≡ Some to → (m == to) ≡ false
+    apart_target to e =
+        let up = target_up s.links to e in
+        apart m to (λ same. let it : up.0 ≡ link = same_at s.links m link up.0 at.there (ap (slice_get s.links) same ∙ up.1) in let no : true ≡ false = sym up.2 ∙ ap (λ (k : LinkState). has_phase_up k.phase) it ∙ ap has_phase_up at.phase_is in cc)
+
+    joins : (to : ℕ) → target s.links ≡ Some to → (b : Bool) → (to == l) ≡ b → Follows l s (moved_over m link s)
+    joins to e false f = follows_set l m (settled_link link) s (moved_over m link s) d refl (rw e ((moved_to m to s.rows (apart_target to e)).left_is.others l d f))
+    joins to e true f =
+        let same : l ≡ to = sym (eqb-true to l f) in
+        let moved = moved_to m to s.rows (apart_target to e) in
+        follows_by l s (moved_over m link s) (map (with_fate (Waiting to)) (on m s.rows)) (get_set_other s.links m l (settled_link link) (λ eq. false_true (m == l) d (rw eq (itself l)))) (rw (e, same) moved.unack_same) (rw (e, same) moved.wait_is)
+
+    go : (to : Option ℕ) → target s.links ≡ to → Follows l s (moved_over m link s)
+    go None e = follows_set l m (settled_link link) s (moved_over m link s) d refl (rw e ((moved_aside m s.rows).left_is.others l d refl))
+    go (Some to) e = joins to e (to == l) refl
+
+others : (l : ℕ) → KeptBy (λ m. (m == l) ≡ false) (Follows l)
+others l = record {
+  same = λ s. follows_same l s;
+  after = λ a b c p q. follows_then l a b c p q;
+  delivers = λ body s. follows_untouched l s _ refl (untouched_self l s.rows);
+  queues = λ order s. follows_queued l order s;
+  leaves = λ blind m link s d at. follows_left l blind m link s at;
+  acknowledges = λ count m link s d at few. follows_set l m (acknowledged_link count link) s _ d refl ((acknowledged m count s.rows).others l d);
+  gives_up_sent = λ cause m link s d at. follows_untouched l s _ refl ((sent_given_up m cause s.rows).others l d);
+  gives_up_waiting = λ cause m link s d at. follows_untouched l s _ refl ((waiting_given_up m cause s.rows).others l d);
+  moves_off = λ m link s d at. follows_off l m link s d at;
+}
+
+-- THE LINK ITSELF SETTLES
+judged_count : (reached : Reached) (l : ℕ) (link : LinkState) (s : State) → length (judged reached l link s).links ≡ length s.links
+judged_count (Upto fsn) l link s = go (is_reasonable fsn l link s.rows) refl
+  where
+    go : (b : Bool) → is_reasonable fsn l link s.rows ≡ b → length (judged (Upto fsn) l link s).links ≡ length s.links
+    go true e = rw e (length_set s.links l _)
+    go false e = rw e refl
+judged_count Unknown l link s = refl
+judged_count Unanswered l link s = refl
+
+settles : (reached : Reached) (l : ℕ) (link : LinkState) (s t : State) → l < length s.links → Follows l t (settled reached l link s)
+settles reached l link s t few = follows_settled l t (settled reached l link s) _ (get_set_same (judged reached l link s).links l _ (rw (judged_count reached l link s) few)) refl
+
+over_own : (reached : Reached) (l : ℕ) (link : LinkState) (phase : Phase) (s : State) → l < length s.links → Follows l s (changed_over reached l link phase s).state
+over_own reached l link Up s few = settles reached l (left_link false link) _ s (rw (length_set s.links l (left_link false link)) few)
+over_own reached l link Down s few = settles reached l link s s few
+over_own reached l link Settled s few = follows_queued l (reply_of l link) s
+
+answer_own : (reached : Reached) (l : ℕ) (link : LinkState) (phase : Phase) (s : State) → l < length s.links → Follows l s (answered reached l link phase s).state
+answer_own reached l link Up s few = follows_same l s
+answer_own reached l link Down s few = settles reached l link s s few
+answer_own reached l link Settled s few = follows_same l s
+
+at_own : (l : ℕ) (s : State) (f : LinkState → Obeyed) → ((link : LinkState) → l < length s.links → Follows l s (f link).state) → (there : Option LinkState) → slice_get s.links l ≡ there → Follows l s (at_link l s f there).state
+at_own l s f all None e = follows_same l s
+at_own l s f all (Some link) e = all link (within s.links l link e)
+
+own : (order : Order) (s : State) → Follows (link_of order) s (order_obeyed order s).state
+own (Coo l fsn) s = at_own l s _ (λ link few. over_own (Upto fsn) l link link.phase s few) (slice_get s.links l) refl
+own (Eco l) s = at_own l s _ (λ link few. over_own Unknown l link link.phase s few) (slice_get s.links l) refl
+own (Coa l fsn) s = at_own l s _ (λ link few. answer_own (Upto fsn) l link link.phase s few) (slice_get s.links l) refl
+own (Eca l) s = at_own l s _ (λ link few. answer_own Unknown l link link.phase s few) (slice_get s.links l) refl
+own (Cbd l code) s = follows_same l s
+own (Cba l code) s = follows_same l s
+
+order_follows : (l : ℕ) (order : Order) (s : State) → Follows l s (order_obeyed order s).state
+order_follows l order s = go (link_of order == l) refl
+  where
+    go : (b : Bool) → (link_of order == l) ≡ b → Follows l s (order_obeyed order s).state
+    go false d = obeys_walks (λ m. (m == l) ≡ false) (Follows l) (others l) order s (λ m e. subst (λ (k : ℕ). (k == l) ≡ false) e d)
+    go true d = subst (λ (k : ℕ). Follows k s (order_obeyed order s).state) (eqb-true (link_of order) l d) (own order s)
+
+obeyed_follows : (l : ℕ) (order : Option Order) (s : State) → Follows l s (obeyed order s).state
+obeyed_follows l None s = follows_same l s
+obeyed_follows l (Some order) s = order_follows l order s
+
+-- what becomes of an accepted body
+pub takes_follows : (l : ℕ) (body : Option (List ℕ)) (s : State) → Follows l s (takes body s).state
+takes_follows l None s = follows_same l s
+takes_follows l (Some body) s = go (service_indicator body == 0) refl
+  where
+    go : (b : Bool) → (service_indicator body == 0) ≡ b → Follows l s (takes (Some body) s).state
+    go true e = rw e (obeyed_follows l (order_of body) s)
+    go false e = rw e (follows_untouched l s _ refl (untouched_self l s.rows))
+
+-- EVENTS
+offered_unsent : (l : ℕ) (place : Place) (s : State) → is_unacked l (fate_at place s) ≡ false
+offered_unsent l Nowhere s = refl
+offered_unsent l (On m) s = go (is_up m s) refl
+  where
+    go : (b : Bool) → is_up m s ≡ b → is_unacked l (fate_at (On m) s) ≡ false
+    go true e = rw e refl
+    go false e = rw e refl
+
+offer_goes : (l : ℕ) (s : State) (body : List ℕ) (refusal : Option SetRefusal) → Follows l s (offered refusal s body).state
+offer_goes l s body None = follows_new l body (fate_at (place_of (stream_of body) s.routing) s) s _ (offered_unsent l (place_of (stream_of body) s.routing) s) refl refl
+offer_goes l s body (Some why) = follows_same l s
+
+pub offer_follows : (l : ℕ) (s : State) (body : List ℕ) → Follows l s (step s (Offer body)).state
+unfolding step
+offer_follows l s body = offer_goes l s body (offer_refusal s.rows body)
+
+pub take_follows : (l : ℕ) (s : State) → Follows l s (step s Take).state
+take_follows l s = follows_alone l s _ (leaves_alone l s Take (λ c. c))
+
+pub find_follows : (l : ℕ) (s : State) (number : ℕ) → Follows l s (step s (Find number)).state
+find_follows l s number = follows_alone l s _ (leaves_alone l s (Find number) (λ c. c))
+
+pub next_follows : (l m : ℕ) (s : State) → m ≢ l → Follows l s (step s (Next m)).state
+next_follows l m s d = follows_alone l s _ (leaves_alone l s (Next m) d)
+
+pub up_follows : (l m : ℕ) (s : State) → m ≢ l → Follows l s (step s (UpEvent m)).state
+up_follows l m s d = follows_alone l s _ (leaves_alone l s (UpEvent m) d)
+
+-- an event of a link in service
+up_is : (phase : Phase) → has_phase_up phase ≡ true → phase ≡ Up
+up_is Up e = refl
+up_is Down e = absurd cc
+up_is Settled e = absurd cc
+
+in_goes : (l m : ℕ) (s : State) (f : LinkState → Outcome) → ((link : LinkState) → IsAt m link Up s → Follows l s (f link).state) → Follows l s (in_service m s f).state
+in_goes l m s f all = go (slice_get s.links m) refl
+  where
+    at : (link : LinkState) → slice_get s.links m ≡ Some link → (b : Bool) → has_phase_up link.phase ≡ b → Follows l s (cond b (f link) (refused s NotUp)).state
+    at link there true e = all link (record { there = there; phase_is = up_is link.phase e })
+    at link there false e = follows_same l s
+
+    go : (o : Option LinkState) → slice_get s.links m ≡ o → Follows l s (with_known o s (λ link. cond (has_phase_up link.phase) (f link) (refused s NotUp))).state
+    go None e = follows_same l s
+    go (Some link) e = at link e (has_phase_up link.phase) refl
+
+pub down_follows : (l m : ℕ) (s : State) → Follows l s (step s (DownEvent m)).state
+unfolding step
+down_follows l m s = in_goes l m s (falls false m s) (λ link at.
+    let left = left_by false m link s in
+    follows_then l s left (queued (leaving_order false m link) left) (follows_left l false m link s at) (follows_queued l (leaving_order false m link) left))
+
+-- a unit that is heard on another link
+controls_follow : (l m : ℕ) (unit : SignalUnit) (s : State) (link : LinkState) → (m == l) ≡ false → Follows l s (controls unit m s link).state
+controls_follow l m unit s link d =
+    let part = part_of link.control (window_of m link s.rows) (header_in unit) (is_msu unit) in
+    let mid = after_control part (header_in unit) unit m s link in
+    follows_then l s mid (controls unit m s link).state (follows_set l m _ s mid d refl ((acknowledged m part.acked s.rows).others l d)) (takes_follows l (brought part.accept unit) mid)
+
+heard_goes : (l m : ℕ) (unit : SignalUnit) (s : State) (link : LinkState) → (m == l) ≡ false → Follows l s (heard unit m s link).state
+heard_goes l m (Fisu head) s link d = controls_follow l m (Fisu head) s link d
+heard_goes l m (Lssu head status) s link d = follows_same l s
+heard_goes l m (Msu head body) s link d = controls_follow l m (Msu head body) s link d
+
+pub heard_follows : (l m : ℕ) (unit : SignalUnit) (s : State) → (m == l) ≡ false → Follows l s (step s (Heard m unit)).state
+unfolding step
+heard_follows l m unit s d = in_goes l m s (heard unit m s) (λ link at. heard_goes l m unit s link d)

@@ -1,0 +1,12 @@
+pub mod Controls
+pub mod Counts
+pub mod Examples
+pub mod Following
+pub mod Hearing
+pub mod Kept
+pub mod Moving
+pub mod Pairs
+pub mod Rising
+pub mod Runs
+pub mod Sending
+pub mod Tied

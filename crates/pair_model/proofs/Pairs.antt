@@ -1,0 +1,150 @@
+-- EVERY STEP KEEPS THE TIE OF EACH LINK: two ends, seen from the one that acts.
+use Rattle.std.proofs.Common.{refl, ◌≡◌, ◌≢◌, ◌∙◌, ap, sym, ℕ, ◌<◌, ◌==◌, false, List, length}
+use Rattle.l2_units.specs.declared.unit.Unit.{Unit as SignalUnit}
+use Rattle.link_lines.specs.Lines.{units_of, units_on, with_units}
+use Rattle.set_events.specs.declared.config.Method.{Method}
+use Rattle.set_events.specs.declared.event.Event.{Event}
+use Rattle.set_events.specs.declared.event.Event.TheVariants.{Offer, Take, Find, Next, Heard, Up as UpEvent, Down as DownEvent, DownBlind, NoAnswer}
+use Rattle.set_model.specs.Sound.{IsSound, IsAsked}
+use Rattle.set_model.specs.State.{State, Settings}
+use Rattle.set_model.specs.Step.{step}
+use Rattle.set_model.proofs.LinkCount.{link_count_stays}
+use Rattle.set_model.proofs.Lists.{get_set_same, get_set_other}
+use Rattle.set_model.proofs.Places.{false_true, itself}
+use Rattle.set_model.proofs.Soundness.{step_sound}
+use Rattle.set_model.proofs.Staying.{keeps_messages}
+use Rattle.set_model.proofs.Walk.{KeptBy, step_walks}
+use Rattle.world_steps.specs.declared.step.End.{End}
+use Rattle.world_steps.specs.declared.step.Shown.{Shown}
+use Rattle.world_steps.specs.declared.step.Step.TheVariants.{Act}
+use Rattle.pair_model.specs.World.{has_own_step}
+use Rattle.pair_model.specs.Run.{Past, past_asked}
+use Rattle.pair_model.specs.Promises.{IsSoundStep}
+use Rattle.pair_model.proofs.Counts.{IsApart, count_stays}
+use Rattle.pair_model.proofs.Following.{Follows, offer_follows, take_follows, find_follows, down_follows}
+use Rattle.pair_model.proofs.Tied.{KeepBodies, keep_bodies, Side, Tied, turned, follows}
+
+pub record Two : Type 0 where
+  pub near : State
+  pub far : State
+  pub near_past : Past
+  pub far_past : Past
+  pub out : List (List SignalUnit)
+  pub back : List (List SignalUnit)
+
+abbrev pub swapped : Two → Two
+swapped p = record { near = p.far; far = p.near; near_past = p.far_past; far_past = p.near_past; out = p.back; back = p.out }
+
+abbrev pub side : ℕ → State → Past → Side
+side l s past = record { state = s; sent = past.sent l; taken = past.taken l }
+
+abbrev pub TiedAt : ℕ → Method → Method → Two → Type 0
+TiedAt l mx my p = Tied l mx my (side l p.near p.near_past) (side l p.far p.far_past) (units_on l p.out) (units_on l p.back)
+
+pub record HoldsOf (mx my : Method) (p : Two) : Type 0 where
+  pub near_sound : IsSound p.near
+  pub far_sound : IsSound p.far
+  pub near_method : p.near.settings.method ≡ mx
+  pub far_method : p.far.settings.method ≡ my
+  pub far_links : length p.far.links ≡ length p.near.links
+  pub out_lines : length p.out ≡ length p.near.links
+  pub back_lines : length p.back ≡ length p.near.links
+  pub ties : (l : ℕ) → TiedAt l mx my p
+
+pub swap : (mx my : Method) (p : Two) → HoldsOf mx my p → HoldsOf my mx (swapped p)
+swap mx my p h = record {
+  near_sound = h.far_sound;
+  far_sound = h.near_sound;
+  near_method = h.far_method;
+  far_method = h.near_method;
+  far_links = sym h.far_links;
+  out_lines = h.back_lines ∙ sym h.far_links;
+  back_lines = h.out_lines ∙ sym h.far_links;
+  ties = λ l. turned l mx my _ _ _ _ (h.ties l);
+}
+
+-- LINES: the one that changes, and the others
+pub on_set : (k : ℕ) (units : List SignalUnit) (lines : List (List SignalUnit)) → k < length lines → units_on k (with_units k units lines) ≡ units
+on_set k units lines few = ap units_of (get_set_same lines k units few)
+
+pub on_other : (l k : ℕ) (units : List SignalUnit) (lines : List (List SignalUnit)) → (k == l) ≡ false → units_on l (with_units k units lines) ≡ units_on l lines
+on_other l k units lines d = ap units_of (get_set_other lines k l units (λ same. false_true (k == l) d (rw same (itself l))))
+
+pub no_other : (k l : ℕ) → (k == l) ≡ false → k ≢ l
+no_other k l d = λ same. false_true (k == l) d (rw same (itself l))
+
+pub like : (l : ℕ) (mx my : Method) (x x' y y' : Side) (out out' back back' : List SignalUnit) → x' ≡ x → y' ≡ y → out' ≡ out → back' ≡ back → Tied l mx my x y out back → Tied l mx my x' y' out' back'
+like l mx my x x' y y' out out' back back' a b c d t = rw (a, b, c, d) t
+
+-- the settings stay
+small_settings : (Known : ℕ → Type 0) → KeptBy Known (λ s t. t.settings ≡ s.settings)
+small_settings Known = record {
+  same = λ s. refl;
+  after = λ a b c p q. q ∙ p;
+  delivers = λ body s. refl;
+  queues = λ order s. refl;
+  leaves = λ blind n link s known at. refl;
+  acknowledges = λ count n link s known at few. refl;
+  gives_up_sent = λ cause n link s known at. refl;
+  gives_up_waiting = λ cause n link s known at. refl;
+  moves_off = λ n link s known at. refl;
+}
+
+pub settings_stay : (s : State) (event : Event) → (step s event).state.settings ≡ s.settings
+settings_stay s event = step_walks s (λ t u. u.settings ≡ t.settings) (λ t. t.settings ≡ s.settings) event (record {
+  small = small_settings _;
+  unmoved = refl;
+  rests = λ t u p q. q ∙ p;
+  offers = λ body e none. refl;
+  takes = λ body rest e there. refl;
+  sends = λ n link e at. refl;
+  hears = λ n unit link e at. refl;
+  rises = λ n link e at. refl;
+})
+
+-- AN EVENT at the near end
+module _ (mx my : Method) (p : Two) (h : HoldsOf mx my p) where
+  module _ (event : Event) where
+    abbrev pub then_near : State
+    then_near = (step p.near event).state
+
+    pub keeps : KeepBodies p.near.rows then_near.rows
+    keeps = keep_bodies p.near.rows then_near.rows h.near_sound.numbered (keeps_messages p.near event h.near_sound.numbered)
+
+    pub goes_on : (l : ℕ) → IsApart l event → Follows l p.near then_near → Tied l mx my (side l then_near p.near_past) (side l p.far p.far_past) (units_on l p.out) (units_on l p.back)
+    goes_on l apart f = follows l mx my (side l p.near p.near_past) (side l p.far p.far_past) (units_on l p.out) (units_on l p.back) then_near keeps (count_stays l p.near event apart) f (h.ties l)
+
+    -- all but the ties
+    pub event_holds : IsAsked event → (past : Past) (out back : List (List SignalUnit)) → length out ≡ length p.out → length back ≡ length p.back
+        → ((l : ℕ) → Tied l mx my (side l then_near past) (side l p.far p.far_past) (units_on l out) (units_on l back))
+        → HoldsOf mx my (record { near = then_near; far = p.far; near_past = past; far_past = p.far_past; out = out; back = back })
+    event_holds asked past out back lo lb ties =
+        let count = link_count_stays p.near event in
+        record {
+          near_sound = step_sound p.near event asked h.near_sound;
+          far_sound = h.far_sound;
+          near_method = ap (λ (s : Settings). s.method) (settings_stay p.near event) ∙ h.near_method;
+          far_method = h.far_method;
+          far_links = h.far_links ∙ sym count;
+          out_lines = lo ∙ h.out_lines ∙ sym count;
+          back_lines = lb ∙ h.back_lines ∙ sym count;
+          ties = ties;
+        }
+
+    pub follows_all : IsAsked event → ((l : ℕ) → IsApart l event) → ((l : ℕ) → Follows l p.near then_near) → HoldsOf mx my (record p { near = then_near })
+    follows_all asked apart f = event_holds asked p.near_past p.out p.back refl refl (λ l. goes_on l (apart l) (f l))
+
+  -- one that has no step of its own
+  abbrev pub asked_then : Event → Shown → Two
+  asked_then event shown = record p { near = (step p.near event).state; near_past = past_asked event shown p.near_past }
+
+  pub asks : (end : End) (event : Event) (shown : Shown) → IsAsked event → has_own_step event ≡ false → IsSoundStep (Act end event) → HoldsOf mx my (asked_then event shown)
+  asks end (Offer body) shown asked own sound = event_holds (Offer body) asked _ p.out p.back refl refl (λ l. goes_on (Offer body) l tt (offer_follows l p.near body))
+  asks end Take shown asked own sound = follows_all Take asked (λ l. tt) (λ l. take_follows l p.near)
+  asks end (Find number) shown asked own sound = follows_all (Find number) asked (λ l. tt) (λ l. find_follows l p.near number)
+  asks end (Next k) shown asked own sound = absurd cc
+  asks end (Heard k unit) shown asked own sound = absurd cc
+  asks end (UpEvent k) shown asked own sound = absurd cc
+  asks end (DownEvent k) shown asked own sound = follows_all (DownEvent k) asked (λ l. tt) (λ l. down_follows l k p.near)
+  asks end (DownBlind k) shown asked own sound = absurd sound
+  asks end (NoAnswer k) shown asked own sound = absurd sound

@@ -1,0 +1,291 @@
+-- EVERY SOUND RUN KEEPS EACH LINK: one induction over its steps.
+use Rattle.std.proofs.Common.{refl, arith, ◌≡◌, ◌∙◌, ap, sym, subst, ℕ, ◌<◌, Bool, true, false, ◌&&◌, ◌||◌, nat_lt, List, [], ◌∷◌, length, slice_get, Option, Some, None, cond}
+use Rattle.std.proofs.lemmas.Bool.{ltb-true}
+use Rattle.l2_units.specs.declared.unit.Unit.{Unit as SignalUnit}
+use Rattle.link_lines.specs.Lines.{units_on, without}
+use Rattle.set_events.specs.declared.answer.Answer.{Answer}
+use Rattle.set_events.specs.declared.answer.Refusal.{Refusal as SetRefusal}
+use Rattle.set_events.specs.declared.answer.Fate.{Fate}
+use Rattle.set_events.specs.declared.config.Method.{Method}
+use Rattle.set_events.specs.declared.config.SetConfig.{SetConfig}
+use Rattle.set_events.specs.declared.event.Event.{Event}
+use Rattle.set_events.specs.declared.event.Event.TheVariants.{Offer, Take, Find, Next, Heard, Up as UpEvent, Down as DownEvent, DownBlind, NoAnswer}
+use Rattle.set_model.specs.declared.phase.Phase.{Phase}
+use Rattle.set_model.specs.declared.phase.Phase.TheVariants.{Up, Down, Settled}
+use Rattle.set_model.specs.Rows.{place}
+use Rattle.set_model.specs.Sound.{IsAsked}
+use Rattle.set_model.specs.State.{LinkState, State, has_phase_up, is_up, is_settled, link_is_up, link_count}
+use Rattle.set_model.specs.Step.{Outcome as SetOutcome, refused, offer_refusal, offered, taken, found, with_known, in_service, falls, step}
+use Rattle.set_model.proofs.Walk.{IsAt}
+use Rattle.world_steps.specs.declared.step.End.{End}
+use Rattle.world_steps.specs.declared.step.End.TheVariants.{A, B}
+use Rattle.world_steps.specs.declared.step.Shown.TheVariants.{Answered, Up as CameUp, Lost}
+use Rattle.world_steps.specs.declared.step.Step.{Step}
+use Rattle.world_steps.specs.declared.step.Step.TheVariants.{Act, Emit, Arrive, Lose, Together, Inject}
+use Rattle.pair_model.specs.World.{Outcome, shows, impossible, exhausted, at_end, with_end, line_to, with_line, actor_of, answer_to, after, is_full, has_link, has_actor, acts, with_sent, sends_on, emits, front_arrives, arrives, loses, risen, is_settled_at_both, rises, has_own_step, done_by, carried_out}
+use Rattle.pair_model.specs.Run.{Stage, begun, with_past, past_arrived, passed, OnShows, HoldsAlong, HoldsAtEach}
+use Rattle.pair_model.specs.Promises.{IsOneMethod, IsSoundStep, IsAskedStep, AreSteps, IsSoundRun, LinksKeep, TellsNoFault, KeepsLinks}
+use Rattle.pair_model.proofs.Controls.{one_back}
+use Rattle.pair_model.proofs.Kept.{kept_on, at_first}
+use Rattle.pair_model.proofs.Moving as moving
+use Rattle.pair_model.proofs.Pairs.{Two, swapped, HoldsOf, swap, asks}
+
+-- a stage seen from each end
+abbrev pub seen : End → Stage → Two
+seen A g = record { near = g.world.a.state; far = g.world.b.state; near_past = g.a; far_past = g.b; out = g.world.to_b; back = g.world.to_a }
+seen B g = record { near = g.world.b.state; far = g.world.a.state; near_past = g.b; far_past = g.a; out = g.world.to_a; back = g.world.to_b }
+
+abbrev pub method_at : Method → Method → End → Method
+method_at ma mb A = ma
+method_at ma mb B = mb
+
+-- an answer to what has no step of its own is no report
+no_report_of : (o : SetOutcome) → Type 0
+no_report_of o = TellsNoFault (Answered o.answer)
+
+in_tells : (k : ℕ) (s : State) (f : LinkState → SetOutcome) → ((link : LinkState) → TellsNoFault (Answered (f link).answer)) → TellsNoFault (Answered (in_service k s f).answer)
+in_tells k s f all = go (slice_get s.links k)
+  where
+    at : (link : LinkState) (b : Bool) → TellsNoFault (Answered (cond b (f link) (refused s Rattle.set_events.specs.declared.answer.Refusal.TheVariants.NotUp)).answer)
+    at link true = all link
+    at link false = tt
+
+    go : (o : Option LinkState) → TellsNoFault (Answered (with_known o s (λ link. cond (has_phase_up link.phase) (f link) (refused s Rattle.set_events.specs.declared.answer.Refusal.TheVariants.NotUp))).answer)
+    go None = tt
+    go (Some link) = at link (has_phase_up link.phase)
+
+offer_tells : (s : State) (body : List ℕ) (o : Option SetRefusal) → TellsNoFault (Answered (offered o s body).answer)
+offer_tells s body None = tt
+offer_tells s body (Some why) = tt
+
+take_tells : (s : State) (inbox : List (List ℕ)) → TellsNoFault (Answered (taken inbox s).answer)
+take_tells s [] = tt
+take_tells s (body ∷ rest) = tt
+
+find_tells : (s : State) (o : Option Fate) → TellsNoFault (Answered (found o s).answer)
+find_tells s None = tt
+find_tells s (Some fate) = tt
+
+answer_tells : (end : End) (s : State) (event : Event) → has_own_step event ≡ false → IsSoundStep (Act end event) → TellsNoFault (Answered (step s event).answer)
+unfolding step
+answer_tells end s (Offer body) own sound = offer_tells s body (offer_refusal s.rows body)
+answer_tells end s Take own sound = take_tells s s.inbox
+answer_tells end s (Find number) own sound = find_tells s (place number s.rows)
+answer_tells end s (Next k) own sound = absurd cc
+answer_tells end s (Heard k unit) own sound = absurd cc
+answer_tells end s (UpEvent k) own sound = absurd cc
+answer_tells end s (DownEvent k) own sound = in_tells k s (falls false k s) (λ link. tt)
+answer_tells end s (DownBlind k) own sound = absurd sound
+answer_tells end s (NoAnswer k) own sound = absurd sound
+
+is_at_up : (k : ℕ) (s : State) → is_up k s ≡ true → (link : LinkState) × IsAt k link Up s
+is_at_up k s e = go (slice_get s.links k) refl
+  where
+    phase_up : (phase : Phase) → has_phase_up phase ≡ true → phase ≡ Up
+    phase_up Up f = refl
+    phase_up Down f = absurd cc
+    phase_up Settled f = absurd cc
+
+    go : (o : Option LinkState) → slice_get s.links k ≡ o → (link : LinkState) × IsAt k link Up s
+    go None f = absurd (let no : false ≡ true = ap link_is_up (sym f) ∙ e in cc)
+    go (Some link) f = (link, record { there = f; phase_is = phase_up link.phase (ap link_is_up (sym f) ∙ e) })
+
+module _ (ma mb : Method) (one : IsOneMethod ma mb) where
+  abbrev pub Holds : Stage → Type 0
+  Holds g = HoldsOf ma mb (seen A g)
+
+  -- what a step keeps
+  abbrev pub Goes : Stage → Step → Outcome → Type 0
+  Goes g step outcome = OnShows outcome (λ shown new. TellsNoFault shown × Holds (passed g step shown new))
+
+  module _ (g : Stage) (h : Holds g) where
+    h_b : HoldsOf mb ma (seen B g)
+    h_b = swap ma mb (seen A g) h
+
+    one_b : IsOneMethod mb ma
+    one_b = one_back ma mb one
+
+    back_b : (p : Two) → HoldsOf mb ma p → HoldsOf ma mb (swapped p)
+    back_b p k = swap mb ma p k
+
+    -- ACT
+    act_goes : (end : End) (event : Event) → IsSoundStep (Act end event) → IsAsked event → has_own_step event ≡ false → Goes g (Act end event) (acts g.world end event)
+    act_goes end event sound asked own = go (has_actor g.world (actor_of event)) (is_full (at_end g.world end))
+      where
+        shown : (end : End) → IsSoundStep (Act end event) → Goes g (Act end event) (shows (Answered (answer_to (at_end g.world end) event)) (with_end g.world end (after (at_end g.world end) event)))
+        shown A sound = (answer_tells A g.world.a.state event own sound, asks ma mb (seen A g) h A event _ asked own sound)
+        shown B sound = (answer_tells B g.world.b.state event own sound, back_b _ (asks mb ma (seen B g) h_b B event _ asked own sound))
+
+        go : (known full : Bool) → Goes g (Act end event) (cond known (cond full exhausted (shows (Answered (answer_to (at_end g.world end) event)) (with_end g.world end (after (at_end g.world end) event)))) impossible)
+        go true true = tt
+        go true false = shown end sound
+        go false full = tt
+
+    -- EMIT
+    emit_a : (k : ℕ) → k < length g.world.a.state.links → (b : Bool) → is_up k g.world.a.state ≡ b → Goes g (Emit A k) (sends_on A k (shows (Answered (answer_to g.world.a (Next k))) (with_end g.world A (after g.world.a (Next k)))))
+    emit_a k few true e =
+        let at = is_at_up k g.world.a.state e in
+        subst (λ (answer : Answer). TellsNoFault (Answered answer) × Holds (passed g (Emit A k) (Answered answer) (with_sent (with_end g.world A (after g.world.a (Next k))) A k (Answered answer)))) (sym (moving.answers_sent ma mb (seen A g) h k few at.0 at.1))
+        (tt, moving.emits_up ma mb (seen A g) h k few at.0 at.1)
+    emit_a k few false e =
+        let not = moving.next_refused k g.world.a.state e in
+        subst (λ (answer : Answer). TellsNoFault (Answered answer) × Holds (passed g (Emit A k) (Answered answer) (with_sent (with_end g.world A (after g.world.a (Next k))) A k (Answered answer)))) (sym (ap (λ (o : SetOutcome). o.answer) not.1))
+        (tt, moving.emits_not ma mb (seen A g) h k e)
+
+    emit_b : (k : ℕ) → k < length g.world.b.state.links → (b : Bool) → is_up k g.world.b.state ≡ b → Goes g (Emit B k) (sends_on B k (shows (Answered (answer_to g.world.b (Next k))) (with_end g.world B (after g.world.b (Next k)))))
+    emit_b k few true e =
+        let at = is_at_up k g.world.b.state e in
+        subst (λ (answer : Answer). TellsNoFault (Answered answer) × Holds (passed g (Emit B k) (Answered answer) (with_sent (with_end g.world B (after g.world.b (Next k))) B k (Answered answer)))) (sym (moving.answers_sent mb ma (seen B g) h_b k few at.0 at.1))
+        (tt, back_b _ (moving.emits_up mb ma (seen B g) h_b k few at.0 at.1))
+    emit_b k few false e =
+        let not = moving.next_refused k g.world.b.state e in
+        subst (λ (answer : Answer). TellsNoFault (Answered answer) × Holds (passed g (Emit B k) (Answered answer) (with_sent (with_end g.world B (after g.world.b (Next k))) B k (Answered answer)))) (sym (ap (λ (o : SetOutcome). o.answer) not.1))
+        (tt, back_b _ (moving.emits_not mb ma (seen B g) h_b k e))
+
+    emit_at : (end : End) (k : ℕ) → k < length g.world.a.state.links → Goes g (Emit end k) (sends_on end k (shows (Answered (answer_to (at_end g.world end) (Next k))) (with_end g.world end (after (at_end g.world end) (Next k)))))
+    emit_at A k few = emit_a k few (is_up k g.world.a.state) refl
+    emit_at B k few = emit_b k (omega (arith, few, h.far_links)) (is_up k g.world.b.state) refl
+
+    emit_goes : (end : End) (k : ℕ) → Goes g (Emit end k) (emits g.world end k)
+    emit_goes end k = go (has_link g.world k) refl (is_full (at_end g.world end))
+      where
+        go : (known : Bool) → has_link g.world k ≡ known → (full : Bool) → Goes g (Emit end k) (sends_on end k (cond known (cond full exhausted (shows (Answered (answer_to (at_end g.world end) (Next k))) (with_end g.world end (after (at_end g.world end) (Next k))))) impossible))
+        go true e true = tt
+        go true e false = emit_at end k (ltb-true k (link_count g.world.a.state) e)
+        go false e full = tt
+
+    -- LOSE: the unit leaves the line to this end, which is the other's line out
+    lost_a : (k place : ℕ) → k < length g.world.a.state.links → place < length (units_on k g.world.to_a) → Holds (record g { world = with_line g.world A k (without place (units_on k g.world.to_a)) })
+    lost_a k place few within = back_b _ (moving.loses mb ma (seen B g) h_b k place (omega (arith, few, h.far_links)) within)
+
+    lost_b : (k place : ℕ) → k < length g.world.a.state.links → place < length (units_on k g.world.to_b) → Holds (record g { world = with_line g.world B k (without place (units_on k g.world.to_b)) })
+    lost_b k place few within = moving.loses ma mb (seen A g) h k place few within
+
+    lost_at : (end : End) (k place : ℕ) → k < length g.world.a.state.links → place < length (line_to g.world end k) → Holds (record g { world = with_line g.world end k (without place (line_to g.world end k)) })
+    lost_at A k place few within = lost_a k place few within
+    lost_at B k place few within = lost_b k place few within
+
+    lose_goes : (end : End) (k place : ℕ) → Goes g (Lose end k place) (loses g.world end k place)
+    lose_goes end k place = go (has_link g.world k) refl (nat_lt place (length (line_to g.world end k))) refl
+      where
+        go : (known : Bool) → has_link g.world k ≡ known → (within : Bool) → nat_lt place (length (line_to g.world end k)) ≡ within
+            → Goes g (Lose end k place) (cond known (cond within (shows Lost (with_line g.world end k (without place (line_to g.world end k)))) impossible) impossible)
+        go true e true f = (tt, lost_at end k place (ltb-true k (link_count g.world.a.state) e) (ltb-true place (length (line_to g.world end k)) f))
+        go true e false f = tt
+        go false e within f = tt
+
+    -- ARRIVE
+    abbrev ArriveGoes : (end : End) (k : ℕ) → List SignalUnit → Outcome → Type 0
+    ArriveGoes A k line outcome = OnShows outcome (λ shown new. TellsNoFault shown × Holds (with_past A (past_arrived k line (g.b.sent k) shown g.a) new g))
+    ArriveGoes B k line outcome = OnShows outcome (λ shown new. TellsNoFault shown × Holds (with_past B (past_arrived k line (g.a.sent k) shown g.b) new g))
+
+    -- heard in service, else lost
+    module _ (k : ℕ) (few : k < length g.world.a.state.links) (unit : SignalUnit) (rest : List SignalUnit) where
+      heard_a : units_on k g.world.to_a ≡ unit ∷ rest → (link : LinkState) → IsAt k link Up g.world.a.state → ArriveGoes A k (unit ∷ rest) (shows (Answered (answer_to g.world.a (Heard k unit))) (with_end (with_line g.world A k rest) A (after g.world.a (Heard k unit))))
+      heard_a front link at =
+          subst (λ (answer : Answer). TellsNoFault (Answered answer) × Holds (with_past A (past_arrived k (unit ∷ rest) (g.b.sent k) (Answered answer) g.a) (with_end (with_line g.world A k rest) A (after g.world.a (Heard k unit))) g))
+          (sym (moving.answers_heard ma mb one (seen A g) h k few unit rest front link at))
+          (moving.tells_none ma mb one (seen A g) h k few unit rest front link at, moving.hears_up ma mb one (seen A g) h k few unit rest front link at)
+
+      heard_b : units_on k g.world.to_b ≡ unit ∷ rest → (link : LinkState) → IsAt k link Up g.world.b.state → ArriveGoes B k (unit ∷ rest) (shows (Answered (answer_to g.world.b (Heard k unit))) (with_end (with_line g.world B k rest) B (after g.world.b (Heard k unit))))
+      heard_b front link at =
+          let few_b : k < length g.world.b.state.links = omega (arith, few, h.far_links) in
+          subst (λ (answer : Answer). TellsNoFault (Answered answer) × Holds (with_past B (past_arrived k (unit ∷ rest) (g.a.sent k) (Answered answer) g.b) (with_end (with_line g.world B k rest) B (after g.world.b (Heard k unit))) g))
+          (sym (moving.answers_heard mb ma one_b (seen B g) h_b k few_b unit rest front link at))
+          (moving.tells_none mb ma one_b (seen B g) h_b k few_b unit rest front link at, back_b _ (moving.hears_up mb ma one_b (seen B g) h_b k few_b unit rest front link at))
+
+      front_lost_a : units_on k g.world.to_a ≡ unit ∷ rest → Holds (record g { world = with_line g.world A k rest })
+      front_lost_a front = subst (λ (us : List SignalUnit). Holds (record g { world = with_line g.world A k us })) (ap (without 0) front) (lost_a k 0 few (rw front (omega arith)))
+
+      front_lost_b : units_on k g.world.to_b ≡ unit ∷ rest → Holds (record g { world = with_line g.world B k rest })
+      front_lost_b front = subst (λ (us : List SignalUnit). Holds (record g { world = with_line g.world B k us })) (ap (without 0) front) (lost_b k 0 few (rw front (omega arith)))
+
+      reach_a : units_on k g.world.to_a ≡ unit ∷ rest → (rising : Bool) → is_up k g.world.a.state ≡ rising → (known full : Bool)
+          → ArriveGoes A k (unit ∷ rest) (cond rising (cond known (cond full exhausted (shows (Answered (answer_to g.world.a (Heard k unit))) (with_end (with_line g.world A k rest) A (after g.world.a (Heard k unit))))) impossible) (shows Lost (with_line g.world A k rest)))
+      reach_a front true e true true = tt
+      reach_a front true e true false = let at = is_at_up k g.world.a.state e in heard_a front at.0 at.1
+      reach_a front true e false full = tt
+      reach_a front false e known full = (tt, front_lost_a front)
+
+      reach_b : units_on k g.world.to_b ≡ unit ∷ rest → (rising : Bool) → is_up k g.world.b.state ≡ rising → (known full : Bool)
+          → ArriveGoes B k (unit ∷ rest) (cond rising (cond known (cond full exhausted (shows (Answered (answer_to g.world.b (Heard k unit))) (with_end (with_line g.world B k rest) B (after g.world.b (Heard k unit))))) impossible) (shows Lost (with_line g.world B k rest)))
+      reach_b front true e true true = tt
+      reach_b front true e true false = let at = is_at_up k g.world.b.state e in heard_b front at.0 at.1
+      reach_b front true e false full = tt
+      reach_b front false e known full = (tt, front_lost_b front)
+
+    front_a : (k : ℕ) → k < length g.world.a.state.links → (line : List SignalUnit) → units_on k g.world.to_a ≡ line → ArriveGoes A k line (front_arrives g.world A k line)
+    front_a k few [] e = tt
+    front_a k few (unit ∷ rest) e = reach_a k few unit rest e (is_up k g.world.a.state) refl (has_link g.world k) (is_full g.world.a)
+
+    front_b : (k : ℕ) → k < length g.world.a.state.links → (line : List SignalUnit) → units_on k g.world.to_b ≡ line → ArriveGoes B k line (front_arrives g.world B k line)
+    front_b k few [] e = tt
+    front_b k few (unit ∷ rest) e = reach_b k few unit rest e (is_up k g.world.b.state) refl (has_link g.world k) (is_full g.world.b)
+
+    arrive_at : (end : End) (k : ℕ) → k < length g.world.a.state.links → Goes g (Arrive end k) (front_arrives g.world end k (line_to g.world end k))
+    arrive_at A k few = front_a k few (units_on k g.world.to_a) refl
+    arrive_at B k few = front_b k few (units_on k g.world.to_b) refl
+
+    arrive_goes : (end : End) (k : ℕ) → Goes g (Arrive end k) (arrives g.world end k)
+    arrive_goes end k = go (has_link g.world k) refl
+      where
+        go : (known : Bool) → has_link g.world k ≡ known → Goes g (Arrive end k) (cond known (front_arrives g.world end k (line_to g.world end k)) impossible)
+        go true e = arrive_at end k (ltb-true k (link_count g.world.a.state) e)
+        go false e = tt
+
+    -- TOGETHER
+    both_settled : (x y : Bool) → (x && y) ≡ true → (x ≡ true) × (y ≡ true)
+    both_settled true true e = (refl, refl)
+    both_settled true false e = absurd cc
+    both_settled false y e = absurd cc
+
+    together_goes : (k : ℕ) → Goes g (Together k) (rises g.world k)
+    together_goes k = go (has_link g.world k) refl (is_settled_at_both g.world k) refl (is_full g.world.a || is_full g.world.b)
+      where
+        go : (known : Bool) → has_link g.world k ≡ known → (settled : Bool) → is_settled_at_both g.world k ≡ settled → (full : Bool)
+            → Goes g (Together k) (cond known (cond settled (cond full exhausted (shows CameUp (risen g.world k))) impossible) impossible)
+        go true e true f true = tt
+        go true e true f false =
+            let s = both_settled (is_settled k g.world.a.state) (is_settled k g.world.b.state) f in
+            (tt, moving.rises ma mb (seen A g) h k (ltb-true k (link_count g.world.a.state) e) s.0 s.1)
+        go true e false f full = tt
+        go false e settled f full = tt
+
+    -- EACH STEP
+    own_goes : (end : End) (event : Event) → IsSoundStep (Act end event) → IsAsked event → (own : Bool) → has_own_step event ≡ own → Goes g (Act end event) (cond own impossible (acts g.world end event))
+    own_goes end event sound asked true e = tt
+    own_goes end event sound asked false e = act_goes end event sound asked e
+
+    done_goes : (step : Step) → IsSoundStep step → IsAskedStep step → Goes g step (done_by g.world step)
+    done_goes (Act end event) sound asked = own_goes end event sound asked (has_own_step event) refl
+    done_goes (Emit end k) sound asked = emit_goes end k
+    done_goes (Arrive end k) sound asked = arrive_goes end k
+    done_goes (Lose end k place) sound asked = lose_goes end k place
+    done_goes (Together k) sound asked = together_goes k
+    done_goes (Inject end k unit) sound asked = absurd sound
+
+  pub step_goes : (g : Stage) → Holds g → (step : Step) → IsSoundStep step → IsAskedStep step → Goes g step (carried_out g.world step)
+  unfolding carried_out
+  step_goes g h step sound asked = done_goes g h step sound asked
+
+  pub links_keep : (g : Stage) → Holds g → LinksKeep g
+  links_keep g h link = (kept_on ma mb one (seen A g) h link, kept_on mb ma (one_back ma mb one) (seen B g) (swap ma mb (seen A g) h) link)
+
+  -- ALL ALONG: what a step shows, and what holds along the rest
+  onward : (g : Stage) (step : Step) (steps : List Step) → ((later : Stage) → Holds later → KeepsLinks later steps) → (outcome : Outcome) → Goes g step outcome
+      → OnShows outcome (λ shown new. HoldsAlong LinksKeep (passed g step shown new) steps)
+      × OnShows outcome (λ shown new. TellsNoFault shown × HoldsAtEach (λ before done told later. TellsNoFault told) (passed g step shown new) steps)
+  onward g step steps next (shows shown new) goes =
+      let rest = next (passed g step shown new) goes.1 in
+      (rest.links, (goes.0, rest.no_fault))
+  onward g step steps next impossible goes = (tt, tt)
+  onward g step steps next exhausted goes = (tt, tt)
+
+  pub along : (g : Stage) → Holds g → (steps : List Step) → AreSteps IsSoundStep steps → AreSteps IsAskedStep steps → KeepsLinks g steps
+  along g h [] sound asked = record { links = links_keep g h; no_fault = tt }
+  along g h (step ∷ steps) sound asked =
+      let rest = onward g step steps (λ later holds. along later holds steps sound.1 asked.1) (carried_out g.world step) (step_goes g h step sound.0 asked.0) in
+      record { links = (links_keep g h, rest.0); no_fault = rest.1 }
+
+pub every_sound_run : (a b : SetConfig) (steps : List Step) → AreSteps IsAskedStep steps → IsSoundRun a b steps → KeepsLinks (begun a b) steps
+every_sound_run a b steps asked sound = along a.method b.method sound.one_method (begun a b) (at_first a b sound.links) steps sound.steps asked

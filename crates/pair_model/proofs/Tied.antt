@@ -1,0 +1,254 @@
+-- THE TIE of a link of two ends to the law of one link: a world of the law that a run leads to, whose messages are the
+-- numbers of the rows that are sent on the link.
+use Rattle.std.proofs.Common.{refl, arith, ◌≡◌, ◌∙◌, ap, sym, subst, ℕ, zero, suc, ◌<◌, ◌+◌, ◌%◌, Bool, true, false, nat_lt, List, [], ◌∷◌, ◌++◌, length, map, take, drop, slice_get, Option, Some, None, append_assoc}
+use Rattle.std.proofs.lemmas.Bool.{ltb-true}
+use Rattle.std.proofs.lemmas.List.{append-nil}
+use Rattle.std.proofs.lemmas.Option.{same_Some}
+use Rattle.std.specs.Option.{option_map}
+use Rattle.l2_units.specs.declared.unit.Unit.{Unit as SignalUnit}
+use Rattle.l2_units.specs.declared.unit.Unit.TheVariants.{Fisu, Lssu, Msu}
+use Rattle.l2_window.specs.Line.{Carried}
+use Rattle.l2_window.specs.Link.{End as LinkEnd, World as LinkWorld, flip, offers, loses, Run, begins, steps, steps_far, Offers, Loses}
+use Rattle.l2_window.specs.Window.{WindowState}
+use Rattle.set_events.specs.declared.config.Method.{Method}
+use Rattle.set_model.specs.Control.{Control, start_of}
+use Rattle.set_model.specs.Laws.{KeepsMessages}
+use Rattle.set_model.specs.Rows.{Row, body_at, numbers, wait, IsNumbered}
+use Rattle.set_model.specs.State.{LinkState, State, has_phase_settled, window_of}
+use Rattle.set_model.proofs.Lookups.{row_is_first}
+use Rattle.pair_model.specs.Run.{Message}
+use Rattle.pair_model.proofs.Controls.{rules}
+use Rattle.pair_model.proofs.Counts.{CountStays}
+use Rattle.pair_model.proofs.Following.{Follows}
+
+-- MESSAGES AND UNITS, told by the rows of the end that sends them.
+
+-- each message has its body there
+abbrev pub StandIn : List Row → List Message → Type 0
+StandIn rows [] = Unit {0}
+StandIn rows (message ∷ messages) = (body_at message.number rows ≡ Some message.body) × StandIn rows messages
+
+-- the bodies of these numbers
+abbrev pub AreBodies : List Row → List ℕ → List (List ℕ) → Type 0
+AreBodies rows [] [] = Unit {0}
+AreBodies rows [] (body ∷ bodies) = ⊥
+AreBodies rows (number ∷ more) [] = ⊥
+AreBodies rows (number ∷ more) (body ∷ bodies) = (body_at number rows ≡ Some body) × AreBodies rows more bodies
+
+abbrev pub IsUnitOf : List Row → Carried → SignalUnit → Type 0
+IsUnitOf rows c (Fisu head) = (c.head ≡ head) × (c.message ≡ None)
+IsUnitOf rows c (Lssu head status) = ⊥
+IsUnitOf rows c (Msu head body) = (number : ℕ) × (c.head ≡ head) × (c.message ≡ Some number) × (body_at number rows ≡ Some body.items)
+
+abbrev pub AreUnits : List Row → List Carried → List SignalUnit → Type 0
+AreUnits rows [] [] = Unit {0}
+AreUnits rows [] (unit ∷ units) = ⊥
+AreUnits rows (c ∷ cs) [] = ⊥
+AreUnits rows (c ∷ cs) (unit ∷ units) = IsUnitOf rows c unit × AreUnits rows cs units
+
+-- Rows that keep their bodies keep all this.
+abbrev pub KeepBodies : List Row → List Row → Type 0
+KeepBodies rows new = (number : ℕ) (body : List ℕ) → body_at number rows ≡ Some body → body_at number new ≡ Some body
+
+empty : {X : Type 0} (xs : List X) → length xs ≡ 0 → xs ≡ []
+empty [] e = refl
+empty (x ∷ xs) e = absurd (omega (arith, e))
+
+there_below : (number : ℕ) (rows : List Row) (body : List ℕ) → IsNumbered rows → body_at number rows ≡ Some body → number < length rows
+there_below number rows body numbered there = go (nat_lt number (length rows)) refl
+  where
+    go : (b : Bool) → nat_lt number (length rows) ≡ b → number < length rows
+    go true e = ltb-true number (length rows) e
+    go false e =
+        let none = empty _ (rw e at (numbered number)) in
+        let no : None ≡ Some body = sym (ap (option_map (λ (row : Row). row.body)) (row_is_first number rows ∙ ap (λ (xs : List Row). slice_get xs 0) none)) ∙ there in
+        absurd cc
+
+pub keep_bodies : (rows new : List Row) → IsNumbered rows → KeepsMessages rows new → KeepBodies rows new
+keep_bodies rows new numbered kept number body there = kept.bodies number (there_below number rows body numbered there) ∙ there
+
+module _ (rows new : List Row) (keep : KeepBodies rows new) where
+  pub stand_kept : (messages : List Message) → StandIn rows messages → StandIn new messages
+  stand_kept [] stand = stand
+  stand_kept (message ∷ messages) stand = (keep message.number message.body stand.0, stand_kept messages stand.1)
+
+  pub bodies_kept : (ns : List ℕ) (bodies : List (List ℕ)) → AreBodies rows ns bodies → AreBodies new ns bodies
+  bodies_kept [] [] are = are
+  bodies_kept [] (body ∷ bodies) are = are
+  bodies_kept (n ∷ ns) [] are = are
+  bodies_kept (n ∷ ns) (body ∷ bodies) are = (keep n body are.0, bodies_kept ns bodies are.1)
+
+  unit_kept : (c : Carried) (unit : SignalUnit) → IsUnitOf rows c unit → IsUnitOf new c unit
+  unit_kept c (Fisu head) is = is
+  unit_kept c (Lssu head status) is = is
+  unit_kept c (Msu head body) is = (is.0, is.1, is.2, keep is.0 body.items is.3)
+
+  pub units_kept : (cs : List Carried) (units : List SignalUnit) → AreUnits rows cs units → AreUnits new cs units
+  units_kept [] [] are = are
+  units_kept [] (unit ∷ units) are = are
+  units_kept (c ∷ cs) [] are = are
+  units_kept (c ∷ cs) (unit ∷ units) are = (unit_kept c unit are.0, units_kept cs units are.1)
+
+module _ (rows : List Row) where
+  pub stand_joined : (xs ys : List Message) → StandIn rows xs → StandIn rows ys → StandIn rows (xs ++ ys)
+  stand_joined [] ys a b = b
+  stand_joined (x ∷ xs) ys a b = (a.0, stand_joined xs ys a.1 b)
+
+  pub bodies_joined : (ns ms : List ℕ) (bs cs : List (List ℕ)) → AreBodies rows ns bs → AreBodies rows ms cs → AreBodies rows (ns ++ ms) (bs ++ cs)
+  bodies_joined [] ms [] cs a b = b
+  bodies_joined [] ms (x ∷ bs) cs a b = absurd a
+  bodies_joined (n ∷ ns) ms [] cs a b = absurd a
+  bodies_joined (n ∷ ns) ms (x ∷ bs) cs a b = (a.0, bodies_joined ns ms bs cs a.1 b)
+
+  pub units_joined : (cs ds : List Carried) (us vs : List SignalUnit) → AreUnits rows cs us → AreUnits rows ds vs → AreUnits rows (cs ++ ds) (us ++ vs)
+  units_joined [] ds [] vs a b = b
+  units_joined [] ds (u ∷ us) vs a b = absurd a
+  units_joined (c ∷ cs) ds [] vs a b = absurd a
+  units_joined (c ∷ cs) ds (u ∷ us) vs a b = (a.0, units_joined cs ds us vs a.1 b)
+
+  -- a unit that is under way at a place
+  pub record Split (place : ℕ) (cs : List Carried) (us : List SignalUnit) : Type 0 where
+    pub before : List Carried
+    pub one : Carried
+    pub behind : List Carried
+    pub are : cs ≡ before ++ one ∷ behind
+    pub rest : AreUnits rows (before ++ behind) (take place us ++ drop (suc place) us)
+
+  pub split : (place : ℕ) (cs : List Carried) (us : List SignalUnit) → place < length us → AreUnits rows cs us → Split place cs us
+  split place [] [] few are = absurd (omega arith)
+  split place [] (u ∷ us) few are = absurd are
+  split place (c ∷ cs) [] few are = absurd are
+  split zero (c ∷ cs) (u ∷ us) few are = record { before = []; one = c; behind = cs; are = refl; rest = are.1 }
+  split (suc place) (c ∷ cs) (u ∷ us) few are =
+      let s = split place cs us (omega arith) are.1 in
+      record { before = c ∷ s.before; one = s.one; behind = s.behind; are = ap (λ (xs : List Carried). c ∷ xs) s.are; rest = (are.0, s.rest) }
+
+-- THE TIE. An end as its link sees it: its state, and what passed on the link.
+pub record Side : Type 0 where
+  pub state : State
+  pub sent : List Message
+  pub taken : List (List ℕ)
+
+-- its numbers are those that the law's end sent and took
+pub record Tells (rows far_rows : List Row) (e : LinkEnd Control) (sent : List Message) (taken : List (List ℕ)) : Type 0 where
+  pub sent_is : e.sent ≡ map (λ message. message.number) sent
+  pub stand : StandIn rows sent
+  pub took_is : AreBodies far_rows e.took taken
+
+-- while it isn't settled, its control, window and count are those of the law's end
+pub record IsGoing (l : ℕ) (e : LinkEnd Control) (link : LinkState) (rows : List Row) : Type 0 where
+  pub control : e.control ≡ link.control
+  pub window : e.window ≡ window_of l link rows
+  pub acked : e.acked ≡ link.acked
+
+abbrev pub Goes : ℕ → LinkEnd Control → State → Type 0
+Goes l e s = (link : LinkState) → slice_get s.links l ≡ Some link → has_phase_settled link.phase ≡ false → IsGoing l e link s.rows
+
+-- it counts as many bodies as accepted as were taken
+abbrev pub Counts : ℕ → State → List (List ℕ) → Type 0
+Counts l s taken = (link : LinkState) → slice_get s.links l ≡ Some link → link.accepted ≡ length taken
+
+pub record Ties (l : ℕ) (w : LinkWorld Control) (x y : Side) (there back_again : List SignalUnit) : Type 0 where
+  pub near : Tells x.state.rows y.state.rows w.near x.sent x.taken
+  pub far : Tells y.state.rows x.state.rows w.far y.sent y.taken
+  pub near_goes : Goes l w.near x.state
+  pub far_goes : Goes l w.far y.state
+  pub near_counts : Counts l x.state x.taken
+  pub far_counts : Counts l y.state y.taken
+  pub out : AreUnits x.state.rows w.out there
+  pub back : AreUnits y.state.rows w.back back_again
+
+pub record Tied (l : ℕ) (mx my : Method) (x y : Side) (out back : List SignalUnit) : Type 0 where
+  pub world : LinkWorld Control
+  pub run : Run rules (start_of mx) (start_of my) world
+  pub ties : Ties l world x y out back
+
+-- seen from the other end
+run_back : (near far : Control) (w : LinkWorld Control) → Run rules near far w → Run rules far near (flip w)
+run_back near far _ (begins w a b out back) = begins (flip w) b a back out
+run_back near far _ (steps old new r s) = steps_far (flip old) (flip new) (run_back near far old r) s
+run_back near far _ (steps_far old new r s) = steps (flip old) (flip new) (run_back near far old r) s
+
+pub turned : (l : ℕ) (mx my : Method) (x y : Side) (out back : List SignalUnit) → Tied l mx my x y out back → Tied l my mx y x back out
+turned l mx my x y out back t = record {
+  world = flip t.world;
+  run = run_back (start_of mx) (start_of my) t.world t.run;
+  ties = record { near = t.ties.far; far = t.ties.near; near_goes = t.ties.far_goes; far_goes = t.ties.near_goes; near_counts = t.ties.far_counts; far_counts = t.ties.near_counts; out = t.ties.back; back = t.ties.out };
+}
+
+pub numbers_append : (xs ys : List Row) → numbers (xs ++ ys) ≡ numbers xs ++ numbers ys
+numbers_append [] ys = refl
+numbers_append (row ∷ xs) ys = ap (λ (ns : List ℕ). row.number ∷ ns) (numbers_append xs ys)
+
+pub same_window : {last last' : ℕ} {unacked unacked' unsent unsent' : List ℕ} → last ≡ last' → unacked ≡ unacked' → unsent ≡ unsent' → ◌≡◌ {A = WindowState} (record { last = last; unacked = unacked; unsent = unsent; room = 0 }) (record { last = last'; unacked = unacked'; unsent = unsent'; room = 0 })
+same_window a b c = rw (a, b, c) refl
+
+-- A LINK THAT GOES ON: each message that comes to wait is offered.
+abbrev pub pushed : List ℕ → LinkWorld Control → LinkWorld Control
+pushed more w = record w { near = record w.near { window = record w.near.window { unsent = w.near.window.unsent ++ more } } }
+
+push_all : (near far : Control) (more : List ℕ) (w : LinkWorld Control) → Run rules near far w → Run rules near far (pushed more w)
+push_all near far [] w r = rw (append-nil w.near.window.unsent) r
+push_all near far (n ∷ more) w r =
+    let one = pushed (n ∷ []) w in
+    let offer : Offers rules n w one = record { pushes = record { last = refl; unacked = refl; unsent = refl; room = omega arith }; near = refl; far = refl; out = refl; back = refl } in
+    rw (append_assoc w.near.window.unsent (n ∷ []) more) at (push_all near far more one (steps w one r (offers w one n offer)))
+
+module _ (l : ℕ) (mx my : Method) (x y : Side) (out back : List SignalUnit) (s : State) (keep : KeepBodies x.state.rows s.rows) (count : CountStays l x.state s) where
+  abbrev moved : Side
+  moved = record x { state = s }
+
+  -- what the rows tell stays, where nothing was sent or taken
+  tells_on : (more : List ℕ) (w : LinkWorld Control) → Ties l w x y out back → Goes l (pushed more w).near s → Ties l (pushed more w) moved y out back
+  tells_on more w t goes = record {
+    near = record { sent_is = t.near.sent_is; stand = stand_kept x.state.rows s.rows keep x.sent t.near.stand; took_is = t.near.took_is };
+    far = record { sent_is = t.far.sent_is; stand = t.far.stand; took_is = bodies_kept x.state.rows s.rows keep w.far.took y.taken t.far.took_is };
+    near_goes = goes;
+    far_goes = t.far_goes;
+    near_counts = λ after there. let k = count after there in k.2 ∙ t.near_counts k.0 k.1;
+    far_counts = t.far_counts;
+    out = units_kept x.state.rows s.rows keep w.out out t.out;
+    back = t.back;
+  }
+
+  ends : (t : Tied l mx my x y out back) → (more : List ℕ) → Goes l (pushed more t.world).near s → Tied l mx my moved y out back
+  ends t more goes = record { world = pushed more t.world; run = push_all (start_of mx) (start_of my) more t.world t.run; ties = tells_on more t.world t.ties goes }
+
+  pub follows : Follows l x.state s → Tied l mx my x y out back → Tied l mx my moved y out back
+  follows f t = go (slice_get s.links l) refl
+    where
+      at : (link : LinkState) → slice_get s.links l ≡ Some link → (b : Bool) → has_phase_settled link.phase ≡ b → Tied l mx my moved y out back
+      at link there true e = ends t [] (λ other found unsettled.
+          let same : other ≡ link = same_Some other link (sym found ∙ there) in
+          let no : true ≡ false = sym e ∙ sym (ap (λ (k : LinkState). has_phase_settled k.phase) same) ∙ unsettled in
+          absurd cc)
+      at link there false e =
+          let g = f link there e in
+          let old = t.ties.near_goes g.link g.there g.unsettled in
+          ends t (numbers g.more) (λ other found unsettled.
+          let same : link ≡ other = same_Some link other (sym there ∙ found) in
+          subst (λ (k : LinkState). IsGoing l (pushed (numbers g.more) t.world).near k s.rows) same (record {
+            control = old.control ∙ sym g.control;
+            window = ap (λ (v : WindowState). record v { unsent = v.unsent ++ numbers g.more }) old.window ∙ same_window
+                (ap (λ (k : ℕ). (k + 127) % 128) (sym g.acked))
+                (sym (ap numbers g.unack_same))
+                (sym (ap numbers g.wait_more ∙ numbers_append (wait l x.state.rows) g.more));
+            acked = old.acked ∙ sym g.acked;
+          }))
+
+      go : (o : Option LinkState) → slice_get s.links l ≡ o → Tied l mx my moved y out back
+      go None e = ends t [] (λ other found unsettled. absurd (let no : None ≡ Some other = sym e ∙ found in cc))
+      go (Some link) e = at link e (has_phase_settled link.phase) refl
+
+-- A UNIT THAT IS LOST
+pub lost : (l : ℕ) (mx my : Method) (x y : Side) (out back : List SignalUnit) (place : ℕ) → place < length out → Tied l mx my x y out back → Tied l mx my x y (take place out ++ drop (suc place) out) back
+lost l mx my x y out back place few t =
+    let w = t.world in
+    let s = split x.state.rows place w.out out few t.ties.out in
+    let new = record w { out = s.before ++ s.behind } in
+    let loss : Loses rules s.before s.one s.behind w new = record { near = refl; far = refl; was = s.are; out = refl; back = refl } in
+    record {
+      world = new;
+      run = steps w new t.run (loses w new s.before s.one s.behind loss);
+      ties = record { near = t.ties.near; far = t.ties.far; near_goes = t.ties.near_goes; far_goes = t.ties.far_goes; near_counts = t.ties.near_counts; far_counts = t.ties.far_counts; out = s.rest; back = t.ties.back };
+    }

@@ -1,0 +1,81 @@
+-- WHAT IS PROMISED OF TWO ENDS, of every sound run.
+use Rattle.std.specs.Prelude.{◌≡◌, ◌≤◌, ℕ, false, None, Some, List, [], ◌∷◌, length, take, drop, slice_get}
+use Rattle.set_events.specs.declared.answer.Answer.TheVariants.{Heard}
+use Rattle.set_events.specs.declared.config.Method.{Method}
+use Rattle.set_events.specs.declared.config.Method.TheVariants.{Basic, Cyclic}
+use Rattle.set_events.specs.declared.config.SetConfig.{SetConfig}
+use Rattle.set_events.specs.declared.event.Event.TheVariants.{DownBlind, NoAnswer}
+use Rattle.set_model.specs.Rows.{Row, unack}
+use Rattle.set_model.specs.Sound.{IsAsked}
+use Rattle.set_model.specs.State.{LinkState, State, has_phase_settled}
+use Rattle.world_steps.specs.declared.step.Step.{Step}
+use Rattle.world_steps.specs.declared.step.Step.TheVariants.{Act, Inject}
+use Rattle.world_steps.specs.declared.step.Shown.{Shown}
+use Rattle.world_steps.specs.declared.step.Shown.TheVariants.{Answered}
+use Rattle.pair_model.specs.Run.{Message, Past, Stage, messages, bodies, begun, HoldsAlong, HoldsAtEach}
+
+-- SOUND RUNS. Both ends keep messages safe by one method, whatever its limits at each.
+abbrev pub IsOneMethod : Method → Method → Type 0
+IsOneMethod Basic Basic = Unit {0}
+IsOneMethod Basic (Cyclic n1 n2) = ⊥
+IsOneMethod (Cyclic n1 n2) Basic = ⊥
+IsOneMethod (Cyclic n1 n2) (Cyclic m1 m2) = Unit {0}
+
+-- no link is left blindly or given up without an answer, and no unit is heard that wasn't sent
+abbrev pub IsSoundStep : Step → Type 0
+IsSoundStep (Act end (DownBlind link)) = ⊥
+IsSoundStep (Act end (NoAnswer link)) = ⊥
+IsSoundStep (Inject end link unit) = ⊥
+IsSoundStep _ = Unit {0}
+
+-- what can be asked: of an offered body, the octets of its label tell one of 16 streams
+abbrev pub IsAskedStep : Step → Type 0
+IsAskedStep (Act end event) = IsAsked event
+IsAskedStep _ = Unit {0}
+
+abbrev pub AreSteps : (Step → Type 0) → List Step → Type 0
+AreSteps P [] = Unit {0}
+AreSteps P (step ∷ steps) = P step × AreSteps P steps
+
+pub record IsSoundRun (a b : SetConfig) (run : List Step) : Type 0 where
+  pub links : a.links ≡ b.links
+  pub one_method : IsOneMethod a.method b.method
+  pub steps : AreSteps IsSoundStep run
+
+-- WHAT EACH LINK KEEPS, from one end to the other, since it last came up.
+
+-- for as long as the link isn't settled: what counts as acknowledged was accepted, and what is unacknowledged is the rest
+-- of what was sent
+pub record IsGoing (link : ℕ) (state : LinkState) (rows : List Row) (sent : List Message) (taken : List (List ℕ)) : Type 0 where
+  pub acked : state.acked ≤ length taken
+  pub unacked : messages (unack link rows) ≡ drop state.acked sent
+
+pub record IsKeptOn (link : ℕ) (near far : Past) (s t : State) : Type 0 where
+  -- the bodies that the far end accepted are the first of those that were sent: none is missing among them, doubled,
+  -- changed or out of order
+  pub prefix : far.taken link ≡ take (length (far.taken link)) (bodies (near.sent link))
+  -- the far end counts just those, also when it has left the link
+  pub accepted : (state : LinkState) → slice_get t.links link ≡ Some state → state.accepted ≡ length (far.taken link)
+  pub going : (state : LinkState) → slice_get s.links link ≡ Some state → has_phase_settled state.phase ≡ false
+      → IsGoing link state s.rows (near.sent link) (far.taken link)
+
+-- in both directions
+abbrev pub LinksKeep : Stage → Type 0
+LinksKeep g =
+    (link : ℕ) → IsKeptOn link g.a g.b g.world.a.state g.world.b.state × IsKeptOn link g.b g.a g.world.b.state g.world.a.state
+
+-- a heard unit tells no fault of the far end's error control
+abbrev pub TellsNoFault : Shown → Type 0
+TellsNoFault (Answered (Heard report)) = report.fault ≡ None
+TellsNoFault _ = Unit {0}
+
+-- PROMISED, whatever is lost on the lines, and also when one end has left a link or both have
+pub record KeepsLinks (g : Stage) (steps : List Step) : Type 0 where
+  pub links : HoldsAlong LinksKeep g steps
+  pub no_fault : HoldsAtEach (λ before step shown after. TellsNoFault shown) g steps
+
+-- LAW
+abbrev pub EverySoundRunKeepsLinks : Type 0
+EverySoundRunKeepsLinks =
+    (a b : SetConfig) (steps : List Step) → AreSteps IsAskedStep steps → IsSoundRun a b steps
+    → KeepsLinks (begun a b) steps

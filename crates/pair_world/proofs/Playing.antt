@@ -1,0 +1,27 @@
+-- Steps that are carried out one after another.
+use Rattle.std.proofs.Common.{◌≡◌, ◌∙◌, ap, sym, ℕ, List, drop}
+use Rattle.set_events.specs.declared.config.SetConfig.{SetConfig}
+use Rattle.world_steps.specs.declared.step.Step.{Step}
+use Rattle.pair_model.specs.World.{World}
+use Rattle.pair_model.specs.Run.{leads_to, played_from}
+use Rattle.pair_world.specs.declared.fault.PlayFault.{PlayFault}
+use Rattle.pair_world.specs.declared.fault.PlayFault.TheVariants.{NoMemory, Impossible, Exhausted, Links}
+use Rattle.pair_world.specs.Carried.{IsBegun, FailsAlong, played, LeadsTo, FailsToPlay}
+
+-- what is left of the steps completes the run
+abbrev pub IsUnderWay : World → List Step → ℕ → World → Type 0
+IsUnderWay start steps place world = played_from 0 start steps ≡ played_from place world (drop place steps)
+
+-- from a world of two configurations
+module _ (a b : SetConfig) (steps : List Step) (start : World) (is : IsBegun a b start) where
+  same : played a b steps ≡ played_from 0 start steps
+  same = ap (λ (w : World). played_from 0 w steps) (sym is.world_is)
+
+  pub leads : (world : World) → played_from 0 start steps ≡ leads_to world → LeadsTo a b steps world
+  leads world e = record { links = is.links; world_is = same ∙ e }
+
+  pub fails : (fault : PlayFault) → FailsAlong fault (played_from 0 start steps) → FailsToPlay fault a b steps
+  fails NoMemory f = is.links
+  fails (Impossible place) f = (is.links, same ∙ f)
+  fails Exhausted f = (is.links, (f.0, same ∙ f.1))
+  fails Links f = absurd f
