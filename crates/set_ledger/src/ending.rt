@@ -124,9 +124,7 @@ impl<C: Ledger, M: Ledger, O: Ledger, A: Ledger> Held<C, M, O, A> {
     ) -> Closed
         requires complete { is_complete_of self.users self.links users.items terminals.items ≡ true }
         requires faithful { AreFaithful self.set.history users.items terminals.items }
-        ensures closed {
-            IsClosed users.items terminals.items (new_state result.config) result.history.items result.books result.counts
-        }
+        ensures closed { IsClosed users.items terminals.items (new_state result.config) result.history.items result.books result.counts }
         ensures config { new_state result.config ≡ self.set.opening }
         ensures history { result.history.items ≡ self.set.history }
     {

@@ -38,9 +38,7 @@ pub trait Seat<C: Ledger, M: Ledger, O: Ledger, A: Ledger> {
         requires { IsOwn (state self.old).who event.now }
         ensures step { IfOk result (λ answer. IsStep held.old.set (state self.old).who event.now answer held.new.set) }
         ensures receipt { IfOk result (λ answer. Receives (state self.old) event.now answer (state self.new)) }
-        ensures acknowledged {
-            OnOk result (AcknowledgesAs held.old.set held.new.set (state self.old).share (state self.new).share)
-        }
+        ensures acknowledged { OnOk result (AcknowledgesAs held.old.set held.new.set (state self.old).share (state self.new).share) }
         ensures seats { (held.new.users ≡ held.old.users) × (held.new.links ≡ held.old.links) }
         ensures exhausted { result ≡ Err SetFault.Exhausted → 2 ^ 48 ≤ length held.old.set.history }
         ensures err { OnErr result ((held.new ≡ held.old) × (state self.new ≡ state self.old)) };
@@ -67,8 +65,7 @@ impl<C: Ledger, M: Ledger, O: Ledger, A: Ledger> Model for UserSeat<C, M, O, A> 
     ghost view = { λ s. record { who = User s.number; share = s.shares.told; receipts = s.receipts.items } };
 
     ghost invariant = { λ s.
-        (s.number < 64) × AddsUp (record { who = User s.number; share = s.shares.told; receipts = s.receipts.items })
-    };
+        (s.number < 64) × AddsUp (record { who = User s.number; share = s.shares.told; receipts = s.receipts.items }) };
 }
 
 /// The seat of a link's terminal. Only [`step_in`] changes it.
@@ -92,8 +89,7 @@ impl<C: Ledger, M: Ledger, O: Ledger, A: Ledger> Model for TermSeat<C, M, O, A> 
     ghost view = { λ s. record { who = Terminal s.link; share = s.shares.told; receipts = s.receipts.items } };
 
     ghost invariant = { λ s.
-        (s.link < 16) × AddsUp (record { who = Terminal s.link; share = s.shares.told; receipts = s.receipts.items })
-    };
+        (s.link < 16) × AddsUp (record { who = Terminal s.link; share = s.shares.told; receipts = s.receipts.items }) };
 }
 
 impl<C: Ledger, M: Ledger, O: Ledger, A: Ledger> Seat<C, M, O, A> for UserSeat<C, M, O, A> {
@@ -207,9 +203,7 @@ pub fn step_in<C: Ledger, M: Ledger, O: Ledger, A: Ledger, S: Seat<C, M, O, A>>(
     requires { IsOwn (S.state seat.old).who event.now }
     ensures step { IfOk result (λ answer. IsStep held.old.set (S.state seat.old).who event.now answer held.new.set) }
     ensures receipt { IfOk result (λ answer. Receives (S.state seat.old) event.now answer (S.state seat.new)) }
-    ensures acknowledged {
-        OnOk result (AcknowledgesAs held.old.set held.new.set (S.state seat.old).share (S.state seat.new).share)
-    }
+    ensures acknowledged { OnOk result (AcknowledgesAs held.old.set held.new.set (S.state seat.old).share (S.state seat.new).share) }
     ensures seats { (held.new.users ≡ held.old.users) × (held.new.links ≡ held.old.links) }
     ensures exhausted { result ≡ Err SetFault.Exhausted → 2 ^ 48 ≤ length held.old.set.history }
     ensures err { OnErr result ((held.new ≡ held.old) × (S.state seat.new ≡ S.state seat.old)) }

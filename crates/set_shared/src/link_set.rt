@@ -191,9 +191,9 @@ impl<C: Ledger, M: Ledger, O: Ledger, A: Ledger> LinkSet<C, M, O, A> {
             IsClosed users.items terminals.items (new_state closed.config) closed.history.items closed.books closed.counts) }
         ensures back { IfErr result (λ fault. (held : HeldState) × (held.users ≡ self.users) × (held.links ≡ self.links)
             × (fault ≡ (if is_complete self.users self.links users.items terminals.items
-                then EndFault.Strange else EndFault.Missing) (record { held = held; users = users; terminals = terminals }))
+            then EndFault.Strange else EndFault.Missing) (record { held = held; users = users; terminals = terminals }))
             × (is_complete self.users self.links users.items terminals.items ≡ true
-                → AreFaithful held.set.history users.items terminals.items → ⊥)) }
+            → AreFaithful held.set.history users.items terminals.items → ⊥)) }
     {
         let held = self.held.into_inner();
         let _ = held.users();
