@@ -1,10 +1,10 @@
-//! The end of a set that threads share.
-ghost use Rattle.std.specs.Prelude.{◌≡◌};
+//! How a set that threads share is opened, and how it ends.
+ghost use Rattle.std.specs.Prelude.{◌≡◌, ◌<◌, ◌⊎◌};
 ghost use Rattle.set_ledger.specs.Totals.{AreParts};
 
 use super::openings::{MESSAGE, blanks_of, config_of, holds};
 use set_events::{Answer, Event, SetConfig};
-use set_shared::{Blanks, EndFault, LinkSet, Opened, Seat, TermSeat, UserSeat};
+use set_shared::{Blanks, CreateFault, EndFault, LinkSet, Opened, Seat, TermSeat, UserSeat};
 use std::alloc::Global;
 use std::cell::Cell;
 use std::marker::Brand;
@@ -101,4 +101,21 @@ fn two_users<C: Ledger, M: Ledger, O: Ledger, A: Ledger, R: Wait>(
 fn a_set_ends_once_all_seats_are_back(rt: HostRuntime) -> Result<(), Fail> {
     let config = config_of()?;
     two_users::<Brand, Brand, Brand, Brand, HostRuntime>(&rt, rt.alloc(), &config, blanks_of(2))
+}
+
+/// A set isn't opened for so many users.
+fn is_refused(alloc: Global, users: u16) -> Result<(), Fail>
+    requires { (users ≡ 0) ⊎ (64 < users) }
+{
+    let config = config_of()?;
+    match LinkSet::<Brand, Brand, Brand, Brand>::create(alloc, &config, users, blanks_of(1)) {
+        Ok(_) => Err(Fail::from("opened")),
+        Err(fault) => holds(fault == CreateFault::Users && fault.number() == 2),
+    }
+}
+
+#[test]
+fn a_set_has_1_to_64_users(rt: HostRuntime) -> Result<(), Fail> {
+    is_refused(rt.alloc(), 0)?;
+    is_refused(rt.alloc(), 65)
 }

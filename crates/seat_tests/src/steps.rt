@@ -1,10 +1,10 @@
 //! Seats at a set that no thread shares.
-ghost use Rattle.std.specs.Prelude.{◌≡◌, ◌<◌, ◌+◌, ◌⊎◌, IfOk};
+ghost use Rattle.std.specs.Prelude.{◌≡◌};
 ghost use Rattle.set_ledger.specs.Totals.{AreParts};
 
 use super::openings::{MESSAGE, blanks_of, config_of, holds};
 use set_events::{Actor, Answer, Body, Event, SetConfig};
-use set_ledger::{Blanks, CreateFault, Held, Opened, Seat, UserSeat, step_in};
+use set_ledger::{Blanks, Held, Opened, Seat, UserSeat, step_in};
 use std::alloc::Global;
 use std::marker::Brand;
 use std::sync::ledger::Ledger;
@@ -65,21 +65,4 @@ fn one_message<C: Ledger, M: Ledger, O: Ledger, A: Ledger>(
 fn a_step_has_its_receipt(rt: HostRuntime) -> Result<(), Fail> {
     let config = config_of()?;
     one_message::<Brand, Brand, Brand, Brand>(rt.alloc(), &config, blanks_of(1))
-}
-
-/// A set isn't opened for so many users.
-fn is_refused(alloc: Global, users: u16) -> Result<(), Fail>
-    requires { (users ≡ 0) ⊎ (64 < users) }
-{
-    let config = config_of()?;
-    match Held::<Brand, Brand, Brand, Brand>::open(alloc, &config, users, blanks_of(1)) {
-        Ok(_) => Err(Fail::from("opened")),
-        Err(fault) => holds(fault == CreateFault::Users && fault.number() == 2),
-    }
-}
-
-#[test]
-fn a_set_has_1_to_64_users(rt: HostRuntime) -> Result<(), Fail> {
-    is_refused(rt.alloc(), 0)?;
-    is_refused(rt.alloc(), 65)
 }
