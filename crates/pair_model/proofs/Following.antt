@@ -223,7 +223,7 @@ takes_follows l (Some body) s = go (service_indicator body == 0) refl
     go false e = rw e (follows_untouched l s _ refl (untouched_self l s.rows))
 
 -- EVENTS
-offered_unsent : (l : ℕ) (place : Place) (s : State) → is_unacked l (fate_at place s) ≡ false
+pub offered_unsent : (l : ℕ) (place : Place) (s : State) → is_unacked l (fate_at place s) ≡ false
 offered_unsent l Nowhere s = refl
 offered_unsent l (On m) s = go (is_up m s) refl
   where

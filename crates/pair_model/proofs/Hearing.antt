@@ -67,7 +67,7 @@ obeyed_took : (o : Option Order) (s : State) (body : List ℕ) → taken_by (obe
 obeyed_took None s body = refl
 obeyed_took (Some order) s body = order_took order s body
 
-took_some : (body : List ℕ) (s : State) → taken_by (takes (Some body) s).took body ≡ body ∷ []
+pub took_some : (body : List ℕ) (s : State) → taken_by (takes (Some body) s).took body ≡ body ∷ []
 took_some body s = go (service_indicator body == 0) refl
   where
     go : (b : Bool) → (service_indicator body == 0) ≡ b → taken_by (takes (Some body) s).took body ≡ body ∷ []
@@ -98,7 +98,7 @@ body_took : (body : List ℕ) (accept : Bool) (s : State) → length (taken_by (
 body_took body true s = rw (took_some body s) refl
 body_took body false s = refl
 
-took_many : (control : Control) (w : WindowState) (unit : SignalUnit) (s : State) → length (taken_by (takes (brought (part_of control w (header_in unit) (is_msu unit)).accept unit) s).took (body_in unit)) ≡ one_if (part_of control w (header_in unit) (is_msu unit)).accept
+pub took_many : (control : Control) (w : WindowState) (unit : SignalUnit) (s : State) → length (taken_by (takes (brought (part_of control w (header_in unit) (is_msu unit)).accept unit) s).took (body_in unit)) ≡ one_if (part_of control w (header_in unit) (is_msu unit)).accept
 took_many control w (Fisu head) s = rw (only_messages control w head) refl
 took_many control w (Lssu head status) s = rw (only_messages control w head) refl
 took_many control w (Msu head body) s = body_took body.items (part_of control w head true).accept s
@@ -133,13 +133,13 @@ module _ (l : ℕ) (mx my : Method) (one : IsOneMethod mx my) (x y : Side) (out 
   abbrev pub part : HeardPart
   part = part_of link.control window head (is_msu unit)
 
-  abbrev mid : State
+  abbrev pub mid : State
   mid = after_control part head unit l x.state link
 
   abbrev pub taken : Obeyed
   taken = takes (brought part.accept unit) mid
 
-  abbrev mid_link : LinkState
+  abbrev pub mid_link : LinkState
   mid_link = record link { acked = link.acked + part.acked; accepted = link.accepted + one_if part.accept; control = control_heard link.control window head (is_msu unit) }
 
   mid_there : slice_get mid.links l ≡ Some mid_link
@@ -244,19 +244,28 @@ module _ (l : ℕ) (mx my : Method) (one : IsOneMethod mx my) (x y : Side) (out 
   abbrev pub hearer : Side
   hearer = record { state = taken.state; sent = x.sent; taken = x.taken ++ taken_by taken.took (body_in unit) }
 
-  -- an end that hears
+  -- an end that hears, before the body is taken
+  abbrev pub hearing : Side
+  hearing = record { state = mid; sent = x.sent; taken = x.taken ++ taken_by taken.took (body_in unit) }
+
+  pub mid_tied : Tied l mx my x y out (unit ∷ rest) → Tied l mx my hearing y out rest
+  mid_tied t =
+      let w = t.world in
+      let c = comes_so w w.back refl t.ties.back in
+      record {
+        world = heard_at c.message c.behind w;
+        run = hears_run w c.message c.behind c.comes c.msu (runs_at t);
+        ties = mid_ties w c.message c.behind c.comes c.msu c.is c.left t.ties;
+      }
+
+  -- and then
   pub hears : Tied l mx my x y out (unit ∷ rest) → Tied l mx my hearer y out rest
   hears t =
       let w = t.world in
       let c = comes_so w w.back refl t.ties.back in
-      let before : Tied l mx my (mid_side w c.message c.behind c.comes c.msu) y out rest = record {
-        world = heard_at c.message c.behind w;
-        run = hears_run w c.message c.behind c.comes c.msu (runs_at t);
-        ties = mid_ties w c.message c.behind c.comes c.msu c.is c.left t.ties;
-      } in
       let stepped = subst (λ (o : Outcome). KeepsMessages rows o.state.rows) (heard_is l unit link x.state y.state.rows (record { head = head; message = c.message }) c.is at) (keeps_messages x.state (Heard l unit) sound.numbered) in
       let keep : KeepBodies mid.rows taken.state.rows = λ number body e. keep_bodies rows taken.state.rows sound.numbered stepped number body (sym (mid_same number) ∙ e) in
-      follows l mx my (mid_side w c.message c.behind c.comes c.msu) y out rest taken.state keep (takes_count l (brought part.accept unit) mid) (takes_follows l (brought part.accept unit) mid) before
+      follows l mx my hearing y out rest taken.state keep (takes_count l (brought part.accept unit) mid) (takes_follows l (brought part.accept unit) mid) (mid_tied t)
 
   pub no_fault : Tied l mx my x y out (unit ∷ rest) → part.fault ≡ None
   no_fault t =

@@ -2,20 +2,21 @@
 use Rattle.std.proofs.Common.{refl, arith, ◌≡◌, ◌∙◌, ap, ap₂, sym, ℕ, zero, suc, true, List, [], ◌∷◌, length, map, take, drop, slice_get, Some, replicate}
 use Rattle.std.proofs.lemmas.Option.{same_Some}
 use Rattle.l2_window.specs.Window.{WindowState}
+use Rattle.l2_units.specs.declared.unit.Unit.{Unit as SignalUnit}
 use Rattle.link_lines.specs.Lines.{no_units, units_on}
 use Rattle.set_events.specs.declared.config.Method.{Method}
 use Rattle.set_events.specs.declared.config.SetConfig.{SetConfig}
-use Rattle.set_model.specs.Rows.{Row, body_at, is_unacked, unack}
+use Rattle.set_model.specs.Rows.{Row, body_at, is_unacked, unack, IsNumbered}
 use Rattle.set_model.specs.Sound.{IsSettings}
 use Rattle.set_model.specs.State.{LinkState, Settings, has_phase_settled, new_link, opened_with, settings_of}
 use Rattle.set_model.proofs.Soundness.{opened_sound}
 use Rattle.pair_model.specs.Promises.{IsOneMethod, IsKeptOn}
-use Rattle.pair_model.specs.Run.{Message, messages, bodies, no_past, begun}
+use Rattle.pair_model.specs.Run.{Message, Past, messages, bodies, no_past, begun}
 use Rattle.pair_model.proofs.Controls.{one_link}
-use Rattle.pair_model.proofs.Pairs.{Two, HoldsOf}
+use Rattle.pair_model.proofs.Pairs.{Two, HoldsOf, side}
 use Rattle.pair_model.proofs.Rising.{unborn}
 use Rattle.pair_model.proofs.Sending.{body_there, stand_each, numbers_of_messages}
-use Rattle.pair_model.proofs.Tied.{StandIn, AreBodies}
+use Rattle.pair_model.proofs.Tied.{StandIn, AreBodies, Side, Tied}
 
 -- bodies of the first of the numbers that were sent are the first of the bodies that were
 first_bodies : (rows : List Row) (took : List ℕ) (taken : List (List ℕ)) (sent : List Message) → AreBodies rows took taken → StandIn rows sent → took ≡ take (length took) (map (λ (m : Message). m.number) sent) → taken ≡ take (length taken) (bodies sent)
@@ -57,29 +58,37 @@ rest_numbers zero xs = refl
 rest_numbers (suc n) [] = refl
 rest_numbers (suc n) (x ∷ xs) = rest_numbers n xs
 
-pub kept_on : (mx my : Method) (one : IsOneMethod mx my) (p : Two) → HoldsOf mx my p → (l : ℕ) → IsKeptOn l p.near_past p.far_past p.near p.far
-kept_on mx my one p h l =
-    let t = h.ties l in
+-- what an end of a link passed, as a past
+abbrev pub past_of : Side → Past
+past_of x = record { sent = λ link. x.sent; taken = λ link. x.taken; offered = λ stream. []; got = λ stream. [] }
+
+pub kept_tied : (l : ℕ) (mx my : Method) (one : IsOneMethod mx my) (x y : Side) (out back : List SignalUnit) → IsNumbered x.state.rows → Tied l mx my x y out back → IsKeptOn l (past_of x) (past_of y) x.state y.state
+kept_tied l mx my one x y out back numbered t =
     let f = (one_link mx my one t.world t.run).0 in
     record {
-      prefix = first_bodies p.near.rows t.world.far.took (p.far_past.taken l) (p.near_past.sent l) t.ties.far.took_is t.ties.near.stand (f.prefix ∙ ap (take (length t.world.far.took)) t.ties.near.sent_is);
+      prefix = first_bodies x.state.rows t.world.far.took y.taken x.sent t.ties.far.took_is t.ties.near.stand (f.prefix ∙ ap (take (length t.world.far.took)) t.ties.near.sent_is);
       accepted = t.ties.far_counts;
       going = λ link there unsettled.
           let g = t.ties.near_goes link there unsettled in
-          let many = as_many p.near.rows t.world.far.took (p.far_past.taken l) t.ties.far.took_is in
+          let many = as_many x.state.rows t.world.far.took y.taken t.ties.far.took_is in
           record {
             acked = omega (arith, g.acked, f.acked, many);
-            unacked = same_messages p.near.rows (messages (unack l p.near.rows)) (drop link.acked (p.near_past.sent l))
-                (stand_each p.near.rows (unack l p.near.rows) (λ i row e. body_there (λ r. is_unacked l r.fate) p.near.rows i row h.near_sound.numbered e))
-                (stand_rest p.near.rows link.acked (p.near_past.sent l) t.ties.near.stand)
-                (numbers_of_messages (unack l p.near.rows)
+            unacked = same_messages x.state.rows (messages (unack l x.state.rows)) (drop link.acked x.sent)
+                (stand_each x.state.rows (unack l x.state.rows) (λ i row e. body_there (λ r. is_unacked l r.fate) x.state.rows i row numbered e))
+                (stand_rest x.state.rows link.acked x.sent t.ties.near.stand)
+                (numbers_of_messages (unack l x.state.rows)
                 ∙ sym (ap (λ (v : WindowState). v.unacked) g.window)
                 ∙ f.unacked
                 ∙ ap (λ (k : ℕ). drop k t.world.near.sent) g.acked
                 ∙ ap (drop link.acked) t.ties.near.sent_is
-                ∙ rest_numbers link.acked (p.near_past.sent l));
+                ∙ rest_numbers link.acked x.sent);
           };
     }
+
+pub kept_on : (mx my : Method) (one : IsOneMethod mx my) (p : Two) → HoldsOf mx my p → (l : ℕ) → IsKeptOn l p.near_past p.far_past p.near p.far
+kept_on mx my one p h l =
+    let k = kept_tied l mx my one (side l p.near p.near_past) (side l p.far p.far_past) (units_on l p.out) (units_on l p.back) h.near_sound.numbered (h.ties l) in
+    record { prefix = k.prefix; accepted = k.accepted; going = k.going }
 
 -- AT FIRST
 settings_sound : (config : SetConfig) → IsSettings (settings_of config)

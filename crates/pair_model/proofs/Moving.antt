@@ -136,7 +136,7 @@ module _ (mx my : Method) (one : IsOneMethod mx my) (p : Two) (h : HoldsOf mx my
   front_tied : Tied k mx my (side k p.near p.near_past) (side k p.far p.far_past) (units_on k p.out) (unit ∷ rest)
   front_tied = subst (λ (us : List SignalUnit). Tied k mx my (side k p.near p.near_past) (side k p.far p.far_past) (units_on k p.out) us) front (h.ties k)
 
-  event_is : step p.near (Heard k unit) ≡ controls unit k p.near link
+  pub event_is : step p.near (Heard k unit) ≡ controls unit k p.near link
   event_is = hearing.step_is k mx my one (side k p.near p.near_past) (side k p.far p.far_past) (units_on k p.out) rest unit link h.near_sound at front_tied
 
   heard_here : Tied k mx my (side k hearer_then heard_past) (side k p.far p.far_past) (units_on k p.out) (units_on k (with_units k rest p.back))

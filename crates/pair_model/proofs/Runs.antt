@@ -78,7 +78,7 @@ answer_tells end s (DownEvent k) own sound = in_tells k s (falls false k s) (λ 
 answer_tells end s (DownBlind k) own sound = absurd sound
 answer_tells end s (NoAnswer k) own sound = absurd sound
 
-is_at_up : (k : ℕ) (s : State) → is_up k s ≡ true → (link : LinkState) × IsAt k link Up s
+pub is_at_up : (k : ℕ) (s : State) → is_up k s ≡ true → (link : LinkState) × IsAt k link Up s
 is_at_up k s e = go (slice_get s.links k) refl
   where
     phase_up : (phase : Phase) → has_phase_up phase ≡ true → phase ≡ Up
@@ -234,7 +234,7 @@ module _ (ma mb : Method) (one : IsOneMethod ma mb) where
         go false e = tt
 
     -- TOGETHER
-    both_settled : (x y : Bool) → (x && y) ≡ true → (x ≡ true) × (y ≡ true)
+    pub both_settled : (x y : Bool) → (x && y) ≡ true → (x ≡ true) × (y ≡ true)
     both_settled true true e = (refl, refl)
     both_settled true false e = absurd cc
     both_settled false y e = absurd cc
