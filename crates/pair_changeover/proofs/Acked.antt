@@ -1,0 +1,475 @@
+-- WHAT IS ACKNOWLEDGED STAYS SO: of one end, what counts as acknowledged on a link are the first of the messages that
+-- were sent on it, and each of those stands acknowledged there.
+use Rattle.std.proofs.Common.{refl, arith, ◌≡◌, ◌∙◌, ap, sym, subst, ℕ, zero, suc, ◌+◌, ◌-◌, ◌≤◌, ◌==◌, Bool, true, false, List, [], ◌∷◌, ◌++◌, All, length, map, take, drop, slice_get, slice_set, Option, Some, None, cond, replicate, ◌⊎◌, inl, inr, if◌then◌else◌}
+use Rattle.std.specs.Option.{option_map}
+use Rattle.std.proofs.lemmas.Bool.{eqb-true, le-ltb}
+use Rattle.std.proofs.lemmas.List.{append-nil, length-append, length-drop, length-map, map-append, drop-map, take-append-le, drop-append-le, drop-drop}
+use Rattle.std.proofs.lemmas.List.Elements.{All-nil, All-cons, All-head, All-tail, All-append}
+use Rattle.std.proofs.lemmas.Option.{same_Some}
+use Rattle.std.proofs.Math.Seq.{drop-length, drop-nil, drop-append_seam, take-add}
+use Rattle.l2_units.specs.declared.unit.Unit.{Unit as SignalUnit}
+use Rattle.l2_units.specs.Grammar.{head_of as header_in}
+use Rattle.l3_orders.specs.Grammar.{text}
+use Rattle.set_events.specs.declared.answer.DiscardCause.{DiscardCause}
+use Rattle.set_events.specs.declared.answer.Fate.{Fate}
+use Rattle.set_events.specs.declared.answer.Fate.TheVariants.{Waiting, Unacked, Acked, Discarded}
+use Rattle.set_events.specs.declared.event.Event.{Event}
+use Rattle.set_events.specs.declared.event.Event.TheVariants.{Offer, Take, Find, Next, Heard, Up as UpEvent, Down as DownEvent, DownBlind, NoAnswer}
+use Rattle.set_model.specs.declared.phase.Phase.{Phase}
+use Rattle.set_model.specs.declared.phase.Phase.TheVariants.{Up, Down, Settled}
+use Rattle.set_model.specs.declared.reached.Reached.{Reached}
+use Rattle.set_model.specs.Changeover.{fate_on, queued, left_by, left_link, acknowledged as acknowledged_link, acknowledged_by, moved_over, settled, settled_link}
+use Rattle.set_model.specs.Control.{Choice, again, first, fill, choice_of, part_of}
+use Rattle.set_model.specs.Rows.{Row, all_with, is_waiting, is_unacked, is_on, is_parked, octets_in, stream_of, turned, changed, moved, appended, with_fate, place, row_of, unack, wait, IsNumbered, IsInOrder}
+use Rattle.set_model.specs.Sound.{IsSound}
+use Rattle.set_model.specs.State.{LinkState, State, Settings, has_phase_settled, is_settled, is_up, link_is_settled, new_link, opened_with, target, window_of}
+use Rattle.set_model.specs.Step.{with_known, is_msu, after_control, fate_at, next, offered, rises, rows_sent, step, takes}
+use Rattle.set_model.proofs.Events.{acknowledged, appended_out, sent_given_up, unack_gone, unparked}
+use Rattle.set_model.proofs.Events as events
+use Rattle.set_model.proofs.Finding.{with_number, numbered_appended}
+use Rattle.set_model.proofs.InPlace.{where_turned, where_changed, turned_there, turned_left, changed_same}
+use Rattle.set_model.proofs.Lists.{get_set_same, get_set_other, same_at, within}
+use Rattle.set_model.proofs.Lookups.{at_most_one, place_moved}
+use Rattle.set_model.proofs.Moving.{moved_numbered, moved_same}
+use Rattle.set_model.proofs.Places.{false_true, itself, apart_back, on_other, not_on_unacked, waiting_not_unacked}
+use Rattle.set_model.proofs.Ranging.{acked_few, not_sent}
+use Rattle.set_model.proofs.Settling.{settled_empty}
+use Rattle.set_model.proofs.Walk.{IsAt, KeptBy, settle_walks, takes_walks, step_walks}
+use Rattle.set_route.specs.Routing.{place_of}
+use Rattle.pair_model.specs.Run.{Message, Past, messages, first_sent, past_sent, past_risen}
+use Rattle.pair_model.proofs.Following.{offered_unsent}
+use Rattle.pair_model.proofs.Moving.{next_refused}
+use Rattle.pair_model.proofs.Runs.{is_at_up}
+use Rattle.pair_model.proofs.Sending.{next_is}
+use Rattle.pair_changeover.proofs.Views.{acked_of, acked_on}
+
+abbrev pub AreAcked : ℕ → List Row → List Message → Type 0
+AreAcked l rows sent = All (λ message. place message.number rows ≡ Some (Acked l)) sent
+
+-- what is unacknowledged is the rest of what was sent, unless it was given up
+abbrev pub IsRest : ℕ → LinkState → List Row → List Message → Type 0
+IsRest l link rows sent = (messages (unack l rows) ≡ drop link.acked sent) ⊎ ((link.phase ≡ Down) × (unack l rows ≡ []))
+
+pub record AckedFirst (l : ℕ) (sent : List Message) (s : State) : Type 0 where
+  pub numbered : IsNumbered s.rows
+  pub few : acked_on l s ≤ length sent
+  pub first : AreAcked l s.rows (take (acked_on l s) sent)
+  pub going : (link : LinkState) → slice_get s.links l ≡ Some link → has_phase_settled link.phase ≡ false → IsRest l link s.rows sent
+
+abbrev message_of : Row → Message
+message_of row = record { number = row.number; body = row.body }
+
+-- ROWS. What is acknowledged on the link stays so.
+abbrev StayAcked : ℕ → List Row → List Row → Type 0
+StayAcked l rows new = (number : ℕ) → place number rows ≡ Some (Acked l) → place number new ≡ Some (Acked l)
+
+all_then : {X : Type 0} (P Q : X → Type 0) → ((x : X) → P x → Q x) → (xs : List X) → All P xs → All Q xs
+all_then P Q f [] all = All-nil Q
+all_then P Q f (x ∷ xs) all = All-cons Q x xs (f x (All-head P x xs all)) (all_then P Q f xs (All-tail P x xs all))
+
+still : (l : ℕ) (rows new : List Row) → StayAcked l rows new → (sent : List Message) → AreAcked l rows sent → AreAcked l new sent
+still l rows new stay sent are = all_then (λ m. place m.number rows ≡ Some (Acked l)) (λ m. place m.number new ≡ Some (Acked l)) (λ m e. stay m.number e) sent are
+
+module _ (l : ℕ) (test : Fate → Bool) (w : test (Acked l) ≡ false) where
+  module _ (fate : Fate) where
+    none_stay : StayAcked l [] []
+    none_stay number e = e
+
+    row_stays : (x : Row) (xs ys : List Row) → StayAcked l xs ys → StayAcked l (x ∷ xs) (x ∷ ys)
+    row_stays x xs ys p number e = go (x.number == number) refl
+      where
+        go : (b : Bool) → (x.number == number) ≡ b → place number (x ∷ ys) ≡ Some (Acked l)
+        go true h = let f : Some x.fate ≡ Some (Acked l) = rw h at e in rw h f
+        go false h = rw h (p number (rw h at e))
+
+    row_turns : (x : Row) (xs ys : List Row) → test x.fate ≡ true → StayAcked l xs ys → StayAcked l (x ∷ xs) (with_fate fate x ∷ ys)
+    row_turns x xs ys t p number e = go (x.number == number) refl
+      where
+        go : (b : Bool) → (x.number == number) ≡ b → place number (with_fate fate x ∷ ys) ≡ Some (Acked l)
+        go true h =
+            let f : Some x.fate ≡ Some (Acked l) = rw h at e in
+            false_true (test (Acked l)) w (ap test (sym (same_Some x.fate (Acked l) f)) ∙ t)
+        go false h = rw h (p number (rw h at e))
+
+    turned_stay : (n : ℕ) (rows : List Row) → StayAcked l rows (turned test fate n rows)
+    turned_stay n rows = where_turned test fate (StayAcked l) none_stay row_stays row_turns n rows
+
+    changed_stay : (rows : List Row) → StayAcked l rows (changed test fate rows)
+    changed_stay rows = where_changed test fate (StayAcked l) none_stay row_stays row_turns rows
+
+  moved_stay : (fate : Row → Fate) (rows : List Row) → IsNumbered rows → StayAcked l rows (moved test fate rows)
+  moved_stay fate rows numbered number e = place_moved test fate number rows numbered ∙ go (row_of number rows) e
+    where
+      go : (o : Option Row) → option_map (λ r. r.fate) o ≡ Some (Acked l) → option_map (λ r. cond (test r.fate) (fate r) r.fate) o ≡ Some (Acked l)
+      go None f = absurd cc
+      go (Some x) f = let same : x.fate ≡ Acked l = same_Some x.fate (Acked l) f in rw (same, w) refl
+
+joined_stay : (l : ℕ) (rows more : List Row) → StayAcked l rows (rows ++ more)
+joined_stay l [] more number e = absurd cc
+joined_stay l (x ∷ rows) more number e = go (x.number == number) refl (joined_stay l rows more number)
+  where
+    go : (b : Bool) → (x.number == number) ≡ b → (place number rows ≡ Some (Acked l) → place number (rows ++ more) ≡ Some (Acked l)) → place number (x ∷ rows ++ more) ≡ Some (Acked l)
+    go true h later = let f : Some x.fate ≡ Some (Acked l) = rw h at e in rw h f
+    go false h later = rw h (later (rw h at e))
+
+-- THE FIRST OF THE UNACKNOWLEDGED stand acknowledged once they turned, since no other row has their numbers.
+AreApart : List Row → Type 0
+AreApart rows = (number : ℕ) → length (with_number number rows) ≤ 1
+
+apart_behind : (x : Row) (xs : List Row) → AreApart (x ∷ xs) → AreApart xs
+unfolding AreApart
+apart_behind x xs apart number = go (x.number == number) refl
+  where
+    go : (b : Bool) → (x.number == number) ≡ b → length (with_number number xs) ≤ 1
+    go true h = let m : length (x ∷ with_number number xs) ≤ 1 = rw h at (apart number) in omega (arith, m)
+    go false h = let m : length (with_number number xs) ≤ 1 = rw h at (apart number) in m
+
+has_row : (number : ℕ) (rows : List Row) (fate : Fate) → place number rows ≡ Some fate → 1 ≤ length (with_number number rows)
+has_row number [] fate e = absurd cc
+has_row number (x ∷ rows) fate e = go (x.number == number) refl (has_row number rows fate)
+  where
+    go : (b : Bool) → (x.number == number) ≡ b → (place number rows ≡ Some fate → 1 ≤ length (with_number number rows)) → 1 ≤ length (with_number number (x ∷ rows))
+    go true h later = rw h (omega arith)
+    go false h later = rw h (later (rw h at e))
+
+found_behind : (x y : Row) (xs ys : List Row) → AreApart (x ∷ xs) → y.number ≡ x.number → ((number : ℕ) → length (with_number number ys) ≡ length (with_number number xs)) → (number : ℕ) (fate : Fate) → place number ys ≡ Some fate → place number (y ∷ ys) ≡ Some fate
+unfolding AreApart
+found_behind x y xs ys apart same many number fate e = go (y.number == number) refl
+  where
+    go : (b : Bool) → (y.number == number) ≡ b → place number (y ∷ ys) ≡ Some fate
+    go true h =
+        let first : (x.number == number) ≡ true = ap (λ (n : ℕ). n == number) (sym same) ∙ h in
+        let one : length (x ∷ with_number number xs) ≤ 1 = rw first at (apart number) in
+        let another = has_row number ys fate e in
+        absurd (omega (arith, one, another, many number))
+    go false h = rw h e
+
+first_turned : (l count : ℕ) (rows : List Row) → AreApart rows → AreAcked l (turned (is_unacked l) (Acked l) count rows) (take count (messages (unack l rows)))
+first_turned l zero rows apart = All-nil _
+first_turned l (suc n) [] apart = All-nil _
+first_turned l (suc n) (x ∷ rows) apart = go (is_unacked l x.fate) refl (first_turned l n rows (apart_behind x rows apart)) (first_turned l (suc n) rows (apart_behind x rows apart))
+  where
+    behind : (y : Row) (count : ℕ) → y.number ≡ x.number → (sent : List Message) → AreAcked l (turned (is_unacked l) (Acked l) count rows) sent → AreAcked l (y ∷ turned (is_unacked l) (Acked l) count rows) sent
+    behind y count same sent are =
+        let new = turned (is_unacked l) (Acked l) count rows in
+        let many : (number : ℕ) → length (with_number number new) ≡ length (with_number number rows) = λ number. (turned_there (is_unacked l) (Acked l) count rows).as_many (λ row. row.number == number) (λ f r. refl) in
+        still l new (y ∷ new) (λ number e. found_behind x y rows new apart same many number (Acked l) e) sent are
+
+    at_front : place x.number (with_fate (Acked l) x ∷ turned (is_unacked l) (Acked l) n rows) ≡ Some (Acked l)
+    at_front = rw (itself x.number) refl
+
+    go : (b : Bool) → is_unacked l x.fate ≡ b
+        → AreAcked l (turned (is_unacked l) (Acked l) n rows) (take n (messages (unack l rows)))
+        → AreAcked l (turned (is_unacked l) (Acked l) (suc n) rows) (take (suc n) (messages (unack l rows)))
+        → AreAcked l (turned (is_unacked l) (Acked l) (suc n) (x ∷ rows)) (take (suc n) (messages (unack l (x ∷ rows))))
+    go true h p q = rw h (All-cons (λ m. place m.number (with_fate (Acked l) x ∷ turned (is_unacked l) (Acked l) n rows) ≡ Some (Acked l)) (message_of x) (take n (messages (unack l rows))) at_front
+        (behind (with_fate (Acked l) x) n refl (take n (messages (unack l rows))) p))
+    go false h p q = rw h (behind x (suc n) refl (take (suc n) (messages (unack l rows))) q)
+
+-- MORE OF A LINK IS ACKNOWLEDGED: the first of its unacknowledged messages.
+pub record Grown (l acked : ℕ) (sent : List Message) (rows : List Row) : Type 0 where
+  pub few : acked ≤ length sent
+  pub first : AreAcked l rows (take acked sent)
+  pub rest : messages (unack l rows) ≡ drop acked sent
+
+grown : (l acked count : ℕ) (sent : List Message) (rows : List Row) → IsNumbered rows → acked ≤ length sent → AreAcked l rows (take acked sent) → messages (unack l rows) ≡ drop acked sent → count ≤ length (unack l rows) → Grown l (acked + count) sent (turned (is_unacked l) (Acked l) count rows)
+unfolding AreApart
+grown l acked count sent rows numbered few are rest enough =
+    let new = turned (is_unacked l) (Acked l) count rows in
+    let one_part = still l rows new (turned_stay l (is_unacked l) refl (Acked l) count rows) (take acked sent) are in
+    let other_part = first_turned l count rows (λ number. at_most_one number rows numbered) in
+    let many : length (unack l rows) ≡ length sent - acked = sym (length-map (unack l rows) message_of) ∙ ap length rest ∙ length-drop acked sent in
+    record {
+      few = omega (arith, few, enough, many);
+      first = subst (AreAcked l new) (sym (take-add acked count sent ∙ ap (λ (ms : List Message). take acked sent ++ take count ms) (sym rest))) (All-append (λ m. place m.number new ≡ Some (Acked l)) (take acked sent) (take count (messages (unack l rows))) one_part other_part);
+      rest = ap messages (turned_left (is_unacked l) (Acked l) refl count rows) ∙ sym (drop-map message_of count (unack l rows)) ∙ ap (drop count) rest ∙ drop-drop count acked sent;
+    }
+
+-- ONE END.
+module _ (l : ℕ) (sent : List Message) where
+  -- nothing that is told of the link changed
+  goes_on : (s t : State) → IsNumbered t.rows → StayAcked l s.rows t.rows → slice_get t.links l ≡ slice_get s.links l → unack l t.rows ≡ unack l s.rows → AckedFirst l sent s → AckedFirst l sent t
+  goes_on s t numbered stay same unacked a =
+      let count : acked_on l t ≡ acked_on l s = ap acked_of same in
+      record {
+        numbered = numbered;
+        few = omega (arith, count, a.few);
+        first = subst (λ (n : ℕ). AreAcked l t.rows (take n sent)) (sym count) (still l s.rows t.rows stay (take (acked_on l s) sent) a.first);
+        going = λ link there unsettled. subst (λ (rows : List Row). (messages rows ≡ drop link.acked sent) ⊎ ((link.phase ≡ Down) × (rows ≡ []))) (sym unacked) (a.going link (sym same ∙ there) unsettled);
+      }
+
+  -- the link itself is set
+  own_set : (s t : State) (link after : LinkState) → slice_get s.links l ≡ Some link → t.links ≡ slice_set s.links l after → IsNumbered t.rows → after.acked ≤ length sent → AreAcked l t.rows (take after.acked sent) → (has_phase_settled after.phase ≡ false → IsRest l after t.rows sent) → AckedFirst l sent t
+  own_set s t link after there links numbered few are rest =
+      let found : slice_get t.links l ≡ Some after = ap (λ (ls : List LinkState). slice_get ls l) links ∙ get_set_same s.links l after (within s.links l link there) in
+      let count : acked_on l t ≡ after.acked = ap acked_of found in
+      record {
+        numbered = numbered;
+        few = omega (arith, count, few);
+        first = subst (λ (n : ℕ). AreAcked l t.rows (take n sent)) (sym count) are;
+        going = λ other is unsettled.
+            let same : after ≡ other = sym (same_at t.links l after other found is) in
+            subst (λ (k : LinkState). IsRest l k t.rows sent) same (rest (ap (λ (k : LinkState). has_phase_settled k.phase) same ∙ unsettled));
+      }
+
+  at_link : (s : State) (link : LinkState) → slice_get s.links l ≡ Some link → AckedFirst l sent s → (link.acked ≤ length sent) × AreAcked l s.rows (take link.acked sent)
+  at_link s link there a =
+      let count : acked_on l s ≡ link.acked = ap acked_of there in
+      let few = a.few in
+      (omega (arith, count, few), subst (λ (n : ℕ). AreAcked l s.rows (take n sent)) count a.first)
+
+  -- so many of its unacknowledged messages are acknowledged
+  own_acked : (count : ℕ) (link after : LinkState) (s t : State) → slice_get s.links l ≡ Some link → t.links ≡ slice_set s.links l after → t.rows ≡ turned (is_unacked l) (Acked l) count s.rows → after.acked ≡ link.acked + count → after.phase ≡ link.phase → has_phase_settled link.phase ≡ false → count ≤ length (unack l s.rows) → AckedFirst l sent s → AckedFirst l sent t
+  own_acked count link after s t there links rows acked phase unsettled enough a = go (a.going link there unsettled)
+    where
+      new : List Row
+      new = turned (is_unacked l) (Acked l) count s.rows
+
+      numbered : IsNumbered t.rows
+      numbered = rw rows ((acknowledged l count s.rows).kept.numbered a.numbered)
+
+      go : IsRest l link s.rows sent → AckedFirst l sent t
+      go (inl rest) =
+          let now = at_link s link there a in
+          let g = grown l link.acked count sent s.rows a.numbered now.0 now.1 rest enough in
+          own_set s t link after there links numbered (rw acked g.few) (rw (acked, rows) g.first) (λ e. inl (rw (acked, rows) g.rest))
+      go (inr none) =
+          let now = at_link s link there a in
+          let few = ap length none.1 in
+          let same : after.acked ≡ link.acked = omega (arith, acked, enough, few) in
+          let are : AreAcked l t.rows (take link.acked sent) = rw rows (still l s.rows new (turned_stay l (is_unacked l) refl (Acked l) count s.rows) (take link.acked sent) now.1) in
+          own_set s t link after there links numbered (rw same now.0) (rw same are) (λ e. inr (phase ∙ none.0, ap (unack l) rows ∙ turned_left (is_unacked l) (Acked l) refl count s.rows ∙ ap (drop count) none.1 ∙ drop-nil count))
+
+  -- another link is set
+  other_set : (n : ℕ) (after : LinkState) (links : List LinkState) → (n == l) ≡ false → slice_get (slice_set links n after) l ≡ slice_get links l
+  other_set n after links d = get_set_other links n l after (λ same. false_true (n == l) d (rw same (itself l)))
+
+  -- what is done to any link is kept if it is for this link and for the others
+  by_link : (n : ℕ) (P : ℕ → Type 0) → P l → ((n == l) ≡ false → P n) → P n
+  by_link n P own others = go (n == l) refl
+    where
+      go : (b : Bool) → (n == l) ≡ b → P n
+      go true e = subst P (sym (eqb-true n l e)) own
+      go false e = others e
+
+  -- THE SMALL CHANGES
+  appends : (s t : State) (body : List ℕ) (fate : Fate) → is_unacked l fate ≡ false → t.rows ≡ appended s.rows body fate → slice_get t.links l ≡ slice_get s.links l → AckedFirst l sent s → AckedFirst l sent t
+  appends s t body fate unsent rows links a = goes_on s t (rw rows (numbered_appended s.rows body fate a.numbered)) (rw rows (joined_stay l s.rows _)) links (ap (unack l) rows ∙ appended_out s.rows body fate (is_unacked l) unsent) a
+
+  leaves_own : (blind : Bool) (link : LinkState) (s : State) → IsAt l link Up s → AckedFirst l sent s → AckedFirst l sent (left_by blind l link s)
+  leaves_own blind link s at a = let now = at_link s link at.there a in own_set s (left_by blind l link s) link (left_link blind link) at.there refl a.numbered now.0 now.1 (λ e. go (a.going link at.there (ap has_phase_settled at.phase_is)))
+    where
+      go : IsRest l link s.rows sent → IsRest l (left_link blind link) s.rows sent
+      go (inl rest) = inl rest
+      go (inr none) = inr (refl, none.1)
+
+  acknowledges_any : (count n : ℕ) (link after : LinkState) (s t : State) → slice_get s.links n ≡ Some link → t.links ≡ slice_set s.links n after → t.rows ≡ turned (is_unacked n) (Acked n) count s.rows → after.acked ≡ link.acked + count → after.phase ≡ link.phase → has_phase_settled link.phase ≡ false → count ≤ length (unack n s.rows) → AckedFirst l sent s → AckedFirst l sent t
+  acknowledges_any count n link after s t there links rows acked phase unsettled enough a =
+      by_link n (λ m. slice_get s.links m ≡ Some link → t.links ≡ slice_set s.links m after → t.rows ≡ turned (is_unacked m) (Acked m) count s.rows → count ≤ length (unack m s.rows) → AckedFirst l sent t)
+      (λ at ls rs few. own_acked count link after s t at ls rs acked phase unsettled few a)
+      (λ d at ls rs few. goes_on s t (rw rs ((acknowledged n count s.rows).kept.numbered a.numbered)) (rw rs (turned_stay l (is_unacked n) refl (Acked n) count s.rows)) (ap (λ (ks : List LinkState). slice_get ks l) ls ∙ other_set n after s.links d) (ap (unack l) rs ∙ ((acknowledged n count s.rows).others l d).unack_same) a)
+      there links rows enough
+
+  gives_up_own : (cause : DiscardCause) (link : LinkState) (s : State) → IsAt l link Down s → AckedFirst l sent s → AckedFirst l sent (record s { rows = changed (is_unacked l) (Discarded cause) s.rows })
+  gives_up_own cause link s at a = record {
+    numbered = (sent_given_up l cause s.rows).kept.numbered a.numbered;
+    few = a.few;
+    first = still l s.rows (changed (is_unacked l) (Discarded cause) s.rows) (changed_stay l (is_unacked l) refl (Discarded cause) s.rows) (take (acked_on l s) sent) a.first;
+    going = λ other there unsettled. inr (ap (λ (k : LinkState). k.phase) (same_at s.links l link other at.there there) ∙ at.phase_is, unack_gone l cause s.rows);
+  }
+
+  moves_off_any : (n : ℕ) (link : LinkState) (s : State) → IsAt n link Down s → AckedFirst l sent s → AckedFirst l sent (moved_over n link s)
+  moves_off_any n link s at a =
+      by_link n (λ m. IsAt m link Down s → AckedFirst l sent (moved_over m link s))
+      (λ here. let now = at_link s link here.there a in own_set s (moved_over l link s) link (settled_link link) here.there refl (numbered l) now.0 (still l s.rows (moved_over l link s).rows (stay l) (take link.acked sent) now.1) (λ e. absurd cc))
+      (λ d there. goes_on s (moved_over n link s) (numbered n) (stay n) (other_set n (settled_link link) s.links d) (moved_same (is_on n) (is_unacked l) (all_with (fate_on (target s.links))) s.rows (λ x. not_sent l (target s.links)) (λ f e. not_on_unacked l f (on_other l n (apart_back n l d) f e))) a)
+      at
+    where
+      numbered : (m : ℕ) → IsNumbered (moved (is_on m) (all_with (fate_on (target s.links))) s.rows)
+      numbered m = moved_numbered (is_on m) (all_with (fate_on (target s.links))) s.rows a.numbered
+
+      stay : (m : ℕ) → StayAcked l s.rows (moved (is_on m) (all_with (fate_on (target s.links))) s.rows)
+      stay m = moved_stay l (is_on m) refl (all_with (fate_on (target s.links))) s.rows a.numbered
+
+  -- whatever small change is made
+  pub small : (Known : ℕ → Type 0) → KeptBy Known (λ s t. AckedFirst l sent s → AckedFirst l sent t)
+  small Known = record {
+    same = λ s a. a;
+    after = λ s t u p q a. q (p a);
+    delivers = λ body s a. record { numbered = a.numbered; few = a.few; first = a.first; going = a.going };
+    queues = λ order s a. appends s (queued order s) (text order s.settings.sio s.settings.dpc s.settings.opc) (fate_on (target s.links)) (not_sent l (target s.links)) refl refl a;
+    leaves = λ blind n link s known at a. by_link n (λ m. IsAt m link Up s → AckedFirst l sent (left_by blind m link s)) (λ here. leaves_own blind link s here a) (λ d here. goes_on s (left_by blind n link s) a.numbered (λ number e. e) (other_set n (left_link blind link) s.links d) refl a) at;
+    acknowledges = λ count n link s known at enough a. acknowledges_any count n link (acknowledged_link count link) s (acknowledged_by count n link s) at.there refl refl refl refl (ap has_phase_settled at.phase_is) enough a;
+    gives_up_sent = λ cause n link s known at a. by_link n (λ m. IsAt m link Down s → AckedFirst l sent (record s { rows = changed (is_unacked m) (Discarded cause) s.rows })) (λ here. gives_up_own cause link s here a)
+        (λ d here. goes_on s (record s { rows = changed (is_unacked n) (Discarded cause) s.rows }) ((sent_given_up n cause s.rows).kept.numbered a.numbered) (changed_stay l (is_unacked n) refl (Discarded cause) s.rows) refl (((sent_given_up n cause s.rows).others l d).unack_same) a) at;
+    gives_up_waiting = λ cause n link s known at a. goes_on s (record s { rows = changed (is_waiting n) (Discarded cause) s.rows }) ((events.waiting_given_up n cause s.rows).kept.numbered a.numbered) (changed_stay l (is_waiting n) refl (Discarded cause) s.rows) refl (changed_same (is_waiting n) (is_unacked l) (Discarded cause) refl (waiting_not_unacked l n) s.rows) a;
+    moves_off = λ n link s known at a. moves_off_any n link s at a;
+  }
+
+  pub settles_kept : (reached : Reached) (n : ℕ) (link : LinkState) (s : State) → IsAt n link Down s → AckedFirst l sent s → AckedFirst l sent (settled reached n link s)
+  settles_kept reached n link s at a = settle_walks (λ m. Unit {0}) (λ t u. AckedFirst l sent t → AckedFirst l sent u) (small (λ m. Unit {0})) reached n link s tt at a
+
+  pub takes_kept : (body : Option (List ℕ)) (s : State) → AckedFirst l sent s → AckedFirst l sent (takes body s).state
+  takes_kept body s a = takes_walks (λ m. Unit {0}) (λ t u. AckedFirst l sent t → AckedFirst l sent u) (small (λ m. Unit {0})) body s (λ b e o f n g. tt) a
+
+  -- of a link in service nothing was given up
+  pub rest_up : (link : LinkState) (s : State) → IsAt l link Up s → AckedFirst l sent s → messages (unack l s.rows) ≡ drop link.acked sent
+  rest_up link s at a = go (a.going link at.there (ap has_phase_settled at.phase_is))
+    where
+      go : IsRest l link s.rows sent → messages (unack l s.rows) ≡ drop link.acked sent
+      go (inl rest) = rest
+      go (inr none) = absurd (let no : Up ≡ Down = sym at.phase_is ∙ none.0 in cc)
+
+  -- A UNIT IS HEARD: its own part
+  pub hears_part : (n : ℕ) (unit : SignalUnit) (link : LinkState) (s : State) → IsAt n link Up s → AckedFirst l sent s → AckedFirst l sent (after_control (part_of link.control (window_of n link s.rows) (header_in unit) (is_msu unit)) (header_in unit) unit n s link)
+  hears_part n unit link s at a =
+      let part = part_of link.control (window_of n link s.rows) (header_in unit) (is_msu unit) in
+      acknowledges_any part.acked n link _ s (after_control part (header_in unit) unit n s link) at.there refl refl refl refl (ap has_phase_settled at.phase_is) (acked_few n link s.rows (header_in unit) (is_msu unit)) a
+
+-- A UNIT IS SENT. What the link's unacknowledged messages gain stands behind them.
+sent_more : (choice : Choice) (l : ℕ) (rows : List Row) → IsInOrder l rows → (more : List Row) × (unack l (rows_sent choice l rows) ≡ unack l rows ++ more)
+sent_more (again place) l rows order = ([], sym (append-nil (unack l rows)))
+sent_more first l rows order = (map (with_fate (Unacked l)) (take 1 (wait l rows)), (events.sent l rows).unack_is order)
+sent_more fill l rows order = ([], sym (append-nil (unack l rows)))
+
+sent_numbered : (choice : Choice) (n : ℕ) (rows : List Row) → IsNumbered rows → IsNumbered (rows_sent choice n rows)
+sent_numbered (again place) n rows numbered = numbered
+sent_numbered first n rows numbered = (events.sent n rows).kept.numbered numbered
+sent_numbered fill n rows numbered = numbered
+
+sent_stay : (choice : Choice) (l n : ℕ) (rows : List Row) → StayAcked l rows (rows_sent choice n rows)
+sent_stay (again place) l n rows = λ number e. e
+sent_stay first l n rows = turned_stay l (is_waiting n) refl (Unacked n) 1 rows
+sent_stay fill l n rows = λ number e. e
+
+sent_apart : (choice : Choice) (l n : ℕ) (rows : List Row) → (n == l) ≡ false → unack l (rows_sent choice n rows) ≡ unack l rows
+sent_apart (again place) l n rows d = refl
+sent_apart first l n rows d = ((events.sent n rows).others l d).unack_same
+sent_apart fill l n rows d = refl
+
+module _ (l : ℕ) (sent : List Message) (s : State) where
+  -- of the link itself
+  sends_own : (link : LinkState) → IsSound s → IsAt l link Up s → AckedFirst l sent s → AckedFirst l (sent ++ first_sent l s (next l s link).state) (next l s link).state
+  sends_own link sound at a =
+      let t = (next l s link).state in
+      let choice = choice_of (octets_in (unack l s.rows)) link.control (window_of l link s.rows) in
+      let more = sent_more choice l s.rows (sound.links l link at.there).in_order in
+      let now = at_link l sent s link at.there a in
+      let gained : first_sent l s t ≡ messages more.0 = ap (λ (rows : List Row). messages (drop (length (unack l s.rows)) rows)) more.1 ∙ ap messages (drop-append_seam (unack l s.rows) more.0) in
+      let longer = length-append sent (first_sent l s t) in
+      own_set l (sent ++ first_sent l s t) s t link _ at.there refl (sent_numbered choice l s.rows a.numbered) (omega (arith, now.0, longer))
+      (subst (AreAcked l t.rows) (sym (take-append-le link.acked sent (first_sent l s t) now.0)) (still l s.rows t.rows (sent_stay choice l l s.rows) (take link.acked sent) now.1))
+      (λ e. inl (ap messages more.1 ∙ map-append message_of (unack l s.rows) more.0 ∙ ap (λ (ms : List Message). ms ++ messages more.0) (rest_up l sent link s at a) ∙ ap (λ (ms : List Message). drop link.acked sent ++ ms) (sym gained) ∙ sym (drop-append-le link.acked sent (first_sent l s t) now.0)))
+
+  pub sends_any : (n : ℕ) (link : LinkState) → IsSound s → IsAt n link Up s → AckedFirst l sent s → AckedFirst l (if l == n then sent ++ first_sent n s (next n s link).state else sent) (next n s link).state
+  sends_any n link sound at a = go (l == n) refl
+    where
+      go : (b : Bool) → (l == n) ≡ b → AckedFirst l (if b then sent ++ first_sent n s (next n s link).state else sent) (next n s link).state
+      go true e = subst (λ (m : ℕ). IsAt m link Up s → AckedFirst l (sent ++ first_sent m s (next m s link).state) (next m s link).state) (eqb-true l n e) (λ here. sends_own link sound here a) at
+      go false e =
+          let choice = choice_of (octets_in (unack n s.rows)) link.control (window_of n link s.rows) in
+          let d = apart_back l n e in
+          goes_on l sent s (next n s link).state (sent_numbered choice n s.rows a.numbered) (sent_stay choice l n s.rows) (other_set l sent n _ s.links d) (sent_apart choice l n s.rows d) a
+
+  -- one that isn't in service sends nothing
+  sends_none : (n : ℕ) → AckedFirst l sent s → AckedFirst l (if l == n then sent ++ first_sent n s s else sent) s
+  sends_none n a = go (l == n)
+    where
+      none : sent ++ first_sent n s s ≡ sent
+      none = ap (λ (rows : List Row). sent ++ messages rows) (drop-length (unack n s.rows)) ∙ append-nil sent
+
+      go : (b : Bool) → AckedFirst l (if b then sent ++ first_sent n s s else sent) s
+      go true = subst (λ (ms : List Message). AckedFirst l ms s) (sym none) a
+      go false = a
+
+  next_kept : (n : ℕ) → IsSound s → AckedFirst l sent s → AckedFirst l (if l == n then sent ++ first_sent n s (step s (Next n)).state else sent) (step s (Next n)).state
+  next_kept n sound a = go (is_up n s) refl
+    where
+      go : (b : Bool) → is_up n s ≡ b → AckedFirst l (if l == n then sent ++ first_sent n s (step s (Next n)).state else sent) (step s (Next n)).state
+      go true e = let at = is_at_up n s e in rw (next_is n at.0 s at.1) (sends_any n at.0 sound at.1 a)
+      go false e = rw ((next_refused n s e).1) (sends_none n a)
+
+  -- A LINK COMES UP: what it sends is told anew.
+  pub rises_any : (n : ℕ) (link : LinkState) → IsSound s → IsAt n link Settled s → AckedFirst l sent s → AckedFirst l (if l == n then [] else sent) (rises n s Settled).state
+  rises_any n link sound at a = go (l == n) refl
+    where
+      t : State
+      t = (rises n s Settled).state
+
+      own : IsAt l link Settled s → AckedFirst l [] (rises l s Settled).state
+      own here =
+          let none : unack l (rises l s Settled).state.rows ≡ [] = (unparked l s.rows).unack_same ∙ (settled_empty s l link sound here.there here.phase_is).unack_none in
+          own_set l [] s (rises l s Settled).state link _ here.there refl ((unparked l s.rows).kept.numbered a.numbered) (omega arith) (All-nil _) (λ e. inl (ap messages none))
+
+      go : (b : Bool) → (l == n) ≡ b → AckedFirst l (if b then [] else sent) (rises n s Settled).state
+      go true e = subst (λ (m : ℕ). IsAt m link Settled s → AckedFirst l [] (rises m s Settled).state) (eqb-true l n e) own at
+      go false e =
+          let d = apart_back l n e in
+          goes_on l sent s (rises n s Settled).state ((unparked n s.rows).kept.numbered a.numbered) (moved_stay l is_parked refl (all_with (Waiting n)) s.rows a.numbered) (other_set l sent n _ s.links d) (((unparked n s.rows).others l d).unack_same) a
+
+  up_kept : (n : ℕ) → IsSound s → AckedFirst l sent s → AckedFirst l (if is_settled n s then (if l == n then [] else sent) else sent) (step s (UpEvent n)).state
+  unfolding step
+  up_kept n sound a = go (slice_get s.links n) refl
+    where
+      at : (link : LinkState) → slice_get s.links n ≡ Some link → (phase : Phase) → link.phase ≡ phase → AckedFirst l (if has_phase_settled phase then (if l == n then [] else sent) else sent) (rises n s phase).state
+      at link e Up p = a
+      at link e Down p = a
+      at link e Settled p = rises_any n link sound (record { there = e; phase_is = p }) a
+
+      go : (o : Option LinkState) → slice_get s.links n ≡ o → AckedFirst l (if link_is_settled o then (if l == n then [] else sent) else sent) (with_known o s (λ link. rises n s link.phase)).state
+      go None e = a
+      go (Some link) e = at link e link.phase refl
+
+  -- ANY OTHER EVENT
+  other_kept : (event : Event) → ((n : ℕ) → event ≡ Next n → ⊥) → ((n : ℕ) → event ≡ UpEvent n → ⊥) → AckedFirst l sent s → AckedFirst l sent (step s event).state
+  other_kept event not_next not_up a = step_walks s (λ t u. AckedFirst l sent t → AckedFirst l sent u) (λ t. AckedFirst l sent t) event (record {
+    small = small l sent _;
+    unmoved = a;
+    rests = λ t u b keeps. keeps b;
+    offers = λ body e none. appends l sent s (offered None s body).state body (fate_at (place_of (stream_of body) s.routing) s) (offered_unsent l (place_of (stream_of body) s.routing) s) refl refl a;
+    takes = λ body rest e there. record { numbered = a.numbered; few = a.few; first = a.first; going = a.going };
+    sends = λ n link e at. absurd (not_next n e);
+    hears = λ n unit link e at. hears_part l sent n unit link s at a;
+    rises = λ n link e at. absurd (not_up n e);
+  })
+
+-- what was sent on the link in its present life, or its last one, when the event was asked
+abbrev pub sent_then : ℕ → Event → State → List Message → List Message
+sent_then l (Next n) s sent = if l == n then sent ++ first_sent n s (step s (Next n)).state else sent
+sent_then l (UpEvent n) s sent = if is_settled n s then (if l == n then [] else sent) else sent
+sent_then l _ s sent = sent
+
+-- EVERY EVENT of a sound set keeps it.
+pub acked_first : (l : ℕ) (s : State) (event : Event) (sent : List Message) → IsSound s → AckedFirst l sent s → AckedFirst l (sent_then l event s sent) (step s event).state
+acked_first l s (Next n) sent sound a = next_kept l sent s n sound a
+acked_first l s (UpEvent n) sent sound a = up_kept l sent s n sound a
+acked_first l s (Offer body) sent sound a = other_kept l sent s (Offer body) (λ n e. absurd cc) (λ n e. absurd cc) a
+acked_first l s Take sent sound a = other_kept l sent s Take (λ n e. absurd cc) (λ n e. absurd cc) a
+acked_first l s (Find number) sent sound a = other_kept l sent s (Find number) (λ n e. absurd cc) (λ n e. absurd cc) a
+acked_first l s (Heard n unit) sent sound a = other_kept l sent s (Heard n unit) (λ m e. absurd cc) (λ m e. absurd cc) a
+acked_first l s (DownEvent n) sent sound a = other_kept l sent s (DownEvent n) (λ m e. absurd cc) (λ m e. absurd cc) a
+acked_first l s (DownBlind n) sent sound a = other_kept l sent s (DownBlind n) (λ m e. absurd cc) (λ m e. absurd cc) a
+acked_first l s (NoAnswer n) sent sound a = other_kept l sent s (NoAnswer n) (λ m e. absurd cc) (λ m e. absurd cc) a
+
+-- A NEW SET
+none_acked : (l count : ℕ) (link : LinkState) → link.acked ≡ 0 → acked_of (slice_get (replicate count link) l) ≡ 0
+none_acked l zero link e = refl
+none_acked zero (suc count) link e = e
+none_acked (suc l) (suc count) link e = none_acked l count link e
+
+pub new_acked_first : (l : ℕ) (settings : Settings) → AckedFirst l [] (opened_with settings)
+new_acked_first l settings =
+    let none = none_acked l settings.links (new_link settings.method) refl in
+    record {
+      numbered = λ number. sym (ap (λ (b : Bool). cond b 1 0) (le-ltb number 0 (omega arith)));
+      few = omega (arith, none);
+      first = subst (λ (n : ℕ). AreAcked l [] (take n [])) (sym none) (All-nil _);
+      going = λ link there unsettled. inl (sym (drop-nil link.acked));
+    }
+
+-- THE PAST of an end goes on so.
+pub emits_first : (l n : ℕ) (s : State) (past : Past) → IsSound s → AckedFirst l (past.sent l) s → AckedFirst l ((past_sent n s (step s (Next n)).state past).sent l) (step s (Next n)).state
+emits_first l n s past sound a = next_kept l (past.sent l) s n sound a
+
+pub rises_first : (l n : ℕ) (s : State) (past : Past) → IsSound s → is_settled n s ≡ true → AckedFirst l (past.sent l) s → AckedFirst l ((past_risen n past).sent l) (step s (UpEvent n)).state
+rises_first l n s past sound settled a = subst (λ (b : Bool). AckedFirst l (if b then (if l == n then [] else past.sent l) else past.sent l) (step s (UpEvent n)).state) settled (up_kept l (past.sent l) s n sound a)

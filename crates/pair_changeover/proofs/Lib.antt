@@ -1,0 +1,13 @@
+pub mod Acked
+pub mod Arriving
+pub mod Changes
+pub mod Hearing
+pub mod Keeping
+pub mod Obeying
+pub mod Passing
+pub mod Reaching
+pub mod Runs
+pub mod Table
+pub mod Texts
+pub mod Views
+pub mod Whole

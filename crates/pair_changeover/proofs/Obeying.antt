@@ -1,0 +1,296 @@
+-- WHAT AN ORDER THAT IS HEARD LEADS TO at an end: the link settles by the number that the far end counts; an end that is
+-- still up on it leaves it first, and acknowledges.
+use Rattle.std.proofs.Common.{refl, arith, ◌≡◌, ◌≢◌, ◌∙◌, ap, sym, subst, ℕ, zero, suc, ◌≤◌, ◌<◌, ◌==◌, ◌+◌, ◌-◌, ◌%◌, Bool, true, false, nat_le, List, [], ◌∷◌, ◌++◌, length, drop, slice_get, slice_set, Option, Some, None, ◌⊎◌, inl, inr}
+use Rattle.std.proofs.lemmas.Bool.{eqb-true}
+use Rattle.std.proofs.lemmas.Bool.Decides.{nat_tests}
+use Rattle.std.proofs.lemmas.List.{append-nil}
+use Rattle.l3_orders.specs.declared.order.Order.TheVariants.{Coa}
+use Rattle.l3_orders.specs.Grammar.{text, order_of}
+use Rattle.set_events.specs.declared.answer.Fate.{Fate}
+use Rattle.set_events.specs.declared.answer.Fate.TheVariants.{Waiting, Unacked, Acked, Held, Parked, Discarded}
+use Rattle.set_route.specs.Target.{target_of}
+use Rattle.set_model.specs.declared.phase.Phase.TheVariants.{Up, Down, Settled}
+use Rattle.set_model.specs.declared.reached.Reached.TheVariants.{Upto}
+use Rattle.set_model.specs.Rows.{Row, is_on, is_unacked, is_waiting, is_parked, was_discarded, standing, unack, wait, held, parked, appended, turned, all_with, moved}
+use Rattle.set_model.specs.Sound.{IsSound}
+use Rattle.set_model.specs.State.{LinkState, State, is_up, is_settled, link_is_up, link_is_settled, has_phase_up, last_accepted, target}
+use Rattle.set_model.specs.Changeover.{fate_on, queued, left_by, left_link, settled_link, acknowledged as acknowledged_link, reached_by, is_reasonable, settled}
+use Rattle.set_model.proofs.Events.{appended_in, appended_out}
+use Rattle.set_model.proofs.InPlace.{turned_same}
+use Rattle.set_model.proofs.Lists.{within, map_set_same, same_at}
+use Rattle.set_model.proofs.Moving.{moved_same}
+use Rattle.set_model.proofs.Places.{apart, itself}
+use Rattle.set_model.proofs.Settling.{no_target}
+use Rattle.set_model.proofs.SoundLink.{leaves}
+use Rattle.set_model.proofs.SoundNew as new
+use Rattle.set_model.proofs.Targets.{target_up}
+use Rattle.set_model.proofs.Walk.{IsAt}
+use Rattle.pair_model.specs.Run.{Message, messages}
+use Rattle.pair_changeover.specs.Diverted.{queue_for, answer_on}
+use Rattle.pair_changeover.proofs.Changes.{Both, Acts, acts, stands_still, acts_none, acts_far_none, queues_both, by_link, own_then, other_then, leaves_acts}
+use Rattle.pair_changeover.proofs.Passing.{settles_acts, links_then, rows_then, link_then}
+use Rattle.pair_changeover.proofs.Texts.{AreCodes, coa_read}
+use Rattle.pair_changeover.proofs.Table.{joined, aside_settled, wait_settled, aside_joins, queue_apart}
+use Rattle.pair_changeover.proofs.Views.{view, queue, pending, acked_of, acked_on, accepted_of, accepted_on, NoneAbout}
+
+-- the number that was told, and how far the far end is
+pub record Told (fsn l : ℕ) (link : LinkState) (s f : State) : Type 0 where
+  pub last : fsn ≡ (accepted_on l f + 127) % 128
+  pub due : link.acked ≤ accepted_on l f
+  pub within : accepted_on l f ≤ link.acked + length (unack l s.rows)
+
+module _ (fsn l : ℕ) (link : LinkState) (s f : State) (few : length (unack l s.rows) ≤ 127) (t : Told fsn l link s f) where
+  pub told_reached : reached_by fsn l link s.rows ≡ accepted_on l f - link.acked
+  told_reached = rw (t.last) (omega (arith, few, t.due, t.within))
+
+  pub told_reasonable : is_reasonable fsn l link s.rows ≡ true
+  told_reasonable = let e = told_reached in grind (arith, nat_tests, e, t.within)
+
+-- an order about a link that the far end left: it was the only one
+pub record Heard (l : ℕ) (s f : State) : Type 0 where
+  pub far_down : is_up l f ≡ false
+  pub none : NoneAbout l (view f s)
+
+abbrev pub left_and_told : ℕ → LinkState → State → State
+left_and_told l link s = queued (Coa l (last_accepted link)) (left_by false l link s)
+
+pub data Obeys (k : ℕ) (s f : State) : State → Type 0 where
+  keeps : (t : State) → t.rows ≡ s.rows → t.links ≡ s.links → Obeys k s f t
+  settles : (fsn l : ℕ) (link : LinkState) → (k == l) ≡ false → IsAt l link Down s → Told fsn l link s f → Heard l s f → Obeys k s f (settled (Upto fsn) l link s)
+  answers : (fsn l : ℕ) (link : LinkState) → (k == l) ≡ false → IsAt l link Up s → Told fsn l link s f → Heard l s f → Obeys k s f (settled (Upto fsn) l (left_link false link) (left_and_told l link s))
+
+-- what moves, and what is acknowledged, isn't discarded
+pub not_discarded : (to : Option ℕ) → was_discarded (fate_on to) ≡ false
+not_discarded None = refl
+not_discarded (Some to) = refl
+
+on_not_discarded : (l : ℕ) (fate : Fate) → is_on l fate ≡ true → was_discarded fate ≡ false
+on_not_discarded l (Waiting n) e = refl
+on_not_discarded l (Unacked n) e = refl
+on_not_discarded l (Acked n) e = refl
+on_not_discarded l (Held n) e = refl
+on_not_discarded l Parked e = refl
+on_not_discarded l (Discarded cause) e = absurd cc
+
+pub sent_not_discarded : (l : ℕ) (fate : Fate) → is_unacked l fate ≡ true → was_discarded fate ≡ false
+sent_not_discarded l (Waiting n) e = refl
+sent_not_discarded l (Unacked n) e = refl
+sent_not_discarded l (Acked n) e = refl
+sent_not_discarded l (Held n) e = refl
+sent_not_discarded l Parked e = refl
+sent_not_discarded l (Discarded cause) e = absurd cc
+
+-- THE LINK SETTLES
+module _ (fsn l : ℕ) (link : LinkState) (s f : State) (sound : IsSound s) (at : IsAt l link Down s) (t : Told fsn l link s f) where
+  few : length (unack l s.rows) ≤ 127
+  few = (sound.links l link at.there).window
+
+  abbrev pub settled_then : State
+  settled_then = settled (Upto fsn) l link s
+
+  reasonable : is_reasonable fsn l link s.rows ≡ true
+  reasonable = told_reasonable fsn l link s f few t
+
+  reached : reached_by fsn l link s.rows ≡ accepted_on l f - link.acked
+  reached = told_reached fsn l link s f few t
+
+  pub settles_both : Both s f → Heard l s f → Both settled_then f
+  settles_both o h = acts s settled_then f (settles_acts fsn l link s f sound at reasonable reached o h.far_down h.none) o
+
+  abbrev link_after : LinkState
+  link_after = link_then fsn l link s f sound at reasonable reached
+
+  links_after : settled_then.links ≡ slice_set s.links l link_after
+  links_after = links_then fsn l link s f sound at reasonable reached
+
+  pub settles_equal : (n : ℕ) → (is_settled n s ≡ true → acked_on n s ≡ accepted_on n f) → is_settled n settled_then ≡ true → acked_on n settled_then ≡ accepted_on n f
+  settles_equal = by_link l link link_after s settled_then at.there links_after
+      (λ n old new. (link_is_settled old ≡ true → acked_of old ≡ accepted_on n f) → link_is_settled new ≡ true → acked_of new ≡ accepted_on n f)
+      (λ before e. omega (arith, reached, t.due)) (λ n old d before e. before e)
+
+  -- only it does
+  pub settles_alone : (n : ℕ) → is_settled n s ≡ false → is_settled n settled_then ≡ true → l ≡ n
+  settles_alone = by_link l link link_after s settled_then at.there links_after
+      (λ n old new. link_is_settled old ≡ false → link_is_settled new ≡ true → l ≡ n)
+      (λ e f. refl) (λ n old d e f. absurd (let no : false ≡ true = sym e ∙ f in cc))
+
+  pub settles_accepted : (n : ℕ) → accepted_on n settled_then ≡ accepted_on n s
+  settles_accepted = by_link l link link_after s settled_then at.there links_after (λ n old new. accepted_of new ≡ accepted_of old) refl (λ n old d. refl)
+
+  pub settles_discards : standing was_discarded settled_then.rows ≡ standing was_discarded s.rows
+  settles_discards =
+      ap (standing was_discarded) (rows_then fsn l link s f sound at reasonable reached)
+      ∙ moved_same (is_on l) was_discarded (all_with (fate_on (target s.links))) (turned (is_unacked l) (Acked l) (reached_by fsn l link s.rows) s.rows) (λ row. not_discarded (target s.links)) (λ fate e. on_not_discarded l fate e)
+      ∙ turned_same (is_unacked l) was_discarded (Acked l) refl (λ fate e. sent_not_discarded l fate e) (reached_by fsn l link s.rows) s.rows
+
+  -- the target is what it was
+  pub same_target : target settled_then.links ≡ target s.links
+  same_target = ap target links_after ∙ ap target_of (map_set_same (λ (k : LinkState). has_phase_up k.phase) s.links l link link_after at.there (ap has_phase_up (sym at.phase_is)))
+
+  settles_moved : (to : Option ℕ) → target s.links ≡ to → messages (queue_for to settled_then.rows) ≡ messages (queue_for to s.rows) ++ queue (accepted_on l f - link.acked) l s.rows
+  settles_moved None e =
+      let own = sound.links l link at.there in
+      ap (λ (rows : List Row). messages (parked rows)) (rows_then fsn l link s f sound at reasonable reached ∙ ap (λ (to : Option ℕ). moved (is_on l) (all_with (fate_on to)) (turned (is_unacked l) (Acked l) (reached_by fsn l link s.rows) s.rows)) e)
+      ∙ aside_settled (reached_by fsn l link s.rows) l s.rows own.in_order own.held_last
+      ∙ ap (λ (k : ℕ). messages (parked s.rows) ++ queue k l s.rows) reached
+  settles_moved (Some to) e =
+      let own = sound.links l link at.there in
+      ap (λ (rows : List Row). messages (wait to rows)) (rows_then fsn l link s f sound at reasonable reached ∙ ap (λ (to : Option ℕ). moved (is_on l) (all_with (fate_on to)) (turned (is_unacked l) (Acked l) (reached_by fsn l link s.rows) s.rows)) e)
+      ∙ wait_settled (reached_by fsn l link s.rows) l to s.rows (apart l to (no_target fsn l link s at.there reasonable at.phase_is to e)) own.in_order own.held_last
+      ∙ ap (λ (k : ℕ). messages (wait to s.rows) ++ queue k l s.rows) reached
+
+  -- what was pending on it stands behind what waited for the target
+  pub settles_moves : messages (queue_for (target settled_then.links) settled_then.rows) ≡ messages (queue_for (target settled_then.links) s.rows) ++ pending l s f
+  settles_moves =
+      let own : queue (accepted_on l f - link.acked) l s.rows ≡ pending l s f = ap (λ (o : Option LinkState). queue (accepted_on l f - acked_of o) l s.rows) (sym at.there) in
+      ap (λ (to : Option ℕ). messages (queue_for to settled_then.rows)) same_target
+      ∙ settles_moved (target s.links) refl
+      ∙ ap (λ (q : List Message). messages (queue_for (target s.links) s.rows) ++ q) own
+      ∙ ap (λ (to : Option ℕ). messages (queue_for to s.rows) ++ pending l s f) (sym same_target)
+
+-- AN END THAT IS STILL UP leaves the link, and acknowledges
+module _ (l : ℕ) (link : LinkState) (s f : State) (sound : IsSound s) (codes : AreCodes s.settings) (at : IsAt l link Up s) where
+  abbrev left : State
+  left = left_by false l link s
+
+  abbrev pub told : State
+  told = left_and_told l link s
+
+  pub left_acts : Acts s left f
+  left_acts = leaves_acts false l link s f at
+
+  pub told_sound : IsSound told
+  told_sound = new.queues (Coa l (last_accepted link)) left (leaves false l link s at sound)
+
+  pub told_at : IsAt l (left_link false link) Down told
+  told_at = record { there = own_then l link (left_link false link) s left at.there refl; phase_is = refl }
+
+  pub below : l < 16
+  below = omega (arith, within s.links l link at.there, sound.count, sound.routed, sound.routing.at_most_16)
+
+  pub coa_is : order_of (text (Coa l (last_accepted link)) s.settings.sio s.settings.dpc s.settings.opc) ≡ Some (Coa l (last_accepted link))
+  coa_is = coa_read s.settings l (last_accepted link) codes below (omega arith)
+
+  pub not_settled : (a b : Bool) → (a ≡ true → b ≡ false) → b ≡ true → a ≡ false
+  not_settled false b w e = refl
+  not_settled true b w e = absurd (let no : true ≡ false = sym e ∙ w refl in cc)
+
+  pub told_both : Both s f → Both told f
+  told_both o =
+      let up : is_up l s ≡ true = ap link_is_up at.there ∙ ap has_phase_up at.phase_is in
+      queues_both left f (Coa l (last_accepted link)) (leaves false l link s at sound) (acts s left f left_acts o) coa_is
+      (ap (λ (n : ℕ). (n + 127) % 128) (sym (ap accepted_of (own_then l link (left_link false link) s left at.there refl))))
+      (acts_none s left f left_acts l (o.near.none_up l up))
+      (ap link_is_up (own_then l link (left_link false link) s left at.there refl))
+      (not_settled (is_settled l f) (is_up l s) (o.far.apart l) up)
+
+  pub told_heard : Heard l s f → Heard l told f
+  told_heard h = record { far_down = h.far_down; none = acts_far_none s left f left_acts l h.none }
+
+  unsent : (to : Option ℕ) → is_unacked l (fate_on to) ≡ false
+  unsent None = refl
+  unsent (Some to) = refl
+
+  unack_same : unack l told.rows ≡ unack l s.rows
+  unack_same = appended_out left.rows (text (Coa l (last_accepted link)) s.settings.sio s.settings.dpc s.settings.opc) (fate_on (target left.links)) (is_unacked l) (unsent (target left.links))
+
+  pub told_still : (fsn : ℕ) → Told fsn l link s f → Told fsn l (left_link false link) told f
+  told_still fsn t = record { last = t.last; due = t.due; within = rw unack_same (t.within) }
+
+  told_target : (to : Option ℕ) → target left.links ≡ to → messages (queue_for to told.rows) ≡ messages (queue_for to s.rows) ++ answer_on l (Some link) s
+  told_target None e =
+      ap (λ (to : Option ℕ). messages (parked (appended s.rows (text (Coa l (last_accepted link)) s.settings.sio s.settings.dpc s.settings.opc) (fate_on to)))) e
+      ∙ aside_joins 0 0 s.rows (text (Coa l (last_accepted link)) s.settings.sio s.settings.dpc s.settings.opc) Parked refl
+      ∙ rw (at.phase_is) refl
+  told_target (Some to) e =
+      ap (λ (o : Option ℕ). messages (wait to (appended s.rows (text (Coa l (last_accepted link)) s.settings.sio s.settings.dpc s.settings.opc) (fate_on o)))) e
+      ∙ ap messages (appended_in s.rows (text (Coa l (last_accepted link)) s.settings.sio s.settings.dpc s.settings.opc) (Waiting to) (is_waiting to) (itself to))
+      ∙ joined (wait to s.rows) _
+      ∙ rw (at.phase_is) refl
+
+  -- it isn't on its way to the link itself
+  elsewhere : (to : Option ℕ) → target left.links ≡ to → (b : Bool) → is_on l (fate_on to) ≡ b → b ≡ false
+  elsewhere to e false f = refl
+  elsewhere None e true f = absurd cc
+  elsewhere (Some to) e true f =
+      let up = target_up left.links to e in
+      let here : slice_get left.links l ≡ Some up.0 = subst (λ (n : ℕ). slice_get left.links n ≡ Some up.0) (eqb-true to l f) up.1 in
+      let same : up.0 ≡ left_link false link = same_at left.links l (left_link false link) up.0 told_at.there here in
+      let no : true ≡ false = sym up.2 ∙ ap (λ (k : LinkState). has_phase_up k.phase) same in
+      absurd cc
+
+  pub told_pending : pending l told f ≡ pending l s f
+  told_pending =
+      ap (λ (o : Option LinkState). queue (accepted_on l f - acked_of o) l told.rows) told_at.there
+      ∙ queue_apart (accepted_on l f - link.acked) l s.rows (text (Coa l (last_accepted link)) s.settings.sio s.settings.dpc s.settings.opc) (fate_on (target left.links)) (elsewhere (target left.links) refl (is_on l (fate_on (target left.links))) refl)
+      ∙ ap (λ (o : Option LinkState). queue (accepted_on l f - acked_of o) l s.rows) (sym at.there)
+
+  pub told_discards : standing was_discarded told.rows ≡ standing was_discarded s.rows
+  told_discards = appended_out s.rows (text (Coa l (last_accepted link)) s.settings.sio s.settings.dpc s.settings.opc) (fate_on (target left.links)) was_discarded (not_discarded (target left.links))
+
+-- ALL OF IT
+pub record Moved (k n : ℕ) (s f t : State) : Type 0 where
+  pub other : (k == n) ≡ false
+  pub moved : messages (queue_for (target t.links) t.rows) ≡ messages (queue_for (target t.links) s.rows) ++ answer_on n (slice_get s.links n) s ++ pending n s f
+
+module _ (k : ℕ) (s f : State) (sound : IsSound s) (codes : AreCodes s.settings) (o : Both s f) where
+  pub obeys_both : (t : State) → Obeys k s f t → Both t f
+  obeys_both t (keeps _ rows links) = acts s t f (stands_still s t f rows links) o
+  obeys_both _ (settles fsn l link other at told_so heard) = settles_both fsn l link s f sound at told_so o heard
+  obeys_both _ (answers fsn l link other at told_so heard) =
+      settles_both fsn l (left_link false link) (told l link s f sound codes at) f (told_sound l link s f sound codes at) (told_at l link s f sound codes at) (told_still l link s f sound codes at fsn told_so) (told_both l link s f sound codes at o) (told_heard l link s f sound codes at heard)
+
+  pub obeys_equal : ((n : ℕ) → is_settled n s ≡ true → acked_on n s ≡ accepted_on n f) → (t : State) → Obeys k s f t → (n : ℕ) → is_settled n t ≡ true → acked_on n t ≡ accepted_on n f
+  obeys_equal equal t (keeps _ rows links) n e = ap (λ (ls : List LinkState). acked_of (slice_get ls n)) links ∙ equal n (ap (λ (ls : List LinkState). link_is_settled (slice_get ls n)) (sym links) ∙ e)
+  obeys_equal equal _ (settles fsn l link other at told_so heard) n e = settles_equal fsn l link s f sound at told_so n (equal n) e
+  obeys_equal equal _ (answers fsn l link other at told_so heard) n e =
+      settles_equal fsn l (left_link false link) (told l link s f sound codes at) f (told_sound l link s f sound codes at) (told_at l link s f sound codes at) (told_still l link s f sound codes at fsn told_so) n
+      (by_link l link (left_link false link) s (left_by false l link s) at.there refl (λ m old new. (link_is_settled old ≡ true → acked_of old ≡ accepted_on m f) → link_is_settled new ≡ true → acked_of new ≡ accepted_on m f) (λ before g. absurd cc) (λ m old d before g. before g) n (equal n)) e
+
+  pub obeys_discards : (t : State) → Obeys k s f t → standing was_discarded t.rows ≡ standing was_discarded s.rows
+  obeys_discards t (keeps _ rows links) = ap (standing was_discarded) rows
+  obeys_discards _ (settles fsn l link other at told_so heard) = settles_discards fsn l link s f sound at told_so
+  obeys_discards _ (answers fsn l link other at told_so heard) =
+      settles_discards fsn l (left_link false link) (told l link s f sound codes at) f (told_sound l link s f sound codes at) (told_at l link s f sound codes at) (told_still l link s f sound codes at fsn told_so)
+      ∙ told_discards l link s f sound codes at
+
+  abbrev MovedAt : State → ℕ → Type 0
+  MovedAt t n = is_settled n s ≡ false → is_settled n t ≡ true → Moved k n s f t
+
+  pub obeys_moves : (t : State) → Obeys k s f t → (n : ℕ) → MovedAt t n
+  obeys_moves t (keeps _ rows links) n e g = absurd (let no : false ≡ true = sym e ∙ ap (λ (ls : List LinkState). link_is_settled (slice_get ls n)) (sym links) ∙ g in cc)
+  obeys_moves _ (settles fsn l link other at told_so heard) n e g =
+      let t = settled (Upto fsn) l link s in
+      let same : l ≡ n = settles_alone fsn l link s f sound at told_so n e g in
+      let none : answer_on l (slice_get s.links l) s ≡ [] = ap (λ (o : Option LinkState). answer_on l o s) at.there ∙ rw (at.phase_is) refl in
+      subst (λ (m : ℕ). Moved k m s f t) same (record {
+        other = other;
+        moved = settles_moves fsn l link s f sound at told_so
+            ∙ ap (λ (q : List Message). q ++ pending l s f) (sym (append-nil (messages (queue_for (target t.links) s.rows))) ∙ ap (λ (a : List Message). messages (queue_for (target t.links) s.rows) ++ a) (sym none));
+      })
+  obeys_moves _ (answers fsn l link other at told_so heard) n e g =
+      let there = told l link s f sound codes at in
+      let there_sound = told_sound l link s f sound codes at in
+      let there_at = told_at l link s f sound codes at in
+      let there_told = told_still l link s f sound codes at fsn told_so in
+      let t = settled (Upto fsn) l (left_link false link) there in
+      let unsettled : is_settled n there ≡ false = by_link l link (left_link false link) s (left_by false l link s) at.there refl (λ m old new. link_is_settled old ≡ false → link_is_settled new ≡ false) (λ f. refl) (λ m old d f. f) n e in
+      let same : l ≡ n = settles_alone fsn l (left_link false link) there f there_sound there_at there_told n unsettled g in
+      let to_is : target t.links ≡ target there.links = same_target fsn l (left_link false link) there f there_sound there_at there_told in
+      subst (λ (m : ℕ). Moved k m s f t) same (record {
+        other = other;
+        moved = settles_moves fsn l (left_link false link) there f there_sound there_at there_told
+            ∙ ap (λ (to : Option ℕ). messages (queue_for to there.rows) ++ pending l there f) to_is
+            ∙ ap (λ (q : List Message). q ++ pending l there f) (told_target l link s f sound codes at (target there.links) refl)
+            ∙ ap (λ (p : List Message). messages (queue_for (target there.links) s.rows) ++ answer_on l (Some link) s ++ p) (told_pending l link s f sound codes at)
+            ∙ ap (λ (to : Option ℕ). messages (queue_for to s.rows) ++ answer_on l (Some link) s ++ pending l s f) (sym to_is)
+            ∙ ap (λ (o : Option LinkState). messages (queue_for (target t.links) s.rows) ++ answer_on l o s ++ pending l s f) (sym at.there);
+      })
+
+  -- nothing is accepted by it
+  pub obeys_accepted : (t : State) → Obeys k s f t → (n : ℕ) → accepted_on n t ≡ accepted_on n s
+  obeys_accepted t (keeps _ rows links) n = ap (λ (ls : List LinkState). accepted_of (slice_get ls n)) links
+  obeys_accepted _ (settles fsn l link other at told_so heard) n = settles_accepted fsn l link s f sound at told_so n
+  obeys_accepted _ (answers fsn l link other at told_so heard) n =
+      settles_accepted fsn l (left_link false link) (told l link s f sound codes at) f (told_sound l link s f sound codes at) (told_at l link s f sound codes at) (told_still l link s f sound codes at fsn told_so) n
+      ∙ by_link l link (left_link false link) s (left_by false l link s) at.there refl (λ m old new. accepted_of new ≡ accepted_of old) refl (λ m old d. refl) n

@@ -1,0 +1,133 @@
+-- THE TABLE: what each change of a set's rows does to what is pending on a link, and aside.
+use Rattle.std.proofs.Common.{refl, arith, ◌≡◌, ◌∙◌, ap, ap₂, sym, subst, ℕ, zero, suc, ◌≤◌, ◌<◌, ◌==◌, ◌+◌, ◌-◌, Bool, true, false, List, [], ◌∷◌, ◌++◌, length, map, take, drop, slice_get, Option, Some, None, append_assoc}
+use Rattle.std.proofs.lemmas.List.{append-nil, map-append, drop-append-le, take-append-drop}
+use Rattle.set_events.specs.declared.answer.Fate.{Fate}
+use Rattle.set_events.specs.declared.answer.Fate.TheVariants.{Waiting, Unacked, Acked, Held, Parked}
+use Rattle.set_model.specs.Rows.{Row, is_on, is_waiting, is_unacked, is_held, is_parked, all_with, unack, wait, held, on, parked, with_fate, turned, moved, appended, IsInOrder, IsHeldLast}
+use Rattle.set_model.proofs.Events.{Untouched, acknowledged, sent, moved_to, moved_aside, unparked, appended_in, appended_out, appended_untouched}
+use Rattle.set_model.proofs.Finding.{new_row}
+use Rattle.pair_model.specs.Run.{Message, messages}
+use Rattle.pair_changeover.proofs.Views.{queue}
+
+pub joined : (xs ys : List Row) → messages (xs ++ ys) ≡ messages xs ++ messages ys
+joined xs ys = map-append (λ (row : Row). record { number = row.number; body = row.body }) xs ys
+
+pub same_messages : (fate : Fate) (rows : List Row) → messages (map (with_fate fate) rows) ≡ messages rows
+same_messages fate [] = refl
+same_messages fate (row ∷ rows) = ap (λ (ms : List Message). record { number = row.number; body = row.body } ∷ ms) (same_messages fate rows)
+
+pub drop_none : {X : Type 0} (n : ℕ) → ◌≡◌ {A = List X} (drop n []) []
+drop_none zero = refl
+drop_none (suc n) = refl
+
+pub drop_twice : {X : Type 0} (m n : ℕ) (xs : List X) → drop m (drop n xs) ≡ drop (n + m) xs
+drop_twice m zero xs = let same : m ≡ 0 + m = omega arith in ap (λ (k : ℕ). drop k xs) same
+drop_twice m (suc n) [] = drop_none m ∙ sym (drop_none (suc n + m))
+drop_twice m (suc n) (x ∷ xs) = let same : suc (n + m) ≡ suc n + m = omega arith in drop_twice m n xs ∙ ap (λ (k : ℕ). drop k (x ∷ xs)) same
+
+pub drop_at : {X : Type 0} (n : ℕ) (xs : List X) (x : X) → slice_get xs n ≡ Some x → drop n xs ≡ x ∷ drop (suc n) xs
+drop_at n [] x e = absurd cc
+drop_at {X = X} zero (y ∷ xs) x e = let same : y ≡ x = cc in ap (λ (z : X). z ∷ xs) same
+drop_at (suc n) (y ∷ xs) x e = drop_at n xs x e
+
+module _ (count link : ℕ) (rows new : List Row) where
+  -- a link that sees nothing of it
+  pub queue_untouched : Untouched link rows new → queue count link new ≡ queue count link rows
+  queue_untouched u = rw (u.unack_same, u.wait_same, u.held_same) refl
+
+-- A NEW MESSAGE stands last where it isn't sent
+joins_waiting : (sent waiting more : List Row) → messages (sent ++ (waiting ++ more) ++ []) ≡ messages (sent ++ waiting ++ []) ++ messages more
+joins_waiting sent waiting more =
+    ap messages (append-nil (sent ++ (waiting ++ more)) ∙ sym (append_assoc sent waiting more)) ∙ joined (sent ++ waiting) more
+    ∙ ap (λ (xs : List Row). messages xs ++ messages more) (sym (append-nil (sent ++ waiting)))
+
+joins_held : (sent waiting kept more : List Row) → messages (sent ++ waiting ++ (kept ++ more)) ≡ messages (sent ++ waiting ++ kept) ++ messages more
+joins_held sent waiting kept more = ap messages (sym (append_assoc (sent ++ waiting) kept more)) ∙ joined (sent ++ waiting ++ kept) more
+
+abbrev pub new_message : List Row → List ℕ → Message
+new_message rows body = record { number = length rows; body = body }
+
+module _ (count link : ℕ) (rows : List Row) (body : List ℕ) (fate : Fate) where
+  pub queue_waits : is_waiting link fate ≡ true → is_unacked link fate ≡ false → is_held link fate ≡ false → held link rows ≡ [] → queue count link (appended rows body fate) ≡ queue count link rows ++ new_message rows body ∷ []
+  queue_waits w u h none =
+      rw (appended_out rows body fate (is_unacked link) u, appended_in rows body fate (is_waiting link) w, appended_out rows body fate (is_held link) h, none)
+      (joins_waiting (drop count (unack link rows)) (wait link rows) (new_row (length rows) body fate ∷ []))
+
+  pub queue_holds : is_waiting link fate ≡ false → is_unacked link fate ≡ false → is_held link fate ≡ true → queue count link (appended rows body fate) ≡ queue count link rows ++ new_message rows body ∷ []
+  queue_holds w u h =
+      rw (appended_out rows body fate (is_unacked link) u, appended_out rows body fate (is_waiting link) w, appended_in rows body fate (is_held link) h)
+      (joins_held (drop count (unack link rows)) (wait link rows) (held link rows) (new_row (length rows) body fate ∷ []))
+
+  pub queue_apart : is_on link fate ≡ false → queue count link (appended rows body fate) ≡ queue count link rows
+  queue_apart o = queue_untouched count link rows (appended rows body fate) (appended_untouched rows body fate link o)
+
+  pub aside_joins : is_parked fate ≡ true → messages (parked (appended rows body fate)) ≡ messages (parked rows) ++ new_message rows body ∷ []
+  aside_joins p = ap messages (appended_in rows body fate is_parked p) ∙ joined (parked rows) (new_row (length rows) body fate ∷ [])
+
+  pub aside_apart : is_parked fate ≡ false → messages (parked (appended rows body fate)) ≡ messages (parked rows)
+  aside_apart p = ap messages (appended_out rows body fate is_parked p)
+
+-- A FIRST SENDING: the first that waits is the last that was sent
+sends_on : (count : ℕ) (sent waiting kept : List Row) (fate : Fate) → count ≤ length sent → messages (drop count (sent ++ map (with_fate fate) (take 1 waiting)) ++ drop 1 waiting ++ kept) ≡ messages (drop count sent ++ waiting ++ kept)
+sends_on count sent waiting kept fate few =
+    let more = map (with_fate fate) (take 1 waiting) in
+    let left : messages (drop count (sent ++ more) ++ drop 1 waiting) ≡ messages (drop count sent ++ waiting) =
+    ap (λ (xs : List Row). messages (xs ++ drop 1 waiting)) (drop-append-le count sent more few)
+    ∙ joined (drop count sent ++ more) (drop 1 waiting)
+    ∙ ap (λ (ms : List Message). ms ++ messages (drop 1 waiting)) (joined (drop count sent) more ∙ ap (λ (ms : List Message). messages (drop count sent) ++ ms) (same_messages fate (take 1 waiting)))
+    ∙ append_assoc (messages (drop count sent)) (messages (take 1 waiting)) (messages (drop 1 waiting))
+    ∙ ap (λ (ms : List Message). messages (drop count sent) ++ ms) (sym (joined (take 1 waiting) (drop 1 waiting)) ∙ ap messages (take-append-drop 1 waiting))
+    ∙ sym (joined (drop count sent) waiting) in
+    joined (drop count (sent ++ more) ++ drop 1 waiting) kept ∙ ap (λ (ms : List Message). ms ++ messages kept) left ∙ sym (joined (drop count sent ++ waiting) kept)
+
+pub queue_sent : (count link : ℕ) (rows : List Row) → IsInOrder link rows → count ≤ length (unack link rows) → queue count link (turned (is_waiting link) (Unacked link) 1 rows) ≡ queue count link rows
+queue_sent count link rows order few =
+    let s = sent link rows in
+    rw (s.unack_is order, s.wait_is, s.held_same) (sends_on count (unack link rows) (wait link rows) (held link rows) (Unacked link) few)
+
+-- ACKNOWLEDGED: the far end accepted them
+pub queue_acked : (accepted acked count link : ℕ) (rows : List Row) → acked + count ≤ accepted → queue (accepted - (acked + count)) link (turned (is_unacked link) (Acked link) count rows) ≡ queue (accepted - acked) link rows
+queue_acked accepted acked count link rows few =
+    let a = acknowledged link count rows in
+    let many : count + (accepted - (acked + count)) ≡ accepted - acked = omega (arith, few) in
+    rw (a.unack_is, a.wait_same, a.held_same, drop_twice (accepted - (acked + count)) count (unack link rows), many) refl
+
+-- ACCEPTED by the far end: the first leaves
+pub queue_accepted : (count link : ℕ) (rows : List Row) (row : Row) → slice_get (unack link rows) count ≡ Some row → queue count link rows ≡ record { number = row.number; body = row.body } ∷ queue (suc count) link rows
+queue_accepted count link rows row there = rw (drop_at count (unack link rows) row there) refl
+
+-- A LINK SETTLES: its queue stands behind the target's, or aside
+pub queue_settled : (count to_count link to : ℕ) (rows : List Row) → (link == to) ≡ false → IsInOrder link rows → IsHeldLast link rows → held to rows ≡ [] → queue to_count to (moved (is_on link) (all_with (Waiting to)) (turned (is_unacked link) (Acked link) count rows)) ≡ queue to_count to rows ++ queue count link rows
+queue_settled count to_count link to rows other order last none =
+    let a = acknowledged link count rows in
+    let mid = turned (is_unacked link) (Acked link) count rows in
+    let m = moved_to link to mid other in
+    let u = a.others to other in
+    rw (m.unack_same, m.wait_is, m.held_same, u.unack_same, u.wait_same, u.held_same, none, a.on_is order last)
+    (joins_waiting (drop to_count (unack to rows)) (wait to rows) (map (with_fate (Waiting to)) (drop count (unack link rows) ++ wait link rows ++ held link rows))
+    ∙ ap (λ (ms : List Message). messages (drop to_count (unack to rows) ++ wait to rows ++ []) ++ ms) (same_messages (Waiting to) (drop count (unack link rows) ++ wait link rows ++ held link rows)))
+
+pub aside_settled : (count link : ℕ) (rows : List Row) → IsInOrder link rows → IsHeldLast link rows → messages (parked (moved (is_on link) (all_with Parked) (turned (is_unacked link) (Acked link) count rows))) ≡ messages (parked rows) ++ queue count link rows
+aside_settled count link rows order last =
+    let a = acknowledged link count rows in
+    let mid = turned (is_unacked link) (Acked link) count rows in
+    ap messages ((moved_aside link mid).parked_is ∙ rw (a.parked_same, a.on_is order last) refl)
+    ∙ joined (parked rows) (map (with_fate Parked) (drop count (unack link rows) ++ wait link rows ++ held link rows))
+    ∙ ap (λ (ms : List Message). messages (parked rows) ++ ms) (same_messages Parked (drop count (unack link rows) ++ wait link rows ++ held link rows))
+
+-- A LINK COMES UP: what stood aside waits for it
+pub queue_rises : (count link : ℕ) (rows : List Row) → held link rows ≡ [] → queue count link (moved is_parked (all_with (Waiting link)) rows) ≡ queue count link rows ++ messages (parked rows)
+queue_rises count link rows none =
+    let u = unparked link rows in
+    rw (u.unack_same, u.wait_is, u.held_same, none)
+    (joins_waiting (drop count (unack link rows)) (wait link rows) (map (with_fate (Waiting link)) (parked rows))
+    ∙ ap (λ (ms : List Message). messages (drop count (unack link rows) ++ wait link rows ++ []) ++ ms) (same_messages (Waiting link) (parked rows)))
+
+-- and the messages that wait for the target are those that did, and then its queue
+pub wait_settled : (count link to : ℕ) (rows : List Row) → (link == to) ≡ false → IsInOrder link rows → IsHeldLast link rows → messages (wait to (moved (is_on link) (all_with (Waiting to)) (turned (is_unacked link) (Acked link) count rows))) ≡ messages (wait to rows) ++ queue count link rows
+wait_settled count link to rows other order last =
+    let a = acknowledged link count rows in
+    let mid = turned (is_unacked link) (Acked link) count rows in
+    ap messages ((moved_to link to mid other).wait_is ∙ rw ((a.others to other).wait_same, a.on_is order last) refl)
+    ∙ joined (wait to rows) (map (with_fate (Waiting to)) (drop count (unack link rows) ++ wait link rows ++ held link rows))
+    ∙ ap (λ (ms : List Message). messages (wait to rows) ++ ms) (same_messages (Waiting to) (drop count (unack link rows) ++ wait link rows ++ held link rows))
