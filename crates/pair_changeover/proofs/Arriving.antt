@@ -75,16 +75,16 @@ module _ (mx my : Method) (one : IsOneMethod mx my) (p : Two) (h : HoldsOf mx my
   abbrev pub heard : Two
   heard = record p { near = then_near; near_past = heard_past; back = with_units k rest p.back }
 
-  state_is : then_near ≡ (hearing.taken mx my one p h w.both k few unit rest front link at).state
+  pub state_is : then_near ≡ (hearing.taken mx my one p h w.both k few unit rest front link at).state
   state_is = ap (λ (o : Outcome). o.state) (moving.event_is mx my one p h k few unit rest front link at)
 
-  does : hearing.Hears mx my one p h w.both k few unit rest front link at
+  pub does : hearing.Hears mx my one p h w.both k few unit rest front link at
   does = hearing.hears mx my one p h w.both k few unit rest front link at
 
   acks : Rattle.set_model.proofs.Events.Acknowledged k (hearing.part mx my one p h w.both k few unit rest front link at).acked p.near.rows mid.rows
   acks = acknowledged k (hearing.part mx my one p h w.both k few unit rest front link at).acked p.near.rows
 
-  mid_sound : IsSound mid
+  pub mid_sound : IsSound mid
   mid_sound = sounds.hears_sound k link p.near at h.near_sound unit
 
   mid_all : (P : ℕ → Option LinkState → Option LinkState → Type 0) → P k (Some link) (Some (hearing.mid_link mx my one p h w.both k few unit rest front link at)) → ((l : ℕ) (o : Option LinkState) → (k == l) ≡ false → P l o o) → (l : ℕ) → P l (slice_get p.near.links l) (slice_get mid.links l)

@@ -251,12 +251,15 @@ module _ (k : ℕ) (link link' : LinkState) (s t : State) (there : slice_get s.l
       go false e = subst (λ (o : Option LinkState). P l (slice_get s.links l) o) (sym (other_then l e)) (other l (slice_get s.links l) e)
 
 -- IT IS LEFT
+pub leaves_queues : (blind : Bool) (k : ℕ) (link : LinkState) (s f : State) → IsAt k link Up s → (l : ℕ) → pending l (left_by blind k link s) f ≡ pending l s f
+leaves_queues blind k link s f at l = ap (λ (n : ℕ). queue (accepted_on l f - n) l s.rows) (by_link k link (left_link blind link) s (left_by blind k link s) at.there refl (λ n old new. acked_of new ≡ acked_of old) refl (λ n old d. refl) l)
+
 pub leaves_acts : (blind : Bool) (k : ℕ) (link : LinkState) (s f : State) → IsAt k link Up s → Acts s (left_by blind k link s) f
 leaves_acts blind k link s f at =
     let t = left_by blind k link s in
     let all = by_link k link (left_link blind link) s t at.there refl in
     record {
-      came = λ l m among. stayed (subst (λ (n : ℕ). Among m (queue (accepted_on l f - n) l s.rows)) (all (λ n old new. acked_of new ≡ acked_of old) refl (λ n old d. refl) l) among);
+      came = λ l m among. stayed (subst (λ (q : List Message). Among m q) (leaves_queues blind k link s f at l) among);
       came_aside = λ m among. was_in (stands_aside among);
       up_less = λ l up. all (λ n old new. link_is_up new ≡ true → link_is_up old ≡ true) (λ e. absurd cc) (λ n old d e. e) l up;
       settled_more = λ l settled. inl (all (λ n old new. link_is_settled new ≡ true → link_is_settled old ≡ true) (λ e. absurd cc) (λ n old d e. e) l settled);

@@ -13,7 +13,7 @@ use Rattle.set_model.specs.declared.phase.Phase.{Phase}
 use Rattle.set_model.specs.declared.phase.Phase.TheVariants.{Up, Down, Settled}
 use Rattle.set_model.specs.declared.reached.Reached.TheVariants.{Upto}
 use Rattle.set_model.specs.Changeover.{Obeyed, ignored, order_obeyed, at_link, changed_over, answered, obeyed}
-use Rattle.set_model.specs.Rows.{Row, unack, service_indicator, IsNumbered}
+use Rattle.set_model.specs.Rows.{Row, unack, parked, service_indicator, IsNumbered}
 use Rattle.set_model.specs.Sound.{IsSound}
 use Rattle.set_model.specs.State.{LinkState, State, is_up, is_settled, link_is_up, link_is_settled, has_phase_up, has_phase_settled, window_of}
 use Rattle.set_model.specs.Step.{brought, takes, is_msu, one_if}
@@ -27,11 +27,11 @@ use Rattle.pair_model.proofs.Hearing as hearing
 use Rattle.pair_model.proofs.Kept.{past_of, kept_on, kept_tied}
 use Rattle.pair_model.proofs.Pairs.{Two, side, HoldsOf}
 use Rattle.pair_model.proofs.Tied.{Side, Tied, turned}
-use Rattle.pair_changeover.proofs.Changes.{Both, Acts, acts, other_then}
+use Rattle.pair_changeover.proofs.Changes.{Both, Acts, acts, by_link, other_then}
 use Rattle.pair_changeover.proofs.Obeying.{Told, Heard, Obeys, keeps, settles, answers}
 use Rattle.pair_changeover.proofs.Passing.{passing, far_stays, far_loses, was_first}
-use Rattle.pair_changeover.proofs.Reaching.{Reaches, reaches, Due, due, not_queued, not_aside}
-use Rattle.pair_changeover.proofs.Table.{queue_acked}
+use Rattle.pair_changeover.proofs.Reaching.{Reaches, reaches, Due, due, due_message, not_queued, not_aside}
+use Rattle.pair_changeover.proofs.Table.{queue_acked, queue_untouched}
 use Rattle.pair_changeover.proofs.Views.{View, view, pending, queue, acked_of, acked_on, accepted_of, accepted_on, Among, In, stands_on, stands_aside, About, NoneAbout, Tells}
 
 unsettled_up : (a b : Bool) → (a ≡ true → b ≡ false) → b ≡ true → a ≡ false
@@ -94,7 +94,7 @@ module _ (mx my : Method) (one : IsOneMethod mx my) (p : Two) (h : HoldsOf mx my
   back_reaches : Reaches k far_at.0 p.far p.near (p.far_past.sent k)
   back_reaches = reaches k (past_of y) (past_of x) p.far p.near (kept_tied k my mx (one_back mx my one) y x (unit ∷ rest) (units_on k p.out) h.far_sound.numbered (turned k mx my x y (units_on k p.out) (unit ∷ rest) tied)) far_at.0 far_at.1 far_unsettled link at.there
 
-  counted : link.accepted ≡ length x.taken
+  pub counted : link.accepted ≡ length x.taken
   counted = (kept_tied k my mx (one_back mx my one) y x (unit ∷ rest) (units_on k p.out) h.far_sound.numbered (turned k mx my x y (units_on k p.out) (unit ∷ rest) tied)).accepted link at.there
 
   mid_at : IsAt k mid_link Up mid
@@ -110,8 +110,16 @@ module _ (mx my : Method) (one : IsOneMethod mx my) (p : Two) (h : HoldsOf mx my
   heard_acts : ((l : ℕ) (m : Message) → Among m (pending l p.far mid) → Among m (pending l p.far p.near)) → Acts p.near mid p.far
   heard_acts far_came = passing k link mid_link p.near mid p.far at refl at.phase_is (queue_acked (accepted_on k p.far) link.acked part.acked k p.near.rows acked_due) (acknowledged k part.acked p.near.rows).others (acknowledged k part.acked p.near.rows).parked_same far_came
 
+  pub heard_queues : (l : ℕ) → pending l mid p.far ≡ pending l p.near p.far
+  heard_queues = by_link k link mid_link p.near mid at.there refl (λ n old new. queue (accepted_on n p.far - acked_of new) n mid.rows ≡ queue (accepted_on n p.far - acked_of old) n p.near.rows)
+      (queue_acked (accepted_on k p.far) link.acked part.acked k p.near.rows acked_due)
+      (λ n old d. queue_untouched (accepted_on n p.far - acked_of old) n p.near.rows mid.rows ((acknowledged k part.acked p.near.rows).others n d))
+
+  pub heard_aside : parked mid.rows ≡ parked p.near.rows
+  heard_aside = (acknowledged k part.acked p.near.rows).parked_same
+
   -- NO BODY IS ACCEPTED
-  none_counted : brought part.accept unit ≡ None → one_if part.accept ≡ 0
+  pub none_counted : brought part.accept unit ≡ None → one_if part.accept ≡ 0
   none_counted e = let many = hearing.took_many link.control (window_of k link p.near.rows) unit mid in sym (rw e at many)
 
   module _ (e : brought part.accept unit ≡ None) where
@@ -137,27 +145,37 @@ module _ (mx my : Method) (one : IsOneMethod mx my) (p : Two) (h : HoldsOf mx my
     took_it : taken_by taken.took (body_in unit) ≡ body ∷ []
     took_it = ap (λ (b : List ℕ). taken_by taken.took b) is_body ∙ rw e (hearing.took_some body mid)
 
-    one_more : mid_link.accepted ≡ suc link.accepted
+    pub one_more : mid_link.accepted ≡ suc link.accepted
     one_more =
         let many = hearing.took_many link.control (window_of k link p.near.rows) unit mid in
         let one = ap length took_it in
         omega (arith, many, one)
 
-    next_due : Due k (link.accepted - acked_on k p.far) body p.far.rows
+    far_acked : acked_on k p.far ≡ far_at.0.acked
+    far_acked = ap acked_of far_at.1
+
+    far_unacked : messages (unack k p.far.rows) ≡ drop (acked_on k p.far) y.sent
+    far_unacked = back_reaches.unacked ∙ ap (λ (n : ℕ). drop n y.sent) (sym far_acked)
+
+    far_few : acked_on k p.far ≤ length x.taken
+    far_few = let d = back_reaches.due in let c : accepted_on k p.near ≡ link.accepted = ap accepted_of at.there in omega (arith, d, c, far_acked, counted)
+
+    pub next_due : Due k (link.accepted - acked_on k p.far) body p.far.rows
     next_due =
         let prefix : x.taken ++ body ∷ [] ≡ take (length (x.taken ++ body ∷ [])) (bodies y.sent) = rw took_it at (kept_back.prefix) in
-        let acked_is : acked_on k p.far ≡ far_at.0.acked = ap acked_of far_at.1 in
-        let few_acked : acked_on k p.far ≤ length x.taken = (let d = back_reaches.due in let c : accepted_on k p.near ≡ link.accepted = ap accepted_of at.there in omega (arith, d, c, acked_is, counted)) in
-        let unacked : messages (unack k p.far.rows) ≡ drop (acked_on k p.far) y.sent = back_reaches.unacked ∙ ap (λ (n : ℕ). drop n y.sent) (sym acked_is) in
-        subst (λ (n : ℕ). Due k (n - acked_on k p.far) body p.far.rows) (sym counted) (due k (acked_on k p.far) p.far.rows y.sent x.taken body unacked few_acked prefix)
+        subst (λ (n : ℕ). Due k (n - acked_on k p.far) body p.far.rows) (sym counted) (due k (acked_on k p.far) p.far.rows y.sent x.taken body far_unacked far_few prefix)
 
     far_due : acked_on k p.far ≤ link.accepted
     far_due = let d = back_reaches.due in let c : accepted_on k p.near ≡ link.accepted = ap accepted_of at.there in let a : acked_on k p.far ≡ far_at.0.acked = ap acked_of far_at.1 in omega (arith, d, c, a)
 
-    abbrev first : Message
+    abbrev pub first : Message
     first = record { number = next_due.row.number; body = next_due.row.body }
 
-    first_is : pending k p.far p.near ≡ first ∷ pending k p.far mid
+    -- the message at its place among those that were sent
+    pub first_sent : slice_get y.sent (length x.taken) ≡ Some first
+    first_sent = due_message k (acked_on k p.far) p.far.rows y.sent (length x.taken) next_due.row far_unacked far_few (ap (λ (n : ℕ). slice_get (unack k p.far.rows) (n - acked_on k p.far)) (sym counted) ∙ next_due.there)
+
+    pub first_is : pending k p.far p.near ≡ first ∷ pending k p.far mid
     first_is = was_first k link mid_link p.near mid p.far at.there refl one_more next_due.row far_due next_due.there
 
     far_came : (l : ℕ) (m : Message) → Among m (pending l p.far mid) → Among m (pending l p.far p.near)
@@ -244,20 +262,20 @@ module _ (mx my : Method) (one : IsOneMethod mx my) (p : Two) (h : HoldsOf mx my
     coo_obeyed l fsn is state there Settled e = absurd (let no : true ≡ false = sym (ap has_phase_settled e) ∙ going_at (Coo l fsn) is state there in cc)
 
     coa_obeyed : (l fsn : ℕ) (is : order_of body ≡ Some (Coa l fsn)) (state : LinkState) → slice_get mid.links l ≡ Some state → (phase : Phase) → state.phase ≡ phase → Obeys k mid p.far (answered (Upto fsn) l state phase mid).state
-    coa_obeyed l fsn is state there Up e = keeps mid refl refl
+    coa_obeyed l fsn is state there Up e = keeps mid refl refl refl
     coa_obeyed l fsn is state there Down e = settles fsn l state (other (Coa l fsn) is) (record { there = there; phase_is = e }) (told_then (Coa l fsn) is fsn (tells (Coa l fsn) is) state (sym (same_link (Coa l fsn) is) ∙ there) (going_at (Coa l fsn) is state there)) (heard (Coa l fsn) is)
-    coa_obeyed l fsn is state there Settled e = keeps mid refl refl
+    coa_obeyed l fsn is state there Settled e = keeps mid refl refl refl
 
     order_is_obeyed : (order : Order) → order_of body ≡ Some order → Obeys k mid p.far (order_obeyed order mid).state
     order_is_obeyed (Coo l fsn) is = go (slice_get mid.links l) refl
       where
         go : (there : Option LinkState) → slice_get mid.links l ≡ there → Obeys k mid p.far (at_link l mid (λ state. changed_over (Upto fsn) l state state.phase mid) there).state
-        go None e = keeps mid refl refl
+        go None e = keeps mid refl refl refl
         go (Some state) e = coo_obeyed l fsn is state e state.phase refl
     order_is_obeyed (Coa l fsn) is = go (slice_get mid.links l) refl
       where
         go : (there : Option LinkState) → slice_get mid.links l ≡ there → Obeys k mid p.far (at_link l mid (λ state. answered (Upto fsn) l state state.phase mid) there).state
-        go None e = keeps mid refl refl
+        go None e = keeps mid refl refl refl
         go (Some state) e = coa_obeyed l fsn is state e state.phase refl
     order_is_obeyed (Cbd l code) is = absurd (tells (Cbd l code) is)
     order_is_obeyed (Cba l code) is = absurd (tells (Cba l code) is)
@@ -268,12 +286,12 @@ module _ (mx my : Method) (one : IsOneMethod mx my) (p : Two) (h : HoldsOf mx my
     some_obeyed = rw e (go (service_indicator body == 0) refl)
       where
         obeyed_so : (order : Option Order) → order_of body ≡ order → Obeys k mid p.far (obeyed order mid).state
-        obeyed_so None g = keeps mid refl refl
+        obeyed_so None g = keeps mid refl refl refl
         obeyed_so (Some order) g = order_is_obeyed order g
 
         go : (b : Bool) → (service_indicator body == 0) ≡ b → Obeys k mid p.far (takes (Some body) mid).state
         go true g = rw g (obeyed_so (order_of body) refl)
-        go false g = rw g (keeps _ refl refl)
+        go false g = rw g (keeps _ refl refl refl)
 
   -- EITHER WAY
   pub record Hears : Type 0 where
@@ -284,5 +302,5 @@ module _ (mx my : Method) (one : IsOneMethod mx my) (p : Two) (h : HoldsOf mx my
   hears = go (brought part.accept unit) refl
     where
       go : (body : Option (List ℕ)) → brought part.accept unit ≡ body → Hears
-      go None e = record { both = none_both e; obeys = subst (Obeys k mid p.far) (sym (none_taken e)) (keeps mid refl refl) }
+      go None e = record { both = none_both e; obeys = subst (Obeys k mid p.far) (sym (none_taken e)) (keeps mid refl refl refl) }
       go (Some body) e = record { both = some_both body e; obeys = some_obeyed body e }

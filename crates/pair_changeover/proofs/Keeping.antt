@@ -25,10 +25,10 @@ use Rattle.set_model.proofs.SoundLink.{leaves}
 use Rattle.set_model.proofs.Walk.{IsAt}
 use Rattle.pair_changeover.proofs.Changes.{Both, acts, acts_none, stands_still, offers_acts, IsNew, to_wait, to_hold, to_park, held_none, queues_both, by_link, own_then}
 use Rattle.pair_changeover.proofs.Obeying.{left_acts, below, not_settled, not_discarded}
-use Rattle.pair_changeover.proofs.Passing.{passing, far_stays}
+use Rattle.pair_changeover.proofs.Passing.{passing, passing_queues, far_stays}
 use Rattle.pair_changeover.proofs.Table.{queue_sent}
 use Rattle.pair_changeover.proofs.Texts.{AreCodes, coo_read}
-use Rattle.pair_changeover.proofs.Views.{queue, acked_of, acked_on, accepted_of, accepted_on}
+use Rattle.pair_changeover.proofs.Views.{queue, pending, acked_of, acked_on, accepted_of, accepted_on}
 
 pub record Keeps (s t f : State) : Type 0 where
   pub both : Both s f → Both t f
@@ -57,7 +57,7 @@ plain_body (sio ∷ a ∷ b ∷ c ∷ []) e = refl
 plain_body (sio ∷ a ∷ b ∷ c ∷ slc ∷ []) e = refl
 plain_body (sio ∷ a ∷ b ∷ c ∷ slc ∷ code ∷ content) e = rw e refl
 
-users_body : (rows : List Row) (body : List ℕ) → offer_refusal rows body ≡ None → (service_indicator body == 0) ≡ false
+pub users_body : (rows : List Row) (body : List ℕ) → offer_refusal rows body ≡ None → (service_indicator body == 0) ≡ false
 users_body rows body e = go (nat_lt (length body) 5) (nat_lt 273 (length body)) (service_indicator body == 0) (nat_le 1024 (length (unsent (stream_of body) rows))) e
   where
     go : (a b c d : Bool) → ◌≡◌ {A = Option SetRefusal} (cond a (Some TooShort) (cond b (Some TooLong) (cond c (Some Reserved) (cond d (Some StreamFull) None)))) None → c ≡ false
@@ -188,6 +188,23 @@ sent_unmoved k count link s sound at few first =
       parked_same = does.parked_same;
       discards = turned_same (is_waiting k) was_discarded (Unacked k) refl (λ fate e. waiting_not_discarded k fate e) 1 s.rows;
     }
+
+-- no queue changes, nor what is aside
+pub next_queues : (k : ℕ) (link : LinkState) (s f : State) → IsSound s → IsAt k link Up s → accepted_on k f - link.acked ≤ length (unack k s.rows) → (l : ℕ) → pending l (next k s link).state f ≡ pending l s f
+next_queues k link s f sound at few =
+    let choice = choice_of (octets_in (unack k s.rows)) link.control (window_of k link s.rows) in
+    let link' : LinkState = record link { control = control_after choice (octets_in (unack k s.rows)) link.control (window_of k link s.rows) } in
+    let t = (next k s link).state in
+    let u = sent_unmoved k (accepted_on k f - link.acked) link s sound at few choice in
+    passing_queues k link link' s t f at refl at.phase_is u.own u.others u.parked_same (far_stays k link link' s t f at.there refl refl)
+
+pub next_aside : (k : ℕ) (link : LinkState) (s : State) → parked (next k s link).state.rows ≡ parked s.rows
+next_aside k link s = go (choice_of (octets_in (unack k s.rows)) link.control (window_of k link s.rows))
+  where
+    go : (choice : Choice) → parked (rows_sent choice k s.rows) ≡ parked s.rows
+    go (again place) = refl
+    go first = (sent k s.rows).parked_same
+    go fill = refl
 
 pub next_keeps : (k : ℕ) (link : LinkState) (s f : State) → IsSound s → IsAt k link Up s → accepted_on k f - link.acked ≤ length (unack k s.rows) → Keeps s (next k s link).state f
 next_keeps k link s f sound at few =

@@ -55,7 +55,7 @@ abbrev pub left_and_told : ℕ → LinkState → State → State
 left_and_told l link s = queued (Coa l (last_accepted link)) (left_by false l link s)
 
 pub data Obeys (k : ℕ) (s f : State) : State → Type 0 where
-  keeps : (t : State) → t.rows ≡ s.rows → t.links ≡ s.links → Obeys k s f t
+  keeps : (t : State) → t.rows ≡ s.rows → t.links ≡ s.links → t.routing ≡ s.routing → Obeys k s f t
   settles : (fsn l : ℕ) (link : LinkState) → (k == l) ≡ false → IsAt l link Down s → Told fsn l link s f → Heard l s f → Obeys k s f (settled (Upto fsn) l link s)
   answers : (fsn l : ℕ) (link : LinkState) → (k == l) ≡ false → IsAt l link Up s → Told fsn l link s f → Heard l s f → Obeys k s f (settled (Upto fsn) l (left_link false link) (left_and_told l link s))
 
@@ -235,20 +235,20 @@ pub record Moved (k n : ℕ) (s f t : State) : Type 0 where
 
 module _ (k : ℕ) (s f : State) (sound : IsSound s) (codes : AreCodes s.settings) (o : Both s f) where
   pub obeys_both : (t : State) → Obeys k s f t → Both t f
-  obeys_both t (keeps _ rows links) = acts s t f (stands_still s t f rows links) o
+  obeys_both t (keeps _ rows links routing) = acts s t f (stands_still s t f rows links) o
   obeys_both _ (settles fsn l link other at told_so heard) = settles_both fsn l link s f sound at told_so o heard
   obeys_both _ (answers fsn l link other at told_so heard) =
       settles_both fsn l (left_link false link) (told l link s f sound codes at) f (told_sound l link s f sound codes at) (told_at l link s f sound codes at) (told_still l link s f sound codes at fsn told_so) (told_both l link s f sound codes at o) (told_heard l link s f sound codes at heard)
 
   pub obeys_equal : ((n : ℕ) → is_settled n s ≡ true → acked_on n s ≡ accepted_on n f) → (t : State) → Obeys k s f t → (n : ℕ) → is_settled n t ≡ true → acked_on n t ≡ accepted_on n f
-  obeys_equal equal t (keeps _ rows links) n e = ap (λ (ls : List LinkState). acked_of (slice_get ls n)) links ∙ equal n (ap (λ (ls : List LinkState). link_is_settled (slice_get ls n)) (sym links) ∙ e)
+  obeys_equal equal t (keeps _ rows links routing) n e = ap (λ (ls : List LinkState). acked_of (slice_get ls n)) links ∙ equal n (ap (λ (ls : List LinkState). link_is_settled (slice_get ls n)) (sym links) ∙ e)
   obeys_equal equal _ (settles fsn l link other at told_so heard) n e = settles_equal fsn l link s f sound at told_so n (equal n) e
   obeys_equal equal _ (answers fsn l link other at told_so heard) n e =
       settles_equal fsn l (left_link false link) (told l link s f sound codes at) f (told_sound l link s f sound codes at) (told_at l link s f sound codes at) (told_still l link s f sound codes at fsn told_so) n
       (by_link l link (left_link false link) s (left_by false l link s) at.there refl (λ m old new. (link_is_settled old ≡ true → acked_of old ≡ accepted_on m f) → link_is_settled new ≡ true → acked_of new ≡ accepted_on m f) (λ before g. absurd cc) (λ m old d before g. before g) n (equal n)) e
 
   pub obeys_discards : (t : State) → Obeys k s f t → standing was_discarded t.rows ≡ standing was_discarded s.rows
-  obeys_discards t (keeps _ rows links) = ap (standing was_discarded) rows
+  obeys_discards t (keeps _ rows links routing) = ap (standing was_discarded) rows
   obeys_discards _ (settles fsn l link other at told_so heard) = settles_discards fsn l link s f sound at told_so
   obeys_discards _ (answers fsn l link other at told_so heard) =
       settles_discards fsn l (left_link false link) (told l link s f sound codes at) f (told_sound l link s f sound codes at) (told_at l link s f sound codes at) (told_still l link s f sound codes at fsn told_so)
@@ -258,7 +258,7 @@ module _ (k : ℕ) (s f : State) (sound : IsSound s) (codes : AreCodes s.setting
   MovedAt t n = is_settled n s ≡ false → is_settled n t ≡ true → Moved k n s f t
 
   pub obeys_moves : (t : State) → Obeys k s f t → (n : ℕ) → MovedAt t n
-  obeys_moves t (keeps _ rows links) n e g = absurd (let no : false ≡ true = sym e ∙ ap (λ (ls : List LinkState). link_is_settled (slice_get ls n)) (sym links) ∙ g in cc)
+  obeys_moves t (keeps _ rows links routing) n e g = absurd (let no : false ≡ true = sym e ∙ ap (λ (ls : List LinkState). link_is_settled (slice_get ls n)) (sym links) ∙ g in cc)
   obeys_moves _ (settles fsn l link other at told_so heard) n e g =
       let t = settled (Upto fsn) l link s in
       let same : l ≡ n = settles_alone fsn l link s f sound at told_so n e g in
@@ -289,7 +289,7 @@ module _ (k : ℕ) (s f : State) (sound : IsSound s) (codes : AreCodes s.setting
 
   -- nothing is accepted by it
   pub obeys_accepted : (t : State) → Obeys k s f t → (n : ℕ) → accepted_on n t ≡ accepted_on n s
-  obeys_accepted t (keeps _ rows links) n = ap (λ (ls : List LinkState). accepted_of (slice_get ls n)) links
+  obeys_accepted t (keeps _ rows links routing) n = ap (λ (ls : List LinkState). accepted_of (slice_get ls n)) links
   obeys_accepted _ (settles fsn l link other at told_so heard) n = settles_accepted fsn l link s f sound at told_so n
   obeys_accepted _ (answers fsn l link other at told_so heard) n =
       settles_accepted fsn l (left_link false link) (told l link s f sound codes at) f (told_sound l link s f sound codes at) (told_at l link s f sound codes at) (told_still l link s f sound codes at fsn told_so) n

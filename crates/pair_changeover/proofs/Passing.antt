@@ -25,9 +25,13 @@ module _ (k : ℕ) (link link' : LinkState) (s t f : State) (at : IsAt k link Up
   all : (P : ℕ → Option LinkState → Option LinkState → Type 0) → P k (Some link) (Some link') → ((l : ℕ) (o : Option LinkState) → (k == l) ≡ false → P l o o) → (l : ℕ) → P l (slice_get s.links l) (slice_get t.links l)
   all = by_link k link link' s t at.there links
 
+  -- no queue of this end changes
+  pub passing_queues : (l : ℕ) → pending l t f ≡ pending l s f
+  passing_queues = all (λ n old new. queue (accepted_on n f - acked_of new) n t.rows ≡ queue (accepted_on n f - acked_of old) n s.rows) own (λ n old d. queue_untouched (accepted_on n f - acked_of old) n s.rows t.rows (others n d))
+
   pub passing : Acts s t f
   passing = record {
-    came = λ l m among. stayed (subst (λ (q : List Message). Among m q) (all (λ n old new. queue (accepted_on n f - acked_of new) n t.rows ≡ queue (accepted_on n f - acked_of old) n s.rows) own (λ n old d. queue_untouched (accepted_on n f - acked_of old) n s.rows t.rows (others n d)) l) among);
+    came = λ l m among. stayed (subst (λ (q : List Message). Among m q) (passing_queues l) among);
     came_aside = λ m among. was_in (stands_aside (subst (λ (q : List Message). Among m q) (ap messages parked_same) among));
     up_less = λ l e. all (λ n old new. link_is_up new ≡ true → link_is_up old ≡ true) (λ g. was_up) (λ n old d g. g) l e;
     settled_more = λ l e. inl (all (λ n old new. link_is_settled new ≡ true → link_is_settled old ≡ true) (λ g. absurd (let no : false ≡ true = ap has_phase_settled (sym up) ∙ g in cc)) (λ n old d g. g) l e);
@@ -126,7 +130,33 @@ module _ (fsn n : ℕ) (link : LinkState) (s f : State) (sound : IsSound s) (at 
       let own = sound.links n link at.there in
       aside_settled count n s.rows own.in_order own.held_last
 
-  -- where its end and no order about it is pending there any more
+  -- its own, the target's, and the others'
+  pub gone : (k : ℕ) → queue k n after.rows ≡ []
+  gone k = ap (λ (rows : List Row). queue k n rows) rows_then ∙ left_none k (target s.links) refl
+
+  counts_stay : (l : ℕ) → (n == l) ≡ false → acked_on l after ≡ acked_on l s
+  counts_stay l d = ap acked_of (other_then n link link_then s after at.there links_then l d)
+
+  pub settles_to : (to : ℕ) → target s.links ≡ Some to → pending to after f ≡ pending to s f ++ pending n s f
+  settles_to to e =
+      ap (λ (i : ℕ). queue (accepted_on to f - i) to after.rows) (counts_stay to (no_own to e))
+      ∙ ap (λ (rows : List Row). queue (accepted_on to f - acked_on to s) to rows) (rows_then ∙ ap (λ (t : Option ℕ). there_then t) e)
+      ∙ joins_target (accepted_on to f - acked_on to s) to e
+      ∙ ap (λ (q : List Message). pending to s f ++ q) (sym own_pending)
+
+  pub settles_apart : (l : ℕ) → (n == l) ≡ false → is_on l (fate_on (target s.links)) ≡ false → pending l after f ≡ pending l s f
+  settles_apart l d off =
+      ap (λ (i : ℕ). queue (accepted_on l f - i) l after.rows) (counts_stay l d)
+      ∙ ap (λ (rows : List Row). queue (accepted_on l f - acked_on l s) l rows) rows_then
+      ∙ others_stay (accepted_on l f - acked_on l s) l (target s.links) refl d off
+
+  pub settles_aside : target s.links ≡ None → aside after ≡ aside s ++ pending n s f
+  settles_aside e = ap (λ (rows : List Row). messages (parked rows)) (rows_then ∙ ap (λ (t : Option ℕ). there_then t) e) ∙ joins_aside ∙ ap (λ (q : List Message). aside s ++ q) (sym own_pending)
+
+  pub settles_none_aside : (to : ℕ) → target s.links ≡ Some to → aside after ≡ aside s
+  settles_none_aside to e = ap (λ (rows : List Row). messages (parked rows)) (rows_then ∙ ap (λ (t : Option ℕ). there_then t) e) ∙ ap messages ((moved_to n to mid (no_own to e)).parked_same ∙ (acknowledged n count s.rows).parked_same)
+
+  -- where its end left it and no order about it is pending there any more
   module _ (o : Both s f) (far_down : is_up n f ≡ false) (none : NoneAbout n (view f s)) where
     all_links : (P : ℕ → Option LinkState → Option LinkState → Type 0) → P n (Some link) (Some link_then) → ((l : ℕ) (old : Option LinkState) → (n == l) ≡ false → P l old old) → (l : ℕ) → P l (slice_get s.links l) (slice_get after.links l)
     all_links = by_link n link link_then s after at.there links_then
@@ -147,9 +177,6 @@ module _ (fsn n : ℕ) (link : LinkState) (s f : State) (sound : IsSound s) (at 
             let stood : In x (view s f) = stands_on n (subst (λ (q : List Message). Among x q) (sym own_pending) a) in
             let up = target_up s.links to e in
             moved stood (λ about. o.near.none_up to (ap link_is_up up.1 ∙ up.2) x stood about)
-
-    gone : (k : ℕ) → queue k n after.rows ≡ []
-    gone k = ap (λ (rows : List Row). queue k n rows) rows_then ∙ left_none k (target s.links) refl
 
     came_at : (l : ℕ) → At l (pending l after f)
     came_at l m among = go (n == l) refl

@@ -7,7 +7,7 @@ use Rattle.set_events.specs.declared.answer.Fate.TheVariants.{Waiting, Unacked, 
 use Rattle.set_model.specs.Rows.{Row, is_unacked, is_waiting, is_held, is_parked, standing, unack, wait, held, parked, row_of, IsNumbered}
 use Rattle.set_model.specs.State.{LinkState, State, has_phase_settled}
 use Rattle.set_model.proofs.Finding.{with_number}
-use Rattle.set_model.proofs.Lists.{at_map}
+use Rattle.set_model.proofs.Lists.{at_map, map_at}
 use Rattle.set_model.proofs.Lookups.{at_most_one, row_in_filter}
 use Rattle.pair_model.specs.Promises.{IsKeptOn}
 use Rattle.pair_model.specs.Run.{Message, Past, messages, bodies}
@@ -68,6 +68,11 @@ pub record Due (l count : ℕ) (body : List ℕ) (rows : List Row) : Type 0 wher
   pub row : Row
   pub there : slice_get (unack l rows) count ≡ Some row
   pub body_is : row.body ≡ body
+
+pub due_message : (l acked : ℕ) (rows : List Row) (sent : List Message) (count : ℕ) (row : Row) → messages (unack l rows) ≡ drop acked sent → acked ≤ count → slice_get (unack l rows) (count - acked) ≡ Some row → slice_get sent count ≡ Some (record { number = row.number; body = row.body })
+due_message l acked rows sent count row unacked few there =
+    sym (get_drop acked count sent few) ∙ ap (λ (ms : List Message). slice_get ms (count - acked)) (sym unacked)
+    ∙ map_at (λ (r : Row). record { number = r.number; body = r.body }) (unack l rows) (count - acked) row there
 
 pub due : (l acked : ℕ) (rows : List Row) (sent : List Message) (taken : List (List ℕ)) (body : List ℕ) → messages (unack l rows) ≡ drop acked sent → acked ≤ length taken → taken ++ body ∷ [] ≡ take (length (taken ++ body ∷ [])) (bodies sent) → Due l (length taken - acked) body rows
 due l acked rows sent taken body unacked few prefix =
@@ -130,7 +135,7 @@ row_among m [] a = absurd a
 row_among m (r ∷ rows) (inl e) = record { place = 0; row = r; there = refl; number_is = ap (λ (x : Message). x.number) e }
 row_among m (r ∷ rows) (inr a) = let w = row_among m rows a in record { place = suc w.place; row = w.row; there = w.there; number_is = w.number_is }
 
-get_rest : {X : Type 0} (n i : ℕ) (xs : List X) → slice_get (drop n xs) i ≡ slice_get xs (n + i)
+pub get_rest : {X : Type 0} (n i : ℕ) (xs : List X) → slice_get (drop n xs) i ≡ slice_get xs (n + i)
 get_rest zero i xs = let same : i ≡ 0 + i = omega arith in ap (slice_get xs) same
 get_rest (suc n) i [] = refl
 get_rest (suc n) i (x ∷ xs) = let same : suc (n + i) ≡ suc n + i = omega arith in get_rest n i xs ∙ ap (slice_get (x ∷ xs)) same

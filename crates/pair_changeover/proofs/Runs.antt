@@ -57,7 +57,7 @@ from_b g later step shown told d = record { whole = whole_back (seen B later) d.
     at B link before now = d.near link before now
 
 module _ (ma mb : Method) (one : IsOneMethod ma mb) where
-  abbrev Went' : Stage → Step → Outcome → Type 0
+  abbrev pub Went' : Stage → Step → Outcome → Type 0
   Went' g step outcome = OnShows outcome (λ shown new. Went g step shown (passed g step shown new))
 
   module _ (g : Stage) (h : Holds ma mb one g) (w : Whole (seen A g)) where
@@ -209,7 +209,7 @@ module _ (ma mb : Method) (one : IsOneMethod ma mb) where
     done_went (Together k) sound = together_went k
     done_went (Inject end k unit) sound = absurd sound
 
-  step_went : (g : Stage) → Holds ma mb one g → Whole (seen A g) → (step : Step) → IsSoundStep step → Went' g step (carried_out g.world step)
+  pub step_went : (g : Stage) → Holds ma mb one g → Whole (seen A g) → (step : Step) → IsSoundStep step → Went' g step (carried_out g.world step)
   unfolding carried_out
   step_went g h w step sound = done_went g h w step sound
 
@@ -268,10 +268,12 @@ first_half config other = record {
   codes = record { management = config.management; dpc = config.dpc_in_range; opc = config.opc_in_range };
 }
 
+pub whole_at_first : (a b : SetConfig) → Whole (seen A (begun a b))
+whole_at_first a b = record {
+  both = record { near = first_orders (settings_of a) (settings_of b); far = first_orders (settings_of b) (settings_of a) };
+  near = first_half a b;
+  far = first_half b a;
+}
+
 pub every_sound_run : (a b : SetConfig) (steps : List Step) → AreSteps IsAskedStep steps → IsSoundRun a b steps → ChangesOver (begun a b) steps
-every_sound_run a b steps asked sound =
-    along a.method b.method sound.one_method (begun a b) (at_first a b sound.links) (record {
-      both = record { near = first_orders (settings_of a) (settings_of b); far = first_orders (settings_of b) (settings_of a) };
-      near = first_half a b;
-      far = first_half b a;
-    }) steps sound.steps asked
+every_sound_run a b steps asked sound = along a.method b.method sound.one_method (begun a b) (at_first a b sound.links) (whole_at_first a b) steps sound.steps asked

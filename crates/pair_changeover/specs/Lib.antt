@@ -1,1 +1,2 @@
 pub mod Diverted
+pub mod Pending

@@ -91,7 +91,7 @@ kept_on mx my one p h l =
     record { prefix = k.prefix; accepted = k.accepted; going = k.going }
 
 -- AT FIRST
-settings_sound : (config : SetConfig) → IsSettings (settings_of config)
+pub settings_sound : (config : SetConfig) → IsSettings (settings_of config)
 settings_sound config = record { some_link = config.has_links; at_most_16 = config.links_in_range; managed = config.management }
 
 same_there : (n l : ℕ) (link other : LinkState) → slice_get (replicate n link) l ≡ Some other → other ≡ link
