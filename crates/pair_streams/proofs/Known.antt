@@ -1,0 +1,98 @@
+-- EVERY MESSAGE OF A USER THAT A SET HOLDS was offered there: whatever is asked, an own new row is an order.
+use Rattle.std.proofs.Common.{refl, arith, ◌≡◌, ◌≢◌, ◌∙◌, ap, sym, subst, ℕ, zero, suc, ◌<◌, ◌==◌, ◌%◌, Bool, true, false, List, [], ◌∷◌, ◌++◌, length, slice_get, Option, Some, None, ◌⊎◌, inl, inr}
+use Rattle.std.specs.Option.{option_map}
+use Rattle.std.proofs.lemmas.Bool.{eq-eqb, eqb-true}
+use Rattle.l3_orders.specs.declared.order.Order.{Order}
+use Rattle.l3_orders.specs.Grammar.{text}
+use Rattle.set_events.specs.declared.answer.Fate.{Fate}
+use Rattle.set_events.specs.declared.event.Event.{Event}
+use Rattle.set_events.specs.declared.event.Event.TheVariants.{Offer}
+use Rattle.set_model.specs.Changeover.{fate_on}
+use Rattle.l2_units.specs.Grammar.{head_of}
+use Rattle.set_model.specs.Control.{Choice, again, first, fill, choice_of, part_of}
+use Rattle.set_model.specs.Rows.{Row, is_on, all_with, appended, unack, octets_in, body_at, row_of, service_indicator, IsNumbered}
+use Rattle.set_model.specs.Sound.{IsManaged}
+use Rattle.set_model.specs.State.{LinkState, State, target, window_of}
+use Rattle.set_model.specs.Step.{is_msu, sends, step}
+use Rattle.set_model.proofs.Events.{acknowledged, sent, sent_given_up, waiting_given_up, unparked}
+use Rattle.set_model.proofs.Finding.{numbered_appended, new_row}
+use Rattle.set_model.proofs.Lookups.{body_moved}
+use Rattle.set_model.proofs.Moving.{moved_numbered}
+use Rattle.set_model.proofs.Walk.{KeptBy, step_walks}
+
+module _ (P : ℕ → List ℕ → Type 0) where
+  pub record Covers (s : State) : Type 0 where
+    pub managed : IsManaged s.settings
+    pub numbered : IsNumbered s.rows
+    pub known : (number : ℕ) (body : List ℕ) → body_at number s.rows ≡ Some body → (service_indicator body == 0) ≡ false → P number body
+
+  -- rows that keep their bodies
+  covers_kept : (s t : State) → t.settings ≡ s.settings → IsNumbered t.rows → ((number : ℕ) → body_at number t.rows ≡ body_at number s.rows) → Covers s → Covers t
+  covers_kept s t settings numbered bodies c = record {
+    managed = subst IsManaged (sym settings) c.managed;
+    numbered = numbered;
+    known = λ number body e users. c.known number body (sym (bodies number) ∙ e) users;
+  }
+
+  -- a new row has its own body
+  last_row : (number : ℕ) (row : Row) (rows : List Row) (body : List ℕ) → body_at number (rows ++ row ∷ []) ≡ Some body → (body_at number rows ≡ Some body) ⊎ ((row.number ≡ number) × (row.body ≡ body))
+  last_row number row [] body e = go (row.number == number) refl e
+    where
+      go : (b : Bool) → (row.number == number) ≡ b → body_at number (row ∷ []) ≡ Some body → (body_at number [] ≡ Some body) ⊎ ((row.number ≡ number) × (row.body ≡ body))
+      go true h e = let same : Some row.body ≡ Some body = rw h at e in inr (eqb-true row.number number h, cc)
+      go false h e = let no : None ≡ Some body = rw h at e in absurd cc
+  last_row number row (r ∷ rows) body e = go (r.number == number) refl e (λ f. last_row number row rows body f)
+    where
+      go : (b : Bool) → (r.number == number) ≡ b → body_at number ((r ∷ rows) ++ row ∷ []) ≡ Some body → (body_at number (rows ++ row ∷ []) ≡ Some body → (body_at number rows ≡ Some body) ⊎ ((row.number ≡ number) × (row.body ≡ body))) → (body_at number (r ∷ rows) ≡ Some body) ⊎ ((row.number ≡ number) × (row.body ≡ body))
+      go true h e later = inl (rw h (rw h at e))
+      go false h e later = cases (later (rw h at e))
+        where
+          cases : (body_at number rows ≡ Some body) ⊎ ((row.number ≡ number) × (row.body ≡ body)) → (body_at number (r ∷ rows) ≡ Some body) ⊎ ((row.number ≡ number) × (row.body ≡ body))
+          cases (inl f) = inl (rw h f)
+          cases (inr f) = inr f
+
+  pub covers_appended : (s t : State) (body : List ℕ) (fate : Fate) → t.settings ≡ s.settings → t.rows ≡ appended s.rows body fate → ((service_indicator body == 0) ≡ false → P (length s.rows) body) → Covers s → Covers t
+  covers_appended s t body fate settings rows new c = record {
+    managed = subst IsManaged (sym settings) c.managed;
+    numbered = rw rows (numbered_appended s.rows body fate c.numbered);
+    known = λ number other e users. go number other users (last_row number (new_row (length s.rows) body fate) s.rows other (ap (body_at number) (sym rows) ∙ e));
+  }
+    where
+      go : (number : ℕ) (other : List ℕ) → (service_indicator other == 0) ≡ false → (body_at number s.rows ≡ Some other) ⊎ ((length s.rows ≡ number) × (body ≡ other)) → P number other
+      go number other users (inl e) = c.known number other e users
+      go number other users (inr e) = subst (λ (n : ℕ). P n other) e.0 (subst (λ (b : List ℕ). P (length s.rows) b) e.1 (new (ap (λ (b : List ℕ). service_indicator b == 0) e.1 ∙ users)))
+
+  order_covers : (order : Order) (s t : State) (fate : Fate) → t.settings ≡ s.settings → t.rows ≡ appended s.rows (text order s.settings.sio s.settings.dpc s.settings.opc) fate → Covers s → Covers t
+  order_covers order s t fate settings rows c = covers_appended s t (text order s.settings.sio s.settings.dpc s.settings.opc) fate settings rows
+      (λ users. let own : (s.settings.sio % 16 == 0) ≡ true = eq-eqb (s.settings.sio % 16) 0 c.managed in let no : true ≡ false = sym own ∙ users in absurd cc) c
+
+  small : (Known : ℕ → Type 0) → KeptBy Known (λ s t. Covers s → Covers t)
+  small Known = record {
+    same = λ s c. c;
+    after = λ a b d p q c. q (p c);
+    delivers = λ body s c. record { managed = c.managed; numbered = c.numbered; known = c.known };
+    queues = λ order s c. order_covers order s _ (fate_on (target s.links)) refl refl c;
+    leaves = λ blind n link s known at c. record { managed = c.managed; numbered = c.numbered; known = c.known };
+    acknowledges = λ count n link s known at few c. let k = (acknowledged n count s.rows).kept in covers_kept s _ refl (k.numbered c.numbered) (k.bodies c.numbered) c;
+    gives_up_sent = λ cause n link s known at c. let k = (sent_given_up n cause s.rows).kept in covers_kept s _ refl (k.numbered c.numbered) (k.bodies c.numbered) c;
+    gives_up_waiting = λ cause n link s known at c. let k = (waiting_given_up n cause s.rows).kept in covers_kept s _ refl (k.numbered c.numbered) (k.bodies c.numbered) c;
+    moves_off = λ n link s known at c. covers_kept s _ refl (moved_numbered (is_on n) (all_with (fate_on (target s.links))) s.rows c.numbered) (λ number. body_moved (is_on n) (all_with (fate_on (target s.links))) number s.rows c.numbered) c;
+  }
+
+  sends_covers : (choice : Choice) (n : ℕ) (link : LinkState) (s : State) → Covers s → Covers (sends choice n s link).state
+  sends_covers (again place) n link s c = covers_kept s _ refl c.numbered (λ number. refl) c
+  sends_covers fill n link s c = covers_kept s _ refl c.numbered (λ number. refl) c
+  sends_covers first n link s c = let k = (sent n s.rows).kept in covers_kept s _ refl (k.numbered c.numbered) (k.bodies c.numbered) c
+
+  -- every event but an offer
+  pub covers_on : (s : State) (event : Event) → ((body : List ℕ) → event ≡ Offer body → ⊥) → Covers s → Covers (step s event).state
+  covers_on s event apart c = step_walks s (λ t u. Covers t → Covers u) Covers event (record {
+    small = small _;
+    unmoved = c;
+    rests = λ t u p q. q p;
+    offers = λ body e none. absurd (apart body e);
+    takes = λ body rest e there. record { managed = c.managed; numbered = c.numbered; known = c.known };
+    sends = λ n link e at. sends_covers (choice_of (octets_in (unack n s.rows)) link.control (window_of n link s.rows)) n link s c;
+    hears = λ n unit link e at. let k = (acknowledged n (part_of link.control (window_of n link s.rows) (head_of unit) (is_msu unit)).acked s.rows).kept in covers_kept s _ refl (k.numbered c.numbered) (k.bodies c.numbered) c;
+    rises = λ n link e at. let k = (unparked n s.rows).kept in covers_kept s _ refl (k.numbered c.numbered) (k.bodies c.numbered) c;
+  })

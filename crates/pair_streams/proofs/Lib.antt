@@ -1,0 +1,7 @@
+pub mod Acting
+pub mod Flowing
+pub mod Flows
+pub mod Hearing
+pub mod Known
+pub mod Moving
+pub mod Runs

@@ -1,0 +1,328 @@
+-- EVERY SOUND RUN KEEPS EACH STREAM: one induction over its steps, beside those of the links and of changeover.
+use Rattle.std.proofs.Common.{refl, arith, ◌≡◌, ◌≢◌, ◌∙◌, ap, sym, subst, ℕ, zero, suc, ◌<◌, ◌==◌, ◌+◌, ◌-◌, Bool, true, false, not, ◌&&◌, ◌||◌, nat_lt, List, [], ◌∷◌, ◌++◌, length, filter, take, drop, slice_get, replicate, Option, Some, None, cond, ◌⊎◌, inl, inr}
+use Rattle.std.specs.Option.{option_map}
+use Rattle.std.proofs.lemmas.Bool.{ltb-true, eqb-true}
+use Rattle.std.proofs.lemmas.List.{append-nil}
+use Rattle.l2_units.specs.declared.unit.Unit.{Unit as SignalUnit}
+use Rattle.link_lines.specs.Lines.{units_on, without}
+use Rattle.set_events.specs.declared.answer.Answer.{Answer}
+use Rattle.set_events.specs.declared.answer.Fate.{Fate}
+use Rattle.set_events.specs.declared.answer.Fate.TheVariants.{Waiting, Unacked, Acked, Held, Parked, Discarded}
+use Rattle.set_events.specs.declared.config.Method.{Method}
+use Rattle.set_events.specs.declared.config.SetConfig.{SetConfig}
+use Rattle.set_events.specs.declared.event.Event.{Event}
+use Rattle.set_events.specs.declared.event.Event.TheVariants.{Next, Heard, Up as UpEvent}
+use Rattle.set_route.specs.declared.place.Place.{Place}
+use Rattle.set_route.specs.declared.place.Place.TheVariants.{On, Nowhere}
+use Rattle.set_route.specs.Routing.{place_of}
+use Rattle.set_model.specs.declared.phase.Phase.TheVariants.{Up}
+use Rattle.set_model.specs.Rows.{Row, is_unacked, is_waiting, is_held, is_parked, standing, unack, wait, held, parked, place, body_at, row_of, service_indicator, stream_of, IsNumbered}
+use Rattle.set_model.specs.Sound.{IsSound, IsAsked}
+use Rattle.set_model.specs.State.{LinkState, State, Settings, is_up, is_settled, link_count, new_link, opened_with, settings_of}
+use Rattle.set_model.specs.Step.{Outcome as SetOutcome, step}
+use Rattle.set_model.proofs.Lookups.{row_in_filter}
+use Rattle.set_model.proofs.Soundness.{opened_sound}
+use Rattle.set_model.proofs.Walk.{IsAt}
+use Rattle.world_steps.specs.declared.step.End.{End}
+use Rattle.world_steps.specs.declared.step.End.TheVariants.{A, B}
+use Rattle.world_steps.specs.declared.step.Shown.{Shown}
+use Rattle.world_steps.specs.declared.step.Shown.TheVariants.{Answered, Up as CameUp, Lost}
+use Rattle.world_steps.specs.declared.step.Step.{Step}
+use Rattle.world_steps.specs.declared.step.Step.TheVariants.{Act, Emit, Arrive, Lose, Together, Inject}
+use Rattle.pair_model.specs.World.{Outcome, shows, impossible, exhausted, at_end, with_end, line_to, with_line, actor_of, answer_to, after, is_full, has_link, has_actor, acts, with_sent, sends_on, emits, front_arrives, arrives, loses, risen, is_settled_at_both, rises, has_own_step, done_by, carried_out}
+use Rattle.pair_model.specs.Run.{Message, messages, Past, Stage, begun, no_past, with_past, past_arrived, passed, OnShows, HoldsAlong}
+use Rattle.pair_model.specs.Promises.{IsOneMethod, IsSoundStep, IsAskedStep, AreSteps, IsSoundRun}
+use Rattle.pair_model.proofs.Controls.{one_back}
+use Rattle.pair_model.proofs.Kept.{at_first, settings_sound}
+use Rattle.pair_model.proofs.Moving as moving
+use Rattle.pair_model.proofs.Pairs.{Two, swapped, HoldsOf, swap}
+use Rattle.pair_model.proofs.Runs.{seen, Holds, Goes, step_goes, is_at_up, both_settled}
+use Rattle.pair_changeover.specs.Pending.{queue, pending, aside, acked_on, accepted_on}
+use Rattle.pair_changeover.proofs.Reaching.{RowOf, row_among, filtered, get_rest}
+use Rattle.pair_changeover.proofs.Runs.{Went, Went', step_went, whole_at_first}
+use Rattle.pair_changeover.proofs.Table.{drop_none, joined}
+use Rattle.pair_changeover.proofs.Views.{Among, among_joined}
+use Rattle.pair_changeover.proofs.Whole.{Whole, whole_back}
+use Rattle.pair_streams.specs.Streams.{is_of, those_of, IsIn, Arrives, StreamsArrive}
+use Rattle.pair_streams.proofs.Acting.{asked_streams, sends_streams, sends_none, rises_streams}
+use Rattle.pair_streams.proofs.Flowing.{queue_at, here}
+use Rattle.pair_streams.proofs.Flows.{Flows, Streams, streams_back}
+use Rattle.pair_streams.proofs.Hearing.{hears_streams}
+use Rattle.pair_streams.proofs.Known.{Covers}
+
+-- WHAT IT SAYS
+first_part : (xs ys zs : List Message) → xs ++ ys ≡ zs → xs ≡ take (length xs) zs
+first_part [] ys zs e = refl
+first_part (x ∷ xs) ys [] e = absurd cc
+first_part (x ∷ xs) ys (z ∷ zs) e =
+    let head : x ≡ z = cc in
+    let rest : xs ++ ys ≡ zs = cc in
+    ap (λ (q : List Message). x ∷ q) (first_part xs ys zs rest) ∙ ap (λ (m : Message). m ∷ take (length xs) zs) head
+
+is_in : (m : Message) (xs : List Message) → Among m xs → IsIn m xs
+is_in m [] a = absurd a
+is_in m (x ∷ xs) (inl e) = (0, ap Some (sym e))
+is_in m (x ∷ xs) (inr a) = let at = is_in m xs a in (suc at.0, at.1)
+
+among_all : (stream : ℕ) (m : Message) (xs : List Message) → Among m (those_of stream xs) → Among m xs
+among_all stream m [] a = absurd a
+among_all stream m (x ∷ xs) a = go (is_of stream x) refl a (λ b. among_all stream m xs b)
+  where
+    go : (b : Bool) → is_of stream x ≡ b → Among m (those_of stream (x ∷ xs)) → (Among m (those_of stream xs) → Among m xs) → Among m (x ∷ xs)
+    go true e a later = cases (rw e at a)
+      where
+        cases : (m ≡ x) ⊎ Among m (those_of stream xs) → (m ≡ x) ⊎ Among m xs
+        cases (inl same) = inl same
+        cases (inr b) = inr (later b)
+    go false e a later = inr (later (rw e at a))
+
+module _ (stream : ℕ) (low : stream < 16) (s f : State) (near far : Past) (w : Flows s f near far) where
+  -- an acknowledged message stands nowhere else
+  module _ (link : ℕ) (m : Message) (placed : place m.number s.rows ≡ Some (Acked link)) where
+    acked_in : (test : Fate → Bool) → test (Acked link) ≡ false → (at : ℕ) (row : Row) → slice_get (standing test s.rows) at ≡ Some row → m.number ≡ row.number → ⊥
+    acked_in test off at row there number =
+        let row_is : row_of m.number s.rows ≡ Some row = row_in_filter (λ (r : Row). test r.fate) s.rows at m.number row w.covers.numbered there (sym number) in
+        let fate : Some row.fate ≡ Some (Acked link) = ap (option_map (λ (r : Row). r.fate)) (sym row_is) ∙ placed in
+        let is : row.fate ≡ Acked link = cc in
+        let no : true ≡ false = sym (filtered (λ (r : Row). test r.fate) s.rows at row there) ∙ ap test is ∙ off in
+        absurd cc
+
+    not_pending : (l : ℕ) → Among m (pending l s f) → ⊥
+    not_pending l a = last (among_joined m (messages (drop count (unack l s.rows) ++ wait l s.rows)) (messages (held l s.rows)) (subst (λ (q : List Message). Among m q) (joined (drop count (unack l s.rows) ++ wait l s.rows) (held l s.rows)) a))
+      where
+        count : ℕ
+        count = accepted_on l f - acked_on l s
+
+        first : Among m (messages (drop count (unack l s.rows))) ⊎ Among m (messages (wait l s.rows)) → ⊥
+        first (inl b) = let r = row_among m (drop count (unack l s.rows)) b in acked_in (is_unacked l) refl (count + r.place) r.row (sym (get_rest count r.place (unack l s.rows)) ∙ r.there) r.number_is
+        first (inr b) = let r = row_among m (wait l s.rows) b in acked_in (is_waiting l) refl r.place r.row r.there r.number_is
+
+        last : Among m (messages (drop count (unack l s.rows) ++ wait l s.rows)) ⊎ Among m (messages (held l s.rows)) → ⊥
+        last (inl b) = first (among_joined m (messages (drop count (unack l s.rows))) (messages (wait l s.rows)) (subst (λ (q : List Message). Among m q) (joined (drop count (unack l s.rows)) (wait l s.rows)) b))
+        last (inr b) = let r = row_among m (held l s.rows) b in acked_in (is_held l) refl r.place r.row r.there r.number_is
+
+    not_aside : Among m (aside s) → ⊥
+    not_aside a = let r = row_among m (parked s.rows) a in acked_in is_parked refl r.place r.row r.there r.number_is
+
+    not_here : (q : Place) → Among m (queue_at q s f) → ⊥
+    not_here (On l) a = not_pending l a
+    not_here Nowhere a = not_aside a
+
+    both_parts : (a b : Bool) → (not a && b) ≡ true → (a ≡ false) × (b ≡ true)
+    both_parts false true e = (refl, refl)
+    both_parts false false e = absurd cc
+    both_parts true b e = absurd cc
+
+    acked_got : is_of stream m ≡ true → body_at m.number s.rows ≡ Some m.body → IsIn m (far.got stream)
+    acked_got own body =
+        let parts = both_parts (service_indicator m.body == 0) (stream_of m.body == stream) own in
+        let offered = subst (λ (n : ℕ). Among m (near.offered n)) (eqb-true (stream_of m.body) stream parts.1) (w.covers.known m.number m.body body parts.0) in
+        go (among_joined m (far.got stream) (here stream s f) (subst (λ (q : List Message). Among m q) (sym (w.flow stream low)) offered))
+      where
+        go : Among m (far.got stream) ⊎ Among m (here stream s f) → IsIn m (far.got stream)
+        go (inl a) = is_in m (far.got stream) a
+        go (inr a) = absurd (not_here (place_of stream s.routing) (among_all stream m (queue_at (place_of stream s.routing) s f) a))
+
+  pub arrives_so : Arrives stream near far s f
+  arrives_so = record {
+    prefix = first_part (far.got stream) (here stream s f) (near.offered stream) (w.flow stream low);
+    acked = λ link m own placed body. acked_got link m placed own body;
+    all = λ none none_aside. sym (append-nil (far.got stream)) ∙ ap (λ (x : List Message). far.got stream ++ x) (sym (empty (place_of stream s.routing) none none_aside)) ∙ w.flow stream low;
+  }
+    where
+      empty : (q : Place) → ((l : ℕ) → those_of stream (pending l s f) ≡ []) → those_of stream (aside s) ≡ [] → those_of stream (queue_at q s f) ≡ []
+      empty (On l) none none_aside = none l
+      empty Nowhere none none_aside = none_aside
+
+-- EACH STEP
+module _ (ma mb : Method) (one : IsOneMethod ma mb) where
+  abbrev Keeps : Stage → Step → Outcome → Type 0
+  Keeps g step outcome = OnShows outcome (λ shown new. Streams (seen A (passed g step shown new)))
+
+  module _ (g : Stage) (h : Holds ma mb one g) (w : Whole (seen A g)) (v : Streams (seen A g)) where
+    h_b : HoldsOf mb ma (seen B g)
+    h_b = swap ma mb (seen A g) h
+
+    one_b : IsOneMethod mb ma
+    one_b = one_back ma mb one
+
+    w_b : Whole (seen B g)
+    w_b = whole_back (seen A g) w
+
+    v_b : Streams (seen B g)
+    v_b = streams_back (seen A g) v
+
+    -- ACT
+    act_keeps : (end : End) (event : Event) → IsSoundStep (Act end event) → IsAsked event → has_own_step event ≡ false → Keeps g (Act end event) (acts g.world end event)
+    act_keeps end event sound asked own = go (has_actor g.world (actor_of event)) (is_full (at_end g.world end))
+      where
+        shown : (end : End) → IsSoundStep (Act end event) → Keeps g (Act end event) (shows (Answered (answer_to (at_end g.world end) event)) (with_end g.world end (after (at_end g.world end) event)))
+        shown A sound = asked_streams (seen A g) h.near_sound w.near.codes v A event asked own sound
+        shown B sound = streams_back _ (asked_streams (seen B g) h_b.near_sound w_b.near.codes v_b B event asked own sound)
+
+        go : (known full : Bool) → Keeps g (Act end event) (cond known (cond full exhausted (shows (Answered (answer_to (at_end g.world end) event)) (with_end g.world end (after (at_end g.world end) event)))) impossible)
+        go true true = tt
+        go true false = shown end sound
+        go false full = tt
+
+    own_keeps : (end : End) (event : Event) → IsSoundStep (Act end event) → IsAsked event → (own : Bool) → has_own_step event ≡ own → Keeps g (Act end event) (cond own impossible (acts g.world end event))
+    own_keeps end event sound asked true e = tt
+    own_keeps end event sound asked false e = act_keeps end event sound asked e
+
+    -- EMIT
+    abbrev EmitKeeps : (end : End) (k : ℕ) → Answer → Type 0
+    EmitKeeps end k answer = Streams (seen A (passed g (Emit end k) (Answered answer) (with_sent (with_end g.world end (after (at_end g.world end) (Next k))) end k (Answered answer))))
+
+    emit_a : (k : ℕ) → k < length g.world.a.state.links → (b : Bool) → is_up k g.world.a.state ≡ b → EmitKeeps A k (answer_to g.world.a (Next k))
+    emit_a k few true e =
+        let at = is_at_up k g.world.a.state e in
+        subst (EmitKeeps A k) (sym (moving.answers_sent ma mb (seen A g) h k few at.0 at.1)) (sends_streams ma mb one (seen A g) h v k _ few at.0 at.1)
+    emit_a k few false e =
+        subst (EmitKeeps A k) (sym (ap (λ (o : SetOutcome). o.answer) (moving.next_refused k g.world.a.state e).1)) (sends_none ma mb one (seen A g) h v k _ e)
+
+    emit_b : (k : ℕ) → k < length g.world.b.state.links → (b : Bool) → is_up k g.world.b.state ≡ b → EmitKeeps B k (answer_to g.world.b (Next k))
+    emit_b k few true e =
+        let at = is_at_up k g.world.b.state e in
+        subst (EmitKeeps B k) (sym (moving.answers_sent mb ma (seen B g) h_b k few at.0 at.1)) (streams_back _ (sends_streams mb ma one_b (seen B g) h_b v_b k _ few at.0 at.1))
+    emit_b k few false e =
+        subst (EmitKeeps B k) (sym (ap (λ (o : SetOutcome). o.answer) (moving.next_refused k g.world.b.state e).1)) (streams_back _ (sends_none mb ma one_b (seen B g) h_b v_b k _ e))
+
+    emit_at : (end : End) (k : ℕ) → k < length g.world.a.state.links → EmitKeeps end k (answer_to (at_end g.world end) (Next k))
+    emit_at A k few = emit_a k few (is_up k g.world.a.state) refl
+    emit_at B k few = emit_b k (omega (arith, few, h.far_links)) (is_up k g.world.b.state) refl
+
+    emit_keeps : (end : End) (k : ℕ) → Keeps g (Emit end k) (emits g.world end k)
+    emit_keeps end k = go (has_link g.world k) refl (is_full (at_end g.world end))
+      where
+        go : (known : Bool) → has_link g.world k ≡ known → (full : Bool) → Keeps g (Emit end k) (sends_on end k (cond known (cond full exhausted (shows (Answered (answer_to (at_end g.world end) (Next k))) (with_end g.world end (after (at_end g.world end) (Next k))))) impossible))
+        go true e true = tt
+        go true e false = emit_at end k (ltb-true k (link_count g.world.a.state) e)
+        go false e full = tt
+
+    -- LOSE
+    lose_keeps : (end : End) (k place : ℕ) → Keeps g (Lose end k place) (loses g.world end k place)
+    lose_keeps end k place = go (has_link g.world k) (nat_lt place (length (line_to g.world end k)))
+      where
+        lost : (end : End) → Keeps g (Lose end k place) (shows Lost (with_line g.world end k (without place (line_to g.world end k))))
+        lost A = record { out = v.out; back = v.back }
+        lost B = record { out = v.out; back = v.back }
+
+        go : (known within : Bool) → Keeps g (Lose end k place) (cond known (cond within (shows Lost (with_line g.world end k (without place (line_to g.world end k)))) impossible) impossible)
+        go true true = lost end
+        go true false = tt
+        go false within = tt
+
+    -- ARRIVE
+    abbrev ArriveKeeps : (end : End) (k : ℕ) → List SignalUnit → Outcome → Type 0
+    ArriveKeeps A k line outcome = OnShows outcome (λ shown new. Streams (seen A (with_past A (past_arrived k line (g.b.sent k) shown g.a) new g)))
+    ArriveKeeps B k line outcome = OnShows outcome (λ shown new. Streams (seen A (with_past B (past_arrived k line (g.a.sent k) shown g.b) new g)))
+
+    -- heard in service, else lost
+    module _ (k : ℕ) (few : k < length g.world.a.state.links) (unit : SignalUnit) (rest : List SignalUnit) where
+      heard_a : units_on k g.world.to_a ≡ unit ∷ rest → (link : LinkState) → IsAt k link Up g.world.a.state → ArriveKeeps A k (unit ∷ rest) (shows (Answered (answer_to g.world.a (Heard k unit))) (with_end (with_line g.world A k rest) A (after g.world.a (Heard k unit))))
+      heard_a front link at =
+          subst (λ (answer : Answer). Streams (seen A (with_past A (past_arrived k (unit ∷ rest) (g.b.sent k) (Answered answer) g.a) (with_end (with_line g.world A k rest) A (after g.world.a (Heard k unit))) g)))
+          (sym (moving.answers_heard ma mb one (seen A g) h k few unit rest front link at))
+          (hears_streams ma mb one (seen A g) h w v k few unit rest front link at)
+
+      heard_b : units_on k g.world.to_b ≡ unit ∷ rest → (link : LinkState) → IsAt k link Up g.world.b.state → ArriveKeeps B k (unit ∷ rest) (shows (Answered (answer_to g.world.b (Heard k unit))) (with_end (with_line g.world B k rest) B (after g.world.b (Heard k unit))))
+      heard_b front link at =
+          let few_b : k < length g.world.b.state.links = omega (arith, few, h.far_links) in
+          subst (λ (answer : Answer). Streams (seen A (with_past B (past_arrived k (unit ∷ rest) (g.a.sent k) (Answered answer) g.b) (with_end (with_line g.world B k rest) B (after g.world.b (Heard k unit))) g)))
+          (sym (moving.answers_heard mb ma one_b (seen B g) h_b k few_b unit rest front link at))
+          (streams_back _ (hears_streams mb ma one_b (seen B g) h_b w_b v_b k few_b unit rest front link at))
+
+      reach_a : units_on k g.world.to_a ≡ unit ∷ rest → (rising : Bool) → is_up k g.world.a.state ≡ rising → (known full : Bool)
+          → ArriveKeeps A k (unit ∷ rest) (cond rising (cond known (cond full exhausted (shows (Answered (answer_to g.world.a (Heard k unit))) (with_end (with_line g.world A k rest) A (after g.world.a (Heard k unit))))) impossible) (shows Lost (with_line g.world A k rest)))
+      reach_a front true e true true = tt
+      reach_a front true e true false = let at = is_at_up k g.world.a.state e in heard_a front at.0 at.1
+      reach_a front true e false full = tt
+      reach_a front false e known full = record { out = v.out; back = v.back }
+
+      reach_b : units_on k g.world.to_b ≡ unit ∷ rest → (rising : Bool) → is_up k g.world.b.state ≡ rising → (known full : Bool)
+          → ArriveKeeps B k (unit ∷ rest) (cond rising (cond known (cond full exhausted (shows (Answered (answer_to g.world.b (Heard k unit))) (with_end (with_line g.world B k rest) B (after g.world.b (Heard k unit))))) impossible) (shows Lost (with_line g.world B k rest)))
+      reach_b front true e true true = tt
+      reach_b front true e true false = let at = is_at_up k g.world.b.state e in heard_b front at.0 at.1
+      reach_b front true e false full = tt
+      reach_b front false e known full = record { out = v.out; back = v.back }
+
+    front_a : (k : ℕ) → k < length g.world.a.state.links → (line : List SignalUnit) → units_on k g.world.to_a ≡ line → ArriveKeeps A k line (front_arrives g.world A k line)
+    front_a k few [] e = tt
+    front_a k few (unit ∷ rest) e = reach_a k few unit rest e (is_up k g.world.a.state) refl (has_link g.world k) (is_full g.world.a)
+
+    front_b : (k : ℕ) → k < length g.world.a.state.links → (line : List SignalUnit) → units_on k g.world.to_b ≡ line → ArriveKeeps B k line (front_arrives g.world B k line)
+    front_b k few [] e = tt
+    front_b k few (unit ∷ rest) e = reach_b k few unit rest e (is_up k g.world.b.state) refl (has_link g.world k) (is_full g.world.b)
+
+    arrive_at : (end : End) (k : ℕ) → k < length g.world.a.state.links → Keeps g (Arrive end k) (front_arrives g.world end k (line_to g.world end k))
+    arrive_at A k few = front_a k few (units_on k g.world.to_a) refl
+    arrive_at B k few = front_b k few (units_on k g.world.to_b) refl
+
+    arrive_keeps : (end : End) (k : ℕ) → Keeps g (Arrive end k) (arrives g.world end k)
+    arrive_keeps end k = go (has_link g.world k) refl
+      where
+        go : (known : Bool) → has_link g.world k ≡ known → Keeps g (Arrive end k) (cond known (front_arrives g.world end k (line_to g.world end k)) impossible)
+        go true e = arrive_at end k (ltb-true k (link_count g.world.a.state) e)
+        go false e = tt
+
+    -- TOGETHER
+    together_keeps : (k : ℕ) → Keeps g (Together k) (rises g.world k)
+    together_keeps k = go (has_link g.world k) refl (is_settled_at_both g.world k) refl (is_full g.world.a || is_full g.world.b)
+      where
+        go : (known : Bool) → has_link g.world k ≡ known → (settled : Bool) → is_settled_at_both g.world k ≡ settled → (full : Bool)
+            → Keeps g (Together k) (cond known (cond settled (cond full exhausted (shows CameUp (risen g.world k))) impossible) impossible)
+        go true e true f true = tt
+        go true e true f false =
+            let s = both_settled ma mb one g h (is_settled k g.world.a.state) (is_settled k g.world.b.state) f in
+            rises_streams ma mb (seen A g) h v k (ltb-true k (link_count g.world.a.state) e) s.0 s.1
+        go true e false f full = tt
+        go false e settled f full = tt
+
+    -- EACH STEP
+    done_keeps : (step : Step) → IsSoundStep step → IsAskedStep step → Keeps g step (done_by g.world step)
+    done_keeps (Act end event) sound asked = own_keeps end event sound asked (has_own_step event) refl
+    done_keeps (Emit end k) sound asked = emit_keeps end k
+    done_keeps (Arrive end k) sound asked = arrive_keeps end k
+    done_keeps (Lose end k place) sound asked = lose_keeps end k place
+    done_keeps (Together k) sound asked = together_keeps k
+    done_keeps (Inject end k unit) sound asked = absurd sound
+
+  step_keeps : (g : Stage) → Holds ma mb one g → Whole (seen A g) → Streams (seen A g) → (step : Step) → IsSoundStep step → IsAskedStep step → Keeps g step (carried_out g.world step)
+  unfolding carried_out
+  step_keeps g h w v step sound asked = done_keeps g h w v step sound asked
+
+  streams_arrive : (g : Stage) → Streams (seen A g) → StreamsArrive g
+  streams_arrive g v stream low = (arrives_so stream low g.world.a.state g.world.b.state g.a g.b v.out, arrives_so stream low g.world.b.state g.world.a.state g.b g.a v.back)
+
+  -- ALL ALONG
+  onward : (g : Stage) (step : Step) (steps : List Step) → ((later : Stage) → Holds ma mb one later → Whole (seen A later) → Streams (seen A later) → HoldsAlong StreamsArrive later steps) → (outcome : Outcome) → Goes ma mb one g step outcome → Went' ma mb one g step outcome → Keeps g step outcome
+      → OnShows outcome (λ shown new. HoldsAlong StreamsArrive (passed g step shown new) steps)
+  onward g step steps next (shows shown new) goes went keeps = next (passed g step shown new) goes.1 went.whole keeps
+  onward g step steps next impossible goes went keeps = tt
+  onward g step steps next exhausted goes went keeps = tt
+
+  along : (g : Stage) → Holds ma mb one g → Whole (seen A g) → Streams (seen A g) → (steps : List Step) → AreSteps IsSoundStep steps → AreSteps IsAskedStep steps → HoldsAlong StreamsArrive g steps
+  along g h w v [] sound asked = streams_arrive g v
+  along g h w v (step ∷ steps) sound asked = (
+    streams_arrive g v,
+    onward g step steps (λ later holds whole streams. along later holds whole streams steps sound.1 asked.1) (carried_out g.world step) (step_goes ma mb one g h step sound.0 asked.0) (step_went ma mb one g h w step sound.0) (step_keeps g h w v step sound.0 asked.0),
+  )
+
+-- AT FIRST
+nothing_at : (a b : Settings) (q : Place) → queue_at q (opened_with a) (opened_with b) ≡ []
+nothing_at a b (On l) = ap (λ (rows : List Row). messages (rows ++ [] ++ [])) (drop_none {X = Row} (accepted_on l (opened_with b) - acked_on l (opened_with a)))
+nothing_at a b Nowhere = refl
+
+first_flows : (config other : SetConfig) → Flows (opened_with (settings_of config)) (opened_with (settings_of other)) no_past no_past
+first_flows config other = record {
+  flow = λ stream low. ap (those_of stream) (nothing_at (settings_of config) (settings_of other) (place_of stream (opened_with (settings_of config)).routing));
+  covers = record {
+    managed = config.management;
+    numbered = (opened_sound (settings_of config) (settings_sound config)).numbered;
+    known = λ number body e users. absurd (let no : None ≡ Some body = e in cc);
+  };
+}
+
+pub every_sound_run : (a b : SetConfig) (steps : List Step) → AreSteps IsAskedStep steps → IsSoundRun a b steps → HoldsAlong StreamsArrive (begun a b) steps
+every_sound_run a b steps asked sound =
+    along a.method b.method sound.one_method (begun a b) (at_first a b sound.links) (whole_at_first a b) (record { out = first_flows a b; back = first_flows b a }) steps sound.steps asked

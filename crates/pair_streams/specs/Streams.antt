@@ -1,0 +1,43 @@
+-- WHAT BECOMES OF A STREAM between two ends, in every sound run: nothing is lost, doubled or put out of order.
+use Rattle.std.specs.Prelude.{◌≡◌, ◌<◌, ℕ, ◌==◌, Bool, true, not, ◌&&◌, List, [], filter, length, take, slice_get, Some}
+use Rattle.set_events.specs.declared.answer.Fate.TheVariants.{Acked}
+use Rattle.set_events.specs.declared.config.SetConfig.{SetConfig}
+use Rattle.set_model.specs.Rows.{stream_of, service_indicator, place, body_at}
+use Rattle.set_model.specs.State.{State}
+use Rattle.world_steps.specs.declared.step.Step.{Step}
+use Rattle.pair_model.specs.Promises.{IsAskedStep, AreSteps, IsSoundRun}
+use Rattle.pair_model.specs.Run.{Message, Past, Stage, begun, HoldsAlong}
+use Rattle.pair_changeover.specs.Pending.{pending, aside}
+
+-- a user's message of the stream, and all such in a list
+abbrev pub is_of : ℕ → Message → Bool
+is_of stream message = not (service_indicator message.body == 0) && (stream_of message.body == stream)
+
+abbrev pub those_of : ℕ → List Message → List Message
+those_of stream messages = filter (is_of stream) messages
+
+abbrev pub IsIn : Message → List Message → Type 0
+IsIn message messages = (at : ℕ) × (slice_get messages at ≡ Some message)
+
+-- ONE STREAM, from an end to the far end
+pub record Arrives (stream : ℕ) (near far : Past) (s f : State) : Type 0 where
+  -- the far end's users got the first of what was offered here, numbers and octets
+  pub prefix : far.got stream ≡ take (length (far.got stream)) (near.offered stream)
+  -- each message that is acknowledged here is among it
+  pub acked : (link : ℕ) (message : Message) → is_of stream message ≡ true → place message.number s.rows ≡ Some (Acked link)
+      → body_at message.number s.rows ≡ Some message.body → IsIn message (far.got stream)
+  -- and where nothing of the stream is pending or parked, it's all
+  pub all : ((link : ℕ) → those_of stream (pending link s f) ≡ []) → those_of stream (aside s) ≡ []
+      → far.got stream ≡ near.offered stream
+
+-- EACH STREAM, in both directions
+abbrev pub StreamsArrive : Stage → Type 0
+StreamsArrive g =
+    (stream : ℕ) → stream < 16
+    → Arrives stream g.a g.b g.world.a.state g.world.b.state × Arrives stream g.b g.a g.world.b.state g.world.a.state
+
+-- LAW
+abbrev pub EverySoundRunKeepsStreams : Type 0
+EverySoundRunKeepsStreams =
+    (a b : SetConfig) (steps : List Step) → AreSteps IsAskedStep steps → IsSoundRun a b steps
+    → HoldsAlong StreamsArrive (begun a b) steps
