@@ -45,6 +45,7 @@ impl World {
     ghost use Rattle.pair_model.specs.World.{carried_out, done_by, asks, acts, has_actor, with_sent, emits, arrives, loses, has_link as has_link_in, rises, at_end, line_to, counts_at};
     ghost use Rattle.pair_model.specs.Run.{begun, played_from};
     ghost use Rattle.pair_model.specs.Promises.{IsSoundRun, KeepsLinks};
+    ghost use Rattle.pair_changeover.specs.Diverted.{ChangesOver};
     ghost use Rattle.pair_world.specs.Carried.{IsBegun, FailsToBegin, IsCarriedOut, IsStepped, AreCarriedOut, IsPlayed, IsTakenFrom};
 
     /// The world of these configurations: no messages, no link up, nothing under way.
@@ -83,7 +84,12 @@ impl World {
     /// the place of the first one; 1 [`PlayFault::NoMemory`] only where memory was refused.
     ///
     /// Of every sound run it's proved here that each link keeps what passes on it, in both directions and after
-    /// every step: see `KeepsLinks`.
+    /// every step (`KeepsLinks`), and that changeover loses nothing and diverts exactly what the far end hasn't
+    /// accepted (`ChangesOver`): at both ends no message is discarded, and what counts as acknowledged was accepted;
+    /// an order tells the number of the last message that its end accepted, which is never unreasonable; and when a
+    /// link settles at an end, of the messages that were first sent on it since it came up exactly those that the far
+    /// end accepted are acknowledged, and exactly the others move to the target, in order, with what waited and what
+    /// was held behind them.
     pub fn play(
         alloc: Global,
         a: &SetConfig,
@@ -91,7 +97,8 @@ impl World {
         steps: &[Step],
     ) -> Result<World, PlayFault>
         ensures world { IsPlayed result a.now b.now steps.now }
-        ensures promised { IsSoundRun a.now b.now steps.now → KeepsLinks (begun a.now b.now) steps.now }
+        ensures keeps { IsSoundRun a.now b.now steps.now → KeepsLinks (begun a.now b.now) steps.now }
+        ensures diverts { IsSoundRun a.now b.now steps.now → ChangesOver (begun a.now b.now) steps.now }
     {
         are_asked(steps);
         let mut world = World::new(alloc, a, b)?;

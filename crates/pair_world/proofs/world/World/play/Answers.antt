@@ -1,15 +1,25 @@
-use Rattle.pair_model.proofs.Runs.{every_sound_run}
+use Rattle.pair_model.proofs.Runs.{every_sound_run as every_sound_run_keeps_links}
+use Rattle.pair_changeover.proofs.Runs.{every_sound_run as every_sound_run_diverts_the_rest}
 use Rattle.pair_world.proofs.Playing.{leads, fails}
 use Rattle.pair_world.proofs.world.World.play.Goals as goal
 
-pub returns-in_err-world-clause-promised : goal.returns-in_err-world-clause-promised
-returns-in_err-world-clause-promised c = every_sound_run _ _ _ c.are_asked.ensures
+pub returns-in_err-world-clause-keeps : goal.returns-in_err-world-clause-keeps
+returns-in_err-world-clause-keeps c = every_sound_run_keeps_links _ _ _ c.are_asked.ensures
 
-pub returns-in-Ok-clause-promised : goal.returns-in-Ok-clause-promised
-returns-in-Ok-clause-promised c = every_sound_run _ _ _ c.are_asked.ensures
+pub returns-in-Ok-clause-keeps : goal.returns-in-Ok-clause-keeps
+returns-in-Ok-clause-keeps c = every_sound_run_keeps_links _ _ _ c.are_asked.ensures
 
-pub returns-in-Err-clause-promised : goal.returns-in-Err-clause-promised
-returns-in-Err-clause-promised c = every_sound_run _ _ _ c.are_asked.ensures
+pub returns-in-Err-clause-keeps : goal.returns-in-Err-clause-keeps
+returns-in-Err-clause-keeps c = every_sound_run_keeps_links _ _ _ c.are_asked.ensures
+
+pub returns-in_err-world-clause-diverts : goal.returns-in_err-world-clause-diverts
+returns-in_err-world-clause-diverts c = every_sound_run_diverts_the_rest _ _ _ c.are_asked.ensures
+
+pub returns-in-Ok-clause-diverts : goal.returns-in-Ok-clause-diverts
+returns-in-Ok-clause-diverts c = every_sound_run_diverts_the_rest _ _ _ c.are_asked.ensures
+
+pub returns-in-Err-clause-diverts : goal.returns-in-Err-clause-diverts
+returns-in-Err-clause-diverts c = every_sound_run_diverts_the_rest _ _ _ c.are_asked.ensures
 
 pub returns-in-Ok-clause-world : goal.returns-in-Ok-clause-world
 returns-in-Ok-clause-world c = leads _ _ _ _ c.in_ok-world.ensures _ c.in-Ok.ensures
