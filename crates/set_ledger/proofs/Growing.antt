@@ -1,13 +1,16 @@
 -- What an entry adds to a seat, and what seats that are back come to.
-use Rattle.std.proofs.Common.{arith, ◌≡◌, ◌∙◌, ap, [], ◌∷◌, ◌++◌, List}
+use Rattle.std.proofs.Common.{arith, ◌≡◌, ◌∙◌, ap, sym, ℕ, ◌+◌, ◌*◌, ◌^◌, ◌<◌, ◌≤◌, [], ◌∷◌, ◌++◌, List}
 use Rattle.std.proofs.lemmas.List.{length-append}
 use Rattle.set_events.specs.declared.answer.Answer.{Answer}
 use Rattle.set_events.specs.declared.event.Actor.{Actor}
+use Rattle.set_events.specs.declared.event.Actor.TheVariants.{User, Terminal}
 use Rattle.set_events.specs.declared.event.Event.{Event}
 use Rattle.set_events.specs.declared.history.Entry.{Entry}
 use Rattle.set_core.proofs.Keeping.{messages_more, octets_more}
+use Rattle.set_model.specs.History.{LinkSet}
 use Rattle.set_ledger.specs.declared.share.SeatShare.{SeatShare}
-use Rattle.set_ledger.specs.Seats.{ShareGrows, AddsUp}
+use Rattle.set_ledger.specs.Seats.{ShareGrows, AddsUp, acked_in, user_share, term_share, user_state, term_state}
+use Rattle.set_ledger.specs.Totals.{AreTotals, Gains}
 
 -- a share that grew by an entry is what the receipts with that entry add up to
 pub adds_up_more : (who : Actor) (old new : SeatShare) (receipts more : List Entry) (event : Event) (answer : Answer) → AddsUp (record { who = who; share = old; receipts = receipts }) → ShareGrows old event answer new → more ≡ receipts ++ record { who = who; event = event; answer = answer } ∷ []
@@ -26,13 +29,62 @@ adds_up_more who old new receipts more event answer sums grows e =
       octets = omega (arith, octets_were, octets_grow, octets_more receipts entry);
     })
 
--- the same, as a seat comes to it: room was made, and the receipt of the event's copy was put last
-pub adds_up_then : (who : Actor) (old new : SeatShare) (receipts reserved more : List Entry) (receipt : Entry) (kept event : Event) (answer : Answer) → AddsUp (record { who = who; share = old; receipts = receipts }) → ShareGrows old event answer new
-    → reserved ≡ receipts → more ≡ reserved ++ receipt ∷ [] → receipt ≡ record { who = who; event = kept; answer = answer } → kept ≡ event → AddsUp (record { who = who; share = new; receipts = more })
-adds_up_then who old new receipts reserved more receipt kept event answer sums grows room put is copied =
-    adds_up_more who old new receipts more event answer sums grows (
-    put
-    ∙ ap (λ (xs : List Entry). xs ++ receipt ∷ []) room
-    ∙ ap (λ (r : Entry). receipts ++ r ∷ []) is
-    ∙ ap (λ (e : Event). receipts ++ record { who = who; event = e; answer = answer } ∷ []) copied
-    )
+-- what a step brought, as shares show it
+pub user_grows : (number calls messages octets calls' messages' octets' : ℕ) (event : Event) (answer : Answer) (gained : SeatShare) (old new : LinkSet) → Gains old (User number) event answer gained new → calls' ≡ calls + gained.calls → messages' ≡ messages + gained.messages → octets' ≡ octets + gained.octets
+    → ShareGrows (user_share calls messages octets) event answer (user_share calls' messages' octets')
+user_grows number calls messages octets calls' messages' octets' event answer gained old new gains c m o = record {
+  calls = c ∙ ap (λ n. calls + n) gains.call;
+  messages = m ∙ ap (λ n. messages + n) gains.message;
+  octets = o ∙ ap (λ n. octets + n) gains.octet;
+}
+
+pub term_grows : (link calls acknowledged calls' acknowledged' : ℕ) (event : Event) (answer : Answer) (gained : SeatShare) (old new : LinkSet) → Gains old (Terminal link) event answer gained new → calls' ≡ calls + gained.calls → ShareGrows (term_share calls acknowledged) event answer (term_share calls' acknowledged')
+term_grows link calls acknowledged calls' acknowledged' event answer gained old new gains c = record {
+  calls = c ∙ ap (λ n. calls + n) gains.call;
+  messages = let none = gains.no_other.0 in let is = gains.message in omega (arith, none, is);
+  octets = let none = gains.no_other.1 in let is = gains.octet in omega (arith, none, is);
+}
+
+-- A SEAT at a step that brought this much: its parts gained so much, and the receipt was put last.
+pub user_adds_up : (number calls messages octets calls' messages' octets' : ℕ) (receipts more : List Entry) (event : Event) (answer : Answer) (gained : SeatShare) (old new : LinkSet) → AddsUp (user_state number calls messages octets receipts) → Gains old (User number) event answer gained new
+    → calls' ≡ calls + gained.calls → messages' ≡ messages + gained.messages → octets' ≡ octets + gained.octets → more ≡ receipts ++ record { who = User number; event = event; answer = answer } ∷ [] → AddsUp (user_state number calls' messages' octets' more)
+user_adds_up number calls messages octets calls' messages' octets' receipts more event answer gained old new sums gains c m o e =
+    adds_up_more (User number) _ _ receipts more event answer sums (user_grows number calls messages octets calls' messages' octets' event answer gained old new gains c m o) e
+
+pub term_adds_up : (link calls acknowledged calls' acknowledged' : ℕ) (receipts more : List Entry) (event : Event) (answer : Answer) (gained : SeatShare) (old new : LinkSet) → AddsUp (term_state link calls acknowledged receipts) → Gains old (Terminal link) event answer gained new
+    → calls' ≡ calls + gained.calls → more ≡ receipts ++ record { who = Terminal link; event = event; answer = answer } ∷ [] → AddsUp (term_state link calls' acknowledged' more)
+term_adds_up link calls acknowledged calls' acknowledged' receipts more event answer gained old new sums gains c e =
+    adds_up_more (Terminal link) _ _ receipts more event answer sums (term_grows link calls acknowledged calls' acknowledged' event answer gained old new gains c) e
+
+-- THE TOTALS then: the books of the seat's ledgers gained as much, and the others nothing.
+pub user_totals : (number calls messages octets acknowledged calls' messages' octets' : ℕ) (event : Event) (answer : Answer) (gained : SeatShare) (old new : LinkSet) → AreTotals calls messages octets acknowledged old → Gains old (User number) event answer gained new
+    → calls' ≡ calls + gained.calls → messages' ≡ messages + gained.messages → octets' ≡ octets + gained.octets → AreTotals calls' messages' octets' acknowledged new
+user_totals number calls messages octets acknowledged calls' messages' octets' event answer gained old new t gains c m o = record {
+  calls_is = c ∙ ap (λ n. n + gained.calls) t.calls_is ∙ sym gains.calls;
+  messages_is = m ∙ ap (λ n. n + gained.messages) t.messages_is ∙ sym gains.messages;
+  octets_is = o ∙ ap (λ n. n + gained.octets) t.octets_is ∙ sym gains.octets;
+  acknowledged_is = let was = t.acknowledged_is in let is = gains.acknowledged in let none = gains.no_other in omega (arith, was, is, none);
+}
+
+pub term_totals : (link calls messages octets acknowledged calls' acknowledged' : ℕ) (event : Event) (answer : Answer) (gained : SeatShare) (old new : LinkSet) → AreTotals calls messages octets acknowledged old → Gains old (Terminal link) event answer gained new
+    → calls' ≡ calls + gained.calls → acknowledged' ≡ acknowledged + gained.acknowledged → AreTotals calls' messages octets acknowledged' new
+term_totals link calls messages octets acknowledged calls' acknowledged' event answer gained old new t gains c a = record {
+  calls_is = c ∙ ap (λ n. n + gained.calls) t.calls_is ∙ sym gains.calls;
+  messages_is = let was = t.messages_is in let is = gains.messages in let none = gains.no_other.0 in omega (arith, was, is, none);
+  octets_is = let was = t.octets_is in let is = gains.octets in let none = gains.no_other.1 in omega (arith, was, is, none);
+  acknowledged_is = a ∙ ap (λ n. n + gained.acknowledged) t.acknowledged_is ∙ sym gains.acknowledged;
+}
+
+-- what a step acknowledged is the share's of the seat that made it
+pub user_acknowledges : (number : ℕ) (event : Event) (answer : Answer) (gained : SeatShare) (old new : LinkSet) → Gains old (User number) event answer gained new → 0 + acked_in old ≡ 0 + acked_in new
+user_acknowledges number event answer gained old new gains = let is = gains.acknowledged in let none = gains.no_other in omega (arith, is, none)
+
+pub term_acknowledges : (link acknowledged acknowledged' : ℕ) (event : Event) (answer : Answer) (gained : SeatShare) (old new : LinkSet) → Gains old (Terminal link) event answer gained new → acknowledged' ≡ acknowledged + gained.acknowledged → acknowledged' + acked_in old ≡ acknowledged + acked_in new
+term_acknowledges link acknowledged acknowledged' event answer gained old new gains a = let is = gains.acknowledged in omega (arith, is, a)
+
+-- room in a book for what a step brought
+pub room_for : (total gained was is : ℕ) → total ≡ was → is ≡ was + gained → is ≤ 273 * 2 ^ 48 → total + gained < 2 ^ 64
+room_for total gained was is t g few = omega (arith, t, g, few)
+
+pub few_enough : {n : ℕ} → n ≤ 2 ^ 48 → n ≤ 273 * 2 ^ 48
+few_enough few = omega (arith, few)

@@ -2,6 +2,7 @@
 use Rattle.std.specs.Prelude.{◌≡◌, ℕ, zero, suc, List, [], ◌∷◌, ◌++◌, ◌+◌, length}
 use Rattle.set_events.specs.declared.answer.Answer.{Answer}
 use Rattle.set_events.specs.declared.event.Actor.{Actor}
+use Rattle.set_events.specs.declared.event.Actor.TheVariants.{User, Terminal}
 use Rattle.set_events.specs.declared.event.Event.{Event}
 use Rattle.set_events.specs.declared.history.Entry.{Entry}
 use Rattle.set_ledger.specs.declared.share.SeatShare.{SeatShare}
@@ -12,6 +13,21 @@ pub record SeatState : Type 0 where
   pub who : Actor
   pub share : SeatShare
   pub receipts : List Entry
+
+-- what a user's numbers and receipts show, and a terminal's
+abbrev pub user_share : ℕ → ℕ → ℕ → SeatShare
+user_share calls messages octets = record { calls = calls; messages = messages; octets = octets; acknowledged = 0 }
+
+abbrev pub term_share : ℕ → ℕ → SeatShare
+term_share calls acknowledged = record { calls = calls; messages = 0; octets = 0; acknowledged = acknowledged }
+
+abbrev pub user_state : ℕ → ℕ → ℕ → ℕ → List Entry → SeatState
+user_state number calls messages octets receipts =
+    record { who = User number; share = user_share calls messages octets; receipts = receipts }
+
+abbrev pub term_state : ℕ → ℕ → ℕ → List Entry → SeatState
+term_state link calls acknowledged receipts =
+    record { who = Terminal link; share = term_share calls acknowledged; receipts = receipts }
 
 -- a seat from which nothing was asked
 abbrev pub new_seat : Actor → SeatState
@@ -47,3 +63,8 @@ pub record Receives (old : SeatState) (event : Event) (answer : Answer) (new : S
 -- what a step acknowledged is the share's of the seat that made it
 abbrev pub AcknowledgesAs : LinkSet → LinkSet → SeatShare → SeatShare → Type 0
 AcknowledgesAs set set' old new = new.acknowledged + acked_in set ≡ old.acknowledged + acked_in set'
+
+-- one part, with this amount, went back to a share
+pub record Returns (parts amount told parts' amount' : ℕ) : Type 0 where
+  pub parts_are : parts' ≡ parts + 1
+  pub amount_is : amount' ≡ amount + told

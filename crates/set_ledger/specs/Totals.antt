@@ -1,7 +1,13 @@
 -- THE TOTALS of a set: what its ledgers' books say, which is what its history adds up to.
-use Rattle.std.specs.Prelude.{◌≡◌, ◌+◌, ℕ, length}
+use Rattle.std.specs.Prelude.{◌≡◌, ◌+◌, ◌*◌, ◌^◌, ◌≤◌, ℕ, length}
 use Rattle.std.specs.declared.sync.ledger.Blank.{Blank}
+use Rattle.set_events.specs.declared.answer.Answer.{Answer}
+use Rattle.set_events.specs.declared.event.Actor.{Actor}
+use Rattle.set_events.specs.declared.event.Actor.TheVariants.{User, Terminal}
+use Rattle.set_events.specs.declared.event.Event.{Event}
 use Rattle.set_model.specs.History.{LinkSet, messages_of, octets_in_all}
+use Rattle.set_model.specs.Step.{messages_in, octets_of}
+use Rattle.set_ledger.specs.declared.share.SeatShare.{SeatShare}
 use Rattle.set_ledger.specs.Seats.{acked_in}
 
 -- a set with how many users and links have a seat
@@ -15,6 +21,26 @@ pub record AreTotals (calls messages octets acknowledged : ℕ) (set : LinkSet) 
   pub messages_is : messages ≡ messages_of set.history
   pub octets_is : octets ≡ octets_in_all set.history
   pub acknowledged_is : acknowledged ≡ acked_in set
+
+-- a user acknowledges nothing; a terminal accepts nothing
+abbrev pub GainsNoOther : Actor → SeatShare → Type 0
+GainsNoOther (User number) gained = gained.acknowledged ≡ 0
+GainsNoOther (Terminal link) gained = (gained.messages ≡ 0) × (gained.octets ≡ 0)
+
+-- what a step brought to the totals, and how far they go
+pub record Gains (old : LinkSet) (who : Actor) (event : Event) (answer : Answer) (gained : SeatShare) (new : LinkSet) : Type 0 where
+  pub call : gained.calls ≡ 1
+  pub message : gained.messages ≡ messages_in answer
+  pub octet : gained.octets ≡ octets_of event answer
+  pub no_other : GainsNoOther who gained
+  pub calls : length new.history ≡ length old.history + gained.calls
+  pub messages : messages_of new.history ≡ messages_of old.history + gained.messages
+  pub octets : octets_in_all new.history ≡ octets_in_all old.history + gained.octets
+  pub acknowledged : acked_in new ≡ acked_in old + gained.acknowledged
+  pub few_calls : length new.history ≤ 2 ^ 48
+  pub few_messages : messages_of new.history ≤ 2 ^ 48
+  pub few_octets : octets_in_all new.history ≤ 273 * 2 ^ 48
+  pub few_acknowledged : acked_in new ≤ 2 ^ 48
 
 -- this blank is of the ledger of that name, cut into so many parts
 abbrev pub Names : Blank → ℕ → ℕ → Type 0

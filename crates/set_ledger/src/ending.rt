@@ -163,7 +163,7 @@ impl<C: Ledger, M: Ledger, O: Ledger, A: Ledger> Held<C, M, O, A> {
     }
 }
 
-/// Takes the users' seats apart: their shares of the ledgers, together.
+/// Takes the users' seats apart: their parts of the ledgers, together.
 fn merge_users<C: Ledger, M: Ledger, O: Ledger, A: Ledger>(
     seats: Vec<UserSeat<C, M, O, A>>,
     calls: &mut Share<C>,
@@ -178,14 +178,11 @@ fn merge_users<C: Ledger, M: Ledger, O: Ledger, A: Ledger>(
         octets.old.parts octets.old.amount octets.new.parts octets.new.amount }
 {
     for seat in seats {
-        let shares = seat.into_shares();
-        calls.merge(shares.calls);
-        messages.merge(shares.messages);
-        octets.merge(shares.octets);
+        seat.give_back(calls, messages, octets);
     }
 }
 
-/// Takes the terminals' seats apart: their shares of the ledgers, together.
+/// Takes the terminals' seats apart: their parts of the ledgers, together.
 fn merge_terminals<C: Ledger, M: Ledger, O: Ledger, A: Ledger>(
     seats: Vec<TermSeat<C, M, O, A>>,
     calls: &mut Share<C>,
@@ -197,8 +194,6 @@ fn merge_terminals<C: Ledger, M: Ledger, O: Ledger, A: Ledger>(
         acknowledged.old.parts acknowledged.old.amount acknowledged.new.parts acknowledged.new.amount }
 {
     for seat in seats {
-        let shares = seat.into_shares();
-        calls.merge(shares.calls);
-        acknowledged.merge(shares.acknowledged);
+        seat.give_back(calls, acknowledged);
     }
 }

@@ -1,15 +1,15 @@
 //! What stands under the lock of a set: the set, and the books of its ledgers.
-ghost use Rattle.std.specs.Prelude.{◌≡◌, ◌<◌, ◌≤◌, ◌^◌, ◌↔◌, ◌⊎◌, length, IfOk, IfErr, OnOk, OnErr};
+ghost use Rattle.std.specs.Prelude.{◌≡◌, ◌<◌, ◌≤◌, ◌↔◌, ◌⊎◌, [], IfOk};
+ghost use Rattle.std.specs.Vec.{vec_len, vec_capacity};
 ghost use Rattle.set_events.specs.declared.event.Actor.TheVariants.{User, Terminal};
-ghost use Rattle.set_core.specs.Gaining.{IsOwn};
-ghost use Rattle.set_model.specs.History.{IsStep, new_set};
-ghost use Rattle.set_ledger.specs.Seats.{new_seats, ShareGrows, AcknowledgesAs};
+ghost use Rattle.set_model.specs.History.{new_set};
+ghost use Rattle.set_ledger.specs.Seats.{new_seats};
 ghost use Rattle.set_ledger.specs.Totals.{AreTotals, AreParts, Names};
 
-use super::seat::{TermSeat, UserSeat, term_seats, user_seats};
-use super::share::{Blanks, TermShares, UserShares, messages_in, octets_of};
+use super::seat::{TermSeat, UserSeat, put_terminals, put_users};
+use super::share::Blanks;
 use set_core::{SetCore, SetFault};
-use set_events::{Actor, Answer, Event, SetConfig};
+use set_events::SetConfig;
 use std::alloc::{AllocFailed, Global};
 use std::marker::Model;
 use std::sync::ledger::{Book, Ledger, Share};
@@ -109,8 +109,14 @@ impl<C: Ledger, M: Ledger, O: Ledger, A: Ledger> Held<C, M, O, A> {
         if users == 0 || users > MOST_USERS {
             return Err(CreateFault::Users);
         }
+        let Ok(user_seats) = Vec::with_capacity(alloc, usize::from(users)) else {
+            return Err(CreateFault::NoMemory);
+        };
+        let Ok(term_seats) = Vec::with_capacity(alloc, usize::from(config.links)) else {
+            return Err(CreateFault::NoMemory);
+        };
         let core = SetCore::new(alloc, config)?;
-        with_seats(alloc, core, users, config.links, blanks)
+        Ok(with_seats(core, users, config.links, blanks, user_seats, term_seats))
     }
 
     /// The set.
@@ -135,87 +141,17 @@ impl<C: Ledger, M: Ledger, O: Ledger, A: Ledger> Held<C, M, O, A> {
     {
         self.links
     }
-
-    /// What the set answers to an event of this user's own. The user's share grows with the books by what it brought.
-    pub(crate) fn apply_of_user(
-        &mut self,
-        number: u16,
-        shares: &mut UserShares<C, M, O>,
-        event: &Event,
-    ) -> Result<Answer, SetFault>
-        requires range { number < 64 }
-        requires own { IsOwn (User number) event.now }
-        ensures step { IfOk result (λ answer. IsStep self.old.set (User number) event.now answer self.new.set) }
-        ensures grows { IfOk result (λ answer. ShareGrows shares.old.told event.now answer shares.new.told) }
-        ensures acknowledged { OnOk result (AcknowledgesAs self.old.set self.new.set shares.old.told shares.new.told) }
-        ensures seats { (self.new.users ≡ self.old.users) × (self.new.links ≡ self.old.links) }
-        ensures exhausted { (result ≡ Err SetFault.Exhausted) ↔ (2 ^ 48 ≤ length self.old.set.history) }
-        ensures err { OnErr result ((self.new ≡ self.old) × (shares.new.told ≡ shares.old.told)) }
-    {
-        let answer = self.core.apply(Actor::User(number), event)?;
-        self.core.replays();
-        let UserShares {
-            told,
-            calls,
-            messages,
-            octets,
-        } = shares;
-        self.calls.add(calls, 1);
-        self.calls.audit(calls);
-        told.calls += 1;
-        self.messages.add(messages, messages_in(&answer));
-        self.messages.audit(messages);
-        told.messages += messages_in(&answer);
-        self.octets.add(octets, octets_of(event, &answer));
-        self.octets.audit(octets);
-        told.octets += octets_of(event, &answer);
-        Ok(answer)
-    }
-
-    /// What the set answers to an event of this link's terminal. The terminal's share grows with the books by what
-    /// it brought.
-    pub(crate) fn apply_of_terminal(
-        &mut self,
-        link: u8,
-        shares: &mut TermShares<C, A>,
-        event: &Event,
-    ) -> Result<Answer, SetFault>
-        requires range { link < 16 }
-        requires own { IsOwn (Terminal link) event.now }
-        ensures step { IfOk result (λ answer. IsStep self.old.set (Terminal link) event.now answer self.new.set) }
-        ensures grows { IfOk result (λ answer. ShareGrows shares.old.told event.now answer shares.new.told) }
-        ensures acknowledged { OnOk result (AcknowledgesAs self.old.set self.new.set shares.old.told shares.new.told) }
-        ensures seats { (self.new.users ≡ self.old.users) × (self.new.links ≡ self.old.links) }
-        ensures exhausted { (result ≡ Err SetFault.Exhausted) ↔ (2 ^ 48 ≤ length self.old.set.history) }
-        ensures err { OnErr result ((self.new ≡ self.old) × (shares.new.told ≡ shares.old.told)) }
-    {
-        let before = self.core.acknowledged();
-        let answer = self.core.apply(Actor::Terminal(link), event)?;
-        self.core.replays();
-        let gained = self.core.acknowledged() - before;
-        let TermShares {
-            told,
-            calls,
-            acknowledged,
-        } = shares;
-        self.calls.add(calls, 1);
-        self.calls.audit(calls);
-        told.calls += 1;
-        self.acknowledged.add(acknowledged, gained);
-        self.acknowledged.audit(acknowledged);
-        told.acknowledged += gained;
-        Ok(answer)
-    }
 }
 
-/// A new set with its seats.
+/// A new set with its seats, for which there is room.
 fn with_seats<C: Ledger, M: Ledger, O: Ledger, A: Ledger>(
-    alloc: Global,
     core: SetCore,
     users: u16,
     links: u8,
     blanks: Blanks,
-) -> Result<Opened<C, M, O, A>, CreateFault>
+    user_seats: Vec<UserSeat<C, M, O, A>>,
+    term_seats: Vec<TermSeat<C, M, O, A>>,
+) -> Opened<C, M, O, A>
     requires few { (users ≤ 64) × (links ≤ 16) }
     requires new { AreTotals 0 0 0 0 core }
     requires calls { Names blanks.calls C.name C.parts }
@@ -223,24 +159,33 @@ fn with_seats<C: Ledger, M: Ledger, O: Ledger, A: Ledger>(
     requires octets { Names blanks.octets O.name O.parts }
     requires acknowledged { Names blanks.acknowledged A.name A.parts }
     requires parts { AreParts C.parts M.parts O.parts A.parts users links }
-    ensures held { IfOk result (λ opened. opened.held ≡ record { users = users; links = links; set = core }) }
-    ensures users { IfOk result (λ opened. opened.users.items ≡ new_seats User users) }
-    ensures terminals { IfOk result (λ opened. opened.terminals.items ≡ new_seats Terminal links) }
-    ensures fault { IfErr result (λ fault. fault ≡ CreateFault.NoMemory) }
+    requires user_room { (user_seats.items ≡ []) × (vec_len user_seats ≡ 0) × (users ≤ vec_capacity user_seats) }
+    requires term_room { (term_seats.items ≡ []) × (vec_len term_seats ≡ 0) × (links ≤ vec_capacity term_seats) }
+    ensures held { result.held ≡ record { users = users; links = links; set = core } }
+    ensures users { result.users.items ≡ new_seats User users }
+    ensures terminals { result.terminals.items ≡ new_seats Terminal links }
 {
     let (call_book, mut calls) = blanks.calls.open::<C>();
     let (message_book, mut messages) = blanks.messages.open::<M>();
     let (octet_book, mut octets) = blanks.octets.open::<O>();
     let (acked_book, mut acknowledged) = blanks.acknowledged.open::<A>();
-    let user_seats = user_seats(alloc, users, &mut calls, &mut messages, &mut octets)?;
-    let term_seats = term_seats(alloc, links, &mut calls, &mut acknowledged)?;
+    let mut user_seats = user_seats;
+    put_users(
+        &mut user_seats,
+        users,
+        &mut calls,
+        &mut messages,
+        &mut octets,
+    );
+    let mut term_seats = term_seats;
+    put_terminals(&mut term_seats, links, &mut calls, &mut acknowledged);
     let rest = Rest {
         calls,
         messages,
         octets,
         acknowledged,
     };
-    Ok(Opened {
+    Opened {
         held: Held {
             core,
             users,
@@ -253,7 +198,7 @@ fn with_seats<C: Ledger, M: Ledger, O: Ledger, A: Ledger>(
         },
         users: user_seats,
         terminals: term_seats,
-    })
+    }
 }
 
 impl CreateFault {

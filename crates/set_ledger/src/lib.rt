@@ -23,6 +23,7 @@
 mod checking;
 mod ending;
 mod held;
+mod making;
 mod seat;
 mod share;
 

@@ -1,15 +1,16 @@
 //! Seats of users and of terminals.
-ghost use Rattle.std.specs.Prelude.{◌≡◌, ◌<◌, ◌≤◌, ◌+◌, ◌^◌, ◌↔◌, length, IfOk, OnOk, OnErr};
+ghost use Rattle.std.specs.Prelude.{◌≡◌, ◌<◌, ◌≤◌, ◌+◌, ◌^◌, [], length, IfOk, OnOk, OnErr};
 ghost use Rattle.set_events.specs.declared.event.Actor.TheVariants.{User, Terminal};
 ghost use Rattle.set_core.specs.Gaining.{IsOwn};
+ghost use Rattle.std.specs.Vec.{vec_len, vec_capacity};
 ghost use Rattle.set_model.specs.History.{IsStep};
-ghost use Rattle.set_ledger.specs.Seats.{Receives, AcknowledgesAs, AddsUp, new_seats};
+ghost use Rattle.set_ledger.specs.Seats.{Receives, AcknowledgesAs, AddsUp, Returns, new_seats};
 
 use super::held::Held;
-use super::share::{SeatShare, TermShares, UserShares};
+use super::making::make;
+use super::share::{Part, SeatShare};
 use set_core::SetFault;
 use set_events::{Actor, Answer, Entry, Event};
-use std::alloc::{AllocFailed, Global};
 use std::marker::{Model, PhantomData};
 use std::sync::ledger::{Ledger, Share};
 
@@ -48,7 +49,9 @@ pub trait Seat<C: Ledger, M: Ledger, O: Ledger, A: Ledger> {
 #[derive(Drop)]
 pub struct UserSeat<C: Ledger, M: Ledger, O: Ledger, A: Ledger> {
     number: u16,
-    pub(crate) shares: UserShares<C, M, O>,
+    pub(crate) calls: Part<C>,
+    pub(crate) messages: Part<M>,
+    pub(crate) octets: Part<O>,
     receipts: Vec<Entry>,
     set: PhantomData<A>,
 }
@@ -59,20 +62,20 @@ impl<C: Ledger, M: Ledger, O: Ledger, A: Ledger> Model for UserSeat<C, M, O, A> 
     ghost Value = { SeatState };
 
     ghost use Rattle.std.specs.Prelude.{◌<◌};
-    ghost use Rattle.set_events.specs.declared.event.Actor.TheVariants.{User};
-    ghost use Rattle.set_ledger.specs.Seats.{AddsUp};
+    ghost use Rattle.set_ledger.specs.Seats.{AddsUp, user_state};
 
-    ghost view = { λ s. record { who = User s.number; share = s.shares.told; receipts = s.receipts.items } };
+    ghost view = { λ s. user_state s.number s.calls.told s.messages.told s.octets.told s.receipts.items };
 
-    ghost invariant = { λ s.
-        (s.number < 64) × AddsUp (record { who = User s.number; share = s.shares.told; receipts = s.receipts.items }) };
+    ghost invariant = { λ s. (s.number < 64)
+        × AddsUp (user_state s.number s.calls.told s.messages.told s.octets.told s.receipts.items) };
 }
 
 /// The seat of a link's terminal. Only [`step_in`] changes it.
 #[derive(Drop)]
 pub struct TermSeat<C: Ledger, M: Ledger, O: Ledger, A: Ledger> {
     link: u8,
-    pub(crate) shares: TermShares<C, A>,
+    pub(crate) calls: Part<C>,
+    pub(crate) acknowledged: Part<A>,
     receipts: Vec<Entry>,
     set: PhantomData<(M, O)>,
 }
@@ -83,13 +86,12 @@ impl<C: Ledger, M: Ledger, O: Ledger, A: Ledger> Model for TermSeat<C, M, O, A> 
     ghost Value = { SeatState };
 
     ghost use Rattle.std.specs.Prelude.{◌<◌};
-    ghost use Rattle.set_events.specs.declared.event.Actor.TheVariants.{Terminal};
-    ghost use Rattle.set_ledger.specs.Seats.{AddsUp};
+    ghost use Rattle.set_ledger.specs.Seats.{AddsUp, term_state};
 
-    ghost view = { λ s. record { who = Terminal s.link; share = s.shares.told; receipts = s.receipts.items } };
+    ghost view = { λ s. term_state s.link s.calls.told s.acknowledged.told s.receipts.items };
 
-    ghost invariant = { λ s.
-        (s.link < 16) × AddsUp (record { who = Terminal s.link; share = s.shares.told; receipts = s.receipts.items }) };
+    ghost invariant = { λ s. (s.link < 16)
+        × AddsUp (term_state s.link s.calls.told s.acknowledged.told s.receipts.items) };
 }
 
 impl<C: Ledger, M: Ledger, O: Ledger, A: Ledger> Seat<C, M, O, A> for UserSeat<C, M, O, A> {
@@ -100,7 +102,12 @@ impl<C: Ledger, M: Ledger, O: Ledger, A: Ledger> Seat<C, M, O, A> for UserSeat<C
     }
 
     fn share(&self) -> SeatShare {
-        self.shares.told
+        SeatShare {
+            calls: self.calls.told,
+            messages: self.messages.told,
+            octets: self.octets.told,
+            acknowledged: 0,
+        }
     }
 
     fn receipts(&self) -> &[Entry] {
@@ -108,12 +115,16 @@ impl<C: Ledger, M: Ledger, O: Ledger, A: Ledger> Seat<C, M, O, A> for UserSeat<C
     }
 
     fn step(&mut self, held: &mut Held<C, M, O, A>, event: &Event) -> Result<Answer, SetFault> {
-        let kept = event.try_copy()?;
-        self.receipts.reserve(1)?;
-        let answer = held.apply_of_user(self.number, &mut self.shares, event)?;
-        self.receipts
-            .push_reserved(receipt_of(Actor::User(self.number), kept, &answer));
-        Ok(answer)
+        let who = Actor::User(self.number);
+        match make(&mut held.core, who, &mut self.receipts, event) {
+            Ok(made) => {
+                self.calls.gain(&mut held.calls, made.gained.calls);
+                self.messages.gain(&mut held.messages, made.gained.messages);
+                self.octets.gain(&mut held.octets, made.gained.octets);
+                Ok(made.answer)
+            }
+            Err(fault) => Err(fault),
+        }
     }
 }
 
@@ -125,7 +136,12 @@ impl<C: Ledger, M: Ledger, O: Ledger, A: Ledger> Seat<C, M, O, A> for TermSeat<C
     }
 
     fn share(&self) -> SeatShare {
-        self.shares.told
+        SeatShare {
+            calls: self.calls.told,
+            messages: 0,
+            octets: 0,
+            acknowledged: self.acknowledged.told,
+        }
     }
 
     fn receipts(&self) -> &[Entry] {
@@ -133,12 +149,16 @@ impl<C: Ledger, M: Ledger, O: Ledger, A: Ledger> Seat<C, M, O, A> for TermSeat<C
     }
 
     fn step(&mut self, held: &mut Held<C, M, O, A>, event: &Event) -> Result<Answer, SetFault> {
-        let kept = event.try_copy()?;
-        self.receipts.reserve(1)?;
-        let answer = held.apply_of_terminal(self.link, &mut self.shares, event)?;
-        self.receipts
-            .push_reserved(receipt_of(Actor::Terminal(self.link), kept, &answer));
-        Ok(answer)
+        let who = Actor::Terminal(self.link);
+        match make(&mut held.core, who, &mut self.receipts, event) {
+            Ok(made) => {
+                self.calls.gain(&mut held.calls, made.gained.calls);
+                self.acknowledged
+                    .gain(&mut held.acknowledged, made.gained.acknowledged);
+                Ok(made.answer)
+            }
+            Err(fault) => Err(fault),
+        }
     }
 }
 
@@ -151,12 +171,20 @@ impl<C: Ledger, M: Ledger, O: Ledger, A: Ledger> UserSeat<C, M, O, A> {
         self.number
     }
 
-    /// The shares of a seat that is given up with its receipts.
-    pub(crate) fn into_shares(self) -> UserShares<C, M, O>
-        ensures { result.told ≡ self.share }
+    /// The parts of a seat that is given up with its receipts go back to these.
+    pub(crate) fn give_back(
+        self,
+        calls: &mut Share<C>,
+        messages: &mut Share<M>,
+        octets: &mut Share<O>,
+    )
+        ensures calls { Returns calls.old.parts calls.old.amount self.share.calls calls.new.parts calls.new.amount }
+        ensures messages { Returns messages.old.parts messages.old.amount self.share.messages messages.new.parts messages.new.amount }
+        ensures octets { Returns octets.old.parts octets.old.amount self.share.octets octets.new.parts octets.new.amount }
     {
-        let UserSeat { shares, .. } = self;
-        shares
+        self.calls.give_back(calls);
+        self.messages.give_back(messages);
+        self.octets.give_back(octets);
     }
 }
 
@@ -169,23 +197,14 @@ impl<C: Ledger, M: Ledger, O: Ledger, A: Ledger> TermSeat<C, M, O, A> {
         self.link
     }
 
-    /// The shares of a seat that is given up with its receipts.
-    pub(crate) fn into_shares(self) -> TermShares<C, A>
-        ensures { result.told ≡ self.share }
+    /// The parts of a seat that is given up with its receipts go back to these.
+    pub(crate) fn give_back(self, calls: &mut Share<C>, acknowledged: &mut Share<A>)
+        ensures calls { Returns calls.old.parts calls.old.amount self.share.calls calls.new.parts calls.new.amount }
+        ensures acknowledged { Returns acknowledged.old.parts acknowledged.old.amount self.share.acknowledged
+            acknowledged.new.parts acknowledged.new.amount }
     {
-        let TermSeat { shares, .. } = self;
-        shares
-    }
-}
-
-/// The receipt of a step: its entry.
-fn receipt_of(who: Actor, event: Event, answer: &Answer) -> Entry
-    ensures { result ≡ record { who = who; event = event; answer = answer.now } }
-{
-    Entry {
-        who,
-        event,
-        answer: answer.copy(),
+        self.calls.give_back(calls);
+        self.acknowledged.give_back(acknowledged);
     }
 }
 
@@ -211,69 +230,60 @@ pub fn step_in<C: Ledger, M: Ledger, O: Ledger, A: Ledger, S: Seat<C, M, O, A>>(
     seat.step(held, event)
 }
 
-/// The seats of the users 0, 1, .., each with one part of each ledger that it moves.
-pub(crate) fn user_seats<C: Ledger, M: Ledger, O: Ledger, A: Ledger>(
-    alloc: Global,
+/// Puts the seats of the users 0, 1, .. into this room, each with one part of each ledger that it moves.
+pub(crate) fn put_users<C: Ledger, M: Ledger, O: Ledger, A: Ledger>(
+    seats: &mut Vec<UserSeat<C, M, O, A>>,
     users: u16,
     calls: &mut Share<C>,
     messages: &mut Share<M>,
     octets: &mut Share<O>,
-) -> Result<Vec<UserSeat<C, M, O, A>>, AllocFailed<UserSeat<C, M, O, A>>>
+)
+    requires room { (seats.old.items ≡ []) × (vec_len seats.old ≡ 0) × (users ≤ vec_capacity seats.old) }
     requires range { users ≤ 64 }
     requires calls { (calls.old.amount ≡ 0) × (users ≤ calls.old.parts) }
     requires messages { (messages.old.amount ≡ 0) × (users ≤ messages.old.parts) }
     requires octets { (octets.old.amount ≡ 0) × (users ≤ octets.old.parts) }
-    ensures seats { IfOk result (λ seats. seats.items ≡ new_seats User users) }
-    ensures calls { IfOk result (λ seats. (calls.new.amount ≡ 0) × (calls.new.parts + users ≡ calls.old.parts)) }
-    ensures messages { IfOk result (λ seats.
-        (messages.new.amount ≡ 0) × (messages.new.parts + users ≡ messages.old.parts)) }
-    ensures octets { IfOk result (λ seats.
-        (octets.new.amount ≡ 0) × (octets.new.parts + users ≡ octets.old.parts)) }
+    ensures seats { seats.new.items ≡ new_seats User users }
+    ensures calls { (calls.new.amount ≡ 0) × (calls.new.parts + users ≡ calls.old.parts) }
+    ensures messages { (messages.new.amount ≡ 0) × (messages.new.parts + users ≡ messages.old.parts) }
+    ensures octets { (octets.new.amount ≡ 0) × (octets.new.parts + users ≡ octets.old.parts) }
 {
-    let mut seats = Vec::new(alloc);
     for number in 0..users {
-        seats.push(UserSeat {
+        let seat = UserSeat {
             number,
-            shares: UserShares {
-                told: SeatShare::none(),
-                calls: calls.split_off(1, 0),
-                messages: messages.split_off(1, 0),
-                octets: octets.split_off(1, 0),
-            },
-            receipts: Vec::new(alloc),
+            calls: Part::cut(calls),
+            messages: Part::cut(messages),
+            octets: Part::cut(octets),
+            receipts: Vec::new(*seats.allocator()),
             set: PhantomData,
-        })?;
+        };
+        seats.push_reserved(seat);
     }
-    Ok(seats)
 }
 
-/// The seats of the terminals of the links 0, 1, .., each with one part of each ledger that it moves.
-pub(crate) fn term_seats<C: Ledger, M: Ledger, O: Ledger, A: Ledger>(
-    alloc: Global,
+/// Puts the seats of the terminals of the links 0, 1, .. into this room, each with one part of each ledger that it moves.
+pub(crate) fn put_terminals<C: Ledger, M: Ledger, O: Ledger, A: Ledger>(
+    seats: &mut Vec<TermSeat<C, M, O, A>>,
     links: u8,
     calls: &mut Share<C>,
     acknowledged: &mut Share<A>,
-) -> Result<Vec<TermSeat<C, M, O, A>>, AllocFailed<TermSeat<C, M, O, A>>>
+)
+    requires room { (seats.old.items ≡ []) × (vec_len seats.old ≡ 0) × (links ≤ vec_capacity seats.old) }
     requires range { links ≤ 16 }
     requires calls { (calls.old.amount ≡ 0) × (links ≤ calls.old.parts) }
     requires acknowledged { (acknowledged.old.amount ≡ 0) × (links ≤ acknowledged.old.parts) }
-    ensures seats { IfOk result (λ seats. seats.items ≡ new_seats Terminal links) }
-    ensures calls { IfOk result (λ seats. (calls.new.amount ≡ 0) × (calls.new.parts + links ≡ calls.old.parts)) }
-    ensures acknowledged { IfOk result (λ seats.
-        (acknowledged.new.amount ≡ 0) × (acknowledged.new.parts + links ≡ acknowledged.old.parts)) }
+    ensures seats { seats.new.items ≡ new_seats Terminal links }
+    ensures calls { (calls.new.amount ≡ 0) × (calls.new.parts + links ≡ calls.old.parts) }
+    ensures acknowledged { (acknowledged.new.amount ≡ 0) × (acknowledged.new.parts + links ≡ acknowledged.old.parts) }
 {
-    let mut seats = Vec::new(alloc);
     for link in 0..links {
-        seats.push(TermSeat {
+        let seat = TermSeat {
             link,
-            shares: TermShares {
-                told: SeatShare::none(),
-                calls: calls.split_off(1, 0),
-                acknowledged: acknowledged.split_off(1, 0),
-            },
-            receipts: Vec::new(alloc),
+            calls: Part::cut(calls),
+            acknowledged: Part::cut(acknowledged),
+            receipts: Vec::new(*seats.allocator()),
             set: PhantomData,
-        })?;
+        };
+        seats.push_reserved(seat);
     }
-    Ok(seats)
 }

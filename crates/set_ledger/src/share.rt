@@ -1,9 +1,10 @@
 //! What a seat has of the totals: plain numbers, and the tokens of the ledgers that say the same.
-ghost use Rattle.std.specs.Prelude.{◌≡◌};
+ghost use Rattle.std.specs.Prelude.{◌≡◌, ◌<◌, ◌+◌, ◌^◌};
+ghost use Rattle.set_ledger.specs.Seats.{Returns};
 ghost use Rattle.set_model.specs.Step.{messages_in as messages_in_answer, octets_of as octets_of_answer};
 
 use set_events::{Answer, Event};
-use std::sync::ledger::{Blank, Ledger, Share};
+use std::sync::ledger::{Blank, Book, Ledger, Share};
 
 /// What a seat's steps added to the totals of its set.
 #[derive(Clone, Copy, Debug, PartialEq, Eq)]
@@ -18,20 +19,6 @@ pub struct SeatShare {
     pub acknowledged: u64,
 }
 
-impl SeatShare {
-    /// The share of a seat from which nothing was asked.
-    pub(crate) fn none() -> SeatShare
-        ensures { result ≡ record { calls = 0; messages = 0; octets = 0; acknowledged = 0 } }
-    {
-        SeatShare {
-            calls: 0,
-            messages: 0,
-            octets: 0,
-            acknowledged: 0,
-        }
-    }
-}
-
 /// A blank for each ledger of a set that is to be opened, cut into as many parts as seats move it: calls as many as there are
 /// users and links, messages and octets as many as users, acknowledgements as many as links.
 #[derive(Drop)]
@@ -42,28 +29,44 @@ pub struct Blanks {
     pub acknowledged: Blank,
 }
 
-/// A user's share of the totals, and one part of each ledger that it moves, with the same amounts.
+/// A seat's one part of a ledger, and the plain number that tells its amount.
 #[derive(Drop)]
-pub(crate) struct UserShares<C: Ledger, M: Ledger, O: Ledger> {
-    pub(crate) told: SeatShare,
-    pub(crate) calls: Share<C>,
-    pub(crate) messages: Share<M>,
-    pub(crate) octets: Share<O>,
-    pub(crate) ghost calls_told: { (calls.parts ≡ 1) × (calls.amount ≡ told.calls) },
-    pub(crate) ghost messages_told: { (messages.parts ≡ 1) × (messages.amount ≡ told.messages) },
-    pub(crate) ghost octets_told: { (octets.parts ≡ 1) × (octets.amount ≡ told.octets) },
-    pub(crate) ghost acknowledges_none: { told.acknowledged ≡ 0 },
+pub(crate) struct Part<L: Ledger> {
+    pub(crate) told: u64,
+    share: Share<L>,
+    ghost is_told: { (share.parts ≡ 1) × (share.amount ≡ told) },
 }
 
-/// A terminal's share of the totals, and one part of each ledger that it moves, with the same amounts.
-#[derive(Drop)]
-pub(crate) struct TermShares<C: Ledger, A: Ledger> {
-    pub(crate) told: SeatShare,
-    pub(crate) calls: Share<C>,
-    pub(crate) acknowledged: Share<A>,
-    pub(crate) ghost calls_told: { (calls.parts ≡ 1) × (calls.amount ≡ told.calls) },
-    pub(crate) ghost acknowledged_told: { (acknowledged.parts ≡ 1) × (acknowledged.amount ≡ told.acknowledged) },
-    pub(crate) ghost accepts_none: { (told.messages ≡ 0) × (told.octets ≡ 0) },
+impl<L: Ledger> Part<L> {
+    /// One of these parts, with no amount.
+    pub(crate) fn cut(from: &mut Share<L>) -> Part<L>
+        requires { (0 < from.old.parts) × (from.old.amount ≡ 0) }
+        ensures told { result.told ≡ 0 }
+        ensures left { (from.new.amount ≡ 0) × (from.new.parts + 1 ≡ from.old.parts) }
+    {
+        Part {
+            told: 0,
+            share: from.split_off(1, 0),
+        }
+    }
+
+    /// The part gains so much, and the ledger's book with it.
+    pub(crate) fn gain(&mut self, book: &mut Book<L>, more: u64)
+        requires { book.old.total + more < 2 ^ 64 }
+        ensures told { self.new.told ≡ self.old.told + more }
+        ensures total { book.new.total ≡ book.old.total + more }
+    {
+        book.add(&mut self.share, more);
+        book.audit(&mut self.share);
+        self.told += more;
+    }
+
+    /// The part goes back to these.
+    pub(crate) fn give_back(self, to: &mut Share<L>)
+        ensures { Returns to.old.parts to.old.amount self.told to.new.parts to.new.amount }
+    {
+        to.merge(self.share);
+    }
 }
 
 /// How many messages this answer accepts: 1 or none.

@@ -1,11 +1,58 @@
-use Rattle.set_events.specs.declared.event.Actor.TheVariants.{Terminal}
-use Rattle.set_ledger.proofs.Growing.{adds_up_then}
+use Rattle.std.proofs.Common.{◌∙◌, ap, refl, List}
+use Rattle.set_events.specs.declared.history.Entry.{Entry}
+use Rattle.set_model.specs.History.{LinkSet}
+use Rattle.set_ledger.specs.Seats.{term_state}
+use Rattle.set_ledger.specs.Totals.{HeldState}
+use Rattle.set_ledger.proofs.Growing.{term_adds_up, term_totals, term_grows, term_acknowledges, room_for, few_enough}
 use Rattle.set_ledger.proofs.seat.TermSeatSeat.step.Goals as goal
 
+pub gain-requires : goal.gain-requires
+gain-requires g c = let gains = c.in-Ok.ensures.gains in room_for _ _ _ _ c.held.invariant.0.calls_is gains.calls (few_enough gains.few_calls)
+
+pub gain-requires-in-Ok : goal.gain-requires-in-Ok
+gain-requires-in-Ok g c = let gains = c.in-Ok.ensures.gains in room_for _ _ _ _ c.held.invariant.0.acknowledged_is gains.acknowledged (few_enough gains.few_acknowledged)
+
 -- the receipt is the entry that was made, and the share grew by it
-pub invariant_of-self-2 : goal.invariant_of-self-2
-invariant_of-self-2 g c = (
+pub invariant_of-self : goal.invariant_of-self
+invariant_of-self g c = (
   c.self.invariant.0,
-  adds_up_then (Terminal c.self.inside.link) c.self.inside.shares.told c.apply_of_terminal.new.shares.told c.self.inside.receipts.items c.reserve.new.self.items c.push_reserved.new.self.items c.receipt_of.result c.in_ok-kept.kept c.args.event.now c.in_ok-answer.answer
-      c.self.invariant.1 c.in_ok-answer.ensures.grows c.reserve.ensures.items c.push_reserved.ensures.items c.receipt_of.ensures c.in_ok-kept.ensures,
+  term_adds_up c.self.inside.link c.self.inside.calls.told c.self.inside.acknowledged.told c.gain.new.self.told c.gain-in-Ok.new.self.told c.self.inside.receipts.items c.make.new.receipts.items c.args.event.now
+      c.in-Ok.made.answer c.in-Ok.made.gained c.held.inside.core c.make.new.core c.self.invariant.1 c.in-Ok.ensures.gains c.gain.ensures.told c.in-Ok.ensures.receipt,
+)
+
+pub invariant_of-held : goal.invariant_of-held
+invariant_of-held g c = (
+  term_totals c.self.inside.link _ _ _ _ _ _ c.args.event.now c.in-Ok.made.answer c.in-Ok.made.gained c.held.inside.core c.make.new.core c.held.invariant.0 c.in-Ok.ensures.gains c.gain.ensures.total c.gain-in-Ok.ensures.total,
+  c.held.invariant.1,
+)
+
+pub returns-in-Ok-clause-step : goal.returns-in-Ok-clause-step
+returns-in-Ok-clause-step g c = rw (← c.held.view_is, ← c.self.view_is) c.in-Ok.ensures.step
+
+pub returns-in-Ok-clause-receipt : goal.returns-in-Ok-clause-receipt
+returns-in-Ok-clause-receipt g c = rw (← c.self.view_is) (record {
+  who_same = refl;
+  receipt = c.in-Ok.ensures.receipt;
+  grows = term_grows c.self.inside.link _ _ _ _ c.args.event.now c.in-Ok.made.answer c.in-Ok.made.gained c.held.inside.core c.make.new.core c.in-Ok.ensures.gains c.gain.ensures.told;
+})
+
+pub returns-in-Ok-clause-acknowledged : goal.returns-in-Ok-clause-acknowledged
+returns-in-Ok-clause-acknowledged g c = rw (← c.held.view_is, ← c.self.view_is) (term_acknowledges c.self.inside.link _ _ c.args.event.now c.in-Ok.made.answer c.in-Ok.made.gained c.held.inside.core c.make.new.core c.in-Ok.ensures.gains c.gain-in-Ok.ensures.told)
+
+pub returns-in-Ok-clause-seats : goal.returns-in-Ok-clause-seats
+returns-in-Ok-clause-seats g c = (ap (λ (h : HeldState). h.users) c.held.view_is, ap (λ (h : HeldState). h.links) c.held.view_is)
+
+pub invariant_of-held-in-Err : goal.invariant_of-held-in-Err
+invariant_of-held-in-Err g c = rw c.in-Err.ensures.err.0 c.held.invariant
+
+pub invariant_of-self-in-Err : goal.invariant_of-self-in-Err
+invariant_of-self-in-Err g c = rw c.in-Err.ensures.err.1 c.self.invariant
+
+pub returns-in-Err-clause-seats : goal.returns-in-Err-clause-seats
+returns-in-Err-clause-seats g c = (ap (λ (h : HeldState). h.users) c.held.view_is, ap (λ (h : HeldState). h.links) c.held.view_is)
+
+pub returns-in-Err-clause-err : goal.returns-in-Err-clause-err
+returns-in-Err-clause-err g c = (
+  ap (λ (set : LinkSet). record { users = c.held.inside.users; links = c.held.inside.links; set = set }) c.in-Err.ensures.err.0 ∙ c.held.view_is,
+  ap (λ (made : List Entry). term_state c.self.inside.link c.self.inside.calls.told c.self.inside.acknowledged.told made) c.in-Err.ensures.err.1 ∙ c.self.view_is,
 )

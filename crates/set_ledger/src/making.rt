@@ -1,0 +1,58 @@
+//! One step at a set that is lent, and its receipt.
+ghost use Rattle.std.specs.Prelude.{◌≡◌, ◌≤◌, ◌^◌, ◌++◌, ◌∷◌, [], length, IfOk, OnErr};
+ghost use Rattle.set_core.specs.Gaining.{IsOwn};
+ghost use Rattle.set_model.specs.History.{IsActor, IsStep};
+ghost use Rattle.set_ledger.specs.Totals.{Gains};
+
+use super::share::{SeatShare, messages_in, octets_of};
+use set_core::{SetCore, SetFault};
+use set_events::{Actor, Answer, Entry, Event};
+
+/// A step that was made: its answer, and what it brought to the totals.
+#[derive(Drop)]
+pub(crate) struct Made {
+    pub(crate) answer: Answer,
+    pub(crate) gained: SeatShare,
+}
+
+/// Makes a step at the set, puts its receipt last, and tells what it brought to the totals.
+pub(crate) fn make(
+    core: &mut SetCore,
+    who: Actor,
+    receipts: &mut Vec<Entry>,
+    event: &Event,
+) -> Result<Made, SetFault>
+    requires actor { IsActor who }
+    requires own { IsOwn who event.now }
+    ensures step { IfOk result (λ made. IsStep core.old who event.now made.answer core.new) }
+    ensures receipt { IfOk result (λ made. receipts.new.items
+        ≡ receipts.old.items ++ record { who = who; event = event.now; answer = made.answer } ∷ []) }
+    ensures gains { IfOk result (λ made. Gains core.old who event.now made.answer made.gained core.new) }
+    ensures exhausted { result ≡ Err SetFault.Exhausted → 2 ^ 48 ≤ length core.old.history }
+    ensures err { OnErr result ((core.new ≡ core.old) × (receipts.new.items ≡ receipts.old.items)) }
+{
+    let kept = event.try_copy()?;
+    receipts.reserve(1)?;
+    let before = core.acknowledged();
+    let answer = core.apply(who, event)?;
+    core.replays();
+    let gained = SeatShare {
+        calls: 1,
+        messages: messages_in(&answer),
+        octets: octets_of(event, &answer),
+        acknowledged: core.acknowledged() - before,
+    };
+    receipts.push_reserved(receipt_of(who, kept, &answer));
+    Ok(Made { answer, gained })
+}
+
+/// The receipt of a step: its entry.
+fn receipt_of(who: Actor, event: Event, answer: &Answer) -> Entry
+    ensures { result ≡ record { who = who; event = event; answer = answer.now } }
+{
+    Entry {
+        who,
+        event,
+        answer: answer.copy(),
+    }
+}
