@@ -1,7 +1,8 @@
 -- What is needed where a set comes to its end.
-use Rattle.std.proofs.Common.{refl, arith, ◌≡◌, ◌∙◌, ap, sym, ◌≤◌, ◌↔◌, IsTrue, nat_eq, ◌==◌, Bool, true, false, [], length, drop, ℕ, List, ◌+◌, sum_by}
+use Rattle.std.proofs.Common.{refl, arith, ◌≡◌, ◌∙◌, ap, sym, subst, ◌≤◌, ◌<◌, ◌⊎◌, inl, inr, ◌↔◌, IsTrue, nat_eq, ◌==◌, Bool, true, false, [], ◌∷◌, ◌++◌, length, drop, ℕ, List, ◌+◌, sum_by}
 use Rattle.std.proofs.lemmas.Bool.Decides.{nat_tests}
-use Rattle.std.proofs.lemmas.List.{drop_all, length-drop}
+use Rattle.std.proofs.lemmas.List.{drop_all, length-drop, length-append}
+use Rattle.std.proofs.lemmas.List.Sums.{sum_by-append, sum_by-cons}
 use Rattle.std.specs.Prelude.{if◌then◌else◌}
 use Rattle.set_events.specs.declared.answer.Counts.{Counts}
 use Rattle.set_events.specs.declared.books.Books.{Books}
@@ -11,7 +12,7 @@ use Rattle.set_model.specs.State.{State}
 use Rattle.set_model.specs.Rows.{counts_of}
 use Rattle.set_model.specs.History.{LinkSet, IsLegal, after, books_of}
 use Rattle.set_ledger.specs.declared.share.SeatShare.{SeatShare}
-use Rattle.set_ledger.specs.Seats.{SeatState}
+use Rattle.set_ledger.specs.Seats.{SeatState, Returns}
 use Rattle.set_ledger.specs.Ending.{are_seats, is_complete, AreFaithful, IsClosed, IsMerged}
 use Rattle.set_ledger.specs.Totals.{AreTotals}
 
@@ -47,6 +48,26 @@ complete_lengths users links us ts e =
     let some : (length us == users) ≡ true = as_many _ _ user_seats in
     let more : (length ts == links) ≡ true = as_many _ _ term_seats in
     (grind (arith, nat_tests, some), grind (arith, nat_tests, more))
+
+-- what the tests of the end said of the seats, of which they were lent slices
+pub complete_as : (users links : ℕ) (us us' ts ts' : List SeatState) (told is : Bool) → told ≡ is_complete users links us' ts' → us' ≡ us → ts' ≡ ts → told ≡ is → is_complete users links us ts ≡ is
+complete_as users links us us' ts ts' told is e same_users same_terms answer = ap (is_complete users links us) (sym same_terms) ∙ ap (λ (seats : List SeatState). is_complete users links seats ts') (sym same_users) ∙ sym e ∙ answer
+
+pub faithful_as : (history : List Entry) (us us' ts ts' : List SeatState) (told : Bool) → (IsTrue told ↔ AreFaithful history us' ts') → us' ≡ us → ts' ≡ ts → (IsTrue told ↔ AreFaithful history us ts)
+faithful_as history us us' ts ts' told way same_users same_terms = subst (λ (seats : List SeatState). IsTrue told ↔ AreFaithful history us seats) same_terms (subst (λ (seats : List SeatState). IsTrue told ↔ AreFaithful history seats ts') same_users way)
+
+-- one seat more gave back its part
+pub merged_more : (number : SeatShare → ℕ) (seats : List SeatState) (seat : SeatState) (parts amount parts' amount' parts'' amount'' : ℕ) → IsMerged number seats parts amount parts' amount' → Returns parts' amount' (number seat.share) parts'' amount'' → IsMerged number (seats ++ seat ∷ []) parts amount parts'' amount''
+merged_more number seats seat parts amount parts' amount' parts'' amount'' merged returns =
+    let told : SeatState → ℕ = λ (seat : SeatState). number seat.share in
+    let parts_were = merged.parts_are in
+    let amount_was = merged.amount_is in
+    let parts_are = returns.parts_are in
+    let amount_is = returns.amount_is in
+    record {
+      parts_are = omega (arith, parts_were, parts_are, length-append seats (seat ∷ []));
+      amount_is = omega (arith, amount_was, amount_is, sum_by-append told seats (seat ∷ []), sum_by-cons told seat []);
+    }
 
 -- The seats have all parts of a ledger, so what their shares tell is its total.
 pub whole_sum : (number : SeatShare → ℕ) (seats : List SeatState) (parts amount parts' amount' all total : ℕ) → parts ≡ 0 → amount ≡ 0 → IsMerged number seats parts amount parts' amount' → length seats ≡ all → (parts' ≡ all → amount' ≡ total)
@@ -84,3 +105,8 @@ closes us ts set books counts calls messages octets acknowledged legal replays b
   octets = ap (λ (b : Books). b.octets) books_are ∙ sym totals.octets_is ∙ o;
   acknowledged = ap (λ (b : Books). b.acknowledged) books_are ∙ sym totals.acknowledged_is ∙ a;
 }
+
+-- a number of users that was tested is in range
+pub in_range : (users : ℕ) → (users ≡ 0 → ⊥) → users ≤ 64 → (users ≡ 0) ⊎ (64 < users) → ⊥
+in_range users some few (inl none) = some none
+in_range users some few (inr more) = absurd (omega (arith, few, more))

@@ -1,5 +1,5 @@
 -- What an entry adds to a seat, and what seats that are back come to.
-use Rattle.std.proofs.Common.{arith, ◌≡◌, ◌∙◌, ap, sym, ℕ, ◌+◌, ◌*◌, ◌^◌, ◌<◌, ◌≤◌, [], ◌∷◌, ◌++◌, List}
+use Rattle.std.proofs.Common.{arith, ◌≡◌, ◌∙◌, ap, sym, refl, ℕ, length, ◌+◌, ◌-◌, ◌*◌, ◌^◌, ◌<◌, ◌≤◌, [], ◌∷◌, ◌++◌, List}
 use Rattle.std.proofs.lemmas.List.{length-append}
 use Rattle.set_events.specs.declared.answer.Answer.{Answer}
 use Rattle.set_events.specs.declared.event.Actor.{Actor}
@@ -7,10 +7,12 @@ use Rattle.set_events.specs.declared.event.Actor.TheVariants.{User, Terminal}
 use Rattle.set_events.specs.declared.event.Event.{Event}
 use Rattle.set_events.specs.declared.history.Entry.{Entry}
 use Rattle.set_core.proofs.Keeping.{messages_more, octets_more}
-use Rattle.set_model.specs.History.{LinkSet}
+use Rattle.set_core.specs.Gaining.{BooksGain, AreBounded, IsOwn, GainsNoOther as GainsNoOtherInBooks}
+use Rattle.set_model.specs.History.{LinkSet, IsStep, books_of}
+use Rattle.set_model.specs.Step.{messages_in, octets_of}
 use Rattle.set_ledger.specs.declared.share.SeatShare.{SeatShare}
 use Rattle.set_ledger.specs.Seats.{ShareGrows, AddsUp, acked_in, user_share, term_share, user_state, term_state}
-use Rattle.set_ledger.specs.Totals.{AreTotals, Gains}
+use Rattle.set_ledger.specs.Totals.{AreTotals, Gains, GainsNoOther}
 
 -- a share that grew by an entry is what the receipts with that entry add up to
 pub adds_up_more : (who : Actor) (old new : SeatShare) (receipts more : List Entry) (event : Event) (answer : Answer) → AddsUp (record { who = who; share = old; receipts = receipts }) → ShareGrows old event answer new → more ≡ receipts ++ record { who = who; event = event; answer = answer } ∷ []
@@ -88,3 +90,38 @@ room_for total gained was is t g few = omega (arith, t, g, few)
 
 pub few_enough : {n : ℕ} → n ≤ 2 ^ 48 → n ≤ 273 * 2 ^ 48
 few_enough few = omega (arith, few)
+
+-- What the books gained is what a step brought.
+pub brings : (old new : LinkSet) (who : Actor) (event : Event) (answer : Answer) (messages octets before after : ℕ) → IsOwn who event → IsStep old who event answer new → BooksGain (books_of old.opening old.history) who event answer (books_of new.opening new.history)
+    → AreBounded (books_of new.opening new.history) → length new.history ≤ 2 ^ 48 → messages ≡ messages_in answer → octets ≡ octets_of event answer → before ≡ acked_in old → after ≡ acked_in new
+    → Gains old who event answer (record { calls = 1; messages = messages; octets = octets; acknowledged = after - before }) new
+brings old new who event answer messages octets before after own is gains bounded few m o b a =
+    let entry : Entry = record { who = who; event = event; answer = answer } in
+    let messages_gain = gains.messages in
+    let octets_gain = gains.octets in
+    let acked_gain = gains.acknowledged in
+    let few_messages = bounded.messages in
+    let few_acked = bounded.acknowledged in
+    record {
+      call = refl;
+      message = m;
+      octet = o;
+      no_other = only who (gains.own own);
+      calls = ap length is.history_is ∙ length-append old.history (entry ∷ []);
+      messages = omega (arith, m, messages_gain);
+      octets = omega (arith, o, octets_gain);
+      acknowledged = omega (arith, b, a, acked_gain);
+      few_calls = few;
+      few_messages = few_messages;
+      few_octets = bounded.octets;
+      few_acknowledged = omega (arith, few_acked, few_messages);
+    }
+  where
+    only : (who : Actor) → GainsNoOtherInBooks who (books_of old.opening old.history) (books_of new.opening new.history) → GainsNoOther who (record { calls = 1; messages = messages; octets = octets; acknowledged = after - before })
+    only (User number) none = omega (arith, b, a, none)
+    only (Terminal link) none =
+        let no_message = none.0 in
+        let no_octet = none.1 in
+        let messages_gain = gains.messages in
+        let octets_gain = gains.octets in
+        (omega (arith, m, no_message, messages_gain), omega (arith, o, no_octet, octets_gain))

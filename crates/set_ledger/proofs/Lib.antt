@@ -1,2 +1,3 @@
 pub mod Closing
 pub mod Growing
+pub mod Searching

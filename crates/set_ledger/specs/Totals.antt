@@ -1,5 +1,5 @@
 -- THE TOTALS of a set: what its ledgers' books say, which is what its history adds up to.
-use Rattle.std.specs.Prelude.{◌≡◌, ◌+◌, ◌*◌, ◌^◌, ◌≤◌, ℕ, length}
+use Rattle.std.specs.Prelude.{◌≡◌, ◌+◌, ◌*◌, ◌^◌, ◌≤◌, ℕ, [], length, Vec, vec_len, vec_capacity}
 use Rattle.std.specs.declared.sync.ledger.Blank.{Blank}
 use Rattle.set_events.specs.declared.answer.Answer.{Answer}
 use Rattle.set_events.specs.declared.event.Actor.{Actor}
@@ -53,3 +53,9 @@ pub record AreParts (calls messages octets acknowledged : ℕ) (users links : �
   pub messages_cut : messages ≡ users
   pub octets_cut : octets ≡ users
   pub acknowledged_cut : acknowledged ≡ links
+
+-- nothing yet, and room for so many
+pub record IsRoom {T Z : Type 0} (seats : Vec T Z) (many : ℕ) : Type 0 where
+  pub none : seats.items ≡ []
+  pub no_length : vec_len seats ≡ 0
+  pub wide : many ≤ vec_capacity seats

@@ -1,10 +1,9 @@
 //! What stands under the lock of a set: the set, and the books of its ledgers.
-ghost use Rattle.std.specs.Prelude.{◌≡◌, ◌<◌, ◌≤◌, ◌↔◌, ◌⊎◌, [], IfOk};
-ghost use Rattle.std.specs.Vec.{vec_len, vec_capacity};
+ghost use Rattle.std.specs.Prelude.{◌≡◌, ◌<◌, ◌≤◌, ◌↔◌, ◌⊎◌, IfOk};
 ghost use Rattle.set_events.specs.declared.event.Actor.TheVariants.{User, Terminal};
 ghost use Rattle.set_model.specs.History.{new_set};
 ghost use Rattle.set_ledger.specs.Seats.{new_seats};
-ghost use Rattle.set_ledger.specs.Totals.{AreTotals, AreParts, Names};
+ghost use Rattle.set_ledger.specs.Totals.{AreTotals, AreParts, IsRoom, Names};
 
 use super::seat::{TermSeat, UserSeat, put_terminals, put_users};
 use super::share::Blanks;
@@ -109,13 +108,7 @@ impl<C: Ledger, M: Ledger, O: Ledger, A: Ledger> Held<C, M, O, A> {
         if users == 0 || users > MOST_USERS {
             return Err(CreateFault::Users);
         }
-        let Ok(user_seats) = Vec::with_capacity(alloc, usize::from(users)) else {
-            return Err(CreateFault::NoMemory);
-        };
-        let Ok(term_seats) = Vec::with_capacity(alloc, usize::from(config.links)) else {
-            return Err(CreateFault::NoMemory);
-        };
-        let core = SetCore::new(alloc, config)?;
+        let (core, user_seats, term_seats) = room_for(alloc, config, users)?;
         Ok(with_seats(core, users, config.links, blanks, user_seats, term_seats))
     }
 
@@ -143,6 +136,29 @@ impl<C: Ledger, M: Ledger, O: Ledger, A: Ledger> Held<C, M, O, A> {
     }
 }
 
+/// A new set, and room for its seats.
+fn room_for<C: Ledger, M: Ledger, O: Ledger, A: Ledger>(
+    alloc: Global,
+    config: &SetConfig,
+    users: u16,
+) -> Result<
+    (
+        SetCore,
+        Vec<UserSeat<C, M, O, A>>,
+        Vec<TermSeat<C, M, O, A>>,
+    ),
+    SetFault,
+>
+    ensures core { IfOk result (λ room. room.0 ≡ new_set config.now) }
+    ensures users { IfOk result (λ room. IsRoom room.1 users) }
+    ensures terminals { IfOk result (λ room. IsRoom room.2 config.now.links) }
+{
+    let user_seats = Vec::with_capacity(alloc, usize::from(users))?;
+    let term_seats = Vec::with_capacity(alloc, usize::from(config.links))?;
+    let core = SetCore::new(alloc, config)?;
+    Ok((core, user_seats, term_seats))
+}
+
 /// A new set with its seats, for which there is room.
 fn with_seats<C: Ledger, M: Ledger, O: Ledger, A: Ledger>(
     core: SetCore,
@@ -159,8 +175,8 @@ fn with_seats<C: Ledger, M: Ledger, O: Ledger, A: Ledger>(
     requires octets { Names blanks.octets O.name O.parts }
     requires acknowledged { Names blanks.acknowledged A.name A.parts }
     requires parts { AreParts C.parts M.parts O.parts A.parts users links }
-    requires user_room { (user_seats.items ≡ []) × (vec_len user_seats ≡ 0) × (users ≤ vec_capacity user_seats) }
-    requires term_room { (term_seats.items ≡ []) × (vec_len term_seats ≡ 0) × (links ≤ vec_capacity term_seats) }
+    requires user_room { IsRoom user_seats users }
+    requires term_room { IsRoom term_seats links }
     ensures held { result.held ≡ record { users = users; links = links; set = core } }
     ensures users { result.users.items ≡ new_seats User users }
     ensures terminals { result.terminals.items ≡ new_seats Terminal links }

@@ -1,10 +1,10 @@
 //! Seats of users and of terminals.
-ghost use Rattle.std.specs.Prelude.{◌≡◌, ◌<◌, ◌≤◌, ◌+◌, ◌^◌, [], length, IfOk, OnOk, OnErr};
+ghost use Rattle.std.specs.Prelude.{◌≡◌, ◌<◌, ◌≤◌, ◌+◌, ◌^◌, length, IfOk, OnOk, OnErr};
 ghost use Rattle.set_events.specs.declared.event.Actor.TheVariants.{User, Terminal};
 ghost use Rattle.set_core.specs.Gaining.{IsOwn};
-ghost use Rattle.std.specs.Vec.{vec_len, vec_capacity};
 ghost use Rattle.set_model.specs.History.{IsStep};
 ghost use Rattle.set_ledger.specs.Seats.{Receives, AcknowledgesAs, AddsUp, Returns, new_seats};
+ghost use Rattle.set_ledger.specs.Totals.{IsRoom};
 
 use super::held::Held;
 use super::making::make;
@@ -238,7 +238,7 @@ pub(crate) fn put_users<C: Ledger, M: Ledger, O: Ledger, A: Ledger>(
     messages: &mut Share<M>,
     octets: &mut Share<O>,
 )
-    requires room { (seats.old.items ≡ []) × (vec_len seats.old ≡ 0) × (users ≤ vec_capacity seats.old) }
+    requires room { IsRoom seats.old users }
     requires range { users ≤ 64 }
     requires calls { (calls.old.amount ≡ 0) × (users ≤ calls.old.parts) }
     requires messages { (messages.old.amount ≡ 0) × (users ≤ messages.old.parts) }
@@ -268,7 +268,7 @@ pub(crate) fn put_terminals<C: Ledger, M: Ledger, O: Ledger, A: Ledger>(
     calls: &mut Share<C>,
     acknowledged: &mut Share<A>,
 )
-    requires room { (seats.old.items ≡ []) × (vec_len seats.old ≡ 0) × (links ≤ vec_capacity seats.old) }
+    requires room { IsRoom seats.old links }
     requires range { links ≤ 16 }
     requires calls { (calls.old.amount ≡ 0) × (links ≤ calls.old.parts) }
     requires acknowledged { (acknowledged.old.amount ≡ 0) × (links ≤ acknowledged.old.parts) }
