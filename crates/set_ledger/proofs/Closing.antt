@@ -110,3 +110,6 @@ closes us ts set books counts calls messages octets acknowledged legal replays b
 pub in_range : (users : ℕ) → (users ≡ 0 → ⊥) → users ≤ 64 → (users ≡ 0) ⊎ (64 < users) → ⊥
 in_range users some few (inl none) = some none
 in_range users some few (inr more) = absurd (omega (arith, few, more))
+
+pub few_users : (users : ℕ) → (users ≡ 0 → ⊥) → users ≤ 64 → (0 < users) × (users ≤ 64)
+few_users users some few = (omega (arith, some), few)

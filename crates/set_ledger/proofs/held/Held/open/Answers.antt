@@ -1,13 +1,31 @@
 use Rattle.std.proofs.Common.{◌∙◌, ap, rules}
 use Rattle.set_model.specs.History.{LinkSet}
-use Rattle.set_ledger.proofs.Closing.{in_range}
+use Rattle.set_ledger.proofs.Closing.{in_range, few_users}
 use Rattle.set_ledger.proofs.held.Held.open.Goals as goal
 
-pub returns-clause-held : goal.returns-clause-held
-returns-clause-held g c = c.with_seats.ensures.held ∙ ap (λ (set : LinkSet). record { users = c.args.users; links = c.args.config.now.links; set = set }) c.in_ok-core.ensures.core
+pub returns-in-Ok-clause-held : goal.returns-in-Ok-clause-held
+returns-in-Ok-clause-held g c = c.with_seats.ensures.held ∙ ap (λ (set : LinkSet). record { users = c.args.users; links = c.args.config.now.links; set = set }) c.in-Ok.ensures.core
 
-pub returns-clause-range : goal.returns-clause-range
-returns-clause-range g c = ((λ e. absurd cc), (λ outside. absurd (in_range c.args.users c.if-users-eq0.false c.if-users-gt-MOST_USERS.false outside)))
+pub returns-in-Ok-clause-range : goal.returns-in-Ok-clause-range
+returns-in-Ok-clause-range g c = ((λ e. absurd cc), (λ outside. absurd (in_range c.args.users c.if-users-eq0.false c.if-users-gt-MOST_USERS.false outside)))
+
+pub returns-in-Err-clause-range : goal.returns-in-Err-clause-range
+returns-in-Err-clause-range g c = ((λ e. absurd (let is = c.from.ensures in cc)), (λ outside. absurd (in_range c.args.users c.if-users-eq0.false c.if-users-gt-MOST_USERS.false outside)))
 
 pub with_seats-requires-clause-new : goal.with_seats-requires-clause-new
-with_seats-requires-clause-new g c = rw c.in_ok-core.ensures.core (search rules)
+with_seats-requires-clause-new g c = rw c.in-Ok.ensures.core (search rules)
+
+pub with_seats-requires-clause-calls : goal.with_seats-requires-clause-calls
+with_seats-requires-clause-calls g c = c.requires.calls (few_users c.args.users c.if-users-eq0.false c.if-users-gt-MOST_USERS.false)
+
+pub with_seats-requires-clause-messages : goal.with_seats-requires-clause-messages
+with_seats-requires-clause-messages g c = c.requires.messages (few_users c.args.users c.if-users-eq0.false c.if-users-gt-MOST_USERS.false)
+
+pub with_seats-requires-clause-octets : goal.with_seats-requires-clause-octets
+with_seats-requires-clause-octets g c = c.requires.octets (few_users c.args.users c.if-users-eq0.false c.if-users-gt-MOST_USERS.false)
+
+pub with_seats-requires-clause-acknowledged : goal.with_seats-requires-clause-acknowledged
+with_seats-requires-clause-acknowledged g c = c.requires.acknowledged (few_users c.args.users c.if-users-eq0.false c.if-users-gt-MOST_USERS.false)
+
+pub with_seats-requires-clause-parts : goal.with_seats-requires-clause-parts
+with_seats-requires-clause-parts g c = c.requires.parts (few_users c.args.users c.if-users-eq0.false c.if-users-gt-MOST_USERS.false)
