@@ -1,4 +1,7 @@
 //! Runs of two ends, their steps written as the lines of a script.
+//!
+//! To let a world go is dear to prove, and dearer in a function that branches: only `ends` and `has_nothing_to_lose` do so,
+//! in a straight line. Others borrow one, hand it on, or have plain values.
 use pair_world::{End, PlayFault, Shown, Step, World};
 use play_script::step_of;
 use set_events::{Event, Fate, Method, SetConfig};
@@ -13,11 +16,16 @@ fn end_of(links: u8, own: u16, far: u16) -> Result<SetConfig, Fail> {
     }
 }
 
-/// The step that this line asks for.
-fn read_step(alloc: Global, line: &str) -> Result<Step, Fail> {
-    match step_of(alloc, line.as_bytes()) {
-        Ok(Some(step)) => Ok(step),
-        _ => Err(Fail::from("no step")),
+/// What this line asks for, if anything.
+fn read(alloc: Global, line: &str) -> Result<Option<Step>, Fail> {
+    let step = step_of(alloc, line.as_bytes())?;
+    Ok(step)
+}
+
+fn the_step(step: Option<Step>) -> Result<Step, Fail> {
+    match step {
+        Some(step) => Ok(step),
+        None => Err(Fail::from("no step")),
     }
 }
 
@@ -25,7 +33,8 @@ fn read_step(alloc: Global, line: &str) -> Result<Step, Fail> {
 fn steps_of(alloc: Global, lines: &[&str]) -> Result<Vec<Step>, Fail> {
     let mut steps = Vec::new(alloc);
     for line in lines {
-        steps.push(read_step(alloc, line)?)?;
+        let step = read(alloc, line)?;
+        steps.push(the_step(step)?)?;
     }
     Ok(steps)
 }
@@ -37,6 +46,29 @@ fn played(alloc: Global, links: [u8; 2], steps: &[Step]) -> Result<Result<World,
     Ok(World::play(alloc, &a, &b, steps))
 }
 
+/// How a run of these steps ends: in a fault, or with whether the world is so.
+fn ends(
+    alloc: Global,
+    links: [u8; 2],
+    steps: &[Step],
+    fates: &[Fate],
+    up: &[bool],
+) -> Result<Result<bool, PlayFault>, Fail> {
+    let ended = played(alloc, links, steps)?;
+    Ok(told_of(&ended, fates, up))
+}
+
+fn told_of(
+    ended: &Result<World, PlayFault>,
+    fates: &[Fate],
+    up: &[bool],
+) -> Result<bool, PlayFault> {
+    match ended {
+        Ok(world) => Ok(stands(world, fates, up)),
+        Err(fault) => Err(*fault),
+    }
+}
+
 /// A run of these steps leads to a world that is so.
 fn leads(
     alloc: Global,
@@ -46,30 +78,36 @@ fn leads(
     up: &[bool],
 ) -> Result<(), Fail> {
     let steps = steps_of(alloc, lines)?;
-    match &played(alloc, [links, links], &steps)? {
-        Ok(world) => stands(world, fates, up),
-        Err(_) => Err(Fail::from("a step can't be done")),
-    }
+    let ended = ends(alloc, [links, links], &steps, fates, up)?;
+    holds(ended == Ok(true))
 }
 
 /// A run of these steps ends in this fault.
 fn fails(alloc: Global, links: [u8; 2], steps: &[Step], wanted: PlayFault) -> Result<(), Fail> {
-    match &played(alloc, links, steps)? {
-        Err(fault) => holds(*fault == wanted && fault.number() == wanted.number()),
+    is_fault(ends(alloc, links, steps, &[], &[])?, wanted)
+}
+
+fn is_fault(ended: Result<bool, PlayFault>, wanted: PlayFault) -> Result<(), Fail> {
+    match ended {
+        Err(fault) => holds(fault == wanted && fault.number() == wanted.number()),
         Ok(_) => Err(Fail::from("all could be done")),
     }
 }
 
 /// The messages 0, 1, .. of end a stand so; the links 0, 1, .. are up at both ends, or settled at both with nothing on
 /// its way.
-fn stands(world: &World, fates: &[Fate], up: &[bool]) -> Result<(), Fail> {
+fn stands(world: &World, fates: &[Fate], up: &[bool]) -> bool {
     for (number, fate) in fates.iter().enumerate() {
-        holds(world.core(End::A).place_of(number as u64) == Some(*fate))?;
+        if world.core(End::A).place_of(number as u64) != Some(*fate) {
+            return false;
+        }
     }
     for (link, up) in up.iter().enumerate() {
-        holds(link_is(world, (link % 16) as u8, *up))?;
+        if !link_is(world, (link % 16) as u8, *up) {
+            return false;
+        }
     }
-    Ok(())
+    true
 }
 
 fn link_is(world: &World, link: u8, up: bool) -> bool {
@@ -92,8 +130,7 @@ fn holds(it: bool) -> Result<(), Fail> {
 
 #[test]
 fn nothing_arrives_from_an_empty_line(rt: HostRuntime) -> Result<(), Fail> {
-    let link = 0;
-    let steps = [Step::Arrive { end: End::B, link }];
+    let steps = steps_of(rt.alloc(), &["arrive b 0"])?;
     fails(
         rt.alloc(),
         [1, 1],
@@ -102,12 +139,17 @@ fn nothing_arrives_from_an_empty_line(rt: HostRuntime) -> Result<(), Fail> {
     )
 }
 
+/// What no line of a script asks for.
+fn next_of_a() -> Step {
+    let end = End::A;
+    let event = Event::Next { link: 0 };
+    Step::Act { end, event }
+}
+
 #[test]
 fn a_unit_is_sent_by_a_step_of_its_own(rt: HostRuntime) -> Result<(), Fail> {
-    let link = 0;
-    let event = Event::Next { link };
-    let end = End::A;
-    let steps = [Step::Together { link }, Step::Act { end, event }];
+    let mut steps = steps_of(rt.alloc(), &["together 0"])?;
+    steps.push(next_of_a())?;
     fails(
         rt.alloc(),
         [1, 1],
@@ -118,8 +160,7 @@ fn a_unit_is_sent_by_a_step_of_its_own(rt: HostRuntime) -> Result<(), Fail> {
 
 #[test]
 fn one_link_against_two(rt: HostRuntime) -> Result<(), Fail> {
-    let link = 0;
-    let steps = [Step::Arrive { end: End::B, link }];
+    let steps = steps_of(rt.alloc(), &["arrive b 0"])?;
     fails(rt.alloc(), [1, 2], &steps, PlayFault::Links)?;
     fails(rt.alloc(), [2, 1], &[], PlayFault::Links)
 }
@@ -129,37 +170,47 @@ fn no_steps_leave_two_new_ends(rt: HostRuntime) -> Result<(), Fail> {
     leads(rt.alloc(), 2, &[], &[], &[false, false])
 }
 
-/// The world after a link came up, from which nothing is then lost.
-fn comes_up(world: World) -> Result<(), Fail> {
-    let link = 0;
-    match world.step(&Step::Together { link }) {
-        Ok((world, Shown::Up)) => {
-            stands(&world, &[], &[true])?;
-            loses_nothing(world)
-        }
-        _ => Err(Fail::from("it can't be done")),
-    }
-}
-
-fn loses_nothing(world: World) -> Result<(), Fail> {
-    let link = 0;
-    let place = 0;
-    match world.step(&Step::Lose {
-        end: End::B,
-        link,
-        place,
-    }) {
-        Err(fault) => holds(fault == PlayFault::Impossible { place }),
-        Ok(_) => Err(Fail::from("nothing was there")),
-    }
-}
-
-#[test]
-fn a_step_shows_what_it_does(rt: HostRuntime) -> Result<(), Fail> {
-    match played(rt.alloc(), [1, 1], &[])? {
-        Ok(world) => comes_up(world),
+/// A new world.
+fn new_world(alloc: Global) -> Result<World, Fail> {
+    match World::new(alloc, &end_of(1, 2, 1)?, &end_of(1, 1, 2)?) {
+        Ok(world) => Ok(world),
         Err(_) => Err(Fail::from("no world")),
     }
+}
+
+/// The world after a step, and what that shows.
+fn done(stepped: Result<(World, Shown), PlayFault>) -> Result<(World, Shown), Fail> {
+    match stepped {
+        Ok(after) => Ok(after),
+        Err(_) => Err(Fail::from("it can't be done")),
+    }
+}
+
+fn is_up(shown: Shown) -> bool {
+    matches!(shown, Shown::Up)
+}
+
+fn is_impossible(stepped: &Result<(World, Shown), PlayFault>) -> bool {
+    matches!(stepped, Err(PlayFault::Impossible { place: 0 }))
+}
+
+/// Whether no unit to end b can be lost on link 0.
+fn has_nothing_to_lose(world: World) -> bool {
+    let (link, place) = (0, 0);
+    let end = End::B;
+    is_impossible(&world.step(&Step::Lose { end, link, place }))
+}
+
+/// A link comes up, from which nothing is then lost.
+#[test]
+fn a_step_shows_what_it_does(rt: HostRuntime) -> Result<(), Fail> {
+    let link = 0;
+    let world = new_world(rt.alloc())?;
+    let (world, shown) = done(world.step(&Step::Together { link }))?;
+    let shows_up = is_up(shown);
+    let is_up = link_is(&world, link, true);
+    let is_empty = has_nothing_to_lose(world);
+    holds(shows_up && is_up && is_empty)
 }
 
 /// The first of two messages is lost: it's sent again, and accepted.
