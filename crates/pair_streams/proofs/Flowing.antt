@@ -28,7 +28,7 @@ pub those_joined : (stream : ℕ) (xs ys : List Message) → those_of stream (xs
 those_joined stream xs ys = filter-append (is_of stream) xs ys
 
 -- IT STANDS THERE ALONE
-none_dropped : (stream count : ℕ) (rows : List Row) → those_of stream (messages rows) ≡ [] → those_of stream (messages (drop count rows)) ≡ []
+pub none_dropped : (stream count : ℕ) (rows : List Row) → those_of stream (messages rows) ≡ [] → those_of stream (messages (drop count rows)) ≡ []
 none_dropped stream zero rows e = e
 none_dropped stream (suc n) [] e = refl
 none_dropped stream (suc n) (row ∷ rows) e = none_dropped stream n rows (go (is_of stream (record { number = row.number; body = row.body })) refl)

@@ -1,4 +1,5 @@
 pub mod Acting
+pub mod Arrived
 pub mod Flowing
 pub mod Flows
 pub mod Hearing

@@ -1,5 +1,5 @@
 //! Two ends, and the units under way between them.
-ghost use Rattle.std.specs.Prelude.{◌≡◌, ◌<◌, IfErr, IfOk};
+ghost use Rattle.std.specs.Prelude.{◌≡◌, ◌<◌, ◌↔◌, IfErr, IfOk, IsTrue};
 ghost use Rattle.set_model.specs.History.{IsActor, new_set};
 ghost use Rattle.set_model.specs.State.{link_count};
 ghost use Rattle.set_step.specs.declared.fault.SetFault.TheVariants.{NoMemory};
@@ -7,6 +7,7 @@ ghost use Rattle.pair_model.specs.World.{actor_of, has_own_step as has_own_step_
 ghost use Rattle.pair_model.specs.Promises.{AreSteps, IsAskedStep};
 ghost use Rattle.set_model.specs.Rows.{stream_of as stream_in};
 ghost use Rattle.pair_world.specs.Carried.{Applies};
+ghost use Rattle.pair_streams.specs.Arrived.{AreDone};
 
 use super::fault::PlayFault;
 use l2_units::{Unit, copy_of_unit};
@@ -39,13 +40,15 @@ impl Model for World {
 }
 
 impl World {
-    ghost use Rattle.std.specs.Prelude.{◌≡◌, ◌<◌, ◌^◌, IfErr, IfSome, OnOk, MatchResult, is_some, true};
+    ghost use Rattle.std.specs.Prelude.{◌≡◌, ◌<◌, ◌^◌, ◌↔◌, IfErr, IfSome, IsTrue, OnOk, MatchResult, is_some, true};
     ghost use Rattle.set_model.specs.Rows.{total_of};
     ghost use Rattle.set_model.specs.State.{is_up as is_up_in};
     ghost use Rattle.pair_model.specs.World.{carried_out, done_by, asks, acts, has_actor, with_sent, emits, arrives, loses, has_link as has_link_in, rises, at_end, line_to, counts_at};
-    ghost use Rattle.pair_model.specs.Run.{begun, played_from};
+    ghost use Rattle.pair_model.specs.Run.{begun, played_from, HoldsAlong};
     ghost use Rattle.pair_model.specs.Promises.{IsSoundRun, KeepsLinks};
     ghost use Rattle.pair_changeover.specs.Diverted.{ChangesOver};
+    ghost use Rattle.pair_streams.specs.Streams.{StreamsArrive};
+    ghost use Rattle.pair_streams.specs.Arrived.{IsIdle, AllArrived};
     ghost use Rattle.pair_world.specs.Carried.{IsBegun, FailsToBegin, IsCarriedOut, IsStepped, AreCarriedOut, IsPlayed, IsTakenFrom};
 
     /// The world of these configurations: no messages, no link up, nothing under way.
@@ -89,7 +92,8 @@ impl World {
     /// an order tells the number of the last message that its end accepted, which is never unreasonable; and when a
     /// link settles at an end, of the messages that were first sent on it since it came up exactly those that the far
     /// end accepted are acknowledged, and exactly the others move to the target, in order, with what waited and what
-    /// was held behind them.
+    /// was held behind them. And each of the 16 streams arrives in order (`StreamsArrive`): what the users of an end
+    /// got is a prefix of what the other's users offered, numbers and octets, with each message that is acknowledged.
     pub fn play(
         alloc: Global,
         a: &SetConfig,
@@ -99,6 +103,7 @@ impl World {
         ensures world { IsPlayed result a.now b.now steps.now }
         ensures keeps { IsSoundRun a.now b.now steps.now → KeepsLinks (begun a.now b.now) steps.now }
         ensures diverts { IsSoundRun a.now b.now steps.now → ChangesOver (begun a.now b.now) steps.now }
+        ensures streams { IsSoundRun a.now b.now steps.now → HoldsAlong StreamsArrive (begun a.now b.now) steps.now }
     {
         are_asked(steps);
         let mut world = World::new(alloc, a, b)?;
@@ -126,6 +131,17 @@ impl World {
             End::A => self.to_a.units(link),
             End::B => self.to_b.units(link),
         }
+    }
+
+    /// Whether no message of the users waits, is unacknowledged, held or parked at either end.
+    ///
+    /// Whichever sound run led to such a world, the users of each end got all that the other's users offered, in the
+    /// order of each stream (`AllArrived`; Q.704 5.1.1).
+    pub fn is_idle(&self) -> bool
+        ensures value { IsTrue result ↔ IsIdle self.now }
+        ensures arrived { IsTrue result → AllArrived self.now }
+    {
+        are_done(self.counts(End::A)) && are_done(self.counts(End::B))
     }
 
     /// Carries out these steps, one after another; after a fault the world isn't to be used again.
@@ -332,6 +348,13 @@ impl World {
         self.to_b.clear(link);
         Ok(Shown::Up)
     }
+}
+
+/// Whether no message waits, is unacknowledged, held or parked.
+fn are_done(counts: Counts) -> bool
+    ensures { IsTrue result ↔ AreDone counts }
+{
+    counts.waiting == 0 && counts.unacked == 0 && counts.held == 0 && counts.parked == 0
 }
 
 /// Whether an event is asked by a step of its own: a unit is sent, a unit is heard, a link comes up.

@@ -1,0 +1,89 @@
+-- WHERE NOTHING IS LEFT at either end, all that was offered has arrived.
+use Rattle.std.proofs.Common.{refl, arith, ◌≡◌, ◌∙◌, ap, sym, subst, ℕ, zero, suc, ◌<◌, ◌==◌, ◌-◌, Bool, true, false, not, ◌&&◌, List, [], ◌∷◌, ◌++◌, length, filter, drop, Option}
+use Rattle.set_events.specs.declared.answer.Fate.{Fate}
+use Rattle.set_events.specs.declared.answer.Fate.TheVariants.{Waiting, Unacked, Acked, Held, Parked, Discarded}
+use Rattle.set_events.specs.declared.config.SetConfig.{SetConfig}
+use Rattle.set_model.specs.Rows.{Row, is_unacked, is_waiting, is_held, is_parked, is_users, waits, was_sent, was_held, standing, users, counts_of, unack, wait, held, parked, stream_of}
+use Rattle.set_model.specs.State.{State}
+use Rattle.world_steps.specs.declared.step.End.TheVariants.{A, B}
+use Rattle.world_steps.specs.declared.step.Step.{Step}
+use Rattle.pair_model.specs.Promises.{IsAskedStep, AreSteps, IsSoundRun}
+use Rattle.pair_model.specs.Run.{Message, messages, Stage, begun, passed, OnShows, HoldsAlong}
+use Rattle.pair_model.specs.World.{World, Outcome, shows, impossible, exhausted, carried_out}
+use Rattle.pair_changeover.specs.Pending.{pending, aside, acked_on, accepted_on}
+use Rattle.pair_changeover.proofs.Table.{joined}
+use Rattle.pair_streams.specs.Arrived.{AreDone, IsIdle, HoldsAtEnd, AllGot, AllArrived}
+use Rattle.pair_streams.specs.Streams.{is_of, those_of, StreamsArrive}
+use Rattle.pair_streams.proofs.Flowing.{those_joined, none_dropped}
+use Rattle.pair_streams.proofs.Runs.{every_sound_run}
+
+-- none of the users' messages stands in such a place
+none_of : (stream : ℕ) (all some : Fate → Bool) → ((fate : Fate) → some fate ≡ true → all fate ≡ true) → (rows : List Row) → length (standing all (users rows)) ≡ 0 → those_of stream (messages (standing some rows)) ≡ []
+none_of stream all some within [] e = refl
+none_of stream all some within (row ∷ rows) e = go (some row.fate) (all row.fate) (is_users row) (stream_of row.body == stream) refl refl refl refl (λ f. none_of stream all some within rows f)
+  where
+    go : (b c u d : Bool) → some row.fate ≡ b → all row.fate ≡ c → is_users row ≡ u → (stream_of row.body == stream) ≡ d → (length (standing all (users rows)) ≡ 0 → those_of stream (messages (standing some rows)) ≡ []) → those_of stream (messages (standing some (row ∷ rows))) ≡ []
+    go b true true d g h k m later = let no : suc (length (standing all (users rows))) ≡ 0 = rw (k, h) at e in absurd (omega (arith, no))
+    go false false true d g h k m later = rw g (later (rw (k, h) at e))
+    go true false true d g h k m later = absurd (let no : true ≡ false = sym (within row.fate g) ∙ h in cc)
+    go false c false d g h k m later = rw g (later (rw k at e))
+    go true c false d g h k m later = rw (g, k) (later (rw k at e))
+
+sent_within : (l : ℕ) (fate : Fate) → is_unacked l fate ≡ true → was_sent fate ≡ true
+sent_within l (Unacked n) e = refl
+sent_within l (Waiting n) e = absurd cc
+sent_within l (Acked n) e = absurd cc
+sent_within l (Held n) e = absurd cc
+sent_within l Parked e = absurd cc
+sent_within l (Discarded cause) e = absurd cc
+
+waits_within : (l : ℕ) (fate : Fate) → is_waiting l fate ≡ true → waits fate ≡ true
+waits_within l (Waiting n) e = refl
+waits_within l (Unacked n) e = absurd cc
+waits_within l (Acked n) e = absurd cc
+waits_within l (Held n) e = absurd cc
+waits_within l Parked e = absurd cc
+waits_within l (Discarded cause) e = absurd cc
+
+held_within : (l : ℕ) (fate : Fate) → is_held l fate ≡ true → was_held fate ≡ true
+held_within l (Held n) e = refl
+held_within l (Waiting n) e = absurd cc
+held_within l (Unacked n) e = absurd cc
+held_within l (Acked n) e = absurd cc
+held_within l Parked e = absurd cc
+held_within l (Discarded cause) e = absurd cc
+
+module _ (stream : ℕ) (s f : State) (done : AreDone (counts_of s.rows)) where
+  none_pending : (l : ℕ) → those_of stream (pending l s f) ≡ []
+  none_pending l =
+      let count = accepted_on l f - acked_on l s in
+      let sent = none_dropped stream count (unack l s.rows) (none_of stream was_sent (is_unacked l) (sent_within l) s.rows done.none_unacked) in
+      let waiting = none_of stream waits (is_waiting l) (waits_within l) s.rows done.none_waiting in
+      let holding = none_of stream was_held (is_held l) (held_within l) s.rows done.none_held in
+      ap (those_of stream) (joined (drop count (unack l s.rows) ++ wait l s.rows) (held l s.rows) ∙ ap (λ (q : List Message). q ++ messages (held l s.rows)) (joined (drop count (unack l s.rows)) (wait l s.rows)))
+      ∙ those_joined stream (messages (drop count (unack l s.rows)) ++ messages (wait l s.rows)) (messages (held l s.rows))
+      ∙ ap (λ (q : List Message). q ++ those_of stream (messages (held l s.rows))) (those_joined stream (messages (drop count (unack l s.rows))) (messages (wait l s.rows)))
+      ∙ rw (sent, waiting, holding) refl
+
+  none_aside : those_of stream (aside s) ≡ []
+  none_aside = none_of stream is_parked is_parked (λ fate e. e) s.rows done.none_parked
+
+all_got : (g : Stage) → IsIdle g.world → StreamsArrive g → AllGot g
+all_got g idle arrive stream low =
+    let both = arrive stream low in (
+      both.0.all (none_pending stream g.world.a.state g.world.b.state idle.at_a) (none_aside stream g.world.a.state g.world.b.state idle.at_a),
+      both.1.all (none_pending stream g.world.b.state g.world.a.state idle.at_b) (none_aside stream g.world.b.state g.world.a.state idle.at_b),
+    )
+
+module _ (w : World) (idle : IsIdle w) where
+  on_shows : (outcome : Outcome) (step : Step) (g : Stage) (steps : List Step) → ((later : Stage) → HoldsAlong StreamsArrive later steps → HoldsAtEnd (λ h. h.world ≡ w → AllGot h) later steps) → OnShows outcome (λ shown new. HoldsAlong StreamsArrive (passed g step shown new) steps) → OnShows outcome (λ shown new. HoldsAtEnd (λ h. h.world ≡ w → AllGot h) (passed g step shown new) steps)
+  on_shows (shows shown new) step g steps next along = next (passed g step shown new) along
+  on_shows impossible step g steps next along = tt
+  on_shows exhausted step g steps next along = tt
+
+  at_end : (g : Stage) (steps : List Step) → HoldsAlong StreamsArrive g steps → HoldsAtEnd (λ h. h.world ≡ w → AllGot h) g steps
+  at_end g [] arrive = λ same. all_got g (subst IsIdle (sym same) idle) arrive
+  at_end g (step ∷ steps) along = on_shows (carried_out g.world step) step g steps (λ later rest. at_end later steps rest) along.1
+
+  pub all_arrived : AllArrived w
+  all_arrived a b steps asked sound = at_end (begun a b) steps (every_sound_run a b steps asked sound)

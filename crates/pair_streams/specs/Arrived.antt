@@ -1,0 +1,35 @@
+-- WHEN ALL HAS ARRIVED: what an operator can read off a world.
+use Rattle.std.specs.Prelude.{◌≡◌, ◌<◌, ℕ, List, [], ◌∷◌}
+use Rattle.set_events.specs.declared.answer.Counts.{Counts}
+use Rattle.set_events.specs.declared.config.SetConfig.{SetConfig}
+use Rattle.world_steps.specs.declared.step.End.TheVariants.{A, B}
+use Rattle.world_steps.specs.declared.step.Step.{Step}
+use Rattle.pair_model.specs.Promises.{IsAskedStep, AreSteps, IsSoundRun}
+use Rattle.pair_model.specs.Run.{Stage, begun, passed, OnShows}
+use Rattle.pair_model.specs.World.{World, counts_at, carried_out}
+
+-- every message of an end's users is acknowledged, or was discarded
+pub record AreDone (counts : Counts) : Type 0 where
+  pub none_waiting : counts.waiting ≡ 0
+  pub none_unacked : counts.unacked ≡ 0
+  pub none_held : counts.held ≡ 0
+  pub none_parked : counts.parked ≡ 0
+
+pub record IsIdle (w : World) : Type 0 where
+  pub at_a : AreDone (counts_at w A)
+  pub at_b : AreDone (counts_at w B)
+
+-- what holds where a run of steps ends, if each can be done
+abbrev pub HoldsAtEnd : (Stage → Type 0) → Stage → List Step → Type 0
+HoldsAtEnd P g [] = P g
+HoldsAtEnd P g (step ∷ steps) = OnShows (carried_out g.world step) (λ shown new. HoldsAtEnd P (passed g step shown new) steps)
+
+-- the users of each end got all that the other's users offered
+abbrev pub AllGot : Stage → Type 0
+AllGot g = (stream : ℕ) → stream < 16 → (g.b.got stream ≡ g.a.offered stream) × (g.a.got stream ≡ g.b.offered stream)
+
+-- whichever sound run led to this world
+abbrev pub AllArrived : World → Type 0
+AllArrived w =
+    (a b : SetConfig) (steps : List Step) → AreSteps IsAskedStep steps → IsSoundRun a b steps
+    → HoldsAtEnd (λ g. g.world ≡ w → AllGot g) (begun a b) steps
