@@ -17,44 +17,49 @@ fn proving_normally() -> Align {
     align
 }
 
+fn starts(align: &mut Align) -> bool {
+    let out = told(align, AlignIn::Start);
+    out.send == Some(Status::OutOfAlignment) && out.t2 == TimerOrder::Start
+}
+
+fn is_aligned(align: &mut Align) -> bool {
+    let out = told(align, AlignIn::Heard(Status::OutOfAlignment));
+    let t2_ends = out.t2 == TimerOrder::Stop;
+    out.send == Some(Status::Normal) && t2_ends && out.t3 == TimerOrder::Start
+}
+
+/// A normal proving period begins with this.
+fn is_normal_proving(out: &AlignOut) -> bool {
+    let octet_times = 65_536;
+    out.t4 == TimerOrder::StartFor { octet_times } && out.monitor == Monitor::Normal
+}
+
+fn begins_to_prove(align: &mut Align) -> bool {
+    let out = told(align, AlignIn::Heard(Status::Normal));
+    out.t3 == TimerOrder::Stop && is_normal_proving(&out)
+}
+
 #[test]
 fn normal_alignment_completes(rt: HostRuntime) {
     let mut align = Align::new();
-    let start = told(&mut align, AlignIn::Start);
-    assert_eq!(rt; start.send, Some(Status::OutOfAlignment));
-    assert_eq!(rt; start.t2, TimerOrder::Start);
-    let heard = told(&mut align, AlignIn::Heard(Status::OutOfAlignment));
-    assert_eq!(rt; heard.send, Some(Status::Normal));
-    assert_eq!(rt; heard.t2, TimerOrder::Stop);
-    assert_eq!(rt; heard.t3, TimerOrder::Start);
-    let proving = told(&mut align, AlignIn::Heard(Status::Normal));
-    assert_eq!(rt; proving.t3, TimerOrder::Stop);
-    assert_eq!(rt;
-        proving.t4,
-        TimerOrder::StartFor {
-            octet_times: 65_536
-        }
-    );
-    assert_eq!(rt; proving.monitor, Monitor::Normal);
+    assert!(rt; starts(&mut align));
+    assert!(rt; is_aligned(&mut align));
+    assert!(rt; begins_to_prove(&mut align));
     let end = told(&mut align, AlignIn::T4);
     assert_eq!(rt; end.end, Some(End::Complete));
+}
+
+fn is_aborted(align: &mut Align) -> bool {
+    let out = told(align, AlignIn::Abort);
+    out.monitor == Monitor::Off && out.end.is_none()
 }
 
 #[test]
 fn fifth_abort_since_aligned_was_left(rt: HostRuntime) {
     let mut align = proving_normally();
     for _ in 0..4u8 {
-        let abort = told(&mut align, AlignIn::Abort);
-        assert_eq!(rt; abort.monitor, Monitor::Off);
-        assert_eq!(rt; abort.end, None);
-        let good = told(&mut align, AlignIn::Good);
-        assert_eq!(rt;
-            good.t4,
-            TimerOrder::StartFor {
-                octet_times: 65_536
-            }
-        );
-        assert_eq!(rt; good.monitor, Monitor::Normal);
+        assert!(rt; is_aborted(&mut align));
+        assert!(rt; is_normal_proving(&told(&mut align, AlignIn::Good)));
     }
     let fifth = told(&mut align, AlignIn::Abort);
     assert_eq!(rt; fifth.end, Some(End::NotPossible));

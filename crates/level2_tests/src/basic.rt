@@ -2,7 +2,7 @@
 use l2_basic::*;
 use l2_units::{Header, header_in, read};
 use l2_window::{Choice, ControlFault, HeardPart, Window};
-use std::process::Abort;
+use std::alloc::Global;
 use std::test::Fail;
 
 /// One end of a link.
@@ -12,8 +12,8 @@ struct End {
     control: Basic,
 }
 
-fn end_with(rt: &HostRuntime, messages: u64) -> Result<End, Fail> {
-    let mut window = Window::new(rt.alloc())?;
+fn end_with(alloc: Global, messages: u64) -> Result<End, Fail> {
+    let mut window = Window::new(alloc)?;
     window.reserve(messages as usize)?;
     for message in 0..messages {
         window.push(message)?;
@@ -52,115 +52,175 @@ impl End {
         (head, message)
     }
 
-    fn sends_message(&mut self, rt: &impl Abort, message: u64, fsn: u8) -> Header {
+    fn sends_message(&mut self, message: u64, fsn: u8) -> Result<Header, Fail> {
         let (head, number) = self.sends();
-        assert_eq!(rt; number, Some(message));
-        assert_eq!(rt; head.fsn, fsn);
-        head
+        holds(number == Some(message) && head.fsn == fsn)?;
+        Ok(head)
     }
 
-    fn sends_fill(&mut self, rt: &impl Abort, fsn: u8) -> Header {
+    fn sends_fill(&mut self, fsn: u8) -> Result<Header, Fail> {
         let (head, number) = self.sends();
-        assert_eq!(rt; number, None);
-        assert_eq!(rt; head.fsn, fsn);
-        head
+        holds(number.is_none() && head.fsn == fsn)?;
+        Ok(head)
     }
+
+    /// Sends these messages, whose numbers on the line are theirs.
+    fn sends_all(&mut self, messages: &[u8]) -> Result<(), Fail> {
+        for fsn in messages {
+            self.sends_message(u64::from(*fsn), *fsn)?;
+        }
+        Ok(())
+    }
+
+    /// Hears a FISU of these two octets.
+    fn hears_fill(&mut self, backward: u8, forward: u8) -> Result<HeardPart, Fail> {
+        let head = head(backward, forward)?;
+        Ok(self.hears(head, false))
+    }
+
+    /// A FISU of these two octets acknowledges so many.
+    fn hears_of(&mut self, acked: u8, backward: u8, forward: u8) -> Result<(), Fail> {
+        holds(self.hears_fill(backward, forward)?.acked == acked)
+    }
+
+    /// A message with this header is accepted or not, and makes it ask for another or not.
+    fn takes(&mut self, head: Header, accept: bool, asked: bool) -> Result<(), Fail> {
+        let part = self.hears(head, true);
+        holds(part.accept == accept && part.asked == asked && !part.resend && part.fault.is_none())
+    }
+
+    /// What it hears makes it send again, and acknowledges nothing.
+    fn goes_back(&mut self, head: Header) -> Result<(), Fail> {
+        let part = self.hears(head, false);
+        holds(part.resend && part.acked == 0)
+    }
+
+    /// A FISU of these two octets is this fault, or none.
+    fn tells(
+        &mut self,
+        fault: Option<ControlFault>,
+        backward: u8,
+        forward: u8,
+    ) -> Result<(), Fail> {
+        holds(self.hears_fill(backward, forward)?.fault == fault)
+    }
+}
+
+fn holds(fact: bool) -> Result<(), Fail> {
+    if fact {
+        Ok(())
+    } else {
+        Err(Fail::from("it isn't so"))
+    }
+}
+
+/// The header has these two octets.
+fn is_head(it: Header, backward: u8, forward: u8) -> Result<(), Fail> {
+    holds(it == head(backward, forward)?)
 }
 
 #[test]
 fn message_127_waits_for_a_number(rt: HostRuntime) -> Result<(), Fail> {
-    let mut end = end_with(&rt, 128)?;
+    waits_for_a_number(&mut end_with(rt.alloc(), 128)?)
+}
+
+fn waits_for_a_number(end: &mut End) -> Result<(), Fail> {
     for message in 0..127u8 {
-        end.sends_message(&rt, u64::from(message), message);
+        end.sends_message(u64::from(message), message)?;
     }
-    end.sends_fill(&rt, 126);
-    let part = end.hears(head(0xFF, 0xFF)?, false);
-    assert_eq!(rt; part.acked, 0);
-    let part = end.hears(head(0xFE, 0xFF)?, false);
-    assert_eq!(rt; part.acked, 127);
-    end.sends_message(&rt, 127, 127);
-    Ok(())
+    end.sends_fill(126)?;
+    end.hears_of(0, 0xFF, 0xFF)?;
+    end.hears_of(127, 0xFE, 0xFF)?;
+    end.sends_all(&[127])
 }
 
 #[test]
 fn a_lost_message_is_asked_for_and_sent_again(rt: HostRuntime) -> Result<(), Fail> {
-    let mut near = end_with(&rt, 2)?;
-    let mut far = end_with(&rt, 0)?;
-    near.sends_message(&rt, 0, 0);
-    let second = near.sends_message(&rt, 1, 1);
-    let part = far.hears(second, true);
-    assert!(rt; part.asked && !part.accept && !part.resend);
+    let mut near = end_with(rt.alloc(), 2)?;
+    let mut far = end_with(rt.alloc(), 0)?;
+    comes_in_the_end(&mut near, &mut far)
+}
+
+fn comes_in_the_end(near: &mut End, far: &mut End) -> Result<(), Fail> {
+    is_asked_for(near, far)?;
+    is_sent_again(near, far)
+}
+
+fn is_asked_for(near: &mut End, far: &mut End) -> Result<(), Fail> {
+    near.sends_message(0, 0)?;
+    let second = near.sends_message(1, 1)?;
+    far.takes(second, false, true)?;
     // Asked once only, and what was sent before is discarded.
-    let part = far.hears(second, true);
-    assert!(rt; !part.asked && !part.accept && part.fault.is_none());
-    let nack = far.sends_fill(&rt, 127);
-    assert!(rt; nack == head(0x7F, 0xFF)?);
-    let part = near.hears(nack, false);
-    assert!(rt; part.resend && part.acked == 0);
-    let first = near.sends_message(&rt, 0, 0);
-    assert!(rt; first == head(0xFF, 0x00)?);
-    let part = far.hears(first, true);
-    assert!(rt; part.accept && !part.asked);
-    assert_eq!(rt; far.control.accepted(), 0);
+    far.takes(second, false, false)
+}
+
+fn is_sent_again(near: &mut End, far: &mut End) -> Result<(), Fail> {
+    let nack = far.sends_fill(127)?;
+    is_head(nack, 0x7F, 0xFF)?;
+    near.goes_back(nack)?;
+    let first = near.sends_message(0, 0)?;
+    is_head(first, 0xFF, 0x00)?;
+    far.takes(first, true, false)?;
+    holds(far.control.accepted() == 0)?;
     // The same number again is discarded, and nothing is asked for.
-    let part = far.hears(first, true);
-    assert!(rt; !part.accept && !part.asked);
-    Ok(())
+    far.takes(first, false, false)
 }
 
 #[test]
 fn an_acknowledgement_in_a_retransmission_moves_the_cursor_back(
     rt: HostRuntime,
 ) -> Result<(), Fail> {
-    let mut end = end_with(&rt, 4)?;
-    for message in 0..3u8 {
-        end.sends_message(&rt, u64::from(message), message);
-    }
-    let part = end.hears(head(0x7F, 0xFF)?, false);
-    assert!(rt; part.resend);
-    end.sends_message(&rt, 0, 0);
-    let part = end.hears(head(0x00, 0xFF)?, false);
-    assert!(rt; part.acked == 1 && !part.resend);
-    end.sends_message(&rt, 1, 1);
-    end.sends_message(&rt, 2, 2);
-    end.sends_message(&rt, 3, 3);
-    end.sends_fill(&rt, 3);
+    moves_the_cursor_back(&mut end_with(rt.alloc(), 4)?)
+}
+
+fn moves_the_cursor_back(end: &mut End) -> Result<(), Fail> {
+    end.sends_all(&[0, 1, 2])?;
+    end.goes_back(head(0x7F, 0xFF)?)?;
+    end.sends_all(&[0])?;
+    let part = end.hears_fill(0x00, 0xFF)?;
+    holds(part.acked == 1 && !part.resend)?;
+    end.sends_all(&[1, 2, 3])?;
+    end.sends_fill(3)?;
     Ok(())
 }
 
 #[test]
 fn two_abnormal_units_in_three_are_a_fault(rt: HostRuntime) -> Result<(), Fail> {
-    let mut end = end_with(&rt, 0)?;
-    let faults = [None, None, Some(ControlFault::Bsn)];
-    let units = [(0x85, 0xFF), (0xFF, 0xFF), (0x85, 0xFF)];
-    for ((backward, forward), fault) in units.into_iter().zip(faults) {
-        let unit = head(backward, forward)?;
-        let part = end.hears(unit, false);
-        assert!(rt; part.fault == fault);
-    }
-    let mut end = end_with(&rt, 0)?;
-    let unit = head(0xFF, 0x7F)?;
-    let part = end.hears(unit, false);
-    assert!(rt; part.fault.is_none());
-    let part = end.hears(unit, false);
-    assert!(rt; part.fault == Some(ControlFault::Fib));
-    Ok(())
+    has_abnormal_bsns(&mut end_with(rt.alloc(), 0)?)?;
+    has_abnormal_fibs(&mut end_with(rt.alloc(), 0)?)
+}
+
+fn has_abnormal_bsns(end: &mut End) -> Result<(), Fail> {
+    end.tells(None, 0x85, 0xFF)?;
+    end.tells(None, 0xFF, 0xFF)?;
+    end.tells(Some(ControlFault::Bsn), 0x85, 0xFF)
+}
+
+fn has_abnormal_fibs(end: &mut End) -> Result<(), Fail> {
+    end.tells(None, 0xFF, 0x7F)?;
+    end.tells(Some(ControlFault::Fib), 0xFF, 0x7F)
 }
 
 /// 300 messages one after another: numbers go round twice.
 #[test]
 fn numbers_go_round_twice(rt: HostRuntime) -> Result<(), Fail> {
-    let mut near = end_with(&rt, 300)?;
-    let mut far = end_with(&rt, 0)?;
+    let mut near = end_with(rt.alloc(), 300)?;
+    let mut far = end_with(rt.alloc(), 0)?;
+    go_round(&mut near, &mut far)
+}
+
+fn go_round(near: &mut End, far: &mut End) -> Result<(), Fail> {
     for message in 0..300u64 {
-        let unit = near.sends_message(&rt, message, (message % 128) as u8);
-        let part = far.hears(unit, true);
-        assert!(rt; part.accept);
-        let answer = far.sends_fill(&rt, 127);
-        let part = near.hears(answer, false);
-        assert_eq!(rt; part.acked, 1);
+        is_answered(near, far, message)?;
     }
-    assert_eq!(rt; near.window.last(), 43);
-    near.sends_fill(&rt, 43);
+    holds(near.window.last() == 43)?;
+    near.sends_fill(43)?;
     Ok(())
+}
+
+fn is_answered(near: &mut End, far: &mut End, message: u64) -> Result<(), Fail> {
+    let unit = near.sends_message(message, (message % 128) as u8)?;
+    holds(far.hears(unit, true).accept)?;
+    let answer = far.sends_fill(127)?;
+    holds(near.hears(answer, false).acked == 1)
 }

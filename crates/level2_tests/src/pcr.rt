@@ -2,7 +2,7 @@
 use l2_pcr::*;
 use l2_units::{Header, header_in, read};
 use l2_window::{Choice, ControlFault, HeardPart, Window};
-use std::process::Abort;
+use std::alloc::Global;
 use std::test::Fail;
 
 /// One end of a link. Each message has five octets.
@@ -12,8 +12,8 @@ struct End {
     control: Pcr,
 }
 
-fn end_with(rt: &HostRuntime, messages: u64, n1: u8, n2: u32) -> Result<End, Fail> {
-    let mut window = Window::new(rt.alloc())?;
+fn end_with(alloc: Global, messages: u64, n1: u8, n2: u32) -> Result<End, Fail> {
+    let mut window = Window::new(alloc)?;
     window.reserve(messages as usize)?;
     for message in 0..messages {
         window.push(message)?;
@@ -53,116 +53,156 @@ impl End {
         (head, message)
     }
 
-    fn sends_message(&mut self, rt: &impl Abort, message: u64, fsn: u8) -> Header {
+    fn sends_message(&mut self, message: u64, fsn: u8) -> Result<Header, Fail> {
         let (head, number) = self.sends();
-        assert_eq!(rt; number, Some(message));
-        assert_eq!(rt; head.fsn, fsn);
-        head
+        holds(number == Some(message) && head.fsn == fsn)?;
+        Ok(head)
     }
 
-    fn sends_fill(&mut self, rt: &impl Abort, fsn: u8) -> Header {
+    fn sends_fill(&mut self, fsn: u8) -> Result<Header, Fail> {
         let (head, number) = self.sends();
-        assert_eq!(rt; number, None);
-        assert_eq!(rt; head.fsn, fsn);
-        head
+        holds(number.is_none() && head.fsn == fsn)?;
+        Ok(head)
     }
+
+    /// Sends these messages, whose numbers on the line are theirs.
+    fn sends_all(&mut self, messages: &[u8]) -> Result<(), Fail> {
+        for fsn in messages {
+            self.sends_message(u64::from(*fsn), *fsn)?;
+        }
+        Ok(())
+    }
+
+    /// Hears a FISU of these two octets.
+    fn hears_fill(&mut self, backward: u8, forward: u8) -> Result<HeardPart, Fail> {
+        let head = head(backward, forward)?;
+        Ok(self.hears(head, false))
+    }
+
+    /// A FISU of these two octets acknowledges so many.
+    fn hears_of(&mut self, acked: u8, backward: u8, forward: u8) -> Result<(), Fail> {
+        holds(self.hears_fill(backward, forward)?.acked == acked)
+    }
+
+    /// A message with this header is accepted or not, and makes it ask for another or not.
+    fn takes(&mut self, head: Header, accept: bool, asked: bool) -> Result<(), Fail> {
+        let part = self.hears(head, true);
+        holds(part.accept == accept && part.asked == asked && !part.resend && part.fault.is_none())
+    }
+
+    /// A FISU of these two octets is this fault, or none.
+    fn tells(
+        &mut self,
+        fault: Option<ControlFault>,
+        backward: u8,
+        forward: u8,
+    ) -> Result<(), Fail> {
+        holds(self.hears_fill(backward, forward)?.fault == fault)
+    }
+}
+
+fn holds(fact: bool) -> Result<(), Fail> {
+    if fact {
+        Ok(())
+    } else {
+        Err(Fail::from("it isn't so"))
+    }
+}
+
+/// The header has these two octets.
+fn is_head(it: Header, backward: u8, forward: u8) -> Result<(), Fail> {
+    holds(it == head(backward, forward)?)
 }
 
 #[test]
 fn two_messages_force_a_cycle_that_an_acknowledgement_does_not_end(
     rt: HostRuntime,
 ) -> Result<(), Fail> {
-    let mut end = end_with(&rt, 3, 2, 1000)?;
-    for fsn in [0u8, 1, 0, 1, 0] {
-        end.sends_message(&rt, u64::from(fsn), fsn);
-    }
-    let part = end.hears(head(0x80, 0xFF)?, false);
-    assert_eq!(rt; part.acked, 1);
-    end.sends_message(&rt, 1, 1);
-    end.sends_message(&rt, 2, 2);
-    Ok(())
+    ends_a_cycle_by_itself(&mut end_with(rt.alloc(), 3, 2, 1000)?)
+}
+
+fn ends_a_cycle_by_itself(end: &mut End) -> Result<(), Fail> {
+    end.sends_all(&[0, 1, 0, 1, 0])?;
+    end.hears_of(1, 0x80, 0xFF)?;
+    end.sends_all(&[1, 2])
 }
 
 /// Fifteen octets are three messages, though N1 is far off.
 #[test]
 fn octets_force_a_cycle(rt: HostRuntime) -> Result<(), Fail> {
-    let mut end = end_with(&rt, 4, 127, 15)?;
-    for fsn in [0u8, 1, 2, 0, 1, 2, 0] {
-        end.sends_message(&rt, u64::from(fsn), fsn);
-    }
-    let part = end.hears(head(0x82, 0xFF)?, false);
-    assert_eq!(rt; part.acked, 3);
-    end.sends_message(&rt, 3, 3);
-    Ok(())
+    is_forced_by_octets(&mut end_with(rt.alloc(), 4, 127, 15)?)
+}
+
+fn is_forced_by_octets(end: &mut End) -> Result<(), Fail> {
+    end.sends_all(&[0, 1, 2, 0, 1, 2, 0])?;
+    end.hears_of(3, 0x82, 0xFF)?;
+    end.sends_all(&[3])
 }
 
 #[test]
 fn with_nothing_new_the_unacknowledged_go_round(rt: HostRuntime) -> Result<(), Fail> {
-    let mut end = end_with(&rt, 3, 127, 1000)?;
-    end.sends_message(&rt, 0, 0);
-    end.sends_message(&rt, 1, 1);
-    for fsn in [2u8, 0, 1, 2, 0, 1] {
-        end.sends_message(&rt, u64::from(fsn), fsn);
-    }
+    sends_round(&mut end_with(rt.alloc(), 3, 127, 1000)?)
+}
+
+fn sends_round(end: &mut End) -> Result<(), Fail> {
+    end.sends_all(&[0, 1, 2, 0, 1, 2, 0, 1])?;
     // Message 2 is due, and stays so.
-    let part = end.hears(head(0x80, 0xFF)?, false);
-    assert_eq!(rt; part.acked, 1);
-    for fsn in [2u8, 1, 2] {
-        end.sends_message(&rt, u64::from(fsn), fsn);
-    }
+    end.hears_of(1, 0x80, 0xFF)?;
+    end.sends_all(&[2, 1, 2])?;
     end.window.push(3)?;
-    end.sends_message(&rt, 3, 3);
-    Ok(())
+    end.sends_all(&[3])
 }
 
 #[test]
 fn nothing_is_asked_for(rt: HostRuntime) -> Result<(), Fail> {
-    let mut near = end_with(&rt, 2, 127, 1000)?;
-    let mut far = end_with(&rt, 0, 127, 1000)?;
-    let first = near.sends_message(&rt, 0, 0);
-    let second = near.sends_message(&rt, 1, 1);
-    assert!(rt; second == head(0xFF, 0x81)?);
-    let part = far.hears(second, true);
-    assert!(rt; !part.accept && !part.asked && !part.resend);
-    let part = far.hears(first, true);
-    assert!(rt; part.accept);
-    let part = far.hears(first, true);
-    assert!(rt; !part.accept);
-    let part = far.hears(second, true);
-    assert!(rt; part.accept);
-    assert_eq!(rt; far.control.accepted(), 1);
-    let answer = far.sends_fill(&rt, 127);
-    assert!(rt; answer == head(0x81, 0xFF)?);
-    Ok(())
+    let mut near = end_with(rt.alloc(), 2, 127, 1000)?;
+    let mut far = end_with(rt.alloc(), 0, 127, 1000)?;
+    is_not_asked_for(&mut near, &mut far)
+}
+
+fn is_not_asked_for(near: &mut End, far: &mut End) -> Result<(), Fail> {
+    let first = near.sends_message(0, 0)?;
+    let second = near.sends_message(1, 1)?;
+    is_head(second, 0xFF, 0x81)?;
+    far.takes(second, false, false)?;
+    far.takes(first, true, false)?;
+    far.takes(first, false, false)?;
+    far.takes(second, true, false)?;
+    holds(far.control.accepted() == 1)?;
+    is_head(far.sends_fill(127)?, 0x81, 0xFF)
 }
 
 #[test]
 fn two_abnormal_bsns_in_three_are_a_fault(rt: HostRuntime) -> Result<(), Fail> {
-    let mut end = end_with(&rt, 0, 127, 1000)?;
-    let faults = [None, None, Some(ControlFault::Bsn)];
-    let units = [(0x85, 0xFF), (0xFF, 0x7F), (0x85, 0xFF)];
-    for ((backward, forward), fault) in units.into_iter().zip(faults) {
-        let unit = head(backward, forward)?;
-        let part = end.hears(unit, false);
-        assert!(rt; part.fault == fault);
-    }
-    Ok(())
+    has_abnormal_bsns(&mut end_with(rt.alloc(), 0, 127, 1000)?)
+}
+
+fn has_abnormal_bsns(end: &mut End) -> Result<(), Fail> {
+    end.tells(None, 0x85, 0xFF)?;
+    end.tells(None, 0xFF, 0x7F)?;
+    end.tells(Some(ControlFault::Bsn), 0x85, 0xFF)
 }
 
 /// 300 messages one after another: numbers go round twice.
 #[test]
 fn numbers_go_round_twice(rt: HostRuntime) -> Result<(), Fail> {
-    let mut near = end_with(&rt, 300, 127, 1000)?;
-    let mut far = end_with(&rt, 0, 127, 1000)?;
+    let mut near = end_with(rt.alloc(), 300, 127, 1000)?;
+    let mut far = end_with(rt.alloc(), 0, 127, 1000)?;
+    go_round(&mut near, &mut far)
+}
+
+fn go_round(near: &mut End, far: &mut End) -> Result<(), Fail> {
     for message in 0..300u64 {
-        let unit = near.sends_message(&rt, message, (message % 128) as u8);
-        let part = far.hears(unit, true);
-        assert!(rt; part.accept);
-        let answer = far.sends_fill(&rt, 127);
-        let part = near.hears(answer, false);
-        assert_eq!(rt; part.acked, 1);
+        is_answered(near, far, message)?;
     }
-    assert_eq!(rt; near.window.last(), 43);
-    near.sends_fill(&rt, 43);
+    holds(near.window.last() == 43)?;
+    near.sends_fill(43)?;
     Ok(())
+}
+
+fn is_answered(near: &mut End, far: &mut End, message: u64) -> Result<(), Fail> {
+    let unit = near.sends_message(message, (message % 128) as u8)?;
+    holds(far.hears(unit, true).accept)?;
+    let answer = far.sends_fill(127)?;
+    holds(near.hears(answer, false).acked == 1)
 }
