@@ -89,11 +89,12 @@ impl World {
     /// Of every sound run it's proved here that each link keeps what passes on it, in both directions and after
     /// every step (`KeepsLinks`), and that changeover loses nothing and diverts exactly what the far end hasn't
     /// accepted (`ChangesOver`): at both ends no message is discarded, and what counts as acknowledged was accepted;
-    /// an order tells the number of the last message that its end accepted, which is never unreasonable; and when a
-    /// link settles at an end, of the messages that were first sent on it since it came up exactly those that the far
-    /// end accepted are acknowledged, and exactly the others move to the target, in order, with what waited and what
-    /// was held behind them. And each of the 16 streams arrives in order (`StreamsArrive`): what the users of an end
-    /// got is a prefix of what the other's users offered, numbers and octets, with each message that is acknowledged.
+    /// an order that is heard about a link that hasn't settled tells the number of the last message that its end
+    /// accepted there, so it isn't unreasonable; and when a link settles at an end, of the messages that were first
+    /// sent on it since it came up exactly those that the far end accepted are acknowledged, and exactly the others
+    /// move to the target, in order, with what waited and what was held behind them. And each of the 16 streams
+    /// arrives in order (`StreamsArrive`): what the users of an end got is a prefix of what the other's users offered,
+    /// numbers and octets, with each message that is acknowledged.
     pub fn play(
         alloc: Global,
         a: &SetConfig,
