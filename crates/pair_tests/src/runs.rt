@@ -69,6 +69,20 @@ fn told_of(
     }
 }
 
+/// Whether a run of these steps leads to an idle world.
+fn is_idle_after(alloc: Global, lines: &[&str]) -> Result<bool, Fail> {
+    let steps = steps_of(alloc, lines)?;
+    let ended = played(alloc, [1, 1], &steps)?;
+    Ok(told_idle(&ended))
+}
+
+fn told_idle(ended: &Result<World, PlayFault>) -> bool {
+    match ended {
+        Ok(world) => world.is_idle(),
+        Err(_) => false,
+    }
+}
+
 /// A run of these steps leads to a world that is so.
 fn leads(
     alloc: Global,
@@ -347,4 +361,23 @@ fn an_answer_of_an_earlier_life(rt: HostRuntime) -> Result<(), Fail> {
     let order = Fate::Acked { link: 0 };
     let waiting = Fate::Waiting { link: 0 };
     leads(rt.alloc(), 2, &steps, &[order, waiting], &[true])
+}
+
+/// All that was offered has arrived where nothing is left: not while a message is parked, waits, or was sent and isn't
+/// acknowledged, at either end.
+#[test]
+fn all_that_was_offered_has_arrived(rt: HostRuntime) -> Result<(), Fail> {
+    let steps = [
+        "offer a 8501800030",
+        "together 0",
+        "emit a 0",
+        "arrive b 0",
+        "emit b 0",
+        "arrive a 0",
+    ];
+    holds(is_idle_after(rt.alloc(), &[])?)?;
+    for place in 1..steps.len() {
+        holds(!is_idle_after(rt.alloc(), &steps[..place])?)?;
+    }
+    holds(is_idle_after(rt.alloc(), &steps)?)
 }
