@@ -4,7 +4,7 @@ use Rattle.l2_bits.specs.SealedText.{sealed_text}
 use Rattle.l2_units.specs.Grammar.{text}
 use Rattle.set_events.specs.Numbers.{refusal_number, ControlFault, fault_number, cause_number}
 use Rattle.set_events.specs.declared.answer.Fate.{Fate}
-use Rattle.set_events.specs.declared.answer.Fate.TheVariants.{Waiting, Unacked, Acked, Held, Parked, Discarded}
+use Rattle.set_events.specs.declared.answer.Fate.TheVariants.{Waiting, Unacked, Acked, Held, Parked, Back, Discarded}
 use Rattle.set_events.specs.declared.answer.Took.{Took}
 use Rattle.set_events.specs.declared.answer.Took.TheVariants.{Nothing, Message, Order, Ignored}
 use Rattle.set_events.specs.declared.answer.Report.{Report}
@@ -24,6 +24,7 @@ fate_text (Unacked link) = codes "found unacked " ++ (decimal link ++ codes "\n"
 fate_text (Acked link) = codes "found acked " ++ (decimal link ++ codes "\n")
 fate_text (Held link) = codes "found held " ++ (decimal link ++ codes "\n")
 fate_text Parked = codes "found parked\n"
+fate_text (Back code) = codes "found back " ++ (decimal code ++ codes "\n")
 fate_text (Discarded cause) = codes "found discarded " ++ (decimal (cause_number cause) ++ codes "\n")
 
 abbrev pub took_text : Took → List ℕ

@@ -63,6 +63,7 @@ fn fate_text(alloc: Global, fate: Fate) -> Result<Vec<u8>, AllocError>
         Fate::Acked { link } => with_number(alloc, "found acked ", link as u64),
         Fate::Held { link } => with_number(alloc, "found held ", link as u64),
         Fate::Parked => Vec::from_slice(alloc, b"found parked\n"),
+        Fate::Back { code } => with_number(alloc, "found back ", code as u64),
         Fate::Discarded { cause } => {
             with_number(alloc, "found discarded ", cause.number() as u64)
         }

@@ -23,6 +23,7 @@ and each other asks end E for one thing, mostly on link L:
   together                the link comes up, at both ends
   down, blind             the link fails, and an order tells the other end
   noanswer                nobody answered that order
+  restore, backtimeout    streams are asked back to it, nobody answered that
 `mtpbank play --help` says how each line is written, what it prints, and each
 fault. Begin with `mtpbank play < examples/first_message.play`.";
 
@@ -71,6 +72,8 @@ for one thing (E is an end, a or b, L a link, HEX octets of two hexadecimal digi
   down E L            link L fails at end E, which tells the other what it accepted (COO)
   blind E L           link L fails at end E, which can't tell what it accepted (ECO)
   noanswer E L        end E had no answer to the changeover of link L
+  restore E L         end E asks the streams whose home is link L back to it, from each other link that is up (CBD)
+  backtimeout E L     end E had no answer to the changeback to link L
 Words are separated by one space, numbers are decimal without leading zeros, and lines end in LF.
 
 Each of these lines prints one:
@@ -80,6 +83,8 @@ Each of these lines prints one:
   found waiting L, found unacked L, found acked L       to be sent, sent, acknowledged on link L
   found held L        link L was left and isn't settled; the message waits for that
   found parked        no link can take it until one comes up
+  found back C        its stream is on its way home; the message waits for the answer with code C, which is 16
+                      times the home and the link that the stream comes from
   found discarded C   given up: 1 an emergency, 2 the other end told an FSN that can't be, 3 no answer
   sent HEX            the unit that was sent; its last two octets are the check octets
   heard acked=K took=T asked=0|1 resend=0|1 fault=F     what the unit did: K messages are acknowledged;
@@ -87,16 +92,22 @@ Each of these lines prints one:
                       asked=1, the end asks for retransmission; resend=1, it is asked for it; F is 2 for
                       abnormal BSNs, 3 for abnormal FIBs, else 0
   lost                the unit is lost, by lose or because the link isn't up where it arrives
-  done                the link has failed, or settled without an answer
+  done                the link has failed, or settled without an answer; or streams were asked back, or go home
+                      without an answer
   refused C           1 under 5 octets, 2 over 273, 3 service indicator 0, 4 the stream has 1,024 unsent
-                      messages, 5 the link isn't up, 8 no such message, 9 nothing to take or to do
+                      messages, 5 the link isn't up, 8 no such message, 9 nothing to take or to do: for
+                      noanswer the link wasn't left or has settled, for restore no stream of link L runs on
+                      another link that is up, but for those whose code is still in use, and for backtimeout
+                      no code of link L is in use
 The last two lines count the users' messages of each end by where they stand.
 
 The high digit of a message's fifth octet is its stream, whose home is link stream modulo the number of links;
 where that link wasn't up or has failed, the stream runs on another one. A changeover of link 1 is `down a 1`,
 after which an order waits on the lowest link that is up; `emit a 0` and `arrive b 0`, where b leaves link 1 too;
 `emit b 0` and `arrive a 0`, which carry b's answer. Link 1 is settled then, and what b hasn't accepted waits at
-a for link 0, in order.
+a for link 0, in order. When link 1 comes up again, its streams that have had messages stay on link 0, until
+`restore a 1` asks them back: an order waits on link 0 behind all that waits there, and what is offered then is found
+back. When b's answer has come, it waits for link 1, in order.
 
 A fault ends the script: one line on standard error, with status 1; what was printed before it stays.
   fault line N text   line N, from 1 and with remarks, can't be read: a word that isn't known, too few or too many

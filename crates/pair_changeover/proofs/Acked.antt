@@ -14,16 +14,16 @@ use Rattle.set_events.specs.declared.answer.DiscardCause.{DiscardCause}
 use Rattle.set_events.specs.declared.answer.Fate.{Fate}
 use Rattle.set_events.specs.declared.answer.Fate.TheVariants.{Waiting, Unacked, Acked, Discarded}
 use Rattle.set_events.specs.declared.event.Event.{Event}
-use Rattle.set_events.specs.declared.event.Event.TheVariants.{Offer, Take, Find, Next, Heard, Up as UpEvent, Down as DownEvent, DownBlind, NoAnswer}
+use Rattle.set_events.specs.declared.event.Event.TheVariants.{Offer, Take, Find, Next, Heard, Up as UpEvent, Down as DownEvent, DownBlind, NoAnswer, Restore, BackTimeout}
 use Rattle.set_model.specs.declared.phase.Phase.{Phase}
 use Rattle.set_model.specs.declared.phase.Phase.TheVariants.{Up, Down, Settled}
 use Rattle.set_model.specs.declared.reached.Reached.{Reached}
-use Rattle.set_model.specs.Changeover.{fate_on, queued, left_by, left_link, acknowledged as acknowledged_link, acknowledged_by, moved_over, settled, settled_link}
+use Rattle.set_model.specs.Changeover.{fate_on, queued, left_by, left_link, out_of_service, declared, released, acknowledged as acknowledged_link, acknowledged_by, moved_over, settled, settled_link}
 use Rattle.set_model.specs.Control.{Choice, again, first, fill, choice_of, part_of}
-use Rattle.set_model.specs.Rows.{Row, all_with, is_waiting, is_unacked, is_on, is_parked, octets_in, stream_of, turned, changed, moved, appended, with_fate, place, row_of, unack, wait, IsNumbered, IsInOrder}
+use Rattle.set_model.specs.Rows.{Row, all_with, is_waiting, is_unacked, is_on, is_back, is_back_to, is_parked, stands_back, octets_in, stream_of, turned, changed, moved, appended, with_fate, place, row_of, unack, wait, IsNumbered, IsInOrder}
 use Rattle.set_model.specs.Sound.{IsSound}
-use Rattle.set_model.specs.State.{LinkState, State, Settings, has_phase_settled, is_settled, is_up, link_is_settled, new_link, opened_with, target, window_of}
-use Rattle.set_model.specs.Step.{with_known, is_msu, after_control, fate_at, next, offered, rises, rows_sent, step, takes}
+use Rattle.set_model.specs.State.{LinkState, State, Settings, has_phase_settled, is_settled, is_up, link_is_settled, new_link, opened_with, fate_at, target, window_of}
+use Rattle.set_model.specs.Step.{with_known, is_msu, after_control, next, offered, rises, rows_sent, step, takes}
 use Rattle.set_model.proofs.Events.{acknowledged, appended_out, sent_given_up, unack_gone, unparked}
 use Rattle.set_model.proofs.Events as events
 use Rattle.set_model.proofs.Finding.{with_number, numbered_appended}
@@ -31,13 +31,12 @@ use Rattle.set_model.proofs.InPlace.{where_turned, where_changed, turned_there, 
 use Rattle.set_model.proofs.Lists.{get_set_same, get_set_other, same_at, within}
 use Rattle.set_model.proofs.Lookups.{at_most_one, place_moved}
 use Rattle.set_model.proofs.Moving.{moved_numbered, moved_same}
-use Rattle.set_model.proofs.Places.{false_true, itself, apart_back, on_other, not_on_unacked, waiting_not_unacked}
-use Rattle.set_model.proofs.Ranging.{acked_few, not_sent}
+use Rattle.set_model.proofs.Places.{false_true, itself, apart_back, on_other, not_on_unacked, waiting_not_unacked, back_not_on, code_back, home_back}
+use Rattle.set_model.proofs.Ranging.{acked_few, not_sent, offered_out}
 use Rattle.set_model.proofs.Settling.{settled_empty}
 use Rattle.set_model.proofs.Walk.{IsAt, KeptBy, settle_walks, takes_walks, step_walks}
 use Rattle.set_route.specs.Routing.{place_of}
 use Rattle.pair_model.specs.Run.{Message, Past, messages, first_sent, past_sent, past_risen}
-use Rattle.pair_model.proofs.Following.{offered_unsent}
 use Rattle.pair_model.proofs.Moving.{next_refused}
 use Rattle.pair_model.proofs.Runs.{is_at_up}
 use Rattle.pair_model.proofs.Sending.{next_is}
@@ -256,12 +255,24 @@ module _ (l : ℕ) (sent : List Message) where
   appends : (s t : State) (body : List ℕ) (fate : Fate) → is_unacked l fate ≡ false → t.rows ≡ appended s.rows body fate → slice_get t.links l ≡ slice_get s.links l → AckedFirst l sent s → AckedFirst l sent t
   appends s t body fate unsent rows links a = goes_on s t (rw rows (numbered_appended s.rows body fate a.numbered)) (rw rows (joined_stay l s.rows _)) links (ap (unack l) rows ∙ appended_out s.rows body fate (is_unacked l) unsent) a
 
-  leaves_own : (blind : Bool) (link : LinkState) (s : State) → IsAt l link Up s → AckedFirst l sent s → AckedFirst l sent (left_by blind l link s)
-  leaves_own blind link s at a = let now = at_link s link at.there a in own_set s (left_by blind l link s) link (left_link blind link) at.there refl a.numbered now.0 now.1 (λ e. go (a.going link at.there (ap has_phase_settled at.phase_is)))
+  -- what stood back goes elsewhere
+  turns : (test : Fate → Bool) (fate : Row → Fate) (s t : State) → test (Acked l) ≡ false → ((f : Fate) → test f ≡ true → stands_back f ≡ true) → ((row : Row) → is_unacked l (fate row) ≡ false) → t.rows ≡ moved test fate s.rows → t.links ≡ s.links → AckedFirst l sent s → AckedFirst l sent t
+  turns test fate s t w back unsent rows links a =
+      goes_on s t (rw rows (moved_numbered test fate s.rows a.numbered)) (rw rows (moved_stay l test w fate s.rows a.numbered)) (ap (λ (ks : List LinkState). slice_get ks l) links)
+      (ap (unack l) rows ∙ moved_same test (is_unacked l) fate s.rows unsent (λ f e. not_on_unacked l f (back_not_on l f (back f e)))) a
+
+  leaves_own : (blind : Bool) (link : LinkState) (s : State) → IsAt l link Up s → AckedFirst l sent s → AckedFirst l sent (out_of_service blind l link s)
+  leaves_own blind link s at a = let now = at_link s link at.there a in own_set s (out_of_service blind l link s) link (left_link blind link) at.there refl a.numbered now.0 now.1 (λ e. go (a.going link at.there (ap has_phase_settled at.phase_is)))
     where
       go : IsRest l link s.rows sent → IsRest l (left_link blind link) s.rows sent
       go (inl rest) = inl rest
       go (inr none) = inr (refl, none.1)
+
+  leaves_any : (blind : Bool) (n : ℕ) (link : LinkState) (s : State) → IsAt n link Up s → AckedFirst l sent s → AckedFirst l sent (left_by blind n link s)
+  leaves_any blind n link s at a =
+      let out = out_of_service blind n link s in
+      turns (is_back_to n) _ out (left_by blind n link s) refl (home_back n) (λ row. offered_out l _ out) refl refl
+      (by_link n (λ m. IsAt m link Up s → AckedFirst l sent (out_of_service blind m link s)) (λ here. leaves_own blind link s here a) (λ d here. goes_on s out a.numbered (λ number e. e) (other_set n (left_link blind link) s.links d) refl a) at)
 
   acknowledges_any : (count n : ℕ) (link after : LinkState) (s t : State) → slice_get s.links n ≡ Some link → t.links ≡ slice_set s.links n after → t.rows ≡ turned (is_unacked n) (Acked n) count s.rows → after.acked ≡ link.acked + count → after.phase ≡ link.phase → has_phase_settled link.phase ≡ false → count ≤ length (unack n s.rows) → AckedFirst l sent s → AckedFirst l sent t
   acknowledges_any count n link after s t there links rows acked phase unsettled enough a =
@@ -292,25 +303,27 @@ module _ (l : ℕ) (sent : List Message) where
       stay m = moved_stay l (is_on m) refl (all_with (fate_on (target s.links))) s.rows a.numbered
 
   -- whatever small change is made
-  pub small : (Known : ℕ → Type 0) → KeptBy Known (λ s t. AckedFirst l sent s → AckedFirst l sent t)
-  small Known = record {
+  pub small : (Known : ℕ → Type 0) (May : Type 0) → KeptBy Known May (λ s t. AckedFirst l sent s → AckedFirst l sent t)
+  small Known May = record {
     same = λ s a. a;
     after = λ s t u p q a. q (p a);
     delivers = λ body s a. record { numbered = a.numbered; few = a.few; first = a.first; going = a.going };
     queues = λ order s a. appends s (queued order s) (text order s.settings.sio s.settings.dpc s.settings.opc) (fate_on (target s.links)) (not_sent l (target s.links)) refl refl a;
-    leaves = λ blind n link s known at a. by_link n (λ m. IsAt m link Up s → AckedFirst l sent (left_by blind m link s)) (λ here. leaves_own blind link s here a) (λ d here. goes_on s (left_by blind n link s) a.numbered (λ number e. e) (other_set n (left_link blind link) s.links d) refl a) at;
+    leaves = λ blind n link s known at a. leaves_any blind n link s at a;
     acknowledges = λ count n link s known at enough a. acknowledges_any count n link (acknowledged_link count link) s (acknowledged_by count n link s) at.there refl refl refl refl (ap has_phase_settled at.phase_is) enough a;
     gives_up_sent = λ cause n link s known at a. by_link n (λ m. IsAt m link Down s → AckedFirst l sent (record s { rows = changed (is_unacked m) (Discarded cause) s.rows })) (λ here. gives_up_own cause link s here a)
         (λ d here. goes_on s (record s { rows = changed (is_unacked n) (Discarded cause) s.rows }) ((sent_given_up n cause s.rows).kept.numbered a.numbered) (changed_stay l (is_unacked n) refl (Discarded cause) s.rows) refl (((sent_given_up n cause s.rows).others l d).unack_same) a) at;
     gives_up_waiting = λ cause n link s known at a. goes_on s (record s { rows = changed (is_waiting n) (Discarded cause) s.rows }) ((events.waiting_given_up n cause s.rows).kept.numbered a.numbered) (changed_stay l (is_waiting n) refl (Discarded cause) s.rows) refl (changed_same (is_waiting n) (is_unacked l) (Discarded cause) refl (waiting_not_unacked l n) s.rows) a;
     moves_off = λ n link s known at a. moves_off_any n link s at a;
+    declares = λ may home alternative s up can a. appends s (declared home alternative s) _ (Waiting alternative) refl refl refl a;
+    releases = λ code s known a. turns (is_back code) (all_with (Waiting _)) s (released code s) refl (code_back code) (λ row. refl) refl refl a;
   }
 
   pub settles_kept : (reached : Reached) (n : ℕ) (link : LinkState) (s : State) → IsAt n link Down s → AckedFirst l sent s → AckedFirst l sent (settled reached n link s)
-  settles_kept reached n link s at a = settle_walks (λ m. Unit {0}) (λ t u. AckedFirst l sent t → AckedFirst l sent u) (small (λ m. Unit {0})) reached n link s tt at a
+  settles_kept reached n link s at a = settle_walks (λ m. Unit {0}) ⊥ (λ t u. AckedFirst l sent t → AckedFirst l sent u) (small (λ m. Unit {0}) ⊥) reached n link s tt at a
 
   pub takes_kept : (body : Option (List ℕ)) (s : State) → AckedFirst l sent s → AckedFirst l sent (takes body s).state
-  takes_kept body s a = takes_walks (λ m. Unit {0}) (λ t u. AckedFirst l sent t → AckedFirst l sent u) (small (λ m. Unit {0})) body s (λ b e o f n g. tt) a
+  takes_kept body s a = takes_walks (λ m. Unit {0}) ⊥ (λ t u. AckedFirst l sent t → AckedFirst l sent u) (small (λ m. Unit {0}) ⊥) body s (λ b e o f n g. tt) a
 
   -- of a link in service nothing was given up
   pub rest_up : (link : LinkState) (s : State) → IsAt l link Up s → AckedFirst l sent s → messages (unack l s.rows) ≡ drop link.acked sent
@@ -423,10 +436,10 @@ module _ (l : ℕ) (sent : List Message) (s : State) where
   -- ANY OTHER EVENT
   other_kept : (event : Event) → ((n : ℕ) → event ≡ Next n → ⊥) → ((n : ℕ) → event ≡ UpEvent n → ⊥) → AckedFirst l sent s → AckedFirst l sent (step s event).state
   other_kept event not_next not_up a = step_walks s (λ t u. AckedFirst l sent t → AckedFirst l sent u) (λ t. AckedFirst l sent t) event (record {
-    small = small l sent _;
+    small = small l sent _ _;
     unmoved = a;
     rests = λ t u b keeps. keeps b;
-    offers = λ body e none. appends l sent s (offered None s body).state body (fate_at (place_of (stream_of body) s.routing) s) (offered_unsent l (place_of (stream_of body) s.routing) s) refl refl a;
+    offers = λ body e none. appends l sent s (offered None s body).state body (fate_at (place_of (stream_of body) s.routing) s) (offered_out l (place_of (stream_of body) s.routing) s) refl refl a;
     takes = λ body rest e there. record { numbered = a.numbered; few = a.few; first = a.first; going = a.going };
     sends = λ n link e at. absurd (not_next n e);
     hears = λ n unit link e at. hears_part l sent n unit link s at a;
@@ -450,6 +463,8 @@ acked_first l s (Heard n unit) sent sound a = other_kept l sent s (Heard n unit)
 acked_first l s (DownEvent n) sent sound a = other_kept l sent s (DownEvent n) (λ m e. absurd cc) (λ m e. absurd cc) a
 acked_first l s (DownBlind n) sent sound a = other_kept l sent s (DownBlind n) (λ m e. absurd cc) (λ m e. absurd cc) a
 acked_first l s (NoAnswer n) sent sound a = other_kept l sent s (NoAnswer n) (λ m e. absurd cc) (λ m e. absurd cc) a
+acked_first l s (Restore n) sent sound a = other_kept l sent s (Restore n) (λ m e. absurd cc) (λ m e. absurd cc) a
+acked_first l s (BackTimeout n) sent sound a = other_kept l sent s (BackTimeout n) (λ m e. absurd cc) (λ m e. absurd cc) a
 
 -- A NEW SET
 none_acked : (l count : ℕ) (link : LinkState) → link.acked ≡ 0 → acked_of (slice_get (replicate count link) l) ≡ 0

@@ -8,7 +8,7 @@ use Rattle.l3_orders.specs.Grammar.{order_of, link_of, text}
 use Rattle.link_lines.specs.Lines.{units_on, with_units}
 use Rattle.set_events.specs.declared.answer.Answer.TheVariants.{Heard as HeardBack}
 use Rattle.set_events.specs.declared.answer.Fate.{Fate}
-use Rattle.set_events.specs.declared.answer.Fate.TheVariants.{Waiting, Unacked, Acked, Held, Parked, Discarded}
+use Rattle.set_events.specs.declared.answer.Fate.TheVariants.{Waiting, Unacked, Acked, Held, Parked, Back, Discarded}
 use Rattle.set_events.specs.declared.answer.Took.{Took}
 use Rattle.set_events.specs.declared.answer.Took.TheVariants.{Nothing as NothingTaken, Message as TookMessage, Order as TookOrder, Ignored}
 use Rattle.set_events.specs.declared.config.Method.{Method}
@@ -26,8 +26,8 @@ use Rattle.set_model.proofs.LinkCount.{link_count_stays}
 use Rattle.set_model.proofs.Lists.{get_set_same, get_set_other, present, within}
 use Rattle.set_model.proofs.Moving.{moved_same}
 use Rattle.set_model.proofs.Places.{false_true, itself}
+use Rattle.set_model.proofs.Plain.{Quietly}
 use Rattle.set_model.proofs.Settling.{settled_empty}
-use Rattle.set_model.proofs.SoundLink as sounds
 use Rattle.set_model.proofs.Walk.{IsAt}
 use Rattle.world_steps.specs.declared.step.Shown.TheVariants.{Answered}
 use Rattle.pair_model.specs.Promises.{IsOneMethod}
@@ -84,8 +84,8 @@ module _ (mx my : Method) (one : IsOneMethod mx my) (p : Two) (h : HoldsOf mx my
   acks : Rattle.set_model.proofs.Events.Acknowledged k (hearing.part mx my one p h w.both k few unit rest front link at).acked p.near.rows mid.rows
   acks = acknowledged k (hearing.part mx my one p h w.both k few unit rest front link at).acked p.near.rows
 
-  pub mid_sound : IsSound mid
-  mid_sound = sounds.hears_sound k link p.near at h.near_sound unit
+  pub mid_quiet : Quietly mid
+  mid_quiet = hearing.mid_quiet mx my one p h w.both k few unit rest front link at
 
   mid_all : (P : ℕ → Option LinkState → Option LinkState → Type 0) → P k (Some link) (Some (hearing.mid_link mx my one p h w.both k few unit rest front link at)) → ((l : ℕ) (o : Option LinkState) → (k == l) ≡ false → P l o o) → (l : ℕ) → P l (slice_get p.near.links l) (slice_get mid.links l)
   mid_all = by_link k link (hearing.mid_link mx my one p h w.both k few unit rest front link at) p.near mid at.there refl
@@ -104,13 +104,13 @@ module _ (mx my : Method) (one : IsOneMethod mx my) (p : Two) (h : HoldsOf mx my
   codes_then = subst AreCodes (sym (settings_stay p.near (HeardEvent k unit))) w.near.codes
 
   both_then : Both then_near p.far
-  both_then = subst (λ (s : State). Both s p.far) (sym state_is) (obeys_both k mid p.far mid_sound w.near.codes does.both _ does.obeys)
+  both_then = subst (λ (s : State). Both s p.far) (sym state_is) (obeys_both k mid p.far mid_quiet w.near.codes does.both _ does.obeys)
 
   equal_then : (l : ℕ) → is_settled l then_near ≡ true → acked_on l then_near ≡ accepted_on l p.far
-  equal_then = subst (λ (s : State). (l : ℕ) → is_settled l s ≡ true → acked_on l s ≡ accepted_on l p.far) (sym state_is) (obeys_equal k mid p.far mid_sound w.near.codes does.both mid_equal _ does.obeys)
+  equal_then = subst (λ (s : State). (l : ℕ) → is_settled l s ≡ true → acked_on l s ≡ accepted_on l p.far) (sym state_is) (obeys_equal k mid p.far mid_quiet w.near.codes does.both mid_equal _ does.obeys)
 
   discards_then : standing was_discarded then_near.rows ≡ []
-  discards_then = ap (λ (s : State). standing was_discarded s.rows) state_is ∙ obeys_discards k mid p.far mid_sound w.near.codes does.both _ does.obeys ∙ mid_discards ∙ w.near.none_discarded
+  discards_then = ap (λ (s : State). standing was_discarded s.rows) state_is ∙ obeys_discards k mid p.far mid_quiet w.near.codes does.both _ does.obeys ∙ mid_discards ∙ w.near.none_discarded
 
   first_then : (l : ℕ) → AckedFirst l (p.near_past.sent l) then_near
   first_then l = acked_first l p.near (HeardEvent k unit) (p.near_past.sent l) h.near_sound (w.near.acked l)
@@ -121,13 +121,13 @@ module _ (mx my : Method) (one : IsOneMethod mx my) (p : Two) (h : HoldsOf mx my
   -- the far end of a link that settled there counts as before, since this end isn't up on it
   far_equal : (l : ℕ) → is_settled l p.far ≡ true → acked_on l p.far ≡ accepted_on l then_near
   far_equal l e =
-      let same : accepted_on l then_near ≡ accepted_on l mid = ap (accepted_on l) state_is ∙ obeys_accepted k mid p.far mid_sound w.near.codes does.both _ does.obeys l in
+      let same : accepted_on l then_near ≡ accepted_on l mid = ap (accepted_on l) state_is ∙ obeys_accepted k mid p.far mid_quiet w.near.codes does.both _ does.obeys l in
       w.far.equal l e ∙ sym (same ∙ mid_accepted l (w.both.far.apart l e))
 
   -- WHAT SETTLES
   module _ (l : ℕ) (before : is_settled l p.near ≡ false) (now : is_settled l then_near ≡ true) where
     moved_so : Moved k l mid p.far (hearing.taken mx my one p h w.both k few unit rest front link at).state
-    moved_so = obeys_moves k mid p.far mid_sound w.near.codes does.both _ does.obeys l (mid_settled l ∙ before) (ap (is_settled l) (sym state_is) ∙ now)
+    moved_so = obeys_moves k mid p.far mid_quiet w.near.codes does.both _ does.obeys l (mid_settled l ∙ before) (ap (is_settled l) (sym state_is) ∙ now)
 
     same_link : slice_get mid.links l ≡ slice_get p.near.links l
     same_link = other_then k link (hearing.mid_link mx my one p h w.both k few unit rest front link at) p.near mid at.there refl l moved_so.other
@@ -269,6 +269,7 @@ module _ (k : ℕ) (s : State) (sound : IsSound s) (link : LinkState) (at : IsAt
   parked_not_discarded (Acked n) e = refl
   parked_not_discarded (Held n) e = refl
   parked_not_discarded Parked e = refl
+  parked_not_discarded (Back code) e = refl
   parked_not_discarded (Discarded cause) e = absurd cc
 
   pub rises_discards : standing was_discarded (step s (UpEvent k)).state.rows ≡ standing was_discarded s.rows

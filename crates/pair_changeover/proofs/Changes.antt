@@ -4,15 +4,16 @@ use Rattle.std.proofs.lemmas.Bool.{eqb-true}
 use Rattle.l3_orders.specs.declared.order.Order.{Order}
 use Rattle.l3_orders.specs.Grammar.{text, order_of, link_of}
 use Rattle.set_events.specs.declared.answer.Fate.{Fate}
-use Rattle.set_events.specs.declared.answer.Fate.TheVariants.{Waiting, Unacked, Acked, Held, Parked, Discarded}
+use Rattle.set_events.specs.declared.answer.Fate.TheVariants.{Waiting, Unacked, Acked, Held, Parked, Back, Discarded}
 use Rattle.set_model.specs.declared.phase.Phase.TheVariants.{Up, Down}
 use Rattle.set_model.specs.Rows.{Row, is_on, is_waiting, is_unacked, is_held, is_parked, held, unack, appended}
 use Rattle.set_model.specs.Sound.{IsSound}
 use Rattle.set_model.specs.State.{LinkState, State, is_up, is_settled, link_is_up, link_is_settled, has_phase_up, has_phase_settled, target}
-use Rattle.set_model.specs.Changeover.{fate_on, queued, left_by, left_link}
+use Rattle.set_model.specs.Changeover.{fate_on, queued, left_link}
 use Rattle.set_model.proofs.Events.{Untouched}
 use Rattle.set_model.proofs.Lists.{get_set_same, get_set_other, same_at, within}
 use Rattle.set_model.proofs.Places.{false_true, itself}
+use Rattle.set_model.proofs.Plain.{just_left}
 use Rattle.set_model.proofs.Targets.{target_up}
 use Rattle.set_model.proofs.Walk.{IsAt}
 use Rattle.pair_model.specs.Run.{Message, messages}
@@ -120,6 +121,7 @@ module _ (count link : ℕ) (rows : List Row) (body : List ℕ) where
   grows Parked to_park = ungrown refl (queue_apart count link rows body Parked refl)
   grows (Unacked l) new = elim new [ ]
   grows (Acked l) new = elim new [ ]
+  grows (Back code) new = elim new [ ]
   grows (Discarded cause) new = elim new [ ]
 
 -- a link that is up holds nothing
@@ -172,6 +174,7 @@ module _ (s f : State) (body : List ℕ) (fate : Fate) (t : State) (rows : t.row
           again Parked to_park = to_park
           again (Unacked l) new = elim new [ ]
           again (Acked l) new = elim new [ ]
+          again (Back code) new = elim new [ ]
           again (Discarded cause) new = elim new [ ]
 
 -- AN ORDER IS QUEUED
@@ -250,13 +253,13 @@ module _ (k : ℕ) (link link' : LinkState) (s t : State) (there : slice_get s.l
       go true e = subst (λ (n : ℕ). P n (slice_get s.links n) (slice_get t.links n)) (eqb-true k l e) (subst (λ (o : Option LinkState). P k o (slice_get t.links k)) (sym there) (subst (λ (o : Option LinkState). P k (Some link) o) (sym own_then) own))
       go false e = subst (λ (o : Option LinkState). P l (slice_get s.links l) o) (sym (other_then l e)) (other l (slice_get s.links l) e)
 
--- IT IS LEFT
-pub leaves_queues : (blind : Bool) (k : ℕ) (link : LinkState) (s f : State) → IsAt k link Up s → (l : ℕ) → pending l (left_by blind k link s) f ≡ pending l s f
-leaves_queues blind k link s f at l = ap (λ (n : ℕ). queue (accepted_on l f - n) l s.rows) (by_link k link (left_link blind link) s (left_by blind k link s) at.there refl (λ n old new. acked_of new ≡ acked_of old) refl (λ n old d. refl) l)
+-- IT IS LEFT, where no changeback is under way
+pub leaves_queues : (blind : Bool) (k : ℕ) (link : LinkState) (s f : State) → IsAt k link Up s → (l : ℕ) → pending l (just_left blind k link s) f ≡ pending l s f
+leaves_queues blind k link s f at l = ap (λ (n : ℕ). queue (accepted_on l f - n) l s.rows) (by_link k link (left_link blind link) s (just_left blind k link s) at.there refl (λ n old new. acked_of new ≡ acked_of old) refl (λ n old d. refl) l)
 
-pub leaves_acts : (blind : Bool) (k : ℕ) (link : LinkState) (s f : State) → IsAt k link Up s → Acts s (left_by blind k link s) f
+pub leaves_acts : (blind : Bool) (k : ℕ) (link : LinkState) (s f : State) → IsAt k link Up s → Acts s (just_left blind k link s) f
 leaves_acts blind k link s f at =
-    let t = left_by blind k link s in
+    let t = just_left blind k link s in
     let all = by_link k link (left_link blind link) s t at.there refl in
     record {
       came = λ l m among. stayed (subst (λ (q : List Message). Among m q) (leaves_queues blind k link s f at l) among);

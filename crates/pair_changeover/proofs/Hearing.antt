@@ -12,13 +12,15 @@ use Rattle.set_events.specs.declared.config.Method.{Method}
 use Rattle.set_model.specs.declared.phase.Phase.{Phase}
 use Rattle.set_model.specs.declared.phase.Phase.TheVariants.{Up, Down, Settled}
 use Rattle.set_model.specs.declared.reached.Reached.TheVariants.{Upto}
-use Rattle.set_model.specs.Changeover.{Obeyed, ignored, order_obeyed, at_link, changed_over, answered, obeyed}
+use Rattle.set_model.specs.Changeover.{Obeyed, ignored, order_obeyed, queued, left_link, settled, at_link, changed_over, answered, obeyed}
 use Rattle.set_model.specs.Rows.{Row, unack, parked, service_indicator, IsNumbered}
 use Rattle.set_model.specs.Sound.{IsSound}
-use Rattle.set_model.specs.State.{LinkState, State, is_up, is_settled, link_is_up, link_is_settled, has_phase_up, has_phase_settled, window_of}
+use Rattle.set_model.specs.State.{LinkState, State, is_up, is_settled, link_is_up, link_is_settled, has_phase_up, has_phase_settled, last_accepted, window_of}
 use Rattle.set_model.specs.Step.{brought, takes, is_msu, one_if}
 use Rattle.set_model.proofs.Events.{acknowledged}
 use Rattle.set_model.proofs.Lists.{get_set_same, present, within}
+use Rattle.set_model.proofs.Plain.{Quietly, left_straight}
+use Rattle.set_model.proofs.SoundLink as sounds
 use Rattle.set_model.proofs.Walk.{IsAt}
 use Rattle.pair_model.specs.Promises.{IsOneMethod, IsKeptOn}
 use Rattle.pair_model.specs.Run.{Message, messages, bodies, body_in, taken_by}
@@ -68,6 +70,10 @@ module _ (mx my : Method) (one : IsOneMethod mx my) (p : Two) (h : HoldsOf mx my
 
   mid_tied : Tied k mx my heard_side y (units_on k p.out) rest
   mid_tied = hearing.mid_tied k mx my one x y (units_on k p.out) rest unit link h.near_sound at tied
+
+  -- and no changeback is under way
+  pub mid_quiet : Quietly mid
+  mid_quiet = (sounds.hears_sound k link p.near at h.near_sound unit, h.near_straight.none_open)
 
   mid_numbered : IsNumbered mid.rows
   mid_numbered = (acknowledged k part.acked p.near.rows).kept.numbered h.near_sound.numbered
@@ -257,7 +263,8 @@ module _ (mx my : Method) (one : IsOneMethod mx my) (p : Two) (h : HoldsOf mx my
       going_at state there = ap link_is_settled (sym there ∙ same_link) ∙ unsettled
 
     coo_obeyed : (l fsn : ℕ) (is : order_of body ≡ Some (Coo l fsn)) (state : LinkState) → slice_get mid.links l ≡ Some state → (phase : Phase) → state.phase ≡ phase → Obeys k mid p.far (changed_over (Upto fsn) l state phase mid).state
-    coo_obeyed l fsn is state there Up e = answers fsn l state (other (Coo l fsn) is) (record { there = there; phase_is = e }) (told_then (Coo l fsn) is fsn (tells (Coo l fsn) is) state (sym (same_link (Coo l fsn) is) ∙ there) (going_at (Coo l fsn) is state there)) (heard (Coo l fsn) is)
+    coo_obeyed l fsn is state there Up e = subst (λ (left : State). Obeys k mid p.far (settled (Upto fsn) l (left_link false state) (queued (Coa l (last_accepted state)) left))) (sym (left_straight false l state mid mid_quiet.0 mid_quiet.1))
+        (answers fsn l state (other (Coo l fsn) is) (record { there = there; phase_is = e }) (told_then (Coo l fsn) is fsn (tells (Coo l fsn) is) state (sym (same_link (Coo l fsn) is) ∙ there) (going_at (Coo l fsn) is state there)) (heard (Coo l fsn) is))
     coo_obeyed l fsn is state there Down e = settles fsn l state (other (Coo l fsn) is) (record { there = there; phase_is = e }) (told_then (Coo l fsn) is fsn (tells (Coo l fsn) is) state (sym (same_link (Coo l fsn) is) ∙ there) (going_at (Coo l fsn) is state there)) (heard (Coo l fsn) is)
     coo_obeyed l fsn is state there Settled e = absurd (let no : true ≡ false = sym (ap has_phase_settled e) ∙ going_at (Coo l fsn) is state there in cc)
 

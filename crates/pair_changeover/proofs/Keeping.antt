@@ -4,27 +4,28 @@ use Rattle.std.proofs.lemmas.Bool.{eqb-true}
 use Rattle.l3_orders.specs.declared.order.Order.TheVariants.{Coo}
 use Rattle.l3_orders.specs.Grammar.{order_of, text}
 use Rattle.set_events.specs.declared.answer.Fate.{Fate}
-use Rattle.set_events.specs.declared.answer.Fate.TheVariants.{Waiting, Unacked, Acked, Held, Parked, Discarded}
+use Rattle.set_events.specs.declared.answer.Fate.TheVariants.{Waiting, Unacked, Acked, Held, Parked, Back, Discarded}
 use Rattle.set_events.specs.declared.answer.Refusal.{Refusal as SetRefusal}
 use Rattle.set_events.specs.declared.answer.Refusal.TheVariants.{NotUp, TooShort, TooLong, Reserved, StreamFull}
 use Rattle.set_events.specs.declared.event.Event.TheVariants.{Offer, Take, Find, Next, Down as DownEvent}
 use Rattle.set_route.specs.declared.place.Place.{Place}
-use Rattle.set_route.specs.declared.place.Place.TheVariants.{On, Nowhere}
+use Rattle.set_route.specs.declared.place.Place.TheVariants.{On, Changing, Nowhere}
 use Rattle.set_route.specs.Routing.{place_of}
+use Rattle.set_route.proofs.Quiet.{never_changing}
 use Rattle.set_model.specs.declared.phase.Phase.{Phase}
 use Rattle.set_model.specs.declared.phase.Phase.TheVariants.{Up, Down, Settled}
 use Rattle.set_model.specs.Rows.{Row, is_waiting, was_discarded, standing, unack, parked, turned, place, stream_of, service_indicator, unsent, octets_in}
 use Rattle.set_model.specs.Sound.{IsSound}
-use Rattle.set_model.specs.State.{LinkState, State, is_up, is_settled, link_is_up, link_is_settled, has_phase_up, has_phase_settled, last_accepted, target, window_of}
+use Rattle.set_model.specs.State.{LinkState, State, is_up, is_settled, link_is_up, link_is_settled, has_phase_up, has_phase_settled, last_accepted, fate_at, target, window_of}
 use Rattle.set_model.specs.Control.{Choice, again, first, fill, choice_of, control_after}
-use Rattle.set_model.specs.Changeover.{fate_on, queued, left_by, left_link, leaving_order}
-use Rattle.set_model.specs.Step.{Outcome, refused, offer_refusal, offered, fate_at, taken, found, with_known, in_service, falls, next, rows_sent, step}
+use Rattle.set_model.specs.Changeover.{fate_on, queued, left_link}
+use Rattle.set_model.specs.Step.{Outcome, refused, offer_refusal, offered, taken, found, with_known, in_service, falls, next, rows_sent, step}
 use Rattle.set_model.proofs.Events.{Untouched, untouched_self, sent, appended_out}
 use Rattle.set_model.proofs.InPlace.{turned_same}
-use Rattle.set_model.proofs.SoundLink.{leaves}
+use Rattle.set_model.proofs.Plain.{just_left, Quietly, left_straight}
 use Rattle.set_model.proofs.Walk.{IsAt}
 use Rattle.pair_changeover.proofs.Changes.{Both, acts, acts_none, stands_still, offers_acts, IsNew, to_wait, to_hold, to_park, held_none, queues_both, by_link, own_then}
-use Rattle.pair_changeover.proofs.Obeying.{left_acts, below, not_settled, not_discarded}
+use Rattle.pair_changeover.proofs.Obeying.{just_left_sound, left_acts, below, not_settled, not_discarded}
 use Rattle.pair_changeover.proofs.Passing.{passing, passing_queues, far_stays}
 use Rattle.pair_changeover.proofs.Table.{queue_sent}
 use Rattle.pair_changeover.proofs.Texts.{AreCodes, coo_read}
@@ -66,9 +67,10 @@ users_body rows body e = go (nat_lt (length body) 5) (nat_lt 273 (length body)) 
     go false false true d e = absurd cc
     go false false false d e = refl
 
-fate_new : (s : State) (body : List ℕ) (link : ℕ) → IsSound s → (place : Place) → IsNew 0 link s.rows body (fate_at place s)
-fate_new s body link sound Nowhere = to_park
-fate_new s body link sound (On k) = go (is_up k s) refl
+fate_new : (s : State) (body : List ℕ) (link : ℕ) → IsSound s → (place : Place) → ((to code via : ℕ) → place ≡ Changing to code via → ⊥) → IsNew 0 link s.rows body (fate_at place s)
+fate_new s body link sound Nowhere straight = to_park
+fate_new s body link sound (Changing to code via) straight = absurd (straight to code via refl)
+fate_new s body link sound (On k) straight = go (is_up k s) refl
   where
     go : (b : Bool) → is_up k s ≡ b → IsNew 0 link s.rows body (cond b (Waiting k) (Held k))
     go true e = to_wait k (λ same. held_none s link sound (subst (λ (n : ℕ). is_up n s ≡ true) (eqb-true k link same) e))
@@ -76,27 +78,28 @@ fate_new s body link sound (On k) = go (is_up k s) refl
 
 place_not_discarded : (place : Place) (s : State) → was_discarded (fate_at place s) ≡ false
 place_not_discarded Nowhere s = refl
+place_not_discarded (Changing to code via) s = refl
 place_not_discarded (On k) s = go (is_up k s)
   where
     go : (b : Bool) → was_discarded (cond b (Waiting k) (Held k)) ≡ false
     go true = refl
     go false = refl
 
-offer_keeps : (s f : State) (body : List ℕ) → IsSound s → (o : Option SetRefusal) → offer_refusal s.rows body ≡ o → Keeps s (offered o s body).state f
-offer_keeps s f body sound (Some why) e = keeps_still s s f refl refl
-offer_keeps s f body sound None e =
+offer_keeps : (s f : State) (body : List ℕ) → Quietly s → (o : Option SetRefusal) → offer_refusal s.rows body ≡ o → Keeps s (offered o s body).state f
+offer_keeps s f body quiet (Some why) e = keeps_still s s f refl refl
+offer_keeps s f body quiet None e =
     let fate = fate_at (place_of (stream_of body) s.routing) s in
     record {
-      both = acts s (offered None s body).state f (offers_acts s f body fate (offered None s body).state refl refl (λ link. fate_new s body link sound (place_of (stream_of body) s.routing)) (plain_body body (users_body s.rows body e)));
+      both = acts s (offered None s body).state f (offers_acts s f body fate (offered None s body).state refl refl (λ link. fate_new s body link quiet.0 (place_of (stream_of body) s.routing) (λ to code via e. never_changing (stream_of body) to code via s.routing quiet.0.routing quiet.1 e)) (plain_body body (users_body s.rows body e)));
       settled = λ l. refl;
       acked = λ l g. refl;
       accepted = λ l. refl;
       discards = appended_out s.rows body fate was_discarded (place_not_discarded (place_of (stream_of body) s.routing) s);
     }
 
-pub offer_kept : (s f : State) (body : List ℕ) → IsSound s → Keeps s (step s (Offer body)).state f
+pub offer_kept : (s f : State) (body : List ℕ) → Quietly s → Keeps s (step s (Offer body)).state f
 unfolding step
-offer_kept s f body sound = offer_keeps s f body sound (offer_refusal s.rows body) refl
+offer_kept s f body quiet = offer_keeps s f body quiet (offer_refusal s.rows body) refl
 
 -- TAKE and FIND
 take_keeps : (s f : State) (inbox : List (List ℕ)) → Keeps s (taken inbox s).state f
@@ -133,30 +136,31 @@ in_keeps k s f act all = go (slice_get s.links k) refl
     go (Some link) e = at link e (has_phase_up link.phase) refl
 
 -- DOWN
-down_at : (k : ℕ) (link : LinkState) (s f : State) → IsSound s → AreCodes s.settings → IsAt k link Up s → Keeps s (queued (Coo k (last_accepted link)) (left_by false k link s)) f
-down_at k link s f sound codes at =
-    let left = left_by false k link s in
+down_at : (k : ℕ) (link : LinkState) (s f : State) → Quietly s → AreCodes s.settings → IsAt k link Up s → Keeps s (queued (Coo k (last_accepted link)) (just_left false k link s)) f
+down_at k link s f quiet codes at =
+    let left = just_left false k link s in
     let there = own_then k link (left_link false link) s left at.there refl in
     let all = by_link k link (left_link false link) s left at.there refl in
     let up : is_up k s ≡ true = ap link_is_up at.there ∙ ap has_phase_up at.phase_is in
     let was : link_is_settled (Some link) ≡ false = ap has_phase_settled at.phase_is in
-    let left_does = left_acts k link s f sound codes at in
+    let left_does = left_acts k link s f quiet codes at in
     record {
-      both = λ o. queues_both left f (Coo k (last_accepted link)) (leaves false k link s at sound) (acts s left f left_does o)
-          (coo_read s.settings k (last_accepted link) codes (below k link s f sound codes at) (omega arith))
+      both = λ o. queues_both left f (Coo k (last_accepted link)) (just_left_sound false k link s quiet at) (acts s left f left_does o)
+          (coo_read s.settings k (last_accepted link) codes (below k link s f quiet codes at) (omega arith))
           (ap (λ (n : ℕ). (n + 127) % 128) (sym (ap accepted_of there)))
           (acts_none s left f left_does k (o.near.none_up k up))
           (ap link_is_up there)
-          (not_settled k link s f sound codes at (is_settled k f) (is_up k s) (o.far.apart k) up);
+          (not_settled k link s f quiet codes at (is_settled k f) (is_up k s) (o.far.apart k) up);
       settled = all (λ n old new. link_is_settled new ≡ link_is_settled old) (sym was) (λ n old d. refl);
       acked = λ l e. all (λ n old new. acked_of new ≡ acked_of old) refl (λ n old d. refl) l;
       accepted = all (λ n old new. accepted_of new ≡ accepted_of old) refl (λ n old d. refl);
       discards = appended_out s.rows (text (Coo k (last_accepted link)) s.settings.sio s.settings.dpc s.settings.opc) (fate_on (target left.links)) was_discarded (not_discarded (target left.links));
     }
 
-pub down_kept : (k : ℕ) (s f : State) → IsSound s → AreCodes s.settings → Keeps s (step s (DownEvent k)).state f
+pub down_kept : (k : ℕ) (s f : State) → Quietly s → AreCodes s.settings → Keeps s (step s (DownEvent k)).state f
 unfolding step
-down_kept k s f sound codes = in_keeps k s f (falls false k s) (λ link at. down_at k link s f sound codes at)
+down_kept k s f quiet codes = in_keeps k s f (falls false k s) (λ link at.
+    subst (λ (left : State). Keeps s (queued (Coo k (last_accepted link)) left) f) (sym (left_straight false k link s quiet.0 quiet.1)) (down_at k link s f quiet codes at))
 
 -- NEXT, where no more was accepted than was sent
 record Unmoved (k count : ℕ) (rows new : List Row) : Type 0 where
@@ -171,6 +175,7 @@ waiting_not_discarded k (Unacked n) e = refl
 waiting_not_discarded k (Acked n) e = refl
 waiting_not_discarded k (Held n) e = refl
 waiting_not_discarded k Parked e = refl
+waiting_not_discarded k (Back code) e = refl
 waiting_not_discarded k (Discarded cause) e = absurd cc
 
 unmoved : (k count : ℕ) (rows : List Row) → Unmoved k count rows rows

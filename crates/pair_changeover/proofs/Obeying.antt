@@ -7,21 +7,22 @@ use Rattle.std.proofs.lemmas.List.{append-nil}
 use Rattle.l3_orders.specs.declared.order.Order.TheVariants.{Coa}
 use Rattle.l3_orders.specs.Grammar.{text, order_of}
 use Rattle.set_events.specs.declared.answer.Fate.{Fate}
-use Rattle.set_events.specs.declared.answer.Fate.TheVariants.{Waiting, Unacked, Acked, Held, Parked, Discarded}
+use Rattle.set_events.specs.declared.answer.Fate.TheVariants.{Waiting, Unacked, Acked, Held, Parked, Back, Discarded}
 use Rattle.set_route.specs.Target.{target_of}
 use Rattle.set_model.specs.declared.phase.Phase.TheVariants.{Up, Down, Settled}
 use Rattle.set_model.specs.declared.reached.Reached.TheVariants.{Upto}
 use Rattle.set_model.specs.Rows.{Row, is_on, is_unacked, is_waiting, is_parked, was_discarded, standing, unack, wait, held, parked, appended, turned, all_with, moved}
 use Rattle.set_model.specs.Sound.{IsSound}
 use Rattle.set_model.specs.State.{LinkState, State, is_up, is_settled, link_is_up, link_is_settled, has_phase_up, last_accepted, target}
-use Rattle.set_model.specs.Changeover.{fate_on, queued, left_by, left_link, settled_link, acknowledged as acknowledged_link, reached_by, is_reasonable, settled}
+use Rattle.set_model.specs.Changeover.{fate_on, queued, left_link, settled_link, acknowledged as acknowledged_link, reached_by, is_reasonable, settled}
 use Rattle.set_model.proofs.Events.{appended_in, appended_out}
 use Rattle.set_model.proofs.InPlace.{turned_same}
 use Rattle.set_model.proofs.Lists.{within, map_set_same, same_at}
 use Rattle.set_model.proofs.Moving.{moved_same}
 use Rattle.set_model.proofs.Places.{apart, itself}
+use Rattle.set_model.proofs.Plain.{just_left, Quietly, left_straight}
 use Rattle.set_model.proofs.Settling.{no_target}
-use Rattle.set_model.proofs.SoundLink.{leaves}
+use Rattle.set_model.proofs.SoundBack.{leaves}
 use Rattle.set_model.proofs.SoundNew as new
 use Rattle.set_model.proofs.Targets.{target_up}
 use Rattle.set_model.proofs.Walk.{IsAt}
@@ -52,7 +53,7 @@ pub record Heard (l : ℕ) (s f : State) : Type 0 where
   pub none : NoneAbout l (view f s)
 
 abbrev pub left_and_told : ℕ → LinkState → State → State
-left_and_told l link s = queued (Coa l (last_accepted link)) (left_by false l link s)
+left_and_told l link s = queued (Coa l (last_accepted link)) (just_left false l link s)
 
 pub data Obeys (k : ℕ) (s f : State) : State → Type 0 where
   keeps : (t : State) → t.rows ≡ s.rows → t.links ≡ s.links → t.routing ≡ s.routing → Obeys k s f t
@@ -70,6 +71,7 @@ on_not_discarded l (Unacked n) e = refl
 on_not_discarded l (Acked n) e = refl
 on_not_discarded l (Held n) e = refl
 on_not_discarded l Parked e = refl
+on_not_discarded l (Back code) e = refl
 on_not_discarded l (Discarded cause) e = absurd cc
 
 pub sent_not_discarded : (l : ℕ) (fate : Fate) → is_unacked l fate ≡ true → was_discarded fate ≡ false
@@ -78,6 +80,7 @@ sent_not_discarded l (Unacked n) e = refl
 sent_not_discarded l (Acked n) e = refl
 sent_not_discarded l (Held n) e = refl
 sent_not_discarded l Parked e = refl
+sent_not_discarded l (Back code) e = refl
 sent_not_discarded l (Discarded cause) e = absurd cc
 
 -- THE LINK SETTLES
@@ -148,10 +151,14 @@ module _ (fsn l : ℕ) (link : LinkState) (s f : State) (sound : IsSound s) (at 
       ∙ ap (λ (q : List Message). messages (queue_for (target s.links) s.rows) ++ q) own
       ∙ ap (λ (to : Option ℕ). messages (queue_for to s.rows) ++ pending l s f) (sym same_target)
 
+-- A link that was left, while no changeback is under way
+pub just_left_sound : (blind : Bool) (n : ℕ) (link : LinkState) (s : State) → Quietly s → IsAt n link Up s → IsSound (just_left blind n link s)
+just_left_sound blind n link s quiet at = subst IsSound (left_straight blind n link s quiet.0 quiet.1) (leaves blind n link s at quiet.0)
+
 -- AN END THAT IS STILL UP leaves the link, and acknowledges
-module _ (l : ℕ) (link : LinkState) (s f : State) (sound : IsSound s) (codes : AreCodes s.settings) (at : IsAt l link Up s) where
+module _ (l : ℕ) (link : LinkState) (s f : State) (quiet : Quietly s) (codes : AreCodes s.settings) (at : IsAt l link Up s) where
   abbrev left : State
-  left = left_by false l link s
+  left = just_left false l link s
 
   abbrev pub told : State
   told = left_and_told l link s
@@ -160,13 +167,13 @@ module _ (l : ℕ) (link : LinkState) (s f : State) (sound : IsSound s) (codes :
   left_acts = leaves_acts false l link s f at
 
   pub told_sound : IsSound told
-  told_sound = new.queues (Coa l (last_accepted link)) left (leaves false l link s at sound)
+  told_sound = new.queues (Coa l (last_accepted link)) left (just_left_sound false l link s quiet at)
 
   pub told_at : IsAt l (left_link false link) Down told
   told_at = record { there = own_then l link (left_link false link) s left at.there refl; phase_is = refl }
 
   pub below : l < 16
-  below = omega (arith, within s.links l link at.there, sound.count, sound.routed, sound.routing.at_most_16)
+  below = omega (arith, within s.links l link at.there, quiet.0.count, quiet.0.routed, quiet.0.routing.at_most_16)
 
   pub coa_is : order_of (text (Coa l (last_accepted link)) s.settings.sio s.settings.dpc s.settings.opc) ≡ Some (Coa l (last_accepted link))
   coa_is = coa_read s.settings l (last_accepted link) codes below (omega arith)
@@ -178,7 +185,7 @@ module _ (l : ℕ) (link : LinkState) (s f : State) (sound : IsSound s) (codes :
   pub told_both : Both s f → Both told f
   told_both o =
       let up : is_up l s ≡ true = ap link_is_up at.there ∙ ap has_phase_up at.phase_is in
-      queues_both left f (Coa l (last_accepted link)) (leaves false l link s at sound) (acts s left f left_acts o) coa_is
+      queues_both left f (Coa l (last_accepted link)) (just_left_sound false l link s quiet at) (acts s left f left_acts o) coa_is
       (ap (λ (n : ℕ). (n + 127) % 128) (sym (ap accepted_of (own_then l link (left_link false link) s left at.there refl))))
       (acts_none s left f left_acts l (o.near.none_up l up))
       (ap link_is_up (own_then l link (left_link false link) s left at.there refl))
@@ -233,26 +240,26 @@ pub record Moved (k n : ℕ) (s f t : State) : Type 0 where
   pub other : (k == n) ≡ false
   pub moved : messages (queue_for (target t.links) t.rows) ≡ messages (queue_for (target t.links) s.rows) ++ answer_on n (slice_get s.links n) s ++ pending n s f
 
-module _ (k : ℕ) (s f : State) (sound : IsSound s) (codes : AreCodes s.settings) (o : Both s f) where
+module _ (k : ℕ) (s f : State) (quiet : Quietly s) (codes : AreCodes s.settings) (o : Both s f) where
   pub obeys_both : (t : State) → Obeys k s f t → Both t f
   obeys_both t (keeps _ rows links routing) = acts s t f (stands_still s t f rows links) o
-  obeys_both _ (settles fsn l link other at told_so heard) = settles_both fsn l link s f sound at told_so o heard
+  obeys_both _ (settles fsn l link other at told_so heard) = settles_both fsn l link s f quiet.0 at told_so o heard
   obeys_both _ (answers fsn l link other at told_so heard) =
-      settles_both fsn l (left_link false link) (told l link s f sound codes at) f (told_sound l link s f sound codes at) (told_at l link s f sound codes at) (told_still l link s f sound codes at fsn told_so) (told_both l link s f sound codes at o) (told_heard l link s f sound codes at heard)
+      settles_both fsn l (left_link false link) (told l link s f quiet codes at) f (told_sound l link s f quiet codes at) (told_at l link s f quiet codes at) (told_still l link s f quiet codes at fsn told_so) (told_both l link s f quiet codes at o) (told_heard l link s f quiet codes at heard)
 
   pub obeys_equal : ((n : ℕ) → is_settled n s ≡ true → acked_on n s ≡ accepted_on n f) → (t : State) → Obeys k s f t → (n : ℕ) → is_settled n t ≡ true → acked_on n t ≡ accepted_on n f
   obeys_equal equal t (keeps _ rows links routing) n e = ap (λ (ls : List LinkState). acked_of (slice_get ls n)) links ∙ equal n (ap (λ (ls : List LinkState). link_is_settled (slice_get ls n)) (sym links) ∙ e)
-  obeys_equal equal _ (settles fsn l link other at told_so heard) n e = settles_equal fsn l link s f sound at told_so n (equal n) e
+  obeys_equal equal _ (settles fsn l link other at told_so heard) n e = settles_equal fsn l link s f quiet.0 at told_so n (equal n) e
   obeys_equal equal _ (answers fsn l link other at told_so heard) n e =
-      settles_equal fsn l (left_link false link) (told l link s f sound codes at) f (told_sound l link s f sound codes at) (told_at l link s f sound codes at) (told_still l link s f sound codes at fsn told_so) n
-      (by_link l link (left_link false link) s (left_by false l link s) at.there refl (λ m old new. (link_is_settled old ≡ true → acked_of old ≡ accepted_on m f) → link_is_settled new ≡ true → acked_of new ≡ accepted_on m f) (λ before g. absurd cc) (λ m old d before g. before g) n (equal n)) e
+      settles_equal fsn l (left_link false link) (told l link s f quiet codes at) f (told_sound l link s f quiet codes at) (told_at l link s f quiet codes at) (told_still l link s f quiet codes at fsn told_so) n
+      (by_link l link (left_link false link) s (just_left false l link s) at.there refl (λ m old new. (link_is_settled old ≡ true → acked_of old ≡ accepted_on m f) → link_is_settled new ≡ true → acked_of new ≡ accepted_on m f) (λ before g. absurd cc) (λ m old d before g. before g) n (equal n)) e
 
   pub obeys_discards : (t : State) → Obeys k s f t → standing was_discarded t.rows ≡ standing was_discarded s.rows
   obeys_discards t (keeps _ rows links routing) = ap (standing was_discarded) rows
-  obeys_discards _ (settles fsn l link other at told_so heard) = settles_discards fsn l link s f sound at told_so
+  obeys_discards _ (settles fsn l link other at told_so heard) = settles_discards fsn l link s f quiet.0 at told_so
   obeys_discards _ (answers fsn l link other at told_so heard) =
-      settles_discards fsn l (left_link false link) (told l link s f sound codes at) f (told_sound l link s f sound codes at) (told_at l link s f sound codes at) (told_still l link s f sound codes at fsn told_so)
-      ∙ told_discards l link s f sound codes at
+      settles_discards fsn l (left_link false link) (told l link s f quiet codes at) f (told_sound l link s f quiet codes at) (told_at l link s f quiet codes at) (told_still l link s f quiet codes at fsn told_so)
+      ∙ told_discards l link s f quiet codes at
 
   abbrev MovedAt : State → ℕ → Type 0
   MovedAt t n = is_settled n s ≡ false → is_settled n t ≡ true → Moved k n s f t
@@ -261,28 +268,28 @@ module _ (k : ℕ) (s f : State) (sound : IsSound s) (codes : AreCodes s.setting
   obeys_moves t (keeps _ rows links routing) n e g = absurd (let no : false ≡ true = sym e ∙ ap (λ (ls : List LinkState). link_is_settled (slice_get ls n)) (sym links) ∙ g in cc)
   obeys_moves _ (settles fsn l link other at told_so heard) n e g =
       let t = settled (Upto fsn) l link s in
-      let same : l ≡ n = settles_alone fsn l link s f sound at told_so n e g in
+      let same : l ≡ n = settles_alone fsn l link s f quiet.0 at told_so n e g in
       let none : answer_on l (slice_get s.links l) s ≡ [] = ap (λ (o : Option LinkState). answer_on l o s) at.there ∙ rw (at.phase_is) refl in
       subst (λ (m : ℕ). Moved k m s f t) same (record {
         other = other;
-        moved = settles_moves fsn l link s f sound at told_so
+        moved = settles_moves fsn l link s f quiet.0 at told_so
             ∙ ap (λ (q : List Message). q ++ pending l s f) (sym (append-nil (messages (queue_for (target t.links) s.rows))) ∙ ap (λ (a : List Message). messages (queue_for (target t.links) s.rows) ++ a) (sym none));
       })
   obeys_moves _ (answers fsn l link other at told_so heard) n e g =
-      let there = told l link s f sound codes at in
-      let there_sound = told_sound l link s f sound codes at in
-      let there_at = told_at l link s f sound codes at in
-      let there_told = told_still l link s f sound codes at fsn told_so in
+      let there = told l link s f quiet codes at in
+      let there_sound = told_sound l link s f quiet codes at in
+      let there_at = told_at l link s f quiet codes at in
+      let there_told = told_still l link s f quiet codes at fsn told_so in
       let t = settled (Upto fsn) l (left_link false link) there in
-      let unsettled : is_settled n there ≡ false = by_link l link (left_link false link) s (left_by false l link s) at.there refl (λ m old new. link_is_settled old ≡ false → link_is_settled new ≡ false) (λ f. refl) (λ m old d f. f) n e in
+      let unsettled : is_settled n there ≡ false = by_link l link (left_link false link) s (just_left false l link s) at.there refl (λ m old new. link_is_settled old ≡ false → link_is_settled new ≡ false) (λ f. refl) (λ m old d f. f) n e in
       let same : l ≡ n = settles_alone fsn l (left_link false link) there f there_sound there_at there_told n unsettled g in
       let to_is : target t.links ≡ target there.links = same_target fsn l (left_link false link) there f there_sound there_at there_told in
       subst (λ (m : ℕ). Moved k m s f t) same (record {
         other = other;
         moved = settles_moves fsn l (left_link false link) there f there_sound there_at there_told
             ∙ ap (λ (to : Option ℕ). messages (queue_for to there.rows) ++ pending l there f) to_is
-            ∙ ap (λ (q : List Message). q ++ pending l there f) (told_target l link s f sound codes at (target there.links) refl)
-            ∙ ap (λ (p : List Message). messages (queue_for (target there.links) s.rows) ++ answer_on l (Some link) s ++ p) (told_pending l link s f sound codes at)
+            ∙ ap (λ (q : List Message). q ++ pending l there f) (told_target l link s f quiet codes at (target there.links) refl)
+            ∙ ap (λ (p : List Message). messages (queue_for (target there.links) s.rows) ++ answer_on l (Some link) s ++ p) (told_pending l link s f quiet codes at)
             ∙ ap (λ (to : Option ℕ). messages (queue_for to s.rows) ++ answer_on l (Some link) s ++ pending l s f) (sym to_is)
             ∙ ap (λ (o : Option LinkState). messages (queue_for (target t.links) s.rows) ++ answer_on l o s ++ pending l s f) (sym at.there);
       })
@@ -290,7 +297,7 @@ module _ (k : ℕ) (s f : State) (sound : IsSound s) (codes : AreCodes s.setting
   -- nothing is accepted by it
   pub obeys_accepted : (t : State) → Obeys k s f t → (n : ℕ) → accepted_on n t ≡ accepted_on n s
   obeys_accepted t (keeps _ rows links routing) n = ap (λ (ls : List LinkState). accepted_of (slice_get ls n)) links
-  obeys_accepted _ (settles fsn l link other at told_so heard) n = settles_accepted fsn l link s f sound at told_so n
+  obeys_accepted _ (settles fsn l link other at told_so heard) n = settles_accepted fsn l link s f quiet.0 at told_so n
   obeys_accepted _ (answers fsn l link other at told_so heard) n =
-      settles_accepted fsn l (left_link false link) (told l link s f sound codes at) f (told_sound l link s f sound codes at) (told_at l link s f sound codes at) (told_still l link s f sound codes at fsn told_so) n
-      ∙ by_link l link (left_link false link) s (left_by false l link s) at.there refl (λ m old new. accepted_of new ≡ accepted_of old) refl (λ m old d. refl) n
+      settles_accepted fsn l (left_link false link) (told l link s f quiet codes at) f (told_sound l link s f quiet codes at) (told_at l link s f quiet codes at) (told_still l link s f quiet codes at fsn told_so) n
+      ∙ by_link l link (left_link false link) s (just_left false l link s) at.there refl (λ m old new. accepted_of new ≡ accepted_of old) refl (λ m old d. refl) n

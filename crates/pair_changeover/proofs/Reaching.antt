@@ -3,7 +3,7 @@ use Rattle.std.proofs.Common.{refl, arith, ◌≡◌, ◌≢◌, ◌∙◌, ap, 
 use Rattle.std.proofs.lemmas.Bool.{eq-eqb, eqb-true}
 use Rattle.std.proofs.lemmas.List.{length-map, length-take}
 use Rattle.set_events.specs.declared.answer.Fate.{Fate}
-use Rattle.set_events.specs.declared.answer.Fate.TheVariants.{Waiting, Unacked, Acked, Held, Parked, Discarded}
+use Rattle.set_events.specs.declared.answer.Fate.TheVariants.{Waiting, Unacked, Acked, Held, Parked, Back, Discarded}
 use Rattle.set_model.specs.Rows.{Row, is_unacked, is_waiting, is_held, is_parked, standing, unack, wait, held, parked, row_of, IsNumbered}
 use Rattle.set_model.specs.State.{LinkState, State, has_phase_settled}
 use Rattle.set_model.proofs.Finding.{with_number}
@@ -160,6 +160,7 @@ module _ (k count : ℕ) (rows : List Row) (numbered : IsNumbered rows) (row : R
   not_waiting l (Acked m) e f = absurd cc
   not_waiting l (Held m) e f = absurd cc
   not_waiting l Parked e f = absurd cc
+  not_waiting l (Back c) e f = absurd cc
   not_waiting l (Discarded c) e f = absurd cc
 
   not_held : (l : ℕ) (fate : Fate) → is_unacked k fate ≡ true → is_held l fate ≡ true → ⊥
@@ -168,6 +169,7 @@ module _ (k count : ℕ) (rows : List Row) (numbered : IsNumbered rows) (row : R
   not_held l (Acked m) e f = absurd cc
   not_held l (Held m) e f = absurd cc
   not_held l Parked e f = absurd cc
+  not_held l (Back c) e f = absurd cc
   not_held l (Discarded c) e f = absurd cc
 
   not_parked : (fate : Fate) → is_unacked k fate ≡ true → is_parked fate ≡ true → ⊥
@@ -176,6 +178,7 @@ module _ (k count : ℕ) (rows : List Row) (numbered : IsNumbered rows) (row : R
   not_parked (Acked m) e f = absurd cc
   not_parked (Held m) e f = absurd cc
   not_parked Parked e f = absurd cc
+  not_parked (Back c) e f = absurd cc
   not_parked (Discarded c) e f = absurd cc
 
   pub not_aside : (m : Message) → Among m (messages (parked rows)) → m.number ≢ row.number
@@ -207,6 +210,7 @@ module _ (k count : ℕ) (rows : List Row) (numbered : IsNumbered rows) (row : R
       same_link (Acked n) e f = absurd cc
       same_link (Held n) e f = absurd cc
       same_link Parked e f = absurd cc
+      same_link (Back c) e f = absurd cc
       same_link (Discarded c) e f = absurd cc
 
       twice : (w : RowOf m (drop from (unack l rows))) → (k == l) ≡ true → ⊥

@@ -6,7 +6,7 @@ use Rattle.l3_orders.specs.declared.order.Order.{Order}
 use Rattle.link_lines.specs.Lines.{units_on}
 use Rattle.set_events.specs.declared.config.Method.{Method}
 use Rattle.set_events.specs.declared.event.Event.{Event}
-use Rattle.set_events.specs.declared.event.Event.TheVariants.{Offer, Take, Find, Next, Heard as HeardEvent, Up as UpEvent, Down as DownEvent, DownBlind, NoAnswer}
+use Rattle.set_events.specs.declared.event.Event.TheVariants.{Offer, Take, Find, Next, Heard as HeardEvent, Up as UpEvent, Down as DownEvent, DownBlind, NoAnswer, Restore, BackTimeout}
 use Rattle.set_model.specs.declared.phase.Phase.TheVariants.{Up}
 use Rattle.set_model.specs.Rows.{Row, was_discarded, standing, unack, wait, held, parked, is_unacked}
 use Rattle.set_model.specs.Sound.{IsSound}
@@ -115,15 +115,17 @@ module _ (mx my : Method) (one : IsOneMethod mx my) (p : Two) (h : HoldsOf mx my
   first_at event l = acked_first l p.near event (p.near_past.sent l) h.near_sound (w.near.acked l)
 
   pub asks_did : (end : End) (event : Event) (shown : Shown) → has_own_step event ≡ false → IsSoundStep (Act end event) → Did p (after event shown)
-  asks_did end (Offer body) shown own sound = keeps_did p w (Offer body) (past_asked (Offer body) shown p.near_past) p.out p.back (offer_kept p.near p.far body h.near_sound) (first_at (Offer body))
+  asks_did end (Offer body) shown own sound = keeps_did p w (Offer body) (past_asked (Offer body) shown p.near_past) p.out p.back (offer_kept p.near p.far body (h.near_sound, h.near_straight.none_open)) (first_at (Offer body))
   asks_did end Take shown own sound = keeps_did p w Take p.near_past p.out p.back (take_kept p.near p.far) (first_at Take)
   asks_did end (Find number) shown own sound = keeps_did p w (Find number) p.near_past p.out p.back (find_kept p.near p.far number) (first_at (Find number))
   asks_did end (Next k) shown own sound = absurd cc
   asks_did end (HeardEvent k unit) shown own sound = absurd cc
   asks_did end (UpEvent k) shown own sound = absurd cc
-  asks_did end (DownEvent k) shown own sound = keeps_did p w (DownEvent k) p.near_past p.out p.back (down_kept k p.near p.far h.near_sound w.near.codes) (first_at (DownEvent k))
+  asks_did end (DownEvent k) shown own sound = keeps_did p w (DownEvent k) p.near_past p.out p.back (down_kept k p.near p.far (h.near_sound, h.near_straight.none_open) w.near.codes) (first_at (DownEvent k))
   asks_did end (DownBlind k) shown own sound = absurd sound
   asks_did end (NoAnswer k) shown own sound = absurd sound
+  asks_did end (Restore k) shown own sound = absurd sound
+  asks_did end (BackTimeout k) shown own sound = absurd sound
 
   -- IT SENDS
   module _ (k : ℕ) (out : List (List SignalUnit)) where

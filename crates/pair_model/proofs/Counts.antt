@@ -34,8 +34,8 @@ set_links l m link link' links there same = λ after found. go after (at_set lin
     go after (inl p) = (link, ap (λ (k : ℕ). slice_get links k) p.0 ∙ there, ap (λ (k : LinkState). k.accepted) p.1 ∙ same)
     go after (inr p) = (after, p.1, refl)
 
-small : (Known : ℕ → Type 0) (l : ℕ) → KeptBy Known (CountStays l)
-small Known l = record {
+small : (Known : ℕ → Type 0) (May : Type 0) (l : ℕ) → KeptBy Known May (CountStays l)
+small Known May l = record {
   same = λ s. same_links l s.links;
   after = λ a b c p q. stays_then l a.links b.links c.links p q;
   delivers = λ body s. same_links l s.links;
@@ -45,11 +45,13 @@ small Known l = record {
   gives_up_sent = λ cause m link s known at. same_links l s.links;
   gives_up_waiting = λ cause m link s known at. same_links l s.links;
   moves_off = λ m link s known at. set_links l m link _ s.links at.there refl;
+  declares = λ may home alternative s up can. same_links l s.links;
+  releases = λ code s known. same_links l s.links;
 }
 
 -- what becomes of an accepted body changes no count
 pub takes_count : (l : ℕ) (body : Option (List ℕ)) (s : State) → CountStays l s (takes body s).state
-takes_count l body s = takes_walks (λ m. Unit {0}) (CountStays l) (small (λ m. Unit {0}) l) body s (λ b e o f n g. tt)
+takes_count l body s = takes_walks (λ m. Unit {0}) ⊥ (CountStays l) (small (λ m. Unit {0}) ⊥ l) body s (λ b e o f n g. tt)
 
 -- an event that isn't the link's own hearing or coming up
 abbrev pub IsApart : ℕ → Event → Type 0
@@ -59,7 +61,7 @@ IsApart l _ = Unit {0}
 
 pub count_stays : (l : ℕ) (s : State) (event : Event) → IsApart l event → CountStays l s (step s event).state
 count_stays l s event apart = step_walks s (CountStays l) (CountStays l s) event (record {
-  small = small _ l;
+  small = small _ _ l;
   unmoved = same_links l s.links;
   rests = λ t u p q. stays_then l s.links t.links u.links p q;
   offers = λ body e none. same_links l s.links;

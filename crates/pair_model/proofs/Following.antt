@@ -1,5 +1,5 @@
 -- HOW A LINK GOES ON at an end by what isn't its own sending, hearing or coming up.
-use Rattle.std.proofs.Common.{refl, ◌≡◌, ◌≢◌, ◌∙◌, ap, sym, subst, ℕ, ◌<◌, ◌==◌, Bool, true, false, List, [], ◌∷◌, ◌++◌, length, map, slice_get, slice_set, Option, Some, None, append_assoc, cond}
+use Rattle.std.proofs.Common.{refl, ◌≡◌, ◌≢◌, ◌∙◌, ap, sym, subst, ℕ, ◌<◌, ◌==◌, Bool, true, false, List, [], ◌∷◌, ◌++◌, length, map, slice_get, slice_set, Option, Some, None, append_assoc, cond, inl, inr}
 use Rattle.std.proofs.lemmas.Bool.{eqb-true}
 use Rattle.std.proofs.lemmas.List.{append-nil}
 use Rattle.l2_units.specs.declared.unit.Unit.{Unit as SignalUnit}
@@ -14,25 +14,29 @@ use Rattle.set_events.specs.declared.answer.Refusal.{Refusal as SetRefusal}
 use Rattle.set_events.specs.declared.answer.Refusal.TheVariants.{NotUp}
 use Rattle.set_events.specs.declared.event.Event.TheVariants.{Offer, Take, Find, Next, Heard, Up as UpEvent, Down as DownEvent}
 use Rattle.set_route.specs.declared.place.Place.{Place}
-use Rattle.set_route.specs.declared.place.Place.TheVariants.{On, Nowhere}
-use Rattle.set_route.specs.Routing.{place_of}
+use Rattle.set_route.specs.declared.place.Code.{Code}
+use Rattle.set_route.specs.declared.place.Code.TheVariants.{Free, Asked, Spent}
+use Rattle.set_route.specs.declared.place.Place.TheVariants.{On, Changing, Nowhere}
+use Rattle.set_route.specs.Routing.{place_of, code_of}
 use Rattle.set_model.specs.declared.phase.Phase.{Phase}
 use Rattle.set_model.specs.declared.phase.Phase.TheVariants.{Up, Down, Settled}
 use Rattle.set_model.specs.declared.reached.Reached.{Reached}
 use Rattle.set_model.specs.declared.reached.Reached.TheVariants.{Upto, Unknown, Unanswered}
-use Rattle.set_model.specs.Rows.{Row, is_waiting, is_unacked, unack, wait, on, appended, with_fate, service_indicator, stream_of}
-use Rattle.set_model.specs.State.{LinkState, State, has_phase_up, has_phase_settled, is_up, target, window_of}
+use Rattle.set_model.specs.Rows.{Row, standing, is_waiting, is_unacked, is_back, is_back_to, stands_back, unack, wait, on, all_with, appended, moved, fated, with_fate, service_indicator, stream_of}
+use Rattle.set_model.specs.State.{LinkState, State, has_phase_up, has_phase_settled, is_up, fate_at, target, window_of}
 use Rattle.set_model.specs.Control.{part_of}
-use Rattle.set_model.specs.Changeover.{Obeyed, fate_on, left_link, acknowledged as acknowledged_link, settled_link, moved_over, queued, left_by, leaving_order, is_reasonable, judged, settled, changed_over, answered, at_link, order_obeyed, obeyed, reply_of}
-use Rattle.set_model.specs.Step.{Outcome, refused, offer_refusal, offered, fate_at, is_msu, brought, takes, after_control, controls, heard, falls, with_known, in_service, step}
+use Rattle.set_model.specs.Changeover.{Obeyed, fate_on, left_link, acknowledged as acknowledged_link, settled_link, moved_over, queued, out_of_service, left_by, leaving_order, declared, released, acknowledged_back, is_reasonable, judged, settled, changed_over, answered, at_link, order_obeyed, obeyed, reply_of}
+use Rattle.set_model.specs.Step.{Outcome, refused, offer_refusal, offered, is_msu, brought, takes, after_control, controls, heard, falls, with_known, in_service, step}
 use Rattle.set_model.specs.Frame.{LeavesAlone}
 use Rattle.set_model.proofs.Events.{Untouched, acknowledged, sent_given_up, waiting_given_up, moved_to, moved_aside, appended_in, appended_out, untouched_self}
 use Rattle.set_model.proofs.Finding.{new_row}
 use Rattle.set_model.proofs.Framing.{leaves_alone}
 use Rattle.set_model.proofs.Lists.{get_set_same, get_set_other, same_at, within, length_set}
-use Rattle.set_model.proofs.Places.{false_true, itself, apart}
+use Rattle.set_model.proofs.Moving.{moved_same, moved_more}
+use Rattle.set_model.proofs.Places.{false_true, itself, apart, not_on_unacked, not_on_waiting, back_not_on, code_back, home_back}
+use Rattle.set_model.proofs.Ranging.{offered_out}
 use Rattle.set_model.proofs.Targets.{target_up}
-use Rattle.set_model.proofs.Walk.{IsAt, KeptBy, obeys_walks}
+use Rattle.set_model.proofs.Walk.{IsAt, KeptBy, Touches, obeys_walks}
 
 -- it wasn't settled before; its control, its count and its unacknowledged messages are the same; and messages may have
 -- come to wait for it, last
@@ -114,12 +118,22 @@ waits_or_parked l (Some to) = refl
 pub follows_queued : (l : ℕ) (order : Order) (s : State) → Follows l s (queued order s)
 follows_queued l order s = follows_new l (text order s.settings.sio s.settings.dpc s.settings.opc) (fate_on (target s.links)) s (queued order s) (waits_or_parked l (target s.links)) refl refl
 
+-- what stood back comes to wait for it, or for others
+follows_turned : (l : ℕ) (test : Fate → Bool) (fate : Row → Fate) (s t : State) → ((f : Fate) → test f ≡ true → stands_back f ≡ true) → ((row : Row) → is_unacked l (fate row) ≡ false) → t.links ≡ s.links → t.rows ≡ moved test fate s.rows → Follows l s t
+follows_turned l test fate s t back unsent links rows =
+    follows_by l s t (wait l (map (fated fate) (standing test s.rows))) (ap (λ (ls : List LinkState). slice_get ls l) links)
+    (ap (unack l) rows ∙ moved_same test (is_unacked l) fate s.rows unsent (λ f e. not_on_unacked l f (back_not_on l f (back f e))))
+    (ap (wait l) rows ∙ moved_more test (is_waiting l) fate s.rows (λ f e. not_on_waiting l f (back_not_on l f (back f e))))
+
+follows_released : (l code : ℕ) (s : State) → Follows l s (released code s)
+follows_released l code s = follows_turned l (is_back code) (all_with (Waiting _)) s (released code s) (code_back code) (λ row. refl) refl refl
+
 -- a link that is left goes on too
-pub follows_left : (l : ℕ) (blind : Bool) (m : ℕ) (link : LinkState) (s : State) → IsAt m link Up s → Follows l s (left_by blind m link s)
-follows_left l blind m link s at = go (m == l) refl
+out_follows : (l : ℕ) (blind : Bool) (m : ℕ) (link : LinkState) (s : State) → IsAt m link Up s → Follows l s (out_of_service blind m link s)
+out_follows l blind m link s at = go (m == l) refl
   where
-    go : (b : Bool) → (m == l) ≡ b → Follows l s (left_by blind m link s)
-    go false d = follows_set l m (left_link blind link) s (left_by blind m link s) d refl (untouched_self l s.rows)
+    go : (b : Bool) → (m == l) ≡ b → Follows l s (out_of_service blind m link s)
+    go false d = follows_set l m (left_link blind link) s (out_of_service blind m link s) d refl (untouched_self l s.rows)
     go true d = λ after there unsettled.
         let same : m ≡ l = eqb-true m l d in
         let is : after ≡ left_link blind link = same_at (slice_set s.links m (left_link blind link)) l (left_link blind link) after (subst (λ (k : ℕ). slice_get (slice_set s.links m (left_link blind link)) k ≡ Some (left_link blind link)) same (get_set_same s.links m (left_link blind link) (within s.links m link at.there))) there in
@@ -133,6 +147,12 @@ follows_left l blind m link s at = go (m == l) refl
           more = [];
           wait_more = sym (append-nil (wait l s.rows));
         }
+
+pub follows_left : (l : ℕ) (blind : Bool) (m : ℕ) (link : LinkState) (s : State) → IsAt m link Up s → Follows l s (left_by blind m link s)
+follows_left l blind m link s at =
+    let out = out_of_service blind m link s in
+    follows_then l s out (left_by blind m link s) (out_follows l blind m link s at)
+    (follows_turned l (is_back_to m) _ out (left_by blind m link s) (home_back m) (λ row. offered_out l _ out) refl refl)
 
 -- ANOTHER LINK SETTLES
 follows_off : (l m : ℕ) (link : LinkState) (s : State) → (m == l) ≡ false → IsAt m link Down s → Follows l s (moved_over m link s)
@@ -154,8 +174,8 @@ follows_off l m link s d at = go (target s.links) refl
     go None e = follows_set l m (settled_link link) s (moved_over m link s) d refl (rw e ((moved_aside m s.rows).left_is.others l d refl))
     go (Some to) e = joins to e (to == l) refl
 
-others : (l : ℕ) → KeptBy (λ m. (m == l) ≡ false) (Follows l)
-others l = record {
+others : (l : ℕ) (May : Type 0) → KeptBy (λ m. (m == l) ≡ false) May (Follows l)
+others l May = record {
   same = λ s. follows_same l s;
   after = λ a b c p q. follows_then l a b c p q;
   delivers = λ body s. follows_untouched l s _ refl (untouched_self l s.rows);
@@ -165,6 +185,8 @@ others l = record {
   gives_up_sent = λ cause m link s d at. follows_untouched l s _ refl ((sent_given_up m cause s.rows).others l d);
   gives_up_waiting = λ cause m link s d at. follows_untouched l s _ refl ((waiting_given_up m cause s.rows).others l d);
   moves_off = λ m link s d at. follows_off l m link s d at;
+  declares = λ may home alternative s up can. follows_new l _ (Waiting alternative) s (declared home alternative s) refl refl refl;
+  releases = λ code s d. follows_released l code s;
 }
 
 -- THE LINK ITSELF SETTLES
@@ -194,20 +216,39 @@ at_own : (l : ℕ) (s : State) (f : LinkState → Obeyed) → ((link : LinkState
 at_own l s f all None e = follows_same l s
 at_own l s f all (Some link) e = all link (within s.links l link e)
 
+-- messages that waited for an acknowledgement go home
+back_follows : (l code : ℕ) (c : Code) (s : State) → Follows l s (acknowledged_back code c s).state
+back_follows l code Free s = follows_same l s
+back_follows l code Asked s = follows_released l code s
+back_follows l code Spent s = follows_released l code s
+
 own : (order : Order) (s : State) → Follows (link_of order) s (order_obeyed order s).state
 own (Coo l fsn) s = at_own l s _ (λ link few. over_own (Upto fsn) l link link.phase s few) (slice_get s.links l) refl
 own (Eco l) s = at_own l s _ (λ link few. over_own Unknown l link link.phase s few) (slice_get s.links l) refl
 own (Coa l fsn) s = at_own l s _ (λ link few. answer_own (Upto fsn) l link link.phase s few) (slice_get s.links l) refl
 own (Eca l) s = at_own l s _ (λ link few. answer_own Unknown l link link.phase s few) (slice_get s.links l) refl
-own (Cbd l code) s = follows_same l s
-own (Cba l code) s = follows_same l s
+own (Cbd l code) s = follows_queued l (Cba l code) s
+own (Cba l code) s = back_follows l code (code_of code s.routing) s
 
-order_follows : (l : ℕ) (order : Order) (s : State) → Follows l s (order_obeyed order s).state
-order_follows l order s = go (link_of order == l) refl
+-- one that acknowledges no changeback touches its own link alone
+about_own : (order : Order) → ((n code : ℕ) → order ≡ Cba n code → ⊥) → (m : ℕ) → Touches order m → link_of order ≡ m
+about_own order none m (inl e) = e
+about_own order none m (inr p) = absurd (none p.0 p.1 p.2)
+
+other_follows : (l : ℕ) (order : Order) (s : State) → ((n code : ℕ) → order ≡ Cba n code → ⊥) → Follows l s (order_obeyed order s).state
+other_follows l order s none = go (link_of order == l) refl
   where
     go : (b : Bool) → (link_of order == l) ≡ b → Follows l s (order_obeyed order s).state
-    go false d = obeys_walks (λ m. (m == l) ≡ false) (Follows l) (others l) order s (λ m e. subst (λ (k : ℕ). (k == l) ≡ false) e d)
+    go false d = obeys_walks (λ m. (m == l) ≡ false) ⊥ (Follows l) (others l ⊥) order s (λ m e. subst (λ (k : ℕ). (k == l) ≡ false) (about_own order none m e) d)
     go true d = subst (λ (k : ℕ). Follows k s (order_obeyed order s).state) (eqb-true (link_of order) l d) (own order s)
+
+order_follows : (l : ℕ) (order : Order) (s : State) → Follows l s (order_obeyed order s).state
+order_follows l (Coo n fsn) s = other_follows l (Coo n fsn) s (λ m code e. absurd cc)
+order_follows l (Eco n) s = other_follows l (Eco n) s (λ m code e. absurd cc)
+order_follows l (Coa n fsn) s = other_follows l (Coa n fsn) s (λ m code e. absurd cc)
+order_follows l (Eca n) s = other_follows l (Eca n) s (λ m code e. absurd cc)
+order_follows l (Cbd n code) s = other_follows l (Cbd n code) s (λ m c e. absurd cc)
+order_follows l (Cba n code) s = back_follows l code (code_of code s.routing) s
 
 obeyed_follows : (l : ℕ) (order : Option Order) (s : State) → Follows l s (obeyed order s).state
 obeyed_follows l None s = follows_same l s
@@ -225,6 +266,7 @@ takes_follows l (Some body) s = go (service_indicator body == 0) refl
 -- EVENTS
 pub offered_unsent : (l : ℕ) (place : Place) (s : State) → is_unacked l (fate_at place s) ≡ false
 offered_unsent l Nowhere s = refl
+offered_unsent l (Changing to code via) s = refl
 offered_unsent l (On m) s = go (is_up m s) refl
   where
     go : (b : Bool) → is_up m s ≡ b → is_unacked l (fate_at (On m) s) ≡ false

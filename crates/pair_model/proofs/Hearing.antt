@@ -16,11 +16,14 @@ use Rattle.l3_orders.specs.declared.order.Order.TheVariants.{Coo, Coa, Cbd, Cba,
 use Rattle.l3_orders.specs.Grammar.{order_of}
 use Rattle.set_events.specs.declared.config.Method.{Method}
 use Rattle.set_events.specs.declared.event.Event.TheVariants.{Heard}
+use Rattle.set_route.specs.declared.place.Code.{Code}
+use Rattle.set_route.specs.declared.place.Code.TheVariants.{Free, Asked, Spent}
+use Rattle.set_route.specs.Routing.{code_of}
 use Rattle.set_model.specs.declared.phase.Phase.{Phase}
 use Rattle.set_model.specs.declared.phase.Phase.TheVariants.{Up, Down, Settled}
 use Rattle.set_model.specs.declared.reached.Reached.{Reached}
 use Rattle.set_model.specs.declared.reached.Reached.TheVariants.{Upto, Unknown}
-use Rattle.set_model.specs.Changeover.{Obeyed, changed_over, answered, at_link, order_obeyed, obeyed}
+use Rattle.set_model.specs.Changeover.{Obeyed, changed_over, answered, at_link, acknowledged_back, order_obeyed, obeyed}
 use Rattle.set_model.specs.Control.{Control, Basic, Cyclic, start_of, part_of, control_heard, window_heard}
 use Rattle.set_model.specs.Laws.{KeepsMessages}
 use Rattle.set_model.specs.Rows.{Row, body_at, service_indicator}
@@ -55,13 +58,18 @@ at_took : (n : ℕ) (s : State) (f : LinkState → Obeyed) (body : List ℕ) →
 at_took n s f body all None = refl
 at_took n s f body all (Some link) = all link
 
+back_took : (code : ℕ) (c : Code) (s : State) (body : List ℕ) → taken_by (acknowledged_back code c s).took body ≡ body ∷ []
+back_took code Free s body = refl
+back_took code Asked s body = refl
+back_took code Spent s body = refl
+
 order_took : (order : Order) (s : State) (body : List ℕ) → taken_by (order_obeyed order s).took body ≡ body ∷ []
 order_took (Coo n fsn) s body = at_took n s _ body (λ link. over_took (Upto fsn) n link link.phase s body) (slice_get s.links n)
 order_took (Eco n) s body = at_took n s _ body (λ link. over_took Unknown n link link.phase s body) (slice_get s.links n)
 order_took (Coa n fsn) s body = at_took n s _ body (λ link. answer_took (Upto fsn) n link link.phase s body) (slice_get s.links n)
 order_took (Eca n) s body = at_took n s _ body (λ link. answer_took Unknown n link link.phase s body) (slice_get s.links n)
 order_took (Cbd n code) s body = refl
-order_took (Cba n code) s body = refl
+order_took (Cba n code) s body = back_took code (code_of code s.routing) s body
 
 obeyed_took : (o : Option Order) (s : State) (body : List ℕ) → taken_by (obeyed o s).took body ≡ body ∷ []
 obeyed_took None s body = refl

@@ -4,8 +4,9 @@ use Rattle.l2_units.specs.declared.unit.Unit.{Unit as SignalUnit}
 use Rattle.link_lines.specs.Lines.{units_of, units_on, with_units}
 use Rattle.set_events.specs.declared.config.Method.{Method}
 use Rattle.set_events.specs.declared.event.Event.{Event}
-use Rattle.set_events.specs.declared.event.Event.TheVariants.{Offer, Take, Find, Next, Heard, Up as UpEvent, Down as DownEvent, DownBlind, NoAnswer}
-use Rattle.set_model.specs.Sound.{IsSound, IsAsked}
+use Rattle.set_events.specs.declared.event.Event.TheVariants.{Offer, Take, Find, Next, Heard, Up as UpEvent, Down as DownEvent, DownBlind, NoAnswer, Restore, BackTimeout}
+use Rattle.set_model.specs.Laws.{RunsStraight}
+use Rattle.set_model.specs.Sound.{IsSound, BeginsNone, IsAsked}
 use Rattle.set_model.specs.State.{State, Settings}
 use Rattle.set_model.specs.Step.{step}
 use Rattle.set_model.proofs.LinkCount.{link_count_stays}
@@ -13,6 +14,7 @@ use Rattle.set_model.proofs.Lists.{get_set_same, get_set_other}
 use Rattle.set_model.proofs.Places.{false_true, itself}
 use Rattle.set_model.proofs.Soundness.{step_sound}
 use Rattle.set_model.proofs.Staying.{keeps_messages}
+use Rattle.set_model.proofs.Straight.{step_straight}
 use Rattle.set_model.proofs.Walk.{KeptBy, step_walks}
 use Rattle.world_steps.specs.declared.step.End.{End}
 use Rattle.world_steps.specs.declared.step.Shown.{Shown}
@@ -44,6 +46,9 @@ TiedAt l mx my p = Tied l mx my (side l p.near p.near_past) (side l p.far p.far_
 pub record HoldsOf (mx my : Method) (p : Two) : Type 0 where
   pub near_sound : IsSound p.near
   pub far_sound : IsSound p.far
+  -- no changeback is under way
+  pub near_straight : RunsStraight p.near
+  pub far_straight : RunsStraight p.far
   pub near_method : p.near.settings.method ≡ mx
   pub far_method : p.far.settings.method ≡ my
   pub far_links : length p.far.links ≡ length p.near.links
@@ -55,6 +60,8 @@ pub swap : (mx my : Method) (p : Two) → HoldsOf mx my p → HoldsOf my mx (swa
 swap mx my p h = record {
   near_sound = h.far_sound;
   far_sound = h.near_sound;
+  near_straight = h.far_straight;
+  far_straight = h.near_straight;
   near_method = h.far_method;
   far_method = h.near_method;
   far_links = sym h.far_links;
@@ -77,8 +84,8 @@ pub like : (l : ℕ) (mx my : Method) (x x' y y' : Side) (out out' back back' : 
 like l mx my x x' y y' out out' back back' a b c d t = rw (a, b, c, d) t
 
 -- the settings stay
-small_settings : (Known : ℕ → Type 0) → KeptBy Known (λ s t. t.settings ≡ s.settings)
-small_settings Known = record {
+small_settings : (Known : ℕ → Type 0) (May : Type 0) → KeptBy Known May (λ s t. t.settings ≡ s.settings)
+small_settings Known May = record {
   same = λ s. refl;
   after = λ a b c p q. q ∙ p;
   delivers = λ body s. refl;
@@ -88,11 +95,13 @@ small_settings Known = record {
   gives_up_sent = λ cause n link s known at. refl;
   gives_up_waiting = λ cause n link s known at. refl;
   moves_off = λ n link s known at. refl;
+  declares = λ may home alternative s up can. refl;
+  releases = λ code s known. refl;
 }
 
 pub settings_stay : (s : State) (event : Event) → (step s event).state.settings ≡ s.settings
 settings_stay s event = step_walks s (λ t u. u.settings ≡ t.settings) (λ t. t.settings ≡ s.settings) event (record {
-  small = small_settings _;
+  small = small_settings _ _;
   unmoved = refl;
   rests = λ t u p q. q ∙ p;
   offers = λ body e none. refl;
@@ -115,14 +124,16 @@ module _ (mx my : Method) (p : Two) (h : HoldsOf mx my p) where
     goes_on l apart f = follows l mx my (side l p.near p.near_past) (side l p.far p.far_past) (units_on l p.out) (units_on l p.back) then_near keeps (count_stays l p.near event apart) f (h.ties l)
 
     -- all but the ties
-    pub event_holds : IsAsked event → (past : Past) (out back : List (List SignalUnit)) → length out ≡ length p.out → length back ≡ length p.back
+    pub event_holds : IsAsked event → BeginsNone event → (past : Past) (out back : List (List SignalUnit)) → length out ≡ length p.out → length back ≡ length p.back
         → ((l : ℕ) → Tied l mx my (side l then_near past) (side l p.far p.far_past) (units_on l out) (units_on l back))
         → HoldsOf mx my (record { near = then_near; far = p.far; near_past = past; far_past = p.far_past; out = out; back = back })
-    event_holds asked past out back lo lb ties =
+    event_holds asked begins past out back lo lb ties =
         let count = link_count_stays p.near event in
         record {
           near_sound = step_sound p.near event asked h.near_sound;
           far_sound = h.far_sound;
+          near_straight = step_straight p.near event asked begins h.near_sound h.near_straight;
+          far_straight = h.far_straight;
           near_method = ap (λ (s : Settings). s.method) (settings_stay p.near event) ∙ h.near_method;
           far_method = h.far_method;
           far_links = h.far_links ∙ sym count;
@@ -131,20 +142,22 @@ module _ (mx my : Method) (p : Two) (h : HoldsOf mx my p) where
           ties = ties;
         }
 
-    pub follows_all : IsAsked event → ((l : ℕ) → IsApart l event) → ((l : ℕ) → Follows l p.near then_near) → HoldsOf mx my (record p { near = then_near })
-    follows_all asked apart f = event_holds asked p.near_past p.out p.back refl refl (λ l. goes_on l (apart l) (f l))
+    pub follows_all : IsAsked event → BeginsNone event → ((l : ℕ) → IsApart l event) → ((l : ℕ) → Follows l p.near then_near) → HoldsOf mx my (record p { near = then_near })
+    follows_all asked begins apart f = event_holds asked begins p.near_past p.out p.back refl refl (λ l. goes_on l (apart l) (f l))
 
   -- one that has no step of its own
   abbrev pub asked_then : Event → Shown → Two
   asked_then event shown = record p { near = (step p.near event).state; near_past = past_asked event shown p.near_past }
 
   pub asks : (end : End) (event : Event) (shown : Shown) → IsAsked event → has_own_step event ≡ false → IsSoundStep (Act end event) → HoldsOf mx my (asked_then event shown)
-  asks end (Offer body) shown asked own sound = event_holds (Offer body) asked _ p.out p.back refl refl (λ l. goes_on (Offer body) l tt (offer_follows l p.near body))
-  asks end Take shown asked own sound = follows_all Take asked (λ l. tt) (λ l. take_follows l p.near)
-  asks end (Find number) shown asked own sound = follows_all (Find number) asked (λ l. tt) (λ l. find_follows l p.near number)
+  asks end (Offer body) shown asked own sound = event_holds (Offer body) asked tt _ p.out p.back refl refl (λ l. goes_on (Offer body) l tt (offer_follows l p.near body))
+  asks end Take shown asked own sound = follows_all Take asked tt (λ l. tt) (λ l. take_follows l p.near)
+  asks end (Find number) shown asked own sound = follows_all (Find number) asked tt (λ l. tt) (λ l. find_follows l p.near number)
   asks end (Next k) shown asked own sound = absurd cc
   asks end (Heard k unit) shown asked own sound = absurd cc
   asks end (UpEvent k) shown asked own sound = absurd cc
-  asks end (DownEvent k) shown asked own sound = follows_all (DownEvent k) asked (λ l. tt) (λ l. down_follows l k p.near)
+  asks end (DownEvent k) shown asked own sound = follows_all (DownEvent k) asked tt (λ l. tt) (λ l. down_follows l k p.near)
   asks end (DownBlind k) shown asked own sound = absurd sound
   asks end (NoAnswer k) shown asked own sound = absurd sound
+  asks end (Restore k) shown asked own sound = absurd sound
+  asks end (BackTimeout k) shown asked own sound = absurd sound

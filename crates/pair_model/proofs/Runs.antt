@@ -9,7 +9,7 @@ use Rattle.set_events.specs.declared.answer.Fate.{Fate}
 use Rattle.set_events.specs.declared.config.Method.{Method}
 use Rattle.set_events.specs.declared.config.SetConfig.{SetConfig}
 use Rattle.set_events.specs.declared.event.Event.{Event}
-use Rattle.set_events.specs.declared.event.Event.TheVariants.{Offer, Take, Find, Next, Heard, Up as UpEvent, Down as DownEvent, DownBlind, NoAnswer}
+use Rattle.set_events.specs.declared.event.Event.TheVariants.{Offer, Take, Find, Next, Heard, Up as UpEvent, Down as DownEvent, DownBlind, NoAnswer, Restore, BackTimeout}
 use Rattle.set_model.specs.declared.phase.Phase.{Phase}
 use Rattle.set_model.specs.declared.phase.Phase.TheVariants.{Up, Down, Settled}
 use Rattle.set_model.specs.Rows.{place}
@@ -77,6 +77,8 @@ answer_tells end s (UpEvent k) own sound = absurd cc
 answer_tells end s (DownEvent k) own sound = in_tells k s (falls false k s) (λ link. tt)
 answer_tells end s (DownBlind k) own sound = absurd sound
 answer_tells end s (NoAnswer k) own sound = absurd sound
+answer_tells end s (Restore k) own sound = absurd sound
+answer_tells end s (BackTimeout k) own sound = absurd sound
 
 pub is_at_up : (k : ℕ) (s : State) → is_up k s ≡ true → (link : LinkState) × IsAt k link Up s
 is_at_up k s e = go (slice_get s.links k) refl

@@ -4,7 +4,7 @@ use Rattle.set_events.specs.declared.answer.Answer.TheVariants.{Heard}
 use Rattle.set_events.specs.declared.config.Method.{Method}
 use Rattle.set_events.specs.declared.config.Method.TheVariants.{Basic, Cyclic}
 use Rattle.set_events.specs.declared.config.SetConfig.{SetConfig}
-use Rattle.set_events.specs.declared.event.Event.TheVariants.{DownBlind, NoAnswer}
+use Rattle.set_events.specs.declared.event.Event.TheVariants.{DownBlind, NoAnswer, Restore, BackTimeout}
 use Rattle.set_model.specs.Rows.{Row, unack}
 use Rattle.set_model.specs.Sound.{IsAsked}
 use Rattle.set_model.specs.State.{LinkState, State, has_phase_settled}
@@ -21,10 +21,13 @@ IsOneMethod Basic (Cyclic n1 n2) = ⊥
 IsOneMethod (Cyclic n1 n2) Basic = ⊥
 IsOneMethod (Cyclic n1 n2) (Cyclic m1 m2) = Unit {0}
 
--- no link is left blindly or given up without an answer, and no unit is heard that wasn't sent
+-- no link is left blindly or given up without an answer, and no unit is heard that wasn't sent; and, until changeback
+-- is taken in, none begins
 abbrev pub IsSoundStep : Step → Type 0
 IsSoundStep (Act end (DownBlind link)) = ⊥
 IsSoundStep (Act end (NoAnswer link)) = ⊥
+IsSoundStep (Act end (Restore link)) = ⊥
+IsSoundStep (Act end (BackTimeout link)) = ⊥
 IsSoundStep (Inject end link unit) = ⊥
 IsSoundStep _ = Unit {0}
 

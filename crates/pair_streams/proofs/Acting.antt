@@ -12,17 +12,17 @@ use Rattle.set_events.specs.declared.answer.Refusal.{Refusal as SetRefusal}
 use Rattle.set_events.specs.declared.answer.Refusal.TheVariants.{NotUp}
 use Rattle.set_events.specs.declared.config.Method.{Method}
 use Rattle.set_events.specs.declared.event.Event.{Event}
-use Rattle.set_events.specs.declared.event.Event.TheVariants.{Offer, Take, Find, Next, Heard as HeardEvent, Up as UpEvent, Down as DownEvent, DownBlind, NoAnswer}
+use Rattle.set_events.specs.declared.event.Event.TheVariants.{Offer, Take, Find, Next, Heard as HeardEvent, Up as UpEvent, Down as DownEvent, DownBlind, NoAnswer, Restore, BackTimeout}
 use Rattle.set_route.specs.Routing.{raised}
 use Rattle.set_model.specs.declared.phase.Phase.{Phase}
 use Rattle.set_model.specs.declared.phase.Phase.TheVariants.{Up, Down, Settled}
-use Rattle.set_model.specs.Changeover.{fate_on, queued, left_by, leaving_order}
+use Rattle.set_model.specs.Changeover.{fate_on, queued, leaving_order}
 use Rattle.set_model.specs.Rows.{Row, unack, parked, place, stream_of}
 use Rattle.set_model.specs.Sound.{IsSound, IsAsked}
 use Rattle.set_model.specs.State.{LinkState, State, is_up, is_settled, has_phase_up, has_phase_settled, last_accepted, target}
 use Rattle.set_model.specs.Step.{Outcome, refused, offer_refusal, offered, taken, found, falls, with_known, in_service, next, step}
 use Rattle.set_model.proofs.Lists.{present}
-use Rattle.set_model.proofs.SoundLink.{leaves}
+use Rattle.set_model.proofs.Plain.{just_left, Quietly, left_straight}
 use Rattle.set_model.proofs.Targets.{target_up}
 use Rattle.set_model.proofs.Walk.{IsAt}
 use Rattle.set_model.specs.State.{link_is_up}
@@ -43,6 +43,7 @@ use Rattle.pair_changeover.specs.Pending.{queue, pending, aside, acked_on, accep
 use Rattle.pair_changeover.proofs.Arriving.{rises_at}
 use Rattle.pair_changeover.proofs.Changes.{IsNew, to_wait, to_park, held_none, leaves_queues}
 use Rattle.pair_changeover.proofs.Keeping.{Keeps, users_body, offer_kept, take_kept, find_kept, down_kept, next_queues, next_aside, next_keeps}
+use Rattle.pair_changeover.proofs.Obeying.{just_left_sound}
 use Rattle.pair_changeover.proofs.Reaching.{reaches}
 use Rattle.pair_changeover.proofs.Texts.{AreCodes}
 use Rattle.pair_changeover.proofs.Views.{Among}
@@ -83,18 +84,18 @@ here_queued stream order s f sound =
     (λ l. order_new s f l (text order s.settings.sio s.settings.dpc s.settings.opc) sound (target s.links) refl)
     stream (no_stream stream s.settings.sio (length s.rows) (label s.settings.dpc s.settings.opc (link_of order) ++ heading_of order ∷ content_with 0 order) sound.managed) refl
 
-pub here_left : (stream : ℕ) (blind : Bool) (k : ℕ) (link : LinkState) (s f : State) → IsAt k link Up s → here stream (left_by blind k link s) f ≡ here stream s f
-here_left stream blind k link s f at = here_same stream s (left_by blind k link s) f f (leaves_queues blind k link s f at) refl refl
+pub here_left : (stream : ℕ) (blind : Bool) (k : ℕ) (link : LinkState) (s f : State) → IsAt k link Up s → here stream (just_left blind k link s) f ≡ here stream s f
+here_left stream blind k link s f at = here_same stream s (just_left blind k link s) f f (leaves_queues blind k link s f at) refl refl
 
 up_is : (phase : Phase) → has_phase_up phase ≡ true → phase ≡ Up
 up_is Up e = refl
 up_is Down e = absurd cc
 up_is Settled e = absurd cc
 
-module _ (s f : State) (near far : Past) (sound : IsSound s) (w : Flows s f near far) where
+module _ (s f : State) (near far : Past) (quiet : Quietly s) (w : Flows s f near far) where
   -- OFFER
   offer_out : (body : List ℕ) → stream_of body < 16 → (o : Option SetRefusal) → offer_refusal s.rows body ≡ o → Flows (offered o s body).state f (past_asked (Offer body) (Answered (offered o s body).answer) near) far
-  offer_out body low None e = offers_flow s f sound body low near far w (users_body s.rows body e)
+  offer_out body low None e = offers_flow s f quiet body low near far w (users_body s.rows body e)
   offer_out body low (Some why) e = none_more (stream_of body) s f near far w
 
   pub offers_out : (body : List ℕ) → stream_of body < 16 → Flows (step s (Offer body)).state f (past_asked (Offer body) (Answered (step s (Offer body)).answer) near) far
@@ -132,15 +133,19 @@ module _ (s f : State) (near far : Past) (sound : IsSound s) (w : Flows s f near
   quiet_same (Next k) own safe other = absurd cc
   quiet_same (HeardEvent k unit) own safe other = absurd cc
   quiet_same (UpEvent k) own safe other = absurd cc
-  quiet_same (DownEvent k) own safe other = in_same k (falls false k s) (λ link at stream. here_queued stream (leaving_order false k link) (left_by false k link s) f (leaves false k link s at sound) ∙ here_left stream false k link s f at)
+  quiet_same (DownEvent k) own safe other = in_same k (falls false k s) (λ link at.
+      subst (λ (left : State). Same (queued (leaving_order false k link) left)) (sym (left_straight false k link s quiet.0 quiet.1))
+      (λ stream. here_queued stream (leaving_order false k link) (just_left false k link s) f (just_left_sound false k link s quiet at) ∙ here_left stream false k link s f at))
   quiet_same (DownBlind k) own safe other = absurd (safe A)
   quiet_same (NoAnswer k) own safe other = absurd (safe A)
+  quiet_same (Restore k) own safe other = absurd (safe A)
+  quiet_same (BackTimeout k) own safe other = absurd (safe A)
 
 -- the same, of a past that is told otherwise
 pub retold : (s f : State) (near far near' far' : Past) → near'.offered ≡ near.offered → far'.got ≡ far.got → Flows s f near far → Flows s f near' far'
 retold s f near far near' far' offered got w = stands s f f near far near' far' (λ l. refl) offered got w
 
-module _ (p : Two) (sound : IsSound p.near) (codes : AreCodes p.near.settings) (w : Streams p) where
+module _ (p : Two) (quiet : Quietly p.near) (codes : AreCodes p.near.settings) (w : Streams p) where
   abbrev asked_then : Event → Two
   asked_then event = record p { near = (step p.near event).state; near_past = past_asked event (Answered (step p.near event).answer) p.near_past }
 
@@ -148,23 +153,25 @@ module _ (p : Two) (sound : IsSound p.near) (codes : AreCodes p.near.settings) (
       → Streams (record p { near = (step p.near event).state; near_past = past })
   quiet_streams event own safe other k past offered got = record {
     out = retold (step p.near event).state p.far p.near_past p.far_past past p.far_past offered refl
-        (keeps_flow p.near p.far (step p.near event).state p.near_past p.far_past (λ stream low. quiet_same p.near p.far p.near_past p.far_past sound w.out event own safe other stream) (covers_on _ p.near event other w.out.covers) w.out);
+        (keeps_flow p.near p.far (step p.near event).state p.near_past p.far_past (λ stream low. quiet_same p.near p.far p.near_past p.far_past quiet w.out event own safe other stream) (covers_on _ p.near event other w.out.covers) w.out);
     back = stands p.far p.near (step p.near event).state p.far_past p.near_past p.far_past past k.accepted refl got w.back;
   }
 
   pub asked_streams : (end : End) (event : Event) → IsAsked event → has_own_step event ≡ false → IsSoundStep (Act end event) → Streams (asked_then event)
   asked_streams end (Offer body) asked own safe = record {
-    out = offers_out p.near p.far p.near_past p.far_past sound w.out body asked;
-    back = stands p.far p.near (step p.near (Offer body)).state p.far_past p.near_past p.far_past (past_asked (Offer body) (Answered (step p.near (Offer body)).answer) p.near_past) (offer_kept p.near p.far body sound).accepted refl refl w.back;
+    out = offers_out p.near p.far p.near_past p.far_past quiet w.out body asked;
+    back = stands p.far p.near (step p.near (Offer body)).state p.far_past p.near_past p.far_past (past_asked (Offer body) (Answered (step p.near (Offer body)).answer) p.near_past) (offer_kept p.near p.far body quiet).accepted refl refl w.back;
   }
   asked_streams end Take asked own safe = quiet_streams Take refl (λ e. tt) (λ body e. absurd cc) (take_kept p.near p.far) p.near_past refl refl
   asked_streams end (Find number) asked own safe = quiet_streams (Find number) refl (λ e. tt) (λ body e. absurd cc) (find_kept p.near p.far number) p.near_past refl refl
   asked_streams end (Next k) asked own safe = absurd cc
   asked_streams end (HeardEvent k unit) asked own safe = absurd cc
   asked_streams end (UpEvent k) asked own safe = absurd cc
-  asked_streams end (DownEvent k) asked own safe = quiet_streams (DownEvent k) refl (λ e. tt) (λ body e. absurd cc) (down_kept k p.near p.far sound codes) p.near_past refl refl
+  asked_streams end (DownEvent k) asked own safe = quiet_streams (DownEvent k) refl (λ e. tt) (λ body e. absurd cc) (down_kept k p.near p.far quiet codes) p.near_past refl refl
   asked_streams end (DownBlind k) asked own safe = absurd safe
   asked_streams end (NoAnswer k) asked own safe = absurd safe
+  asked_streams end (Restore k) asked own safe = absurd safe
+  asked_streams end (BackTimeout k) asked own safe = absurd safe
 
 -- IT SENDS
 module _ (mx my : Method) (one : IsOneMethod mx my) (p : Two) (h : HoldsOf mx my p) (w : Streams p) (k : ℕ) (out : List (List SignalUnit)) where
@@ -212,11 +219,11 @@ module _ (mx my : Method) (p : Two) (h : HoldsOf mx my p) (w : Streams p) (k : �
       let b = rises_at k p.far h.far_sound far_at.0 far_at.1 in
       record {
         out = record {
-          flow = λ stream low. ap (λ (x : List Message). p.far_past.got stream ++ x) (here_rises stream low k p.near (step p.near (UpEvent k)).state p.far (step p.far (UpEvent k)).state h.near_sound a b (rises_routing k p.near near_at.0 near_at.1)) ∙ w.out.flow stream low;
+          flow = λ stream low. ap (λ (x : List Message). p.far_past.got stream ++ x) (here_rises stream low k p.near (step p.near (UpEvent k)).state p.far (step p.far (UpEvent k)).state (h.near_sound, h.near_straight) a b (rises_routing k p.near near_at.0 near_at.1)) ∙ w.out.flow stream low;
           covers = covers_on _ p.near (UpEvent k) (λ body e. absurd cc) w.out.covers;
         };
         back = record {
-          flow = λ stream low. ap (λ (x : List Message). p.near_past.got stream ++ x) (here_rises stream low k p.far (step p.far (UpEvent k)).state p.near (step p.near (UpEvent k)).state h.far_sound b a (rises_routing k p.far far_at.0 far_at.1)) ∙ w.back.flow stream low;
+          flow = λ stream low. ap (λ (x : List Message). p.near_past.got stream ++ x) (here_rises stream low k p.far (step p.far (UpEvent k)).state p.near (step p.near (UpEvent k)).state (h.far_sound, h.far_straight) b a (rises_routing k p.far far_at.0 far_at.1)) ∙ w.back.flow stream low;
           covers = covers_on _ p.far (UpEvent k) (λ body e. absurd cc) w.back.covers;
         };
       }

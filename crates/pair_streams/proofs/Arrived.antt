@@ -1,7 +1,7 @@
 -- WHERE NOTHING IS LEFT at either end, all that was offered has arrived.
 use Rattle.std.proofs.Common.{refl, arith, ◌≡◌, ◌∙◌, ap, sym, subst, ℕ, zero, suc, ◌<◌, ◌==◌, ◌-◌, Bool, true, false, not, ◌&&◌, List, [], ◌∷◌, ◌++◌, length, filter, drop, Option}
 use Rattle.set_events.specs.declared.answer.Fate.{Fate}
-use Rattle.set_events.specs.declared.answer.Fate.TheVariants.{Waiting, Unacked, Acked, Held, Parked, Discarded}
+use Rattle.set_events.specs.declared.answer.Fate.TheVariants.{Waiting, Unacked, Acked, Held, Parked, Back, Discarded}
 use Rattle.set_events.specs.declared.config.SetConfig.{SetConfig}
 use Rattle.set_model.specs.Rows.{Row, is_unacked, is_waiting, is_held, is_parked, is_users, waits, was_sent, was_held, standing, users, counts_of, unack, wait, held, parked, stream_of}
 use Rattle.set_model.specs.State.{State}
@@ -35,6 +35,7 @@ sent_within l (Waiting n) e = absurd cc
 sent_within l (Acked n) e = absurd cc
 sent_within l (Held n) e = absurd cc
 sent_within l Parked e = absurd cc
+sent_within l (Back code) e = absurd cc
 sent_within l (Discarded cause) e = absurd cc
 
 waits_within : (l : ℕ) (fate : Fate) → is_waiting l fate ≡ true → waits fate ≡ true
@@ -43,6 +44,7 @@ waits_within l (Unacked n) e = absurd cc
 waits_within l (Acked n) e = absurd cc
 waits_within l (Held n) e = absurd cc
 waits_within l Parked e = absurd cc
+waits_within l (Back code) e = absurd cc
 waits_within l (Discarded cause) e = absurd cc
 
 held_within : (l : ℕ) (fate : Fate) → is_held l fate ≡ true → was_held fate ≡ true
@@ -51,6 +53,7 @@ held_within l (Waiting n) e = absurd cc
 held_within l (Unacked n) e = absurd cc
 held_within l (Acked n) e = absurd cc
 held_within l Parked e = absurd cc
+held_within l (Back code) e = absurd cc
 held_within l (Discarded cause) e = absurd cc
 
 module _ (stream : ℕ) (s f : State) (done : AreDone (counts_of s.rows)) where

@@ -13,16 +13,18 @@ use Rattle.set_events.specs.declared.answer.Refusal.{Refusal as SetRefusal}
 use Rattle.set_events.specs.declared.event.Event.{Event}
 use Rattle.set_events.specs.declared.event.Event.TheVariants.{Offer, Take, Find, Next, Heard as HeardEvent, Up as UpEvent, Down as DownEvent, DownBlind, NoAnswer}
 use Rattle.set_route.specs.declared.place.Place.{Place}
-use Rattle.set_route.specs.declared.place.Place.TheVariants.{On, Nowhere}
+use Rattle.set_route.specs.declared.place.Place.TheVariants.{On, Changing, Nowhere}
 use Rattle.set_route.specs.Routing.{place_of, accepted as stream_accepted}
 use Rattle.set_route.proofs.Alone as route
+use Rattle.set_route.proofs.Quiet.{never_changing}
 use Rattle.set_model.specs.declared.phase.Phase.TheVariants.{Up, Down}
 use Rattle.set_model.specs.Changeover.{fate_on, queued, left_by}
 use Rattle.set_model.specs.Rows.{Row, appended, parked, body_at, stream_of, service_indicator, is_on, is_parked}
-use Rattle.set_model.specs.Sound.{IsSound, IsManaged, IsAsked, stands_at}
-use Rattle.set_model.specs.State.{LinkState, State, is_up, last_accepted, target}
-use Rattle.set_model.specs.Step.{Outcome, refused, offer_refusal, offered, fate_at, taken, found, step}
+use Rattle.set_model.specs.Sound.{IsManaged, IsAsked, stands_at}
+use Rattle.set_model.specs.State.{LinkState, State, is_up, fate_at, last_accepted, target}
+use Rattle.set_model.specs.Step.{Outcome, refused, offer_refusal, offered, taken, found, step}
 use Rattle.set_model.proofs.Places.{itself, apart_back}
+use Rattle.set_model.proofs.Plain.{Quietly}
 use Rattle.set_model.proofs.Walk.{IsAt}
 use Rattle.pair_model.specs.Run.{Message, Past, messages, accepted_in, added_at, past_asked}
 use Rattle.world_steps.specs.declared.step.Shown.TheVariants.{Answered}
@@ -56,7 +58,7 @@ stands s f t near far near' far' same offered got w = record {
 }
 
 -- OFFER
-module _ (s f : State) (sound : IsSound s) (body : List ℕ) (low : stream_of body < 16) (near far : Past) (w : Flows s f near far) where
+module _ (s f : State) (quiet : Quietly s) (body : List ℕ) (low : stream_of body < 16) (near far : Past) (w : Flows s f near far) where
   abbrev place : Place
   place = place_of (stream_of body) s.routing
 
@@ -70,18 +72,20 @@ module _ (s f : State) (sound : IsSound s) (body : List ℕ) (low : stream_of bo
   z = new_message s.rows body
 
   new_at : (l : ℕ) → IsNew (accepted_on l f - acked_on l s) l s.rows body fate
-  new_at l = go place
+  new_at l = go place (λ to code via e. never_changing (stream_of body) to code via s.routing quiet.0.routing quiet.1 e)
     where
       on_link : (k : ℕ) (b : Bool) → is_up k s ≡ b → IsNew (accepted_on l f - acked_on l s) l s.rows body (cond b (Waiting k) (Held k))
-      on_link k true e = to_wait k (λ same. held_none s l sound (subst (λ (n : ℕ). is_up n s ≡ true) (eqb-true k l same) e))
+      on_link k true e = to_wait k (λ same. held_none s l quiet.0 (subst (λ (n : ℕ). is_up n s ≡ true) (eqb-true k l same) e))
       on_link k false e = to_hold k
 
-      go : (p : Place) → IsNew (accepted_on l f - acked_on l s) l s.rows body (fate_at p s)
-      go Nowhere = to_park
-      go (On k) = on_link k (is_up k s) refl
+      go : (p : Place) → ((to code via : ℕ) → p ≡ Changing to code via → ⊥) → IsNew (accepted_on l f - acked_on l s) l s.rows body (fate_at p s)
+      go Nowhere straight = to_park
+      go (Changing to code via) straight = absurd (straight to code via refl)
+      go (On k) straight = on_link k (is_up k s) refl
 
   stands_there : (p : Place) → stands_at p (fate_at p s) ≡ true
   stands_there Nowhere = refl
+  stands_there (Changing to code via) = itself code
   stands_there (On k) = go (is_up k s)
     where
       go : (b : Bool) → is_on k (cond b (Waiting k) (Held k)) ≡ true
@@ -89,7 +93,7 @@ module _ (s f : State) (sound : IsSound s) (body : List ℕ) (low : stream_of bo
       go false = itself k
 
   same_place : (stream : ℕ) → stream < 16 → place_of stream then_s.routing ≡ place_of stream s.routing
-  same_place stream few = (route.alone s.routing stream sound.routing few).accepted_place (stream_of body)
+  same_place stream few = (route.alone s.routing stream quiet.0.routing few).accepted_place (stream_of body)
 
   among_last : (m : Message) (xs : List Message) → Among m (xs ++ m ∷ [])
   among_last m [] = inl refl

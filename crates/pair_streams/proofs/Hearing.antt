@@ -8,24 +8,29 @@ use Rattle.l3_orders.specs.declared.order.Order.TheVariants.{Coo, Coa, Cbd, Cba,
 use Rattle.l3_orders.specs.Grammar.{text, order_of}
 use Rattle.link_lines.specs.Lines.{units_on, with_units}
 use Rattle.set_events.specs.declared.answer.Answer.TheVariants.{Heard as HeardBack}
+use Rattle.set_events.specs.declared.answer.Fate.TheVariants.{Acked}
 use Rattle.set_events.specs.declared.answer.Took.{Took}
 use Rattle.set_events.specs.declared.answer.Took.TheVariants.{Nothing as NothingTaken, Message as TookMessage, Order as TookOrder, Ignored}
 use Rattle.set_events.specs.declared.config.Method.{Method}
 use Rattle.set_events.specs.declared.event.Event.TheVariants.{Heard as HeardEvent}
 use Rattle.set_route.specs.declared.place.Place.{Place}
-use Rattle.set_route.specs.declared.place.Place.TheVariants.{On, Nowhere}
-use Rattle.set_route.specs.Routing.{place_of}
+use Rattle.set_route.specs.declared.place.Place.TheVariants.{On, Changing, Nowhere}
+use Rattle.set_route.specs.declared.place.Code.{Code}
+use Rattle.set_route.specs.declared.place.Code.TheVariants.{Free, Asked, Spent}
+use Rattle.set_route.specs.Routing.{place_of, code_of, has_messages}
+use Rattle.set_route.proofs.Quiet.{never_changing}
 use Rattle.set_model.specs.declared.phase.Phase.{Phase}
 use Rattle.set_model.specs.declared.phase.Phase.TheVariants.{Up, Down, Settled}
 use Rattle.set_model.specs.declared.reached.Reached.{Reached}
 use Rattle.set_model.specs.declared.reached.Reached.TheVariants.{Upto, Unknown}
-use Rattle.set_model.specs.Changeover.{Obeyed, changed_over, answered, at_link, order_obeyed, obeyed, left_by, left_link, queued, settled}
-use Rattle.set_model.specs.Rows.{Row, parked, stream_of, service_indicator}
-use Rattle.set_model.specs.Sound.{IsSound}
+use Rattle.set_model.specs.Changeover.{Obeyed, changed_over, answered, at_link, acknowledged_back, order_obeyed, obeyed, left_link, queued, settled}
+use Rattle.set_model.specs.Rows.{Row, is_unacked, parked, stream_of, service_indicator}
 use Rattle.set_model.specs.State.{LinkState, State, last_accepted}
 use Rattle.set_model.specs.Step.{Outcome, brought, takes, step}
 use Rattle.set_model.proofs.Places.{false_true, itself, apart_back}
-use Rattle.set_model.proofs.SoundLink.{leaves}
+use Rattle.set_model.proofs.Live.{stream_turned}
+use Rattle.set_model.proofs.Plain.{just_left}
+use Rattle.set_model.proofs.Straight as straightness
 use Rattle.set_model.proofs.Walk.{IsAt}
 use Rattle.world_steps.specs.declared.step.Shown.TheVariants.{Answered}
 use Rattle.pair_model.specs.Promises.{IsOneMethod}
@@ -33,28 +38,38 @@ use Rattle.pair_model.specs.Run.{Message, Past, messages, body_in, got_by, past_
 use Rattle.pair_model.proofs.Moving as moving
 use Rattle.pair_model.proofs.Pairs.{Two, HoldsOf}
 use Rattle.pair_changeover.specs.Pending.{queue, pending, aside, acked_on, accepted_of, accepted_on}
-use Rattle.pair_changeover.proofs.Arriving.{heard, state_is, does, mid_sound}
+use Rattle.pair_changeover.proofs.Arriving.{heard, state_is, does, mid_quiet}
 use Rattle.pair_changeover.proofs.Changes.{by_link, other_then}
 use Rattle.pair_changeover.proofs.Hearing as hearing
-use Rattle.pair_changeover.proofs.Obeying.{Told, Obeys, keeps, settles, answers, left_and_told, told, told_sound, told_at, told_still, obeys_accepted}
+use Rattle.pair_changeover.proofs.Obeying.{Told, Obeys, keeps, settles, answers, left_and_told, just_left_sound, told, told_sound, told_at, told_still, obeys_accepted}
 use Rattle.pair_changeover.proofs.Texts.{AreCodes}
 use Rattle.pair_changeover.proofs.Views.{Among}
 use Rattle.pair_changeover.proofs.Whole.{Whole}
 use Rattle.pair_streams.specs.Streams.{is_of, those_of}
 use Rattle.pair_streams.proofs.Acting.{here_queued, here_left, retold, added_none}
-use Rattle.pair_streams.proofs.Flowing.{queue_at, here, alone}
+use Rattle.pair_streams.proofs.Flowing.{IsStraight, quiet_of, queue_at, here, alone}
 use Rattle.pair_streams.proofs.Flows.{Flows, Streams, stands, keeps_flow}
 use Rattle.pair_streams.proofs.Known.{covers_on}
 use Rattle.pair_streams.proofs.Moving.{here_same, here_settles}
 
+-- an end that left a link, and acknowledges
+told_straight : (l : ℕ) (link : LinkState) (s f : State) (straight : IsStraight s) (codes : AreCodes s.settings) (at : IsAt l link Up s) → IsStraight (told l link s f (quiet_of s straight) codes at)
+told_straight l link s f straight codes at =
+    let quiet = quiet_of s straight in
+    let order = Coa l (last_accepted link) in (
+      told_sound l link s f quiet codes at,
+      record { none_open = straight.1.none_open; together = straightness.queues order (just_left false l link s) (just_left_sound false l link s quiet at) straight.1.together },
+    )
+
 -- WHAT AN ORDER LEADS TO keeps each stream
-pub obeys_here : (k : ℕ) (s f : State) → IsSound s → AreCodes s.settings → (stream : ℕ) → stream < 16 → (t : State) → Obeys k s f t → here stream t f ≡ here stream s f
-obeys_here k s f sound codes stream low t (keeps _ rows links routing) =
+pub obeys_here : (k : ℕ) (s f : State) → IsStraight s → AreCodes s.settings → (stream : ℕ) → stream < 16 → (t : State) → Obeys k s f t → here stream t f ≡ here stream s f
+obeys_here k s f straight codes stream low t (keeps _ rows links routing) =
     here_same stream s t f f (λ l. rw (rows, links) refl) (rw rows refl) (ap (place_of stream) routing)
-obeys_here k s f sound codes stream low _ (settles fsn l link other at told_so about) = here_settles stream low fsn l link s f sound at told_so
-obeys_here k s f sound codes stream low _ (answers fsn l link other at told_so about) =
-    here_settles stream low fsn l (left_link false link) (told l link s f sound codes at) f (told_sound l link s f sound codes at) (told_at l link s f sound codes at) (told_still l link s f sound codes at fsn told_so)
-    ∙ here_queued stream (Coa l (last_accepted link)) (left_by false l link s) f (leaves false l link s at sound)
+obeys_here k s f straight codes stream low _ (settles fsn l link other at told_so about) = here_settles stream low fsn l link s f straight at told_so
+obeys_here k s f straight codes stream low _ (answers fsn l link other at told_so about) =
+    let quiet = quiet_of s straight in
+    here_settles stream low fsn l (left_link false link) (told l link s f quiet codes at) f (told_straight l link s f straight codes at) (told_at l link s f quiet codes at) (told_still l link s f quiet codes at fsn told_so)
+    ∙ here_queued stream (Coa l (last_accepted link)) (just_left false l link s) f (just_left_sound false l link s quiet at)
     ∙ here_left stream false l link s f at
 
 -- AN ORDER IS NO USER'S
@@ -97,13 +112,18 @@ module _ (message : Option Message) (body : List ℕ) where
   at_got n s act each None = ignored_got
   at_got n s act each (Some link) = each link
 
+  back_got : (code : ℕ) (c : Code) (s : State) → GotNone (acknowledged_back code c s).took
+  back_got code Free s = ignored_got
+  back_got code Asked s = order_got
+  back_got code Spent s = order_got
+
   one_got : (order : Order) (s : State) → GotNone (order_obeyed order s).took
   one_got (Coo n fsn) s = at_got n s _ (λ link. over_got (Upto fsn) n link link.phase s) (slice_get s.links n)
   one_got (Eco n) s = at_got n s _ (λ link. over_got Unknown n link link.phase s) (slice_get s.links n)
   one_got (Coa n fsn) s = at_got n s _ (λ link. answer_got (Upto fsn) n link link.phase s) (slice_get s.links n)
   one_got (Eca n) s = at_got n s _ (λ link. answer_got Unknown n link link.phase s) (slice_get s.links n)
-  one_got (Cbd n code) s = ignored_got
-  one_got (Cba n code) s = ignored_got
+  one_got (Cbd n code) s = order_got
+  one_got (Cba n code) s = back_got code (code_of code s.routing) s
 
   pub obeyed_got : (o : Option Order) (s : State) → GotNone (obeyed o s).took
   obeyed_got None s = ignored_got
@@ -122,6 +142,15 @@ module _ (mx my : Method) (one : IsOneMethod mx my) (p : Two) (h : HoldsOf mx my
   abbrev then_past : Past
   then_past = (heard mx my one p h w k few unit rest front link at).near_past
 
+  mid_straight : IsStraight mid
+  mid_straight = (
+    (mid_quiet mx my one p h w k few unit rest front link at).0,
+    record {
+      none_open = h.near_straight.none_open;
+      together = λ stream low. stream_turned stream (place_of stream p.near.routing) (is_unacked k) (Acked k) refl (has_messages stream p.near.routing) _ p.near.rows (h.near_straight.together stream low);
+    },
+  )
+
   -- OUT: what stands here stays
   mid_here : (stream : ℕ) → here stream mid p.far ≡ here stream p.near p.far
   mid_here stream = here_same stream p.near mid p.far p.far (hearing.heard_queues mx my one p h w.both k few unit rest front link at) (ap messages (hearing.heard_aside mx my one p h w.both k few unit rest front link at)) refl
@@ -129,7 +158,7 @@ module _ (mx my : Method) (one : IsOneMethod mx my) (p : Two) (h : HoldsOf mx my
   then_here : (stream : ℕ) → stream < 16 → here stream then_near p.far ≡ here stream p.near p.far
   then_here stream low =
       ap (λ (s : State). here stream s p.far) (state_is mx my one p h w k few unit rest front link at)
-      ∙ obeys_here k mid p.far (mid_sound mx my one p h w k few unit rest front link at) w.near.codes stream low taken.state (does mx my one p h w k few unit rest front link at).obeys
+      ∙ obeys_here k mid p.far mid_straight w.near.codes stream low taken.state (does mx my one p h w k few unit rest front link at).obeys
       ∙ mid_here stream
 
   out_then : Flows then_near p.far then_past p.far_past
@@ -138,7 +167,7 @@ module _ (mx my : Method) (one : IsOneMethod mx my) (p : Two) (h : HoldsOf mx my
 
   -- BACK: what it accepts
   accepted_then : (l : ℕ) → accepted_on l then_near ≡ accepted_on l mid
-  accepted_then l = ap (accepted_on l) (state_is mx my one p h w k few unit rest front link at) ∙ obeys_accepted k mid p.far (mid_sound mx my one p h w k few unit rest front link at) w.near.codes (does mx my one p h w k few unit rest front link at).both taken.state (does mx my one p h w k few unit rest front link at).obeys l
+  accepted_then l = ap (accepted_on l) (state_is mx my one p h w k few unit rest front link at) ∙ obeys_accepted k mid p.far (mid_quiet mx my one p h w k few unit rest front link at) w.near.codes (does mx my one p h w k few unit rest front link at).both taken.state (does mx my one p h w k few unit rest front link at).obeys l
 
   far_here : (stream : ℕ) → here stream p.far then_near ≡ here stream p.far mid
   far_here stream = here_same stream p.far p.far mid then_near (λ l. ap (λ (n : ℕ). queue (n - acked_on l p.far) l p.far.rows) (accepted_then l)) refl refl
@@ -190,7 +219,7 @@ module _ (mx my : Method) (one : IsOneMethod mx my) (p : Two) (h : HoldsOf mx my
 
         not_alone : (q : Place) → place_of stream p.far.routing ≡ q → q ≢ On k → those_of stream (queue_at q p.far p.near) ≡ first ∷ those_of stream (queue_at q p.far mid)
         not_alone q e d =
-            let none = alone stream low p.far p.near h.far_sound k (λ r. d (sym e ∙ r)) in
+            let none = alone stream low p.far p.near (h.far_sound, h.far_straight) k (λ r. d (sym e ∙ r)) in
             let no : first ∷ those_of stream (pending k p.far mid) ≡ [] = sym is_first ∙ none in
             absurd cc
 
@@ -200,6 +229,7 @@ module _ (mx my : Method) (one : IsOneMethod mx my) (p : Two) (h : HoldsOf mx my
 
         go : (q : Place) → place_of stream p.far.routing ≡ q → those_of stream (queue_at q p.far p.near) ≡ first ∷ those_of stream (queue_at q p.far mid)
         go (On m) q = on_case m q (k == m) refl
+        go (Changing to code via) q = absurd (never_changing stream to code via p.far.routing h.far_sound.routing h.far_straight.none_open q)
         go Nowhere q = not_alone Nowhere q (λ r. let no : Nowhere ≡ On k = r in absurd cc)
 
     -- another one changes nothing of it
@@ -212,6 +242,7 @@ module _ (mx my : Method) (one : IsOneMethod mx my) (p : Two) (h : HoldsOf mx my
 
         go : (q : Place) → those_of stream (queue_at q p.far mid) ≡ those_of stream (queue_at q p.far p.near)
         go (On m) = on_case m (k == m) refl
+        go (Changing to code via) = on_case via (k == via) refl
         go Nowhere = refl
 
     -- a message for the users

@@ -3,14 +3,17 @@ use Rattle.std.proofs.Common.{refl, arith, ◌≡◌, ◌≢◌, ◌∙◌, ap, 
 use Rattle.std.specs.Option.{option_map}
 use Rattle.std.proofs.lemmas.Bool.{eq-eqb, eqb-true}
 use Rattle.l3_orders.specs.declared.order.Order.{Order}
+use Rattle.l3_orders.specs.declared.order.Order.TheVariants.{Cbd}
 use Rattle.l3_orders.specs.Grammar.{text}
 use Rattle.set_events.specs.declared.answer.Fate.{Fate}
+use Rattle.set_events.specs.declared.answer.Fate.TheVariants.{Waiting}
+use Rattle.set_route.specs.Routing.{code_for}
 use Rattle.set_events.specs.declared.event.Event.{Event}
 use Rattle.set_events.specs.declared.event.Event.TheVariants.{Offer}
-use Rattle.set_model.specs.Changeover.{fate_on}
+use Rattle.set_model.specs.Changeover.{fate_on, left_by, moved_over, declared, released}
 use Rattle.l2_units.specs.Grammar.{head_of}
 use Rattle.set_model.specs.Control.{Choice, again, first, fill, choice_of, part_of}
-use Rattle.set_model.specs.Rows.{Row, is_on, all_with, appended, unack, octets_in, body_at, row_of, service_indicator, IsNumbered}
+use Rattle.set_model.specs.Rows.{Row, is_on, is_back, is_back_to, appended, moved, unack, octets_in, body_at, row_of, service_indicator, IsNumbered}
 use Rattle.set_model.specs.Sound.{IsManaged}
 use Rattle.set_model.specs.State.{LinkState, State, target, window_of}
 use Rattle.set_model.specs.Step.{is_msu, sends, step}
@@ -66,17 +69,23 @@ module _ (P : ℕ → List ℕ → Type 0) where
   order_covers order s t fate settings rows c = covers_appended s t (text order s.settings.sio s.settings.dpc s.settings.opc) fate settings rows
       (λ users. let own : (s.settings.sio % 16 == 0) ≡ true = eq-eqb (s.settings.sio % 16) 0 c.managed in let no : true ≡ false = sym own ∙ users in absurd cc) c
 
-  small : (Known : ℕ → Type 0) → KeptBy Known (λ s t. Covers s → Covers t)
-  small Known = record {
+  moved_covers : (test : Fate → Bool) (fate : Row → Fate) (s t : State) → t.settings ≡ s.settings → t.rows ≡ moved test fate s.rows → Covers s → Covers t
+  moved_covers test fate s t settings rows c =
+      covers_kept s t settings (rw rows (moved_numbered test fate s.rows c.numbered)) (λ number. ap (body_at number) rows ∙ body_moved test fate number s.rows c.numbered) c
+
+  small : (Known : ℕ → Type 0) (May : Type 0) → KeptBy Known May (λ s t. Covers s → Covers t)
+  small Known May = record {
     same = λ s c. c;
     after = λ a b d p q c. q (p c);
     delivers = λ body s c. record { managed = c.managed; numbered = c.numbered; known = c.known };
     queues = λ order s c. order_covers order s _ (fate_on (target s.links)) refl refl c;
-    leaves = λ blind n link s known at c. record { managed = c.managed; numbered = c.numbered; known = c.known };
+    leaves = λ blind n link s known at c. moved_covers (is_back_to n) _ s (left_by blind n link s) refl refl c;
     acknowledges = λ count n link s known at few c. let k = (acknowledged n count s.rows).kept in covers_kept s _ refl (k.numbered c.numbered) (k.bodies c.numbered) c;
     gives_up_sent = λ cause n link s known at c. let k = (sent_given_up n cause s.rows).kept in covers_kept s _ refl (k.numbered c.numbered) (k.bodies c.numbered) c;
     gives_up_waiting = λ cause n link s known at c. let k = (waiting_given_up n cause s.rows).kept in covers_kept s _ refl (k.numbered c.numbered) (k.bodies c.numbered) c;
-    moves_off = λ n link s known at c. covers_kept s _ refl (moved_numbered (is_on n) (all_with (fate_on (target s.links))) s.rows c.numbered) (λ number. body_moved (is_on n) (all_with (fate_on (target s.links))) number s.rows c.numbered) c;
+    moves_off = λ n link s known at c. moved_covers (is_on n) _ s (moved_over n link s) refl refl c;
+    declares = λ may home alternative s up can c. order_covers (Cbd home (code_for home alternative)) s (declared home alternative s) (Waiting alternative) refl refl c;
+    releases = λ code s known c. moved_covers (is_back code) _ s (released code s) refl refl c;
   }
 
   sends_covers : (choice : Choice) (n : ℕ) (link : LinkState) (s : State) → Covers s → Covers (sends choice n s link).state
@@ -87,7 +96,7 @@ module _ (P : ℕ → List ℕ → Type 0) where
   -- every event but an offer
   pub covers_on : (s : State) (event : Event) → ((body : List ℕ) → event ≡ Offer body → ⊥) → Covers s → Covers (step s event).state
   covers_on s event apart c = step_walks s (λ t u. Covers t → Covers u) Covers event (record {
-    small = small _;
+    small = small _ _;
     unmoved = c;
     rests = λ t u p q. q p;
     offers = λ body e none. absurd (apart body e);

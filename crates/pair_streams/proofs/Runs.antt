@@ -13,7 +13,7 @@ use Rattle.set_events.specs.declared.config.SetConfig.{SetConfig}
 use Rattle.set_events.specs.declared.event.Event.{Event}
 use Rattle.set_events.specs.declared.event.Event.TheVariants.{Next, Heard, Up as UpEvent}
 use Rattle.set_route.specs.declared.place.Place.{Place}
-use Rattle.set_route.specs.declared.place.Place.TheVariants.{On, Nowhere}
+use Rattle.set_route.specs.declared.place.Place.TheVariants.{On, Changing, Nowhere}
 use Rattle.set_route.specs.Routing.{place_of}
 use Rattle.set_model.specs.declared.phase.Phase.TheVariants.{Up}
 use Rattle.set_model.specs.Rows.{Row, is_unacked, is_waiting, is_held, is_parked, standing, unack, wait, held, parked, place, body_at, row_of, service_indicator, stream_of, IsNumbered}
@@ -106,6 +106,7 @@ module _ (stream : ℕ) (low : stream < 16) (s f : State) (near far : Past) (w :
 
     not_here : (q : Place) → Among m (queue_at q s f) → ⊥
     not_here (On l) a = not_pending l a
+    not_here (Changing to code via) a = not_pending via a
     not_here Nowhere a = not_aside a
 
     both_parts : (a b : Bool) → (not a && b) ≡ true → (a ≡ false) × (b ≡ true)
@@ -132,6 +133,7 @@ module _ (stream : ℕ) (low : stream < 16) (s f : State) (near far : Past) (w :
     where
       empty : (q : Place) → ((l : ℕ) → those_of stream (pending l s f) ≡ []) → those_of stream (aside s) ≡ [] → those_of stream (queue_at q s f) ≡ []
       empty (On l) none none_aside = none l
+      empty (Changing to code via) none none_aside = none via
       empty Nowhere none none_aside = none_aside
 
 -- EACH STEP
@@ -157,8 +159,8 @@ module _ (ma mb : Method) (one : IsOneMethod ma mb) where
     act_keeps end event sound asked own = go (has_actor g.world (actor_of event)) (is_full (at_end g.world end))
       where
         shown : (end : End) → IsSoundStep (Act end event) → Keeps g (Act end event) (shows (Answered (answer_to (at_end g.world end) event)) (with_end g.world end (after (at_end g.world end) event)))
-        shown A sound = asked_streams (seen A g) h.near_sound w.near.codes v A event asked own sound
-        shown B sound = streams_back _ (asked_streams (seen B g) h_b.near_sound w_b.near.codes v_b B event asked own sound)
+        shown A sound = asked_streams (seen A g) (h.near_sound, h.near_straight.none_open) w.near.codes v A event asked own sound
+        shown B sound = streams_back _ (asked_streams (seen B g) (h_b.near_sound, h_b.near_straight.none_open) w_b.near.codes v_b B event asked own sound)
 
         go : (known full : Bool) → Keeps g (Act end event) (cond known (cond full exhausted (shows (Answered (answer_to (at_end g.world end) event)) (with_end g.world end (after (at_end g.world end) event)))) impossible)
         go true true = tt
@@ -309,8 +311,12 @@ module _ (ma mb : Method) (one : IsOneMethod ma mb) where
   )
 
 -- AT FIRST
+none_on : (a b : Settings) (l : ℕ) → pending l (opened_with a) (opened_with b) ≡ []
+none_on a b l = ap (λ (rows : List Row). messages (rows ++ [] ++ [])) (drop_none {X = Row} (accepted_on l (opened_with b) - acked_on l (opened_with a)))
+
 nothing_at : (a b : Settings) (q : Place) → queue_at q (opened_with a) (opened_with b) ≡ []
-nothing_at a b (On l) = ap (λ (rows : List Row). messages (rows ++ [] ++ [])) (drop_none {X = Row} (accepted_on l (opened_with b) - acked_on l (opened_with a)))
+nothing_at a b (On l) = none_on a b l
+nothing_at a b (Changing to code via) = none_on a b via
 nothing_at a b Nowhere = refl
 
 first_flows : (config other : SetConfig) → Flows (opened_with (settings_of config)) (opened_with (settings_of other)) no_past no_past

@@ -14,6 +14,7 @@ pub record AreDone (counts : Counts) : Type 0 where
   pub none_unacked : counts.unacked ≡ 0
   pub none_held : counts.held ≡ 0
   pub none_parked : counts.parked ≡ 0
+  pub none_back : counts.back ≡ 0
 
 pub record IsIdle (w : World) : Type 0 where
   pub at_a : AreDone (counts_at w A)

@@ -134,7 +134,8 @@ impl World {
         }
     }
 
-    /// Whether no message of the users waits, is unacknowledged, held or parked at either end.
+    /// Whether no message of the users waits, is unacknowledged, held, parked or waits for a changeback at either
+    /// end.
     ///
     /// Whichever sound run led to such a world, the users of each end got all that the other's users offered, in the
     /// order of each stream (`AllArrived`; Q.704 5.1.1).
@@ -235,7 +236,9 @@ impl World {
             | Event::Up { link }
             | Event::Down { link }
             | Event::DownBlind { link }
-            | Event::NoAnswer { link } => self.terminal_of(*link),
+            | Event::NoAnswer { link }
+            | Event::Restore { link }
+            | Event::BackTimeout { link } => self.terminal_of(*link),
         }
     }
 
@@ -351,11 +354,15 @@ impl World {
     }
 }
 
-/// Whether no message waits, is unacknowledged, held or parked.
+/// Whether no message waits, is unacknowledged, held, parked or waits for a changeback.
 fn are_done(counts: Counts) -> bool
     ensures { IsTrue result ↔ AreDone counts }
 {
-    counts.waiting == 0 && counts.unacked == 0 && counts.held == 0 && counts.parked == 0
+    counts.waiting == 0
+        && counts.unacked == 0
+        && counts.held == 0
+        && counts.parked == 0
+        && counts.back == 0
 }
 
 /// Whether an event is asked by a step of its own: a unit is sent, a unit is heard, a link comes up.

@@ -7,7 +7,7 @@ use Rattle.l2_units.specs.declared.unit.Unit.{Unit as SignalUnit}
 use Rattle.l2_units.specs.Grammar.{unit_of as unit_of_octets}
 use Rattle.set_events.specs.Config.{fault_of}
 use Rattle.set_events.specs.declared.event.Event.{Event}
-use Rattle.set_events.specs.declared.event.Event.TheVariants.{Offer, Take, Find, Down, DownBlind, NoAnswer}
+use Rattle.set_events.specs.declared.event.Event.TheVariants.{Offer, Take, Find, Down, DownBlind, NoAnswer, Restore, BackTimeout}
 use Rattle.set_events.specs.declared.config.Method.{Method}
 use Rattle.set_events.specs.declared.config.Method.TheVariants.{Basic, Cyclic}
 use Rattle.figures.specs.Figures.{number_of, number_below, octet_of, octets_of}
@@ -81,20 +81,22 @@ hear end words =
     option_and_then (λ link. option_map (Inject end link) (option_and_then unit_of (other_words words)))
     (link_of (first_word words))
 
--- down END LINK, blind END LINK, noanswer END LINK
-abbrev pub failure_of : List ℕ → ℕ → Option Event
-failure_of name link =
+-- down END LINK, blind END LINK, noanswer END LINK, restore END LINK, backtimeout END LINK
+abbrev pub link_event : List ℕ → ℕ → Option Event
+link_event name link =
     if bytes_eq name (codes "down") then Some (Down link)
     else (if bytes_eq name (codes "blind") then Some (DownBlind link)
     else (if bytes_eq name (codes "noanswer") then Some (NoAnswer link)
-    else None))
+    else (if bytes_eq name (codes "restore") then Some (Restore link)
+    else (if bytes_eq name (codes "backtimeout") then Some (BackTimeout link)
+    else None))))
 
 -- those, and emit END LINK, arrive END LINK
 abbrev pub step_on : List ℕ → End → ℕ → Option Step
 step_on name end link =
     if bytes_eq name (codes "emit") then Some (Emit end link)
     else (if bytes_eq name (codes "arrive") then Some (Arrive end link)
-    else option_map (Act end) (failure_of name link))
+    else option_map (Act end) (link_event name link))
 
 abbrev pub on_link : List ℕ → End → List ℕ → Option Step
 on_link name end words = option_and_then (step_on name end) (link_of words)

@@ -8,7 +8,7 @@
 //! |---|---|
 //! | `set links=L method=W a=X b=Y sio=HH` | [`Opening`]: the configurations of both ends, which [`set_events::SetConfig`] accepts |
 //! | `together LINK`, `emit END LINK`, `arrive END LINK`, `lose END LINK PLACE`, `hear END LINK HEX` | the world's step of that name; `hear` is `Inject` |
-//! | `offer END HEX`, `take END`, `find END NUMBER`, `down END LINK`, `blind END LINK`, `noanswer END LINK` | `Act`: the event of that name at the end |
+//! | `offer END HEX`, `take END`, `find END NUMBER`, `down END LINK`, `blind END LINK`, `noanswer END LINK`, `restore END LINK`, `backtimeout END LINK` | `Act`: the event of that name at the end |
 //!
 //! This crate reads one line and carries none out: remarks, line ends and lengths are the text's
 //! (`play_text`), what a step does is the world's (`pair_world`). `specs/Script.antt` is the grammar.

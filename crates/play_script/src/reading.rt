@@ -2,7 +2,7 @@
 ghost use Rattle.std.specs.Prelude.{◌≡◌, ◌<◌, IfOk, length, position};
 ghost use Rattle.std.specs.Option.{option_map, option_copied, ForSome};
 ghost use Rattle.std.specs.Str.{bytes_eq};
-ghost use Rattle.play_script.specs.Script.{is_space, first_word, other_words, end_of as end_in, link_of as link_in, some_octets as octets_in, step_of as step_in, step_at as step_at_in, together as together_in, offer as offer_in, body_of as body_in, take_message as take_in, find as find_in, lose as lose_in, hear as hear_in, unit_of as unit_in, on_link as on_link_in, failure_of as failure_in};
+ghost use Rattle.play_script.specs.Script.{is_space, first_word, other_words, end_of as end_in, link_of as link_in, some_octets as octets_in, step_of as step_in, step_at as step_at_in, together as together_in, offer as offer_in, body_of as body_in, take_message as take_in, find as find_in, lose as lose_in, hear as hear_in, unit_of as unit_in, on_link as on_link_in, link_event as link_event_in};
 
 use figures::{number_of, octets_of};
 use l2_units::{Unit, read};
@@ -215,7 +215,7 @@ fn unit_of(alloc: Global, word: &[u8]) -> Result<Option<Unit>, AllocError>
     }
 }
 
-/// `emit END LINK`, `arrive END LINK`, `down END LINK`, `blind END LINK`, `noanswer END LINK`
+/// `emit END LINK`, `arrive END LINK`, and the events that a word tells of a link
 fn on_link(name: &[u8], end: End, words: &[u8]) -> Option<Step>
     ensures { result ≡ on_link_in name.now end words.now }
 {
@@ -226,13 +226,13 @@ fn on_link(name: &[u8], end: End, words: &[u8]) -> Option<Step>
     if is_word(name, b"arrive") {
         return Some(Step::Arrive { end, link });
     }
-    let event = failure_of(name, link)?;
+    let event = link_event(name, link)?;
     Some(Step::Act { end, event })
 }
 
-/// What `down`, `blind` and `noanswer` tell of a link.
-fn failure_of(name: &[u8], link: u8) -> Option<Event>
-    ensures { result ≡ failure_in name.now link }
+/// What `down`, `blind`, `noanswer`, `restore` and `backtimeout` tell of a link.
+fn link_event(name: &[u8], link: u8) -> Option<Event>
+    ensures { result ≡ link_event_in name.now link }
 {
     if is_word(name, b"down") {
         Some(Event::Down { link })
@@ -240,6 +240,10 @@ fn failure_of(name: &[u8], link: u8) -> Option<Event>
         Some(Event::DownBlind { link })
     } else if is_word(name, b"noanswer") {
         Some(Event::NoAnswer { link })
+    } else if is_word(name, b"restore") {
+        Some(Event::Restore { link })
+    } else if is_word(name, b"backtimeout") {
+        Some(Event::BackTimeout { link })
     } else {
         None
     }

@@ -7,7 +7,7 @@ use Rattle.set_events.specs.declared.answer.Counts.{Counts}
 use Rattle.set_events.specs.declared.event.Actor.{Actor}
 use Rattle.set_events.specs.declared.event.Actor.TheVariants.{User, Terminal}
 use Rattle.set_events.specs.declared.event.Event.{Event}
-use Rattle.set_events.specs.declared.event.Event.TheVariants.{Offer, Take, Find, Next, Heard, Up, Down, DownBlind, NoAnswer}
+use Rattle.set_events.specs.declared.event.Event.TheVariants.{Offer, Take, Find, Next, Heard, Up, Down, DownBlind, NoAnswer, Restore, BackTimeout}
 use Rattle.set_events.specs.declared.history.Entry.{Entry}
 use Rattle.set_core.specs.declared.tally.Tally.{Tally}
 use Rattle.set_events.specs.declared.config.SetConfig.{SetConfig}
@@ -108,6 +108,8 @@ tells_accept_none s link (Up n) own = accepts_none s (Up n) refl
 tells_accept_none s link (Down n) own = accepts_none s (Down n) refl
 tells_accept_none s link (DownBlind n) own = accepts_none s (DownBlind n) refl
 tells_accept_none s link (NoAnswer n) own = accepts_none s (NoAnswer n) refl
+tells_accept_none s link (Restore n) own = accepts_none s (Restore n) refl
+tells_accept_none s link (BackTimeout n) own = accepts_none s (BackTimeout n) refl
 
 -- The step was made, and its entry stands last.
 module _ (opening : State) (old new : Kept) (history : List Entry) (entry : Entry) (actor : IsActor entry.who) (agrees : Agrees old (after opening history)) (answers : AnswersFor (step (after opening history) entry.event) entry.answer new) where

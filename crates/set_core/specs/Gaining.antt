@@ -5,7 +5,7 @@ use Rattle.set_events.specs.declared.books.Books.{Books}
 use Rattle.set_events.specs.declared.event.Actor.{Actor}
 use Rattle.set_events.specs.declared.event.Actor.TheVariants.{User, Terminal}
 use Rattle.set_events.specs.declared.event.Event.{Event}
-use Rattle.set_events.specs.declared.event.Event.TheVariants.{Offer, Take, Find, Next, Heard, Up, Down, DownBlind, NoAnswer}
+use Rattle.set_events.specs.declared.event.Event.TheVariants.{Offer, Take, Find, Next, Heard, Up, Down, DownBlind, NoAnswer, Restore, BackTimeout}
 use Rattle.set_model.specs.Step.{messages_in, octets_of}
 
 -- one call more of this number
@@ -32,6 +32,8 @@ IsOwn (Terminal number) (Up link) = link ≡ number
 IsOwn (Terminal number) (Down link) = link ≡ number
 IsOwn (Terminal number) (DownBlind link) = link ≡ number
 IsOwn (Terminal number) (NoAnswer link) = link ≡ number
+IsOwn (Terminal number) (Restore link) = link ≡ number
+IsOwn (Terminal number) (BackTimeout link) = link ≡ number
 IsOwn _ _ = ⊥
 
 -- a user acknowledges nothing; a terminal accepts nothing

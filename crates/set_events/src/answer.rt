@@ -19,6 +19,9 @@ pub enum Fate {
     Held { link: u8 },
     /// No link can take it: it waits for one.
     Parked,
+    /// Accepted while its stream is changing back to its home link by this changeback code, 0 to 255: it
+    /// waits for the acknowledgement (Q.704 6.3).
+    Back { code: u8 },
     /// Given up, for this cause. Whether the far end has it isn't known.
     Discarded { cause: DiscardCause },
 }
@@ -178,7 +181,7 @@ pub struct Counts {
     pub acked: u64,
     pub held: u64,
     pub parked: u64,
-    /// Those that wait for a changeback: 0, since there is none yet.
+    /// Those that wait for the acknowledgement of a changeback.
     pub back: u64,
     pub discarded: u64,
 }

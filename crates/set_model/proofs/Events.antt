@@ -5,8 +5,8 @@ use Rattle.std.proofs.lemmas.List.Elements.{filter-append}
 use Rattle.set_events.specs.declared.answer.Fate.{Fate}
 use Rattle.set_events.specs.declared.answer.Fate.TheVariants.{Waiting, Unacked, Acked, Parked, Discarded}
 use Rattle.set_events.specs.declared.answer.DiscardCause.{DiscardCause}
-use Rattle.set_model.specs.Rows.{Row, standing, is_waiting, is_unacked, is_held, is_on, is_parked, was_acked, unack, wait, held, on, parked, numbers, octets_in, turned, changed, moved, all_with, appended, with_fate, fated, body_at, counts_of, total_of, IsInOrder, IsHeldLast, IsNumbered, AreFit}
-use Rattle.set_model.proofs.Places.{itself, apart_back, waiting_not_unacked, unacked_not_waiting, waiting_not_held, unacked_not_held, parked_not_on, on_not_parked, on_not_acked, parked_not_acked, waiting_on, unacked_on, held_on, on_other, not_on_waiting, not_on_unacked, not_on_held}
+use Rattle.set_model.specs.Rows.{Row, standing, is_waiting, is_unacked, is_held, is_on, is_parked, is_back, was_acked, unack, wait, held, on, parked, numbers, octets_in, turned, changed, moved, all_with, appended, with_fate, fated, body_at, counts_of, total_of, IsInOrder, IsHeldLast, IsNumbered, AreFit}
+use Rattle.set_model.proofs.Places.{itself, apart_back, waiting_not_unacked, unacked_not_waiting, waiting_not_held, unacked_not_held, parked_not_on, on_not_parked, on_not_acked, parked_not_acked, waiting_on, unacked_on, held_on, on_other, not_on_waiting, not_on_unacked, not_on_held, back_not_on, back_not_parked, back_not_acked, code_back}
 use Rattle.set_model.proofs.InPlace.{InPlace, turned_there, changed_there, turned_same, changed_same, turned_ordered, changed_ordered, turned_left, turned_within, changed_left}
 use Rattle.set_model.proofs.Moving.{moved_length, moved_fit, moved_numbered, moved_gone, moved_same, moved_joined}
 use Rattle.set_model.proofs.Order.{order_moved, order_appended, order_sent, sent_joined, on_in_order, order_none, last_none, last_alone, last_moved, last_appended, last_sent}
@@ -49,7 +49,7 @@ kept_in_place test rows new i w = record {
   acked = i.acked w;
 }
 
-moved_kept : (test : Fate → Bool) (fate : Row → Fate) (rows : List Row) → ((row : Row) → was_acked (fate row) ≡ false) → ((f : Fate) → test f ≡ true → was_acked f ≡ false) → Kept rows (moved test fate rows)
+pub moved_kept : (test : Fate → Bool) (fate : Row → Fate) (rows : List Row) → ((row : Row) → was_acked (fate row) ≡ false) → ((f : Fate) → test f ≡ true → was_acked f ≡ false) → Kept rows (moved test fate rows)
 moved_kept test fate rows o w = record {
   fit = moved_fit test fate rows;
   numbered = moved_numbered test fate rows;
@@ -309,6 +309,35 @@ pub moved_aside : (l : ℕ) (rows : List Row) → MovedAside l rows (moved (is_o
 moved_aside l rows =
     let p = moved_joined (is_on l) is_parked (all_with Parked) rows (λ x. refl) (on_not_parked l) in
     record { left_is = left l Parked rows refl refl; parked_is = p; parked_numbers = ap numbers p ∙ numbers_joined (all_with Parked) (parked rows) (on l rows) }
+
+-- MESSAGES THAT STOOD BACK AND WAIT FOR THEIR HOME.
+pub record Released (c l : ℕ) (rows new : List Row) : Type 0 where
+  pub kept : Kept rows new
+  pub unack_same : unack l new ≡ unack l rows
+  pub wait_is : wait l new ≡ wait l rows ++ map (with_fate (Waiting l)) (standing (is_back c) rows)
+  pub held_same : held l new ≡ held l rows
+  pub on_is : on l new ≡ on l rows ++ map (with_fate (Waiting l)) (standing (is_back c) rows)
+  pub parked_same : parked new ≡ parked rows
+  pub order_kept : IsInOrder l rows → IsInOrder l new
+  pub last_kept : held l rows ≡ [] → IsHeldLast l new
+  pub others : (n : ℕ) → (l == n) ≡ false → Untouched n rows new
+
+pub released : (c l : ℕ) (rows : List Row) → Released c l rows (moved (is_back c) (all_with (Waiting l)) rows)
+released c l rows =
+    let to = all_with (Waiting l) in
+    let off : (n : ℕ) (f : Fate) → is_back c f ≡ true → is_on n f ≡ false = λ n f e. back_not_on n f (code_back c f e) in
+    let h = moved_same (is_back c) (is_held l) to rows (λ x. refl) (λ f e. not_on_held l f (off l f e)) in
+    record {
+      kept = moved_kept (is_back c) to rows (λ x. refl) (λ f e. back_not_acked f (code_back c f e));
+      unack_same = moved_same (is_back c) (is_unacked l) to rows (λ x. refl) (λ f e. not_on_unacked l f (off l f e));
+      wait_is = moved_joined (is_back c) (is_waiting l) to rows (λ x. itself l) (λ f e. not_on_waiting l f (off l f e));
+      held_same = h;
+      on_is = moved_joined (is_back c) (is_on l) to rows (λ x. itself l) (off l);
+      parked_same = moved_same (is_back c) is_parked to rows (λ x. refl) (λ f e. back_not_parked f (code_back c f e));
+      order_kept = order_moved l (is_back c) to rows (λ x. refl);
+      last_kept = λ e. last_none l (moved (is_back c) to rows) (h ∙ e);
+      others = λ n d. moved_untouched n (is_back c) rows (off n) to (λ x. d);
+    }
 
 -- PARKED MESSAGES THAT FIND A LINK.
 pub record Unparked (l : ℕ) (rows new : List Row) : Type 0 where

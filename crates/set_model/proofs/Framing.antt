@@ -9,30 +9,44 @@ use Rattle.l2_window.specs.Window.{WindowState}
 use Rattle.l2_window.specs.declared.control.HeardPart.{HeardPart}
 use Rattle.l3_orders.specs.declared.order.Order.{Order}
 use Rattle.l3_orders.specs.Grammar.{text, order_of}
+use Rattle.set_events.specs.declared.answer.Fate.{Fate}
 use Rattle.set_events.specs.declared.answer.Fate.TheVariants.{Waiting, Unacked, Acked, Parked}
 use Rattle.set_events.specs.declared.event.Event.{Event}
 use Rattle.set_route.specs.declared.place.Place.{Place}
-use Rattle.set_route.specs.declared.place.Place.TheVariants.{On, Nowhere}
-use Rattle.set_route.specs.Routing.{place_of}
+use Rattle.set_route.specs.declared.place.Place.TheVariants.{On, Changing, Nowhere}
+use Rattle.set_route.specs.Routing.{Routing, place_of, home_of}
 use Rattle.set_model.specs.declared.phase.Phase.TheVariants.{Up, Down}
-use Rattle.set_model.specs.Rows.{Row, is_on, is_waiting, is_unacked, is_held, unack, wait, on, numbers, octets_in, service_indicator, turned, appended, with_fate, IsInOrder}
+use Rattle.set_model.specs.Rows.{Row, standing, is_on, is_waiting, is_unacked, is_held, is_back_to, unack, wait, held, on, numbers, octets_in, service_indicator, stream_of, turned, appended, fated, with_fate, IsInOrder}
 use Rattle.set_model.specs.Control.{Choice, again, first, fill, choice_of, part_of, control_heard, window_heard, acked_by}
-use Rattle.set_model.specs.State.{LinkState, State, is_up, link_is_up, has_phase_up, target, window_of}
-use Rattle.set_model.specs.Changeover.{fate_on, left_link, acknowledged as acknowledged_link, settled_link, moved_over}
-use Rattle.set_model.specs.Step.{rows_sent, fate_at, is_msu, one_if, brought, takes, after_control, step}
+use Rattle.set_model.specs.State.{LinkState, State, is_up, link_is_up, has_phase_up, fate_at, target, window_of}
+use Rattle.set_model.specs.Changeover.{fate_on, left_link, out_of_service, turned_back, left_by, released, acknowledged as acknowledged_link, settled_link, moved_over}
+use Rattle.set_model.specs.Step.{rows_sent, is_msu, one_if, brought, takes, after_control, step}
 use Rattle.set_model.specs.Sound.{IsSound}
 use Rattle.set_model.specs.Frame.{BringsAbout, Concerns, LeavesAlone, window_after, MovesAsItsControl}
 use Rattle.set_model.proofs.Controlling.{part_acked, last_heard}
-use Rattle.set_model.proofs.Events.{Untouched, untouched_self, sent, acknowledged, sent_given_up, waiting_given_up, moved_to, moved_aside, unparked, appended_in, appended_out, appended_untouched, numbers_joined}
+use Rattle.set_model.proofs.Events.{Untouched, untouched_self, sent, acknowledged, sent_given_up, waiting_given_up, moved_to, moved_aside, unparked, released as released_rows, appended_in, appended_out, appended_untouched, numbers_joined}
+use Rattle.set_model.proofs.Filters.{fated_none}
 use Rattle.set_model.proofs.Finding.{new_row}
 use Rattle.set_model.proofs.Lists.{get_set_same, get_set_other, same_at, within}
-use Rattle.set_model.proofs.Places.{false_true, itself, apart}
+use Rattle.set_model.proofs.Moving.{moved_same, moved_more}
+use Rattle.set_model.proofs.Places.{false_true, itself, apart, not_on_unacked, not_on_waiting, not_on_held, back_not_on, home_back}
+use Rattle.set_model.proofs.Ranging.{offered_out}
+use Rattle.set_model.proofs.SoundBack.{up_not_held, down_not_waiting, alternative_up}
 use Rattle.set_model.proofs.Targets.{target_up}
 use Rattle.set_model.proofs.Walk.{IsAt, KeptBy, step_walks, brought_by}
 
 -- ALONE.
 alone_by : (n : ℕ) (s t : State) → slice_get t.links n ≡ slice_get s.links n → Untouched n s.rows t.rows → LeavesAlone n s t
-alone_by n s t links u = record { link_same = links; unack_same = u.unack_same; held_same = u.held_same; more = []; wait_more = u.wait_same ∙ sym (append-nil (wait n s.rows)); none_more = λ e. refl }
+alone_by n s t links u = record {
+  link_same = links;
+  unack_same = u.unack_same;
+  more = [];
+  wait_more = u.wait_same ∙ sym (append-nil (wait n s.rows));
+  none_more = λ e. refl;
+  later = [];
+  held_later = u.held_same ∙ sym (append-nil (held n s.rows));
+  none_later = λ e. refl;
+}
 
 alone_self : (n : ℕ) (s : State) → LeavesAlone n s s
 alone_self n s = alone_by n s s refl (untouched_self n s.rows)
@@ -41,35 +55,59 @@ alone_then : (n : ℕ) (a b c : State) → LeavesAlone n a b → LeavesAlone n b
 alone_then n a b c p q = record {
   link_same = q.link_same ∙ p.link_same;
   unack_same = q.unack_same ∙ p.unack_same;
-  held_same = q.held_same ∙ p.held_same;
   more = p.more ++ q.more;
   wait_more = q.wait_more ∙ ap (λ (xs : List Row). xs ++ q.more) p.wait_more ∙ append_assoc (wait n a.rows) p.more q.more;
   none_more = λ e. rw (p.none_more e, q.none_more (ap link_is_up p.link_same ∙ e)) refl;
+  later = p.later ++ q.later;
+  held_later = q.held_later ∙ ap (λ (xs : List Row). xs ++ q.later) p.held_later ∙ append_assoc (held n a.rows) p.later q.later;
+  none_later = λ e. rw (p.none_later e, q.none_later (ap link_is_up p.link_same ∙ e)) refl;
 }
 
 -- a link that changes, and rows that another doesn't see
 alone_set : (n m : ℕ) (link : LinkState) (s t : State) → (m == n) ≡ false → t.links ≡ slice_set s.links m link → Untouched n s.rows t.rows → LeavesAlone n s t
 alone_set n m link s t d links u = alone_by n s t (ap (λ (ls : List LinkState). slice_get ls n) links ∙ get_set_other s.links m n link (λ same. false_true (m == n) d (rw same (itself n)))) u
 
--- a new message that waits for the target, or is parked where there is none
-alone_new : (n : ℕ) (body : List ℕ) (s : State) (to : Option ℕ) → target s.links ≡ to → LeavesAlone n s (record s { rows = appended s.rows body (fate_on to) })
-alone_new n body s None e = alone_by n s (record s { rows = appended s.rows body Parked }) refl (appended_untouched s.rows body Parked n refl)
-alone_new n body s (Some to) e = go (to == n) refl
+-- a new message that waits for a link that is up
+alone_waits : (n : ℕ) (body : List ℕ) (s : State) (routing : Routing) (to : ℕ) → is_up to s ≡ true → LeavesAlone n s (record s { rows = appended s.rows body (Waiting to); routing = routing })
+alone_waits n body s routing to up = go (to == n) refl
   where
-    go : (b : Bool) → (to == n) ≡ b → LeavesAlone n s (record s { rows = appended s.rows body (Waiting to) })
-    go false d = alone_by n s (record s { rows = appended s.rows body (Waiting to) }) refl (appended_untouched s.rows body (Waiting to) n d)
+    go : (b : Bool) → (to == n) ≡ b → LeavesAlone n s (record s { rows = appended s.rows body (Waiting to); routing = routing })
+    go false d = alone_by n s (record s { rows = appended s.rows body (Waiting to); routing = routing }) refl (appended_untouched s.rows body (Waiting to) n d)
     go true d =
         let same : to ≡ n = eqb-true to n d in
-        let rising = target_up s.links to e in
-        let is : is_up n s ≡ true = ap (λ (k : ℕ). link_is_up (slice_get s.links k)) (sym same) ∙ ap link_is_up rising.1 ∙ rising.2 in
+        let is : is_up n s ≡ true = ap (λ (k : ℕ). is_up k s) (sym same) ∙ up in
         record {
           link_same = refl;
           unack_same = appended_out s.rows body (Waiting to) (is_unacked n) refl;
-          held_same = appended_out s.rows body (Waiting to) (is_held n) refl;
           more = new_row (length s.rows) body (Waiting to) ∷ [];
           wait_more = appended_in s.rows body (Waiting to) (is_waiting n) d;
           none_more = λ f. false_true (is_up n s) f is;
+          later = [];
+          held_later = appended_out s.rows body (Waiting to) (is_held n) refl ∙ sym (append-nil (held n s.rows));
+          none_later = λ f. refl;
         }
+
+-- or for the target, or is parked where there is none
+alone_new : (n : ℕ) (body : List ℕ) (s : State) (to : Option ℕ) → target s.links ≡ to → LeavesAlone n s (record s { rows = appended s.rows body (fate_on to) })
+alone_new n body s None e = alone_by n s (record s { rows = appended s.rows body Parked }) refl (appended_untouched s.rows body Parked n refl)
+alone_new n body s (Some to) e = let rising = target_up s.links to e in alone_waits n body s s.routing to (ap link_is_up rising.1 ∙ rising.2)
+
+-- what turns back comes to wait for other links, or to be held for them
+alone_turned : (n m : ℕ) (s : State) → LeavesAlone n s (turned_back m s)
+alone_turned n m s =
+    let fate : Row → Fate = λ row. fate_at (place_of (stream_of row.body) s.routing) s in
+    let off : (f : Fate) → is_back_to m f ≡ true → is_on n f ≡ false = λ f e. back_not_on n f (home_back m f e) in
+    let come : List Row = map (fated fate) (standing (is_back_to m) s.rows) in
+    record {
+      link_same = refl;
+      unack_same = moved_same (is_back_to m) (is_unacked n) fate s.rows (λ x. offered_out n _ s) (λ f e. not_on_unacked n f (off f e));
+      more = wait n come;
+      wait_more = moved_more (is_back_to m) (is_waiting n) fate s.rows (λ f e. not_on_waiting n f (off f e));
+      none_more = λ e. fated_none (is_waiting n) fate (λ x. down_not_waiting s n e _) (standing (is_back_to m) s.rows);
+      later = held n come;
+      held_later = moved_more (is_back_to m) (is_held n) fate s.rows (λ f e. not_on_held n f (off f e));
+      none_later = λ e. fated_none (is_held n) fate (λ x. up_not_held s n e _) (standing (is_back_to m) s.rows);
+    }
 
 alone_off : (n m : ℕ) (link : LinkState) (s : State) → (m == n) ≡ false → IsAt m link Down s → LeavesAlone n s (moved_over m link s)
 alone_off n m link s d at = go (target s.links) refl
@@ -89,7 +127,9 @@ alone_off n m link s d at = go (target s.links) refl
         record {
           link_same = get_set_other s.links m n (settled_link link) (λ eq. false_true (m == n) d (rw eq (itself n)));
           unack_same = rw (e, same) moved.unack_same;
-          held_same = rw (e, same) moved.held_same;
+          later = [];
+          held_later = rw (e, same) (moved.held_same ∙ sym (append-nil (held to s.rows)));
+          none_later = λ g. refl;
           more = map (with_fate (Waiting to)) (on m s.rows);
           wait_more = rw (e, same) moved.wait_is;
           none_more = λ g. false_true (is_up n s) g is;
@@ -103,17 +143,19 @@ module _ (n : ℕ) (event : Event) (s : State) (free : Concerns event n s → �
   off : (m : ℕ) → Concerns event m s → (m == n) ≡ false
   off m known = apart m n (λ same. free (subst (λ (k : ℕ). Concerns event k s) same known))
 
-  small : KeptBy (λ m. Concerns event m s) (LeavesAlone n)
-  small = record {
+  small : (May : Type 0) → KeptBy (λ m. Concerns event m s) May (LeavesAlone n)
+  small May = record {
     same = λ a. alone_self n a;
     after = λ a b c p q. alone_then n a b c p q;
     delivers = λ body a. alone_by n a _ refl (untouched_self n a.rows);
     queues = λ order a. alone_new n (text order a.settings.sio a.settings.dpc a.settings.opc) a (target a.links) refl;
-    leaves = λ blind m link a known at. alone_set n m (left_link blind link) a _ (off m known) refl (untouched_self n a.rows);
+    leaves = λ blind m link a known at. alone_then n a (out_of_service blind m link a) (left_by blind m link a) (alone_set n m (left_link blind link) a (out_of_service blind m link a) (off m known) refl (untouched_self n a.rows)) (alone_turned n m (out_of_service blind m link a));
     acknowledges = λ count m link a known at few. alone_set n m (acknowledged_link count link) a _ (off m known) refl ((acknowledged m count a.rows).others n (off m known));
     gives_up_sent = λ cause m link a known at. alone_by n a _ refl ((sent_given_up m cause a.rows).others n (off m known));
     gives_up_waiting = λ cause m link a known at. alone_by n a _ refl ((waiting_given_up m cause a.rows).others n (off m known));
     moves_off = λ m link a known at. alone_off n m link a (off m known) at;
+    declares = λ may home alternative a up can. alone_waits n _ a _ alternative (alternative_up home alternative a can);
+    releases = λ code a known. alone_by n a (released code a) refl ((released_rows code (home_of code) a.rows).others n (off (home_of code) known));
   }
 
 sent_alone : (n m : ℕ) (choice : Choice) (rows : List Row) → (m == n) ≡ false → Untouched n rows (rows_sent choice m rows)
@@ -123,6 +165,7 @@ sent_alone n m fill rows d = untouched_self n rows
 
 offer_off : (n : ℕ) (place : Place) (s : State) → (place ≡ On n → ⊥) → is_on n (fate_at place s) ≡ false
 offer_off n Nowhere s free = refl
+offer_off n (Changing to code via) s free = refl
 offer_off n (On l) s free = go (is_up l s) refl
   where
     d : (l == n) ≡ false
@@ -134,7 +177,7 @@ offer_off n (On l) s free = go (is_up l s) refl
 
 pub leaves_alone : (n : ℕ) (s : State) (event : Event) → (Concerns event n s → ⊥) → LeavesAlone n s (step s event).state
 leaves_alone n s event free = step_walks s (LeavesAlone n) (LeavesAlone n s) event (record {
-  small = small n event s free;
+  small = small n event s free _;
   unmoved = alone_self n s;
   rests = λ t u p q. alone_then n s t u p q;
   offers = λ body e none. alone_by n s _ refl (appended_untouched s.rows body _ n (offer_off n (place_of _ s.routing) s (λ on. free (subst (λ (v : Event). Concerns v n s) (sym e) on))));

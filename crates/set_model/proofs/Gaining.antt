@@ -4,9 +4,10 @@ use Rattle.std.proofs.lemmas.Bool.Decides.{nat_tests}
 use Rattle.l2_units.specs.declared.unit.Unit.{Unit as SignalUnit}
 use Rattle.l2_units.specs.declared.unit.Unit.TheVariants.{Fisu, Lssu, Msu}
 use Rattle.set_route.specs.declared.place.Place.{Place}
-use Rattle.set_route.specs.declared.place.Place.TheVariants.{On, Nowhere}
-use Rattle.set_route.specs.Routing.{place_of}
+use Rattle.set_route.specs.declared.place.Place.TheVariants.{On, Changing, Nowhere}
+use Rattle.set_route.specs.Routing.{place_of, code_for, home_of}
 use Rattle.l3_orders.specs.declared.order.Order.{Order}
+use Rattle.l3_orders.specs.declared.order.Order.TheVariants.{Cbd}
 use Rattle.l3_orders.specs.Grammar.{text}
 use Rattle.set_events.specs.declared.answer.Answer.{Answer}
 use Rattle.set_events.specs.declared.answer.Fate.{Fate}
@@ -14,18 +15,18 @@ use Rattle.set_events.specs.declared.answer.Fate.TheVariants.{Waiting, Held}
 use Rattle.set_events.specs.declared.answer.Refusal.{Refusal as SetRefusal}
 use Rattle.set_events.specs.declared.answer.Refusal.TheVariants.{TooShort, TooLong, Reserved, StreamFull, NotUp}
 use Rattle.set_events.specs.declared.event.Event.{Event}
-use Rattle.set_events.specs.declared.event.Event.TheVariants.{Offer, Take, Find, Next, Heard, Up as UpEvent, Down as DownEvent, DownBlind, NoAnswer}
+use Rattle.set_events.specs.declared.event.Event.TheVariants.{Offer, Take, Find, Next, Heard, Up as UpEvent, Down as DownEvent, DownBlind, NoAnswer, Restore, BackTimeout}
 use Rattle.set_model.specs.declared.phase.Phase.{Phase}
 use Rattle.set_model.specs.declared.phase.Phase.TheVariants.{Up, Down, Settled}
-use Rattle.set_model.specs.Rows.{Row, is_on, was_acked, moved, all_with, service_indicator, counts_of, total_of, place, unsent, stream_of}
-use Rattle.set_model.specs.State.{LinkState, State, is_up, has_phase_up, target}
+use Rattle.set_model.specs.Rows.{Row, is_on, is_back_to, was_acked, moved, all_with, appended, service_indicator, counts_of, total_of, place, unsent, stream_of}
+use Rattle.set_model.specs.State.{LinkState, State, link_count, is_up, has_phase_up, fate_at, target}
 use Rattle.set_model.specs.Control.{Choice, again, first, fill}
-use Rattle.set_model.specs.Changeover.{fate_on, queued}
-use Rattle.set_model.specs.Step.{Outcome, refused, offer_refusal, fate_at, offered, taken, found, with_known, in_service, next, rows_sent, heard, rises, falls, gives_up, step, messages_in, octets_of, Gains}
+use Rattle.set_model.specs.Changeover.{fate_on, out_of_service, turned_back, some_declare, some_in_use}
+use Rattle.set_model.specs.Step.{Outcome, refused, offer_refusal, offered, taken, found, with_known, in_service, next, rows_sent, heard, rises, falls, gives_up, comes_back, runs_out, step, messages_in, octets_of, Gains}
 use Rattle.set_model.specs.Sound.{IsManaged}
 use Rattle.set_model.proofs.Counting.{total_appended, acked_appended, acked_appended_open, total_moved, acked_moved}
-use Rattle.set_model.proofs.Events.{Kept, sent, acknowledged, sent_given_up, waiting_given_up, unparked}
-use Rattle.set_model.proofs.Places.{on_not_acked}
+use Rattle.set_model.proofs.Events.{Kept, sent, acknowledged, sent_given_up, waiting_given_up, unparked, moved_kept, released as released_rows}
+use Rattle.set_model.proofs.Places.{on_not_acked, back_not_acked, home_back}
 use Rattle.set_model.proofs.Walk.{KeptBy, step_walks}
 
 -- rows that are changed, but for new messages of users
@@ -52,12 +53,25 @@ counted_moved n to rows =
     record { total = total_moved (is_on n) (all_with (fate_on to)) rows; acked = omega (arith, same) }
 
 -- an order is no user's
-counted_queue : (order : Order) (s : State) → IsManaged s.settings → Counted s.rows (queued order s).rows
-counted_queue order s management =
+counted_order : (order : Order) (fate : Fate) (s : State) → IsManaged s.settings → Counted s.rows (appended s.rows (text order s.settings.sio s.settings.dpc s.settings.opc) fate)
+counted_order order fate s management =
     let body = text order s.settings.sio s.settings.dpc s.settings.opc in
     let own : (s.settings.sio % 16 == 0) ≡ true = grind (arith, nat_tests) in
-    let one = total_appended s.rows body (fate_on (target s.links)) ∙ ap (λ (b : Bool). total_of (counts_of s.rows) + cond b 0 1) own in
-    record { total = omega (arith, one); acked = acked_appended s.rows body (fate_on (target s.links)) }
+    let one = total_appended s.rows body fate ∙ ap (λ (b : Bool). total_of (counts_of s.rows) + cond b 0 1) own in
+    record { total = omega (arith, one); acked = acked_appended s.rows body fate }
+
+-- where a message goes whose stream runs there, it isn't acknowledged
+fate_open : (p : Place) (s : State) → was_acked (fate_at p s) ≡ false
+fate_open (On link) s = go (is_up link s)
+  where
+    go : (b : Bool) → was_acked (if b then Waiting link else Held link) ≡ false
+    go true = refl
+    go false = refl
+fate_open (Changing to code via) s = refl
+fate_open Nowhere s = refl
+
+counted_back : (n : ℕ) (s : State) → Counted s.rows (turned_back n s).rows
+counted_back n s = counted_kept _ _ (moved_kept (is_back_to n) (λ row. fate_at (place_of (stream_of row.body) s.routing) s) s.rows (λ row. fate_open (place_of (stream_of row.body) s.routing) s) (λ f e. back_not_acked f (home_back n f e)))
 
 counted_sent : (choice : Choice) (n : ℕ) (rows : List Row) → Counted rows (rows_sent choice n rows)
 counted_sent (again i) n rows = counted_self rows
@@ -68,17 +82,19 @@ counted_sent fill n rows = counted_self rows
 abbrev CountedFrom : State → State → Type 0
 CountedFrom s t = IsManaged s.settings → (t.settings ≡ s.settings) × Counted s.rows t.rows
 
-small : (Known : ℕ → Type 0) → KeptBy Known CountedFrom
-small Known = record {
+small : (Known : ℕ → Type 0) (May : Type 0) → KeptBy Known May CountedFrom
+small Known May = record {
   same = λ s m. (refl, counted_self s.rows);
   after = λ a b c p q m. let x = p m in let y = q (rw x.0 m) in (y.0 ∙ x.0, counted_then a.rows b.rows c.rows x.1 y.1);
   delivers = λ body s m. (refl, counted_self s.rows);
-  queues = λ order s m. (refl, counted_queue order s m);
-  leaves = λ blind n link s known at m. (refl, counted_self s.rows);
+  queues = λ order s m. (refl, counted_order order (fate_on (target s.links)) s m);
+  leaves = λ blind n link s known at m. (refl, counted_back n (out_of_service blind n link s));
   acknowledges = λ count n link s known at few m. (refl, counted_kept _ _ (acknowledged n count s.rows).kept);
   gives_up_sent = λ cause n link s known at m. (refl, counted_kept _ _ (sent_given_up n cause s.rows).kept);
   gives_up_waiting = λ cause n link s known at m. (refl, counted_kept _ _ (waiting_given_up n cause s.rows).kept);
   moves_off = λ n link s known at m. (refl, counted_moved n (target s.links) s.rows);
+  declares = λ may home alternative s up can m. (refl, counted_order (Cbd home (code_for home alternative)) (Waiting alternative) s m);
+  releases = λ code s known m. (refl, counted_kept _ _ (released_rows code (home_of code) s.rows).kept);
 }
 
 abbrev pub is_offer : Event → Bool
@@ -87,7 +103,7 @@ is_offer _ = false
 
 step_counted : (s : State) (event : Event) → is_offer event ≡ false → CountedFrom s (step s event).state
 step_counted s event other = step_walks s CountedFrom (CountedFrom s) event (record {
-  small = small _;
+  small = small _ _;
   unmoved = λ m. (refl, counted_self s.rows);
   rests = λ t u p q m. let x = p m in let y = q (rw x.0 m) in (y.0 ∙ x.0, counted_then s.rows t.rows u.rows x.1 y.1);
   offers = λ body e none. absurd (let no : true ≡ false = sym (ap is_offer e) ∙ other in cc);
@@ -139,6 +155,20 @@ module _ (s : State) (event : Event) where
   give_none n link Down = (refl, refl)
   give_none n link Settled = (refl, refl)
 
+  back_none : (n : ℕ) → AcceptsNone event (comes_back n s).answer
+  back_none n = go (some_declare n 0 (link_count s) s) refl
+    where
+      go : (b : Bool) → some_declare n 0 (link_count s) s ≡ b → AcceptsNone event (comes_back n s).answer
+      go true e = rw e (refl, refl)
+      go false e = rw e (refl, refl)
+
+  timeout_none : (n : ℕ) → AcceptsNone event (runs_out n s).answer
+  timeout_none n = go (some_in_use (code_for n 0) 16 s) refl
+    where
+      go : (b : Bool) → some_in_use (code_for n 0) 16 s ≡ b → AcceptsNone event (runs_out n s).answer
+      go true e = rw e (refl, refl)
+      go false e = rw e (refl, refl)
+
 pub accepts_none : (s : State) (event : Event) → is_offer event ≡ false → AcceptsNone event (step s event).answer
 unfolding step
 accepts_none s (Offer body) e = absurd cc
@@ -149,6 +179,8 @@ accepts_none s (Heard n unit) e = service_none s (Heard n unit) n (heard unit n 
 accepts_none s (UpEvent n) e = known_none s (UpEvent n) n (λ link. rises n s link.phase) (λ link. rise_none s (UpEvent n) n link.phase)
 accepts_none s (DownEvent n) e = service_none s (DownEvent n) n (falls false n s) (λ link. (refl, refl))
 accepts_none s (DownBlind n) e = service_none s (DownBlind n) n (falls true n s) (λ link. (refl, refl))
+accepts_none s (Restore n) e = service_none s (Restore n) n (λ link. comes_back n s) (λ link. back_none s (Restore n) n)
+accepts_none s (BackTimeout n) e = known_none s (BackTimeout n) n (λ link. runs_out n s) (λ link. timeout_none s (BackTimeout n) n)
 accepts_none s (NoAnswer n) e = known_none s (NoAnswer n) n (λ link. gives_up n s link link.phase) (λ link. give_none s (NoAnswer n) n link link.phase)
 
 -- AN OFFER.
@@ -193,18 +225,12 @@ step_gains s (UpEvent n) m = other_gains s (UpEvent n) refl m
 step_gains s (DownEvent n) m = other_gains s (DownEvent n) refl m
 step_gains s (DownBlind n) m = other_gains s (DownBlind n) refl m
 step_gains s (NoAnswer n) m = other_gains s (NoAnswer n) refl m
+step_gains s (Restore n) m = other_gains s (Restore n) refl m
+step_gains s (BackTimeout n) m = other_gains s (BackTimeout n) refl m
 
 -- WHAT USERS ASK acknowledges nothing.
 abbrev AcknowledgesNone : State → State → Type 0
 AcknowledgesNone s t = (counts_of t.rows).acked ≡ (counts_of s.rows).acked
-
-fate_open : (p : Place) (s : State) → was_acked (fate_at p s) ≡ false
-fate_open (On link) s = go (is_up link s)
-  where
-    go : (b : Bool) → was_acked (if b then Waiting link else Held link) ≡ false
-    go true = refl
-    go false = refl
-fate_open Nowhere s = refl
 
 pub offer_acknowledges_none : (s : State) (body : List ℕ) → (counts_of (step s (Offer body)).state.rows).acked ≡ (counts_of s.rows).acked
 unfolding step

@@ -1,3 +1,4 @@
+pub mod Backs
 pub mod Controlling
 pub mod Counting
 pub mod Events
@@ -13,14 +14,18 @@ pub mod Lookups
 pub mod Moving
 pub mod Order
 pub mod Places
+pub mod Plain
 pub mod Ranging
 pub mod Settling
+pub mod SoundBack
 pub mod SoundLink
 pub mod SoundMoves
 pub mod SoundNew
 pub mod Soundness
+pub mod Standing
 pub mod Stating
 pub mod Staying
 pub mod Stepping
+pub mod Straight
 pub mod Targets
 pub mod Walk

@@ -9,8 +9,8 @@ use Rattle.set_model.proofs.Walk.{KeptBy, step_walks}
 abbrev pub SameCount : State → State → Type 0
 SameCount s t = length t.links ≡ length s.links
 
-small : (Known : ℕ → Type 0) → KeptBy Known SameCount
-small Known = record {
+small : (Known : ℕ → Type 0) (May : Type 0) → KeptBy Known May SameCount
+small Known May = record {
   same = λ s. refl;
   after = λ a b c p q. q ∙ p;
   delivers = λ body s. refl;
@@ -20,11 +20,13 @@ small Known = record {
   gives_up_sent = λ cause n link s known at. refl;
   gives_up_waiting = λ cause n link s known at. refl;
   moves_off = λ n link s known at. length-set s.links n _;
+  declares = λ may home alternative s up can. refl;
+  releases = λ code s known. refl;
 }
 
 pub link_count_stays : (s : State) (event : Event) → length (step s event).state.links ≡ length s.links
 link_count_stays s event = step_walks s SameCount (SameCount s) event (record {
-  small = small _;
+  small = small _ _;
   unmoved = refl;
   rests = λ t u p q. q ∙ p;
   offers = λ body e none. refl;

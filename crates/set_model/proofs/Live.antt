@@ -1,12 +1,12 @@
 -- THE STREAMS' MESSAGES: they stay in the order of their numbers, and together.
-use Rattle.std.proofs.Common.{refl, arith, ◌≡◌, ◌∙◌, ap, sym, subst, ◌<◌, ℕ, suc, Bool, true, false, not, ◌&&◌, ◌==◌, List, [], ◌∷◌, ◌++◌, length, map, slice_get, Some, cond}
+use Rattle.std.proofs.Common.{refl, arith, ◌≡◌, ◌∙◌, ap, sym, subst, ◌<◌, ℕ, suc, Bool, true, false, not, ◌&&◌, ◌||◌, ◌==◌, List, [], ◌∷◌, ◌++◌, length, map, slice_get, Some, cond}
 use Rattle.std.specs.Prelude.{filter}
 use Rattle.std.proofs.lemmas.List.{append-nil, map-append}
 use Rattle.std.proofs.lemmas.List.Elements.{filter-append}
 use Rattle.set_events.specs.declared.answer.Fate.{Fate}
-use Rattle.set_events.specs.declared.answer.Fate.TheVariants.{Waiting, Unacked, Acked, Held, Parked, Discarded}
+use Rattle.set_events.specs.declared.answer.Fate.TheVariants.{Waiting, Unacked, Acked, Held, Parked, Back, Discarded}
 use Rattle.set_route.specs.declared.place.Place.{Place}
-use Rattle.set_route.specs.declared.place.Place.TheVariants.{On, Nowhere}
+use Rattle.set_route.specs.declared.place.Place.TheVariants.{On, Changing, Nowhere}
 use Rattle.set_model.specs.Rows.{Row, standing, is_waiting, is_users, stream_of, numbers, turned, changed, moved, all_with, appended, with_fate, fated, IsNumbered}
 use Rattle.set_model.specs.Sound.{is_unfinished, stands_at, is_live, live, is_astray, astray, AreAbove, IsAscending, IsSoundStream}
 use Rattle.set_model.proofs.Filters.{filter_within}
@@ -118,11 +118,13 @@ waits_unfinished n _ e = absurd cc
 
 same_stand : (place : Place) (n : ℕ) (f : Fate) → is_waiting n f ≡ true → stands_at place (Unacked n) ≡ stands_at place f
 same_stand (On l) n (Waiting m) e = let same : m ≡ n = grind arith in ap (λ (k : ℕ). k == l) (sym same)
+same_stand (Changing to code via) n (Waiting m) e = let same : m ≡ n = grind arith in ap (λ (k : ℕ). (k == via) || false) (sym same)
 same_stand Nowhere n (Waiting m) e = refl
 same_stand place n (Unacked m) e = absurd cc
 same_stand place n (Acked m) e = absurd cc
 same_stand place n (Held m) e = absurd cc
 same_stand place n Parked e = absurd cc
+same_stand place n (Back c) e = absurd cc
 same_stand place n (Discarded cause) e = absurd cc
 
 module _ (stream : ℕ) (place : Place) (n : ℕ) where
@@ -159,7 +161,7 @@ module _ (stream : ℕ) (place : Place) (n : ℕ) where
       same_stream stream place place used rows (turned (is_waiting n) (Unacked n) 1 rows) s.numbers_same (s.away t.together) t
 
 -- A NEW MESSAGE has a number above all others.
-ascends_end : (k : ℕ) (ns : List ℕ) → ((i m : ℕ) → slice_get ns i ≡ Some m → m < k) → IsAscending ns → IsAscending (ns ++ k ∷ [])
+pub ascends_end : (k : ℕ) (ns : List ℕ) → ((i m : ℕ) → slice_get ns i ≡ Some m → m < k) → IsAscending ns → IsAscending (ns ++ k ∷ [])
 ascends_end k [] below a = (tt, tt)
 ascends_end k (n ∷ ns) below a = (above_end ns a.0, ascends_end k ns (λ i m e. below (suc i) m e) a.1)
   where

@@ -1,5 +1,5 @@
 -- Rows that leave their places and stand at the end, each with its fate.
-use Rattle.std.proofs.Common.{refl, arith, ◌≡◌, ◌∙◌, ap, sym, [], length, ℕ, Bool, true, false, not, nat_lt, ◌==◌, List, ◌++◌, map, cond}
+use Rattle.std.proofs.Common.{refl, arith, ◌≡◌, ◌∙◌, ap, sym, [], ◌∷◌, length, ℕ, Bool, true, false, not, nat_lt, ◌==◌, List, ◌++◌, map, cond}
 use Rattle.std.specs.Prelude.{filter}
 use Rattle.std.proofs.lemmas.Bool.{not_from_true, not_from_false}
 use Rattle.std.proofs.lemmas.List.{append-nil, length-append, length-map}
@@ -63,3 +63,30 @@ module _ (test other : Fate → Bool) (fate : Row → Fate) (rows : List Row) wh
       parts
       ∙ ap (λ (ys : List Row). ys ++ standing other (map (fated fate) (standing test rows))) (others_stay w)
       ∙ ap (λ (ys : List Row). standing other rows ++ ys) (fated_all other fate h (standing test rows))
+
+  -- a place where some of them come, behind those that stand there
+  pub moved_more : ((f : Fate) → test f ≡ true → other f ≡ false) → standing other (moved test fate rows) ≡ standing other rows ++ standing other (map (fated fate) (standing test rows))
+  moved_more w = parts ∙ ap (λ (ys : List Row). ys ++ standing other (map (fated fate) (standing test rows))) (others_stay w)
+
+  -- a place from which they go, where none of them comes
+  pub moved_off : standing other (map (fated fate) (standing test rows)) ≡ [] → standing other (moved test fate rows) ≡ standing (λ f. not (test f)) (standing other rows)
+  moved_off e =
+      parts
+      ∙ ap (λ (ys : List Row). standing other (standing (λ f. not (test f)) rows) ++ ys) e
+      ∙ append-nil (standing other (standing (λ f. not (test f)) rows))
+      ∙ filter_comm (λ (row : Row). other row.fate) (λ (row : Row). not (test row.fate)) rows
+
+-- where no row moves
+none_move : (test : Fate → Bool) (xs : List Row) → standing test xs ≡ [] → standing (λ f. not (test f)) xs ≡ xs
+none_move test [] e = refl
+none_move test (x ∷ xs) e = go (test x.fate) refl (none_move test xs)
+  where
+    go : (b : Bool) → test x.fate ≡ b → (standing test xs ≡ [] → standing (λ f. not (test f)) xs ≡ xs) → standing (λ f. not (test f)) (x ∷ xs) ≡ x ∷ xs
+    go true h later = let no : x ∷ standing test xs ≡ [] = rw h at e in absurd cc
+    go false h later = rw h (ap (λ (ys : List Row). x ∷ ys) (later (rw h at e)))
+
+pub moved_nothing : (test : Fate → Bool) (fate : Row → Fate) (rows : List Row) → standing test rows ≡ [] → moved test fate rows ≡ rows
+moved_nothing test fate rows e =
+    ap (λ (ys : List Row). standing (λ f. not (test f)) rows ++ map (fated fate) ys) e
+    ∙ append-nil (standing (λ f. not (test f)) rows)
+    ∙ none_move test rows e

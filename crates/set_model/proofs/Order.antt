@@ -3,7 +3,7 @@ use Rattle.std.proofs.Common.{refl, ◌≡◌, ◌∙◌, ap, sym, [], ◌∷◌
 use Rattle.std.specs.Prelude.{filter}
 use Rattle.std.proofs.lemmas.List.Elements.{filter-append}
 use Rattle.set_events.specs.declared.answer.Fate.{Fate}
-use Rattle.set_events.specs.declared.answer.Fate.TheVariants.{Waiting, Unacked, Acked, Held, Parked, Discarded}
+use Rattle.set_events.specs.declared.answer.Fate.TheVariants.{Waiting, Unacked, Acked, Held, Parked, Back, Discarded}
 use Rattle.set_model.specs.Rows.{Row, standing, is_waiting, is_unacked, is_held, is_on, unack, wait, held, on, turned, moved, appended, with_fate, fated, IsInOrder, IsHeldLast}
 use Rattle.set_model.proofs.Filters.{filter_comm, fated_none}
 use Rattle.set_model.proofs.InPlace.{turned_nothing}
@@ -87,6 +87,7 @@ on_step l (Held m) x all u w h a b p = go (m == l) refl
     go false e = rw e p
 on_step l (Acked m) x all u w h a b p = p
 on_step l Parked x all u w h a b p = p
+on_step l (Back c) x all u w h a b p = p
 on_step l (Discarded cause) x all u w h a b p = p
 
 pub on_in_order : (l : ℕ) (rows : List Row) → IsInOrder l rows → IsHeldLast l rows → on l rows ≡ unack l rows ++ wait l rows ++ held l rows

@@ -2,8 +2,8 @@
 use Rattle.std.proofs.Common.{refl, ◌≡◌, ◌≢◌, ◌∙◌, sym, ℕ, Bool, true, false, ◌==◌}
 use Rattle.std.proofs.lemmas.Bool.{eq-eqb, ne_eqb, eqb-true, eqb-false}
 use Rattle.set_events.specs.declared.answer.Fate.{Fate}
-use Rattle.set_events.specs.declared.answer.Fate.TheVariants.{Waiting, Unacked, Acked, Held, Parked}
-use Rattle.set_model.specs.Rows.{is_waiting, is_unacked, is_held, is_on, is_parked, was_acked}
+use Rattle.set_events.specs.declared.answer.Fate.TheVariants.{Waiting, Unacked, Acked, Held, Parked, Back}
+use Rattle.set_model.specs.Rows.{is_waiting, is_unacked, is_held, is_on, is_parked, is_back, is_back_to, stands_back, was_acked}
 
 pub false_true : {P : Type 0} (b : Bool) → b ≡ false → b ≡ true → P
 false_true b f t = let no : true ≡ false = sym t ∙ f in absurd cc
@@ -91,3 +91,33 @@ not_on_unacked l _ e = refl
 pub not_on_held : (l : ℕ) (f : Fate) → is_on l f ≡ false → is_held l f ≡ false
 not_on_held l (Held m) e = e
 not_on_held l _ e = refl
+
+-- What stands back is on no link, nor parked.
+pub back_not_on : (l : ℕ) (f : Fate) → stands_back f ≡ true → is_on l f ≡ false
+back_not_on l (Back c) e = refl
+back_not_on l _ e = absurd cc
+
+pub back_not_parked : (f : Fate) → stands_back f ≡ true → is_parked f ≡ false
+back_not_parked (Back c) e = refl
+back_not_parked _ e = absurd cc
+
+pub back_not_acked : (f : Fate) → stands_back f ≡ true → was_acked f ≡ false
+back_not_acked (Back c) e = refl
+back_not_acked _ e = absurd cc
+
+pub on_not_back : (l : ℕ) (f : Fate) → is_on l f ≡ true → stands_back f ≡ false
+on_not_back l (Back c) e = absurd cc
+on_not_back l _ e = refl
+
+pub parked_not_back : (f : Fate) → is_parked f ≡ true → stands_back f ≡ false
+parked_not_back Parked e = refl
+parked_not_back _ e = absurd cc
+
+-- by a code, or by the home of one
+pub code_back : (c : ℕ) (f : Fate) → is_back c f ≡ true → stands_back f ≡ true
+code_back c (Back d) e = refl
+code_back c _ e = absurd cc
+
+pub home_back : (n : ℕ) (f : Fate) → is_back_to n f ≡ true → stands_back f ≡ true
+home_back n (Back d) e = refl
+home_back n _ e = absurd cc

@@ -12,13 +12,13 @@ use Rattle.set_events.specs.declared.answer.Fate.{Fate}
 use Rattle.set_events.specs.declared.answer.Fate.TheVariants.{Waiting, Unacked, Acked, Discarded}
 use Rattle.set_events.specs.declared.event.Event.{Event}
 use Rattle.set_route.specs.declared.place.Place.{Place}
-use Rattle.set_route.specs.declared.place.Place.TheVariants.{On, Nowhere}
-use Rattle.set_route.specs.Routing.{place_of}
-use Rattle.set_model.specs.Rows.{Row, standing, unack, is_unacked, is_waiting, is_parked, is_on, turned, fated, moved, all_with, appended, octets_in, stream_of}
-use Rattle.set_model.specs.State.{LinkState, State, target, is_up, window_of}
+use Rattle.set_route.specs.declared.place.Place.TheVariants.{On, Changing, Nowhere}
+use Rattle.set_route.specs.Routing.{place_of, home_of}
+use Rattle.set_model.specs.Rows.{Row, standing, unack, is_unacked, is_waiting, is_parked, is_on, is_back, is_back_to, turned, fated, moved, all_with, appended, octets_in, stream_of}
+use Rattle.set_model.specs.State.{LinkState, State, target, is_up, fate_at, window_of}
 use Rattle.set_model.specs.Control.{Control, Basic, Cyclic, Choice, again, first, fill, choice_of, is_processed, acked_by, part_of}
-use Rattle.set_model.specs.Changeover.{fate_on, left_link, settled_link, acknowledged as acknowledged_link}
-use Rattle.set_model.specs.Step.{rows_sent, one_if, is_msu, fate_at, risen_link, step}
+use Rattle.set_model.specs.Changeover.{fate_on, left_link, out_of_service, turned_back, settled_link, acknowledged as acknowledged_link}
+use Rattle.set_model.specs.Step.{rows_sent, one_if, is_msu, risen_link, step}
 use Rattle.set_model.specs.Sound.{AreFewOn, AreFew}
 use Rattle.set_model.proofs.Events.{appended_out}
 use Rattle.set_model.proofs.Filters.{filter_comm, fewer_filter, fated_none}
@@ -42,14 +42,17 @@ few_turned test other fate (suc n) (x ∷ rows) = go (test x.fate) (other x.fate
     go false false c h k o p q = rw (h, k) (omega (arith, q))
 
 -- a move makes no unacknowledged ones
-few_moved : (test : Fate → Bool) (to : Fate) (m : ℕ) (rows : List Row) → is_unacked m to ≡ false → length (unack m (moved test (all_with to) rows)) ≤ length (unack m rows)
-few_moved test to m rows none =
-    let e = filter-append (λ (row : Row). is_unacked m row.fate) (standing (λ f. not (test f)) rows) (map (fated (all_with to)) (standing test rows))
-    ∙ ap (λ (xs : List Row). unack m (standing (λ f. not (test f)) rows) ++ xs) (fated_none (is_unacked m) (all_with to) (λ row. none) (standing test rows))
+few_moved_by : (test : Fate → Bool) (fate : Row → Fate) (m : ℕ) (rows : List Row) → ((row : Row) → is_unacked m (fate row) ≡ false) → length (unack m (moved test fate rows)) ≤ length (unack m rows)
+few_moved_by test fate m rows none =
+    let e = filter-append (λ (row : Row). is_unacked m row.fate) (standing (λ f. not (test f)) rows) (map (fated fate) (standing test rows))
+    ∙ ap (λ (xs : List Row). unack m (standing (λ f. not (test f)) rows) ++ xs) (fated_none (is_unacked m) fate none (standing test rows))
     ∙ append-nil (unack m (standing (λ f. not (test f)) rows))
     ∙ filter_comm (λ (row : Row). is_unacked m row.fate) (λ (row : Row). not (test row.fate)) rows in
     let few = fewer_filter (λ (row : Row). not (test row.fate)) (unack m rows) in
     rw e few
+
+few_moved : (test : Fate → Bool) (to : Fate) (m : ℕ) (rows : List Row) → is_unacked m to ≡ false → length (unack m (moved test (all_with to) rows)) ≤ length (unack m rows)
+few_moved test to m rows none = few_moved_by test (all_with to) m rows (λ row. none)
 
 pub not_sent : (m : ℕ) (to : Option ℕ) → is_unacked m (fate_on to) ≡ false
 not_sent m None = refl
@@ -96,13 +99,30 @@ few_rows k s rows fewer few m link there = let f = few m link there in let sent 
 same_appended : (m : ℕ) (rows : List Row) (body : List ℕ) (fate : Fate) → is_unacked m fate ≡ false → length (unack m (appended rows body fate)) ≤ length (unack m rows)
 same_appended m rows body fate none = let same = ap length (appended_out rows body fate (is_unacked m) none) in omega (arith, same)
 
-small : (Known : ℕ → Type 0) → KeptBy Known (λ s t. (k : ℕ) → AreFew k s → AreFew k t)
-small Known = record {
+pub offered_out : (m : ℕ) (place : Place) (s : State) → is_unacked m (fate_at place s) ≡ false
+offered_out m Nowhere s = refl
+offered_out m (Changing to code via) s = refl
+offered_out m (On l) s = go (is_up l s) refl
+  where
+    go : (b : Bool) → is_up l s ≡ b → is_unacked m (fate_at (On l) s) ≡ false
+    go true e = rw e refl
+    go false e = rw e refl
+
+few_back : (n m : ℕ) (s : State) → length (unack m (turned_back n s).rows) ≤ length (unack m s.rows)
+few_back n m s = few_moved_by (is_back_to n) (λ row. fate_at (place_of (stream_of row.body) s.routing) s) m s.rows (λ row. offered_out m (place_of (stream_of row.body) s.routing) s)
+
+small : (Known : ℕ → Type 0) (May : Type 0) → KeptBy Known May (λ s t. (k : ℕ) → AreFew k s → AreFew k t)
+small Known May = record {
   same = λ s k few. few;
   after = λ a b c p q k few. q k (p k few);
   delivers = λ body s k few. few;
   queues = λ order s k few. few_rows k s _ (λ m. same_appended m s.rows (text order s.settings.sio s.settings.dpc s.settings.opc) (fate_on (target s.links)) (not_sent m (target s.links))) few;
-  leaves = λ blind n link s known at k few. let f = few n link at.there in few_set k n (left_link blind link) s s.rows (record { sent = f.sent; accepted = f.accepted }) (λ m. omega arith) few;
+  leaves = λ blind n link s known at k few.
+      let f = few n link at.there in
+      let sent = f.sent in
+      let mid = out_of_service blind n link s in
+      let less = few_back n n mid in
+      few_set k n (left_link blind link) s (turned_back n mid).rows (record { sent = omega (arith, sent, less); accepted = f.accepted }) (λ m. few_back n m mid) few;
   acknowledges = λ count n link s known at fits k few.
       let f = few n link at.there in
       let sent = f.sent in
@@ -111,20 +131,14 @@ small Known = record {
       few_set k n (acknowledged_link count link) s (turned (is_unacked n) (Acked n) count s.rows) (record { sent = omega (arith, sent, left, gone, fits); accepted = f.accepted }) (λ m. fewer_turned (is_unacked n) (is_unacked m) (Acked n) refl count s.rows) few;
   gives_up_sent = λ cause n link s known at k few. few_rows k s _ (λ m. fewer_changed (is_unacked n) (is_unacked m) (Discarded cause) refl s.rows) few;
   gives_up_waiting = λ cause n link s known at k few. few_rows k s _ (λ m. fewer_changed (is_waiting n) (is_unacked m) (Discarded cause) refl s.rows) few;
+  declares = λ may home alternative s up can k few. few_rows k s _ (λ m. same_appended m s.rows _ (Waiting alternative) refl) few;
+  releases = λ code s known k few. few_rows k s _ (λ m. few_moved (is_back code) (Waiting (home_of code)) m s.rows refl) few;
   moves_off = λ n link s known at k few.
       let f = few n link at.there in
       let sent = f.sent in
       let less = few_moved (is_on n) (fate_on (target s.links)) n s.rows (not_sent n (target s.links)) in
       few_set k n (settled_link link) s (moved (is_on n) (all_with (fate_on (target s.links))) s.rows) (record { sent = omega (arith, sent, less); accepted = f.accepted }) (λ m. few_moved (is_on n) (fate_on (target s.links)) m s.rows (not_sent m (target s.links))) few;
 }
-
-offered_out : (m : ℕ) (place : Place) (s : State) → is_unacked m (fate_at place s) ≡ false
-offered_out m Nowhere s = refl
-offered_out m (On l) s = go (is_up l s) refl
-  where
-    go : (b : Bool) → is_up l s ≡ b → is_unacked m (fate_at (On l) s) ≡ false
-    go true e = rw e refl
-    go false e = rw e refl
 
 one_low : (b : Bool) → one_if b ≤ 1
 one_low true = omega arith
@@ -148,7 +162,7 @@ few_more k n link s rows one more few m other there = go (at_set s.links n m lin
 
 pub step_few : (s : State) (event : Event) (k : ℕ) → AreFew k s → AreFew (k + 1) (step s event).state
 step_few s event k few = step_walks s (λ t u. (j : ℕ) → AreFew j t → AreFew j u) (AreFew (k + 1)) event (record {
-  small = small _;
+  small = small _ _;
   unmoved = wider k s few;
   rests = λ t u p q. q (k + 1) p;
   offers = λ body e none. few_rows (k + 1) s _ (λ m. same_appended m s.rows body _ (offered_out m (place_of (stream_of body) s.routing) s)) (wider k s few);

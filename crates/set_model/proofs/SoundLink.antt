@@ -11,21 +11,22 @@ use Rattle.set_events.specs.declared.answer.Fate.{Fate}
 use Rattle.set_events.specs.declared.answer.Fate.TheVariants.{Unacked, Acked, Discarded}
 use Rattle.set_events.specs.declared.config.Method.{Method}
 use Rattle.set_route.specs.declared.place.Place.{Place}
-use Rattle.set_route.specs.declared.place.Place.TheVariants.{On, Nowhere}
-use Rattle.set_route.specs.Routing.{place_of, has_messages}
+use Rattle.set_route.specs.declared.place.Place.TheVariants.{On, Changing, Nowhere}
+use Rattle.set_route.specs.Routing.{home_of}
 use Rattle.set_model.specs.declared.phase.Phase.{Phase}
 use Rattle.set_model.specs.declared.phase.Phase.TheVariants.{Up, Down, Settled}
-use Rattle.set_model.specs.Rows.{Row, is_waiting, is_unacked, unack, wait, held, parked, numbers, octets_in, turned, changed, with_fate, AreFit, IsNumbered, IsInOrder, IsHeldLast}
+use Rattle.set_model.specs.Rows.{Row, is_waiting, is_unacked, is_on, unack, wait, held, back, parked, numbers, octets_in, turned, changed, with_fate, stands_back, AreFit, IsNumbered, IsInOrder, IsHeldLast}
 use Rattle.set_model.specs.Control.{Choice, again, first, fill, choice_of, control_after, part_of, control_heard, acked_by}
-use Rattle.set_model.specs.State.{LinkState, State, has_phase_up, has_phase_settled, window_of}
-use Rattle.set_model.specs.Changeover.{left_by, left_link, acknowledged_by, acknowledged as acknowledged_link}
+use Rattle.set_model.specs.State.{LinkState, State, link_is_up, has_phase_up, has_phase_settled, window_of}
+use Rattle.set_model.specs.Changeover.{acknowledged_by, acknowledged as acknowledged_link}
 use Rattle.set_model.specs.Step.{sends, one_if, is_msu, next, after_control}
-use Rattle.set_model.specs.Sound.{IsInRange, IsSoundLink, IsPlaced, IsSoundStream, IsSound}
+use Rattle.set_model.specs.Sound.{IsInRange, IsSoundLink, IsPlaced, IsAscending, IsBackOf, AreBack, IsSound}
 use Rattle.set_model.proofs.Controlling.{accepted_after, method_after, first_chosen, range_after, method_heard, part_acked, part_accept, accepted_heard, range_heard}
 use Rattle.set_model.proofs.Events.{Untouched, untouched_self, sent, acknowledged, GivenUp}
+use Rattle.set_model.proofs.InPlace.{turned_same, changed_same}
+use Rattle.set_model.proofs.Standing.{each_turned, each_changed}
 use Rattle.set_model.proofs.Lists.{at_set, get_set_same, get_set_other, set_same, within}
-use Rattle.set_model.proofs.Live.{stream_turned, stream_changed, stream_sent}
-use Rattle.set_model.proofs.Places.{false_true, itself, apart}
+use Rattle.set_model.proofs.Places.{false_true, itself, apart, waiting_on, unacked_on, on_not_back}
 use Rattle.set_model.proofs.Walk.{IsAt}
 
 -- PHASES.
@@ -57,13 +58,17 @@ links_set m links n link rows new one others all k other there = go (at_set link
     go (inr p) = link_untouched m k other rows new (others k (apart n k (λ e. p.0 (sym e)))) (all k other p.1)
 
 -- a place stays one, where the link that changes isn't settled
-pub placed_set : (links : List LinkState) (n : ℕ) (link link' : LinkState) (place : Place) → slice_get links n ≡ Some link → has_phase_settled link'.phase ≡ false → IsPlaced links place → IsPlaced (slice_set links n link') place
-placed_set links n link link' Nowhere there unsettled p = tt
-placed_set links n link link' (On l) there unsettled p = go (n == l) refl
+placed_on : (links : List LinkState) (n : ℕ) (link link' : LinkState) (l : ℕ) → slice_get links n ≡ Some link → has_phase_settled link'.phase ≡ false → IsPlaced links (On l) → IsPlaced (slice_set links n link') (On l)
+placed_on links n link link' l there unsettled p = go (n == l) refl
   where
     go : (b : Bool) → (n == l) ≡ b → IsPlaced (slice_set links n link') (On l)
     go true e = let same : l ≡ n = grind arith in rw same (link', get_set_same links n link' (within links n link there), unsettled)
     go false e = (p.0, get_set_other links n l link' (λ s. false_true (n == l) e (rw s (itself l))) ∙ p.1, p.2)
+
+pub placed_set : (links : List LinkState) (n : ℕ) (link link' : LinkState) (place : Place) → slice_get links n ≡ Some link → has_phase_settled link'.phase ≡ false → IsPlaced links place → IsPlaced (slice_set links n link') place
+placed_set links n link link' Nowhere there unsettled p = tt
+placed_set links n link link' (On l) there unsettled p = placed_on links n link link' l there unsettled p
+placed_set links n link link' (Changing to code l) there unsettled p = placed_on links n link link' l there unsettled p
 
 -- a link that is up was there before, where the one that changes isn't up anew
 pub up_before : (links : List LinkState) (n : ℕ) (link link' : LinkState) → slice_get links n ≡ Some link → (has_phase_up link'.phase ≡ true → has_phase_up link.phase ≡ true) → (k : ℕ) (other : LinkState) → slice_get (slice_set links n link') k ≡ Some other → has_phase_up other.phase ≡ true → (old : LinkState) × (slice_get links k ≡ Some old) × (has_phase_up old.phase ≡ true)
@@ -73,6 +78,16 @@ up_before links n link link' there same k other at up = go (at_set links n k lin
     go (inl p) = (link, ap (slice_get links) p.0 ∙ there, same (ap (λ (l : LinkState). has_phase_up l.phase) (sym p.1) ∙ up))
     go (inr p) = (other, p.1, up)
 
+-- and one that was up is, where the one that changes stays so
+pub up_after : (links : List LinkState) (n : ℕ) (link link' : LinkState) → slice_get links n ≡ Some link → (has_phase_up link.phase ≡ true → has_phase_up link'.phase ≡ true) → (k : ℕ) → link_is_up (slice_get links k) ≡ true → link_is_up (slice_get (slice_set links n link') k) ≡ true
+up_after links n link link' there stays k up = go (n == k) refl
+  where
+    go : (b : Bool) → (n == k) ≡ b → link_is_up (slice_get (slice_set links n link') k) ≡ true
+    go true e =
+        let same : k ≡ n = grind arith in
+        rw same (ap link_is_up (get_set_same links n link' (within links n link there)) ∙ stays (ap link_is_up (sym there) ∙ ap (λ (j : ℕ). link_is_up (slice_get links j)) (sym same) ∙ up))
+    go false e = ap link_is_up (get_set_other links n k link' (λ s. false_true (n == k) e (rw s (itself k)))) ∙ up
+
 -- A CHANGE OF ONE LINK, with rows that change in their places, none of them parked.
 pub record Changes (n : ℕ) (link link' : LinkState) (s : State) (new : List Row) : Type 0 where
   pub there : slice_get s.links n ≡ Some link
@@ -80,8 +95,10 @@ pub record Changes (n : ℕ) (link link' : LinkState) (s : State) (new : List Ro
   pub others : (k : ℕ) → (n == k) ≡ false → Untouched k s.rows new
   pub numbered : IsNumbered new
   pub fit : AreFit new
-  pub streams : (stream : ℕ) → stream < 16 → IsSoundStream stream (place_of stream s.routing) (has_messages stream s.routing) new
   pub parked_same : parked new ≡ parked s.rows
+  pub backs : AreBack s.routing new
+  pub back_same : back new ≡ back s.rows
+  pub stays_up : has_phase_up link.phase ≡ true → has_phase_up link'.phase ≡ true
   pub no_rise : has_phase_up link'.phase ≡ true → has_phase_up link.phase ≡ true
   pub unsettled : has_phase_settled link'.phase ≡ false
 
@@ -94,10 +111,12 @@ changes n link link' s new t c = record {
   numbered = c.numbered;
   fit = c.fit;
   links = links_set s.settings.method s.links n link' s.rows new c.one c.others t.links;
-  streams = c.streams;
-  placed = λ stream few. placed_set s.links n link link' (place_of stream s.routing) c.there c.unsettled (t.placed stream few);
+  placed = λ stream few. placed_set s.links n link link' _ c.there c.unsettled (t.placed stream few);
   none_aside = λ k other at up. let old = up_before s.links n link link' c.there c.no_rise k other at up in c.parked_same ∙ t.none_aside k old.0 old.1 old.2;
   all_run = λ k other at up. let old = up_before s.links n link link' c.there c.no_rise k other at up in t.all_run k old.0 old.1 old.2;
+  homes_up = λ code e. up_after s.links n link link' c.there c.stays_up (home_of code) (t.homes_up code e);
+  backs = c.backs;
+  back_order = subst (λ (rows : List Row). IsAscending (numbers rows)) (sym c.back_same) t.back_order;
 }
 
 -- the same, where the link stays
@@ -114,10 +133,12 @@ with_inbox s inbox t = record {
   numbered = t.numbered;
   fit = t.fit;
   links = t.links;
-  streams = t.streams;
   placed = t.placed;
   none_aside = t.none_aside;
   all_run = t.all_run;
+  homes_up = t.homes_up;
+  backs = t.backs;
+  back_order = t.back_order;
 }
 
 down_not_up : (phase : Phase) → phase ≡ Down → has_phase_up phase ≡ false
@@ -126,21 +147,18 @@ down_not_up phase e = ap has_phase_up e
 down_unsettled : (phase : Phase) → phase ≡ Down → has_phase_settled phase ≡ false
 down_unsettled phase e = ap has_phase_settled e
 
--- LEAVING.
-pub leaves : (blind : Bool) (n : ℕ) (link : LinkState) (s : State) → IsAt n link Up s → IsSound s → IsSound (left_by blind n link s)
-leaves blind n link s at t =
-    let l = t.links n link at.there in
-    changes n link (left_link blind link) s s.rows t (record {
-      there = at.there;
-      one = record { window = l.window; counted = l.counted; method = l.method; in_order = l.in_order; held_last = l.held_last; none_held = λ e. absurd cc; in_range = λ e. absurd cc; settled = λ e. absurd cc };
-      others = λ k d. untouched_self k s.rows;
-      numbered = t.numbered;
-      fit = t.fit;
-      streams = t.streams;
-      parked_same = refl;
-      no_rise = λ e. absurd cc;
-      unsettled = refl;
-    })
+-- WHAT STANDS BACK sees nothing of rows that change elsewhere.
+backs_turned : (s : State) (test : Fate → Bool) (fate : Fate) (n : ℕ) → ((x : Row) → IsBackOf s.routing x fate) → AreBack s.routing s.rows → AreBack s.routing (turned test fate n s.rows)
+backs_turned s test fate n holds b = each_turned test fate (λ row. IsBackOf s.routing row row.fate) (λ x e p. holds x) n s.rows b
+
+backs_changed : (s : State) (test : Fate → Bool) (fate : Fate) → ((x : Row) → IsBackOf s.routing x fate) → AreBack s.routing s.rows → AreBack s.routing (changed test fate s.rows)
+backs_changed s test fate holds b = each_changed test fate (λ row. IsBackOf s.routing row row.fate) (λ x e p. holds x) s.rows b
+
+unacked_not_back : (n : ℕ) (f : Fate) → is_unacked n f ≡ true → stands_back f ≡ false
+unacked_not_back n f e = on_not_back n f (unacked_on n f e)
+
+pub waiting_not_back : (n : ℕ) (f : Fate) → is_waiting n f ≡ true → stands_back f ≡ false
+waiting_not_back n f e = on_not_back n f (waiting_on n f e)
 
 -- WHAT IS ACKNOWLEDGED OR GIVEN UP on a link that was left.
 pub acknowledges : (count n : ℕ) (link : LinkState) (s : State) → IsAt n link Down s → IsSound s → IsSound (acknowledged_by count n link s)
@@ -167,14 +185,16 @@ acknowledges count n link s at t =
       others = a.others;
       numbered = a.kept.numbered t.numbered;
       fit = a.kept.fit t.fit;
-      streams = λ stream low. stream_turned stream (place_of stream s.routing) (is_unacked n) (Acked n) refl (has_messages stream s.routing) count s.rows (t.streams stream low);
       parked_same = a.parked_same;
+      backs = backs_turned s (is_unacked n) (Acked n) count (λ x. tt) t.backs;
+      back_same = turned_same (is_unacked n) stands_back (Acked n) refl (unacked_not_back n) count s.rows;
+      stays_up = λ e. e;
       no_rise = λ e. e;
       unsettled = not_settled;
     })
 
-pub gives_up : (test : Fate → Bool) (cause : DiscardCause) (n : ℕ) (link : LinkState) (s : State) → GivenUp n s.rows (changed test (Discarded cause) s.rows) → length (unack n (changed test (Discarded cause) s.rows)) ≤ length (unack n s.rows) → IsAt n link Down s → IsSound s → IsSound (record s { rows = changed test (Discarded cause) s.rows })
-gives_up test cause n link s g fewer at t =
+pub gives_up : (test : Fate → Bool) (cause : DiscardCause) (n : ℕ) (link : LinkState) (s : State) → ((f : Fate) → test f ≡ true → is_on n f ≡ true) → GivenUp n s.rows (changed test (Discarded cause) s.rows) → length (unack n (changed test (Discarded cause) s.rows)) ≤ length (unack n s.rows) → IsAt n link Down s → IsSound s → IsSound (record s { rows = changed test (Discarded cause) s.rows })
+gives_up test cause n link s on_link g fewer at t =
     let l = t.links n link at.there in
     let few = l.window in
     let not_up = down_not_up link.phase at.phase_is in
@@ -194,8 +214,10 @@ gives_up test cause n link s g fewer at t =
       others = g.others;
       numbered = g.kept.numbered t.numbered;
       fit = g.kept.fit t.fit;
-      streams = λ stream low. stream_changed stream (place_of stream s.routing) test (Discarded cause) refl (has_messages stream s.routing) s.rows (t.streams stream low);
       parked_same = g.parked_same;
+      backs = backs_changed s test (Discarded cause) (λ x. tt) t.backs;
+      back_same = changed_same test stands_back (Discarded cause) refl (λ f e. on_not_back n f (on_link f e)) s.rows;
+      stays_up = λ e. e;
       no_rise = λ e. e;
       unsettled = not_settled;
     })
@@ -254,8 +276,10 @@ module _ (n : ℕ) (link : LinkState) (s : State) (at : IsAt n link Up s) (t : I
     others = λ k d. untouched_self k s.rows;
     numbered = t.numbered;
     fit = t.fit;
-    streams = t.streams;
     parked_same = refl;
+    backs = t.backs;
+    back_same = refl;
+    stays_up = λ e. e;
     no_rise = λ e. up;
     unsettled = not_settled;
   })
@@ -276,8 +300,10 @@ module _ (n : ℕ) (link : LinkState) (s : State) (at : IsAt n link Up s) (t : I
         others = d.others;
         numbered = d.kept.numbered t.numbered;
         fit = d.kept.fit t.fit;
-        streams = λ stream low. stream_sent stream (place_of stream s.routing) n (has_messages stream s.routing) s.rows (t.streams stream low);
         parked_same = d.parked_same;
+        backs = backs_turned s (is_waiting n) (Unacked n) 1 (λ x. tt) t.backs;
+        back_same = turned_same (is_waiting n) stands_back (Unacked n) refl (waiting_not_back n) 1 s.rows;
+        stays_up = λ e. e;
         no_rise = λ e. up;
         unsettled = not_settled;
       })
@@ -328,8 +354,10 @@ module _ (n : ℕ) (link : LinkState) (s : State) (at : IsAt n link Up s) (t : I
           others = a.others;
           numbered = a.kept.numbered t.numbered;
           fit = a.kept.fit t.fit;
-          streams = λ stream low. stream_turned stream (place_of stream s.routing) (is_unacked n) (Acked n) refl (has_messages stream s.routing) part.acked s.rows (t.streams stream low);
           parked_same = a.parked_same;
+          backs = backs_turned s (is_unacked n) (Acked n) part.acked (λ x. tt) t.backs;
+          back_same = turned_same (is_unacked n) stands_back (Acked n) refl (unacked_not_back n) part.acked s.rows;
+          stays_up = λ e. e;
           no_rise = λ e. up;
           unsettled = not_settled;
         })

@@ -1,33 +1,33 @@
 -- WHAT HOLDS OF EVERY STATE is kept when a link comes up, and when it is left by its messages.
-use Rattle.std.proofs.Common.{refl, arith, ◌≡◌, ◌≢◌, ◌∙◌, ap, sym, ◌<◌, ℕ, ◌%◌, ◌==◌, Bool, true, false, not, ◌&&◌, List, [], length, slice_get, slice_set, Option, None, Some, ◌⊎◌, inl, inr, IfSome}
+use Rattle.std.proofs.Common.{refl, arith, ◌≡◌, ◌≢◌, ◌∙◌, ap, sym, subst, ◌<◌, ℕ, ◌%◌, ◌==◌, Bool, true, false, not, ◌&&◌, List, [], length, slice_get, slice_set, Option, None, Some, ◌⊎◌, inl, inr, IfSome}
 use Rattle.std.proofs.lemmas.Bool.{eqb-true}
 use Rattle.std.proofs.lemmas.List.{length-set}
-use Rattle.set_events.specs.declared.answer.Fate.{Fate}
-use Rattle.set_events.specs.declared.answer.Fate.TheVariants.{Waiting, Unacked, Held, Parked}
+use Rattle.set_events.specs.declared.answer.Fate.TheVariants.{Waiting}
 use Rattle.set_events.specs.declared.config.Method.{Method}
 use Rattle.set_events.specs.declared.config.Method.TheVariants.{Basic as BasicMethod, Cyclic as CyclicMethod}
 use Rattle.set_route.specs.declared.place.Place.{Place}
-use Rattle.set_route.specs.declared.place.Place.TheVariants.{On, Nowhere}
-use Rattle.set_route.specs.Routing.{place_of, has_messages, place_raised, place_settled, place_on}
+use Rattle.set_route.specs.declared.place.Place.TheVariants.{On, Changing, Nowhere}
+use Rattle.set_route.specs.Routing.{place_of, has_messages, home_of, raised, settled, place_raised, place_settled, place_on, via_settled}
 use Rattle.set_route.proofs.Alone.{alone}
 use Rattle.set_route.proofs.Places.{raised_sound, settled_sound}
 use Rattle.set_model.specs.declared.phase.Phase.TheVariants.{Down, Settled}
-use Rattle.set_model.specs.Rows.{Row, is_on, is_parked, unack, on, parked, moved, all_with, IsInOrder, IsHeldLast}
+use Rattle.set_model.specs.Rows.{Row, is_on, is_parked, stands_back, unack, on, parked, numbers, moved, all_with, IsInOrder, IsHeldLast}
 use Rattle.set_model.specs.Control.{accepted_of, start_of}
-use Rattle.set_model.specs.State.{LinkState, State, has_phase_up, has_phase_settled, target}
+use Rattle.set_model.specs.State.{LinkState, State, link_is_up, has_phase_up, has_phase_settled, target}
 use Rattle.set_model.specs.Changeover.{fate_on, settled_link, moved_over}
 use Rattle.set_model.specs.Step.{risen_link, rises}
-use Rattle.set_model.specs.Sound.{IsOf, IsInRange, IsSoundLink, is_unfinished, stands_at, IsPlaced, IsSoundStream, IsSound}
+use Rattle.set_model.specs.Sound.{IsOf, IsInRange, IsSoundLink, IsPlaced, IsAscending, IsBackOf, AreBack, IsSound}
+use Rattle.set_model.proofs.Backs.{coded_at, backs_kept}
 use Rattle.set_model.proofs.Events.{MovedTo, moved_to, moved_aside, unparked}
 use Rattle.set_model.proofs.Lists.{at_set, get_set_same, get_set_other, same_at, within}
-use Rattle.set_model.proofs.Live.{stream_goes, stream_remains, stream_empty}
-use Rattle.set_model.proofs.Moving.{moved_numbered, moved_fit}
+use Rattle.set_model.proofs.Moving.{moved_numbered, moved_fit, moved_same}
 use Rattle.set_model.proofs.Order.{order_none}
-use Rattle.set_model.proofs.Places.{false_true, itself, apart, apart_back, on_other, on_not_parked, parked_not_on}
+use Rattle.set_model.proofs.Places.{false_true, itself, apart, on_not_back, parked_not_back}
 use Rattle.set_model.proofs.Settling.{none_unack, none_held}
 use Rattle.set_model.proofs.Targets.{target_up, none_up}
 use Rattle.set_model.proofs.Walk.{IsAt}
-use Rattle.set_model.proofs.SoundLink.{up_unsettled, link_untouched, links_set, placed_set, up_before}
+use Rattle.set_model.proofs.SoundLink.{up_unsettled, link_untouched, links_set, placed_set, up_before, up_after}
+use Rattle.set_model.proofs.Standing.{each_moved}
 
 -- A LINK COMES UP.
 pub start_counted : (m : Method) → accepted_of (start_of m) ≡ 127
@@ -42,22 +42,14 @@ pub start_range : (m : Method) (count : ℕ) → IsInRange (start_of m) count
 start_range BasicMethod count = omega arith
 start_range (CyclicMethod n1 n2) count = λ d. absurd (d refl)
 
-parked_unfinished : (f : Fate) → is_parked f ≡ true → is_unfinished f ≡ true
-parked_unfinished Parked e = refl
-parked_unfinished _ e = absurd cc
-
 raised_runs : (n home : ℕ) (used : Bool) (place : Place) → place_raised n home used place ≢ Nowhere
 raised_runs n home used Nowhere e = absurd cc
+raised_runs n home used (Changing to code via) e = absurd cc
 raised_runs n home used (On l) e = go ((home == n) && not used) refl
   where
     go : (b : Bool) → ((home == n) && not used) ≡ b → ⊥
     go true f = let no : On n ≡ Nowhere = rw f at e in cc
     go false f = let no : On l ≡ Nowhere = rw f at e in cc
-
-not_used : (a used : Bool) → (a && not used) ≡ true → used ≡ false
-not_used true true e = absurd cc
-not_used true false e = refl
-not_used false used e = absurd cc
 
 module _ (n : ℕ) (link : LinkState) (s : State) (at : IsAt n link Settled s) (t : IsSound s) where
   abbrev new : List Row
@@ -84,27 +76,22 @@ module _ (n : ℕ) (link : LinkState) (s : State) (at : IsAt n link Settled s) (
         settled = λ e. absurd cc;
       }
 
-  stream_risen : (k home : ℕ) (used : Bool) (place : Place) → IsSoundStream k place used s.rows → IsSoundStream k (place_raised n home used place) used new
-  stream_risen k home used Nowhere p = stream_goes k Nowhere (On n) is_parked (Waiting n) parked_unfinished refl (λ f e. e) (itself n) used s.rows p
-  stream_risen k home used (On l) p = go ((home == n) && not used) refl
-    where
-      remains : IsSoundStream k (On l) used new
-      remains = stream_remains k (On l) (On l) is_parked (Waiting n) parked_unfinished refl (λ f e. on_not_parked l f e) used s.rows refl p
-
-      go : (b : Bool) → ((home == n) && not used) ≡ b → IsSoundStream k (place_raised n home used (On l)) used new
-      go true e = rw e (stream_empty k (On l) (On n) used new (remains.unused (not_used (home == n) used e)) remains)
-      go false e = rw e remains
-
   risen_there : IsPlaced (slice_set s.links n risen) (On n)
   risen_there = (risen, get_set_same s.links n risen (within s.links n link at.there), refl)
 
   place_risen : (home : ℕ) (used : Bool) (place : Place) → IsPlaced s.links place → IsPlaced (slice_set s.links n risen) (place_raised n home used place)
   place_risen home used Nowhere p = risen_there
+  place_risen home used (Changing to code via) p = placed_set s.links n link risen (Changing to code via) at.there refl p
   place_risen home used (On l) p = go ((home == n) && not used) refl
     where
       go : (b : Bool) → ((home == n) && not used) ≡ b → IsPlaced (slice_set s.links n risen) (place_raised n home used (On l))
       go true e = rw e risen_there
       go false e = rw e (placed_set s.links n link risen (On l) at.there refl p)
+
+  risen_backs : AreBack (raised n s.routing) new
+  risen_backs =
+      let kept = backs_kept (λ code. Unit {0}) s.routing (raised n s.routing) (λ k few code via of e. (via, (alone s.routing k t.routing few).raised_place n ∙ ap (place_raised n (k % s.routing.links) (has_messages k s.routing)) e)) (λ code. tt) s.rows t.backs in
+      each_moved is_parked (all_with (Waiting n)) (λ row. IsBackOf (raised n s.routing) row row.fate) (λ row. IsBackOf (raised n s.routing) row row.fate) (λ x e b. b) (λ x e b. tt) s.rows kept
 
   pub rises_sound : IsSound (rises n s Settled).state
   rises_sound =
@@ -120,27 +107,15 @@ module _ (n : ℕ) (link : LinkState) (s : State) (at : IsAt n link Settled s) (
         numbered = u.kept.numbered t.numbered;
         fit = u.kept.fit t.fit;
         links = links_set s.settings.method s.links n risen s.rows new risen_one u.others t.links;
-        streams = λ k few. let a = alone s.routing k t.routing few in rw (a.raised_place n, a.raised_messages n) (stream_risen k (k % s.routing.links) (has_messages k s.routing) (place_of k s.routing) (t.streams k few));
         placed = λ k few. rw ((alone s.routing k t.routing few).raised_place n) (place_risen (k % s.routing.links) (has_messages k s.routing) (place_of k s.routing) (t.placed k few));
         none_aside = λ k other there up. u.parked_none;
         all_run = λ j other there up k few e. raised_runs n (k % s.routing.links) (has_messages k s.routing) (place_of k s.routing) (sym ((alone s.routing k t.routing few).raised_place n) ∙ e);
+        homes_up = λ code e. up_after s.links n link risen at.there (λ up. refl) (home_of code) (t.homes_up code e);
+        backs = risen_backs;
+        back_order = subst (λ (rows : List Row). IsAscending (numbers rows)) (sym (moved_same is_parked stands_back (all_with (Waiting n)) s.rows (λ x. refl) parked_not_back)) t.back_order;
       }
 
 -- A LINK IS LEFT BY ITS MESSAGES.
-on_unfinished : (n : ℕ) (f : Fate) → is_on n f ≡ true → is_unfinished f ≡ true
-on_unfinished n (Waiting m) e = refl
-on_unfinished n (Unacked m) e = refl
-on_unfinished n (Held m) e = refl
-on_unfinished n _ e = absurd cc
-
-target_unfinished : (to : Option ℕ) → is_unfinished (fate_on to) ≡ true
-target_unfinished None = refl
-target_unfinished (Some to) = refl
-
-target_stands : (to : Option ℕ) → stands_at (place_on to) (fate_on to) ≡ true
-target_stands None = refl
-target_stands (Some to) = itself to
-
 module _ (n : ℕ) (link : LinkState) (s : State) (at : IsAt n link Down s) (t : IsSound s) where
   abbrev off_to : Option ℕ → List Row
   off_to to = moved (is_on n) (all_with (fate_on to)) s.rows
@@ -205,19 +180,27 @@ module _ (n : ℕ) (link : LinkState) (s : State) (at : IsAt n link Down s) (t :
       go (inl p) = rw (p.0, p.1) (settled_one (off_to (Some to)) m.left_is.unack_none m.left_is.on_none m.left_is.in_order m.left_is.held_last)
       go (inr p) = other_link (to == k) refl p.0 p.1
 
-  stream_left : (to : Option ℕ) (k : ℕ) (used : Bool) (place : Place) → IsSoundStream k place used s.rows → IsSoundStream k (place_settled n to place) used (off_to to)
-  stream_left to k used Nowhere p = stream_remains k Nowhere Nowhere (is_on n) (fate_on to) (on_unfinished n) (target_unfinished to) (λ f e. parked_not_on n f e) used s.rows refl p
-  stream_left to k used (On l) p = go (l == n) refl
+  -- a stream on its way back has a home that is up, so there is a target
+  home_up : (k : ℕ) → k < 16 → (to code via : ℕ) → place_of k s.routing ≡ Changing to code via → target s.links ≡ None → ⊥
+  home_up k few to code via e none =
+      let coded = coded_at s.routing k t.routing to code via e in
+      no_up (home_of code) (slice_get s.links (home_of code)) refl (t.homes_up code coded.1)
     where
-      go : (b : Bool) → (l == n) ≡ b → IsSoundStream k (place_settled n to (On l)) used (off_to to)
-      go true e =
-          let same : l ≡ n = eqb-true l n e in
-          rw e (stream_goes k (On l) (place_on to) (is_on n) (fate_on to) (on_unfinished n) (target_unfinished to) (λ f there. ap (λ (j : ℕ). is_on j f) (sym same) ∙ there) (target_stands to) used s.rows p)
-      go false e = rw e (stream_remains k (On l) (On l) (is_on n) (fate_on to) (on_unfinished n) (target_unfinished to) (λ f there. on_other n l (apart_back l n e) f there) used s.rows refl p)
+      no_up : (h : ℕ) (o : Option LinkState) → slice_get s.links h ≡ o → link_is_up (slice_get s.links h) ≡ true → ⊥
+      no_up h None f up = let no : true ≡ false = sym up ∙ ap link_is_up f in cc
+      no_up h (Some other) f up = false_true (has_phase_up other.phase) (none_up s.links h other none f) (ap link_is_up (sym f) ∙ up)
 
-  place_left : (to : Option ℕ) → target s.links ≡ to → (place : Place) → IsPlaced s.links place → IsPlaced (slice_set s.links n (settled_link link)) (place_settled n to place)
-  place_left to e Nowhere p = tt
-  place_left to e (On l) p = go (l == n) refl
+  place_left : (to : Option ℕ) → target s.links ≡ to → (place : Place) → ((home code via : ℕ) → place ≡ Changing home code via → to ≡ None → ⊥) → IsPlaced s.links place → IsPlaced (slice_set s.links n (settled_link link)) (place_settled n to place)
+  place_left to e Nowhere some p = tt
+  place_left None e (Changing home code via) some p = absurd (some home code via refl refl)
+  place_left (Some r) e (Changing home code via) some p = go (via == n) refl
+    where
+      go : (b : Bool) → (via == n) ≡ b → IsPlaced (slice_set s.links n (settled_link link)) (Changing home code (via_settled n (Some r) via))
+      go true f =
+          let up = target_up s.links r e in
+          rw f (up.0, get_set_other s.links n r (settled_link link) (λ same. false_true (n == r) (not_target r e) (rw same (itself r))) ∙ up.1, up_unsettled up.0.phase up.2)
+      go false f = rw f (p.0, get_set_other s.links n via (settled_link link) (λ same. false_true (via == n) f (rw same (itself via))) ∙ p.1, p.2)
+  place_left to e (On l) some p = go (l == n) refl
     where
       on_target : (o : Option ℕ) → target s.links ≡ o → IsPlaced (slice_set s.links n (settled_link link)) (place_on o)
       on_target None f = tt
@@ -232,6 +215,7 @@ module _ (n : ℕ) (link : LinkState) (s : State) (at : IsAt n link Down s) (t :
   -- while a link is up there is a target
   runs_left : (to : Option ℕ) → (to ≡ None → ⊥) → (place : Place) → place ≢ Nowhere → place_settled n to place ≢ Nowhere
   runs_left to some Nowhere d e = d refl
+  runs_left to some (Changing home code via) d e = absurd cc
   runs_left to some (On l) d e = go (l == n) refl to some e
     where
       go : (b : Bool) → (l == n) ≡ b → (o : Option ℕ) → (o ≡ None → ⊥) → place_settled n o (On l) ≡ Nowhere → ⊥
@@ -252,6 +236,19 @@ module _ (n : ℕ) (link : LinkState) (s : State) (at : IsAt n link Down s) (t :
       let routed = t.routed in
       omega (arith, low, links, routed)
 
+  left_backs : (to : Option ℕ) → AreBack (settled n to s.routing) (off_to to)
+  left_backs to =
+      let kept = backs_kept (λ code. Unit {0}) s.routing (settled n to s.routing) (λ k few code via of e. (via_settled n to via, (alone s.routing k t.routing few).settled_place n to ∙ ap (place_settled n to) e)) (λ code. tt) s.rows t.backs in
+      each_moved (is_on n) (all_with (fate_on to)) (λ row. IsBackOf (settled n to s.routing) row row.fate) (λ row. IsBackOf (settled n to s.routing) row row.fate) (λ x e b. b) (λ x e b. there to x) s.rows kept
+    where
+      there : (to : Option ℕ) (x : Row) → IsBackOf (settled n to s.routing) x (fate_on to)
+      there None x = tt
+      there (Some r) x = tt
+
+  target_not_back : (to : Option ℕ) → stands_back (fate_on to) ≡ false
+  target_not_back None = refl
+  target_not_back (Some r) = refl
+
   pub moves_off_sound : IsSound (moved_over n link s)
   moves_off_sound =
       let to = target s.links in
@@ -266,8 +263,10 @@ module _ (n : ℕ) (link : LinkState) (s : State) (at : IsAt n link Down s) (t :
         numbered = moved_numbered (is_on n) (all_with (fate_on to)) s.rows t.numbered;
         fit = moved_fit (is_on n) (all_with (fate_on to)) s.rows t.fit;
         links = link_left to refl;
-        streams = λ k few. let a = alone s.routing k t.routing few in rw (a.settled_place n to, a.settled_messages n to) (stream_left to k (has_messages k s.routing) (place_of k s.routing) (t.streams k few));
-        placed = λ k few. rw ((alone s.routing k t.routing few).settled_place n to) (place_left to refl (place_of k s.routing) (t.placed k few));
+        placed = λ k few. rw ((alone s.routing k t.routing few).settled_place n to) (place_left to refl (place_of k s.routing) (λ home code via e. home_up k few home code via e) (t.placed k few));
         none_aside = λ k other at up. let old = before k other at up in parked_left to (some k other at up) refl ∙ t.none_aside k old.0 old.1 old.2;
         all_run = λ j other at up k few e. let old = before j other at up in runs_left to (some j other at up) (place_of k s.routing) (t.all_run j old.0 old.1 old.2 k few) (sym ((alone s.routing k t.routing few).settled_place n to) ∙ e);
+        homes_up = λ code e. up_after s.links n link (settled_link link) at.there (λ up. false_true (has_phase_up link.phase) down up) (home_of code) (t.homes_up code e);
+        backs = left_backs to;
+        back_order = subst (λ (rows : List Row). IsAscending (numbers rows)) (sym (moved_same (is_on n) stands_back (all_with (fate_on to)) s.rows (λ x. target_not_back to) (on_not_back n))) t.back_order;
       }

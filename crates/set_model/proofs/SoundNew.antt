@@ -1,37 +1,42 @@
 -- WHAT HOLDS OF EVERY STATE is kept by a new message.
-use Rattle.std.proofs.Common.{refl, arith, ◌≡◌, ◌∙◌, ap, sym, subst, ◌<◌, ◌≤◌, ℕ, ◌%◌, ◌==◌, Bool, true, false, ◌&&◌, ◌||◌, List, [], length, slice_get, Option, None, Some}
-use Rattle.std.proofs.lemmas.Bool.Decides.{nat_tests}
+use Rattle.std.proofs.Common.{refl, arith, ◌≡◌, ◌∙◌, ap, sym, subst, ◌<◌, ◌≤◌, ℕ, ◌==◌, Bool, true, false, not, List, [], ◌∷◌, ◌++◌, length, slice_get, Option, None, Some}
 use Rattle.std.proofs.lemmas.Bool.{eqb-true}
+use Rattle.std.proofs.lemmas.List.{map-append}
 use Rattle.l3_orders.specs.declared.order.Order.{Order}
 use Rattle.l3_orders.specs.declared.order.Order.TheVariants.{Coo, Coa, Cbd, Cba, Eco, Eca}
 use Rattle.l3_orders.specs.Grammar.{text}
 use Rattle.set_events.specs.declared.answer.Fate.{Fate}
-use Rattle.set_events.specs.declared.answer.Fate.TheVariants.{Waiting, Unacked, Acked, Held, Parked, Discarded}
+use Rattle.set_events.specs.declared.answer.Fate.TheVariants.{Waiting, Unacked, Acked, Held, Parked, Back, Discarded}
 use Rattle.set_route.specs.declared.place.Place.{Place}
-use Rattle.set_route.specs.declared.place.Place.TheVariants.{On, Nowhere}
-use Rattle.set_route.specs.Routing.{place_of, has_messages}
+use Rattle.set_route.specs.declared.place.Place.TheVariants.{On, Changing, Nowhere}
+use Rattle.set_route.specs.Routing.{Routing, accepted, place_of}
 use Rattle.set_route.proofs.Alone.{alone}
 use Rattle.set_route.proofs.Places.{accepted_sound}
-use Rattle.set_model.specs.Rows.{is_unacked, is_held, is_on, is_parked, is_users, stream_of, parked, appended}
-use Rattle.set_model.specs.State.{LinkState, State, is_up, link_is_up, has_phase_up, has_phase_settled, target}
+use Rattle.set_model.specs.Rows.{Row, is_unacked, is_held, is_on, is_parked, stands_back, stream_of, service_indicator, back, parked, numbers, appended}
+use Rattle.set_model.specs.State.{LinkState, State, is_up, link_is_up, has_phase_up, has_phase_settled, fate_at, target}
 use Rattle.set_model.specs.Changeover.{fate_on, queued}
-use Rattle.set_model.specs.Step.{fate_at, offer_refusal, offered}
-use Rattle.set_model.specs.Sound.{IsSoundLink, is_unfinished, stands_at, is_live, IsPlaced, IsManaged, IsSound}
-use Rattle.set_model.proofs.Events.{appended_out, appended_untouched}
+use Rattle.set_model.specs.Step.{offer_refusal, offered}
+use Rattle.set_model.specs.Sound.{IsSoundLink, IsPlaced, IsAscending, IsBackOf, AreBack, IsSound}
+use Rattle.set_model.proofs.Backs.{coded_at, backs_kept}
+use Rattle.set_model.proofs.Events.{appended_in, appended_out, appended_untouched}
 use Rattle.set_model.proofs.Finding.{new_row, numbered_appended, fit_appended}
 use Rattle.set_model.proofs.Gaining.{offer_fits}
 use Rattle.set_model.proofs.Lists.{same_at}
-use Rattle.set_model.proofs.Live.{stream_appended}
+use Rattle.set_model.proofs.Live.{ascends_end}
+use Rattle.set_model.proofs.Lookups.{found_by_number}
+use Rattle.set_model.proofs.Standing.{each_appended}
 use Rattle.set_model.proofs.Order.{order_appended, last_appended, last_appended_up}
-use Rattle.set_model.proofs.Places.{false_true, itself}
+use Rattle.set_model.proofs.Places.{false_true}
 use Rattle.set_model.proofs.Targets.{target_up, none_up}
 use Rattle.set_model.proofs.SoundLink.{up_unsettled, link_untouched}
 
--- A NEW MESSAGE. It waits for a link that is up, is held for one that isn't settled, or is parked while none is up.
+-- A NEW MESSAGE. It waits for a link that is up, is held for one that isn't settled, is parked while none is up, or
+-- stands back.
 abbrev pub IsOpen : Fate → List LinkState → Type 0
 IsOpen (Waiting number) links = (link : LinkState) × (slice_get links number ≡ Some link) × (has_phase_up link.phase ≡ true)
 IsOpen (Held number) links = (link : LinkState) × (slice_get links number ≡ Some link) × (has_phase_up link.phase ≡ false) × (has_phase_settled link.phase ≡ false)
 IsOpen Parked links = (number : ℕ) (link : LinkState) → slice_get links number ≡ Some link → has_phase_up link.phase ≡ false
+IsOpen (Back code) links = Unit {0}
 IsOpen (Unacked number) links = ⊥
 IsOpen (Acked number) links = ⊥
 IsOpen (Discarded cause) links = ⊥
@@ -41,8 +46,9 @@ module _ (s : State) (body : List ℕ) (t : IsSound s) where
   off_link : (fate : Fate) (k : ℕ) (other : LinkState) → slice_get s.links k ≡ Some other → is_on k fate ≡ false → IsSoundLink s.settings.method k other (appended s.rows body fate)
   off_link fate k other there off = link_untouched s.settings.method k other s.rows (appended s.rows body fate) (appended_untouched s.rows body fate k off) (t.links k other there)
 
-  link_appended : (fate : Fate) → IsOpen fate s.links → (k : ℕ) (other : LinkState) → slice_get s.links k ≡ Some other → IsSoundLink s.settings.method k other (appended s.rows body fate)
+  pub link_appended : (fate : Fate) → IsOpen fate s.links → (k : ℕ) (other : LinkState) → slice_get s.links k ≡ Some other → IsSoundLink s.settings.method k other (appended s.rows body fate)
   link_appended Parked fits k other there = off_link Parked k other there refl
+  link_appended (Back c) fits k other there = off_link (Back c) k other there refl
   link_appended (Unacked n) fits k other there = absurd fits
   link_appended (Acked n) fits k other there = absurd fits
   link_appended (Discarded cause) fits k other there = absurd fits
@@ -88,10 +94,11 @@ module _ (s : State) (body : List ℕ) (t : IsSound s) where
             settled = λ a. false_true (has_phase_settled other.phase) (ap (λ (l : LinkState). has_phase_settled l.phase) (sym it) ∙ fits.3) a;
           }
 
-  none_parked : (fate : Fate) → IsOpen fate s.links → (k : ℕ) (other : LinkState) → slice_get s.links k ≡ Some other → has_phase_up other.phase ≡ true → parked (appended s.rows body fate) ≡ []
+  pub none_parked : (fate : Fate) → IsOpen fate s.links → (k : ℕ) (other : LinkState) → slice_get s.links k ≡ Some other → has_phase_up other.phase ≡ true → parked (appended s.rows body fate) ≡ []
   none_parked Parked fits k other there rising = false_true (has_phase_up other.phase) (fits k other there) rising
   none_parked (Waiting n) fits k other there rising = appended_out s.rows body (Waiting n) is_parked refl ∙ t.none_aside k other there rising
   none_parked (Held n) fits k other there rising = appended_out s.rows body (Held n) is_parked refl ∙ t.none_aside k other there rising
+  none_parked (Back c) fits k other there rising = appended_out s.rows body (Back c) is_parked refl ∙ t.none_aside k other there rising
   none_parked (Unacked n) fits k other there rising = absurd fits
   none_parked (Acked n) fits k other there rising = absurd fits
   none_parked (Discarded cause) fits k other there rising = absurd fits
@@ -101,18 +108,34 @@ open_target : (s : State) (to : Option ℕ) → target s.links ≡ to → IsOpen
 open_target s (Some to) e = target_up s.links to e
 open_target s None e = λ n link there. none_up s.links n link e there
 
-no_users : (order : Order) (s : State) (fate : Fate) (stream : ℕ) → IsManaged s.settings → is_live stream (new_row (length s.rows) (text order s.settings.sio s.settings.dpc s.settings.opc) fate) ≡ false
-no_users order s fate stream m =
-    let own : (s.settings.sio % 16 == 0) ≡ true = grind (arith, nat_tests) in
-    rw own refl
-
-order_fits : (order : Order) (s : State) → length (text order s.settings.sio s.settings.dpc s.settings.opc) ≤ 273
+pub order_fits : (order : Order) (s : State) → length (text order s.settings.sio s.settings.dpc s.settings.opc) ≤ 273
 order_fits (Coo n fsn) s = omega arith
 order_fits (Coa n fsn) s = omega arith
 order_fits (Cbd n code) s = omega arith
 order_fits (Cba n code) s = omega arith
 order_fits (Eco n) s = omega arith
 order_fits (Eca n) s = omega arith
+
+-- a message that doesn't stand back
+module _ (routing : Routing) (rows : List Row) (body : List ℕ) (fate : Fate) (elsewhere : stands_back fate ≡ false) where
+  pub backs_appended : AreBack routing rows → AreBack routing (appended rows body fate)
+  backs_appended b = each_appended (λ row. IsBackOf routing row row.fate) rows body fate (is fate elsewhere) b
+    where
+      is : (f : Fate) → stands_back f ≡ false → IsBackOf routing (new_row (length rows) body fate) f
+      is (Back c) e = absurd cc
+      is (Waiting l) e = tt
+      is (Unacked l) e = tt
+      is (Acked l) e = tt
+      is (Held l) e = tt
+      is Parked e = tt
+      is (Discarded cause) e = tt
+
+  pub back_appended : IsAscending (numbers (back rows)) → IsAscending (numbers (back (appended rows body fate)))
+  back_appended a = subst (λ (xs : List Row). IsAscending (numbers xs)) (sym (appended_out rows body fate stands_back elsewhere)) a
+
+target_elsewhere : (to : Option ℕ) → stands_back (fate_on to) ≡ false
+target_elsewhere None = refl
+target_elsewhere (Some to) = refl
 
 pub queues : (order : Order) (s : State) → IsSound s → IsSound (queued order s)
 queues order s t =
@@ -127,10 +150,12 @@ queues order s t =
       numbered = numbered_appended s.rows body fate t.numbered;
       fit = fit_appended s.rows body fate t.fit (order_fits order s);
       links = link_appended s body t fate reaches;
-      streams = λ stream low. stream_appended stream (place_of stream s.routing) (has_messages stream s.routing) (has_messages stream s.routing) s.rows body fate t.numbered (t.streams stream low) (λ e. false_true _ (no_users order s fate stream t.managed) e) (λ e. e);
       placed = t.placed;
       none_aside = none_parked s body t fate reaches;
       all_run = t.all_run;
+      homes_up = t.homes_up;
+      backs = backs_appended s.routing s.rows body fate (target_elsewhere (target s.links)) t.backs;
+      back_order = back_appended s.routing s.rows body fate (target_elsewhere (target s.links)) t.back_order;
     }
 
 -- AN OFFER goes where its stream runs.
@@ -140,6 +165,7 @@ open_offer s t stream low Nowhere e = λ n link there. go n link there (has_phas
     go : (n : ℕ) (link : LinkState) → slice_get s.links n ≡ Some link → (b : Bool) → has_phase_up link.phase ≡ b → has_phase_up link.phase ≡ false
     go n link there true u = absurd (t.all_run n link there u stream low e)
     go n link there false u = u
+open_offer s t stream low (Changing to code via) e = tt
 open_offer s t stream low (On l) e = go (is_up l s) refl
   where
     p : IsPlaced s.links (On l)
@@ -149,25 +175,45 @@ open_offer s t stream low (On l) e = go (is_up l s) refl
     go true u = rw u (p.0, p.1, sym (ap link_is_up p.1) ∙ u)
     go false u = rw u (p.0, p.1, sym (ap link_is_up p.1) ∙ u, p.2)
 
-stands_offer : (place : Place) (s : State) → stands_at place (fate_at place s) ≡ true
-stands_offer Nowhere s = refl
-stands_offer (On l) s = go (is_up l s) refl
-  where
-    go : (b : Bool) → is_up l s ≡ b → stands_at (On l) (fate_at (On l) s) ≡ true
-    go true e = rw e (itself l)
-    go false e = rw e (itself l)
+user_of : (b : Bool) → b ≡ false → not b ≡ true
+user_of b e = rw e refl
 
-of_stream : (a b c : Bool) → (a && (b && c)) ≡ true → b ≡ true
-of_stream true true c e = refl
-of_stream true false c e = absurd cc
-of_stream false b c e = absurd cc
+module _ (s : State) (body : List ℕ) (t : IsSound s) (low : stream_of body < 16) (users : (service_indicator body == 0) ≡ false) where
+  abbrev stream : ℕ
+  stream = stream_of body
 
-or_right : (a b : Bool) → (a || b) ≡ false → b ≡ false
-or_right true b e = absurd cc
-or_right false b e = e
+  abbrev runs : Routing
+  runs = accepted stream s.routing
+
+  same_place : (k : ℕ) → k < 16 → place_of k runs ≡ place_of k s.routing
+  same_place k few = (alone s.routing k t.routing few).accepted_place stream
+
+  one_back : (place : Place) → place_of stream s.routing ≡ place → IsBackOf runs (new_row (length s.rows) body (fate_at place s)) (fate_at place s)
+  one_back Nowhere e = tt
+  one_back (Changing to code via) e =
+      let coded = coded_at s.routing stream t.routing to code via e in
+      (user_of (service_indicator body == 0) users, low, via, same_place stream low ∙ e ∙ ap (λ (k : ℕ). Changing k code via) (sym coded.0))
+  one_back (On l) e = go (is_up l s) refl
+    where
+      go : (b : Bool) → is_up l s ≡ b → IsBackOf runs (new_row (length s.rows) body (fate_at (On l) s)) (fate_at (On l) s)
+      go true f = rw f tt
+      go false f = rw f tt
+
+  offer_backs : AreBack runs (appended s.rows body (fate_at (place_of stream s.routing) s))
+  offer_backs = each_appended (λ row. IsBackOf runs row row.fate) s.rows body (fate_at (place_of stream s.routing) s) (one_back (place_of stream s.routing) refl)
+      (backs_kept (λ code. Unit {0}) s.routing runs (λ k few code via of e. (via, same_place k few ∙ e)) (λ code. tt) s.rows t.backs)
+
+  offer_order : (fate : Fate) → IsAscending (numbers (back (appended s.rows body fate)))
+  offer_order fate = go (stands_back fate) refl
+    where
+      go : (b : Bool) → stands_back fate ≡ b → IsAscending (numbers (back (appended s.rows body fate)))
+      go false e = back_appended s.routing s.rows body fate e t.back_order
+      go true e =
+          let numbers_are : numbers (back (appended s.rows body fate)) ≡ numbers (back s.rows) ++ length s.rows ∷ [] = ap numbers (appended_in s.rows body fate stands_back e) ∙ map-append (λ (row : Row). row.number) (back s.rows) (new_row (length s.rows) body fate ∷ []) in
+          subst IsAscending (sym numbers_are) (ascends_end (length s.rows) (numbers (back s.rows)) (λ i m f. (found_by_number (λ (row : Row). stands_back row.fate) s.rows i m t.numbered f).below) t.back_order)
 
 pub offers : (s : State) (body : List ℕ) → stream_of body < 16 → offer_refusal s.rows body ≡ None → IsSound s → IsSound (offered None s body).state
-offers s body low accepted t =
+offers s body low free t =
     let stream = stream_of body in
     let place = place_of stream s.routing in
     let fate = fate_at place s in
@@ -178,16 +224,12 @@ offers s body low accepted t =
       routed = t.routed;
       count = t.count;
       numbered = numbered_appended s.rows body fate t.numbered;
-      fit = fit_appended s.rows body fate t.fit (offer_fits s.rows body accepted).0;
+      fit = fit_appended s.rows body fate t.fit (offer_fits s.rows body free).0;
       links = link_appended s body t fate fits;
-      streams = λ k few.
-          let a = alone s.routing k t.routing few in
-          rw (a.accepted_place stream, a.accepted_messages stream) (stream_appended k (place_of k s.routing) (has_messages k s.routing) ((k == stream) || has_messages k s.routing) s.rows body fate t.numbered (t.streams k few)
-          (λ e.
-          let same : stream ≡ k = eqb-true stream k (of_stream (is_users (new_row (length s.rows) body fate)) (stream == k) (is_unfinished fate) e) in
-          (ap (λ (j : ℕ). stands_at (place_of j s.routing) fate) (sym same) ∙ stands_offer place s, ap (λ (j : ℕ). (j == stream) || has_messages k s.routing) (sym same) ∙ ap (λ (b : Bool). b || has_messages k s.routing) (itself stream)))
-          (λ e. or_right (k == stream) (has_messages k s.routing) e));
       placed = λ k few. rw ((alone s.routing k t.routing few).accepted_place stream) (t.placed k few);
       none_aside = none_parked s body t fate fits;
       all_run = λ n link there up k few e. t.all_run n link there up k few (sym ((alone s.routing k t.routing few).accepted_place stream) ∙ e);
+      homes_up = t.homes_up;
+      backs = offer_backs s body t low (offer_fits s.rows body free).1;
+      back_order = offer_order s body t low (offer_fits s.rows body free).1 fate;
     }

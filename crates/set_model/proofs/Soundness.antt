@@ -1,42 +1,48 @@
 -- EVERY STEP KEEPS WHAT HOLDS OF EVERY SET'S STATE, and a new set has it.
-use Rattle.std.proofs.Common.{refl, arith, ◌≡◌, ap, sym, subst, ℕ, zero, suc, ◌%◌, Bool, true, List, [], ◌∷◌, ◌++◌, length, map, slice_get, Some, cond, replicate, slice_index_or}
+use Rattle.std.proofs.Common.{refl, arith, ◌≡◌, ◌∙◌, ap, sym, subst, ℕ, zero, suc, ◌%◌, Bool, true, List, [], ◌∷◌, ◌++◌, length, map, slice_get, Some, cond, replicate, slice_index_or}
 use Rattle.std.proofs.lemmas.Bool.{le-ltb}
 use Rattle.std.proofs.lemmas.Option.{same_Some}
 use Rattle.set_events.specs.declared.answer.Fate.TheVariants.{Discarded}
 use Rattle.set_events.specs.declared.event.Event.{Event}
 use Rattle.set_route.specs.declared.place.Place.TheVariants.{Nowhere}
+use Rattle.set_route.specs.declared.place.Code.{Code}
+use Rattle.set_route.specs.declared.place.Code.TheVariants.{Free, Asked}
 use Rattle.set_route.specs.declared.stream.Stream.{Stream}
-use Rattle.set_route.specs.Routing.{new_stream, stream_numbers}
+use Rattle.set_route.specs.Routing.{new_stream, new_routing, stream_numbers, code_of}
 use Rattle.set_route.proofs.Places.{new_sound}
 use Rattle.set_model.specs.Rows.{is_waiting, is_unacked, numbers}
 use Rattle.set_model.specs.State.{LinkState, State, Settings, new_link, opened_with, has_phase_up}
 use Rattle.set_model.specs.Step.{step}
+use Rattle.set_model.specs.Laws.{RunsStraight}
 use Rattle.set_model.specs.Sound.{IsSoundLink, IsPlaced, IsSettings, IsSound, IsAsked, AreFew}
 use Rattle.set_model.proofs.Events.{sent_given_up, waiting_given_up}
-use Rattle.set_model.proofs.Places.{false_true}
+use Rattle.set_model.proofs.Places.{false_true, unacked_on, waiting_on}
 use Rattle.set_model.proofs.InPlace.{fewer_changed}
 use Rattle.set_model.proofs.Walk.{KeptBy, step_walks}
-use Rattle.set_model.proofs.SoundLink.{with_inbox, leaves, acknowledges, gives_up, sends_sound, hears_sound}
+use Rattle.set_model.proofs.SoundBack.{leaves, declares, releases}
+use Rattle.set_model.proofs.SoundLink.{with_inbox, acknowledges, gives_up, sends_sound, hears_sound}
 use Rattle.set_model.proofs.SoundNew.{queues, offers}
 use Rattle.set_model.proofs.SoundMoves.{start_counted, start_method, start_range, rises_sound, moves_off_sound}
 
 -- THE STEP.
-small : (Known : ℕ → Type 0) → KeptBy Known (λ s u. IsSound s → IsSound u)
-small Known = record {
+pub sound_small : (Known : ℕ → Type 0) (May : Type 0) → KeptBy Known May (λ s u. IsSound s → IsSound u)
+sound_small Known May = record {
   same = λ s t. t;
   after = λ a b c p q t. q (p t);
   delivers = λ body s t. with_inbox s (s.inbox ++ body ∷ []) t;
   queues = λ order s t. queues order s t;
   leaves = λ blind n link s known at t. leaves blind n link s at t;
   acknowledges = λ count n link s known at few t. acknowledges count n link s at t;
-  gives_up_sent = λ cause n link s known at t. gives_up (is_unacked n) cause n link s (sent_given_up n cause s.rows) (fewer_changed (is_unacked n) (is_unacked n) (Discarded cause) refl s.rows) at t;
-  gives_up_waiting = λ cause n link s known at t. gives_up (is_waiting n) cause n link s (waiting_given_up n cause s.rows) (fewer_changed (is_waiting n) (is_unacked n) (Discarded cause) refl s.rows) at t;
+  gives_up_sent = λ cause n link s known at t. gives_up (is_unacked n) cause n link s (unacked_on n) (sent_given_up n cause s.rows) (fewer_changed (is_unacked n) (is_unacked n) (Discarded cause) refl s.rows) at t;
+  gives_up_waiting = λ cause n link s known at t. gives_up (is_waiting n) cause n link s (waiting_on n) (waiting_given_up n cause s.rows) (fewer_changed (is_waiting n) (is_unacked n) (Discarded cause) refl s.rows) at t;
   moves_off = λ n link s known at t. moves_off_sound n link s at t;
+  declares = λ may home alternative s up can t. declares home alternative s up can t;
+  releases = λ code s known t. releases code s t;
 }
 
 pub step_sound : (s : State) (event : Event) → IsAsked event → IsSound s → IsSound (step s event).state
 step_sound s event asked t = step_walks s (λ a b. IsSound a → IsSound b) IsSound event (record {
-  small = small _;
+  small = sound_small _ _;
   unmoved = t;
   rests = λ a b p q. q p;
   offers = λ body e none. offers s body (subst IsAsked e asked) none t;
@@ -47,6 +53,11 @@ step_sound s event asked t = step_walks s (λ a b. IsSound a → IsSound b) IsSo
 })
 
 -- A NEW SET.
+get_or_replicate : (n : ℕ) (c : Code) (k : ℕ) → slice_index_or (replicate n c) k c ≡ c
+get_or_replicate zero c k = refl
+get_or_replicate (suc n) c zero = refl
+get_or_replicate (suc n) c (suc k) = get_or_replicate n c k
+
 new_there : (k n : ℕ) (link other : LinkState) → slice_get (replicate k link) n ≡ Some other → other ≡ link
 new_there zero n link other e = absurd cc
 new_there (suc k) zero link other e = sym (same_Some link other e)
@@ -60,6 +71,9 @@ new_place : (links : ℕ) (numbers : List ℕ) (stream : ℕ) → slice_index_or
 new_place links [] stream = refl
 new_place links (n ∷ numbers) zero = refl
 new_place links (n ∷ numbers) (suc stream) = new_place links numbers stream
+
+opened_free : (links code : ℕ) → code_of code (new_routing links) ≡ Free
+opened_free links code = get_or_replicate 256 Free code
 
 module _ (settings : Settings) (is : IsSettings settings) where
   new_one : (n : ℕ) (link : LinkState) → slice_get (replicate settings.links (new_link settings.method)) n ≡ Some link → link ≡ new_link settings.method
@@ -89,10 +103,19 @@ module _ (settings : Settings) (is : IsSettings settings) where
     numbered = λ number. sym (ap (λ (b : Bool). cond b 1 0) (le-ltb number 0 (omega arith)));
     fit = tt;
     links = λ n link there. rw (new_one n link there) (new_sound_link n);
-    streams = λ stream low. record { in_order = tt; together = refl; unused = λ e. refl };
     placed = λ stream low. subst (IsPlaced _) (sym (new_place settings.links stream_numbers stream)) tt;
     none_aside = λ n link there rising. refl;
     all_run = λ n link there rising. none_rises n link there rising;
+    homes_up = λ code e. let no : Free ≡ Asked = sym (opened_free settings.links code) ∙ e in absurd cc;
+    backs = tt;
+    back_order = tt;
+  }
+
+  -- no changeback is under way
+  pub opened_straight : RunsStraight (opened_with settings)
+  opened_straight = record {
+    none_open = opened_free settings.links;
+    together = λ stream low. record { in_order = tt; together = refl; unused = λ e. refl };
   }
 
   pub opened_few : AreFew 0 (opened_with settings)

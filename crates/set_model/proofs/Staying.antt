@@ -4,7 +4,7 @@ use Rattle.std.proofs.lemmas.List.{length_push}
 use Rattle.set_events.specs.declared.answer.Fate.{Fate}
 use Rattle.set_events.specs.declared.event.Event.{Event}
 use Rattle.l3_orders.specs.Grammar.{text}
-use Rattle.set_model.specs.Rows.{Row, is_on, moved, appended, body_at, IsNumbered}
+use Rattle.set_model.specs.Rows.{Row, is_on, is_back, is_back_to, moved, appended, body_at, IsNumbered}
 use Rattle.set_model.specs.State.{State, target}
 use Rattle.set_model.specs.Control.{Choice, again, first, fill}
 use Rattle.set_model.specs.Changeover.{fate_on}
@@ -58,22 +58,24 @@ sent_stays (again i) n rows = stays_self rows
 sent_stays first n rows = stays_kept _ _ (sent n rows).kept
 sent_stays fill n rows = stays_self rows
 
-small : (Known : ℕ → Type 0) → KeptBy Known (λ s t. Stays s.rows t.rows)
-small Known = record {
+small : (Known : ℕ → Type 0) (May : Type 0) → KeptBy Known May (λ s t. Stays s.rows t.rows)
+small Known May = record {
   same = λ s. stays_self s.rows;
   after = λ a b c p q. stays_then a.rows b.rows c.rows p q;
   delivers = λ body s. stays_self s.rows;
   queues = λ order s. stays_appended s.rows (text order s.settings.sio s.settings.dpc s.settings.opc) (fate_on (target s.links));
-  leaves = λ blind n link s known at. stays_self s.rows;
+  leaves = λ blind n link s known at. stays_moved (is_back_to n) _ s.rows;
   acknowledges = λ count n link s known at few. stays_kept _ _ (acknowledged n count s.rows).kept;
   gives_up_sent = λ cause n link s known at. stays_kept _ _ (sent_given_up n cause s.rows).kept;
   gives_up_waiting = λ cause n link s known at. stays_kept _ _ (waiting_given_up n cause s.rows).kept;
   moves_off = λ n link s known at. stays_moved (is_on n) _ s.rows;
+  declares = λ may home alternative s up can. stays_appended s.rows _ _;
+  releases = λ code s known. stays_moved (is_back code) _ s.rows;
 }
 
 pub step_stays : (s : State) (event : Event) → Stays s.rows (step s event).state.rows
 step_stays s event = step_walks s (λ t u. Stays t.rows u.rows) (λ t. Stays s.rows t.rows) event (record {
-  small = small _;
+  small = small _ _;
   unmoved = stays_self s.rows;
   rests = λ t u p q. stays_then s.rows t.rows u.rows p q;
   offers = λ body e none. stays_appended s.rows body _;

@@ -2,10 +2,10 @@
 use Rattle.std.proofs.Common.{refl, ◌≡◌, ℕ, List, true, false}
 use Rattle.l2_units.specs.declared.unit.Unit.{Unit as SignalUnit}
 use Rattle.set_events.specs.declared.event.Event.{Event}
-use Rattle.set_events.specs.declared.event.Event.TheVariants.{Offer, Take, Find, Next, Heard, Up as UpEvent, Down as DownEvent, DownBlind, NoAnswer}
+use Rattle.set_events.specs.declared.event.Event.TheVariants.{Offer, Take, Find, Next, Heard, Up as UpEvent, Down as DownEvent, DownBlind, NoAnswer, Restore, BackTimeout}
 use Rattle.set_model.specs.Rows.{place}
 use Rattle.set_model.specs.State.{State}
-use Rattle.set_model.specs.Step.{offer_refusal, offered, taken, found, on_link, in_service, next, heard, rises, falls, gives_up, stepped, step}
+use Rattle.set_model.specs.Step.{offer_refusal, offered, taken, found, on_link, in_service, next, heard, rises, falls, gives_up, comes_back, runs_out, stepped, step}
 
 pub step_is : (s : State) (event : Event) → step s event ≡ stepped s event
 unfolding step
@@ -46,3 +46,11 @@ step_down_blind s link = refl
 pub step_no_answer : (s : State) (link : ℕ) → step s (NoAnswer link) ≡ on_link link s (λ state. gives_up link s state state.phase)
 unfolding step
 step_no_answer s link = refl
+
+pub step_restore : (s : State) (link : ℕ) → step s (Restore link) ≡ in_service link s (λ state. comes_back link s)
+unfolding step
+step_restore s link = refl
+
+pub step_back_timeout : (s : State) (link : ℕ) → step s (BackTimeout link) ≡ on_link link s (λ state. runs_out link s)
+unfolding step
+step_back_timeout s link = refl

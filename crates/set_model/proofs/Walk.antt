@@ -1,5 +1,5 @@
 -- THE WALK over the cases of the step, once: what each small change keeps, every event keeps.
-use Rattle.std.proofs.Common.{refl, arith, ◌≡◌, ◌∙◌, ap, ◌≤◌, length, ℕ, ◌==◌, Bool, true, false, List, [], ◌∷◌, ◌++◌, slice_get, Option, Some, None, if◌then◌else◌, inr}
+use Rattle.std.proofs.Common.{refl, arith, ◌≡◌, ◌∙◌, ap, subst, ◌<◌, ◌≤◌, length, ℕ, zero, suc, ◌+◌, ◌==◌, Bool, true, false, ◌⊎◌, List, [], ◌∷◌, ◌++◌, slice_get, Option, Some, None, if◌then◌else◌, inl, inr}
 use Rattle.std.proofs.lemmas.Bool.Decides.{nat_tests}
 use Rattle.l2_units.specs.declared.unit.Unit.{Unit as SignalUnit}
 use Rattle.l2_units.specs.declared.unit.Unit.TheVariants.{Fisu, Lssu, Msu}
@@ -14,17 +14,21 @@ use Rattle.set_events.specs.declared.answer.Fate.TheVariants.{Discarded}
 use Rattle.set_events.specs.declared.answer.Refusal.{Refusal as SetRefusal}
 use Rattle.set_events.specs.declared.answer.Refusal.TheVariants.{NotUp}
 use Rattle.set_events.specs.declared.event.Event.{Event}
-use Rattle.set_events.specs.declared.event.Event.TheVariants.{Offer, Take, Find, Next, Heard, Up as UpEvent, Down as DownEvent, DownBlind, NoAnswer}
+use Rattle.set_events.specs.declared.event.Event.TheVariants.{Offer, Take, Find, Next, Heard, Up as UpEvent, Down as DownEvent, DownBlind, NoAnswer, Restore, BackTimeout}
+use Rattle.set_route.specs.declared.place.Code.{Code}
+use Rattle.set_route.specs.declared.place.Code.TheVariants.{Free, Asked, Spent}
+use Rattle.set_route.specs.Routing.{code_for, home_of, code_of}
 use Rattle.set_model.specs.declared.phase.Phase.{Phase}
 use Rattle.set_model.specs.declared.phase.Phase.TheVariants.{Up, Down, Settled}
 use Rattle.set_model.specs.declared.reached.Reached.{Reached}
 use Rattle.set_model.specs.declared.reached.Reached.TheVariants.{Upto, Unknown, Unanswered}
 use Rattle.set_model.specs.Rows.{unack, is_unacked, is_waiting, changed, place, service_indicator}
-use Rattle.set_model.specs.State.{LinkState, State, has_phase_up, window_of, last_accepted}
+use Rattle.set_model.specs.State.{LinkState, State, link_count, link_is_up, is_up, has_phase_up, window_of, last_accepted}
 use Rattle.set_model.specs.Control.{part_of}
-use Rattle.set_model.specs.Changeover.{Obeyed, queued, left_by, left_link, leaving_order, is_reasonable, reached_by, acknowledged_by, acknowledged, moved_over, settled, reply_of, changed_over, answered, at_link, order_obeyed, obeyed}
-use Rattle.set_model.specs.Step.{Outcome, refused, offer_refusal, offered, taken, found, with_known, in_service, next, is_msu, brought, takes, after_control, controls, heard, rises, gives_up, step}
-use Rattle.set_model.specs.Frame.{BringsAbout, Concerns}
+use Rattle.set_model.specs.Changeover.{Obeyed, queued, left_by, left_link, leaving_order, is_reasonable, reached_by, acknowledged_by, acknowledged, moved_over, settled, reply_of, changed_over, answered, at_link, can_declare, declared, declared_from, some_declare, released, released_from, some_in_use, acknowledged_back, order_obeyed, obeyed}
+use Rattle.set_model.specs.Step.{Outcome, refused, offer_refusal, offered, taken, found, with_known, in_service, next, is_msu, brought, takes, after_control, controls, heard, rises, gives_up, comes_back, runs_out, step}
+use Rattle.set_model.specs.Frame.{BringsAbout, BringsBackTo, Concerns}
+use Rattle.set_model.specs.Sound.{BeginsNone}
 use Rattle.set_model.proofs.Lists.{within, get_set_same}
 
 -- where a link stands, left or in service
@@ -32,8 +36,9 @@ pub record IsAt (n : ℕ) (link : LinkState) (phase : Phase) (s : State) : Type 
   pub there : slice_get s.links n ≡ Some link
   pub phase_is : link.phase ≡ phase
 
--- a relation of two states that each small change keeps, on links of which something is known
-pub record KeptBy (Known : ℕ → Type 0) (R : State → State → Type 0) : Type 0 where
+-- a relation of two states that each small change keeps, on links of which something is known, and where a changeback
+-- may begin
+pub record KeptBy (Known : ℕ → Type 0) (May : Type 0) (R : State → State → Type 0) : Type 0 where
   pub same : (s : State) → R s s
   pub after : (a b c : State) → R a b → R b c → R a c
   pub delivers : (body : List ℕ) (s : State) → R s (record s { inbox = s.inbox ++ body ∷ [] })
@@ -43,8 +48,14 @@ pub record KeptBy (Known : ℕ → Type 0) (R : State → State → Type 0) : Ty
   pub gives_up_sent : (cause : DiscardCause) (n : ℕ) (link : LinkState) (s : State) → Known n → IsAt n link Down s → R s (record s { rows = changed (is_unacked n) (Discarded cause) s.rows })
   pub gives_up_waiting : (cause : DiscardCause) (n : ℕ) (link : LinkState) (s : State) → Known n → IsAt n link Down s → R s (record s { rows = changed (is_waiting n) (Discarded cause) s.rows })
   pub moves_off : (n : ℕ) (link : LinkState) (s : State) → Known n → IsAt n link Down s → R s (moved_over n link s)
+  pub declares : May → (home alternative : ℕ) (s : State) → is_up home s ≡ true → can_declare home alternative s ≡ true → R s (declared home alternative s)
+  pub releases : (code : ℕ) (s : State) → Known (home_of code) → R s (released code s)
 
-module _ (Known : ℕ → Type 0) (R : State → State → Type 0) (k : KeptBy Known R) where
+-- the link of an order, or the home of the code that it acknowledges
+abbrev pub Touches : Order → ℕ → Type 0
+Touches order n = (link_of order ≡ n) ⊎ ((link code : ℕ) × (order ≡ Cba link code) × (home_of code ≡ n))
+
+module _ (Known : ℕ → Type 0) (May : Type 0) (R : State → State → Type 0) (k : KeptBy Known May R) where
   -- settling
   given_up : (cause : DiscardCause) (n : ℕ) (link : LinkState) (s : State) → Known n → IsAt n link Down s → R s (record s { rows = changed (is_waiting n) (Discarded cause) (changed (is_unacked n) (Discarded cause) s.rows) })
   given_up cause n link s known at =
@@ -85,19 +96,40 @@ module _ (Known : ℕ → Type 0) (R : State → State → Type 0) (k : KeptBy K
   at_walks n s f all None e = k.same s
   at_walks n s f all (Some link) e = all link e
 
-  pub obeys_walks : (order : Order) (s : State) → ((n : ℕ) → link_of order ≡ n → Known n) → R s (order_obeyed order s).state
-  obeys_walks (Coo n fsn) s known = at_walks n s (λ link. changed_over (Upto fsn) n link link.phase s) (λ link e. over_walks (Upto fsn) n link link.phase s (known n refl) (record { there = e; phase_is = refl })) (slice_get s.links n) refl
-  obeys_walks (Eco n) s known = at_walks n s (λ link. changed_over Unknown n link link.phase s) (λ link e. over_walks Unknown n link link.phase s (known n refl) (record { there = e; phase_is = refl })) (slice_get s.links n) refl
-  obeys_walks (Coa n fsn) s known = at_walks n s (λ link. answered (Upto fsn) n link link.phase s) (λ link e. answer_walks (Upto fsn) n link link.phase s (known n refl) (record { there = e; phase_is = refl })) (slice_get s.links n) refl
-  obeys_walks (Eca n) s known = at_walks n s (λ link. answered Unknown n link link.phase s) (λ link e. answer_walks Unknown n link link.phase s (known n refl) (record { there = e; phase_is = refl })) (slice_get s.links n) refl
-  obeys_walks (Cbd n code) s known = k.same s
-  obeys_walks (Cba n code) s known = k.same s
+  -- changeback
+  back_walks : (code : ℕ) (c : Code) (s : State) → Known (home_of code) → R s (acknowledged_back code c s).state
+  back_walks code Free s known = k.same s
+  back_walks code Asked s known = k.releases code s known
+  back_walks code Spent s known = k.releases code s known
 
-  obeyed_walks : (order : Option Order) (s : State) → ((o : Order) → order ≡ Some o → (n : ℕ) → link_of o ≡ n → Known n) → R s (obeyed order s).state
+  pub declare_walks : May → (home alternative n : ℕ) (s : State) → is_up home s ≡ true → R s (declared_from home alternative n s)
+  declare_walks may home alternative zero s up = k.same s
+  declare_walks may home alternative (suc n) s up = go (can_declare home alternative s) refl (λ t still. declare_walks may home (suc alternative) n t still)
+    where
+      go : (b : Bool) → can_declare home alternative s ≡ b → ((t : State) → is_up home t ≡ true → R t (declared_from home (suc alternative) n t)) → R s (declared_from home alternative (suc n) s)
+      go true e later = rw e (k.after s (declared home alternative s) _ (k.declares may home alternative s up e) (later (declared home alternative s) up))
+      go false e later = rw e (later s up)
+
+  pub release_walks : (code n : ℕ) (s : State) → ((j : ℕ) → j < n → Known (home_of (code + j))) → R s (released_from code n s)
+  release_walks code zero s known = k.same s
+  release_walks code (suc n) s known =
+      let here : code + 0 ≡ code = omega arith in
+      k.after s (released code s) _ (k.releases code s (subst (λ (c : ℕ). Known (home_of c)) here (known 0 (omega arith))))
+      (release_walks (suc code) n (released code s) (λ j below. let next : code + suc j ≡ suc code + j = omega arith in subst (λ (c : ℕ). Known (home_of c)) next (known (suc j) (omega (arith, below)))))
+
+  pub obeys_walks : (order : Order) (s : State) → ((n : ℕ) → Touches order n → Known n) → R s (order_obeyed order s).state
+  obeys_walks (Coo n fsn) s known = at_walks n s (λ link. changed_over (Upto fsn) n link link.phase s) (λ link e. over_walks (Upto fsn) n link link.phase s (known n (inl refl)) (record { there = e; phase_is = refl })) (slice_get s.links n) refl
+  obeys_walks (Eco n) s known = at_walks n s (λ link. changed_over Unknown n link link.phase s) (λ link e. over_walks Unknown n link link.phase s (known n (inl refl)) (record { there = e; phase_is = refl })) (slice_get s.links n) refl
+  obeys_walks (Coa n fsn) s known = at_walks n s (λ link. answered (Upto fsn) n link link.phase s) (λ link e. answer_walks (Upto fsn) n link link.phase s (known n (inl refl)) (record { there = e; phase_is = refl })) (slice_get s.links n) refl
+  obeys_walks (Eca n) s known = at_walks n s (λ link. answered Unknown n link link.phase s) (λ link e. answer_walks Unknown n link link.phase s (known n (inl refl)) (record { there = e; phase_is = refl })) (slice_get s.links n) refl
+  obeys_walks (Cbd n code) s known = k.queues (Cba n code) s
+  obeys_walks (Cba n code) s known = back_walks code (code_of code s.routing) s (known (home_of code) (inr (n, code, refl, refl)))
+
+  obeyed_walks : (order : Option Order) (s : State) → ((o : Order) → order ≡ Some o → (n : ℕ) → Touches o n → Known n) → R s (obeyed order s).state
   obeyed_walks None s known = k.same s
   obeyed_walks (Some order) s known = obeys_walks order s (known order refl)
 
-  pub takes_walks : (body : Option (List ℕ)) (s : State) → ((b : List ℕ) → body ≡ Some b → (o : Order) → order_of b ≡ Some o → (n : ℕ) → link_of o ≡ n → Known n) → R s (takes body s).state
+  pub takes_walks : (body : Option (List ℕ)) (s : State) → ((b : List ℕ) → body ≡ Some b → (o : Order) → order_of b ≡ Some o → (n : ℕ) → Touches o n → Known n) → R s (takes body s).state
   takes_walks None s known = k.same s
   takes_walks (Some body) s known = go (service_indicator body == 0) refl
     where
@@ -107,7 +139,7 @@ module _ (Known : ℕ → Type 0) (R : State → State → Type 0) (k : KeptBy K
 
 -- what the first small change of an event leads to, and what each one after it keeps
 pub record WalkedBy (s : State) (event : Event) (R : State → State → Type 0) (S : State → Type 0) : Type 0 where
-  pub small : KeptBy (λ n. Concerns event n s) R
+  pub small : KeptBy (λ n. Concerns event n s) (BeginsNone event → ⊥) R
   pub unmoved : S s
   pub rests : (t u : State) → S t → R t u → S u
   pub offers : (body : List ℕ) → event ≡ Offer body → offer_refusal s.rows body ≡ None → S (offered None s body).state
@@ -121,6 +153,16 @@ brought_by accept (Fisu head) b e o f n g = absurd cc
 brought_by accept (Lssu head status) b e o f n g = absurd cc
 brought_by true (Msu head body) b e o f n g = let same : body.items ≡ b = cc in (o, ap order_of same ∙ f, g)
 brought_by false (Msu head body) b e o f n g = absurd cc
+
+brought_back : (accept : Bool) (unit : SignalUnit) (b : List ℕ) → brought accept unit ≡ Some b → (link code : ℕ) → order_of b ≡ Some (Cba link code) → BringsBackTo (home_of code) unit
+brought_back accept (Fisu head) b e link code f = absurd cc
+brought_back accept (Lssu head status) b e link code f = absurd cc
+brought_back true (Msu head body) b e link code f = let same : body.items ≡ b = cc in (link, code, ap order_of same ∙ f, refl)
+brought_back false (Msu head body) b e link code f = absurd cc
+
+brought_either : (accept : Bool) (unit : SignalUnit) (b : List ℕ) → brought accept unit ≡ Some b → (o : Order) → order_of b ≡ Some o → (n : ℕ) → Touches o n → BringsAbout n unit ⊎ BringsBackTo n unit
+brought_either accept unit b e o f n (inl g) = inl (brought_by accept unit b e o f n g)
+brought_either accept unit b e o f n (inr p) = inr (subst (λ (m : ℕ). BringsBackTo m unit) p.3 (brought_back accept unit b e p.0 p.1 (f ∙ ap Some p.2)))
 
 is_up_phase : (phase : Phase) → has_phase_up phase ≡ true → phase ≡ Up
 is_up_phase Up e = refl
@@ -159,7 +201,7 @@ module _ (s : State) (R : State → State → Type 0) (S : State → Type 0) whe
       let part = part_of link.control (window_of n link s.rows) (header_in unit) (is_msu unit) in
       let mid = after_control part (header_in unit) unit n s link in
       w.rests mid (controls unit n s link).state (w.hears n unit link refl at)
-      (takes_walks (λ m. Concerns (Heard n unit) m s) R w.small (brought part.accept unit) mid (λ b e o f m g. inr (brought_by part.accept unit b e o f m g)))
+      (takes_walks (λ m. Concerns (Heard n unit) m s) (BeginsNone (Heard n unit) → ⊥) R w.small (brought part.accept unit) mid (λ b e o f m g. inr (brought_either part.accept unit b e o f m g)))
 
   heard_walks : (n : ℕ) (unit : SignalUnit) (link : LinkState) → WalkedBy s (Heard n unit) R S → IsAt n link Up s → S (heard unit n s link).state
   heard_walks n (Fisu head) link w at = hear_walks n (Fisu head) link w at
@@ -174,12 +216,29 @@ module _ (s : State) (R : State → State → Type 0) (S : State → Type 0) whe
   give_walks : (n : ℕ) (link : LinkState) (phase : Phase) → WalkedBy s (NoAnswer n) R S → IsAt n link phase s → S (gives_up n s link phase).state
   give_walks n link Up w at = w.unmoved
   give_walks n link Settled w at = w.unmoved
-  give_walks n link Down w at = w.rests s (settled Unanswered n link s) w.unmoved (settle_walks (λ m. Concerns (NoAnswer n) m s) R w.small Unanswered n link s refl at)
+  give_walks n link Down w at = w.rests s (settled Unanswered n link s) w.unmoved (settle_walks (λ m. Concerns (NoAnswer n) m s) (BeginsNone (NoAnswer n) → ⊥) R w.small Unanswered n link s refl at)
 
   fall_walks : (event : Event) (blind : Bool) (n : ℕ) (link : LinkState) → WalkedBy s event R S → Concerns event n s → IsAt n link Up s → S (queued (leaving_order blind n link) (left_by blind n link s))
   fall_walks event blind n link w known at =
       let left = left_by blind n link s in
       w.rests s (queued (leaving_order blind n link) left) w.unmoved (w.small.after s left (queued (leaving_order blind n link) left) (w.small.leaves blind n link s known at) (w.small.queues (leaving_order blind n link) left))
+
+  restore_walks : (n : ℕ) (link : LinkState) → WalkedBy s (Restore n) R S → IsAt n link Up s → S (comes_back n s).state
+  restore_walks n link w at = go (some_declare n 0 (link_count s) s) refl
+    where
+      up : is_up n s ≡ true
+      up = ap link_is_up at.there ∙ ap has_phase_up at.phase_is
+
+      go : (b : Bool) → some_declare n 0 (link_count s) s ≡ b → S (comes_back n s).state
+      go true e = rw e (w.rests s _ w.unmoved (declare_walks (λ m. Concerns (Restore n) m s) (BeginsNone (Restore n) → ⊥) R w.small (λ none. none) n 0 (link_count s) s up))
+      go false e = rw e w.unmoved
+
+  timeout_walks : (n : ℕ) → WalkedBy s (BackTimeout n) R S → S (runs_out n s).state
+  timeout_walks n w = go (some_in_use (code_for n 0) 16 s) refl
+    where
+      go : (b : Bool) → some_in_use (code_for n 0) 16 s ≡ b → S (runs_out n s).state
+      go true e = rw e (w.rests s _ w.unmoved (release_walks (λ m. Concerns (BackTimeout n) m s) (BeginsNone (BackTimeout n) → ⊥) R w.small (code_for n 0) 16 s (λ j below. omega (arith, below))))
+      go false e = rw e w.unmoved
 
   pub step_walks : (event : Event) → WalkedBy s event R S → S (step s event).state
   unfolding step
@@ -192,3 +251,5 @@ module _ (s : State) (R : State → State → Type 0) (S : State → Type 0) whe
   step_walks (DownEvent n) w = in_walks n _ w.unmoved (λ link at. fall_walks (DownEvent n) false n link w refl at)
   step_walks (DownBlind n) w = in_walks n _ w.unmoved (λ link at. fall_walks (DownBlind n) true n link w refl at)
   step_walks (NoAnswer n) w = on_walks n (λ link. gives_up n s link link.phase) w.unmoved (λ link there. give_walks n link link.phase w (record { there = there; phase_is = refl }))
+  step_walks (Restore n) w = in_walks n (λ link. comes_back n s) w.unmoved (λ link at. restore_walks n link w at)
+  step_walks (BackTimeout n) w = on_walks n (λ link. runs_out n s) w.unmoved (λ link there. timeout_walks n w)

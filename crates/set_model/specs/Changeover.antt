@@ -1,6 +1,6 @@
--- CHANGEOVER (Q.704 5): a link is left, orders tell the far end, and once it's known how far the far end got, the rest
--- is moved to another link.
-use Rattle.std.specs.Prelude.{ℕ, Bool, true, false, ◌+◌, nat_le, List, length, slice_get, slice_set, Option, None, Some, if◌then◌else◌}
+-- CHANGEOVER AND CHANGEBACK (Q.704 5, 6). A link is left, orders tell the far end, and once it's known how far the far
+-- end got, the rest is moved to another link; and when it's back, its streams come back to it.
+use Rattle.std.specs.Prelude.{ℕ, zero, suc, Bool, true, false, not, ◌&&◌, ◌||◌, ◌+◌, ◌==◌, nat_le, List, length, slice_get, slice_set, Option, None, Some, if◌then◌else◌}
 use Rattle.l2_window.specs.Window.{distance_to}
 use Rattle.l3_orders.specs.declared.order.Order.{Order}
 use Rattle.l3_orders.specs.declared.order.Order.TheVariants.{Coo, Coa, Cbd, Cba, Eco, Eca}
@@ -11,13 +11,15 @@ use Rattle.set_events.specs.declared.answer.DiscardCause.{DiscardCause}
 use Rattle.set_events.specs.declared.answer.DiscardCause.TheVariants.{Emergency, Unreasonable, NoAnswer}
 use Rattle.set_events.specs.declared.answer.Took.{Took}
 use Rattle.set_events.specs.declared.answer.Took.TheVariants.{Order as TookOrder, Ignored}
-use Rattle.set_model.specs.Rows.{Row, all_with, unack, is_unacked, is_waiting, is_on, turned, changed, moved, appended}
-use Rattle.set_route.specs.Routing.{left, settled as streams_settled}
+use Rattle.set_model.specs.Rows.{Row, all_with, unack, stream_of, is_unacked, is_waiting, is_on, is_back, is_back_to, turned, changed, moved, appended}
+use Rattle.set_route.specs.declared.place.Code.{Code}
+use Rattle.set_route.specs.declared.place.Code.TheVariants.{Free, Asked, Spent}
+use Rattle.set_route.specs.Routing.{place_of, code_for, home_of, code_of, is_free, can_ask, asked, given_back, left, settled as streams_settled}
 use Rattle.set_model.specs.declared.phase.Phase.{Phase}
 use Rattle.set_model.specs.declared.phase.Phase.TheVariants.{Up, Down, Settled}
 use Rattle.set_model.specs.declared.reached.Reached.{Reached}
 use Rattle.set_model.specs.declared.reached.Reached.TheVariants.{Upto, Unknown, Unanswered}
-use Rattle.set_model.specs.State.{LinkState, State, target, window_of, last_accepted}
+use Rattle.set_model.specs.State.{LinkState, State, is_up, fate_at, target, window_of, last_accepted}
 
 -- where a message goes that is moved: it waits for the target, or is parked where no link is up
 abbrev pub fate_on : Option ℕ → Fate
@@ -30,15 +32,25 @@ queued order s = record s {
   rows = appended s.rows (text order s.settings.sio s.settings.dpc s.settings.opc) (fate_on (target s.links));
 }
 
--- LEAVE (5.3): the link is out of service; its messages stay on it until it settles
+-- LEAVE (5.3): the link is out of service; its messages stay on it until it settles. Streams on their way back to it
+-- run where they came from again,
 abbrev pub left_link : Bool → LinkState → LinkState
 left_link blind link = record link { phase = Down; blind = blind }
 
-abbrev pub left_by : Bool → ℕ → LinkState → State → State
-left_by blind number link s = record s {
+abbrev pub out_of_service : Bool → ℕ → LinkState → State → State
+out_of_service blind number link s = record s {
   links = slice_set s.links number (left_link blind link);
   routing = left number s.routing;
 }
+
+-- and so do their messages, all together, in their order
+abbrev pub turned_back : ℕ → State → State
+turned_back number s = record s {
+  rows = moved (is_back_to number) (λ row. fate_at (place_of (stream_of row.body) s.routing) s) s.rows;
+}
+
+abbrev pub left_by : Bool → ℕ → LinkState → State → State
+left_by blind number link s = turned_back number (out_of_service blind number link s)
 
 -- (5.4.1, 5.6.1) the order with which an end leaves: with the FSN last accepted, or without it
 abbrev pub leaving_order : Bool → ℕ → LinkState → Order
@@ -101,6 +113,50 @@ abbrev pub settled : Reached → ℕ → LinkState → State → State
 settled reached number link s =
     moved_over number (judged_link reached number link s.rows) (judged reached number link s)
 
+-- CHANGEBACK (6). A declaration tells the far end, on the link from which streams are to come back, that what
+-- follows comes on their home; it stands behind all that was queued there. Until it's acknowledged what is offered for
+-- them waits.
+abbrev pub declared : ℕ → ℕ → State → State
+declared home alternative s = record s {
+  rows = appended s.rows (text (Cbd home (code_for home alternative)) s.settings.sio s.settings.dpc s.settings.opc) (Waiting alternative);
+  routing = asked home alternative s.routing;
+}
+
+-- from another link that is up, if its code is free and streams of the home run there
+abbrev pub can_declare : ℕ → ℕ → State → Bool
+can_declare home alternative s =
+    not (alternative == home) && (is_up alternative s && can_ask home alternative s.routing)
+
+abbrev pub declared_if : ℕ → ℕ → State → State
+declared_if home alternative s = if can_declare home alternative s then declared home alternative s else s
+
+-- from so many links, this one and those after it
+abbrev pub declared_from : ℕ → ℕ → ℕ → State → State
+declared_from home alternative zero s = s
+declared_from home alternative (suc n) s = declared_from home (suc alternative) n (declared_if home alternative s)
+
+abbrev pub some_declare : ℕ → ℕ → ℕ → State → Bool
+some_declare home alternative zero s = false
+some_declare home alternative (suc n) s = can_declare home alternative s || some_declare home (suc alternative) n s
+
+-- what waits for the code's acknowledgement waits for its home now, and so its streams run there. (Of a code that is
+-- spent nothing stands back, and no stream is on its way.)
+abbrev pub released : ℕ → State → State
+released code s = record s {
+  rows = moved (is_back code) (all_with (Waiting (home_of code))) s.rows;
+  routing = given_back code s.routing;
+}
+
+-- so many codes, this one and those after it
+abbrev pub released_from : ℕ → ℕ → State → State
+released_from code zero s = s
+released_from code (suc n) s = released_from (suc code) n (released code s)
+
+-- whether one of them is open or spent
+abbrev pub some_in_use : ℕ → ℕ → State → Bool
+some_in_use code zero s = false
+some_in_use code (suc n) s = not (is_free (code_of code s.routing)) || some_in_use (suc code) n s
+
 -- ORDERS HEARD: what became of the body, and what the set holds then
 pub record Obeyed : Type 0 where
   pub took : Took
@@ -134,7 +190,17 @@ abbrev pub at_link : ℕ → State → (LinkState → Obeyed) → Option LinkSta
 at_link number s obeyed None = ignored s
 at_link number s obeyed (Some link) = obeyed link
 
--- the link of the order need not be the one that it was heard on; until changeback comes its orders are ignored
+-- (6.3) a declaration is acknowledged, whatever its code
+abbrev pub declaration_heard : ℕ → ℕ → State → Obeyed
+declaration_heard link code s = record { took = TookOrder; state = queued (Cba link code) s }
+
+-- (6.3) an acknowledgement of a code in no use is ignored
+abbrev pub acknowledged_back : ℕ → Code → State → Obeyed
+acknowledged_back code Free s = ignored s
+acknowledged_back code Asked s = record { took = TookOrder; state = released code s }
+acknowledged_back code Spent s = record { took = TookOrder; state = released code s }
+
+-- the link of the order need not be the one that it was heard on
 abbrev pub order_obeyed : Order → State → Obeyed
 order_obeyed (Coo number fsn) s =
     at_link number s (λ link. changed_over (Upto fsn) number link link.phase s) (slice_get s.links number)
@@ -144,8 +210,8 @@ order_obeyed (Coa number fsn) s =
     at_link number s (λ link. answered (Upto fsn) number link link.phase s) (slice_get s.links number)
 order_obeyed (Eca number) s =
     at_link number s (λ link. answered Unknown number link link.phase s) (slice_get s.links number)
-order_obeyed (Cbd number code) s = ignored s
-order_obeyed (Cba number code) s = ignored s
+order_obeyed (Cbd number code) s = declaration_heard number code s
+order_obeyed (Cba number code) s = acknowledged_back code (code_of code s.routing) s
 
 -- a body of the management that is no order is ignored
 abbrev pub obeyed : Option Order → State → Obeyed

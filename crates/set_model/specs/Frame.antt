@@ -1,15 +1,16 @@
 -- WHICH LINKS AN EVENT CONCERNS, what it leaves alone on all others, and what it does to the window of its own.
-use Rattle.std.specs.Prelude.{◌≡◌, ℕ, false, List, [], ◌++◌, take, drop, slice_get, Some, ◌⊎◌}
+use Rattle.std.specs.Prelude.{◌≡◌, ℕ, false, List, [], ◌++◌, take, drop, slice_get, true, Some, ◌⊎◌}
 use Rattle.l2_units.specs.declared.unit.Unit.{Unit as SignalUnit}
 use Rattle.l2_units.specs.declared.unit.Unit.TheVariants.{Fisu, Lssu, Msu}
 use Rattle.l2_units.specs.Grammar.{head_of as header_in}
 use Rattle.l2_window.specs.Window.{WindowState}
 use Rattle.l3_orders.specs.declared.order.Order.{Order}
+use Rattle.l3_orders.specs.declared.order.Order.TheVariants.{Cba}
 use Rattle.l3_orders.specs.Grammar.{order_of, link_of}
 use Rattle.set_events.specs.declared.event.Event.{Event}
-use Rattle.set_events.specs.declared.event.Event.TheVariants.{Offer, Take, Find, Next, Heard, Up as UpEvent, Down as DownEvent, DownBlind, NoAnswer}
+use Rattle.set_events.specs.declared.event.Event.TheVariants.{Offer, Take, Find, Next, Heard, Up as UpEvent, Down as DownEvent, DownBlind, NoAnswer, Restore, BackTimeout}
 use Rattle.set_route.specs.declared.place.Place.TheVariants.{On}
-use Rattle.set_route.specs.Routing.{place_of}
+use Rattle.set_route.specs.Routing.{place_of, home_of}
 use Rattle.set_model.specs.declared.phase.Phase.TheVariants.{Up}
 use Rattle.set_model.specs.Rows.{Row, stream_of, unack, wait, held, octets_in}
 use Rattle.set_model.specs.Control.{Choice, again, first, fill, choice_of, control_after, window_heard, part_of, control_heard}
@@ -23,26 +24,39 @@ BringsAbout number (Fisu head) = ⊥
 BringsAbout number (Lssu head status) = ⊥
 BringsAbout number (Msu head body) = (order : Order) × (order_of body.items ≡ Some order) × (link_of order ≡ number)
 
--- its own link, that of an order which its unit brings, or the one on which the stream of an offered message runs
+-- it brings the acknowledgement of a changeback to this link
+abbrev pub BringsBackTo : ℕ → SignalUnit → Type 0
+BringsBackTo number (Fisu head) = ⊥
+BringsBackTo number (Lssu head status) = ⊥
+BringsBackTo number (Msu head body) =
+    (link code : ℕ) × (order_of body.items ≡ Some (Cba link code)) × (home_of code ≡ number)
+
+-- its own link, that of an order which its unit brings, the home of the code that it acknowledges, or the one on which
+-- the stream of an offered message runs; Restore concerns none
 abbrev pub Concerns : Event → ℕ → State → Type 0
 Concerns (Offer body) number s = place_of (stream_of body) s.routing ≡ On number
 Concerns Take number s = ⊥
 Concerns (Find message) number s = ⊥
 Concerns (Next link) number s = link ≡ number
-Concerns (Heard link unit) number s = (link ≡ number) ⊎ BringsAbout number unit
+Concerns (Heard link unit) number s = (link ≡ number) ⊎ (BringsAbout number unit ⊎ BringsBackTo number unit)
 Concerns (UpEvent link) number s = link ≡ number
 Concerns (DownEvent link) number s = link ≡ number
 Concerns (DownBlind link) number s = link ≡ number
 Concerns (NoAnswer link) number s = link ≡ number
+Concerns (Restore link) number s = ⊥
+Concerns (BackTimeout link) number s = link ≡ number
 
--- nothing of the link changed, but that messages may have come to wait for it, last, if it's up: it may be the target
+-- nothing of the link changed, but that messages may have come, last: to wait for it if it's up, since it may be the
+-- target or an alternative, and else to be held for it, which turned back from a changeback
 pub record LeavesAlone (number : ℕ) (old new : State) : Type 0 where
   pub link_same : slice_get new.links number ≡ slice_get old.links number
   pub unack_same : unack number new.rows ≡ unack number old.rows
-  pub held_same : held number new.rows ≡ held number old.rows
   pub more : List Row
   pub wait_more : wait number new.rows ≡ wait number old.rows ++ more
   pub none_more : is_up number old ≡ false → more ≡ []
+  pub later : List Row
+  pub held_later : held number new.rows ≡ held number old.rows ++ later
+  pub none_later : is_up number old ≡ true → later ≡ []
 
 -- What is sent moves the window so.
 abbrev pub window_after : Choice → WindowState → WindowState

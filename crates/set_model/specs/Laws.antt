@@ -4,13 +4,14 @@ use Rattle.std.specs.Option.{option_map}
 use Rattle.set_events.specs.declared.answer.Fate.{Fate}
 use Rattle.set_events.specs.declared.answer.Fate.TheVariants.{Acked}
 use Rattle.set_events.specs.declared.event.Event.{Event}
+use Rattle.set_route.specs.Routing.{NoneOpen}
 use Rattle.set_model.specs.declared.phase.Phase.TheVariants.{Down, Settled}
 use Rattle.set_model.specs.declared.reached.Reached.TheVariants.{Upto}
 use Rattle.set_model.specs.Rows.{Row, standing, is_unacked, is_on, unack, wait, held, on, parked, numbers, with_fate, turned, changed, moved, appended, row_of, place, body_at, IsNumbered}
 use Rattle.set_model.specs.State.{LinkState, State, Settings, opened_with, target}
 use Rattle.set_model.specs.Changeover.{fate_on, reached_by, is_reasonable, settled}
 use Rattle.set_model.specs.Step.{step, Gains}
-use Rattle.set_model.specs.Sound.{IsSettings, IsSound, IsAsked, AreFew, IsManaged}
+use Rattle.set_model.specs.Sound.{IsSettings, IsSound, AreTogether, BeginsNone, IsAsked, AreFew, IsManaged}
 
 -- THE ROWS.
 
@@ -75,10 +76,21 @@ AStepCounts = (s : State) (event : Event) (events : ℕ) → AreFew events s →
 abbrev pub EveryStepKeepsASetSound : Type 0
 EveryStepKeepsASetSound = (s : State) (event : Event) → IsAsked event → IsSound s → IsSound (step s event).state
 
+-- no changeback is under way, and the messages of each stream are together
+pub record RunsStraight (s : State) : Type 0 where
+  pub none_open : NoneOpen s.routing
+  pub together : AreTogether s
+
+-- LAW: that stays so until a changeback begins
+abbrev pub StreamsStayTogether : Type 0
+StreamsStayTogether = (s : State) (event : Event) → IsAsked event → BeginsNone event → IsSound s → RunsStraight s
+    → RunsStraight (step s event).state
+
 -- LAW: a set that nothing was asked of is sound
 pub record IsNew (s : State) : Type 0 where
   pub sound : IsSound s
   pub few : AreFew 0 s
+  pub straight : RunsStraight s
 
 abbrev pub ANewSetIsSound : Type 0
 ANewSetIsSound = (settings : Settings) → IsSettings settings → IsNew (opened_with settings)

@@ -2,8 +2,9 @@
 use Rattle.std.specs.Prelude.{◌≡◌, ℕ, suc, zero, ◌==◌, ◌+◌, ◌%◌, ◌/◌, ◌≤◌, nat_lt, Bool, true, false, not, ◌&&◌, List, [], ◌∷◌, ◌++◌, length, filter, map, find, Option, slice_index, if◌then◌else◌}
 use Rattle.std.specs.Option.{option_map}
 use Rattle.set_events.specs.declared.answer.Fate.{Fate}
-use Rattle.set_events.specs.declared.answer.Fate.TheVariants.{Waiting, Unacked, Acked, Held, Parked, Discarded}
+use Rattle.set_events.specs.declared.answer.Fate.TheVariants.{Waiting, Unacked, Acked, Held, Parked, Back, Discarded}
 use Rattle.set_events.specs.declared.answer.Counts.{Counts}
+use Rattle.set_route.specs.Routing.{home_of}
 
 -- A message: the number under which it was accepted, its octets, and its fate, the one place where it stands.
 pub record Row : Type 0 where
@@ -32,6 +33,15 @@ is_on link (Unacked l) = l == link
 is_on link (Held l) = l == link
 is_on link _ = false
 
+-- it waits for the acknowledgement of this changeback code, or of one of this home (Q.704 6.3)
+abbrev pub is_back : ℕ → Fate → Bool
+is_back code (Back c) = c == code
+is_back code _ = false
+
+abbrev pub is_back_to : ℕ → Fate → Bool
+is_back_to home (Back c) = home_of c == home
+is_back_to home _ = false
+
 -- On any link, or on none.
 
 abbrev pub waits : Fate → Bool
@@ -54,6 +64,10 @@ abbrev pub is_parked : Fate → Bool
 is_parked Parked = true
 is_parked _ = false
 
+abbrev pub stands_back : Fate → Bool
+stands_back (Back c) = true
+stands_back _ = false
+
 abbrev pub was_discarded : Fate → Bool
 was_discarded (Discarded cause) = true
 was_discarded _ = false
@@ -63,6 +77,7 @@ abbrev pub is_unsent : Fate → Bool
 is_unsent (Waiting l) = true
 is_unsent (Held l) = true
 is_unsent Parked = true
+is_unsent (Back c) = true
 is_unsent _ = false
 
 -- The filters. Rows stay in their order.
@@ -86,6 +101,10 @@ on link rows = standing (is_on link) rows
 
 abbrev pub parked : List Row → List Row
 parked rows = standing is_parked rows
+
+-- those that wait for a changeback
+abbrev pub back : List Row → List Row
+back rows = standing stands_back rows
 
 abbrev pub numbers : List Row → List ℕ
 numbers rows = map (λ row. row.number) rows
@@ -167,7 +186,7 @@ counts_of rows = record {
   acked = length (standing was_acked (users rows));
   held = length (standing was_held (users rows));
   parked = length (standing is_parked (users rows));
-  back = 0;
+  back = length (standing stands_back (users rows));
   discarded = length (standing was_discarded (users rows));
 }
 
@@ -181,6 +200,11 @@ total_of c = c.waiting + c.unacked + c.acked + c.held + c.parked + c.back + c.di
 abbrev pub IsNumbered : List Row → Type 0
 IsNumbered rows =
     (number : ℕ) → length (filter (λ row. row.number == number) rows) ≡ (if nat_lt number (length rows) then 1 else 0)
+
+-- a fact of each row
+abbrev pub Each : (Row → Type 0) → List Row → Type 0
+Each fact [] = Unit {0}
+Each fact (row ∷ rows) = fact row × Each fact rows
 
 -- no body is longer than a unit's
 abbrev pub AreFit : List Row → Type 0

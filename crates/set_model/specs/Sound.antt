@@ -1,17 +1,18 @@
 -- WHAT HOLDS OF EVERY SET'S STATE. Every event keeps it.
-use Rattle.std.specs.Prelude.{◌≡◌, ◌≢◌, ℕ, Bool, true, false, not, ◌==◌, ◌&&◌, ◌+◌, ◌%◌, ◌≤◌, ◌<◌, List, [], ◌∷◌, length, filter, slice_get, Some}
+use Rattle.std.specs.Prelude.{◌≡◌, ◌≢◌, ℕ, Bool, true, false, not, ◌==◌, ◌&&◌, ◌||◌, ◌+◌, ◌%◌, ◌≤◌, ◌<◌, List, [], ◌∷◌, length, filter, slice_get, Some}
 use Rattle.set_events.specs.declared.answer.Fate.{Fate}
-use Rattle.set_events.specs.declared.answer.Fate.TheVariants.{Waiting, Unacked, Held, Parked}
+use Rattle.set_events.specs.declared.answer.Fate.TheVariants.{Waiting, Unacked, Acked, Held, Parked, Back, Discarded}
 use Rattle.set_events.specs.declared.config.Method.{Method}
 use Rattle.set_events.specs.declared.config.Method.TheVariants.{Basic as BasicMethod, Cyclic as CyclicMethod}
 use Rattle.set_events.specs.declared.event.Event.{Event}
-use Rattle.set_events.specs.declared.event.Event.TheVariants.{Offer}
+use Rattle.set_events.specs.declared.event.Event.TheVariants.{Offer, Restore}
 use Rattle.set_route.specs.declared.place.Place.{Place}
-use Rattle.set_route.specs.declared.place.Place.TheVariants.{On, Nowhere}
-use Rattle.set_route.specs.Routing.{IsRouting, place_of, has_messages}
-use Rattle.set_model.specs.Rows.{Row, is_on, is_parked, is_users, stream_of, unack, held, on, parked, numbers, IsNumbered, AreFit, IsInOrder, IsHeldLast}
+use Rattle.set_route.specs.declared.place.Place.TheVariants.{On, Changing, Nowhere}
+use Rattle.set_route.specs.declared.place.Code.TheVariants.{Asked}
+use Rattle.set_route.specs.Routing.{Routing, IsRouting, home_of, code_of, place_of, has_messages}
+use Rattle.set_model.specs.Rows.{Row, is_on, is_back, is_parked, is_users, stream_of, unack, held, on, back, parked, numbers, Each, IsNumbered, AreFit, IsInOrder, IsHeldLast}
 use Rattle.set_model.specs.Control.{Control, Basic, Cyclic, accepted_of}
-use Rattle.set_model.specs.State.{LinkState, State, Settings, has_phase_up, has_phase_settled, last_accepted}
+use Rattle.set_model.specs.State.{LinkState, State, Settings, is_up, has_phase_up, has_phase_settled, last_accepted}
 
 -- A LINK.
 
@@ -48,11 +49,13 @@ is_unfinished (Waiting l) = true
 is_unfinished (Unacked l) = true
 is_unfinished (Held l) = true
 is_unfinished Parked = true
+is_unfinished (Back c) = true
 is_unfinished _ = false
 
 -- where messages stand whose stream runs there
 abbrev pub stands_at : Place → Fate → Bool
 stands_at (On link) fate = is_on link fate
+stands_at (Changing to code via) fate = is_on via fate || is_back code fate
 stands_at Nowhere fate = is_parked fate
 
 -- an unfinished message of a user, of this stream
@@ -77,10 +80,12 @@ abbrev pub IsAscending : List ℕ → Type 0
 IsAscending [] = Unit {0}
 IsAscending (n ∷ ns) = AreAbove n ns × IsAscending ns
 
--- a link of the set that isn't settled, or nowhere
+-- on a link of the set that isn't settled, or from one, or nowhere
 abbrev pub IsPlaced : List LinkState → Place → Type 0
 IsPlaced links (On number) =
     (link : LinkState) × (slice_get links number ≡ Some link) × (has_phase_settled link.phase ≡ false)
+IsPlaced links (Changing to code via) =
+    (link : LinkState) × (slice_get links via ≡ Some link) × (has_phase_settled link.phase ≡ false)
 IsPlaced links Nowhere = Unit {0}
 
 -- its unfinished messages stand in the order of their numbers, and all where it runs; one that never had a message
@@ -89,6 +94,23 @@ pub record IsSoundStream (stream : ℕ) (place : Place) (used : Bool) (rows : Li
   pub in_order : IsAscending (numbers (live stream rows))
   pub together : astray stream place rows ≡ []
   pub unused : used ≡ false → live stream rows ≡ []
+
+-- A CHANGEBACK.
+
+-- what waits for an acknowledgement is a user's, of a stream that waits for it
+abbrev pub IsBackOf : Routing → Row → Fate → Type 0
+IsBackOf routing row (Back code) =
+    (is_users row ≡ true) × (stream_of row.body < 16)
+    × (via : ℕ) × (place_of (stream_of row.body) routing ≡ Changing (home_of code) code via)
+IsBackOf routing row (Waiting l) = Unit {0}
+IsBackOf routing row (Unacked l) = Unit {0}
+IsBackOf routing row (Acked l) = Unit {0}
+IsBackOf routing row (Held l) = Unit {0}
+IsBackOf routing row Parked = Unit {0}
+IsBackOf routing row (Discarded cause) = Unit {0}
+
+abbrev pub AreBack : Routing → List Row → Type 0
+AreBack routing rows = Each (λ row. IsBackOf routing row row.fate) rows
 
 -- THE SET.
 
@@ -112,14 +134,27 @@ pub record IsSound (s : State) : Type 0 where
   pub fit : AreFit s.rows
   pub links : (number : ℕ) (link : LinkState) → slice_get s.links number ≡ Some link
       → IsSoundLink s.settings.method number link s.rows
-  pub streams : (stream : ℕ) → stream < 16
-      → IsSoundStream stream (place_of stream s.routing) (has_messages stream s.routing) s.rows
   pub placed : (stream : ℕ) → stream < 16 → IsPlaced s.links (place_of stream s.routing)
   -- while a link is up nothing is parked, and no stream runs nowhere
   pub none_aside : (number : ℕ) (link : LinkState) → slice_get s.links number ≡ Some link
       → has_phase_up link.phase ≡ true → parked s.rows ≡ []
   pub all_run : (number : ℕ) (link : LinkState) → slice_get s.links number ≡ Some link
       → has_phase_up link.phase ≡ true → (stream : ℕ) → stream < 16 → place_of stream s.routing ≢ Nowhere
+  -- the home of an open code is up; and what stands back does so in the order of its numbers
+  pub homes_up : (code : ℕ) → code_of code s.routing ≡ Asked → is_up (home_of code) s ≡ true
+  pub backs : AreBack s.routing s.rows
+  pub back_order : IsAscending (numbers (back s.rows))
+
+-- Each stream's unfinished messages stand together where it runs. That is so while no changeback is under way: one that
+-- isn't acknowledged in time, or whose acknowledgement comes unasked, parts them.
+abbrev pub AreTogether : State → Type 0
+AreTogether s = (stream : ℕ) → stream < 16
+    → IsSoundStream stream (place_of stream s.routing) (has_messages stream s.routing) s.rows
+
+-- no changeback begins
+abbrev pub BeginsNone : Event → Type 0
+BeginsNone (Restore link) = ⊥
+BeginsNone _ = Unit {0}
 
 -- what can be asked: the octets of a label tell one of 16 streams
 abbrev pub IsAsked : Event → Type 0

@@ -1,11 +1,15 @@
 -- WHAT A SET OF LINKS HOLDS. Read this file first, after the rows.
-use Rattle.std.specs.Prelude.{ℕ, Bool, true, false, ◌+◌, ◌%◌, List, [], length, map, Option, None, Some, slice_get, slice_set, replicate}
+use Rattle.std.specs.Prelude.{ℕ, Bool, true, false, ◌+◌, ◌%◌, List, [], length, map, Option, None, Some, slice_get, slice_set, replicate, if◌then◌else◌}
 use Rattle.l2_window.specs.Window.{WindowState}
 use Rattle.std.specs.Option.{option_map}
 use Rattle.set_events.specs.declared.answer.Counts.{Counts}
+use Rattle.set_events.specs.declared.answer.Fate.{Fate}
+use Rattle.set_events.specs.declared.answer.Fate.TheVariants.{Waiting, Held, Parked, Back}
 use Rattle.set_events.specs.declared.config.SetConfig.{SetConfig}
 use Rattle.set_events.specs.declared.config.Method.{Method}
 use Rattle.set_model.specs.Rows.{Row, unack, wait, numbers}
+use Rattle.set_route.specs.declared.place.Place.{Place}
+use Rattle.set_route.specs.declared.place.Place.TheVariants.{On, Changing, Nowhere}
 use Rattle.set_route.specs.Routing.{Routing, new_routing}
 use Rattle.set_route.specs.Target.{target_of}
 use Rattle.set_model.specs.declared.numbered.Numbered.{Numbered}
@@ -101,6 +105,13 @@ is_up number s = link_is_up (slice_get s.links number)
 
 abbrev pub is_settled : ℕ → State → Bool
 is_settled number s = link_is_settled (slice_get s.links number)
+
+-- where a new message goes whose stream runs there: on a link that was left it's held, on its way back it waits for the
+-- acknowledgement, nowhere it's parked
+abbrev pub fate_at : Place → State → Fate
+fate_at (On link) s = if is_up link s then Waiting link else Held link
+fate_at (Changing to code via) s = Back code
+fate_at Nowhere s = Parked
 
 -- TARGET: the lowest-numbered link that is up (own)
 abbrev pub target : List LinkState → Option ℕ

@@ -9,7 +9,7 @@ use Rattle.l3_orders.specs.Grammar.{order_of}
 use Rattle.l2_signals.specs.declared.cause.ControlFault.{ControlFault}
 use Rattle.l2_signals.specs.declared.cause.ControlFault.TheVariants.{Bsn, Fib}
 use Rattle.set_events.specs.declared.answer.Fate.{Fate}
-use Rattle.set_events.specs.declared.answer.Fate.TheVariants.{Waiting, Unacked, Acked, Held, Parked}
+use Rattle.set_events.specs.declared.answer.Fate.TheVariants.{Waiting, Unacked, Acked}
 use Rattle.set_events.specs.declared.answer.Took.{Took}
 use Rattle.set_events.specs.declared.answer.Took.TheVariants.{Nothing as NothingTaken, Message}
 use Rattle.set_events.specs.declared.answer.Report.{Report}
@@ -18,18 +18,16 @@ use Rattle.set_events.specs.declared.answer.Refusal.TheVariants.{TooShort, TooLo
 use Rattle.set_events.specs.declared.answer.Answer.{Answer}
 use Rattle.set_events.specs.declared.answer.Answer.TheVariants.{Accepted, Taken, Found, Sent, Heard as HeardBack, Done, Refused}
 use Rattle.set_events.specs.declared.event.Event.{Event}
-use Rattle.set_events.specs.declared.event.Event.TheVariants.{Offer, Take, Find, Next, Heard, Up as UpEvent, Down as DownEvent, DownBlind, NoAnswer}
+use Rattle.set_events.specs.declared.event.Event.TheVariants.{Offer, Take, Find, Next, Heard, Up as UpEvent, Down as DownEvent, DownBlind, NoAnswer, Restore, BackTimeout}
 use Rattle.set_events.specs.declared.config.Method.{Method}
-use Rattle.set_route.specs.declared.place.Place.{Place}
-use Rattle.set_route.specs.declared.place.Place.TheVariants.{On, Nowhere}
-use Rattle.set_route.specs.Routing.{place_of, accepted, raised}
+use Rattle.set_route.specs.Routing.{place_of, code_for, accepted, raised}
 use Rattle.set_model.specs.Rows.{Row, all_with, unack, wait, is_unacked, is_waiting, is_parked, octets_in, unsent, stream_of, service_indicator, turned, moved, appended, place, counts_of, total_of}
 use Rattle.set_model.specs.declared.phase.Phase.{Phase}
 use Rattle.set_model.specs.declared.phase.Phase.TheVariants.{Up, Down, Settled}
 use Rattle.set_model.specs.declared.reached.Reached.TheVariants.{Unanswered}
-use Rattle.set_model.specs.State.{LinkState, State, with_link, is_up, has_phase_up, window_of}
+use Rattle.set_model.specs.State.{LinkState, State, with_link, link_count, has_phase_up, fate_at, window_of}
 use Rattle.set_model.specs.Control.{Choice, again, first, fill, start_of, choice_of, fsn_of, head_of, control_after, part_of, control_heard}
-use Rattle.set_model.specs.Changeover.{Obeyed, left_by, leaving_order, queued, settled, obeyed}
+use Rattle.set_model.specs.Changeover.{Obeyed, left_by, leaving_order, queued, settled, declared_from, some_declare, released_from, some_in_use, obeyed}
 
 -- what is answered, and what the set holds then
 pub record Outcome : Type 0 where
@@ -49,12 +47,7 @@ offer_refusal rows body =
     else (if nat_le 1024 (length (unsent (stream_of body) rows)) then Some StreamFull
     else None)))
 
--- a new message goes where its stream runs: on a link that was left it's held, nowhere it's parked
-abbrev pub fate_at : Place → State → Fate
-fate_at (On link) s = if is_up link s then Waiting link else Held link
-fate_at Nowhere s = Parked
-
--- a new row stands at the end
+-- a new row stands at the end, where its stream runs
 abbrev pub offered : Option SetRefusal → State → List ℕ → Outcome
 offered (Some why) s body = refused s why
 offered None s body = record {
@@ -212,6 +205,21 @@ gives_up number s link Down = record { answer = Done; state = settled Unanswered
 gives_up number s link Up = refused s Nothing
 gives_up number s link Settled = refused s Nothing
 
+-- RESTORE (Q.704 6.2): streams come back from every other link that is up, the lowest-numbered first.
+abbrev pub comes_back : ℕ → State → Outcome
+comes_back number s =
+    if some_declare number 0 (link_count s) s
+    then record { answer = Done; state = declared_from number 0 (link_count s) s }
+    else refused s Nothing
+
+-- NO ACKNOWLEDGEMENT of a changeback came (Q.704 6.3): messages go home as if each code of this home were acknowledged, the
+-- lowest first, and all of them are free (own).
+abbrev pub runs_out : ℕ → State → Outcome
+runs_out number s =
+    if some_in_use (code_for number 0) 16 s
+    then record { answer = Done; state = released_from (code_for number 0) 16 s }
+    else refused s Nothing
+
 -- THE STEP, event by event
 abbrev pub stepped : State → Event → Outcome
 stepped s (Offer body) = offered (offer_refusal s.rows body) s body
@@ -223,6 +231,8 @@ stepped s (UpEvent link) = on_link link s (λ state. rises link s state.phase)
 stepped s (DownEvent link) = in_service link s (falls false link s)
 stepped s (DownBlind link) = in_service link s (falls true link s)
 stepped s (NoAnswer link) = on_link link s (λ state. gives_up link s state state.phase)
+stepped s (Restore link) = in_service link s (λ state. comes_back link s)
+stepped s (BackTimeout link) = on_link link s (λ state. runs_out link s)
 
 -- THE STEP. Its name is sealed, since a goal that names an event would compute all that the event does.
 unfoldable pub step : State → Event → Outcome

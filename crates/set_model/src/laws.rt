@@ -1,6 +1,6 @@
 //! Laws that speak of states alone.
 ghost use Rattle.set_model.specs.Frame.{AnEventLeavesTheRestAlone, AWindowMovesAsItsControl};
-ghost use Rattle.set_model.specs.Laws.{NoMessageChanges, AMoveMovesTheLinksRows, NoEventChangesAMessage, ASettledLinkIsEmpty, SettlingMovesTheRest, AChangeoverDivertsTheRest, AStepGains, AStepCounts, ANewSetIsSound, EveryStepKeepsASetSound};
+ghost use Rattle.set_model.specs.Laws.{NoMessageChanges, AMoveMovesTheLinksRows, NoEventChangesAMessage, ASettledLinkIsEmpty, SettlingMovesTheRest, AChangeoverDivertsTheRest, AStepGains, AStepCounts, ANewSetIsSound, EveryStepKeepsASetSound, StreamsStayTogether};
 
 /// No change takes a row out, or gives one another number or another body; and a new message
 /// leaves all others as they are. Each number stands in exactly one row.
@@ -63,8 +63,9 @@ pub fn a_new_set_is_sound()
 /// Every event keeps what holds of every set's state: numbers stand in one row each; no link has more
 /// than 127 unacknowledged messages, and what was sent on it stands before what waits and what is held;
 /// nothing is held for a link that is up, and nothing stands on one that settled; a stream runs on a link
-/// that isn't settled, its unfinished messages together and in the order of their numbers; nothing is
-/// aside while a link is up.
+/// that isn't settled, or is on its way back from one; nothing is aside while a link is up; the home of an
+/// open changeback code is up, and what waits for its acknowledgement is of streams on their way back by
+/// it, in the order of their numbers.
 pub fn every_step_keeps_a_set_sound()
     ensures { EveryStepKeepsASetSound }
 {}
@@ -80,4 +81,10 @@ pub fn an_event_leaves_the_rest_alone()
 /// a heard unit brings no order that is all that happens to rows and links (Q.703 5 and 6).
 pub fn a_window_moves_as_its_control()
     ensures { AWindowMovesAsItsControl }
+{}
+
+/// While no changeback is under way, and none begins, the messages of each stream that aren't finished
+/// stand together where the stream runs, in the order of their numbers.
+pub fn streams_stay_together()
+    ensures { StreamsStayTogether }
 {}

@@ -1,3 +1,4 @@
+pub mod CodeQueues
 pub mod Linked
 pub mod Passing
 pub mod Settling

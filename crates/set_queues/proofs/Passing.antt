@@ -3,11 +3,12 @@ use Rattle.std.proofs.Common.{refl, arith, ◌≡◌, ◌∙◌, ap, subst, ◌<
 use Rattle.std.specs.Prelude.{slice_get}
 use Rattle.std.specs.Option.{option_map}
 use Rattle.std.proofs.lemmas.Bool.{eqb-true, eqb-false}
+use Rattle.std.proofs.lemmas.Option.{get_or_from_slice_get}
 use Rattle.set_events.specs.declared.answer.Fate.{Fate}
-use Rattle.set_events.specs.declared.answer.Fate.TheVariants.{Waiting, Unacked, Acked, Held, Parked, Discarded}
+use Rattle.set_events.specs.declared.answer.Fate.TheVariants.{Waiting, Unacked, Acked, Held, Parked, Back, Discarded}
 use Rattle.set_queues.specs.Messages.{updated}
 use Rattle.set_queues.specs.Buffers.{LinkLists, Lists, is_standing, same_fate, queue_at, with_queue, list_in, number_in, IsKnown, IsQueued}
-use Rattle.set_queues.proofs.Updates.{length-updated, updated_same, updated_other, updated_twice, updated_id}
+use Rattle.set_queues.proofs.Updates.{length-updated, updated_same, updated_other, updated_twice, updated_id, read_set}
 use Rattle.set_queues.proofs.Standing.{same_self}
 
 there : {X : Type 0} (xs : List X) (n : ℕ) → n < length xs → (x : X) × (slice_get xs n ≡ Some x)
@@ -50,26 +51,37 @@ queue_set (Waiting l) (Waiting k) ns q s h = list_set (λ (z : LinkLists). z.uns
 queue_set (Waiting l) (Unacked k) ns q s h = list_kept (list_in (λ (z : LinkLists). z.unacked)) (λ (z : LinkLists). record z { unsent = ns }) q.links l k (kept_unacked (λ (z : LinkLists). record z { unsent = ns }) (λ x. refl)) (l == k) refl
 queue_set (Waiting l) (Held k) ns q s h = list_kept (list_in (λ (z : LinkLists). z.held)) (λ (z : LinkLists). record z { unsent = ns }) q.links l k (kept_held (λ (z : LinkLists). record z { unsent = ns }) (λ x. refl)) (l == k) refl
 queue_set (Waiting l) Parked ns q s h = refl
+queue_set (Waiting l) (Back k) ns q s h = refl
 queue_set (Waiting l) (Acked k) ns q s h = refl
 queue_set (Waiting l) (Discarded d) ns q s h = refl
 queue_set (Unacked l) (Waiting k) ns q s h = list_kept (list_in (λ (z : LinkLists). z.unsent)) (λ (z : LinkLists). record z { unacked = ns }) q.links l k (kept_unsent (λ (z : LinkLists). record z { unacked = ns }) (λ x. refl)) (l == k) refl
 queue_set (Unacked l) (Unacked k) ns q s h = list_set (λ (z : LinkLists). z.unacked) (λ (z : LinkLists). record z { unacked = ns }) ns q.links l k (l == k) refl h (λ x. refl)
 queue_set (Unacked l) (Held k) ns q s h = list_kept (list_in (λ (z : LinkLists). z.held)) (λ (z : LinkLists). record z { unacked = ns }) q.links l k (kept_held (λ (z : LinkLists). record z { unacked = ns }) (λ x. refl)) (l == k) refl
 queue_set (Unacked l) Parked ns q s h = refl
+queue_set (Unacked l) (Back k) ns q s h = refl
 queue_set (Unacked l) (Acked k) ns q s h = refl
 queue_set (Unacked l) (Discarded d) ns q s h = refl
 queue_set (Held l) (Waiting k) ns q s h = list_kept (list_in (λ (z : LinkLists). z.unsent)) (λ (z : LinkLists). record z { held = ns }) q.links l k (kept_unsent (λ (z : LinkLists). record z { held = ns }) (λ x. refl)) (l == k) refl
 queue_set (Held l) (Unacked k) ns q s h = list_kept (list_in (λ (z : LinkLists). z.unacked)) (λ (z : LinkLists). record z { held = ns }) q.links l k (kept_unacked (λ (z : LinkLists). record z { held = ns }) (λ x. refl)) (l == k) refl
 queue_set (Held l) (Held k) ns q s h = list_set (λ (z : LinkLists). z.held) (λ (z : LinkLists). record z { held = ns }) ns q.links l k (l == k) refl h (λ x. refl)
 queue_set (Held l) Parked ns q s h = refl
+queue_set (Held l) (Back k) ns q s h = refl
 queue_set (Held l) (Acked k) ns q s h = refl
 queue_set (Held l) (Discarded d) ns q s h = refl
 queue_set Parked (Waiting k) ns q s h = refl
 queue_set Parked (Unacked k) ns q s h = refl
 queue_set Parked (Held k) ns q s h = refl
 queue_set Parked Parked ns q s h = refl
+queue_set Parked (Back k) ns q s h = refl
 queue_set Parked (Acked k) ns q s h = refl
 queue_set Parked (Discarded d) ns q s h = refl
+queue_set (Back c) (Waiting k) ns q s h = refl
+queue_set (Back c) (Unacked k) ns q s h = refl
+queue_set (Back c) (Held k) ns q s h = refl
+queue_set (Back c) Parked ns q s h = refl
+queue_set (Back c) (Back k) ns q s h = read_set ns q.back c k [] (c == k) refl h
+queue_set (Back c) (Acked k) ns q s h = refl
+queue_set (Back c) (Discarded d) ns q s h = refl
 queue_set (Acked l) f ns q s h = absurd (cc)
 queue_set (Discarded c) f ns q s h = absurd (cc)
 
@@ -79,14 +91,36 @@ links_stay (Waiting l) ns q = length-updated (λ (z : LinkLists). record z { uns
 links_stay (Unacked l) ns q = length-updated (λ (z : LinkLists). record z { unacked = ns }) q.links l
 links_stay (Held l) ns q = length-updated (λ (z : LinkLists). record z { held = ns }) q.links l
 links_stay Parked ns q = refl
+links_stay (Back c) ns q = refl
 links_stay (Acked l) ns q = refl
 links_stay (Discarded c) ns q = refl
 
-pub known_on : (f : Fate) (q q' : Lists) → length q'.links ≡ length q.links → IsKnown f q → IsKnown f q'
-known_on (Waiting l) q q' e h = omega arith
-known_on (Unacked l) q q' e h = omega arith
-known_on (Held l) q q' e h = omega arith
+back_stays : (g : Fate) (numbers : List ℕ) (q : Lists) → length (with_queue g numbers q).back ≡ length q.back
+back_stays (Back c) ns q = length-updated (λ (z : List ℕ). ns) q.back c
+back_stays (Waiting l) ns q = refl
+back_stays (Unacked l) ns q = refl
+back_stays (Held l) ns q = refl
+back_stays Parked ns q = refl
+back_stays (Acked l) ns q = refl
+back_stays (Discarded c) ns q = refl
+
+-- as many links, and as many codes
+pub record SameSize (q q' : Lists) : Type 0 where
+  pub links : length q'.links ≡ length q.links
+  pub back : length q'.back ≡ length q.back
+
+pub size_stays : (g : Fate) (numbers : List ℕ) (q : Lists) → SameSize q (with_queue g numbers q)
+size_stays g ns q = record { links = links_stay g ns q; back = back_stays g ns q }
+
+pub size_both : (p q r : Lists) → SameSize p q → SameSize q r → SameSize p r
+size_both p q r e f = record { links = f.links ∙ e.links; back = f.back ∙ e.back }
+
+pub known_on : (f : Fate) (q q' : Lists) → SameSize q q' → IsKnown f q → IsKnown f q'
+known_on (Waiting l) q q' e h = omega (arith, e.links)
+known_on (Unacked l) q q' e h = omega (arith, e.links)
+known_on (Held l) q q' e h = omega (arith, e.links)
 known_on Parked q q' e h = tt
+known_on (Back c) q q' e h = omega (arith, e.back)
 known_on (Acked l) q q' e h = tt
 known_on (Discarded c) q q' e h = tt
 
@@ -96,6 +130,7 @@ queue_twice (Waiting l) xs ys q = ap (λ (ls : List LinkLists). record q { links
 queue_twice (Unacked l) xs ys q = ap (λ (ls : List LinkLists). record q { links = ls }) (updated_twice (λ (z : LinkLists). record z { unacked = xs }) (λ (z : LinkLists). record z { unacked = ys }) q.links l)
 queue_twice (Held l) xs ys q = ap (λ (ls : List LinkLists). record q { links = ls }) (updated_twice (λ (z : LinkLists). record z { held = xs }) (λ (z : LinkLists). record z { held = ys }) q.links l)
 queue_twice Parked xs ys q = refl
+queue_twice (Back c) xs ys q = ap (λ (bs : List (List ℕ)). record q { back = bs }) (updated_twice (λ (z : List ℕ). xs) (λ (z : List ℕ). ys) q.back c)
 queue_twice (Acked l) xs ys q = refl
 queue_twice (Discarded c) xs ys q = refl
 
@@ -110,6 +145,9 @@ queue_id (Held l) q h =
     let x = there q.links l h in
     ap (λ (ls : List LinkLists). record q { links = ls }) (updated_id (λ (z : LinkLists). record z { held = queue_at (Held l) q }) q.links l x.0 x.1 (rw x.1 refl))
 queue_id Parked q h = refl
+queue_id (Back c) q h =
+    let x = there q.back c h in
+    ap (λ (bs : List (List ℕ)). record q { back = bs }) (updated_id (λ (z : List ℕ). queue_at (Back c) q) q.back c x.0 x.1 (get_or_from_slice_get q.back c x.0 [] x.1))
 queue_id (Acked l) q h = refl
 queue_id (Discarded c) q h = refl
 
@@ -117,6 +155,7 @@ pub queued_stands : (f : Fate) → IsQueued f → is_standing f ≡ true
 queued_stands (Waiting l) h = refl
 queued_stands (Held l) h = refl
 queued_stands Parked h = refl
+queued_stands (Back c) h = refl
 queued_stands (Unacked l) h = absurd h
 queued_stands (Acked l) h = absurd h
 queued_stands (Discarded c) h = absurd h

@@ -4,7 +4,7 @@ use Rattle.std.specs.Prelude.{IfSome}
 use Rattle.std.proofs.lemmas.Bool.{ne_eqb, cases_Bool}
 use Rattle.std.proofs.lemmas.List.{length-append}
 use Rattle.set_events.specs.declared.answer.Fate.{Fate}
-use Rattle.set_events.specs.declared.answer.Fate.TheVariants.{Waiting, Unacked, Acked, Held, Parked, Discarded}
+use Rattle.set_events.specs.declared.answer.Fate.TheVariants.{Waiting, Unacked, Acked, Held, Parked, Back, Discarded}
 use Rattle.set_queues.specs.declared.message.Message.{Message}
 use Rattle.set_queues.specs.Messages.{restood}
 use Rattle.set_queues.specs.Buffers.{Lists, Rooms, is_standing, same_fate, queue_at, room_at, IsKnown, IsQueued, TakesRoom}
@@ -12,7 +12,7 @@ use Rattle.set_queues.specs.Queues.{passed}
 use Rattle.set_queues.specs.Settling.{fate_on, on, Settles}
 use Rattle.set_queues.proofs.Standing.{restood-append, room_sum, same_self, same_is}
 use Rattle.set_queues.proofs.Passing.{queued_stands, known_on}
-use Rattle.set_queues.proofs.Soundness.{passed_replaces, passed_links, unqueued}
+use Rattle.set_queues.proofs.Soundness.{passed_replaces, passed_size, unqueued}
 
 -- a place for what leaves the link
 pub record IsAside (link : ℕ) (to : Fate) (q : Lists) : Type 0 where
@@ -45,8 +45,8 @@ aside_of target link to q e k o a = record {
 
 pub aside_passed : (link : ℕ) (from to : Fate) (q : Lists) → IsAside link to q → IsAside link to (passed from to q)
 aside_passed link from to q a = record {
-  known = omega (arith, a.known, passed_links q from to);
-  other = known_on to q (passed from to q) (passed_links q from to) a.other;
+  known = omega (arith, a.known, (passed_size q from to).links);
+  other = known_on to q (passed from to q) (passed_size q from to) a.other;
   queued = a.queued;
   unsent = a.unsent;
   held = a.held;
@@ -92,6 +92,7 @@ not_from : (to : Fate) (link : ℕ) → IsQueued to → same_fate (Unacked link)
 not_from (Waiting t) link u = refl
 not_from (Held t) link u = refl
 not_from Parked link u = refl
+not_from (Back t) link u = refl
 not_from (Unacked t) link u = absurd u
 not_from (Acked t) link u = absurd u
 not_from (Discarded t) link u = absurd u

@@ -1,13 +1,14 @@
 -- What holds of every set's queues goes on holding.
-use Rattle.std.proofs.Common.{refl, arith, ◌≡◌, ◌∙◌, ap, sym, subst, ◌+◌, ◌≤◌, ◌<◌, [], ◌∷◌, ◌++◌, length, ℕ, zero, suc, Bool, true, false, ◌==◌, ◌⊎◌, inl, inr, List, Option, Some, None, cond, take, drop, replicate}
+use Rattle.std.proofs.Common.{refl, arith, ◌≡◌, ◌∙◌, ap, sym, subst, ◌+◌, ◌≤◌, ◌<◌, [], ◌∷◌, ◌++◌, length, ℕ, zero, suc, Bool, true, false, ◌==◌, ◌⊎◌, inl, inr, List, Option, Some, None, cond, get_or, take, drop, replicate}
 use Rattle.std.specs.Prelude.{slice_get, slice_index}
 use Rattle.std.specs.Option.{option_map}
 use Rattle.std.proofs.lemmas.Bool.{cases_eq, cases_Bool}
 use Rattle.set_events.specs.declared.answer.Fate.{Fate}
-use Rattle.set_events.specs.declared.answer.Fate.TheVariants.{Waiting, Unacked, Acked, Held, Parked, Discarded}
+use Rattle.set_events.specs.declared.answer.Fate.TheVariants.{Waiting, Unacked, Acked, Held, Parked, Back, Discarded}
 use Rattle.set_queues.specs.declared.message.Message.{Message}
 use Rattle.set_queues.specs.Counts.{one_if}
 use Rattle.set_queues.specs.Messages.{with_fate, restood_one, restood, octets_in, octets_of}
+use Rattle.set_queues.specs.Backs.{passed_first}
 use Rattle.set_queues.specs.Sending.{first_sent, acknowledged, reach}
 use Rattle.set_queues.specs.Tally.{IsFit, AreFit}
 use Rattle.set_queues.specs.Buffers.{LinkLists, Lists, is_standing, same_fate, queue_at, with_queue, with_last, list_in, IsKnown, IsQueued}
@@ -17,7 +18,7 @@ use Rattle.set_queues.proofs.Standing.{Moves, moved_tie, given_queue, given_at, 
 use Rattle.set_queues.proofs.Tallies.{fit_push}
 use Rattle.std.proofs.lemmas.List.{length-replicate, length-append, length-drop}
 use Rattle.std.proofs.lemmas.Option.{slice_get_past}
-use Rattle.set_queues.proofs.Passing.{queue_set, queued_stands, links_stay, known_on, list_kept, kept_unsent, kept_unacked, kept_held}
+use Rattle.set_queues.proofs.Passing.{queue_set, queued_stands, SameSize, size_stays, size_both, known_on, list_kept, kept_unsent, kept_unacked, kept_held}
 
 -- a message stays fit wherever it comes to stand
 
@@ -72,6 +73,7 @@ final_empty (Waiting l) q e = absurd (cc)
 final_empty (Unacked l) q e = absurd (cc)
 final_empty (Held l) q e = absurd (cc)
 final_empty Parked q e = absurd (cc)
+final_empty (Back c) q e = absurd (cc)
 final_empty (Acked l) q e = refl
 final_empty (Discarded c) q e = refl
 
@@ -79,16 +81,18 @@ pub unqueued : (to : Fate) (l : ℕ) → IsQueued to → same_fate to (Unacked l
 unqueued (Waiting k) l h = refl
 unqueued (Held k) l h = refl
 unqueued Parked l h = refl
+unqueued (Back c) l h = refl
 unqueued (Unacked k) l h = absurd h
 unqueued (Acked k) l h = absurd h
 unqueued (Discarded c) l h = absurd h
 
-pub sound_moved : (q q' : Lists) (ms : List Message) (ns left joined : List ℕ) (from to : Fate) → AreSound q ms → is_standing from ≡ true → same_fate to from ≡ false → length q'.links ≡ length q.links → AreNarrow q' → Replaces q q' from to left joined → ((m : ℕ) → occurs m left + occurs m ns ≡ occurs m (queue_at from q)) → ((m : ℕ) → occurs m joined ≡ occurs m (queue_at to q) + occurs m ns) → AreSound q' (restood ns to ms)
+pub sound_moved : (q q' : Lists) (ms : List Message) (ns left joined : List ℕ) (from to : Fate) → AreSound q ms → is_standing from ≡ true → same_fate to from ≡ false → SameSize q q' → AreNarrow q' → Replaces q q' from to left joined → ((m : ℕ) → occurs m left + occurs m ns ≡ occurs m (queue_at from q)) → ((m : ℕ) → occurs m joined ≡ occurs m (queue_at to q) + occurs m ns) → AreSound q' (restood ns to ms)
 sound_moved q q' ms ns left joined from to h s apart e narrow r leave join =
     let within : (m : ℕ) → occurs m ns ≤ occurs m (queue_at from q) = λ m. omega (arith, leave m) in
     record {
-      one = omega (arith, h.one);
-      few = omega (arith, h.few);
+      one = omega (arith, h.one, e.links);
+      few = omega (arith, h.few, e.links);
+      codes = e.back ∙ h.codes;
       narrow = narrow;
       tied = moved_tie q q' ms ns from to h.tied s (given_queue q ms from h.tied s ns within) within (replaced_moves q q' from to left joined ns apart r leave join);
       fit = fit_restood ns to ms h.fit;
@@ -101,31 +105,53 @@ narrower : (b : Bool) (xs : List ℕ) → length xs ≤ 127 → length (cond b [
 narrower true xs h = omega arith
 narrower false xs h = h
 
+-- the queue that messages leave and the one that they join
+pub both_replaced : (q : Lists) (from to : Fate) (left joined : List ℕ) → is_standing from ≡ true → is_standing to ≡ true → IsKnown from q → IsKnown to q → Replaces q (with_queue from left (with_queue to joined q)) from to left joined
+both_replaced q from to left joined s u k o f t =
+    queue_set from f left (with_queue to joined q) s (known_on from q (with_queue to joined q) (size_stays to joined q) k)
+    ∙ ap (λ (xs : List ℕ). cond (same_fate from f) left xs) (queue_set to f joined q u o)
+
+pub both_size : (q : Lists) (from to : Fate) (left joined : List ℕ) → SameSize q (with_queue from left (with_queue to joined q))
+both_size q from to left joined = size_both q (with_queue to joined q) (with_queue from left (with_queue to joined q)) (size_stays to joined q) (size_stays from left (with_queue to joined q))
+
 -- ALL OF A QUEUE GO TO ANOTHER
 
 pub passed_replaces : (q : Lists) (from to : Fate) → is_standing from ≡ true → IsKnown from q → IsKnown to q → IsQueued to → Replaces q (passed from to q) from to [] (queue_at to q ++ queue_at from q)
-passed_replaces q from to s k o u f t =
-    queue_set from f [] (with_queue to (queue_at to q ++ queue_at from q) q) s (known_on from q (with_queue to (queue_at to q ++ queue_at from q) q) (links_stay to (queue_at to q ++ queue_at from q) q) k)
-    ∙ ap (λ (xs : List ℕ). cond (same_fate from f) [] xs) (queue_set to f (queue_at to q ++ queue_at from q) q (queued_stands to u) o)
+passed_replaces q from to s k o u = both_replaced q from to [] (queue_at to q ++ queue_at from q) s (queued_stands to u) k o
 
-pub passed_links : (q : Lists) (from to : Fate) → length (passed from to q).links ≡ length q.links
-passed_links q from to = links_stay from [] (with_queue to (queue_at to q ++ queue_at from q) q) ∙ links_stay to (queue_at to q ++ queue_at from q) q
+pub passed_size : (q : Lists) (from to : Fate) → SameSize q (passed from to q)
+passed_size q from to = both_size q from to [] (queue_at to q ++ queue_at from q)
 
 pub passed_unacked : (q : Lists) (from to : Fate) → is_standing from ≡ true → IsKnown from q → IsKnown to q → IsQueued to → (l : ℕ) → queue_at (Unacked l) (passed from to q) ≡ cond (same_fate from (Unacked l)) [] (queue_at (Unacked l) q)
 passed_unacked q from to s k o u l = passed_replaces q from to s k o u (Unacked l) refl ∙ ap (λ (b : Bool). cond (same_fate from (Unacked l)) [] (cond b (queue_at to q ++ queue_at from q) (queue_at (Unacked l) q))) (unqueued to l u)
 
 pub sound_passed : (q : Lists) (ms : List Message) (from to : Fate) → AreSound q ms → is_standing from ≡ true → IsKnown from q → IsKnown to q → IsQueued to → same_fate to from ≡ false → AreSound (passed from to q) (restood (queue_at from q) to ms)
 sound_passed q ms from to h s k o u apart =
-    sound_moved q (passed from to q) ms (queue_at from q) [] (queue_at to q ++ queue_at from q) from to h s apart (passed_links q from to)
+    sound_moved q (passed from to q) ms (queue_at from q) [] (queue_at to q ++ queue_at from q) from to h s apart (passed_size q from to)
     (λ l. subst (λ (xs : List ℕ). length xs ≤ 127) (sym (passed_unacked q from to s k o u l)) (narrower (same_fate from (Unacked l)) (queue_at (Unacked l) q) (h.narrow l)))
     (passed_replaces q from to s k o u) (λ m. omega arith) (λ m. occurs-append m (queue_at to q) (queue_at from q))
+
+-- THE FIRST OF A CODE'S QUEUE GOES TO ANOTHER
+
+pub first_unacked : (q : Lists) (code : ℕ) (to : Fate) → IsKnown (Back code) q → IsKnown to q → IsQueued to → (l : ℕ) → queue_at (Unacked l) (passed_first (Back code) to q) ≡ queue_at (Unacked l) q
+first_unacked q code to k o u l = both_replaced q (Back code) to (drop 1 (queue_at (Back code) q)) (queue_at to q ++ take 1 (queue_at (Back code) q)) refl (queued_stands to u) k o (Unacked l) refl ∙ ap (λ (b : Bool). cond b (queue_at to q ++ take 1 (queue_at (Back code) q)) (queue_at (Unacked l) q)) (unqueued to l u)
+
+pub first_size : (q : Lists) (code : ℕ) (to : Fate) → SameSize q (passed_first (Back code) to q)
+first_size q code to = both_size q (Back code) to (drop 1 (queue_at (Back code) q)) (queue_at to q ++ take 1 (queue_at (Back code) q))
+
+pub sound_first : (q : Lists) (ms : List Message) (code : ℕ) (to : Fate) → AreSound q ms → IsKnown (Back code) q → IsKnown to q → IsQueued to → same_fate to (Back code) ≡ false → AreSound (passed_first (Back code) to q) (restood (take 1 (queue_at (Back code) q)) to ms)
+sound_first q ms code to h k o u apart =
+    sound_moved q (passed_first (Back code) to q) ms (take 1 (queue_at (Back code) q)) (drop 1 (queue_at (Back code) q)) (queue_at to q ++ take 1 (queue_at (Back code) q)) (Back code) to h refl apart (first_size q code to)
+    (λ l. subst (λ (xs : List ℕ). length xs ≤ 127) (sym (first_unacked q code to k o u l)) (h.narrow l))
+    (both_replaced q (Back code) to (drop 1 (queue_at (Back code) q)) (queue_at to q ++ take 1 (queue_at (Back code) q)) refl (queued_stands to u) k o)
+    (λ m. omega (arith, occurs-split m 1 (queue_at (Back code) q))) (λ m. occurs-append m (queue_at to q) (take 1 (queue_at (Back code) q)))
 
 -- ALL OF A QUEUE LEAVE FOR A FINAL PLACE
 
 left_replaces : (q q' : Lists) (from to : Fate) (left : List ℕ) → is_standing to ≡ false → ((f : Fate) → is_standing f ≡ true → queue_at f q' ≡ cond (same_fate from f) left (queue_at f q)) → (joined : List ℕ) → Replaces q q' from to left joined
 left_replaces q q' from to left e r joined f s = r f s ∙ ap (λ (b : Bool). cond (same_fate from f) left (cond b joined (queue_at f q))) (sym (final_apart to f e s))
 
-pub sound_left : (q q' : Lists) (ms : List Message) (ns left : List ℕ) (from to : Fate) → AreSound q ms → is_standing from ≡ true → is_standing to ≡ false → length q'.links ≡ length q.links → AreNarrow q' → ((f : Fate) → is_standing f ≡ true → queue_at f q' ≡ cond (same_fate from f) left (queue_at f q)) → ((m : ℕ) → occurs m left + occurs m ns ≡ occurs m (queue_at from q)) → AreSound q' (restood ns to ms)
+pub sound_left : (q q' : Lists) (ms : List Message) (ns left : List ℕ) (from to : Fate) → AreSound q ms → is_standing from ≡ true → is_standing to ≡ false → SameSize q q' → AreNarrow q' → ((f : Fate) → is_standing f ≡ true → queue_at f q' ≡ cond (same_fate from f) left (queue_at f q)) → ((m : ℕ) → occurs m left + occurs m ns ≡ occurs m (queue_at from q)) → AreSound q' (restood ns to ms)
 sound_left q q' ms ns left from to h s e n narrow r leave =
     sound_moved q q' ms ns left ns from to h s (final_apart to from e s) n narrow (left_replaces q q' from to left e r ns) leave
     (λ m. omega (arith, ap (occurs m) (final_empty to q e)))
@@ -135,7 +161,7 @@ cleared_queue q from f s k = queue_set from f [] q s k
 
 pub sound_cleared : (q : Lists) (ms : List Message) (from to : Fate) → AreSound q ms → is_standing from ≡ true → is_standing to ≡ false → IsKnown from q → AreSound (with_queue from [] q) (restood (queue_at from q) to ms)
 sound_cleared q ms from to h s e k =
-    sound_left q (with_queue from [] q) ms (queue_at from q) [] from to h s e (links_stay from [] q)
+    sound_left q (with_queue from [] q) ms (queue_at from q) [] from to h s e (size_stays from [] q)
     (λ l. subst (λ (xs : List ℕ). length xs ≤ 127) (sym (cleared_queue q from (Unacked l) s k)) (narrower (same_fate from (Unacked l)) (queue_at (Unacked l) q) (h.narrow l)))
     (λ f t. cleared_queue q from f s k) (λ m. omega arith)
 
@@ -200,8 +226,9 @@ added_unacked q to n l k u = added_queue q to (Unacked l) n k u ∙ ap (λ (b : 
 
 pub sound_added : (q : Lists) (ms : List Message) (x : Message) → AreSound q ms → IsFit x → IsKnown x.fate q → IsQueued x.fate → AreSound (with_queue x.fate (queue_at x.fate q ++ length ms ∷ []) q) (ms ++ x ∷ [])
 sound_added q ms x h fit k u = record {
-  one = omega (arith, h.one, links_stay x.fate (queue_at x.fate q ++ length ms ∷ []) q);
-  few = omega (arith, h.few, links_stay x.fate (queue_at x.fate q ++ length ms ∷ []) q);
+  one = omega (arith, h.one, (size_stays x.fate (queue_at x.fate q ++ length ms ∷ []) q).links);
+  few = omega (arith, h.few, (size_stays x.fate (queue_at x.fate q ++ length ms ∷ []) q).links);
+  codes = (size_stays x.fate (queue_at x.fate q ++ length ms ∷ []) q).back ∙ h.codes;
   narrow = λ l. subst (λ (xs : List ℕ). length xs ≤ 127) (sym (added_unacked q x.fate (length ms) l k u)) (h.narrow l);
   tied = added_tie q ms x h.tied k u;
   fit = fit_push ms x h.fit fit;
@@ -213,7 +240,7 @@ octets_push (n ∷ ns) ms x g = omega (arith, ap octets_in (push_other ms x n (�
 
 pub weighed_added : (octets : List ℕ) (q : Lists) (ms : List Message) (x : Message) → AreSound q ms → IsKnown x.fate q → IsQueued x.fate → AreWeighed octets q ms → AreWeighed octets (with_queue x.fate (queue_at x.fate q ++ length ms ∷ []) q) (ms ++ x ∷ [])
 weighed_added octets q ms x h k u w l b =
-    w l (omega (arith, b, links_stay x.fate (queue_at x.fate q ++ length ms ∷ []) q))
+    w l (omega (arith, b, (size_stays x.fate (queue_at x.fate q ++ length ms ∷ []) q).links))
     ∙ sym (octets_push (queue_at (Unacked l) q) ms x (given_all q ms (Unacked l) h refl))
     ∙ sym (ap (λ (ns : List ℕ). octets_of ns (ms ++ x ∷ [])) (added_unacked q x.fate (length ms) l k u))
 
@@ -224,22 +251,35 @@ none_in list zero k e = refl
 none_in list (suc n) zero e = e
 none_in list (suc n) (suc k) e = none_in list n k e
 
-empty_queue : (q : Lists) (n : ℕ) (f : Fate) → q.links ≡ replicate n (record { last = 127; unacked = []; unsent = []; held = [] }) → q.parked ≡ [] → queue_at f q ≡ []
-empty_queue q n (Waiting l) e p = rw e (none_in (λ (z : LinkLists). z.unsent) n l refl)
-empty_queue q n (Unacked l) e p = rw e (none_in (λ (z : LinkLists). z.unacked) n l refl)
-empty_queue q n (Held l) e p = rw e (none_in (λ (z : LinkLists). z.held) n l refl)
-empty_queue q n Parked e p = p
-empty_queue q n (Acked l) e p = refl
-empty_queue q n (Discarded c) e p = refl
+none_back : (n k : ℕ) → get_or {A = List ℕ} (replicate n []) k [] ≡ []
+none_back zero k = refl
+none_back (suc n) zero = refl
+none_back (suc n) (suc k) = none_back n k
 
-pub sound_new : (q : Lists) (ms : List Message) (n : ℕ) → q.links ≡ replicate n (record { last = 127; unacked = []; unsent = []; held = [] }) → q.parked ≡ [] → ms ≡ [] → 1 ≤ n → n ≤ 16 → AreSound q ms
-sound_new q ms n e p m low high =
-    let size : length q.links ≡ n = ap length e ∙ length-replicate n (record { last = 127; unacked = []; unsent = []; held = [] }) in
+-- nothing stands in any queue
+pub record AreEmpty (q : Lists) (n codes : ℕ) : Type 0 where
+  pub links : q.links ≡ replicate n (record { last = 127; unacked = []; unsent = []; held = [] })
+  pub parked : q.parked ≡ []
+  pub back : q.back ≡ replicate codes []
+
+empty_queue : (q : Lists) (n codes : ℕ) (f : Fate) → AreEmpty q n codes → queue_at f q ≡ []
+empty_queue q n codes (Waiting l) e = rw e.links (none_in (λ (z : LinkLists). z.unsent) n l refl)
+empty_queue q n codes (Unacked l) e = rw e.links (none_in (λ (z : LinkLists). z.unacked) n l refl)
+empty_queue q n codes (Held l) e = rw e.links (none_in (λ (z : LinkLists). z.held) n l refl)
+empty_queue q n codes Parked e = e.parked
+empty_queue q n codes (Back c) e = rw e.back (none_back codes c)
+empty_queue q n codes (Acked l) e = refl
+empty_queue q n codes (Discarded c) e = refl
+
+pub sound_new : (q : Lists) (ms : List Message) (n : ℕ) → AreEmpty q n 256 → ms ≡ [] → 1 ≤ n → n ≤ 16 → AreSound q ms
+sound_new q ms n e m low high =
+    let size : length q.links ≡ n = ap length e.links ∙ length-replicate n (record { last = 127; unacked = []; unsent = []; held = [] }) in
     record {
       one = omega arith;
       few = omega arith;
-      narrow = λ l. omega (arith, ap length (empty_queue q n (Unacked l) e p));
-      tied = λ f s i. rw (m, empty_queue q n f e p) refl;
+      codes = ap length e.back ∙ length-replicate {A = List ℕ} 256 [];
+      narrow = λ l. omega (arith, ap length (empty_queue q n 256 (Unacked l) e));
+      tied = λ f s i. rw (m, empty_queue q n 256 f e) refl;
       fit = λ i x h. let no : slice_get [] i ≡ Some x = rw m at h in absurd (cc);
     }
 
@@ -248,18 +288,16 @@ zero_at zero l = refl
 zero_at (suc n) zero = refl
 zero_at (suc n) (suc l) = zero_at n l
 
-pub weighed_new : (q : Lists) (ms : List Message) (n : ℕ) → q.links ≡ replicate n (record { last = 127; unacked = []; unsent = []; held = [] }) → q.parked ≡ [] → AreWeighed (replicate 16 0) q ms
-weighed_new q ms n e p l h = zero_at 16 l ∙ sym (ap (λ (ns : List ℕ). octets_of ns ms) (empty_queue q n (Unacked l) e p))
+pub weighed_new : (q : Lists) (ms : List Message) (n codes : ℕ) → AreEmpty q n codes → AreWeighed (replicate 16 0) q ms
+weighed_new q ms n codes e l h = zero_at 16 l ∙ sym (ap (λ (ns : List ℕ). octets_of ns ms) (empty_queue q n codes (Unacked l) e))
 
 -- THE FIRST THAT WAITS IS SENT
 
 sent_replaces : (q : Lists) (l n : ℕ) → l < length q.links → Replaces q (first_sent l n q) (Waiting l) (Unacked l) (drop 1 (queue_at (Waiting l) q)) (queue_at (Unacked l) q ++ n ∷ [])
-sent_replaces q l n h f s =
-    queue_set (Waiting l) f (drop 1 (queue_at (Waiting l) q)) (with_queue (Unacked l) (queue_at (Unacked l) q ++ n ∷ []) q) refl (known_on (Waiting l) q (with_queue (Unacked l) (queue_at (Unacked l) q ++ n ∷ []) q) (links_stay (Unacked l) (queue_at (Unacked l) q ++ n ∷ []) q) h)
-    ∙ ap (λ (xs : List ℕ). cond (same_fate (Waiting l) f) (drop 1 (queue_at (Waiting l) q)) xs) (queue_set (Unacked l) f (queue_at (Unacked l) q ++ n ∷ []) q refl h)
+sent_replaces q l n h = both_replaced q (Waiting l) (Unacked l) (drop 1 (queue_at (Waiting l) q)) (queue_at (Unacked l) q ++ n ∷ []) refl refl h h
 
-pub sent_links : (q : Lists) (l n : ℕ) → length (first_sent l n q).links ≡ length q.links
-sent_links q l n = links_stay (Waiting l) (drop 1 (queue_at (Waiting l) q)) (with_queue (Unacked l) (queue_at (Unacked l) q ++ n ∷ []) q) ∙ links_stay (Unacked l) (queue_at (Unacked l) q ++ n ∷ []) q
+pub sent_size : (q : Lists) (l n : ℕ) → SameSize q (first_sent l n q)
+sent_size q l n = both_size q (Waiting l) (Unacked l) (drop 1 (queue_at (Waiting l) q)) (queue_at (Unacked l) q ++ n ∷ [])
 
 pub sent_unacked : (q : Lists) (l n k : ℕ) → l < length q.links → queue_at (Unacked k) (first_sent l n q) ≡ cond (l == k) (queue_at (Unacked l) q ++ n ∷ []) (queue_at (Unacked k) q)
 sent_unacked q l n k h = sent_replaces q l n h (Unacked k) refl
@@ -274,7 +312,7 @@ one_wider false xs ys n h k = k
 
 pub sound_sent : (q : Lists) (ms : List Message) (l n : ℕ) → AreSound q ms → l < length q.links → slice_get (queue_at (Waiting l) q) 0 ≡ Some n → length (queue_at (Unacked l) q) < 127 → AreSound (first_sent l n q) (restood (n ∷ []) (Unacked l) ms)
 sound_sent q ms l n h b e few =
-    sound_moved q (first_sent l n q) ms (n ∷ []) (drop 1 (queue_at (Waiting l) q)) (queue_at (Unacked l) q ++ n ∷ []) (Waiting l) (Unacked l) h refl refl (sent_links q l n)
+    sound_moved q (first_sent l n q) ms (n ∷ []) (drop 1 (queue_at (Waiting l) q)) (queue_at (Unacked l) q ++ n ∷ []) (Waiting l) (Unacked l) h refl refl (sent_size q l n)
     (λ k. subst (λ (xs : List ℕ). length xs ≤ 127) (sym (sent_unacked q l n k b)) (one_wider (l == k) (queue_at (Unacked l) q) (queue_at (Unacked k) q) n few (h.narrow k)))
     (sent_replaces q l n b) (λ m. first_leaves m n (queue_at (Waiting l) q) e) (λ m. occurs-append m (queue_at (Unacked l) q) (n ∷ []))
 
@@ -288,6 +326,7 @@ queue_last (Waiting k) l fsn q = list_kept (list_in (λ (z : LinkLists). z.unsen
 queue_last (Unacked k) l fsn q = list_kept (list_in (λ (z : LinkLists). z.unacked)) (λ (z : LinkLists). record z { last = fsn }) q.links l k (kept_unacked (λ (z : LinkLists). record z { last = fsn }) (λ x. refl)) (l == k) refl
 queue_last (Held k) l fsn q = list_kept (list_in (λ (z : LinkLists). z.held)) (λ (z : LinkLists). record z { last = fsn }) q.links l k (kept_held (λ (z : LinkLists). record z { last = fsn }) (λ x. refl)) (l == k) refl
 queue_last Parked l fsn q = refl
+queue_last (Back c) l fsn q = refl
 queue_last (Acked k) l fsn q = refl
 queue_last (Discarded c) l fsn q = refl
 
@@ -297,8 +336,11 @@ acked_queue q l fsn f h = queue_last f l fsn (with_queue (Unacked l) (drop (reac
 pub acked_unacked : (q : Lists) (l fsn k : ℕ) → l < length q.links → queue_at (Unacked k) (acknowledged l fsn q) ≡ cond (l == k) (drop (reach l fsn q) (queue_at (Unacked l) q)) (queue_at (Unacked k) q)
 acked_unacked q l fsn k h = acked_queue q l fsn (Unacked k) h
 
-pub acked_links : (q : Lists) (l fsn : ℕ) → length (acknowledged l fsn q).links ≡ length q.links
-acked_links q l fsn = length-updated (λ (z : LinkLists). record z { last = fsn }) (with_queue (Unacked l) (drop (reach l fsn q) (queue_at (Unacked l) q)) q).links l ∙ links_stay (Unacked l) (drop (reach l fsn q) (queue_at (Unacked l) q)) q
+pub last_size : (l fsn : ℕ) (q : Lists) → SameSize q (with_last l fsn q)
+last_size l fsn q = record { links = length-updated (λ (z : LinkLists). record z { last = fsn }) q.links l; back = refl }
+
+pub acked_size : (q : Lists) (l fsn : ℕ) → SameSize q (acknowledged l fsn q)
+acked_size q l fsn = size_both q (with_queue (Unacked l) (drop (reach l fsn q) (queue_at (Unacked l) q)) q) (acknowledged l fsn q) (size_stays (Unacked l) (drop (reach l fsn q) (queue_at (Unacked l) q)) q) (last_size l fsn (with_queue (Unacked l) (drop (reach l fsn q) (queue_at (Unacked l) q)) q))
 
 dropped : (b : Bool) (k : ℕ) (xs ys : List ℕ) → length xs ≤ 127 → length ys ≤ 127 → length (cond b (drop k xs) ys) ≤ 127
 dropped true k xs ys h g = omega (arith, length-drop k xs)
@@ -306,23 +348,35 @@ dropped false k xs ys h g = g
 
 pub sound_acked : (q : Lists) (ms : List Message) (l fsn : ℕ) → AreSound q ms → l < length q.links → AreSound (acknowledged l fsn q) (restood (take (reach l fsn q) (queue_at (Unacked l) q)) (Acked l) ms)
 sound_acked q ms l fsn h b =
-    sound_left q (acknowledged l fsn q) ms (take (reach l fsn q) (queue_at (Unacked l) q)) (drop (reach l fsn q) (queue_at (Unacked l) q)) (Unacked l) (Acked l) h refl refl (acked_links q l fsn)
+    sound_left q (acknowledged l fsn q) ms (take (reach l fsn q) (queue_at (Unacked l) q)) (drop (reach l fsn q) (queue_at (Unacked l) q)) (Unacked l) (Acked l) h refl refl (acked_size q l fsn)
     (λ k. subst (λ (xs : List ℕ). length xs ≤ 127) (sym (acked_unacked q l fsn k b)) (dropped (l == k) (reach l fsn q) (queue_at (Unacked l) q) (queue_at (Unacked k) q) (h.narrow l) (h.narrow k)))
     (λ f s. acked_queue q l fsn f b) (λ m. omega (arith, occurs-split m (reach l fsn q) (queue_at (Unacked l) q)))
 
 -- A NEW LIFE OF A LINK
 
-pub last_links : (l fsn : ℕ) (q : Lists) → length (with_last l fsn q).links ≡ length q.links
-last_links l fsn q = length-updated (λ (z : LinkLists). record z { last = fsn }) q.links l
-
 pub sound_last : (q : Lists) (ms : List Message) (l fsn : ℕ) → AreSound q ms → AreSound (with_last l fsn q) ms
 sound_last q ms l fsn h = record {
-  one = omega (arith, h.one, last_links l fsn q);
-  few = omega (arith, h.few, last_links l fsn q);
+  one = omega (arith, h.one, (last_size l fsn q).links);
+  few = omega (arith, h.few, (last_size l fsn q).links);
+  codes = h.codes;
   narrow = λ k. subst (λ (xs : List ℕ). length xs ≤ 127) (sym (queue_last (Unacked k) l fsn q)) (h.narrow k);
   tied = λ f s m. ap (occurs m) (queue_last f l fsn q) ∙ h.tied f s m;
   fit = h.fit;
 }
 
 pub weighed_last : (octets : List ℕ) (q : Lists) (ms : List Message) (l fsn : ℕ) → AreWeighed octets q ms → AreWeighed octets (with_last l fsn q) ms
-weighed_last octets q ms l fsn w k b = w k (omega (arith, b, last_links l fsn q)) ∙ sym (ap (λ (ns : List ℕ). octets_of ns ms) (queue_last (Unacked k) l fsn q))
+weighed_last octets q ms l fsn w k b = w k (omega (arith, b, (last_size l fsn q).links)) ∙ sym (ap (λ (ns : List ℕ). octets_of ns ms) (queue_last (Unacked k) l fsn q))
+
+-- THE LINKS STAY AS MANY
+
+pub passed_links : (q : Lists) (from to : Fate) → length (passed from to q).links ≡ length q.links
+passed_links q from to = (passed_size q from to).links
+
+pub sent_links : (q : Lists) (l n : ℕ) → length (first_sent l n q).links ≡ length q.links
+sent_links q l n = (sent_size q l n).links
+
+pub acked_links : (q : Lists) (l fsn : ℕ) → length (acknowledged l fsn q).links ≡ length q.links
+acked_links q l fsn = (acked_size q l fsn).links
+
+pub last_links : (l fsn : ℕ) (q : Lists) → length (with_last l fsn q).links ≡ length q.links
+last_links l fsn q = (last_size l fsn q).links

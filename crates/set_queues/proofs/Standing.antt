@@ -5,7 +5,7 @@ use Rattle.std.specs.Option.{option_map}
 use Rattle.std.proofs.lemmas.Bool.{eqb-true, eq-eqb, ne_eqb, cases_eq}
 use Rattle.std.proofs.lemmas.Option.{slice_get_within}
 use Rattle.set_events.specs.declared.answer.Fate.{Fate}
-use Rattle.set_events.specs.declared.answer.Fate.TheVariants.{Waiting, Unacked, Acked, Held, Parked, Discarded}
+use Rattle.set_events.specs.declared.answer.Fate.TheVariants.{Waiting, Unacked, Acked, Held, Parked, Back, Discarded}
 use Rattle.set_events.specs.declared.answer.DiscardCause.{DiscardCause}
 use Rattle.set_events.specs.declared.answer.DiscardCause.TheVariants.{Emergency, Unreasonable, NoAnswer}
 use Rattle.set_queues.specs.declared.message.Message.{Message}
@@ -35,36 +35,49 @@ same_is (Waiting l) (Unacked k) s e = absurd (cc)
 same_is (Waiting l) (Acked k) s e = absurd (cc)
 same_is (Waiting l) (Held k) s e = absurd (cc)
 same_is (Waiting l) Parked s e = absurd (cc)
+same_is (Waiting l) (Back d) s e = absurd (cc)
 same_is (Waiting l) (Discarded d) s e = absurd (cc)
 same_is (Unacked l) (Waiting k) s e = absurd (cc)
 same_is (Unacked l) (Unacked k) s e = ap Unacked (eqb-true l k e)
 same_is (Unacked l) (Acked k) s e = absurd (cc)
 same_is (Unacked l) (Held k) s e = absurd (cc)
 same_is (Unacked l) Parked s e = absurd (cc)
+same_is (Unacked l) (Back d) s e = absurd (cc)
 same_is (Unacked l) (Discarded d) s e = absurd (cc)
 same_is (Acked l) (Waiting k) s e = absurd (cc)
 same_is (Acked l) (Unacked k) s e = absurd (cc)
 same_is (Acked l) (Acked k) s e = absurd (cc)
 same_is (Acked l) (Held k) s e = absurd (cc)
 same_is (Acked l) Parked s e = absurd (cc)
+same_is (Acked l) (Back d) s e = absurd (cc)
 same_is (Acked l) (Discarded d) s e = absurd (cc)
 same_is (Held l) (Waiting k) s e = absurd (cc)
 same_is (Held l) (Unacked k) s e = absurd (cc)
 same_is (Held l) (Acked k) s e = absurd (cc)
 same_is (Held l) (Held k) s e = ap Held (eqb-true l k e)
 same_is (Held l) Parked s e = absurd (cc)
+same_is (Held l) (Back d) s e = absurd (cc)
 same_is (Held l) (Discarded d) s e = absurd (cc)
 same_is Parked (Waiting k) s e = absurd (cc)
 same_is Parked (Unacked k) s e = absurd (cc)
 same_is Parked (Acked k) s e = absurd (cc)
 same_is Parked (Held k) s e = absurd (cc)
 same_is Parked Parked s e = refl
+same_is Parked (Back d) s e = absurd (cc)
 same_is Parked (Discarded d) s e = absurd (cc)
+same_is (Back c) (Waiting k) s e = absurd (cc)
+same_is (Back c) (Unacked k) s e = absurd (cc)
+same_is (Back c) (Acked k) s e = absurd (cc)
+same_is (Back c) (Held k) s e = absurd (cc)
+same_is (Back c) Parked s e = absurd (cc)
+same_is (Back c) (Back d) s e = ap Back (eqb-true c d e)
+same_is (Back c) (Discarded d) s e = absurd (cc)
 same_is (Discarded c) (Waiting k) s e = absurd (cc)
 same_is (Discarded c) (Unacked k) s e = absurd (cc)
 same_is (Discarded c) (Acked k) s e = absurd (cc)
 same_is (Discarded c) (Held k) s e = absurd (cc)
 same_is (Discarded c) Parked s e = absurd (cc)
+same_is (Discarded c) (Back d) s e = absurd (cc)
 same_is (Discarded c) (Discarded d) s e = absurd (cc)
 
 -- how often a number stands in a list
@@ -144,7 +157,7 @@ fate_moves m (n ∷ ns) f ms g z = go (cases_zero (occurs m ns)) (cases_eq n m) 
 abbrev pub Moves : List ℕ → Fate → Fate → Lists → Lists → Type 0
 Moves ns from to q q' = (f : Fate) → is_standing f ≡ true → (m : ℕ) → occurs m (queue_at f q') + cond (same_fate from f) (occurs m ns) 0 ≡ occurs m (queue_at f q) + cond (same_fate to f) (occurs m ns) 0
 
-has_of : (f g : Fate) (o : Option Fate) → is_standing g ≡ true → has_fate g o ≡ true → o ≡ Some g
+pub has_of : (f g : Fate) (o : Option Fate) → is_standing g ≡ true → has_fate g o ≡ true → o ≡ Some g
 has_of f g None s e = absurd (cc)
 has_of f g (Some h) s e = ap Some (same_is h g s e)
 
@@ -157,6 +170,7 @@ same_self (Waiting l) s = eq-eqb l l refl
 same_self (Unacked l) s = eq-eqb l l refl
 same_self (Held l) s = eq-eqb l l refl
 same_self Parked s = refl
+same_self (Back c) s = eq-eqb c c refl
 same_self (Acked l) s = absurd (cc)
 same_self (Discarded d) s = absurd (cc)
 

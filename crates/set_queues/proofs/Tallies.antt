@@ -3,7 +3,7 @@ use Rattle.std.proofs.Common.{arith, ◌≡◌, ap, subst, ◌+◌, ◌≤◌, �
 use Rattle.std.specs.Prelude.{filter, slice_get, slice_set}
 use Rattle.set_queues.specs.declared.message.Message.{Message}
 use Rattle.set_queues.specs.declared.tally.Tally.{Tally}
-use Rattle.set_queues.specs.Counts.{one_if, waits, was_sent, was_acked, was_held, is_parked, was_discarded}
+use Rattle.set_queues.specs.Counts.{one_if, waits, was_sent, was_acked, was_held, is_parked, stands_back, was_discarded}
 use Rattle.set_queues.specs.Tally.{is_there, is_queued, IsTally, IsMore, IsAmong, AreFew, IsFit, AreFit}
 
 length_if : (b : Bool) (x : Message) (xs : List Message) → length (cond b (x ∷ xs) xs) ≡ one_if b + length xs
@@ -47,6 +47,7 @@ tally_in t xs n x h e = record {
   acked = omega (arith, h.acked, count_in (is_there was_acked) xs n x e);
   held = omega (arith, h.held, count_in (is_there was_held) xs n x e);
   parked = omega (arith, h.parked, count_in (is_there is_parked) xs n x e);
+  back = omega (arith, h.back, count_in (is_there stands_back) xs n x e);
   discarded = omega (arith, h.discarded, count_in (is_there was_discarded) xs n x e);
   unsent = λ s b. omega (arith, h.unsent s b, count_in (is_queued s) xs n x e);
 }
@@ -58,6 +59,7 @@ tally_few t xs h few = record {
   acked = omega (arith, h.acked, count_few (is_there was_acked) xs);
   held = omega (arith, h.held, count_few (is_there was_held) xs);
   parked = omega (arith, h.parked, count_few (is_there is_parked) xs);
+  back = omega (arith, h.back, count_few (is_there stands_back) xs);
   discarded = omega (arith, h.discarded, count_few (is_there was_discarded) xs);
   unsent = λ s b. omega (arith, h.unsent s b, count_few (is_queued s) xs);
 }
@@ -70,6 +72,7 @@ fewer m old new i few = record {
   acked = omega (arith, i.acked, few.acked);
   held = omega (arith, i.held, few.held);
   parked = omega (arith, i.parked, few.parked);
+  back = omega (arith, i.back, few.back);
   discarded = omega (arith, i.discarded, few.discarded);
   unsent = λ s b. omega (arith, i.unsent s b, few.unsent s b);
 }
@@ -81,7 +84,7 @@ tally_push t u xs y h i = record {
   acked = omega (arith, h.acked, i.acked, count_push (is_there was_acked) xs y);
   held = omega (arith, h.held, i.held, count_push (is_there was_held) xs y);
   parked = omega (arith, h.parked, i.parked, count_push (is_there is_parked) xs y);
-  back = omega (arith, h.back, i.back);
+  back = omega (arith, h.back, i.back, count_push (is_there stands_back) xs y);
   discarded = omega (arith, h.discarded, i.discarded, count_push (is_there was_discarded) xs y);
   unsent = λ s b. omega (arith, h.unsent s b, i.unsent s b, count_push (is_queued s) xs y);
 }
@@ -93,7 +96,7 @@ tally_set t u v xs n x y h e i j = record {
   acked = omega (arith, h.acked, i.acked, j.acked, count_set (is_there was_acked) xs n x y e);
   held = omega (arith, h.held, i.held, j.held, count_set (is_there was_held) xs n x y e);
   parked = omega (arith, h.parked, i.parked, j.parked, count_set (is_there is_parked) xs n x y e);
-  back = omega (arith, h.back, i.back, j.back);
+  back = omega (arith, h.back, i.back, j.back, count_set (is_there stands_back) xs n x y e);
   discarded = omega (arith, h.discarded, i.discarded, j.discarded, count_set (is_there was_discarded) xs n x y e);
   unsent = λ s b. omega (arith, h.unsent s b, i.unsent s b, j.unsent s b, count_set (is_queued s) xs n x y e);
 }

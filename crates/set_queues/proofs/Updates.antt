@@ -1,5 +1,6 @@
 -- Lists of which the element at one place changes.
-use Rattle.std.proofs.Common.{refl, ◌≡◌, ◌∙◌, ap, sym, [], ◌∷◌, length, map, ℕ, zero, suc, List, Some}
+use Rattle.std.proofs.Common.{refl, arith, ◌≡◌, ◌∙◌, ap, sym, subst, ◌<◌, ◌==◌, [], ◌∷◌, length, map, ℕ, zero, suc, Bool, true, false, cond, get_or, List, Some}
+use Rattle.std.proofs.lemmas.Bool.{eqb-true, eqb-false}
 use Rattle.std.specs.Prelude.{slice_get, slice_set}
 use Rattle.std.specs.Option.{option_map}
 use Rattle.set_queues.specs.Messages.{updated}
@@ -57,3 +58,20 @@ module _ {X : Type 0} where
   updated_id f [] n x e h = refl
   updated_id f (y ∷ xs) zero x e h = let g : y ≡ x = cc in ap (λ (z : X). z ∷ xs) (ap f g ∙ h ∙ sym g)
   updated_id f (y ∷ xs) (suc n) x e h = ap (λ (zs : List X). y ∷ zs) (updated_id f xs n x e h)
+
+  -- one element is set: what an index reads
+  pub read_same : (x : X) (xs : List X) (n : ℕ) (d : X) → n < length xs → get_or (updated n (λ (y : X). x) xs) n d ≡ x
+  read_same x [] n d h = absurd (omega arith)
+  read_same x (y ∷ xs) zero d h = refl
+  read_same x (y ∷ xs) (suc n) d h = read_same x xs n d (omega arith)
+
+  read_other : (x : X) (xs : List X) (n k : ℕ) (d : X) → (n ≡ k → ⊥) → get_or (updated n (λ (y : X). x) xs) k d ≡ get_or xs k d
+  read_other x [] n k d ne = refl
+  read_other x (y ∷ xs) zero zero d ne = absurd (ne refl)
+  read_other x (y ∷ xs) zero (suc k) d ne = refl
+  read_other x (y ∷ xs) (suc n) zero d ne = refl
+  read_other x (y ∷ xs) (suc n) (suc k) d ne = read_other x xs n k d (λ e. ne (ap suc e))
+
+  pub read_set : (x : X) (xs : List X) (n k : ℕ) (d : X) (b : Bool) → (n == k) ≡ b → n < length xs → get_or (updated n (λ (y : X). x) xs) k d ≡ cond b x (get_or xs k d)
+  read_set x xs n k d true t h = subst (λ (i : ℕ). get_or (updated n (λ (y : X). x) xs) i d ≡ x) (eqb-true n k t) (read_same x xs n d h)
+  read_set x xs n k d false t h = read_other x xs n k d (eqb-false n k t)

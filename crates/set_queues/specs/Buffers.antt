@@ -1,8 +1,8 @@
 -- The queues in which messages stand, as lists of their numbers. Read this file first.
-use Rattle.std.specs.Prelude.{ℕ, ◌+◌, ◌<◌, ◌≤◌, ◌==◌, Bool, true, false, List, [], length, slice_get, Option, Some, None, if◌then◌else◌}
+use Rattle.std.specs.Prelude.{ℕ, ◌+◌, ◌<◌, ◌≤◌, ◌==◌, Bool, true, false, List, [], length, slice_get, slice_index_or, Option, Some, None, if◌then◌else◌}
 use Rattle.l2_window.specs.Window.{WindowState}
 use Rattle.set_events.specs.declared.answer.Fate.{Fate}
-use Rattle.set_events.specs.declared.answer.Fate.TheVariants.{Waiting, Unacked, Acked, Held, Parked, Discarded}
+use Rattle.set_events.specs.declared.answer.Fate.TheVariants.{Waiting, Unacked, Acked, Held, Parked, Back, Discarded}
 use Rattle.set_events.specs.declared.answer.DiscardCause.{DiscardCause}
 use Rattle.set_events.specs.declared.answer.DiscardCause.TheVariants.{Emergency, Unreasonable, NoAnswer}
 use Rattle.set_queues.specs.Messages.{updated}
@@ -20,6 +20,8 @@ pub record Lists : Type 0 where
   pub links : List LinkLists
   -- what no link can take
   pub parked : List ℕ
+  -- what waits for the acknowledgement of each changeback, by its code
+  pub back : List (List ℕ)
 
 -- Each fate that isn't final has its queue.
 
@@ -28,6 +30,7 @@ is_standing (Waiting l) = true
 is_standing (Unacked l) = true
 is_standing (Held l) = true
 is_standing Parked = true
+is_standing (Back c) = true
 is_standing (Acked l) = false
 is_standing (Discarded cause) = false
 
@@ -43,6 +46,7 @@ same_fate (Unacked l) (Unacked k) = l == k
 same_fate (Acked l) (Acked k) = l == k
 same_fate (Held l) (Held k) = l == k
 same_fate Parked Parked = true
+same_fate (Back c) (Back d) = c == d
 same_fate (Discarded c) (Discarded d) = same_cause c d
 same_fate _ _ = false
 
@@ -56,15 +60,17 @@ queue_at (Waiting l) q = list_in (λ link. link.unsent) (slice_get q.links l)
 queue_at (Unacked l) q = list_in (λ link. link.unacked) (slice_get q.links l)
 queue_at (Held l) q = list_in (λ link. link.held) (slice_get q.links l)
 queue_at Parked q = q.parked
+queue_at (Back c) q = slice_index_or q.back c []
 queue_at (Acked l) q = []
 queue_at (Discarded cause) q = []
 
--- there is a link for it
+-- there is a link for it, or a queue of its code
 abbrev pub IsKnown : Fate → Lists → Type 0
 IsKnown (Waiting l) q = l < length q.links
 IsKnown (Unacked l) q = l < length q.links
 IsKnown (Held l) q = l < length q.links
 IsKnown Parked q = Unit {0}
+IsKnown (Back c) q = c < length q.back
 IsKnown (Acked l) q = Unit {0}
 IsKnown (Discarded cause) q = Unit {0}
 
@@ -73,6 +79,7 @@ abbrev pub IsQueued : Fate → Type 0
 IsQueued (Waiting l) = Unit {0}
 IsQueued (Held l) = Unit {0}
 IsQueued Parked = Unit {0}
+IsQueued (Back c) = Unit {0}
 IsQueued (Unacked l) = ⊥
 IsQueued (Acked l) = ⊥
 IsQueued (Discarded cause) = ⊥
@@ -92,6 +99,7 @@ with_queue (Held l) numbers q = record q {
       (λ link. record link { held = numbers }) q.links;
 }
 with_queue Parked numbers q = record q { parked = numbers }
+with_queue (Back c) numbers q = record q { back = updated c (λ _. numbers) q.back }
 with_queue (Acked l) numbers q = q
 with_queue (Discarded cause) numbers q = q
 
@@ -124,6 +132,7 @@ pub record LinkRooms : Type 0 where
 pub record Rooms : Type 0 where
   pub links : List LinkRooms
   pub parked : ℕ
+  pub back : List ℕ
 
 abbrev pub room_in : (LinkRooms → ℕ) → Option LinkRooms → ℕ
 room_in room None = 0
@@ -133,6 +142,7 @@ abbrev pub room_at : Fate → Rooms → ℕ
 room_at (Waiting l) r = room_in (λ link. link.unsent) (slice_get r.links l)
 room_at (Held l) r = room_in (λ link. link.held) (slice_get r.links l)
 room_at Parked r = r.parked
+room_at (Back c) r = slice_index_or r.back c 0
 room_at (Unacked l) r = 0
 room_at (Acked l) r = 0
 room_at (Discarded cause) r = 0
@@ -145,6 +155,11 @@ KeepsRoom old new = (fate : Fate) → room_at fate old ≤ room_at fate new
 abbrev pub TakesRoom : Fate → ℕ → Rooms → Rooms → Type 0
 TakesRoom to count old new = (fate : Fate) → room_at fate old ≤ room_at fate new +
     (if same_fate to fate then count else 0)
+
+-- so many links have room for so many more that wait, and for as many that are held
+abbrev pub HaveRoom : ℕ → ℕ → Rooms → Type 0
+HaveRoom links messages r = (link : ℕ) → link < links
+    → (messages ≤ room_at (Waiting link) r) × (messages ≤ room_at (Held link) r)
 
 pub record BuffersState : Type 0 where
   pub lists : Lists

@@ -1,7 +1,7 @@
 -- How many of the users' messages stand in each place.
 use Rattle.std.specs.Prelude.{◌≡◌, ℕ, ◌+◌, ◌<◌, ◌^◌, Bool, true, false}
 use Rattle.set_events.specs.declared.answer.Fate.{Fate}
-use Rattle.set_events.specs.declared.answer.Fate.TheVariants.{Waiting, Unacked, Acked, Held, Parked, Discarded}
+use Rattle.set_events.specs.declared.answer.Fate.TheVariants.{Waiting, Unacked, Acked, Held, Parked, Back, Discarded}
 use Rattle.set_events.specs.declared.answer.Counts.{Counts}
 
 abbrev pub one_if : Bool → ℕ
@@ -30,6 +30,10 @@ abbrev pub is_parked : Fate → Bool
 is_parked Parked = true
 is_parked _ = false
 
+abbrev pub stands_back : Fate → Bool
+stands_back (Back c) = true
+stands_back _ = false
+
 abbrev pub was_discarded : Fate → Bool
 was_discarded (Discarded cause) = true
 was_discarded _ = false
@@ -39,6 +43,7 @@ abbrev pub is_unsent : Fate → Bool
 is_unsent (Waiting l) = true
 is_unsent (Held l) = true
 is_unsent Parked = true
+is_unsent (Back c) = true
 is_unsent _ = false
 
 -- the count of the place
@@ -48,6 +53,7 @@ count_at (Unacked l) c = c.unacked
 count_at (Acked l) c = c.acked
 count_at (Held l) c = c.held
 count_at Parked c = c.parked
+count_at (Back code) c = c.back
 count_at (Discarded cause) c = c.discarded
 
 -- one more stands there
@@ -57,7 +63,7 @@ pub record IsOneMore (fate : Fate) (old new : Counts) : Type 0 where
   pub acked : new.acked ≡ old.acked + one_if (was_acked fate)
   pub held : new.held ≡ old.held + one_if (was_held fate)
   pub parked : new.parked ≡ old.parked + one_if (is_parked fate)
-  pub back : new.back ≡ old.back
+  pub back : new.back ≡ old.back + one_if (stands_back fate)
   pub discarded : new.discarded ≡ old.discarded + one_if (was_discarded fate)
 
 -- far from the end of their range
@@ -67,6 +73,7 @@ pub record AreCountable (c : Counts) : Type 0 where
   pub acked : c.acked < 2 ^ 63
   pub held : c.held < 2 ^ 63
   pub parked : c.parked < 2 ^ 63
+  pub back : c.back < 2 ^ 63
   pub discarded : c.discarded < 2 ^ 63
 
 -- none in any place

@@ -1,3 +1,4 @@
+pub mod Backs
 pub mod Buffers
 pub mod Counted
 pub mod Counts

@@ -5,7 +5,7 @@ use Rattle.set_events.specs.declared.answer.Fate.{Fate}
 use Rattle.set_events.specs.declared.answer.Counts.{Counts}
 use Rattle.set_queues.specs.declared.message.Message.{Message}
 use Rattle.set_queues.specs.Kind.{is_users, is_of}
-use Rattle.set_queues.specs.Counts.{waits, was_sent, was_acked, was_held, is_parked, was_discarded, is_unsent}
+use Rattle.set_queues.specs.Counts.{waits, was_sent, was_acked, was_held, is_parked, stands_back, was_discarded, is_unsent}
 
 -- the element at this place changes
 abbrev pub updated : {X : Type 0} → ℕ → (X → X) → List X → List X
@@ -51,7 +51,7 @@ counts_of messages = record {
   acked = count_of was_acked messages;
   held = count_of was_held messages;
   parked = count_of is_parked messages;
-  back = 0;
+  back = count_of stands_back messages;
   discarded = count_of was_discarded messages;
 }
 

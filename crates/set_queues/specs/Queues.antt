@@ -55,11 +55,12 @@ passed from to q = with_queue from [] (with_queue to (queue_at to q ++ queue_at 
 abbrev pub AreNarrow : Lists → Type 0
 AreNarrow q = (link : ℕ) → length (queue_at (Unacked link) q) ≤ 127
 
--- of every set: it has 1 to 16 links, at most 127 messages are unacknowledged on each, and each message stands in
--- exactly one queue, the one that its fate names, or in none if its fate is final
+-- of every set: it has 1 to 16 links and 256 codes of changebacks, at most 127 messages are unacknowledged on each
+-- link, and each message stands in exactly one queue, the one that its fate names, or in none if its fate is final
 pub record AreSound (q : Lists) (messages : List Message) : Type 0 where
   pub one : 1 ≤ length q.links
   pub few : length q.links ≤ 16
+  pub codes : length q.back ≡ 256
   pub narrow : AreNarrow q
   pub tied : AreTied q messages
   pub fit : AreFit messages

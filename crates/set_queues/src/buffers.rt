@@ -1,6 +1,7 @@
-//! The queues in which messages stand: of each link those of its window and the held ones, and the
-//! parked ones.
-ghost use Rattle.std.specs.Prelude.{◌≡◌, ◌+◌, ◌<◌, ◌≤◌, ◌++◌, [], ◌∷◌};
+//! The queues in which messages stand: of each link those of its window and the held ones, the parked
+//! ones, and of each changeback code those that wait for its acknowledgement.
+ghost use Rattle.std.specs.Prelude.{◌≡◌, ◌+◌, ◌<◌, ◌≤◌, ◌++◌, [], ◌∷◌, IfOk, map, replicate};
+ghost use Rattle.set_queues.specs.Kept.{messages_of};
 
 use l2_window::{Queue, Window, WindowFault};
 use set_events::Fate;
@@ -19,6 +20,8 @@ pub(crate) struct Link {
 pub(crate) struct Buffers {
     links: Vec<Link>,
     parked: Queue,
+    /// By the changeback's code, 0 to 255.
+    back: Vec<Queue>,
 }
 
 impl Model for Buffers {
@@ -51,14 +54,15 @@ impl Link {
 }
 
 impl Buffers {
-    ghost use Rattle.std.specs.Prelude.{◌≡◌, ◌+◌, ◌<◌, ◌≤◌, ◌++◌, [], ◌∷◌, IfOk, OnOk, length, replicate, slice_get};
-    ghost use Rattle.set_queues.specs.Buffers.{IsKnown, IsQueued, KeepsRoom, TakesRoom, queue_at, with_queue, last_at, room_at};
+    ghost use Rattle.std.specs.Prelude.{◌≡◌, ◌+◌, ◌<◌, ◌≤◌, ◌++◌, [], ◌∷◌, IfOk, OnOk, length, replicate, drop, slice_get};
+    ghost use Rattle.set_queues.specs.Buffers.{IsKnown, IsQueued, KeepsRoom, TakesRoom, HaveRoom, queue_at, with_queue, last_at, room_at};
 
     /// The queues of so many links, all empty.
     pub(crate) fn new(alloc: Global, links: u8) -> Result<Buffers, AllocError>
         ensures links { IfOk result (λ buffers. buffers.lists.links ≡ replicate links
             (record { last = 127; unacked = []; unsent = []; held = [] })) }
         ensures parked { IfOk result (λ buffers. buffers.lists.parked ≡ []) }
+        ensures back { IfOk result (λ buffers. buffers.lists.back ≡ replicate 256 []) }
     {
         let mut made = Vec::new(alloc);
         for _ in 0..links {
@@ -68,6 +72,7 @@ impl Buffers {
         Ok(Buffers {
             links: made,
             parked: Queue::new(alloc)?,
+            back: no_backs(alloc)?,
         })
     }
 
@@ -99,6 +104,7 @@ impl Buffers {
             Fate::Unacked { link } => self.links[usize::from(link)].window.unacked_len(),
             Fate::Held { link } => self.links[usize::from(link)].held.len(),
             Fate::Parked => self.parked.len(),
+            Fate::Back { code } => self.back[usize::from(code)].len(),
             Fate::Acked { .. } | Fate::Discarded { .. } => 0,
         }
     }
@@ -113,6 +119,7 @@ impl Buffers {
             Fate::Unacked { link } => self.links[usize::from(link)].window.unacked_at(place),
             Fate::Held { link } => self.links[usize::from(link)].held.at(place),
             Fate::Parked => self.parked.at(place),
+            Fate::Back { code } => self.back[usize::from(code)].at(place),
             Fate::Acked { .. } | Fate::Discarded { .. } => None,
         }
     }
@@ -129,8 +136,27 @@ impl Buffers {
             Fate::Waiting { link } => self.links[usize::from(link)].window.reserve(messages),
             Fate::Held { link } => self.links[usize::from(link)].held.reserve(messages),
             Fate::Parked => self.parked.reserve(messages),
+            Fate::Back { code } => self.back[usize::from(code)].reserve(messages),
             Fate::Unacked { .. } | Fate::Acked { .. } | Fate::Discarded { .. } => unreachable!(),
         }
+    }
+
+    /// Makes room for so many more that wait for each link, and for as many that are held for it. The
+    /// messages stay where they stand.
+    pub(crate) fn reserve_each(&mut self, messages: usize) -> Result<(), AllocError>
+        requires few { length self.old.lists.links ≤ 16 }
+        ensures room { OnOk result (HaveRoom (length self.new.lists.links) messages self.new.rooms) }
+        ensures same { self.new.lists ≡ self.old.lists }
+        ensures kept { KeepsRoom self.old.rooms self.new.rooms }
+    {
+        if messages == 0 {
+            return Ok(());
+        }
+        for link in 0..self.links() as u8 {
+            self.reserve(Fate::Waiting { link }, messages)?;
+            self.reserve(Fate::Held { link }, messages)?;
+        }
+        Ok(())
     }
 
     /// The message stands there, behind the others.
@@ -145,6 +171,7 @@ impl Buffers {
             Fate::Waiting { link } => wait(&mut self.links[usize::from(link)].window, message),
             Fate::Held { link } => self.links[usize::from(link)].held.push_reserved(message),
             Fate::Parked => self.parked.push_reserved(message),
+            Fate::Back { code } => self.back[usize::from(code)].push_reserved(message),
             Fate::Unacked { .. } | Fate::Acked { .. } | Fate::Discarded { .. } => unreachable!(),
         }
     }
@@ -160,8 +187,19 @@ impl Buffers {
             Fate::Unacked { link } => self.links[usize::from(link)].window.clear_unacked(),
             Fate::Held { link } => self.links[usize::from(link)].held.clear(),
             Fate::Parked => self.parked.clear(),
+            Fate::Back { code } => self.back[usize::from(code)].clear(),
             Fate::Acked { .. } | Fate::Discarded { .. } => (),
         }
+    }
+
+    /// The first that waits for the acknowledgement of the changeback leaves, if there is one.
+    pub(crate) fn drop_back(&mut self, code: u8)
+        requires known { code < length self.old.lists.back }
+        ensures lists { self.new.lists ≡ with_queue (Fate.Back code)
+            (drop 1 (queue_at (Fate.Back code) self.old.lists)) self.old.lists }
+        ensures room { KeepsRoom self.old.rooms self.new.rooms }
+    {
+        self.back[usize::from(code)].pop();
     }
 }
 
@@ -221,6 +259,18 @@ impl Buffers {
     {
         self.links[usize::from(link)].window.reset();
     }
+}
+
+/// A queue for each changeback code. It takes no memory while nothing stands in it.
+fn no_backs(alloc: Global) -> Result<Vec<Queue>, AllocError>
+    ensures { IfOk result (λ queues. map messages_of queues.items ≡ replicate 256 []) }
+{
+    let mut made = Vec::new(alloc);
+    for _ in 0..256u16 {
+        let queue = Queue::new(alloc)?;
+        made.push(queue)?;
+    }
+    Ok(made)
 }
 
 /// The message waits last.

@@ -15,6 +15,7 @@ pub(crate) fn count(counts: &mut Counts, fate: Fate)
         Fate::Acked { .. } => counts.acked += 1,
         Fate::Held { .. } => counts.held += 1,
         Fate::Parked => counts.parked += 1,
+        Fate::Back { .. } => counts.back += 1,
         Fate::Discarded { .. } => counts.discarded += 1,
     }
 }
@@ -30,6 +31,7 @@ pub(crate) fn uncount(counts: &mut Counts, fate: Fate)
         Fate::Acked { .. } => counts.acked -= 1,
         Fate::Held { .. } => counts.held -= 1,
         Fate::Parked => counts.parked -= 1,
+        Fate::Back { .. } => counts.back -= 1,
         Fate::Discarded { .. } => counts.discarded -= 1,
     }
 }
@@ -39,7 +41,7 @@ pub(crate) fn is_unsent(fate: Fate) -> bool
     ensures { result ≡ is_unsent_there fate }
 {
     match fate {
-        Fate::Waiting { .. } | Fate::Held { .. } | Fate::Parked => true,
+        Fate::Waiting { .. } | Fate::Held { .. } | Fate::Parked | Fate::Back { .. } => true,
         Fate::Unacked { .. } | Fate::Acked { .. } | Fate::Discarded { .. } => false,
     }
 }

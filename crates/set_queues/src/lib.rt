@@ -2,12 +2,15 @@
 //! Q.704 5).
 //!
 //! [`Queues`] has of each of 1 to 16 links a window (`l2_window`) and the messages that are held for
-//! it, the parked messages, and of every number ever given out its [`Message`]: where it stands, whose
-//! it is, and the octets of its body. Bodies don't stand here. A fate that isn't final names a queue:
+//! it, the parked messages, of each of 256 changeback codes those that wait for its acknowledgement, and
+//! of every number ever given out its [`Message`]: where it stands, whose it is, and the octets of its
+//! body. Bodies don't stand here. A fate that isn't final names a queue:
 //!
 //! ```text
-//!          add (Waiting, Held, Parked)
+//!          add (Waiting, Held, Parked, Back)
 //!                  |
+//!   Back(c) -------+-- turn_back, divert -+
+//!                  |                      v
 //!   Parked --------+---- divert ---> Waiting(l) -- send --> Unacked(l) -- acknowledge --> Acked(l)
 //!      ^                               ^   |                   |
 //!      |                               |   |  settle(l, t)     |
@@ -21,24 +24,28 @@
 //! | [`Queues::acknowledge`] | the first unacknowledged, up to an FSN, are acknowledged |
 //! | [`Queues::discard`] | all of a queue are given up |
 //! | [`Queues::divert`] | all of a queue stand last in another, in their order |
+//! | [`Queues::turn_back`] | the first that waits for a changeback stands last in another queue |
 //! | [`Queues::settle`] | all of a link go to the target or are parked: sent, waiting, held |
 //! | [`Queues::reset`] | a link has a new life: FSN 127 counts as acknowledged |
 //!
 //! Readers: [`Queues::links`], [`Queues::len`], [`Queues::message`], [`Queues::fate_of`], [`Queues::counts`],
 //! [`Queues::unsent`], [`Queues::octets`], [`Queues::window`], [`Queues::count_at`],
-//! [`Queues::number_at`]. Only [`Queues::new`] and the three calls that reserve take
-//! memory: a call that adds or moves needs its room reserved before. Each call costs the same however
-//! many messages there ever were; discarding, diverting and settling are linear in what moves. A number
-//! takes 8 octets, and 8 more while it stands in a queue.
+//! [`Queues::number_at`], [`Queues::back_count`], [`Queues::oldest_back`]. Only [`Queues::new`] and the
+//! four calls that reserve take memory: a call that adds or moves needs its room reserved before. Each
+//! call costs the same however many messages there ever were; discarding, diverting and settling are
+//! linear in what moves. A number takes 8 octets, and 8 more while it stands in a queue; a queue of a
+//! code takes none for messages until one stands in it.
 //!
 //! This crate decides nothing: which messages are sent, acknowledged or moved, and when, is the
 //! caller's to know. It reads no clock, does no IO and takes no lock.
 //!
 //! The files: `message` what is kept of one; `messages` all of them with their counts (`tally`,
-//! `counting`); `buffers` the queues; `moving` a whole queue that goes elsewhere; `weight` the octets
-//! of unacknowledged bodies; `queues` the whole.
+//! `counting`); `buffers` the queues; `backs` what waits for the changebacks of one home; `moving` a
+//! whole queue, or the first of one, that goes elsewhere; `weight` the octets of unacknowledged bodies;
+//! `queues` the whole.
 #![tactic(auto)]
 
+mod backs;
 mod buffers;
 mod counting;
 mod laws;

@@ -1,8 +1,9 @@
-//! All that stand in one queue come to stand elsewhere.
-ghost use Rattle.std.specs.Prelude.{◌≡◌, ◌+◌, ◌≤◌, ◌<◌, ◌++◌, false, length, take, slice_index, true};
+//! All that stand in one queue, or the first of them, come to stand elsewhere.
+ghost use Rattle.std.specs.Prelude.{◌≡◌, ◌≢◌, ◌+◌, ◌≤◌, ◌<◌, ◌++◌, [], false, length, take, slice_index, true};
 ghost use Rattle.set_queues.specs.Messages.{restood, octets_of};
 ghost use Rattle.set_queues.specs.Buffers.{IsKnown, IsQueued, TakesRoom, queue_at, with_queue, room_at, same_fate, is_standing};
 ghost use Rattle.set_queues.specs.Queues.{AreGiven};
+ghost use Rattle.set_queues.specs.Backs.{passed_first};
 
 use super::buffers::Buffers;
 use super::messages::Messages;
@@ -50,5 +51,25 @@ pub(crate) fn queue_too(buffers: &mut Buffers, from: Fate, to: Fate)
             Some(message) => buffers.push(to, message),
             None => unreachable!(),
         }
+    }
+}
+
+/// The first that waits for the acknowledgement of the changeback stands last in the other queue.
+pub(crate) fn shift_back(buffers: &mut Buffers, code: u8, to: Fate)
+    requires known { code < length buffers.old.lists.back }
+    requires some { queue_at (Fate.Back code) buffers.old.lists ≢ [] }
+    requires other { IsKnown to buffers.old.lists }
+    requires queued { IsQueued to }
+    requires apart { same_fate to (Fate.Back code) ≡ false }
+    requires room { 0 < room_at to buffers.old.rooms }
+    ensures lists { buffers.new.lists ≡ passed_first (Fate.Back code) to buffers.old.lists }
+    ensures room { TakesRoom to 1 buffers.old.rooms buffers.new.rooms }
+{
+    match buffers.at(Fate::Back { code }, 0) {
+        Some(message) => {
+            buffers.push(to, message);
+            buffers.drop_back(code);
+        }
+        None => unreachable!(),
     }
 }

@@ -2,10 +2,11 @@
 ghost use Rattle.std.specs.Prelude.{◌≡◌, ◌+◌, IfSome};
 ghost use Rattle.set_queues.specs.Settling.{fate_on};
 
+use super::backs::{count_back, oldest_back};
 use super::buffers::Buffers;
 use super::message::Message;
 use super::messages::Messages;
-use super::moving::{queue_too, restand_first};
+use super::moving::{queue_too, restand_first, shift_back};
 use super::weight::{weigh, weigh_less, weigh_more, weigh_none};
 use l2_window::{Queue, Window, WindowFault};
 use set_events::{Counts, DiscardCause, Fate};
@@ -18,7 +19,8 @@ use std::marker::Model;
 /// Contracts see the lists of numbers, the messages, and how much room there is; the counts are those
 /// of the lists. A fate that isn't final names a queue: [`Fate::Waiting`] what waits for a link,
 /// [`Fate::Unacked`] what was sent on it, [`Fate::Held`] what is held for it, [`Fate::Parked`] what no
-/// link can take.
+/// link can take, [`Fate::Back`] what waits for the acknowledgement of a changeback, one queue for each
+/// of the codes 0 to 255 (Q.704 6.3).
 #[derive(Debug, Drop)]
 pub struct Queues {
     buffers: Buffers,
@@ -45,8 +47,9 @@ impl Queues {
     ghost use Rattle.std.specs.Result.{OkIff};
     ghost use Rattle.set_queues.specs.Messages.{restood, fate_at, octets_of, counts_of, unsent_of};
     ghost use Rattle.set_queues.specs.Tally.{IsFit};
-    ghost use Rattle.set_queues.specs.Buffers.{IsKnown, IsQueued, KeepsRoom, TakesRoom, is_standing, same_fate, queue_at, with_queue, last_at, with_last, room_at};
+    ghost use Rattle.set_queues.specs.Buffers.{IsKnown, IsQueued, KeepsRoom, TakesRoom, HaveRoom, is_standing, same_fate, queue_at, with_queue, last_at, with_last, room_at};
     ghost use Rattle.set_queues.specs.Queues.{AreSound, passed};
+    ghost use Rattle.set_queues.specs.Backs.{IsOldestOf, back_count, passed_first};
     ghost use Rattle.set_queues.specs.Sending.{IsSending, acknowledged, reach};
     ghost use Rattle.set_queues.specs.Settling.{fate_on, on, settled};
 
@@ -57,6 +60,7 @@ impl Queues {
         ensures links { IfOk result (λ queues. queues.lists.links ≡ replicate links
             (record { last = 127; unacked = []; unsent = []; held = [] })) }
         ensures parked { IfOk result (λ queues. queues.lists.parked ≡ []) }
+        ensures back { IfOk result (λ queues. queues.lists.back ≡ replicate 256 []) }
         ensures messages { IfOk result (λ queues. queues.messages ≡ []) }
     {
         Ok(Queues {
@@ -66,9 +70,9 @@ impl Queues {
         })
     }
 
-    /// A law: there are 1 to 16 links, at most 127 messages of each are unacknowledged, and each
-    /// message stands in exactly one queue, the one that its fate names, or in none if its fate is
-    /// final.
+    /// A law: there are 1 to 16 links and 256 changeback codes, at most 127 messages of each link are
+    /// unacknowledged, and each message stands in exactly one queue, the one that its fate names, or in
+    /// none if its fate is final.
     pub fn is_sound(&self)
         ensures { AreSound self.now.lists self.now.messages }
     {
@@ -159,6 +163,27 @@ impl Queues {
         self.buffers.at(fate, place)
     }
 
+    /// How many messages wait for the acknowledgement of a changeback of this home, 0 to 15: for one of
+    /// the codes 16 * home to 16 * home + 15.
+    pub fn back_count(&self, home: u8) -> usize
+        requires { home < 16 }
+        ensures value { result ≡ back_count home self.now.lists }
+        ensures few { result < 2 ^ 63 }
+    {
+        let _all = self.len();
+        count_back(&self.buffers, home)
+    }
+
+    /// The changeback code of this home, 0 to 15, for whose acknowledgement the oldest message waits:
+    /// of the codes 16 * home to 16 * home + 15 the one whose first number is the lowest. None where
+    /// nothing waits for one.
+    pub fn oldest_back(&self, home: u8) -> Option<u8>
+        requires { home < 16 }
+        ensures { IsOldestOf home result self.now.lists }
+    {
+        oldest_back(&self.buffers, home)
+    }
+
     /// Makes room for so many new messages.
     pub fn reserve(&mut self, messages: usize) -> Result<(), AllocError>
         ensures room { OnOk result (messages ≤ self.new.room) }
@@ -179,6 +204,17 @@ impl Queues {
         ensures kept { KeepsRoom self.old.rooms self.new.rooms }
     {
         self.buffers.reserve(fate, messages)
+    }
+
+    /// Makes room for so many more that wait for each link, and for as many that are held for it. Nothing
+    /// is done for 0.
+    pub fn reserve_each(&mut self, messages: usize) -> Result<(), AllocError>
+        ensures room { OnOk result (HaveRoom (length self.new.lists.links) messages self.new.rooms) }
+        ensures same { (self.new.lists ≡ self.old.lists) × (self.new.messages
+            ≡ self.old.messages) × (self.new.room ≡ self.old.room) }
+        ensures kept { KeepsRoom self.old.rooms self.new.rooms }
+    {
+        self.buffers.reserve_each(messages)
     }
 
     /// Makes room in that queue for all that stand on the link, and so many more: what settling it may
@@ -313,6 +349,27 @@ impl Queues {
         queue_too(&mut self.buffers, from, to);
         self.buffers.clear(from);
         weigh_none(&mut self.octets, from);
+    }
+
+    /// The first message that waits for the acknowledgement of the changeback of this code stands last in
+    /// the other queue from now on. It wants no memory.
+    ///
+    /// Conditions: one waits for it; the other is a queue in which messages can wait, with room for one.
+    pub fn turn_back(&mut self, code: u8, to: Fate)
+        requires some { queue_at (Fate.Back code) self.old.lists ≢ [] }
+        requires other { IsKnown to self.old.lists }
+        requires queued { IsQueued to }
+        requires apart { same_fate to (Fate.Back code) ≡ false }
+        requires room { 0 < room_at to self.old.rooms }
+        ensures lists { self.new.lists ≡ passed_first (Fate.Back code) to self.old.lists }
+        ensures messages { self.new.messages ≡ restood (take 1 (queue_at
+            (Fate.Back code) self.old.lists)) to self.old.messages }
+        ensures rooms { TakesRoom to 1 self.old.rooms self.new.rooms }
+        ensures room { self.new.room ≡ self.old.room }
+    {
+        let from = Fate::Back { code };
+        restand_first(&self.buffers, &mut self.messages, from, 1, to);
+        shift_back(&mut self.buffers, code, to);
     }
 
     /// All that stand in the queue are given up, for this cause.

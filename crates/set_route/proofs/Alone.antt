@@ -1,12 +1,14 @@
--- What each call does to one stream.
-use Rattle.std.proofs.Common.{refl, arith, ◌≡◌, ◌∙◌, ap, sym, ◌<◌, ℕ, zero, suc, ◌%◌, ◌==◌, Bool, false, ◌||◌, List, [], ◌∷◌, map, length, get_or}
+-- What each call does to one stream, and to one code.
+use Rattle.std.proofs.Common.{refl, arith, ◌≡◌, ◌∙◌, ap, sym, ◌<◌, ℕ, zero, suc, ◌%◌, ◌==◌, Bool, true, false, cond, ◌&&◌, ◌||◌, List, [], ◌∷◌, map, length, get_or}
 use Rattle.std.proofs.lemmas.Bool.Decides.{nat_tests}
 use Rattle.std.proofs.lemmas.List.{length-map, get_or-map}
 use Rattle.std.proofs.lemmas.List.FromFn.{get_or-map-range_with_len}
 use Rattle.set_route.specs.declared.place.Place.{Place}
-use Rattle.set_route.specs.declared.place.Place.TheVariants.{Nowhere}
+use Rattle.set_route.specs.declared.place.Place.TheVariants.{Changing, Nowhere}
 use Rattle.set_route.specs.declared.stream.Stream.{Stream}
-use Rattle.set_route.specs.Routing.{Routing, IsRouting, MovesAlone, has_messages, new_stream, used_at, place_raised, stream_raised, stream_settled, place_settled}
+use Rattle.set_route.specs.declared.place.Code.TheVariants.{Asked}
+use Rattle.set_route.specs.Routing.{Routing, IsRouting, MovesAlone, CodesMoveAlone, place_of, has_messages, new_stream, used_at, place_raised, stream_raised, stream_settled, place_settled, place_left, stream_left, code_for, runs_on, is_away, stream_asked, place_back, stream_back}
+use Rattle.set_route.proofs.Codes.{codes_at, set_at, freed_at}
 use Rattle.set_route.proofs.Places.{sixteen}
 
 -- the stream at a place of the list
@@ -59,6 +61,24 @@ used_then (s ∷ rest) zero (suc n) below = first_is_not n (get_or (map (λ (s :
 used_then (s ∷ rest) (suc m) zero below = not_first m s.used
 used_then (s ∷ rest) (suc m) (suc n) below = used_then rest m n (omega (arith, below)) ∙ one_lower m n (get_or (map (λ (s : Stream). s.used) rest) n false)
 
+-- the way back is asked for
+asked_at : (b : Bool) (s : Stream) (to : Place) → (cond b (record s { place = to }) s).place ≡ cond b to s.place
+asked_at true s to = refl
+asked_at false s to = refl
+
+asked_used : (b : Bool) (s : Stream) (to : Place) → (cond b (record s { place = to }) s).used ≡ s.used
+asked_used true s to = refl
+asked_used false s to = refl
+
+asked_then : (home alternative of : ℕ) (s : Stream) (place : Place) → of ≡ s.home → place ≡ s.place
+    → (stream_asked home alternative s).place
+    ≡ cond ((of == home) && runs_on alternative place) (Changing home (code_for home alternative) alternative) place
+asked_then home alternative of s place same_home same_place =
+    let to : Place = Changing home (code_for home alternative) alternative in
+    asked_at (is_away home alternative s) s to
+    ∙ ap (λ (h : ℕ). cond ((h == home) && runs_on alternative s.place) to s.place) (sym same_home)
+    ∙ ap (λ (p : Place). cond ((of == home) && runs_on alternative p) to p) (sym same_place)
+
 pub alone : (r : Routing) (n : ℕ) → IsRouting r → n < 16 → MovesAlone r n
 alone r n sound below =
     let inside : n < length r.streams = omega (arith, below, sixteen r sound) in
@@ -70,8 +90,26 @@ alone r n sound below =
           ∙ ap (λ (u : Bool). place_raised link (n % r.links) u (the_stream r.streams n).place) (sym used)
           ∙ ap (λ (p : Place). place_raised link (n % r.links) (has_messages n r) p) (sym place);
       raised_messages = λ link. used_changed (stream_raised link) r.streams n inside ∙ sym used;
+      left_place = λ link. place_changed (stream_left link) r.streams n inside ∙ ap (place_left link) (sym place);
+      left_messages = λ link. used_changed (stream_left link) r.streams n inside ∙ sym used;
       settled_place = λ link target. place_changed (stream_settled link target) r.streams n inside ∙ ap (place_settled link target) (sym place);
       settled_messages = λ link target. used_changed (stream_settled link target) r.streams n inside ∙ sym used;
       accepted_place = λ other. ap (λ ps. get_or ps n Nowhere) (place_kept r.streams other);
       accepted_messages = λ other. used_then r.streams other n inside;
+      asked_place = λ home alternative.
+          place_changed (stream_asked home alternative) r.streams n inside
+          ∙ asked_then home alternative (n % r.links) (the_stream r.streams n) (place_of n r) (home_at r n sound below) place;
+      asked_messages = λ home alternative.
+          used_changed (stream_asked home alternative) r.streams n inside
+          ∙ asked_used (is_away home alternative (the_stream r.streams n)) (the_stream r.streams n) (Changing home (code_for home alternative) alternative)
+          ∙ sym used;
+      back_place = λ code. place_changed (stream_back code) r.streams n inside ∙ ap (place_back code) (sym place);
+      back_messages = λ code. used_changed (stream_back code) r.streams n inside ∙ sym used;
     }
+
+pub codes_alone : (r : Routing) (code : ℕ) → IsRouting r → code < 256 → CodesMoveAlone r code
+codes_alone r code sound below = record {
+  left_code = λ link. codes_at link 0 code code r.codes (omega arith);
+  asked_code = λ home alternative few_homes few. set_at r.codes code (code_for home alternative) Asked (omega (arith, few_homes, few, sound.all_codes));
+  back_code = λ other. freed_at r.codes code other;
+}

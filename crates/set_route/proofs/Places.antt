@@ -1,33 +1,61 @@
 -- What holds of every set is kept by each call.
-use Rattle.std.proofs.Common.{refl, arith, ◌≡◌, ◌∙◌, ap, sym, ◌<◌, ◌≤◌, ℕ, zero, suc, ◌%◌, ◌==◌, Bool, true, false, not, ◌&&◌, cond, Option, Some, None, IfSome, List, [], ◌∷◌, map, length, get_or, set, All, ◌+◌, ◌++◌, take, drop, length-append, length-drop, subst, below_more, get_or-set_other, get_or-set_same}
+use Rattle.std.proofs.Common.{refl, arith, ◌≡◌, ◌≢◌, ◌∙◌, ap, sym, ◌<◌, ◌≤◌, ℕ, zero, suc, ◌%◌, ◌==◌, Bool, true, false, not, ◌&&◌, cond, Option, Some, None, IfSome, List, [], ◌∷◌, map, length, get_or, set, All, ◌+◌, ◌++◌, take, drop, length-append, length-drop, subst, below_more, get_or-set_other, get_or-set_same}
+use Rattle.std.proofs.lemmas.Bool.Decides.{nat_tests}
 use Rattle.std.proofs.lemmas.List.{length-map, length-set, length-take, get_or_default, take_all, drop_all, append-nil}
 use Rattle.std.proofs.lemmas.List.Edits.{map_over_more}
 use Rattle.std.proofs.lemmas.List.Elements.{All-map, All-cons}
 use Rattle.std.proofs.lemmas.List.FromFn.{fill_by_all}
 use Rattle.set_route.specs.declared.place.Place.{Place}
-use Rattle.set_route.specs.declared.place.Place.TheVariants.{On, Nowhere}
+use Rattle.set_route.specs.declared.place.Place.TheVariants.{On, Changing, Nowhere}
+use Rattle.set_route.specs.declared.place.Code.{Code}
+use Rattle.set_route.specs.declared.place.Code.TheVariants.{Free, Asked, Spent}
 use Rattle.set_route.specs.declared.stream.Stream.{Stream}
-use Rattle.set_route.specs.Routing.{Routing, IsRouting, IsPlaceOf, stream_numbers, new_stream, new_routing, used_at, accepted, place_raised, stream_raised, raised, place_on, place_settled, stream_settled, settled}
+use Rattle.set_route.specs.Routing.{Routing, IsRouting, IsPlaceOf, IsCoded, stream_numbers, new_stream, new_routing, used_at, accepted, place_raised, stream_raised, raised, place_on, via_settled, place_settled, stream_settled, settled, code_for, home_of, code_of, place_left, stream_left, code_left, codes_left, left, is_away, stream_asked, asked, place_back, stream_back, given_back, given_back_from, cleared}
+use Rattle.set_route.proofs.Codes.{by_test, codes_at, length-codes_left, set_at, freed_at, all_free, free_left, free_freed}
 
 -- a stream runs on a link of the set
 abbrev pub IsThere : ℕ → Stream → Type 0
 IsThere links s = IsPlaceOf links s.place
 
--- streams that change one by one, each within its home and on links of the set
-pub all_kept : (f : Stream → Stream) (links : ℕ) (streams : List Stream) → ((s : Stream) → IsThere links s → IsThere links (f s)) → All (λ s. IsPlaceOf links s.place) streams → All (λ s. IsPlaceOf links s.place) (map f streams)
-all_kept f links streams keeps all = All-map (λ s. IsPlaceOf links s.place) f streams (λ k d below. keeps (get_or streams k d) (all k d below))
-
+-- Streams that change one by one, each within its home and on links of the set, and codes.
 homes_kept : (f : Stream → Stream) (streams : List Stream) → ((s : Stream) → (f s).home ≡ s.home) → map (λ s. s.home) (map f streams) ≡ map (λ s. s.home) streams
 homes_kept f [] keeps = refl
 homes_kept f (s ∷ rest) keeps = ap (λ n. n ∷ map (λ (s : Stream). s.home) (map f rest)) (keeps s) ∙ ap (λ ns. s.home ∷ ns) (homes_kept f rest keeps)
 
-pub routing_kept : (f : Stream → Stream) (r : Routing) → ((s : Stream) → (f s).home ≡ s.home) → ((s : Stream) → IsThere r.links s → IsThere r.links (f s)) → IsRouting r → IsRouting (record r { streams = map f r.streams })
-routing_kept f r homes places sound = record {
+-- the set with these streams and codes
+abbrev pub with_codes : (Stream → Stream) → List Code → Routing → Routing
+with_codes f codes r = record { links = r.links; streams = map f r.streams; codes = codes }
+
+pub routing_changed : (f : Stream → Stream) (codes : List Code) (r : Routing)
+    → ((s : Stream) → (f s).home ≡ s.home)
+    → ((s : Stream) → IsThere r.links s → IsThere r.links (f s))
+    → ((s : Stream) → IsCoded r s.place → IsCoded (with_codes f codes r) (f s).place)
+    → length codes ≡ 256
+    → ((code : ℕ) → get_or codes code Free ≢ Free → home_of code < r.links)
+    → IsRouting r → IsRouting (with_codes f codes r)
+routing_changed f codes r homes places opens long known sound = record {
   some_link = sound.some_link;
   at_most_16 = sound.at_most_16;
   homes = homes_kept f r.streams homes ∙ sound.homes;
-  there = all_kept f r.links r.streams places sound.there;
+  there = All-map (λ s. IsPlaceOf r.links s.place) f r.streams (λ k d below. places (get_or r.streams k d) (sound.there k d below));
+  coded = All-map (λ s. IsCoded (with_codes f codes r) s.place) f r.streams (λ k d below. opens (get_or r.streams k d) (sound.coded k d below));
+  all_codes = long;
+  known = known;
 }
+
+-- no code changes
+pub routing_kept : (f : Stream → Stream) (r : Routing)
+    → ((s : Stream) → (f s).home ≡ s.home)
+    → ((s : Stream) → IsThere r.links s → IsThere r.links (f s))
+    → ((s : Stream) → IsCoded r s.place → IsCoded (with_codes f r.codes r) (f s).place)
+    → IsRouting r → IsRouting (record r { streams = map f r.streams })
+routing_kept f r homes places opens sound = routing_changed f r.codes r homes places opens sound.all_codes sound.known sound
+
+-- an open code that stays open
+open_kept : (r new : Routing) (place : Place) → ((code : ℕ) → code_of code r ≡ Asked → code_of code new ≡ Asked) → IsCoded r place → IsCoded new place
+open_kept r new (On l) keeps is = tt
+open_kept r new (Changing to code via) keeps is = (is.0, keeps code is.1)
+open_kept r new Nowhere keeps is = tt
 
 -- there are 16 streams
 pub sixteen : (r : Routing) → IsRouting r → length r.streams ≡ 16
@@ -49,27 +77,160 @@ chosen : (b : Bool) (links : ℕ) (one other : Place) → IsPlaceOf links one �
 chosen true links one other p q = p
 chosen false links one other p q = q
 
+chosen_coded : (b : Bool) (r : Routing) (one other : Place) → IsCoded r one → (b ≡ false → IsCoded r other) → IsCoded r (cond b one other)
+chosen_coded true r one other p q = p
+chosen_coded false r one other p q = q refl
+
 -- Up.
 raised_to : (links link home : ℕ) (used : Bool) (place : Place) → link < links → IsPlaceOf links place → IsPlaceOf links (place_raised link home used place)
 raised_to links link home used (On l) below there = chosen ((home == link) && not used) links (On link) (On l) below there
+raised_to links link home used (Changing to code via) below there = there
 raised_to links link home used Nowhere below there = below
+
+raised_coded : (r new : Routing) (link home : ℕ) (used : Bool) (place : Place) → r.codes ≡ new.codes → IsCoded r place → IsCoded new (place_raised link home used place)
+raised_coded r new link home used (On l) same is = chosen_coded ((home == link) && not used) new (On link) (On l) tt (λ no. tt)
+raised_coded r new link home used (Changing to code via) same is = (is.0, ap (λ cs. get_or cs code Free) (sym same) ∙ is.1)
+raised_coded r new link home used Nowhere same is = tt
 
 pub raised_sound : (link : ℕ) (r : Routing) → link < r.links → IsRouting r → IsRouting (raised link r)
 raised_sound link r below sound =
-    routing_kept (stream_raised link) r (λ s. refl) (λ s there. raised_to r.links link s.home s.used s.place below there) sound
+    routing_kept (stream_raised link) r (λ s. refl)
+    (λ s there. raised_to r.links link s.home s.used s.place below there)
+    (λ s is. raised_coded r (with_codes (stream_raised link) r.codes r) link s.home s.used s.place refl is)
+    sound
+
+-- A link is left.
+left_to : (links link : ℕ) (place : Place) → IsPlaceOf links place → IsPlaceOf links (place_left link place)
+left_to links link (On l) there = there
+left_to links link (Changing to code via) there = chosen (to == link) links (On via) (Changing to code via) there.1 there
+left_to links link Nowhere there = tt
+
+-- an open code of another link
+still_open : (link code to : ℕ) (was : Code) → home_of code ≡ to → (to == link) ≡ false → was ≡ Asked → code_left link code was ≡ Asked
+still_open link code to was home other is =
+    ap (code_left link code) is ∙ ap (λ h. cond (h == link) Spent Asked) home ∙ ap (λ b. cond b Spent Asked) other
+
+left_coded : (r new : Routing) (link : ℕ) (place : Place) → new.codes ≡ codes_left link 0 r.codes → IsCoded r place → IsCoded new (place_left link place)
+left_coded r new link (On l) same is = tt
+left_coded r new link (Changing to code via) same is =
+    chosen_coded (to == link) new (On via) (Changing to code via) tt
+    (λ no. (is.0, ap (λ cs. get_or cs code Free) same ∙ codes_at link 0 code code r.codes (omega arith) ∙ still_open link code to (code_of code r) is.0 no is.1))
+left_coded r new link Nowhere same is = tt
+
+pub left_sound : (link : ℕ) (r : Routing) → IsRouting r → IsRouting (left link r)
+left_sound link r sound =
+    routing_changed (stream_left link) (codes_left link 0 r.codes) r (λ s. refl)
+    (λ s there. left_to r.links link s.place there)
+    (λ s is. left_coded r (with_codes (stream_left link) (codes_left link 0 r.codes) r) link s.place refl is)
+    (length-codes_left link 0 r.codes ∙ sound.all_codes)
+    (λ code used. sound.known code (λ free. used (codes_at link 0 code code r.codes (omega arith) ∙ free_left link code (code_of code r) free)))
+    sound
 
 -- A link settled.
 settled_on : (links : ℕ) (target : Option ℕ) → IfSome target (λ to. to < links) → IsPlaceOf links (place_on target)
 settled_on links (Some link) below = below
 settled_on links None below = tt
 
+chosen_below : (b : Bool) (links one other : ℕ) → one < links → other < links → cond b one other < links
+chosen_below true links one other p q = p
+chosen_below false links one other p q = q
+
+settled_via : (links link via : ℕ) (target : Option ℕ) → IfSome target (λ to. to < links) → via < links → via_settled link target via < links
+settled_via links link via (Some to) below there = chosen_below (via == link) links to via below there
+settled_via links link via None below there = there
+
 settled_to : (links link : ℕ) (target : Option ℕ) (place : Place) → IfSome target (λ to. to < links) → IsPlaceOf links place → IsPlaceOf links (place_settled link target place)
 settled_to links link target (On l) below there = chosen (l == link) links (place_on target) (On l) (settled_on links target below) there
+settled_to links link target (Changing to code via) below there = (there.0, settled_via links link via target below there.1)
 settled_to links link target Nowhere below there = tt
+
+on_coded : (r : Routing) (target : Option ℕ) → IsCoded r (place_on target)
+on_coded r (Some link) = tt
+on_coded r None = tt
+
+settled_coded : (r new : Routing) (link : ℕ) (target : Option ℕ) (place : Place) → r.codes ≡ new.codes → IsCoded r place → IsCoded new (place_settled link target place)
+settled_coded r new link target (On l) same is = chosen_coded (l == link) new (place_on target) (On l) (on_coded new target) (λ no. tt)
+settled_coded r new link target (Changing to code via) same is = (is.0, ap (λ cs. get_or cs code Free) (sym same) ∙ is.1)
+settled_coded r new link target Nowhere same is = tt
 
 pub settled_sound : (link : ℕ) (target : Option ℕ) (r : Routing) → IfSome target (λ to. to < r.links) → IsRouting r → IsRouting (settled link target r)
 settled_sound link target r below sound =
-    routing_kept (stream_settled link target) r (λ s. refl) (λ s there. settled_to r.links link target s.place below there) sound
+    routing_kept (stream_settled link target) r (λ s. refl)
+    (λ s there. settled_to r.links link target s.place below there)
+    (λ s is. settled_coded r (with_codes (stream_settled link target) r.codes r) link target s.place refl is)
+    sound
+
+-- Restore.
+asked_home : (b : Bool) (s : Stream) (to : Place) → (cond b (record s { place = to }) s).home ≡ s.home
+asked_home true s to = refl
+asked_home false s to = refl
+
+asked_to : (b : Bool) (links : ℕ) (s : Stream) (to : Place) → IsPlaceOf links to → IsThere links s → IsThere links (cond b (record s { place = to }) s)
+asked_to true links s to new there = new
+asked_to false links s to new there = there
+
+asked_coded : (b : Bool) (r : Routing) (s : Stream) (to : Place) → IsCoded r to → IsCoded r s.place → IsCoded r (cond b (record s { place = to }) s).place
+asked_coded true r s to new is = new
+asked_coded false r s to new is = is
+
+home_is : (home alternative : ℕ) → alternative < 16 → home_of (code_for home alternative) ≡ home
+home_is home alternative few = omega (arith, few)
+
+still_asked : (b : Bool) (was : Code) → was ≡ Asked → cond b Asked was ≡ Asked
+still_asked true was is = refl
+still_asked false was is = is
+
+asked_known : (home alternative code links : ℕ) (was : Code) → alternative < 16 → home < links → (was ≢ Free → home_of code < links) → cond (code == code_for home alternative) Asked was ≢ Free → home_of code < links
+asked_known home alternative code links was few below known used =
+    by_test (home_of code < links) (code == code_for home alternative)
+    (λ is. let same : code ≡ code_for home alternative = grind (arith, nat_tests, is) in omega (arith, same, few, below))
+    (λ no. known (λ free. used (ap (λ b. cond b Asked was) no ∙ free)))
+
+pub asked_sound : (home alternative : ℕ) (r : Routing) → home < r.links → alternative < r.links → IsRouting r → IsRouting (asked home alternative r)
+asked_sound home alternative r below there sound =
+    let few : alternative < 16 = omega (arith, there, sound.at_most_16) in
+    let code : ℕ = code_for home alternative in
+    let within : code < length r.codes = omega (arith, below, few, sound.at_most_16, sound.all_codes) in
+    let new : Routing = with_codes (stream_asked home alternative) (set r.codes code Asked) r in
+    let at = λ (n : ℕ). set_at r.codes n code Asked within in
+    routing_changed (stream_asked home alternative) (set r.codes code Asked) r
+    (λ s. asked_home (is_away home alternative s) s (Changing home code alternative))
+    (λ s is. asked_to (is_away home alternative s) r.links s (Changing home code alternative) (below, there) is)
+    (λ s is. asked_coded (is_away home alternative s) new s (Changing home code alternative)
+    (home_is home alternative few, get_or-set_same r.codes code Asked Free within)
+    (open_kept r new s.place (λ n e. at n ∙ still_asked (n == code) (code_of n r) e) is))
+    (length-set r.codes code Asked ∙ sound.all_codes)
+    (λ n used. asked_known home alternative n r.links (code_of n r) few below (sound.known n) (λ free. used (at n ∙ free)))
+    sound
+
+-- A code is given back.
+back_to : (links code : ℕ) (place : Place) → IsPlaceOf links place → IsPlaceOf links (place_back code place)
+back_to links code (On l) there = there
+back_to links code (Changing to c via) there = chosen (c == code) links (On to) (Changing to c via) there.0 there
+back_to links code Nowhere there = tt
+
+back_coded : (r new : Routing) (code : ℕ) (place : Place) → new.codes ≡ set r.codes code Free → IsCoded r place → IsCoded new (place_back code place)
+back_coded r new code (On l) same is = tt
+back_coded r new code (Changing to c via) same is =
+    chosen_coded (c == code) new (On to) (Changing to c via) tt
+    (λ no. (is.0, ap (λ cs. get_or cs c Free) same ∙ freed_at r.codes c code ∙ ap (λ b. cond b Free (code_of c r)) no ∙ is.1))
+back_coded r new code Nowhere same is = tt
+
+pub back_sound : (code : ℕ) (r : Routing) → IsRouting r → IsRouting (given_back code r)
+back_sound code r sound =
+    routing_changed (stream_back code) (set r.codes code Free) r (λ s. refl)
+    (λ s there. back_to r.links code s.place there)
+    (λ s is. back_coded r (with_codes (stream_back code) (set r.codes code Free) r) code s.place refl is)
+    (length-set r.codes code Free ∙ sound.all_codes)
+    (λ n used. sound.known n (λ free. used (freed_at r.codes n code ∙ free_freed (n == code) (code_of n r) free)))
+    sound
+
+back_from_sound : (code many : ℕ) (r : Routing) → IsRouting r → IsRouting (given_back_from code many r)
+back_from_sound code zero r sound = sound
+back_from_sound code (suc n) r sound = back_from_sound (suc code) n (given_back code r) (back_sound code r sound)
+
+pub cleared_sound : (home : ℕ) (r : Routing) → IsRouting r → IsRouting (cleared home r)
+cleared_sound home r sound = back_from_sound (code_for home 0) 16 r sound
 
 -- Offer.
 pub used_is : (streams : List Stream) (stream : ℕ) (d : Stream) → stream < length streams → set streams stream (record (get_or streams stream d) { used = true }) ≡ used_at stream streams
@@ -82,17 +243,21 @@ used_homes [] stream = refl
 used_homes (s ∷ rest) zero = refl
 used_homes (s ∷ rest) (suc n) = ap (λ ns. s.home ∷ ns) (used_homes rest n)
 
-used_there : (links : ℕ) (streams : List Stream) (stream : ℕ) → All (λ s. IsPlaceOf links s.place) streams → All (λ s. IsPlaceOf links s.place) (used_at stream streams)
-used_there links [] stream all = all
-used_there links (s ∷ rest) zero all = All-cons (λ s. IsPlaceOf links s.place) (record s { used = true }) rest (all 0 s (omega arith)) (λ k d below. all (suc k) d (omega (arith, below)))
-used_there links (s ∷ rest) (suc n) all = All-cons (λ s. IsPlaceOf links s.place) s (used_at n rest) (all 0 s (omega arith)) (used_there links rest n (λ k d below. all (suc k) d (omega (arith, below))))
+used_there : (P : Place → Type 0) (streams : List Stream) (stream : ℕ) → All (λ s. P s.place) streams → All (λ s. P s.place) (used_at stream streams)
+used_there P [] stream all = all
+used_there P (s ∷ rest) zero all = All-cons (λ s. P s.place) (record s { used = true }) rest (all 0 s (omega arith)) (λ k d below. all (suc k) d (omega (arith, below)))
+used_there P (s ∷ rest) (suc n) all = All-cons (λ s. P s.place) s (used_at n rest) (all 0 s (omega arith)) (used_there P rest n (λ k d below. all (suc k) d (omega (arith, below))))
 
 pub accepted_sound : (stream : ℕ) (r : Routing) → IsRouting r → IsRouting (accepted stream r)
 accepted_sound stream r sound = record {
   some_link = sound.some_link;
   at_most_16 = sound.at_most_16;
   homes = used_homes r.streams stream ∙ sound.homes;
-  there = used_there r.links r.streams stream sound.there;
+  there = used_there (IsPlaceOf r.links) r.streams stream sound.there;
+  coded = used_there (IsCoded (accepted stream r)) r.streams stream
+      (λ k d below. open_kept r (accepted stream r) (get_or r.streams k d).place (λ code e. e) (sound.coded k d below));
+  all_codes = sound.all_codes;
+  known = sound.known;
 }
 
 -- A new set.
@@ -120,31 +285,37 @@ new_sound links some few = record {
   at_most_16 = few;
   homes = refl;
   there = All-map (λ s. IsPlaceOf links s.place) (λ s. new_stream (s % links)) stream_numbers (λ k d below. tt);
+  coded = All-map (λ s. IsCoded (new_routing links) s.place) (λ s. new_stream (s % links)) stream_numbers (λ k d below. tt);
+  all_codes = refl;
+  known = λ code used. absurd (used (all_free 256 code));
 }
 
 -- What the code keeps stands for the same.
-pub raised_kept : (links old link : ℕ) (streams now : List Stream) (i : ℕ) → IsRouting (record { links = links; streams = streams }) → link < old → links ≡ old → 16 ≤ i → now ≡ map (stream_raised link) (take i streams) ++ drop i streams → IsRouting (record { links = links; streams = now })
-raised_kept links old link streams now i sound below same past so_far =
-    let was : Routing = record { links = links; streams = streams } in
-    subst (λ (xs : List Stream). IsRouting (record { links = links; streams = xs })) (sym (all_done (stream_raised link) streams now i (sixteen was sound) past so_far))
-    (raised_sound link was (omega (arith, below, same)) sound)
+pub raised_kept : (old link : ℕ) (r : Routing) (now : List Stream) (i : ℕ) → IsRouting r → link < old → r.links ≡ old → 16 ≤ i → now ≡ map (stream_raised link) (take i r.streams) ++ drop i r.streams → IsRouting (record r { streams = now })
+raised_kept old link r now i sound below same past so_far =
+    subst (λ (xs : List Stream). IsRouting (record r { streams = xs })) (sym (all_done (stream_raised link) r.streams now i (sixteen r sound) past so_far))
+    (raised_sound link r (omega (arith, below, same)) sound)
 
-pub settled_kept : (links old link : ℕ) (target : Option ℕ) (streams now : List Stream) (i : ℕ) → IsRouting (record { links = links; streams = streams }) → IfSome target (λ to. to < old) → links ≡ old → 16 ≤ i → now ≡ map (stream_settled link target) (take i streams) ++ drop i streams → IsRouting (record { links = links; streams = now })
-settled_kept links old link target streams now i sound below same past so_far =
-    let was : Routing = record { links = links; streams = streams } in
-    let there : IfSome target (λ to. to < links) = subst (λ (n : ℕ). IfSome target (λ to. to < n)) (sym same) below in
-    subst (λ (xs : List Stream). IsRouting (record { links = links; streams = xs })) (sym (all_done (stream_settled link target) streams now i (sixteen was sound) past so_far))
-    (settled_sound link target was there sound)
+pub settled_kept : (old link : ℕ) (target : Option ℕ) (r : Routing) (now : List Stream) (i : ℕ) → IsRouting r → IfSome target (λ to. to < old) → r.links ≡ old → 16 ≤ i → now ≡ map (stream_settled link target) (take i r.streams) ++ drop i r.streams → IsRouting (record r { streams = now })
+settled_kept old link target r now i sound below same past so_far =
+    let there : IfSome target (λ to. to < r.links) = subst (λ (n : ℕ). IfSome target (λ to. to < n)) (sym same) below in
+    subst (λ (xs : List Stream). IsRouting (record r { streams = xs })) (sym (all_done (stream_settled link target) r.streams now i (sixteen r sound) past so_far))
+    (settled_sound link target r there sound)
 
-pub accepted_is : (links stream i : ℕ) (streams : List Stream) (d : Stream) → IsRouting (record { links = links; streams = streams }) → i ≡ stream → stream < 16 → set streams i (record (get_or streams i d) { used = true }) ≡ used_at stream streams
-accepted_is links stream i streams d sound same below =
-    rw same (used_is streams stream d (omega (arith, below, sixteen (record { links = links; streams = streams }) sound)))
+-- a loop over the streams, beside a change of the codes
+pub changed_kept : (f : Stream → Stream) (codes : List Code) (r : Routing) (now : List Stream) (new : List Code) (i : ℕ) → IsRouting r → IsRouting (with_codes f codes r) → 16 ≤ i → now ≡ map f (take i r.streams) ++ drop i r.streams → new ≡ codes → IsRouting (record { links = r.links; streams = now; codes = new })
+changed_kept f codes r now new i sound then past so_far is =
+    subst (λ (xs : List Stream). IsRouting (record { links = r.links; streams = xs; codes = new })) (sym (all_done f r.streams now i (sixteen r sound) past so_far))
+    (subst (λ (cs : List Code). IsRouting (record { links = r.links; streams = map f r.streams; codes = cs })) (sym is) then)
 
-pub accepted_kept : (links stream i : ℕ) (streams : List Stream) (d : Stream) → IsRouting (record { links = links; streams = streams }) → i ≡ stream → stream < 16 → IsRouting (record { links = links; streams = set streams i (record (get_or streams i d) { used = true }) })
-accepted_kept links stream i streams d sound same below =
-    subst (λ (xs : List Stream). IsRouting (record { links = links; streams = xs })) (sym (accepted_is links stream i streams d sound same below))
-    (accepted_sound stream (record { links = links; streams = streams }) sound)
+pub accepted_is : (stream i : ℕ) (r : Routing) (d : Stream) → IsRouting r → i ≡ stream → stream < 16 → set r.streams i (record (get_or r.streams i d) { used = true }) ≡ used_at stream r.streams
+accepted_is stream i r d sound same below = rw same (used_is r.streams stream d (omega (arith, below, sixteen r sound)))
 
-pub new_kept : (links number : ℕ) (streams : List Stream) → 1 ≤ links → links ≤ 16 → 16 ≤ number → FirstAre links number streams → IsRouting (record { links = links; streams = streams })
+pub accepted_kept : (stream i : ℕ) (r : Routing) (d : Stream) → IsRouting r → i ≡ stream → stream < 16 → IsRouting (record r { streams = set r.streams i (record (get_or r.streams i d) { used = true }) })
+accepted_kept stream i r d sound same below =
+    subst (λ (xs : List Stream). IsRouting (record r { streams = xs })) (sym (accepted_is stream i r d sound same below))
+    (accepted_sound stream r sound)
+
+pub new_kept : (links number : ℕ) (streams : List Stream) → 1 ≤ links → links ≤ 16 → 16 ≤ number → FirstAre links number streams → IsRouting (record (new_routing links) { streams = streams })
 new_kept links number streams some few past first =
-    subst (λ (xs : List Stream). IsRouting (record { links = links; streams = xs })) (sym (new_is links number streams past first)) (new_sound links some few)
+    subst (λ (xs : List Stream). IsRouting (record (new_routing links) { streams = xs })) (sym (new_is links number streams past first)) (new_sound links some few)

@@ -1,5 +1,8 @@
-//! The streams of a set.
-use super::place::Place;
+//! The streams of a set, and its changeback codes.
+ghost use Rattle.std.specs.Prelude.{◌≡◌};
+ghost use Rattle.set_route.specs.Routing.{codes_left, some_away as one_is_away};
+
+use super::place::{Code, Place, changeback_code};
 use super::stream::Stream;
 use std::marker::Model;
 
@@ -9,14 +12,20 @@ pub const STREAMS: usize = 16;
 /// The most links of a set, one for each SLC.
 pub const MOST_LINKS: u8 = 16;
 
-/// Where each of a set's 16 streams runs.
+/// How many changeback codes there are: they have 8 bits (Q.704 15.4.2).
+const CODES: usize = 256;
+
+/// Where each of a set's 16 streams runs, and what became of its 256 changeback codes.
 ///
-/// Contracts see how many links the set has, and for each stream its home, whether a message of it
-/// was ever accepted, and where it runs. It's a few octets a stream, and takes no memory.
+/// Contracts see how many links the set has, for each stream its home, whether a message of it was
+/// ever accepted and where it runs, and each code's state. It's a few octets a stream and one a code,
+/// and takes no memory.
 #[derive(Debug, Drop)]
 pub struct Routes {
     links: u8,
     streams: [Stream; STREAMS],
+    /// By their numbers.
+    codes: [Code; CODES],
 }
 
 impl Model for Routes {
@@ -24,16 +33,17 @@ impl Model for Routes {
 
     ghost Value = { Routing };
 
-    ghost view = { λ r. record { links = r.links; streams = r.streams } };
+    ghost view = { λ r. record { links = r.links; streams = r.streams; codes = r.codes } };
 
-    ghost invariant = { λ r. IsRouting (record { links = r.links; streams = r.streams }) };
+    ghost invariant = { λ r. IsRouting (record { links = r.links; streams = r.streams; codes = r.codes }) };
 }
 
 impl Routes {
-    ghost use Rattle.std.specs.Prelude.{◌≡◌, ◌<◌, ◌≤◌, IfSome};
-    ghost use Rattle.set_route.specs.Routing.{IsRouting, IsPlaceOf, new_routing, place_of, accepted as accepts, raised, left, settled};
+    ghost use Rattle.std.specs.Prelude.{◌≡◌, ◌<◌, ◌≤◌, IfSome, if◌then◌else◌};
+    ghost use Rattle.set_route.specs.Routing.{IsRouting, IsPlaceOf, new_routing, place_of, code_of, can_ask};
+    ghost use Rattle.set_route.specs.Routing.{accepted as accepts, raised, left, settled, asked, given_back, cleared};
 
-    /// The streams of a set of so many links. No link was up yet, so they run nowhere.
+    /// The streams of a set of so many links. No link was up yet, so they run nowhere, and no code is in use.
     ///
     /// Condition: 1 to 16 links.
     pub fn new(links: u8) -> Routes
@@ -45,10 +55,14 @@ impl Routes {
         for (number, stream) in streams.iter_mut().enumerate() {
             *stream = Stream::new(number as u8 % links);
         }
-        Routes { links, streams }
+        Routes {
+            links,
+            streams,
+            codes: [Code::Free; CODES],
+        }
     }
 
-    /// Where this stream runs; a link that it names is one of the set.
+    /// Where this stream runs; the links that it names are of the set.
     ///
     /// Condition: a stream below 16.
     pub fn place(&self, stream: u8) -> Place
@@ -57,6 +71,26 @@ impl Routes {
         ensures there { IsPlaceOf self.now.links result }
     {
         self.streams[usize::from(stream)].place
+    }
+
+    /// What became of the changeback code of this number.
+    pub fn code(&self, number: u8) -> Code
+        ensures { result ≡ code_of number self.now }
+    {
+        self.codes[usize::from(number)]
+    }
+
+    /// Whether [`Routes::ask`] would ask: the code of this home and alternative is free, and streams of this home
+    /// run on the alternative.
+    ///
+    /// Condition: both below 16.
+    pub fn can_ask(&self, home: u8, alternative: u8) -> bool
+        requires home { home < 16 }
+        requires alternative { alternative < 16 }
+        ensures { result ≡ can_ask home alternative self.now }
+    {
+        self.code(changeback_code(home, alternative)) == Code::Free
+            && some_away(&self.streams, home, alternative)
     }
 
     /// A message of this stream was accepted. It changes no place now: from now on the stream stays
@@ -70,8 +104,8 @@ impl Routes {
         self.streams[usize::from(stream)].used = true;
     }
 
-    /// The link is up. Streams that run nowhere, and streams of this home of which no message was
-    /// ever accepted, run on it.
+    /// The link is up. Streams that run nowhere, and streams of this home that run elsewhere and of which
+    /// no message was ever accepted, run on it.
     ///
     /// Condition: a link of the set.
     pub fn raise(&mut self, link: u8)
@@ -84,18 +118,22 @@ impl Routes {
     }
 
     /// The link is left (Q.704 5.3). Its streams still run on it, and their messages are held, until
-    /// it settles; no stream is on its way to another link, so no place changes.
+    /// it settles. Streams on their way back to it run where they came from, and its open codes are spent.
     ///
     /// Condition: a link of the set.
     pub fn divert(&mut self, link: u8)
         requires { link < self.old.links }
         ensures { self.new ≡ left link self.old }
     {
-        let _ = link;
+        leave_codes(&mut self.codes, link);
+        for stream in self.streams.iter_mut() {
+            stream.leave(link);
+        }
     }
 
     /// The link settled, after it was left: its streams run on the target, or nowhere without one
-    /// (Q.704 5.5). The target is the answer of [`crate::target`].
+    /// (Q.704 5.5), and streams on their way back that came from it come from the target. The target is the
+    /// answer of [`crate::target`].
     ///
     /// Condition: both are links of the set.
     pub fn settle(&mut self, link: u8, target: Option<u8>)
@@ -108,11 +146,74 @@ impl Routes {
         }
     }
 
-    /// A law: the set has 1 to 16 links and 16 streams, the home of stream s is s modulo the number
-    /// of links, and each stream runs on a link of the set or nowhere.
+    /// Changeback is asked for (Q.704 6.3): the streams of this home that run on the alternative are on their way
+    /// back, and their code is open. Answers whether there was anything to ask for: if the code isn't free, or no
+    /// stream is away, it's false and nothing changes.
+    ///
+    /// Condition: both are links of the set.
+    pub fn ask(&mut self, home: u8, alternative: u8) -> bool
+        requires home { home < self.old.links }
+        requires alternative { alternative < self.old.links }
+        ensures answer { result ≡ can_ask home alternative self.old }
+        ensures change { self.new ≡ (if result then asked home alternative self.old else self.old) }
+    {
+        if !self.can_ask(home, alternative) {
+            return false;
+        }
+        self.codes[usize::from(changeback_code(home, alternative))] = Code::Asked;
+        for stream in self.streams.iter_mut() {
+            stream.ask(home, alternative);
+        }
+        true
+    }
+
+    /// The code is acknowledged (Q.704 6.3): its streams run on their home, and it's free. A spent code has no
+    /// streams, and a free one stays free.
+    pub fn give_back(&mut self, code: u8)
+        ensures { self.new ≡ given_back code self.old }
+    {
+        self.codes[usize::from(code)] = Code::Free;
+        for stream in self.streams.iter_mut() {
+            stream.give_back(code);
+        }
+    }
+
+    /// No acknowledgement came in time (own): all codes of this home are given back, ascending.
+    ///
+    /// Condition: a home below 16.
+    pub fn clear(&mut self, home: u8)
+        requires { home < 16 }
+        ensures { self.new ≡ cleared home self.old }
+    {
+        for alternative in 0..MOST_LINKS {
+            self.give_back(changeback_code(home, alternative));
+        }
+    }
+
+    /// A law: the set has 1 to 16 links, 16 streams and 256 codes; the home of stream s is s modulo the number
+    /// of links; each stream runs on a link of the set or nowhere, and one on its way back goes to the home of its
+    /// code, which is open; a code in use is one of a link of the set.
     pub fn is_sound(&self)
         ensures { IsRouting self.now }
     {
         let _ = &self.links;
+    }
+}
+
+/// Whether streams of this home run on the alternative.
+fn some_away(streams: &[Stream; STREAMS], home: u8, alternative: u8) -> bool
+    ensures { result ≡ one_is_away home alternative streams.now }
+{
+    streams
+        .iter()
+        .any(|stream| stream.is_away(home, alternative))
+}
+
+/// The open codes of this home are spent.
+fn leave_codes(codes: &mut [Code; CODES], link: u8)
+    ensures { codes.new ≡ codes_left link 0 codes.old }
+{
+    for (number, code) in codes.iter_mut().enumerate() {
+        code.leave(number as u8, link);
     }
 }

@@ -94,7 +94,7 @@ pub on_it : (s : State) (n : ℕ) (outcome : LinkState → Outcome) (answer : An
 on_it s n outcome answer parts link there g = rw there g
 
 -- A refusal changes nothing.
-none_map : (links : List Link) (n : ℕ) → slice_get links n ≡ None → slice_get (map link_of links) n ≡ None
+pub none_map : (links : List Link) (n : ℕ) → slice_get links n ≡ None → slice_get (map link_of links) n ≡ None
 none_map [] n e = refl
 none_map (x ∷ links) zero e = absurd (cc)
 none_map (x ∷ links) (suc n) e = none_map links n e

@@ -4,11 +4,11 @@ use Rattle.std.specs.Prelude.{slice_get, filter}
 use Rattle.std.specs.Option.{option_map}
 use Rattle.std.proofs.lemmas.Option.{slice_get_within}
 use Rattle.set_events.specs.declared.answer.Fate.{Fate}
-use Rattle.set_events.specs.declared.answer.Fate.TheVariants.{Waiting, Unacked, Acked, Held, Parked, Discarded}
+use Rattle.set_events.specs.declared.answer.Fate.TheVariants.{Waiting, Unacked, Acked, Held, Parked, Back, Discarded}
 use Rattle.set_queues.specs.declared.message.Message.{Message}
 use Rattle.set_queues.specs.Buffers.{Lists, queue_at}
 use Rattle.set_queues.specs.Messages.{octets_at, octets_of, octets_in as octets_kept}
-use Rattle.set_model.specs.Rows.{Row, is_waiting, is_unacked, is_held, is_parked, unack, numbers, octets_in, row_of, body_at, IsNumbered, AreFit}
+use Rattle.set_model.specs.Rows.{Row, is_waiting, is_unacked, is_held, is_parked, is_back, unack, numbers, octets_in, row_of, body_at, IsNumbered, AreFit}
 use Rattle.set_model.specs.State.{State}
 use Rattle.std.proofs.lemmas.List.{length-map}
 use Rattle.set_model.proofs.Lists.{present}
@@ -33,6 +33,7 @@ pub of_queue : (f : Fate) (rows : List Row) (i : ℕ) (row : Row) → IsNumbered
 of_queue (Waiting l) rows i row numbered fit e = of_filter (λ (r : Row). is_waiting l r.fate) rows i row numbered fit e
 of_queue (Unacked l) rows i row numbered fit e = of_filter (λ (r : Row). is_unacked l r.fate) rows i row numbered fit e
 of_queue (Held l) rows i row numbered fit e = of_filter (λ (r : Row). is_held l r.fate) rows i row numbered fit e
+of_queue (Back c) rows i row numbered fit e = of_filter (λ (r : Row). is_back c r.fate) rows i row numbered fit e
 of_queue Parked rows i row numbered fit e = of_filter (λ (r : Row). is_parked r.fate) rows i row numbered fit e
 of_queue (Acked l) rows i row numbered fit e = absurd (cc)
 of_queue (Discarded c) rows i row numbered fit e = absurd (cc)

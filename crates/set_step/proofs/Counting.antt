@@ -4,7 +4,7 @@ use Rattle.std.specs.Prelude.{slice_get, filter}
 use Rattle.std.specs.Option.{option_map}
 use Rattle.std.proofs.lemmas.Bool.{eqb-true, eq-eqb, ne_eqb, ltb-true}
 use Rattle.set_events.specs.declared.answer.Fate.{Fate}
-use Rattle.set_events.specs.declared.answer.Fate.TheVariants.{Waiting, Unacked, Acked, Held, Parked, Discarded}
+use Rattle.set_events.specs.declared.answer.Fate.TheVariants.{Waiting, Unacked, Acked, Held, Parked, Back, Discarded}
 use Rattle.set_queues.specs.declared.message.Message.{Message}
 use Rattle.set_queues.specs.Buffers.{Lists}
 use Rattle.set_queues.specs.Counts.{one_if, is_unsent as unsent_there}
@@ -165,6 +165,7 @@ same_unsent (Unacked l) = refl
 same_unsent (Acked l) = refl
 same_unsent (Held l) = refl
 same_unsent Parked = refl
+same_unsent (Back c) = refl
 same_unsent (Discarded c) = refl
 
 pub unsent_is : (stream : ℕ) (q : Lists) (ms : List Message) (rows : List Row) → Stands q ms rows → unsent_of stream ms ≡ length (unsent stream rows)

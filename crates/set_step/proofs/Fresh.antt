@@ -1,15 +1,15 @@
 -- A set of which nothing was asked, and what holds after each event.
 use Rattle.std.proofs.Common.{refl, arith, ◌≡◌, ◌∙◌, ap, sym, subst, ℕ, zero, suc, ◌^◌, ◌+◌, ◌%◌, List, [], map, slice_get, Some, Bool, cond}
-use Rattle.std.specs.Prelude.{replicate, Result, Ok, Err, IfOk, OnErr}
+use Rattle.std.specs.Prelude.{replicate, slice_index_or, Result, Ok, Err, IfOk, OnErr}
 use Rattle.std.proofs.lemmas.List.{length-replicate}
 use Rattle.std.proofs.lemmas.Option.{same_Some}
 use Rattle.std.proofs.lemmas.Bool.{le-ltb}
 use Rattle.set_events.specs.declared.answer.Answer.{Answer}
 use Rattle.set_events.specs.declared.answer.Fate.{Fate}
-use Rattle.set_events.specs.declared.answer.Fate.TheVariants.{Waiting, Unacked, Acked, Held, Parked, Discarded}
+use Rattle.set_events.specs.declared.answer.Fate.TheVariants.{Waiting, Unacked, Acked, Held, Parked, Back, Discarded}
 use Rattle.set_events.specs.declared.config.SetConfig.{SetConfig}
 use Rattle.set_events.specs.declared.event.Event.{Event}
-use Rattle.set_queues.specs.Buffers.{Lists, LinkLists, queue_at, list_in, last_at}
+use Rattle.set_queues.specs.Buffers.{Lists, LinkLists, queue_at, list_in, number_in}
 use Rattle.set_route.specs.Routing.{new_routing}
 use Rattle.set_model.specs.Rows.{numbers}
 use Rattle.set_model.specs.Sound.{IsSettings, IsSound, IsAsked}
@@ -34,7 +34,7 @@ none_in list zero k e = refl
 none_in list (suc n) zero e = e
 none_in list (suc n) (suc k) e = none_in list n k e
 
-fsn_in : (n k : ℕ) (link other : LinkState) → slice_get (replicate n link) k ≡ Some other → last_at k (record { links = replicate n new_lists; parked = [] }) ≡ 127
+fsn_in : (n k : ℕ) (link other : LinkState) → slice_get (replicate n link) k ≡ Some other → number_in (slice_get (replicate n new_lists) k) ≡ 127
 fsn_in zero k link other e = absurd cc
 fsn_in (suc n) zero link other e = refl
 fsn_in (suc n) (suc k) link other e = fsn_in n k link other e
@@ -44,15 +44,24 @@ new_there zero k link other e = absurd cc
 new_there (suc n) zero link other e = sym (same_Some link other e)
 new_there (suc n) (suc k) link other e = new_there n k link other e
 
+abbrev nothing : List ℕ
+nothing = []
+
 -- the lists of a set of so many links in which nothing stands
 abbrev pub no_lists : ℕ → Lists
-no_lists n = record { links = replicate n new_lists; parked = [] }
+no_lists n = record { links = replicate n new_lists; parked = []; back = replicate 256 nothing }
+
+no_back : (n c : ℕ) → slice_index_or (replicate n nothing) c nothing ≡ nothing
+no_back zero c = refl
+no_back (suc n) zero = refl
+no_back (suc n) (suc c) = no_back n c
 
 empty : (n : ℕ) (fate : Fate) → queue_at fate (no_lists n) ≡ []
 empty n (Waiting l) = none_in (λ (z : LinkLists). z.unsent) n l refl
 empty n (Unacked l) = none_in (λ (z : LinkLists). z.unacked) n l refl
 empty n (Held l) = none_in (λ (z : LinkLists). z.held) n l refl
 empty n Parked = refl
+empty n (Back c) = no_back 256 c
 empty n (Acked l) = refl
 empty n (Discarded c) = refl
 
@@ -61,6 +70,7 @@ none_stands (Waiting l) = refl
 none_stands (Unacked l) = refl
 none_stands (Held l) = refl
 none_stands Parked = refl
+none_stands (Back c) = refl
 none_stands (Acked l) = refl
 none_stands (Discarded c) = refl
 
@@ -132,8 +142,8 @@ if_ok old new event (Ok answer) asked ok = answers_for old new event answer aske
 if_ok old new event (Err fault) asked ok = ok
 
 -- what is kept at first: links that stand for new ones, queues with nothing, and nothing else
-pub new_is : (config : SetConfig) (parts : Parts) → parts.config ≡ config → map link_of parts.links.items ≡ replicate config.links (new_link config.method) → parts.queues.lists.links ≡ replicate config.links new_lists → parts.queues.lists.parked ≡ [] → parts.queues.messages ≡ [] → parts.bodies.items ≡ [] → parts.routes ≡ new_routing config.links → parts.inbox.items ≡ [] → kept_of parts ≡ new_kept config
-new_is config parts c links queues parked messages bodies routes inbox = rw (c, links, lists, messages, bodies, routes, inbox) refl
+pub new_is : (config : SetConfig) (parts : Parts) → parts.config ≡ config → map link_of parts.links.items ≡ replicate config.links (new_link config.method) → parts.queues.lists.links ≡ replicate config.links new_lists → parts.queues.lists.parked ≡ [] → parts.queues.lists.back ≡ replicate 256 nothing → parts.queues.messages ≡ [] → parts.bodies.items ≡ [] → parts.routes ≡ new_routing config.links → parts.inbox.items ≡ [] → kept_of parts ≡ new_kept config
+new_is config parts c links queues parked back messages bodies routes inbox = rw (c, links, lists, messages, bodies, routes, inbox) refl
   where
     lists : parts.queues.lists ≡ no_lists config.links
-    lists = rw (← queues, ← parked) refl
+    lists = ap (λ (links : List LinkLists). record { links = links; parked = parts.queues.lists.parked; back = parts.queues.lists.back }) queues ∙ ap (λ (ns : List ℕ). record { links = replicate config.links new_lists; parked = ns; back = parts.queues.lists.back }) parked ∙ ap (λ (bs : List (List ℕ)). record { links = replicate config.links new_lists; parked = nothing; back = bs }) back

@@ -13,6 +13,7 @@ use Rattle.set_model.specs.Sound.{IsSound}
 use Rattle.set_model.proofs.Events.{sent_given_up, waiting_given_up}
 use Rattle.set_model.proofs.InPlace.{fewer_changed}
 use Rattle.set_model.proofs.Lists.{within, get_set_same}
+use Rattle.set_model.proofs.Places.{waiting_on, unacked_on}
 use Rattle.set_model.proofs.SoundLink.{acknowledges, gives_up}
 use Rattle.set_model.proofs.Walk.{IsAt}
 
@@ -23,12 +24,12 @@ pub record IsJudged (reached : Reached) (n : ℕ) (link : LinkState) (s : State)
 
 module _ (n : ℕ) (link : LinkState) (s : State) (at : IsAt n link Down s) (t : IsSound s) where
   sent_up : (cause : DiscardCause) → IsSound (record s { rows = changed (is_unacked n) (Discarded cause) s.rows })
-  sent_up cause = gives_up (is_unacked n) cause n link s (sent_given_up n cause s.rows) (fewer_changed (is_unacked n) (is_unacked n) (Discarded cause) refl s.rows) at t
+  sent_up cause = gives_up (is_unacked n) cause n link s (unacked_on n) (sent_given_up n cause s.rows) (fewer_changed (is_unacked n) (is_unacked n) (Discarded cause) refl s.rows) at t
 
   both_up : (cause : DiscardCause) → IsSound (discarded cause n s)
   both_up cause =
       let mid : State = record s { rows = changed (is_unacked n) (Discarded cause) s.rows } in
-      gives_up (is_waiting n) cause n link mid (waiting_given_up n cause mid.rows) (fewer_changed (is_waiting n) (is_unacked n) (Discarded cause) refl mid.rows) (record { there = at.there; phase_is = at.phase_is }) (sent_up cause)
+      gives_up (is_waiting n) cause n link mid (waiting_on n) (waiting_given_up n cause mid.rows) (fewer_changed (is_waiting n) (is_unacked n) (Discarded cause) refl mid.rows) (record { there = at.there; phase_is = at.phase_is }) (sent_up cause)
 
   pub is_judged : (reached : Reached) → IsJudged reached n link s
   is_judged Unknown = record { sound = sent_up Emergency; at = record { there = at.there; phase_is = at.phase_is } }

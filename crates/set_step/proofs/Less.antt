@@ -3,7 +3,7 @@ use Rattle.std.proofs.Common.{refl, arith, ◌≡◌, ◌∙◌, ap, subst, sym,
 use Rattle.std.proofs.lemmas.Bool.{eqb-true}
 use Rattle.std.proofs.lemmas.List.{length-drop}
 use Rattle.set_events.specs.declared.answer.Fate.{Fate}
-use Rattle.set_events.specs.declared.answer.Fate.TheVariants.{Waiting, Unacked, Acked, Held, Parked, Discarded}
+use Rattle.set_events.specs.declared.answer.Fate.TheVariants.{Waiting, Unacked, Acked, Held, Parked, Back, Discarded}
 use Rattle.set_queues.specs.Buffers.{Lists, Rooms, KeepsRoom, is_standing, same_fate, queue_at, with_queue, IsKnown}
 use Rattle.set_queues.specs.Sending.{acknowledged, reach}
 use Rattle.set_queues.specs.Settling.{on}
@@ -36,6 +36,7 @@ acked_less l fsn q h f =
     same_unacked l (Held k) e = absurd (cc)
     same_unacked l (Acked k) e = absurd (cc)
     same_unacked l Parked e = absurd (cc)
+    same_unacked l (Back c) e = absurd (cc)
     same_unacked l (Discarded k) e = absurd (cc)
 
 pub less_then : (a b c : Lists) → NoLonger a b → NoLonger b c → NoLonger a c

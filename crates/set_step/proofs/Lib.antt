@@ -3,15 +3,20 @@ pub mod Becoming
 pub mod Bodies
 pub mod Choosing
 pub mod Counting
+pub mod Declaring
 pub mod Fresh
 pub mod Heard
 pub mod Judged
+pub mod Leaving
 pub mod Less
 pub mod Links
 pub mod Occurring
+pub mod Oldest
 pub mod Possible
 pub mod Reaching
+pub mod Releasing
 pub mod Rooms
+pub mod Shifting
 pub mod Reading
 pub mod RowsAt
 pub mod Chosen
@@ -19,3 +24,6 @@ pub mod Standing
 pub mod States
 pub mod Targets
 pub mod Told
+pub mod TurnedQueues
+pub mod Turns
+pub mod TurnsAll

@@ -4,13 +4,13 @@ use Rattle.std.specs.Prelude.{filter}
 use Rattle.std.specs.Option.{option_map}
 use Rattle.set_events.specs.declared.answer.DiscardCause.{DiscardCause}
 use Rattle.set_events.specs.declared.answer.Fate.{Fate}
-use Rattle.set_events.specs.declared.answer.Fate.TheVariants.{Waiting, Unacked, Acked, Held, Parked, Discarded}
+use Rattle.set_events.specs.declared.answer.Fate.TheVariants.{Waiting, Unacked, Acked, Held, Parked, Back, Discarded}
 use Rattle.set_queues.specs.declared.message.Message.{Message}
 use Rattle.set_queues.specs.Buffers.{Lists, queue_at, last_at}
-use Rattle.set_queues.specs.Counts.{waits, was_sent, was_acked, was_held, is_parked, was_discarded}
+use Rattle.set_queues.specs.Counts.{waits, was_sent, was_acked, was_held, is_parked, stands_back, was_discarded}
 use Rattle.set_queues.specs.Kind.{is_users}
 use Rattle.set_queues.specs.Messages.{count_of, counts_of}
-use Rattle.set_model.specs.Rows.{Row, service_indicator, standing, users, numbers, unack, counts_of as counts_in, waits as waits_in, was_sent as was_sent_in, was_acked as was_acked_in, was_held as was_held_in, is_parked as is_parked_in, was_discarded as was_discarded_in}
+use Rattle.set_model.specs.Rows.{Row, service_indicator, standing, users, numbers, unack, counts_of as counts_in, waits as waits_in, was_sent as was_sent_in, was_acked as was_acked_in, was_held as was_held_in, is_parked as is_parked_in, stands_back as stands_back_in, was_discarded as was_discarded_in}
 use Rattle.set_model.specs.State.{State, LinkState, unacked_of, unacked_in}
 use Rattle.set_model.specs.declared.numbered.Numbered.{Numbered}
 use Rattle.set_model.proofs.Lists.{map_at}
@@ -32,22 +32,24 @@ in_place : (test like : Fate → Bool) → ((fate : Fate) → test fate ≡ like
 in_place test like same q ms rows s = counted (λ l fate. is_users l.kind && test fate) q ms rows s ∙ two_filters test like same rows
 
 -- tests that agree on each kind of fate agree
-same_test : (test like : Fate → Bool) → ((l : ℕ) → test (Waiting l) ≡ like (Waiting l)) → ((l : ℕ) → test (Unacked l) ≡ like (Unacked l)) → ((l : ℕ) → test (Acked l) ≡ like (Acked l)) → ((l : ℕ) → test (Held l) ≡ like (Held l)) → test Parked ≡ like Parked → ((c : DiscardCause) → test (Discarded c) ≡ like (Discarded c)) → (fate : Fate) → test fate ≡ like fate
-same_test test like w u a h p d (Waiting l) = w l
-same_test test like w u a h p d (Unacked l) = u l
-same_test test like w u a h p d (Acked l) = a l
-same_test test like w u a h p d (Held l) = h l
-same_test test like w u a h p d Parked = p
-same_test test like w u a h p d (Discarded c) = d c
+same_test : (test like : Fate → Bool) → ((l : ℕ) → test (Waiting l) ≡ like (Waiting l)) → ((l : ℕ) → test (Unacked l) ≡ like (Unacked l)) → ((l : ℕ) → test (Acked l) ≡ like (Acked l)) → ((l : ℕ) → test (Held l) ≡ like (Held l)) → test Parked ≡ like Parked → ((c : ℕ) → test (Back c) ≡ like (Back c)) → ((c : DiscardCause) → test (Discarded c) ≡ like (Discarded c)) → (fate : Fate) → test fate ≡ like fate
+same_test test like w u a h p b d (Waiting l) = w l
+same_test test like w u a h p b d (Unacked l) = u l
+same_test test like w u a h p b d (Acked l) = a l
+same_test test like w u a h p b d (Held l) = h l
+same_test test like w u a h p b d Parked = p
+same_test test like w u a h p b d (Back c) = b c
+same_test test like w u a h p b d (Discarded c) = d c
 
 pub counts_are : (q : Lists) (ms : List Message) (rows : List Row) → Stands q ms rows → counts_of ms ≡ counts_in rows
 counts_are q ms rows s =
-    let waiting : count_of waits ms ≡ length (standing waits_in (users rows)) = in_place waits waits_in (same_test waits waits_in (λ l. refl) (λ l. refl) (λ l. refl) (λ l. refl) refl (λ c. refl)) q ms rows s in
-    let unacked : count_of was_sent ms ≡ length (standing was_sent_in (users rows)) = in_place was_sent was_sent_in (same_test was_sent was_sent_in (λ l. refl) (λ l. refl) (λ l. refl) (λ l. refl) refl (λ c. refl)) q ms rows s in
-    let acked : count_of was_acked ms ≡ length (standing was_acked_in (users rows)) = in_place was_acked was_acked_in (same_test was_acked was_acked_in (λ l. refl) (λ l. refl) (λ l. refl) (λ l. refl) refl (λ c. refl)) q ms rows s in
-    let held : count_of was_held ms ≡ length (standing was_held_in (users rows)) = in_place was_held was_held_in (same_test was_held was_held_in (λ l. refl) (λ l. refl) (λ l. refl) (λ l. refl) refl (λ c. refl)) q ms rows s in
-    let parked : count_of is_parked ms ≡ length (standing is_parked_in (users rows)) = in_place is_parked is_parked_in (same_test is_parked is_parked_in (λ l. refl) (λ l. refl) (λ l. refl) (λ l. refl) refl (λ c. refl)) q ms rows s in
-    let discarded : count_of was_discarded ms ≡ length (standing was_discarded_in (users rows)) = in_place was_discarded was_discarded_in (same_test was_discarded was_discarded_in (λ l. refl) (λ l. refl) (λ l. refl) (λ l. refl) refl (λ c. refl)) q ms rows s in
+    let waiting : count_of waits ms ≡ length (standing waits_in (users rows)) = in_place waits waits_in (same_test waits waits_in (λ l. refl) (λ l. refl) (λ l. refl) (λ l. refl) refl (λ c. refl) (λ c. refl)) q ms rows s in
+    let unacked : count_of was_sent ms ≡ length (standing was_sent_in (users rows)) = in_place was_sent was_sent_in (same_test was_sent was_sent_in (λ l. refl) (λ l. refl) (λ l. refl) (λ l. refl) refl (λ c. refl) (λ c. refl)) q ms rows s in
+    let acked : count_of was_acked ms ≡ length (standing was_acked_in (users rows)) = in_place was_acked was_acked_in (same_test was_acked was_acked_in (λ l. refl) (λ l. refl) (λ l. refl) (λ l. refl) refl (λ c. refl) (λ c. refl)) q ms rows s in
+    let held : count_of was_held ms ≡ length (standing was_held_in (users rows)) = in_place was_held was_held_in (same_test was_held was_held_in (λ l. refl) (λ l. refl) (λ l. refl) (λ l. refl) refl (λ c. refl) (λ c. refl)) q ms rows s in
+    let parked : count_of is_parked ms ≡ length (standing is_parked_in (users rows)) = in_place is_parked is_parked_in (same_test is_parked is_parked_in (λ l. refl) (λ l. refl) (λ l. refl) (λ l. refl) refl (λ c. refl) (λ c. refl)) q ms rows s in
+    let back : count_of stands_back ms ≡ length (standing stands_back_in (users rows)) = in_place stands_back stands_back_in (same_test stands_back stands_back_in (λ l. refl) (λ l. refl) (λ l. refl) (λ l. refl) refl (λ c. refl) (λ c. refl)) q ms rows s in
+    let discarded : count_of was_discarded ms ≡ length (standing was_discarded_in (users rows)) = in_place was_discarded was_discarded_in (same_test was_discarded was_discarded_in (λ l. refl) (λ l. refl) (λ l. refl) (λ l. refl) refl (λ c. refl) (λ c. refl)) q ms rows s in
     cc
 
 -- THE UNACKNOWLEDGED MESSAGES of a link

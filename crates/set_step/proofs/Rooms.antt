@@ -6,7 +6,7 @@ use Rattle.std.proofs.lemmas.List.{length-map}
 use Rattle.set_events.specs.declared.answer.Fate.{Fate}
 use Rattle.set_events.specs.declared.answer.Fate.TheVariants.{Waiting, Unacked, Held}
 use Rattle.set_queues.specs.Buffers.{Lists, Rooms, IsKnown, IsQueued, TakesRoom, same_fate, queue_at, with_queue, room_at}
-use Rattle.set_queues.specs.Queues.{QueuesState}
+use Rattle.set_queues.specs.Backs.{back_count}
 use Rattle.set_queues.specs.Settling.{on}
 use Rattle.set_queues.proofs.Passing.{queue_other, queued_stands}
 use Rattle.set_queues.proofs.Settling.{room_left}
@@ -21,6 +21,7 @@ use Rattle.set_step.specs.declared.parts.Parts.{Parts}
 use Rattle.set_step.specs.Agreement.{Holds}
 use Rattle.set_step.specs.Parts.{IsWhole, IsCounted, AreCounted, AtLink, IsOut, link_of, kept_of}
 use Rattle.set_step.specs.Room.{HasRoom, IsReady, target_beside}
+use Rattle.set_step.specs.Turning.{TakesTurns}
 use Rattle.set_step.proofs.Admitting.{IsHere}
 use Rattle.set_step.proofs.Targets.{ups}
 
@@ -119,27 +120,31 @@ pub here_room : (parts : Parts) (n orders : ℕ) (phase : Phase) → IsHere part
 here_room parts n orders phase h down r =
     let same = beside_out parts.links.items n h.known (here_out parts.links.items n phase h down) in
     let enough = r.place in
-    subst (λ (t : Option ℕ). length (on n parts.queues.lists) ≤ room_at (fate_on t) parts.queues.rooms) same (fewer (length (on n parts.queues.lists)) orders (room_at (fate_on (target_beside n parts.links.items)) parts.queues.rooms) enough)
+    subst (λ (t : Option ℕ). length (on n parts.queues.lists) ≤ room_at (fate_on t) parts.queues.rooms) same (omega (arith, enough))
 
--- room for an order once the link is left
-pub has_room_left : (n : ℕ) (old new : Parts) → IsReady n 1 old → new.queues ≡ old.queues → new.bodies ≡ old.bodies → target (map link_of new.links.items) ≡ target_beside n old.links.items → HasRoom (fate_on (target (map link_of new.links.items))) new
-has_room_left n old new r queues bodies same = rw same (record {
-  message = rw queues (let m = r.message in omega (arith, m));
+-- room for an order once the link is left, and what stood back for it turned
+pub has_room_left : (n : ℕ) (old new : Parts) → IsReady n 1 old → TakesTurns (back_count n old.queues.lists) old.queues new.queues → new.bodies ≡ old.bodies → target (map link_of new.links.items) ≡ target_beside n old.links.items → HasRoom (fate_on (target (map link_of new.links.items))) new
+has_room_left n old new r turns bodies same = rw same (record {
+  message = rw (turns.room) (let m = r.message in omega (arith, m));
   body = rw bodies (let b = r.body in omega (arith, b));
-  place = rw queues (let p = r.place in omega (arith, p));
+  place = let p = r.place in let taken = turns.rooms (fate_on (target_beside n old.links.items)) in omega (arith, p, taken);
 })
 
 pub still_low : (n : ℕ) (links new : List Link) (link : Link) → new ≡ slice_set links n link → n < length links → n < length new
 still_low n links new link e low = let many : length new ≡ length links = ap length e ∙ length_set links n link in omega (arith, many, low)
 
 -- room for all that stand on a link, once it's left and the order stands
-pub room_after : (n : ℕ) (old left new : Parts) → IsReady n 1 old → left.queues ≡ old.queues → target (map link_of left.links.items) ≡ target_beside n old.links.items → target (map link_of new.links.items) ≡ target (map link_of left.links.items)
-    → on n new.queues.lists ≡ on n old.queues.lists → TakesRoom (fate_on (target (map link_of left.links.items))) 1 left.queues.rooms new.queues.rooms
+pub room_after : (n : ℕ) (old left new : Parts) → n < length old.queues.lists.links → IsReady n 1 old → TakesTurns (back_count n old.queues.lists) old.queues left.queues → target (map link_of left.links.items) ≡ target_beside n old.links.items → target (map link_of new.links.items) ≡ target (map link_of left.links.items)
+    → on n new.queues.lists ≡ on n left.queues.lists → TakesRoom (fate_on (target (map link_of left.links.items))) 1 left.queues.rooms new.queues.rooms
     → length (on n new.queues.lists) ≤ room_at (fate_on (target (map link_of new.links.items))) new.queues.rooms
-room_after n old left new r queues beside same elsewhere takes =
+room_after n old left new low r turns beside same elsewhere takes =
+    let to = target_beside n old.links.items in
+    let more : length (on n left.queues.lists) ≤ length (on n old.queues.lists) + back_count n old.queues.lists = turns.on_link n low in
+    let taken : room_at (fate_on to) old.queues.rooms ≤ room_at (fate_on to) left.queues.rooms + back_count n old.queues.lists = turns.rooms (fate_on to) in
+    let enough = r.place in
     subst (λ (o : Option ℕ). length (on n new.queues.lists) ≤ room_at (fate_on o) new.queues.rooms) (sym (same ∙ beside))
-    (room_then_all (target_beside n old.links.items) (on n old.queues.lists) (on n new.queues.lists) old.queues.rooms new.queues.rooms r.place elsewhere
-    (subst (λ (o : Option ℕ). TakesRoom (fate_on o) 1 old.queues.rooms new.queues.rooms) beside (subst (λ (q : QueuesState). TakesRoom (fate_on (target (map link_of left.links.items))) 1 q.rooms new.queues.rooms) queues takes)))
+    (room_then_all to (on n left.queues.lists) (on n new.queues.lists) left.queues.rooms new.queues.rooms (omega (arith, more, taken, enough)) elsewhere
+    (subst (λ (o : Option ℕ). TakesRoom (fate_on o) 1 left.queues.rooms new.queues.rooms) beside takes))
 
 pub wider : (bound more : ℕ) (links : List Link) → bound ≤ more → AreCounted bound links → AreCounted more links
 wider bound more links h all n link there = let k = all n link there in record { acked = let low = k.acked in omega (arith, h, low); accepted = let low = k.accepted in omega (arith, h, low) }

@@ -7,7 +7,7 @@ use Rattle.std.proofs.lemmas.List.{length-append, map-append}
 use Rattle.std.proofs.lemmas.List.Folds.{find-append}
 use Rattle.std.proofs.lemmas.Option.{slice_get_past, slice_get_cases}
 use Rattle.set_events.specs.declared.answer.Fate.{Fate}
-use Rattle.set_events.specs.declared.answer.Fate.TheVariants.{Waiting, Unacked, Acked, Held, Parked, Discarded}
+use Rattle.set_events.specs.declared.answer.Fate.TheVariants.{Waiting, Unacked, Acked, Held, Parked, Back, Discarded}
 use Rattle.set_events.specs.declared.answer.DiscardCause.{DiscardCause}
 use Rattle.set_queues.specs.declared.message.Message.{Message}
 use Rattle.set_queues.specs.Buffers.{Lists, is_standing, same_fate, queue_at, with_queue, IsKnown}
@@ -17,18 +17,19 @@ use Rattle.set_queues.specs.Queues.{occurs, AreGiven, passed}
 use Rattle.set_queues.specs.Settling.{on as on_lists, settled}
 use Rattle.set_queues.proofs.Updates.{updated_same, updated_other}
 use Rattle.set_queues.proofs.Standing.{same_is, length-restood, fate_stays, fate_moves}
-use Rattle.set_queues.proofs.Passing.{queue_set, known_on, links_stay}
+use Rattle.set_queues.proofs.Passing.{queue_set, known_on, size_stays}
 use Rattle.set_queues.proofs.Soundness.{passed_replaces, queue_last}
 use Rattle.set_queues.proofs.Settling.{IsAside, settling}
-use Rattle.set_model.specs.Rows.{Row, is_waiting, is_unacked, is_on, is_parked, unack, wait, held, on, parked, numbers, turned, changed, moved, all_with, appended, row_of, place, body_at, IsNumbered, IsInOrder, IsHeldLast}
+use Rattle.set_model.specs.Rows.{Row, standing, is_waiting, is_unacked, is_on, is_parked, is_back, unack, wait, held, on, numbers, turned, changed, moved, all_with, appended, row_of, place, body_at, IsNumbered, IsInOrder, IsHeldLast}
 use Rattle.set_model.specs.Changeover.{fate_on}
-use Rattle.set_model.proofs.Events.{Kept, sent, acknowledged, sent_given_up, waiting_given_up, moved_to, moved_aside, unparked}
+use Rattle.set_model.specs.Laws.{SameMessages}
+use Rattle.set_model.proofs.Events.{Kept, sent, acknowledged, sent_given_up, waiting_given_up, moved_to, moved_aside, unparked, released}
 use Rattle.set_model.proofs.Finding.{new_row, numbered_appended, with_number, is_found}
 use Rattle.set_model.proofs.Lookups.{number_below, row_is_first}
 use Rattle.set_model.proofs.Order.{on_in_order}
 use Rattle.set_step.specs.Agreement.{Stands, rows_at, label_in, label_of, kind_of}
 use Rattle.set_step.proofs.Occurring.{GoesTo, turned_goes, changed_goes, moved_goes}
-use Rattle.set_step.proofs.RowsAt.{none_final, appended_at, sent_at, acked_at, sent_up_at, waiting_up_at, unparked_at, over_at, aside_at}
+use Rattle.set_step.proofs.RowsAt.{none_final, appended_at, sent_at, acked_at, sent_up_at, waiting_up_at, unparked_at, released_at, over_at, aside_at}
 
 -- Numbers that rows have were given out.
 given_rows : (xs : List Row) (ms : List Message) → ((i : ℕ) (row : Row) → slice_get xs i ≡ Some row → row.number < length ms) → AreGiven (numbers xs) ms
@@ -60,13 +61,16 @@ labels_stay n [] to ms = refl
 labels_stay n (k ∷ ns) to ms = labels_stay n ns to (restood_one k to ms) ∙ label_one n k to ms
 
 -- MESSAGES COME TO STAND ELSEWHERE
-pub restands : (q q' : Lists) (ms : List Message) (rows new : List Row) (ns : List ℕ) (to : Fate) → Stands q ms rows → Kept rows new → AreGiven ns ms → ((f : Fate) → queue_at f q' ≡ numbers (rows_at f new)) → ((n : ℕ) → GoesTo ns to n rows new) → Stands q' (restood ns to ms) new
+pub same_messages : (rows new : List Row) → IsNumbered rows → Kept rows new → SameMessages rows new
+same_messages rows new numbered kept = record { count = kept.count; bodies = kept.bodies numbered; numbered = kept.numbered numbered }
+
+pub restands : (q q' : Lists) (ms : List Message) (rows new : List Row) (ns : List ℕ) (to : Fate) → Stands q ms rows → SameMessages rows new → AreGiven ns ms → ((f : Fate) → queue_at f q' ≡ numbers (rows_at f new)) → ((n : ℕ) → GoesTo ns to n rows new) → Stands q' (restood ns to ms) new
 restands q q' ms rows new ns to s kept given queues goes = record {
   queues = queues;
   fates = λ n. fate n (occurs n ns) refl;
-  labels = λ n. labels_stay n ns to ms ∙ s.labels n ∙ ap (option_map label_of) (sym (kept.bodies s.numbered n));
+  labels = λ n. labels_stay n ns to ms ∙ s.labels n ∙ ap (option_map label_of) (sym (kept.bodies n));
   count = length-restood ns to ms ∙ s.count ∙ sym kept.count;
-  numbered = kept.numbered s.numbered;
+  numbered = kept.numbered;
 }
   where
     fate : (n k : ℕ) → occurs n ns ≡ k → fate_at n (restood ns to ms) ≡ place n new
@@ -173,7 +177,7 @@ sent_stands l message q ms rows s o known there =
     let first : take 1 (queue_at (Waiting l) q) ≡ message ∷ [] = one (queue_at (Waiting l) q) there in
     let ns : take 1 (numbers (wait l rows)) ≡ message ∷ [] = ap (take 1) (sym (s.queues (Waiting l))) ∙ first in
     subst (λ (xs : List ℕ). Stands (first_sent l message q) (restood xs (Unacked l) ms) (turned (is_waiting l) (Unacked l) 1 rows)) ns
-    (restands q (first_sent l message q) ms rows (turned (is_waiting l) (Unacked l) 1 rows) (take 1 (numbers (wait l rows))) (Unacked l) s (sent l rows).kept
+    (restands q (first_sent l message q) ms rows (turned (is_waiting l) (Unacked l) 1 rows) (take 1 (numbers (wait l rows))) (Unacked l) s (same_messages rows _ s.numbered (sent l rows).kept)
     (given_take 1 (numbers (wait l rows)) ms (given_of (λ (row : Row). is_waiting l row.fate) q ms rows s))
     (λ f. queue f ns) (λ n. turned_goes (is_waiting l) (Unacked l) n 1 rows s.numbered))
   where
@@ -183,7 +187,7 @@ sent_stands l message q ms rows s o known there =
 
     queue : (f : Fate) → take 1 (numbers (wait l rows)) ≡ message ∷ [] → queue_at f (first_sent l message q) ≡ numbers (rows_at f (turned (is_waiting l) (Unacked l) 1 rows))
     queue f ns =
-        queue_set (Waiting l) f (drop 1 (queue_at (Waiting l) q)) (with_queue (Unacked l) (queue_at (Unacked l) q ++ message ∷ []) q) refl (known_on (Waiting l) q (with_queue (Unacked l) (queue_at (Unacked l) q ++ message ∷ []) q) (links_stay (Unacked l) (queue_at (Unacked l) q ++ message ∷ []) q) known)
+        queue_set (Waiting l) f (drop 1 (queue_at (Waiting l) q)) (with_queue (Unacked l) (queue_at (Unacked l) q ++ message ∷ []) q) refl (known_on (Waiting l) q (with_queue (Unacked l) (queue_at (Unacked l) q ++ message ∷ []) q) (size_stays (Unacked l) (queue_at (Unacked l) q ++ message ∷ []) q) known)
         ∙ ap (λ (xs : List ℕ). cond (same_fate (Waiting l) f) (drop 1 (queue_at (Waiting l) q)) xs) (queue_set (Unacked l) f (queue_at (Unacked l) q ++ message ∷ []) q refl known)
         ∙ ap (λ (xs : List ℕ). cond (same_fate (Waiting l) f) (drop 1 xs) (cond (same_fate (Unacked l) f) (queue_at (Unacked l) q ++ message ∷ []) (queue_at f q))) (s.queues (Waiting l))
         ∙ ap (λ (xs : List ℕ). cond (same_fate (Waiting l) f) (drop 1 (numbers (wait l rows))) (cond (same_fate (Unacked l) f) (xs ++ message ∷ []) (queue_at f q))) (s.queues (Unacked l))
@@ -199,7 +203,7 @@ acked_stands l fsn q ms rows s known =
     let new : List Row = turned (is_unacked l) (Acked l) count rows in
     let ns : take count (numbers (unack l rows)) ≡ take count (queue_at (Unacked l) q) = ap (take count) (sym (s.queues (Unacked l))) in
     subst (λ (xs : List ℕ). Stands (acked_lists l fsn q) (restood xs (Acked l) ms) new) ns
-    (restands q (acked_lists l fsn q) ms rows new (take count (numbers (unack l rows))) (Acked l) s (acknowledged l count rows).kept
+    (restands q (acked_lists l fsn q) ms rows new (take count (numbers (unack l rows))) (Acked l) s (same_messages rows _ s.numbered (acknowledged l count rows).kept)
     (given_take count (numbers (unack l rows)) ms (given_of (λ (row : Row). is_unacked l row.fate) q ms rows s))
     (λ f. queue_last f l fsn (with_queue (Unacked l) (drop count (queue_at (Unacked l) q)) q)
     ∙ queue_set (Unacked l) f (drop count (queue_at (Unacked l) q)) q refl known
@@ -214,7 +218,7 @@ pub sent_up_stands : (l : ℕ) (cause : DiscardCause) (q : Lists) (ms : List Mes
 sent_up_stands l cause q ms rows s known =
     let new : List Row = changed (is_unacked l) (Discarded cause) rows in
     subst (λ (xs : List ℕ). Stands (with_queue (Unacked l) [] q) (restood xs (Discarded cause) ms) new) (sym (s.queues (Unacked l)))
-    (restands q (with_queue (Unacked l) [] q) ms rows new (numbers (unack l rows)) (Discarded cause) s (sent_given_up l cause rows).kept
+    (restands q (with_queue (Unacked l) [] q) ms rows new (numbers (unack l rows)) (Discarded cause) s (same_messages rows _ s.numbered (sent_given_up l cause rows).kept)
     (given_of (λ (row : Row). is_unacked l row.fate) q ms rows s)
     (λ f. queue_set (Unacked l) f [] q refl known ∙ ap (λ (xs : List ℕ). cond (same_fate (Unacked l) f) [] xs) (s.queues f) ∙ sym (sent_up_at l cause rows f))
     (λ n. changed_goes (is_unacked l) (Discarded cause) n rows s.numbered))
@@ -224,47 +228,62 @@ pub waiting_up_stands : (l : ℕ) (cause : DiscardCause) (q : Lists) (ms : List 
 waiting_up_stands l cause q ms rows s known =
     let new : List Row = changed (is_waiting l) (Discarded cause) rows in
     subst (λ (xs : List ℕ). Stands (with_queue (Waiting l) [] q) (restood xs (Discarded cause) ms) new) (sym (s.queues (Waiting l)))
-    (restands q (with_queue (Waiting l) [] q) ms rows new (numbers (wait l rows)) (Discarded cause) s (waiting_given_up l cause rows).kept
+    (restands q (with_queue (Waiting l) [] q) ms rows new (numbers (wait l rows)) (Discarded cause) s (same_messages rows _ s.numbered (waiting_given_up l cause rows).kept)
     (given_of (λ (row : Row). is_waiting l row.fate) q ms rows s)
     (λ f. queue_set (Waiting l) f [] q refl known ∙ ap (λ (xs : List ℕ). cond (same_fate (Waiting l) f) [] xs) (s.queues f) ∙ sym (waiting_up_at l cause rows f))
     (λ n. changed_goes (is_waiting l) (Discarded cause) n rows s.numbered))
 
 -- A final fate has no queue.
-final : (f : Fate) → is_standing f ≡ false → (g : Lists) → queue_at f g ≡ []
+pub final : (f : Fate) → is_standing f ≡ false → (g : Lists) → queue_at f g ≡ []
 final (Waiting k) e g = absurd (cc)
 final (Unacked k) e g = absurd (cc)
 final (Held k) e g = absurd (cc)
 final Parked e g = absurd (cc)
+final (Back c) e g = absurd (cc)
 final (Acked k) e g = refl
 final (Discarded c) e g = refl
 
-none : (f : Fate) → is_standing f ≡ false → (rs : List Row) → numbers (rows_at f rs) ≡ []
+pub none : (f : Fate) → is_standing f ≡ false → (rs : List Row) → numbers (rows_at f rs) ≡ []
 none (Waiting k) e g = absurd (cc)
 none (Unacked k) e g = absurd (cc)
 none (Held k) e g = absurd (cc)
 none Parked e g = absurd (cc)
+none (Back c) e g = absurd (cc)
 none (Acked k) e g = refl
 none (Discarded c) e g = refl
 
--- PARKED MESSAGES FIND A LINK
+-- ALL OF A PLACE WAIT FOR A LINK: what was parked, or stood back by a code
+module _ (from : Fate) (test : Fate → Bool) (l : ℕ) (q : Lists) (ms : List Message) (rows : List Row) where
+  abbrev new : List Row
+  new = moved test (all_with (Waiting l)) rows
+
+  pub all_wait : Stands q ms rows → is_standing from ≡ true → IsKnown from q → l < length q.links → rows_at from rows ≡ standing test rows → Kept rows new
+      → ((f : Fate) → numbers (rows_at f new) ≡ cond (same_fate from f) [] (cond (same_fate (Waiting l) f) (numbers (wait l rows) ++ numbers (standing test rows)) (numbers (rows_at f rows))))
+      → Stands (passed from (Waiting l) q) (restood (queue_at from q) (Waiting l) ms) new
+  all_wait s standing_from known_from known there kept at =
+      let ns : queue_at from q ≡ numbers (standing test rows) = s.queues from ∙ ap numbers there in
+      subst (λ (xs : List ℕ). Stands (passed from (Waiting l) q) (restood xs (Waiting l) ms) new) (sym ns)
+      (restands q (passed from (Waiting l) q) ms rows new (numbers (standing test rows)) (Waiting l) s (same_messages rows new s.numbered kept)
+      (given_of (λ (row : Row). test row.fate) q ms rows s)
+      (λ f. queue f ns (cases_Bool (is_standing f)))
+      (λ n. moved_goes test (Waiting l) n rows s.numbered))
+    where
+      queue : (f : Fate) → queue_at from q ≡ numbers (standing test rows) → (is_standing f ≡ true) ⊎ (is_standing f ≡ false) → queue_at f (passed from (Waiting l) q) ≡ numbers (rows_at f new)
+      queue f ns (inl t) =
+          passed_replaces q from (Waiting l) standing_from known_from known tt f t
+          ∙ ap (λ (xs : List ℕ). cond (same_fate from f) [] (cond (same_fate (Waiting l) f) (xs ++ queue_at from q) (queue_at f q))) (s.queues (Waiting l))
+          ∙ ap (λ (xs : List ℕ). cond (same_fate from f) [] (cond (same_fate (Waiting l) f) (numbers (wait l rows) ++ xs) (queue_at f q))) ns
+          ∙ ap (λ (xs : List ℕ). cond (same_fate from f) [] (cond (same_fate (Waiting l) f) (numbers (wait l rows) ++ numbers (standing test rows)) xs)) (s.queues f)
+          ∙ sym (at f)
+      queue f ns (inr t) = final f t (passed from (Waiting l) q) ∙ sym (none f t new)
+
 pub unparked_stands : (l : ℕ) (q : Lists) (ms : List Message) (rows : List Row) → Stands q ms rows → l < length q.links
     → Stands (passed Parked (Waiting l) q) (restood (queue_at Parked q) (Waiting l) ms) (moved is_parked (all_with (Waiting l)) rows)
-unparked_stands l q ms rows s known =
-    let new : List Row = moved is_parked (all_with (Waiting l)) rows in
-    subst (λ (xs : List ℕ). Stands (passed Parked (Waiting l) q) (restood xs (Waiting l) ms) new) (sym (s.queues Parked))
-    (restands q (passed Parked (Waiting l) q) ms rows new (numbers (parked rows)) (Waiting l) s (unparked l rows).kept
-    (given_of (λ (row : Row). is_parked row.fate) q ms rows s)
-    (λ f. queue f (cases_Bool (is_standing f)))
-    (λ n. moved_goes is_parked (Waiting l) n rows s.numbered))
-  where
-    queue : (f : Fate) → (is_standing f ≡ true) ⊎ (is_standing f ≡ false) → queue_at f (passed Parked (Waiting l) q) ≡ numbers (rows_at f (moved is_parked (all_with (Waiting l)) rows))
-    queue f (inl t) =
-        passed_replaces q Parked (Waiting l) refl tt known tt f t
-        ∙ ap (λ (xs : List ℕ). cond (same_fate Parked f) [] (cond (same_fate (Waiting l) f) (xs ++ queue_at Parked q) (queue_at f q))) (s.queues (Waiting l))
-        ∙ ap (λ (xs : List ℕ). cond (same_fate Parked f) [] (cond (same_fate (Waiting l) f) (numbers (wait l rows) ++ xs) (queue_at f q))) (s.queues Parked)
-        ∙ ap (λ (xs : List ℕ). cond (same_fate Parked f) [] (cond (same_fate (Waiting l) f) (numbers (wait l rows) ++ numbers (parked rows)) xs)) (s.queues f)
-        ∙ sym (unparked_at l rows f)
-    queue f (inr t) = final f t (passed Parked (Waiting l) q) ∙ sym (none f t (moved is_parked (all_with (Waiting l)) rows))
+unparked_stands l q ms rows s known = all_wait Parked is_parked l q ms rows s refl tt known refl (unparked l rows).kept (unparked_at l rows)
+
+pub released_stands : (c l : ℕ) (q : Lists) (ms : List Message) (rows : List Row) → Stands q ms rows → c < length q.back → l < length q.links
+    → Stands (passed (Back c) (Waiting l) q) (restood (queue_at (Back c) q) (Waiting l) ms) (moved (is_back c) (all_with (Waiting l)) rows)
+released_stands c l q ms rows s code known = all_wait (Back c) (is_back c) l q ms rows s refl code known refl (released c l rows).kept (released_at c l rows)
 
 -- A LINK SETTLES
 abbrev Settled : ℕ → Fate → Lists → Fate → List ℕ
@@ -295,7 +314,7 @@ module _ (l : ℕ) (q : Lists) (ms : List Message) (rows : List Row) (s : Stands
       → Stands (settled l to q) (restood (on_lists l q) to ms) (moved (is_on l) (all_with to) rows)
   off to a kept at =
       subst (λ (xs : List ℕ). Stands (settled l to q) (restood xs to ms) (moved (is_on l) (all_with to) rows)) ns
-      (restands q (settled l to q) ms rows (moved (is_on l) (all_with to) rows) (numbers (on l rows)) to s kept
+      (restands q (settled l to q) ms rows (moved (is_on l) (all_with to) rows) (numbers (on l rows)) to s (same_messages rows _ s.numbered kept)
       (given_of (λ (row : Row). is_on l row.fate) q ms rows s) (λ f. queue f (cases_Bool (is_standing f))) (λ n. moved_goes (is_on l) to n rows s.numbered))
     where
       queue : (f : Fate) → (is_standing f ≡ true) ⊎ (is_standing f ≡ false) → queue_at f (settled l to q) ≡ numbers (rows_at f (moved (is_on l) (all_with to) rows))

@@ -4,7 +4,7 @@ use Rattle.std.specs.Prelude.{slice_get, slice_set}
 use Rattle.std.specs.Option.{option_map}
 use Rattle.std.proofs.lemmas.List.{length-append}
 use Rattle.set_events.specs.declared.answer.Fate.{Fate}
-use Rattle.set_events.specs.declared.answer.Fate.TheVariants.{Waiting, Unacked, Acked, Held, Parked, Discarded}
+use Rattle.set_events.specs.declared.answer.Fate.TheVariants.{Waiting, Unacked, Acked, Held, Parked, Back, Discarded}
 use Rattle.set_events.specs.declared.answer.DiscardCause.{DiscardCause}
 use Rattle.set_queues.specs.declared.message.Message.{Message}
 use Rattle.set_queues.specs.Buffers.{LinkLists, Lists, is_standing, queue_at, with_queue, last_at, with_last, number_in, IsKnown}
@@ -18,14 +18,14 @@ use Rattle.set_queues.proofs.Passing.{links_stay, list_kept, kept_last}
 use Rattle.set_queues.proofs.Settling.{IsAside}
 use Rattle.set_queues.proofs.Soundness.{passed_links, sent_links, acked_links, queue_last, last_links}
 use Rattle.set_route.specs.Routing.{Routing}
-use Rattle.set_model.specs.Rows.{Row, is_waiting, is_unacked, is_on, is_parked, turned, changed, moved, all_with, appended, body_at, IsInOrder, IsHeldLast}
+use Rattle.set_model.specs.Rows.{Row, is_waiting, is_unacked, is_on, is_parked, is_back, turned, changed, moved, all_with, appended, body_at, IsInOrder, IsHeldLast}
 use Rattle.set_model.specs.Changeover.{fate_on}
 use Rattle.set_model.specs.State.{LinkState, State}
-use Rattle.set_model.proofs.Events.{Kept as RowsKept, sent, acknowledged, sent_given_up, waiting_given_up, unparked}
+use Rattle.set_model.proofs.Events.{Kept as RowsKept, sent, acknowledged, sent_given_up, waiting_given_up, unparked, released}
 use Rattle.set_model.proofs.Finding.{new_row}
 use Rattle.set_model.proofs.Lists.{at_set, length_set, within}
 use Rattle.set_step.specs.Agreement.{Kept, Stands, StandsFor}
-use Rattle.set_step.proofs.Standing.{IsOld, IsNewest, fresh, message_of, appended_stands, sent_stands, acked_stands, sent_up_stands, waiting_up_stands, unparked_stands, on_numbers, settled_stands}
+use Rattle.set_step.proofs.Standing.{IsOld, IsNewest, fresh, message_of, appended_stands, sent_stands, acked_stands, sent_up_stands, waiting_up_stands, unparked_stands, released_stands, on_numbers, settled_stands}
 
 -- A value that is kept so.
 pub kept_is : (k : Kept) (lists : Lists) (messages : List Message) (bodies : List (List ℕ)) (links : List LinkState) (routing : Routing) (inbox : List (List ℕ)) → k.lists ≡ lists → k.messages ≡ messages → k.bodies ≡ bodies → k.links ≡ links → k.routing ≡ routing → k.inbox ≡ inbox
@@ -38,6 +38,7 @@ last_stays (Waiting l) xs q n = list_kept number_in (λ (z : LinkLists). record 
 last_stays (Unacked l) xs q n = list_kept number_in (λ (z : LinkLists). record z { unacked = xs }) q.links l n (kept_last (λ (z : LinkLists). record z { unacked = xs }) (λ x. refl)) (l == n) refl
 last_stays (Held l) xs q n = list_kept number_in (λ (z : LinkLists). record z { held = xs }) q.links l n (kept_last (λ (z : LinkLists). record z { held = xs }) (λ x. refl)) (l == n) refl
 last_stays Parked xs q n = refl
+last_stays (Back c) xs q n = refl
 last_stays (Acked l) xs q n = refl
 last_stays (Discarded c) xs q n = refl
 
@@ -232,3 +233,17 @@ risen_for k s n link link' routing f there e =
       fsns = fsns_set s (passed Parked (Waiting n) reset) n link' (λ m other ne at. last_passed Parked (Waiting n) reset m ∙ last_there n 127 k.lists m ne ∙ f.fsns m other at)
           (last_passed Parked (Waiting n) reset n ∙ last_here n 127 k.lists known ∙ sym (ap (λ (a : ℕ). (a + 127) % 128) e));
     })
+
+-- WHAT STOOD BACK by a code waits for its home.
+pub released_for : (k : Kept) (s : State) (c l : ℕ) (routing : Routing) → StandsFor k s → c < length k.lists.back → l < length k.lists.links
+    → StandsFor (record k { lists = passed (Back c) (Waiting l) k.lists; messages = restood (queue_at (Back c) k.lists) (Waiting l) k.messages; routing = routing }) (record s { rows = moved (is_back c) (all_with (Waiting l)) s.rows; routing = routing })
+released_for k s c l routing f code known =
+    subst (λ (links : List LinkState). StandsFor (record k { lists = passed (Back c) (Waiting l) k.lists; messages = restood (queue_at (Back c) k.lists) (Waiting l) k.messages; links = links; routing = routing }) (record s { rows = moved (is_back c) (all_with (Waiting l)) s.rows; routing = routing })) (sym f.links)
+    (changes k s (passed (Back c) (Waiting l) k.lists) (restood (queue_at (Back c) k.lists) (Waiting l) k.messages) (moved (is_back c) (all_with (Waiting l)) s.rows) s.links routing f (record {
+      stands = released_stands c l k.lists k.messages s.rows f.stands code known;
+      bodies = (released c l s.rows).kept.bodies f.stands.numbered;
+      as_many_messages = length-restood (queue_at (Back c) k.lists) (Waiting l) k.messages;
+      as_many_queues = passed_links k.lists (Back c) (Waiting l);
+      as_many_links = refl;
+      fsns = λ m link at. last_passed (Back c) (Waiting l) k.lists m ∙ f.fsns m link at;
+    }))

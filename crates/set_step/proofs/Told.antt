@@ -1,5 +1,5 @@
 -- What a heard unit brings, as the step has it; and that hearing takes no room.
-use Rattle.std.proofs.Common.{refl, arith, ◌≡◌, ◌∙◌, ap, sym, subst, ◌≤◌, ◌+◌, ◌++◌, [], ◌∷◌, List, ℕ, Bool, true, false, ◌==◌, length, Option, Some, None, slice_set}
+use Rattle.std.proofs.Common.{refl, arith, ◌≡◌, ◌∙◌, ap, sym, subst, ◌≤◌, ◌<◌, ◌+◌, ◌*◌, ◌++◌, [], ◌∷◌, List, ℕ, zero, suc, Bool, true, false, ◌==◌, length, map, Option, Some, None, slice_set}
 use Rattle.std.proofs.lemmas.List.{length-map, map-append}
 use Rattle.arrayvec.specs.declared.array_vec.ArrayVec.{ArrayVec}
 use Rattle.l2_signals.specs.declared.status.Status.{Status}
@@ -9,12 +9,15 @@ use Rattle.l2_units.specs.declared.unit.Unit.TheVariants.{Fisu, Lssu, Msu}
 use Rattle.l2_units.specs.Grammar.{head_of as header_in}
 use Rattle.l2_window.specs.declared.control.HeardPart.{HeardPart}
 use Rattle.l3_orders.specs.declared.order.Order.{Order}
-use Rattle.l3_orders.specs.Grammar.{link_of}
+use Rattle.l3_orders.specs.declared.order.Order.TheVariants.{Coo, Coa, Cbd, Cba, Eco, Eca}
+use Rattle.set_events.specs.declared.answer.Fate.TheVariants.{Waiting, Held}
 use Rattle.set_events.specs.declared.answer.Answer.TheVariants.{Heard as HeardBack}
 use Rattle.set_events.specs.declared.answer.Report.{Report}
 use Rattle.set_events.specs.declared.answer.Took.{Took}
 use Rattle.set_events.specs.declared.answer.Took.TheVariants.{Message}
+use Rattle.set_queues.specs.Backs.{back_from, back_count}
 use Rattle.set_queues.specs.Buffers.{room_at}
+use Rattle.set_route.specs.Routing.{home_of}
 use Rattle.set_queues.specs.Settling.{on}
 use Rattle.set_route.specs.Target.{target_of}
 use Rattle.set_model.specs.declared.phase.Phase.TheVariants.{Up}
@@ -22,17 +25,17 @@ use Rattle.set_model.specs.Control.{part_of}
 use Rattle.set_model.specs.Rows.{service_indicator}
 use Rattle.set_model.specs.Changeover.{fate_on}
 use Rattle.set_model.specs.Sound.{IsSound}
-use Rattle.set_model.specs.State.{LinkState, State, window_of}
+use Rattle.set_model.specs.State.{LinkState, State, target, window_of}
 use Rattle.set_model.specs.Step.{heard as heard_of, controls, hears, takes, brought, after_control, report_of, is_msu}
 use Rattle.set_model.proofs.SoundLink.{hears_sound}
 use Rattle.set_model.proofs.Walk.{IsAt}
 use Rattle.set_step.specs.declared.link.Link.{Link}
 use Rattle.set_step.specs.declared.parts.Parts.{Parts}
 use Rattle.set_step.specs.Agreement.{Kept, StandsFor}
-use Rattle.set_step.specs.Hearing.{IsSpacious, KeepsSpace}
-use Rattle.set_step.specs.Parts.{Gives, Obeys, bodies_in, kept_of}
-use Rattle.set_step.specs.Room.{IsReady, target_beside}
-use Rattle.set_step.proofs.Targets.{same_ups}
+use Rattle.set_step.specs.Hearing.{IsSpacious, IsSpaciousFor, KeepsSpace}
+use Rattle.set_step.specs.Parts.{Gives, Obeys, bodies_in, kept_of, link_of as link_kept}
+use Rattle.set_step.specs.Room.{HasRoom, IsReady, target_beside}
+use Rattle.set_step.proofs.Targets.{same_ups, same_target}
 
 -- THE INBOX
 pub inbox_for : (k : Kept) (s : State) (inbox : List (List ℕ)) → StandsFor k s → StandsFor (record k { inbox = inbox }) (record s { inbox = inbox })
@@ -80,16 +83,58 @@ module _ (n : ℕ) (s : State) (link : LinkState) (unit : SignalUnit) where
 same_beside : (n : ℕ) (old new : Parts) → KeepsSpace old new → target_beside n new.links.items ≡ target_beside n old.links.items
 same_beside n old new k = ap (λ ups. target_of (slice_set ups n false)) (same_ups old.links.items new.links.items k.phases)
 
+as_many : (old new : Parts) → KeepsSpace old new → length new.links.items ≡ length old.links.items
+as_many old new k = sym (length-map new.links.items (λ (l : Link). l.phase)) ∙ ap length k.phases ∙ length-map old.links.items (λ (l : Link). l.phase)
+
+-- as much stands back
+same_from : (code n : ℕ) (old new : Parts) → KeepsSpace old new → back_from code n new.queues.lists ≡ back_from code n old.queues.lists
+unfolding back_from
+same_from code zero old new k = refl
+same_from code (suc n) old new k =
+    let rest = same_from code n old new k in
+    let last = ap length (k.backs (code + n)) in
+    omega (arith, rest, last)
+
+same_back : (n : ℕ) (old new : Parts) → KeepsSpace old new → back_count n new.queues.lists ≡ back_count n old.queues.lists
+same_back n old new k = same_from (16 * n) 16 old new k
+
 pub ready_still : (n orders : ℕ) (old new : Parts) → KeepsSpace old new → IsReady n orders old → IsReady n orders new
 ready_still n orders old new k r = record {
   message = rw (k.message) r.message;
   body = rw (k.bodies) r.body;
-  place = subst (λ (o : Option ℕ). length (on n new.queues.lists) + orders ≤ room_at (fate_on o) new.queues.rooms) (sym (same_beside n old new k))
-      (let fewer = k.fewer n in let room = k.rooms (fate_on (target_beside n old.links.items)) in let enough = r.place in omega (arith, fewer, room, enough));
+  place = subst (λ (o : Option ℕ). length (on n new.queues.lists) + orders + 2 * back_count n new.queues.lists ≤ room_at (fate_on o) new.queues.rooms) (sym (same_beside n old new k))
+      (let fewer = k.fewer n in let room = k.rooms (fate_on (target_beside n old.links.items)) in let enough = r.place in let back = same_back n old new k in omega (arith, fewer, room, enough, back));
+  each = λ link low.
+      let had = r.each link (let many = as_many old new k in omega (arith, many, low)) in
+      let back = same_back n old new k in
+      let w = k.rooms (Waiting link) in
+      let h = k.rooms (Held link) in
+      let here = had.0 in
+      let there = had.1 in
+      (omega (arith, w, here, back), omega (arith, h, there, back));
 }
 
 pub spacious_still : (order : Option Order) (old new : Parts) → KeepsSpace old new → IsSpacious order old → IsSpacious order new
 spacious_still None old new k p = tt
-spacious_still (Some order) old new k p = λ low.
-    let many : length new.links.items ≡ length old.links.items = sym (length-map new.links.items (λ (l : Link). l.phase)) ∙ ap length k.phases ∙ length-map old.links.items (λ (l : Link). l.phase) in
-    ready_still (link_of order) 1 old new k (p (omega (arith, many, low)))
+spacious_still (Some order) old new k p = for_order order p
+  where
+    about : (link : ℕ) → (link < length old.links.items → IsReady link 1 old) → link < length new.links.items → IsReady link 1 new
+    about link r low = ready_still link 1 old new k (r (let many = as_many old new k in omega (arith, many, low)))
+
+    for_order : (order : Order) → IsSpaciousFor order old → IsSpaciousFor order new
+    for_order (Coo link number) r = about link r
+    for_order (Coa link number) r = about link r
+    for_order (Eco link) r = about link r
+    for_order (Eca link) r = about link r
+    for_order (Cbd link code) r =
+        let same = same_target old.links.items new.links.items k.phases in
+        subst (λ (o : Option ℕ). HasRoom (fate_on o) new) (sym same) (record {
+          message = rw (k.message) r.message;
+          body = rw (k.bodies) r.body;
+          place = let had = r.place in let more = k.rooms (fate_on (target (map link_kept old.links.items))) in omega (arith, had, more);
+        })
+    for_order (Cba link code) r = λ low.
+        let had = r (let many = as_many old new k in omega (arith, many, low)) in
+        let more = k.rooms (Waiting (home_of code)) in
+        let same = ap length (k.backs code) in
+        omega (arith, had, more, same)

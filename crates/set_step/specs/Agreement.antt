@@ -2,14 +2,14 @@
 use Rattle.std.specs.Prelude.{◌≡◌, ℕ, ◌+◌, ◌%◌, ◌==◌, List, [], length, Some, slice_get, if◌then◌else◌}
 use Rattle.std.specs.Option.{option_map}
 use Rattle.set_events.specs.declared.answer.Fate.{Fate}
-use Rattle.set_events.specs.declared.answer.Fate.TheVariants.{Waiting, Unacked, Acked, Held, Parked, Discarded}
+use Rattle.set_events.specs.declared.answer.Fate.TheVariants.{Waiting, Unacked, Acked, Held, Parked, Back, Discarded}
 use Rattle.set_queues.specs.declared.message.Kind.{Kind}
 use Rattle.set_queues.specs.declared.message.Kind.TheVariants.{User, Order}
 use Rattle.set_queues.specs.declared.message.Message.{Message}
 use Rattle.set_queues.specs.Buffers.{Lists, queue_at, last_at}
 use Rattle.set_queues.specs.Messages.{fate_at}
 use Rattle.set_route.specs.Routing.{Routing}
-use Rattle.set_model.specs.Rows.{Row, numbers, unack, wait, held, parked, place, body_at, service_indicator, stream_of, IsNumbered}
+use Rattle.set_model.specs.Rows.{Row, numbers, standing, is_back, unack, wait, held, parked, place, body_at, service_indicator, stream_of, IsNumbered}
 use Rattle.set_model.specs.Sound.{IsSound, AreFew}
 use Rattle.set_model.specs.State.{LinkState, State, Settings}
 
@@ -31,6 +31,7 @@ rows_at (Waiting link) rows = wait link rows
 rows_at (Unacked link) rows = unack link rows
 rows_at (Held link) rows = held link rows
 rows_at Parked rows = parked rows
+rows_at (Back code) rows = standing (is_back code) rows
 rows_at (Acked link) rows = []
 rows_at (Discarded cause) rows = []
 

@@ -3,11 +3,17 @@ use Rattle.std.specs.Prelude.{◌≡◌, ℕ, ◌<◌, ◌≤◌, Bool, is_some,
 use Rattle.l2_units.specs.declared.unit.Unit.{Unit as SignalUnit}
 use Rattle.l2_units.specs.declared.unit.Unit.TheVariants.{Fisu, Lssu, Msu}
 use Rattle.l3_orders.specs.declared.order.Order.{Order}
-use Rattle.l3_orders.specs.Grammar.{order_of, link_of}
-use Rattle.set_queues.specs.Buffers.{KeepsRoom}
+use Rattle.l3_orders.specs.declared.order.Order.TheVariants.{Coo, Coa, Cbd, Cba, Eco, Eca}
+use Rattle.l3_orders.specs.Grammar.{order_of}
+use Rattle.set_events.specs.declared.answer.Fate.TheVariants.{Waiting, Back}
+use Rattle.set_queues.specs.Buffers.{KeepsRoom, queue_at, room_at}
+use Rattle.set_route.specs.Routing.{home_of}
+use Rattle.set_model.specs.Changeover.{fate_on}
+use Rattle.set_model.specs.State.{target}
+use Rattle.set_step.specs.Parts.{link_of as link_kept}
 use Rattle.set_queues.specs.Settling.{on}
 use Rattle.set_step.specs.declared.parts.Parts.{Parts}
-use Rattle.set_step.specs.Room.{IsReady}
+use Rattle.set_step.specs.Room.{HasRoom, IsReady}
 
 -- the order that a unit brings, if it brings one
 abbrev pub order_brought : SignalUnit → Option Order
@@ -18,10 +24,19 @@ order_brought (Msu head body) = order_of body.items
 abbrev pub has_order : SignalUnit → Bool
 has_order unit = is_some (order_brought unit)
 
--- there is room for what an order about a link of the set moves, and for the one that answers it
+-- there is room for what an order moves, and for the one that answers it
+abbrev pub IsSpaciousFor : Order → Parts → Type 0
+IsSpaciousFor (Cbd link code) parts = HasRoom (fate_on (target (map link_kept parts.links.items))) parts
+IsSpaciousFor (Cba link code) parts = home_of code < length parts.links.items
+    → length (queue_at (Back code) parts.queues.lists) ≤ room_at (Waiting (home_of code)) parts.queues.rooms
+IsSpaciousFor (Coo link number) parts = link < length parts.links.items → IsReady link 1 parts
+IsSpaciousFor (Coa link number) parts = link < length parts.links.items → IsReady link 1 parts
+IsSpaciousFor (Eco link) parts = link < length parts.links.items → IsReady link 1 parts
+IsSpaciousFor (Eca link) parts = link < length parts.links.items → IsReady link 1 parts
+
 abbrev pub IsSpacious : Option Order → Parts → Type 0
 IsSpacious None parts = Unit {0}
-IsSpacious (Some order) parts = link_of order < length parts.links.items → IsReady (link_of order) 1 parts
+IsSpacious (Some order) parts = IsSpaciousFor order parts
 
 -- no room is taken, no more stands on a link than before, and no link changes its phase
 pub record KeepsSpace (old new : Parts) : Type 0 where
@@ -31,3 +46,4 @@ pub record KeepsSpace (old new : Parts) : Type 0 where
   pub fewer : (number : ℕ) → length (on number new.queues.lists) ≤ length (on number old.queues.lists)
   pub phases : map (λ link. link.phase) new.links.items ≡ map (λ link. link.phase) old.links.items
   pub inbox : new.inbox ≡ old.inbox
+  pub backs : (code : ℕ) → queue_at (Back code) new.queues.lists ≡ queue_at (Back code) old.queues.lists

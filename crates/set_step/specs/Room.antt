@@ -1,8 +1,9 @@
 -- ROOM that an event takes before it changes anything.
-use Rattle.std.specs.Prelude.{◌≡◌, ℕ, ◌+◌, ◌<◌, ◌≤◌, false, List, length, map, Option, slice_set}
+use Rattle.std.specs.Prelude.{◌≡◌, ℕ, ◌+◌, ◌*◌, ◌<◌, ◌≤◌, false, List, length, map, Option, slice_set}
 use Rattle.std.specs.Vec.{vec_len, vec_capacity}
 use Rattle.set_events.specs.declared.answer.Fate.{Fate}
-use Rattle.set_queues.specs.Buffers.{room_at}
+use Rattle.set_queues.specs.Backs.{back_count}
+use Rattle.set_queues.specs.Buffers.{HaveRoom, room_at}
 use Rattle.set_queues.specs.Settling.{on}
 use Rattle.set_route.specs.Target.{target_of}
 use Rattle.set_model.specs.Changeover.{fate_on}
@@ -25,7 +26,10 @@ pub record HasRoom (fate : Fate) (parts : Parts) : Type 0 where
 pub record IsReady (number orders : ℕ) (parts : Parts) : Type 0 where
   pub message : orders ≤ parts.queues.room
   pub body : vec_len parts.bodies + orders ≤ vec_capacity parts.bodies
-  pub place : length (on number parts.queues.lists) + orders ≤ room_at (fate_on (target_beside number parts.links.items)) parts.queues.rooms
+  pub place : length (on number parts.queues.lists) + orders + 2 * back_count number parts.queues.lists
+      ≤ room_at (fate_on (target_beside number parts.links.items)) parts.queues.rooms
+  -- and wherever what stands back for it may turn
+  pub each : HaveRoom (length parts.links.items) (back_count number parts.queues.lists) parts.queues.rooms
 
 -- nothing changed but the room
 pub record SameButRoom (old new : Parts) : Type 0 where

@@ -1,19 +1,25 @@
-//! Changeover: a link is left, orders tell the far end, and the link settles (Q.704 5).
+//! Changeover: a link is left, orders tell the far end, and the link settles (Q.704 5). Orders of changeback are
+//! carried out here too (6).
 ghost use Rattle.std.specs.Prelude.{◌≡◌, ◌+◌, ◌<◌, ◌≤◌, ◌^◌, ◌%◌, ℕ, false, map, length, slice_get, slice_set, Some, IfOk};
 ghost use Rattle.std.specs.Vec.{vec_len, vec_capacity};
-ghost use Rattle.l3_orders.specs.Grammar.{IsOrder, link_of as link_in, text as text_of};
-ghost use Rattle.set_queues.specs.Buffers.{TakesRoom};
+ghost use Rattle.l3_orders.specs.Grammar.{IsOrder, text as text_of};
+ghost use Rattle.set_queues.specs.Backs.{back_count};
+ghost use Rattle.set_queues.specs.Buffers.{HaveRoom, TakesRoom};
 ghost use Rattle.set_queues.specs.Settling.{on};
-ghost use Rattle.set_model.specs.Changeover.{queued, left_by, settled, left_link, order_obeyed, changed_over, answered, reply_of, at_link, fate_on};
+ghost use Rattle.set_model.specs.Changeover.{queued, out_of_service, left_by, settled, left_link, order_obeyed, changed_over, answered, reply_of, at_link, fate_on};
 ghost use Rattle.set_model.specs.State.{State, LinkState, last_accepted, target};
 ghost use Rattle.set_model.specs.declared.phase.Phase.TheVariants.{Up, Down};
 ghost use Rattle.set_step.specs.Agreement.{StandsFor, Agrees, Holds};
 ghost use Rattle.set_step.specs.Parts.{IsWhole, AreCounted, AtLink, IsOut, IsReach, Becomes, BecomesAt, Obeys, link_of, kept_of};
+ghost use Rattle.set_step.specs.Hearing.{IsSpaciousFor};
 ghost use Rattle.set_step.specs.Room.{HasRoom, IsReady};
+ghost use Rattle.set_step.specs.Turning.{TakesTurns};
 
+use super::changeback::acknowledge_back;
 use super::link::Link;
 use super::parts::{Parts, fate_of, phase_of, stand_last, target_of};
 use super::settling::settle;
+use super::turning::turn_back;
 use l3_orders::{Order, write_order};
 use set_events::{Body, Took};
 use set_model::{Phase, Reached};
@@ -51,7 +57,7 @@ pub(crate) fn queue(parts: &mut Parts, order: Order, space: Vec<u8>)
 }
 
 /// The octets of an order, in this space.
-fn body_of(order: &Order, sio: u8, dpc: u16, opc: u16, space: Vec<u8>) -> Body
+pub(crate) fn body_of(order: &Order, sio: u8, dpc: u16, opc: u16, space: Vec<u8>) -> Body
     requires order { IsOrder order.now }
     requires management { sio % 16 ≡ 0 }
     requires dpc { dpc < 2 ^ 14 }
@@ -67,11 +73,30 @@ fn body_of(order: &Order, sio: u8, dpc: u16, opc: u16, space: Vec<u8>) -> Body
     Body::from_vec(space)
 }
 
-/// The link is left: out of service, its messages stay on it until it settles (5.3).
+/// The link is left: out of service, its messages stay on it until it settles (5.3). What stood back for it
+/// goes where its streams run.
 pub(crate) fn leave(parts: &mut Parts, number: u8, blind: bool)
+    requires holds { Holds (kept_of parts.old) }
+    requires known { number < length parts.old.links.items }
+    requires up { AtLink number parts.old.links.items (λ link. link.phase ≡ Up) }
+    requires room { HaveRoom (length parts.old.links.items) (back_count number parts.old.queues.lists) parts.old.queues.rooms }
+    ensures stands { (s : State) (link : LinkState) → slice_get s.links number ≡ Some link → Agrees (kept_of parts.old) s
+        → StandsFor (kept_of parts.new) (left_by blind number link s) }
+    ensures links { AtLink number parts.old.links.items (λ link. parts.new.links.items
+        ≡ slice_set parts.old.links.items number (record link { phase = Down; blind = blind })) }
+    ensures turns { TakesTurns (back_count number parts.old.queues.lists) parts.old.queues parts.new.queues }
+    ensures bodies { parts.new.bodies ≡ parts.old.bodies }
+    ensures whole { IsWhole parts.new }
+{
+    take_out(parts, number, blind);
+    turn_back(parts, number);
+}
+
+/// The link is out of service, and streams on their way back to it run where they came from.
+fn take_out(parts: &mut Parts, number: u8, blind: bool)
     requires whole { IsWhole parts.old }
     requires known { number < length parts.old.links.items }
-    ensures stands { BecomesAt number parts.old parts.new (left_by blind number) }
+    ensures stands { BecomesAt number parts.old parts.new (out_of_service blind number) }
     ensures links { AtLink number parts.old.links.items (λ link. parts.new.links.items
         ≡ slice_set parts.old.links.items number (record link { phase = Down; blind = blind })) }
     ensures queues { parts.new.queues ≡ parts.old.queues }
@@ -90,7 +115,7 @@ pub(crate) fn obey(parts: &mut Parts, order: Order, space: Vec<u8>) -> Took
     requires counted { AreCounted (2 ^ 61) parts.old.links.items }
     requires order { IsOrder order }
     requires space { (vec_len space ≡ 0) × (7 ≤ vec_capacity space) }
-    requires room { link_in order < length parts.old.links.items → IsReady (link_in order) 1 parts.old }
+    requires room { IsSpaciousFor order parts.old }
     ensures stands { (s : State) → Agrees (kept_of parts.old) s → Obeys (order_obeyed order s) result parts.new }
 {
     match order {
@@ -98,7 +123,11 @@ pub(crate) fn obey(parts: &mut Parts, order: Order, space: Vec<u8>) -> Took
         Order::Eco { link } => change_over(parts, link, Reached::Unknown, space),
         Order::Coa { link, number } => answer(parts, link, Reached::Upto { number }),
         Order::Eca { link } => answer(parts, link, Reached::Unknown),
-        Order::Cbd { .. } | Order::Cba { .. } => Took::Ignored,
+        Order::Cbd { link, code } => {
+            queue(parts, Order::Cba { link, code }, space);
+            Took::Order
+        }
+        Order::Cba { code, .. } => acknowledge_back(parts, code),
     }
 }
 
@@ -125,11 +154,12 @@ fn change_over(parts: &mut Parts, number: u8, reached: Reached, space: Vec<u8>) 
 
 /// A link that is up is left; the far end's order is acknowledged, and the link settles.
 fn answer_and_settle(parts: &mut Parts, number: u8, reached: Reached, space: Vec<u8>)
-    requires whole { IsWhole parts.old }
+    requires holds { Holds (kept_of parts.old) }
     requires counted { AreCounted (2 ^ 61) parts.old.links.items }
     requires reached { IsReach reached }
     requires number { number < 16 }
     requires known { number < length parts.old.links.items }
+    requires up { AtLink number parts.old.links.items (λ link. link.phase ≡ Up) }
     requires space { (vec_len space ≡ 0) × (7 ≤ vec_capacity space) }
     requires room { IsReady number 1 parts.old }
     ensures stands { (s : State) (link : LinkState) → slice_get s.links number ≡ Some link → link.phase ≡ Up

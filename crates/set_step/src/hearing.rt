@@ -3,24 +3,29 @@ ghost use Rattle.std.specs.Prelude.{◌≡◌, ◌<◌, ◌≤◌, ◌^◌, true
 ghost use Rattle.std.specs.VecDeque.{deque_len, deque_capacity};
 ghost use Rattle.std.specs.Vec.{vec_len, vec_capacity};
 ghost use Rattle.l2_units.specs.Grammar.{head_of as header_of};
-ghost use Rattle.l3_orders.specs.Grammar.{IsOrder, link_of as link_in};
+ghost use Rattle.l3_orders.specs.Grammar.{IsOrder};
+ghost use Rattle.set_queues.specs.Buffers.{queue_at, room_at};
+ghost use Rattle.set_route.specs.Routing.{home_of};
 ghost use Rattle.set_model.specs.Control.{part_of};
 ghost use Rattle.set_model.specs.Rows.{service_indicator as indicator_of};
 ghost use Rattle.set_model.specs.State.{State, LinkState, window_of};
 ghost use Rattle.set_model.specs.Step.{in_service, heard as heard_of, is_msu as is_message, brought, takes, after_control, report_of as report_for};
 ghost use Rattle.set_step.specs.Agreement.{Agrees, Holds, StandsFor};
-ghost use Rattle.set_step.specs.Hearing.{IsSpacious, KeepsSpace, order_brought, has_order};
+ghost use Rattle.set_step.specs.Hearing.{IsSpacious, IsSpaciousFor, KeepsSpace, order_brought, has_order};
 ghost use Rattle.set_step.specs.Parts.{Answers, AreCounted, IsWhole, Obeys, kept_of};
+ghost use Rattle.set_step.specs.Room.{IsReady, SameButRoom};
 
 use super::changeover::{obey, order_space};
 use super::fault::SetFault;
-use super::parts::{Parts, make_room_beside};
+use super::parts::{Parts, fate_of, make_room, make_room_beside, target_of};
 use super::sending::out_of_service;
 use arrayvec::ArrayVec;
 use l2_units::{LONGEST_BODY, Unit, header_in};
 use l2_window::HeardPart;
 use l3_orders::{Order, read_order};
-use set_events::{Answer, Refusal, Report, Took};
+use set_events::{Answer, Fate, Refusal, Report, Took};
+use set_route::home_of_code;
+use std::alloc::AllocError;
 
 /// A unit was heard: a FISU or MSU acknowledges, may bring a body, and may ask for retransmission.
 /// An LSSU is refused, since the error control has nothing to do with it.
@@ -73,11 +78,57 @@ fn make_space(parts: &mut Parts, unit: &Unit, order: Option<Order>) -> Result<Ve
         return Ok(Vec::new(*parts.links.allocator()));
     };
     let space = order_space(&parts.links)?;
-    let link = link_of(&order);
-    if usize::from(link) < parts.links.len() {
-        make_room_beside(parts, link, 1)?;
-    }
+    make_room_for(parts, &order)?;
     Ok(space)
+}
+
+/// Takes room for what an order moves, and for the one that answers it. Nothing else changes, also where
+/// memory is refused.
+fn make_room_for(parts: &mut Parts, order: &Order) -> Result<(), AllocError>
+    requires whole { IsWhole parts.old }
+    ensures room { OnOk result (IsSpaciousFor order.now parts.new) }
+    ensures same { SameButRoom parts.old parts.new }
+{
+    match *order {
+        Order::Cbd { .. } => {
+            let fate = fate_of(target_of(&parts.links));
+            make_room(parts, fate)
+        }
+        Order::Cba { code, .. } => make_room_back(parts, code),
+        Order::Coo { link, .. }
+        | Order::Coa { link, .. }
+        | Order::Eco { link }
+        | Order::Eca { link } => make_room_about(parts, link),
+    }
+}
+
+/// Takes room for what stands on the link, if there is such a link, and for an order.
+fn make_room_about(parts: &mut Parts, link: u8) -> Result<(), AllocError>
+    requires whole { IsWhole parts.old }
+    ensures room { OnOk result (link < length parts.new.links.items → IsReady link 1 parts.new) }
+    ensures same { SameButRoom parts.old parts.new }
+{
+    if usize::from(link) >= parts.links.len() {
+        return Ok(());
+    }
+    make_room_beside(parts, link, 1)
+}
+
+/// Takes room in the queue of the code's home, if there is such a link, for what waits for the code's
+/// acknowledgement.
+fn make_room_back(parts: &mut Parts, code: u8) -> Result<(), AllocError>
+    requires whole { IsWhole parts.old }
+    ensures room { OnOk result (home_of code < length parts.new.links.items
+        → length (queue_at (Fate.Back code) parts.new.queues.lists) ≤ room_at (Fate.Waiting (home_of code)) parts.new.queues.rooms) }
+    ensures same { SameButRoom parts.old parts.new }
+{
+    let home = home_of_code(code);
+    if usize::from(home) >= parts.links.len() {
+        return Ok(());
+    }
+    parts.queues.is_sound();
+    let back = parts.queues.count_at(Fate::Back { code });
+    parts.queues.reserve_at(Fate::Waiting { link: home }, back)
 }
 
 /// The order that the unit's body stands for, if it brings one.
@@ -88,20 +139,6 @@ fn order_in(unit: &Unit) -> Option<Order>
     match unit {
         Unit::Msu { body, .. } => read_order(body.as_slice()).ok(),
         _ => None,
-    }
-}
-
-/// The link that an order is about.
-fn link_of(order: &Order) -> u8
-    ensures { result ≡ link_in order.now }
-{
-    match order {
-        Order::Coo { link, .. }
-        | Order::Coa { link, .. }
-        | Order::Eco { link }
-        | Order::Eca { link }
-        | Order::Cbd { link, .. }
-        | Order::Cba { link, .. } => *link,
     }
 }
 

@@ -22,6 +22,7 @@
 //! takes it before it changes anything.
 #![tactic(auto)]
 
+mod changeback;
 mod changeover;
 mod contents;
 mod control;
@@ -32,6 +33,7 @@ mod parts;
 mod sending;
 mod settling;
 mod step;
+mod turning;
 
 pub use contents::Core;
 pub use fault::SetFault;

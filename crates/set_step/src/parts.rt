@@ -1,10 +1,12 @@
 //! What a set keeps, and what is common to all events: the target, room, and a new message.
-ghost use Rattle.std.specs.Prelude.{◌≡◌, ◌+◌, ◌<◌, ◌≤◌, ◌++◌, [], ◌∷◌, map, length, IfSome, OnOk, slice_get, slice_set, true, false};
+ghost use Rattle.std.specs.Prelude.{◌≡◌, ◌+◌, ◌*◌, ◌<◌, ◌≤◌, ◌++◌, [], ◌∷◌, map, length, IfSome, OnOk, slice_get, slice_set, true, false};
 ghost use Rattle.std.specs.Option.{option_map};
+ghost use Rattle.std.specs.Vec.{vec_len, vec_capacity};
 ghost use Rattle.set_queues.specs.Buffers.{IsKnown, IsQueued, TakesRoom, queue_at, room_at, with_queue};
 ghost use Rattle.set_queues.specs.Kind.{is_kind};
 ghost use Rattle.set_model.specs.Rows.{appended, stream_of as stream_in};
-ghost use Rattle.set_model.specs.State.{target, has_phase_up};
+ghost use Rattle.set_route.specs.Routing.{place_of};
+ghost use Rattle.set_model.specs.State.{State, fate_at, target, has_phase_up};
 ghost use Rattle.set_model.specs.Changeover.{fate_on};
 ghost use Rattle.set_step.specs.Agreement.{StandsFor, kind_of as kind_in};
 ghost use Rattle.set_step.specs.Parts.{IsWhole, Becomes, link_of, kept_of};
@@ -16,7 +18,7 @@ use l2_units::LONGEST_BODY;
 use set_events::{Body, Fate, SetConfig};
 use set_model::Phase;
 use set_queues::{Kind, Message, Queues};
-use set_route::Routes;
+use set_route::{Place, Routes};
 use std::alloc::AllocError;
 use std::collections::VecDeque;
 
@@ -107,7 +109,8 @@ pub(crate) fn make_room(parts: &mut Parts, fate: Fate) -> Result<(), AllocError>
 }
 
 /// Takes room for all that stand on the link where they go once it's out of service, and for so many
-/// orders. Nothing else changes, also where memory is refused.
+/// orders; and wherever what stands back for the link may turn. Nothing else changes, also where memory is
+/// refused.
 pub(crate) fn make_room_beside(
     parts: &mut Parts,
     number: u8,
@@ -119,9 +122,22 @@ pub(crate) fn make_room_beside(
     ensures same { SameButRoom parts.old parts.new }
 {
     let fate = fate_of(target_beside(&parts.links, number));
+    let back = parts.queues.back_count(number);
+    let Some(more) = with_turns(orders, back) else {
+        return Err(AllocError);
+    };
     parts.bodies.reserve(orders)?;
     parts.queues.reserve(orders)?;
-    parts.queues.reserve_all(fate, number, orders)
+    parts.queues.reserve_each(back)?;
+    parts.queues.reserve_all(fate, number, more)
+}
+
+/// So many orders, and twice what stands back, if that can be counted: what turns may go through two queues.
+fn with_turns(orders: usize, back: usize) -> Option<usize>
+    ensures { IfSome result (λ more. more ≡ orders + 2 * back) }
+{
+    let twice = back.checked_add(back)?;
+    twice.checked_add(orders)
 }
 
 /// Takes room in the link's queue for all that is parked. Nothing else changes, also where memory is
@@ -147,6 +163,9 @@ pub(crate) fn stand_last(parts: &mut Parts, body: Body, fate: Fate) -> u64
     ensures number { result ≡ length parts.old.queues.messages }
     ensures stands { Becomes parts.old parts.new (λ s. record s { rows = appended s.rows body fate }) }
     ensures rooms { TakesRoom fate 1 parts.old.queues.rooms parts.new.queues.rooms }
+    ensures message { parts.old.queues.room ≤ parts.new.queues.room + 1 }
+    ensures body { vec_len parts.new.bodies ≡ vec_len parts.old.bodies + 1 }
+    ensures bodies { vec_capacity parts.new.bodies ≡ vec_capacity parts.old.bodies }
     ensures lists { parts.new.queues.lists ≡ with_queue fate (queue_at fate parts.old.queues.lists
         ++ length parts.old.queues.messages ∷ []) parts.old.queues.lists }
     ensures links { parts.new.links ≡ parts.old.links }
@@ -182,5 +201,24 @@ pub(crate) fn stream_of(body: &Body) -> u8
     match body.octets().get(4) {
         Some(octet) => *octet / 16,
         None => 0,
+    }
+}
+
+/// Where a new message of this stream stands.
+pub(crate) fn fate_of_new(parts: &Parts, stream: u8) -> Fate
+    requires whole { IsWhole parts.now }
+    requires stream { stream < 16 }
+    ensures value { (s : State) → StandsFor (kept_of parts.now) s → result ≡ fate_at (place_of stream s.routing) s }
+    ensures known { IsKnown result parts.now.queues.lists }
+    ensures queued { IsQueued result }
+{
+    parts.queues.is_sound();
+    match parts.routes.place(stream) {
+        Place::On { link } if phase_of(&parts.links, link) == Some(Phase::Up) => {
+            Fate::Waiting { link }
+        }
+        Place::On { link } => Fate::Held { link },
+        Place::Changing { code, .. } => Fate::Back { code },
+        Place::Nowhere => Fate::Parked,
     }
 }

@@ -4,11 +4,11 @@ ghost use Rattle.std.specs.Vec.{vec_len, vec_capacity};
 ghost use Rattle.l3_orders.specs.Grammar.{IsOrder};
 ghost use Rattle.set_queues.specs.Buffers.{IsKnown, IsQueued, room_at};
 ghost use Rattle.set_queues.specs.Messages.{unsent_of};
-ghost use Rattle.set_route.specs.Routing.{place_of, accepted as accepted_by};
+ghost use Rattle.set_route.specs.Routing.{accepted as accepted_by};
 ghost use Rattle.set_model.specs.Changeover.{leaving_order as order_of_leaving, left_by, queued};
 ghost use Rattle.set_model.specs.Sound.{IsAsked};
 ghost use Rattle.set_model.specs.State.{State, LinkState};
-ghost use Rattle.set_model.specs.Step.{offer_refusal, offered as offered_with, fate_at, on_link, in_service, rises, falls, gives_up, taken as taken_of, found as found_of, stepped};
+ghost use Rattle.set_model.specs.Step.{offer_refusal, offered as offered_with, on_link, in_service, rises, falls, gives_up, taken as taken_of, found as found_of, stepped};
 ghost use Rattle.set_model.specs.Rows.{appended, place, stream_of as stream_in};
 ghost use Rattle.set_model.specs.declared.phase.Phase.TheVariants.{Up, Settled};
 ghost use Rattle.set_step.specs.Agreement.{Agrees, Holds, StandsFor};
@@ -17,12 +17,13 @@ ghost use Rattle.set_step.specs.Parts.{Answers, AreCounted, Becomes, IsWhole, At
 ghost use Rattle.set_step.specs.Refusing.{refusal_by, rising_refusal, waiting_refusal};
 ghost use Rattle.set_step.specs.Room.{HasRoom, IsReady, SameButRoom};
 
+use super::changeback::{restored, timed_out};
 use super::changeover::{leave, order_space, queue};
 use super::fault::SetFault;
 use super::hearing::heard;
 use super::link::Link;
 use super::parts::{
-    Parts, make_room, make_room_beside, make_room_parked, phase_of, stand_last, stream_of,
+    Parts, fate_of_new, make_room, make_room_beside, make_room_parked, stand_last, stream_of,
 };
 use super::sending::{next, out_of_service};
 use super::settling::settle;
@@ -31,7 +32,6 @@ use l3_orders::Order;
 use set_events::{Answer, Body, Event, Fate, Refusal};
 use set_model::{Phase, Reached};
 use set_queues::Queues;
-use set_route::Place;
 
 /// The answer to an event; on a fault nothing has changed.
 pub(crate) fn answered(parts: &mut Parts, event: &Event) -> Result<Answer, SetFault>
@@ -52,6 +52,8 @@ pub(crate) fn answered(parts: &mut Parts, event: &Event) -> Result<Answer, SetFa
         Event::Down { link } => left(parts, *link, false),
         Event::DownBlind { link } => left(parts, *link, true),
         Event::NoAnswer { link } => given_up(parts, *link),
+        Event::Restore { link } => restored(parts, *link),
+        Event::BackTimeout { link } => timed_out(parts, *link),
     }
 }
 
@@ -95,23 +97,6 @@ fn accept(parts: &mut Parts, body: Body, fate: Fate) -> u64
     let number = stand_last(parts, body, fate);
     parts.routes.accepted(stream);
     number
-}
-
-/// Where a new message of this stream stands.
-fn fate_of_new(parts: &Parts, stream: u8) -> Fate
-    requires holds { Holds (kept_of parts.now) }
-    requires stream { stream < 16 }
-    ensures value { (s : State) → StandsFor (kept_of parts.now) s → result ≡ fate_at (place_of stream s.routing) s }
-    ensures known { IsKnown result parts.now.queues.lists }
-    ensures queued { IsQueued result }
-{
-    match parts.routes.place(stream) {
-        Place::On { link } if phase_of(&parts.links, link) == Some(Phase::Up) => {
-            Fate::Waiting { link }
-        }
-        Place::On { link } => Fate::Held { link },
-        Place::Nowhere => Fate::Parked,
-    }
 }
 
 /// Why an offer is refused, if it is: the first reason in the order of the refusals.
@@ -208,12 +193,13 @@ fn left(parts: &mut Parts, number: u8, blind: bool) -> Result<Answer, SetFault>
 
 /// The link is left, and an order tells the far end.
 fn fall(parts: &mut Parts, number: u8, blind: bool, space: Vec<u8>)
-    requires whole { IsWhole parts.old }
+    requires holds { Holds (kept_of parts.old) }
     requires counted { AreCounted (2 ^ 60) parts.old.links.items }
     requires known { number < length parts.old.links.items }
+    requires up { AtLink number parts.old.links.items (λ link. link.phase ≡ Up) }
     requires space { (vec_len space ≡ 0) × (7 ≤ vec_capacity space) }
     requires room { IsReady number 1 parts.old }
-    ensures stands { (s : State) (link : LinkState) → slice_get s.links number ≡ Some link → StandsFor (kept_of parts.old) s
+    ensures stands { (s : State) (link : LinkState) → slice_get s.links number ≡ Some link → Agrees (kept_of parts.old) s
         → StandsFor (kept_of parts.new) (queued (order_of_leaving blind number link) (left_by blind number link s)) }
 {
     let order = leaving_order(&parts.links[usize::from(number)], number, blind);

@@ -1,8 +1,8 @@
-use Rattle.std.proofs.Common.{arith, ◌≡◌, ◌∙◌, ap, sym, [], ◌∷◌, ◌++◌, length, take, List, ℕ, Some, append_assoc}
+use Rattle.std.proofs.Common.{arith, ◌≡◌, ◌∙◌, ap, sym, subst, [], ◌∷◌, ◌++◌, length, take, List, ℕ, Some, append_assoc}
 use Rattle.std.specs.Prelude.{slice_get}
-use Rattle.set_queues.specs.Buffers.{Lists, queue_at, with_queue, same_fate}
+use Rattle.set_queues.specs.Buffers.{queue_at, with_queue, same_fate}
 use Rattle.set_queues.proofs.Standing.{take_get, none_past, append-nil, room_sum}
-use Rattle.set_queues.proofs.Passing.{queue_id, queue_more, queue_other, queued_stands, known_on, links_stay}
+use Rattle.set_queues.proofs.Passing.{queue_id, queue_more, queue_other, queued_stands, known_on, SameSize, size_stays}
 use Rattle.set_queues.proofs.moving.queue_too.Goals as goal
 
 pub loop-place-init : goal.loop-place-init
@@ -12,10 +12,10 @@ loop-place-init c = record {
 }
 
 pub at-requires : goal.at-requires
-at-requires c = known_on c.args.from c.args.buffers.now.lists c.loop-place.buffers.lists (ap (λ (q : Lists). length q.links) c.loop-place.invariant.lists ∙ links_stay c.args.to _ c.args.buffers.now.lists) c.requires.known
+at-requires c = known_on c.args.from c.args.buffers.now.lists c.loop-place.buffers.lists (subst (SameSize c.args.buffers.now.lists) (sym c.loop-place.invariant.lists) (size_stays c.args.to _ c.args.buffers.now.lists)) c.requires.known
 
 pub push-requires-clause-known : goal.push-requires-clause-known
-push-requires-clause-known c = known_on c.args.to c.args.buffers.now.lists c.loop-place.buffers.lists (ap (λ (q : Lists). length q.links) c.loop-place.invariant.lists ∙ links_stay c.args.to _ c.args.buffers.now.lists) c.requires.other
+push-requires-clause-known c = known_on c.args.to c.args.buffers.now.lists c.loop-place.buffers.lists (subst (SameSize c.args.buffers.now.lists) (sym c.loop-place.invariant.lists) (size_stays c.args.to _ c.args.buffers.now.lists)) c.requires.other
 
 pub unreachable-requires : goal.unreachable-requires
 unreachable-requires c =

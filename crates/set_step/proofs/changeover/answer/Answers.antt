@@ -1,6 +1,7 @@
 use Rattle.std.proofs.Common.{refl, ◌∙◌, ap, Some}
 use Rattle.set_model.specs.declared.phase.Phase.TheVariants.{Up, Down, Settled}
 use Rattle.set_step.proofs.Admitting.{phase_in, is_in, answered_at, unanswered}
+use Rattle.set_step.proofs.Leaving.{none_there}
 use Rattle.set_step.proofs.Rooms.{here_room}
 use Rattle.set_step.proofs.changeover.answer.Goals as goal
 
@@ -30,3 +31,6 @@ returns-in-Some-Settled c = record {
       let h = phase_in c.args.parts.now.links.items c.deref.result.now c.args.number Settled c.phase_of.result c.deref.ensures.value c.phase_of.ensures (c.in-Some-Settled.is ∙ ap Some c.in-Some-Settled.field-0-is) in
       unanswered c.args.parts.now s a c.args.number c.args.reached Settled h (λ e. absurd (cc));
 }
+
+pub returns-in-None : goal.returns-in-None
+returns-in-None c = record { stands = λ s a. none_there c.args.parts.now c.deref.result.now c.args.number c.phase_of.result s _ c.deref.ensures.value c.phase_of.ensures c.in-None.is a }

@@ -1,23 +1,35 @@
-use Rattle.std.proofs.Common.{refl, ◌∙◌, ap, subst, ℕ, false, map, slice_get}
+use Rattle.std.proofs.Common.{refl, arith, ◌∙◌, ap, subst, ℕ, false, length, map, slice_get}
 use Rattle.l3_orders.specs.declared.order.Order.TheVariants.{Coa}
-use Rattle.set_queues.specs.Settling.{on}
 use Rattle.set_model.specs.declared.phase.Phase.TheVariants.{Up, Down}
 use Rattle.set_model.specs.Changeover.{queued, left_by, left_link}
 use Rattle.set_model.specs.State.{last_accepted, target}
 use Rattle.set_model.proofs.Lists.{within, get_set_same}
-use Rattle.set_model.proofs.SoundLink.{leaves}
+use Rattle.set_model.proofs.SoundBack.{leaves}
 use Rattle.set_model.proofs.SoundNew.{queues}
 use Rattle.set_model.proofs.Walk.{IsAt}
 use Rattle.set_step.specs.Agreement.{StandsFor}
 use Rattle.set_step.specs.Parts.{link_of, kept_of}
 use Rattle.set_step.proofs.Links.{found, stands_for}
-use Rattle.set_step.proofs.Rooms.{has_room_left, beside_left, room_after, still_low, counted_set, is_out}
+use Rattle.set_step.proofs.Rooms.{whole_of, has_room_left, beside_left, room_after, still_low, counted_set, is_out}
 use Rattle.set_step.proofs.changeover.answer_and_settle.Goals as goal
+
+pub last_accepted-requires : goal.last_accepted-requires
+last_accepted-requires c = let few = (c.requires.counted c.args.number _ (found c.args.parts.now.links.items c.args.number c.from.result c.index.result.now c.from.ensures c.requires.known c.index.ensures)).accepted in omega (arith, few)
+
+pub settle-requires-clause-known : goal.settle-requires-clause-known
+settle-requires-clause-known c =
+    let left_by = c.leave.ensures.links c.index.result.now (found c.args.parts.now.links.items c.args.number c.from.result c.index.result.now c.from.ensures c.requires.known c.index.ensures) in
+    let low = still_low c.args.number c.args.parts.now.links.items c.leave.new.parts.links.items _ left_by c.requires.known in
+    let same = ap (λ ls. length ls.items) c.queue.ensures.links in
+    omega (arith, low, same)
+
+pub leave-requires-clause-room : goal.leave-requires-clause-room
+leave-requires-clause-room c = c.requires.room.each
 
 pub queue-requires-clause-room : goal.queue-requires-clause-room
 queue-requires-clause-room c =
     let left_by = c.leave.ensures.links c.index.result.now (found c.args.parts.now.links.items c.args.number c.from.result c.index.result.now c.from.ensures c.requires.known c.index.ensures) in
-    has_room_left c.args.number c.args.parts.now c.leave.new.parts c.requires.room c.leave.ensures.queues c.leave.ensures.bodies (beside_left c.args.parts.now.links.items c.leave.new.parts.links.items c.args.number _ left_by refl)
+    has_room_left c.args.number c.args.parts.now c.leave.new.parts c.requires.room c.leave.ensures.turns c.leave.ensures.bodies (beside_left c.args.parts.now.links.items c.leave.new.parts.links.items c.args.number _ left_by refl)
 
 pub settle-requires-clause-counted : goal.settle-requires-clause-counted
 settle-requires-clause-counted c =
@@ -39,10 +51,13 @@ settle-requires-clause-room c =
     let left_by = c.leave.ensures.links c.index.result.now at in
     let out = is_out c.leave.new.parts.links.items n _ Down (ap (λ ls. slice_get ls n) left_by ∙ get_set_same links n _ c.requires.known) refl refl in
     let low = still_low n links c.leave.new.parts.links.items _ left_by c.requires.known in
-    let elsewhere = c.queue.ensures.elsewhere n low out ∙ ap (λ q. on n q.lists) c.leave.ensures.queues in
+    let elsewhere = c.queue.ensures.elsewhere n low out in
     let same = ap (λ ls. target (map link_of ls.items)) c.queue.ensures.links in
     let beside = beside_left links c.leave.new.parts.links.items n _ left_by refl in
-    room_after n c.args.parts.now c.leave.new.parts c.queue.new.parts c.requires.room c.leave.ensures.queues beside same elsewhere c.queue.ensures.rooms
+    let whole = whole_of c.args.parts.now c.requires.holds in
+    let many = whole.as_many in
+    let known = c.requires.known in
+    room_after n c.args.parts.now c.leave.new.parts c.queue.new.parts (omega (arith, many, known)) c.requires.room c.leave.ensures.turns beside same elsewhere c.queue.ensures.rooms
 
 pub returns : goal.returns
 returns c = record {
@@ -52,7 +67,7 @@ returns c = record {
       let same = stands_for c.args.parts.now.links.items n c.from.result c.index.result.now c.from.ensures c.requires.known c.index.ensures s.links link a.stands.links there in
       let fsn = c.last_accepted.ensures.value ∙ ap last_accepted same in
       let mid = left_by false n link s in
-      let first = c.leave.ensures.stands s link there a.stands in
+      let first = c.leave.ensures.stands s link there a in
       let told = subst (λ (f : ℕ). StandsFor (kept_of c.queue.new.parts) (queued (Coa n f) mid)) fsn (c.queue.ensures.stands mid first) in
       let sound = queues (Coa n (last_accepted link)) mid (leaves false n link s at a.sound) in
       c.settle.ensures.stands (queued (Coa n (last_accepted link)) mid) (left_link false link) (get_set_same s.links n (left_link false link) (within s.links n link there)) refl (record { stands = told; sound = sound });

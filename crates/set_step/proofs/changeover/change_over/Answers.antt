@@ -2,7 +2,23 @@ use Rattle.std.proofs.Common.{refl, ◌∙◌, ap, Some}
 use Rattle.set_model.specs.declared.phase.Phase.TheVariants.{Up, Down, Settled}
 use Rattle.set_step.proofs.Admitting.{phase_in, is_in, ordered_at}
 use Rattle.set_step.proofs.Rooms.{here_room}
+use Rattle.set_step.proofs.Leaving.{up_at, none_there}
 use Rattle.set_step.proofs.changeover.change_over.Goals as goal
+
+pub returns-in-None : goal.returns-in-None
+returns-in-None c = record { stands = λ s a. none_there c.args.parts.now c.deref.result.now c.args.number c.phase_of.result s _ c.deref.ensures.value c.phase_of.ensures c.in-None.is a }
+
+pub answer_and_settle-requires-clause-known : goal.answer_and_settle-requires-clause-known
+answer_and_settle-requires-clause-known c = (phase_in c.args.parts.now.links.items c.deref.result.now c.args.number Up c.phase_of.result c.deref.ensures.value c.phase_of.ensures (c.in-Some-Up.is ∙ ap Some c.in-Some-Up.field-0-is)).known
+
+pub answer_and_settle-requires-clause-room : goal.answer_and_settle-requires-clause-room
+answer_and_settle-requires-clause-room c = c.requires.room (phase_in c.args.parts.now.links.items c.deref.result.now c.args.number Up c.phase_of.result c.deref.ensures.value c.phase_of.ensures (c.in-Some-Up.is ∙ ap Some c.in-Some-Up.field-0-is)).known
+
+pub settle-requires-clause-known : goal.settle-requires-clause-known
+settle-requires-clause-known c = (phase_in c.args.parts.now.links.items c.deref.result.now c.args.number Down c.phase_of.result c.deref.ensures.value c.phase_of.ensures (c.in-Some-Down.is ∙ ap Some c.in-Some-Down.field-0-is)).known
+
+pub answer_and_settle-requires-clause-up : goal.answer_and_settle-requires-clause-up
+answer_and_settle-requires-clause-up c = up_at c.args.parts.now.links.items c.args.number (phase_in c.args.parts.now.links.items c.deref.result.now c.args.number Up c.phase_of.result c.deref.ensures.value c.phase_of.ensures (c.in-Some-Up.is ∙ ap Some c.in-Some-Up.field-0-is))
 
 pub settle-requires-clause-room : goal.settle-requires-clause-room
 settle-requires-clause-room c =

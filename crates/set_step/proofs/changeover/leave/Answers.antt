@@ -1,32 +1,38 @@
-use Rattle.std.proofs.Common.{refl, arith, ◌∙◌, ap, sym, subst}
-use Rattle.set_model.specs.declared.phase.Phase.TheVariants.{Down}
-use Rattle.set_model.specs.Changeover.{left_by, left_link}
-use Rattle.set_model.proofs.Lists.{same_at, length_set}
-use Rattle.set_route.specs.Routing.{Routing, left as streams_left}
-use Rattle.set_step.specs.Agreement.{StandsFor}
-use Rattle.set_step.specs.Parts.{kept_of}
-use Rattle.set_step.proofs.Links.{found, link_set}
-use Rattle.set_step.proofs.States.{link_for, kept_is}
+use Rattle.std.proofs.Common.{arith, ◌∙◌, ap, sym, length, subst, ℕ}
+use Rattle.set_model.specs.Changeover.{out_of_service}
+use Rattle.set_queues.specs.Backs.{back_count}
+use Rattle.set_queues.specs.Queues.{QueuesState}
+use Rattle.set_queues.specs.Buffers.{HaveRoom}
+use Rattle.set_step.specs.Turning.{TakesTurns}
+use Rattle.set_step.proofs.Rooms.{whole_of}
+use Rattle.set_step.proofs.Leaving.{here_up, can_turn, turning_of, as_long}
 use Rattle.set_step.proofs.changeover.leave.Goals as goal
 
+pub take_out-requires-clause-whole : goal.take_out-requires-clause-whole
+take_out-requires-clause-whole c = whole_of c.args.parts.now c.requires.holds
+
+pub turn_back-requires-clause-known : goal.turn_back-requires-clause-known
+turn_back-requires-clause-known c =
+    let many = as_long c.args.parts.now c.take_out.new.parts c.args.number c.args.blind c.requires.known c.take_out.ensures.links in
+    let low = c.requires.known in
+    omega (arith, many, low)
+
+pub turn_back-requires-clause-turning : goal.turn_back-requires-clause-turning
+turn_back-requires-clause-turning c = can_turn c.args.blind c.args.number c.args.parts.now c.take_out.new.parts (here_up c.args.parts.now c.args.number c.requires.known c.requires.up) c.requires.holds c.take_out.ensures.stands
+
+pub turn_back-requires-clause-room : goal.turn_back-requires-clause-room
+turn_back-requires-clause-room c =
+    let many = as_long c.args.parts.now c.take_out.new.parts c.args.number c.args.blind c.requires.known c.take_out.ensures.links in
+    subst (λ (n : ℕ). HaveRoom n (back_count c.args.number c.take_out.new.parts.queues.lists) c.take_out.new.parts.queues.rooms) (sym many)
+    (subst (λ (q : QueuesState). HaveRoom (length c.args.parts.now.links.items) (back_count c.args.number q.lists) q.rooms) (sym c.take_out.ensures.queues) c.requires.room)
+
 pub returns-clause-stands : goal.returns-clause-stands
-returns-clause-stands c = λ s link there f.
-    let links = c.args.parts.now.links.items in
-    let n = c.args.number in
-    let x = c.index_mut-link.result.now in
-    let set = link_set links n c.from.result x c.from.ensures c.requires.known c.index_mut-link.ensures.value (record x { phase = Down; blind = c.args.blind }) s.links link (left_link c.args.blind link) f.links there (λ e. ap (left_link c.args.blind) e) in
-    subst (λ k. StandsFor k (left_by c.args.blind n link s)) (kept_is _ _ _ _ _ _ _ refl refl refl set (c.divert.ensures ∙ f.routing) refl)
-    (link_for (kept_of c.args.parts.now) s n link (left_link c.args.blind link) (streams_left n s.routing) f there refl)
+returns-clause-stands c = λ s link there a.
+    let mid = out_of_service c.args.blind c.args.number link s in
+    c.turn_back.ensures.stands mid (c.take_out.ensures.stands s link there a.stands) (turning_of c.args.blind c.args.number c.args.parts.now link s (here_up c.args.parts.now c.args.number c.requires.known c.requires.up) there a)
 
 pub returns-clause-links : goal.returns-clause-links
-returns-clause-links c = λ link there.
-    let links = c.args.parts.now.links.items in
-    let x = c.index_mut-link.result.now in
-    rw (c.from.ensures, same_at links c.args.number x link (found links c.args.number c.from.result x c.from.ensures c.requires.known c.index_mut-link.ensures.value) there) refl
+returns-clause-links c = λ link there. ap (λ ls. ls.items) c.turn_back.ensures.links ∙ c.take_out.ensures.links link there
 
-pub returns-clause-whole : goal.returns-clause-whole
-returns-clause-whole c = record {
-  as_many = c.requires.whole.as_many ∙ sym (length_set c.args.parts.now.links.items c.from.result _);
-  routed = ap (λ (r : Routing). r.links) c.divert.ensures ∙ c.requires.whole.routed ∙ sym (length_set c.args.parts.now.links.items c.from.result _);
-  few = let many = length_set c.args.parts.now.links.items c.from.result (record c.index_mut-link.result.now { phase = Down; blind = c.args.blind }) in let few = c.requires.whole.few in omega (arith, many, few);
-}
+pub returns-clause-turns : goal.returns-clause-turns
+returns-clause-turns c = subst (λ (q : QueuesState). TakesTurns (back_count c.args.number q.lists) q c.turn_back.new.parts.queues) c.take_out.ensures.queues c.turn_back.ensures.turns

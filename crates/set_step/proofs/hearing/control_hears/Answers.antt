@@ -2,7 +2,7 @@ use Rattle.std.proofs.Common.{refl, arith, ◌≡◌, ◌∙◌, ap, sym, subst,
 use Rattle.std.proofs.lemmas.Bool.Decides.{nat_tests}
 use Rattle.l2_units.specs.declared.unit.Header.{Header}
 use Rattle.l2_units.specs.Grammar.{head_of}
-use Rattle.set_events.specs.declared.answer.Fate.TheVariants.{Unacked, Acked}
+use Rattle.set_events.specs.declared.answer.Fate.TheVariants.{Unacked, Acked, Back}
 use Rattle.set_queues.specs.Buffers.{queue_at}
 use Rattle.set_queues.specs.Messages.{restood}
 use Rattle.set_queues.specs.Sending.{acknowledged as acked_lists, reach}
@@ -137,6 +137,7 @@ returns-in-Ok-clause-keeps c =
       fewer = λ k. on_less k q c.acknowledge.new.self.lists (subst (NoLonger q) (sym c.in-Ok.ensures.lists) (acked_less n c.header_in-head.result.bsn q known));
       phases = set_view c.args.parts.now.links.items n c.from.result c.index_mut-link.result.now c.from.ensures c.requires.known c.index_mut-link.ensures.value (λ (l : Link). l.phase) _ refl;
       inbox = refl;
+      backs = λ code. ap (queue_at (Back code)) c.in-Ok.ensures.lists;
     }
 
 pub returns-else-part-gt0-clause-keeps : goal.returns-else-part-gt0-clause-keeps
@@ -147,4 +148,5 @@ returns-else-part-gt0-clause-keeps c = record {
   fewer = λ k. omega arith;
   phases = set_view c.args.parts.now.links.items c.args.number c.from.result c.index_mut-link.result.now c.from.ensures c.requires.known c.index_mut-link.ensures.value (λ (l : Link). l.phase) _ refl;
   inbox = refl;
+  backs = λ code. refl;
 }

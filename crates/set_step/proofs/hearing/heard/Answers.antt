@@ -2,7 +2,8 @@ use Rattle.std.proofs.Common.{refl, ◌≡◌, ◌∙◌, ap, sym, subst, ℕ, s
 use Rattle.l2_units.specs.declared.unit.Unit.{Unit as SignalUnit}
 use Rattle.l2_units.specs.Grammar.{head_of as header_in}
 use Rattle.l2_window.specs.declared.control.HeardPart.{HeardPart}
-use Rattle.set_events.specs.declared.answer.Answer.TheVariants.{Heard as HeardBack}
+use Rattle.set_events.specs.declared.answer.Answer.TheVariants.{Heard as HeardBack, Refused}
+use Rattle.set_events.specs.declared.answer.Refusal.TheVariants.{Nothing}
 use Rattle.set_model.specs.declared.phase.Phase.TheVariants.{Up}
 use Rattle.set_model.specs.Control.{part_of}
 use Rattle.set_model.specs.State.{State, window_of}
@@ -10,9 +11,9 @@ use Rattle.set_model.specs.Step.{Outcome, heard as heard_of, after_control, is_m
 use Rattle.set_step.specs.declared.parts.Parts.{Parts}
 use Rattle.set_step.specs.Agreement.{StandsFor, Agrees}
 use Rattle.set_step.specs.Hearing.{order_brought}
-use Rattle.set_step.specs.Parts.{Gives, kept_of}
+use Rattle.set_step.specs.Parts.{Gives, AreCounted, kept_of}
 use Rattle.set_step.specs.Refusing.{service_refusal}
-use Rattle.set_step.proofs.Admitting.{IsHere, IsIn, serves, is_in, served}
+use Rattle.set_step.proofs.Admitting.{IsHere, IsIn, serves, unserved, is_in, served}
 use Rattle.set_step.proofs.Told.{heard_gives, heard_controls, heard_sound, spacious_still}
 use Rattle.set_step.proofs.hearing.heard.Goals as goal
 
@@ -60,3 +61,25 @@ returns c = record {
   fault = tt;
   none = λ e. refl;
 }
+
+pub returns-in-Some-clause-ok : goal.returns-in-Some-clause-ok
+returns-in-Some-clause-ok c = λ s a. unserved c.args.parts.now s a c.args.number c.in-Some.why (heard_of c.args.unit.now c.args.number s) (ap (λ links. service_refusal (slice_get links c.args.number)) (sym c.deref.ensures.value) ∙ sym c.out_of_service.ensures ∙ c.in-Some.is)
+
+pub returns-in-Lssu-clause-ok : goal.returns-in-Lssu-clause-ok
+returns-in-Lssu-clause-ok c = λ s a.
+    let n = c.args.number in
+    let h = serves c.args.parts.now.links.items n (ap (λ links. service_refusal (slice_get links n)) (sym c.deref.ensures.value) ∙ sym c.out_of_service.ensures ∙ c.in_default.is) in
+    let i = is_in c.args.parts.now s n Up a h in
+    served s n (heard_of c.args.unit.now n s) (Refused Nothing) c.args.parts.now i
+    (subst (λ (u : SignalUnit). Gives (heard_of u n s i.link) (Refused Nothing) c.args.parts.now) (sym c.in-Lssu.is) (record { answer_is = refl; stands = a.stands }))
+
+pub control_hears-part-requires : goal.control_hears-part-requires
+control_hears-part-requires c =
+    let n = c.args.number in
+    let h = serves c.args.parts.now.links.items n (ap (λ links. service_refusal (slice_get links n)) (sym c.deref.ensures.value) ∙ sym c.out_of_service.ensures ∙ c.in_default.is) in
+    let same = ap (λ ls. ls.items) c.in_ok-space.ensures.links in
+    record {
+      holds = (c.requires.holds.0, subst (λ k. Agrees k c.requires.holds.0) (sym c.in_ok-space.ensures.same) c.requires.holds.1);
+      counted = subst (AreCounted 1152921504606846976) (sym same) c.requires.counted;
+      known = (subst (λ links. IsHere links n Up) (sym same) h).known;
+    }

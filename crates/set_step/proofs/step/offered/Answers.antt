@@ -5,15 +5,19 @@ use Rattle.set_events.specs.declared.answer.Refusal.{Refusal as SetRefusal}
 use Rattle.set_queues.specs.Messages.{unsent_of}
 use Rattle.set_route.specs.Routing.{place_of, accepted}
 use Rattle.set_model.specs.Rows.{appended, stream_of}
-use Rattle.set_model.specs.State.{State}
-use Rattle.set_model.specs.Step.{offered, offer_refusal, fate_at}
+use Rattle.set_model.specs.State.{State, fate_at}
+use Rattle.set_model.specs.Step.{offered, offer_refusal}
 use Rattle.set_step.specs.declared.parts.Parts.{Parts}
 use Rattle.set_step.specs.Agreement.{Kept, StandsFor, Agrees}
 use Rattle.set_step.specs.Refusing.{refusal_by}
 use Rattle.set_step.specs.Parts.{Gives, kept_of}
 use Rattle.set_step.proofs.Admitting.{agrees_same}
 use Rattle.set_step.proofs.Counting.{unsent_is}
+use Rattle.set_step.proofs.Rooms.{whole_of}
 use Rattle.set_step.proofs.step.offered.Goals as goal
+
+pub fate_of_new-fate-requires-clause-whole : goal.fate_of_new-fate-requires-clause-whole
+fate_of_new-fate-requires-clause-whole c = whole_of c.args.parts.now c.requires.holds
 
 same_refusal : (k : Kept) (s : State) (body : List ℕ) → StandsFor k s → refusal_by (unsent_of (stream_of body) k.messages) body ≡ offer_refusal s.rows body
 same_refusal k s body f = ap (λ n. refusal_by n body) (unsent_is (stream_of body) k.lists k.messages s.rows f.stands)

@@ -1,9 +1,9 @@
-use Rattle.std.proofs.Common.{arith, refl, ◌++◌, [], ◌∷◌, List, ap, sym, map, drop, ◌∙◌}
+use Rattle.std.proofs.Common.{arith, refl, ◌++◌, [], ◌∷◌, ap, sym, map, drop, ◌∙◌}
 use Rattle.std.specs.Prelude.{slice_get}
 use Rattle.set_queues.specs.Buffers.{LinkLists, list_in}
 use Rattle.set_queues.specs.Kept.{lists_of}
 use Rattle.set_queues.proofs.Updates.{updated_twice}
-use Rattle.set_queues.proofs.Linked.{found, lists_set, list_there, last_there, keeps}
+use Rattle.set_queues.proofs.Linked.{links_in, found, lists_set, list_there, last_there, keeps}
 use Rattle.set_queues.proofs.buffers.Buffers.send.Goals as goal
 
 pub returns-clause-sent : goal.returns-clause-sent
@@ -12,7 +12,7 @@ returns-clause-sent c =
     let sent = c.in_ok-sent.ensures.sent in
     record {
       first = rw (← c.self.view_is, list_there (λ (z : LinkLists). z.unsent) _ _ _ there, sent.unsent) refl;
-      lists = rw (c.from.ensures, ← c.self.view_is) (ap (λ (ls : List LinkLists). record { links = ls; parked = c.self.inside.parked.messages }) (
+      lists = rw (c.from.ensures, ← c.self.view_is) (ap (links_in c.self.inside) (
           lists_set (λ (z : LinkLists). record z {
             unacked = list_in (λ (w : LinkLists). w.unacked) (slice_get (map lists_of c.self.inside.links.items) c.args.link) ++ c.in_ok-sent.sent.0 ∷ [];
             unsent = drop 1 (list_in (λ (w : LinkLists). w.unsent) (slice_get (map lists_of c.self.inside.links.items) c.args.link));
@@ -29,4 +29,4 @@ returns-clause-fsn c =
 pub returns-clause-room : goal.returns-clause-room
 returns-clause-room c =
     let there = found c.self.inside _ _ _ _ c.self.view_is c.requires c.from.ensures c.index_mut.ensures.value in
-    rw (c.from.ensures, ← c.self.view_is) (keeps _ _ _ _ _ there c.in_ok-sent.ensures.sent.room (omega arith))
+    rw (c.from.ensures, ← c.self.view_is) (keeps _ _ _ _ _ _ there c.in_ok-sent.ensures.sent.room (omega arith))

@@ -5,7 +5,7 @@ use Rattle.set_queues.specs.Buffers.{queue_at}
 use Rattle.set_queues.specs.Messages.{octets_of, restood}
 use Rattle.set_queues.specs.Queues.{AreSound}
 use Rattle.set_queues.specs.Sending.{acknowledged, reach}
-use Rattle.set_queues.proofs.Soundness.{sound_acked, acked_links, acked_unacked, given_all}
+use Rattle.set_queues.proofs.Soundness.{sound_acked, acked_size, acked_unacked, given_all}
 use Rattle.set_queues.proofs.Weighing.{octets-split, weighed_changed, at_link}
 use Rattle.set_queues.proofs.queues.Queues.acknowledge.Goals as goal
 
@@ -30,7 +30,7 @@ invariant_of-self c =
       weighed = rw (c.in-Ok.ensures.ok, c.restand_first.ensures.messages, c.from.ensures)
           (weighed_changed c.self.inside.octets c.weigh_less.new.octets c.self.inside.buffers.lists (acknowledged c.args.link c.args.fsn c.self.inside.buffers.lists) c.self.inside.messages.messages (take c.in-Some.count (queue_at (Unacked c.args.link) c.self.inside.buffers.lists))
           c.args.link (slice_index c.self.inside.octets c.args.link - c.weigh-octets.result) (drop (reach c.args.link c.args.fsn c.self.inside.buffers.lists) (queue_at (Unacked c.args.link) c.self.inside.buffers.lists)) (Acked c.args.link)
-          c.self.invariant.weighed (acked_links c.self.inside.buffers.lists c.args.link c.args.fsn) c.self.invariant.sound.few
+          c.self.invariant.weighed (acked_size c.self.inside.buffers.lists c.args.link c.args.fsn).links c.self.invariant.sound.few
           (λ l. acked_unacked c.self.inside.buffers.lists c.args.link c.args.fsn l known)
           (λ l h. c.weigh_less.ensures l h ∙ at_link (λ (k : ℕ). k - c.weigh-octets.result) c.self.inside.octets c.args.link l)
           (omega (arith, weight, c.self.invariant.weighed c.args.link known, octets-split (reach c.args.link c.args.fsn c.self.inside.buffers.lists) (queue_at (Unacked c.args.link) c.self.inside.buffers.lists) c.self.inside.messages.messages)));

@@ -4,7 +4,7 @@ use Rattle.std.specs.Prelude.{slice_index, slice_get}
 use Rattle.set_events.specs.declared.answer.Fate.TheVariants.{Unacked}
 use Rattle.set_queues.specs.Buffers.{queue_at}
 use Rattle.set_queues.specs.Sending.{first_sent}
-use Rattle.set_queues.proofs.Soundness.{sound_sent, sent_links, sent_unacked, given_first}
+use Rattle.set_queues.proofs.Soundness.{sound_sent, sent_size, sent_unacked, given_first}
 use Rattle.set_queues.proofs.Weighing.{octets_few, octets-append, weighed_changed, at_link}
 use Rattle.set_queues.proofs.queues.Queues.send.Goals as goal
 
@@ -36,7 +36,7 @@ invariant_of-self-2 c =
       weighed = rw (c.in_ok-number.ensures.sent.lists, c.restand-octets.ensures.messages)
           (weighed_changed c.self.inside.octets c.weigh_more.new.octets c.self.inside.buffers.lists (first_sent c.args.link c.in_ok-number.number c.self.inside.buffers.lists) c.self.inside.messages.messages (c.in_ok-number.number ∷ [])
           c.args.link (slice_index c.self.inside.octets c.args.link + c.restand-octets.result) (queue_at (Unacked c.args.link) c.self.inside.buffers.lists ++ c.in_ok-number.number ∷ []) (Unacked c.args.link)
-          c.self.invariant.weighed (sent_links c.self.inside.buffers.lists c.args.link c.in_ok-number.number) c.self.invariant.sound.few
+          c.self.invariant.weighed (sent_size c.self.inside.buffers.lists c.args.link c.in_ok-number.number).links c.self.invariant.sound.few
           (λ l. sent_unacked c.self.inside.buffers.lists c.args.link c.in_ok-number.number l known)
           (λ l h. c.weigh_more.ensures l h ∙ at_link (λ (k : ℕ). k + c.restand-octets.result) c.self.inside.octets c.args.link l)
           (omega (arith, octets-append (queue_at (Unacked c.args.link) c.self.inside.buffers.lists) (c.in_ok-number.number ∷ []) c.self.inside.messages.messages, c.self.invariant.weighed c.args.link known, c.restand-octets.ensures.octets)));

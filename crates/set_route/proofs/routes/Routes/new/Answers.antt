@@ -1,5 +1,6 @@
 use Rattle.std.proofs.Common.{List, ap}
 use Rattle.set_route.specs.declared.stream.Stream.{Stream}
+use Rattle.set_route.specs.Routing.{new_routing}
 use Rattle.set_route.proofs.Places.{first_more, new_is, new_kept}
 use Rattle.set_route.proofs.routes.Routes.new.Goals as goal
 
@@ -11,4 +12,4 @@ invariant_of-result c = new_kept c.args.links c.loop-number.number c.loop-number
 
 pub returns : goal.returns
 returns c =
-    ap (λ (xs : List Stream). record { links = c.args.links; streams = xs }) (new_is c.args.links c.loop-number.number c.loop-number.stream-items c.loop-number-test.false c.loop-number.invariant)
+    ap (λ (xs : List Stream). record (new_routing c.args.links) { streams = xs }) (new_is c.args.links c.loop-number.number c.loop-number.stream-items c.loop-number-test.false c.loop-number.invariant)

@@ -5,8 +5,8 @@ use Rattle.set_route.proofs.routes.Routes.settle.Goals as goal
 
 pub loop-stream-preserved : goal.loop-stream-preserved
 loop-stream-preserved c =
-    one_more (stream_settled c.args.link c.args.target) c.self.inside.streams c.loop-stream.stream-items c.loop-stream.stream-index _ _ (sixteen (record { links = c.self.inside.links; streams = c.self.inside.streams }) c.self.invariant) c.loop-stream-test.true c.loop-stream.invariant c.settle.ensures
+    one_more (stream_settled c.args.link c.args.target) c.self.inside.streams c.loop-stream.stream-items c.loop-stream.stream-index _ _ (sixteen (record { links = c.self.inside.links; streams = c.self.inside.streams; codes = c.self.inside.codes }) c.self.invariant) c.loop-stream-test.true c.loop-stream.invariant c.settle.ensures
 
 pub invariant_of-self : goal.invariant_of-self
 invariant_of-self c =
-    settled_kept c.self.inside.links c.args.self.now.links c.args.link c.args.target c.self.inside.streams c.loop-stream.stream-items c.loop-stream.stream-index c.self.invariant c.requires.target (ap (λ (r : Routing). r.links) c.self.view_is) c.loop-stream-test.false c.loop-stream.invariant
+    settled_kept c.args.self.now.links c.args.link c.args.target (record { links = c.self.inside.links; streams = c.self.inside.streams; codes = c.self.inside.codes }) c.loop-stream.stream-items c.loop-stream.stream-index c.self.invariant c.requires.target (ap (λ (r : Routing). r.links) c.self.view_is) c.loop-stream-test.false c.loop-stream.invariant

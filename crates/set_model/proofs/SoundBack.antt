@@ -1,0 +1,438 @@
+-- WHAT HOLDS OF EVERY STATE is kept when a link is left, and by a changeback.
+use Rattle.std.proofs.Common.{refl, arith, ◌≡◌, ◌≢◌, ◌∙◌, ap, sym, subst, ◌<◌, ℕ, ◌+◌, ◌*◌, ◌%◌, ◌==◌, Bool, true, false, not, ◌&&◌, List, [], ◌++◌, slice_get, Option, None, Some, if◌then◌else◌, map}
+use Rattle.std.proofs.lemmas.Bool.{eqb-true}
+use Rattle.std.proofs.lemmas.List.{length-set, append-nil}
+use Rattle.l3_orders.specs.declared.order.Order.TheVariants.{Cbd}
+use Rattle.l3_orders.specs.Grammar.{text}
+use Rattle.set_events.specs.declared.answer.Fate.{Fate}
+use Rattle.set_events.specs.declared.answer.Fate.TheVariants.{Waiting, Unacked, Acked, Held, Parked, Back, Discarded}
+use Rattle.set_route.specs.declared.place.Place.{Place}
+use Rattle.set_route.specs.declared.place.Place.TheVariants.{On, Changing, Nowhere}
+use Rattle.set_route.specs.declared.place.Code.{Code}
+use Rattle.set_route.specs.declared.place.Code.TheVariants.{Free, Asked, Spent}
+use Rattle.set_route.specs.Routing.{Routing, IsRouting, code_for, home_of, code_of, place_of, place_left, code_left, runs_on, can_ask, asked, place_back, given_back}
+use Rattle.set_route.proofs.Alone.{alone, codes_alone}
+use Rattle.set_route.proofs.Places.{left_sound, asked_sound, back_sound}
+use Rattle.set_model.specs.declared.phase.Phase.TheVariants.{Up}
+use Rattle.set_model.specs.Rows.{Row, standing, is_waiting, is_unacked, is_held, is_on, is_back, is_back_to, stands_back, is_parked, stream_of, unack, held, on, back, parked, numbers, moved, all_with, fated, IsHeldLast}
+use Rattle.set_model.specs.State.{LinkState, State, is_up, link_is_up, has_phase_up, has_phase_settled, fate_at}
+use Rattle.set_model.specs.Changeover.{left_link, out_of_service, left_by, can_declare, declared, released}
+use Rattle.set_model.specs.Sound.{IsSoundLink, IsPlaced, IsAscending, IsBackOf, AreBack, IsSound}
+use Rattle.set_model.proofs.Backs.{coded_at, stood, backs_kept}
+use Rattle.set_model.proofs.Events.{Released, released as released_rows, untouched_self}
+use Rattle.set_model.proofs.Filters.{fated_none}
+use Rattle.set_model.proofs.Finding.{numbered_appended, fit_appended}
+use Rattle.set_model.proofs.Lists.{get_set_other, same_at, within}
+use Rattle.set_model.proofs.Moving.{moved_numbered, moved_fit, moved_same, moved_more, moved_off, moved_nothing}
+use Rattle.set_model.proofs.Order.{order_moved, last_none, last_moved}
+use Rattle.set_model.proofs.Places.{false_true, itself, apart, not_on_unacked, not_on_held, back_not_on, back_not_parked, home_back}
+use Rattle.set_model.proofs.Ranging.{offered_out}
+use Rattle.set_model.proofs.SoundLink.{up_unsettled, link_untouched, links_set, placed_set, up_before}
+use Rattle.set_model.proofs.SoundNew.{link_appended, none_parked, order_fits, backs_appended, back_appended}
+use Rattle.set_model.proofs.Standing.{each_moved, gone_none, none_standing, ascends_filter}
+use Rattle.set_model.proofs.Walk.{IsAt}
+
+-- a code in use is below 256
+in_use_below : (r : Routing) → IsRouting r → (code : ℕ) → code_of code r ≡ Asked → code < 256
+in_use_below r sound code e =
+    let home : home_of code < r.links = sound.known code (λ f. let no : Asked ≡ Free = sym e ∙ f in cc) in
+    let few = sound.at_most_16 in
+    omega (arith, home, few)
+
+up_link : (n : ℕ) (s : State) → is_up n s ≡ true → (link : LinkState) × (slice_get s.links n ≡ Some link) × (has_phase_up link.phase ≡ true)
+up_link n s e = go (slice_get s.links n) refl
+  where
+    go : (o : Option LinkState) → slice_get s.links n ≡ o → (link : LinkState) × (slice_get s.links n ≡ Some link) × (has_phase_up link.phase ≡ true)
+    go None f = let no : true ≡ false = sym e ∙ ap link_is_up f in absurd cc
+    go (Some link) f = (link, f, ap link_is_up (sym f) ∙ e)
+
+-- where a message goes whose stream runs on a link: to wait for it if it's up, else to be held for it
+module _ (s : State) where
+  on_either : (other : Fate → Bool) (via : ℕ) → other (Waiting via) ≡ false → other (Held via) ≡ false → other (fate_at (On via) s) ≡ false
+  on_either other via a b = go (is_up via s) refl
+    where
+      go : (c : Bool) → is_up via s ≡ c → other (fate_at (On via) s) ≡ false
+      go true e = rw e a
+      go false e = rw e b
+
+  pub up_not_held : (k : ℕ) → is_up k s ≡ true → (p : Place) → is_held k (fate_at p s) ≡ false
+  up_not_held k up Nowhere = refl
+  up_not_held k up (Changing to code via) = refl
+  up_not_held k up (On l) = go (is_up l s) refl
+    where
+      go : (c : Bool) → is_up l s ≡ c → is_held k (fate_at (On l) s) ≡ false
+      go true e = rw e refl
+      go false e = rw e (apart l k (λ same. false_true (is_up l s) e (ap (λ (j : ℕ). is_up j s) same ∙ up)))
+
+  pub down_not_waiting : (k : ℕ) → is_up k s ≡ false → (p : Place) → is_waiting k (fate_at p s) ≡ false
+  down_not_waiting k down Nowhere = refl
+  down_not_waiting k down (Changing to code via) = refl
+  down_not_waiting k down (On l) = go (is_up l s) refl
+    where
+      go : (c : Bool) → is_up l s ≡ c → is_waiting k (fate_at (On l) s) ≡ false
+      go true e = rw e (apart l k (λ same. false_true (is_up k s) down (ap (λ (j : ℕ). is_up j s) (sym same) ∙ e)))
+      go false e = rw e refl
+
+  not_back_of : (r : Routing) (x : Row) (via : ℕ) → IsBackOf r x (fate_at (On via) s)
+  not_back_of r x via = go (is_up via s) refl
+    where
+      go : (c : Bool) → is_up via s ≡ c → IsBackOf r x (fate_at (On via) s)
+      go true e = rw e tt
+      go false e = rw e tt
+
+-- A LINK IS LEFT, and what stood back for it turns back.
+module _ (blind : Bool) (n : ℕ) (link : LinkState) (s : State) (at : IsAt n link Up s) (t : IsSound s) where
+  abbrev mid : State
+  mid = out_of_service blind n link s
+
+  abbrev fate : Row → Fate
+  fate row = fate_at (place_of (stream_of row.body) mid.routing) mid
+
+  abbrev new : List Row
+  new = moved (is_back_to n) fate s.rows
+
+  -- its stream runs on the link that it came from
+  pub goes : (x : Row) → is_back_to n x.fate ≡ true → IsBackOf s.routing x x.fate → (via : ℕ) × (place_of (stream_of x.body) mid.routing ≡ On via) × IsPlaced mid.links (On via)
+  goes x e b = go x.fate e b
+    where
+      go : (f : Fate) → is_back_to n f ≡ true → IsBackOf s.routing x f → (via : ℕ) × (place_of (stream_of x.body) mid.routing ≡ On via) × IsPlaced mid.links (On via)
+      go (Back c) e b =
+          let from : IsPlaced s.links (Changing (home_of c) c b.2) = subst (IsPlaced s.links) b.3 (t.placed (stream_of x.body) b.1) in
+          let back : place_left n (Changing (home_of c) c b.2) ≡ On b.2 = rw e refl in
+          (b.2, (alone s.routing (stream_of x.body) t.routing b.1).left_place n ∙ ap (place_left n) b.3 ∙ back, placed_set s.links n link (left_link blind link) (On b.2) at.there refl from)
+      go (Waiting l) e b = absurd cc
+      go (Unacked l) e b = absurd cc
+      go (Acked l) e b = absurd cc
+      go (Held l) e b = absurd cc
+      go Parked e b = absurd cc
+      go (Discarded cause) e b = absurd cc
+
+  gone : (other : Fate → Bool) → ((via : ℕ) → IsPlaced mid.links (On via) → other (fate_at (On via) mid) ≡ false) → standing other (map (fated fate) (standing (is_back_to n) s.rows)) ≡ []
+  gone other h = gone_none (is_back_to n) fate (λ row. IsBackOf s.routing row row.fate) other (λ x e b. let g = goes x e b in ap (λ (p : Place). other (fate_at p mid)) g.1 ∙ h g.0 g.2) s.rows t.backs
+
+  mid_links : (k : ℕ) (other : LinkState) → slice_get mid.links k ≡ Some other → IsSoundLink s.settings.method k other s.rows
+  mid_links =
+      let l = t.links n link at.there in
+      links_set s.settings.method s.links n (left_link blind link) s.rows s.rows
+      (record { window = l.window; counted = l.counted; method = l.method; in_order = l.in_order; held_last = l.held_last; none_held = λ e. absurd cc; in_range = λ e. absurd cc; settled = λ e. absurd cc })
+      (λ k d. untouched_self k s.rows) t.links
+
+  off : (k : ℕ) (f : Fate) → is_back_to n f ≡ true → is_on k f ≡ false
+  off k f e = back_not_on k f (home_back n f e)
+
+  left_link_sound : (k : ℕ) (other : LinkState) → slice_get mid.links k ≡ Some other → IsSoundLink s.settings.method k other new
+  left_link_sound k other there =
+      let l = mid_links k other there in
+      record {
+        window = rw unack_same l.window;
+        counted = l.counted;
+        method = l.method;
+        in_order = order_moved k (is_back_to n) fate s.rows (λ x. offered_out k _ mid) l.in_order;
+        held_last = last (has_phase_up other.phase) refl;
+        none_held = λ e. held_same e ∙ l.none_held e;
+        in_range = λ e. rw unack_same (l.in_range e);
+        settled = λ e. on_same e ∙ l.settled e;
+      }
+    where
+      unack_same : unack k new ≡ unack k s.rows
+      unack_same = moved_same (is_back_to n) (is_unacked k) fate s.rows (λ x. offered_out k _ mid) (λ f e. not_on_unacked k f (off k f e))
+
+      held_same : has_phase_up other.phase ≡ true → held k new ≡ held k s.rows
+      held_same e = moved_same (is_back_to n) (is_held k) fate s.rows (λ x. up_not_held mid k (ap link_is_up there ∙ e) _) (λ f g. not_on_held k f (off k f g))
+
+      last : (b : Bool) → has_phase_up other.phase ≡ b → IsHeldLast k new
+      last true e = last_none k new (held_same e ∙ (mid_links k other there).none_held e)
+      last false e = last_moved k (is_back_to n) fate s.rows (λ x. offered_out k _ mid) (λ x. down_not_waiting mid k (ap link_is_up there ∙ e) _) (mid_links k other there).held_last
+
+      away : has_phase_settled other.phase ≡ true → (via : ℕ) → IsPlaced mid.links (On via) → is_on k (fate_at (On via) mid) ≡ false
+      away e via p =
+          let d : (via == k) ≡ false = apart via k (λ same. let it : other ≡ p.0 = same_at mid.links k p.0 other (ap (slice_get mid.links) (sym same) ∙ p.1) there in false_true (has_phase_settled p.0.phase) p.2 (ap (λ (l : LinkState). has_phase_settled l.phase) (sym it) ∙ e)) in
+          on_either mid (is_on k) via d d
+
+      on_same : has_phase_settled other.phase ≡ true → on k new ≡ on k s.rows
+      on_same e = moved_more (is_back_to n) (is_on k) fate s.rows (off k) ∙ ap (λ (xs : List Row). on k s.rows ++ xs) (gone (is_on k) (away e)) ∙ append-nil (on k s.rows)
+
+  left_parked : parked new ≡ parked s.rows
+  left_parked =
+      moved_more (is_back_to n) is_parked fate s.rows (λ f e. back_not_parked f (home_back n f e))
+      ∙ ap (λ (xs : List Row). parked s.rows ++ xs) (gone is_parked (λ via p. on_either mid is_parked via refl refl))
+      ∙ append-nil (parked s.rows)
+
+  left_placed : (place : Place) → IsPlaced s.links place → IsPlaced mid.links (place_left n place)
+  left_placed Nowhere p = tt
+  left_placed (On l) p = placed_set s.links n link (left_link blind link) (On l) at.there refl p
+  left_placed (Changing to code via) p = go (to == n) refl
+    where
+      go : (b : Bool) → (to == n) ≡ b → IsPlaced mid.links (place_left n (Changing to code via))
+      go true e = rw e (placed_set s.links n link (left_link blind link) (On via) at.there refl p)
+      go false e = rw e (placed_set s.links n link (left_link blind link) (On via) at.there refl p)
+
+  left_runs : (place : Place) → place ≢ Nowhere → place_left n place ≢ Nowhere
+  left_runs Nowhere d e = d refl
+  left_runs (On l) d e = absurd cc
+  left_runs (Changing to code via) d e = go (to == n) refl e
+    where
+      go : (b : Bool) → (to == n) ≡ b → place_left n (Changing to code via) ≡ Nowhere → ⊥
+      go true f e = let no : On via ≡ Nowhere = rw f at e in cc
+      go false f e = let no : Changing to code via ≡ Nowhere = rw f at e in cc
+
+  -- an open code that stays open has another home
+  still_open : (code : ℕ) (c : Code) → code_left n code c ≡ Asked → (c ≡ Asked) × ((home_of code == n) ≡ false)
+  still_open code Free e = absurd cc
+  still_open code Spent e = absurd cc
+  still_open code Asked e = go (home_of code == n) refl
+    where
+      go : (b : Bool) → (home_of code == n) ≡ b → (Asked ≡ Asked) × ((home_of code == n) ≡ false)
+      go true f = let no : Spent ≡ Asked = rw f at e in absurd cc
+      go false f = (refl, f)
+
+  left_homes : (code : ℕ) → code_of code mid.routing ≡ Asked → is_up (home_of code) mid ≡ true
+  left_homes code e =
+      let below = in_use_below mid.routing (left_sound n s.routing t.routing) code e in
+      let stays = still_open code (code_of code s.routing) (sym ((codes_alone s.routing code t.routing below).left_code n) ∙ e) in
+      ap link_is_up (get_set_other s.links n (home_of code) (left_link blind link) (λ same. false_true (home_of code == n) stays.1 (rw same (itself (home_of code))))) ∙ t.homes_up code stays.0
+
+  left_backs : AreBack mid.routing new
+  left_backs = each_moved (is_back_to n) fate (λ row. IsBackOf s.routing row row.fate) (λ row. IsBackOf mid.routing row row.fate) stays (λ x e b. let g = goes x e b in subst (λ (p : Place). IsBackOf mid.routing (fated fate x) (fate_at p mid)) (sym g.1) (not_back_of mid mid.routing (fated fate x) g.0)) s.rows t.backs
+    where
+      other : (code : ℕ) → (home_of code == n) ≡ false → (via : ℕ) → place_left n (Changing (home_of code) code via) ≡ Changing (home_of code) code via
+      other code e via = rw e refl
+
+      stays : (x : Row) → is_back_to n x.fate ≡ false → IsBackOf s.routing x x.fate → IsBackOf mid.routing x x.fate
+      stays x e b = stood (λ code. (home_of code == n) ≡ false) s.routing mid.routing (λ k few code via of f. (via, (alone s.routing k t.routing few).left_place n ∙ ap (place_left n) f ∙ other code of via)) x x.fate (λ code f. sym (ap (is_back_to n) f) ∙ e) b
+
+  left_order : IsAscending (numbers (back new))
+  left_order =
+      subst (λ (xs : List Row). IsAscending (numbers xs)) (sym (moved_off (is_back_to n) stands_back fate s.rows (gone stands_back (λ via p. on_either mid stands_back via refl refl))))
+      (ascends_filter (λ (row : Row). not (is_back_to n row.fate)) (back s.rows) t.back_order)
+
+  pub leaves : IsSound (left_by blind n link s)
+  leaves =
+      let before = up_before s.links n link (left_link blind link) at.there (λ e. absurd cc) in
+      record {
+        managed = t.managed;
+        routing = left_sound n s.routing t.routing;
+        routed = t.routed;
+        count = length-set s.links n (left_link blind link) ∙ t.count;
+        numbered = moved_numbered (is_back_to n) fate s.rows t.numbered;
+        fit = moved_fit (is_back_to n) fate s.rows t.fit;
+        links = left_link_sound;
+        placed = λ k few. rw ((alone s.routing k t.routing few).left_place n) (left_placed (place_of k s.routing) (t.placed k few));
+        none_aside = λ k other there up. let old = before k other there up in left_parked ∙ t.none_aside k old.0 old.1 old.2;
+        all_run = λ j other there up k few e. let old = before j other there up in left_runs (place_of k s.routing) (t.all_run j old.0 old.1 old.2 k few) (sym ((alone s.routing k t.routing few).left_place n) ∙ e);
+        homes_up = left_homes;
+        backs = left_backs;
+        back_order = left_order;
+      }
+
+-- A DECLARATION.
+and_right : (a b : Bool) → (a && b) ≡ true → b ≡ true
+and_right true b e = e
+and_right false b e = absurd cc
+
+and_left : (a b : Bool) → (a && b) ≡ true → a ≡ true
+and_left true b e = refl
+and_left false b e = absurd cc
+
+-- the link that it goes out on is up
+pub alternative_up : (home alternative : ℕ) (s : State) → can_declare home alternative s ≡ true → is_up alternative s ≡ true
+alternative_up home alternative s may = and_left (is_up alternative s) (can_ask home alternative s.routing) (and_right (not (alternative == home)) (is_up alternative s && can_ask home alternative s.routing) may)
+
+module _ (home alternative : ℕ) (s : State) (up : is_up home s ≡ true) (may : can_declare home alternative s ≡ true) (t : IsSound s) where
+  abbrev runs : Routing
+  runs = asked home alternative s.routing
+
+  abbrev body : List ℕ
+  body = text (Cbd home (code_for home alternative)) s.settings.sio s.settings.dpc s.settings.opc
+
+  there : (link : LinkState) × (slice_get s.links alternative ≡ Some link) × (has_phase_up link.phase ≡ true)
+  there = up_link alternative s (alternative_up home alternative s may)
+
+  below : (n : ℕ) → is_up n s ≡ true → n < s.routing.links
+  below n e =
+      let l = up_link n s e in
+      let low = within s.links n l.0 l.1 in
+      let links = t.count in
+      let routed = t.routed in
+      omega (arith, low, links, routed)
+
+  home_below : home < s.routing.links
+  home_below = below home up
+
+  alternative_below : alternative < s.routing.links
+  alternative_below = below alternative (ap link_is_up there.1 ∙ there.2)
+
+  place_asked : (away : Bool) (place : Place) → IsPlaced s.links place → IsPlaced s.links (if away then Changing home (code_for home alternative) alternative else place)
+  place_asked true place p = (there.0, there.1, up_unsettled there.0.phase there.2)
+  place_asked false place p = p
+
+  asked_runs : (away : Bool) (place : Place) → place ≢ Nowhere → (if away then Changing home (code_for home alternative) alternative else place) ≢ Nowhere
+  asked_runs true place d e = absurd cc
+  asked_runs false place d e = d e
+
+  asked_homes : (code : ℕ) → code_of code runs ≡ Asked → is_up (home_of code) s ≡ true
+  asked_homes code e = go (code == code_for home alternative) refl
+    where
+      few : s.routing.links < 17
+      few = let most = t.routing.at_most_16 in omega (arith, most)
+
+      in_range : code < 256
+      in_range = in_use_below runs (asked_sound home alternative s.routing home_below alternative_below t.routing) code e
+
+      is : code_of code runs ≡ (if code == code_for home alternative then Asked else code_of code s.routing)
+      is = (codes_alone s.routing code t.routing in_range).asked_code home alternative (omega (arith, few, home_below)) (omega (arith, few, alternative_below))
+
+      go : (b : Bool) → (code == code_for home alternative) ≡ b → is_up (home_of code) s ≡ true
+      go true f =
+          let same : code ≡ 16 * home + alternative = eqb-true code (code_for home alternative) f in
+          let own : home_of code ≡ home = omega (arith, same, few, alternative_below) in
+          ap (λ (k : ℕ). is_up k s) own ∙ up
+      go false f = t.homes_up code (let is_old : code_of code runs ≡ code_of code s.routing = is ∙ rw f refl in sym is_old ∙ e)
+
+  asked_backs : AreBack runs s.rows
+  asked_backs = backs_kept (λ code. Unit {0}) s.routing runs (λ k few code via of e. (via, (alone s.routing k t.routing few).asked_place home alternative ∙ still k (place_of k s.routing) code via e)) (λ code. tt) s.rows t.backs
+    where
+      nowhere_else : (b : Bool) → (b && false) ≡ false
+      nowhere_else true = refl
+      nowhere_else false = refl
+
+      still : (k : ℕ) (place : Place) (code via : ℕ) → place ≡ Changing (home_of code) code via → (if (k % s.routing.links == home) && runs_on alternative place then Changing home (code_for home alternative) alternative else place) ≡ Changing (home_of code) code via
+      still k place code via e = rw (e, nowhere_else (k % s.routing.links == home)) refl
+
+  pub declares : IsSound (declared home alternative s)
+  declares = record {
+    managed = t.managed;
+    routing = asked_sound home alternative s.routing home_below alternative_below t.routing;
+    routed = t.routed;
+    count = t.count;
+    numbered = numbered_appended s.rows body (Waiting alternative) t.numbered;
+    fit = fit_appended s.rows body (Waiting alternative) t.fit (order_fits (Cbd home (code_for home alternative)) s);
+    links = link_appended s body t (Waiting alternative) there;
+    placed = λ k few. rw ((alone s.routing k t.routing few).asked_place home alternative) (place_asked ((k % s.routing.links == home) && runs_on alternative (place_of k s.routing)) (place_of k s.routing) (t.placed k few));
+    none_aside = none_parked s body t (Waiting alternative) there;
+    all_run = λ n link at rising k few e. asked_runs ((k % s.routing.links == home) && runs_on alternative (place_of k s.routing)) (place_of k s.routing) (t.all_run n link at rising k few) (sym ((alone s.routing k t.routing few).asked_place home alternative) ∙ e);
+    homes_up = asked_homes;
+    backs = backs_appended runs s.rows body (Waiting alternative) refl asked_backs;
+    back_order = back_appended runs s.rows body (Waiting alternative) refl t.back_order;
+  }
+
+-- WHAT STOOD BACK WAITS FOR ITS HOME.
+module _ (code : ℕ) (s : State) (t : IsSound s) where
+  abbrev home : ℕ
+  home = home_of code
+
+  abbrev gone_rows : List Row
+  gone_rows = moved (is_back code) (all_with (Waiting home)) s.rows
+
+  -- where its home isn't up nothing stands back by the code
+  none_back : is_up home s ≡ false → gone_rows ≡ s.rows
+  none_back down = moved_nothing (is_back code) (all_with (Waiting home)) s.rows (none_standing (λ row. IsBackOf s.routing row row.fate) (is_back code) (λ x e b. no x x.fate e b) s.rows t.backs)
+    where
+      no : (x : Row) (f : Fate) → is_back code f ≡ true → IsBackOf s.routing x f → ⊥
+      no x (Back c) e b =
+          let same : c ≡ code = eqb-true c code e in
+          let coded = coded_at s.routing (stream_of x.body) t.routing (home_of c) c b.2 b.3 in
+          false_true (is_up home s) down (ap (λ (k : ℕ). is_up (home_of k) s) (sym same) ∙ t.homes_up c coded.1)
+      no x (Waiting l) e b = absurd cc
+      no x (Unacked l) e b = absurd cc
+      no x (Acked l) e b = absurd cc
+      no x (Held l) e b = absurd cc
+      no x Parked e b = absurd cc
+      no x (Discarded cause) e b = absurd cc
+
+  abbrev r : Released code home s.rows gone_rows
+  r = released_rows code home s.rows
+
+  back_links : (k : ℕ) (other : LinkState) → slice_get s.links k ≡ Some other → IsSoundLink s.settings.method k other gone_rows
+  back_links k other there = go (is_up home s) refl
+    where
+      at_home : is_up home s ≡ true → (home == k) ≡ true → IsSoundLink s.settings.method k other gone_rows
+      at_home up e =
+          let same : home ≡ k = eqb-true home k e in
+          let l = t.links k other there in
+          let rising : has_phase_up other.phase ≡ true = ap link_is_up (sym there) ∙ ap (λ (j : ℕ). is_up j s) (sym same) ∙ up in
+          let unack_same : unack k gone_rows ≡ unack k s.rows = subst (λ (j : ℕ). unack j gone_rows ≡ unack j s.rows) same r.unack_same in
+          let held_same : held k gone_rows ≡ held k s.rows = subst (λ (j : ℕ). held j gone_rows ≡ held j s.rows) same r.held_same in
+          record {
+            window = rw unack_same l.window;
+            counted = l.counted;
+            method = l.method;
+            in_order = order_moved k (is_back code) (all_with (Waiting home)) s.rows (λ x. refl) l.in_order;
+            held_last = last_none k gone_rows (held_same ∙ l.none_held rising);
+            none_held = λ a. held_same ∙ l.none_held rising;
+            in_range = λ a. rw unack_same (l.in_range rising);
+            settled = λ a. false_true (has_phase_settled other.phase) (up_unsettled other.phase rising) a;
+          }
+
+      go : (b : Bool) → is_up home s ≡ b → IsSoundLink s.settings.method k other gone_rows
+      go false down = subst (λ (rows : List Row). IsSoundLink s.settings.method k other rows) (sym (none_back down)) (t.links k other there)
+      go true up = there_or (home == k) refl
+        where
+          there_or : (b : Bool) → (home == k) ≡ b → IsSoundLink s.settings.method k other gone_rows
+          there_or true e = at_home up e
+          there_or false e = link_untouched s.settings.method k other s.rows gone_rows (r.others k e) (t.links k other there)
+
+  back_placed : (k : ℕ) → k < 16 → (place : Place) → place_of k s.routing ≡ place → IsPlaced s.links place → IsPlaced s.links (place_back code place)
+  back_placed k few Nowhere e p = tt
+  back_placed k few (On l) e p = p
+  back_placed k few (Changing to c via) e p = go (c == code) refl
+    where
+      at_home : IsPlaced s.links (On to)
+      at_home =
+          let coded = coded_at s.routing k t.routing to c via e in
+          let l = up_link to s (ap (λ (j : ℕ). is_up j s) (sym coded.0) ∙ t.homes_up c coded.1) in
+          (l.0, l.1, up_unsettled l.0.phase l.2)
+
+      go : (b : Bool) → (c == code) ≡ b → IsPlaced s.links (place_back code (Changing to c via))
+      go true f = rw f at_home
+      go false f = rw f p
+
+  back_runs : (place : Place) → place ≢ Nowhere → place_back code place ≢ Nowhere
+  back_runs Nowhere d e = d refl
+  back_runs (On l) d e = absurd cc
+  back_runs (Changing to c via) d e = go (c == code) refl e
+    where
+      go : (b : Bool) → (c == code) ≡ b → place_back code (Changing to c via) ≡ Nowhere → ⊥
+      go true f e = let no : On to ≡ Nowhere = rw f at e in cc
+      go false f e = let no : Changing to c via ≡ Nowhere = rw f at e in cc
+
+  back_homes : (c : ℕ) → code_of c (given_back code s.routing) ≡ Asked → is_up (home_of c) s ≡ true
+  back_homes c e = go (c == code) refl
+    where
+      is : code_of c (given_back code s.routing) ≡ (if c == code then Free else code_of c s.routing)
+      is = (codes_alone s.routing c t.routing (in_use_below (given_back code s.routing) (back_sound code s.routing t.routing) c e)).back_code code
+
+      go : (b : Bool) → (c == code) ≡ b → is_up (home_of c) s ≡ true
+      go true f = let is_free : code_of c (given_back code s.routing) ≡ Free = is ∙ rw f refl in let no : Asked ≡ Free = sym e ∙ is_free in absurd cc
+      go false f = t.homes_up c (let is_old : code_of c (given_back code s.routing) ≡ code_of c s.routing = is ∙ rw f refl in sym is_old ∙ e)
+
+  back_backs : AreBack (given_back code s.routing) gone_rows
+  back_backs = each_moved (is_back code) (all_with (Waiting home)) (λ row. IsBackOf s.routing row row.fate) (λ row. IsBackOf (given_back code s.routing) row row.fate) stays (λ x e b. tt) s.rows t.backs
+    where
+      other : (c : ℕ) → (c == code) ≡ false → (via : ℕ) → place_back code (Changing (home_of c) c via) ≡ Changing (home_of c) c via
+      other c e via = rw e refl
+
+      stays : (x : Row) → is_back code x.fate ≡ false → IsBackOf s.routing x x.fate → IsBackOf (given_back code s.routing) x x.fate
+      stays x e b = stood (λ c. (c == code) ≡ false) s.routing (given_back code s.routing) (λ k few c via of f. (via, (alone s.routing k t.routing few).back_place code ∙ ap (place_back code) f ∙ other c of via)) x x.fate (λ c f. sym (ap (is_back code) f) ∙ e) b
+
+  back_numbers : IsAscending (numbers (back gone_rows))
+  back_numbers =
+      subst (λ (xs : List Row). IsAscending (numbers xs)) (sym (moved_off (is_back code) stands_back (all_with (Waiting home)) s.rows (fated_none stands_back (all_with (Waiting home)) (λ x. refl) (standing (is_back code) s.rows))))
+      (ascends_filter (λ (row : Row). not (is_back code row.fate)) (back s.rows) t.back_order)
+
+  pub releases : IsSound (released code s)
+  releases = record {
+    managed = t.managed;
+    routing = back_sound code s.routing t.routing;
+    routed = t.routed;
+    count = t.count;
+    numbered = moved_numbered (is_back code) (all_with (Waiting home)) s.rows t.numbered;
+    fit = moved_fit (is_back code) (all_with (Waiting home)) s.rows t.fit;
+    links = back_links;
+    placed = λ k few. rw ((alone s.routing k t.routing few).back_place code) (back_placed k few (place_of k s.routing) refl (t.placed k few));
+    none_aside = λ k other at up. r.parked_same ∙ t.none_aside k other at up;
+    all_run = λ j other at up k few e. back_runs (place_of k s.routing) (t.all_run j other at up k few) (sym ((alone s.routing k t.routing few).back_place code) ∙ e);
+    homes_up = back_homes;
+    backs = back_backs;
+    back_order = back_numbers;
+  }

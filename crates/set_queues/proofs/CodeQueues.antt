@@ -1,0 +1,131 @@
+-- What waits for the acknowledgements of changebacks: the first of a queue, and how many wait for a home's codes.
+use Rattle.std.proofs.Common.{refl, arith, ◌≡◌, ◌∙◌, ap, sym, ◌+◌, ◌≤◌, ◌<◌, [], ◌∷◌, ◌++◌, length, ℕ, zero, suc, true, false, ◌⊎◌, inl, inr, List, Option, Some, None, take, add-one}
+use Rattle.std.specs.Prelude.{slice_get}
+use Rattle.std.specs.Option.{option_map}
+use Rattle.std.proofs.lemmas.Bool.{cases_lt, cases_Bool}
+use Rattle.std.proofs.lemmas.List.{length-append}
+use Rattle.std.proofs.lemmas.Option.{slice_get_past}
+use Rattle.set_events.specs.declared.answer.Fate.{Fate}
+use Rattle.set_events.specs.declared.answer.Fate.TheVariants.{Back}
+use Rattle.set_queues.specs.declared.message.Message.{Message}
+use Rattle.set_queues.specs.Counts.{one_if}
+use Rattle.set_queues.specs.Messages.{fate_at}
+use Rattle.set_queues.specs.Buffers.{Lists, queue_at}
+use Rattle.set_queues.specs.Queues.{occurs, has_fate, AreTied}
+use Rattle.set_queues.specs.Backs.{back_from}
+use Rattle.set_queues.proofs.Standing.{occurs-append, occurs_here, occurs_not, has_of}
+
+-- the first of a list
+
+pub first_taken : (xs : List ℕ) (n : ℕ) → slice_get xs 0 ≡ Some n → take 1 xs ≡ n ∷ []
+first_taken [] n e = absurd (cc)
+first_taken (x ∷ xs) n e = let f : x ≡ n = cc in ap (λ (y : ℕ). y ∷ []) f
+
+pub none_first : (xs : List ℕ) → slice_get xs 0 ≡ None → xs ≡ []
+none_first [] e = refl
+none_first (x ∷ xs) e = absurd (cc)
+
+-- HOW MANY WAIT
+
+pub back_none : (code : ℕ) (q : Lists) → back_from code 0 q ≡ 0
+unfolding back_from
+back_none code q = refl
+
+back_suc : (code n : ℕ) (q : Lists) → back_from code (suc n) q ≡ back_from code n q + length (queue_at (Back (code + n)) q)
+unfolding back_from
+back_suc code n q = refl
+
+pub back_more : (code n : ℕ) (q : Lists) → back_from code (n + 1) q ≡ back_from code n q + length (queue_at (Back (code + n)) q)
+back_more code n q = rw add-one (back_suc code n q)
+
+pub back_grows : (code n k m : ℕ) (q : Lists) → n + k ≡ m → back_from code n q ≤ back_from code m q
+back_grows code n zero m q e =
+    let same : n ≡ m = omega (arith, e) in
+    omega (arith, ap (λ (i : ℕ). back_from code i q) same)
+back_grows code n (suc k) m q e =
+    let next : suc (n + k) ≡ m = omega (arith, e) in
+    omega (arith, back_grows code n k (n + k) q refl, back_suc code (n + k) q, ap (λ (i : ℕ). back_from code i q) next)
+
+-- a list in which each number stands once at most, all of them below a bound, is no longer than it
+
+abbrev total : ℕ → List ℕ → ℕ
+total zero xs = 0
+total (suc n) xs = total n xs + occurs n xs
+
+total_few : (n : ℕ) (xs : List ℕ) → ((m : ℕ) → occurs m xs ≤ 1) → total n xs ≤ n
+total_few zero xs h = omega arith
+total_few (suc n) xs h = omega (arith, total_few n xs h, h n)
+
+total_none : (n : ℕ) → total n [] ≡ 0
+total_none zero = refl
+total_none (suc n) = omega (arith, total_none n)
+
+total_cons : (n x : ℕ) (xs : List ℕ) → total n (x ∷ xs) ≡ total n (x ∷ []) + total n xs
+total_cons zero x xs = omega arith
+total_cons (suc n) x xs = omega (arith, total_cons n x xs)
+
+total_one : (n x : ℕ) → x < n → 1 ≤ total n (x ∷ [])
+total_one zero x h = absurd (omega arith)
+total_one (suc n) x h = go (cases_lt x n) (total_one n x)
+  where
+    go : (x < n) ⊎ (n ≤ x) → (x < n → 1 ≤ total n (x ∷ [])) → 1 ≤ total n (x ∷ []) + occurs n (x ∷ [])
+    go (inl b) before = omega (arith, before b)
+    go (inr b) before = omega (arith, occurs_here x n (omega (arith, b, h)))
+
+total_all : (n : ℕ) (xs : List ℕ) → ((m : ℕ) → n ≤ m → occurs m xs ≡ 0) → length xs ≤ total n xs
+total_all n [] h = omega arith
+total_all n (x ∷ xs) h = omega (arith, total_cons n x xs, total_one n x below, total_all n xs (λ m b. omega (arith, h m b)))
+  where
+    below : x < n
+    below = elim (cases_lt x n) [
+      | inl b ↦ b
+      | inr b ↦ absurd (omega (arith, h x b, occurs_here x x refl))
+    ]
+
+few_in : (n : ℕ) (xs : List ℕ) → ((m : ℕ) → occurs m xs ≤ 1) → ((m : ℕ) → n ≤ m → occurs m xs ≡ 0) → length xs ≤ n
+few_in n xs once none = omega (arith, total_few n xs once, total_all n xs none)
+
+-- all that wait for so many codes: each stands once at most, and was given out
+
+abbrev all_back : ℕ → ℕ → Lists → List ℕ
+all_back code zero q = []
+all_back code (suc n) q = all_back code n q ++ queue_at (Back (code + n)) q
+
+abbrev hits : ℕ → ℕ → Option Fate → ℕ
+hits code zero fate = 0
+hits code (suc n) fate = hits code n fate + one_if (has_fate (Back (code + n)) fate)
+
+all_length : (code n : ℕ) (q : Lists) → length (all_back code n q) ≡ back_from code n q
+all_length code zero q = sym (back_none code q)
+all_length code (suc n) q = omega (arith, length-append (all_back code n q) (queue_at (Back (code + n)) q), all_length code n q, back_suc code n q)
+
+all_occur : (code n m : ℕ) (q : Lists) (ms : List Message) → AreTied q ms → occurs m (all_back code n q) ≡ hits code n (fate_at m ms)
+all_occur code zero m q ms tie = refl
+all_occur code (suc n) m q ms tie = omega (arith, occurs-append m (all_back code n q) (queue_at (Back (code + n)) q), all_occur code n m q ms tie, tie (Back (code + n)) refl m)
+
+hits_before : (code n d : ℕ) (fate : Option Fate) → fate ≡ Some (Back d) → code + n ≤ d → hits code n fate ≡ 0
+hits_before code zero d fate e h = refl
+hits_before code (suc n) d fate e h =
+    omega (arith, hits_before code n d fate e (omega (arith, h)), ap (λ (o : Option Fate). one_if (has_fate (Back (code + n)) o)) e, occurs_not d (code + n) (λ g. omega (arith, h, g)))
+
+hits_few : (code n : ℕ) (fate : Option Fate) → hits code n fate ≤ 1
+hits_few code zero fate = omega arith
+hits_few code (suc n) fate = go (cases_Bool (has_fate (Back (code + n)) fate)) (hits_few code n fate)
+  where
+    go : (has_fate (Back (code + n)) fate ≡ true) ⊎ (has_fate (Back (code + n)) fate ≡ false) → hits code n fate ≤ 1 → hits code n fate + one_if (has_fate (Back (code + n)) fate) ≤ 1
+    go (inl e) few = omega (arith, ap one_if e, hits_before code n (code + n) fate (has_of (Back (code + n)) (Back (code + n)) fate refl e) (omega arith))
+    go (inr e) few = omega (arith, ap one_if e, few)
+
+hits_none : (code n : ℕ) (fate : Option Fate) → fate ≡ None → hits code n fate ≡ 0
+hits_none code zero fate e = refl
+hits_none code (suc n) fate e = omega (arith, hits_none code n fate e, ap (λ (o : Option Fate). one_if (has_fate (Back (code + n)) o)) e)
+
+pub back_few : (code n : ℕ) (q : Lists) (ms : List Message) → AreTied q ms → back_from code n q ≤ length ms
+back_few code n q ms tie =
+    omega (
+      arith,
+      all_length code n q,
+      few_in (length ms) (all_back code n q)
+          (λ m. omega (arith, all_occur code n m q ms tie, hits_few code n (fate_at m ms)))
+          (λ m b. all_occur code n m q ms tie ∙ hits_none code n (fate_at m ms) (ap (option_map (λ (x : Message). x.fate)) (slice_get_past ms m b))),
+    )

@@ -1,0 +1,49 @@
+-- What waits for the acknowledgement of a changeback (Q.704 6.3), by the home of its code: code / 16.
+use Rattle.std.specs.Prelude.{◌≡◌, ℕ, zero, suc, ◌+◌, ◌*◌, ◌/◌, ◌<◌, ◌≤◌, ◌++◌, [], length, take, drop, slice_get, Option, Some, None}
+use Rattle.set_events.specs.declared.answer.Fate.{Fate}
+use Rattle.set_events.specs.declared.answer.Fate.TheVariants.{Back}
+use Rattle.set_queues.specs.Buffers.{Lists, queue_at, with_queue}
+
+-- the first of a queue, if there is one, stands last in another
+abbrev pub passed_first : Fate → Fate → Lists → Lists
+passed_first from to q =
+    with_queue from (drop 1 (queue_at from q)) (with_queue to (queue_at to q ++ take 1 (queue_at from q)) q)
+
+-- how many wait for so many codes, from this one on
+unfoldable pub back_from : ℕ → ℕ → Lists → ℕ
+back_from code zero q = 0
+back_from code (suc n) q = back_from code n q + length (queue_at (Back (code + n)) q)
+
+-- how many wait for a code of this home
+abbrev pub back_count : ℕ → Lists → ℕ
+back_count home q = back_from (16 * home) 16 q
+
+-- of all that wait for a code of this home, the oldest stands first in the queue of this code
+pub record IsOldest (home code : ℕ) (q : Lists) : Type 0 where
+  pub of_home : code / 16 ≡ home
+  pub below : code < 256
+  pub number : ℕ
+  pub first : slice_get (queue_at (Back code) q) 0 ≡ Some number
+  pub least : (other m : ℕ) → other / 16 ≡ home → slice_get (queue_at (Back other) q) 0 ≡ Some m → number ≤ m
+
+-- of what waits for so many codes, from this one on, the oldest: its code and its number
+pub record IsLeast (from n code number : ℕ) (q : Lists) : Type 0 where
+  pub above : from ≤ code
+  pub below : code < from + n
+  pub first : slice_get (queue_at (Back code) q) 0 ≡ Some number
+  pub least : (other m : ℕ) → from ≤ other → other < from + n → slice_get (queue_at (Back other) q) 0 ≡ Some m
+      → number ≤ m
+
+-- if anything does
+abbrev pub IsOldestOfSome : ℕ → ℕ → Option (ℕ × ℕ) → Lists → Type 0
+IsOldestOfSome from n (Some head) q = IsLeast from n head.0 head.1 q
+IsOldestOfSome from n None q = (code : ℕ) → from ≤ code → code < from + n → queue_at (Back code) q ≡ []
+
+-- nothing waits for a code of this home
+abbrev pub NoneBack : ℕ → Lists → Type 0
+NoneBack home q = (code : ℕ) → code / 16 ≡ home → queue_at (Back code) q ≡ []
+
+-- the code, if anything waits for one of this home
+abbrev pub IsOldestOf : ℕ → Option ℕ → Lists → Type 0
+IsOldestOf home (Some code) q = IsOldest home code q
+IsOldestOf home None q = NoneBack home q
