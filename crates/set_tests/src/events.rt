@@ -50,7 +50,9 @@ fn each_event_is_copied(_rt: HostRuntime) -> Result<(), Fail> {
     is_copied(&Event::Up { link: 0 })?;
     is_copied(&Event::Down { link: 15 })?;
     is_copied(&Event::DownBlind { link: 15 })?;
-    is_copied(&Event::NoAnswer { link: 15 })
+    is_copied(&Event::NoAnswer { link: 15 })?;
+    is_copied(&Event::Restore { link: 15 })?;
+    is_copied(&Event::BackTimeout { link: 15 })
 }
 
 #[test]
@@ -107,6 +109,21 @@ fn a_link_that_fails_blind_differs_from_one_that_fails(rt: HostRuntime) {
     };
     assert!(rt; held.same(&held));
     assert!(rt; !held.same(&discarded));
+}
+
+#[test]
+fn each_changeback_differs_by_its_link_or_code(rt: HostRuntime) {
+    let restore = Event::Restore { link: 1 };
+    assert!(rt; !restore.same(&Event::BackTimeout { link: 1 }));
+    assert!(rt; !restore.same(&Event::Restore { link: 2 }));
+    let back = Answer::Found {
+        fate: Fate::Back { code: 16 },
+    };
+    let other = Answer::Found {
+        fate: Fate::Back { code: 17 },
+    };
+    assert!(rt; back.same(&back));
+    assert!(rt; !back.same(&other));
 }
 
 #[test]

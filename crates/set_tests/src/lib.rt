@@ -4,7 +4,13 @@
 #![tactic(auto)]
 
 #[cfg(test)]
+mod bench;
+#[cfg(test)]
+mod changeback;
+#[cfg(test)]
 mod changeover;
+#[cfg(test)]
+mod coming_back;
 #[cfg(test)]
 mod events;
 #[cfg(test)]

@@ -21,6 +21,10 @@ fn is_known(queues: &Queues, fate: Fate) -> bool
         Fate::Waiting { link } | Fate::Unacked { link } | Fate::Held { link } => {
             usize::from(link) < queues.links()
         }
+        Fate::Back { .. } => {
+            queues.is_sound();
+            true
+        }
         _ => true,
     }
 }
@@ -30,7 +34,7 @@ fn is_queued(fate: Fate) -> bool
     ensures { result ≡ true → IsQueued fate }
 {
     match fate {
-        Fate::Waiting { .. } | Fate::Held { .. } | Fate::Parked => true,
+        Fate::Waiting { .. } | Fate::Held { .. } | Fate::Parked | Fate::Back { .. } => true,
         _ => false,
     }
 }
@@ -82,6 +86,17 @@ fn unpark(queues: &mut Queues, link: u8) -> Result<(), AllocError> {
     let parked = queues.count_at(Fate::Parked);
     queues.reserve_at(to, parked)?;
     queues.divert(Fate::Parked, to);
+    Ok(())
+}
+
+/// The first message that waits for this acknowledgement waits for link 0 then.
+fn turn_back(queues: &mut Queues, code: u8) -> Result<(), AllocError> {
+    let from = Fate::Back { code };
+    if !is_known(queues, from) || !is_known(queues, TO_LINK_0) || queues.count_at(from) == 0 {
+        return Err(AllocError);
+    }
+    queues.reserve_at(TO_LINK_0, 1)?;
+    queues.turn_back(code, TO_LINK_0);
     Ok(())
 }
 
@@ -300,4 +315,26 @@ fn all_are_found(queues: &Queues) -> Result<(), Fail> {
         stands(queues, number, Some(fate))?;
     }
     holds(counts_of(queues).waiting == 98_000)
+}
+
+/// Messages 0, 1 and 3 wait for codes of home 1, message 2 for one of home 2: those of home 1 turn back in their order.
+#[test]
+fn the_oldest_turns_back_first(rt: HostRuntime) -> Result<(), Fail> {
+    turn_all_back(&mut Queues::new(rt.alloc(), 2)?)
+}
+
+fn turn_all_back(queues: &mut Queues) -> Result<(), Fail> {
+    for code in [18u8, 16, 33, 18] {
+        put(queues, Fate::Back { code })?;
+    }
+    holds(queues.back_count(1) == 3)?;
+    for code in [18u8, 16, 18] {
+        holds(queues.oldest_back(1) == Some(code))?;
+        turn_back(queues, code)?;
+    }
+    holds(queues.oldest_back(1).is_none() && counts_of(queues).back == 1)?;
+    for (fsn, number) in [(0u8, 0u64), (1, 1), (2, 3)] {
+        holds(send(queues, 0) == Some((number, fsn)))?;
+    }
+    Ok(())
 }

@@ -1,4 +1,6 @@
-//! Streams at changeover. The expected places follow from Q.704 5 and the rules of the set by hand.
+//! Streams at changeover and changeback. The expected places follow from Q.704 5 and the rules of the set by hand.
+ghost use Rattle.std.specs.Prelude.{◌≡◌};
+
 use set_route::*;
 use std::test::Fail;
 
@@ -41,6 +43,71 @@ fn a_stream_moves_when_its_link_settles(rt: HostRuntime) -> Result<(), Fail> {
     assert!(rt; routes.place(15) == Place::On { link: 1 });
     routes.settle(1, None);
     assert!(rt; routes.place(5) == Place::Nowhere);
+    Ok(())
+}
+
+/// Two links, of which link 1 fails and comes up again: stream 5 is on its way back to it from link 0, by code 16.
+fn asks_back() -> Routes
+    ensures { result.links ≡ 2 }
+{
+    let mut routes = Routes::new(2);
+    routes.raise(1);
+    routes.raise(0);
+    routes.accepted(5);
+    routes.divert(1);
+    routes.settle(1, Some(0));
+    routes.raise(1);
+    routes.ask(1, 0);
+    routes
+}
+
+/// Stream 5 has had a message and goes back by its code; stream 3, which had none, is at home already.
+#[test]
+fn a_stream_with_messages_comes_back_by_its_code(rt: HostRuntime) -> Result<(), Fail> {
+    let mut routes = asks_back();
+    let there = Place::Changing {
+        to: 1,
+        code: 16,
+        via: 0,
+    };
+    assert!(rt; routes.place(5) == there && routes.code(16) == Code::Asked);
+    assert!(rt; routes.place(3) == Place::On { link: 1 });
+    assert!(rt; !routes.ask(1, 0));
+    routes.give_back(16);
+    assert!(rt; routes.place(5) == Place::On { link: 1 } && routes.code(16) == Code::Free);
+    assert!(rt; !routes.ask(1, 0));
+    Ok(())
+}
+
+/// The home is left: the stream stays where it came from, and its code is spent until it's given back.
+#[test]
+fn a_code_is_spent_where_its_home_is_left(rt: HostRuntime) -> Result<(), Fail> {
+    let mut routes = asks_back();
+    routes.divert(1);
+    assert!(rt; routes.place(5) == Place::On { link: 0 } && routes.code(16) == Code::Spent);
+    routes.settle(1, Some(0));
+    routes.raise(1);
+    assert!(rt; !routes.ask(1, 0));
+    routes.give_back(16);
+    assert!(rt; routes.place(5) == Place::On { link: 0 });
+    assert!(rt; routes.ask(1, 0) && routes.code(16) == Code::Asked);
+    Ok(())
+}
+
+/// The link that the stream comes from settles: it comes from the target then, and its code stays.
+#[test]
+fn a_stream_on_its_way_comes_from_the_target(rt: HostRuntime) -> Result<(), Fail> {
+    let mut routes = asks_back();
+    routes.divert(0);
+    routes.settle(0, Some(1));
+    let there = Place::Changing {
+        to: 1,
+        code: 16,
+        via: 1,
+    };
+    assert!(rt; routes.place(5) == there && routes.code(16) == Code::Asked);
+    routes.clear(1);
+    assert!(rt; routes.place(5) == Place::On { link: 1 } && routes.code(16) == Code::Free);
     Ok(())
 }
 
