@@ -1,10 +1,10 @@
 -- A UNIT IS HEARD, or a link comes up: what holds of both ends is kept, and a link that settles diverts exactly the rest.
-use Rattle.std.proofs.Common.{refl, arith, ◌≡◌, ◌≢◌, ◌∙◌, ap, sym, subst, ℕ, zero, suc, ◌≤◌, ◌<◌, ◌==◌, ◌+◌, ◌-◌, ◌%◌, Bool, true, false, List, [], ◌∷◌, ◌++◌, All, length, take, drop, slice_get, slice_set, Option, Some, None, append_assoc}
+use Rattle.std.proofs.Common.{refl, arith, ◌≡◌, ◌∙◌, ap, sym, subst, ℕ, zero, suc, ◌<◌, ◌==◌, ◌+◌, ◌-◌, ◌%◌, Bool, true, false, List, [], ◌∷◌, ◌++◌, All, length, take, drop, slice_get, Option, Some, None, append_assoc}
 use Rattle.std.proofs.lemmas.Bool.{eqb-true}
 use Rattle.l2_units.specs.declared.unit.Unit.{Unit as SignalUnit}
 use Rattle.l3_orders.specs.declared.order.Order.{Order}
 use Rattle.l3_orders.specs.declared.order.Order.TheVariants.{Coo, Coa, Cbd, Cba, Eco, Eca}
-use Rattle.l3_orders.specs.Grammar.{order_of, link_of, text}
+use Rattle.l3_orders.specs.Grammar.{order_of, link_of}
 use Rattle.link_lines.specs.Lines.{units_on, with_units}
 use Rattle.set_events.specs.declared.answer.Answer.TheVariants.{Heard as HeardBack}
 use Rattle.set_events.specs.declared.answer.Fate.{Fate}
@@ -13,39 +13,37 @@ use Rattle.set_events.specs.declared.answer.Took.{Took}
 use Rattle.set_events.specs.declared.answer.Took.TheVariants.{Nothing as NothingTaken, Message as TookMessage, Order as TookOrder, Ignored}
 use Rattle.set_events.specs.declared.config.Method.{Method}
 use Rattle.set_events.specs.declared.event.Event.TheVariants.{Heard as HeardEvent, Up as UpEvent}
-use Rattle.set_model.specs.declared.phase.Phase.{Phase}
-use Rattle.set_model.specs.declared.phase.Phase.TheVariants.{Up, Down, Settled}
-use Rattle.set_model.specs.Changeover.{is_reasonable}
-use Rattle.set_model.specs.Rows.{Row, was_discarded, standing, unack, wait, held, parked, place, is_unacked, is_parked, all_with, moved}
+use Rattle.set_model.specs.declared.phase.Phase.TheVariants.{Up, Settled}
+use Rattle.set_model.specs.Rows.{Row, was_discarded, stands_back, is_waiting, is_held, standing, unack, wait, held, parked, place, is_unacked, is_parked, all_with}
 use Rattle.set_model.specs.Sound.{IsSound}
-use Rattle.set_model.specs.State.{LinkState, State, is_up, is_settled, link_is_up, link_is_settled, has_phase_up, has_phase_settled, last_accepted, target}
-use Rattle.set_model.specs.Step.{Outcome, brought, controls, risen_link, rises, step}
+use Rattle.set_model.specs.State.{LinkState, State, is_up, is_settled, link_is_up, link_is_settled, has_phase_up, has_phase_settled, target}
+use Rattle.set_model.specs.Step.{Outcome, brought, risen_link, rises, step}
 use Rattle.set_model.proofs.Events.{Untouched, acknowledged, unparked}
 use Rattle.set_model.proofs.InPlace.{turned_same}
 use Rattle.set_model.proofs.LinkCount.{link_count_stays}
 use Rattle.set_model.proofs.Lists.{get_set_same, get_set_other, present, within}
 use Rattle.set_model.proofs.Moving.{moved_same}
-use Rattle.set_model.proofs.Places.{false_true, itself}
-use Rattle.set_model.proofs.Plain.{Quietly}
+use Rattle.set_model.proofs.Places.{false_true, itself, back_not_on, back_not_parked, not_on_unacked, not_on_waiting, not_on_held}
 use Rattle.set_model.proofs.Settling.{settled_empty}
 use Rattle.set_model.proofs.Walk.{IsAt}
 use Rattle.world_steps.specs.declared.step.Shown.TheVariants.{Answered}
 use Rattle.pair_model.specs.Promises.{IsOneMethod}
-use Rattle.pair_model.specs.Run.{Message, Past, messages, body_in, past_heard, past_risen}
+use Rattle.pair_model.specs.Run.{Message, Past, messages, past_heard, past_risen}
 use Rattle.pair_model.proofs.Kept.{kept_on}
 use Rattle.pair_model.proofs.Moving as moving
 use Rattle.pair_model.proofs.Pairs.{Two, HoldsOf, settings_stay}
 use Rattle.pair_model.proofs.Rising.{settled_at}
-use Rattle.pair_changeover.specs.Diverted.{Diverts, TellsTheLast, IsFsnIn, IsToldBy, FrontTells, answer_on, queue_for}
+use Rattle.pair_changeover.specs.Diverted.{Diverts, DivertsFrom, IsFsnIn, IsToldBy, FrontTells, as_left, answer_on, queue_for}
+use Rattle.pair_changeover.proofs.Alike.{left_unack, left_acked, left_alike}
 use Rattle.pair_changeover.proofs.Acked.{AckedFirst, acked_first, rises_first}
-use Rattle.pair_changeover.proofs.Changes.{Both, by_link, own_then, other_then}
+use Rattle.pair_changeover.proofs.Changes.{Both, by_link, other_then}
 use Rattle.pair_changeover.proofs.Hearing as hearing
 use Rattle.pair_changeover.proofs.Obeying.{Moved, sent_not_discarded, obeys_both, obeys_equal, obeys_discards, obeys_moves, obeys_accepted, told_reasonable}
 use Rattle.pair_changeover.proofs.Passing.{Rises, rises_orders}
 use Rattle.pair_changeover.proofs.Reaching.{Reaches, reaches}
-use Rattle.pair_changeover.proofs.Table.{joined, drop_none, drop_twice, queue_rises, queue_untouched}
+use Rattle.pair_changeover.proofs.Table.{joined, drop_none, drop_twice, queue_rises}
 use Rattle.pair_changeover.proofs.Texts.{AreCodes}
-use Rattle.pair_changeover.proofs.Views.{View, view, Tells, queue, pending, acked_of, acked_on, accepted_of, accepted_on}
+use Rattle.pair_changeover.proofs.Views.{View, view, IsChangeover, Tells, queue, pending, acked_of, acked_on, accepted_of, accepted_on}
 use Rattle.pair_changeover.proofs.Whole.{Half, Whole, SettlesSo, Did, none_settles}
 
 -- what was pending, as the promise says it
@@ -84,8 +82,11 @@ module _ (mx my : Method) (one : IsOneMethod mx my) (p : Two) (h : HoldsOf mx my
   acks : Rattle.set_model.proofs.Events.Acknowledged k (hearing.part mx my one p h w.both k few unit rest front link at).acked p.near.rows mid.rows
   acks = acknowledged k (hearing.part mx my one p h w.both k few unit rest front link at).acked p.near.rows
 
-  pub mid_quiet : Quietly mid
-  mid_quiet = hearing.mid_quiet mx my one p h w.both k few unit rest front link at
+  pub mid_sound : IsSound mid
+  mid_sound = hearing.mid_sound mx my one p h w.both k few unit rest front link at
+
+  abbrev pub body : List ℕ
+  body = hearing.heard_body mx my one p h w.both k few unit rest front link at
 
   mid_all : (P : ℕ → Option LinkState → Option LinkState → Type 0) → P k (Some link) (Some (hearing.mid_link mx my one p h w.both k few unit rest front link at)) → ((l : ℕ) (o : Option LinkState) → (k == l) ≡ false → P l o o) → (l : ℕ) → P l (slice_get p.near.links l) (slice_get mid.links l)
   mid_all = by_link k link (hearing.mid_link mx my one p h w.both k few unit rest front link at) p.near mid at.there refl
@@ -104,13 +105,13 @@ module _ (mx my : Method) (one : IsOneMethod mx my) (p : Two) (h : HoldsOf mx my
   codes_then = subst AreCodes (sym (settings_stay p.near (HeardEvent k unit))) w.near.codes
 
   both_then : Both then_near p.far
-  both_then = subst (λ (s : State). Both s p.far) (sym state_is) (obeys_both k mid p.far mid_quiet w.near.codes does.both _ does.obeys)
+  both_then = subst (λ (s : State). Both s p.far) (sym state_is) (obeys_both k body mid p.far mid_sound w.near.codes does.both _ does.obeys)
 
   equal_then : (l : ℕ) → is_settled l then_near ≡ true → acked_on l then_near ≡ accepted_on l p.far
-  equal_then = subst (λ (s : State). (l : ℕ) → is_settled l s ≡ true → acked_on l s ≡ accepted_on l p.far) (sym state_is) (obeys_equal k mid p.far mid_quiet w.near.codes does.both mid_equal _ does.obeys)
+  equal_then = subst (λ (s : State). (l : ℕ) → is_settled l s ≡ true → acked_on l s ≡ accepted_on l p.far) (sym state_is) (obeys_equal k body mid p.far mid_sound w.near.codes does.both mid_equal _ does.obeys)
 
   discards_then : standing was_discarded then_near.rows ≡ []
-  discards_then = ap (λ (s : State). standing was_discarded s.rows) state_is ∙ obeys_discards k mid p.far mid_quiet w.near.codes does.both _ does.obeys ∙ mid_discards ∙ w.near.none_discarded
+  discards_then = ap (λ (s : State). standing was_discarded s.rows) state_is ∙ obeys_discards k body mid p.far mid_sound w.near.codes does.both _ does.obeys ∙ mid_discards ∙ w.near.none_discarded
 
   first_then : (l : ℕ) → AckedFirst l (p.near_past.sent l) then_near
   first_then l = acked_first l p.near (HeardEvent k unit) (p.near_past.sent l) h.near_sound (w.near.acked l)
@@ -121,13 +122,13 @@ module _ (mx my : Method) (one : IsOneMethod mx my) (p : Two) (h : HoldsOf mx my
   -- the far end of a link that settled there counts as before, since this end isn't up on it
   far_equal : (l : ℕ) → is_settled l p.far ≡ true → acked_on l p.far ≡ accepted_on l then_near
   far_equal l e =
-      let same : accepted_on l then_near ≡ accepted_on l mid = ap (accepted_on l) state_is ∙ obeys_accepted k mid p.far mid_quiet w.near.codes does.both _ does.obeys l in
+      let same : accepted_on l then_near ≡ accepted_on l mid = ap (accepted_on l) state_is ∙ obeys_accepted k body mid p.far mid_sound w.near.codes does.both _ does.obeys l in
       w.far.equal l e ∙ sym (same ∙ mid_accepted l (w.both.far.apart l e))
 
   -- WHAT SETTLES
   module _ (l : ℕ) (before : is_settled l p.near ≡ false) (now : is_settled l then_near ≡ true) where
     moved_so : Moved k l mid p.far (hearing.taken mx my one p h w.both k few unit rest front link at).state
-    moved_so = obeys_moves k mid p.far mid_quiet w.near.codes does.both _ does.obeys l (mid_settled l ∙ before) (ap (is_settled l) (sym state_is) ∙ now)
+    moved_so = obeys_moves k body mid p.far mid_sound w.near.codes does.both _ does.obeys l (mid_settled l ∙ before) (ap (is_settled l) (sym state_is) ∙ now)
 
     same_link : slice_get mid.links l ≡ slice_get p.near.links l
     same_link = other_then k link (hearing.mid_link mx my one p h w.both k few unit rest front link at) p.near mid at.there refl l moved_so.other
@@ -151,42 +152,80 @@ module _ (mx my : Method) (one : IsOneMethod mx my) (p : Two) (h : HoldsOf mx my
     reach : Reaches l link_there.0 p.near p.far (p.near_past.sent l)
     reach = reaches l p.near_past p.far_past p.near p.far (kept_on mx my one p h l) link_there.0 link_there.1 (ap link_is_settled (sym link_there.1) ∙ before) far_there.0 far_there.1
 
-    same_queue : (to : Option ℕ) → messages (queue_for to mid.rows) ≡ messages (queue_for to p.near.rows)
-    same_queue None = ap messages acks.parked_same
-    same_queue (Some to) = go (k == to) refl
+    -- as it's left
+    abbrev state : LinkState
+    state = link_there.0
+
+    abbrev left : State
+    left = as_left l (Some state) p.near
+
+    abbrev left_mid : State
+    left_mid = as_left l (Some state) mid
+
+    there_mid : slice_get mid.links l ≡ Some state
+    there_mid = same_link ∙ link_there.1
+
+    alike : (other : Fate → Bool) → ((f : Fate) → stands_back f ≡ true → other f ≡ false) → standing other mid.rows ≡ standing other p.near.rows → standing other left_mid.rows ≡ standing other left.rows
+    alike = left_alike k l (hearing.part mx my one p h w.both k few unit rest front link at).acked link (hearing.mid_link mx my one p h w.both k few unit rest front link at) state p.near mid moved_so.other at.there refl refl refl refl link_there.1
+
+    same_queue : (to : Option ℕ) → messages (queue_for to left_mid.rows) ≡ messages (queue_for to left.rows)
+    same_queue None = ap messages (alike is_parked back_not_parked acks.parked_same)
+    same_queue (Some to) = ap messages (alike (is_waiting to) (λ f e. not_on_waiting to f (back_not_on to f e)) (go (k == to) refl))
       where
-        go : (b : Bool) → (k == to) ≡ b → messages (wait to mid.rows) ≡ messages (wait to p.near.rows)
-        go true e = subst (λ (n : ℕ). messages (wait n mid.rows) ≡ messages (wait n p.near.rows)) (eqb-true k to e) (ap messages acks.wait_same)
-        go false e = ap messages (acks.others to e).wait_same
+        go : (b : Bool) → (k == to) ≡ b → wait to mid.rows ≡ wait to p.near.rows
+        go true e = subst (λ (n : ℕ). wait n mid.rows ≡ wait n p.near.rows) (eqb-true k to e) acks.wait_same
+        go false e = (acks.others to e).wait_same
 
     same_answer : answer_on l (slice_get mid.links l) mid ≡ answer_on l (slice_get p.near.links l) p.near
-    same_answer = ap (λ (o : Option LinkState). answer_on l o mid) (same_link ∙ link_there.1) ∙ rw (acks.kept.count) refl ∙ ap (λ (o : Option LinkState). answer_on l o p.near) (sym link_there.1)
+    same_answer = ap (λ (o : Option LinkState). answer_on l o mid) there_mid ∙ rw (acks.kept.count) refl ∙ ap (λ (o : Option LinkState). answer_on l o p.near) (sym link_there.1)
 
-    rest_is : pending l mid p.far ≡ drop (length (p.far_past.taken l)) (p.near_past.sent l) ++ messages (wait l p.near.rows) ++ messages (held l p.near.rows)
+    queue_alike : (count : ℕ) → queue count l left_mid.rows ≡ queue count l left.rows
+    queue_alike count = rw (
+      alike (is_unacked l) (λ f e. not_on_unacked l f (back_not_on l f e)) untouched.unack_same,
+      alike (is_waiting l) (λ f e. not_on_waiting l f (back_not_on l f e)) untouched.wait_same,
+      alike (is_held l) (λ f e. not_on_held l f (back_not_on l f e)) untouched.held_same,
+    ) refl
+
+    abbrev rest_then : List Message
+    rest_then = drop (length (p.far_past.taken l)) (p.near_past.sent l) ++ messages (wait l left.rows) ++ messages (held l left.rows)
+
+    rest_is : pending l left_mid p.far ≡ rest_then
     rest_is =
-        let a = link_there.0.acked in
+        let a = state.acked in
         let t = accepted_on l p.far in
         let many : a + (t - a) ≡ length (p.far_past.taken l) = omega (arith, reach.due, counted) in
-        ap (λ (o : Option LinkState). queue (t - acked_of o) l mid.rows) (same_link ∙ link_there.1)
-        ∙ queue_untouched (t - a) l p.near.rows mid.rows untouched
-        ∙ queue_parts (t - a) l p.near.rows
-        ∙ ap (λ (x : List Message). drop (t - a) x ++ messages (wait l p.near.rows) ++ messages (held l p.near.rows)) reach.unacked
-        ∙ ap (λ (x : List Message). x ++ messages (wait l p.near.rows) ++ messages (held l p.near.rows)) (drop_twice (t - a) a (p.near_past.sent l) ∙ ap (λ (n : ℕ). drop n (p.near_past.sent l)) many)
+        ap (λ (n : ℕ). queue (t - n) l left_mid.rows) (left_acked l state mid there_mid)
+        ∙ queue_alike (t - a)
+        ∙ queue_parts (t - a) l left.rows
+        ∙ ap (λ (u : List Row). drop (t - a) (messages u) ++ messages (wait l left.rows) ++ messages (held l left.rows)) (left_unack l state p.near)
+        ∙ ap (λ (x : List Message). drop (t - a) x ++ messages (wait l left.rows) ++ messages (held l left.rows)) reach.unacked
+        ∙ ap (λ (x : List Message). x ++ messages (wait l left.rows) ++ messages (held l left.rows)) (drop_twice (t - a) a (p.near_past.sent l) ∙ ap (λ (n : ℕ). drop n (p.near_past.sent l)) many)
 
-    moved_from : (to : Option ℕ) (new : List Message) → new ≡ messages (queue_for to mid.rows) ++ answer_on l (slice_get mid.links l) mid ++ pending l mid p.far
-        → new ≡ messages (queue_for to p.near.rows) ++ answer_on l (slice_get p.near.links l) p.near ++ drop (length (p.far_past.taken l)) (p.near_past.sent l) ++ messages (wait l p.near.rows) ++ messages (held l p.near.rows)
+    abbrev moved_state : State
+    moved_state = (hearing.taken mx my one p h w.both k few unit rest front link at).state
+
+    -- as the move tells it, of the link that is left there
+    moved_there : (to : Option ℕ) (new : List Message) → new ≡ messages (queue_for to (as_left l (slice_get mid.links l) mid).rows) ++ answer_on l (slice_get mid.links l) mid ++ pending l (as_left l (slice_get mid.links l) mid) p.far
+        → new ≡ messages (queue_for to left_mid.rows) ++ answer_on l (slice_get mid.links l) mid ++ pending l left_mid p.far
+    moved_there to new e = subst (λ (o : Option LinkState). new ≡ messages (queue_for to (as_left l o mid).rows) ++ answer_on l (slice_get mid.links l) mid ++ pending l (as_left l o mid) p.far) there_mid e
+
+    moved_from : (to : Option ℕ) (new : List Message) → new ≡ messages (queue_for to left_mid.rows) ++ answer_on l (slice_get mid.links l) mid ++ pending l left_mid p.far
+        → new ≡ messages (queue_for to left.rows) ++ answer_on l (slice_get p.near.links l) p.near ++ drop (length (p.far_past.taken l)) (p.near_past.sent l) ++ messages (wait l left.rows) ++ messages (held l left.rows)
     moved_from to new e =
         e
-        ∙ ap (λ (x : List Message). x ++ answer_on l (slice_get mid.links l) mid ++ pending l mid p.far) (same_queue to)
-        ∙ ap (λ (x : List Message). messages (queue_for to p.near.rows) ++ x ++ pending l mid p.far) same_answer
-        ∙ ap (λ (x : List Message). messages (queue_for to p.near.rows) ++ answer_on l (slice_get p.near.links l) p.near ++ x) rest_is
-        ∙ told_apart (messages (queue_for to p.near.rows)) (answer_on l (slice_get p.near.links l) p.near) (drop (length (p.far_past.taken l)) (p.near_past.sent l)) (messages (wait l p.near.rows)) (messages (held l p.near.rows))
+        ∙ ap (λ (x : List Message). x ++ answer_on l (slice_get mid.links l) mid ++ pending l left_mid p.far) (same_queue to)
+        ∙ ap (λ (x : List Message). messages (queue_for to left.rows) ++ x ++ pending l left_mid p.far) same_answer
+        ∙ ap (λ (x : List Message). messages (queue_for to left.rows) ++ answer_on l (slice_get p.near.links l) p.near ++ x) rest_is
+        ∙ told_apart (messages (queue_for to left.rows)) (answer_on l (slice_get p.near.links l) p.near) (drop (length (p.far_past.taken l)) (p.near_past.sent l)) (messages (wait l left.rows)) (messages (held l left.rows))
+
+    diverts_from : DivertsFrom l (p.near_past.sent l) (p.far_past.taken l) p.near left then_near
+    diverts_from = record {
+      acked = subst (λ (n : ℕ). All (λ message. place message.number then_near.rows ≡ Some (Acked l)) (take n (p.near_past.sent l))) (equal_then l now ∙ counted) (first_then l).first;
+      moved = rw state_is (moved_from (target moved_state.links) _ (moved_there (target moved_state.links) _ moved_so.moved));
+    }
 
     diverts : Diverts l (p.near_past.sent l) (p.far_past.taken l) p.near then_near
-    diverts = record {
-      acked = subst (λ (n : ℕ). All (λ message. place message.number then_near.rows ≡ Some (Acked l)) (take n (p.near_past.sent l))) (equal_then l now ∙ counted) (first_then l).first;
-      moved = rw state_is (moved_from (target (hearing.taken mx my one p h w.both k few unit rest front link at).state.links) _ moved_so.moved);
-    }
+    diverts = subst (λ (o : Option LinkState). DivertsFrom l (p.near_past.sent l) (p.far_past.taken l) p.near (as_left l o p.near) then_near) (sym link_there.1) diverts_from
 
   pub hears_did : Did p heard
   hears_did = record {
@@ -214,11 +253,19 @@ module _ (mx my : Method) (one : IsOneMethod mx my) (p : Two) (h : HoldsOf mx my
   number_is fsn (Eco l) v e t = absurd t
   number_is fsn (Eca l) v e t = absurd t
 
+  is_over : (fsn : ℕ) (order : Order) → IsFsnIn fsn order → IsChangeover order
+  is_over fsn (Coo l n) e = tt
+  is_over fsn (Coa l n) e = tt
+  is_over fsn (Cbd l n) e = absurd e
+  is_over fsn (Cba l n) e = absurd e
+  is_over fsn (Eco l) e = absurd e
+  is_over fsn (Eca l) e = absurd e
+
   some_tells : (body : List ℕ) → brought (hearing.part mx my one p h w.both k few unit rest front link at).accept unit ≡ Some body → IsToldBy unit p.near p.far_past
   some_tells body e order fsn state is fsn_in there going =
       let is_order : order_of body ≡ Some order = ap order_of (sym (hearing.is_body mx my one p h w.both k few unit rest front link at body e)) ∙ is in
-      let fsn_is = number_is fsn order (view p.far p.near) fsn_in (hearing.tells mx my one p h w.both k few unit rest front link at body e order is_order) in
-      let t = hearing.told_before mx my one p h w.both k few unit rest front link at body e order is_order fsn fsn_is state there going in
+      let fsn_is = number_is fsn order (view p.far p.near) fsn_in (hearing.tells mx my one p h w.both k few unit rest front link at body e order is_order (is_over fsn order fsn_in)) in
+      let t = hearing.told_before mx my one p h w.both k few unit rest front link at body e order is_order (is_over fsn order fsn_in) fsn fsn_is state there going in
       let other = present p.far.links (link_of order) (omega (arith, within p.near.links (link_of order) state there, h.far_links)) in
       let counted : accepted_on (link_of order) p.far ≡ length (p.far_past.taken (link_of order)) = ap accepted_of other.1 ∙ (kept_on mx my one p h (link_of order)).accepted other.0 other.1 in
       record {

@@ -1,24 +1,20 @@
 -- WHAT AN END DOES, and the orders under way at both: the other stands still.
-use Rattle.std.proofs.Common.{refl, arith, ◌≡◌, ◌≢◌, ◌∙◌, ap, sym, subst, ℕ, ◌≤◌, ◌<◌, ◌==◌, ◌+◌, ◌-◌, ◌%◌, Bool, true, false, List, [], ◌∷◌, ◌++◌, length, slice_get, slice_set, Option, Some, None, ◌⊎◌, inl, inr, cond}
+use Rattle.std.proofs.Common.{refl, ◌≡◌, ◌≢◌, ◌∙◌, ap, sym, subst, ℕ, ◌==◌, ◌-◌, Bool, true, false, List, [], ◌∷◌, ◌++◌, slice_get, slice_set, Option, Some, None, ◌⊎◌, inl, inr}
 use Rattle.std.proofs.lemmas.Bool.{eqb-true}
 use Rattle.l3_orders.specs.declared.order.Order.{Order}
 use Rattle.l3_orders.specs.Grammar.{text, order_of, link_of}
 use Rattle.set_events.specs.declared.answer.Fate.{Fate}
 use Rattle.set_events.specs.declared.answer.Fate.TheVariants.{Waiting, Unacked, Acked, Held, Parked, Back, Discarded}
-use Rattle.set_model.specs.declared.phase.Phase.TheVariants.{Up, Down}
 use Rattle.set_model.specs.Rows.{Row, is_on, is_waiting, is_unacked, is_held, is_parked, held, unack, appended}
 use Rattle.set_model.specs.Sound.{IsSound}
-use Rattle.set_model.specs.State.{LinkState, State, is_up, is_settled, link_is_up, link_is_settled, has_phase_up, has_phase_settled, target}
-use Rattle.set_model.specs.Changeover.{fate_on, queued, left_link}
-use Rattle.set_model.proofs.Events.{Untouched}
-use Rattle.set_model.proofs.Lists.{get_set_same, get_set_other, same_at, within}
+use Rattle.set_model.specs.State.{LinkState, State, is_up, is_settled, link_is_up, link_is_settled, target}
+use Rattle.set_model.specs.Changeover.{fate_on, queued}
+use Rattle.set_model.proofs.Lists.{get_set_same, get_set_other, within}
 use Rattle.set_model.proofs.Places.{false_true, itself}
-use Rattle.set_model.proofs.Plain.{just_left}
 use Rattle.set_model.proofs.Targets.{target_up}
-use Rattle.set_model.proofs.Walk.{IsAt}
 use Rattle.pair_model.specs.Run.{Message, messages}
-use Rattle.pair_changeover.proofs.Table.{new_message, queue_waits, queue_holds, queue_apart, queue_untouched, aside_joins, aside_apart}
-use Rattle.pair_changeover.proofs.Views.{View, view, pending, aside, queue, acked_of, acked_on, accepted_of, accepted_on, Among, among_joined, In, stands_on, stands_aside, IsPlain, NoneAbout, About, Tells, Orders, Came, plain, stayed, moved, CameAside, plain_aside, was_in, plain_not, Passes, carries, Queues, queued_in}
+use Rattle.pair_changeover.proofs.Table.{new_message, queue_waits, queue_holds, queue_apart, aside_joins, aside_apart}
+use Rattle.pair_changeover.proofs.Views.{view, pending, aside, queue, acked_on, accepted_of, accepted_on, Among, among_joined, stands_on, stands_aside, IsNoOrder, NoneAbout, Tells, Orders, Came, plain, stayed, moved, CameAside, plain_aside, was_in, plain_not, Passes, carries, Queues, queued_in}
 
 -- the orders of both
 pub record Both (s f : State) : Type 0 where
@@ -109,11 +105,12 @@ module _ (count link : ℕ) (rows : List Row) (body : List ℕ) where
   holds_so k true e = grown refl (queue_holds count link rows body (Held k) refl refl e)
   holds_so k false e = ungrown refl (queue_apart count link rows body (Held k) e)
 
-  -- one that waits, is held or is parked
+  -- one that waits, is held, is parked or stands back
   pub data IsNew : Fate → Type 0 where
     to_wait : (k : ℕ) → ((k == link) ≡ true → held link rows ≡ []) → IsNew (Waiting k)
     to_hold : (k : ℕ) → IsNew (Held k)
     to_park : IsNew Parked
+    to_back : (code : ℕ) → IsNew (Back code)
 
   pub grows : (fate : Fate) → IsNew fate → Grows (new_message rows body) (is_on link fate) (queue count link rows) (queue count link (appended rows body fate))
   grows (Waiting l) (to_wait k none) = waits_so k (k == link) refl none
@@ -121,7 +118,7 @@ module _ (count link : ℕ) (rows : List Row) (body : List ℕ) where
   grows Parked to_park = ungrown refl (queue_apart count link rows body Parked refl)
   grows (Unacked l) new = elim new [ ]
   grows (Acked l) new = elim new [ ]
-  grows (Back code) new = elim new [ ]
+  grows (Back code) (to_back c) = ungrown refl (queue_apart count link rows body (Back code) refl)
   grows (Discarded cause) new = elim new [ ]
 
 -- a link that is up holds nothing
@@ -132,8 +129,8 @@ held_none s link sound up = go (slice_get s.links link) refl
     go None e = absurd (let no : false ≡ true = sym (ap link_is_up e) ∙ up in cc)
     go (Some state) e = (sound.links link state e).none_held (sym (ap link_is_up e) ∙ up)
 
--- AN OFFERED MESSAGE is no order
-module _ (s f : State) (body : List ℕ) (fate : Fate) (t : State) (rows : t.rows ≡ appended s.rows body fate) (links : t.links ≡ s.links) (new : (link : ℕ) → IsNew 0 link s.rows body fate) (no_order : order_of body ≡ None) where
+-- A NEW MESSAGE that is no order
+module _ (s f : State) (body : List ℕ) (fate : Fate) (t : State) (rows : t.rows ≡ appended s.rows body fate) (links : t.links ≡ s.links) (new : (link : ℕ) → IsNew 0 link s.rows body fate) (no_order : IsNoOrder body) where
   abbrev count_at : ℕ → ℕ
   count_at link = accepted_on link f - acked_on link s
 
@@ -143,7 +140,7 @@ module _ (s f : State) (body : List ℕ) (fate : Fate) (t : State) (rows : t.row
     where
       go : Among m (pending link s f) ⊎ Among m (new_message s.rows body ∷ []) → Came (view s f) link m
       go (inl a) = stayed a
-      go (inr (inl e)) = plain (ap (λ (x : Message). order_of x.body) e ∙ no_order)
+      go (inr (inl e)) = plain (λ order is over. no_order order (ap (λ (x : Message). order_of x.body) (sym e) ∙ is) over)
       go (inr (inr a)) = absurd a
 
   offer_aside : (m : Message) (b : Bool) → is_parked fate ≡ b → Among m (messages (Rattle.set_model.specs.Rows.parked (appended s.rows body fate))) → CameAside (view s f) m
@@ -152,7 +149,7 @@ module _ (s f : State) (body : List ℕ) (fate : Fate) (t : State) (rows : t.row
     where
       go : Among m (aside s) ⊎ Among m (new_message s.rows body ∷ []) → CameAside (view s f) m
       go (inl a) = was_in (stands_aside a)
-      go (inr (inl e)) = plain_aside (ap (λ (x : Message). order_of x.body) e ∙ no_order)
+      go (inr (inl e)) = plain_aside (λ order is over. no_order order (ap (λ (x : Message). order_of x.body) (sym e) ∙ is) over)
       go (inr (inr a)) = absurd a
 
   pub offers_acts : Acts s t f
@@ -174,7 +171,7 @@ module _ (s f : State) (body : List ℕ) (fate : Fate) (t : State) (rows : t.row
           again Parked to_park = to_park
           again (Unacked l) new = elim new [ ]
           again (Acked l) new = elim new [ ]
-          again (Back code) new = elim new [ ]
+          again (Back code) (to_back c) = to_back code
           again (Discarded cause) new = elim new [ ]
 
 -- AN ORDER IS QUEUED
@@ -252,23 +249,6 @@ module _ (k : ℕ) (link link' : LinkState) (s t : State) (there : slice_get s.l
       go : (b : Bool) → (k == l) ≡ b → P l (slice_get s.links l) (slice_get t.links l)
       go true e = subst (λ (n : ℕ). P n (slice_get s.links n) (slice_get t.links n)) (eqb-true k l e) (subst (λ (o : Option LinkState). P k o (slice_get t.links k)) (sym there) (subst (λ (o : Option LinkState). P k (Some link) o) (sym own_then) own))
       go false e = subst (λ (o : Option LinkState). P l (slice_get s.links l) o) (sym (other_then l e)) (other l (slice_get s.links l) e)
-
--- IT IS LEFT, where no changeback is under way
-pub leaves_queues : (blind : Bool) (k : ℕ) (link : LinkState) (s f : State) → IsAt k link Up s → (l : ℕ) → pending l (just_left blind k link s) f ≡ pending l s f
-leaves_queues blind k link s f at l = ap (λ (n : ℕ). queue (accepted_on l f - n) l s.rows) (by_link k link (left_link blind link) s (just_left blind k link s) at.there refl (λ n old new. acked_of new ≡ acked_of old) refl (λ n old d. refl) l)
-
-pub leaves_acts : (blind : Bool) (k : ℕ) (link : LinkState) (s f : State) → IsAt k link Up s → Acts s (just_left blind k link s) f
-leaves_acts blind k link s f at =
-    let t = just_left blind k link s in
-    let all = by_link k link (left_link blind link) s t at.there refl in
-    record {
-      came = λ l m among. stayed (subst (λ (q : List Message). Among m q) (leaves_queues blind k link s f at l) among);
-      came_aside = λ m among. was_in (stands_aside among);
-      up_less = λ l up. all (λ n old new. link_is_up new ≡ true → link_is_up old ≡ true) (λ e. absurd cc) (λ n old d e. e) l up;
-      settled_more = λ l settled. inl (all (λ n old new. link_is_settled new ≡ true → link_is_settled old ≡ true) (λ e. absurd cc) (λ n old d e. e) l settled);
-      accepted = λ l. inl (all (λ n old new. accepted_of new ≡ accepted_of old) refl (λ n old d. refl) l);
-      far_came = far_same s t f (λ l. all (λ n old new. accepted_of new ≡ accepted_of old) refl (λ n old d. refl) l);
-    }
 
 -- what stood at neither end about a link doesn't then
 module _ (s t f : State) (a : Acts s t f) (link : ℕ) where

@@ -1,6 +1,7 @@
 -- WHAT AN END HEARS, and the orders under way at both: the body that it accepts is the first that is pending at the other.
-use Rattle.std.proofs.Common.{refl, arith, ◌≡◌, ◌≢◌, ◌∙◌, ap, sym, subst, ℕ, zero, suc, ◌≤◌, ◌<◌, ◌==◌, ◌+◌, ◌-◌, ◌%◌, Bool, true, false, List, [], ◌∷◌, ◌++◌, length, take, drop, slice_get, slice_set, Option, Some, None, ◌⊎◌, inl, inr}
+use Rattle.std.proofs.Common.{refl, arith, ◌≡◌, ◌≢◌, ◌∙◌, ap, sym, subst, ℕ, suc, ◌≤◌, ◌<◌, ◌==◌, ◌+◌, ◌-◌, ◌%◌, Bool, true, false, List, [], ◌∷◌, ◌++◌, length, take, drop, slice_get, Option, Some, None, inl}
 use Rattle.std.proofs.lemmas.Bool.{eqb-true}
+use Rattle.std.proofs.lemmas.Option.{same_Some}
 use Rattle.l2_units.specs.declared.unit.Unit.{Unit as SignalUnit}
 use Rattle.l2_units.specs.declared.unit.Unit.TheVariants.{Fisu, Lssu, Msu}
 use Rattle.l2_window.specs.declared.control.HeardPart.{HeardPart}
@@ -12,14 +13,16 @@ use Rattle.set_events.specs.declared.config.Method.{Method}
 use Rattle.set_model.specs.declared.phase.Phase.{Phase}
 use Rattle.set_model.specs.declared.phase.Phase.TheVariants.{Up, Down, Settled}
 use Rattle.set_model.specs.declared.reached.Reached.TheVariants.{Upto}
-use Rattle.set_model.specs.Changeover.{Obeyed, ignored, order_obeyed, queued, left_link, settled, at_link, changed_over, answered, obeyed}
-use Rattle.set_model.specs.Rows.{Row, unack, parked, service_indicator, IsNumbered}
+use Rattle.set_route.specs.declared.place.Code.{Code}
+use Rattle.set_route.specs.declared.place.Code.TheVariants.{Free, Asked, Spent}
+use Rattle.set_route.specs.Routing.{code_of}
+use Rattle.set_model.specs.Changeover.{Obeyed, order_obeyed, at_link, changed_over, answered, acknowledged_back, obeyed}
+use Rattle.set_model.specs.Rows.{unack, parked, service_indicator, IsNumbered}
 use Rattle.set_model.specs.Sound.{IsSound}
-use Rattle.set_model.specs.State.{LinkState, State, is_up, is_settled, link_is_up, link_is_settled, has_phase_up, has_phase_settled, last_accepted, window_of}
-use Rattle.set_model.specs.Step.{brought, takes, is_msu, one_if}
+use Rattle.set_model.specs.State.{LinkState, State, is_up, is_settled, link_is_up, link_is_settled, has_phase_up, has_phase_settled, window_of}
+use Rattle.set_model.specs.Step.{brought, takes, one_if}
 use Rattle.set_model.proofs.Events.{acknowledged}
 use Rattle.set_model.proofs.Lists.{get_set_same, present, within}
-use Rattle.set_model.proofs.Plain.{Quietly, left_straight}
 use Rattle.set_model.proofs.SoundLink as sounds
 use Rattle.set_model.proofs.Walk.{IsAt}
 use Rattle.pair_model.specs.Promises.{IsOneMethod, IsKeptOn}
@@ -30,11 +33,12 @@ use Rattle.pair_model.proofs.Kept.{past_of, kept_on, kept_tied}
 use Rattle.pair_model.proofs.Pairs.{Two, side, HoldsOf}
 use Rattle.pair_model.proofs.Tied.{Side, Tied, turned}
 use Rattle.pair_changeover.proofs.Changes.{Both, Acts, acts, by_link, other_then}
-use Rattle.pair_changeover.proofs.Obeying.{Told, Heard, Obeys, keeps, settles, answers}
+use Rattle.pair_changeover.proofs.Obeying.{Told, Heard, TellsNoBack, TellsOver, Obeys, keeps, settles, answers, acknowledges, releases}
 use Rattle.pair_changeover.proofs.Passing.{passing, far_stays, far_loses, was_first}
 use Rattle.pair_changeover.proofs.Reaching.{Reaches, reaches, Due, due, due_message, not_queued, not_aside}
 use Rattle.pair_changeover.proofs.Table.{queue_acked, queue_untouched}
-use Rattle.pair_changeover.proofs.Views.{View, view, pending, queue, acked_of, acked_on, accepted_of, accepted_on, Among, In, stands_on, stands_aside, About, NoneAbout, Tells}
+use Rattle.pair_changeover.proofs.Texts.{plain_body}
+use Rattle.pair_changeover.proofs.Views.{view, pending, queue, acked_of, acked_on, accepted_of, accepted_on, Among, In, stands_on, stands_aside, About, IsChangeover, Tells}
 
 unsettled_up : (a b : Bool) → (a ≡ true → b ≡ false) → b ≡ true → a ≡ false
 unsettled_up false b w e = refl
@@ -71,9 +75,8 @@ module _ (mx my : Method) (one : IsOneMethod mx my) (p : Two) (h : HoldsOf mx my
   mid_tied : Tied k mx my heard_side y (units_on k p.out) rest
   mid_tied = hearing.mid_tied k mx my one x y (units_on k p.out) rest unit link h.near_sound at tied
 
-  -- and no changeback is under way
-  pub mid_quiet : Quietly mid
-  mid_quiet = (sounds.hears_sound k link p.near at h.near_sound unit, h.near_straight.none_open)
+  pub mid_sound : IsSound mid
+  mid_sound = sounds.hears_sound k link p.near at h.near_sound unit
 
   mid_numbered : IsNumbered mid.rows
   mid_numbered = (acknowledged k part.acked p.near.rows).kept.numbered h.near_sound.numbered
@@ -193,11 +196,11 @@ module _ (mx my : Method) (one : IsOneMethod mx my) (p : Two) (h : HoldsOf mx my
     among_first : Among first (pending k p.far p.near)
     among_first = subst (λ (q : List Message). Among first q) (sym first_is) (inl refl)
 
-    first_in : In first (view p.far p.near)
+    pub first_in : In first (view p.far p.near)
     first_in = stands_on k among_first
 
     -- it stands nowhere at the far end then
-    gone : (m : Message) → In m (view p.far mid) → m.number ≢ first.number
+    pub gone : (m : Message) → In m (view p.far mid) → m.number ≢ first.number
     gone m (stands_on l a) = not_queued k (link.accepted - acked_on k p.far) p.far.rows h.far_sound.numbered next_due.row next_due.there (accepted_on l mid - acked_on l p.far) l (λ same. behind l same) m a
       where
         behind : (l : ℕ) → (k == l) ≡ true → link.accepted - acked_on k p.far < accepted_on l mid - acked_on l p.far
@@ -205,17 +208,18 @@ module _ (mx my : Method) (one : IsOneMethod mx my) (p : Two) (h : HoldsOf mx my
             (let now : accepted_on k mid ≡ mid_link.accepted = ap accepted_of mid_at.there in omega (arith, now, one_more, far_due))
     gone m (stands_aside a) = not_aside k (link.accepted - acked_on k p.far) p.far.rows h.far_sound.numbered next_due.row next_due.there m a
 
-    was_in_far : (m : Message) → In m (view p.far mid) → In m (view p.far p.near)
+    pub was_in_far : (m : Message) → In m (view p.far mid) → In m (view p.far p.near)
     was_in_far m (stands_on l a) = stands_on l (far_came l m a)
     was_in_far m (stands_aside a) = stands_aside a
 
-    -- AN ORDER IS HEARD: it was the only one about its link, which its end left; and it tells what that end counts
-    module _ (order : Order) (is : order_of body ≡ Some order) where
+    -- AN ORDER OF A CHANGEOVER IS HEARD: it was the only one about its link, which its end left; and it tells what that end
+    -- counts
+    module _ (order : Order) (is : order_of body ≡ Some order) (over : IsChangeover order) where
       first_order : order_of first.body ≡ Some order
       first_order = ap order_of next_due.body_is ∙ is
 
       about : About (link_of order) first
-      about = record { order = order; is = first_order; of = refl }
+      about = record { order = order; is = first_order; over = over; of = refl }
 
       apart : (b : Bool) → (k == link_of order) ≡ b → b ≡ false
       apart false e = refl
@@ -225,7 +229,7 @@ module _ (mx my : Method) (one : IsOneMethod mx my) (p : Two) (h : HoldsOf mx my
       other = let a = apart (k == link_of order) refl in a
 
       pub tells : Tells (view p.far p.near) order
-      tells = o.far.tells first first_in order first_order
+      tells = o.far.tells first first_in order first_order over
 
       pub unsettled : is_settled (link_of order) p.near ≡ false
       unsettled = go (is_settled (link_of order) p.near) refl
@@ -262,52 +266,94 @@ module _ (mx my : Method) (one : IsOneMethod mx my) (p : Two) (h : HoldsOf mx my
       going_at : (state : LinkState) → slice_get mid.links (link_of order) ≡ Some state → has_phase_settled state.phase ≡ false
       going_at state there = ap link_is_settled (sym there ∙ same_link) ∙ unsettled
 
-    coo_obeyed : (l fsn : ℕ) (is : order_of body ≡ Some (Coo l fsn)) (state : LinkState) → slice_get mid.links l ≡ Some state → (phase : Phase) → state.phase ≡ phase → Obeys k mid p.far (changed_over (Upto fsn) l state phase mid).state
-    coo_obeyed l fsn is state there Up e = subst (λ (left : State). Obeys k mid p.far (settled (Upto fsn) l (left_link false state) (queued (Coa l (last_accepted state)) left))) (sym (left_straight false l state mid mid_quiet.0 mid_quiet.1))
-        (answers fsn l state (other (Coo l fsn) is) (record { there = there; phase_is = e }) (told_then (Coo l fsn) is fsn (tells (Coo l fsn) is) state (sym (same_link (Coo l fsn) is) ∙ there) (going_at (Coo l fsn) is state there)) (heard (Coo l fsn) is))
-    coo_obeyed l fsn is state there Down e = settles fsn l state (other (Coo l fsn) is) (record { there = there; phase_is = e }) (told_then (Coo l fsn) is fsn (tells (Coo l fsn) is) state (sym (same_link (Coo l fsn) is) ∙ there) (going_at (Coo l fsn) is state there)) (heard (Coo l fsn) is)
-    coo_obeyed l fsn is state there Settled e = absurd (let no : true ≡ false = sym (ap has_phase_settled e) ∙ going_at (Coo l fsn) is state there in cc)
+    over_is : (order : Order) → order_of body ≡ Some order → IsChangeover order → TellsOver body
+    over_is order is over = record { order = order; is = is; over = over }
 
-    coa_obeyed : (l fsn : ℕ) (is : order_of body ≡ Some (Coa l fsn)) (state : LinkState) → slice_get mid.links l ≡ Some state → (phase : Phase) → state.phase ≡ phase → Obeys k mid p.far (answered (Upto fsn) l state phase mid).state
-    coa_obeyed l fsn is state there Up e = keeps mid refl refl refl
-    coa_obeyed l fsn is state there Down e = settles fsn l state (other (Coa l fsn) is) (record { there = there; phase_is = e }) (told_then (Coa l fsn) is fsn (tells (Coa l fsn) is) state (sym (same_link (Coa l fsn) is) ∙ there) (going_at (Coa l fsn) is state there)) (heard (Coa l fsn) is)
-    coa_obeyed l fsn is state there Settled e = keeps mid refl refl refl
+    -- it tells nothing of a changeback
+    no_back : (order : Order) → order_of body ≡ Some order → IsChangeover order → TellsNoBack body mid
+    no_back order is over = record {
+      none_declared = λ l code e. subst IsChangeover (same_Some order (Cbd l code) (sym is ∙ e)) over;
+      none_in_use = λ l code e. absurd (subst IsChangeover (same_Some order (Cba l code) (sym is ∙ e)) over);
+    }
 
-    order_is_obeyed : (order : Order) → order_of body ≡ Some order → Obeys k mid p.far (order_obeyed order mid).state
+    no_order : order_of body ≡ None → TellsNoBack body mid
+    no_order is = record {
+      none_declared = λ l code e. let no : None ≡ Some (Cbd l code) = sym is ∙ e in absurd cc;
+      none_in_use = λ l code e. let no : None ≡ Some (Cba l code) = sym is ∙ e in absurd cc;
+    }
+
+    module _ (l fsn : ℕ) (is : order_of body ≡ Some (Coo l fsn)) where
+      coo_told : (state : LinkState) → slice_get mid.links l ≡ Some state → Told fsn l state mid p.far
+      coo_told state there = told_then (Coo l fsn) is tt fsn (tells (Coo l fsn) is tt) state (sym (same_link (Coo l fsn) is tt) ∙ there) (going_at (Coo l fsn) is tt state there)
+
+      coo_obeyed : (state : LinkState) → slice_get mid.links l ≡ Some state → (phase : Phase) → state.phase ≡ phase → Obeys k body mid p.far (changed_over (Upto fsn) l state phase mid).state
+      coo_obeyed state there Up e = answers fsn l state (other (Coo l fsn) is tt) (record { there = there; phase_is = e }) (coo_told state there) (heard (Coo l fsn) is tt) (over_is (Coo l fsn) is tt)
+      coo_obeyed state there Down e = settles fsn l state (other (Coo l fsn) is tt) (record { there = there; phase_is = e }) (coo_told state there) (heard (Coo l fsn) is tt) (over_is (Coo l fsn) is tt)
+      coo_obeyed state there Settled e = absurd (let no : true ≡ false = sym (ap has_phase_settled e) ∙ going_at (Coo l fsn) is tt state there in cc)
+
+    module _ (l fsn : ℕ) (is : order_of body ≡ Some (Coa l fsn)) where
+      coa_told : (state : LinkState) → slice_get mid.links l ≡ Some state → Told fsn l state mid p.far
+      coa_told state there = told_then (Coa l fsn) is tt fsn (tells (Coa l fsn) is tt) state (sym (same_link (Coa l fsn) is tt) ∙ there) (going_at (Coa l fsn) is tt state there)
+
+      coa_obeyed : (state : LinkState) → slice_get mid.links l ≡ Some state → (phase : Phase) → state.phase ≡ phase → Obeys k body mid p.far (answered (Upto fsn) l state phase mid).state
+      coa_obeyed state there Up e = keeps mid refl refl refl (no_back (Coa l fsn) is tt)
+      coa_obeyed state there Down e = settles fsn l state (other (Coa l fsn) is tt) (record { there = there; phase_is = e }) (coa_told state there) (heard (Coa l fsn) is tt) (over_is (Coa l fsn) is tt)
+      coa_obeyed state there Settled e = keeps mid refl refl refl (no_back (Coa l fsn) is tt)
+
+    cba_obeyed : (l code : ℕ) → order_of body ≡ Some (Cba l code) → (c : Code) → code_of code mid.routing ≡ c → Obeys k body mid p.far (acknowledged_back code c mid).state
+    cba_obeyed l code is Free e = keeps mid refl refl refl (record {
+      none_declared = λ m d f. let no : Some (Cba l code) ≡ Some (Cbd m d) = sym is ∙ f in absurd cc;
+      none_in_use = λ m d f. let same : Some (Cba l code) ≡ Some (Cba m d) = sym is ∙ f in let one : code ≡ d = cc in subst (λ (n : ℕ). code_of n mid.routing ≡ Free) one e;
+    })
+    cba_obeyed l code is Asked e = releases l code is
+    cba_obeyed l code is Spent e = releases l code is
+
+    order_is_obeyed : (order : Order) → order_of body ≡ Some order → Obeys k body mid p.far (order_obeyed order mid).state
     order_is_obeyed (Coo l fsn) is = go (slice_get mid.links l) refl
       where
-        go : (there : Option LinkState) → slice_get mid.links l ≡ there → Obeys k mid p.far (at_link l mid (λ state. changed_over (Upto fsn) l state state.phase mid) there).state
-        go None e = keeps mid refl refl refl
+        go : (there : Option LinkState) → slice_get mid.links l ≡ there → Obeys k body mid p.far (at_link l mid (λ state. changed_over (Upto fsn) l state state.phase mid) there).state
+        go None e = keeps mid refl refl refl (no_back (Coo l fsn) is tt)
         go (Some state) e = coo_obeyed l fsn is state e state.phase refl
     order_is_obeyed (Coa l fsn) is = go (slice_get mid.links l) refl
       where
-        go : (there : Option LinkState) → slice_get mid.links l ≡ there → Obeys k mid p.far (at_link l mid (λ state. answered (Upto fsn) l state state.phase mid) there).state
-        go None e = keeps mid refl refl refl
+        go : (there : Option LinkState) → slice_get mid.links l ≡ there → Obeys k body mid p.far (at_link l mid (λ state. answered (Upto fsn) l state state.phase mid) there).state
+        go None e = keeps mid refl refl refl (no_back (Coa l fsn) is tt)
         go (Some state) e = coa_obeyed l fsn is state e state.phase refl
-    order_is_obeyed (Cbd l code) is = absurd (tells (Cbd l code) is)
-    order_is_obeyed (Cba l code) is = absurd (tells (Cba l code) is)
-    order_is_obeyed (Eco l) is = absurd (tells (Eco l) is)
-    order_is_obeyed (Eca l) is = absurd (tells (Eca l) is)
+    order_is_obeyed (Cbd l code) is = acknowledges l code is
+    order_is_obeyed (Cba l code) is = cba_obeyed l code is (code_of code mid.routing) refl
+    order_is_obeyed (Eco l) is = absurd (tells (Eco l) is tt)
+    order_is_obeyed (Eca l) is = absurd (tells (Eca l) is tt)
 
-    pub some_obeyed : Obeys k mid p.far taken.state
+    pub some_obeyed : Obeys k body mid p.far taken.state
     some_obeyed = rw e (go (service_indicator body == 0) refl)
       where
-        obeyed_so : (order : Option Order) → order_of body ≡ order → Obeys k mid p.far (obeyed order mid).state
-        obeyed_so None g = keeps mid refl refl refl
+        obeyed_so : (order : Option Order) → order_of body ≡ order → Obeys k body mid p.far (obeyed order mid).state
+        obeyed_so None g = keeps mid refl refl refl (no_order g)
         obeyed_so (Some order) g = order_is_obeyed order g
 
-        go : (b : Bool) → (service_indicator body == 0) ≡ b → Obeys k mid p.far (takes (Some body) mid).state
+        go : (b : Bool) → (service_indicator body == 0) ≡ b → Obeys k body mid p.far (takes (Some body) mid).state
         go true g = rw g (obeyed_so (order_of body) refl)
-        go false g = rw g (keeps _ refl refl refl)
+        go false g = rw g (keeps _ refl refl refl (no_order (plain_body body g)))
+
+  -- the body that it accepts, or none
+  abbrev pub body_of : Option (List ℕ) → List ℕ
+  body_of None = []
+  body_of (Some body) = body
+
+  abbrev pub heard_body : List ℕ
+  heard_body = body_of (brought part.accept unit)
 
   -- EITHER WAY
   pub record Hears : Type 0 where
     pub both : Both mid p.far
-    pub obeys : Obeys k mid p.far taken.state
+    pub obeys : Obeys k heard_body mid p.far taken.state
+
+  none_told : TellsNoBack [] mid
+  none_told = record { none_declared = λ l code e. absurd cc; none_in_use = λ l code e. absurd cc }
 
   pub hears : Hears
   hears = go (brought part.accept unit) refl
     where
       go : (body : Option (List ℕ)) → brought part.accept unit ≡ body → Hears
-      go None e = record { both = none_both e; obeys = subst (Obeys k mid p.far) (sym (none_taken e)) (keeps mid refl refl refl) }
-      go (Some body) e = record { both = some_both body e; obeys = some_obeyed body e }
+      go None e = record { both = none_both e; obeys = subst (λ (b : Option (List ℕ)). Obeys k (body_of b) mid p.far taken.state) (sym e) (subst (Obeys k [] mid p.far) (sym (none_taken e)) (keeps mid refl refl refl none_told)) }
+      go (Some body) e = record { both = some_both body e; obeys = subst (λ (b : Option (List ℕ)). Obeys k (body_of b) mid p.far taken.state) (sym e) (some_obeyed body e) }

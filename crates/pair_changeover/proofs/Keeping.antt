@@ -1,34 +1,34 @@
 -- WHAT EACH EVENT OF AN END KEEPS of the orders under way, but hearing and coming up: it settles nothing and accepts nothing.
-use Rattle.std.proofs.Common.{refl, arith, ◌≡◌, ◌≢◌, ◌∙◌, ap, sym, subst, ℕ, zero, suc, ◌≤◌, ◌<◌, ◌==◌, ◌+◌, ◌-◌, ◌%◌, Bool, true, false, nat_lt, nat_le, List, [], ◌∷◌, ◌++◌, length, slice_get, slice_set, Option, Some, None, cond}
+use Rattle.std.proofs.Common.{refl, arith, ◌≡◌, ◌∙◌, ap, sym, subst, ℕ, zero, suc, ◌≤◌, ◌==◌, ◌+◌, ◌-◌, ◌%◌, Bool, true, false, nat_lt, nat_le, List, [], ◌∷◌, length, slice_get, Option, Some, None, cond}
 use Rattle.std.proofs.lemmas.Bool.{eqb-true}
-use Rattle.l3_orders.specs.declared.order.Order.TheVariants.{Coo}
-use Rattle.l3_orders.specs.Grammar.{order_of, text}
+use Rattle.l3_orders.specs.declared.order.Order.TheVariants.{Coo, Cbd}
+use Rattle.l3_orders.specs.Grammar.{text}
 use Rattle.set_events.specs.declared.answer.Fate.{Fate}
 use Rattle.set_events.specs.declared.answer.Fate.TheVariants.{Waiting, Unacked, Acked, Held, Parked, Back, Discarded}
 use Rattle.set_events.specs.declared.answer.Refusal.{Refusal as SetRefusal}
 use Rattle.set_events.specs.declared.answer.Refusal.TheVariants.{NotUp, TooShort, TooLong, Reserved, StreamFull}
-use Rattle.set_events.specs.declared.event.Event.TheVariants.{Offer, Take, Find, Next, Down as DownEvent}
+use Rattle.set_events.specs.declared.event.Event.TheVariants.{Offer, Take, Find, Down as DownEvent, Restore}
 use Rattle.set_route.specs.declared.place.Place.{Place}
 use Rattle.set_route.specs.declared.place.Place.TheVariants.{On, Changing, Nowhere}
-use Rattle.set_route.specs.Routing.{place_of}
-use Rattle.set_route.proofs.Quiet.{never_changing}
+use Rattle.set_route.specs.Routing.{place_of, code_for}
 use Rattle.set_model.specs.declared.phase.Phase.{Phase}
 use Rattle.set_model.specs.declared.phase.Phase.TheVariants.{Up, Down, Settled}
-use Rattle.set_model.specs.Rows.{Row, is_waiting, was_discarded, standing, unack, parked, turned, place, stream_of, service_indicator, unsent, octets_in}
+use Rattle.set_model.specs.Rows.{Row, is_waiting, was_discarded, standing, unack, parked, place, stream_of, service_indicator, unsent, octets_in}
 use Rattle.set_model.specs.Sound.{IsSound}
-use Rattle.set_model.specs.State.{LinkState, State, is_up, is_settled, link_is_up, link_is_settled, has_phase_up, has_phase_settled, last_accepted, fate_at, target, window_of}
+use Rattle.set_model.specs.State.{LinkState, State, link_count, is_up, is_settled, link_is_up, link_is_settled, has_phase_up, has_phase_settled, last_accepted, fate_at, target, window_of}
 use Rattle.set_model.specs.Control.{Choice, again, first, fill, choice_of, control_after}
-use Rattle.set_model.specs.Changeover.{fate_on, queued, left_link}
-use Rattle.set_model.specs.Step.{Outcome, refused, offer_refusal, offered, taken, found, with_known, in_service, falls, next, rows_sent, step}
+use Rattle.set_model.specs.Changeover.{fate_on, queued, left_link, left_by, can_declare, declared, declared_from, some_declare}
+use Rattle.set_model.specs.Step.{Outcome, refused, offer_refusal, offered, taken, found, with_known, in_service, falls, comes_back, next, rows_sent, step}
 use Rattle.set_model.proofs.Events.{Untouched, untouched_self, sent, appended_out}
 use Rattle.set_model.proofs.InPlace.{turned_same}
-use Rattle.set_model.proofs.Plain.{just_left, Quietly, left_straight}
+use Rattle.set_model.proofs.SoundBack.{leaves, declares, alternative_up}
 use Rattle.set_model.proofs.Walk.{IsAt}
-use Rattle.pair_changeover.proofs.Changes.{Both, acts, acts_none, stands_still, offers_acts, IsNew, to_wait, to_hold, to_park, held_none, queues_both, by_link, own_then}
-use Rattle.pair_changeover.proofs.Obeying.{just_left_sound, left_acts, below, not_settled, not_discarded}
+use Rattle.pair_changeover.proofs.Changes.{Both, acts, acts_none, stands_still, offers_acts, IsNew, to_wait, to_hold, to_park, to_back, held_none, queues_both, by_link, own_then}
+use Rattle.pair_changeover.proofs.Leaving.{leaves_acts, leaves_discards, place_not_discarded}
+use Rattle.pair_changeover.proofs.Obeying.{below, not_settled, not_discarded}
 use Rattle.pair_changeover.proofs.Passing.{passing, passing_queues, far_stays}
 use Rattle.pair_changeover.proofs.Table.{queue_sent}
-use Rattle.pair_changeover.proofs.Texts.{AreCodes, coo_read}
+use Rattle.pair_changeover.proofs.Texts.{AreCodes, coo_read, cbd_plain, users_no_order}
 use Rattle.pair_changeover.proofs.Views.{queue, pending, acked_of, acked_on, accepted_of, accepted_on}
 
 pub record Keeps (s t f : State) : Type 0 where
@@ -49,15 +49,6 @@ keeps_still s t f rows links = record {
 }
 
 -- OFFER
-plain_body : (body : List ℕ) → (service_indicator body == 0) ≡ false → order_of body ≡ None
-plain_body [] e = refl
-plain_body (sio ∷ []) e = refl
-plain_body (sio ∷ a ∷ []) e = refl
-plain_body (sio ∷ a ∷ b ∷ []) e = refl
-plain_body (sio ∷ a ∷ b ∷ c ∷ []) e = refl
-plain_body (sio ∷ a ∷ b ∷ c ∷ slc ∷ []) e = refl
-plain_body (sio ∷ a ∷ b ∷ c ∷ slc ∷ code ∷ content) e = rw e refl
-
 pub users_body : (rows : List Row) (body : List ℕ) → offer_refusal rows body ≡ None → (service_indicator body == 0) ≡ false
 users_body rows body e = go (nat_lt (length body) 5) (nat_lt 273 (length body)) (service_indicator body == 0) (nat_le 1024 (length (unsent (stream_of body) rows))) e
   where
@@ -67,39 +58,30 @@ users_body rows body e = go (nat_lt (length body) 5) (nat_lt 273 (length body)) 
     go false false true d e = absurd cc
     go false false false d e = refl
 
-fate_new : (s : State) (body : List ℕ) (link : ℕ) → IsSound s → (place : Place) → ((to code via : ℕ) → place ≡ Changing to code via → ⊥) → IsNew 0 link s.rows body (fate_at place s)
-fate_new s body link sound Nowhere straight = to_park
-fate_new s body link sound (Changing to code via) straight = absurd (straight to code via refl)
-fate_new s body link sound (On k) straight = go (is_up k s) refl
+fate_new : (s : State) (body : List ℕ) (link : ℕ) → IsSound s → (place : Place) → IsNew 0 link s.rows body (fate_at place s)
+fate_new s body link sound Nowhere = to_park
+fate_new s body link sound (Changing to code via) = to_back code
+fate_new s body link sound (On k) = go (is_up k s) refl
   where
     go : (b : Bool) → is_up k s ≡ b → IsNew 0 link s.rows body (cond b (Waiting k) (Held k))
     go true e = to_wait k (λ same. held_none s link sound (subst (λ (n : ℕ). is_up n s ≡ true) (eqb-true k link same) e))
     go false e = to_hold k
 
-place_not_discarded : (place : Place) (s : State) → was_discarded (fate_at place s) ≡ false
-place_not_discarded Nowhere s = refl
-place_not_discarded (Changing to code via) s = refl
-place_not_discarded (On k) s = go (is_up k s)
-  where
-    go : (b : Bool) → was_discarded (cond b (Waiting k) (Held k)) ≡ false
-    go true = refl
-    go false = refl
-
-offer_keeps : (s f : State) (body : List ℕ) → Quietly s → (o : Option SetRefusal) → offer_refusal s.rows body ≡ o → Keeps s (offered o s body).state f
-offer_keeps s f body quiet (Some why) e = keeps_still s s f refl refl
-offer_keeps s f body quiet None e =
+offer_keeps : (s f : State) (body : List ℕ) → IsSound s → (o : Option SetRefusal) → offer_refusal s.rows body ≡ o → Keeps s (offered o s body).state f
+offer_keeps s f body sound (Some why) e = keeps_still s s f refl refl
+offer_keeps s f body sound None e =
     let fate = fate_at (place_of (stream_of body) s.routing) s in
     record {
-      both = acts s (offered None s body).state f (offers_acts s f body fate (offered None s body).state refl refl (λ link. fate_new s body link quiet.0 (place_of (stream_of body) s.routing) (λ to code via e. never_changing (stream_of body) to code via s.routing quiet.0.routing quiet.1 e)) (plain_body body (users_body s.rows body e)));
+      both = acts s (offered None s body).state f (offers_acts s f body fate (offered None s body).state refl refl (λ link. fate_new s body link sound (place_of (stream_of body) s.routing)) (users_no_order body (users_body s.rows body e)));
       settled = λ l. refl;
       acked = λ l g. refl;
       accepted = λ l. refl;
       discards = appended_out s.rows body fate was_discarded (place_not_discarded (place_of (stream_of body) s.routing) s);
     }
 
-pub offer_kept : (s f : State) (body : List ℕ) → Quietly s → Keeps s (step s (Offer body)).state f
+pub offer_kept : (s f : State) (body : List ℕ) → IsSound s → Keeps s (step s (Offer body)).state f
 unfolding step
-offer_kept s f body quiet = offer_keeps s f body quiet (offer_refusal s.rows body) refl
+offer_kept s f body sound = offer_keeps s f body sound (offer_refusal s.rows body) refl
 
 -- TAKE and FIND
 take_keeps : (s f : State) (inbox : List (List ℕ)) → Keeps s (taken inbox s).state f
@@ -136,31 +118,72 @@ in_keeps k s f act all = go (slice_get s.links k) refl
     go (Some link) e = at link e (has_phase_up link.phase) refl
 
 -- DOWN
-down_at : (k : ℕ) (link : LinkState) (s f : State) → Quietly s → AreCodes s.settings → IsAt k link Up s → Keeps s (queued (Coo k (last_accepted link)) (just_left false k link s)) f
-down_at k link s f quiet codes at =
-    let left = just_left false k link s in
+down_at : (k : ℕ) (link : LinkState) (s f : State) → IsSound s → AreCodes s.settings → IsAt k link Up s → Keeps s (queued (Coo k (last_accepted link)) (left_by false k link s)) f
+down_at k link s f sound codes at =
+    let left = left_by false k link s in
     let there = own_then k link (left_link false link) s left at.there refl in
     let all = by_link k link (left_link false link) s left at.there refl in
     let up : is_up k s ≡ true = ap link_is_up at.there ∙ ap has_phase_up at.phase_is in
     let was : link_is_settled (Some link) ≡ false = ap has_phase_settled at.phase_is in
-    let left_does = left_acts k link s f quiet codes at in
+    let left_does = leaves_acts false k link s f sound at in
     record {
-      both = λ o. queues_both left f (Coo k (last_accepted link)) (just_left_sound false k link s quiet at) (acts s left f left_does o)
-          (coo_read s.settings k (last_accepted link) codes (below k link s f quiet codes at) (omega arith))
+      both = λ o. queues_both left f (Coo k (last_accepted link)) (leaves false k link s at sound) (acts s left f left_does o)
+          (coo_read s.settings k (last_accepted link) codes (below k link s f sound codes at) (omega arith))
           (ap (λ (n : ℕ). (n + 127) % 128) (sym (ap accepted_of there)))
           (acts_none s left f left_does k (o.near.none_up k up))
           (ap link_is_up there)
-          (not_settled k link s f quiet codes at (is_settled k f) (is_up k s) (o.far.apart k) up);
+          (not_settled k link s f sound codes at (is_settled k f) (is_up k s) (o.far.apart k) up);
       settled = all (λ n old new. link_is_settled new ≡ link_is_settled old) (sym was) (λ n old d. refl);
       acked = λ l e. all (λ n old new. acked_of new ≡ acked_of old) refl (λ n old d. refl) l;
       accepted = all (λ n old new. accepted_of new ≡ accepted_of old) refl (λ n old d. refl);
-      discards = appended_out s.rows (text (Coo k (last_accepted link)) s.settings.sio s.settings.dpc s.settings.opc) (fate_on (target left.links)) was_discarded (not_discarded (target left.links));
+      discards = appended_out left.rows (text (Coo k (last_accepted link)) s.settings.sio s.settings.dpc s.settings.opc) (fate_on (target left.links)) was_discarded (not_discarded (target left.links)) ∙ leaves_discards false k link s f sound at;
     }
 
-pub down_kept : (k : ℕ) (s f : State) → Quietly s → AreCodes s.settings → Keeps s (step s (DownEvent k)).state f
+pub down_kept : (k : ℕ) (s f : State) → IsSound s → AreCodes s.settings → Keeps s (step s (DownEvent k)).state f
 unfolding step
-down_kept k s f quiet codes = in_keeps k s f (falls false k s) (λ link at.
-    subst (λ (left : State). Keeps s (queued (Coo k (last_accepted link)) left) f) (sym (left_straight false k link s quiet.0 quiet.1)) (down_at k link s f quiet codes at))
+down_kept k s f sound codes = in_keeps k s f (falls false k s) (λ link at. down_at k link s f sound codes at)
+
+-- RESTORE: declarations come to wait for links that are up
+keeps_then : (s t u f : State) → Keeps s t f → Keeps t u f → Keeps s u f
+keeps_then s t u f p q = record {
+  both = λ o. q.both (p.both o);
+  settled = λ l. q.settled l ∙ p.settled l;
+  acked = λ l e. q.acked l (p.settled l ∙ e) ∙ p.acked l e;
+  accepted = λ l. q.accepted l ∙ p.accepted l;
+  discards = q.discards ∙ p.discards;
+}
+
+declared_keeps : (home alternative : ℕ) (s f : State) → IsSound s → can_declare home alternative s ≡ true → Keeps s (declared home alternative s) f
+declared_keeps home alternative s f sound can =
+    let body = text (Cbd home (code_for home alternative)) s.settings.sio s.settings.dpc s.settings.opc in
+    record {
+      both = acts s (declared home alternative s) f (offers_acts s f body (Waiting alternative) (declared home alternative s) refl refl
+          (λ link. to_wait alternative (λ same. held_none s link sound (subst (λ (n : ℕ). is_up n s ≡ true) (eqb-true alternative link same) (alternative_up home alternative s can))))
+          (cbd_plain s.settings home (code_for home alternative)));
+      settled = λ l. refl;
+      acked = λ l g. refl;
+      accepted = λ l. refl;
+      discards = appended_out s.rows body (Waiting alternative) was_discarded refl;
+    }
+
+declares_keep : (home alternative n : ℕ) (s f : State) → IsSound s → is_up home s ≡ true → Keeps s (declared_from home alternative n s) f
+declares_keep home alternative zero s f sound up = keeps_still s s f refl refl
+declares_keep home alternative (suc n) s f sound up = go (can_declare home alternative s) refl (λ t still rising. declares_keep home (suc alternative) n t f still rising)
+  where
+    go : (b : Bool) → can_declare home alternative s ≡ b → ((t : State) → IsSound t → is_up home t ≡ true → Keeps t (declared_from home (suc alternative) n t) f) → Keeps s (declared_from home alternative (suc n) s) f
+    go true e later = rw e (keeps_then s (declared home alternative s) _ f (declared_keeps home alternative s f sound e) (later (declared home alternative s) (declares home alternative s up e sound) up))
+    go false e later = rw e (later s sound up)
+
+comes_keep : (k : ℕ) (s f : State) → IsSound s → is_up k s ≡ true → Keeps s (comes_back k s).state f
+comes_keep k s f sound up = go (some_declare k 0 (link_count s) s) refl
+  where
+    go : (b : Bool) → some_declare k 0 (link_count s) s ≡ b → Keeps s (comes_back k s).state f
+    go true e = rw e (declares_keep k 0 (link_count s) s f sound up)
+    go false e = rw e (keeps_still s s f refl refl)
+
+pub restore_kept : (k : ℕ) (s f : State) → IsSound s → Keeps s (step s (Restore k)).state f
+unfolding step
+restore_kept k s f sound = in_keeps k s f (λ link. comes_back k s) (λ link at. comes_keep k s f sound (ap link_is_up at.there ∙ ap has_phase_up at.phase_is))
 
 -- NEXT, where no more was accepted than was sent
 record Unmoved (k count : ℕ) (rows new : List Row) : Type 0 where

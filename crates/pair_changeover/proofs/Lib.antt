@@ -1,13 +1,16 @@
 pub mod Acked
+pub mod Alike
 pub mod Arriving
 pub mod Changes
 pub mod Hearing
 pub mod Keeping
+pub mod Leaving
 pub mod Obeying
 pub mod Passing
 pub mod Reaching
 pub mod Runs
 pub mod Table
 pub mod Texts
+pub mod Turning
 pub mod Views
 pub mod Whole

@@ -1,38 +1,43 @@
 -- WHAT AN ORDER THAT IS HEARD LEADS TO at an end: the link settles by the number that the far end counts; an end that is
 -- still up on it leaves it first, and acknowledges.
-use Rattle.std.proofs.Common.{refl, arith, ◌≡◌, ◌≢◌, ◌∙◌, ap, sym, subst, ℕ, zero, suc, ◌≤◌, ◌<◌, ◌==◌, ◌+◌, ◌-◌, ◌%◌, Bool, true, false, nat_le, List, [], ◌∷◌, ◌++◌, length, drop, slice_get, slice_set, Option, Some, None, ◌⊎◌, inl, inr}
+use Rattle.std.proofs.Common.{refl, arith, ◌≡◌, ◌∙◌, ap, sym, subst, ℕ, ◌≤◌, ◌<◌, ◌==◌, ◌+◌, ◌-◌, ◌%◌, Bool, true, false, List, [], ◌∷◌, ◌++◌, length, slice_get, slice_set, Option, Some, None}
 use Rattle.std.proofs.lemmas.Bool.{eqb-true}
 use Rattle.std.proofs.lemmas.Bool.Decides.{nat_tests}
 use Rattle.std.proofs.lemmas.List.{append-nil}
-use Rattle.l3_orders.specs.declared.order.Order.TheVariants.{Coa}
+use Rattle.l3_orders.specs.declared.order.Order.{Order}
+use Rattle.l3_orders.specs.declared.order.Order.TheVariants.{Coa, Cbd, Cba}
 use Rattle.l3_orders.specs.Grammar.{text, order_of}
 use Rattle.set_events.specs.declared.answer.Fate.{Fate}
 use Rattle.set_events.specs.declared.answer.Fate.TheVariants.{Waiting, Unacked, Acked, Held, Parked, Back, Discarded}
 use Rattle.set_route.specs.Target.{target_of}
-use Rattle.set_model.specs.declared.phase.Phase.TheVariants.{Up, Down, Settled}
+use Rattle.set_route.specs.declared.place.Code.TheVariants.{Free}
+use Rattle.set_route.specs.Routing.{code_of}
+use Rattle.set_model.specs.declared.phase.Phase.TheVariants.{Up, Down}
 use Rattle.set_model.specs.declared.reached.Reached.TheVariants.{Upto}
-use Rattle.set_model.specs.Rows.{Row, is_on, is_unacked, is_waiting, is_parked, was_discarded, standing, unack, wait, held, parked, appended, turned, all_with, moved}
+use Rattle.set_model.specs.Rows.{Row, is_back_to, is_on, is_unacked, is_waiting, was_discarded, standing, unack, wait, parked, appended, turned, all_with, moved}
 use Rattle.set_model.specs.Sound.{IsSound}
 use Rattle.set_model.specs.State.{LinkState, State, is_up, is_settled, link_is_up, link_is_settled, has_phase_up, last_accepted, target}
-use Rattle.set_model.specs.Changeover.{fate_on, queued, left_link, settled_link, acknowledged as acknowledged_link, reached_by, is_reasonable, settled}
+use Rattle.set_model.specs.Changeover.{fate_on, queued, left_link, left_by, out_of_service, released, reached_by, is_reasonable, settled}
 use Rattle.set_model.proofs.Events.{appended_in, appended_out}
 use Rattle.set_model.proofs.InPlace.{turned_same}
 use Rattle.set_model.proofs.Lists.{within, map_set_same, same_at}
-use Rattle.set_model.proofs.Moving.{moved_same}
-use Rattle.set_model.proofs.Places.{apart, itself}
-use Rattle.set_model.proofs.Plain.{just_left, Quietly, left_straight}
+use Rattle.set_model.proofs.Moving.{moved_length, moved_same}
+use Rattle.set_model.proofs.Places.{apart, itself, home_back}
+use Rattle.set_model.proofs.Ranging.{offered_out}
 use Rattle.set_model.proofs.Settling.{no_target}
 use Rattle.set_model.proofs.SoundBack.{leaves}
 use Rattle.set_model.proofs.SoundNew as new
 use Rattle.set_model.proofs.Targets.{target_up}
 use Rattle.set_model.proofs.Walk.{IsAt}
 use Rattle.pair_model.specs.Run.{Message, messages}
-use Rattle.pair_changeover.specs.Diverted.{queue_for, answer_on}
-use Rattle.pair_changeover.proofs.Changes.{Both, Acts, acts, stands_still, acts_none, acts_far_none, queues_both, by_link, own_then, other_then, leaves_acts}
+use Rattle.pair_changeover.specs.Diverted.{queue_for, as_left, answer_on}
+use Rattle.pair_changeover.proofs.Changes.{Both, Acts, acts, stands_still, acts_none, acts_far_none, queues_both, by_link, own_then, offers_acts, IsNew, to_wait, to_park, held_none}
+use Rattle.pair_changeover.proofs.Leaving.{goes_to, leaves_acts, leaves_discards, releases_acts, releases_discards}
 use Rattle.pair_changeover.proofs.Passing.{settles_acts, links_then, rows_then, link_then}
-use Rattle.pair_changeover.proofs.Texts.{AreCodes, coa_read}
+use Rattle.pair_changeover.proofs.Texts.{AreCodes, coa_read, cba_plain}
 use Rattle.pair_changeover.proofs.Table.{joined, aside_settled, wait_settled, aside_joins, queue_apart}
-use Rattle.pair_changeover.proofs.Views.{view, queue, pending, acked_of, acked_on, accepted_of, accepted_on, NoneAbout}
+use Rattle.pair_changeover.proofs.Turning.{unack_same}
+use Rattle.pair_changeover.proofs.Views.{view, queue, pending, acked_of, acked_on, accepted_of, accepted_on, IsChangeover, NoneAbout}
 
 -- the number that was told, and how far the far end is
 pub record Told (fsn l : ℕ) (link : LinkState) (s f : State) : Type 0 where
@@ -53,12 +58,25 @@ pub record Heard (l : ℕ) (s f : State) : Type 0 where
   pub none : NoneAbout l (view f s)
 
 abbrev pub left_and_told : ℕ → LinkState → State → State
-left_and_told l link s = queued (Coa l (last_accepted link)) (just_left false l link s)
+left_and_told l link s = queued (Coa l (last_accepted link)) (left_by false l link s)
 
-pub data Obeys (k : ℕ) (s f : State) : State → Type 0 where
-  keeps : (t : State) → t.rows ≡ s.rows → t.links ≡ s.links → t.routing ≡ s.routing → Obeys k s f t
-  settles : (fsn l : ℕ) (link : LinkState) → (k == l) ≡ false → IsAt l link Down s → Told fsn l link s f → Heard l s f → Obeys k s f (settled (Upto fsn) l link s)
-  answers : (fsn l : ℕ) (link : LinkState) → (k == l) ≡ false → IsAt l link Up s → Told fsn l link s f → Heard l s f → Obeys k s f (settled (Upto fsn) l (left_link false link) (left_and_told l link s))
+-- a body that isn't a declaration, nor the acknowledgement of one whose code is in use
+pub record TellsNoBack (body : List ℕ) (s : State) : Type 0 where
+  pub none_declared : (l code : ℕ) → order_of body ≡ Some (Cbd l code) → ⊥
+  pub none_in_use : (l code : ℕ) → order_of body ≡ Some (Cba l code) → code_of code s.routing ≡ Free
+
+pub record TellsOver (body : List ℕ) : Type 0 where
+  pub order : Order
+  pub is : order_of body ≡ Some order
+  pub over : IsChangeover order
+
+-- what the body leads to, heard on a link; an empty one stands for none
+pub data Obeys (k : ℕ) (body : List ℕ) (s f : State) : State → Type 0 where
+  keeps : (t : State) → t.rows ≡ s.rows → t.links ≡ s.links → t.routing ≡ s.routing → TellsNoBack body s → Obeys k body s f t
+  settles : (fsn l : ℕ) (link : LinkState) → (k == l) ≡ false → IsAt l link Down s → Told fsn l link s f → Heard l s f → TellsOver body → Obeys k body s f (settled (Upto fsn) l link s)
+  answers : (fsn l : ℕ) (link : LinkState) → (k == l) ≡ false → IsAt l link Up s → Told fsn l link s f → Heard l s f → TellsOver body → Obeys k body s f (settled (Upto fsn) l (left_link false link) (left_and_told l link s))
+  acknowledges : (l code : ℕ) → order_of body ≡ Some (Cbd l code) → Obeys k body s f (queued (Cba l code) s)
+  releases : (l code : ℕ) → order_of body ≡ Some (Cba l code) → Obeys k body s f (released code s)
 
 -- what moves, and what is acknowledged, isn't discarded
 pub not_discarded : (to : Option ℕ) → was_discarded (fate_on to) ≡ false
@@ -151,29 +169,28 @@ module _ (fsn l : ℕ) (link : LinkState) (s f : State) (sound : IsSound s) (at 
       ∙ ap (λ (q : List Message). messages (queue_for (target s.links) s.rows) ++ q) own
       ∙ ap (λ (to : Option ℕ). messages (queue_for to s.rows) ++ pending l s f) (sym same_target)
 
--- A link that was left, while no changeback is under way
-pub just_left_sound : (blind : Bool) (n : ℕ) (link : LinkState) (s : State) → Quietly s → IsAt n link Up s → IsSound (just_left blind n link s)
-just_left_sound blind n link s quiet at = subst IsSound (left_straight blind n link s quiet.0 quiet.1) (leaves blind n link s at quiet.0)
-
 -- AN END THAT IS STILL UP leaves the link, and acknowledges
-module _ (l : ℕ) (link : LinkState) (s f : State) (quiet : Quietly s) (codes : AreCodes s.settings) (at : IsAt l link Up s) where
-  abbrev left : State
-  left = just_left false l link s
+module _ (l : ℕ) (link : LinkState) (s f : State) (sound : IsSound s) (codes : AreCodes s.settings) (at : IsAt l link Up s) where
+  abbrev pub left : State
+  left = left_by false l link s
 
   abbrev pub told : State
   told = left_and_told l link s
 
-  pub left_acts : Acts s left f
-  left_acts = leaves_acts false l link s f at
+  left_acts : Acts s left f
+  left_acts = leaves_acts false l link s f sound at
+
+  pub left_sound : IsSound left
+  left_sound = leaves false l link s at sound
 
   pub told_sound : IsSound told
-  told_sound = new.queues (Coa l (last_accepted link)) left (just_left_sound false l link s quiet at)
+  told_sound = new.queues (Coa l (last_accepted link)) left left_sound
 
   pub told_at : IsAt l (left_link false link) Down told
   told_at = record { there = own_then l link (left_link false link) s left at.there refl; phase_is = refl }
 
   pub below : l < 16
-  below = omega (arith, within s.links l link at.there, quiet.0.count, quiet.0.routed, quiet.0.routing.at_most_16)
+  below = omega (arith, within s.links l link at.there, sound.count, sound.routed, sound.routing.at_most_16)
 
   pub coa_is : order_of (text (Coa l (last_accepted link)) s.settings.sio s.settings.dpc s.settings.opc) ≡ Some (Coa l (last_accepted link))
   coa_is = coa_read s.settings l (last_accepted link) codes below (omega arith)
@@ -185,7 +202,7 @@ module _ (l : ℕ) (link : LinkState) (s f : State) (quiet : Quietly s) (codes :
   pub told_both : Both s f → Both told f
   told_both o =
       let up : is_up l s ≡ true = ap link_is_up at.there ∙ ap has_phase_up at.phase_is in
-      queues_both left f (Coa l (last_accepted link)) (just_left_sound false l link s quiet at) (acts s left f left_acts o) coa_is
+      queues_both left f (Coa l (last_accepted link)) left_sound (acts s left f left_acts o) coa_is
       (ap (λ (n : ℕ). (n + 127) % 128) (sym (ap accepted_of (own_then l link (left_link false link) s left at.there refl))))
       (acts_none s left f left_acts l (o.near.none_up l up))
       (ap link_is_up (own_then l link (left_link false link) s left at.there refl))
@@ -198,22 +215,31 @@ module _ (l : ℕ) (link : LinkState) (s f : State) (quiet : Quietly s) (codes :
   unsent None = refl
   unsent (Some to) = refl
 
-  unack_same : unack l told.rows ≡ unack l s.rows
-  unack_same = appended_out left.rows (text (Coa l (last_accepted link)) s.settings.sio s.settings.dpc s.settings.opc) (fate_on (target left.links)) (is_unacked l) (unsent (target left.links))
+  pub unack_left : (n : ℕ) → unack n left.rows ≡ unack n s.rows
+  unack_left n = unack_same (is_back_to l) (goes_to false l link s f sound at) (home_back l) s.rows (λ m row. offered_out m _ (out_of_service false l link s)) n
+
+  unack_told : unack l told.rows ≡ unack l s.rows
+  unack_told = appended_out left.rows (text (Coa l (last_accepted link)) s.settings.sio s.settings.dpc s.settings.opc) (fate_on (target left.links)) (is_unacked l) (unsent (target left.links)) ∙ unack_left l
+
+  same_number : length left.rows ≡ length s.rows
+  same_number = moved_length (is_back_to l) (goes_to false l link s f sound at) s.rows
 
   pub told_still : (fsn : ℕ) → Told fsn l link s f → Told fsn l (left_link false link) told f
-  told_still fsn t = record { last = t.last; due = t.due; within = rw unack_same (t.within) }
+  told_still fsn t = record { last = t.last; due = t.due; within = rw unack_told (t.within) }
 
-  told_target : (to : Option ℕ) → target left.links ≡ to → messages (queue_for to told.rows) ≡ messages (queue_for to s.rows) ++ answer_on l (Some link) s
+  answer_is : (q : List Message) → q ++ record { number = length left.rows; body = text (Coa l (last_accepted link)) s.settings.sio s.settings.dpc s.settings.opc } ∷ [] ≡ q ++ answer_on l (Some link) s
+  answer_is q = rw (at.phase_is, same_number) refl
+
+  told_target : (to : Option ℕ) → target left.links ≡ to → messages (queue_for to told.rows) ≡ messages (queue_for to left.rows) ++ answer_on l (Some link) s
   told_target None e =
-      ap (λ (to : Option ℕ). messages (parked (appended s.rows (text (Coa l (last_accepted link)) s.settings.sio s.settings.dpc s.settings.opc) (fate_on to)))) e
-      ∙ aside_joins 0 0 s.rows (text (Coa l (last_accepted link)) s.settings.sio s.settings.dpc s.settings.opc) Parked refl
-      ∙ rw (at.phase_is) refl
+      ap (λ (to : Option ℕ). messages (parked (appended left.rows (text (Coa l (last_accepted link)) s.settings.sio s.settings.dpc s.settings.opc) (fate_on to)))) e
+      ∙ aside_joins 0 0 left.rows (text (Coa l (last_accepted link)) s.settings.sio s.settings.dpc s.settings.opc) Parked refl
+      ∙ answer_is (messages (parked left.rows))
   told_target (Some to) e =
-      ap (λ (o : Option ℕ). messages (wait to (appended s.rows (text (Coa l (last_accepted link)) s.settings.sio s.settings.dpc s.settings.opc) (fate_on o)))) e
-      ∙ ap messages (appended_in s.rows (text (Coa l (last_accepted link)) s.settings.sio s.settings.dpc s.settings.opc) (Waiting to) (is_waiting to) (itself to))
-      ∙ joined (wait to s.rows) _
-      ∙ rw (at.phase_is) refl
+      ap (λ (o : Option ℕ). messages (wait to (appended left.rows (text (Coa l (last_accepted link)) s.settings.sio s.settings.dpc s.settings.opc) (fate_on o)))) e
+      ∙ ap messages (appended_in left.rows (text (Coa l (last_accepted link)) s.settings.sio s.settings.dpc s.settings.opc) (Waiting to) (is_waiting to) (itself to))
+      ∙ joined (wait to left.rows) _
+      ∙ answer_is (messages (wait to left.rows))
 
   -- it isn't on its way to the link itself
   elsewhere : (to : Option ℕ) → target left.links ≡ to → (b : Bool) → is_on l (fate_on to) ≡ b → b ≡ false
@@ -226,78 +252,106 @@ module _ (l : ℕ) (link : LinkState) (s f : State) (quiet : Quietly s) (codes :
       let no : true ≡ false = sym up.2 ∙ ap (λ (k : LinkState). has_phase_up k.phase) same in
       absurd cc
 
-  pub told_pending : pending l told f ≡ pending l s f
+  pub told_pending : pending l told f ≡ pending l left f
   told_pending =
-      ap (λ (o : Option LinkState). queue (accepted_on l f - acked_of o) l told.rows) told_at.there
-      ∙ queue_apart (accepted_on l f - link.acked) l s.rows (text (Coa l (last_accepted link)) s.settings.sio s.settings.dpc s.settings.opc) (fate_on (target left.links)) (elsewhere (target left.links) refl (is_on l (fate_on (target left.links))) refl)
-      ∙ ap (λ (o : Option LinkState). queue (accepted_on l f - acked_of o) l s.rows) (sym at.there)
+      queue_apart (accepted_on l f - acked_on l left) l left.rows (text (Coa l (last_accepted link)) s.settings.sio s.settings.dpc s.settings.opc) (fate_on (target left.links)) (elsewhere (target left.links) refl (is_on l (fate_on (target left.links))) refl)
 
   pub told_discards : standing was_discarded told.rows ≡ standing was_discarded s.rows
-  told_discards = appended_out s.rows (text (Coa l (last_accepted link)) s.settings.sio s.settings.dpc s.settings.opc) (fate_on (target left.links)) was_discarded (not_discarded (target left.links))
+  told_discards = appended_out left.rows (text (Coa l (last_accepted link)) s.settings.sio s.settings.dpc s.settings.opc) (fate_on (target left.links)) was_discarded (not_discarded (target left.links)) ∙ leaves_discards false l link s f sound at
+
+-- A DECLARATION IS HEARD, and acknowledged; the acknowledgement is no order of a changeover
+module _ (l code : ℕ) (s f : State) (sound : IsSound s) where
+  abbrev body_back : List ℕ
+  body_back = text (Cba l code) s.settings.sio s.settings.dpc s.settings.opc
+
+  new_back : (link : ℕ) (to : Option ℕ) → target s.links ≡ to → IsNew 0 link s.rows body_back (fate_on to)
+  new_back link None e = to_park
+  new_back link (Some to) e = let up = target_up s.links to e in to_wait to (λ same. held_none s link sound (subst (λ (n : ℕ). is_up n s ≡ true) (eqb-true to link same) (ap link_is_up up.1 ∙ up.2)))
+
+  pub acknowledges_acts : Acts s (queued (Cba l code) s) f
+  acknowledges_acts = offers_acts s f body_back (fate_on (target s.links)) (queued (Cba l code) s) refl refl (λ link. new_back link (target s.links) refl) (cba_plain s.settings l code)
+
+  pub acknowledges_discards : standing was_discarded (queued (Cba l code) s).rows ≡ standing was_discarded s.rows
+  acknowledges_discards = appended_out s.rows body_back (fate_on (target s.links)) was_discarded (not_discarded (target s.links))
 
 -- ALL OF IT
 pub record Moved (k n : ℕ) (s f t : State) : Type 0 where
   pub other : (k == n) ≡ false
-  pub moved : messages (queue_for (target t.links) t.rows) ≡ messages (queue_for (target t.links) s.rows) ++ answer_on n (slice_get s.links n) s ++ pending n s f
+  pub moved : messages (queue_for (target t.links) t.rows) ≡ messages (queue_for (target t.links) (as_left n (slice_get s.links n) s).rows) ++ answer_on n (slice_get s.links n) s ++ pending n (as_left n (slice_get s.links n) s) f
 
-module _ (k : ℕ) (s f : State) (quiet : Quietly s) (codes : AreCodes s.settings) (o : Both s f) where
-  pub obeys_both : (t : State) → Obeys k s f t → Both t f
-  obeys_both t (keeps _ rows links routing) = acts s t f (stands_still s t f rows links) o
-  obeys_both _ (settles fsn l link other at told_so heard) = settles_both fsn l link s f quiet.0 at told_so o heard
-  obeys_both _ (answers fsn l link other at told_so heard) =
-      settles_both fsn l (left_link false link) (told l link s f quiet codes at) f (told_sound l link s f quiet codes at) (told_at l link s f quiet codes at) (told_still l link s f quiet codes at fsn told_so) (told_both l link s f quiet codes at o) (told_heard l link s f quiet codes at heard)
+module _ (k : ℕ) (body : List ℕ) (s f : State) (sound : IsSound s) (codes : AreCodes s.settings) (o : Both s f) where
+  pub obeys_both : (t : State) → Obeys k body s f t → Both t f
+  obeys_both t (keeps _ rows links routing none) = acts s t f (stands_still s t f rows links) o
+  obeys_both _ (settles fsn l link other at told_so heard over) = settles_both fsn l link s f sound at told_so o heard
+  obeys_both _ (answers fsn l link other at told_so heard over) =
+      settles_both fsn l (left_link false link) (told l link s f sound codes at) f (told_sound l link s f sound codes at) (told_at l link s f sound codes at) (told_still l link s f sound codes at fsn told_so) (told_both l link s f sound codes at o) (told_heard l link s f sound codes at heard)
+  obeys_both _ (acknowledges l code is) = acts s (queued (Cba l code) s) f (acknowledges_acts l code s f sound) o
+  obeys_both _ (releases l code is) = acts s (released code s) f (releases_acts code s f sound) o
 
-  pub obeys_equal : ((n : ℕ) → is_settled n s ≡ true → acked_on n s ≡ accepted_on n f) → (t : State) → Obeys k s f t → (n : ℕ) → is_settled n t ≡ true → acked_on n t ≡ accepted_on n f
-  obeys_equal equal t (keeps _ rows links routing) n e = ap (λ (ls : List LinkState). acked_of (slice_get ls n)) links ∙ equal n (ap (λ (ls : List LinkState). link_is_settled (slice_get ls n)) (sym links) ∙ e)
-  obeys_equal equal _ (settles fsn l link other at told_so heard) n e = settles_equal fsn l link s f quiet.0 at told_so n (equal n) e
-  obeys_equal equal _ (answers fsn l link other at told_so heard) n e =
-      settles_equal fsn l (left_link false link) (told l link s f quiet codes at) f (told_sound l link s f quiet codes at) (told_at l link s f quiet codes at) (told_still l link s f quiet codes at fsn told_so) n
-      (by_link l link (left_link false link) s (just_left false l link s) at.there refl (λ m old new. (link_is_settled old ≡ true → acked_of old ≡ accepted_on m f) → link_is_settled new ≡ true → acked_of new ≡ accepted_on m f) (λ before g. absurd cc) (λ m old d before g. before g) n (equal n)) e
+  pub obeys_equal : ((n : ℕ) → is_settled n s ≡ true → acked_on n s ≡ accepted_on n f) → (t : State) → Obeys k body s f t → (n : ℕ) → is_settled n t ≡ true → acked_on n t ≡ accepted_on n f
+  obeys_equal equal t (keeps _ rows links routing none) n e = ap (λ (ls : List LinkState). acked_of (slice_get ls n)) links ∙ equal n (ap (λ (ls : List LinkState). link_is_settled (slice_get ls n)) (sym links) ∙ e)
+  obeys_equal equal _ (settles fsn l link other at told_so heard over) n e = settles_equal fsn l link s f sound at told_so n (equal n) e
+  obeys_equal equal _ (answers fsn l link other at told_so heard over) n e =
+      settles_equal fsn l (left_link false link) (told l link s f sound codes at) f (told_sound l link s f sound codes at) (told_at l link s f sound codes at) (told_still l link s f sound codes at fsn told_so) n
+      (by_link l link (left_link false link) s (left_by false l link s) at.there refl (λ m old new. (link_is_settled old ≡ true → acked_of old ≡ accepted_on m f) → link_is_settled new ≡ true → acked_of new ≡ accepted_on m f) (λ before g. absurd cc) (λ m old d before g. before g) n (equal n)) e
+  obeys_equal equal _ (acknowledges l code is) n e = equal n e
+  obeys_equal equal _ (releases l code is) n e = equal n e
 
-  pub obeys_discards : (t : State) → Obeys k s f t → standing was_discarded t.rows ≡ standing was_discarded s.rows
-  obeys_discards t (keeps _ rows links routing) = ap (standing was_discarded) rows
-  obeys_discards _ (settles fsn l link other at told_so heard) = settles_discards fsn l link s f quiet.0 at told_so
-  obeys_discards _ (answers fsn l link other at told_so heard) =
-      settles_discards fsn l (left_link false link) (told l link s f quiet codes at) f (told_sound l link s f quiet codes at) (told_at l link s f quiet codes at) (told_still l link s f quiet codes at fsn told_so)
-      ∙ told_discards l link s f quiet codes at
+  pub obeys_discards : (t : State) → Obeys k body s f t → standing was_discarded t.rows ≡ standing was_discarded s.rows
+  obeys_discards t (keeps _ rows links routing none) = ap (standing was_discarded) rows
+  obeys_discards _ (settles fsn l link other at told_so heard over) = settles_discards fsn l link s f sound at told_so
+  obeys_discards _ (answers fsn l link other at told_so heard over) =
+      settles_discards fsn l (left_link false link) (told l link s f sound codes at) f (told_sound l link s f sound codes at) (told_at l link s f sound codes at) (told_still l link s f sound codes at fsn told_so)
+      ∙ told_discards l link s f sound codes at
+  obeys_discards _ (acknowledges l code is) = acknowledges_discards l code s f sound
+  obeys_discards _ (releases l code is) = releases_discards code s f sound
 
   abbrev MovedAt : State → ℕ → Type 0
   MovedAt t n = is_settled n s ≡ false → is_settled n t ≡ true → Moved k n s f t
 
-  pub obeys_moves : (t : State) → Obeys k s f t → (n : ℕ) → MovedAt t n
-  obeys_moves t (keeps _ rows links routing) n e g = absurd (let no : false ≡ true = sym e ∙ ap (λ (ls : List LinkState). link_is_settled (slice_get ls n)) (sym links) ∙ g in cc)
-  obeys_moves _ (settles fsn l link other at told_so heard) n e g =
+  pub obeys_moves : (t : State) → Obeys k body s f t → (n : ℕ) → MovedAt t n
+  obeys_moves t (keeps _ rows links routing none) n e g = absurd (let no : false ≡ true = sym e ∙ ap (λ (ls : List LinkState). link_is_settled (slice_get ls n)) (sym links) ∙ g in cc)
+  obeys_moves _ (acknowledges l code is) n e g = absurd (let no : false ≡ true = sym e ∙ g in cc)
+  obeys_moves _ (releases l code is) n e g = absurd (let no : false ≡ true = sym e ∙ g in cc)
+  obeys_moves _ (settles fsn l link other at told_so heard over) n e g =
       let t = settled (Upto fsn) l link s in
-      let same : l ≡ n = settles_alone fsn l link s f quiet.0 at told_so n e g in
+      let same : l ≡ n = settles_alone fsn l link s f sound at told_so n e g in
       let none : answer_on l (slice_get s.links l) s ≡ [] = ap (λ (o : Option LinkState). answer_on l o s) at.there ∙ rw (at.phase_is) refl in
+      let stays : as_left l (slice_get s.links l) s ≡ s = ap (λ (o : Option LinkState). as_left l o s) at.there ∙ rw (at.phase_is) refl in
       subst (λ (m : ℕ). Moved k m s f t) same (record {
         other = other;
-        moved = settles_moves fsn l link s f quiet.0 at told_so
-            ∙ ap (λ (q : List Message). q ++ pending l s f) (sym (append-nil (messages (queue_for (target t.links) s.rows))) ∙ ap (λ (a : List Message). messages (queue_for (target t.links) s.rows) ++ a) (sym none));
+        moved = settles_moves fsn l link s f sound at told_so
+            ∙ ap (λ (q : List Message). q ++ pending l s f) (sym (append-nil (messages (queue_for (target t.links) s.rows))) ∙ ap (λ (a : List Message). messages (queue_for (target t.links) s.rows) ++ a) (sym none))
+            ∙ ap (λ (u : State). messages (queue_for (target t.links) u.rows) ++ answer_on l (slice_get s.links l) s ++ pending l u f) (sym stays);
       })
-  obeys_moves _ (answers fsn l link other at told_so heard) n e g =
-      let there = told l link s f quiet codes at in
-      let there_sound = told_sound l link s f quiet codes at in
-      let there_at = told_at l link s f quiet codes at in
-      let there_told = told_still l link s f quiet codes at fsn told_so in
+  obeys_moves _ (answers fsn l link other at told_so heard over) n e g =
+      let there = told l link s f sound codes at in
+      let there_sound = told_sound l link s f sound codes at in
+      let there_at = told_at l link s f sound codes at in
+      let there_told = told_still l link s f sound codes at fsn told_so in
+      let before = left_by false l link s in
       let t = settled (Upto fsn) l (left_link false link) there in
-      let unsettled : is_settled n there ≡ false = by_link l link (left_link false link) s (just_left false l link s) at.there refl (λ m old new. link_is_settled old ≡ false → link_is_settled new ≡ false) (λ f. refl) (λ m old d f. f) n e in
+      let unsettled : is_settled n there ≡ false = by_link l link (left_link false link) s before at.there refl (λ m old new. link_is_settled old ≡ false → link_is_settled new ≡ false) (λ f. refl) (λ m old d f. f) n e in
       let same : l ≡ n = settles_alone fsn l (left_link false link) there f there_sound there_at there_told n unsettled g in
       let to_is : target t.links ≡ target there.links = same_target fsn l (left_link false link) there f there_sound there_at there_told in
+      let left_so : as_left l (slice_get s.links l) s ≡ before = ap (λ (o : Option LinkState). as_left l o s) at.there ∙ rw (at.phase_is) refl in
       subst (λ (m : ℕ). Moved k m s f t) same (record {
         other = other;
         moved = settles_moves fsn l (left_link false link) there f there_sound there_at there_told
             ∙ ap (λ (to : Option ℕ). messages (queue_for to there.rows) ++ pending l there f) to_is
-            ∙ ap (λ (q : List Message). q ++ pending l there f) (told_target l link s f quiet codes at (target there.links) refl)
-            ∙ ap (λ (p : List Message). messages (queue_for (target there.links) s.rows) ++ answer_on l (Some link) s ++ p) (told_pending l link s f quiet codes at)
-            ∙ ap (λ (to : Option ℕ). messages (queue_for to s.rows) ++ answer_on l (Some link) s ++ pending l s f) (sym to_is)
-            ∙ ap (λ (o : Option LinkState). messages (queue_for (target t.links) s.rows) ++ answer_on l o s ++ pending l s f) (sym at.there);
+            ∙ ap (λ (q : List Message). q ++ pending l there f) (told_target l link s f sound codes at (target there.links) refl)
+            ∙ ap (λ (p : List Message). messages (queue_for (target there.links) before.rows) ++ answer_on l (Some link) s ++ p) (told_pending l link s f sound codes at)
+            ∙ ap (λ (to : Option ℕ). messages (queue_for to before.rows) ++ answer_on l (Some link) s ++ pending l before f) (sym to_is)
+            ∙ ap (λ (o : Option LinkState). messages (queue_for (target t.links) before.rows) ++ answer_on l o s ++ pending l before f) (sym at.there)
+            ∙ ap (λ (u : State). messages (queue_for (target t.links) u.rows) ++ answer_on l (slice_get s.links l) s ++ pending l u f) (sym left_so);
       })
 
   -- nothing is accepted by it
-  pub obeys_accepted : (t : State) → Obeys k s f t → (n : ℕ) → accepted_on n t ≡ accepted_on n s
-  obeys_accepted t (keeps _ rows links routing) n = ap (λ (ls : List LinkState). accepted_of (slice_get ls n)) links
-  obeys_accepted _ (settles fsn l link other at told_so heard) n = settles_accepted fsn l link s f quiet.0 at told_so n
-  obeys_accepted _ (answers fsn l link other at told_so heard) n =
-      settles_accepted fsn l (left_link false link) (told l link s f quiet codes at) f (told_sound l link s f quiet codes at) (told_at l link s f quiet codes at) (told_still l link s f quiet codes at fsn told_so) n
-      ∙ by_link l link (left_link false link) s (just_left false l link s) at.there refl (λ m old new. accepted_of new ≡ accepted_of old) refl (λ m old d. refl) n
+  pub obeys_accepted : (t : State) → Obeys k body s f t → (n : ℕ) → accepted_on n t ≡ accepted_on n s
+  obeys_accepted t (keeps _ rows links routing none) n = ap (λ (ls : List LinkState). accepted_of (slice_get ls n)) links
+  obeys_accepted _ (settles fsn l link other at told_so heard over) n = settles_accepted fsn l link s f sound at told_so n
+  obeys_accepted _ (answers fsn l link other at told_so heard over) n =
+      settles_accepted fsn l (left_link false link) (told l link s f sound codes at) f (told_sound l link s f sound codes at) (told_at l link s f sound codes at) (told_still l link s f sound codes at fsn told_so) n
+      ∙ by_link l link (left_link false link) s (left_by false l link s) at.there refl (λ m old new. accepted_of new ≡ accepted_of old) refl (λ m old d. refl) n
+  obeys_accepted _ (acknowledges l code is) n = refl
+  obeys_accepted _ (releases l code is) n = refl

@@ -1,24 +1,23 @@
 -- WHAT AN END DOES ON ONE LINK, and the orders under way at both: it sends, it hears, the link settles, or comes up.
-use Rattle.std.proofs.Common.{refl, arith, ◌≡◌, ◌≢◌, ◌∙◌, ap, sym, subst, ℕ, zero, suc, ◌≤◌, ◌<◌, ◌==◌, ◌+◌, ◌-◌, ◌%◌, Bool, true, false, List, [], ◌∷◌, ◌++◌, length, drop, slice_get, slice_set, Option, Some, None, ◌⊎◌, inl, inr, cond}
+use Rattle.std.proofs.Common.{refl, arith, ◌≡◌, ◌∙◌, ap, sym, subst, ℕ, suc, ◌≤◌, ◌==◌, ◌-◌, Bool, true, false, List, [], ◌∷◌, ◌++◌, slice_get, slice_set, Option, Some, None, ◌⊎◌, inl, inr}
 use Rattle.std.proofs.lemmas.Bool.{eqb-true}
-use Rattle.set_events.specs.declared.answer.Fate.TheVariants.{Waiting, Unacked, Acked, Parked}
-use Rattle.set_model.specs.declared.phase.Phase.{Phase}
-use Rattle.set_model.specs.declared.phase.Phase.TheVariants.{Up, Down, Settled}
+use Rattle.set_events.specs.declared.answer.Fate.TheVariants.{Acked}
+use Rattle.set_model.specs.declared.phase.Phase.TheVariants.{Up, Down}
 use Rattle.set_model.specs.declared.reached.Reached.TheVariants.{Upto}
-use Rattle.set_model.specs.Rows.{Row, is_on, is_unacked, is_waiting, is_parked, all_with, unack, wait, held, parked, turned, moved as moved_rows}
+use Rattle.set_model.specs.Rows.{Row, is_on, is_unacked, all_with, unack, held, parked, turned, moved as moved_rows}
 use Rattle.set_model.specs.Sound.{IsSound}
 use Rattle.set_model.specs.State.{LinkState, State, is_up, is_settled, link_is_up, link_is_settled, has_phase_settled, target}
 use Rattle.set_model.specs.Changeover.{fate_on, acknowledged as acknowledged_link, settled_link, reached_by, is_reasonable, settled}
-use Rattle.set_model.proofs.Events.{Untouched, untouched_self, untouched_then, acknowledged, moved_to, moved_aside}
+use Rattle.set_model.proofs.Events.{Untouched, acknowledged, moved_to, moved_aside}
 use Rattle.set_model.proofs.Lists.{set_twice}
-use Rattle.set_model.proofs.Places.{apart, false_true, itself}
+use Rattle.set_model.proofs.Places.{apart}
 use Rattle.set_model.proofs.Settling.{moves_the_rest, no_target}
 use Rattle.set_model.proofs.Targets.{target_up}
 use Rattle.set_model.proofs.Walk.{IsAt}
 use Rattle.pair_model.specs.Run.{Message, messages}
 use Rattle.pair_changeover.proofs.Changes.{Both, Acts, far_same, by_link, own_then, other_then, held_none}
-use Rattle.pair_changeover.proofs.Table.{drop_none, queue_untouched, queue_acked, queue_settled, aside_settled, queue_accepted}
-use Rattle.pair_changeover.proofs.Views.{view, pending, aside, queue, acked_of, acked_on, accepted_of, accepted_on, Among, among_joined, In, stands_on, stands_aside, About, NoneAbout, Orders, Came, stayed, moved, CameAside, was_in, Passes, carries}
+use Rattle.pair_changeover.proofs.Table.{drop_none, queue_untouched, queue_settled, aside_settled, queue_accepted}
+use Rattle.pair_changeover.proofs.Views.{view, pending, aside, queue, acked_of, acked_on, accepted_of, accepted_on, Among, among_joined, In, stands_on, stands_aside, NoneAbout, Orders, Came, stayed, moved, CameAside, was_in, Passes, carries}
 
 -- A CHANGE ON A LINK THAT IS UP, by which no queue of this end changes: it sends, or hears
 module _ (k : ℕ) (link link' : LinkState) (s t f : State) (at : IsAt k link Up s) (links : t.links ≡ slice_set s.links k link') (up : link'.phase ≡ Up) (own : queue (accepted_on k f - link'.acked) k t.rows ≡ queue (accepted_on k f - link.acked) k s.rows) (others : (l : ℕ) → (k == l) ≡ false → Untouched l s.rows t.rows) (parked_same : parked t.rows ≡ parked s.rows) (far_came : (l : ℕ) (m : Message) → Among m (pending l f t) → Among m (pending l f s)) where

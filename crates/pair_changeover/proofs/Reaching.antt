@@ -1,7 +1,7 @@
 -- HOW FAR THE FAR END GOT on a link, and which message it accepts next: the first that is pending, which stands nowhere else.
-use Rattle.std.proofs.Common.{refl, arith, ◌≡◌, ◌≢◌, ◌∙◌, ap, sym, subst, ℕ, zero, suc, ◌≤◌, ◌<◌, ◌==◌, ◌+◌, ◌-◌, Bool, true, false, List, [], ◌∷◌, ◌++◌, length, map, filter, take, drop, slice_get, Option, Some, None, ◌⊎◌, inl, inr}
+use Rattle.std.proofs.Common.{refl, arith, ◌≡◌, ◌≢◌, ◌∙◌, ap, sym, subst, ℕ, zero, suc, ◌≤◌, ◌<◌, ◌==◌, ◌+◌, ◌-◌, Bool, true, false, List, [], ◌∷◌, ◌++◌, length, filter, take, drop, slice_get, Option, Some, None, ◌⊎◌, inl, inr}
 use Rattle.std.proofs.lemmas.Bool.{eq-eqb, eqb-true}
-use Rattle.std.proofs.lemmas.List.{length-map, length-take}
+use Rattle.std.proofs.lemmas.List.{length-map}
 use Rattle.set_events.specs.declared.answer.Fate.{Fate}
 use Rattle.set_events.specs.declared.answer.Fate.TheVariants.{Waiting, Unacked, Acked, Held, Parked, Back, Discarded}
 use Rattle.set_model.specs.Rows.{Row, is_unacked, is_waiting, is_held, is_parked, standing, unack, wait, held, parked, row_of, IsNumbered}
@@ -12,7 +12,7 @@ use Rattle.set_model.proofs.Lookups.{at_most_one, row_in_filter}
 use Rattle.pair_model.specs.Promises.{IsKeptOn}
 use Rattle.pair_model.specs.Run.{Message, Past, messages, bodies}
 use Rattle.pair_changeover.proofs.Table.{joined}
-use Rattle.pair_changeover.proofs.Views.{pending, aside, queue, acked_on, accepted_of, accepted_on, Among, among_joined}
+use Rattle.pair_changeover.proofs.Views.{queue, accepted_of, accepted_on, Among, among_joined}
 
 -- of a link that isn't settled: the far end has what counts as acknowledged, and no more than was sent
 pub record Reaches (l : ℕ) (link : LinkState) (s f : State) (sent : List Message) : Type 0 where

@@ -1,5 +1,5 @@
 -- EVERY SOUND RUN DIVERTS THE REST: one induction over its steps, beside that of the links.
-use Rattle.std.proofs.Common.{refl, arith, ◌≡◌, ◌∙◌, ap, sym, subst, ℕ, zero, suc, ◌<◌, ◌-◌, Bool, true, false, ◌&&◌, ◌||◌, nat_lt, List, [], ◌∷◌, ◌++◌, length, slice_get, replicate, Option, Some, None, cond}
+use Rattle.std.proofs.Common.{refl, arith, ◌≡◌, ◌∙◌, ap, sym, subst, ℕ, zero, suc, ◌<◌, ◌-◌, Bool, true, false, ◌||◌, nat_lt, List, [], ◌∷◌, ◌++◌, length, slice_get, replicate, Option, Some, None, cond}
 use Rattle.std.proofs.lemmas.Bool.{ltb-true}
 use Rattle.l2_units.specs.declared.unit.Unit.{Unit as SignalUnit}
 use Rattle.link_lines.specs.Lines.{units_on, without}
@@ -7,11 +7,10 @@ use Rattle.set_events.specs.declared.answer.Answer.{Answer}
 use Rattle.set_events.specs.declared.config.Method.{Method}
 use Rattle.set_events.specs.declared.config.SetConfig.{SetConfig}
 use Rattle.set_events.specs.declared.event.Event.{Event}
-use Rattle.set_events.specs.declared.event.Event.TheVariants.{Next, Heard, Up as UpEvent}
+use Rattle.set_events.specs.declared.event.Event.TheVariants.{Next, Heard}
 use Rattle.set_model.specs.declared.phase.Phase.TheVariants.{Up}
 use Rattle.set_model.specs.Rows.{Row}
-use Rattle.set_model.specs.Sound.{IsAsked}
-use Rattle.set_model.specs.State.{LinkState, State, Settings, is_up, is_settled, link_is_up, link_is_settled, link_count, new_link, opened_with, settings_of}
+use Rattle.set_model.specs.State.{LinkState, Settings, is_up, is_settled, link_is_up, link_count, new_link, opened_with, settings_of}
 use Rattle.set_model.specs.Step.{Outcome as SetOutcome, step}
 use Rattle.set_model.proofs.Walk.{IsAt}
 use Rattle.world_steps.specs.declared.step.End.{End}
@@ -21,17 +20,16 @@ use Rattle.world_steps.specs.declared.step.Shown.TheVariants.{Answered, Up as Ca
 use Rattle.world_steps.specs.declared.step.Step.{Step}
 use Rattle.world_steps.specs.declared.step.Step.TheVariants.{Act, Emit, Arrive, Lose, Together, Inject}
 use Rattle.pair_model.specs.World.{Outcome, shows, impossible, exhausted, at_end, with_end, line_to, with_line, actor_of, answer_to, after, is_full, has_link, has_actor, acts, with_sent, sends_on, emits, front_arrives, arrives, loses, risen, is_settled_at_both, rises, has_own_step, done_by, carried_out}
-use Rattle.pair_model.specs.Run.{Message, messages, Stage, begun, no_past, with_past, past_asked, past_sent, past_arrived, past_risen, passed, OnShows, HoldsAlong, HoldsAtEach}
-use Rattle.pair_model.specs.Promises.{IsOneMethod, IsSoundStep, IsAskedStep, AreSteps, IsSoundRun, TellsNoFault}
+use Rattle.pair_model.specs.Run.{Message, messages, Stage, begun, no_past, with_past, past_arrived, passed, OnShows, HoldsAlong, HoldsAtEach}
+use Rattle.pair_model.specs.Promises.{IsOneMethod, IsSoundStep, IsAskedStep, AreSteps, IsSoundRun}
 use Rattle.pair_model.proofs.Controls.{one_back}
 use Rattle.pair_model.proofs.Kept.{at_first}
 use Rattle.pair_model.proofs.Moving as moving
-use Rattle.pair_model.proofs.Pairs.{Two, swapped, HoldsOf, swap}
-use Rattle.pair_model.proofs.Runs.{seen, Holds, Goes, step_goes, is_at_up, both_settled}
-use Rattle.pair_changeover.specs.Diverted.{LosesNothing, OrdersTell, FrontTells, DivertsTheRest, IsLostNothing, IsDiverted, ChangesOver}
+use Rattle.pair_model.proofs.Pairs.{HoldsOf, swap}
+use Rattle.pair_model.proofs.Runs.{seen, Holds, Goes, is_honest, step_goes, is_at_up, both_settled}
+use Rattle.pair_changeover.specs.Diverted.{OrdersTell, FrontTells, DivertsTheRest, IsLostNothing, IsDiverted, ChangesOver}
 use Rattle.pair_changeover.proofs.Acked.{new_acked_first}
 use Rattle.pair_changeover.proofs.Arriving.{hears_did, hears_tells, rises_did}
-use Rattle.pair_changeover.proofs.Changes.{Both}
 use Rattle.pair_changeover.proofs.Table.{drop_none}
 use Rattle.pair_changeover.proofs.Views.{view, acked_of, acked_on, accepted_of, accepted_on, Among, In, stands_on, stands_aside, Orders}
 use Rattle.pair_changeover.proofs.Whole.{Half, Whole, whole_back, Did, stays, asks_did, sends_did, sends_not, loses_nothing}
@@ -232,7 +230,7 @@ module _ (ma mb : Method) (one : IsOneMethod ma mb) where
   pub along : (g : Stage) → Holds ma mb one g → Whole (seen A g) → (steps : List Step) → AreSteps IsSoundStep steps → AreSteps IsAskedStep steps → ChangesOver g steps
   along g h w [] sound asked = record { lost_nothing = lost_nothing g h w; diverted = tt }
   along g h w (step ∷ steps) sound asked =
-      let rest = onward g step steps (λ later holds whole. along later holds whole steps sound.1 asked.1) (carried_out g.world step) (step_goes ma mb one g h step sound.0 asked.0) (step_went g h w step sound.0) in
+      let rest = onward g step steps (λ later holds whole. along later holds whole steps sound.1 asked.1) (carried_out g.world step) (step_goes ma mb one g h step (is_honest step sound.0) asked.0) (step_went g h w step sound.0) in
       record { lost_nothing = (lost_nothing g h w, rest.0); diverted = rest.1 }
 
 -- AT FIRST
@@ -246,13 +244,13 @@ none_counted zero l method count a b = a
 none_counted (suc n) zero method count a b = b
 none_counted (suc n) (suc l) method count a b = none_counted n l method count a b
 
-nothing_in : (a b : Settings) (m : Message) → In m (view (opened_with a) (opened_with b)) → ⊥
+pub nothing_in : (a b : Settings) (m : Message) → In m (view (opened_with a) (opened_with b)) → ⊥
 nothing_in a b m (stands_on l among) = subst (λ (q : List Row). Among m (messages (q ++ [] ++ []))) (drop_none {X = Row} (accepted_on l (opened_with b) - acked_on l (opened_with a))) among
 nothing_in a b m (stands_aside among) = among
 
 first_orders : (a b : Settings) → Orders (view (opened_with a) (opened_with b)) (view (opened_with b) (opened_with a))
 first_orders a b = record {
-  tells = λ m i order e. absurd (nothing_in a b m i);
+  tells = λ m i order e over. absurd (nothing_in a b m i);
   none_up = λ link up m i about. nothing_in a b m i;
   none_settled = λ link settled m i about. nothing_in a b m i;
   one = λ link m n i j x y. absurd (nothing_in a b m i);

@@ -1,9 +1,9 @@
 -- THE TABLE: what each change of a set's rows does to what is pending on a link, and aside.
-use Rattle.std.proofs.Common.{refl, arith, ◌≡◌, ◌∙◌, ap, ap₂, sym, subst, ℕ, zero, suc, ◌≤◌, ◌<◌, ◌==◌, ◌+◌, ◌-◌, Bool, true, false, List, [], ◌∷◌, ◌++◌, length, map, take, drop, slice_get, Option, Some, None, append_assoc}
+use Rattle.std.proofs.Common.{refl, arith, ◌≡◌, ◌∙◌, ap, sym, ℕ, zero, suc, ◌≤◌, ◌==◌, ◌+◌, ◌-◌, true, false, List, [], ◌∷◌, ◌++◌, length, map, take, drop, slice_get, Some, append_assoc}
 use Rattle.std.proofs.lemmas.List.{append-nil, map-append, drop-append-le, take-append-drop}
 use Rattle.set_events.specs.declared.answer.Fate.{Fate}
-use Rattle.set_events.specs.declared.answer.Fate.TheVariants.{Waiting, Unacked, Acked, Held, Parked}
-use Rattle.set_model.specs.Rows.{Row, is_on, is_waiting, is_unacked, is_held, is_parked, all_with, unack, wait, held, on, parked, with_fate, turned, moved, appended, IsInOrder, IsHeldLast}
+use Rattle.set_events.specs.declared.answer.Fate.TheVariants.{Waiting, Unacked, Acked, Parked}
+use Rattle.set_model.specs.Rows.{Row, is_on, is_waiting, is_unacked, is_held, is_parked, all_with, unack, wait, held, parked, with_fate, turned, moved, appended, IsInOrder, IsHeldLast}
 use Rattle.set_model.proofs.Events.{Untouched, acknowledged, sent, moved_to, moved_aside, unparked, appended_in, appended_out, appended_untouched}
 use Rattle.set_model.proofs.Finding.{new_row}
 use Rattle.pair_model.specs.Run.{Message, messages}
@@ -36,12 +36,12 @@ module _ (count link : ℕ) (rows new : List Row) where
   queue_untouched u = rw (u.unack_same, u.wait_same, u.held_same) refl
 
 -- A NEW MESSAGE stands last where it isn't sent
-joins_waiting : (sent waiting more : List Row) → messages (sent ++ (waiting ++ more) ++ []) ≡ messages (sent ++ waiting ++ []) ++ messages more
+pub joins_waiting : (sent waiting more : List Row) → messages (sent ++ (waiting ++ more) ++ []) ≡ messages (sent ++ waiting ++ []) ++ messages more
 joins_waiting sent waiting more =
     ap messages (append-nil (sent ++ (waiting ++ more)) ∙ sym (append_assoc sent waiting more)) ∙ joined (sent ++ waiting) more
     ∙ ap (λ (xs : List Row). messages xs ++ messages more) (sym (append-nil (sent ++ waiting)))
 
-joins_held : (sent waiting kept more : List Row) → messages (sent ++ waiting ++ (kept ++ more)) ≡ messages (sent ++ waiting ++ kept) ++ messages more
+pub joins_held : (sent waiting kept more : List Row) → messages (sent ++ waiting ++ (kept ++ more)) ≡ messages (sent ++ waiting ++ kept) ++ messages more
 joins_held sent waiting kept more = ap messages (sym (append_assoc (sent ++ waiting) kept more)) ∙ joined (sent ++ waiting ++ kept) more
 
 abbrev pub new_message : List Row → List ℕ → Message

@@ -1,12 +1,11 @@
 -- THE ORDERS UNDER WAY between two ends, told by what stands at each and the other hasn't accepted: no copies, losses or
 -- acknowledgements occur here.
-use Rattle.std.proofs.Common.{refl, ◌≡◌, ◌≢◌, ◌∙◌, ap, sym, subst, ℕ, ◌+◌, ◌-◌, ◌%◌, Bool, true, false, List, [], ◌∷◌, ◌++◌, length, drop, slice_get, Option, Some, None, ◌⊎◌, inl, inr}
+use Rattle.std.proofs.Common.{refl, ◌≡◌, ◌≢◌, ◌∙◌, ap, sym, subst, ℕ, ◌+◌, ◌%◌, Bool, true, false, List, [], ◌∷◌, ◌++◌, Some, ◌⊎◌, inl, inr}
 use Rattle.l3_orders.specs.declared.order.Order.{Order}
 use Rattle.l3_orders.specs.declared.order.Order.TheVariants.{Coo, Coa, Cbd, Cba, Eco, Eca}
 use Rattle.l3_orders.specs.Grammar.{order_of, link_of}
-use Rattle.set_model.specs.Rows.{Row, unack, wait, held, parked}
-use Rattle.set_model.specs.State.{LinkState, State, is_up, is_settled}
-use Rattle.pair_model.specs.Run.{Message, messages}
+use Rattle.set_model.specs.State.{State, is_up, is_settled}
+use Rattle.pair_model.specs.Run.{Message}
 pub use Rattle.pair_changeover.specs.Pending.{acked_of, acked_on, accepted_of, accepted_on, queue, pending, aside}
 
 -- AN END as the other sees it
@@ -44,17 +43,29 @@ pub data In (m : Message) (v : View) : Type 0 where
   stands_on : (link : ℕ) → Among m (v.on link) → In m v
   stands_aside : Among m v.aside → In m v
 
--- ORDERS
+-- ORDERS of a changeover; those of a changeback move nothing here
+abbrev pub IsChangeover : Order → Type 0
+IsChangeover (Coo link fsn) = Unit {0}
+IsChangeover (Coa link fsn) = Unit {0}
+IsChangeover (Eco link) = Unit {0}
+IsChangeover (Eca link) = Unit {0}
+IsChangeover (Cbd link code) = ⊥
+IsChangeover (Cba link code) = ⊥
+
+abbrev pub IsNoOrder : List ℕ → Type 0
+IsNoOrder body = (order : Order) → order_of body ≡ Some order → IsChangeover order → ⊥
+
 abbrev pub IsPlain : Message → Type 0
-IsPlain m = order_of m.body ≡ None
+IsPlain m = IsNoOrder m.body
 
 pub record About (link : ℕ) (m : Message) : Type 0 where
   pub order : Order
   pub is : order_of m.body ≡ Some order
+  pub over : IsChangeover order
   pub of : link_of order ≡ link
 
 pub plain_not : (link : ℕ) (m : Message) → IsPlain m → About link m → ⊥
-plain_not link m plain about = let no : None ≡ Some about.order = sym plain ∙ about.is in absurd cc
+plain_not link m plain about = plain about.order about.is about.over
 
 abbrev pub NoneAbout : ℕ → View → Type 0
 NoneAbout link v = (m : Message) → In m v → About link m → ⊥
@@ -65,11 +76,11 @@ Tells v (Coo link fsn) = fsn ≡ (v.accepted link + 127) % 128
 Tells v (Coa link fsn) = fsn ≡ (v.accepted link + 127) % 128
 Tells v _ = ⊥
 
--- What holds of the orders that stand at an end: none about a link that is up here or has settled there, of each other
+-- What holds of the orders of changeovers that stand at an end: none about a link that is up here or has settled there, of each other
 -- link at most one, and none on the link that it's about; each with the number that its end counts. And a link that
 -- settled here isn't up there.
 pub record Orders (x y : View) : Type 0 where
-  pub tells : (m : Message) → In m x → (order : Order) → order_of m.body ≡ Some order → Tells x order
+  pub tells : (m : Message) → In m x → (order : Order) → order_of m.body ≡ Some order → IsChangeover order → Tells x order
   pub none_up : (link : ℕ) → x.up link ≡ true → NoneAbout link x
   pub none_settled : (link : ℕ) → y.settled link ≡ true → NoneAbout link x
   pub one : (link : ℕ) (m n : Message) → In m x → In n x → About link m → About link n → m.number ≡ n.number
@@ -115,12 +126,12 @@ module _ (x x' y y' : View) (p : Passes x x' y') (o : Orders x y) where
   still m (Cba link code) e i same t = absurd t
   still m (Eco link) e i same t = absurd t
   still m (Eca link) e i same t = absurd t
-  still m (Coo link fsn) e i (inr none) t = absurd (none m i (record { order = Coo link fsn; is = e; of = refl }))
-  still m (Coa link fsn) e i (inr none) t = absurd (none m i (record { order = Coa link fsn; is = e; of = refl }))
+  still m (Coo link fsn) e i (inr none) t = absurd (none m i (record { order = Coo link fsn; is = e; over = tt; of = refl }))
+  still m (Coa link fsn) e i (inr none) t = absurd (none m i (record { order = Coa link fsn; is = e; over = tt; of = refl }))
 
   pub carries : Orders x' y'
   carries = record {
-    tells = λ m i order e. let j = about_was (link_of order) m (record { order = order; is = e; of = refl }) (was m i) in still m order e j (p.accepted (link_of order)) (o.tells m j order e);
+    tells = λ m i order e over. let j = about_was (link_of order) m (record { order = order; is = e; over = over; of = refl }) (was m i) in still m order e j (p.accepted (link_of order)) (o.tells m j order e over);
     none_up = λ link up m i about. p.none_up link up m (about_was link m about (was m i)) about;
     none_settled = λ link settled m i about. p.none_settled link settled m (about_was link m about (was m i)) about;
     one = λ link m n i j a b. o.one link m n (about_was link m a (was m i)) (about_was link n b (was n j)) a b;
@@ -183,7 +194,7 @@ module _ (z : Message) (order : Order) (x x' y : View) (q : Queues z order x x' 
 
   pub queued_in : Orders x' y
   queued_in = record {
-    tells = λ m i other e. tells_case m other e (then_in m i);
+    tells = λ m i other e over. tells_case m other e over (then_in m i);
     none_up = λ link up. none_then link (o.none_up link (sym (q.up_same link) ∙ up)) (λ same. let no : false ≡ true = sym q.down ∙ ap x.up (sym same) ∙ sym (q.up_same link) ∙ up in absurd cc);
     none_settled = λ link settled. none_then link (o.none_settled link settled) (λ same. let no : false ≡ true = sym q.unsettled ∙ ap y.settled (sym same) ∙ settled in absurd cc);
     one = λ link m n i j a b. one_case link m n a b (then_in m i) (then_in n j);
@@ -191,12 +202,12 @@ module _ (z : Message) (order : Order) (x x' y : View) (q : Queues z order x x' 
     apart = λ link settled. o.apart link (sym (q.settled_same link) ∙ settled);
   }
     where
-      tells_case : (m : Message) (other : Order) → order_of m.body ≡ Some other → (m ≡ z) ⊎ In m x → Tells x' other
-      tells_case m other e (inl same) =
+      tells_case : (m : Message) (other : Order) → order_of m.body ≡ Some other → IsChangeover other → (m ≡ z) ⊎ In m x → Tells x' other
+      tells_case m other e over (inl same) =
           let two : Some other ≡ Some order = sym e ∙ ap (λ (k : Message). order_of k.body) same ∙ q.is in
           let one : other ≡ order = cc in
           subst (Tells x') (sym one) (tells_on order q.tells)
-      tells_case m other e (inr i) = tells_on other (o.tells m i other e)
+      tells_case m other e over (inr i) = tells_on other (o.tells m i other e over)
 
       one_case : (link : ℕ) (m n : Message) → About link m → About link n → (m ≡ z) ⊎ In m x → (n ≡ z) ⊎ In n x → m.number ≡ n.number
       one_case link m n a b (inl e) (inl f) = ap (λ (k : Message). k.number) (e ∙ sym f)

@@ -1,19 +1,13 @@
 -- WHAT HOLDS OF BOTH ENDS ALL ALONG, beside each link's tie, and that every step keeps it: seen from the end that acts.
-use Rattle.std.proofs.Common.{refl, arith, ◌≡◌, ◌≢◌, ◌∙◌, ap, sym, subst, ℕ, zero, suc, ◌≤◌, ◌<◌, ◌==◌, ◌+◌, ◌-◌, ◌%◌, Bool, true, false, List, [], ◌∷◌, ◌++◌, All, length, take, drop, slice_get, slice_set, Option, Some, None, append_assoc}
-use Rattle.std.proofs.lemmas.List.{drop-map}
+use Rattle.std.proofs.Common.{refl, arith, ◌≡◌, ◌∙◌, ap, sym, subst, ℕ, ◌≤◌, ◌<◌, Bool, true, false, List, [], length, slice_get, Some}
 use Rattle.l2_units.specs.declared.unit.Unit.{Unit as SignalUnit}
-use Rattle.l3_orders.specs.declared.order.Order.{Order}
-use Rattle.link_lines.specs.Lines.{units_on}
 use Rattle.set_events.specs.declared.config.Method.{Method}
 use Rattle.set_events.specs.declared.event.Event.{Event}
 use Rattle.set_events.specs.declared.event.Event.TheVariants.{Offer, Take, Find, Next, Heard as HeardEvent, Up as UpEvent, Down as DownEvent, DownBlind, NoAnswer, Restore, BackTimeout}
 use Rattle.set_model.specs.declared.phase.Phase.TheVariants.{Up}
-use Rattle.set_model.specs.Rows.{Row, was_discarded, standing, unack, wait, held, parked, is_unacked}
-use Rattle.set_model.specs.Sound.{IsSound}
-use Rattle.set_model.specs.State.{LinkState, State, Settings, is_up, is_settled, link_is_settled, has_phase_settled, target}
+use Rattle.set_model.specs.Rows.{was_discarded, standing}
+use Rattle.set_model.specs.State.{LinkState, State, is_up, is_settled, link_is_settled, has_phase_settled}
 use Rattle.set_model.specs.Step.{Outcome, step}
-use Rattle.set_model.proofs.Events.{acknowledged}
-use Rattle.set_model.proofs.InPlace.{turned_same}
 use Rattle.set_model.proofs.Lists.{present, within}
 use Rattle.set_model.proofs.Walk.{IsAt}
 use Rattle.world_steps.specs.declared.step.End.{End}
@@ -21,15 +15,15 @@ use Rattle.world_steps.specs.declared.step.Shown.{Shown}
 use Rattle.world_steps.specs.declared.step.Step.TheVariants.{Act}
 use Rattle.pair_model.specs.World.{has_own_step}
 use Rattle.pair_model.specs.Promises.{IsOneMethod, IsSoundStep}
-use Rattle.pair_model.specs.Run.{Message, Past, messages, past_asked, past_sent}
+use Rattle.pair_model.specs.Run.{Past, past_asked, past_sent}
 use Rattle.pair_model.proofs.Kept.{kept_on}
 use Rattle.pair_model.proofs.Moving.{next_refused}
 use Rattle.pair_model.proofs.Pairs.{Two, swapped, HoldsOf, settings_stay}
 use Rattle.pair_model.proofs.Sending.{next_is}
-use Rattle.pair_changeover.specs.Diverted.{Diverts, answer_on, queue_for, LosesNothing}
+use Rattle.pair_changeover.specs.Diverted.{Diverts, LosesNothing}
 use Rattle.pair_changeover.proofs.Acked.{AckedFirst, sent_then as sent_by, acked_first, emits_first}
 use Rattle.pair_changeover.proofs.Changes.{Both}
-use Rattle.pair_changeover.proofs.Keeping.{Keeps, keeps_still, offer_kept, take_kept, find_kept, down_kept, next_keeps}
+use Rattle.pair_changeover.proofs.Keeping.{Keeps, keeps_still, offer_kept, take_kept, find_kept, down_kept, restore_kept, next_keeps}
 use Rattle.pair_changeover.proofs.Reaching.{Reaches, reaches}
 use Rattle.pair_changeover.proofs.Texts.{AreCodes}
 use Rattle.pair_changeover.proofs.Views.{acked_of, acked_on, accepted_of, accepted_on}
@@ -115,16 +109,16 @@ module _ (mx my : Method) (one : IsOneMethod mx my) (p : Two) (h : HoldsOf mx my
   first_at event l = acked_first l p.near event (p.near_past.sent l) h.near_sound (w.near.acked l)
 
   pub asks_did : (end : End) (event : Event) (shown : Shown) → has_own_step event ≡ false → IsSoundStep (Act end event) → Did p (after event shown)
-  asks_did end (Offer body) shown own sound = keeps_did p w (Offer body) (past_asked (Offer body) shown p.near_past) p.out p.back (offer_kept p.near p.far body (h.near_sound, h.near_straight.none_open)) (first_at (Offer body))
+  asks_did end (Offer body) shown own sound = keeps_did p w (Offer body) (past_asked (Offer body) shown p.near_past) p.out p.back (offer_kept p.near p.far body h.near_sound) (first_at (Offer body))
   asks_did end Take shown own sound = keeps_did p w Take p.near_past p.out p.back (take_kept p.near p.far) (first_at Take)
   asks_did end (Find number) shown own sound = keeps_did p w (Find number) p.near_past p.out p.back (find_kept p.near p.far number) (first_at (Find number))
   asks_did end (Next k) shown own sound = absurd cc
   asks_did end (HeardEvent k unit) shown own sound = absurd cc
   asks_did end (UpEvent k) shown own sound = absurd cc
-  asks_did end (DownEvent k) shown own sound = keeps_did p w (DownEvent k) p.near_past p.out p.back (down_kept k p.near p.far (h.near_sound, h.near_straight.none_open) w.near.codes) (first_at (DownEvent k))
+  asks_did end (DownEvent k) shown own sound = keeps_did p w (DownEvent k) p.near_past p.out p.back (down_kept k p.near p.far h.near_sound w.near.codes) (first_at (DownEvent k))
   asks_did end (DownBlind k) shown own sound = absurd sound
   asks_did end (NoAnswer k) shown own sound = absurd sound
-  asks_did end (Restore k) shown own sound = absurd sound
+  asks_did end (Restore k) shown own sound = keeps_did p w (Restore k) p.near_past p.out p.back (restore_kept k p.near p.far h.near_sound) (first_at (Restore k))
   asks_did end (BackTimeout k) shown own sound = absurd sound
 
   -- IT SENDS

@@ -1,6 +1,6 @@
 -- WHAT A CHANGEOVER DIVERTS between two ends, in every sound run (Q.704 5). Here n of a link is how many bodies the far
 -- end accepted on it in its present life, or its last one.
-use Rattle.std.specs.Prelude.{◌≡◌, ◌≤◌, ℕ, Bool, true, false, ◌+◌, ◌%◌, List, [], ◌∷◌, ◌++◌, All, length, take, drop, slice_get, Option, Some, None, if◌then◌else◌}
+use Rattle.std.specs.Prelude.{◌≡◌, ◌≤◌, ℕ, true, false, ◌+◌, ◌%◌, List, [], ◌∷◌, ◌++◌, All, length, take, drop, slice_get, Option, Some, None, if◌then◌else◌}
 use Rattle.l2_units.specs.declared.unit.Unit.{Unit as SignalUnit}
 use Rattle.l3_orders.specs.declared.order.Order.{Order}
 use Rattle.l3_orders.specs.declared.order.Order.TheVariants.{Coo, Coa}
@@ -11,8 +11,8 @@ use Rattle.set_events.specs.declared.answer.Took.{Took}
 use Rattle.set_events.specs.declared.answer.Took.TheVariants.{Order as TookOrder}
 use Rattle.set_events.specs.declared.config.SetConfig.{SetConfig}
 use Rattle.set_model.specs.Rows.{Row, wait, held, parked, place, standing, was_discarded}
-use Rattle.set_model.specs.State.{LinkState, State, Settings, has_phase_up, has_phase_settled, is_settled, last_accepted, target}
-use Rattle.set_model.specs.Changeover.{is_reasonable}
+use Rattle.set_model.specs.State.{LinkState, State, has_phase_up, has_phase_settled, is_settled, last_accepted, target}
+use Rattle.set_model.specs.Changeover.{is_reasonable, left_by}
 use Rattle.world_steps.specs.declared.step.End.{End}
 use Rattle.world_steps.specs.declared.step.Step.{Step}
 use Rattle.world_steps.specs.declared.step.Step.TheVariants.{Arrive}
@@ -63,7 +63,13 @@ abbrev pub queue_for : Option ℕ → List Row → List Row
 queue_for (Some to) rows = wait to rows
 queue_for None rows = parked rows
 
--- an end that learns of the failure by the order acknowledges it first, with the FSN last accepted (Q.704 5.4.2)
+-- one that learns of the failure by an order leaves the link first; what was on its way back to it stands again where it
+-- came from
+abbrev pub as_left : ℕ → Option LinkState → State → State
+as_left link None s = s
+as_left link (Some state) s = if has_phase_up state.phase then left_by false link state s else s
+
+-- and acknowledges the order, with the FSN last accepted (Q.704 5.4.2)
 abbrev pub answer_on : ℕ → Option LinkState → State → List Message
 answer_on link None s = []
 answer_on link (Some state) s =
@@ -75,13 +81,16 @@ answer_on link (Some state) s =
     else []
 
 -- the first n of the messages that were sent on the link in that life are acknowledged; and exactly the others of them,
--- then those that wait for the link, then those that are held for it, stand in this order behind what waited for the
--- target, and behind that acknowledgement
-pub record Diverts (link : ℕ) (sent : List Message) (taken : List (List ℕ)) (old new : State) : Type 0 where
+-- then those that wait for the link, then those that are held for it as it's left, stand in this order behind what waited
+-- for the target, and behind that acknowledgement
+pub record DivertsFrom (link : ℕ) (sent : List Message) (taken : List (List ℕ)) (old left new : State) : Type 0 where
   pub acked : All (λ message. place message.number new.rows ≡ Some (Acked link)) (take (length taken) sent)
   pub moved : messages (queue_for (target new.links) new.rows)
-      ≡ messages (queue_for (target new.links) old.rows) ++ answer_on link (slice_get old.links link) old
-      ++ drop (length taken) sent ++ messages (wait link old.rows) ++ messages (held link old.rows)
+      ≡ messages (queue_for (target new.links) left.rows) ++ answer_on link (slice_get old.links link) old
+      ++ drop (length taken) sent ++ messages (wait link left.rows) ++ messages (held link left.rows)
+
+abbrev pub Diverts : ℕ → List Message → List (List ℕ) → State → State → Type 0
+Diverts link sent taken old new = DivertsFrom link sent taken old (as_left link (slice_get old.links link) old) new
 
 abbrev pub DivertsTheRest : Stage → Stage → Type 0
 DivertsTheRest before after =
@@ -90,7 +99,8 @@ DivertsTheRest before after =
     → Diverts link ((past_at before end).sent link) ((past_at before (other end)).taken link)
     (at_end before.world end).state (at_end after.world end).state
 
--- PROMISED, whatever the lines lose, for any number of links, and whichever end leaves a link first or both do
+-- PROMISED, whatever the lines lose, for any number of links, whichever end leaves a link first or both do, and with
+-- changeback under way
 pub record IsLostNothing (g : Stage) : Type 0 where
   pub at_a : LosesNothing g.world.a.state g.b
   pub at_b : LosesNothing g.world.b.state g.a

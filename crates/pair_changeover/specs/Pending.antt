@@ -1,7 +1,7 @@
 -- PENDING: what stands at an end and the far end hasn't accepted. Copies under way, losses and acknowledgements change
 -- nothing of it.
 use Rattle.std.specs.Prelude.{ℕ, ◌-◌, List, ◌++◌, drop, slice_get, Option, Some, None}
-use Rattle.set_model.specs.Rows.{Row, unack, wait, held, parked}
+use Rattle.set_model.specs.Rows.{Row, unack, wait, held, parked, back}
 use Rattle.set_model.specs.State.{LinkState, State}
 use Rattle.pair_model.specs.Run.{Message, messages}
 
@@ -30,3 +30,7 @@ pending link near far = queue (accepted_on link far - acked_on link near) link n
 
 abbrev pub aside : State → List Message
 aside s = messages (parked s.rows)
+
+-- what waits here for an acknowledgement of a changeback
+abbrev pub kept_back : State → List Message
+kept_back s = messages (back s.rows)

@@ -1,5 +1,5 @@
 -- HOW A LINK GOES ON at an end by what isn't its own sending, hearing or coming up.
-use Rattle.std.proofs.Common.{refl, ◌≡◌, ◌≢◌, ◌∙◌, ap, sym, subst, ℕ, ◌<◌, ◌==◌, Bool, true, false, List, [], ◌∷◌, ◌++◌, length, map, slice_get, slice_set, Option, Some, None, append_assoc, cond, inl, inr}
+use Rattle.std.proofs.Common.{refl, ◌≡◌, ◌≢◌, ◌∙◌, ap, sym, subst, ℕ, zero, suc, ◌<◌, ◌==◌, Bool, true, false, List, [], ◌∷◌, ◌++◌, length, map, slice_get, slice_set, Option, Some, None, append_assoc, cond, inl, inr}
 use Rattle.std.proofs.lemmas.Bool.{eqb-true}
 use Rattle.std.proofs.lemmas.List.{append-nil}
 use Rattle.l2_units.specs.declared.unit.Unit.{Unit as SignalUnit}
@@ -12,21 +12,21 @@ use Rattle.set_events.specs.declared.answer.Fate.{Fate}
 use Rattle.set_events.specs.declared.answer.Fate.TheVariants.{Waiting}
 use Rattle.set_events.specs.declared.answer.Refusal.{Refusal as SetRefusal}
 use Rattle.set_events.specs.declared.answer.Refusal.TheVariants.{NotUp}
-use Rattle.set_events.specs.declared.event.Event.TheVariants.{Offer, Take, Find, Next, Heard, Up as UpEvent, Down as DownEvent}
+use Rattle.set_events.specs.declared.event.Event.TheVariants.{Offer, Take, Find, Next, Heard, Up as UpEvent, Down as DownEvent, DownBlind, NoAnswer, Restore, BackTimeout}
 use Rattle.set_route.specs.declared.place.Place.{Place}
 use Rattle.set_route.specs.declared.place.Code.{Code}
 use Rattle.set_route.specs.declared.place.Code.TheVariants.{Free, Asked, Spent}
 use Rattle.set_route.specs.declared.place.Place.TheVariants.{On, Changing, Nowhere}
-use Rattle.set_route.specs.Routing.{place_of, code_of}
+use Rattle.set_route.specs.Routing.{place_of, code_for, code_of}
 use Rattle.set_model.specs.declared.phase.Phase.{Phase}
 use Rattle.set_model.specs.declared.phase.Phase.TheVariants.{Up, Down, Settled}
 use Rattle.set_model.specs.declared.reached.Reached.{Reached}
 use Rattle.set_model.specs.declared.reached.Reached.TheVariants.{Upto, Unknown, Unanswered}
 use Rattle.set_model.specs.Rows.{Row, standing, is_waiting, is_unacked, is_back, is_back_to, stands_back, unack, wait, on, all_with, appended, moved, fated, with_fate, service_indicator, stream_of}
-use Rattle.set_model.specs.State.{LinkState, State, has_phase_up, has_phase_settled, is_up, fate_at, target, window_of}
+use Rattle.set_model.specs.State.{LinkState, State, link_count, link_is_up, has_phase_up, has_phase_settled, is_up, fate_at, target, window_of}
 use Rattle.set_model.specs.Control.{part_of}
-use Rattle.set_model.specs.Changeover.{Obeyed, fate_on, left_link, acknowledged as acknowledged_link, settled_link, moved_over, queued, out_of_service, left_by, leaving_order, declared, released, acknowledged_back, is_reasonable, judged, settled, changed_over, answered, at_link, order_obeyed, obeyed, reply_of}
-use Rattle.set_model.specs.Step.{Outcome, refused, offer_refusal, offered, is_msu, brought, takes, after_control, controls, heard, falls, with_known, in_service, step}
+use Rattle.set_model.specs.Changeover.{Obeyed, fate_on, left_link, acknowledged as acknowledged_link, settled_link, moved_over, queued, out_of_service, left_by, leaving_order, declared, some_declare, released, released_from, some_in_use, acknowledged_back, is_reasonable, judged, settled, changed_over, answered, at_link, order_obeyed, obeyed, reply_of}
+use Rattle.set_model.specs.Step.{Outcome, refused, offer_refusal, offered, is_msu, brought, takes, after_control, controls, heard, falls, gives_up, comes_back, runs_out, with_known, in_service, step}
 use Rattle.set_model.specs.Frame.{LeavesAlone}
 use Rattle.set_model.proofs.Events.{Untouched, acknowledged, sent_given_up, waiting_given_up, moved_to, moved_aside, appended_in, appended_out, untouched_self}
 use Rattle.set_model.proofs.Finding.{new_row}
@@ -36,7 +36,7 @@ use Rattle.set_model.proofs.Moving.{moved_same, moved_more}
 use Rattle.set_model.proofs.Places.{false_true, itself, apart, not_on_unacked, not_on_waiting, back_not_on, code_back, home_back}
 use Rattle.set_model.proofs.Ranging.{offered_out}
 use Rattle.set_model.proofs.Targets.{target_up}
-use Rattle.set_model.proofs.Walk.{IsAt, KeptBy, Touches, obeys_walks}
+use Rattle.set_model.proofs.Walk.{IsAt, KeptBy, Touches, settle_walks, declare_walks, obeys_walks}
 
 -- it wasn't settled before; its control, its count and its unacknowledged messages are the same; and messages may have
 -- come to wait for it, last
@@ -310,11 +310,69 @@ in_goes l m s f all = go (slice_get s.links m) refl
     go None e = follows_same l s
     go (Some link) e = at link e (has_phase_up link.phase) refl
 
+falls_follow : (l : ℕ) (blind : Bool) (m : ℕ) (s : State) → Follows l s (in_service m s (falls blind m s)).state
+falls_follow l blind m s = in_goes l m s (falls blind m s) (λ link at.
+    let left = left_by blind m link s in
+    follows_then l s left (queued (leaving_order blind m link) left) (follows_left l blind m link s at) (follows_queued l (leaving_order blind m link) left))
+
 pub down_follows : (l m : ℕ) (s : State) → Follows l s (step s (DownEvent m)).state
 unfolding step
-down_follows l m s = in_goes l m s (falls false m s) (λ link at.
-    let left = left_by false m link s in
-    follows_then l s left (queued (leaving_order false m link) left) (follows_left l false m link s at) (follows_queued l (leaving_order false m link) left))
+down_follows l m s = falls_follow l false m s
+
+pub blind_follows : (l m : ℕ) (s : State) → Follows l s (step s (DownBlind m)).state
+unfolding step
+blind_follows l m s = falls_follow l true m s
+
+-- a link that is given up without an answer settles
+given_up : (l m : ℕ) (s : State) (link : LinkState) → IsAt m link Down s → Follows l s (settled Unanswered m link s)
+given_up l m s link at = go (m == l) refl
+  where
+    go : (b : Bool) → (m == l) ≡ b → Follows l s (settled Unanswered m link s)
+    go true d = subst (λ (k : ℕ). Follows k s (settled Unanswered m link s)) (eqb-true m l d) (settles Unanswered m link s s (within s.links m link at.there))
+    go false d = settle_walks (λ k. (k == l) ≡ false) ⊥ (Follows l) (others l ⊥) Unanswered m link s d at
+
+give_goes : (l m : ℕ) (s : State) (link : LinkState) (phase : Phase) → IsAt m link phase s → Follows l s (gives_up m s link phase).state
+give_goes l m s link Up at = follows_same l s
+give_goes l m s link Settled at = follows_same l s
+give_goes l m s link Down at = given_up l m s link at
+
+on_goes : (l m : ℕ) (s : State) (f : LinkState → Outcome) → ((link : LinkState) → slice_get s.links m ≡ Some link → Follows l s (f link).state) → Follows l s (with_known (slice_get s.links m) s f).state
+on_goes l m s f all = go (slice_get s.links m) refl
+  where
+    go : (o : Option LinkState) → slice_get s.links m ≡ o → Follows l s (with_known o s f).state
+    go None e = follows_same l s
+    go (Some link) e = all link e
+
+pub unanswered_follows : (l m : ℕ) (s : State) → Follows l s (step s (NoAnswer m)).state
+unfolding step
+unanswered_follows l m s = on_goes l m s (λ link. gives_up m s link link.phase) (λ link there. give_goes l m s link link.phase (record { there = there; phase_is = refl }))
+
+-- changeback: declarations come to wait, and what stood back comes to wait at home
+comes_goes : (l m : ℕ) (s : State) → is_up m s ≡ true → Follows l s (comes_back m s).state
+comes_goes l m s up = go (some_declare m 0 (link_count s) s) refl
+  where
+    go : (b : Bool) → some_declare m 0 (link_count s) s ≡ b → Follows l s (comes_back m s).state
+    go true e = rw e (declare_walks (λ k. (k == l) ≡ false) (Unit {0}) (Follows l) (others l (Unit {0})) tt m 0 (link_count s) s up)
+    go false e = rw e (follows_same l s)
+
+pub restore_follows : (l m : ℕ) (s : State) → Follows l s (step s (Restore m)).state
+unfolding step
+restore_follows l m s = in_goes l m s (λ link. comes_back m s) (λ link at. comes_goes l m s (ap link_is_up at.there ∙ ap has_phase_up at.phase_is))
+
+released_follow : (l code n : ℕ) (s : State) → Follows l s (released_from code n s)
+released_follow l code zero s = follows_same l s
+released_follow l code (suc n) s = follows_then l s (released code s) _ (follows_released l code s) (released_follow l (suc code) n (released code s))
+
+runs_goes : (l m : ℕ) (s : State) → Follows l s (runs_out m s).state
+runs_goes l m s = go (some_in_use (code_for m 0) 16 s) refl
+  where
+    go : (b : Bool) → some_in_use (code_for m 0) 16 s ≡ b → Follows l s (runs_out m s).state
+    go true e = rw e (released_follow l (code_for m 0) 16 s)
+    go false e = rw e (follows_same l s)
+
+pub timeout_follows : (l m : ℕ) (s : State) → Follows l s (step s (BackTimeout m)).state
+unfolding step
+timeout_follows l m s = on_goes l m s (λ link. runs_out m s) (λ link there. runs_goes l m s)
 
 -- a unit that is heard on another link
 controls_follow : (l m : ℕ) (unit : SignalUnit) (s : State) (link : LinkState) → (m == l) ≡ false → Follows l s (controls unit m s link).state

@@ -9,7 +9,7 @@ use Rattle.set_events.specs.declared.config.SetConfig.{SetConfig}
 use Rattle.set_model.specs.Rows.{Row, body_at, is_unacked, unack, IsNumbered}
 use Rattle.set_model.specs.Sound.{IsSettings}
 use Rattle.set_model.specs.State.{LinkState, Settings, has_phase_settled, new_link, opened_with, settings_of}
-use Rattle.set_model.proofs.Soundness.{opened_sound, opened_straight}
+use Rattle.set_model.proofs.Soundness.{opened_sound}
 use Rattle.pair_model.specs.Promises.{IsOneMethod, IsKeptOn}
 use Rattle.pair_model.specs.Run.{Message, Past, messages, bodies, no_past, begun}
 use Rattle.pair_model.proofs.Controls.{one_link}
@@ -118,8 +118,6 @@ pub at_first : (a b : SetConfig) → a.links ≡ b.links → HoldsOf a.method b.
 at_first a b same = record {
   near_sound = opened_sound (settings_of a) (settings_sound a);
   far_sound = opened_sound (settings_of b) (settings_sound b);
-  near_straight = opened_straight (settings_of a) (settings_sound a);
-  far_straight = opened_straight (settings_of b) (settings_sound b);
   near_method = refl;
   far_method = refl;
   far_links = count_of b.links (new_link b.method) ∙ sym same ∙ sym (count_of a.links (new_link a.method));

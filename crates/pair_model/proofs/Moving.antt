@@ -17,7 +17,6 @@ use Rattle.set_model.specs.State.{LinkState, State, Settings, has_phase_up, is_u
 use Rattle.set_model.specs.Step.{Outcome, refused, with_known, next, controls, report_of, step}
 use Rattle.set_model.proofs.LinkCount.{link_count_stays}
 use Rattle.set_model.proofs.Soundness.{step_sound}
-use Rattle.set_model.proofs.Straight.{step_straight}
 use Rattle.set_model.proofs.Lists.{length_set}
 use Rattle.set_model.proofs.Places.{itself, apart_back}
 use Rattle.set_model.proofs.Walk.{IsAt}
@@ -91,7 +90,7 @@ module _ (mx my : Method) (p : Two) (h : HoldsOf mx my p) (k : ℕ) where
     there l d = like l mx my _ (side l after sent_past) _ _ _ _ _ _ (same_side refl (added_other k l _ p.near_past.sent d) refl) refl (on_other l k _ p.out d) refl (goes_on mx my p h (Next k) l tt (next_follows l k p.near (no_other k l d)))
 
     pub emits_up : HoldsOf mx my (record p { near = after; near_past = sent_past; out = joined_on k sent_unit p.out })
-    emits_up = event_holds mx my p h (Next k) tt tt sent_past (joined_on k sent_unit p.out) p.back (length_set p.out k _) refl (λ l. go l (k == l) refl)
+    emits_up = event_holds mx my p h (Next k) tt sent_past (joined_on k sent_unit p.out) p.back (length_set p.out k _) refl (λ l. go l (k == l) refl)
       where
         go : (l : ℕ) (b : Bool) → (k == l) ≡ b → Tied l mx my (side l after sent_past) (side l p.far p.far_past) (units_on l (joined_on k sent_unit p.out)) (units_on l p.back)
         go l true d = subst (λ (m : ℕ). Tied m mx my (side m after sent_past) (side m p.far p.far_past) (units_on m (joined_on k sent_unit p.out)) (units_on m p.back)) (eqb-true k l d) here
@@ -104,15 +103,13 @@ module _ (mx my : Method) (p : Two) (h : HoldsOf mx my p) (k : ℕ) where
   pub emits_not : is_up k p.near ≡ false → HoldsOf mx my (record p { near = after; near_past = sent_past })
   emits_not e =
       let same : after ≡ p.near = ap (λ (o : Outcome). o.state) (next_refused k p.near e).1 in
-      event_holds mx my p h (Next k) tt tt sent_past p.out p.back refl refl (λ l. like l mx my _ (side l after sent_past) _ _ _ _ _ _ (same_side same (ap (λ (more : List Message). added_at k more p.near_past.sent l) (nothing_sent k p.near after same) ∙ added_none k l p.near_past.sent) refl) refl refl refl (h.ties l))
+      event_holds mx my p h (Next k) tt sent_past p.out p.back refl refl (λ l. like l mx my _ (side l after sent_past) _ _ _ _ _ _ (same_side same (ap (λ (more : List Message). added_at k more p.near_past.sent l) (nothing_sent k p.near after same) ∙ added_none k l p.near_past.sent) refl) refl refl refl (h.ties l))
 
 -- A UNIT IS LOST from the line out
 pub loses : (mx my : Method) (p : Two) → HoldsOf mx my p → (k place : ℕ) → k < length p.near.links → place < length (units_on k p.out) → HoldsOf mx my (record p { out = with_units k (without place (units_on k p.out)) p.out })
 loses mx my p h k place few within = record {
   near_sound = h.near_sound;
   far_sound = h.far_sound;
-  near_straight = h.near_straight;
-  far_straight = h.far_straight;
   near_method = h.near_method;
   far_method = h.far_method;
   far_links = h.far_links;
@@ -151,7 +148,7 @@ module _ (mx my : Method) (one : IsOneMethod mx my) (p : Two) (h : HoldsOf mx my
   heard_there l d = like l mx my _ (side l hearer_then heard_past) _ _ _ _ _ _ (same_side refl refl (added_other k l _ p.near_past.taken d)) refl refl (on_other l k rest p.back d) (goes_on mx my p h (Heard k unit) l d (heard_follows l k unit p.near d))
 
   pub hears_up : HoldsOf mx my (record p { near = hearer_then; near_past = heard_past; back = with_units k rest p.back })
-  hears_up = event_holds mx my p h (Heard k unit) tt tt heard_past p.out (with_units k rest p.back) refl (length_set p.back k rest) (λ l. go l (k == l) refl)
+  hears_up = event_holds mx my p h (Heard k unit) tt heard_past p.out (with_units k rest p.back) refl (length_set p.back k rest) (λ l. go l (k == l) refl)
     where
       go : (l : ℕ) (b : Bool) → (k == l) ≡ b → Tied l mx my (side l hearer_then heard_past) (side l p.far p.far_past) (units_on l p.out) (units_on l (with_units k rest p.back))
       go l true d = subst (λ (m : ℕ). Tied m mx my (side m hearer_then heard_past) (side m p.far p.far_past) (units_on m p.out) (units_on m (with_units k rest p.back))) (eqb-true k l d) heard_here
@@ -215,8 +212,6 @@ module _ (mx my : Method) (p : Two) (h : HoldsOf mx my p) (k : ℕ) (few : k < l
       record {
         near_sound = step_sound p.near (UpEvent k) tt h.near_sound;
         far_sound = step_sound p.far (UpEvent k) tt h.far_sound;
-        near_straight = step_straight p.near (UpEvent k) tt tt h.near_sound h.near_straight;
-        far_straight = step_straight p.far (UpEvent k) tt tt h.far_sound h.far_straight;
         near_method = ap (λ (s : Settings). s.method) (settings_stay p.near (UpEvent k)) ∙ h.near_method;
         far_method = ap (λ (s : Settings). s.method) (settings_stay p.far (UpEvent k)) ∙ h.far_method;
         far_links = far_count ∙ h.far_links ∙ sym count;

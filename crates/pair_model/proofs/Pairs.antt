@@ -5,8 +5,7 @@ use Rattle.link_lines.specs.Lines.{units_of, units_on, with_units}
 use Rattle.set_events.specs.declared.config.Method.{Method}
 use Rattle.set_events.specs.declared.event.Event.{Event}
 use Rattle.set_events.specs.declared.event.Event.TheVariants.{Offer, Take, Find, Next, Heard, Up as UpEvent, Down as DownEvent, DownBlind, NoAnswer, Restore, BackTimeout}
-use Rattle.set_model.specs.Laws.{RunsStraight}
-use Rattle.set_model.specs.Sound.{IsSound, BeginsNone, IsAsked}
+use Rattle.set_model.specs.Sound.{IsSound, IsAsked}
 use Rattle.set_model.specs.State.{State, Settings}
 use Rattle.set_model.specs.Step.{step}
 use Rattle.set_model.proofs.LinkCount.{link_count_stays}
@@ -14,16 +13,12 @@ use Rattle.set_model.proofs.Lists.{get_set_same, get_set_other}
 use Rattle.set_model.proofs.Places.{false_true, itself}
 use Rattle.set_model.proofs.Soundness.{step_sound}
 use Rattle.set_model.proofs.Staying.{keeps_messages}
-use Rattle.set_model.proofs.Straight.{step_straight}
 use Rattle.set_model.proofs.Walk.{KeptBy, step_walks}
-use Rattle.world_steps.specs.declared.step.End.{End}
 use Rattle.world_steps.specs.declared.step.Shown.{Shown}
-use Rattle.world_steps.specs.declared.step.Step.TheVariants.{Act}
 use Rattle.pair_model.specs.World.{has_own_step}
 use Rattle.pair_model.specs.Run.{Past, past_asked}
-use Rattle.pair_model.specs.Promises.{IsSoundStep}
 use Rattle.pair_model.proofs.Counts.{IsApart, count_stays}
-use Rattle.pair_model.proofs.Following.{Follows, offer_follows, take_follows, find_follows, down_follows}
+use Rattle.pair_model.proofs.Following.{Follows, offer_follows, take_follows, find_follows, down_follows, blind_follows, unanswered_follows, restore_follows, timeout_follows}
 use Rattle.pair_model.proofs.Tied.{KeepBodies, keep_bodies, Side, Tied, turned, follows}
 
 pub record Two : Type 0 where
@@ -46,9 +41,6 @@ TiedAt l mx my p = Tied l mx my (side l p.near p.near_past) (side l p.far p.far_
 pub record HoldsOf (mx my : Method) (p : Two) : Type 0 where
   pub near_sound : IsSound p.near
   pub far_sound : IsSound p.far
-  -- no changeback is under way
-  pub near_straight : RunsStraight p.near
-  pub far_straight : RunsStraight p.far
   pub near_method : p.near.settings.method ≡ mx
   pub far_method : p.far.settings.method ≡ my
   pub far_links : length p.far.links ≡ length p.near.links
@@ -60,8 +52,6 @@ pub swap : (mx my : Method) (p : Two) → HoldsOf mx my p → HoldsOf my mx (swa
 swap mx my p h = record {
   near_sound = h.far_sound;
   far_sound = h.near_sound;
-  near_straight = h.far_straight;
-  far_straight = h.near_straight;
   near_method = h.far_method;
   far_method = h.near_method;
   far_links = sym h.far_links;
@@ -124,16 +114,14 @@ module _ (mx my : Method) (p : Two) (h : HoldsOf mx my p) where
     goes_on l apart f = follows l mx my (side l p.near p.near_past) (side l p.far p.far_past) (units_on l p.out) (units_on l p.back) then_near keeps (count_stays l p.near event apart) f (h.ties l)
 
     -- all but the ties
-    pub event_holds : IsAsked event → BeginsNone event → (past : Past) (out back : List (List SignalUnit)) → length out ≡ length p.out → length back ≡ length p.back
+    pub event_holds : IsAsked event → (past : Past) (out back : List (List SignalUnit)) → length out ≡ length p.out → length back ≡ length p.back
         → ((l : ℕ) → Tied l mx my (side l then_near past) (side l p.far p.far_past) (units_on l out) (units_on l back))
         → HoldsOf mx my (record { near = then_near; far = p.far; near_past = past; far_past = p.far_past; out = out; back = back })
-    event_holds asked begins past out back lo lb ties =
+    event_holds asked past out back lo lb ties =
         let count = link_count_stays p.near event in
         record {
           near_sound = step_sound p.near event asked h.near_sound;
           far_sound = h.far_sound;
-          near_straight = step_straight p.near event asked begins h.near_sound h.near_straight;
-          far_straight = h.far_straight;
           near_method = ap (λ (s : Settings). s.method) (settings_stay p.near event) ∙ h.near_method;
           far_method = h.far_method;
           far_links = h.far_links ∙ sym count;
@@ -142,22 +130,22 @@ module _ (mx my : Method) (p : Two) (h : HoldsOf mx my p) where
           ties = ties;
         }
 
-    pub follows_all : IsAsked event → BeginsNone event → ((l : ℕ) → IsApart l event) → ((l : ℕ) → Follows l p.near then_near) → HoldsOf mx my (record p { near = then_near })
-    follows_all asked begins apart f = event_holds asked begins p.near_past p.out p.back refl refl (λ l. goes_on l (apart l) (f l))
+    pub follows_all : IsAsked event → ((l : ℕ) → IsApart l event) → ((l : ℕ) → Follows l p.near then_near) → HoldsOf mx my (record p { near = then_near })
+    follows_all asked apart f = event_holds asked p.near_past p.out p.back refl refl (λ l. goes_on l (apart l) (f l))
 
   -- one that has no step of its own
   abbrev pub asked_then : Event → Shown → Two
   asked_then event shown = record p { near = (step p.near event).state; near_past = past_asked event shown p.near_past }
 
-  pub asks : (end : End) (event : Event) (shown : Shown) → IsAsked event → has_own_step event ≡ false → IsSoundStep (Act end event) → HoldsOf mx my (asked_then event shown)
-  asks end (Offer body) shown asked own sound = event_holds (Offer body) asked tt _ p.out p.back refl refl (λ l. goes_on (Offer body) l tt (offer_follows l p.near body))
-  asks end Take shown asked own sound = follows_all Take asked tt (λ l. tt) (λ l. take_follows l p.near)
-  asks end (Find number) shown asked own sound = follows_all (Find number) asked tt (λ l. tt) (λ l. find_follows l p.near number)
-  asks end (Next k) shown asked own sound = absurd cc
-  asks end (Heard k unit) shown asked own sound = absurd cc
-  asks end (UpEvent k) shown asked own sound = absurd cc
-  asks end (DownEvent k) shown asked own sound = follows_all (DownEvent k) asked tt (λ l. tt) (λ l. down_follows l k p.near)
-  asks end (DownBlind k) shown asked own sound = absurd sound
-  asks end (NoAnswer k) shown asked own sound = absurd sound
-  asks end (Restore k) shown asked own sound = absurd sound
-  asks end (BackTimeout k) shown asked own sound = absurd sound
+  pub asks : (event : Event) (shown : Shown) → IsAsked event → has_own_step event ≡ false → HoldsOf mx my (asked_then event shown)
+  asks (Offer body) shown asked own = event_holds (Offer body) asked _ p.out p.back refl refl (λ l. goes_on (Offer body) l tt (offer_follows l p.near body))
+  asks Take shown asked own = follows_all Take asked (λ l. tt) (λ l. take_follows l p.near)
+  asks (Find number) shown asked own = follows_all (Find number) asked (λ l. tt) (λ l. find_follows l p.near number)
+  asks (Next k) shown asked own = absurd cc
+  asks (Heard k unit) shown asked own = absurd cc
+  asks (UpEvent k) shown asked own = absurd cc
+  asks (DownEvent k) shown asked own = follows_all (DownEvent k) asked (λ l. tt) (λ l. down_follows l k p.near)
+  asks (DownBlind k) shown asked own = follows_all (DownBlind k) asked (λ l. tt) (λ l. blind_follows l k p.near)
+  asks (NoAnswer k) shown asked own = follows_all (NoAnswer k) asked (λ l. tt) (λ l. unanswered_follows l k p.near)
+  asks (Restore k) shown asked own = follows_all (Restore k) asked (λ l. tt) (λ l. restore_follows l k p.near)
+  asks (BackTimeout k) shown asked own = follows_all (BackTimeout k) asked (λ l. tt) (λ l. timeout_follows l k p.near)

@@ -1,4 +1,4 @@
--- EVERY SOUND RUN KEEPS EACH LINK: one induction over its steps.
+-- EVERY HONEST RUN KEEPS EACH LINK: one induction over its steps.
 use Rattle.std.proofs.Common.{refl, arith, ◌≡◌, ◌∙◌, ap, sym, subst, ℕ, ◌<◌, Bool, true, false, ◌&&◌, ◌||◌, nat_lt, List, [], ◌∷◌, length, slice_get, Option, Some, None, cond}
 use Rattle.std.proofs.lemmas.Bool.{ltb-true}
 use Rattle.l2_units.specs.declared.unit.Unit.{Unit as SignalUnit}
@@ -15,7 +15,11 @@ use Rattle.set_model.specs.declared.phase.Phase.TheVariants.{Up, Down, Settled}
 use Rattle.set_model.specs.Rows.{place}
 use Rattle.set_model.specs.Sound.{IsAsked}
 use Rattle.set_model.specs.State.{LinkState, State, has_phase_up, is_up, is_settled, link_is_up, link_count}
-use Rattle.set_model.specs.Step.{Outcome as SetOutcome, refused, offer_refusal, offered, taken, found, with_known, in_service, falls, step}
+use Rattle.set_model.specs.Step.{Outcome as SetOutcome, refused, offer_refusal, offered, taken, found, with_known, in_service, falls, gives_up, comes_back, runs_out, step}
+use Rattle.set_model.specs.Changeover.{declared_from, some_declare, released_from, some_in_use}
+use Rattle.set_route.specs.Routing.{code_for}
+use Rattle.set_events.specs.declared.answer.Answer.TheVariants.{Done}
+use Rattle.set_events.specs.declared.answer.Refusal.TheVariants.{Nothing}
 use Rattle.set_model.proofs.Walk.{IsAt}
 use Rattle.world_steps.specs.declared.step.End.{End}
 use Rattle.world_steps.specs.declared.step.End.TheVariants.{A, B}
@@ -24,7 +28,7 @@ use Rattle.world_steps.specs.declared.step.Step.{Step}
 use Rattle.world_steps.specs.declared.step.Step.TheVariants.{Act, Emit, Arrive, Lose, Together, Inject}
 use Rattle.pair_model.specs.World.{Outcome, shows, impossible, exhausted, at_end, with_end, line_to, with_line, actor_of, answer_to, after, is_full, has_link, has_actor, acts, with_sent, sends_on, emits, front_arrives, arrives, loses, risen, is_settled_at_both, rises, has_own_step, done_by, carried_out}
 use Rattle.pair_model.specs.Run.{Stage, begun, with_past, past_arrived, passed, OnShows, HoldsAlong, HoldsAtEach}
-use Rattle.pair_model.specs.Promises.{IsOneMethod, IsSoundStep, IsAskedStep, AreSteps, IsSoundRun, LinksKeep, TellsNoFault, KeepsLinks}
+use Rattle.pair_model.specs.Promises.{IsOneMethod, IsHonestStep, IsSoundStep, IsAskedStep, AreSteps, IsHonestRun, LinksKeep, TellsNoFault, KeepsLinks}
 use Rattle.pair_model.proofs.Controls.{one_back}
 use Rattle.pair_model.proofs.Kept.{kept_on, at_first}
 use Rattle.pair_model.proofs.Moving as moving
@@ -66,19 +70,45 @@ find_tells : (s : State) (o : Option Fate) → TellsNoFault (Answered (found o s
 find_tells s None = tt
 find_tells s (Some fate) = tt
 
-answer_tells : (end : End) (s : State) (event : Event) → has_own_step event ≡ false → IsSoundStep (Act end event) → TellsNoFault (Answered (step s event).answer)
+on_tells : (k : ℕ) (s : State) (f : LinkState → SetOutcome) → ((link : LinkState) → TellsNoFault (Answered (f link).answer)) → TellsNoFault (Answered (with_known (slice_get s.links k) s f).answer)
+on_tells k s f all = go (slice_get s.links k)
+  where
+    go : (o : Option LinkState) → TellsNoFault (Answered (with_known o s f).answer)
+    go None = tt
+    go (Some link) = all link
+
+give_tells : (k : ℕ) (s : State) (link : LinkState) (phase : Phase) → TellsNoFault (Answered (gives_up k s link phase).answer)
+give_tells k s link Up = tt
+give_tells k s link Down = tt
+give_tells k s link Settled = tt
+
+comes_tells : (k : ℕ) (s : State) → TellsNoFault (Answered (comes_back k s).answer)
+comes_tells k s = go (some_declare k 0 (link_count s) s)
+  where
+    go : (b : Bool) → TellsNoFault (Answered (cond b (record { answer = Done; state = declared_from k 0 (link_count s) s }) (refused s Nothing)).answer)
+    go true = tt
+    go false = tt
+
+runs_tells : (k : ℕ) (s : State) → TellsNoFault (Answered (runs_out k s).answer)
+runs_tells k s = go (some_in_use (code_for k 0) 16 s)
+  where
+    go : (b : Bool) → TellsNoFault (Answered (cond b (record { answer = Done; state = released_from (code_for k 0) 16 s }) (refused s Nothing)).answer)
+    go true = tt
+    go false = tt
+
+answer_tells : (s : State) (event : Event) → has_own_step event ≡ false → TellsNoFault (Answered (step s event).answer)
 unfolding step
-answer_tells end s (Offer body) own sound = offer_tells s body (offer_refusal s.rows body)
-answer_tells end s Take own sound = take_tells s s.inbox
-answer_tells end s (Find number) own sound = find_tells s (place number s.rows)
-answer_tells end s (Next k) own sound = absurd cc
-answer_tells end s (Heard k unit) own sound = absurd cc
-answer_tells end s (UpEvent k) own sound = absurd cc
-answer_tells end s (DownEvent k) own sound = in_tells k s (falls false k s) (λ link. tt)
-answer_tells end s (DownBlind k) own sound = absurd sound
-answer_tells end s (NoAnswer k) own sound = absurd sound
-answer_tells end s (Restore k) own sound = absurd sound
-answer_tells end s (BackTimeout k) own sound = absurd sound
+answer_tells s (Offer body) own = offer_tells s body (offer_refusal s.rows body)
+answer_tells s Take own = take_tells s s.inbox
+answer_tells s (Find number) own = find_tells s (place number s.rows)
+answer_tells s (Next k) own = absurd cc
+answer_tells s (Heard k unit) own = absurd cc
+answer_tells s (UpEvent k) own = absurd cc
+answer_tells s (DownEvent k) own = in_tells k s (falls false k s) (λ link. tt)
+answer_tells s (DownBlind k) own = in_tells k s (falls true k s) (λ link. tt)
+answer_tells s (NoAnswer k) own = on_tells k s (λ link. gives_up k s link link.phase) (λ link. give_tells k s link link.phase)
+answer_tells s (Restore k) own = in_tells k s (λ link. comes_back k s) (λ link. comes_tells k s)
+answer_tells s (BackTimeout k) own = on_tells k s (λ link. runs_out k s) (λ link. runs_tells k s)
 
 pub is_at_up : (k : ℕ) (s : State) → is_up k s ≡ true → (link : LinkState) × IsAt k link Up s
 is_at_up k s e = go (slice_get s.links k) refl
@@ -91,6 +121,15 @@ is_at_up k s e = go (slice_get s.links k) refl
     go : (o : Option LinkState) → slice_get s.links k ≡ o → (link : LinkState) × IsAt k link Up s
     go None f = absurd (let no : false ≡ true = ap link_is_up (sym f) ∙ e in cc)
     go (Some link) f = (link, record { there = f; phase_is = phase_up link.phase (ap link_is_up (sym f) ∙ e) })
+
+-- a sound run is honest
+pub is_honest : (step : Step) → IsSoundStep step → IsHonestStep step
+is_honest (Act end event) sound = tt
+is_honest (Emit end k) sound = tt
+is_honest (Arrive end k) sound = tt
+is_honest (Lose end k place) sound = tt
+is_honest (Together k) sound = tt
+is_honest (Inject end k unit) sound = absurd sound
 
 module _ (ma mb : Method) (one : IsOneMethod ma mb) where
   abbrev pub Holds : Stage → Type 0
@@ -111,16 +150,16 @@ module _ (ma mb : Method) (one : IsOneMethod ma mb) where
     back_b p k = swap mb ma p k
 
     -- ACT
-    act_goes : (end : End) (event : Event) → IsSoundStep (Act end event) → IsAsked event → has_own_step event ≡ false → Goes g (Act end event) (acts g.world end event)
-    act_goes end event sound asked own = go (has_actor g.world (actor_of event)) (is_full (at_end g.world end))
+    act_goes : (end : End) (event : Event) → IsAsked event → has_own_step event ≡ false → Goes g (Act end event) (acts g.world end event)
+    act_goes end event asked own = go (has_actor g.world (actor_of event)) (is_full (at_end g.world end))
       where
-        shown : (end : End) → IsSoundStep (Act end event) → Goes g (Act end event) (shows (Answered (answer_to (at_end g.world end) event)) (with_end g.world end (after (at_end g.world end) event)))
-        shown A sound = (answer_tells A g.world.a.state event own sound, asks ma mb (seen A g) h A event _ asked own sound)
-        shown B sound = (answer_tells B g.world.b.state event own sound, back_b _ (asks mb ma (seen B g) h_b B event _ asked own sound))
+        shown : (end : End) → Goes g (Act end event) (shows (Answered (answer_to (at_end g.world end) event)) (with_end g.world end (after (at_end g.world end) event)))
+        shown A = (answer_tells g.world.a.state event own, asks ma mb (seen A g) h event _ asked own)
+        shown B = (answer_tells g.world.b.state event own, back_b _ (asks mb ma (seen B g) h_b event _ asked own))
 
         go : (known full : Bool) → Goes g (Act end event) (cond known (cond full exhausted (shows (Answered (answer_to (at_end g.world end) event)) (with_end g.world end (after (at_end g.world end) event)))) impossible)
         go true true = tt
-        go true false = shown end sound
+        go true false = shown end
         go false full = tt
 
     -- EMIT
@@ -254,19 +293,19 @@ module _ (ma mb : Method) (one : IsOneMethod ma mb) where
         go false e settled f full = tt
 
     -- EACH STEP
-    own_goes : (end : End) (event : Event) → IsSoundStep (Act end event) → IsAsked event → (own : Bool) → has_own_step event ≡ own → Goes g (Act end event) (cond own impossible (acts g.world end event))
-    own_goes end event sound asked true e = tt
-    own_goes end event sound asked false e = act_goes end event sound asked e
+    own_goes : (end : End) (event : Event) → IsAsked event → (own : Bool) → has_own_step event ≡ own → Goes g (Act end event) (cond own impossible (acts g.world end event))
+    own_goes end event asked true e = tt
+    own_goes end event asked false e = act_goes end event asked e
 
-    done_goes : (step : Step) → IsSoundStep step → IsAskedStep step → Goes g step (done_by g.world step)
-    done_goes (Act end event) sound asked = own_goes end event sound asked (has_own_step event) refl
+    done_goes : (step : Step) → IsHonestStep step → IsAskedStep step → Goes g step (done_by g.world step)
+    done_goes (Act end event) sound asked = own_goes end event asked (has_own_step event) refl
     done_goes (Emit end k) sound asked = emit_goes end k
     done_goes (Arrive end k) sound asked = arrive_goes end k
     done_goes (Lose end k place) sound asked = lose_goes end k place
     done_goes (Together k) sound asked = together_goes k
     done_goes (Inject end k unit) sound asked = absurd sound
 
-  pub step_goes : (g : Stage) → Holds g → (step : Step) → IsSoundStep step → IsAskedStep step → Goes g step (carried_out g.world step)
+  pub step_goes : (g : Stage) → Holds g → (step : Step) → IsHonestStep step → IsAskedStep step → Goes g step (carried_out g.world step)
   unfolding carried_out
   step_goes g h step sound asked = done_goes g h step sound asked
 
@@ -283,11 +322,11 @@ module _ (ma mb : Method) (one : IsOneMethod ma mb) where
   onward g step steps next impossible goes = (tt, tt)
   onward g step steps next exhausted goes = (tt, tt)
 
-  pub along : (g : Stage) → Holds g → (steps : List Step) → AreSteps IsSoundStep steps → AreSteps IsAskedStep steps → KeepsLinks g steps
+  pub along : (g : Stage) → Holds g → (steps : List Step) → AreSteps IsHonestStep steps → AreSteps IsAskedStep steps → KeepsLinks g steps
   along g h [] sound asked = record { links = links_keep g h; no_fault = tt }
   along g h (step ∷ steps) sound asked =
       let rest = onward g step steps (λ later holds. along later holds steps sound.1 asked.1) (carried_out g.world step) (step_goes g h step sound.0 asked.0) in
       record { links = (links_keep g h, rest.0); no_fault = rest.1 }
 
-pub every_sound_run : (a b : SetConfig) (steps : List Step) → AreSteps IsAskedStep steps → IsSoundRun a b steps → KeepsLinks (begun a b) steps
-every_sound_run a b steps asked sound = along a.method b.method sound.one_method (begun a b) (at_first a b sound.links) steps sound.steps asked
+pub every_honest_run : (a b : SetConfig) (steps : List Step) → AreSteps IsAskedStep steps → IsHonestRun a b steps → KeepsLinks (begun a b) steps
+every_honest_run a b steps asked sound = along a.method b.method sound.one_method (begun a b) (at_first a b sound.links) steps sound.steps asked

@@ -4,7 +4,7 @@ use Rattle.set_events.specs.declared.answer.Answer.TheVariants.{Heard}
 use Rattle.set_events.specs.declared.config.Method.{Method}
 use Rattle.set_events.specs.declared.config.Method.TheVariants.{Basic, Cyclic}
 use Rattle.set_events.specs.declared.config.SetConfig.{SetConfig}
-use Rattle.set_events.specs.declared.event.Event.TheVariants.{DownBlind, NoAnswer, Restore, BackTimeout}
+use Rattle.set_events.specs.declared.event.Event.TheVariants.{DownBlind, NoAnswer, BackTimeout}
 use Rattle.set_model.specs.Rows.{Row, unack}
 use Rattle.set_model.specs.Sound.{IsAsked}
 use Rattle.set_model.specs.State.{LinkState, State, has_phase_settled}
@@ -14,19 +14,23 @@ use Rattle.world_steps.specs.declared.step.Shown.{Shown}
 use Rattle.world_steps.specs.declared.step.Shown.TheVariants.{Answered}
 use Rattle.pair_model.specs.Run.{Message, Past, Stage, messages, bodies, begun, HoldsAlong, HoldsAtEach}
 
--- SOUND RUNS. Both ends keep messages safe by one method, whatever its limits at each.
+-- HONEST RUNS. Both ends keep messages safe by one method, whatever its limits at each.
 abbrev pub IsOneMethod : Method → Method → Type 0
 IsOneMethod Basic Basic = Unit {0}
 IsOneMethod Basic (Cyclic n1 n2) = ⊥
 IsOneMethod (Cyclic n1 n2) Basic = ⊥
 IsOneMethod (Cyclic n1 n2) (Cyclic m1 m2) = Unit {0}
 
--- no link is left blindly or given up without an answer, and no unit is heard that wasn't sent; and, until changeback
--- is taken in, none begins
+-- no unit is heard that wasn't sent
+abbrev pub IsHonestStep : Step → Type 0
+IsHonestStep (Inject end link unit) = ⊥
+IsHonestStep _ = Unit {0}
+
+-- SOUND RUNS, in which no message is given up: besides, no link is left blindly or settled without an answer, and no
+-- changeback goes home unacknowledged
 abbrev pub IsSoundStep : Step → Type 0
 IsSoundStep (Act end (DownBlind link)) = ⊥
 IsSoundStep (Act end (NoAnswer link)) = ⊥
-IsSoundStep (Act end (Restore link)) = ⊥
 IsSoundStep (Act end (BackTimeout link)) = ⊥
 IsSoundStep (Inject end link unit) = ⊥
 IsSoundStep _ = Unit {0}
@@ -39,6 +43,11 @@ IsAskedStep _ = Unit {0}
 abbrev pub AreSteps : (Step → Type 0) → List Step → Type 0
 AreSteps P [] = Unit {0}
 AreSteps P (step ∷ steps) = P step × AreSteps P steps
+
+pub record IsHonestRun (a b : SetConfig) (run : List Step) : Type 0 where
+  pub links : a.links ≡ b.links
+  pub one_method : IsOneMethod a.method b.method
+  pub steps : AreSteps IsHonestStep run
 
 pub record IsSoundRun (a b : SetConfig) (run : List Step) : Type 0 where
   pub links : a.links ≡ b.links
@@ -72,13 +81,14 @@ abbrev pub TellsNoFault : Shown → Type 0
 TellsNoFault (Answered (Heard report)) = report.fault ≡ None
 TellsNoFault _ = Unit {0}
 
--- PROMISED, whatever is lost on the lines, and also when one end has left a link or both have
+-- PROMISED, whatever is lost on the lines, also when one end has left a link or both have, in emergencies, without answers
+-- and with changeback
 pub record KeepsLinks (g : Stage) (steps : List Step) : Type 0 where
   pub links : HoldsAlong LinksKeep g steps
   pub no_fault : HoldsAtEach (λ before step shown after. TellsNoFault shown) g steps
 
 -- LAW
-abbrev pub EverySoundRunKeepsLinks : Type 0
-EverySoundRunKeepsLinks =
-    (a b : SetConfig) (steps : List Step) → AreSteps IsAskedStep steps → IsSoundRun a b steps
+abbrev pub EveryHonestRunKeepsLinks : Type 0
+EveryHonestRunKeepsLinks =
+    (a b : SetConfig) (steps : List Step) → AreSteps IsAskedStep steps → IsHonestRun a b steps
     → KeepsLinks (begun a b) steps

@@ -3,9 +3,9 @@
 //!
 //! There is no code in it but the laws. `specs/` has the definitions, in the order to read them: `World` (two
 //! sets, the lines between them, and each step), `Run` (lists of steps, the past of each end, and what holds all
-//! along) and `Promises` (sound runs, and what is promised of them).
+//! along) and `Promises` (honest runs and sound runs, and what is promised of them).
 #![tactic(auto)]
 
 mod laws;
 
-pub use laws::every_sound_run_keeps_links;
+pub use laws::every_honest_run_keeps_links;

@@ -1,13 +1,10 @@
--- EACH STREAM, WHEN AN END ACTS: it's asked, it sends, it hears, or a link comes up.
-use Rattle.std.proofs.Common.{refl, arith, ◌≡◌, ◌≢◌, ◌∙◌, ap, sym, subst, ℕ, zero, suc, ◌<◌, ◌≤◌, ◌==◌, ◌-◌, ◌+◌, ◌%◌, Bool, true, false, not, ◌&&◌, List, [], ◌∷◌, ◌++◌, length, take, drop, slice_get, slice_set, Option, Some, None, append_assoc, cond, ◌⊎◌, inl, inr}
-use Rattle.std.proofs.lemmas.Bool.{eqb-true, eq-eqb}
+-- EACH STREAM, WHEN AN END ACTS: it's asked, it sends, or a link comes up.
+use Rattle.std.proofs.Common.{refl, arith, ◌≡◌, ◌∙◌, ap, sym, subst, ℕ, ◌<◌, ◌≤◌, ◌==◌, ◌-◌, Bool, true, false, List, [], ◌∷◌, ◌++◌, length, slice_get, Option, Some, None, cond, inl, inr}
 use Rattle.std.proofs.lemmas.List.{append-nil}
 use Rattle.l2_units.specs.declared.unit.Unit.{Unit as SignalUnit}
-use Rattle.l3_orders.specs.declared.order.Order.{Order}
-use Rattle.l3_orders.specs.declared.order.Order.TheVariants.{Coo, Coa}
-use Rattle.l3_orders.specs.Grammar.{text, label, link_of, heading_of, content_with}
+use Rattle.l3_orders.specs.declared.order.Order.TheVariants.{Cba}
 use Rattle.set_events.specs.declared.answer.Fate.{Fate}
-use Rattle.set_events.specs.declared.answer.Fate.TheVariants.{Waiting, Parked}
+use Rattle.set_events.specs.declared.answer.Fate.TheVariants.{Waiting, Unacked, Parked}
 use Rattle.set_events.specs.declared.answer.Refusal.{Refusal as SetRefusal}
 use Rattle.set_events.specs.declared.answer.Refusal.TheVariants.{NotUp}
 use Rattle.set_events.specs.declared.config.Method.{Method}
@@ -16,44 +13,60 @@ use Rattle.set_events.specs.declared.event.Event.TheVariants.{Offer, Take, Find,
 use Rattle.set_route.specs.Routing.{raised}
 use Rattle.set_model.specs.declared.phase.Phase.{Phase}
 use Rattle.set_model.specs.declared.phase.Phase.TheVariants.{Up, Down, Settled}
-use Rattle.set_model.specs.Changeover.{fate_on, queued, leaving_order}
-use Rattle.set_model.specs.Rows.{Row, unack, parked, place, stream_of}
+use Rattle.set_model.specs.Changeover.{leaving_order, left_by, left_link}
+use Rattle.set_model.specs.Control.{Choice, again, first, fill, choice_of}
+use Rattle.set_model.specs.Rows.{unack, place, stream_of, standing, is_waiting, is_parked, is_back, octets_in, all_with}
 use Rattle.set_model.specs.Sound.{IsSound, IsAsked}
-use Rattle.set_model.specs.State.{LinkState, State, is_up, is_settled, has_phase_up, has_phase_settled, last_accepted, target}
-use Rattle.set_model.specs.Step.{Outcome, refused, offer_refusal, offered, taken, found, falls, with_known, in_service, next, step}
+use Rattle.set_model.specs.State.{LinkState, State, is_up, is_settled, link_is_up, has_phase_up, has_phase_settled, last_accepted, window_of}
+use Rattle.set_model.specs.Step.{Outcome, refused, offer_refusal, offered, taken, found, falls, comes_back, with_known, in_service, next, rows_sent, step}
+use Rattle.set_model.proofs.InPlace.{turned_same}
 use Rattle.set_model.proofs.Lists.{present}
-use Rattle.set_model.proofs.Plain.{just_left, Quietly, left_straight}
-use Rattle.set_model.proofs.Targets.{target_up}
+use Rattle.set_model.proofs.Moving.{moved_same}
+use Rattle.set_model.proofs.Places.{itself}
+use Rattle.set_model.proofs.SoundBack.{leaves}
 use Rattle.set_model.proofs.Walk.{IsAt}
-use Rattle.set_model.specs.State.{link_is_up}
 use Rattle.world_steps.specs.declared.step.End.{End}
-use Rattle.world_steps.specs.declared.step.End.TheVariants.{A, B}
 use Rattle.world_steps.specs.declared.step.Shown.TheVariants.{Answered}
 use Rattle.world_steps.specs.declared.step.Step.TheVariants.{Act}
 use Rattle.pair_model.specs.World.{has_own_step}
 use Rattle.pair_model.specs.Promises.{IsOneMethod, IsSoundStep}
 use Rattle.pair_model.specs.Run.{Message, Past, messages, added_at, past_asked, past_sent}
 use Rattle.pair_model.proofs.Kept.{kept_on}
-use Rattle.pair_model.proofs.Moving.{next_refused}
 use Rattle.pair_model.proofs.Moving as moving
-use Rattle.pair_model.proofs.Pairs.{Two, HoldsOf}
+use Rattle.pair_model.proofs.Moving.{next_refused}
+use Rattle.pair_model.proofs.Pairs.{Two, swapped, HoldsOf}
 use Rattle.pair_model.proofs.Rising.{settled_at}
 use Rattle.pair_model.proofs.Sending.{next_is}
-use Rattle.pair_changeover.specs.Pending.{queue, pending, aside, acked_on, accepted_on}
+use Rattle.pair_changeover.specs.Pending.{pending, aside, accepted_of, accepted_on}
+use Rattle.pair_changeover.proofs.Changes.{by_link}
 use Rattle.pair_changeover.proofs.Arriving.{rises_at}
-use Rattle.pair_changeover.proofs.Changes.{IsNew, to_wait, to_park, held_none, leaves_queues}
-use Rattle.pair_changeover.proofs.Keeping.{Keeps, users_body, offer_kept, take_kept, find_kept, down_kept, next_queues, next_aside, next_keeps}
-use Rattle.pair_changeover.proofs.Obeying.{just_left_sound}
+use Rattle.pair_changeover.proofs.Keeping.{Keeps, users_body, offer_kept, take_kept, find_kept, down_kept, restore_kept, next_queues, next_aside, next_keeps}
 use Rattle.pair_changeover.proofs.Reaching.{reaches}
+use Rattle.pair_changeover.proofs.Table.{new_message}
 use Rattle.pair_changeover.proofs.Texts.{AreCodes}
-use Rattle.pair_changeover.proofs.Views.{Among}
-use Rattle.pair_streams.proofs.Flowing.{here}
-use Rattle.pair_streams.proofs.Flows.{Flows, Streams, stands, offers_flow, keeps_flow, no_stream}
-use Rattle.pair_streams.proofs.Known.{Covers, covers_on}
-use Rattle.pair_streams.proofs.Moving.{here_same, here_apart, here_rises}
+use Rattle.pair_changeover.proofs.Views.{view, Among}
+use Rattle.pair_streams.proofs.Codes.{Flows, NewAcknowledges, far_carried, far_in}
+use Rattle.pair_streams.proofs.Declared.{coo_declares, coo_acknowledges}
+use Rattle.pair_streams.proofs.Declaring.{comes_flow, comes_acks}
+use Rattle.pair_streams.proofs.Flowing.{back_by}
+use Rattle.pair_streams.proofs.Flows.{queues_flow, queues_acks, offers_flow, offers_acks}
+use Rattle.pair_streams.proofs.Known.{Covers, covers_on, covers_appended}
+use Rattle.pair_streams.proofs.Moving.{same_in, same_flow}
+use Rattle.pair_streams.proofs.Risen.{risen_in, rises_flow}
+use Rattle.pair_streams.proofs.Turned.{left_orders, leaves_flow}
 
+-- every message of a user that a set holds was offered there
 abbrev pub Covered : Past → State → Type 0
 Covered past s = Covers (λ number body. Among (record { number = number; body = body }) (past.offered (stream_of body))) s
+
+pub record Streams (p : Two) : Type 0 where
+  pub out : Flows p.near p.far p.near_past.offered p.far_past.got
+  pub back : Flows p.far p.near p.far_past.offered p.near_past.got
+  pub near_covers : Covered p.near_past p.near
+  pub far_covers : Covered p.far_past p.far
+
+pub streams_back : (p : Two) → Streams p → Streams (swapped p)
+streams_back p w = record { out = w.back; back = w.out; near_covers = w.far_covers; far_covers = w.near_covers }
 
 -- nothing more was offered
 pub added_none : {X : Type 0} (k l : ℕ) (f : ℕ → List X) → added_at k [] f l ≡ f l
@@ -63,136 +76,202 @@ added_none k l f = go (l == k) refl
     go true e = rw e (append-nil (f l))
     go false e = rw e refl
 
-none_more : (k : ℕ) (s f : State) (near far : Past) → Flows s f near far → Flows s f (record near { offered = added_at k [] near.offered }) far
-none_more k s f near far w = record {
-  flow = λ stream low. w.flow stream low ∙ sym (added_none k stream near.offered);
-  covers = record {
-    managed = w.covers.managed;
-    numbered = w.covers.numbered;
-    known = λ number body e users. subst (λ (q : List Message). Among (record { number = number; body = body }) q) (sym (added_none k (stream_of body) near.offered)) (w.covers.known number body e users);
-  };
+none_more : (k : ℕ) (s f : State) (offered got : ℕ → List Message) → Flows s f offered got → Flows s f (added_at k [] offered) got
+none_more k s f offered got w = record {
+  flow = λ stream low. w.flow stream low ∙ sym (added_none k stream offered);
+  stands = w.stands;
+  unused = λ stream low e. added_none k stream offered ∙ w.unused stream low e;
+  backing = w.backing;
 }
-
--- AN ORDER is queued
-pub order_new : (s f : State) (l : ℕ) (body : List ℕ) → IsSound s → (to : Option ℕ) → target s.links ≡ to → IsNew (accepted_on l f - acked_on l s) l s.rows body (fate_on to)
-order_new s f l body sound None e = to_park
-order_new s f l body sound (Some to) e = to_wait to (λ same. held_none s l sound (subst (λ (k : ℕ). is_up k s ≡ true) (eqb-true to l same) (let up = target_up s.links to e in ap link_is_up up.1 ∙ up.2)))
-
-pub here_queued : (stream : ℕ) (order : Order) (s f : State) → IsSound s → here stream (queued order s) f ≡ here stream s f
-here_queued stream order s f sound =
-    here_apart s (queued order s) f (text order s.settings.sio s.settings.dpc s.settings.opc) (fate_on (target s.links)) refl refl
-    (λ l. order_new s f l (text order s.settings.sio s.settings.dpc s.settings.opc) sound (target s.links) refl)
-    stream (no_stream stream s.settings.sio (length s.rows) (label s.settings.dpc s.settings.opc (link_of order) ++ heading_of order ∷ content_with 0 order) sound.managed) refl
-
-pub here_left : (stream : ℕ) (blind : Bool) (k : ℕ) (link : LinkState) (s f : State) → IsAt k link Up s → here stream (just_left blind k link s) f ≡ here stream s f
-here_left stream blind k link s f at = here_same stream s (just_left blind k link s) f f (leaves_queues blind k link s f at) refl refl
 
 up_is : (phase : Phase) → has_phase_up phase ≡ true → phase ≡ Up
 up_is Up e = refl
 up_is Down e = absurd cc
 up_is Settled e = absurd cc
 
-module _ (s f : State) (near far : Past) (quiet : Quietly s) (w : Flows s f near far) where
-  -- OFFER
-  offer_out : (body : List ℕ) → stream_of body < 16 → (o : Option SetRefusal) → offer_refusal s.rows body ≡ o → Flows (offered o s body).state f (past_asked (Offer body) (Answered (offered o s body).answer) near) far
-  offer_out body low None e = offers_flow s f quiet body low near far w (users_body s.rows body e)
-  offer_out body low (Some why) e = none_more (stream_of body) s f near far w
+-- WHAT AN EVENT OF AN END KEEPS, where the other stands still
+module _ (s f : State) (sound : IsSound s) (offered_here got : ℕ → List Message) (w : Flows s f offered_here got) where
+  -- of the streams that it offers, and of the acknowledgements that stand there
+  pub record Keeps' (t : State) : Type 0 where
+    pub out : Flows t f offered_here got
+    pub acks : NewAcknowledges (view t f) (view s f)
 
-  pub offers_out : (body : List ℕ) → stream_of body < 16 → Flows (step s (Offer body)).state f (past_asked (Offer body) (Answered (step s (Offer body)).answer) near) far
+  keeps_self : Keeps' s
+  keeps_self = record { out = w; acks = λ c m i a. i }
+
+  -- nothing but the inbox changes
+  pub keeps_same : (t : State) → t.rows ≡ s.rows → t.links ≡ s.links → t.routing ≡ s.routing → Keeps' t
+  keeps_same t rows links routing =
+      let queues : (l : ℕ) → pending l t f ≡ pending l s f = λ l. rw (rows, links) refl in
+      let aside_same : aside t ≡ aside s = rw rows refl in
+      record {
+        out = same_flow s t f queues aside_same (λ c. rw rows refl) routing offered_here got w (λ c m i a. far_in s t f (λ l. rw links refl) m i);
+        acks = λ c m i a. same_in s t f queues aside_same m i;
+      }
+
+  take_keeps : (inbox : List (List ℕ)) → Keeps' (taken inbox s).state
+  take_keeps [] = keeps_self
+  take_keeps (body ∷ rest) = keeps_same (record s { inbox = rest }) refl refl refl
+
+  find_keeps : (fate : Option Fate) → Keeps' (found fate s).state
+  find_keeps None = keeps_self
+  find_keeps (Some fate) = keeps_self
+
+  in_keeps : (k : ℕ) (act : LinkState → Outcome) → ((link : LinkState) → IsAt k link Up s → Keeps' (act link).state) → Keeps' (in_service k s act).state
+  in_keeps k act each = go (slice_get s.links k) refl
+    where
+      at : (link : LinkState) → slice_get s.links k ≡ Some link → (b : Bool) → has_phase_up link.phase ≡ b → Keeps' (cond b (act link) (refused s NotUp)).state
+      at link there true e = each link (record { there = there; phase_is = up_is link.phase e })
+      at link there false e = keeps_self
+
+      go : (o : Option LinkState) → slice_get s.links k ≡ o → Keeps' (with_known o s (λ link. cond (has_phase_up link.phase) (act link) (refused s NotUp))).state
+      go None e = keeps_self
+      go (Some link) e = at link e (has_phase_up link.phase) refl
+
+  -- a link is left, and the order queued
+  down_keeps : (k : ℕ) (link : LinkState) → IsAt k link Up s → Keeps' (falls false k s link).state
+  down_keeps k link at =
+      let left = left_by false k link s in
+      let left_sound = leaves false k link s at sound in
+      record {
+        out = queues_flow (leaving_order false k link) left f left_sound (λ c d. coo_declares s.settings k (length left.rows) (last_accepted link) c d) offered_here got
+            (leaves_flow false k link s f sound at offered_here got w (λ c m i a. far_in s left f (left_accepted k link at) m i));
+        acks = λ c m i a. left_orders false k link s f sound at (Cba a.link c) m
+            (queues_acks (leaving_order false k link) left f left_sound (λ d x. coo_acknowledges s.settings k (length left.rows) (last_accepted link) d x) c m i a) a.is;
+      }
+    where
+      left_accepted : (k : ℕ) (link : LinkState) → IsAt k link Up s → (l : ℕ) → accepted_on l (left_by false k link s) ≡ accepted_on l s
+      left_accepted k link at = by_link k link (left_link false link) s (left_by false k link s) at.there refl
+          (λ n old new. accepted_of new ≡ accepted_of old) refl (λ n old d. refl)
+
+  restore_keeps : (k : ℕ) (link : LinkState) → IsAt k link Up s → Keeps' (comes_back k s).state
+  restore_keeps k link at =
+      let up : is_up k s ≡ true = ap link_is_up at.there ∙ ap has_phase_up at.phase_is in
+      record { out = comes_flow k s f offered_here got sound up w; acks = comes_acks k s f sound up }
+
+  -- any but an offer, that has no step of its own
+  event_keeps : (event : Event) (end : End) → has_own_step event ≡ false → IsSoundStep (Act end event) → ((body : List ℕ) → event ≡ Offer body → ⊥) → Keeps' (step s event).state
+  unfolding step
+  event_keeps (Offer body) end own safe other = absurd (other body refl)
+  event_keeps Take end own safe other = take_keeps s.inbox
+  event_keeps (Find number) end own safe other = find_keeps (place number s.rows)
+  event_keeps (Next k) end own safe other = absurd cc
+  event_keeps (HeardEvent k unit) end own safe other = absurd cc
+  event_keeps (UpEvent k) end own safe other = absurd cc
+  event_keeps (DownEvent k) end own safe other = in_keeps k (falls false k s) (λ link at. down_keeps k link at)
+  event_keeps (DownBlind k) end own safe other = absurd safe
+  event_keeps (NoAnswer k) end own safe other = absurd safe
+  event_keeps (Restore k) end own safe other = in_keeps k (λ link. comes_back k s) (λ link at. restore_keeps k link at)
+  event_keeps (BackTimeout k) end own safe other = absurd safe
+
+  -- OFFER
+  offer_out : (body : List ℕ) → stream_of body < 16 → (o : Option SetRefusal) → offer_refusal s.rows body ≡ o → Flows (offered o s body).state f (past_asked (Offer body) (Answered (offered o s body).answer) (record { sent = λ l. []; taken = λ l. []; offered = offered_here; got = λ l. [] })).offered got
+  offer_out body low None e = offers_flow s f sound body low (users_body s.rows body e) offered_here got w
+  offer_out body low (Some why) e = none_more (stream_of body) s f offered_here got w
+
+  offer_acks : (body : List ℕ) → stream_of body < 16 → (o : Option SetRefusal) → offer_refusal s.rows body ≡ o → NewAcknowledges (view (offered o s body).state f) (view s f)
+  offer_acks body low None e = offers_acks s f sound body low (users_body s.rows body e)
+  offer_acks body low (Some why) e = λ c m i a. i
+
+  pub offers_out : (body : List ℕ) → stream_of body < 16 → Flows (step s (Offer body)).state f (past_asked (Offer body) (Answered (step s (Offer body)).answer) (record { sent = λ l. []; taken = λ l. []; offered = offered_here; got = λ l. [] })).offered got
   unfolding step
   offers_out body low = offer_out body low (offer_refusal s.rows body) refl
 
-  -- TAKE, FIND, DOWN
-  abbrev Same : State → Type 0
-  Same t = (stream : ℕ) → here stream t f ≡ here stream s f
-
-  take_same : (inbox : List (List ℕ)) → Same (taken inbox s).state
-  take_same [] stream = refl
-  take_same (body ∷ rest) stream = here_same stream s (record s { inbox = rest }) f f (λ l. refl) refl refl
-
-  find_same : (fate : Option Fate) → Same (found fate s).state
-  find_same None stream = refl
-  find_same (Some fate) stream = refl
-
-  in_same : (k : ℕ) (act : LinkState → Outcome) → ((link : LinkState) → IsAt k link Up s → Same (act link).state) → Same (in_service k s act).state
-  in_same k act each = go (slice_get s.links k) refl
-    where
-      at : (link : LinkState) → slice_get s.links k ≡ Some link → (b : Bool) → has_phase_up link.phase ≡ b → Same (cond b (act link) (refused s NotUp)).state
-      at link there true e = each link (record { there = there; phase_is = up_is link.phase e })
-      at link there false e = λ stream. refl
-
-      go : (o : Option LinkState) → slice_get s.links k ≡ o → Same (with_known o s (λ link. cond (has_phase_up link.phase) (act link) (refused s NotUp))).state
-      go None e = λ stream. refl
-      go (Some link) e = at link e (has_phase_up link.phase) refl
-
-  pub quiet_same : (event : Event) → has_own_step event ≡ false → ((end : End) → IsSoundStep (Act end event)) → ((body : List ℕ) → event ≡ Offer body → ⊥) → Same (step s event).state
+  pub offers_back : (body : List ℕ) → stream_of body < 16 → NewAcknowledges (view (step s (Offer body)).state f) (view s f)
   unfolding step
-  quiet_same (Offer body) own safe other = absurd (other body refl)
-  quiet_same Take own safe other = take_same s.inbox
-  quiet_same (Find number) own safe other = find_same (place number s.rows)
-  quiet_same (Next k) own safe other = absurd cc
-  quiet_same (HeardEvent k unit) own safe other = absurd cc
-  quiet_same (UpEvent k) own safe other = absurd cc
-  quiet_same (DownEvent k) own safe other = in_same k (falls false k s) (λ link at.
-      subst (λ (left : State). Same (queued (leaving_order false k link) left)) (sym (left_straight false k link s quiet.0 quiet.1))
-      (λ stream. here_queued stream (leaving_order false k link) (just_left false k link s) f (just_left_sound false k link s quiet at) ∙ here_left stream false k link s f at))
-  quiet_same (DownBlind k) own safe other = absurd (safe A)
-  quiet_same (NoAnswer k) own safe other = absurd (safe A)
-  quiet_same (Restore k) own safe other = absurd (safe A)
-  quiet_same (BackTimeout k) own safe other = absurd (safe A)
+  offers_back body low = offer_acks body low (offer_refusal s.rows body) refl
 
--- the same, of a past that is told otherwise
-pub retold : (s f : State) (near far near' far' : Past) → near'.offered ≡ near.offered → far'.got ≡ far.got → Flows s f near far → Flows s f near' far'
-retold s f near far near' far' offered got w = stands s f f near far near' far' (λ l. refl) offered got w
+-- WHAT IT HOLDS was offered
+among_last : (m : Message) (xs : List Message) → Among m (xs ++ m ∷ [])
+among_last m [] = inl refl
+among_last m (x ∷ xs) = inr (among_last m xs)
 
-module _ (p : Two) (quiet : Quietly p.near) (codes : AreCodes p.near.settings) (w : Streams p) where
+among_more : (m : Message) (xs ys : List Message) → Among m xs → Among m (xs ++ ys)
+among_more m [] ys a = absurd a
+among_more m (x ∷ xs) ys (inl e) = inl e
+among_more m (x ∷ xs) ys (inr a) = inr (among_more m xs ys a)
+
+covers_more : (stream : ℕ) (more : List Message) (past : Past) (t : State) → Covered past t → Covered (record past { offered = added_at stream more past.offered }) t
+covers_more stream more past t c = record { managed = c.managed; numbered = c.numbered; known = λ number b e users. go number b (c.known number b e users) (stream_of b == stream) refl }
+  where
+    go : (number : ℕ) (b : List ℕ) → Among (record { number = number; body = b }) (past.offered (stream_of b)) → (c : Bool) → (stream_of b == stream) ≡ c → Among (record { number = number; body = b }) (cond c (past.offered (stream_of b) ++ more) (past.offered (stream_of b)))
+    go number b a true e = among_more (record { number = number; body = b }) (past.offered (stream_of b)) more a
+    go number b a false e = a
+
+offer_covers : (s : State) (past : Past) (body : List ℕ) (o : Option SetRefusal) → Covered past s → Covered (past_asked (Offer body) (Answered (offered o s body).answer) past) (offered o s body).state
+offer_covers s past body None c =
+    covers_appended _ s (offered None s body).state body _ refl refl (λ e. rw (itself (stream_of body)) (among_last (new_message s.rows body) (past.offered (stream_of body)))) (covers_more (stream_of body) (new_message s.rows body ∷ []) past s c)
+offer_covers s past body (Some why) c = covers_more (stream_of body) [] past s c
+
+offers_cover : (s : State) (past : Past) (body : List ℕ) → Covered past s → Covered (past_asked (Offer body) (Answered (step s (Offer body)).answer) past) (step s (Offer body)).state
+unfolding step
+offers_cover s past body c = offer_covers s past body (offer_refusal s.rows body) c
+
+-- AN EVENT THAT HAS NO STEP OF ITS OWN
+module _ (p : Two) (sound : IsSound p.near) (codes : AreCodes p.near.settings) (w : Streams p) where
   abbrev asked_then : Event → Two
   asked_then event = record p { near = (step p.near event).state; near_past = past_asked event (Answered (step p.near event).answer) p.near_past }
 
-  quiet_streams : (event : Event) → has_own_step event ≡ false → ((end : End) → IsSoundStep (Act end event)) → ((body : List ℕ) → event ≡ Offer body → ⊥) → Keeps p.near (step p.near event).state p.far → (past : Past) → past.offered ≡ p.near_past.offered → past.got ≡ p.near_past.got
-      → Streams (record p { near = (step p.near event).state; near_past = past })
-  quiet_streams event own safe other k past offered got = record {
-    out = retold (step p.near event).state p.far p.near_past p.far_past past p.far_past offered refl
-        (keeps_flow p.near p.far (step p.near event).state p.near_past p.far_past (λ stream low. quiet_same p.near p.far p.near_past p.far_past quiet w.out event own safe other stream) (covers_on _ p.near event other w.out.covers) w.out);
-    back = stands p.far p.near (step p.near event).state p.far_past p.near_past p.far_past past k.accepted refl got w.back;
-  }
+  event_streams : (end : End) (event : Event) → has_own_step event ≡ false → IsSoundStep (Act end event) → ((body : List ℕ) → event ≡ Offer body → ⊥) → Keeps p.near (step p.near event).state p.far → Streams (record p { near = (step p.near event).state })
+  event_streams end event own safe other k =
+      let keeps = event_keeps p.near p.far sound p.near_past.offered p.far_past.got w.out event end own safe other in
+      record {
+        out = keeps.out;
+        back = far_carried p.near (step p.near event).state p.far k.accepted p.far_past.offered p.near_past.got keeps.acks w.back;
+        near_covers = covers_on _ p.near event other w.near_covers;
+        far_covers = w.far_covers;
+      }
 
   pub asked_streams : (end : End) (event : Event) → IsAsked event → has_own_step event ≡ false → IsSoundStep (Act end event) → Streams (asked_then event)
   asked_streams end (Offer body) asked own safe = record {
-    out = offers_out p.near p.far p.near_past p.far_past quiet w.out body asked;
-    back = stands p.far p.near (step p.near (Offer body)).state p.far_past p.near_past p.far_past (past_asked (Offer body) (Answered (step p.near (Offer body)).answer) p.near_past) (offer_kept p.near p.far body quiet).accepted refl refl w.back;
+    out = offers_out p.near p.far sound p.near_past.offered p.far_past.got w.out body asked;
+    back = far_carried p.near (step p.near (Offer body)).state p.far (offer_kept p.near p.far body sound).accepted p.far_past.offered p.near_past.got (offers_back p.near p.far sound p.near_past.offered p.far_past.got w.out body asked) w.back;
+    near_covers = offers_cover p.near p.near_past body w.near_covers;
+    far_covers = w.far_covers;
   }
-  asked_streams end Take asked own safe = quiet_streams Take refl (λ e. tt) (λ body e. absurd cc) (take_kept p.near p.far) p.near_past refl refl
-  asked_streams end (Find number) asked own safe = quiet_streams (Find number) refl (λ e. tt) (λ body e. absurd cc) (find_kept p.near p.far number) p.near_past refl refl
+  asked_streams end Take asked own safe = event_streams end Take refl tt (λ body e. absurd cc) (take_kept p.near p.far)
+  asked_streams end (Find number) asked own safe = event_streams end (Find number) refl tt (λ body e. absurd cc) (find_kept p.near p.far number)
   asked_streams end (Next k) asked own safe = absurd cc
   asked_streams end (HeardEvent k unit) asked own safe = absurd cc
   asked_streams end (UpEvent k) asked own safe = absurd cc
-  asked_streams end (DownEvent k) asked own safe = quiet_streams (DownEvent k) refl (λ e. tt) (λ body e. absurd cc) (down_kept k p.near p.far quiet codes) p.near_past refl refl
+  asked_streams end (DownEvent k) asked own safe = event_streams end (DownEvent k) refl tt (λ body e. absurd cc) (down_kept k p.near p.far sound codes)
   asked_streams end (DownBlind k) asked own safe = absurd safe
   asked_streams end (NoAnswer k) asked own safe = absurd safe
-  asked_streams end (Restore k) asked own safe = absurd safe
+  asked_streams end (Restore k) asked own safe = event_streams end (Restore k) refl tt (λ body e. absurd cc) (restore_kept k p.near p.far sound)
   asked_streams end (BackTimeout k) asked own safe = absurd safe
 
 -- IT SENDS
+waiting_not_back : (k c : ℕ) (fate : Fate) → is_waiting k fate ≡ true → is_back c fate ≡ false
+waiting_not_back k c (Waiting l) e = refl
+waiting_not_back k c _ e = absurd cc
+
+next_backs : (k c : ℕ) (link : LinkState) (s : State) → back_by c (next k s link).state ≡ back_by c s
+next_backs k c link s = ap messages (go (choice_of (octets_in (unack k s.rows)) link.control (window_of k link s.rows)))
+  where
+    go : (choice : Choice) → standing (is_back c) (rows_sent choice k s.rows) ≡ standing (is_back c) s.rows
+    go (again place) = refl
+    go first = turned_same (is_waiting k) (is_back c) (Unacked k) refl (λ fate e. waiting_not_back k c fate e) 1 s.rows
+    go fill = refl
+
 module _ (mx my : Method) (one : IsOneMethod mx my) (p : Two) (h : HoldsOf mx my p) (w : Streams p) (k : ℕ) (out : List (List SignalUnit)) where
   abbrev sent_then : Two
   sent_then = record p { near = (step p.near (Next k)).state; near_past = past_sent k p.near (step p.near (Next k)).state p.near_past; out = out }
 
-  abbrev After : State → Type 0
-  After t = ((stream : ℕ) → here stream t p.far ≡ here stream p.near p.far) × ((l : ℕ) → accepted_on l t ≡ accepted_on l p.near)
+  record After (t : State) : Type 0 where
+    flows : Flows t p.far p.near_past.offered p.far_past.got
+    acks : NewAcknowledges (view t p.far) (view p.near p.far)
+    accepted : (l : ℕ) → accepted_on l t ≡ accepted_on l p.near
 
   after_streams : After (step p.near (Next k)).state → Streams sent_then
   after_streams a = record {
-    out = retold (step p.near (Next k)).state p.far p.near_past p.far_past (past_sent k p.near (step p.near (Next k)).state p.near_past) p.far_past refl refl
-        (keeps_flow p.near p.far (step p.near (Next k)).state p.near_past p.far_past (λ stream low. a.0 stream) (covers_on _ p.near (Next k) (λ body e. absurd cc) w.out.covers) w.out);
-    back = stands p.far p.near (step p.near (Next k)).state p.far_past p.near_past p.far_past (past_sent k p.near (step p.near (Next k)).state p.near_past) a.1 refl refl w.back;
+    out = a.flows;
+    back = far_carried p.near (step p.near (Next k)).state p.far a.accepted p.far_past.offered p.near_past.got a.acks w.back;
+    near_covers = covers_on _ p.near (Next k) (λ body e. absurd cc) w.near_covers;
+    far_covers = w.far_covers;
   }
 
   pub sends_streams : k < length p.near.links → (link : LinkState) → IsAt k link Up p.near → Streams sent_then
-  sends_streams few link at = after_streams (subst (λ (o : Outcome). After o.state) (sym (next_is k link p.near at)) (
-    (λ stream. here_same stream p.near (next k p.near link).state p.far p.far (next_queues k link p.near p.far h.near_sound at enough) (ap messages (next_aside k link p.near)) refl),
-    (next_keeps k link p.near p.far h.near_sound at enough).accepted,
-  ))
+  sends_streams few link at = after_streams (subst (λ (o : Outcome). After o.state) (sym (next_is k link p.near at)) sent)
     where
       far_at : (other : LinkState) × (slice_get p.far.links k ≡ Some other)
       far_at = present p.far.links k (omega (arith, few, h.far_links))
@@ -200,15 +279,39 @@ module _ (mx my : Method) (one : IsOneMethod mx my) (p : Two) (h : HoldsOf mx my
       enough : accepted_on k p.far - link.acked ≤ length (unack k p.near.rows)
       enough = let r = reaches k p.near_past p.far_past p.near p.far (kept_on mx my one p h k) link at.there (ap has_phase_settled at.phase_is) far_at.0 far_at.1 in omega (arith, r.due, r.within)
 
+      queues : (l : ℕ) → pending l (next k p.near link).state p.far ≡ pending l p.near p.far
+      queues = next_queues k link p.near p.far h.near_sound at enough
+
+      aside_same : aside (next k p.near link).state ≡ aside p.near
+      aside_same = ap messages (next_aside k link p.near)
+
+      accepted : (l : ℕ) → accepted_on l (next k p.near link).state ≡ accepted_on l p.near
+      accepted = (next_keeps k link p.near p.far h.near_sound at enough).accepted
+
+      sent : After (next k p.near link).state
+      sent = record {
+        flows = same_flow p.near (next k p.near link).state p.far queues aside_same (λ c. next_backs k c link p.near) refl p.near_past.offered p.far_past.got w.out (λ c m i a. far_in p.near (next k p.near link).state p.far accepted m i);
+        acks = λ c m i a. same_in p.near (next k p.near link).state p.far queues aside_same m i;
+        accepted = accepted;
+      }
+
   pub sends_none : is_up k p.near ≡ false → Streams sent_then
   sends_none e =
       let same : (step p.near (Next k)).state ≡ p.near = ap (λ (o : Outcome). o.state) (next_refused k p.near e).1 in
-      after_streams (subst After (sym same) ((λ stream. refl), (λ l. refl)))
+      after_streams (subst After (sym same) (record { flows = w.out; acks = λ c m i a. i; accepted = λ l. refl }))
 
 -- A LINK COMES UP at both ends
 rises_routing : (k : ℕ) (s : State) (link : LinkState) → IsAt k link Settled s → (step s (UpEvent k)).state.routing ≡ raised k s.routing
 unfolding step
 rises_routing k s link at = rw (at.there, at.phase_is) refl
+
+parked_not_back : (c : ℕ) (fate : Fate) → is_parked fate ≡ true → is_back c fate ≡ false
+parked_not_back c Parked e = refl
+parked_not_back c _ e = absurd cc
+
+rises_backs : (k c : ℕ) (s : State) (link : LinkState) → IsAt k link Settled s → back_by c (step s (UpEvent k)).state ≡ back_by c s
+unfolding step
+rises_backs k c s link at = rw (at.there, at.phase_is) (ap messages (moved_same is_parked (is_back c) (all_with (Waiting k)) s.rows (λ row. refl) (λ fate e. parked_not_back c fate e)))
 
 module _ (mx my : Method) (p : Two) (h : HoldsOf mx my p) (w : Streams p) (k : ℕ) (few : k < length p.near.links) (near_settled : is_settled k p.near ≡ true) (far_settled : is_settled k p.far ≡ true) where
   pub rises_streams : Streams (moving.risen mx my p h k few near_settled far_settled)
@@ -217,13 +320,15 @@ module _ (mx my : Method) (p : Two) (h : HoldsOf mx my p) (w : Streams p) (k : �
       let far_at = settled_at k p.far far_settled in
       let a = rises_at k p.near h.near_sound near_at.0 near_at.1 in
       let b = rises_at k p.far h.far_sound far_at.0 far_at.1 in
+      let near_then = (step p.near (UpEvent k)).state in
+      let far_then = (step p.far (UpEvent k)).state in
+      let near_routing = rises_routing k p.near near_at.0 near_at.1 in
+      let far_routing = rises_routing k p.far far_at.0 far_at.1 in
+      let near_backs : (c : ℕ) → back_by c near_then ≡ back_by c p.near = λ c. rises_backs k c p.near near_at.0 near_at.1 in
+      let far_backs : (c : ℕ) → back_by c far_then ≡ back_by c p.far = λ c. rises_backs k c p.far far_at.0 far_at.1 in
       record {
-        out = record {
-          flow = λ stream low. ap (λ (x : List Message). p.far_past.got stream ++ x) (here_rises stream low k p.near (step p.near (UpEvent k)).state p.far (step p.far (UpEvent k)).state (h.near_sound, h.near_straight) a b (rises_routing k p.near near_at.0 near_at.1)) ∙ w.out.flow stream low;
-          covers = covers_on _ p.near (UpEvent k) (λ body e. absurd cc) w.out.covers;
-        };
-        back = record {
-          flow = λ stream low. ap (λ (x : List Message). p.near_past.got stream ++ x) (here_rises stream low k p.far (step p.far (UpEvent k)).state p.near (step p.near (UpEvent k)).state (h.far_sound, h.far_straight) b a (rises_routing k p.far far_at.0 far_at.1)) ∙ w.back.flow stream low;
-          covers = covers_on _ p.far (UpEvent k) (λ body e. absurd cc) w.back.covers;
-        };
+        out = rises_flow k p.near near_then p.far far_then h.near_sound a b near_routing near_backs p.near_past.offered p.far_past.got w.out (λ c m i x. risen_in k p.far far_then p.near near_then h.far_sound b a far_routing far_backs m i);
+        back = rises_flow k p.far far_then p.near near_then h.far_sound b a far_routing far_backs p.far_past.offered p.near_past.got w.back (λ c m i x. risen_in k p.near near_then p.far far_then h.near_sound a b near_routing near_backs m i);
+        near_covers = covers_on _ p.near (UpEvent k) (λ body e. absurd cc) w.near_covers;
+        far_covers = covers_on _ p.far (UpEvent k) (λ body e. absurd cc) w.far_covers;
       }

@@ -1,20 +1,17 @@
 -- WHERE NOTHING IS LEFT at either end, all that was offered has arrived.
-use Rattle.std.proofs.Common.{refl, arith, ◌≡◌, ◌∙◌, ap, sym, subst, ℕ, zero, suc, ◌<◌, ◌==◌, ◌-◌, Bool, true, false, not, ◌&&◌, List, [], ◌∷◌, ◌++◌, length, filter, drop, Option}
+use Rattle.std.proofs.Common.{refl, arith, ◌≡◌, ◌∙◌, ap, sym, subst, ℕ, suc, ◌==◌, ◌-◌, Bool, true, false, List, [], ◌∷◌, ◌++◌, length, drop}
 use Rattle.set_events.specs.declared.answer.Fate.{Fate}
 use Rattle.set_events.specs.declared.answer.Fate.TheVariants.{Waiting, Unacked, Acked, Held, Parked, Back, Discarded}
-use Rattle.set_events.specs.declared.config.SetConfig.{SetConfig}
-use Rattle.set_model.specs.Rows.{Row, is_unacked, is_waiting, is_held, is_parked, is_users, waits, was_sent, was_held, standing, users, counts_of, unack, wait, held, parked, stream_of}
+use Rattle.set_model.specs.Rows.{Row, is_unacked, is_waiting, is_held, is_parked, stands_back, is_users, waits, was_sent, was_held, standing, users, counts_of, unack, wait, held, stream_of}
 use Rattle.set_model.specs.State.{State}
-use Rattle.world_steps.specs.declared.step.End.TheVariants.{A, B}
 use Rattle.world_steps.specs.declared.step.Step.{Step}
-use Rattle.pair_model.specs.Promises.{IsAskedStep, AreSteps, IsSoundRun}
 use Rattle.pair_model.specs.Run.{Message, messages, Stage, begun, passed, OnShows, HoldsAlong}
 use Rattle.pair_model.specs.World.{World, Outcome, shows, impossible, exhausted, carried_out}
-use Rattle.pair_changeover.specs.Pending.{pending, aside, acked_on, accepted_on}
+use Rattle.pair_changeover.specs.Pending.{pending, aside, kept_back, acked_on, accepted_on}
 use Rattle.pair_changeover.proofs.Table.{joined}
 use Rattle.pair_streams.specs.Arrived.{AreDone, IsIdle, HoldsAtEnd, AllGot, AllArrived}
-use Rattle.pair_streams.specs.Streams.{is_of, those_of, StreamsArrive}
-use Rattle.pair_streams.proofs.Flowing.{those_joined, none_dropped}
+use Rattle.pair_streams.specs.Streams.{those_of, StreamsArrive}
+use Rattle.pair_streams.proofs.Filtered.{those_joined, none_dropped}
 use Rattle.pair_streams.proofs.Runs.{every_sound_run}
 
 -- none of the users' messages stands in such a place
@@ -71,11 +68,14 @@ module _ (stream : ℕ) (s f : State) (done : AreDone (counts_of s.rows)) where
   none_aside : those_of stream (aside s) ≡ []
   none_aside = none_of stream is_parked is_parked (λ fate e. e) s.rows done.none_parked
 
+  none_kept : those_of stream (kept_back s) ≡ []
+  none_kept = none_of stream stands_back stands_back (λ fate e. e) s.rows done.none_back
+
 all_got : (g : Stage) → IsIdle g.world → StreamsArrive g → AllGot g
 all_got g idle arrive stream low =
     let both = arrive stream low in (
-      both.0.all (none_pending stream g.world.a.state g.world.b.state idle.at_a) (none_aside stream g.world.a.state g.world.b.state idle.at_a),
-      both.1.all (none_pending stream g.world.b.state g.world.a.state idle.at_b) (none_aside stream g.world.b.state g.world.a.state idle.at_b),
+      both.0.all (none_pending stream g.world.a.state g.world.b.state idle.at_a) (none_aside stream g.world.a.state g.world.b.state idle.at_a) (none_kept stream g.world.a.state g.world.b.state idle.at_a),
+      both.1.all (none_pending stream g.world.b.state g.world.a.state idle.at_b) (none_aside stream g.world.b.state g.world.a.state idle.at_b) (none_kept stream g.world.b.state g.world.a.state idle.at_b),
     )
 
 module _ (w : World) (idle : IsIdle w) where

@@ -1,14 +1,13 @@
 -- EACH STREAM, WHEN AN END HEARS: the message that it accepts leaves what was pending, and its users get it.
-use Rattle.std.proofs.Common.{refl, arith, ◌≡◌, ◌≢◌, ◌∙◌, ap, sym, subst, ℕ, zero, suc, ◌<◌, ◌≤◌, ◌==◌, ◌-◌, ◌+◌, ◌%◌, Bool, true, false, not, ◌&&◌, List, [], ◌∷◌, ◌++◌, length, take, drop, slice_get, slice_set, Option, Some, None, append_assoc, cond, ◌⊎◌, inl, inr}
+use Rattle.std.proofs.Common.{refl, arith, ◌≡◌, ◌≢◌, ◌∙◌, ap, sym, subst, ℕ, ◌<◌, ◌==◌, ◌-◌, Bool, true, false, List, [], ◌∷◌, ◌++◌, length, slice_get, Option, Some, None, append_assoc, cond, inl, inr}
 use Rattle.std.proofs.lemmas.Bool.{eqb-true, eq-eqb}
-use Rattle.std.proofs.lemmas.List.{append-nil}
 use Rattle.l2_units.specs.declared.unit.Unit.{Unit as SignalUnit}
 use Rattle.l3_orders.specs.declared.order.Order.{Order}
 use Rattle.l3_orders.specs.declared.order.Order.TheVariants.{Coo, Coa, Cbd, Cba, Eco, Eca}
-use Rattle.l3_orders.specs.Grammar.{text, order_of}
-use Rattle.link_lines.specs.Lines.{units_on, with_units}
-use Rattle.set_events.specs.declared.answer.Answer.TheVariants.{Heard as HeardBack}
-use Rattle.set_events.specs.declared.answer.Fate.TheVariants.{Acked}
+use Rattle.l3_orders.specs.Grammar.{order_of}
+use Rattle.link_lines.specs.Lines.{units_on}
+use Rattle.set_events.specs.declared.answer.Fate.{Fate}
+use Rattle.set_events.specs.declared.answer.Fate.TheVariants.{Unacked, Acked}
 use Rattle.set_events.specs.declared.answer.Took.{Took}
 use Rattle.set_events.specs.declared.answer.Took.TheVariants.{Nothing as NothingTaken, Message as TookMessage, Order as TookOrder, Ignored}
 use Rattle.set_events.specs.declared.config.Method.{Method}
@@ -17,60 +16,100 @@ use Rattle.set_route.specs.declared.place.Place.{Place}
 use Rattle.set_route.specs.declared.place.Place.TheVariants.{On, Changing, Nowhere}
 use Rattle.set_route.specs.declared.place.Code.{Code}
 use Rattle.set_route.specs.declared.place.Code.TheVariants.{Free, Asked, Spent}
-use Rattle.set_route.specs.Routing.{place_of, code_of, has_messages}
-use Rattle.set_route.proofs.Quiet.{never_changing}
+use Rattle.set_route.specs.Routing.{place_of, code_of}
 use Rattle.set_model.specs.declared.phase.Phase.{Phase}
 use Rattle.set_model.specs.declared.phase.Phase.TheVariants.{Up, Down, Settled}
 use Rattle.set_model.specs.declared.reached.Reached.{Reached}
 use Rattle.set_model.specs.declared.reached.Reached.TheVariants.{Upto, Unknown}
-use Rattle.set_model.specs.Changeover.{Obeyed, changed_over, answered, at_link, acknowledged_back, order_obeyed, obeyed, left_link, queued, settled}
-use Rattle.set_model.specs.Rows.{Row, is_unacked, parked, stream_of, service_indicator}
+use Rattle.set_model.specs.Changeover.{Obeyed, changed_over, answered, at_link, acknowledged_back, order_obeyed, obeyed, left_link, left_by, released, queued, settled}
+use Rattle.set_model.specs.Rows.{is_unacked, is_back, stream_of, service_indicator}
+use Rattle.set_model.specs.Sound.{IsSound}
 use Rattle.set_model.specs.State.{LinkState, State, last_accepted}
-use Rattle.set_model.specs.Step.{Outcome, brought, takes, step}
-use Rattle.set_model.proofs.Places.{false_true, itself, apart_back}
-use Rattle.set_model.proofs.Live.{stream_turned}
-use Rattle.set_model.proofs.Plain.{just_left}
-use Rattle.set_model.proofs.Straight as straightness
+use Rattle.set_model.specs.Step.{brought, step}
+use Rattle.set_model.proofs.InPlace.{turned_same}
+use Rattle.set_model.proofs.Places.{apart_back}
 use Rattle.set_model.proofs.Walk.{IsAt}
-use Rattle.world_steps.specs.declared.step.Shown.TheVariants.{Answered}
 use Rattle.pair_model.specs.Promises.{IsOneMethod}
-use Rattle.pair_model.specs.Run.{Message, Past, messages, body_in, got_by, past_heard, added_at}
-use Rattle.pair_model.proofs.Moving as moving
+use Rattle.pair_model.specs.Run.{Message, Past, messages, body_in, got_by, added_at}
 use Rattle.pair_model.proofs.Pairs.{Two, HoldsOf}
 use Rattle.pair_changeover.specs.Pending.{queue, pending, aside, acked_on, accepted_of, accepted_on}
-use Rattle.pair_changeover.proofs.Arriving.{heard, state_is, does, mid_quiet}
+use Rattle.pair_changeover.proofs.Arriving.{heard, state_is, mid_sound}
 use Rattle.pair_changeover.proofs.Changes.{by_link, other_then}
 use Rattle.pair_changeover.proofs.Hearing as hearing
-use Rattle.pair_changeover.proofs.Obeying.{Told, Obeys, keeps, settles, answers, left_and_told, just_left_sound, told, told_sound, told_at, told_still, obeys_accepted}
+use Rattle.pair_changeover.proofs.Obeying.{Told, Obeys, keeps, settles, answers, acknowledges, releases, told, left_sound, told_sound, told_at, told_still, settles_accepted}
 use Rattle.pair_changeover.proofs.Texts.{AreCodes}
-use Rattle.pair_changeover.proofs.Views.{Among}
+use Rattle.pair_changeover.proofs.Views.{view, Among, In}
 use Rattle.pair_changeover.proofs.Whole.{Whole}
 use Rattle.pair_streams.specs.Streams.{is_of, those_of}
-use Rattle.pair_streams.proofs.Acting.{here_queued, here_left, retold, added_none}
-use Rattle.pair_streams.proofs.Flowing.{IsStraight, quiet_of, queue_at, here, alone}
-use Rattle.pair_streams.proofs.Flows.{Flows, Streams, stands, keeps_flow}
+use Rattle.pair_streams.proofs.Acting.{Streams, keeps_same, added_none}
+use Rattle.pair_streams.proofs.Codes.{Clear, Flows, NewAcknowledges, backed, far_in, far_carried, acked_flow}
+use Rattle.pair_streams.proofs.Declared.{Declares, Acknowledges, ClearBehind, coa_declares, coa_acknowledges, cba_declares, cba_other}
+use Rattle.pair_streams.proofs.Flowing.{back_by, queue_at, here, runs_by}
+use Rattle.pair_streams.proofs.Flows.{order_in, queues_flow, queues_acks}
 use Rattle.pair_streams.proofs.Known.{covers_on}
-use Rattle.pair_streams.proofs.Moving.{here_same, here_settles}
+use Rattle.pair_streams.proofs.Moving.{same_in, same_flow}
+use Rattle.pair_streams.proofs.Returned.{gone_orders, releases_flow}
+use Rattle.pair_streams.proofs.Settled.{was_in, settles_flow}
+use Rattle.pair_streams.proofs.Turned.{left_orders, leaves_flow}
 
--- an end that left a link, and acknowledges
-told_straight : (l : ℕ) (link : LinkState) (s f : State) (straight : IsStraight s) (codes : AreCodes s.settings) (at : IsAt l link Up s) → IsStraight (told l link s f (quiet_of s straight) codes at)
-told_straight l link s f straight codes at =
-    let quiet = quiet_of s straight in
-    let order = Coa l (last_accepted link) in (
-      told_sound l link s f quiet codes at,
-      record { none_open = straight.1.none_open; together = straightness.queues order (just_left false l link s) (just_left_sound false l link s quiet at) straight.1.together },
-    )
+-- WHAT AN ORDER LEADS TO at an end keeps each stream, in both directions
+sent_not_back : (n c : ℕ) (fate : Fate) → is_unacked n fate ≡ true → is_back c fate ≡ false
+sent_not_back n c (Unacked l) e = refl
+sent_not_back n c _ e = absurd cc
 
--- WHAT AN ORDER LEADS TO keeps each stream
-pub obeys_here : (k : ℕ) (s f : State) → IsStraight s → AreCodes s.settings → (stream : ℕ) → stream < 16 → (t : State) → Obeys k s f t → here stream t f ≡ here stream s f
-obeys_here k s f straight codes stream low t (keeps _ rows links routing) =
-    here_same stream s t f f (λ l. rw (rows, links) refl) (rw rows refl) (ap (place_of stream) routing)
-obeys_here k s f straight codes stream low _ (settles fsn l link other at told_so about) = here_settles stream low fsn l link s f straight at told_so
-obeys_here k s f straight codes stream low _ (answers fsn l link other at told_so about) =
-    let quiet = quiet_of s straight in
-    here_settles stream low fsn l (left_link false link) (told l link s f quiet codes at) f (told_straight l link s f straight codes at) (told_at l link s f quiet codes at) (told_still l link s f quiet codes at fsn told_so)
-    ∙ here_queued stream (Coa l (last_accepted link)) (just_left false l link s) f (just_left_sound false l link s quiet at)
-    ∙ here_left stream false l link s f at
+module _ (k : ℕ) (body : List ℕ) (s f : State) (sound : IsSound s) (codes : AreCodes s.settings) (offered got far_offered far_got : ℕ → List Message) (w : Flows s f offered got) (v : Flows f s far_offered far_got) where
+  pub record Both' (t : State) : Type 0 where
+    pub out : Flows t f offered got
+    pub back : Flows f t far_offered far_got
+
+  -- where no acknowledgement of a changeback comes to stand
+  by_acks : (t : State) → ((l : ℕ) → accepted_on l t ≡ accepted_on l s) → Flows t f offered got → NewAcknowledges (view t f) (view s f) → Both' t
+  by_acks t accepted out acks = record { out = out; back = far_carried s t f accepted far_offered far_got acks v }
+
+  still : (t : State) → t.rows ≡ s.rows → t.links ≡ s.links → t.routing ≡ s.routing → Both' t
+  still t rows links routing =
+      let k = keeps_same s f sound offered got w t rows links routing in
+      by_acks t (λ l. ap (λ (ls : List LinkState). accepted_of (slice_get ls l)) links) k.out k.acks
+
+  settled_so : (fsn l : ℕ) (link : LinkState) → IsAt l link Down s → Told fsn l link s f → Both' (settled (Upto fsn) l link s)
+  settled_so fsn l link at told_so =
+      let t = settled (Upto fsn) l link s in
+      let accepted = settles_accepted fsn l link s f sound at told_so in
+      by_acks t accepted (settles_flow fsn l link s f sound at told_so offered got w (λ c m i a. far_in s t f accepted m i)) (λ c m i a. was_in fsn l link s f sound at told_so m i)
+
+  -- it leaves the link first, and acknowledges the order
+  answered_so : (fsn l : ℕ) (link : LinkState) (at : IsAt l link Up s) → Told fsn l link s f → Both' (settled (Upto fsn) l (left_link false link) (told l link s f sound codes at))
+  answered_so fsn l link at told_so =
+      let left = left_by false l link s in
+      let leaves_sound = left_sound l link s f sound codes at in
+      let there = told l link s f sound codes at in
+      let there_sound = told_sound l link s f sound codes at in
+      let there_at = told_at l link s f sound codes at in
+      let there_told = told_still l link s f sound codes at fsn told_so in
+      let t = settled (Upto fsn) l (left_link false link) there in
+      let left_accepted : (n : ℕ) → accepted_on n left ≡ accepted_on n s = by_link l link (left_link false link) s left at.there refl (λ n old new. accepted_of new ≡ accepted_of old) refl (λ n old d. refl) in
+      let settled_accepted = settles_accepted fsn l (left_link false link) there f there_sound there_at there_told in
+      let left_out = leaves_flow false l link s f sound at offered got w (λ c m i a. far_in s left f left_accepted m i) in
+      let there_out = queues_flow (Coa l (last_accepted link)) left f leaves_sound (λ c d. coa_declares s.settings l (length left.rows) (last_accepted link) c d) offered got left_out in
+      by_acks t (λ n. settled_accepted n ∙ left_accepted n)
+      (settles_flow fsn l (left_link false link) there f there_sound there_at there_told offered got there_out (λ c m i a. far_in there t f settled_accepted m i))
+      (λ c m i a. left_orders false l link s f sound at (Cba a.link c) m
+      (queues_acks (Coa l (last_accepted link)) left f leaves_sound (λ d x. coa_acknowledges s.settings l (length left.rows) (last_accepted link) d x) c m (was_in fsn l (left_link false link) there f there_sound there_at there_told m i) a) a.is)
+
+  -- a declaration is acknowledged
+  module _ (code : ℕ) (few : code < 256) (none_declared : (m : Message) → In m (view f s) → Declares code m → ⊥) (none_acked : (m : Message) → In m (view s f) → Acknowledges code m → ⊥) (in_use : code_of code f.routing ≡ Free → ⊥)
+      (empty : (stream : ℕ) → stream < 16 → (to via : ℕ) → place_of stream f.routing ≡ Changing to code via → those_of stream (pending via f s) ≡ []) where
+    acknowledged_so : (l : ℕ) → Both' (queued (Cba l code) s)
+    acknowledged_so l = record {
+      out = queues_flow (Cba l code) s f sound (λ c d. cba_declares s.settings l (length s.rows) code c d) offered got w;
+      back = acked_flow s (queued (Cba l code) s) f (λ n. refl) code _ few far_offered far_got v (order_in (Cba l code) s f sound) (λ c a. cba_other s.settings l (length s.rows) code c a) none_declared none_acked in_use empty;
+    }
+
+  -- what waited for an acknowledgement goes home
+  module _ (code : ℕ) (none_declared : (m : Message) → In m (view s f) → Declares code m → ⊥) (none_acked : (m : Message) → In m (view f s) → Acknowledges code m → ⊥)
+      (empty : (stream : ℕ) → stream < 16 → (to via : ℕ) → place_of stream s.routing ≡ Changing to code via → those_of stream (pending via s f) ≡ []) where
+    released_so : Both' (released code s)
+    released_so = by_acks (released code s) (λ n. refl) (releases_flow code s f sound offered got w none_declared none_acked empty) (λ c m i a. gone_orders code s f sound (Cba a.link c) m i a.is)
 
 -- AN ORDER IS NO USER'S
 module _ (message : Option Message) (body : List ℕ) where
@@ -129,6 +168,14 @@ module _ (message : Option Message) (body : List ℕ) where
   obeyed_got None s = ignored_got
   obeyed_got (Some order) s = one_got order s
 
+-- the rest of a list of which nothing is of the stream
+rest_of : (stream : ℕ) (m : Message) (ms : List Message) → those_of stream (m ∷ ms) ≡ [] → those_of stream ms ≡ []
+rest_of stream m ms e = go (is_of stream m) refl
+  where
+    go : (b : Bool) → is_of stream m ≡ b → those_of stream ms ≡ []
+    go true d = let never : m ∷ those_of stream ms ≡ [] = rw d at e in absurd cc
+    go false d = rw d at e
+
 module _ (mx my : Method) (one : IsOneMethod mx my) (p : Two) (h : HoldsOf mx my p) (w : Whole p) (v : Streams p) (k : ℕ) (few : k < length p.near.links) (unit : SignalUnit) (rest : List SignalUnit) (front : units_on k p.back ≡ unit ∷ rest) (link : LinkState) (at : IsAt k link Up p.near) where
   abbrev mid : State
   mid = hearing.mid mx my one p h w.both k few unit rest front link at
@@ -142,58 +189,65 @@ module _ (mx my : Method) (one : IsOneMethod mx my) (p : Two) (h : HoldsOf mx my
   abbrev then_past : Past
   then_past = (heard mx my one p h w k few unit rest front link at).near_past
 
-  mid_straight : IsStraight mid
-  mid_straight = (
-    (mid_quiet mx my one p h w k few unit rest front link at).0,
-    record {
-      none_open = h.near_straight.none_open;
-      together = λ stream low. stream_turned stream (place_of stream p.near.routing) (is_unacked k) (Acked k) refl (has_messages stream p.near.routing) _ p.near.rows (h.near_straight.together stream low);
-    },
-  )
+  sound_mid : IsSound mid
+  sound_mid = mid_sound mx my one p h w k few unit rest front link at
 
-  -- OUT: what stands here stays
-  mid_here : (stream : ℕ) → here stream mid p.far ≡ here stream p.near p.far
-  mid_here stream = here_same stream p.near mid p.far p.far (hearing.heard_queues mx my one p h w.both k few unit rest front link at) (ap messages (hearing.heard_aside mx my one p h w.both k few unit rest front link at)) refl
+  queues : (l : ℕ) → pending l mid p.far ≡ pending l p.near p.far
+  queues = hearing.heard_queues mx my one p h w.both k few unit rest front link at
 
-  then_here : (stream : ℕ) → stream < 16 → here stream then_near p.far ≡ here stream p.near p.far
-  then_here stream low =
-      ap (λ (s : State). here stream s p.far) (state_is mx my one p h w k few unit rest front link at)
-      ∙ obeys_here k mid p.far mid_straight w.near.codes stream low taken.state (does mx my one p h w k few unit rest front link at).obeys
-      ∙ mid_here stream
+  aside_same : aside mid ≡ aside p.near
+  aside_same = ap messages (hearing.heard_aside mx my one p h w.both k few unit rest front link at)
 
-  out_then : Flows then_near p.far then_past p.far_past
-  out_then = retold then_near p.far p.near_past p.far_past then_past p.far_past refl refl
-      (keeps_flow p.near p.far then_near p.near_past p.far_past then_here (covers_on _ p.near (HeardEvent k unit) (λ body e. absurd cc) v.out.covers) v.out)
+  backs : (c : ℕ) → back_by c mid ≡ back_by c p.near
+  backs c = ap messages (turned_same (is_unacked k) (is_back c) (Acked k) refl (λ fate e. sent_not_back k c fate e) (hearing.part mx my one p h w.both k few unit rest front link at).acked p.near.rows)
 
-  -- BACK: what it accepts
-  accepted_then : (l : ℕ) → accepted_on l then_near ≡ accepted_on l mid
-  accepted_then l = ap (accepted_on l) (state_is mx my one p h w k few unit rest front link at) ∙ obeys_accepted k mid p.far (mid_quiet mx my one p h w k few unit rest front link at) w.near.codes (does mx my one p h w k few unit rest front link at).both taken.state (does mx my one p h w k few unit rest front link at).obeys l
+  mid_in : (m : Message) → In m (view mid p.far) → In m (view p.near p.far)
+  mid_in = same_in p.near mid p.far queues aside_same
 
-  far_here : (stream : ℕ) → here stream p.far then_near ≡ here stream p.far mid
-  far_here stream = here_same stream p.far p.far mid then_near (λ l. ap (λ (n : ℕ). queue (n - acked_on l p.far) l p.far.rows) (accepted_then l)) refl refl
+  abbrev got_then : ℕ → List Message
+  got_then = then_past.got
 
-  message_at : Option Message
-  message_at = slice_get (p.far_past.sent k) (length (p.near_past.taken k))
+  mid_out : ((m : Message) → In m (view p.far mid) → In m (view p.far p.near)) → Flows mid p.far p.near_past.offered p.far_past.got
+  mid_out less = same_flow p.near mid p.far queues aside_same backs refl p.near_past.offered p.far_past.got v.out (λ c m i a. less m i)
+
+  abbrev Then : State → Type 0
+  Then t = Flows t p.far p.near_past.offered p.far_past.got × Flows p.far t p.far_past.offered got_then
 
   abbrev Got : Type 0
   Got = (stream : ℕ) → stream < 16 → added_at (stream_of (body_in unit)) (got_by taken.took (slice_get (p.far_past.sent k) (length (p.near_past.taken k))) (body_in unit)) p.near_past.got stream ++ here stream p.far mid ≡ p.near_past.got stream ++ here stream p.far p.near
 
-  -- nothing
+  -- nothing is got
   none_got : (more : List Message) → more ≡ [] → (stream : ℕ) → here stream p.far mid ≡ here stream p.far p.near → added_at (stream_of (body_in unit)) more p.near_past.got stream ++ here stream p.far mid ≡ p.near_past.got stream ++ here stream p.far p.near
   none_got more e stream same =
       ap (λ (x : List Message). added_at (stream_of (body_in unit)) x p.near_past.got stream ++ here stream p.far mid) e
       ∙ ap (λ (x : List Message). x ++ here stream p.far mid) (added_none (stream_of (body_in unit)) stream p.near_past.got)
       ∙ ap (λ (x : List Message). p.near_past.got stream ++ x) same
 
+  -- NO BODY IS ACCEPTED
   module _ (e : brought (hearing.part mx my one p h w.both k few unit rest front link at).accept unit ≡ None) where
     none_accepted : (l : ℕ) → accepted_on l mid ≡ accepted_on l p.near
     none_accepted = by_link k link (hearing.mid_link mx my one p h w.both k few unit rest front link at) p.near mid at.there refl (λ n old new. accepted_of new ≡ accepted_of old)
         (let zero_more = hearing.none_counted mx my one p h w.both k few unit rest front link at e in omega (arith, zero_more)) (λ n o d. refl)
 
-    got_none : Got
-    got_none stream low = none_got (got_by taken.took (slice_get (p.far_past.sent k) (length (p.near_past.taken k))) (body_in unit)) (rw e (nothing_got (slice_get (p.far_past.sent k) (length (p.near_past.taken k))) (body_in unit))) stream
-        (here_same stream p.far p.far p.near mid (λ l. ap (λ (n : ℕ). queue (n - acked_on l p.far) l p.far.rows) (none_accepted l)) refl refl)
+    same_got : (stream : ℕ) → got_then stream ≡ p.near_past.got stream
+    same_got stream =
+        ap (λ (x : List Message). added_at (stream_of (body_in unit)) x p.near_past.got stream) (rw e (nothing_got (slice_get (p.far_past.sent k) (length (p.near_past.taken k))) (body_in unit)))
+        ∙ added_none (stream_of (body_in unit)) stream p.near_past.got
 
+    none_back : Flows p.far mid p.far_past.offered got_then
+    none_back =
+        let old = far_carried p.near mid p.far none_accepted p.far_past.offered p.near_past.got (λ c m i a. mid_in m i) v.back in
+        record {
+          flow = λ stream low. ap (λ (x : List Message). x ++ here stream p.far mid) (same_got stream) ∙ old.flow stream low;
+          stands = old.stands;
+          unused = old.unused;
+          backing = old.backing;
+        }
+
+    none_then : Then taken.state
+    none_then = subst Then (sym (hearing.none_taken mx my one p h w.both k few unit rest front link at e)) (mid_out (far_in p.near mid p.far none_accepted), none_back)
+
+  -- ONE IS: it's the first that was pending at the other
   module _ (body : List ℕ) (e : brought (hearing.part mx my one p h w.both k few unit rest front link at).accept unit ≡ Some body) where
     abbrev first : Message
     first = hearing.first mx my one p h w.both k few unit rest front link at body e
@@ -207,8 +261,28 @@ module _ (mx my : Method) (one : IsOneMethod mx my) (p : Two) (h : HoldsOf mx my
     first_is : pending k p.far p.near ≡ first ∷ pending k p.far mid
     first_is = hearing.first_is mx my one p h w.both k few unit rest front link at body e
 
+    first_in : In first (view p.far p.near)
+    first_in = hearing.first_in mx my one p h w.both k few unit rest front link at body e
+
+    far_was : (m : Message) → In m (view p.far mid) → In m (view p.far p.near)
+    far_was = hearing.was_in_far mx my one p h w.both k few unit rest front link at body e
+
+    far_gone : (m : Message) → In m (view p.far mid) → m.number ≢ first.number
+    far_gone = hearing.gone mx my one p h w.both k few unit rest front link at body e
+
     others_same : (l : ℕ) → (k == l) ≡ false → pending l p.far mid ≡ pending l p.far p.near
     others_same l d = ap (λ (o : Option LinkState). queue (accepted_of o - acked_on l p.far) l p.far.rows) (other_then k link (hearing.mid_link mx my one p h w.both k few unit rest front link at) p.near mid at.there refl l d)
+
+    -- of a queue the first leaves, or nothing
+    by_queue : (P : List Message → List Message → Type 0) → P (first ∷ pending k p.far mid) (pending k p.far mid) → ((q : List Message) → P q q) → (l : ℕ) → P (pending l p.far p.near) (pending l p.far mid)
+    by_queue P own same l = go (k == l) refl
+      where
+        go : (b : Bool) → (k == l) ≡ b → P (pending l p.far p.near) (pending l p.far mid)
+        go true d = subst (λ (n : ℕ). P (pending n p.far p.near) (pending n p.far mid)) (eqb-true k l d) (subst (λ (q : List Message). P q (pending k p.far mid)) (sym first_is) own)
+        go false d = subst (λ (q : List Message). P (pending l p.far p.near) q) (sym (others_same l d)) (same (pending l p.far p.near))
+
+    none_left : (stream l : ℕ) → those_of stream (pending l p.far p.near) ≡ [] → those_of stream (pending l p.far mid) ≡ []
+    none_left stream = by_queue (λ old new. those_of stream old ≡ [] → those_of stream new ≡ []) (rest_of stream first (pending k p.far mid)) (λ q n. n)
 
     -- a message of the stream stood first where the stream runs
     here_loses : (stream : ℕ) → stream < 16 → is_of stream first ≡ true → here stream p.far p.near ≡ first ∷ here stream p.far mid
@@ -217,32 +291,37 @@ module _ (mx my : Method) (one : IsOneMethod mx my) (p : Two) (h : HoldsOf mx my
         is_first : those_of stream (pending k p.far p.near) ≡ first ∷ those_of stream (pending k p.far mid)
         is_first = ap (those_of stream) first_is ∙ rw own refl
 
-        not_alone : (q : Place) → place_of stream p.far.routing ≡ q → q ≢ On k → those_of stream (queue_at q p.far p.near) ≡ first ∷ those_of stream (queue_at q p.far mid)
-        not_alone q e d =
-            let none = alone stream low p.far p.near (h.far_sound, h.far_straight) k (λ r. d (sym e ∙ r)) in
-            let no : first ∷ those_of stream (pending k p.far mid) ≡ [] = sym is_first ∙ none in
+        runs_here : (q : Place) → place_of stream p.far.routing ≡ q → (b : Bool) → runs_by q k ≡ b → b ≡ true
+        runs_here q is true d = refl
+        runs_here q is false d =
+            let none = (v.back.stands stream low).alone k (ap (λ (r : Place). runs_by r k) is ∙ d) in
+            let never : first ∷ those_of stream (pending k p.far mid) ≡ [] = sym is_first ∙ none in
             absurd cc
 
-        on_case : (m : ℕ) → place_of stream p.far.routing ≡ On m → (b : Bool) → (k == m) ≡ b → those_of stream (pending m p.far p.near) ≡ first ∷ those_of stream (pending m p.far mid)
-        on_case m q true d = subst (λ (n : ℕ). those_of stream (pending n p.far p.near) ≡ first ∷ those_of stream (pending n p.far mid)) (eqb-true k m d) is_first
-        on_case m q false d = not_alone (On m) q (λ r. false_true (k == m) d (let same : m ≡ k = cc in rw same (itself k)))
+        on_it : (m : ℕ) → (m == k) ≡ true → (more : List Message) → those_of stream (pending m p.far p.near ++ more) ≡ first ∷ those_of stream (pending m p.far mid ++ more)
+        on_it m d more = subst (λ (n : ℕ). those_of stream (pending n p.far p.near ++ more) ≡ first ∷ those_of stream (pending n p.far mid ++ more)) (sym (eqb-true m k d)) (ap (λ (q : List Message). those_of stream (q ++ more)) first_is ∙ rw own refl)
+
+        on_case : (m : ℕ) → (m == k) ≡ true → those_of stream (pending m p.far p.near) ≡ first ∷ those_of stream (pending m p.far mid)
+        on_case m d = subst (λ (n : ℕ). those_of stream (pending n p.far p.near) ≡ first ∷ those_of stream (pending n p.far mid)) (sym (eqb-true m k d)) is_first
 
         go : (q : Place) → place_of stream p.far.routing ≡ q → those_of stream (queue_at q p.far p.near) ≡ first ∷ those_of stream (queue_at q p.far mid)
-        go (On m) q = on_case m q (k == m) refl
-        go (Changing to code via) q = absurd (never_changing stream to code via p.far.routing h.far_sound.routing h.far_straight.none_open q)
-        go Nowhere q = not_alone Nowhere q (λ r. let no : Nowhere ≡ On k = r in absurd cc)
+        go (On m) is = on_case m (runs_here (On m) is (m == k) refl)
+        go (Changing to code via) is = on_it via (runs_here (Changing to code via) is (via == k) refl) (back_by code p.far)
+        go Nowhere is = absurd (let never : false ≡ true = runs_here Nowhere is false refl in cc)
 
     -- another one changes nothing of it
     here_stays : (stream : ℕ) → is_of stream first ≡ false → here stream p.far mid ≡ here stream p.far p.near
     here_stays stream other = go (place_of stream p.far.routing)
       where
-        on_case : (m : ℕ) (b : Bool) → (k == m) ≡ b → those_of stream (pending m p.far mid) ≡ those_of stream (pending m p.far p.near)
-        on_case m true d = subst (λ (n : ℕ). those_of stream (pending n p.far mid) ≡ those_of stream (pending n p.far p.near)) (eqb-true k m d) (sym (ap (those_of stream) first_is ∙ rw other refl))
-        on_case m false d = ap (those_of stream) (others_same m d)
+        on_case : (l : ℕ) (more : List Message) → those_of stream (pending l p.far mid ++ more) ≡ those_of stream (pending l p.far p.near ++ more)
+        on_case l more = by_queue (λ old new. those_of stream (new ++ more) ≡ those_of stream (old ++ more)) (rw other refl) (λ q. refl) l
+
+        alone_case : (l : ℕ) → those_of stream (pending l p.far mid) ≡ those_of stream (pending l p.far p.near)
+        alone_case = by_queue (λ old new. those_of stream new ≡ those_of stream old) (rw other refl) (λ q. refl)
 
         go : (q : Place) → those_of stream (queue_at q p.far mid) ≡ those_of stream (queue_at q p.far p.near)
-        go (On m) = on_case m (k == m) refl
-        go (Changing to code via) = on_case via (k == via) refl
+        go (On m) = alone_case m
+        go (Changing to code via) = on_case via (back_by code p.far)
         go Nowhere = refl
 
     -- a message for the users
@@ -283,18 +362,97 @@ module _ (mx my : Method) (one : IsOneMethod mx my) (p : Two) (h : HoldsOf mx my
         go true d = own_got d
         go false d = users_got d
 
-  got : Got
-  got = go (brought (hearing.part mx my one p h w.both k few unit rest front link at).accept unit) refl
+    -- what it leaves behind at the other
+    clear_left : (stream code via : ℕ) → Clear stream code via (view p.far p.near) → Clear stream code via (view p.far mid)
+    clear_left stream code via old = record {
+      only = λ l d m a. old.only l d m (among_was l m a);
+      none_aside = old.none_aside;
+      behind = by_queue (λ was now. ClearBehind stream code was → ClearBehind stream code now) (λ c. c.1) (λ q c. c) via old.behind;
+    }
+      where
+        among_was : (l : ℕ) (m : Message) → Among m (pending l p.far mid) → Among m (pending l p.far p.near)
+        among_was l m = by_queue (λ was now. Among m now → Among m was) (λ a. inr a) (λ q a. a) l
+
+    mid_back : Flows p.far mid p.far_past.offered got_then
+    mid_back = record {
+      flow = λ stream low. got_some stream low ∙ v.back.flow stream low;
+      stands = λ stream low. let old = v.back.stands stream low in record { alone = λ l d. none_left stream l (old.alone l d); none_aside = old.none_aside };
+      unused = v.back.unused;
+      backing = backed p.far p.far p.near mid v.back.backing
+          (λ stream low to code via is. clear_left stream code via (v.back.backing.clear stream low to code via is))
+          (λ stream low to code via is n i a. none_left stream via (v.back.backing.answered stream low to code via is n i a))
+          (λ c small free. inl free) (λ c m i d. far_was m i) (λ c m i a. mid_in m i);
+    }
+
+    -- a declaration is heard: none of its code is left, and nothing of its streams
+    module _ (l code : ℕ) (is : order_of body ≡ Some (Cbd l code)) where
+      declares_first : Declares code first
+      declares_first = record { link = l; is = ap order_of first_body ∙ is }
+
+      none_more : (m : Message) → In m (view p.far mid) → Declares code m → ⊥
+      none_more m i d = far_gone m i (v.back.backing.one_declared code m first (far_was m i) first_in d declares_first)
+
+      none_acked : (m : Message) → In m (view mid p.far) → Acknowledges code m → ⊥
+      none_acked m i a = v.back.backing.either code first m first_in (mid_in m i) declares_first a
+
+      code_few : code < 256
+      code_few = v.back.backing.few_declared code first first_in declares_first
+
+      in_use : code_of code p.far.routing ≡ Free → ⊥
+      in_use free = v.back.backing.free_declared code code_few free first first_in declares_first
+
+      empty_there : (stream : ℕ) → stream < 16 → (to via : ℕ) → place_of stream p.far.routing ≡ Changing to code via → those_of stream (pending via p.far mid) ≡ []
+      empty_there stream low to via is_there =
+          let clear = v.back.backing.clear stream low to code via is_there in
+          let on_via : (via == k) ≡ true = stands_here clear (via == k) refl in
+          subst (λ (n : ℕ). those_of stream (pending n p.far mid) ≡ []) (sym (eqb-true via k on_via))
+          ((subst (ClearBehind stream code) first_is (subst (λ (n : ℕ). ClearBehind stream code (pending n p.far p.near)) (eqb-true via k on_via) clear.behind)).0 declares_first)
+        where
+          stands_here : Clear stream code via (view p.far p.near) → (b : Bool) → (via == k) ≡ b → b ≡ true
+          stands_here clear true d = refl
+          stands_here clear false d = absurd (clear.only k d first (subst (Among first) (sym first_is) (inl refl)) declares_first)
+
+    -- an acknowledgement is heard
+    module _ (l code : ℕ) (is : order_of body ≡ Some (Cba l code)) where
+      acks_first : Acknowledges code first
+      acks_first = record { link = l; is = ap order_of first_body ∙ is }
+
+      none_declared : (m : Message) → In m (view mid p.far) → Declares code m → ⊥
+      none_declared m i d = v.out.backing.either code m first (mid_in m i) first_in d acks_first
+
+      none_more_acks : (m : Message) → In m (view p.far mid) → Acknowledges code m → ⊥
+      none_more_acks m i a = far_gone m i (v.out.backing.one_acked code m first (far_was m i) first_in a acks_first)
+
+      empty_here : (stream : ℕ) → stream < 16 → (to via : ℕ) → place_of stream mid.routing ≡ Changing to code via → those_of stream (pending via mid p.far) ≡ []
+      empty_here stream low to via is_there = ap (those_of stream) (queues via) ∙ v.out.backing.answered stream low to code via is_there first first_in acks_first
+
+    out_mid : Flows mid p.far p.near_past.offered p.far_past.got
+    out_mid = mid_out far_was
+
+    pair_of : (t : State) → Both' k body mid p.far sound_mid w.near.codes p.near_past.offered p.far_past.got p.far_past.offered got_then out_mid mid_back t → Then t
+    pair_of t b = (b.out, b.back)
+
+    obeyed_then : (t : State) → Obeys k body mid p.far t → Then t
+    obeyed_then t (keeps _ rows links routing none) = pair_of t (still k body mid p.far sound_mid w.near.codes p.near_past.offered p.far_past.got p.far_past.offered got_then out_mid mid_back t rows links routing)
+    obeyed_then t (settles fsn l other apart_from there told_so about over) = pair_of t (settled_so k body mid p.far sound_mid w.near.codes p.near_past.offered p.far_past.got p.far_past.offered got_then out_mid mid_back fsn l other there told_so)
+    obeyed_then t (answers fsn l other apart_from there told_so about over) = pair_of t (answered_so k body mid p.far sound_mid w.near.codes p.near_past.offered p.far_past.got p.far_past.offered got_then out_mid mid_back fsn l other there told_so)
+    obeyed_then t (acknowledges l code is) = pair_of t (acknowledged_so k body mid p.far sound_mid w.near.codes p.near_past.offered p.far_past.got p.far_past.offered got_then out_mid mid_back code (code_few l code is) (none_more l code is) (none_acked l code is) (in_use l code is) (empty_there l code is) l)
+    obeyed_then t (releases l code is) = pair_of t (released_so k body mid p.far sound_mid w.near.codes p.near_past.offered p.far_past.got p.far_past.offered got_then out_mid mid_back code (none_declared l code is) (none_more_acks l code is) (empty_here l code is))
+
+    some_then : Then taken.state
+    some_then = obeyed_then taken.state (hearing.some_obeyed mx my one p h w.both k few unit rest front link at body e)
+
+  both_then : Then then_near
+  both_then = subst Then (sym (state_is mx my one p h w k few unit rest front link at)) (go (brought (hearing.part mx my one p h w.both k few unit rest front link at).accept unit) refl)
     where
-      go : (body : Option (List ℕ)) → brought (hearing.part mx my one p h w.both k few unit rest front link at).accept unit ≡ body → Got
-      go None e = got_none e
-      go (Some body) e = got_some body e
+      go : (body : Option (List ℕ)) → brought (hearing.part mx my one p h w.both k few unit rest front link at).accept unit ≡ body → Then taken.state
+      go None e = none_then e
+      go (Some body) e = some_then body e
 
   pub hears_streams : Streams (heard mx my one p h w k few unit rest front link at)
   hears_streams = record {
-    out = out_then;
-    back = record {
-      flow = λ stream low. ap (λ (x : List Message). then_past.got stream ++ x) (far_here stream) ∙ got stream low ∙ v.back.flow stream low;
-      covers = v.back.covers;
-    };
+    out = both_then.0;
+    back = both_then.1;
+    near_covers = covers_on _ p.near (HeardEvent k unit) (λ body e. absurd cc) v.near_covers;
+    far_covers = v.far_covers;
   }

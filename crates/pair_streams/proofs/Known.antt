@@ -1,6 +1,5 @@
 -- EVERY MESSAGE OF A USER THAT A SET HOLDS was offered there: whatever is asked, an own new row is an order.
-use Rattle.std.proofs.Common.{refl, arith, ◌≡◌, ◌≢◌, ◌∙◌, ap, sym, subst, ℕ, zero, suc, ◌<◌, ◌==◌, ◌%◌, Bool, true, false, List, [], ◌∷◌, ◌++◌, length, slice_get, Option, Some, None, ◌⊎◌, inl, inr}
-use Rattle.std.specs.Option.{option_map}
+use Rattle.std.proofs.Common.{refl, ◌≡◌, ◌∙◌, ap, sym, subst, ℕ, ◌==◌, ◌%◌, Bool, true, false, List, [], ◌∷◌, ◌++◌, length, Some, None, ◌⊎◌, inl, inr}
 use Rattle.std.proofs.lemmas.Bool.{eq-eqb, eqb-true}
 use Rattle.l3_orders.specs.declared.order.Order.{Order}
 use Rattle.l3_orders.specs.declared.order.Order.TheVariants.{Cbd}
@@ -13,7 +12,7 @@ use Rattle.set_events.specs.declared.event.Event.TheVariants.{Offer}
 use Rattle.set_model.specs.Changeover.{fate_on, left_by, moved_over, declared, released}
 use Rattle.l2_units.specs.Grammar.{head_of}
 use Rattle.set_model.specs.Control.{Choice, again, first, fill, choice_of, part_of}
-use Rattle.set_model.specs.Rows.{Row, is_on, is_back, is_back_to, appended, moved, unack, octets_in, body_at, row_of, service_indicator, IsNumbered}
+use Rattle.set_model.specs.Rows.{Row, is_on, is_back, is_back_to, appended, moved, unack, octets_in, body_at, service_indicator, IsNumbered}
 use Rattle.set_model.specs.Sound.{IsManaged}
 use Rattle.set_model.specs.State.{LinkState, State, target, window_of}
 use Rattle.set_model.specs.Step.{is_msu, sends, step}

@@ -1,8 +1,16 @@
 pub mod Acting
 pub mod Arrived
+pub mod Codes
+pub mod Declared
+pub mod Declaring
+pub mod Filtered
 pub mod Flowing
 pub mod Flows
 pub mod Hearing
 pub mod Known
 pub mod Moving
+pub mod Returned
+pub mod Risen
 pub mod Runs
+pub mod Settled
+pub mod Turned

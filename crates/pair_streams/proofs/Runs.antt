@@ -1,5 +1,8 @@
 -- EVERY SOUND RUN KEEPS EACH STREAM: one induction over its steps, beside those of the links and of changeover.
-use Rattle.std.proofs.Common.{refl, arith, ◌≡◌, ◌≢◌, ◌∙◌, ap, sym, subst, ℕ, zero, suc, ◌<◌, ◌==◌, ◌+◌, ◌-◌, Bool, true, false, not, ◌&&◌, ◌||◌, nat_lt, List, [], ◌∷◌, ◌++◌, length, filter, take, drop, slice_get, replicate, Option, Some, None, cond, ◌⊎◌, inl, inr}
+use Rattle.set_model.proofs.Places.{code_back}
+use Rattle.set_route.proofs.Quiet.{never_changing}
+use Rattle.pair_streams.proofs.Filtered.{none_both, none_within}
+use Rattle.std.proofs.Common.{refl, arith, ◌≡◌, ◌∙◌, ap, sym, subst, ℕ, suc, ◌<◌, ◌==◌, ◌+◌, ◌-◌, Bool, true, false, not, ◌&&◌, ◌||◌, nat_lt, List, [], ◌∷◌, ◌++◌, length, take, drop, slice_get, Some, None, cond, ◌⊎◌, inl, inr}
 use Rattle.std.specs.Option.{option_map}
 use Rattle.std.proofs.lemmas.Bool.{ltb-true, eqb-true}
 use Rattle.std.proofs.lemmas.List.{append-nil}
@@ -7,25 +10,24 @@ use Rattle.l2_units.specs.declared.unit.Unit.{Unit as SignalUnit}
 use Rattle.link_lines.specs.Lines.{units_on, without}
 use Rattle.set_events.specs.declared.answer.Answer.{Answer}
 use Rattle.set_events.specs.declared.answer.Fate.{Fate}
-use Rattle.set_events.specs.declared.answer.Fate.TheVariants.{Waiting, Unacked, Acked, Held, Parked, Discarded}
+use Rattle.set_events.specs.declared.answer.Fate.TheVariants.{Acked}
 use Rattle.set_events.specs.declared.config.Method.{Method}
 use Rattle.set_events.specs.declared.config.SetConfig.{SetConfig}
 use Rattle.set_events.specs.declared.event.Event.{Event}
-use Rattle.set_events.specs.declared.event.Event.TheVariants.{Next, Heard, Up as UpEvent}
+use Rattle.set_events.specs.declared.event.Event.TheVariants.{Next, Heard}
 use Rattle.set_route.specs.declared.place.Place.{Place}
 use Rattle.set_route.specs.declared.place.Place.TheVariants.{On, Changing, Nowhere}
 use Rattle.set_route.specs.Routing.{place_of}
 use Rattle.set_model.specs.declared.phase.Phase.TheVariants.{Up}
-use Rattle.set_model.specs.Rows.{Row, is_unacked, is_waiting, is_held, is_parked, standing, unack, wait, held, parked, place, body_at, row_of, service_indicator, stream_of, IsNumbered}
-use Rattle.set_model.specs.Sound.{IsSound, IsAsked}
-use Rattle.set_model.specs.State.{LinkState, State, Settings, is_up, is_settled, link_count, new_link, opened_with, settings_of}
+use Rattle.set_model.specs.Rows.{Row, is_unacked, is_waiting, is_held, is_parked, standing, unack, wait, held, parked, place, body_at, row_of, service_indicator, stream_of, is_back, stands_back}
+use Rattle.set_model.specs.Sound.{IsAsked}
+use Rattle.set_model.specs.State.{LinkState, State, Settings, is_up, is_settled, link_count, opened_with, settings_of}
 use Rattle.set_model.specs.Step.{Outcome as SetOutcome, step}
 use Rattle.set_model.proofs.Lookups.{row_in_filter}
-use Rattle.set_model.proofs.Soundness.{opened_sound}
+use Rattle.set_model.proofs.Soundness.{opened_sound, opened_straight}
 use Rattle.set_model.proofs.Walk.{IsAt}
 use Rattle.world_steps.specs.declared.step.End.{End}
 use Rattle.world_steps.specs.declared.step.End.TheVariants.{A, B}
-use Rattle.world_steps.specs.declared.step.Shown.{Shown}
 use Rattle.world_steps.specs.declared.step.Shown.TheVariants.{Answered, Up as CameUp, Lost}
 use Rattle.world_steps.specs.declared.step.Step.{Step}
 use Rattle.world_steps.specs.declared.step.Step.TheVariants.{Act, Emit, Arrive, Lose, Together, Inject}
@@ -35,20 +37,19 @@ use Rattle.pair_model.specs.Promises.{IsOneMethod, IsSoundStep, IsAskedStep, Are
 use Rattle.pair_model.proofs.Controls.{one_back}
 use Rattle.pair_model.proofs.Kept.{at_first, settings_sound}
 use Rattle.pair_model.proofs.Moving as moving
-use Rattle.pair_model.proofs.Pairs.{Two, swapped, HoldsOf, swap}
-use Rattle.pair_model.proofs.Runs.{seen, Holds, Goes, step_goes, is_at_up, both_settled}
-use Rattle.pair_changeover.specs.Pending.{queue, pending, aside, acked_on, accepted_on}
-use Rattle.pair_changeover.proofs.Reaching.{RowOf, row_among, filtered, get_rest}
-use Rattle.pair_changeover.proofs.Runs.{Went, Went', step_went, whole_at_first}
+use Rattle.pair_model.proofs.Pairs.{HoldsOf, swap}
+use Rattle.pair_model.proofs.Runs.{seen, Holds, Goes, is_honest, step_goes, is_at_up, both_settled}
+use Rattle.pair_changeover.specs.Pending.{pending, aside, acked_on, accepted_on, kept_back}
+use Rattle.pair_changeover.proofs.Reaching.{row_among, filtered, get_rest}
+use Rattle.pair_changeover.proofs.Runs.{Went', step_went, whole_at_first, nothing_in}
 use Rattle.pair_changeover.proofs.Table.{drop_none, joined}
 use Rattle.pair_changeover.proofs.Views.{Among, among_joined}
 use Rattle.pair_changeover.proofs.Whole.{Whole, whole_back}
 use Rattle.pair_streams.specs.Streams.{is_of, those_of, IsIn, Arrives, StreamsArrive}
-use Rattle.pair_streams.proofs.Acting.{asked_streams, sends_streams, sends_none, rises_streams}
-use Rattle.pair_streams.proofs.Flowing.{queue_at, here}
-use Rattle.pair_streams.proofs.Flows.{Flows, Streams, streams_back}
+use Rattle.pair_streams.proofs.Acting.{Streams, streams_back, asked_streams, sends_streams, sends_none, rises_streams, Covered}
+use Rattle.pair_streams.proofs.Codes.{Flows}
+use Rattle.pair_streams.proofs.Flowing.{queue_at, here, back_by}
 use Rattle.pair_streams.proofs.Hearing.{hears_streams}
-use Rattle.pair_streams.proofs.Known.{Covers}
 
 -- WHAT IT SAYS
 first_part : (xs ys zs : List Message) → xs ++ ys ≡ zs → xs ≡ take (length xs) zs
@@ -76,12 +77,12 @@ among_all stream m (x ∷ xs) a = go (is_of stream x) refl a (λ b. among_all st
         cases (inr b) = inr (later b)
     go false e a later = inr (later (rw e at a))
 
-module _ (stream : ℕ) (low : stream < 16) (s f : State) (near far : Past) (w : Flows s f near far) where
+module _ (stream : ℕ) (low : stream < 16) (s f : State) (near far : Past) (w : Flows s f near.offered far.got) (covers : Covered near s) where
   -- an acknowledged message stands nowhere else
   module _ (link : ℕ) (m : Message) (placed : place m.number s.rows ≡ Some (Acked link)) where
     acked_in : (test : Fate → Bool) → test (Acked link) ≡ false → (at : ℕ) (row : Row) → slice_get (standing test s.rows) at ≡ Some row → m.number ≡ row.number → ⊥
     acked_in test off at row there number =
-        let row_is : row_of m.number s.rows ≡ Some row = row_in_filter (λ (r : Row). test r.fate) s.rows at m.number row w.covers.numbered there (sym number) in
+        let row_is : row_of m.number s.rows ≡ Some row = row_in_filter (λ (r : Row). test r.fate) s.rows at m.number row covers.numbered there (sym number) in
         let fate : Some row.fate ≡ Some (Acked link) = ap (option_map (λ (r : Row). r.fate)) (sym row_is) ∙ placed in
         let is : row.fate ≡ Acked link = cc in
         let no : true ≡ false = sym (filtered (λ (r : Row). test r.fate) s.rows at row there) ∙ ap test is ∙ off in
@@ -106,7 +107,11 @@ module _ (stream : ℕ) (low : stream < 16) (s f : State) (near far : Past) (w :
 
     not_here : (q : Place) → Among m (queue_at q s f) → ⊥
     not_here (On l) a = not_pending l a
-    not_here (Changing to code via) a = not_pending via a
+    not_here (Changing to code via) a = go (among_joined m (pending via s f) (back_by code s) a)
+      where
+        go : Among m (pending via s f) ⊎ Among m (back_by code s) → ⊥
+        go (inl b) = not_pending via b
+        go (inr b) = let r = row_among m (standing (is_back code) s.rows) b in acked_in (is_back code) refl r.place r.row r.there r.number_is
     not_here Nowhere a = not_aside a
 
     both_parts : (a b : Bool) → (not a && b) ≡ true → (a ≡ false) × (b ≡ true)
@@ -117,7 +122,7 @@ module _ (stream : ℕ) (low : stream < 16) (s f : State) (near far : Past) (w :
     acked_got : is_of stream m ≡ true → body_at m.number s.rows ≡ Some m.body → IsIn m (far.got stream)
     acked_got own body =
         let parts = both_parts (service_indicator m.body == 0) (stream_of m.body == stream) own in
-        let offered = subst (λ (n : ℕ). Among m (near.offered n)) (eqb-true (stream_of m.body) stream parts.1) (w.covers.known m.number m.body body parts.0) in
+        let offered = subst (λ (n : ℕ). Among m (near.offered n)) (eqb-true (stream_of m.body) stream parts.1) (covers.known m.number m.body body parts.0) in
         go (among_joined m (far.got stream) (here stream s f) (subst (λ (q : List Message). Among m q) (sym (w.flow stream low)) offered))
       where
         go : Among m (far.got stream) ⊎ Among m (here stream s f) → IsIn m (far.got stream)
@@ -128,13 +133,13 @@ module _ (stream : ℕ) (low : stream < 16) (s f : State) (near far : Past) (w :
   arrives_so = record {
     prefix = first_part (far.got stream) (here stream s f) (near.offered stream) (w.flow stream low);
     acked = λ link m own placed body. acked_got link m placed own body;
-    all = λ none none_aside. sym (append-nil (far.got stream)) ∙ ap (λ (x : List Message). far.got stream ++ x) (sym (empty (place_of stream s.routing) none none_aside)) ∙ w.flow stream low;
+    all = λ none none_aside none_back. sym (append-nil (far.got stream)) ∙ ap (λ (x : List Message). far.got stream ++ x) (sym (empty (place_of stream s.routing) none none_aside none_back)) ∙ w.flow stream low;
   }
     where
-      empty : (q : Place) → ((l : ℕ) → those_of stream (pending l s f) ≡ []) → those_of stream (aside s) ≡ [] → those_of stream (queue_at q s f) ≡ []
-      empty (On l) none none_aside = none l
-      empty (Changing to code via) none none_aside = none via
-      empty Nowhere none none_aside = none_aside
+      empty : (q : Place) → ((l : ℕ) → those_of stream (pending l s f) ≡ []) → those_of stream (aside s) ≡ [] → those_of stream (kept_back s) ≡ [] → those_of stream (queue_at q s f) ≡ []
+      empty (On l) none none_aside none_back = none l
+      empty (Changing to code via) none none_aside none_back = none_both stream (pending via s f) (back_by code s) (none via) (none_within stream (is_back code) stands_back (λ fate e. code_back code fate e) s.rows none_back)
+      empty Nowhere none none_aside none_back = none_aside
 
 -- EACH STEP
 module _ (ma mb : Method) (one : IsOneMethod ma mb) where
@@ -159,8 +164,8 @@ module _ (ma mb : Method) (one : IsOneMethod ma mb) where
     act_keeps end event sound asked own = go (has_actor g.world (actor_of event)) (is_full (at_end g.world end))
       where
         shown : (end : End) → IsSoundStep (Act end event) → Keeps g (Act end event) (shows (Answered (answer_to (at_end g.world end) event)) (with_end g.world end (after (at_end g.world end) event)))
-        shown A sound = asked_streams (seen A g) (h.near_sound, h.near_straight.none_open) w.near.codes v A event asked own sound
-        shown B sound = streams_back _ (asked_streams (seen B g) (h_b.near_sound, h_b.near_straight.none_open) w_b.near.codes v_b B event asked own sound)
+        shown A sound = asked_streams (seen A g) h.near_sound w.near.codes v A event asked own sound
+        shown B sound = streams_back _ (asked_streams (seen B g) h_b.near_sound w_b.near.codes v_b B event asked own sound)
 
         go : (known full : Bool) → Keeps g (Act end event) (cond known (cond full exhausted (shows (Answered (answer_to (at_end g.world end) event)) (with_end g.world end (after (at_end g.world end) event)))) impossible)
         go true true = tt
@@ -206,8 +211,8 @@ module _ (ma mb : Method) (one : IsOneMethod ma mb) where
     lose_keeps end k place = go (has_link g.world k) (nat_lt place (length (line_to g.world end k)))
       where
         lost : (end : End) → Keeps g (Lose end k place) (shows Lost (with_line g.world end k (without place (line_to g.world end k))))
-        lost A = record { out = v.out; back = v.back }
-        lost B = record { out = v.out; back = v.back }
+        lost A = record { out = v.out; back = v.back; near_covers = v.near_covers; far_covers = v.far_covers }
+        lost B = record { out = v.out; back = v.back; near_covers = v.near_covers; far_covers = v.far_covers }
 
         go : (known within : Bool) → Keeps g (Lose end k place) (cond known (cond within (shows Lost (with_line g.world end k (without place (line_to g.world end k)))) impossible) impossible)
         go true true = lost end
@@ -239,14 +244,14 @@ module _ (ma mb : Method) (one : IsOneMethod ma mb) where
       reach_a front true e true true = tt
       reach_a front true e true false = let at = is_at_up k g.world.a.state e in heard_a front at.0 at.1
       reach_a front true e false full = tt
-      reach_a front false e known full = record { out = v.out; back = v.back }
+      reach_a front false e known full = record { out = v.out; back = v.back; near_covers = v.near_covers; far_covers = v.far_covers }
 
       reach_b : units_on k g.world.to_b ≡ unit ∷ rest → (rising : Bool) → is_up k g.world.b.state ≡ rising → (known full : Bool)
           → ArriveKeeps B k (unit ∷ rest) (cond rising (cond known (cond full exhausted (shows (Answered (answer_to g.world.b (Heard k unit))) (with_end (with_line g.world B k rest) B (after g.world.b (Heard k unit))))) impossible) (shows Lost (with_line g.world B k rest)))
       reach_b front true e true true = tt
       reach_b front true e true false = let at = is_at_up k g.world.b.state e in heard_b front at.0 at.1
       reach_b front true e false full = tt
-      reach_b front false e known full = record { out = v.out; back = v.back }
+      reach_b front false e known full = record { out = v.out; back = v.back; near_covers = v.near_covers; far_covers = v.far_covers }
 
     front_a : (k : ℕ) → k < length g.world.a.state.links → (line : List SignalUnit) → units_on k g.world.to_a ≡ line → ArriveKeeps A k line (front_arrives g.world A k line)
     front_a k few [] e = tt
@@ -294,7 +299,7 @@ module _ (ma mb : Method) (one : IsOneMethod ma mb) where
   step_keeps g h w v step sound asked = done_keeps g h w v step sound asked
 
   streams_arrive : (g : Stage) → Streams (seen A g) → StreamsArrive g
-  streams_arrive g v stream low = (arrives_so stream low g.world.a.state g.world.b.state g.a g.b v.out, arrives_so stream low g.world.b.state g.world.a.state g.b g.a v.back)
+  streams_arrive g v stream low = (arrives_so stream low g.world.a.state g.world.b.state g.a g.b v.out v.near_covers, arrives_so stream low g.world.b.state g.world.a.state g.b g.a v.back v.far_covers)
 
   -- ALL ALONG
   onward : (g : Stage) (step : Step) (steps : List Step) → ((later : Stage) → Holds ma mb one later → Whole (seen A later) → Streams (seen A later) → HoldsAlong StreamsArrive later steps) → (outcome : Outcome) → Goes ma mb one g step outcome → Went' ma mb one g step outcome → Keeps g step outcome
@@ -307,7 +312,7 @@ module _ (ma mb : Method) (one : IsOneMethod ma mb) where
   along g h w v [] sound asked = streams_arrive g v
   along g h w v (step ∷ steps) sound asked = (
     streams_arrive g v,
-    onward g step steps (λ later holds whole streams. along later holds whole streams steps sound.1 asked.1) (carried_out g.world step) (step_goes ma mb one g h step sound.0 asked.0) (step_went ma mb one g h w step sound.0) (step_keeps g h w v step sound.0 asked.0),
+    onward g step steps (λ later holds whole streams. along later holds whole streams steps sound.1 asked.1) (carried_out g.world step) (step_goes ma mb one g h step (is_honest step sound.0) asked.0) (step_went ma mb one g h w step sound.0) (step_keeps g h w v step sound.0 asked.0),
   )
 
 -- AT FIRST
@@ -316,19 +321,43 @@ none_on a b l = ap (λ (rows : List Row). messages (rows ++ [] ++ [])) (drop_non
 
 nothing_at : (a b : Settings) (q : Place) → queue_at q (opened_with a) (opened_with b) ≡ []
 nothing_at a b (On l) = none_on a b l
-nothing_at a b (Changing to code via) = none_on a b via
+nothing_at a b (Changing to code via) = ap (λ (q : List Message). q ++ []) (none_on a b via)
 nothing_at a b Nowhere = refl
 
-first_flows : (config other : SetConfig) → Flows (opened_with (settings_of config)) (opened_with (settings_of other)) no_past no_past
+first_flows : (config other : SetConfig) → Flows (opened_with (settings_of config)) (opened_with (settings_of other)) no_past.offered no_past.got
 first_flows config other = record {
-  flow = λ stream low. ap (those_of stream) (nothing_at (settings_of config) (settings_of other) (place_of stream (opened_with (settings_of config)).routing));
-  covers = record {
-    managed = config.management;
-    numbered = (opened_sound (settings_of config) (settings_sound config)).numbered;
-    known = λ number body e users. absurd (let no : None ≡ Some body = e in cc);
+  flow = λ stream low. ap (those_of stream) (nothing_at a b (place_of stream (opened_with a).routing));
+  stands = λ stream low. record { alone = λ l e. ap (those_of stream) (none_on a b l); none_aside = λ e. refl };
+  unused = λ stream low e. refl;
+  backing = record {
+    few_declared = λ c m i d. absurd (nothing_in a b m i);
+    few_acked = λ c m i d. absurd (nothing_in b a m i);
+    free_declared = λ c few e m i d. nothing_in a b m i;
+    free_acked = λ c few e m i d. nothing_in b a m i;
+    one_declared = λ c m n i j x y. absurd (nothing_in a b m i);
+    one_acked = λ c m n i j x y. absurd (nothing_in b a m i);
+    either = λ c m n i j x y. nothing_in a b m i;
+    clear = λ stream low to code via e. absurd (never stream to code via e);
+    answered = λ stream low to code via e n i x. absurd (nothing_in b a n i);
   };
+}
+  where
+    a : Settings
+    a = settings_of config
+
+    b : Settings
+    b = settings_of other
+
+    never : (stream to code via : ℕ) → place_of stream (opened_with (settings_of config)).routing ≡ Changing to code via → ⊥
+    never stream to code via e = never_changing stream to code via (opened_with (settings_of config)).routing (opened_sound (settings_of config) (settings_sound config)).routing (opened_straight (settings_of config) (settings_sound config)).none_open e
+
+first_covers : (config : SetConfig) → Covered no_past (opened_with (settings_of config))
+first_covers config = record {
+  managed = config.management;
+  numbered = (opened_sound (settings_of config) (settings_sound config)).numbered;
+  known = λ number body e users. absurd (let no : None ≡ Some body = e in cc);
 }
 
 pub every_sound_run : (a b : SetConfig) (steps : List Step) → AreSteps IsAskedStep steps → IsSoundRun a b steps → HoldsAlong StreamsArrive (begun a b) steps
 every_sound_run a b steps asked sound =
-    along a.method b.method sound.one_method (begun a b) (at_first a b sound.links) (whole_at_first a b) (record { out = first_flows a b; back = first_flows b a }) steps sound.steps asked
+    along a.method b.method sound.one_method (begun a b) (at_first a b sound.links) (whole_at_first a b) (record { out = first_flows a b; back = first_flows b a; near_covers = first_covers a; far_covers = first_covers b }) steps sound.steps asked

@@ -7,7 +7,7 @@ use Rattle.set_model.specs.State.{State}
 use Rattle.world_steps.specs.declared.step.Step.{Step}
 use Rattle.pair_model.specs.Promises.{IsAskedStep, AreSteps, IsSoundRun}
 use Rattle.pair_model.specs.Run.{Message, Past, Stage, begun, HoldsAlong}
-use Rattle.pair_changeover.specs.Pending.{pending, aside}
+use Rattle.pair_changeover.specs.Pending.{pending, aside, kept_back}
 
 -- a user's message of the stream, and all such in a list
 abbrev pub is_of : ℕ → Message → Bool
@@ -26,9 +26,9 @@ pub record Arrives (stream : ℕ) (near far : Past) (s f : State) : Type 0 where
   -- each message that is acknowledged here is among it
   pub acked : (link : ℕ) (message : Message) → is_of stream message ≡ true → place message.number s.rows ≡ Some (Acked link)
       → body_at message.number s.rows ≡ Some message.body → IsIn message (far.got stream)
-  -- and where nothing of the stream is pending or parked, it's all
+  -- and where nothing of the stream is pending, parked or waits for a changeback, it's all
   pub all : ((link : ℕ) → those_of stream (pending link s f) ≡ []) → those_of stream (aside s) ≡ []
-      → far.got stream ≡ near.offered stream
+      → those_of stream (kept_back s) ≡ [] → far.got stream ≡ near.offered stream
 
 -- EACH STREAM, in both directions
 abbrev pub StreamsArrive : Stage → Type 0

@@ -3,8 +3,8 @@ ghost use Rattle.pair_streams.specs.Streams.{EverySoundRunKeepsStreams};
 
 /// In every sound run, after every step of it, for each of the 16 streams and in both directions: what the far
 /// end's users got is a prefix of what was offered here, numbers and octets, and holds each message of the stream
-/// that is acknowledged here. And where nothing of the stream is pending or parked, they got all that was offered
-/// (Q.704 5.1.1).
+/// that is acknowledged here. And where nothing of the stream is pending, parked or waits for a changeback, they got all
+/// that was offered (Q.704 5.1.1, 6.1).
 pub fn every_sound_run_keeps_streams()
     ensures { EverySoundRunKeepsStreams }
 {}

@@ -45,7 +45,7 @@ impl World {
     ghost use Rattle.set_model.specs.State.{is_up as is_up_in};
     ghost use Rattle.pair_model.specs.World.{carried_out, done_by, asks, acts, has_actor, with_sent, emits, arrives, loses, has_link as has_link_in, rises, at_end, line_to, counts_at};
     ghost use Rattle.pair_model.specs.Run.{begun, played_from, HoldsAlong};
-    ghost use Rattle.pair_model.specs.Promises.{IsSoundRun, KeepsLinks};
+    ghost use Rattle.pair_model.specs.Promises.{IsHonestRun, IsSoundRun, KeepsLinks};
     ghost use Rattle.pair_changeover.specs.Diverted.{ChangesOver};
     ghost use Rattle.pair_streams.specs.Streams.{StreamsArrive};
     ghost use Rattle.pair_streams.specs.Arrived.{IsIdle, AllArrived};
@@ -86,13 +86,15 @@ impl World {
     /// the steps are; then 2 [`PlayFault::Impossible`] and 3 [`PlayFault::Exhausted`] exactly where a step is, with
     /// the place of the first one; 1 [`PlayFault::NoMemory`] only where memory was refused.
     ///
-    /// Of every sound run it's proved here that each link keeps what passes on it, in both directions and after
-    /// every step (`KeepsLinks`), and that changeover loses nothing and diverts exactly what the far end hasn't
+    /// Of every honest run, one in which no unit is heard that wasn't sent, it's proved here that each link keeps what
+    /// passes on it, in both directions and after every step (`KeepsLinks`). And of every sound run, in which besides no
+    /// link is left blindly or settled without an answer and each changeback waits for its acknowledgement, that
+    /// changeover loses nothing and diverts exactly what the far end hasn't
     /// accepted (`ChangesOver`): at both ends no message is discarded, and what counts as acknowledged was accepted;
     /// an order that is heard about a link that hasn't settled tells the number of the last message that its end
     /// accepted there, so it isn't unreasonable; and when a link settles at an end, of the messages that were first
     /// sent on it since it came up exactly those that the far end accepted are acknowledged, and exactly the others
-    /// move to the target, in order, with what waited and what was held behind them. And each of the 16 streams
+    /// move to the target, in order, with what waited and, as the link was left, was held behind them. And each of the 16 streams
     /// arrives in order (`StreamsArrive`): what the users of an end got is a prefix of what the other's users offered,
     /// numbers and octets, with each message that is acknowledged.
     pub fn play(
@@ -102,7 +104,7 @@ impl World {
         steps: &[Step],
     ) -> Result<World, PlayFault>
         ensures world { IsPlayed result a.now b.now steps.now }
-        ensures keeps { IsSoundRun a.now b.now steps.now → KeepsLinks (begun a.now b.now) steps.now }
+        ensures keeps { IsHonestRun a.now b.now steps.now → KeepsLinks (begun a.now b.now) steps.now }
         ensures diverts { IsSoundRun a.now b.now steps.now → ChangesOver (begun a.now b.now) steps.now }
         ensures streams { IsSoundRun a.now b.now steps.now → HoldsAlong StreamsArrive (begun a.now b.now) steps.now }
     {

@@ -325,7 +325,7 @@ module _ (code : ℕ) (s : State) (t : IsSound s) where
   gone_rows = moved (is_back code) (all_with (Waiting home)) s.rows
 
   -- where its home isn't up nothing stands back by the code
-  none_back : is_up home s ≡ false → gone_rows ≡ s.rows
+  pub none_back : is_up home s ≡ false → gone_rows ≡ s.rows
   none_back down = moved_nothing (is_back code) (all_with (Waiting home)) s.rows (none_standing (λ row. IsBackOf s.routing row row.fate) (is_back code) (λ x e b. no x x.fate e b) s.rows t.backs)
     where
       no : (x : Row) (f : Fate) → is_back code f ≡ true → IsBackOf s.routing x f → ⊥

@@ -1,17 +1,17 @@
-use Rattle.pair_model.proofs.Runs.{every_sound_run as every_sound_run_keeps_links}
+use Rattle.pair_model.proofs.Runs.{every_honest_run as every_honest_run_keeps_links}
 use Rattle.pair_changeover.proofs.Runs.{every_sound_run as every_sound_run_diverts_the_rest}
 use Rattle.pair_streams.proofs.Runs.{every_sound_run as every_sound_run_keeps_streams}
 use Rattle.pair_world.proofs.Playing.{leads, fails}
 use Rattle.pair_world.proofs.world.World.play.Goals as goal
 
 pub returns-in_err-world-clause-keeps : goal.returns-in_err-world-clause-keeps
-returns-in_err-world-clause-keeps c = every_sound_run_keeps_links _ _ _ c.are_asked.ensures
+returns-in_err-world-clause-keeps c = every_honest_run_keeps_links _ _ _ c.are_asked.ensures
 
 pub returns-in-Ok-clause-keeps : goal.returns-in-Ok-clause-keeps
-returns-in-Ok-clause-keeps c = every_sound_run_keeps_links _ _ _ c.are_asked.ensures
+returns-in-Ok-clause-keeps c = every_honest_run_keeps_links _ _ _ c.are_asked.ensures
 
 pub returns-in-Err-clause-keeps : goal.returns-in-Err-clause-keeps
-returns-in-Err-clause-keeps c = every_sound_run_keeps_links _ _ _ c.are_asked.ensures
+returns-in-Err-clause-keeps c = every_honest_run_keeps_links _ _ _ c.are_asked.ensures
 
 pub returns-in_err-world-clause-diverts : goal.returns-in_err-world-clause-diverts
 returns-in_err-world-clause-diverts c = every_sound_run_diverts_the_rest _ _ _ c.are_asked.ensures

@@ -1,5 +1,0 @@
-use Rattle.pair_model.proofs.Runs.{every_sound_run}
-use Rattle.pair_model.proofs.laws.every_sound_run_keeps_links.Goals as goal
-
-pub returns : goal.returns
-returns c a b steps asked sound = every_sound_run a b steps asked sound

@@ -1,0 +1,100 @@
+-- DECLARATIONS AND THEIR ACKNOWLEDGEMENTS among messages, and what stands behind a declaration.
+use Rattle.std.proofs.Common.{refl, ◌≡◌, ◌∙◌, sym, ℕ, ◌==◌, ◌+◌, ◌*◌, ◌%◌, ◌/◌, Bool, true, false, List, [], ◌∷◌, ◌++◌, Option, Some, None, cond, inl, inr}
+use Rattle.std.proofs.lemmas.Bool.{eq-eqb}
+use Rattle.l3_orders.specs.declared.order.Order.{Order}
+use Rattle.l3_orders.specs.declared.order.Order.TheVariants.{Coo, Coa, Cbd, Cba}
+use Rattle.l3_orders.specs.Grammar.{text, order_of, label_number}
+use Rattle.set_model.specs.State.{Settings}
+use Rattle.pair_model.specs.Run.{Message}
+use Rattle.pair_changeover.proofs.Views.{Among}
+use Rattle.pair_streams.specs.Streams.{those_of}
+use Rattle.pair_streams.proofs.Filtered.{none_both}
+
+-- one of this code, about whichever link
+pub record Declares (code : ℕ) (m : Message) : Type 0 where
+  pub link : ℕ
+  pub is : order_of m.body ≡ Some (Cbd link code)
+
+pub record Acknowledges (code : ℕ) (m : Message) : Type 0 where
+  pub link : ℕ
+  pub is : order_of m.body ≡ Some (Cba link code)
+
+abbrev pub NoneDeclares : ℕ → List Message → Type 0
+NoneDeclares code ms = (m : Message) → Among m ms → Declares code m → ⊥
+
+pub not_both : (c d : ℕ) (m : Message) → Declares c m → Acknowledges d m → ⊥
+not_both c d m a b = let no : Some (Cbd a.link c) ≡ Some (Cba b.link d) = sym a.is ∙ b.is in absurd cc
+
+pub users_declare : (code : ℕ) (m : Message) → order_of m.body ≡ None → Declares code m → ⊥
+users_declare code m none d = let no : None ≡ Some (Cbd d.link code) = sym none ∙ d.is in absurd cc
+
+pub users_acknowledge : (code : ℕ) (m : Message) → order_of m.body ≡ None → Acknowledges code m → ⊥
+users_acknowledge code m none d = let no : None ≡ Some (Cba d.link code) = sym none ∙ d.is in absurd cc
+
+-- BEHIND each declaration of the code nothing of the stream stands
+abbrev pub ClearBehind : ℕ → ℕ → List Message → Type 0
+ClearBehind stream code [] = Unit {0}
+ClearBehind stream code (m ∷ ms) = (Declares code m → those_of stream ms ≡ []) × ClearBehind stream code ms
+
+-- where none declares, or nothing of the stream stands
+pub clear_none : (stream code : ℕ) (ms : List Message) → NoneDeclares code ms → ClearBehind stream code ms
+clear_none stream code [] none = tt
+clear_none stream code (m ∷ ms) none = ((λ d. absurd (none m (inl refl) d)), clear_none stream code ms (λ x a d. none x (inr a) d))
+
+-- more stands behind: nothing of the stream, or there was no declaration
+pub clear_joined : (stream code : ℕ) (xs ys : List Message) → ClearBehind stream code xs → those_of stream ys ≡ [] → ClearBehind stream code ys → ClearBehind stream code (xs ++ ys)
+clear_joined stream code [] ys a none b = b
+clear_joined stream code (x ∷ xs) ys a none b = ((λ d. none_both stream xs ys (a.0 d) none), clear_joined stream code xs ys a.1 none b)
+
+pub clear_after : (stream code : ℕ) (xs ys : List Message) → NoneDeclares code xs → ClearBehind stream code ys → ClearBehind stream code (xs ++ ys)
+clear_after stream code [] ys none b = b
+clear_after stream code (x ∷ xs) ys none b = ((λ d. absurd (none x (inl refl) d)), clear_after stream code xs ys (λ m a d. none m (inr a) d) b)
+
+-- TEXTS: which order each is read as, whatever its envelope
+read_declares : (code : ℕ) (told : Order) → ((link : ℕ) → told ≡ Cbd link code → ⊥) → (b : Bool) (link : ℕ) → ◌≡◌ {A = Option Order} (cond b (Some told) None) (Some (Cbd link code)) → ⊥
+read_declares code told not true link e = not link cc
+read_declares code told not false link e = absurd cc
+
+read_acknowledges : (code : ℕ) (told : Order) → ((link : ℕ) → told ≡ Cba link code → ⊥) → (b : Bool) (link : ℕ) → ◌≡◌ {A = Option Order} (cond b (Some told) None) (Some (Cba link code)) → ⊥
+read_acknowledges code told not true link e = not link cc
+read_acknowledges code told not false link e = absurd cc
+
+module _ (s : Settings) (l : ℕ) where
+  abbrev told_link : ℕ
+  told_link = label_number s.dpc s.opc l / 0x1000000 % 256 / 16
+
+  -- a declaration tells its code alone
+  pub cbd_declares : (number code : ℕ) → s.sio % 16 ≡ 0 → Declares code (record { number = number; body = text (Cbd l code) s.sio s.dpc s.opc })
+  cbd_declares number code managed = record { link = told_link; is = rw (eq-eqb (s.sio % 16) 0 managed) refl }
+
+  pub cbd_other : (number code other : ℕ) → Declares other (record { number = number; body = text (Cbd l code) s.sio s.dpc s.opc }) → other ≡ code
+  cbd_other number code other d = go (s.sio % 16 == 0) d.is
+    where
+      go : (b : Bool) → ◌≡◌ {A = Option Order} (cond b (Some (Cbd (label_number s.dpc s.opc l / 0x1000000 % 256 / 16) code)) None) (Some (Cbd d.link other)) → other ≡ code
+      go true e = cc
+      go false e = absurd cc
+
+  pub cbd_acknowledges : (number code other : ℕ) → Acknowledges other (record { number = number; body = text (Cbd l code) s.sio s.dpc s.opc }) → ⊥
+  cbd_acknowledges number code other d = read_acknowledges other (Cbd told_link code) (λ n e. absurd cc) (s.sio % 16 == 0) d.link d.is
+
+  pub cba_other : (number code other : ℕ) → Acknowledges other (record { number = number; body = text (Cba l code) s.sio s.dpc s.opc }) → other ≡ code
+  cba_other number code other d = go (s.sio % 16 == 0) d.is
+    where
+      go : (b : Bool) → ◌≡◌ {A = Option Order} (cond b (Some (Cba (label_number s.dpc s.opc l / 0x1000000 % 256 / 16) code)) None) (Some (Cba d.link other)) → other ≡ code
+      go true e = cc
+      go false e = absurd cc
+
+  pub cba_declares : (number code other : ℕ) → Declares other (record { number = number; body = text (Cba l code) s.sio s.dpc s.opc }) → ⊥
+  cba_declares number code other d = read_declares other (Cba told_link code) (λ n e. absurd cc) (s.sio % 16 == 0) d.link d.is
+
+  pub coo_declares : (number fsn other : ℕ) → Declares other (record { number = number; body = text (Coo l fsn) s.sio s.dpc s.opc }) → ⊥
+  coo_declares number fsn other d = read_declares other (Coo told_link ((fsn + 128 * 0) % 128)) (λ n e. absurd cc) (s.sio % 16 == 0) d.link d.is
+
+  pub coo_acknowledges : (number fsn other : ℕ) → Acknowledges other (record { number = number; body = text (Coo l fsn) s.sio s.dpc s.opc }) → ⊥
+  coo_acknowledges number fsn other d = read_acknowledges other (Coo told_link ((fsn + 128 * 0) % 128)) (λ n e. absurd cc) (s.sio % 16 == 0) d.link d.is
+
+  pub coa_declares : (number fsn other : ℕ) → Declares other (record { number = number; body = text (Coa l fsn) s.sio s.dpc s.opc }) → ⊥
+  coa_declares number fsn other d = read_declares other (Coa told_link ((fsn + 128 * 0) % 128)) (λ n e. absurd cc) (s.sio % 16 == 0) d.link d.is
+
+  pub coa_acknowledges : (number fsn other : ℕ) → Acknowledges other (record { number = number; body = text (Coa l fsn) s.sio s.dpc s.opc }) → ⊥
+  coa_acknowledges number fsn other d = read_acknowledges other (Coa told_link ((fsn + 128 * 0) % 128)) (λ n e. absurd cc) (s.sio % 16 == 0) d.link d.is

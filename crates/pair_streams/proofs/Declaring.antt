@@ -1,0 +1,274 @@
+-- AN END DECLARES A CHANGEBACK, and each stream: those that ran on the alternative come back from it, behind what stands there.
+use Rattle.std.proofs.Common.{refl, arith, ◌≡◌, ◌∙◌, ap, sym, subst, ℕ, zero, suc, ◌<◌, ◌==◌, ◌-◌, ◌%◌, Bool, true, false, not, ◌&&◌, List, [], ◌∷◌, ◌++◌, length, slice_get, Option, Some, None, cond, ◌⊎◌, inl, inr}
+use Rattle.std.proofs.lemmas.Bool.{eqb-true}
+use Rattle.l3_orders.specs.declared.order.Order.TheVariants.{Cbd}
+use Rattle.l3_orders.specs.Grammar.{text, label, heading_of, content_with}
+use Rattle.set_events.specs.declared.answer.Fate.TheVariants.{Waiting}
+use Rattle.set_route.specs.declared.place.Place.{Place}
+use Rattle.set_route.specs.declared.place.Place.TheVariants.{On, Changing, Nowhere}
+use Rattle.set_route.specs.declared.place.Code.{Code}
+use Rattle.set_route.specs.declared.place.Code.TheVariants.{Free, Asked, Spent}
+use Rattle.set_route.specs.Routing.{place_of, code_of, code_for, is_free, some_away, runs_on, has_messages}
+use Rattle.set_route.proofs.Alone as route
+use Rattle.set_model.specs.Changeover.{can_declare, declared, declared_from, some_declare}
+use Rattle.set_model.specs.Sound.{IsSound}
+use Rattle.set_model.specs.State.{LinkState, State, link_count, is_up, link_is_up}
+use Rattle.set_model.specs.Step.{comes_back, refused}
+use Rattle.set_events.specs.declared.answer.Answer.TheVariants.{Done}
+use Rattle.set_events.specs.declared.answer.Refusal.TheVariants.{Nothing}
+use Rattle.set_model.proofs.Backs.{coded_at}
+use Rattle.set_model.proofs.Lists.{within}
+use Rattle.set_model.proofs.Places.{itself, false_true}
+use Rattle.set_model.proofs.SoundBack.{alternative_up, declares}
+use Rattle.pair_model.specs.Run.{Message}
+use Rattle.pair_changeover.specs.Pending.{pending, aside, acked_on, accepted_on}
+use Rattle.pair_changeover.proofs.Changes.{Grows, grown, ungrown, IsNew, to_wait, held_none}
+use Rattle.pair_changeover.proofs.Table.{new_message}
+use Rattle.pair_changeover.proofs.Views.{view, Among, In, stands_on, stands_aside}
+use Rattle.pair_streams.specs.Streams.{is_of, those_of}
+use Rattle.pair_streams.proofs.Codes.{Clear, Flows, Kept, NewAcknowledges}
+use Rattle.pair_streams.proofs.Declared.{Declares, Acknowledges, NoneDeclares, ClearBehind, clear_after, cbd_other, cbd_acknowledges}
+use Rattle.pair_streams.proofs.Filtered.{joins_none, both_true}
+use Rattle.pair_streams.proofs.Flowing.{back_by, queue_at, waits_by, Stands, none_back_by}
+use Rattle.pair_streams.proofs.Flows.{no_stream}
+use Rattle.pair_streams.proofs.Moving.{those_stay, grows_on, grows_aside, grows_back, in_new, queue_stays, stands_stays, apart_kept}
+
+is_free_so : (c : Code) → is_free c ≡ true → c ≡ Free
+is_free_so Free e = refl
+is_free_so Asked e = absurd cc
+is_free_so Spent e = absurd cc
+
+-- a link that is up is one of the set's
+up_below : (l : ℕ) (s : State) → IsSound s → is_up l s ≡ true → l < 16
+up_below l s sound up = go (slice_get s.links l) refl
+  where
+    go : (o : Option LinkState) → slice_get s.links l ≡ o → l < 16
+    go None e = absurd (let never : false ≡ true = ap link_is_up (sym e) ∙ up in cc)
+    go (Some link) e = omega (arith, within s.links l link e, sound.count, sound.routed, sound.routing.at_most_16)
+
+-- a stream that runs on the alternative
+runs_on_so : (alternative : ℕ) (p : Place) → runs_on alternative p ≡ true → p ≡ On alternative
+runs_on_so alternative (On l) e = ap On (eqb-true l alternative e)
+runs_on_so alternative (Changing to code via) e = absurd cc
+runs_on_so alternative Nowhere e = absurd cc
+
+module _ (home alternative : ℕ) (s f : State) (sound : IsSound s) (home_up : is_up home s ≡ true) (can : can_declare home alternative s ≡ true) where
+  abbrev then_s : State
+  then_s = declared home alternative s
+
+  abbrev code : ℕ
+  code = code_for home alternative
+
+  abbrev body : List ℕ
+  body = text (Cbd home code) s.settings.sio s.settings.dpc s.settings.opc
+
+  abbrev z : Message
+  z = new_message s.rows body
+
+  alternative_is_up : is_up alternative s ≡ true
+  alternative_is_up = alternative_up home alternative s can
+
+  code_free : code_of code s.routing ≡ Free
+  code_free =
+      let apart_can = both_true (not (alternative == home)) _ can in
+      let up_can = both_true (is_up alternative s) _ apart_can.1 in
+      is_free_so (code_of code s.routing) (both_true (is_free (code_of code s.routing)) (some_away home alternative s.routing.streams) up_can.1).0
+
+  few : code < 256
+  few = omega (arith, up_below home s sound home_up, up_below alternative s sound alternative_is_up)
+
+  new_at : (l : ℕ) → IsNew (accepted_on l f - acked_on l s) l s.rows body (Waiting alternative)
+  new_at l = to_wait alternative (λ same. held_none s l sound (subst (λ (n : ℕ). is_up n s ≡ true) (eqb-true alternative l same) alternative_is_up))
+
+  of_none : (stream : ℕ) → is_of stream z ≡ false
+  of_none stream = no_stream stream s.settings.sio (length s.rows) (label s.settings.dpc s.settings.opc home ++ heading_of (Cbd home code) ∷ content_with 0 (Cbd home code)) sound.managed
+
+  tells : (c : ℕ) → Declares c z → c ≡ code
+  tells c d = cbd_other s.settings home (length s.rows) code c d
+
+  was_there : (m : Message) → In m (view then_s f) → In m (view s f) ⊎ (m ≡ z)
+  was_there = in_new s then_s f body (Waiting alternative) refl refl new_at
+
+  on_grows : (l : ℕ) → Grows z (alternative == l) (pending l s f) (pending l then_s f)
+  on_grows = grows_on s then_s f body (Waiting alternative) refl refl new_at
+
+  same_on : (l : ℕ) → (alternative == l) ≡ false → pending l then_s f ≡ pending l s f
+  same_on l d = go (on_grows l)
+    where
+      go : Grows z (alternative == l) (pending l s f) (pending l then_s f) → pending l then_s f ≡ pending l s f
+      go (ungrown e q) = q
+      go (grown e q) = absurd (let never : true ≡ false = sym e ∙ d in cc)
+
+  more_on : pending alternative then_s f ≡ pending alternative s f ++ z ∷ []
+  more_on = go (on_grows alternative)
+    where
+      go : Grows z (alternative == alternative) (pending alternative s f) (pending alternative then_s f) → pending alternative then_s f ≡ pending alternative s f ++ z ∷ []
+      go (ungrown e q) = absurd (let never : true ≡ false = sym (itself alternative) ∙ e in cc)
+      go (grown e q) = q
+
+  pub declares_acks : NewAcknowledges (view then_s f) (view s f)
+  declares_acks c m i a = go (was_there m i)
+    where
+      go : In m (view s f) ⊎ (m ≡ z) → In m (view s f)
+      go (inl j) = j
+      go (inr same) = absurd (cbd_acknowledges s.settings home (length s.rows) code c (subst (Acknowledges c) same a))
+
+  module _ (offered got : ℕ → List Message) (w : Flows s f offered got) where
+    none_declared : NoneDeclares code (pending alternative s f)
+    none_declared m a d = w.backing.free_declared code few code_free m (stands_on alternative a) d
+
+    module _ (stream : ℕ) (low : stream < 16) where
+      place_then : place_of stream then_s.routing ≡ cond ((stream % s.routing.links == home) && runs_on alternative (place_of stream s.routing)) (Changing home code alternative) (place_of stream s.routing)
+      place_then = (route.alone s.routing stream sound.routing low).asked_place home alternative
+
+      used_then : has_messages stream then_s.routing ≡ has_messages stream s.routing
+      used_then = (route.alone s.routing stream sound.routing low).asked_messages home alternative
+
+      -- one that comes back by another code
+      other_code : (to c via : ℕ) → place_of stream s.routing ≡ Changing to c via → Declares c z → ⊥
+      other_code to c via is d =
+          let coded = coded_at s.routing stream sound.routing to c via is in
+          let never : Asked ≡ Free = sym coded.1 ∙ ap (λ (n : ℕ). code_of n s.routing) (tells c d) ∙ code_free in
+          cc
+
+      -- one that comes back by this one
+      module _ (is : place_of stream s.routing ≡ On alternative) (then_is : place_of stream then_s.routing ≡ Changing home code alternative) where
+        was : Stands stream (On alternative) s f
+        was = subst (λ (q : Place). Stands stream q s f) is (w.stands stream low)
+
+        stands : Stands stream (On alternative) then_s f
+        stands = stands_stays s then_s f body (Waiting alternative) refl refl new_at stream (of_none stream) (On alternative) was
+
+        back_none : those_of stream (back_by code then_s) ≡ []
+        back_none =
+            those_stay z stream (of_none stream) false (back_by code s) (back_by code then_s) (grows_back s then_s f body (Waiting alternative) refl refl new_at code)
+            ∙ none_back_by stream code s sound (ap (λ (q : Place). waits_by q code) is)
+
+        clear_new : Clear stream code alternative (view then_s f)
+        clear_new = record {
+          only = λ l d m a x. w.backing.free_declared code few code_free m (stands_on l (subst (Among m) (same_on l d) a)) x;
+          none_aside = λ m a x. w.backing.free_declared code few code_free m (stands_aside (aside_was m a)) x;
+          behind = subst (ClearBehind stream code) (sym more_on) (clear_after stream code (pending alternative s f) (z ∷ []) none_declared ((λ d. refl), tt));
+        }
+          where
+            aside_was : (m : Message) → Among m (aside then_s) → Among m (aside s)
+            aside_was m a = go (grows_aside s then_s f body (Waiting alternative) refl refl new_at)
+              where
+                go : Grows z false (aside s) (aside then_s) → Among m (aside s)
+                go (ungrown e q) = subst (Among m) q a
+                go (grown e q) = absurd cc
+
+        asked_kept : Kept stream s then_s f f
+        asked_kept = record {
+          here_is =
+              ap (λ (q : Place). those_of stream (queue_at q then_s f)) then_is
+              ∙ joins_none stream (pending alternative then_s f) (back_by code then_s) back_none
+              ∙ queue_stays s then_s f body (Waiting alternative) refl refl new_at stream (of_none stream) (On alternative)
+              ∙ ap (λ (q : Place). those_of stream (queue_at q s f)) (sym is);
+          stands = subst (λ (q : Place). Stands stream q then_s f) (sym then_is) (record { alone = stands.alone; none_aside = stands.none_aside });
+          used = used_then;
+          clear = λ to c via e.
+              let same : Changing home code alternative ≡ Changing to c via = sym then_is ∙ e in
+              let code_is : code ≡ c = cc in
+              let via_is : alternative ≡ via = cc in
+              subst (λ (k : ℕ). Clear stream k via (view then_s f)) code_is (subst (λ (k : ℕ). Clear stream code k (view then_s f)) via_is clear_new);
+          answered = λ to c via e n i a.
+              let same : Changing home code alternative ≡ Changing to c via = sym then_is ∙ e in
+              let code_is : code ≡ c = cc in
+              absurd (w.backing.free_acked code few code_free n i (subst (λ (k : ℕ). Acknowledges k n) (sym code_is) a));
+        }
+
+      declared_kept : Kept stream s then_s f f
+      declared_kept = go ((stream % s.routing.links == home) && runs_on alternative (place_of stream s.routing)) refl
+        where
+          go : (b : Bool) → ((stream % s.routing.links == home) && runs_on alternative (place_of stream s.routing)) ≡ b → Kept stream s then_s f f
+          go true e =
+              let runs = both_true (stream % s.routing.links == home) (runs_on alternative (place_of stream s.routing)) e in
+              asked_kept (runs_on_so alternative (place_of stream s.routing) runs.1) (place_then ∙ ap (λ (b : Bool). cond b (Changing home code alternative) (place_of stream s.routing)) e)
+          go false e = apart_kept s then_s f body (Waiting alternative) refl refl new_at stream (of_none stream) offered got w low (place_then ∙ ap (λ (b : Bool). cond b (Changing home code alternative) (place_of stream s.routing)) e) used_then other_code
+
+    -- THE CODE is in use then, and told by this message alone
+    code_then : (c : ℕ) → c < 256 → code_of c then_s.routing ≡ cond (c == code) Asked (code_of c s.routing)
+    code_then c low = (route.codes_alone s.routing c sound.routing low).asked_code home alternative (up_below home s sound home_up) (up_below alternative s sound alternative_is_up)
+
+    still_free : (c : ℕ) → c < 256 → code_of c then_s.routing ≡ Free → ((c == code) ≡ false) × (code_of c s.routing ≡ Free)
+    still_free c low e = go (c == code) refl
+      where
+        go : (b : Bool) → (c == code) ≡ b → ((c == code) ≡ false) × (code_of c s.routing ≡ Free)
+        go true d = absurd (let never : Asked ≡ Free = ap (λ (b : Bool). cond b Asked (code_of c s.routing)) (sym d) ∙ sym (code_then c low) ∙ e in cc)
+        go false d = (d, ap (λ (b : Bool). cond b Asked (code_of c s.routing)) (sym d) ∙ sym (code_then c low) ∙ e)
+
+    -- one that declares stood there, or is new and tells this code
+    by_code : (c : ℕ) (m : Message) → Declares c m → In m (view s f) ⊎ (m ≡ z) → In m (view s f) ⊎ ((m ≡ z) × (c ≡ code))
+    by_code c m d (inl i) = inl i
+    by_code c m d (inr same) = inr (same, tells c (subst (Declares c) same d))
+
+    never_declared : (c : ℕ) (m : Message) → c ≡ code → In m (view s f) → Declares c m → ⊥
+    never_declared c m same i d = w.backing.free_declared code few code_free m i (subst (λ (n : ℕ). Declares n m) same d)
+
+    few_case : (c : ℕ) (m : Message) → Declares c m → In m (view s f) ⊎ ((m ≡ z) × (c ≡ code)) → c < 256
+    few_case c m d (inl i) = w.backing.few_declared c m i d
+    few_case c m d (inr p) = subst (λ (n : ℕ). n < 256) (sym p.1) few
+
+    free_case : (c : ℕ) → c < 256 → code_of c then_s.routing ≡ Free → (m : Message) → Declares c m → In m (view s f) ⊎ ((m ≡ z) × (c ≡ code)) → ⊥
+    free_case c low e m d (inl i) = w.backing.free_declared c low (still_free c low e).1 m i d
+    free_case c low e m d (inr p) = false_true (c == code) (still_free c low e).0 (ap (λ (n : ℕ). n == code) p.1 ∙ itself code)
+
+    one_case : (c : ℕ) (m n : Message) → Declares c m → Declares c n → In m (view s f) ⊎ ((m ≡ z) × (c ≡ code)) → In n (view s f) ⊎ ((n ≡ z) × (c ≡ code)) → m.number ≡ n.number
+    one_case c m n a b (inl i) (inl j) = w.backing.one_declared c m n i j a b
+    one_case c m n a b (inr p) (inr q) = ap (λ (x : Message). x.number) (p.0 ∙ sym q.0)
+    one_case c m n a b (inl i) (inr q) = absurd (never_declared c m q.1 i a)
+    one_case c m n a b (inr p) (inl j) = absurd (never_declared c n p.1 j b)
+
+    either_case : (c : ℕ) (m n : Message) → In n (view f s) → Declares c m → Acknowledges c n → In m (view s f) ⊎ ((m ≡ z) × (c ≡ code)) → ⊥
+    either_case c m n j a b (inl i) = w.backing.either c m n i j a b
+    either_case c m n j a b (inr p) = w.backing.free_acked code few code_free n j (subst (λ (k : ℕ). Acknowledges k n) p.1 b)
+
+    pub declares_flow : Flows then_s f offered got
+    declares_flow = record {
+      flow = λ stream low. ap (λ (x : List Message). got stream ++ x) (declared_kept stream low).here_is ∙ w.flow stream low;
+      stands = λ stream low. (declared_kept stream low).stands;
+      unused = λ stream low e. w.unused stream low (sym (declared_kept stream low).used ∙ e);
+      backing = record {
+        few_declared = λ c m i d. few_case c m d (by_code c m d (was_there m i));
+        few_acked = λ c m i a. w.backing.few_acked c m i a;
+        free_declared = λ c low e m i d. free_case c low e m d (by_code c m d (was_there m i));
+        free_acked = λ c low e m i a. w.backing.free_acked c low (still_free c low e).1 m i a;
+        one_declared = λ c m n i j a b. one_case c m n a b (by_code c m a (was_there m i)) (by_code c n b (was_there n j));
+        one_acked = λ c m n i j a b. w.backing.one_acked c m n i j a b;
+        either = λ c m n i j a b. either_case c m n j a b (by_code c m a (was_there m i));
+        clear = λ stream low. (declared_kept stream low).clear;
+        answered = λ stream low. (declared_kept stream low).answered;
+      };
+    }
+
+-- FROM ALL LINKS from which it can
+pub declares_from : (home alternative n : ℕ) (s f : State) (offered got : ℕ → List Message) → IsSound s → is_up home s ≡ true → Flows s f offered got → Flows (declared_from home alternative n s) f offered got
+declares_from home alternative zero s f offered got sound up w = w
+declares_from home alternative (suc n) s f offered got sound up w = go (can_declare home alternative s) refl (λ t sound_t up_t w_t. declares_from home (suc alternative) n t f offered got sound_t up_t w_t)
+  where
+    go : (b : Bool) → can_declare home alternative s ≡ b → ((t : State) → IsSound t → is_up home t ≡ true → Flows t f offered got → Flows (declared_from home (suc alternative) n t) f offered got) → Flows (declared_from home alternative (suc n) s) f offered got
+    go true e later = rw e (later (declared home alternative s) (declares home alternative s up e sound) up (declares_flow home alternative s f sound up e offered got w))
+    go false e later = rw e (later s sound up w)
+
+pub acks_from : (home alternative n : ℕ) (s f : State) → IsSound s → is_up home s ≡ true → NewAcknowledges (view (declared_from home alternative n s) f) (view s f)
+acks_from home alternative zero s f sound up = λ c m i a. i
+acks_from home alternative (suc n) s f sound up = go (can_declare home alternative s) refl (λ t sound_t up_t. acks_from home (suc alternative) n t f sound_t up_t)
+  where
+    go : (b : Bool) → can_declare home alternative s ≡ b → ((t : State) → IsSound t → is_up home t ≡ true → NewAcknowledges (view (declared_from home (suc alternative) n t) f) (view t f)) → NewAcknowledges (view (declared_from home alternative (suc n) s) f) (view s f)
+    go true e later = subst (λ (b : Bool). NewAcknowledges (view (declared_from home (suc alternative) n (cond b (declared home alternative s) s)) f) (view s f)) (sym e) (λ c m i a. declares_acks home alternative s f sound up e c m (later (declared home alternative s) (declares home alternative s up e sound) up c m i a) a)
+    go false e later = subst (λ (b : Bool). NewAcknowledges (view (declared_from home (suc alternative) n (cond b (declared home alternative s) s)) f) (view s f)) (sym e) (later s sound up)
+
+pub comes_flow : (k : ℕ) (s f : State) (offered got : ℕ → List Message) → IsSound s → is_up k s ≡ true → Flows s f offered got → Flows (comes_back k s).state f offered got
+comes_flow k s f offered got sound up w = go (some_declare k 0 (link_count s) s) refl
+  where
+    go : (b : Bool) → some_declare k 0 (link_count s) s ≡ b → Flows (comes_back k s).state f offered got
+    go true e = rw e (declares_from k 0 (link_count s) s f offered got sound up w)
+    go false e = rw e w
+
+pub comes_acks : (k : ℕ) (s f : State) → IsSound s → is_up k s ≡ true → NewAcknowledges (view (comes_back k s).state f) (view s f)
+comes_acks k s f sound up = go (some_declare k 0 (link_count s) s) refl
+  where
+    go : (b : Bool) → some_declare k 0 (link_count s) s ≡ b → NewAcknowledges (view (comes_back k s).state f) (view s f)
+    go true e = subst (λ (b : Bool). NewAcknowledges (view (cond b (record { answer = Done; state = declared_from k 0 (link_count s) s }) (refused s Nothing)).state f) (view s f)) (sym e) (acks_from k 0 (link_count s) s f sound up)
+    go false e = subst (λ (b : Bool). NewAcknowledges (view (cond b (record { answer = Done; state = declared_from k 0 (link_count s) s }) (refused s Nothing)).state f) (view s f)) (sym e) (λ c m i a. i)
