@@ -1,5 +1,5 @@
 -- A line that is joined to itself and loses octets.
-use Rattle.std.specs.Prelude.{ℕ, zero, suc, ◌+◌, ◌%◌, ◌==◌, Bool, true, false, if◌then◌else◌, List, [], ◌∷◌}
+use Rattle.std.specs.Prelude.{ℕ, zero, suc, ◌+◌, ◌%◌, ◌==◌, Bool, false, if◌then◌else◌, List, [], ◌∷◌}
 
 -- the octet of this number, from 1, is lost: its number is a multiple of `every` (0: none is)
 abbrev pub is_lost : ℕ → ℕ → Bool

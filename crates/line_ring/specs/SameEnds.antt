@@ -1,5 +1,4 @@
 -- An end is the same as itself, and as what becomes of the same.
-use Rattle.std.specs.Prelude.{refl}
 use Rattle.std.proofs.Common.{rules}
 use Rattle.line_ring.specs.declared.ring.RingLine.{RingLine}
 use Rattle.line_ring.specs.Rings.{IsSameEnd}

@@ -1,6 +1,6 @@
 -- A line that is joined to itself is the same as long as it loses the same octets.
 use Rattle.std.specs.Prelude.{◌≡◌, refl}
-use Rattle.std.proofs.Common.{rules, ◌∙◌}
+use Rattle.std.proofs.Common.{◌∙◌}
 use Rattle.line_ring.specs.Lossy.{LossyState}
 
 pub same_itself : (line : LossyState) → line.every ≡ line.every

@@ -1,4 +1,4 @@
-use Rattle.std.proofs.Common.{rules, ◌≡◌, ◌≤◌, length, nat_eq, sym, ap, ◌∙◌, arith}
+use Rattle.std.proofs.Common.{rules, length, nat_eq, sym, ap, ◌∙◌, arith}
 use Rattle.line_ring.proofs.Rounds.{length-octets_from}
 use Rattle.line_ring.proofs.places.Places.is_full.Goals as goal
 

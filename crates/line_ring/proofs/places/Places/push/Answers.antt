@@ -1,4 +1,4 @@
-use Rattle.std.proofs.Common.{rules, ◌≡◌, ◌<◌, ◌++◌, ◌∷◌, [], List, ℕ, length, sym, ap, ◌∙◌, arith}
+use Rattle.std.proofs.Common.{rules, ◌<◌, ◌++◌, ◌∷◌, [], List, ℕ, length, sym, ap, ◌∙◌, arith}
 use Rattle.line_ring.proofs.Rounds.{length-octets_from, octets_from-push}
 use Rattle.line_ring.proofs.places.Places.push.Goals as goal
 
