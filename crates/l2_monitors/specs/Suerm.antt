@@ -42,10 +42,14 @@ counted now error = record {
   place = place_after now.place;
 }
 
+-- the mark that trips it
+abbrev pub tripping : Kept → Kept
+tripping now = record { tripped = true; count = now.count; place = now.place }
+
 -- what one more mark makes of a monitor: one that has tripped stays so, and an error that finds the count 63 trips it
 abbrev pub after_mark : Kept → Bool → Kept
 after_mark now error =
-    if now.tripped then now else if error && (now.count == 63) then record { tripped = true; count = now.count; place = now.place } else counted now error
+    if now.tripped then now else if error && (now.count == 63) then tripping now else counted now error
 
 -- what marks make of it, one after another
 abbrev pub after_marks : Kept → List Bool → Kept

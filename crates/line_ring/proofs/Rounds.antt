@@ -23,7 +23,8 @@ module _ (first count : ℕ) (xs : List ℕ) (starts : first < 4096) (fits : cou
       length-take-le count (drop first (xs ++ xs)) (omega (arith, length-drop first (xs ++ xs), length-append xs xs, size))
 
   -- the octet behind i others
-  pub get_or-octets_from : (i d : ℕ) → i < count → get_or (octets_from first count xs) i d ≡ get_or xs ((first + i) % 4096) d
+  pub get_or-octets_from : (i d : ℕ) → i < count
+      → get_or (octets_from first count xs) i d ≡ get_or xs ((first + i) % 4096) d
   unfolding octets_from
   get_or-octets_from i d within =
       get_or-take count (drop first (xs ++ xs)) i d within ∙ get_or-drop first (xs ++ xs) i d
@@ -31,7 +32,8 @@ module _ (first count : ℕ) (xs : List ℕ) (starts : first < 4096) (fits : cou
 
 module _ (first count : ℕ) (xs : List ℕ) (starts : first < 4096) (size : length xs ≡ 4096) where
   -- what is written behind the last octet comes last
-  pub octets_from-push : (x : ℕ) → count < 4096 → octets_from first (count + 1) (set xs ((first + count) % 4096) x) ≡ octets_from first count xs ++ x ∷ []
+  pub octets_from-push : (x : ℕ) → count < 4096
+      → octets_from first (count + 1) (set xs ((first + count) % 4096) x) ≡ octets_from first count xs ++ x ∷ []
   octets_from-push x room =
       let place : ℕ = (first + count) % 4096 in
       let written : List ℕ = set xs place x in
@@ -47,12 +49,14 @@ module _ (first count : ℕ) (xs : List ℕ) (starts : first < 4096) (size : len
             ∙ sym (get_or_append_left (octets_from first count xs) (x ∷ []) d i (omega (arith, before)))
         | inr new ↦
             let last : i ≡ count = omega (arith, after) in
-            read ∙ ap (λ k. get_or written ((first + k) % 4096) d) last ∙ get_or-set_same xs place x d (omega (arith, size))
+            read ∙ ap (λ k. get_or written ((first + k) % 4096) d) last
+            ∙ get_or-set_same xs place x d (omega (arith, size))
             ∙ sym (get_or_push (octets_from first count xs) x d i (before ∙ sym last))
       ])
 
   -- the oldest octet, and the others behind it
-  pub octets_from-pop : 0 < count → count ≤ 4096 → octets_from first count xs ≡ get_or xs first 0 ∷ octets_from ((first + 1) % 4096) (count - 1) xs
+  pub octets_from-pop : 0 < count → count ≤ 4096
+      → octets_from first count xs ≡ get_or xs first 0 ∷ octets_from ((first + 1) % 4096) (count - 1) xs
   octets_from-pop some fits =
       let old : length (octets_from first count xs) ≡ count = length-octets_from first count xs starts fits size in
       let next : (first + 1) % 4096 < 4096 = omega arith in
@@ -61,6 +65,7 @@ module _ (first count : ℕ) (xs : List ℕ) (starts : first < 4096) (size : len
       (get_or-octets_from first count xs starts fits size 0 0 some ∙ ap (λ k. get_or xs k 0) (omega arith))
       (same_lists (drop 1 (octets_from first count xs)) (octets_from ((first + 1) % 4096) (count - 1) xs) (omega (arith, length-drop 1 (octets_from first count xs), old, new)) (λ i d within.
       let inside : i < count - 1 = omega (arith, length-drop 1 (octets_from first count xs), old) in
-      get_or_after_one (octets_from first count xs) i d ∙ get_or-octets_from first count xs starts fits size (1 + i) d (omega arith)
+      get_or_after_one (octets_from first count xs) i d
+      ∙ get_or-octets_from first count xs starts fits size (1 + i) d (omega arith)
       ∙ ap (λ k. get_or xs k d) (omega arith)
       ∙ sym (get_or-octets_from ((first + 1) % 4096) (count - 1) xs next (omega arith) size i d inside)))

@@ -3,8 +3,12 @@ use Rattle.std.specs.Prelude.{◌≡◌, refl}
 use Rattle.std.proofs.Common.{◌∙◌}
 use Rattle.line_ring.specs.Lossy.{LossyState}
 
-pub same_itself : (line : LossyState) → line.every ≡ line.every
+abbrev pub IsSameLine : LossyState → LossyState → Type 0
+IsSameLine first second = second.every ≡ first.every
+
+pub same_itself : (line : LossyState) → IsSameLine line line
 same_itself line = refl
 
-pub same_onwards : (first second third : LossyState) → second.every ≡ first.every → third.every ≡ second.every → third.every ≡ first.every
+pub same_onwards : (first second third : LossyState)
+    → IsSameLine first second → IsSameLine second third → IsSameLine first third
 same_onwards first second third one two = two ∙ one

@@ -7,8 +7,8 @@ use super::past::Past;
 use super::places::Places;
 use std::marker::Model;
 
-/// A line whose one end is joined to itself: what is put there is taken there, but each octet whose number, from 1, is a
-/// multiple of a given one is lost. It has 4,096 places, and takes 4,096 octets and a few itself, wherever it stands.
+/// A line whose one end is joined to itself: what is put there is taken there, but each octet whose number, from 1, is
+/// a multiple of a given one is lost. It has 4,096 places, which stand in it, wherever it stands itself.
 ///
 /// Contracts see which octets it loses, all that was put and taken, and what waits, oldest first.
 #[derive(Drop)]
@@ -50,8 +50,8 @@ impl LossyLine {
         }
     }
 
-    /// What holds of each such line: what was taken, followed by what waits, is what passes of all that was put; at most
-    /// 4,096 octets wait. It does nothing.
+    /// What holds of each such line: what was taken, followed by what waits, is what passes of all that was put; at
+    /// most 4,096 octets wait. It does nothing.
     pub fn passes(&self)
         ensures order { self.now.taken ++ self.now.waiting ≡ passing self.now.every self.now.put }
         ensures places { length self.now.waiting ≤ 4096 }
@@ -89,8 +89,8 @@ fn store(octets: &mut Places, octet: u8, lost: bool)
 }
 
 impl Line for LossyLine {
-    ghost use Rattle.std.specs.Prelude.{◌≡◌, ◌-◌, length};
-    ghost use Rattle.line_ring.specs.SameLines.{same_itself, same_onwards};
+    ghost use Rattle.std.specs.Prelude.{◌-◌, length};
+    ghost use Rattle.line_ring.specs.SameLines.{IsSameLine, same_itself, same_onwards};
 
     ghost put_so_far = { λ line. line.put };
 
@@ -100,7 +100,7 @@ impl Line for LossyLine {
 
     ghost waiting = { λ line. line.waiting };
 
-    ghost is_same = { λ first second. second.every ≡ first.every };
+    ghost is_same = { IsSameLine };
 
     ghost same_self = { same_itself };
 

@@ -7,8 +7,9 @@ use super::line::{Full, Line};
 use rtrb::{Consumer, Producer, PushError, RingBuffer};
 use std::alloc::{AllocError, Global};
 
-/// One end of a line over two rings, which may move to a thread of its own. Contracts see what this end put and took, the
-/// octets that it has seen in the ring that comes in, and the places that it knows to be free in the ring that goes out.
+/// One end of a line over two rings, which may move to a thread of its own. Contracts see what this end put and took,
+/// the octets that it has seen in the ring that comes in, and the places that it knows to be free in the ring that goes
+/// out.
 #[derive(Drop)]
 pub struct RingLine {
     out: Producer<u8>,
@@ -86,8 +87,8 @@ pub fn ring_pair(alloc: Global, capacity: usize) -> Result<(RingLine, RingLine),
     Ok((near, far))
 }
 
-/// Both ends of one line look at it, in one thread: what one took, followed by what waits for it, is what the other put,
-/// each way. Each end then knows of every free place: those that the far end's waiting octets leave.
+/// Both ends of one line look at it, in one thread: what one took, followed by what waits for it, is what the other
+/// put, each way. Each end then knows of every free place: those that the far end's waiting octets leave.
 pub fn beside(near: &mut RingLine, far: &mut RingLine)
     requires { AreJoined near.old far.old }
     ensures there { taken_of far.new ++ waiting_of far.new ≡ put_of near.new }

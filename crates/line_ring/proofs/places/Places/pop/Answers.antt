@@ -7,13 +7,15 @@ use Rattle.line_ring.proofs.places.Places.pop.Goals as goal
 pub returns-then-self-eq0-clause-value : goal.returns-then-self-eq0-clause-value
 returns-then-self-eq0-clause-value c =
     let p = c.self.inside in
-    let empty = sym c.self.view_is ∙ ap (λ n. octets_from p.first n p.octets) c.if-self-eq0.true ∙ octets_from-none p.first p.octets in
+    let empty = sym c.self.view_is ∙ ap (λ n. octets_from p.first n p.octets) c.if-self-eq0.true
+    ∙ octets_from-none p.first p.octets in
     sym (ap (λ xs. slice_get xs 0) empty)
 
 pub returns-then-self-eq0-clause-rest : goal.returns-then-self-eq0-clause-rest
 returns-then-self-eq0-clause-rest c =
     let p = c.self.inside in
-    let empty = sym c.self.view_is ∙ ap (λ n. octets_from p.first n p.octets) c.if-self-eq0.true ∙ octets_from-none p.first p.octets in
+    let empty = sym c.self.view_is ∙ ap (λ n. octets_from p.first n p.octets) c.if-self-eq0.true
+    ∙ octets_from-none p.first p.octets in
     empty ∙ sym (ap (λ xs. drop 1 xs) empty)
 
 pub returns-clause-value : goal.returns-clause-value
