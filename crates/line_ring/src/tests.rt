@@ -98,6 +98,29 @@ fn both_ends_look_side_by_side(rt: HostRuntime) -> Result<(), Fail> {
     hands_out(&mut far, &[8, 9])
 }
 
+#[test]
+fn a_pair_without_places_is_always_full(rt: HostRuntime) -> Result<(), Fail> {
+    let (mut near, mut far) = ring_pair(rt.alloc(), 0)?;
+    is_full(&mut near, 9)?;
+    hands_out(&mut far, &[])?;
+    is_full(&mut near, 9)
+}
+
+#[test]
+fn a_lossy_line_goes_to_another_thread(rt: HostRuntime) -> Result<(), Fail> {
+    let mut line = LossyLine::new(2);
+    takes_in(&mut line, &[1, 2, 3])?;
+    let (heard, _) = thread::join(
+        &rt,
+        move || -> bool {
+            let mut line = line;
+            line.take() == Some(1) && line.take() == Some(3)
+        },
+        || (),
+    );
+    holds(heard)
+}
+
 /// How many octets cross between two threads.
 const OCTETS: u32 = 5000;
 
