@@ -1,10 +1,9 @@
 //! The printed texts.
-ghost use Rattle.std.specs.Prelude.{◌≡◌, ◌++◌, ◌+◌, ◌<◌, ◌^◌, IfOk, string_bytes, codes, decimal, length};
+ghost use Rattle.std.specs.Prelude.{◌≡◌, ◌++◌, ◌+◌, ◌<◌, ◌^◌, IfOk, codes, decimal};
 ghost use Rattle.l2_units.specs.Grammar.{text as text_of_unit};
-ghost use Rattle.l2_bits.specs.SealedText.{sealed_text};
 ghost use Rattle.set_model.specs.Rows.{total_of};
 ghost use Rattle.figures.specs.Figures.{hex_text};
-ghost use Rattle.answer_texts.specs.Texts.{fate_text as text_of_fate, took_text as text_of_took, fault_code as code_of_fault, report_text as text_of_report, answer_text as text_of_answer, shown_line as line_of_shown, shown_text as text_of_shown, end_name, end_text as text_of_end, link_counts as link_counts_of, other_counts as other_counts_of};
+ghost use Rattle.answer_texts.specs.Texts.{fate_text as text_of_fate, took_text as text_of_took, fault_code as code_of_fault, report_text as text_of_report, answer_text as text_of_answer, shown_line as line_of_shown, shown_text as text_of_shown, end_name, end_text as text_of_end, link_counts as link_counts_of, other_counts as other_counts_of, sent_line};
 
 use figures::{bit, push_hex};
 use l2_bits::seal;
@@ -82,7 +81,7 @@ fn taken_text(alloc: Global, body: &[u8]) -> Result<Vec<u8>, AllocError>
 
 /// The text of a sent unit, with its check octets.
 fn sent_text(alloc: Global, unit: &Unit) -> Result<Vec<u8>, AllocError>
-    ensures { IfOk result (λ text. text.items ≡ codes "sent " ++ (hex_text (sealed_text (text_of_unit unit.now)) ++ codes "\n")) }
+    ensures { IfOk result (λ text. text.items ≡ sent_line (text_of_unit unit.now)) }
 {
     let mut text = Vec::from_slice(alloc, b"sent ")?;
     push_hex(&mut text, seal(write(unit).as_slice()).as_slice())?;

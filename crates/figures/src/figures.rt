@@ -1,7 +1,7 @@
 //! Numbers and hexadecimal, as the script writes them.
 ghost use Rattle.std.specs.Prelude.{◌≡◌, [], ◌∷◌, ◌++◌, ◌<◌, ◌+◌, ◌-◌, ◌*◌, IfOk, OnOk, MatchOption, true};
 ghost use Rattle.std.specs.Option.{option_and_then, option_map};
-ghost use Rattle.figures.specs.Figures.{number_of as number_in, number_below as number_in_range, hex_value, octet_of as octet_in, octets_of as octets_in, digits_behind, below_2_64, hex_text, hex_digit, is_digit, NoDigitFits, bit as bit_of};
+ghost use Rattle.figures.specs.Figures.{number_of as number_in, hex_value, octet_of as octet_in, octets_of as octets_in, digits_behind, below_2_64, hex_text, hex_digit, is_digit, NoDigitFits, bit as bit_of};
 
 use std::alloc::{AllocError, Global};
 

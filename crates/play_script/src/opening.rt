@@ -1,7 +1,6 @@
 //! The first line of a script: `set links=L method=W a=X b=Y sio=HH`.
-ghost use Rattle.std.specs.Prelude.{◌≡◌, ◌+◌, ◌^◌, ◌<◌, IfOk, MatchOption, None, Some, codes, position, take, drop, length};
-ghost use Rattle.std.specs.Option.{option_and_then, option_map, option_copied, ForSome};
-ghost use Rattle.figures.specs.Figures.{number_below as number_in_range};
+ghost use Rattle.std.specs.Prelude.{◌≡◌, ◌+◌, ◌<◌, MatchOption, None, Some, position, length};
+ghost use Rattle.std.specs.Option.{option_copied, ForSome};
 ghost use Rattle.play_script.specs.Script.{is_colon, limits_of as limits_in, method_of as method_in, value_in, links_of as links_in, code_of as code_in, sio_of as sio_in, six_words as six_words_in, values_of as values_in, fitting, first_line};
 ghost use Rattle.play_script.specs.Opened.{six_of, IsOpening, IsMadeOf};
 
