@@ -1,5 +1,5 @@
 //! What an event does to a set. Each function is a case of the set's step.
-ghost use Rattle.std.specs.Prelude.{◌≡◌, ◌≢◌, ◌<◌, ◌≤◌, ◌^◌, length, slice_get, Some, true, IsOk, IfOk, IfErr, OnErr};
+ghost use Rattle.std.specs.Prelude.{◌≡◌, ◌<◌, ◌≤◌, ◌^◌, length, slice_get, Some, true, IsOk, IfOk, IfErr, OnErr};
 ghost use Rattle.std.specs.Vec.{vec_len, vec_capacity};
 ghost use Rattle.l3_orders.specs.Grammar.{IsOrder};
 ghost use Rattle.set_queues.specs.Buffers.{IsKnown, IsQueued, room_at};
@@ -7,15 +7,14 @@ ghost use Rattle.set_queues.specs.Messages.{unsent_of};
 ghost use Rattle.set_route.specs.Routing.{accepted as accepted_by};
 ghost use Rattle.set_model.specs.Changeover.{leaving_order as order_of_leaving, left_by, queued};
 ghost use Rattle.set_model.specs.Sound.{IsAsked};
-ghost use Rattle.set_model.specs.State.{State, LinkState};
 ghost use Rattle.set_model.specs.Step.{offer_refusal, offered as offered_with, on_link, in_service, rises, falls, gives_up, taken as taken_of, found as found_of, stepped};
 ghost use Rattle.set_model.specs.Rows.{appended, place, stream_of as stream_in};
 ghost use Rattle.set_model.specs.declared.phase.Phase.TheVariants.{Up, Settled};
-ghost use Rattle.set_step.specs.Agreement.{Agrees, Holds, StandsFor};
+ghost use Rattle.set_step.specs.Agreement.{Holds};
 ghost use Rattle.set_step.specs.Faults.{wants_none};
-ghost use Rattle.set_step.specs.Parts.{Answers, AreCounted, Becomes, IsWhole, AtLink, IsOut, link_of, kept_of};
+ghost use Rattle.set_step.specs.Parts.{Answers, AreCounted, Becomes, BecomesAt, AgreedBecomes, AtLink, link_of, kept_of};
 ghost use Rattle.set_step.specs.Refusing.{refusal_by, rising_refusal, waiting_refusal};
-ghost use Rattle.set_step.specs.Room.{HasRoom, IsReady, SameButRoom};
+ghost use Rattle.set_step.specs.Room.{HasRoom, IsReady};
 
 use super::changeback::{restored, timed_out};
 use super::changeover::{leave, order_space, queue};
@@ -199,8 +198,8 @@ fn fall(parts: &mut Parts, number: u8, blind: bool, space: Vec<u8>)
     requires up { AtLink number parts.old.links.items (λ link. link.phase ≡ Up) }
     requires space { (vec_len space ≡ 0) × (7 ≤ vec_capacity space) }
     requires room { IsReady number 1 parts.old }
-    ensures stands { (s : State) (link : LinkState) → slice_get s.links number ≡ Some link → Agrees (kept_of parts.old) s
-        → StandsFor (kept_of parts.new) (queued (order_of_leaving blind number link) (left_by blind number link s)) }
+    ensures stands { AgreedBecomes number parts.old parts.new (λ link s.
+        queued (order_of_leaving blind number link) (left_by blind number link s)) }
 {
     let order = leaving_order(&parts.links[usize::from(number)], number, blind);
     leave(parts, number, blind);
@@ -248,8 +247,7 @@ fn rise(parts: &mut Parts, number: u8)
     requires known { number < length parts.old.links.items }
     requires settled { AtLink number parts.old.links.items (λ link. link.phase ≡ Settled) }
     requires room { length parts.old.queues.lists.parked ≤ room_at (Fate.Waiting number) parts.old.queues.rooms }
-    ensures stands { (s : State) (link : LinkState) → slice_get s.links number ≡ Some link → StandsFor (kept_of parts.old) s
-        → StandsFor (kept_of parts.new) (rises number s Settled).state }
+    ensures stands { BecomesAt number parts.old parts.new (λ link s. (rises number s Settled).state) }
 {
     parts.queues.reset(number);
     parts
