@@ -66,11 +66,13 @@ impl<C: Ledger, M: Ledger, O: Ledger, A: Ledger> Held<C, M, O, A> {
     ) -> Result<Closed, EndFault<C, M, O, A>>
         ensures complete { OnOk result (is_complete_of self.users self.links users.items terminals.items ≡ true) }
         ensures closed { IfOk result (λ closed.
-            IsClosed users.items terminals.items (new_state closed.config) closed.history.items closed.books closed.counts) }
+            IsClosed users.items terminals.items (new_state closed.config) closed.history.items
+            closed.books closed.counts) }
         ensures config { IfOk result (λ closed. new_state closed.config ≡ self.set.opening) }
         ensures history { IfOk result (λ closed. closed.history.items ≡ self.set.history) }
         ensures back { IfErr result (λ fault. fault ≡
-            (if is_complete_of self.users self.links users.items terminals.items then EndFault.Strange else EndFault.Missing)
+            (if is_complete_of self.users self.links users.items terminals.items
+            then EndFault.Strange else EndFault.Missing)
             (record { held = self; users = users; terminals = terminals })) }
         ensures strange { OnErr result (is_complete_of self.users self.links users.items terminals.items ≡ true
             → AreFaithful self.set.history users.items terminals.items → ⊥) }
@@ -124,7 +126,8 @@ impl<C: Ledger, M: Ledger, O: Ledger, A: Ledger> Held<C, M, O, A> {
     ) -> Closed
         requires complete { is_complete_of self.users self.links users.items terminals.items ≡ true }
         requires faithful { AreFaithful self.set.history users.items terminals.items }
-        ensures closed { IsClosed users.items terminals.items (new_state result.config) result.history.items result.books result.counts }
+        ensures closed { IsClosed users.items terminals.items (new_state result.config) result.history.items
+            result.books result.counts }
         ensures config { new_state result.config ≡ self.set.opening }
         ensures history { result.history.items ≡ self.set.history }
     {
