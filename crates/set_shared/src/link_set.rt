@@ -188,7 +188,8 @@ impl<C: Ledger, M: Ledger, O: Ledger, A: Ledger> LinkSet<C, M, O, A> {
     ) -> Result<Closed, EndFault<C, M, O, A>>
         ensures complete { OnOk result (is_complete self.users self.links users.items terminals.items ≡ true) }
         ensures closed { IfOk result (λ closed.
-            IsClosed users.items terminals.items (new_state closed.config) closed.history.items closed.books closed.counts) }
+            IsClosed users.items terminals.items (new_state closed.config) closed.history.items
+            closed.books closed.counts) }
         ensures back { IfErr result (λ fault. (held : HeldState) × (held.users ≡ self.users) × (held.links ≡ self.links)
             × (fault ≡ (if is_complete self.users self.links users.items terminals.items
             then EndFault.Strange else EndFault.Missing) (record { held = held; users = users; terminals = terminals }))
