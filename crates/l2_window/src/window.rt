@@ -134,7 +134,8 @@ impl Window {
     /// [`WindowFault::Full`] with 127 unacknowledged.
     pub fn send(&mut self) -> Result<(u64, u8), WindowFault>
         ensures empty { (result ≡ Err WindowFault.Empty) ↔ (self.old.unsent ≡ []) }
-        ensures full { (result ≡ Err WindowFault.Full) ↔ ((self.old.unsent ≢ []) × (most_unacked ≤ length self.old.unacked)) }
+        ensures full { (result ≡ Err WindowFault.Full)
+            ↔ ((self.old.unsent ≢ []) × (most_unacked ≤ length self.old.unacked)) }
         ensures succeeds { self.old.unsent ≢ [] → length self.old.unacked < most_unacked → IsOk result }
         ensures sent { IfOk result (λ sent. Sends sent.0 self.old self.new) }
         ensures fsn { IfOk result (λ sent. sent.1 ≡ fsn_at self.old (length self.old.unacked)) }

@@ -5,7 +5,8 @@ use Rattle.set_events.specs.declared.config.Method.TheVariants.{Basic, Cyclic as
 use Rattle.set_events.specs.declared.config.ConfigFault.{ConfigFault}
 use Rattle.set_events.specs.declared.config.ConfigFault.TheVariants.{Cyclic}
 
--- the most messages that can be unacknowledged (Q.703 5.2.2), and the most octets that their bodies can have, of 273 each
+-- the most messages that can be unacknowledged (Q.703 5.2.2), and the most octets that their bodies can have, of 273
+-- each
 abbrev pub most_messages : ℕ
 most_messages = 127
 

@@ -229,7 +229,8 @@ pub record MovesAlone (routing : Routing) (stream : ℕ) : Type 0 where
   pub back_messages : (code : ℕ) → has_messages stream (given_back code routing) ≡ has_messages stream routing
 
 abbrev pub StreamsMoveAlone : Type 0
-StreamsMoveAlone = (routing : Routing) (stream : ℕ) → IsRouting routing → stream < stream_count → MovesAlone routing stream
+StreamsMoveAlone =
+    (routing : Routing) (stream : ℕ) → IsRouting routing → stream < stream_count → MovesAlone routing stream
 
 -- LAW: what each call does to each code.
 pub record CodesMoveAlone (routing : Routing) (code : ℕ) : Type 0 where

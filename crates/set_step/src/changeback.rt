@@ -4,7 +4,7 @@ ghost use Rattle.std.specs.Vec.{vec_len, vec_capacity};
 ghost use Rattle.set_queues.specs.Buffers.{TakesRoom, room_at};
 ghost use Rattle.set_queues.specs.Backs.{back_count};
 ghost use Rattle.set_route.specs.Routing.{code_of, home_of, is_free as is_free_code, can_ask};
-ghost use Rattle.set_model.specs.Changeover.{released as released_in, released_from, acknowledged_back, can_declare as can_declare_in, declared, declared_if, declared_from, some_declare, some_in_use};
+ghost use Rattle.set_model.specs.Changeover.{released, released_from, acknowledged_back, can_declare as can_declare_in, declared, declared_if, declared_from, some_declare, some_in_use};
 ghost use Rattle.set_model.specs.State.{State, link_count};
 ghost use Rattle.set_model.specs.Step.{on_link, in_service, comes_back, runs_out};
 ghost use Rattle.set_step.specs.Agreement.{Agrees, Holds, StandsFor};
@@ -28,7 +28,7 @@ const MOST_LINKS: usize = 16;
 
 /// Streams whose home this link is are to come back to it: a declaration on every other link that is up,
 /// the lowest-numbered first, where streams of this home run and its code is free.
-pub(crate) fn restored(parts: &mut Parts, number: u8) -> Result<Answer, SetFault>
+pub(crate) fn restore(parts: &mut Parts, number: u8) -> Result<Answer, SetFault>
     requires holds { Holds (kept_of parts.old) }
     ensures ok { IfOk result (λ answer. Answers parts.old parts.new answer
         (λ s. in_service number s (λ link. comes_back number s))) }
@@ -51,7 +51,7 @@ pub(crate) fn restored(parts: &mut Parts, number: u8) -> Result<Answer, SetFault
 
 /// No acknowledgement came: what stands back for this link waits for it, code by code, and all its codes
 /// are free (own).
-pub(crate) fn timed_out(parts: &mut Parts, number: u8) -> Result<Answer, SetFault>
+pub(crate) fn time_out(parts: &mut Parts, number: u8) -> Result<Answer, SetFault>
     requires holds { Holds (kept_of parts.old) }
     ensures ok { IfOk result (λ answer. Answers parts.old parts.new answer
         (λ s. on_link number s (λ link. runs_out number s))) }
@@ -223,7 +223,7 @@ fn release(parts: &mut Parts, code: u8)
     requires whole { IsWhole parts.old }
     requires known { home_of code < length parts.old.links.items }
     requires room { length (back_at code parts.old) ≤ home_room code parts.old }
-    ensures stands { Becomes parts.old parts.new (released_in code) }
+    ensures stands { Becomes parts.old parts.new (released code) }
     ensures rooms { home_room code parts.old ≤ home_room code parts.new + length (back_at code parts.old) }
     ensures others { (other : ℕ) → other ≢ code → back_at other parts.new ≡ back_at other parts.old }
     ensures links { parts.new.links ≡ parts.old.links }
@@ -241,7 +241,8 @@ fn release(parts: &mut Parts, code: u8)
 /// ignored (Q.704 6.3).
 pub(crate) fn acknowledge_back(parts: &mut Parts, code: u8) -> Took
     requires holds { Holds (kept_of parts.old) }
-    requires room { home_of code < length parts.old.links.items → length (back_at code parts.old) ≤ home_room code parts.old }
+    requires room { home_of code < length parts.old.links.items
+        → length (back_at code parts.old) ≤ home_room code parts.old }
     ensures stands { (s : State) → Agrees (kept_of parts.old) s
         → Obeys (acknowledged_back code (code_of code s.routing) s) result parts.new }
 {

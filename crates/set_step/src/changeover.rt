@@ -2,7 +2,7 @@
 //! carried out here too (Q.704 6).
 ghost use Rattle.std.specs.Prelude.{◌≡◌, ◌<◌, ◌≤◌, ◌^◌, ◌%◌, ℕ, false, length, slice_get, slice_set, Some, IfOk};
 ghost use Rattle.std.specs.Vec.{vec_len, vec_capacity};
-ghost use Rattle.l3_orders.specs.Grammar.{IsOrder, text as text_of};
+ghost use Rattle.l3_orders.specs.Grammar.{IsOrder, text};
 ghost use Rattle.set_queues.specs.Backs.{back_count};
 ghost use Rattle.set_queues.specs.Buffers.{TakesRoom};
 ghost use Rattle.set_queues.specs.Settling.{on};
@@ -63,7 +63,7 @@ pub(crate) fn body_of(order: &Order, sio: u8, dpc: u16, opc: u16, space: Vec<u8>
     requires dpc { dpc < 2 ^ 14 }
     requires opc { opc < 2 ^ 14 }
     requires space { (vec_len space ≡ 0) × (7 ≤ vec_capacity space) }
-    ensures text { result ≡ text_of order.now sio dpc opc }
+    ensures text { result ≡ text order.now sio dpc opc }
     ensures fits { length result ≤ 273 }
 {
     let mut space = space;

@@ -6,7 +6,7 @@ ghost use Rattle.set_step.specs.Parts.{link_of};
 use super::fault::SetFault;
 use super::link::Link;
 use super::parts::Parts;
-use super::step::{answered, is_asked};
+use super::step::{carry_out, is_asked};
 use set_events::{Answer, Counts, Event, Fate, SetConfig};
 use set_model::{Numbered, Phase};
 use set_queues::Queues;
@@ -83,7 +83,7 @@ impl Core {
         ensures none { wants_none event.now ≡ true → IsOk result }
     {
         is_asked(event);
-        answered(&mut self.parts, event)
+        carry_out(&mut self.parts, event)
     }
 
     /// A law: there is a state that it agrees with.

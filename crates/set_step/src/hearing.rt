@@ -8,7 +8,7 @@ ghost use Rattle.set_route.specs.Routing.{home_of};
 ghost use Rattle.set_model.specs.Control.{part_of};
 ghost use Rattle.set_model.specs.Rows.{service_indicator as indicator_of};
 ghost use Rattle.set_model.specs.State.{State, window_of};
-ghost use Rattle.set_model.specs.Step.{in_service, heard as heard_of, is_msu as is_message, brought, takes, after_control, report_of as report_for};
+ghost use Rattle.set_model.specs.Step.{in_service, heard, is_msu as is_message, brought, takes, after_control, report_of as report_for};
 ghost use Rattle.set_step.specs.Agreement.{Agrees, Holds};
 ghost use Rattle.set_step.specs.Hearing.{IsSpacious, IsSpaciousFor, KeepsSpace, order_brought, has_order};
 ghost use Rattle.set_step.specs.Parts.{Answers, AreCounted, IsWhole, OfStates, BecomesAt, Obeys, kept_of};
@@ -30,11 +30,11 @@ use std::alloc::AllocError;
 /// An LSSU is refused, since the error control has nothing to do with it.
 ///
 /// All memory that the body may want is taken first, so a fault leaves everything as it was.
-pub(crate) fn heard(parts: &mut Parts, number: u8, unit: &Unit) -> Result<Answer, SetFault>
+pub(crate) fn hear(parts: &mut Parts, number: u8, unit: &Unit) -> Result<Answer, SetFault>
     requires holds { Holds (kept_of parts.old) }
     requires counted { AreCounted (2 ^ 60) parts.old.links.items }
     ensures ok { IfOk result (λ answer. Answers parts.old parts.new answer (λ s. in_service number s
-        (heard_of unit.now number s))) }
+        (heard unit.now number s))) }
     ensures err { OnErr result (kept_of parts.new ≡ kept_of parts.old) }
     ensures fault { IfErr result (λ fault. fault ≡ SetFault.NoMemory) }
     ensures none { is_message unit.now ≡ false → IsOk result }

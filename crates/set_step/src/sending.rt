@@ -5,7 +5,7 @@ ghost use Rattle.set_queues.specs.Buffers.{IsKnown, queue_at};
 ghost use Rattle.set_model.specs.Rows.{Row, IsInOrder, is_waiting, turned};
 ghost use Rattle.set_model.specs.Control.{head_of};
 ghost use Rattle.set_model.specs.State.{State, LinkState, window_of};
-ghost use Rattle.set_model.specs.Step.{next as next_of, in_service};
+ghost use Rattle.set_model.specs.Step.{next, in_service};
 ghost use Rattle.set_step.specs.Agreement.{Agrees, Holds, StandsFor, rows_at};
 ghost use Rattle.set_step.specs.Parts.{Answers, AnswersAt, OfAgreed, AgreedBecomes, kept_of};
 ghost use Rattle.set_step.specs.Refusing.{service_refusal};
@@ -31,9 +31,9 @@ pub(crate) fn out_of_service(links: &[Link], number: u8) -> Option<Refusal>
 }
 
 /// The next unit to send.
-pub(crate) fn next(parts: &mut Parts, number: u8) -> Answer
+pub(crate) fn send_next(parts: &mut Parts, number: u8) -> Answer
     requires { Holds (kept_of parts.old) }
-    ensures { Answers parts.old parts.new result (λ s. in_service number s (next_of number s)) }
+    ensures { Answers parts.old parts.new result (λ s. in_service number s (next number s)) }
 {
     if let Some(why) = out_of_service(&parts.links, number) {
         return Answer::Refused { why };
@@ -47,7 +47,7 @@ pub(crate) fn next(parts: &mut Parts, number: u8) -> Answer
 fn unit_of(parts: &mut Parts, number: u8) -> Unit
     requires holds { Holds (kept_of parts.old) }
     requires known { number < length parts.old.links.items }
-    ensures { AnswersAt number parts.old parts.new (Answer.Sent result) (λ link s. next_of number s link) }
+    ensures { AnswersAt number parts.old parts.new (Answer.Sent result) (λ link s. next number s link) }
 {
     let choice = choice_for(parts, number);
     match choice {
