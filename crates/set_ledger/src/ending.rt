@@ -53,11 +53,11 @@ impl<C: Ledger, M: Ledger, O: Ledger, A: Ledger> EndFault<C, M, O, A> {
 }
 
 impl<C: Ledger, M: Ledger, O: Ledger, A: Ledger> Held<C, M, O, A> {
-    /// Ends a set with all its seats: the history is legal, each seat's receipts are its entries in order, and the totals
-    /// are the sums of the shares. It takes no memory.
+    /// Ends a set with all its seats: the history is legal, each seat's receipts are its entries in order, and the
+    /// totals are the sums of the shares. It takes no memory.
     ///
-    /// Faults, which hand back the set and the seats: 1 [`EndFault::Missing`] exactly where there isn't one seat for each
-    /// user and each link of the set and no other; else 2 [`EndFault::Strange`] exactly where the receipts of a
+    /// Faults, which hand back the set and the seats: 1 [`EndFault::Missing`] exactly where there isn't one seat for
+    /// each user and each link of the set and no other; else 2 [`EndFault::Strange`] exactly where the receipts of a
     /// seat aren't its entries.
     pub fn end(
         self,

@@ -265,7 +265,8 @@ pub(crate) fn put_users<C: Ledger, M: Ledger, O: Ledger, A: Ledger>(
     }
 }
 
-/// Puts the seats of the terminals of the links 0, 1, .. into this room, each with one part of each ledger that it moves.
+/// Puts the seats of the terminals of the links 0, 1, .. into this room, each with one part of each ledger that it
+/// moves.
 pub(crate) fn put_terminals<C: Ledger, M: Ledger, O: Ledger, A: Ledger>(
     seats: &mut Vec<TermSeat<C, M, O, A>>,
     links: u8,
