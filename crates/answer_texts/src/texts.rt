@@ -5,7 +5,7 @@ ghost use Rattle.set_model.specs.Rows.{total_of};
 ghost use Rattle.figures.specs.Figures.{hex_text};
 ghost use Rattle.answer_texts.specs.Texts.{fate_text, took_text, fault_code, report_text, answer_text, shown_line, shown_text, end_name, end_text, link_counts, other_counts, sent_line};
 
-use figures::{bit, push_hex};
+use figures::{bit_of, push_hex};
 use l2_bits::seal;
 use l2_units::{Unit, write};
 use set_events::{Answer, ControlFault, Counts, Fate, Report, Took};
@@ -95,8 +95,8 @@ fn write_report(alloc: Global, report: &Report) -> Result<Vec<u8>, AllocError>
 {
     let acked = report.acked;
     let took = took_word(report.took);
-    let asked = bit(report.asked);
-    let resend = bit(report.resend);
+    let asked = bit_of(report.asked);
+    let resend = bit_of(report.resend);
     let fault = code_of(report.fault);
     let text = format!(in alloc;
         "heard acked={acked} took={took} asked={asked} resend={resend} fault={fault}\n"

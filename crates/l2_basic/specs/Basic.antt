@@ -49,7 +49,7 @@ choice_of state window =
     if nat_lt state.cursor (length window.unacked) then Again state.cursor
     else (if has_new window then First else Fill)
 
--- the header of each unit sent (5.2.2 to 5.2.4): the BSN is the FSN last accepted
+-- the header of each unit sent (Q.703 5.2.2 to 5.2.4): the BSN is the FSN last accepted
 abbrev pub head_of : BasicState → ℕ → Header
 head_of state fsn = header_of state.accepted state.bib fsn state.fib
 
@@ -61,7 +61,7 @@ control_after Fill state window = state
 
 -- The same as relations of a sending, of the control and of the window before and after.
 
--- the header of each unit sent (5.2.2 to 5.2.4): the BSN is the FSN last accepted
+-- the header of each unit sent (Q.703 5.2.2 to 5.2.4): the BSN is the FSN last accepted
 pub record IsHead (state : BasicState) (number : ℕ) (head : Header) : Type 0 where
   pub bsn : head.bsn ≡ state.accepted
   pub bib : head.bib ≡ state.bib
@@ -128,11 +128,11 @@ is_repeated state head = head.fsn == state.accepted
 abbrev pub is_successor : BasicState → Header → Bool
 is_successor state head = head.fsn == (state.accepted + 1) % fsn_count
 
--- (5.2.2 c ii) an MSU is accepted
+-- (Q.703 5.2.2 c ii) an MSU is accepted
 abbrev pub is_accepted : BasicState → WindowState → Header → Bool → Bool
 is_accepted state window head is_msu = is_current state window head && (is_msu && is_successor state head)
 
--- (5.2.2 a ii, c iii) a message is missing: an MSU that is neither the last one again nor the next,
+-- (Q.703 5.2.2 a ii, c iii) a message is missing: an MSU that is neither the last one again nor the next,
 -- or a FISU sent after a message that never came
 abbrev pub is_missing_one : BasicState → WindowState → Header → Bool → Bool
 is_missing_one state window head is_msu =

@@ -6,7 +6,7 @@ ghost use Rattle.play_script.specs.Opened.{six_of, IsOpening, IsMadeOf};
 
 use super::reading::{cut, is_word};
 use super::script::{Opening, Values};
-use figures::{number_of, octet_of};
+use figures::{read_number, read_octet};
 use set_events::{Method, SetConfig};
 
 /// The words of the first line.
@@ -107,7 +107,7 @@ fn value_in_word<'a>(name: &[u8], word: &'a [u8]) -> Option<&'a [u8]>
 fn read_links(word: &[u8]) -> Option<u8>
     ensures { result ≡ links_of word.now }
 {
-    let number = number_of(value_in_word(b"links=", word)?)?;
+    let number = read_number(value_in_word(b"links=", word)?)?;
     if number < 256 {
         Some(number as u8)
     } else {
@@ -130,8 +130,8 @@ fn read_limits(word: &[u8]) -> Option<Method>
     ensures { result ≡ limits_of word.now }
 {
     let colon = colon_in(word)?;
-    let n1 = number_of(&word[..colon])?;
-    let n2 = number_of(&word[colon + 1..])?;
+    let n1 = read_number(&word[..colon])?;
+    let n2 = read_number(&word[colon + 1..])?;
     if n1 < 256 && n2 < 0x1_0000_0000 {
         Some(Method::Cyclic {
             n1: n1 as u8,
@@ -154,7 +154,7 @@ fn colon_in(word: &[u8]) -> Option<usize>
 fn read_code(name: &[u8], word: &[u8]) -> Option<u16>
     ensures { result ≡ code_of name.now word.now }
 {
-    let number = number_of(value_in_word(name, word)?)?;
+    let number = read_number(value_in_word(name, word)?)?;
     if number < 65_536 {
         Some(number as u16)
     } else {
@@ -166,5 +166,5 @@ fn read_code(name: &[u8], word: &[u8]) -> Option<u16>
 fn read_sio(word: &[u8]) -> Option<u8>
     ensures { result ≡ sio_of word.now }
 {
-    octet_of(value_in_word(b"sio=", word)?)
+    read_octet(value_in_word(b"sio=", word)?)
 }

@@ -4,7 +4,7 @@ ghost use Rattle.std.specs.Option.{option_map, option_copied, ForSome};
 ghost use Rattle.std.specs.Str.{bytes_eq};
 ghost use Rattle.play_script.specs.Script.{is_space, first_word, other_words, end_of, link_of, some_octets, step_of, step_at, together, offer, body_of, take_message, find, lose, hear, unit_of, on_link, link_event};
 
-use figures::{number_of, octets_of};
+use figures::{read_number, read_octets};
 use l2_units::{Unit, read};
 use set_events::{Body, Event};
 use std::alloc::{AllocError, Global};
@@ -73,7 +73,7 @@ fn read_end(word: &[u8]) -> Option<End>
 fn read_link(word: &[u8]) -> Option<u8>
     ensures { result ≡ link_of word.now }
 {
-    let number = number_of(word)?;
+    let number = read_number(word)?;
     if number < 256 {
         Some(number as u8)
     } else {
@@ -88,7 +88,7 @@ fn read_some_octets(alloc: Global, word: &[u8]) -> Result<Option<Vec<u8>>, Alloc
     if word.is_empty() {
         return Ok(None);
     }
-    octets_of(alloc, word)
+    read_octets(alloc, word)
 }
 
 /// `together LINK`, behind the name.
@@ -171,7 +171,7 @@ fn read_take(end: End, words: Option<&[u8]>) -> Option<Step>
 fn read_find(end: End, words: &[u8]) -> Option<Step>
     ensures { result ≡ find end words.now }
 {
-    let number = number_of(words)?;
+    let number = read_number(words)?;
     Some(Step::Act {
         end,
         event: Event::Find { number },
@@ -184,7 +184,7 @@ fn read_lose(end: End, words: &[u8]) -> Option<Step>
 {
     let (word, words) = cut(words);
     let link = read_link(word)?;
-    let place = number_of(words?)?;
+    let place = read_number(words?)?;
     Some(Step::Lose { end, link, place })
 }
 
