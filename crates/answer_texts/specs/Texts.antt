@@ -39,15 +39,19 @@ fault_code (Some fault) = fault_number fault
 
 abbrev pub report_text : Report → List ℕ
 report_text r =
-    codes "heard acked=" ++ (decimal r.acked ++ (codes " took=" ++ (took_text r.took ++ (codes " asked=" ++ (decimal (bit r.asked)
-    ++ (codes " resend=" ++ (decimal (bit r.resend) ++ (codes " fault=" ++ (decimal (fault_code r.fault) ++ codes "\n")))))))))
+    codes "heard acked=" ++ (decimal r.acked ++ (codes " took=" ++ (took_text r.took
+    ++ (codes " asked=" ++ (decimal (bit r.asked) ++ (codes " resend=" ++ (decimal (bit r.resend)
+    ++ (codes " fault=" ++ (decimal (fault_code r.fault) ++ codes "\n")))))))))
 
 -- a sent unit is printed with its check octets
+abbrev pub sent_line : List ℕ → List ℕ
+sent_line octets = codes "sent " ++ (hex_text (sealed_text octets) ++ codes "\n")
+
 abbrev pub answer_text : Answer → List ℕ
 answer_text (Accepted number) = codes "accepted " ++ (decimal number ++ codes "\n")
 answer_text (Taken body) = codes "taken " ++ (hex_text body.items ++ codes "\n")
 answer_text (Found fate) = fate_text fate
-answer_text (Sent unit) = codes "sent " ++ (hex_text (sealed_text (text unit)) ++ codes "\n")
+answer_text (Sent unit) = sent_line (text unit)
 answer_text (Heard report) = report_text report
 answer_text Done = codes "done\n"
 answer_text (Refused why) = codes "refused " ++ (decimal (refusal_number why) ++ codes "\n")
@@ -68,8 +72,9 @@ end_name B = codes "b"
 -- how the users' messages of an end stand when the script ends; `accepted` is all of them
 abbrev pub link_counts : End → Counts → List ℕ
 link_counts end c =
-    codes "end " ++ (end_name end ++ (codes " accepted=" ++ (decimal (total_of c) ++ (codes " waiting=" ++ (decimal c.waiting
-    ++ (codes " unacked=" ++ (decimal c.unacked ++ (codes " acked=" ++ decimal c.acked))))))))
+    codes "end " ++ (end_name end ++ (codes " accepted=" ++ (decimal (total_of c)
+    ++ (codes " waiting=" ++ (decimal c.waiting ++ (codes " unacked=" ++ (decimal c.unacked
+    ++ (codes " acked=" ++ decimal c.acked))))))))
 
 abbrev pub other_counts : Counts → List ℕ
 other_counts c =

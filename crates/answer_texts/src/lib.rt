@@ -2,8 +2,8 @@
 //!
 //! | what | its text |
 //! |---|---|
-//! | [`world_steps::Shown`], what a step showed: an answer of a set, an up, a loss | [`shown_text`] |
-//! | [`set_events::Counts`] of an end | [`end_text`] |
+//! | [`world_steps::Shown`], what a step showed: an answer of a set, an up, a loss | [`write_shown`] |
+//! | [`set_events::Counts`] of an end | [`write_end`] |
 //!
 //! Each text is a line, ended by LF, and fails only where memory is wanted. Numbers are decimal, octets are
 //! hexadecimal in lower case, and a sent unit is printed with its check octets. `specs/Texts.antt` has the
@@ -12,4 +12,4 @@
 
 mod texts;
 
-pub use texts::{end_text, shown_text};
+pub use texts::{write_end, write_shown};

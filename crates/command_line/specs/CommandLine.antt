@@ -1,5 +1,5 @@
 -- THE COMMAND LINE: the words behind the program's name, as the library that reads them defines it.
-use Rattle.std.specs.Prelude.{◌≡◌, ◌≢◌, ℕ, true, List, [], codes, Option, Some}
+use Rattle.std.specs.Prelude.{◌≡◌, ◌≢◌, ℕ, true, List, [], codes, drop, map, Option, Some, String, string_bytes}
 use Rattle.std.specs.Option.{option_map}
 use Rattle.clap.specs.Words.{App, Shape, with_subcommand, subcommand_of, takes}
 use Rattle.clap.specs.Simple.{new_shape}
@@ -29,6 +29,10 @@ program = with_subcommand (with_subcommand without_subcommands (new_shape (codes
 abbrev pub name_of : Words → List ℕ
 name_of Units = codes "units"
 name_of Play = codes "play"
+
+-- the words of a program's arguments, of which the first is its own name
+abbrev pub words_in : {A : Type 0} → List (String A) → List (List ℕ)
+words_in args = map string_bytes (drop 1 args)
 
 -- the subcommand that the library finds in these words, if any
 abbrev pub named_by : List (List ℕ) → Option (List ℕ)

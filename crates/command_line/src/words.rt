@@ -3,12 +3,14 @@ ghost use Rattle.std.specs.Prelude.{◌≡◌, ◌≢◌, IfErr, IfOk, MatchOpti
 ghost use Rattle.clap.specs.Words.{app_of, subcommand_name_of};
 ghost use Rattle.clap.specs.declared.error.ErrorKind.TheVariants.{InvalidSubcommand, MissingSubcommand, OutOfMemory};
 ghost use Rattle.clap.specs.Values.{kind_of};
-ghost use Rattle.command_line.specs.CommandLine.{program, without_subcommands, name_of, named_by, AreWrong, IsKind, Refuses};
+ghost use Rattle.command_line.specs.CommandLine.{program, without_subcommands, name_of, named_by, words_in};
+ghost use Rattle.command_line.specs.CommandLine.{AreWrong, IsKind, Refuses};
 
 use super::help::{HELP, PLAY_HELP, PLAY_PAGE, PROGRAM_PAGE, UNITS_HELP, UNITS_PAGE};
 use clap::error::ErrorKind;
 use clap::{ArgMatches, Command};
 use std::alloc::{AllocError, Global};
+use std::convert::AsStr;
 
 /// What the command line asks for.
 #[derive(Clone, Copy, Debug, PartialEq, Eq)]
@@ -43,19 +45,31 @@ impl From<AllocError> for WordsFault {
 ///
 /// 1 [`WordsFault::NoMemory`] may come before the other; 2 [`WordsFault::Words`] only where `clap`'s definition
 /// refuses the words, or where they name no subcommand of the program.
-pub fn words_of(alloc: Global, words: &[&str]) -> Result<Words, WordsFault>
-    ensures asked { IfOk result (λ found. named_by (map (λ s. s.now) words.now) ≡ Some (name_of found)) }
-    ensures refused { IfErr result (λ fault. Refuses fault (map (λ s. s.now) words.now)) }
+pub fn words_of<S: AsStr>(alloc: Global, words: &[S]) -> Result<Words, WordsFault>
+    ensures asked { IfOk result (λ found. named_by (map S.text words.now) ≡ Some (name_of found)) }
+    ensures refused { IfErr result (λ fault. Refuses fault (map S.text words.now)) }
 {
     let mut command = command(alloc)?;
     found_by(&mut command, words)
 }
 
+/// What these arguments ask for: the first is the program's own name, as the system hands it, and the words are all
+/// behind it. Faults as [`words_of`]'s, of those words.
+pub fn asked_by(alloc: Global, args: &[String]) -> Result<Words, WordsFault>
+    ensures asked { IfOk result (λ found. named_by (words_in args.now) ≡ Some (name_of found)) }
+    ensures refused { IfErr result (λ fault. Refuses fault (words_in args.now)) }
+{
+    if args.is_empty() {
+        return words_of(alloc, args);
+    }
+    words_of(alloc, &args[1..])
+}
+
 /// What the program's command finds in the words.
-fn found_by<'a>(command: &mut Command<'a>, words: &'a [&'a str]) -> Result<Words, WordsFault>
+fn found_by<'a, S: AsStr>(command: &mut Command<'a>, words: &'a [S]) -> Result<Words, WordsFault>
     requires { app_of command.old ≡ program }
-    ensures asked { IfOk result (λ found. named_by (map (λ s. s.now) words.entry.now) ≡ Some (name_of found)) }
-    ensures refused { IfErr result (λ fault. Refuses fault (map (λ s. s.now) words.entry.now)) }
+    ensures asked { IfOk result (λ found. named_by (map S.text words.entry.now) ≡ Some (name_of found)) }
+    ensures refused { IfErr result (λ fault. Refuses fault (map S.text words.entry.now)) }
 {
     match command.try_get_matches_from_mut(words) {
         Ok(matches) => match named(&matches) {

@@ -1,13 +1,13 @@
 //! Numbers and hexadecimal, as the script writes them.
 ghost use Rattle.std.specs.Prelude.{◌≡◌, [], ◌∷◌, ◌++◌, ◌<◌, ◌+◌, ◌-◌, ◌*◌, IfOk, OnOk, MatchOption, true};
 ghost use Rattle.std.specs.Option.{option_and_then, option_map};
-ghost use Rattle.figures.specs.Figures.{number_of as number_in, number_below as number_in_range, hex_value, octet_of as octet_in, octets_of as octets_in, digits_behind, below_2_64, hex_text, hex_digit, is_digit, NoDigitFits, bit as bit_of};
+ghost use Rattle.figures.specs.Figures.{number_of, hex_value, octet_of, octets_of, digits_behind, below_2_64, hex_text, hex_digit, is_digit, NoDigitFits, bit};
 
 use std::alloc::{AllocError, Global};
 
 /// The decimal number below 2^64 of a word without leading zeros.
-pub fn number_of(word: &[u8]) -> Option<u64>
-    ensures { result ≡ number_in word.now }
+pub fn read_number(word: &[u8]) -> Option<u64>
+    ensures { result ≡ number_of word.now }
 {
     let [first, rest @ ..] = word else {
         return None;
@@ -59,7 +59,7 @@ fn value_of_hex(c: u8) -> Option<u8>
 
 /// The octet of two hexadecimal digits.
 fn octet_at(high: u8, low: u8) -> Option<u8>
-    ensures { result ≡ octet_in (high ∷ low ∷ []) }
+    ensures { result ≡ octet_of (high ∷ low ∷ []) }
 {
     let high = value_of_hex(high)?;
     let low = value_of_hex(low)?;
@@ -67,8 +67,8 @@ fn octet_at(high: u8, low: u8) -> Option<u8>
 }
 
 /// The octet of a word of two hexadecimal digits.
-pub fn octet_of(word: &[u8]) -> Option<u8>
-    ensures { result ≡ octet_in word.now }
+pub fn read_octet(word: &[u8]) -> Option<u8>
+    ensures { result ≡ octet_of word.now }
 {
     let [high, low] = word else {
         return None;
@@ -77,8 +77,8 @@ pub fn octet_of(word: &[u8]) -> Option<u8>
 }
 
 /// The octets of hexadecimal digits, two each.
-pub fn octets_of(alloc: Global, word: &[u8]) -> Result<Option<Vec<u8>>, AllocError>
-    ensures { IfOk result (λ found. option_map (λ octets. octets.items) found ≡ octets_in word.now) }
+pub fn read_octets(alloc: Global, word: &[u8]) -> Result<Option<Vec<u8>>, AllocError>
+    ensures { IfOk result (λ found. option_map (λ octets. octets.items) found ≡ octets_of word.now) }
 {
     if word.len() % 2 == 1 {
         return Ok(None);
@@ -117,8 +117,8 @@ pub fn push_hex(text: &mut Vec<u8>, octets: &[u8]) -> Result<(), AllocError>
 }
 
 /// 1 for yes and 0 for no.
-pub fn bit(yes: bool) -> u8
-    ensures { result ≡ bit_of yes }
+pub fn bit_of(yes: bool) -> u8
+    ensures { result ≡ bit yes }
 {
     if yes { 1 } else { 0 }
 }

@@ -1,7 +1,7 @@
 -- Basic error control (Q.703 5), as functions of its state and of the link's window.
 use Rattle.std.specs.Prelude.{◌≡◌, ◌≢◌, ℕ, ◌+◌, ◌-◌, ◌%◌, ◌<◌, ◌≤◌, Bool, true, false, not, ◌&&◌, ◌||◌, ◌==◌, nat_lt, if◌then◌else◌, Option, Some, None, [], drop, length, slice_get}
 use Rattle.l2_units.specs.declared.unit.Header.{Header}
-use Rattle.l2_window.specs.Window.{WindowState, Sends, fsn_at, last_fsn, distance_to}
+use Rattle.l2_window.specs.Window.{WindowState, Sends, fsn_at, last_fsn, distance_to, fsn_before_first, fsn_count, most_unacked}
 use Rattle.l2_window.specs.Control.{IsMessageAnd, IsFillAnd, has_new, header_of, acked_where, window_where}
 use Rattle.l2_window.specs.declared.control.Choice.{Choice}
 use Rattle.l2_window.specs.declared.control.Choice.TheVariants.{Again, First, Fill}
@@ -28,7 +28,7 @@ pub record BasicState : Type 0 where
 -- at the beginning of a link's life
 abbrev pub start : BasicState
 start = record {
-  accepted = 127;
+  accepted = fsn_before_first;
   bib = true;
   fib = true;
   asked = false;
@@ -43,13 +43,13 @@ same false b = not b
 
 -- WHAT IS SENT NEXT.
 
--- (5.3.2) what waits for retransmission goes first, from the cursor on; new messages follow
+-- (Q.703 5.3.2) what waits for retransmission goes first, from the cursor on; new messages follow
 abbrev pub choice_of : BasicState → WindowState → Choice
 choice_of state window =
     if nat_lt state.cursor (length window.unacked) then Again state.cursor
     else (if has_new window then First else Fill)
 
--- the header of each unit sent (5.2.2 to 5.2.4): the BSN is the FSN last accepted
+-- the header of each unit sent (Q.703 5.2.2 to 5.2.4): the BSN is the FSN last accepted
 abbrev pub head_of : BasicState → ℕ → Header
 head_of state fsn = header_of state.accepted state.bib fsn state.fib
 
@@ -61,7 +61,7 @@ control_after Fill state window = state
 
 -- The same as relations of a sending, of the control and of the window before and after.
 
--- the header of each unit sent (5.2.2 to 5.2.4): the BSN is the FSN last accepted
+-- the header of each unit sent (Q.703 5.2.2 to 5.2.4): the BSN is the FSN last accepted
 pub record IsHead (state : BasicState) (number : ℕ) (head : Header) : Type 0 where
   pub bsn : head.bsn ≡ state.accepted
   pub bib : head.bib ≡ state.bib
@@ -81,30 +81,30 @@ pub record SendsNew (old new : BasicState) (window window' : WindowState) (messa
   pub header : IsHead old (fsn_at window (length window.unacked)) head
   pub past_it : new ≡ record old { cursor = length window.unacked + 1 }
 
--- a FISU with the FSN of the last message sent (5.2.1)
+-- a FISU with the FSN of the last message sent (Q.703 5.2.1)
 pub record Fills (old new : BasicState) (window window' : WindowState) (head : Header) : Type 0 where
   pub header : IsHead old (last_fsn window) head
   pub same_control : new ≡ old
   pub same_window : window' ≡ window
 
 pub record IsNext (old new : BasicState) (window window' : WindowState) (sending : Sending) : Type 0 where
-  -- (5.3.2) while messages wait for retransmission, they are sent in sequence
+  -- (Q.703 5.3.2) while messages wait for retransmission, they are sent in sequence
   pub repeats : old.cursor < length window.unacked → IsMessageAnd sending (Repeats old new window window')
-  -- (5.3.2) new messages follow the last of those, (5.2.2) with at most 127 unacknowledged
-  pub sends : length window.unacked ≤ old.cursor → window.unsent ≢ [] → length window.unacked < 127
+  -- (Q.703 5.3.2) new messages follow the last of those, (Q.703 5.2.2) with at most 127 unacknowledged
+  pub sends : length window.unacked ≤ old.cursor → window.unsent ≢ [] → length window.unacked < most_unacked
       → IsMessageAnd sending (SendsNew old new window window')
   pub idle : length window.unacked ≤ old.cursor → window.unsent ≡ []
       → IsFillAnd sending (Fills old new window window')
-  pub full : length window.unacked ≤ old.cursor → 127 ≤ length window.unacked
+  pub full : length window.unacked ≤ old.cursor → most_unacked ≤ length window.unacked
       → IsFillAnd sending (Fills old new window window')
 
 -- WHAT A HEARD FISU OR MSU MEANS.
 
--- (5.3.1) neither the number last acknowledged nor that of an unacknowledged message
+-- (Q.703 5.3.1) neither the number last acknowledged nor that of an unacknowledged message
 abbrev pub has_abnormal_bsn : WindowState → Header → Bool
 has_abnormal_bsn window head = nat_lt (length window.unacked) (distance_to window head.bsn)
 
--- (5.3.2) the start of a retransmission that nobody asked for; one fault a unit, the BSN's first
+-- (Q.703 5.3.2) the start of a retransmission that nobody asked for; one fault a unit, the BSN's first
 abbrev pub has_abnormal_fib : BasicState → WindowState → Header → Bool
 has_abnormal_fib state window head =
     not (has_abnormal_bsn window head) && (not (same head.fib state.bib) && not state.asked)
@@ -113,26 +113,26 @@ has_abnormal_fib state window head =
 abbrev pub is_processed : BasicState → WindowState → Header → Bool
 is_processed state window head = not (has_abnormal_bsn window head) && not (has_abnormal_fib state window head)
 
--- (5.2.2) the unit was sent after the far end heard our BIB as it is now
+-- (Q.703 5.2.2) the unit was sent after the far end heard our BIB as it is now
 abbrev pub is_current : BasicState → WindowState → Header → Bool
 is_current state window head = is_processed state window head && same head.fib state.bib
 
--- (5.3.2) the far end's BIB differs from our FIB
+-- (Q.703 5.3.2) the far end's BIB differs from our FIB
 abbrev pub wants_retransmission : BasicState → WindowState → Header → Bool
 wants_retransmission state window head = is_processed state window head && not (same head.bib state.fib)
 
--- (5.2.2) the number after the one last accepted
+-- (Q.703 5.2.2) the number after the one last accepted
 abbrev pub is_repeated : BasicState → Header → Bool
 is_repeated state head = head.fsn == state.accepted
 
 abbrev pub is_successor : BasicState → Header → Bool
-is_successor state head = head.fsn == (state.accepted + 1) % 128
+is_successor state head = head.fsn == (state.accepted + 1) % fsn_count
 
--- (5.2.2 c ii) an MSU is accepted
+-- (Q.703 5.2.2 c ii) an MSU is accepted
 abbrev pub is_accepted : BasicState → WindowState → Header → Bool → Bool
 is_accepted state window head is_msu = is_current state window head && (is_msu && is_successor state head)
 
--- (5.2.2 a ii, c iii) a message is missing: an MSU that is neither the last one again nor the next,
+-- (Q.703 5.2.2 a ii, c iii) a message is missing: an MSU that is neither the last one again nor the next,
 -- or a FISU sent after a message that never came
 abbrev pub is_missing_one : BasicState → WindowState → Header → Bool → Bool
 is_missing_one state window head is_msu =
@@ -166,11 +166,11 @@ window_heard state window head = window_where (is_processed state window head) w
 -- the control when the unit was heard
 abbrev pub control_heard : BasicState → WindowState → Header → Bool → BasicState
 control_heard state window head is_msu = record {
-  -- (5.2.2, 5.2.3) the FSN of an accepted message is the BSN from now on
+  -- (Q.703 5.2.2, 5.2.3) the FSN of an accepted message is the BSN from now on
   accepted = if is_accepted state window head is_msu then head.fsn else state.accepted;
-  -- (5.2.4) a negative acknowledgement inverts the BIB
+  -- (Q.703 5.2.4) a negative acknowledgement inverts the BIB
   bib = if is_missing_one state window head is_msu then not state.bib else state.bib;
-  -- (5.3.2) where the far end asks for retransmission, the FIB becomes the BIB heard
+  -- (Q.703 5.3.2) where the far end asks for retransmission, the FIB becomes the BIB heard
   fib = if wants_retransmission state window head then head.bib else state.fib;
   -- what was asked is answered by the first unit whose FIB is the BIB
   asked = if is_current state window head then is_missing_one state window head is_msu else state.asked;
@@ -183,26 +183,26 @@ control_heard state window head is_msu = record {
 -- The same as a relation of the control and of the window before and after.
 pub record Hears (head : Header) (is_msu : Bool) (old new : BasicState)
     (window window' : WindowState) (part : HeardPart) : Type 0 where
-  -- (5.3.1) the messages up to the BSN are acknowledged, and only they
+  -- (Q.703 5.3.1) the messages up to the BSN are acknowledged, and only they
   pub acked : part.acked ≡ (if is_processed old window head then distance_to window head.bsn else 0)
   pub acknowledges : window' ≡ record window {
     last = if is_processed old window head then head.bsn else window.last;
     unacked = drop part.acked window.unacked;
   }
-  -- (5.2.2, 5.2.3) the FSN of an accepted message is the BSN from now on
+  -- (Q.703 5.2.2, 5.2.3) the FSN of an accepted message is the BSN from now on
   pub accept : part.accept ≡ is_accepted old window head is_msu
   pub accepted : new.accepted ≡ (if part.accept then head.fsn else old.accepted)
-  -- (5.2.4) a negative acknowledgement inverts the BIB
+  -- (Q.703 5.2.4) a negative acknowledgement inverts the BIB
   pub asked : part.asked ≡ is_missing_one old window head is_msu
   pub bib : new.bib ≡ (if part.asked then not old.bib else old.bib)
   -- it is answered by the first unit whose FIB is the BIB
   pub still_asked : new.asked ≡ (if is_current old window head then part.asked else old.asked)
-  -- (5.3.2) a negative acknowledgement starts a retransmission, and the FIB becomes the BIB heard
+  -- (Q.703 5.3.2) a negative acknowledgement starts a retransmission, and the FIB becomes the BIB heard
   pub resend : part.resend ≡ wants_retransmission old window head
   pub fib : new.fib ≡ (if part.resend then head.bib else old.fib)
   -- all that is unacknowledged then waits for retransmission; else what did so still does
   pub cursor : new.cursor ≡ (if part.resend then 0 else old.cursor - part.acked)
-  -- (5.3.1, 5.3.2) two abnormal ones in three consecutive units are told
+  -- (Q.703 5.3.1, 5.3.2) two abnormal ones in three consecutive units are told
   pub fault : part.fault ≡ told_fault (has_abnormal_bsn window head) (has_abnormal_fib old window head) old
   pub bsns : new.bsns ≡ (has_abnormal_bsn window head, old.bsns.0)
   pub fibs : new.fibs ≡ (has_abnormal_fib old window head, old.fibs.0)

@@ -24,6 +24,7 @@ pub struct Basic {
 
 impl Model for Basic {
     ghost use Rattle.std.specs.Prelude.{◌<◌};
+    ghost use Rattle.l2_window.specs.Window.{fsn_count};
     ghost use Rattle.l2_basic.specs.Basic.{BasicState};
 
     ghost Value = { BasicState };
@@ -38,12 +39,13 @@ impl Model for Basic {
       fibs = b.fibs;
     } };
 
-    ghost invariant = { λ b. b.accepted < 128 };
+    ghost invariant = { λ b. b.accepted < fsn_count };
 }
 
 impl Basic {
     ghost use Rattle.std.specs.Prelude.{◌≡◌, ◌-◌, ◌<◌, ◌&&◌, not, if◌then◌else◌};
     ghost use Rattle.l2_window.specs.Control.{fsn_of};
+    ghost use Rattle.l2_window.specs.Window.{fsn_count};
     ghost use Rattle.l2_basic.specs.Basic.{start, same, told_fault, is_repeated, is_successor, IsNext, Hears};
     ghost use Rattle.l2_basic.specs.Basic.{choice_of, head_of, control_after, part_of, window_heard, control_heard};
 
@@ -66,7 +68,7 @@ impl Basic {
     /// The FSN last accepted, 0 to 127; 127 at the beginning.
     pub fn accepted(&self) -> u8
         ensures value { result ≡ self.now.accepted }
-        ensures in_range { result < 128 }
+        ensures in_range { result < fsn_count }
     {
         self.accepted
     }

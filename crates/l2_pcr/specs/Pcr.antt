@@ -2,7 +2,7 @@
 -- link's window.
 use Rattle.std.specs.Prelude.{◌≡◌, ◌≢◌, ℕ, ◌+◌, ◌-◌, ◌%◌, ◌<◌, ◌≤◌, Bool, true, false, not, ◌&&◌, ◌||◌, ◌==◌, nat_lt, nat_le, if◌then◌else◌, Some, None, [], drop, length, slice_get}
 use Rattle.l2_units.specs.declared.unit.Header.{Header}
-use Rattle.l2_window.specs.Window.{WindowState, Sends, fsn_at, last_fsn, distance_to}
+use Rattle.l2_window.specs.Window.{WindowState, Sends, fsn_at, last_fsn, distance_to, fsn_before_first, fsn_count, most_unacked}
 use Rattle.l2_window.specs.Control.{IsMessageAnd, IsFillAnd, has_new, header_of, acked_where, window_where}
 use Rattle.l2_window.specs.declared.control.Choice.{Choice}
 use Rattle.l2_window.specs.declared.control.Choice.TheVariants.{Again, First, Fill}
@@ -12,7 +12,7 @@ use Rattle.l2_signals.specs.declared.cause.ControlFault.TheVariants.{Bsn}
 
 -- what contracts see of one end's control, beside its window
 pub record PcrState : Type 0 where
-  -- so many unacknowledged messages, or so many octets of them, force a retransmission (6.4.2)
+  -- so many unacknowledged messages, or so many octets of them, force a retransmission (Q.703 6.4.2)
   pub n1 : ℕ
   pub n2 : ℕ
   -- the FSN last accepted: it is sent as BSN
@@ -29,7 +29,7 @@ abbrev pub start : ℕ → ℕ → PcrState
 start n1 n2 = record {
   n1 = n1;
   n2 = n2;
-  accepted = 127;
+  accepted = fsn_before_first;
   place = 0;
   forced = false;
   bsns = (false, false);
@@ -41,11 +41,11 @@ start n1 n2 = record {
 abbrev pub round : ℕ → ℕ → ℕ
 round messages place = if nat_lt place messages then place else 0
 
--- (6.4.1) N1 messages are unacknowledged, or messages of N2 octets
+-- (Q.703 6.4.1) N1 messages are unacknowledged, or messages of N2 octets
 abbrev pub is_over_a_limit : PcrState → WindowState → ℕ → Bool
 is_over_a_limit state window octets = nat_le state.n1 (length window.unacked) || nat_le state.n2 octets
 
--- (6.4.1) there is something to send again, and a forced cycle goes on or starts now
+-- (Q.703 6.4.1) there is something to send again, and a forced cycle goes on or starts now
 abbrev pub is_forced : PcrState → WindowState → ℕ → Bool
 is_forced state window octets =
     nat_lt 0 (length window.unacked) && (state.forced || is_over_a_limit state window octets)
@@ -54,7 +54,7 @@ is_forced state window octets =
 abbrev pub cycle_place : Bool → PcrState → WindowState → ℕ
 cycle_place starts state window = if starts then 0 else round (length window.unacked) state.place
 
--- (6.4.1) a forced cycle goes first; (6.3.2) else new messages, and with none the cycle goes on
+-- (Q.703 6.4.1) a forced cycle goes first; (Q.703 6.3.2) else new messages, and with none the cycle goes on
 abbrev pub choice_of : ℕ → PcrState → WindowState → Choice
 choice_of octets state window =
     if is_forced state window octets then Again (cycle_place (not state.forced) state window)
@@ -62,7 +62,7 @@ choice_of octets state window =
     else (if nat_lt 0 (length window.unacked) then Again (cycle_place false state window)
     else Fill))
 
--- the header of each unit sent: the BSN is the FSN last accepted, the indicator bits are always 1 (6)
+-- the header of each unit sent: the BSN is the FSN last accepted, the indicator bits are always 1 (Q.703 6)
 abbrev pub head_of : PcrState → ℕ → Header
 head_of state fsn = header_of state.accepted true fsn true
 
@@ -77,7 +77,7 @@ control_after Fill octets state window = state
 
 -- The same as relations of a sending, of the control and of the window before and after.
 
--- the header of each unit sent: the BSN is the FSN last accepted, the indicator bits are always 1 (6)
+-- the header of each unit sent: the BSN is the FSN last accepted, the indicator bits are always 1 (Q.703 6)
 pub record IsHead (state : PcrState) (number : ℕ) (head : Header) : Type 0 where
   pub bsn : head.bsn ≡ state.accepted
   pub bib : head.bib ≡ true
@@ -105,23 +105,23 @@ pub record Fills (old new : PcrState) (window window' : WindowState) (head : Hea
   pub same_window : window' ≡ window
 
 pub record IsNext (octets : ℕ) (old new : PcrState) (window window' : WindowState) (sending : Sending) : Type 0 where
-  -- (6.4.1) a forced cycle sends all unacknowledged messages, and ends with the last
+  -- (Q.703 6.4.1) a forced cycle sends all unacknowledged messages, and ends with the last
   pub forced : is_forced old window octets ≡ true → let place = cycle_place (not old.forced) old window in
       IsMessageAnd sending (Repeats place (nat_lt (place + 1) (length window.unacked)) old new window window')
-  -- (6.3.2) else new messages go first, with at most 127 unacknowledged
-  pub sends : is_forced old window octets ≡ false → window.unsent ≢ [] → length window.unacked < 127
+  -- (Q.703 6.3.2) else new messages go first, with at most 127 unacknowledged
+  pub sends : is_forced old window octets ≡ false → window.unsent ≢ [] → length window.unacked < most_unacked
       → IsMessageAnd sending (SendsNew old new window window')
-  -- (6.3.2) with no new one the unacknowledged ones are sent cyclically
+  -- (Q.703 6.3.2) with no new one the unacknowledged ones are sent cyclically
   pub cyclic : is_forced old window octets ≡ false → window.unsent ≡ [] → 0 < length window.unacked
       → IsMessageAnd sending (Repeats (cycle_place false old window) false old new window window')
-  pub full : is_forced old window octets ≡ false → 127 ≤ length window.unacked
+  pub full : is_forced old window octets ≡ false → most_unacked ≤ length window.unacked
       → IsMessageAnd sending (Repeats (cycle_place false old window) false old new window window')
   pub idle : is_forced old window octets ≡ false → window.unsent ≡ [] → window.unacked ≡ []
       → IsFillAnd sending (Fills old new window window')
 
 -- WHAT A HEARD FISU OR MSU MEANS.
 
--- (6.3.1) neither the number last acknowledged nor that of an unacknowledged message
+-- (Q.703 6.3.1) neither the number last acknowledged nor that of an unacknowledged message
 abbrev pub has_abnormal_bsn : WindowState → Header → Bool
 has_abnormal_bsn window head = nat_lt (length window.unacked) (distance_to window head.bsn)
 
@@ -129,11 +129,11 @@ has_abnormal_bsn window head = nat_lt (length window.unacked) (distance_to windo
 abbrev pub is_processed : WindowState → Header → Bool
 is_processed window head = not (has_abnormal_bsn window head)
 
--- (6.2.2) an MSU is accepted with the number after the one last accepted, whatever its indicator
+-- (Q.703 6.2.2) an MSU is accepted with the number after the one last accepted, whatever its indicator
 -- bits are, and nothing is ever asked for
 abbrev pub is_accepted : PcrState → WindowState → Header → Bool → Bool
 is_accepted state window head is_msu =
-    not (has_abnormal_bsn window head) && (is_msu && (head.fsn == (state.accepted + 1) % 128))
+    not (has_abnormal_bsn window head) && (is_msu && (head.fsn == (state.accepted + 1) % fsn_count))
 
 -- two of three consecutive units: this one and one of the two before it
 abbrev pub is_second : Bool → Bool × Bool → Bool
@@ -161,7 +161,7 @@ control_heard state window head is_msu =
     let left = length (window_heard window head).unacked in
     let due = state.place - acked_by window head in
     record state {
-      -- (6.2.2) the FSN of an accepted message is the BSN from now on
+      -- (Q.703 6.2.2) the FSN of an accepted message is the BSN from now on
       accepted = if is_accepted state window head is_msu then head.fsn else state.accepted;
       -- the cycle goes on at the message that was due, or with the oldest where that one left
       place = if has_abnormal_bsn window head then state.place else round left due;
@@ -173,13 +173,13 @@ control_heard state window head is_msu =
 -- The same as a relation of the control and of the window before and after.
 pub record Hears (head : Header) (is_msu : Bool) (old new : PcrState)
     (window window' : WindowState) (part : HeardPart) : Type 0 where
-  -- (6.3.1) the messages up to the BSN are acknowledged, and only they
+  -- (Q.703 6.3.1) the messages up to the BSN are acknowledged, and only they
   pub acked : part.acked ≡ (if has_abnormal_bsn window head then 0 else distance_to window head.bsn)
   pub acknowledges : window' ≡ record window {
     last = if has_abnormal_bsn window head then window.last else head.bsn;
     unacked = drop part.acked window.unacked;
   }
-  -- (6.2.2) the FSN of an accepted message is the BSN from now on
+  -- (Q.703 6.2.2) the FSN of an accepted message is the BSN from now on
   pub accept : part.accept ≡ is_accepted old window head is_msu
   pub accepted : new.accepted ≡ (if part.accept then head.fsn else old.accepted)
   pub asked : part.asked ≡ false

@@ -7,8 +7,8 @@
 //! as the answer says.
 //!
 //! Nothing is ever asked for. What isn't acknowledged is sent again and again while there is nothing
-//! new to send (6.3.2). Once N1 messages or N2 octets of them are unacknowledged, a forced cycle
-//! sends each of them once before anything new (6.4.1), from the oldest on (own).
+//! new to send (Q.703 6.3.2). Once N1 messages or N2 octets of them are unacknowledged, a forced cycle
+//! sends each of them once before anything new (Q.703 6.4.1), from the oldest on (own).
 //!
 //! ```text
 //!  unacknowledged              unsent

@@ -23,6 +23,7 @@ pub struct Pcr {
 
 impl Model for Pcr {
     ghost use Rattle.std.specs.Prelude.{◌<◌};
+    ghost use Rattle.l2_window.specs.Window.{fsn_count};
     ghost use Rattle.l2_pcr.specs.Pcr.{PcrState};
 
     ghost Value = { PcrState };
@@ -36,12 +37,13 @@ impl Model for Pcr {
       bsns = p.bsns;
     } };
 
-    ghost invariant = { λ p. p.accepted < 128 };
+    ghost invariant = { λ p. p.accepted < fsn_count };
 }
 
 impl Pcr {
     ghost use Rattle.std.specs.Prelude.{◌≡◌, ◌+◌, ◌-◌, ◌%◌, ◌<◌, ◌&&◌, ◌==◌, true, nat_lt, length, if◌then◌else◌};
     ghost use Rattle.l2_window.specs.Control.{fsn_of};
+    ghost use Rattle.l2_window.specs.Window.{fsn_count};
     ghost use Rattle.l2_pcr.specs.Pcr.{start, is_forced, cycle_place, round, is_second, IsNext, Hears};
     ghost use Rattle.l2_pcr.specs.Pcr.{choice_of, head_of, control_after, part_of, window_heard, control_heard};
 
@@ -64,7 +66,7 @@ impl Pcr {
     /// The FSN last accepted, 0 to 127; 127 at the beginning.
     pub fn accepted(&self) -> u8
         ensures value { result ≡ self.now.accepted }
-        ensures in_range { result < 128 }
+        ensures in_range { result < fsn_count }
     {
         self.accepted
     }
@@ -230,7 +232,7 @@ impl Pcr {
 
     /// Signal unit sequence control (Q.703 6.2.2): whether the unit is accepted.
     fn take(&mut self, head: Header, is_msu: bool) -> bool
-        ensures accept { result ≡ (is_msu && (head.fsn == (self.old.accepted + 1) % 128)) }
+        ensures accept { result ≡ (is_msu && (head.fsn == (self.old.accepted + 1) % fsn_count)) }
         ensures state { self.new ≡ record self.old { accepted = (if result then head.fsn else self.old.accepted) } }
     {
         let accept = is_msu && head.fsn == number_after(self.accepted, 1);

@@ -33,7 +33,8 @@ IsUnit (Msu head body) = (3 ≤ length body.items) × (length body.items ≤ 273
 -- of its first (own); the SIO and SIF themselves
 abbrev pub IsBodyOf : SignalUnit → List ℕ → Type 0
 IsBodyOf (Fisu head) field = field ≡ []
-IsBodyOf (Lssu head status) field = (1 ≤ length field) × (length field ≤ 2) × (slice_index field 0 % 8 ≡ status_number status)
+IsBodyOf (Lssu head status) field =
+    (1 ≤ length field) × (length field ≤ 2) × (slice_index field 0 % 8 ≡ status_number status)
 IsBodyOf (Msu head body) field = (field ≡ body.items) × (3 ≤ length field) × (length field ≤ 273)
 
 -- the length indicator of a body: its length, or 63 where that is 63 or more (Q.703 2.3.3)

@@ -2,7 +2,7 @@
 use Rattle.std.specs.Prelude.{ℕ, ◌%◌, Bool, ◌&&◌, nat_lt, drop, length, if◌then◌else◌}
 use Rattle.l2_units.specs.Grammar.{mod_128}
 use Rattle.l2_units.specs.declared.unit.Header.{Header}
-use Rattle.l2_window.specs.Window.{WindowState, fsn_at, last_fsn, distance_to}
+use Rattle.l2_window.specs.Window.{WindowState, fsn_at, last_fsn, distance_to, fsn_count, most_unacked}
 use Rattle.l2_window.specs.declared.control.Choice.{Choice}
 use Rattle.l2_window.specs.declared.control.Choice.TheVariants.{Again, First, Fill as NoMessage}
 use Rattle.l2_window.specs.declared.control.Sending.{Sending}
@@ -10,11 +10,11 @@ use Rattle.l2_window.specs.declared.control.Sending.TheVariants.{Message, Fill}
 
 -- WHAT IS SENT NEXT.
 
--- (5.2.2) a message can be sent for the first time while fewer than 127 are unacknowledged
+-- (Q.703 5.2.2) a message can be sent for the first time while fewer than 127 are unacknowledged
 abbrev pub has_new : WindowState → Bool
-has_new window = nat_lt 0 (length window.unsent) && nat_lt (length window.unacked) 127
+has_new window = nat_lt 0 (length window.unsent) && nat_lt (length window.unacked) most_unacked
 
--- (5.2.1) the FSN of what is sent: the message's own, or in a FISU that of the last message sent
+-- (Q.703 5.2.1) the FSN of what is sent: the message's own, or in a FISU that of the last message sent
 abbrev pub fsn_of : Choice → WindowState → ℕ
 fsn_of (Again place) window = fsn_at window place
 fsn_of First window = fsn_at window (length window.unacked)
@@ -22,9 +22,9 @@ fsn_of NoMessage window = last_fsn window
 
 abbrev pub header_of : ℕ → Bool → ℕ → Bool → Header
 header_of bsn bib fsn fib = record {
-  bsn = bsn % 128;
+  bsn = bsn % fsn_count;
   bib = bib;
-  fsn = fsn % 128;
+  fsn = fsn % fsn_count;
   fib = fib;
   bsn_in_range = mod_128 bsn;
   fsn_in_range = mod_128 fsn;
@@ -41,7 +41,7 @@ IsFillAnd (Message number head) P = ⊥
 IsFillAnd (Fill head) P = P head
 
 -- WHAT A HEARD UNIT DOES TO THE WINDOW, where it is processed or else discarded whole: the messages
--- up to its BSN are acknowledged, and only they (5.3.1, 6.3.1).
+-- up to its BSN are acknowledged, and only they (Q.703 5.3.1, 6.3.1).
 abbrev pub acked_where : Bool → WindowState → Header → ℕ
 acked_where processed window head = if processed then distance_to window head.bsn else 0
 

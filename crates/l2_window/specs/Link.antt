@@ -3,7 +3,7 @@
 use Rattle.std.specs.Prelude.{◌≡◌, ℕ, ◌+◌, ◌≤◌, Bool, true, Option, None, List, [], ◌∷◌, ◌++◌, take, drop, length, slice_get, is_some, if◌then◌else◌}
 use Rattle.std.specs.Option.{option_to_list}
 use Rattle.l2_units.specs.declared.unit.Header.{Header}
-use Rattle.l2_window.specs.Window.{WindowState, Pushes, Sends}
+use Rattle.l2_window.specs.Window.{WindowState, Pushes, Sends, fsn_before_first}
 use Rattle.l2_window.specs.Control.{fsn_of, window_where}
 use Rattle.l2_window.specs.Line.{Carried}
 use Rattle.l2_window.specs.declared.control.Choice.{Choice}
@@ -142,7 +142,7 @@ module _ {State : Type 0} (rules : Rules State) where
   -- an end at the beginning of its life, its control in this state
   pub record Begins (start : State) (end : End State) : Type 0 where
     pub control : end.control ≡ start
-    pub last : end.window.last ≡ 127
+    pub last : end.window.last ≡ fsn_before_first
     pub unacked : end.window.unacked ≡ []
     pub sent : end.sent ≡ []
     pub took : end.took ≡ []

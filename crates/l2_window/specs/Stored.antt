@@ -1,9 +1,10 @@
 -- Under which condition the fields of a window stand for its lists.
 use Rattle.std.specs.Prelude.{◌≡◌, ◌<◌, ◌≤◌, length}
 use Rattle.l2_window.specs.declared.window.Window.TheInside.{Inside}
+use Rattle.l2_window.specs.Window.{fsn_count, most_unacked}
 
 -- there is storage for 127 unacknowledged messages
 pub record IsStored (fields : Inside) : Type 0 where
-  pub last_in_range : fields.last < 128
-  pub at_most_127 : length fields.unacked.items ≤ 127
-  pub storage : fields.unacked.capacity ≡ 127
+  pub last_in_range : fields.last < fsn_count
+  pub at_most_127 : length fields.unacked.items ≤ most_unacked
+  pub storage : fields.unacked.capacity ≡ most_unacked

@@ -1,10 +1,14 @@
 //! What the error controls of Q.703 5 and 6 answer.
 ghost use Rattle.std.specs.Prelude.{◌≡◌, ◌+◌, ◌%◌, ◌<◌, ◌≤◌};
 ghost use Rattle.l2_window.specs.Control.{fsn_of};
+ghost use Rattle.l2_window.specs.Window.{fsn_count};
 
 use super::window::Window;
 use l2_signals::ControlFault;
 use l2_units::Header;
+
+/// How many FSNs there are: they have seven bits (Q.703 2.2).
+pub(crate) const FSN_COUNT: u8 = 128;
 
 /// What an error control chooses to send next.
 #[derive(Clone, Copy, Debug, PartialEq, Eq)]
@@ -22,10 +26,10 @@ impl Choice {
     /// (Q.703 5.2.1).
     pub fn fsn(self, window: &Window) -> u8
         ensures value { result ≡ fsn_of self window.now }
-        ensures in_range { result < 128 }
+        ensures in_range { result < fsn_count }
     {
         let places = match self {
-            Choice::Again { place } => place % 128 + 1,
+            Choice::Again { place } => place % usize::from(FSN_COUNT) + 1,
             Choice::First => window.unacked_len() + 1,
             Choice::Fill => window.unacked_len(),
         };
@@ -59,10 +63,10 @@ pub struct HeardPart {
 
 /// The sequence number so many places after this one, cyclically from 0 to 127.
 pub fn number_after(number: u8, places: usize) -> u8
-    requires number { number < 128 }
-    requires places { places ≤ 128 }
-    ensures value { result ≡ (number + places) % 128 }
-    ensures in_range { result < 128 }
+    requires number { number < fsn_count }
+    requires places { places ≤ fsn_count }
+    ensures value { result ≡ (number + places) % fsn_count }
+    ensures in_range { result < fsn_count }
 {
-    ((usize::from(number) + places) % 128) as u8
+    ((usize::from(number) + places) % usize::from(FSN_COUNT)) as u8
 }

@@ -1,5 +1,5 @@
 //! The window: what was sent and isn't acknowledged, and what waits to be sent.
-use super::control::number_after;
+use super::control::{FSN_COUNT, number_after};
 use super::fault::WindowFault;
 use super::queue::Queue;
 use circular_buffer::HeapCircularBuffer;
@@ -48,7 +48,8 @@ impl Window {
     ghost use Rattle.std.specs.Option.{SomeIff};
     ghost use Rattle.std.specs.Result.{OkIff};
     ghost use Rattle.l2_window.specs.Control.{has_new};
-    ghost use Rattle.l2_window.specs.Window.{IsWindow, IsEmpty, IsReasonable, SameMessages, Pushes, Sends, Pops, fsn_at, distance_to};
+    ghost use Rattle.l2_window.specs.Window.{IsWindow, IsEmpty, IsReasonable, SameMessages, Pushes, Sends, Pops};
+    ghost use Rattle.l2_window.specs.Window.{fsn_at, distance_to, fsn_count, most_unacked, fsn_before_first};
 
     /// A window with no messages. It takes the storage of all unacknowledged messages, so that
     /// [`Window::send`] takes none.
@@ -133,8 +134,9 @@ impl Window {
     /// [`WindowFault::Full`] with 127 unacknowledged.
     pub fn send(&mut self) -> Result<(u64, u8), WindowFault>
         ensures empty { (result ≡ Err WindowFault.Empty) ↔ (self.old.unsent ≡ []) }
-        ensures full { (result ≡ Err WindowFault.Full) ↔ ((self.old.unsent ≢ []) × (127 ≤ length self.old.unacked)) }
-        ensures succeeds { self.old.unsent ≢ [] → length self.old.unacked < 127 → IsOk result }
+        ensures full { (result ≡ Err WindowFault.Full)
+            ↔ ((self.old.unsent ≢ []) × (most_unacked ≤ length self.old.unacked)) }
+        ensures succeeds { self.old.unsent ≢ [] → length self.old.unacked < most_unacked → IsOk result }
         ensures sent { IfOk result (λ sent. Sends sent.0 self.old self.new) }
         ensures fsn { IfOk result (λ sent. sent.1 ≡ fsn_at self.old (length self.old.unacked)) }
         ensures err { OnErr result (self.new ≡ self.old) }
@@ -153,11 +155,11 @@ impl Window {
     /// How many messages an acknowledgement of this number acknowledges, or nothing where the
     /// number is unreasonable: neither that last acknowledged nor that of an unacknowledged message.
     pub fn distance(&self, number: u8) -> Option<u8>
-        requires { number < 128 }
+        requires { number < fsn_count }
         ensures value { SomeIff result (IsReasonable self.now number) (distance_to self.now number) }
         ensures sound { IsWindow self.now }
     {
-        let distance = (number + 128 - self.last) % 128;
+        let distance = (number + FSN_COUNT - self.last) % FSN_COUNT;
         (usize::from(distance) <= self.unacked.len()).then_some(distance)
     }
 
@@ -166,7 +168,7 @@ impl Window {
     ///
     /// Refusal: 3 [`WindowFault::Unreasonable`].
     pub fn ack(&mut self, number: u8) -> Result<u8, WindowFault>
-        requires { number < 128 }
+        requires { number < fsn_count }
         ensures acked { OkIff result (IsReasonable self.old number) (distance_to self.old number) }
         ensures ok { OnOk result (self.new ≡ record self.old {
           last = number;
@@ -217,7 +219,7 @@ impl Window {
     pub fn reset(&mut self)
         requires unacked { self.old.unacked ≡ [] }
         requires unsent { self.old.unsent ≡ [] }
-        ensures { self.new ≡ record self.old { last = 127 } }
+        ensures { self.new ≡ record self.old { last = fsn_before_first } }
     {
         self.last = BEFORE_FIRST;
     }
@@ -225,7 +227,7 @@ impl Window {
     /// The two rings themselves, that of the unacknowledged messages first.
     pub fn into_rings(self) -> (HeapCircularBuffer<u64>, HeapCircularBuffer<u64>)
         ensures unacked { result.0.items ≡ self.unacked }
-        ensures capacity { result.0.capacity ≡ 127 }
+        ensures capacity { result.0.capacity ≡ most_unacked }
         ensures unsent { result.1.items ≡ self.unsent }
         ensures room { result.1.capacity - length result.1.items ≡ self.room }
     {

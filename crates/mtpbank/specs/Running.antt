@@ -12,7 +12,8 @@ use Rattle.mtpbank.specs.declared.running.TextFault.{TextFault}
 use Rattle.mtpbank.specs.declared.running.TextFault.TheVariants.{Units as UnitsFault, Play as PlayFault}
 
 -- a text of which only the fault, if any, has another type
-pub record IsText {F : Type 0} (IsIt : Printed F → Type 0) (of : F → TextFault) (text : Printed TextFault) : Type 0 where
+pub record IsText {F : Type 0} (IsIt : Printed F → Type 0) (of : F → TextFault)
+    (text : Printed TextFault) : Type 0 where
   pub own : Printed F
   pub is_it : IsIt own
   pub same : text ≡ record { printed = own.printed; fault = option_map of own.fault }
@@ -22,7 +23,8 @@ IsTextOf Units input text = IsText (IsUnitsText input) UnitsFault text
 IsTextOf Play input text = IsText (IsPlayText input) PlayFault text
 
 -- the same answer with a fault of that type
-abbrev pub with_fault : {F : Type 0} → (F → TextFault) → Result (Unit {0}) (Fault F) → Result (Unit {0}) (Fault TextFault)
+abbrev pub with_fault : {F : Type 0} → (F → TextFault) → Result (Unit {0}) (Fault F)
+    → Result (Unit {0}) (Fault TextFault)
 with_fault of (Ok done) = Ok done
 with_fault of (Err (Input fault)) = Err (Input (of fault))
 with_fault of (Err Memory) = Err Memory

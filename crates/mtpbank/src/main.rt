@@ -12,7 +12,7 @@ ghost use Rattle.clap.specs.declared.error.kind.ErrorKind.TheVariants.{DisplayHe
 
 mod running;
 
-use command_line::{Words, WordsFault, not_unicode, words_of};
+use command_line::{Words, WordsFault, asked_by, not_unicode};
 use printing::{Fault, Reader, Writer};
 use running::{TextFault, run};
 use std::io;
@@ -37,14 +37,8 @@ fn asked(rt: &HostRuntime) -> Result<Words, WordsFault> {
         Err(error) if error.kind() == io::ErrorKind::InvalidData => return Err(not_unicode(alloc)),
         Err(_) => return Err(WordsFault::NoMemory),
     };
-    let given: Vec<String> = args.skip(1).collect(alloc)?;
-    let mut words = Vec::new(alloc);
-    for word in &given {
-        if words.push(word.as_str()).is_err() {
-            return Err(WordsFault::NoMemory);
-        }
-    }
-    words_of(alloc, &words)
+    let given: Vec<String> = args.collect(alloc)?;
+    asked_by(alloc, &given)
 }
 
 /// Says what is wrong with the words, on standard error and with status 2, or what they ask to be shown.

@@ -1,6 +1,6 @@
 //! What the subcommands do, over any source and sink.
-ghost use Rattle.std.specs.Prelude.{◌≡◌, ◌≤◌, ◌^◌, true, length, IfErr, IfSome, OnOk};
-ghost use Rattle.printing.specs.Printing.{Prints, IsDevices, HasFailed};
+ghost use Rattle.std.specs.Prelude.{◌≡◌, ◌≤◌, ◌^◌, length, IfSome, OnOk};
+ghost use Rattle.printing.specs.Printing.{Prints, FailsByDevices};
 ghost use Rattle.mtpbank.specs.declared.running.TextFault.TheVariants.{Play as PlayFault, Units as UnitsFault};
 ghost use Rattle.mtpbank.specs.Running.{IsTextOf, with_fault};
 
@@ -29,9 +29,11 @@ pub fn run<S: Source, W: Sink>(
     source: &mut S,
     sink: &mut W,
 ) -> Result<(), Fault<TextFault>>
-    ensures text { IfSome (S.left source.old) (λ input. Prints result (IsTextOf words input) (W.written sink.old) (W.written sink.new)) }
+    ensures text { IfSome (S.left source.old)
+        (λ input. Prints result (IsTextOf words input) (W.written sink.old) (W.written sink.new)) }
     ensures bounded { IfSome (S.left source.old) (λ input. OnOk result (length input ≤ 2 ^ 24)) }
-    ensures devices { IfSome (S.left source.old) (λ input. IfErr result (λ fault. IsDevices fault (HasFailed (S.has_failed source.new) input) (W.has_failed sink.new ≡ true))) }
+    ensures devices { IfSome (S.left source.old)
+        (FailsByDevices result (S.has_failed source.new) (W.has_failed sink.new)) }
 {
     match words {
         Words::Units => of_units(units(alloc, source, sink)),

@@ -3,7 +3,7 @@
 //! To let a world go is dear to prove, and dearer in a function that branches: only `ends` and `has_nothing_to_lose` do so,
 //! in a straight line. Others borrow one, hand it on, or have plain values.
 use pair_world::{End, PlayFault, Shown, Step, World};
-use play_script::step_of;
+use play_script::read_step;
 use set_events::{Event, Fate, Method, SetConfig};
 use std::alloc::Global;
 use std::test::Fail;
@@ -18,7 +18,7 @@ fn end_of(links: u8, own: u16, far: u16) -> Result<SetConfig, Fail> {
 
 /// What this line asks for, if anything.
 fn read(alloc: Global, line: &str) -> Result<Option<Step>, Fail> {
-    let step = step_of(alloc, line.as_bytes())?;
+    let step = read_step(alloc, line.as_bytes())?;
     Ok(step)
 }
 

@@ -139,7 +139,14 @@ pub record SixWords : Type 0 where
 abbrev pub six_words : List ℕ → Option SixWords
 six_words text =
     option_and_then (λ links. option_and_then (λ method. option_and_then (λ a. option_and_then (λ b. option_map (λ sio.
-    record { kind = first_word text; links = first_word links; method = first_word method; code_a = first_word a; code_b = first_word b; sio = sio })
+    record {
+      kind = first_word text;
+      links = first_word links;
+      method = first_word method;
+      code_a = first_word a;
+      code_b = first_word b;
+      sio = sio;
+    })
     (other_words b)) (other_words a)) (other_words method)) (other_words links)) (other_words text)
 
 -- the value of a word NAME=VALUE with this name and its sign
@@ -155,14 +162,20 @@ code_of name word = option_and_then (number_below (2 ^ 16)) (value_in name word)
 abbrev pub sio_of : List ℕ → Option ℕ
 sio_of word = option_and_then octet_of (value_in (codes "sio=") word)
 
--- the limits of the cyclic method, N1:N2
 abbrev pub is_colon : ℕ → Bool
 is_colon c = c == 58
+
+-- the limits of the cyclic method, N1:N2
+abbrev pub n1_of : List ℕ → Option ℕ
+n1_of word = number_below (2 ^ 8) (before_first is_colon word)
+
+abbrev pub n2_of : List ℕ → Option ℕ
+n2_of word = number_below (2 ^ 32) (after_first is_colon word)
 
 abbrev pub limits_of : List ℕ → Option Method
 limits_of word =
     if nat_lt (position_or_len is_colon word) (length word)
-    then option_and_then (λ n1. option_map (Cyclic n1) (number_below (2 ^ 32) (after_first is_colon word))) (number_below (2 ^ 8) (before_first is_colon word))
+    then option_and_then (λ n1. option_map (Cyclic n1) (n2_of word)) (n1_of word)
     else None
 
 -- method=basic or method=cyclic:N1:N2
@@ -174,16 +187,19 @@ method_of word =
 abbrev pub values_of : SixWords → Option Values
 values_of w =
     if bytes_eq w.kind (codes "set")
-    then option_and_then (λ links. option_and_then (λ method. option_and_then (λ a. option_and_then (λ b. option_map (λ sio.
-    record { links = links; method = method; code_a = a; code_b = b; sio = sio })
-    (sio_of w.sio)) (code_of (codes "b=") w.code_b)) (code_of (codes "a=") w.code_a)) (method_of w.method)) (links_of w.links)
+    then option_and_then (λ links. option_and_then (λ method. option_and_then (λ a. option_and_then (λ b.
+    option_map (λ sio. record { links = links; method = method; code_a = a; code_b = b; sio = sio }) (sio_of w.sio))
+    (code_of (codes "b=") w.code_b)) (code_of (codes "a=") w.code_a)) (method_of w.method)) (links_of w.links)
     else None
+
+-- an end with the first of these point codes can be made, whose far end has the other
+abbrev pub is_end_of : Values → ℕ → ℕ → Bool
+is_end_of v own far = is_none (fault_of v.links own far v.sio v.method)
 
 -- values of which both ends can be made
 abbrev pub fitting : Values → Option Values
 fitting v =
-    if is_none (fault_of v.links v.code_a v.code_b v.sio v.method) && is_none (fault_of v.links v.code_b v.code_a v.sio v.method)
-    then Some v else None
+    if is_end_of v v.code_a v.code_b && is_end_of v v.code_b v.code_a then Some v else None
 
 -- what the first line says; None: it's unreadable
 abbrev pub first_line : List ℕ → Option Values

@@ -1,8 +1,8 @@
 //! The script of `play`: what each of its lines asks for.
 //!
-//! A line is words with one space between two. [`opening_of`] reads the first line, which says how both
-//! ends are made; [`step_of`] reads any other as a [`world_steps::Step`]. A line that is none of the script's
-//! is answered by `None`, with no word about why; `step_of` fails only where memory is wanted.
+//! A line is words with one space between two. [`read_opening`] reads the first line, which says how both
+//! ends are made; [`read_step`] reads any other as a [`world_steps::Step`]. A line that is none of the script's
+//! is answered by `None`, with no word about why; `read_step` fails only where memory is wanted.
 //!
 //! | line | asks for |
 //! |---|---|
@@ -18,6 +18,6 @@ mod opening;
 mod reading;
 mod script;
 
-pub use opening::opening_of;
-pub use reading::step_of;
+pub use opening::read_opening;
+pub use reading::read_step;
 pub use script::{Opening, Values};

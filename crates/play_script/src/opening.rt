@@ -1,13 +1,12 @@
 //! The first line of a script: `set links=L method=W a=X b=Y sio=HH`.
-ghost use Rattle.std.specs.Prelude.{◌≡◌, ◌+◌, ◌^◌, ◌<◌, IfOk, MatchOption, None, Some, codes, position, take, drop, length};
-ghost use Rattle.std.specs.Option.{option_and_then, option_map, option_copied, ForSome};
-ghost use Rattle.figures.specs.Figures.{number_below as number_in_range};
-ghost use Rattle.play_script.specs.Script.{is_colon, limits_of as limits_in, method_of as method_in, value_in, links_of as links_in, code_of as code_in, sio_of as sio_in, six_words as six_words_in, values_of as values_in, fitting, first_line};
+ghost use Rattle.std.specs.Prelude.{◌≡◌, ◌+◌, ◌<◌, MatchOption, None, Some, position, length};
+ghost use Rattle.std.specs.Option.{option_copied, ForSome};
+ghost use Rattle.play_script.specs.Script.{is_colon, limits_of, method_of, value_in, links_of, code_of, sio_of, six_words, values_of, fitting, first_line};
 ghost use Rattle.play_script.specs.Opened.{six_of, IsOpening, IsMadeOf};
 
 use super::reading::{cut, is_word};
 use super::script::{Opening, Values};
-use figures::{number_of, octet_of};
+use figures::{read_number, read_octet};
 use set_events::{Method, SetConfig};
 
 /// The words of the first line.
@@ -22,24 +21,24 @@ struct SixWords<'a> {
 }
 
 /// What the first line says; `None`: it's unreadable.
-pub fn opening_of(text: &[u8]) -> Option<Opening>
+pub fn read_opening(text: &[u8]) -> Option<Opening>
     ensures { MatchOption result (first_line text.now ≡ None) (IsOpening text.now) }
 {
-    ends_of(values_of(six_words(text)?)?)
+    ends_of(read_values(read_six_words(text)?)?)
 }
 
 /// The values that the six words give.
-fn values_of(words: SixWords<'_>) -> Option<Values>
-    ensures { result ≡ values_in (six_of words.entry) }
+fn read_values(words: SixWords<'_>) -> Option<Values>
+    ensures { result ≡ values_of (six_of words.entry) }
 {
     if !is_word(words.kind, b"set") {
         return None;
     }
-    let links = links_of(words.links)?;
-    let method = method_of(words.method)?;
-    let code_a = code_of(b"a=", words.code_a)?;
-    let code_b = code_of(b"b=", words.code_b)?;
-    let sio = sio_of(words.sio)?;
+    let links = read_links(words.links)?;
+    let method = read_method(words.method)?;
+    let code_a = read_code(b"a=", words.code_a)?;
+    let code_b = read_code(b"b=", words.code_b)?;
+    let sio = read_sio(words.sio)?;
     Some(Values {
         links,
         method,
@@ -70,8 +69,8 @@ fn ends_of(values: Values) -> Option<Opening>
 }
 
 /// The six words of a line; the sixth may hold spaces.
-fn six_words(text: &[u8]) -> Option<SixWords<'_>>
-    ensures { MatchOption result (six_words_in text.now ≡ None) (λ words. six_words_in text.now ≡ Some (six_of words)) }
+fn read_six_words(text: &[u8]) -> Option<SixWords<'_>>
+    ensures { MatchOption result (six_words text.now ≡ None) (λ words. six_words text.now ≡ Some (six_of words)) }
 {
     let (kind, words) = cut(text);
     let (links, words) = cut(words?);
@@ -105,10 +104,10 @@ fn value_in_word<'a>(name: &[u8], word: &'a [u8]) -> Option<&'a [u8]>
 }
 
 /// `links=L`, L below 256.
-fn links_of(word: &[u8]) -> Option<u8>
-    ensures { result ≡ links_in word.now }
+fn read_links(word: &[u8]) -> Option<u8>
+    ensures { result ≡ links_of word.now }
 {
-    let number = number_of(value_in_word(b"links=", word)?)?;
+    let number = read_number(value_in_word(b"links=", word)?)?;
     if number < 256 {
         Some(number as u8)
     } else {
@@ -117,22 +116,22 @@ fn links_of(word: &[u8]) -> Option<u8>
 }
 
 /// `method=basic` or `method=cyclic:N1:N2`
-fn method_of(word: &[u8]) -> Option<Method>
-    ensures { result ≡ method_in word.now }
+fn read_method(word: &[u8]) -> Option<Method>
+    ensures { result ≡ method_of word.now }
 {
     if is_word(word, b"method=basic") {
         return Some(Method::Basic);
     }
-    limits_of(value_in_word(b"method=cyclic:", word)?)
+    read_limits(value_in_word(b"method=cyclic:", word)?)
 }
 
 /// `N1:N2`, N1 below 256, N2 below 2^32.
-fn limits_of(word: &[u8]) -> Option<Method>
-    ensures { result ≡ limits_in word.now }
+fn read_limits(word: &[u8]) -> Option<Method>
+    ensures { result ≡ limits_of word.now }
 {
     let colon = colon_in(word)?;
-    let n1 = number_of(&word[..colon])?;
-    let n2 = number_of(&word[colon + 1..])?;
+    let n1 = read_number(&word[..colon])?;
+    let n2 = read_number(&word[colon + 1..])?;
     if n1 < 256 && n2 < 0x1_0000_0000 {
         Some(Method::Cyclic {
             n1: n1 as u8,
@@ -152,10 +151,10 @@ fn colon_in(word: &[u8]) -> Option<usize>
 }
 
 /// A point code below 65,536 behind a name and its sign.
-fn code_of(name: &[u8], word: &[u8]) -> Option<u16>
-    ensures { result ≡ code_in name.now word.now }
+fn read_code(name: &[u8], word: &[u8]) -> Option<u16>
+    ensures { result ≡ code_of name.now word.now }
 {
-    let number = number_of(value_in_word(name, word)?)?;
+    let number = read_number(value_in_word(name, word)?)?;
     if number < 65_536 {
         Some(number as u16)
     } else {
@@ -164,8 +163,8 @@ fn code_of(name: &[u8], word: &[u8]) -> Option<u16>
 }
 
 /// `sio=HH`
-fn sio_of(word: &[u8]) -> Option<u8>
-    ensures { result ≡ sio_in word.now }
+fn read_sio(word: &[u8]) -> Option<u8>
+    ensures { result ≡ sio_of word.now }
 {
-    octet_of(value_in_word(b"sio=", word)?)
+    read_octet(value_in_word(b"sio=", word)?)
 }

@@ -2,9 +2,9 @@
 ghost use Rattle.std.specs.Prelude.{◌≡◌, ◌<◌, IfOk, length, position};
 ghost use Rattle.std.specs.Option.{option_map, option_copied, ForSome};
 ghost use Rattle.std.specs.Str.{bytes_eq};
-ghost use Rattle.play_script.specs.Script.{is_space, first_word, other_words, end_of as end_in, link_of as link_in, some_octets as octets_in, step_of as step_in, step_at as step_at_in, together as together_in, offer as offer_in, body_of as body_in, take_message as take_in, find as find_in, lose as lose_in, hear as hear_in, unit_of as unit_in, on_link as on_link_in, link_event as link_event_in};
+ghost use Rattle.play_script.specs.Script.{is_space, first_word, other_words, end_of, link_of, some_octets, step_of, step_at, together, offer, body_of, take_message, find, lose, hear, unit_of, on_link, link_event};
 
-use figures::{number_of, octets_of};
+use figures::{read_number, read_octets};
 use l2_units::{Unit, read};
 use set_events::{Body, Event};
 use std::alloc::{AllocError, Global};
@@ -13,19 +13,19 @@ use world_steps::{End, Step};
 /// The step that a line after the first asks for; `None`: it's unreadable.
 ///
 /// A link's number over 255 is read as 255, since no world has either link.
-pub fn step_of(alloc: Global, text: &[u8]) -> Result<Option<Step>, AllocError>
-    ensures { IfOk result (λ step. step ≡ step_in text.now) }
+pub fn read_step(alloc: Global, text: &[u8]) -> Result<Option<Step>, AllocError>
+    ensures { IfOk result (λ step. step ≡ step_of text.now) }
 {
     let (name, words) = cut(text);
     let Some(words) = words else {
         return Ok(None);
     };
     if is_word(name, b"together") {
-        return Ok(together(words));
+        return Ok(read_together(words));
     }
     let (word, words) = cut(words);
-    match end_of(word) {
-        Some(end) => step_at(alloc, name, end, words),
+    match read_end(word) {
+        Some(end) => read_step_at(alloc, name, end, words),
         None => Ok(None),
     }
 }
@@ -57,8 +57,8 @@ fn space_in(words: &[u8]) -> Option<usize>
 }
 
 /// An end's name.
-fn end_of(word: &[u8]) -> Option<End>
-    ensures { result ≡ end_in word.now }
+fn read_end(word: &[u8]) -> Option<End>
+    ensures { result ≡ end_of word.now }
 {
     if is_word(word, b"a") {
         Some(End::A)
@@ -70,10 +70,10 @@ fn end_of(word: &[u8]) -> Option<End>
 }
 
 /// A link's number.
-fn link_of(word: &[u8]) -> Option<u8>
-    ensures { result ≡ link_in word.now }
+fn read_link(word: &[u8]) -> Option<u8>
+    ensures { result ≡ link_of word.now }
 {
-    let number = number_of(word)?;
+    let number = read_number(word)?;
     if number < 256 {
         Some(number as u8)
     } else {
@@ -82,57 +82,57 @@ fn link_of(word: &[u8]) -> Option<u8>
 }
 
 /// Octets in hexadecimal, at least one.
-fn some_octets(alloc: Global, word: &[u8]) -> Result<Option<Vec<u8>>, AllocError>
-    ensures { IfOk result (λ found. option_map (λ octets. octets.items) found ≡ octets_in word.now) }
+fn read_some_octets(alloc: Global, word: &[u8]) -> Result<Option<Vec<u8>>, AllocError>
+    ensures { IfOk result (λ found. option_map (λ octets. octets.items) found ≡ some_octets word.now) }
 {
     if word.is_empty() {
         return Ok(None);
     }
-    octets_of(alloc, word)
+    read_octets(alloc, word)
 }
 
 /// `together LINK`, behind the name.
-fn together(words: &[u8]) -> Option<Step>
-    ensures { result ≡ together_in words.now }
+fn read_together(words: &[u8]) -> Option<Step>
+    ensures { result ≡ together words.now }
 {
-    let link = link_of(words)?;
+    let link = read_link(words)?;
     Some(Step::Together { link })
 }
 
 /// The step of this name at an end, from the words behind the end.
-fn step_at(
+fn read_step_at(
     alloc: Global,
     name: &[u8],
     end: End,
     words: Option<&[u8]>,
 ) -> Result<Option<Step>, AllocError>
-    ensures { IfOk result (λ step. step ≡ step_at_in name.now end (option_copied words.entry)) }
+    ensures { IfOk result (λ step. step ≡ step_at name.now end (option_copied words.entry)) }
 {
     if is_word(name, b"offer") {
-        return offer(alloc, end, words);
+        return read_offer(alloc, end, words);
     }
     if is_word(name, b"take") {
-        return Ok(take(end, words));
+        return Ok(read_take(end, words));
     }
     let Some(words) = words else {
         return Ok(None);
     };
     if is_word(name, b"find") {
-        Ok(find(end, words))
+        Ok(read_find(end, words))
     } else if is_word(name, b"lose") {
-        Ok(lose(end, words))
+        Ok(read_lose(end, words))
     } else if is_word(name, b"hear") {
-        hear(alloc, end, words)
+        read_hear(alloc, end, words)
     } else {
-        Ok(on_link(name, end, words))
+        Ok(read_on_link(name, end, words))
     }
 }
 
 /// `offer END HEX`, or `offer END` for the empty body.
-fn offer(alloc: Global, end: End, words: Option<&[u8]>) -> Result<Option<Step>, AllocError>
-    ensures { IfOk result (λ step. step ≡ offer_in end (option_copied words.entry)) }
+fn read_offer(alloc: Global, end: End, words: Option<&[u8]>) -> Result<Option<Step>, AllocError>
+    ensures { IfOk result (λ step. step ≡ offer end (option_copied words.entry)) }
 {
-    match body_of(alloc, words)? {
+    match read_body(alloc, words)? {
         Some(body) => Ok(Some(Step::Act {
             end,
             event: Event::Offer { body },
@@ -142,21 +142,21 @@ fn offer(alloc: Global, end: End, words: Option<&[u8]>) -> Result<Option<Step>, 
 }
 
 /// The body that the last word gives, or the empty one where there is no word.
-fn body_of(alloc: Global, word: Option<&[u8]>) -> Result<Option<Body>, AllocError>
-    ensures { IfOk result (λ body. body ≡ body_in (option_copied word.entry)) }
+fn read_body(alloc: Global, word: Option<&[u8]>) -> Result<Option<Body>, AllocError>
+    ensures { IfOk result (λ body. body ≡ body_of (option_copied word.entry)) }
 {
     let Some(word) = word else {
         return Ok(Some(Body::from_vec(Vec::new(alloc))));
     };
-    match some_octets(alloc, word)? {
+    match read_some_octets(alloc, word)? {
         Some(octets) => Ok(Some(Body::from_vec(octets))),
         None => Ok(None),
     }
 }
 
 /// `take END`
-fn take(end: End, words: Option<&[u8]>) -> Option<Step>
-    ensures { result ≡ take_in end (option_copied words.entry) }
+fn read_take(end: End, words: Option<&[u8]>) -> Option<Step>
+    ensures { result ≡ take_message end (option_copied words.entry) }
 {
     match words {
         Some(_) => None,
@@ -168,10 +168,10 @@ fn take(end: End, words: Option<&[u8]>) -> Option<Step>
 }
 
 /// `find END NUMBER`
-fn find(end: End, words: &[u8]) -> Option<Step>
-    ensures { result ≡ find_in end words.now }
+fn read_find(end: End, words: &[u8]) -> Option<Step>
+    ensures { result ≡ find end words.now }
 {
-    let number = number_of(words)?;
+    let number = read_number(words)?;
     Some(Step::Act {
         end,
         event: Event::Find { number },
@@ -179,34 +179,34 @@ fn find(end: End, words: &[u8]) -> Option<Step>
 }
 
 /// `lose END LINK PLACE`
-fn lose(end: End, words: &[u8]) -> Option<Step>
-    ensures { result ≡ lose_in end words.now }
+fn read_lose(end: End, words: &[u8]) -> Option<Step>
+    ensures { result ≡ lose end words.now }
 {
     let (word, words) = cut(words);
-    let link = link_of(word)?;
-    let place = number_of(words?)?;
+    let link = read_link(word)?;
+    let place = read_number(words?)?;
     Some(Step::Lose { end, link, place })
 }
 
 /// `hear END LINK HEX`
-fn hear(alloc: Global, end: End, words: &[u8]) -> Result<Option<Step>, AllocError>
-    ensures { IfOk result (λ step. step ≡ hear_in end words.now) }
+fn read_hear(alloc: Global, end: End, words: &[u8]) -> Result<Option<Step>, AllocError>
+    ensures { IfOk result (λ step. step ≡ hear end words.now) }
 {
     let (word, words) = cut(words);
-    let (Some(link), Some(word)) = (link_of(word), words) else {
+    let (Some(link), Some(word)) = (read_link(word), words) else {
         return Ok(None);
     };
-    match unit_of(alloc, word)? {
+    match read_unit(alloc, word)? {
         Some(unit) => Ok(Some(Step::Inject { end, link, unit })),
         None => Ok(None),
     }
 }
 
 /// The unit that a word gives: its octets, without check octets.
-fn unit_of(alloc: Global, word: &[u8]) -> Result<Option<Unit>, AllocError>
-    ensures { IfOk result (λ unit. unit ≡ unit_in word.now) }
+fn read_unit(alloc: Global, word: &[u8]) -> Result<Option<Unit>, AllocError>
+    ensures { IfOk result (λ unit. unit ≡ unit_of word.now) }
 {
-    let Some(octets) = some_octets(alloc, word)? else {
+    let Some(octets) = read_some_octets(alloc, word)? else {
         return Ok(None);
     };
     match read(&octets) {
@@ -216,23 +216,23 @@ fn unit_of(alloc: Global, word: &[u8]) -> Result<Option<Unit>, AllocError>
 }
 
 /// `emit END LINK`, `arrive END LINK`, and the events that a word tells of a link
-fn on_link(name: &[u8], end: End, words: &[u8]) -> Option<Step>
-    ensures { result ≡ on_link_in name.now end words.now }
+fn read_on_link(name: &[u8], end: End, words: &[u8]) -> Option<Step>
+    ensures { result ≡ on_link name.now end words.now }
 {
-    let link = link_of(words)?;
+    let link = read_link(words)?;
     if is_word(name, b"emit") {
         return Some(Step::Emit { end, link });
     }
     if is_word(name, b"arrive") {
         return Some(Step::Arrive { end, link });
     }
-    let event = link_event(name, link)?;
+    let event = read_link_event(name, link)?;
     Some(Step::Act { end, event })
 }
 
 /// What `down`, `blind`, `noanswer`, `restore` and `backtimeout` tell of a link.
-fn link_event(name: &[u8], link: u8) -> Option<Event>
-    ensures { result ≡ link_event_in name.now link }
+fn read_link_event(name: &[u8], link: u8) -> Option<Event>
+    ensures { result ≡ link_event name.now link }
 {
     if is_word(name, b"down") {
         Some(Event::Down { link })

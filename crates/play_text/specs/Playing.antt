@@ -84,7 +84,8 @@ AdvancesOrHalts result old octets before after new =
     MatchResult result (λ done. Advances old octets before after new) (λ stop. Halts stop old octets before after)
 
 -- the script was played to its end, and what it prints then was added
-pub record Finishes (result : Result (Unit {0}) (Stop ScriptFault)) (old : Reading) (before after : List ℕ) : Type 0 where
+pub record Finishes (result : Result (Unit {0}) (Stop ScriptFault)) (old : Reading)
+    (before after : List ℕ) : Type 0 where
   pub printed : List ℕ
   pub added : after ≡ before ++ printed
   pub ends : MatchResult result

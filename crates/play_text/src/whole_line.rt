@@ -1,15 +1,14 @@
 //! What a whole line of a script does, and what is printed when the script has ended.
 ghost use Rattle.std.specs.Prelude.{◌≡◌, ◌≤◌, ◌++◌, [], Some, length, IfOk, MatchResult};
-ghost use Rattle.std.specs.Option.{option_copied};
 ghost use Rattle.printing.specs.declared.fault.Stop.TheVariants.{Memory};
-ghost use Rattle.play_script.specs.Script.{first_line, step_of as step_in};
-ghost use Rattle.play_text.specs.PlayText.{ends_text as text_of_ends, is_remark as is_remark_in, prints, opened as opened_in, asked, on_line, at_the_end};
+ghost use Rattle.play_script.specs.Script.{first_line, step_of};
+ghost use Rattle.play_text.specs.PlayText.{ends_text, is_remark as is_remark_in, prints, opened as opened_in, asked, on_line, at_the_end};
 ghost use Rattle.play_text.specs.Playing.{Tells, IsDone, IsGone};
 
 use super::fault::ScriptFault;
-use answer_texts::{end_text, shown_text};
+use answer_texts::{write_end, write_shown};
 use pair_world::{End, PlayFault, World};
-use play_script::{opening_of, step_of};
+use play_script::{read_opening, read_step};
 use printing::Stop;
 use std::alloc::{AllocError, Global};
 
@@ -57,9 +56,10 @@ fn is_remark(text: &[u8]) -> bool
 
 /// The world that the first line asks for.
 fn opened(alloc: Global, text: &[u8], line: u64) -> Result<World, Stop<ScriptFault>>
-    ensures { MatchResult result (λ world. opened_in line (first_line text.now) ≡ prints [] (Some world)) (λ stop. Tells stop (opened_in line (first_line text.now))) }
+    ensures { MatchResult result (λ world. opened_in line (first_line text.now) ≡ prints [] (Some world))
+        (λ stop. Tells stop (opened_in line (first_line text.now))) }
 {
-    let Some(opening) = opening_of(text) else {
+    let Some(opening) = read_opening(text) else {
         return Err(Stop::Input(ScriptFault::Text { line }));
     };
     match World::new(alloc, &opening.a, &opening.b) {
@@ -77,9 +77,9 @@ fn carry_out(
     line: u64,
     out: &mut Vec<u8>,
 ) -> Result<World, Stop<ScriptFault>>
-    ensures { IsGone result (asked line world (step_in text.now)) out.old.items out.new.items }
+    ensures { IsGone result (asked line world (step_of text.now)) out.old.items out.new.items }
 {
-    let step = match step_of(alloc, text) {
+    let step = match read_step(alloc, text) {
         Ok(Some(step)) => step,
         Ok(None) => return Err(Stop::Input(ScriptFault::Text { line })),
         Err(_) => return Err(Stop::Memory),
@@ -91,7 +91,7 @@ fn carry_out(
         Err(PlayFault::Exhausted) => return Err(Stop::Input(ScriptFault::Exhausted)),
         Err(PlayFault::Links) => unreachable!(),
     };
-    let Ok(text) = shown_text(alloc, &shown) else {
+    let Ok(text) = write_shown(alloc, &shown) else {
         return Err(Stop::Memory);
     };
     match out.extend_from_slice(&text) {
@@ -106,12 +106,13 @@ pub(crate) fn add_ends(
     world: &Option<World>,
     out: &mut Vec<u8>,
 ) -> Result<(), Stop<ScriptFault>>
-    ensures { MatchResult result (λ done. out.new.items ≡ out.old.items ++ at_the_end world.now) (λ stop. (stop ≡ Memory) × (out.new.items ≡ out.old.items)) }
+    ensures { MatchResult result (λ done. out.new.items ≡ out.old.items ++ at_the_end world.now)
+        (λ stop. (stop ≡ Memory) × (out.new.items ≡ out.old.items)) }
 {
     let Some(world) = world else {
         return Ok(());
     };
-    let Ok(text) = ends_text(alloc, world) else {
+    let Ok(text) = write_ends(alloc, world) else {
         return Err(Stop::Memory);
     };
     match out.extend_from_slice(&text) {
@@ -121,10 +122,10 @@ pub(crate) fn add_ends(
 }
 
 /// How the messages of both ends stand, a first.
-fn ends_text(alloc: Global, world: &World) -> Result<Vec<u8>, AllocError>
-    ensures { IfOk result (λ text. text.items ≡ text_of_ends world.now) }
+fn write_ends(alloc: Global, world: &World) -> Result<Vec<u8>, AllocError>
+    ensures { IfOk result (λ text. text.items ≡ ends_text world.now) }
 {
-    let mut text = end_text(alloc, End::A, world.counts(End::A))?;
-    text.extend_from_slice(&end_text(alloc, End::B, world.counts(End::B))?)?;
+    let mut text = write_end(alloc, End::A, world.counts(End::A))?;
+    text.extend_from_slice(&write_end(alloc, End::B, world.counts(End::B))?)?;
     Ok(text)
 }

@@ -1,5 +1,5 @@
 -- A text that is printed while another is read: what calls print, and what the devices give and take.
-use Rattle.std.specs.Prelude.{◌≡◌, ℕ, ◌+◌, ◌^◌, ◌≤◌, Bool, true, ◌⊎◌, List, [], ◌++◌, length, Option, Some, None, Result, Ok, Err, MatchResult, OnOk}
+use Rattle.std.specs.Prelude.{◌≡◌, ℕ, ◌+◌, ◌^◌, ◌≤◌, Bool, true, ◌⊎◌, List, [], ◌++◌, length, Option, Some, None, Result, Ok, Err, MatchResult, OnOk, IfErr}
 use Rattle.std.specs.Io.KnownBytes.{Appends}
 use Rattle.printing.specs.declared.device.DeviceFault.{DeviceFault}
 use Rattle.printing.specs.declared.fault.Stop.{Stop}
@@ -42,7 +42,8 @@ fault_of (InputStops fault) = Input fault
 fault_of MemoryStops = Memory
 
 -- what a printer answered, where all that it printed was written
-abbrev pub answer_of : {F : Type 0} → Result (Unit {0}) (Stop F) → Result (Unit {0}) DeviceFault → Result (Unit {0}) (Fault F)
+abbrev pub answer_of : {F : Type 0} → Result (Unit {0}) (Stop F) → Result (Unit {0}) DeviceFault
+    → Result (Unit {0}) (Fault F)
 answer_of read (Err fault) = Err Write
 answer_of (Ok done) (Ok all) = Ok tt
 answer_of (Err stop) (Ok all) = Err (fault_of stop)
@@ -166,3 +167,8 @@ IsDevices Write reader_failed writer_failed = writer_failed
 -- an input of 2^24 octets or more counts as a reader's failure
 abbrev pub HasFailed : Bool → List ℕ → Type 0
 HasFailed failed input = (failed ≡ true) ⊎ (2 ^ 24 ≤ length input)
+
+-- which devices have failed, and the input that was there
+abbrev pub FailsByDevices : {F : Type 0} → Result (Unit {0}) (Fault F) → Bool → Bool → List ℕ → Type 0
+FailsByDevices result reader_failed writer_failed input =
+    IfErr result (λ fault. IsDevices fault (HasFailed reader_failed input) (writer_failed ≡ true))

@@ -1,6 +1,6 @@
 //! Prints the whole text of a source to a sink.
 ghost use Rattle.std.specs.Prelude.{◌≡◌, ◌+◌, ◌<◌, ◌≤◌, ◌^◌, true, [], take, length, IfErr, IfSome, OnOk, OnErr};
-ghost use Rattle.printing.specs.Printing.{Writes, answer_of, PassesOrBreaks, Closes, Prints, IsDevices, HasFailed};
+ghost use Rattle.printing.specs.Printing.{Writes, answer_of, PassesOrBreaks, Closes, Prints, IsDevices, FailsByDevices};
 
 use super::device::{DeviceFault, Sink, Source};
 use super::fault::{Fault, Stop, fault_of};
@@ -29,8 +29,8 @@ pub fn print_all<P: Printer + Drop, S: Source, W: Sink>(
     ensures text { IfSome (S.left source.old)
         (λ input. Prints result (P.is_text input) (W.written sink.old) (W.written sink.new)) }
     ensures bounded { IfSome (S.left source.old) (λ input. OnOk result (length input ≤ 2 ^ 24)) }
-    ensures devices { IfSome (S.left source.old) (λ input. IfErr result
-        (λ fault. IsDevices fault (HasFailed (S.has_failed source.new) input) (W.has_failed sink.new ≡ true))) }
+    ensures devices { IfSome (S.left source.old)
+        (FailsByDevices result (S.has_failed source.new) (W.has_failed sink.new)) }
 {
     let mut left = LONGEST_INPUT as usize;
     for _ in 0..LONGEST_INPUT {

@@ -7,6 +7,7 @@ use Rattle.set_events.specs.declared.event.Actor.TheVariants.{User, Terminal}
 use Rattle.set_events.specs.declared.event.Event.{Event}
 use Rattle.set_events.specs.declared.event.Event.TheVariants.{Offer, Take, Find, Next, Heard, Up, Down, DownBlind, NoAnswer, Restore, BackTimeout}
 use Rattle.set_model.specs.Step.{messages_in, octets_of}
+use Rattle.set_model.specs.History.{longest_history}
 
 -- one call more of this number
 abbrev pub one_more : ℕ → List ℕ → List ℕ
@@ -52,8 +53,8 @@ pub record BooksGain (old : Books) (who : Actor) (event : Event) (answer : Answe
 
 -- a set has at most 2^48 entries, and each brings one call, at most one message, and at most 273 octets
 pub record AreBounded (books : Books) : Type 0 where
-  pub user_calls : All (λ n. n ≤ 2 ^ 48) books.user_calls
-  pub term_calls : All (λ n. n ≤ 2 ^ 48) books.term_calls
-  pub messages : books.messages ≤ 2 ^ 48
-  pub octets : books.octets ≤ 273 * 2 ^ 48
+  pub user_calls : All (λ n. n ≤ longest_history) books.user_calls
+  pub term_calls : All (λ n. n ≤ longest_history) books.term_calls
+  pub messages : books.messages ≤ longest_history
+  pub octets : books.octets ≤ 273 * longest_history
   pub acknowledged : books.acknowledged ≤ books.messages

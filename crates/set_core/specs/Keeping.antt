@@ -1,12 +1,12 @@
--- What every set keeps beside the model: its history is legal, what it keeps agrees with the state after it, and its tally
--- is that history's.
+-- What every set keeps beside the model: its history is legal, what it keeps agrees with the state after it, and its
+-- tally is that history's.
 use Rattle.std.specs.Prelude.{◌≡◌, ◌≤◌, ◌+◌, ◌*◌, ◌^◌, List, length, sum}
 use Rattle.set_events.specs.declared.history.Entry.{Entry}
 use Rattle.set_core.specs.declared.tally.Tally.{Tally}
 use Rattle.set_model.specs.State.{State}
 use Rattle.set_model.specs.Sound.{AreFew}
 use Rattle.set_model.specs.Rows.{counts_of, total_of}
-use Rattle.set_model.specs.History.{LinkSet, IsLegal, after, is_user, is_terminal, calls_from, messages_of, octets_in_all}
+use Rattle.set_model.specs.History.{LinkSet, IsLegal, after, is_user, is_terminal, calls_from, messages_of, octets_in_all, longest_history}
 use Rattle.set_step.specs.Agreement.{Kept, Agrees}
 
 -- what the set held when it was opened, all that was asked and answered since, and what it holds after that
@@ -29,6 +29,6 @@ pub record IsKept (opening : State) (kept : Kept) (tally : Tally) (history : Lis
   -- each accepted message stands in one place
   pub placed : total_of (counts_of (after opening history).rows) ≡ messages_of history
   -- the bounds
-  pub short : length history ≤ 2 ^ 48
+  pub short : length history ≤ longest_history
   pub octets : octets_in_all history ≤ 273 * length history
   pub few : AreFew (length history) (after opening history)

@@ -1,14 +1,12 @@
 //! Whether a list of entries is the history of a set.
-ghost use Rattle.std.specs.Prelude.{◌≡◌, ◌<◌, ◌^◌, ◌↔◌, length, IfOk, IsTrue};
+ghost use Rattle.std.specs.Prelude.{◌≡◌, ◌<◌, ◌↔◌, length, IfOk, IsTrue};
 ghost use Rattle.set_model.specs.State.{new_state};
-ghost use Rattle.set_model.specs.History.{IsActor, IsLegal};
+ghost use Rattle.set_model.specs.History.{IsActor, IsLegal, longest_history};
 
+use super::set::LONGEST_HISTORY;
 use set_events::{Actor, Entry, SetConfig};
 use set_step::{Core, SetFault};
 use std::alloc::Global;
-
-/// The most entries of a history, 2^48.
-const LONGEST_HISTORY: usize = 0x1_0000_0000_0000;
 
 /// Whether these entries, in order, are a legal history of a set that is opened with this
 /// configuration: each is of an actor in range, and has the answer that such a set gives then. They
@@ -18,7 +16,7 @@ const LONGEST_HISTORY: usize = 0x1_0000_0000_0000;
 /// 1 [`SetFault::NoMemory`] only where memory was refused.
 pub fn audit(alloc: Global, config: &SetConfig, entries: &[Entry]) -> Result<bool, SetFault>
     ensures legal { IfOk result (λ is_legal. IsTrue is_legal ↔ IsLegal (new_state config.now) entries.now) }
-    ensures exhausted { (result ≡ Err SetFault.Exhausted) ↔ (2 ^ 48 < length entries.now) }
+    ensures exhausted { (result ≡ Err SetFault.Exhausted) ↔ (longest_history < length entries.now) }
 {
     if entries.len() > LONGEST_HISTORY {
         return Err(SetFault::Exhausted);

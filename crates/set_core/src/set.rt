@@ -8,7 +8,7 @@ use std::alloc::Global;
 use std::marker::Model;
 
 /// The most entries of a history, 2^48.
-const LONGEST_HISTORY: usize = 0x1_0000_0000_0000;
+pub(crate) const LONGEST_HISTORY: usize = 0x1_0000_0000_0000;
 
 /// One set of links. Contracts see what it held when it was opened, what it holds, and its history.
 ///
@@ -48,7 +48,7 @@ impl SetCore {
     ghost use Rattle.set_model.specs.Rows.{place, counts_of, total_of};
     ghost use Rattle.set_core.specs.Gaining.{BooksGain, AreBounded};
     ghost use Rattle.set_step.specs.Agreement.{Agrees};
-    ghost use Rattle.set_model.specs.History.{new_set, IsStep, IsActor, IsLegal, after, books_of, messages_of};
+    ghost use Rattle.set_model.specs.History.{new_set, IsStep, IsActor, IsLegal, after, books_in, messages_of, longest_history};
 
     /// A set as this configuration has it: no messages, no link up, no history.
     ///
@@ -75,9 +75,9 @@ impl SetCore {
     pub fn apply(&mut self, who: Actor, event: &Event) -> Result<Answer, SetFault>
         requires { IsActor who }
         ensures ok { IfOk result (λ answer. IsStep self.old who event.now answer self.new) }
-        ensures gains { IfOk result (λ answer. BooksGain (books_of self.old.opening self.old.history) who event.now answer (books_of self.new.opening self.new.history)) }
-        ensures bounded { IfOk result (λ answer. AreBounded (books_of self.new.opening self.new.history)) }
-        ensures exhausted { (result ≡ Err SetFault.Exhausted) ↔ (2 ^ 48 ≤ length self.old.history) }
+        ensures gains { IfOk result (λ answer. BooksGain (books_in self.old) who event.now answer (books_in self.new)) }
+        ensures bounded { IfOk result (λ answer. AreBounded (books_in self.new)) }
+        ensures exhausted { (result ≡ Err SetFault.Exhausted) ↔ (longest_history ≤ length self.old.history) }
         ensures err { OnErr result (self.new ≡ self.old) }
     {
         if self.history.len() >= LONGEST_HISTORY {
@@ -156,7 +156,7 @@ impl SetCore {
     /// What the history adds up to: each entry is the call of one actor, and the messages stand in
     /// the places that [`SetCore::counts`] tells.
     pub fn books(&self) -> Books
-        ensures value { result ≡ books_of self.now.opening self.now.history }
+        ensures value { result ≡ books_in self.now }
         ensures bounded { AreBounded result }
         ensures placed { total_of (counts_of self.now.state.rows) ≡ result.messages }
         ensures calls { sum result.user_calls + sum result.term_calls ≡ length self.now.history }
@@ -172,7 +172,7 @@ impl SetCore {
 
     /// How many of the users' messages are acknowledged, as [`SetCore::books`] tells it too.
     pub fn acknowledged(&self) -> u64
-        ensures { result ≡ (books_of self.now.opening self.now.history).acknowledged }
+        ensures { result ≡ (books_in self.now).acknowledged }
     {
         self.core.counts().acked
     }
@@ -196,7 +196,7 @@ impl SetCore {
     pub fn replays(&self)
         ensures legal { IsLegal self.now.opening self.now.history }
         ensures agrees { self.now.state ≡ after self.now.opening self.now.history }
-        ensures short { length self.now.history ≤ 2 ^ 48 }
+        ensures short { length self.now.history ≤ longest_history }
     {
         let _ = &self.core;
     }

@@ -6,11 +6,19 @@ use Rattle.set_events.specs.declared.config.ConfigFault.{ConfigFault}
 use Rattle.set_events.specs.declared.config.ConfigFault.TheVariants.{Links, PointCode, Sio}
 use Rattle.set_events.specs.Method.{method_fault}
 
+-- a signalling link code has four bits (Q.704 15.2)
+abbrev pub most_links : ℕ
+most_links = 16
+
+-- a point code has 14 bits (Q.704 2.2)
+abbrev pub point_codes : ℕ
+point_codes = 16384
+
 -- the first fault of these values, in the order of the refusals
 abbrev pub fault_of : ℕ → ℕ → ℕ → ℕ → Method → Option ConfigFault
 fault_of links opc dpc sio method =
-    if nat_le 1 links && nat_le links 16
-    then (if nat_lt opc 16384 && nat_lt dpc 16384
+    if nat_le 1 links && nat_le links most_links
+    then (if nat_lt opc point_codes && nat_lt dpc point_codes
     then (if sio % 16 == 0 then method_fault method else Some Sio)
     else Some PointCode)
     else Some Links

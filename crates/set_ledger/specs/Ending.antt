@@ -42,14 +42,16 @@ abbrev pub AreFaithful : List Entry → List SeatState → List SeatState → Ty
 AreFaithful history users terminals = All (IsFaithful history) users × All (IsFaithful history) terminals
 
 -- CLOSED: what a set was opened as, its history and totals, once its seats are back.
-pub record IsClosed (users terminals : List SeatState) (opening : State) (history : List Entry) (books : Books) (counts : Counts) : Type 0 where
+pub record IsClosed (users terminals : List SeatState) (opening : State) (history : List Entry) (books : Books)
+    (counts : Counts) : Type 0 where
   pub legal : IsLegal opening history
   pub books_are : books ≡ books_of opening history
   pub counts_are : counts ≡ counts_of (after opening history).rows
   pub users_faithful : All (IsFaithful history) users
   pub terminals_faithful : All (IsFaithful history) terminals
   -- the totals are the sums of the shares
-  pub calls : length history ≡ sum_by (λ (seat : SeatState). seat.share.calls) users + sum_by (λ (seat : SeatState). seat.share.calls) terminals
+  pub calls : length history ≡ sum_by (λ (seat : SeatState). seat.share.calls) users
+      + sum_by (λ (seat : SeatState). seat.share.calls) terminals
   pub messages : books.messages ≡ sum_by (λ (seat : SeatState). seat.share.messages) users
   pub octets : books.octets ≡ sum_by (λ (seat : SeatState). seat.share.octets) users
   pub acknowledged : books.acknowledged ≡ sum_by (λ (seat : SeatState). seat.share.acknowledged) terminals

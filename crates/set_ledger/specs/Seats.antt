@@ -6,7 +6,7 @@ use Rattle.set_events.specs.declared.event.Actor.TheVariants.{User, Terminal}
 use Rattle.set_events.specs.declared.event.Event.{Event}
 use Rattle.set_events.specs.declared.history.Entry.{Entry}
 use Rattle.set_ledger.specs.declared.share.SeatShare.{SeatShare}
-use Rattle.set_model.specs.History.{LinkSet, books_of, messages_of, octets_in_all}
+use Rattle.set_model.specs.History.{LinkSet, books_in, messages_of, octets_in_all}
 use Rattle.set_model.specs.Step.{messages_in, octets_of}
 
 pub record SeatState : Type 0 where
@@ -30,8 +30,11 @@ term_state link calls acknowledged receipts =
     record { who = Terminal link; share = term_share calls acknowledged; receipts = receipts }
 
 -- a seat from which nothing was asked
+abbrev pub no_share : SeatShare
+no_share = record { calls = 0; messages = 0; octets = 0; acknowledged = 0 }
+
 abbrev pub new_seat : Actor → SeatState
-new_seat who = record { who = who; share = record { calls = 0; messages = 0; octets = 0; acknowledged = 0 }; receipts = [] }
+new_seat who = record { who = who; share = no_share; receipts = [] }
 
 -- the seats of the actors 0, 1, .. below a number
 abbrev pub new_seats : (ℕ → Actor) → ℕ → List SeatState
@@ -52,7 +55,7 @@ pub record ShareGrows (old : SeatShare) (event : Event) (answer : Answer) (new :
 
 -- the users' messages that are acknowledged, by the books of the history
 abbrev pub acked_in : LinkSet → ℕ
-acked_in set = (books_of set.opening set.history).acknowledged
+acked_in set = (books_in set).acknowledged
 
 -- A RECEIPT: the entry that was made stands last among the seat's, and its share grows by what that entry brought.
 pub record Receives (old : SeatState) (event : Event) (answer : Answer) (new : SeatState) : Type 0 where

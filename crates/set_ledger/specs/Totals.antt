@@ -5,7 +5,7 @@ use Rattle.set_events.specs.declared.answer.Answer.{Answer}
 use Rattle.set_events.specs.declared.event.Actor.{Actor}
 use Rattle.set_events.specs.declared.event.Actor.TheVariants.{User, Terminal}
 use Rattle.set_events.specs.declared.event.Event.{Event}
-use Rattle.set_model.specs.History.{LinkSet, messages_of, octets_in_all}
+use Rattle.set_model.specs.History.{LinkSet, messages_of, octets_in_all, longest_history}
 use Rattle.set_model.specs.Step.{messages_in, octets_of}
 use Rattle.set_ledger.specs.declared.share.SeatShare.{SeatShare}
 use Rattle.set_ledger.specs.Seats.{acked_in}
@@ -28,7 +28,8 @@ GainsNoOther (User number) gained = gained.acknowledged ≡ 0
 GainsNoOther (Terminal link) gained = (gained.messages ≡ 0) × (gained.octets ≡ 0)
 
 -- what a step brought to the totals, and how far they go
-pub record Gains (old : LinkSet) (who : Actor) (event : Event) (answer : Answer) (gained : SeatShare) (new : LinkSet) : Type 0 where
+pub record Gains (old : LinkSet) (who : Actor) (event : Event) (answer : Answer) (gained : SeatShare)
+    (new : LinkSet) : Type 0 where
   pub call : gained.calls ≡ 1
   pub message : gained.messages ≡ messages_in answer
   pub octet : gained.octets ≡ octets_of event answer
@@ -37,10 +38,10 @@ pub record Gains (old : LinkSet) (who : Actor) (event : Event) (answer : Answer)
   pub messages : messages_of new.history ≡ messages_of old.history + gained.messages
   pub octets : octets_in_all new.history ≡ octets_in_all old.history + gained.octets
   pub acknowledged : acked_in new ≡ acked_in old + gained.acknowledged
-  pub few_calls : length new.history ≤ 2 ^ 48
-  pub few_messages : messages_of new.history ≤ 2 ^ 48
-  pub few_octets : octets_in_all new.history ≤ 273 * 2 ^ 48
-  pub few_acknowledged : acked_in new ≤ 2 ^ 48
+  pub few_calls : length new.history ≤ longest_history
+  pub few_messages : messages_of new.history ≤ longest_history
+  pub few_octets : octets_in_all new.history ≤ 273 * longest_history
+  pub few_acknowledged : acked_in new ≤ longest_history
 
 -- this blank is of the ledger of that name, cut into so many parts
 abbrev pub Names : Blank → ℕ → ℕ → Type 0

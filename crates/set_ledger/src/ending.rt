@@ -53,11 +53,11 @@ impl<C: Ledger, M: Ledger, O: Ledger, A: Ledger> EndFault<C, M, O, A> {
 }
 
 impl<C: Ledger, M: Ledger, O: Ledger, A: Ledger> Held<C, M, O, A> {
-    /// Ends a set with all its seats: the history is legal, each seat's receipts are its entries in order, and the totals
-    /// are the sums of the shares. It takes no memory.
+    /// Ends a set with all its seats: the history is legal, each seat's receipts are its entries in order, and the
+    /// totals are the sums of the shares. It takes no memory.
     ///
-    /// Faults, which hand back the set and the seats: 1 [`EndFault::Missing`] exactly where there isn't one seat for each
-    /// user and each link of the set and no other; else 2 [`EndFault::Strange`] exactly where the receipts of a
+    /// Faults, which hand back the set and the seats: 1 [`EndFault::Missing`] exactly where there isn't one seat for
+    /// each user and each link of the set and no other; else 2 [`EndFault::Strange`] exactly where the receipts of a
     /// seat aren't its entries.
     pub fn end(
         self,
@@ -66,11 +66,13 @@ impl<C: Ledger, M: Ledger, O: Ledger, A: Ledger> Held<C, M, O, A> {
     ) -> Result<Closed, EndFault<C, M, O, A>>
         ensures complete { OnOk result (is_complete_of self.users self.links users.items terminals.items ≡ true) }
         ensures closed { IfOk result (λ closed.
-            IsClosed users.items terminals.items (new_state closed.config) closed.history.items closed.books closed.counts) }
+            IsClosed users.items terminals.items (new_state closed.config) closed.history.items
+            closed.books closed.counts) }
         ensures config { IfOk result (λ closed. new_state closed.config ≡ self.set.opening) }
         ensures history { IfOk result (λ closed. closed.history.items ≡ self.set.history) }
         ensures back { IfErr result (λ fault. fault ≡
-            (if is_complete_of self.users self.links users.items terminals.items then EndFault.Strange else EndFault.Missing)
+            (if is_complete_of self.users self.links users.items terminals.items
+            then EndFault.Strange else EndFault.Missing)
             (record { held = self; users = users; terminals = terminals })) }
         ensures strange { OnErr result (is_complete_of self.users self.links users.items terminals.items ≡ true
             → AreFaithful self.set.history users.items terminals.items → ⊥) }
@@ -124,7 +126,8 @@ impl<C: Ledger, M: Ledger, O: Ledger, A: Ledger> Held<C, M, O, A> {
     ) -> Closed
         requires complete { is_complete_of self.users self.links users.items terminals.items ≡ true }
         requires faithful { AreFaithful self.set.history users.items terminals.items }
-        ensures closed { IsClosed users.items terminals.items (new_state result.config) result.history.items result.books result.counts }
+        ensures closed { IsClosed users.items terminals.items (new_state result.config) result.history.items
+            result.books result.counts }
         ensures config { new_state result.config ≡ self.set.opening }
         ensures history { result.history.items ≡ self.set.history }
     {

@@ -1,7 +1,7 @@
 //! One step at a set that is lent, and its receipt.
-ghost use Rattle.std.specs.Prelude.{◌≡◌, ◌≤◌, ◌^◌, ◌++◌, ◌∷◌, [], length, IfOk, OnErr};
+ghost use Rattle.std.specs.Prelude.{◌≡◌, ◌≤◌, ◌++◌, ◌∷◌, [], length, IfOk, OnErr};
 ghost use Rattle.set_core.specs.Gaining.{IsOwn};
-ghost use Rattle.set_model.specs.History.{IsActor, IsStep};
+ghost use Rattle.set_model.specs.History.{IsActor, IsStep, longest_history};
 ghost use Rattle.set_ledger.specs.Totals.{Gains};
 
 use super::share::{SeatShare, messages_in, octets_of};
@@ -28,7 +28,7 @@ pub(crate) fn make(
     ensures receipt { IfOk result (λ made. receipts.new.items
         ≡ receipts.old.items ++ record { who = who; event = event.now; answer = made.answer } ∷ []) }
     ensures gains { IfOk result (λ made. Gains core.old who event.now made.answer made.gained core.new) }
-    ensures exhausted { result ≡ Err SetFault.Exhausted → 2 ^ 48 ≤ length core.old.history }
+    ensures exhausted { result ≡ Err SetFault.Exhausted → longest_history ≤ length core.old.history }
     ensures err { OnErr result ((core.new ≡ core.old) × (receipts.new.items ≡ receipts.old.items)) }
 {
     let kept = event.try_copy()?;

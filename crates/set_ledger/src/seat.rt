@@ -1,8 +1,8 @@
 //! Seats of users and of terminals.
-ghost use Rattle.std.specs.Prelude.{◌≡◌, ◌<◌, ◌≤◌, ◌+◌, ◌^◌, length, IfOk, OnOk, OnErr};
+ghost use Rattle.std.specs.Prelude.{◌≡◌, ◌<◌, ◌≤◌, ◌+◌, length, IfOk, OnOk, OnErr};
 ghost use Rattle.set_events.specs.declared.event.Actor.TheVariants.{User, Terminal};
 ghost use Rattle.set_core.specs.Gaining.{IsOwn};
-ghost use Rattle.set_model.specs.History.{IsStep};
+ghost use Rattle.set_model.specs.History.{IsStep, longest_history};
 ghost use Rattle.set_ledger.specs.Seats.{Receives, AcknowledgesAs, AddsUp, Returns, new_seats};
 ghost use Rattle.set_ledger.specs.Totals.{IsRoom};
 
@@ -39,9 +39,10 @@ pub trait Seat<C: Ledger, M: Ledger, O: Ledger, A: Ledger> {
         requires { IsOwn (state self.old).who event.now }
         ensures step { IfOk result (λ answer. IsStep held.old.set (state self.old).who event.now answer held.new.set) }
         ensures receipt { IfOk result (λ answer. Receives (state self.old) event.now answer (state self.new)) }
-        ensures acknowledged { OnOk result (AcknowledgesAs held.old.set held.new.set (state self.old).share (state self.new).share) }
+        ensures acknowledged { OnOk result
+            (AcknowledgesAs held.old.set held.new.set (state self.old).share (state self.new).share) }
         ensures seats { (held.new.users ≡ held.old.users) × (held.new.links ≡ held.old.links) }
-        ensures exhausted { result ≡ Err SetFault.Exhausted → 2 ^ 48 ≤ length held.old.set.history }
+        ensures exhausted { result ≡ Err SetFault.Exhausted → longest_history ≤ length held.old.set.history }
         ensures err { OnErr result ((held.new ≡ held.old) × (state self.new ≡ state self.old)) };
 }
 
@@ -179,8 +180,10 @@ impl<C: Ledger, M: Ledger, O: Ledger, A: Ledger> UserSeat<C, M, O, A> {
         octets: &mut Share<O>,
     )
         ensures calls { Returns calls.old.parts calls.old.amount self.share.calls calls.new.parts calls.new.amount }
-        ensures messages { Returns messages.old.parts messages.old.amount self.share.messages messages.new.parts messages.new.amount }
-        ensures octets { Returns octets.old.parts octets.old.amount self.share.octets octets.new.parts octets.new.amount }
+        ensures messages { Returns messages.old.parts messages.old.amount self.share.messages
+            messages.new.parts messages.new.amount }
+        ensures octets { Returns octets.old.parts octets.old.amount self.share.octets
+            octets.new.parts octets.new.amount }
     {
         self.calls.give_back(calls);
         self.messages.give_back(messages);
@@ -222,9 +225,10 @@ pub fn step_in<C: Ledger, M: Ledger, O: Ledger, A: Ledger, S: Seat<C, M, O, A>>(
     requires { IsOwn (S.state seat.old).who event.now }
     ensures step { IfOk result (λ answer. IsStep held.old.set (S.state seat.old).who event.now answer held.new.set) }
     ensures receipt { IfOk result (λ answer. Receives (S.state seat.old) event.now answer (S.state seat.new)) }
-    ensures acknowledged { OnOk result (AcknowledgesAs held.old.set held.new.set (S.state seat.old).share (S.state seat.new).share) }
+    ensures acknowledged { OnOk result
+        (AcknowledgesAs held.old.set held.new.set (S.state seat.old).share (S.state seat.new).share) }
     ensures seats { (held.new.users ≡ held.old.users) × (held.new.links ≡ held.old.links) }
-    ensures exhausted { result ≡ Err SetFault.Exhausted → 2 ^ 48 ≤ length held.old.set.history }
+    ensures exhausted { result ≡ Err SetFault.Exhausted → longest_history ≤ length held.old.set.history }
     ensures err { OnErr result ((held.new ≡ held.old) × (S.state seat.new ≡ S.state seat.old)) }
 {
     seat.step(held, event)
@@ -261,7 +265,8 @@ pub(crate) fn put_users<C: Ledger, M: Ledger, O: Ledger, A: Ledger>(
     }
 }
 
-/// Puts the seats of the terminals of the links 0, 1, .. into this room, each with one part of each ledger that it moves.
+/// Puts the seats of the terminals of the links 0, 1, .. into this room, each with one part of each ledger that it
+/// moves.
 pub(crate) fn put_terminals<C: Ledger, M: Ledger, O: Ledger, A: Ledger>(
     seats: &mut Vec<TermSeat<C, M, O, A>>,
     links: u8,

@@ -19,8 +19,8 @@ pub struct SeatShare {
     pub acknowledged: u64,
 }
 
-/// A blank for each ledger of a set that is to be opened, cut into as many parts as seats move it: calls as many as there are
-/// users and links, messages and octets as many as users, acknowledgements as many as links.
+/// A blank for each ledger of a set that is to be opened, cut into as many parts as seats move it: calls as many as
+/// there are users and links, messages and octets as many as users, acknowledgements as many as links.
 #[derive(Drop)]
 pub struct Blanks {
     pub calls: Blank,

@@ -19,21 +19,24 @@ use Rattle.set_model.specs.declared.phase.Phase.{Phase}
 use Rattle.set_model.specs.declared.phase.Phase.TheVariants.{Up, Down, Settled}
 use Rattle.set_model.specs.declared.reached.Reached.{Reached}
 use Rattle.set_model.specs.declared.reached.Reached.TheVariants.{Upto, Unknown, Unanswered}
-use Rattle.set_model.specs.State.{LinkState, State, is_up, fate_at, target, window_of, last_accepted}
+use Rattle.set_model.specs.State.{LinkState, State, is_up, fate_at, target, window_of, last_accepted, Settings}
 
 -- where a message goes that is moved: it waits for the target, or is parked where no link is up
 abbrev pub fate_on : Option ℕ → Fate
 fate_on (Some link) = Waiting link
 fate_on None = Parked
 
--- QUEUE: an order stands last, as a row of its own, for the target
+-- QUEUE: an order stands last, as a row of its own, for the target, in the octets that this set writes
+abbrev pub text_by : Order → Settings → List ℕ
+text_by order settings = text order settings.sio settings.dpc settings.opc
+
 abbrev pub queued : Order → State → State
 queued order s = record s {
-  rows = appended s.rows (text order s.settings.sio s.settings.dpc s.settings.opc) (fate_on (target s.links));
+  rows = appended s.rows (text_by order s.settings) (fate_on (target s.links));
 }
 
--- LEAVE (5.3): the link is out of service; its messages stay on it until it settles. Streams on their way back to it
--- run where they came from again,
+-- LEAVE (Q.704 5.3): the link is out of service; its messages stay on it until it settles. Streams on their way back
+-- to it run where they came from again,
 abbrev pub left_link : Bool → LinkState → LinkState
 left_link blind link = record link { phase = Down; blind = blind }
 
@@ -52,12 +55,12 @@ turned_back number s = record s {
 abbrev pub left_by : Bool → ℕ → LinkState → State → State
 left_by blind number link s = turned_back number (out_of_service blind number link s)
 
--- (5.4.1, 5.6.1) the order with which an end leaves: with the FSN last accepted, or without it
+-- (Q.704 5.4.1, 5.6.1) the order with which an end leaves: with the FSN last accepted, or without it
 abbrev pub leaving_order : Bool → ℕ → LinkState → Order
 leaving_order false number link = Coo number (last_accepted link)
 leaving_order true number link = Eco number
 
--- SETTLE (5.5). How far the far end got is told by its FSN, or isn't told, or no answer came (Reached).
+-- SETTLE (Q.704 5.5). How far the far end got is told by its FSN, or isn't told, or no answer came (Reached).
 
 -- the message numbers that the FSN acknowledges, if it's reasonable: that last acknowledged, or an unacknowledged one's
 abbrev pub reached_by : ℕ → ℕ → LinkState → List Row → ℕ
@@ -113,12 +116,12 @@ abbrev pub settled : Reached → ℕ → LinkState → State → State
 settled reached number link s =
     moved_over number (judged_link reached number link s.rows) (judged reached number link s)
 
--- CHANGEBACK (6). A declaration tells the far end, on the link from which streams are to come back, that what
+-- CHANGEBACK (Q.704 6). A declaration tells the far end, on the link from which streams are to come back, that what
 -- follows comes on their home; it stands behind all that was queued there. Until it's acknowledged what is offered for
 -- them waits.
 abbrev pub declared : ℕ → ℕ → State → State
 declared home alternative s = record s {
-  rows = appended s.rows (text (Cbd home (code_for home alternative)) s.settings.sio s.settings.dpc s.settings.opc) (Waiting alternative);
+  rows = appended s.rows (text_by (Cbd home (code_for home alternative)) s.settings) (Waiting alternative);
   routing = asked home alternative s.routing;
 }
 
@@ -169,17 +172,18 @@ ignored s = record { took = Ignored; state = s }
 abbrev pub reply_of : ℕ → LinkState → Order
 reply_of number link = if link.blind then Eca number else Coa number (last_accepted link)
 
--- (5.4.2, 5.6.2) a changeover order: a link that is up is left and answered for; one's own order that stands
+-- (Q.704 5.4.2, 5.6.2) a changeover order: a link that is up is left and answered for; one's own order that stands
 -- unanswered is answered by it (own: with no acknowledgement)
 abbrev pub changed_over : Reached → ℕ → LinkState → Phase → State → Obeyed
 changed_over reached number link Up s = record {
   took = TookOrder;
-  state = settled reached number (left_link false link) (queued (Coa number (last_accepted link)) (left_by false number link s));
+  state = settled reached number (left_link false link)
+      (queued (Coa number (last_accepted link)) (left_by false number link s));
 }
 changed_over reached number link Down s = record { took = TookOrder; state = settled reached number link s }
 changed_over reached number link Settled s = record { took = TookOrder; state = queued (reply_of number link) s }
 
--- (5.4.3, 5.6.3) an acknowledgement settles a link that waits for one
+-- (Q.704 5.4.3, 5.6.3) an acknowledgement settles a link that waits for one
 abbrev pub answered : Reached → ℕ → LinkState → Phase → State → Obeyed
 answered reached number link Up s = ignored s
 answered reached number link Down s = record { took = TookOrder; state = settled reached number link s }
@@ -190,11 +194,11 @@ abbrev pub at_link : ℕ → State → (LinkState → Obeyed) → Option LinkSta
 at_link number s obeyed None = ignored s
 at_link number s obeyed (Some link) = obeyed link
 
--- (6.3) a declaration is acknowledged, whatever its code
+-- (Q.704 6.3) a declaration is acknowledged, whatever its code
 abbrev pub declaration_heard : ℕ → ℕ → State → Obeyed
 declaration_heard link code s = record { took = TookOrder; state = queued (Cba link code) s }
 
--- (6.3) an acknowledgement of a code in no use is ignored
+-- (Q.704 6.3) an acknowledgement of a code in no use is ignored
 abbrev pub acknowledged_back : ℕ → Code → State → Obeyed
 acknowledged_back code Free s = ignored s
 acknowledged_back code Asked s = record { took = TookOrder; state = released code s }

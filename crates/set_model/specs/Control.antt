@@ -47,7 +47,7 @@ control_after choice octets (Cyclic state) window = Cyclic (cyclic.control_after
 
 -- WHAT A HEARD FISU OR MSU MEANS.
 
--- a unit that isn't processed is discarded whole (5.3.1, 5.3.2, 6.3.1)
+-- a unit that isn't processed is discarded whole (Q.703 5.3.1, 5.3.2, 6.3.1)
 abbrev pub is_processed : Control → WindowState → Header → Bool
 is_processed (Basic state) window head = basic.is_processed state window head
 is_processed (Cyclic state) window head = cyclic.is_processed window head

@@ -69,20 +69,26 @@ window_after fill window = window
 
 -- of a link that is up: what its control does when a unit is sent, and when one is heard, is done to its window
 pub record MovesAsItsControl (number : ℕ) (link : LinkState) (s : State) : Type 0 where
-  pub sent : let choice = choice_of (octets_in (unack number s.rows)) link.control (window_of number link s.rows) in
+  pub sent : let window = window_of number link s.rows in
+      let octets = octets_in (unack number s.rows) in
+      let choice = choice_of octets link.control window in
       (link' : LinkState) × (slice_get (next number s link).state.links number ≡ Some link')
-      × (link'.control ≡ control_after choice (octets_in (unack number s.rows)) link.control (window_of number link s.rows))
-      × (window_of number link' (next number s link).state.rows ≡ window_after choice (window_of number link s.rows))
+      × (link'.control ≡ control_after choice octets link.control window)
+      × (window_of number link' (next number s link).state.rows ≡ window_after choice window)
   pub heard : (unit : SignalUnit)
-      → let part = part_of link.control (window_of number link s.rows) (header_in unit) (is_msu unit) in
-      (link' : LinkState) × (slice_get (after_control part (header_in unit) unit number s link).links number ≡ Some link')
-      × (link'.control ≡ control_heard link.control (window_of number link s.rows) (header_in unit) (is_msu unit))
-      × (window_of number link' (after_control part (header_in unit) unit number s link).rows ≡ window_heard link.control (window_of number link s.rows) (header_in unit))
+      → let window = window_of number link s.rows in
+      let head = header_in unit in
+      let part = part_of link.control window head (is_msu unit) in
+      let after = after_control part head unit number s link in
+      (link' : LinkState) × (slice_get after.links number ≡ Some link')
+      × (link'.control ≡ control_heard link.control window head (is_msu unit))
+      × (window_of number link' after.rows ≡ window_heard link.control window head)
   -- and where the unit brings no order that is all
   pub no_more : (unit : SignalUnit) → ((about : ℕ) → BringsAbout about unit → ⊥)
       → let part = part_of link.control (window_of number link s.rows) (header_in unit) (is_msu unit) in
       let after = after_control part (header_in unit) unit number s link in
-      ((controls unit number s link).state.links ≡ after.links) × ((controls unit number s link).state.rows ≡ after.rows)
+      let whole = (controls unit number s link).state in
+      (whole.links ≡ after.links) × (whole.rows ≡ after.rows)
 
 -- LAW: an event leaves alone what it doesn't concern
 abbrev pub AnEventLeavesTheRestAlone : Type 0

@@ -1,5 +1,5 @@
 -- A SET WITH ITS HISTORY: what it holds, and all that was ever asked of it and answered.
-use Rattle.std.specs.Prelude.{◌≡◌, ◌<◌, ℕ, zero, suc, Bool, false, ◌==◌, ◌+◌, List, [], ◌∷◌, ◌++◌, if◌then◌else◌}
+use Rattle.std.specs.Prelude.{◌≡◌, ◌<◌, ℕ, zero, suc, Bool, false, ◌==◌, ◌+◌, List, [], ◌∷◌, ◌++◌, if◌then◌else◌, ◌^◌}
 use Rattle.set_events.specs.declared.answer.Answer.{Answer}
 use Rattle.set_events.specs.declared.books.Books.{Books}
 use Rattle.set_events.specs.declared.config.SetConfig.{SetConfig}
@@ -45,6 +45,10 @@ abbrev pub after : State → List Entry → State
 after s [] = s
 after s (entry ∷ entries) = after (step s entry.event).state entries
 
+-- a history has at most so many entries
+abbrev pub longest_history : ℕ
+longest_history = 2 ^ 48
+
 -- THE BOOKS of a history.
 
 -- how many entries such actors made
@@ -83,3 +87,6 @@ books_of opening history = record {
   octets = octets_in_all history;
   acknowledged = (counts_of (after opening history).rows).acked;
 }
+
+abbrev pub books_in : LinkSet → Books
+books_in set = books_of set.opening set.history

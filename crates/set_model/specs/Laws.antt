@@ -150,4 +150,5 @@ abbrev pub AChangeoverDivertsTheRest : Type 0
 AChangeoverDivertsTheRest =
     (fsn number : ℕ) (link : LinkState) (s : State) → IsSound s → slice_get s.links number ≡ Some link
     → link.phase ≡ Down → is_reasonable fsn number link s.rows ≡ true
-    → DivertsTo (target s.links) (rest_of number (reached_by fsn number link s.rows) s.rows) s.rows (settled (Upto fsn) number link s).rows
+    → DivertsTo (target s.links) (rest_of number (reached_by fsn number link s.rows) s.rows)
+    s.rows (settled (Upto fsn) number link s).rows

@@ -1,4 +1,5 @@
--- THE ROWS OF A SET: its messages, each in exactly one place, as one list in the order of queueing. Read this file first.
+-- THE ROWS OF A SET: its messages, each in exactly one place, as one list in the order of queueing. Read this file
+-- first.
 use Rattle.std.specs.Prelude.{◌≡◌, ℕ, suc, zero, ◌==◌, ◌+◌, ◌%◌, ◌/◌, ◌≤◌, nat_lt, Bool, true, false, not, ◌&&◌, List, [], ◌∷◌, ◌++◌, length, filter, map, find, Option, slice_index, if◌then◌else◌}
 use Rattle.std.specs.Option.{option_map}
 use Rattle.set_events.specs.declared.answer.Fate.{Fate}

@@ -9,10 +9,11 @@ use Rattle.set_events.specs.declared.event.Event.TheVariants.{Offer, Restore}
 use Rattle.set_route.specs.declared.place.Place.{Place}
 use Rattle.set_route.specs.declared.place.Place.TheVariants.{On, Changing, Nowhere}
 use Rattle.set_route.specs.declared.place.Code.TheVariants.{Asked}
-use Rattle.set_route.specs.Routing.{Routing, IsRouting, home_of, code_of, place_of, has_messages}
+use Rattle.set_route.specs.Routing.{Routing, IsRouting, home_of, code_of, place_of, has_messages, most_links}
 use Rattle.set_model.specs.Rows.{Row, is_on, is_back, is_parked, is_users, stream_of, unack, held, on, back, parked, numbers, Each, IsNumbered, AreFit, IsInOrder, IsHeldLast}
 use Rattle.set_model.specs.Control.{Control, Basic, Cyclic, accepted_of}
 use Rattle.set_model.specs.State.{LinkState, State, Settings, is_up, has_phase_up, has_phase_settled, last_accepted}
+use Rattle.l2_window.specs.Window.{most_unacked}
 
 -- A LINK.
 
@@ -23,7 +24,8 @@ IsOf BasicMethod (Cyclic state) = ⊥
 IsOf (CyclicMethod n1 n2) (Basic state) = ⊥
 IsOf (CyclicMethod n1 n2) (Cyclic state) = (state.n1 ≡ n1) × (state.n2 ≡ n2)
 
--- with so many messages unacknowledged: the cursor isn't past the last one; the cycle is at one of them, or at its beginning
+-- with so many messages unacknowledged: the cursor isn't past the last one; the cycle is at one of them, or at its
+-- beginning
 abbrev pub IsInRange : Control → ℕ → Type 0
 IsInRange (Basic state) unacked = state.cursor ≤ unacked
 IsInRange (Cyclic state) unacked = state.place ≢ 0 → state.place < unacked
@@ -32,7 +34,7 @@ IsInRange (Cyclic state) unacked = state.place ≢ 0 → state.place < unacked
 -- accepted; what was sent stands before what waits, and that before what is held; nothing is held for a link that is
 -- up, and no message stands on one that settled
 pub record IsSoundLink (set_method : Method) (number : ℕ) (link : LinkState) (rows : List Row) : Type 0 where
-  pub window : length (unack number rows) ≤ 127
+  pub window : length (unack number rows) ≤ most_unacked
   pub counted : accepted_of link.control ≡ last_accepted link
   pub method : IsOf set_method link.control
   pub in_order : IsInOrder number rows
@@ -121,7 +123,7 @@ IsManaged settings = settings.sio % 16 ≡ 0
 -- what a set can be opened with
 pub record IsSettings (settings : Settings) : Type 0 where
   pub some_link : 1 ≤ settings.links
-  pub at_most_16 : settings.links ≤ 16
+  pub at_most_16 : settings.links ≤ most_links
   pub managed : IsManaged settings
 
 pub record IsSound (s : State) : Type 0 where

@@ -1,6 +1,6 @@
 -- WHAT A SET OF LINKS HOLDS. Read this file first, after the rows.
 use Rattle.std.specs.Prelude.{ℕ, Bool, true, false, ◌+◌, ◌%◌, List, [], length, map, Option, None, Some, slice_get, slice_set, replicate, if◌then◌else◌}
-use Rattle.l2_window.specs.Window.{WindowState}
+use Rattle.l2_window.specs.Window.{WindowState, fsn_count, fsn_before_first}
 use Rattle.std.specs.Option.{option_map}
 use Rattle.set_events.specs.declared.answer.Counts.{Counts}
 use Rattle.set_events.specs.declared.answer.Fate.{Fate}
@@ -29,7 +29,8 @@ pub record LinkState : Type 0 where
   -- the error control: indicator bits, cursor or place in the cycle, and the memory of faults
   pub control : Control
 
--- what a set is opened with: its own number; how many links; how their messages are kept safe; the SIO and the point codes of its orders
+-- what a set is opened with: its own number; how many links; how their messages are kept safe; the SIO and the point
+-- codes of its orders
 pub record Settings : Type 0 where
   pub set : ℕ
   pub links : ℕ
@@ -121,7 +122,7 @@ target links = target_of (map (λ link. has_phase_up link.phase) links)
 -- modulo 128 (Q.703 2.2), so the FSN before it, last acknowledged, is acked - 1.
 abbrev pub window_of : ℕ → LinkState → List Row → WindowState
 window_of number link rows = record {
-  last = (link.acked + 127) % 128;
+  last = (link.acked + fsn_before_first) % fsn_count;
   unacked = numbers (unack number rows);
   unsent = numbers (wait number rows);
   room = 0;
@@ -129,13 +130,15 @@ window_of number link rows = record {
 
 -- the FSN last accepted in the link's present life, or in its last one; 127 if it had none (Q.704 5.4.2)
 abbrev pub last_accepted : LinkState → ℕ
-last_accepted link = (link.accepted + 127) % 128
+last_accepted link = (link.accepted + fsn_before_first) % fsn_count
 
 -- The message at this place of a link's unacknowledged ones: its number, and its FSN (Q.703 2.2).
+abbrev pub numbered_at : ℕ → LinkState → Row → Numbered
+numbered_at place link row = record { number = row.number; fsn = (link.acked + place) % fsn_count }
+
 abbrev pub unacked_of : Option LinkState → ℕ → ℕ → List Row → Option Numbered
 unacked_of None number place rows = None
-unacked_of (Some link) number place rows =
-    option_map (λ row. record { number = row.number; fsn = (link.acked + place) % 128 }) (slice_get (unack number rows) place)
+unacked_of (Some link) number place rows = option_map (numbered_at place link) (slice_get (unack number rows) place)
 
 abbrev pub unacked_in : State → ℕ → ℕ → Option Numbered
 unacked_in s number place = unacked_of (slice_get s.links number) number place s.rows

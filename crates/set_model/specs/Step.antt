@@ -103,7 +103,8 @@ sends choice number s link =
     let octets = octets_in (unack number s.rows) in
     record {
       answer = Sent (unit_of (chosen choice number s.rows) (head_of link.control (fsn_of choice window)));
-      state = with_link number (record link { control = control_after choice octets link.control window }) (record s { rows = rows_sent choice number s.rows });
+      state = with_link number (record link { control = control_after choice octets link.control window })
+          (record s { rows = rows_sent choice number s.rows });
     }
 
 -- the control chooses by its state, the window, and the octets of the unacknowledged bodies
@@ -168,7 +169,8 @@ hears part head unit number s link =
 
 abbrev pub controls : SignalUnit → ℕ → State → LinkState → Outcome
 controls unit number s link =
-    hears (part_of link.control (window_of number link s.rows) (header_in unit) (is_msu unit)) (header_in unit) unit number s link
+    let part = part_of link.control (window_of number link s.rows) (header_in unit) (is_msu unit) in
+    hears part (header_in unit) unit number s link
 
 -- a link status signal unit is the terminal's own affair, not the error control's: there is nothing to do
 abbrev pub heard : SignalUnit → ℕ → State → LinkState → Outcome
@@ -192,14 +194,15 @@ rises number s Settled = record {
   };
 }
 
--- DOWN. The link is left, and an order tells the far end (Q.704 5.3, 5.4.1); blind, it's an emergency (5.6.1).
+-- DOWN. The link is left, and an order tells the far end (Q.704 5.3, 5.4.1); blind, it's an emergency (Q.704 5.6.1).
 abbrev pub falls : Bool → ℕ → State → LinkState → Outcome
 falls blind number s link = record {
   answer = Done;
   state = queued (leaving_order blind number link) (left_by blind number link s);
 }
 
--- NO ANSWER came from the far end (5.7.2): what was sent or waited may have arrived or not, and is discarded (own).
+-- NO ANSWER came from the far end (Q.704 5.7.2): what was sent or waited may have arrived or not, and is discarded
+-- (own).
 abbrev pub gives_up : ℕ → State → LinkState → Phase → Outcome
 gives_up number s link Down = record { answer = Done; state = settled Unanswered number link s }
 gives_up number s link Up = refused s Nothing
@@ -212,8 +215,8 @@ comes_back number s =
     then record { answer = Done; state = declared_from number 0 (link_count s) s }
     else refused s Nothing
 
--- NO ACKNOWLEDGEMENT of a changeback came (Q.704 6.3): messages go home as if each code of this home were acknowledged, the
--- lowest first, and all of them are free (own).
+-- NO ACKNOWLEDGEMENT of a changeback came (Q.704 6.3): messages go home as if each code of this home were acknowledged,
+-- the lowest first, and all of them are free (own).
 abbrev pub runs_out : ℕ → State → Outcome
 runs_out number s =
     if some_in_use (code_for number 0) 16 s

@@ -1,6 +1,6 @@
 -- The queues in which messages stand, as lists of their numbers. Read this file first.
 use Rattle.std.specs.Prelude.{ℕ, ◌+◌, ◌<◌, ◌≤◌, ◌==◌, Bool, true, false, List, [], length, slice_get, slice_index_or, Option, Some, None, if◌then◌else◌}
-use Rattle.l2_window.specs.Window.{WindowState}
+use Rattle.l2_window.specs.Window.{WindowState, fsn_before_first}
 use Rattle.set_events.specs.declared.answer.Fate.{Fate}
 use Rattle.set_events.specs.declared.answer.Fate.TheVariants.{Waiting, Unacked, Acked, Held, Parked, Back, Discarded}
 use Rattle.set_events.specs.declared.answer.DiscardCause.{DiscardCause}
@@ -105,7 +105,7 @@ with_queue (Discarded cause) numbers q = q
 
 -- the FSN last acknowledged on a link
 abbrev pub number_in : Option LinkLists → ℕ
-number_in None = 127
+number_in None = fsn_before_first
 number_in (Some link) = link.last
 
 abbrev pub last_at : ℕ → Lists → ℕ

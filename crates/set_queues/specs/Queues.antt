@@ -7,6 +7,8 @@ use Rattle.set_queues.specs.Counts.{one_if}
 use Rattle.set_queues.specs.Tally.{AreFit}
 use Rattle.set_queues.specs.Messages.{fate_at, octets_of}
 use Rattle.set_queues.specs.Buffers.{Lists, Rooms, is_standing, same_fate, queue_at, with_queue}
+use Rattle.l2_window.specs.Window.{most_unacked}
+use Rattle.set_events.specs.Config.{most_links}
 
 -- what contracts see of the queues of a set
 pub record QueuesState : Type 0 where
@@ -53,13 +55,13 @@ passed from to q = with_queue from [] (with_queue to (queue_at to q ++ queue_at 
 
 -- at most 127 messages of a link are unacknowledged (Q.703 5.2.2)
 abbrev pub AreNarrow : Lists → Type 0
-AreNarrow q = (link : ℕ) → length (queue_at (Unacked link) q) ≤ 127
+AreNarrow q = (link : ℕ) → length (queue_at (Unacked link) q) ≤ most_unacked
 
 -- of every set: it has 1 to 16 links and 256 codes of changebacks, at most 127 messages are unacknowledged on each
 -- link, and each message stands in exactly one queue, the one that its fate names, or in none if its fate is final
 pub record AreSound (q : Lists) (messages : List Message) : Type 0 where
   pub one : 1 ≤ length q.links
-  pub few : length q.links ≤ 16
+  pub few : length q.links ≤ most_links
   pub codes : length q.back ≡ 256
   pub narrow : AreNarrow q
   pub tied : AreTied q messages

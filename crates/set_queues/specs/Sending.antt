@@ -2,6 +2,7 @@
 use Rattle.std.specs.Prelude.{◌≡◌, ℕ, ◌+◌, ◌-◌, ◌%◌, ◌++◌, [], ◌∷◌, drop, slice_get, Some}
 use Rattle.set_events.specs.declared.answer.Fate.TheVariants.{Waiting, Unacked}
 use Rattle.set_queues.specs.Buffers.{Lists, queue_at, with_queue, last_at, with_last}
+use Rattle.l2_window.specs.Window.{fsn_count}
 
 -- the first that waits stands last among the unacknowledged
 abbrev pub first_sent : ℕ → ℕ → Lists → Lists
@@ -16,7 +17,7 @@ pub record IsSending (link number : ℕ) (old new : Lists) : Type 0 where
 
 -- how many numbers, cyclically, from the one last acknowledged on the link up to this one
 abbrev pub reach : ℕ → ℕ → Lists → ℕ
-reach link fsn q = (fsn + 128 - last_at link q) % 128
+reach link fsn q = (fsn + fsn_count - last_at link q) % fsn_count
 
 -- those up to the FSN are no longer unacknowledged
 abbrev pub acknowledged : ℕ → ℕ → Lists → Lists

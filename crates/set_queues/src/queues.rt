@@ -34,7 +34,12 @@ impl Model for Queues {
 
     ghost Value = { QueuesState };
 
-    ghost view = { λ q. record { lists = q.buffers.lists; messages = q.messages.messages; rooms = q.buffers.rooms; room = q.messages.room } };
+    ghost view = { λ q. record {
+      lists = q.buffers.lists;
+      messages = q.messages.messages;
+      rooms = q.buffers.rooms;
+      room = q.messages.room;
+    } };
 
     ghost use Rattle.set_queues.specs.Sound.{IsSound};
 

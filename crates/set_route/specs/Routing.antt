@@ -13,11 +13,18 @@ pub record Routing : Type 0 where
   pub streams : List Stream
   pub codes : List Code
 
+-- a signalling link code has four bits, and so has the SLS, whose values are the streams (Q.704 15.2)
+abbrev pub most_links : ℕ
+most_links = 16
+
+abbrev pub stream_count : ℕ
+stream_count = 16
+
 -- A new set.
 
 -- the streams of a set, 0 to 15: all numbers that four bits of SLS can have (Q.704 15.2)
 abbrev pub stream_numbers : List ℕ
-stream_numbers = range_with_len 0 16
+stream_numbers = range_with_len 0 stream_count
 
 -- a stream of this home, of which no message was accepted
 abbrev pub new_stream : ℕ → Stream
@@ -191,7 +198,7 @@ IsCoded routing Nowhere = Unit {0}
 
 pub record IsRouting (routing : Routing) : Type 0 where
   pub some_link : 1 ≤ routing.links
-  pub at_most_16 : routing.links ≤ 16
+  pub at_most_16 : routing.links ≤ most_links
   pub homes : map (λ s. s.home) routing.streams ≡ map (λ s. s % routing.links) stream_numbers
   pub there : All (λ s. IsPlaceOf routing.links s.place) routing.streams
   pub coded : All (λ s. IsCoded routing s.place) routing.streams
@@ -222,12 +229,13 @@ pub record MovesAlone (routing : Routing) (stream : ℕ) : Type 0 where
   pub back_messages : (code : ℕ) → has_messages stream (given_back code routing) ≡ has_messages stream routing
 
 abbrev pub StreamsMoveAlone : Type 0
-StreamsMoveAlone = (routing : Routing) (stream : ℕ) → IsRouting routing → stream < 16 → MovesAlone routing stream
+StreamsMoveAlone =
+    (routing : Routing) (stream : ℕ) → IsRouting routing → stream < stream_count → MovesAlone routing stream
 
 -- LAW: what each call does to each code.
 pub record CodesMoveAlone (routing : Routing) (code : ℕ) : Type 0 where
   pub left_code : (link : ℕ) → code_of code (left link routing) ≡ code_left link code (code_of code routing)
-  pub asked_code : (home alternative : ℕ) → home < 16 → alternative < 16
+  pub asked_code : (home alternative : ℕ) → home < most_links → alternative < most_links
       → code_of code (asked home alternative routing)
       ≡ (if code == code_for home alternative then Asked else code_of code routing)
   pub back_code : (other : ℕ) → code_of code (given_back other routing)

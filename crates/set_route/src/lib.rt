@@ -8,7 +8,7 @@
 //!
 //! | input | what it does |
 //! |---|---|
-//! | [`Routes::accepted`], a message was accepted | from now on an Up of its home leaves its stream where it runs |
+//! | [`Routes::accept`], a message was accepted | from now on an Up of its home leaves its stream where it runs |
 //! | [`Routes::raise`], a link is up | streams that run nowhere, and those of its home without a message, run on it |
 //! | [`Routes::divert`], a link is left | its streams stay until it settles; those on their way to it don't go there |
 //! | [`Routes::settle`], a link that was left settles | its streams run on the target, or nowhere |

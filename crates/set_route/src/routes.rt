@@ -1,6 +1,6 @@
 //! The streams of a set, and its changeback codes.
 ghost use Rattle.std.specs.Prelude.{◌≡◌};
-ghost use Rattle.set_route.specs.Routing.{codes_left, some_away as one_is_away};
+ghost use Rattle.set_route.specs.Routing.{codes_left, some_away};
 
 use super::place::{Code, Place, changeback_code};
 use super::stream::Stream;
@@ -41,7 +41,7 @@ impl Model for Routes {
 impl Routes {
     ghost use Rattle.std.specs.Prelude.{◌≡◌, ◌<◌, ◌≤◌, IfSome, if◌then◌else◌};
     ghost use Rattle.set_route.specs.Routing.{IsRouting, IsPlaceOf, new_routing, place_of, code_of, can_ask};
-    ghost use Rattle.set_route.specs.Routing.{accepted as accepts, raised, left, settled, asked, given_back, cleared};
+    ghost use Rattle.set_route.specs.Routing.{accepted, raised, left, settled, asked, given_back, cleared};
 
     /// The streams of a set of so many links. No link was up yet, so they run nowhere, and no code is in use.
     ///
@@ -90,16 +90,16 @@ impl Routes {
         ensures { result ≡ can_ask home alternative self.now }
     {
         self.code(changeback_code(home, alternative)) == Code::Free
-            && some_away(&self.streams, home, alternative)
+            && has_away(&self.streams, home, alternative)
     }
 
     /// A message of this stream was accepted. It changes no place now: from now on the stream stays
     /// where it runs when its home comes up.
     ///
     /// Condition: a stream below 16.
-    pub fn accepted(&mut self, stream: u8)
+    pub fn accept(&mut self, stream: u8)
         requires { stream < 16 }
-        ensures { self.new ≡ accepts stream self.old }
+        ensures { self.new ≡ accepted stream self.old }
     {
         self.streams[usize::from(stream)].used = true;
     }
@@ -201,8 +201,8 @@ impl Routes {
 }
 
 /// Whether streams of this home run on the alternative.
-fn some_away(streams: &[Stream; STREAMS], home: u8, alternative: u8) -> bool
-    ensures { result ≡ one_is_away home alternative streams.now }
+fn has_away(streams: &[Stream; STREAMS], home: u8, alternative: u8) -> bool
+    ensures { result ≡ some_away home alternative streams.now }
 {
     streams
         .iter()

@@ -1,7 +1,7 @@
 //! A link set that threads share: one lock round one set.
 //!
-//! Users and terminals are threads, each with a seat of its own (`set_ledger`). A call takes the set's lock, makes one step
-//! there, and gives the lock back, so each entry of the history is made under one holding of it.
+//! Users and terminals are threads, each with a seat of its own (`set_ledger`). A call takes the set's lock, makes
+//! one step there, and gives the lock back, so each entry of the history is made under one holding of it.
 //!
 //! ```text
 //! user threads      offer, take, find               \

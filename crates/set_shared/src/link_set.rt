@@ -175,12 +175,12 @@ impl<C: Ledger, M: Ledger, O: Ledger, A: Ledger> LinkSet<C, M, O, A> {
         step_in(&mut *guard, seat, event)
     }
 
-    /// Ends a set with all its seats, under no lock: the history is legal, each seat's receipts are its entries in order, and
-    /// the totals are the sums of the shares. It takes no memory, and waits for nothing.
+    /// Ends a set with all its seats, under no lock: the history is legal, each seat's receipts are its entries in
+    /// order, and the totals are the sums of the shares. It takes no memory, and waits for nothing.
     ///
     /// Faults, which hand back the set, unlocked ([`LinkSet::of`] makes it shared again), and all seats:
-    /// 1 [`EndFault::Missing`] exactly where there isn't one seat for each user and each link of the set and no other; else
-    /// 2 [`EndFault::Strange`] exactly where the receipts of a seat aren't its entries.
+    /// 1 [`EndFault::Missing`] exactly where there isn't one seat for each user and each link of the set and no
+    /// other; else 2 [`EndFault::Strange`] exactly where the receipts of a seat aren't its entries.
     pub fn close(
         self,
         users: Vec<UserSeat<C, M, O, A>>,
@@ -188,7 +188,8 @@ impl<C: Ledger, M: Ledger, O: Ledger, A: Ledger> LinkSet<C, M, O, A> {
     ) -> Result<Closed, EndFault<C, M, O, A>>
         ensures complete { OnOk result (is_complete self.users self.links users.items terminals.items ≡ true) }
         ensures closed { IfOk result (λ closed.
-            IsClosed users.items terminals.items (new_state closed.config) closed.history.items closed.books closed.counts) }
+            IsClosed users.items terminals.items (new_state closed.config) closed.history.items
+            closed.books closed.counts) }
         ensures back { IfErr result (λ fault. (held : HeldState) × (held.users ≡ self.users) × (held.links ≡ self.links)
             × (fault ≡ (if is_complete self.users self.links users.items terminals.items
             then EndFault.Strange else EndFault.Missing) (record { held = held; users = users; terminals = terminals }))

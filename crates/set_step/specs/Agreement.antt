@@ -12,6 +12,7 @@ use Rattle.set_route.specs.Routing.{Routing}
 use Rattle.set_model.specs.Rows.{Row, numbers, standing, is_back, unack, wait, held, parked, place, body_at, service_indicator, stream_of, IsNumbered}
 use Rattle.set_model.specs.Sound.{IsSound, AreFew}
 use Rattle.set_model.specs.State.{LinkState, State, Settings}
+use Rattle.l2_window.specs.Window.{fsn_before_first, fsn_count}
 
 -- what contracts see of what a set keeps
 pub record Kept : Type 0 where
@@ -50,8 +51,8 @@ label_in m = record { kind = m.kind; octets = m.octets }
 abbrev pub label_of : List ℕ → Label
 label_of body = record { kind = kind_of body; octets = length body }
 
--- THE QUEUES STAND FOR THE ROWS: each queue holds the numbers of the rows of its fate, in their order; each number's fate
--- is its row's, and its label its body's
+-- THE QUEUES STAND FOR THE ROWS: each queue holds the numbers of the rows of its fate, in their order; each number's
+-- fate is its row's, and its label its body's
 pub record Stands (q : Lists) (ms : List Message) (rows : List Row) : Type 0 where
   pub queues : (fate : Fate) → queue_at fate q ≡ numbers (rows_at fate rows)
   pub fates : (number : ℕ) → fate_at number ms ≡ place number rows
@@ -68,7 +69,7 @@ pub record StandsFor (k : Kept) (s : State) : Type 0 where
   pub links : k.links ≡ s.links
   pub as_many : length k.lists.links ≡ length s.links
   pub fsns : (number : ℕ) (link : LinkState) → slice_get s.links number ≡ Some link
-      → last_at number k.lists ≡ (link.acked + 127) % 128
+      → last_at number k.lists ≡ (link.acked + fsn_before_first) % fsn_count
   pub routing : k.routing ≡ s.routing
   pub inbox : k.inbox ≡ s.inbox
 

@@ -1,6 +1,6 @@
 -- THE ERROR CONTROL THAT A LINK KEEPS.
 use Rattle.std.specs.Prelude.{◌<◌, length}
-use Rattle.l2_window.specs.Window.{WindowState}
+use Rattle.l2_window.specs.Window.{WindowState, most_unacked}
 use Rattle.l2_window.specs.declared.control.Choice.{Choice}
 use Rattle.l2_window.specs.declared.control.Choice.TheVariants.{Again, First, Fill}
 use Rattle.set_model.specs.Control.{Control, Basic, Cyclic}
@@ -12,8 +12,9 @@ abbrev pub control_of : ByMethod → Control
 control_of (BasicPart state) = Basic state
 control_of (CyclicPart state) = Cyclic state
 
--- what is chosen is there: a chosen place is one of the unacknowledged; a first sending has a message, and a place for it
+-- what is chosen is there: a chosen place is one of the unacknowledged; a first sending has a message, and a place for
+-- it
 abbrev pub IsPossible : Choice → WindowState → Type 0
 IsPossible (Again place) window = place < length window.unacked
-IsPossible First window = (0 < length window.unsent) × (length window.unacked < 127)
+IsPossible First window = (0 < length window.unsent) × (length window.unacked < most_unacked)
 IsPossible Fill window = Unit {0}

@@ -5,15 +5,12 @@ use Rattle.l2_units.specs.declared.unit.Unit.TheVariants.{Fisu, Lssu, Msu}
 use Rattle.l3_orders.specs.declared.order.Order.{Order}
 use Rattle.l3_orders.specs.declared.order.Order.TheVariants.{Coo, Coa, Cbd, Cba, Eco, Eca}
 use Rattle.l3_orders.specs.Grammar.{order_of}
-use Rattle.set_events.specs.declared.answer.Fate.TheVariants.{Waiting, Back}
-use Rattle.set_queues.specs.Buffers.{KeepsRoom, queue_at, room_at}
+use Rattle.set_events.specs.declared.answer.Fate.TheVariants.{Back}
+use Rattle.set_queues.specs.Buffers.{KeepsRoom, queue_at}
 use Rattle.set_route.specs.Routing.{home_of}
-use Rattle.set_model.specs.Changeover.{fate_on}
-use Rattle.set_model.specs.State.{target}
-use Rattle.set_step.specs.Parts.{link_of as link_kept}
 use Rattle.set_queues.specs.Settling.{on}
 use Rattle.set_step.specs.declared.parts.Parts.{Parts}
-use Rattle.set_step.specs.Room.{HasRoom, IsReady}
+use Rattle.set_step.specs.Room.{HasRoom, IsReady, order_fate, back_at, home_room}
 
 -- the order that a unit brings, if it brings one
 abbrev pub order_brought : SignalUnit → Option Order
@@ -26,9 +23,9 @@ has_order unit = is_some (order_brought unit)
 
 -- there is room for what an order moves, and for the one that answers it
 abbrev pub IsSpaciousFor : Order → Parts → Type 0
-IsSpaciousFor (Cbd link code) parts = HasRoom (fate_on (target (map link_kept parts.links.items))) parts
-IsSpaciousFor (Cba link code) parts = home_of code < length parts.links.items
-    → length (queue_at (Back code) parts.queues.lists) ≤ room_at (Waiting (home_of code)) parts.queues.rooms
+IsSpaciousFor (Cbd link code) parts = HasRoom (order_fate parts) parts
+IsSpaciousFor (Cba link code) parts =
+    home_of code < length parts.links.items → length (back_at code parts) ≤ home_room code parts
 IsSpaciousFor (Coo link number) parts = link < length parts.links.items → IsReady link 1 parts
 IsSpaciousFor (Coa link number) parts = link < length parts.links.items → IsReady link 1 parts
 IsSpaciousFor (Eco link) parts = link < length parts.links.items → IsReady link 1 parts

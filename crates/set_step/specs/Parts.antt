@@ -11,6 +11,8 @@ use Rattle.set_model.specs.Changeover.{Obeyed}
 use Rattle.set_step.specs.declared.link.Link.{Link}
 use Rattle.set_step.specs.declared.parts.Parts.{Parts}
 use Rattle.set_step.specs.Agreement.{Kept, StandsFor, Agrees}
+use Rattle.l2_window.specs.Window.{fsn_count}
+use Rattle.set_route.specs.Routing.{most_links}
 
 -- what the kept link stands for
 abbrev pub link_of : Link → LinkState
@@ -41,7 +43,7 @@ kept_of parts = record {
 pub record IsWhole (parts : Parts) : Type 0 where
   pub as_many : length parts.queues.lists.links ≡ length parts.links.items
   pub routed : parts.routes.links ≡ length parts.links.items
-  pub few : length parts.links.items ≤ 16
+  pub few : length parts.links.items ≤ most_links
 
 -- a fact of the link of this number, if there is one
 abbrev pub AtLink : ℕ → List Link → (Link → Type 0) → Type 0
@@ -60,7 +62,7 @@ AreCounted bound links = (number : ℕ) → AtLink number links (IsCounted bound
 
 -- an FSN has 7 bits
 abbrev pub IsReach : Reached → Type 0
-IsReach (Upto number) = number < 128
+IsReach (Upto number) = number < fsn_count
 IsReach Unknown = Unit {0}
 IsReach Unanswered = Unit {0}
 
@@ -69,10 +71,20 @@ abbrev pub Becomes : Parts → Parts → (State → State) → Type 0
 Becomes old new change = (s : State) → StandsFor (kept_of old) s → StandsFor (kept_of new) (change s)
 
 -- of a state that has this link
+abbrev pub OfStates : ℕ → Parts → (LinkState → State → Type 0) → Type 0
+OfStates number parts fact =
+    (s : State) (link : LinkState) → slice_get s.links number ≡ Some link → StandsFor (kept_of parts) s → fact link s
+
 abbrev pub BecomesAt : ℕ → Parts → Parts → (LinkState → State → State) → Type 0
-BecomesAt number old new change =
-    (s : State) (link : LinkState) → slice_get s.links number ≡ Some link → StandsFor (kept_of old) s
-    → StandsFor (kept_of new) (change link s)
+BecomesAt number old new change = OfStates number old (λ link s. StandsFor (kept_of new) (change link s))
+
+-- or of one that the old parts agree with, and that has this link
+abbrev pub OfAgreed : ℕ → Parts → (LinkState → State → Type 0) → Type 0
+OfAgreed number parts fact =
+    (s : State) (link : LinkState) → slice_get s.links number ≡ Some link → Agrees (kept_of parts) s → fact link s
+
+abbrev pub AgreedBecomes : ℕ → Parts → Parts → (LinkState → State → State) → Type 0
+AgreedBecomes number old new change = OfAgreed number old (λ link s. StandsFor (kept_of new) (change link s))
 
 -- what is answered to a state, and kept then, are this outcome
 pub record Gives (outcome : Outcome) (answer : Answer) (parts : Parts) : Type 0 where
@@ -84,9 +96,7 @@ abbrev pub Answers : Parts → Parts → Answer → (State → Outcome) → Type
 Answers old new answer outcome = (s : State) → Agrees (kept_of old) s → Gives (outcome s) answer new
 
 abbrev pub AnswersAt : ℕ → Parts → Parts → Answer → (LinkState → State → Outcome) → Type 0
-AnswersAt number old new answer outcome =
-    (s : State) (link : LinkState) → slice_get s.links number ≡ Some link → Agrees (kept_of old) s
-    → Gives (outcome link s) answer new
+AnswersAt number old new answer outcome = OfAgreed number old (λ link s. Gives (outcome link s) answer new)
 
 -- what became of an order, and is kept then, are this
 pub record Obeys (obeyed : Obeyed) (took : Took) (parts : Parts) : Type 0 where

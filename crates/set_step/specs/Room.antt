@@ -3,18 +3,36 @@ use Rattle.std.specs.Prelude.{◌≡◌, ℕ, ◌+◌, ◌*◌, ◌<◌, ◌≤�
 use Rattle.std.specs.Vec.{vec_len, vec_capacity}
 use Rattle.set_events.specs.declared.answer.Fate.{Fate}
 use Rattle.set_queues.specs.Backs.{back_count}
-use Rattle.set_queues.specs.Buffers.{HaveRoom, room_at}
+use Rattle.set_events.specs.declared.answer.Fate.TheVariants.{Waiting, Back}
+use Rattle.set_queues.specs.Buffers.{HaveRoom, queue_at, room_at}
 use Rattle.set_queues.specs.Settling.{on}
+use Rattle.set_route.specs.Routing.{home_of}
 use Rattle.set_route.specs.Target.{target_of}
 use Rattle.set_model.specs.Changeover.{fate_on}
-use Rattle.set_model.specs.State.{has_phase_up}
+use Rattle.set_model.specs.State.{has_phase_up, target}
 use Rattle.set_step.specs.declared.link.Link.{Link}
 use Rattle.set_step.specs.declared.parts.Parts.{Parts}
-use Rattle.set_step.specs.Parts.{kept_of}
+use Rattle.set_step.specs.Parts.{kept_of, link_of}
 
 -- the link that messages go to once this one is out of service
 abbrev pub target_beside : ℕ → List Link → Option ℕ
 target_beside number links = target_of (slice_set (map (λ link. has_phase_up link.phase) links) number false)
+
+-- where an order stands
+abbrev pub order_fate : Parts → Fate
+order_fate parts = fate_on (target (map link_of parts.links.items))
+
+-- what stands back by this code, and the room in the queue of its home
+abbrev pub back_at : ℕ → Parts → List ℕ
+back_at code parts = queue_at (Back code) parts.queues.lists
+
+abbrev pub home_room : ℕ → Parts → ℕ
+home_room code parts = room_at (Waiting (home_of code)) parts.queues.rooms
+
+-- wherever what stands back for this link may turn there is room for it
+abbrev pub CanTurnBack : ℕ → Parts → Type 0
+CanTurnBack number parts =
+    HaveRoom (length parts.links.items) (back_count number parts.queues.lists) parts.queues.rooms
 
 -- for one new message there
 pub record HasRoom (fate : Fate) (parts : Parts) : Type 0 where
@@ -28,8 +46,7 @@ pub record IsReady (number orders : ℕ) (parts : Parts) : Type 0 where
   pub body : vec_len parts.bodies + orders ≤ vec_capacity parts.bodies
   pub place : length (on number parts.queues.lists) + orders + 2 * back_count number parts.queues.lists
       ≤ room_at (fate_on (target_beside number parts.links.items)) parts.queues.rooms
-  -- and wherever what stands back for it may turn
-  pub each : HaveRoom (length parts.links.items) (back_count number parts.queues.lists) parts.queues.rooms
+  pub each : CanTurnBack number parts
 
 -- nothing changed but the room
 pub record SameButRoom (old new : Parts) : Type 0 where

@@ -7,6 +7,7 @@ use Rattle.set_queues.specs.Buffers.{Lists, queue_at}
 use Rattle.set_model.specs.Control.{choice_of, control_after}
 use Rattle.set_model.specs.Rows.{octets_in, unack}
 use Rattle.set_model.specs.State.{LinkState, State, window_of, with_link}
+use Rattle.l2_window.specs.Window.{most_unacked}
 
 -- what the link's control chooses
 abbrev pub choice_in : ℕ → LinkState → State → Choice
@@ -21,5 +22,6 @@ goes_on number choice link s = with_link number (record link {
 -- what is chosen is there
 abbrev pub IsThere : Choice → ℕ → Lists → Type 0
 IsThere (Again place) number q = place < length (queue_at (Unacked number) q)
-IsThere First number q = (0 < length (queue_at (Waiting number) q)) × (length (queue_at (Unacked number) q) < 127)
+IsThere First number q =
+    (0 < length (queue_at (Waiting number) q)) × (length (queue_at (Unacked number) q) < most_unacked)
 IsThere Fill number q = Unit {0}

@@ -1,16 +1,16 @@
 //! Changeback: streams come back to a link, and their messages with them (Q.704 6).
-ghost use Rattle.std.specs.Prelude.{◌≡◌, ◌≢◌, ◌+◌, ◌*◌, ◌<◌, ◌≤◌, ℕ, All, true, map, length, slice_get, Some, IfOk, IfErr, OnErr, OnOk};
+ghost use Rattle.std.specs.Prelude.{◌≡◌, ◌≢◌, ◌+◌, ◌*◌, ◌<◌, ◌≤◌, ℕ, All, true, length, Some, IfOk, IfErr, OnErr, OnOk};
 ghost use Rattle.std.specs.Vec.{vec_len, vec_capacity};
-ghost use Rattle.set_queues.specs.Buffers.{TakesRoom, queue_at, room_at};
+ghost use Rattle.set_queues.specs.Buffers.{TakesRoom, room_at};
 ghost use Rattle.set_queues.specs.Backs.{back_count};
 ghost use Rattle.set_route.specs.Routing.{code_of, home_of, is_free as is_free_code, can_ask};
-ghost use Rattle.set_model.specs.Changeover.{released as released_in, released_from, acknowledged_back, can_declare as can_declare_in, declared, declared_if, declared_from, some_declare, some_in_use};
+ghost use Rattle.set_model.specs.Changeover.{released, released_from, acknowledged_back, can_declare as can_declare_in, declared, declared_if, declared_from, some_declare, some_in_use};
 ghost use Rattle.set_model.specs.State.{State, link_count};
 ghost use Rattle.set_model.specs.Step.{on_link, in_service, comes_back, runs_out};
 ghost use Rattle.set_step.specs.Agreement.{Agrees, Holds, StandsFor};
 ghost use Rattle.set_step.specs.Declaring.{HasRoomFrom};
 ghost use Rattle.set_step.specs.Parts.{Answers, Becomes, IsWhole, Obeys, kept_of};
-ghost use Rattle.set_step.specs.Room.{HasRoom, SameButRoom};
+ghost use Rattle.set_step.specs.Room.{HasRoom, SameButRoom, back_at, home_room};
 
 use super::changeover::{body_of, order_space};
 use super::fault::SetFault;
@@ -28,9 +28,10 @@ const MOST_LINKS: usize = 16;
 
 /// Streams whose home this link is are to come back to it: a declaration on every other link that is up,
 /// the lowest-numbered first, where streams of this home run and its code is free.
-pub(crate) fn restored(parts: &mut Parts, number: u8) -> Result<Answer, SetFault>
+pub(crate) fn restore(parts: &mut Parts, number: u8) -> Result<Answer, SetFault>
     requires holds { Holds (kept_of parts.old) }
-    ensures ok { IfOk result (λ answer. Answers parts.old parts.new answer (λ s. in_service number s (λ link. comes_back number s))) }
+    ensures ok { IfOk result (λ answer. Answers parts.old parts.new answer
+        (λ s. in_service number s (λ link. comes_back number s))) }
     ensures err { OnErr result (kept_of parts.new ≡ kept_of parts.old) }
     ensures fault { IfErr result (λ fault. fault ≡ SetFault.NoMemory) }
 {
@@ -50,9 +51,10 @@ pub(crate) fn restored(parts: &mut Parts, number: u8) -> Result<Answer, SetFault
 
 /// No acknowledgement came: what stands back for this link waits for it, code by code, and all its codes
 /// are free (own).
-pub(crate) fn timed_out(parts: &mut Parts, number: u8) -> Result<Answer, SetFault>
+pub(crate) fn time_out(parts: &mut Parts, number: u8) -> Result<Answer, SetFault>
     requires holds { Holds (kept_of parts.old) }
-    ensures ok { IfOk result (λ answer. Answers parts.old parts.new answer (λ s. on_link number s (λ link. runs_out number s))) }
+    ensures ok { IfOk result (λ answer. Answers parts.old parts.new answer
+        (λ s. on_link number s (λ link. runs_out number s))) }
     ensures err { OnErr result (kept_of parts.new ≡ kept_of parts.old) }
     ensures fault { IfErr result (λ fault. fault ≡ SetFault.NoMemory) }
 {
@@ -220,11 +222,10 @@ fn release_all(parts: &mut Parts, home: u8)
 fn release(parts: &mut Parts, code: u8)
     requires whole { IsWhole parts.old }
     requires known { home_of code < length parts.old.links.items }
-    requires room { length (queue_at (Fate.Back code) parts.old.queues.lists) ≤ room_at (Fate.Waiting (home_of code)) parts.old.queues.rooms }
-    ensures stands { Becomes parts.old parts.new (released_in code) }
-    ensures rooms { room_at (Fate.Waiting (home_of code)) parts.old.queues.rooms
-        ≤ room_at (Fate.Waiting (home_of code)) parts.new.queues.rooms + length (queue_at (Fate.Back code) parts.old.queues.lists) }
-    ensures others { (other : ℕ) → other ≢ code → queue_at (Fate.Back other) parts.new.queues.lists ≡ queue_at (Fate.Back other) parts.old.queues.lists }
+    requires room { length (back_at code parts.old) ≤ home_room code parts.old }
+    ensures stands { Becomes parts.old parts.new (released code) }
+    ensures rooms { home_room code parts.old ≤ home_room code parts.new + length (back_at code parts.old) }
+    ensures others { (other : ℕ) → other ≢ code → back_at other parts.new ≡ back_at other parts.old }
     ensures links { parts.new.links ≡ parts.old.links }
     ensures whole { IsWhole parts.new }
 {
@@ -237,11 +238,11 @@ fn release(parts: &mut Parts, code: u8)
 }
 
 /// An acknowledgement of a changeback brings home what stood back by its code; of a code in no use it's
-/// ignored (6.3).
+/// ignored (Q.704 6.3).
 pub(crate) fn acknowledge_back(parts: &mut Parts, code: u8) -> Took
     requires holds { Holds (kept_of parts.old) }
-    requires room { home_of code < length parts.old.links.items → length (queue_at (Fate.Back code) parts.old.queues.lists)
-        ≤ room_at (Fate.Waiting (home_of code)) parts.old.queues.rooms }
+    requires room { home_of code < length parts.old.links.items
+        → length (back_at code parts.old) ≤ home_room code parts.old }
     ensures stands { (s : State) → Agrees (kept_of parts.old) s
         → Obeys (acknowledged_back code (code_of code s.routing) s) result parts.new }
 {

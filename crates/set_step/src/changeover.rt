@@ -1,18 +1,18 @@
 //! Changeover: a link is left, orders tell the far end, and the link settles (Q.704 5). Orders of changeback are
-//! carried out here too (6).
-ghost use Rattle.std.specs.Prelude.{◌≡◌, ◌+◌, ◌<◌, ◌≤◌, ◌^◌, ◌%◌, ℕ, false, map, length, slice_get, slice_set, Some, IfOk};
+//! carried out here too (Q.704 6).
+ghost use Rattle.std.specs.Prelude.{◌≡◌, ◌<◌, ◌≤◌, ◌^◌, ◌%◌, ℕ, false, length, slice_get, slice_set, Some, IfOk};
 ghost use Rattle.std.specs.Vec.{vec_len, vec_capacity};
-ghost use Rattle.l3_orders.specs.Grammar.{IsOrder, text as text_of};
+ghost use Rattle.l3_orders.specs.Grammar.{IsOrder, text};
 ghost use Rattle.set_queues.specs.Backs.{back_count};
-ghost use Rattle.set_queues.specs.Buffers.{HaveRoom, TakesRoom};
+ghost use Rattle.set_queues.specs.Buffers.{TakesRoom};
 ghost use Rattle.set_queues.specs.Settling.{on};
-ghost use Rattle.set_model.specs.Changeover.{queued, out_of_service, left_by, settled, left_link, order_obeyed, changed_over, answered, reply_of, at_link, fate_on};
-ghost use Rattle.set_model.specs.State.{State, LinkState, last_accepted, target};
+ghost use Rattle.set_model.specs.Changeover.{queued, out_of_service, left_by, settled, left_link, order_obeyed, changed_over, answered, reply_of, at_link};
+ghost use Rattle.set_model.specs.State.{State, LinkState, last_accepted};
 ghost use Rattle.set_model.specs.declared.phase.Phase.TheVariants.{Up, Down};
 ghost use Rattle.set_step.specs.Agreement.{StandsFor, Agrees, Holds};
-ghost use Rattle.set_step.specs.Parts.{IsWhole, AreCounted, AtLink, IsOut, IsReach, Becomes, BecomesAt, Obeys, link_of, kept_of};
+ghost use Rattle.set_step.specs.Parts.{IsWhole, AreCounted, AtLink, IsOut, IsReach, Becomes, BecomesAt, AgreedBecomes, Obeys, link_of, kept_of};
 ghost use Rattle.set_step.specs.Hearing.{IsSpaciousFor};
-ghost use Rattle.set_step.specs.Room.{HasRoom, IsReady};
+ghost use Rattle.set_step.specs.Room.{HasRoom, IsReady, CanTurnBack, order_fate};
 ghost use Rattle.set_step.specs.Turning.{TakesTurns};
 
 use super::changeback::acknowledge_back;
@@ -42,9 +42,9 @@ pub(crate) fn queue(parts: &mut Parts, order: Order, space: Vec<u8>)
     requires whole { IsWhole parts.old }
     requires order { IsOrder order }
     requires space { (vec_len space ≡ 0) × (7 ≤ vec_capacity space) }
-    requires room { HasRoom (fate_on (target (map link_of parts.old.links.items))) parts.old }
+    requires room { HasRoom (order_fate parts.old) parts.old }
     ensures stands { Becomes parts.old parts.new (queued order) }
-    ensures rooms { TakesRoom (fate_on (target (map link_of parts.old.links.items))) 1 parts.old.queues.rooms parts.new.queues.rooms }
+    ensures rooms { TakesRoom (order_fate parts.old) 1 parts.old.queues.rooms parts.new.queues.rooms }
     ensures elsewhere { (number : ℕ) → number < length parts.old.links.items → AtLink number parts.old.links.items IsOut
         → on number parts.new.queues.lists ≡ on number parts.old.queues.lists }
     ensures links { parts.new.links ≡ parts.old.links }
@@ -63,7 +63,7 @@ pub(crate) fn body_of(order: &Order, sio: u8, dpc: u16, opc: u16, space: Vec<u8>
     requires dpc { dpc < 2 ^ 14 }
     requires opc { opc < 2 ^ 14 }
     requires space { (vec_len space ≡ 0) × (7 ≤ vec_capacity space) }
-    ensures text { result ≡ text_of order.now sio dpc opc }
+    ensures text { result ≡ text order.now sio dpc opc }
     ensures fits { length result ≤ 273 }
 {
     let mut space = space;
@@ -73,15 +73,14 @@ pub(crate) fn body_of(order: &Order, sio: u8, dpc: u16, opc: u16, space: Vec<u8>
     Body::from_vec(space)
 }
 
-/// The link is left: out of service, its messages stay on it until it settles (5.3). What stood back for it
+/// The link is left: out of service, its messages stay on it until it settles (Q.704 5.3). What stood back for it
 /// goes where its streams run.
 pub(crate) fn leave(parts: &mut Parts, number: u8, blind: bool)
     requires holds { Holds (kept_of parts.old) }
     requires known { number < length parts.old.links.items }
     requires up { AtLink number parts.old.links.items (λ link. link.phase ≡ Up) }
-    requires room { HaveRoom (length parts.old.links.items) (back_count number parts.old.queues.lists) parts.old.queues.rooms }
-    ensures stands { (s : State) (link : LinkState) → slice_get s.links number ≡ Some link → Agrees (kept_of parts.old) s
-        → StandsFor (kept_of parts.new) (left_by blind number link s) }
+    requires room { CanTurnBack number parts.old }
+    ensures stands { AgreedBecomes number parts.old parts.new (left_by blind number) }
     ensures links { AtLink number parts.old.links.items (λ link. parts.new.links.items
         ≡ slice_set parts.old.links.items number (record link { phase = Down; blind = blind })) }
     ensures turns { TakesTurns (back_count number parts.old.queues.lists) parts.old.queues parts.new.queues }
@@ -109,7 +108,7 @@ fn take_out(parts: &mut Parts, number: u8, blind: bool)
     parts.routes.divert(number);
 }
 
-/// An order is carried out (5.4, 5.6). `space` holds the order that answers it.
+/// An order is carried out (Q.704 5.4, 5.6). `space` holds the order that answers it.
 pub(crate) fn obey(parts: &mut Parts, order: Order, space: Vec<u8>) -> Took
     requires holds { Holds (kept_of parts.old) }
     requires counted { AreCounted (2 ^ 61) parts.old.links.items }
@@ -206,7 +205,7 @@ fn reply(link: &Link, number: u8) -> Order
     }
 }
 
-/// An acknowledgement settles a link that waits for one (5.4.3, 5.6.3).
+/// An acknowledgement settles a link that waits for one (Q.704 5.4.3, 5.6.3).
 fn answer(parts: &mut Parts, number: u8, reached: Reached) -> Took
     requires holds { Holds (kept_of parts.old) }
     requires counted { AreCounted (2 ^ 61) parts.old.links.items }

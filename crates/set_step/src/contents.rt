@@ -6,7 +6,7 @@ ghost use Rattle.set_step.specs.Parts.{link_of};
 use super::fault::SetFault;
 use super::link::Link;
 use super::parts::Parts;
-use super::step::{answered, is_asked};
+use super::step::{carry_out, is_asked};
 use set_events::{Answer, Counts, Event, Fate, SetConfig};
 use set_model::{Numbered, Phase};
 use set_queues::Queues;
@@ -39,9 +39,10 @@ impl Model for Core {
 }
 
 impl Core {
-    ghost use Rattle.std.specs.Prelude.{◌≡◌, ◌≤◌, ◌<◌, ◌^◌, true, length, IsOk, IfOk, IfErr, OnErr};
+    ghost use Rattle.std.specs.Prelude.{◌≡◌, ◌<◌, ◌^◌, true, length, IsOk, IfOk, IfErr, OnErr};
     ghost use Rattle.set_model.specs.Rows.{place, counts_of, total_of, users};
     ghost use Rattle.set_model.specs.State.{State, new_state, link_count, is_up as is_up_in, is_settled as is_settled_in, unacked_in};
+    ghost use Rattle.set_model.specs.History.{longest_history};
     ghost use Rattle.set_model.specs.Step.{step};
     ghost use Rattle.set_step.specs.Agreement.{Agrees, StandsFor, Holds, HoldsFew};
     ghost use Rattle.set_step.specs.Answering.{AnswersFor};
@@ -74,14 +75,15 @@ impl Core {
     /// Refusals are answers. Fault: 1 [`SetFault::NoMemory`], only where memory was refused, which `Take`,
     /// `Find`, `Next` and a heard unit without a body never want; what is kept is then as it was.
     pub fn apply(&mut self, event: &Event) -> Result<Answer, SetFault>
-        requires { HoldsFew (2 ^ 48) self.old }
-        ensures ok { IfOk result (λ answer. (s : State) → Agrees self.old s → AnswersFor (step s event.now) answer self.new) }
+        requires { HoldsFew longest_history self.old }
+        ensures ok { IfOk result (λ answer.
+            (s : State) → Agrees self.old s → AnswersFor (step s event.now) answer self.new) }
         ensures err { OnErr result (self.new ≡ self.old) }
         ensures fault { IfErr result (λ fault. fault ≡ SetFault.NoMemory) }
         ensures none { wants_none event.now ≡ true → IsOk result }
     {
         is_asked(event);
-        answered(&mut self.parts, event)
+        carry_out(&mut self.parts, event)
     }
 
     /// A law: there is a state that it agrees with.

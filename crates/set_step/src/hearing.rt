@@ -1,19 +1,18 @@
 //! What a heard unit does to a set.
-ghost use Rattle.std.specs.Prelude.{◌≡◌, ◌<◌, ◌≤◌, ◌^◌, true, false, length, slice_get, Some, IsOk, IfOk, IfSome, IfErr, OnErr, OnOk};
+ghost use Rattle.std.specs.Prelude.{◌≡◌, ◌<◌, ◌≤◌, ◌^◌, true, false, length, Some, IsOk, IfOk, IfSome, IfErr, OnErr, OnOk};
 ghost use Rattle.std.specs.VecDeque.{deque_len, deque_capacity};
 ghost use Rattle.std.specs.Vec.{vec_len, vec_capacity};
 ghost use Rattle.l2_units.specs.Grammar.{head_of as header_of};
 ghost use Rattle.l3_orders.specs.Grammar.{IsOrder};
-ghost use Rattle.set_queues.specs.Buffers.{queue_at, room_at};
 ghost use Rattle.set_route.specs.Routing.{home_of};
 ghost use Rattle.set_model.specs.Control.{part_of};
 ghost use Rattle.set_model.specs.Rows.{service_indicator as indicator_of};
-ghost use Rattle.set_model.specs.State.{State, LinkState, window_of};
-ghost use Rattle.set_model.specs.Step.{in_service, heard as heard_of, is_msu as is_message, brought, takes, after_control, report_of as report_for};
-ghost use Rattle.set_step.specs.Agreement.{Agrees, Holds, StandsFor};
+ghost use Rattle.set_model.specs.State.{State, window_of};
+ghost use Rattle.set_model.specs.Step.{in_service, heard, is_msu as is_message, brought, takes, after_control, report_of as report_for};
+ghost use Rattle.set_step.specs.Agreement.{Agrees, Holds};
 ghost use Rattle.set_step.specs.Hearing.{IsSpacious, IsSpaciousFor, KeepsSpace, order_brought, has_order};
-ghost use Rattle.set_step.specs.Parts.{Answers, AreCounted, IsWhole, Obeys, kept_of};
-ghost use Rattle.set_step.specs.Room.{IsReady, SameButRoom};
+ghost use Rattle.set_step.specs.Parts.{Answers, AreCounted, IsWhole, OfStates, BecomesAt, Obeys, kept_of};
+ghost use Rattle.set_step.specs.Room.{IsReady, SameButRoom, back_at, home_room};
 
 use super::changeover::{obey, order_space};
 use super::fault::SetFault;
@@ -31,11 +30,11 @@ use std::alloc::AllocError;
 /// An LSSU is refused, since the error control has nothing to do with it.
 ///
 /// All memory that the body may want is taken first, so a fault leaves everything as it was.
-pub(crate) fn heard(parts: &mut Parts, number: u8, unit: &Unit) -> Result<Answer, SetFault>
+pub(crate) fn hear(parts: &mut Parts, number: u8, unit: &Unit) -> Result<Answer, SetFault>
     requires holds { Holds (kept_of parts.old) }
     requires counted { AreCounted (2 ^ 60) parts.old.links.items }
     ensures ok { IfOk result (λ answer. Answers parts.old parts.new answer (λ s. in_service number s
-        (heard_of unit.now number s))) }
+        (heard unit.now number s))) }
     ensures err { OnErr result (kept_of parts.new ≡ kept_of parts.old) }
     ensures fault { IfErr result (λ fault. fault ≡ SetFault.NoMemory) }
     ensures none { is_message unit.now ≡ false → IsOk result }
@@ -63,7 +62,8 @@ fn make_space(parts: &mut Parts, unit: &Unit, order: Option<Order>) -> Result<Ve
     requires whole { IsWhole parts.old }
     requires order { order ≡ order_brought unit.now }
     ensures space { IfOk result (λ space. has_order unit.now ≡ true → (vec_len space ≡ 0) × (7 ≤ vec_capacity space)) }
-    ensures inbox { OnOk result (is_message unit.now ≡ true → deque_len parts.new.inbox < deque_capacity parts.new.inbox) }
+    ensures inbox { OnOk result
+        (is_message unit.now ≡ true → deque_len parts.new.inbox < deque_capacity parts.new.inbox) }
     ensures room { OnOk result (IsSpacious (order_brought unit.now) parts.new) }
     ensures same { kept_of parts.new ≡ kept_of parts.old }
     ensures links { parts.new.links ≡ parts.old.links }
@@ -118,8 +118,8 @@ fn make_room_about(parts: &mut Parts, link: u8) -> Result<(), AllocError>
 /// acknowledgement.
 fn make_room_back(parts: &mut Parts, code: u8) -> Result<(), AllocError>
     requires whole { IsWhole parts.old }
-    ensures room { OnOk result (home_of code < length parts.new.links.items
-        → length (queue_at (Fate.Back code) parts.new.queues.lists) ≤ room_at (Fate.Waiting (home_of code)) parts.new.queues.rooms) }
+    ensures room { OnOk result
+        (home_of code < length parts.new.links.items → length (back_at code parts.new) ≤ home_room code parts.new) }
     ensures same { SameButRoom parts.old parts.new }
 {
     let home = home_of_code(code);
@@ -147,10 +147,10 @@ fn control_hears(parts: &mut Parts, number: u8, unit: &Unit) -> HeardPart
     requires holds { Holds (kept_of parts.old) }
     requires counted { AreCounted (2 ^ 60) parts.old.links.items }
     requires known { number < length parts.old.links.items }
-    ensures part { (s : State) (link : LinkState) → slice_get s.links number ≡ Some link → StandsFor (kept_of parts.old) s
-        → result ≡ part_of link.control (window_of number link s.rows) (header_of unit.now) (is_message unit.now) }
-    ensures stands { (s : State) (link : LinkState) → slice_get s.links number ≡ Some link → StandsFor (kept_of parts.old) s
-        → StandsFor (kept_of parts.new) (after_control result (header_of unit.now) unit.now number s link) }
+    ensures part { OfStates number parts.old (λ link s.
+        result ≡ part_of link.control (window_of number link s.rows) (header_of unit.now) (is_message unit.now)) }
+    ensures stands { BecomesAt number parts.old parts.new (λ link s.
+        after_control result (header_of unit.now) unit.now number s link) }
     ensures counted { AreCounted (2 ^ 61) parts.new.links.items }
     ensures keeps { KeepsSpace parts.old parts.new }
 {

@@ -1,5 +1,5 @@
 //! What a set keeps, and what is common to all events: the target, room, and a new message.
-ghost use Rattle.std.specs.Prelude.{◌≡◌, ◌+◌, ◌*◌, ◌<◌, ◌≤◌, ◌++◌, [], ◌∷◌, map, length, IfSome, OnOk, slice_get, slice_set, true, false};
+ghost use Rattle.std.specs.Prelude.{◌≡◌, ◌+◌, ◌*◌, ◌<◌, ◌≤◌, ◌++◌, [], ◌∷◌, map, length, IfSome, OnOk, slice_get, true, false};
 ghost use Rattle.std.specs.Option.{option_map};
 ghost use Rattle.std.specs.Vec.{vec_len, vec_capacity};
 ghost use Rattle.set_queues.specs.Buffers.{IsKnown, IsQueued, TakesRoom, queue_at, room_at, with_queue};

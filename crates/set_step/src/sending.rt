@@ -5,9 +5,9 @@ ghost use Rattle.set_queues.specs.Buffers.{IsKnown, queue_at};
 ghost use Rattle.set_model.specs.Rows.{Row, IsInOrder, is_waiting, turned};
 ghost use Rattle.set_model.specs.Control.{head_of};
 ghost use Rattle.set_model.specs.State.{State, LinkState, window_of};
-ghost use Rattle.set_model.specs.Step.{next as next_of, in_service};
+ghost use Rattle.set_model.specs.Step.{next, in_service};
 ghost use Rattle.set_step.specs.Agreement.{Agrees, Holds, StandsFor, rows_at};
-ghost use Rattle.set_step.specs.Parts.{Answers, Gives, kept_of};
+ghost use Rattle.set_step.specs.Parts.{Answers, AnswersAt, OfAgreed, AgreedBecomes, kept_of};
 ghost use Rattle.set_step.specs.Refusing.{service_refusal};
 ghost use Rattle.set_step.specs.Sending.{IsThere, choice_in, goes_on};
 
@@ -31,9 +31,9 @@ pub(crate) fn out_of_service(links: &[Link], number: u8) -> Option<Refusal>
 }
 
 /// The next unit to send.
-pub(crate) fn next(parts: &mut Parts, number: u8) -> Answer
+pub(crate) fn send_next(parts: &mut Parts, number: u8) -> Answer
     requires { Holds (kept_of parts.old) }
-    ensures { Answers parts.old parts.new result (λ s. in_service number s (next_of number s)) }
+    ensures { Answers parts.old parts.new result (λ s. in_service number s (next number s)) }
 {
     if let Some(why) = out_of_service(&parts.links, number) {
         return Answer::Refused { why };
@@ -47,8 +47,7 @@ pub(crate) fn next(parts: &mut Parts, number: u8) -> Answer
 fn unit_of(parts: &mut Parts, number: u8) -> Unit
     requires holds { Holds (kept_of parts.old) }
     requires known { number < length parts.old.links.items }
-    ensures { (s : State) (link : LinkState) → slice_get s.links number ≡ Some link → Agrees (kept_of parts.old) s
-        → Gives (next_of number s link) (Answer.Sent result) parts.new }
+    ensures { AnswersAt number parts.old parts.new (Answer.Sent result) (λ link s. next number s link) }
 {
     let choice = choice_for(parts, number);
     match choice {
@@ -74,8 +73,7 @@ fn unit_of(parts: &mut Parts, number: u8) -> Unit
 fn choice_for(parts: &Parts, number: u8) -> Choice
     requires holds { Holds (kept_of parts.now) }
     requires known { number < length parts.now.links.items }
-    ensures chosen { (s : State) (link : LinkState) → slice_get s.links number ≡ Some link → Agrees (kept_of parts.now) s
-        → result ≡ choice_in number link s }
+    ensures chosen { OfAgreed number parts.now (λ link s. result ≡ choice_in number link s) }
     ensures there { IsThere result number parts.now.queues.lists }
 {
     let window = parts.queues.window(number);
@@ -89,12 +87,10 @@ fn choice_for(parts: &Parts, number: u8) -> Choice
 fn go_on(parts: &mut Parts, number: u8, choice: Choice) -> Header
     requires holds { Holds (kept_of parts.old) }
     requires known { number < length parts.old.links.items }
-    requires chosen { (s : State) (link : LinkState) → slice_get s.links number ≡ Some link → Agrees (kept_of parts.old) s
-        → choice ≡ choice_in number link s }
-    ensures head { (s : State) (link : LinkState) → slice_get s.links number ≡ Some link → Agrees (kept_of parts.old) s
-        → result ≡ head_of link.control (fsn_of choice (window_of number link s.rows)) }
-    ensures stands { (s : State) (link : LinkState) → slice_get s.links number ≡ Some link → Agrees (kept_of parts.old) s
-        → StandsFor (kept_of parts.new) (goes_on number choice link s) }
+    requires chosen { OfAgreed number parts.old (λ link s. choice ≡ choice_in number link s) }
+    ensures head { OfAgreed number parts.old (λ link s.
+        result ≡ head_of link.control (fsn_of choice (window_of number link s.rows))) }
+    ensures stands { AgreedBecomes number parts.old parts.new (goes_on number choice) }
     ensures queues { parts.new.queues ≡ parts.old.queues }
 {
     let window = parts.queues.window(number);

@@ -5,7 +5,7 @@ ghost use Rattle.set_queues.specs.Settling.{on};
 ghost use Rattle.set_model.specs.Changeover.{settled, judged, discarded, moved_over, fate_on};
 ghost use Rattle.set_model.specs.State.{State, LinkState, target};
 ghost use Rattle.set_step.specs.Agreement.{StandsFor, Agrees};
-ghost use Rattle.set_step.specs.Parts.{IsWhole, AreCounted, AtLink, IsOut, IsReach, Becomes, BecomesAt, link_of, kept_of};
+ghost use Rattle.set_step.specs.Parts.{IsWhole, AreCounted, AtLink, IsOut, IsReach, Becomes, BecomesAt, AgreedBecomes, link_of, kept_of};
 ghost use Rattle.set_model.specs.declared.phase.Phase.TheVariants.{Down};
 
 use super::parts::{Parts, target_of};
@@ -75,8 +75,7 @@ fn move_all(parts: &mut Parts, number: u8)
     requires out { AtLink number parts.old.links.items IsOut }
     requires room { length (on number parts.old.queues.lists) ≤ room_at (fate_on
         (target (map link_of parts.old.links.items))) parts.old.queues.rooms }
-    ensures stands { (s : State) (link : LinkState) → slice_get s.links number ≡ Some link
-        → Agrees (kept_of parts.old) s → StandsFor (kept_of parts.new) (moved_over number link s) }
+    ensures stands { AgreedBecomes number parts.old parts.new (moved_over number) }
 {
     let target = target_of(&parts.links);
     parts.queues.settle(number, target);

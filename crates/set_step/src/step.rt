@@ -1,31 +1,30 @@
 //! What an event does to a set. Each function is a case of the set's step.
-ghost use Rattle.std.specs.Prelude.{◌≡◌, ◌≢◌, ◌<◌, ◌≤◌, ◌^◌, length, slice_get, Some, true, IsOk, IfOk, IfErr, OnErr};
+ghost use Rattle.std.specs.Prelude.{◌≡◌, ◌<◌, ◌≤◌, ◌^◌, length, slice_get, Some, true, IsOk, IfOk, IfErr, OnErr};
 ghost use Rattle.std.specs.Vec.{vec_len, vec_capacity};
 ghost use Rattle.l3_orders.specs.Grammar.{IsOrder};
 ghost use Rattle.set_queues.specs.Buffers.{IsKnown, IsQueued, room_at};
 ghost use Rattle.set_queues.specs.Messages.{unsent_of};
-ghost use Rattle.set_route.specs.Routing.{accepted as accepted_by};
+ghost use Rattle.set_route.specs.Routing.{accepted};
 ghost use Rattle.set_model.specs.Changeover.{leaving_order as order_of_leaving, left_by, queued};
 ghost use Rattle.set_model.specs.Sound.{IsAsked};
-ghost use Rattle.set_model.specs.State.{State, LinkState};
-ghost use Rattle.set_model.specs.Step.{offer_refusal, offered as offered_with, on_link, in_service, rises, falls, gives_up, taken as taken_of, found as found_of, stepped};
+ghost use Rattle.set_model.specs.Step.{offer_refusal, offered, on_link, in_service, rises, falls, gives_up, taken, found, stepped};
 ghost use Rattle.set_model.specs.Rows.{appended, place, stream_of as stream_in};
 ghost use Rattle.set_model.specs.declared.phase.Phase.TheVariants.{Up, Settled};
-ghost use Rattle.set_step.specs.Agreement.{Agrees, Holds, StandsFor};
+ghost use Rattle.set_step.specs.Agreement.{Holds};
 ghost use Rattle.set_step.specs.Faults.{wants_none};
-ghost use Rattle.set_step.specs.Parts.{Answers, AreCounted, Becomes, IsWhole, AtLink, IsOut, link_of, kept_of};
+ghost use Rattle.set_step.specs.Parts.{Answers, AreCounted, Becomes, BecomesAt, AgreedBecomes, AtLink, link_of, kept_of};
 ghost use Rattle.set_step.specs.Refusing.{refusal_by, rising_refusal, waiting_refusal};
-ghost use Rattle.set_step.specs.Room.{HasRoom, IsReady, SameButRoom};
+ghost use Rattle.set_step.specs.Room.{HasRoom, IsReady};
 
-use super::changeback::{restored, timed_out};
+use super::changeback::{restore, time_out};
 use super::changeover::{leave, order_space, queue};
 use super::fault::SetFault;
-use super::hearing::heard;
+use super::hearing::hear;
 use super::link::Link;
 use super::parts::{
     Parts, fate_of_new, make_room, make_room_beside, make_room_parked, stand_last, stream_of,
 };
-use super::sending::{next, out_of_service};
+use super::sending::{out_of_service, send_next};
 use super::settling::settle;
 use l2_units::LONGEST_BODY;
 use l3_orders::Order;
@@ -34,7 +33,7 @@ use set_model::{Phase, Reached};
 use set_queues::Queues;
 
 /// The answer to an event; on a fault nothing has changed.
-pub(crate) fn answered(parts: &mut Parts, event: &Event) -> Result<Answer, SetFault>
+pub(crate) fn carry_out(parts: &mut Parts, event: &Event) -> Result<Answer, SetFault>
     requires holds { Holds (kept_of parts.old) }
     requires counted { AreCounted (2 ^ 60) parts.old.links.items }
     ensures ok { IfOk result (λ answer. Answers parts.old parts.new answer (λ s. stepped s event.now)) }
@@ -43,17 +42,17 @@ pub(crate) fn answered(parts: &mut Parts, event: &Event) -> Result<Answer, SetFa
     ensures none { wants_none event.now ≡ true → IsOk result }
 {
     match event {
-        Event::Offer { body } => offered(parts, body),
-        Event::Take => Ok(taken(parts)),
-        Event::Find { number } => Ok(found(parts, *number)),
-        Event::Next { link } => Ok(next(parts, *link)),
-        Event::Heard { link, unit } => heard(parts, *link, unit),
-        Event::Up { link } => raised(parts, *link),
-        Event::Down { link } => left(parts, *link, false),
-        Event::DownBlind { link } => left(parts, *link, true),
-        Event::NoAnswer { link } => given_up(parts, *link),
-        Event::Restore { link } => restored(parts, *link),
-        Event::BackTimeout { link } => timed_out(parts, *link),
+        Event::Offer { body } => offer(parts, body),
+        Event::Take => Ok(take(parts)),
+        Event::Find { number } => Ok(find(parts, *number)),
+        Event::Next { link } => Ok(send_next(parts, *link)),
+        Event::Heard { link, unit } => hear(parts, *link, unit),
+        Event::Up { link } => bring_up(parts, *link),
+        Event::Down { link } => take_down(parts, *link, false),
+        Event::DownBlind { link } => take_down(parts, *link, true),
+        Event::NoAnswer { link } => give_up(parts, *link),
+        Event::Restore { link } => restore(parts, *link),
+        Event::BackTimeout { link } => time_out(parts, *link),
     }
 }
 
@@ -64,9 +63,9 @@ const SHORTEST_OFFER: usize = 5;
 const STREAM_LIMIT: u64 = 1024;
 
 /// A message is offered: refused, or the last of its queue from now on.
-fn offered(parts: &mut Parts, body: &Body) -> Result<Answer, SetFault>
+fn offer(parts: &mut Parts, body: &Body) -> Result<Answer, SetFault>
     requires holds { Holds (kept_of parts.old) }
-    ensures ok { IfOk result (λ answer. Answers parts.old parts.new answer (λ s. offered_with
+    ensures ok { IfOk result (λ answer. Answers parts.old parts.new answer (λ s. offered
         (offer_refusal s.rows body.now) s body.now)) }
     ensures err { OnErr result (kept_of parts.new ≡ kept_of parts.old) }
     ensures fault { IfErr result (λ fault. fault ≡ SetFault.NoMemory) }
@@ -90,12 +89,12 @@ fn accept(parts: &mut Parts, body: Body, fate: Fate) -> u64
     ensures number { result ≡ length parts.old.queues.messages }
     ensures stands { Becomes parts.old parts.new (λ s. record s {
       rows = appended s.rows body fate;
-      routing = accepted_by (stream_in body) s.routing;
+      routing = accepted (stream_in body) s.routing;
     }) }
 {
     let stream = stream_of(&body);
     let number = stand_last(parts, body, fate);
-    parts.routes.accepted(stream);
+    parts.routes.accept(stream);
     number
 }
 
@@ -120,8 +119,8 @@ fn refusal_of(queues: &Queues, body: &Body) -> Option<Refusal>
 }
 
 /// The oldest message of the inbox is taken.
-fn taken(parts: &mut Parts) -> Answer
-    ensures { Answers parts.old parts.new result (λ s. taken_of s.inbox s) }
+fn take(parts: &mut Parts) -> Answer
+    ensures { Answers parts.old parts.new result (λ s. taken s.inbox s) }
 {
     match parts.inbox.pop_front() {
         Some(body) => Answer::Taken { body },
@@ -132,8 +131,8 @@ fn taken(parts: &mut Parts) -> Answer
 }
 
 /// A message is looked for by its number.
-fn found(parts: &Parts, number: u64) -> Answer
-    ensures { Answers parts.now parts.now result (λ s. found_of (place number s.rows) s) }
+fn find(parts: &Parts, number: u64) -> Answer
+    ensures { Answers parts.now parts.now result (λ s. found (place number s.rows) s) }
 {
     match parts.queues.fate_of(number) {
         Some(fate) => Answer::Found { fate },
@@ -145,7 +144,7 @@ fn found(parts: &Parts, number: u64) -> Answer
 
 /// No answer came from the far end: a link that was left settles, and what was sent on it or waited
 /// is discarded (own).
-fn given_up(parts: &mut Parts, number: u8) -> Result<Answer, SetFault>
+fn give_up(parts: &mut Parts, number: u8) -> Result<Answer, SetFault>
     requires holds { Holds (kept_of parts.old) }
     requires counted { AreCounted (2 ^ 60) parts.old.links.items }
     ensures ok { IfOk result (λ answer. Answers parts.old parts.new answer (λ s. on_link number s (λ link.
@@ -174,7 +173,7 @@ fn out_of_waiting(links: &[Link], number: u8) -> Option<Refusal>
 
 /// The link is left, and an order tells the far end: a changeover order with the FSN last accepted,
 /// or blind an emergency changeover order without it.
-fn left(parts: &mut Parts, number: u8, blind: bool) -> Result<Answer, SetFault>
+fn take_down(parts: &mut Parts, number: u8, blind: bool) -> Result<Answer, SetFault>
     requires holds { Holds (kept_of parts.old) }
     requires counted { AreCounted (2 ^ 60) parts.old.links.items }
     ensures ok { IfOk result (λ answer. Answers parts.old parts.new answer (λ s. in_service number s
@@ -199,8 +198,8 @@ fn fall(parts: &mut Parts, number: u8, blind: bool, space: Vec<u8>)
     requires up { AtLink number parts.old.links.items (λ link. link.phase ≡ Up) }
     requires space { (vec_len space ≡ 0) × (7 ≤ vec_capacity space) }
     requires room { IsReady number 1 parts.old }
-    ensures stands { (s : State) (link : LinkState) → slice_get s.links number ≡ Some link → Agrees (kept_of parts.old) s
-        → StandsFor (kept_of parts.new) (queued (order_of_leaving blind number link) (left_by blind number link s)) }
+    ensures stands { AgreedBecomes number parts.old parts.new (λ link s.
+        queued (order_of_leaving blind number link) (left_by blind number link s)) }
 {
     let order = leaving_order(&parts.links[usize::from(number)], number, blind);
     leave(parts, number, blind);
@@ -227,7 +226,7 @@ fn leaving_order(link: &Link, number: u8, blind: bool) -> Order
 /// was parked waits for it.
 ///
 /// Room in its queue is taken first, so a fault leaves everything as it was.
-fn raised(parts: &mut Parts, number: u8) -> Result<Answer, SetFault>
+fn bring_up(parts: &mut Parts, number: u8) -> Result<Answer, SetFault>
     requires holds { Holds (kept_of parts.old) }
     ensures ok { IfOk result (λ answer. Answers parts.old parts.new answer (λ s. on_link number s (λ link.
         rises number s link.phase))) }
@@ -248,8 +247,7 @@ fn rise(parts: &mut Parts, number: u8)
     requires known { number < length parts.old.links.items }
     requires settled { AtLink number parts.old.links.items (λ link. link.phase ≡ Settled) }
     requires room { length parts.old.queues.lists.parked ≤ room_at (Fate.Waiting number) parts.old.queues.rooms }
-    ensures stands { (s : State) (link : LinkState) → slice_get s.links number ≡ Some link → StandsFor (kept_of parts.old) s
-        → StandsFor (kept_of parts.new) (rises number s Settled).state }
+    ensures stands { BecomesAt number parts.old parts.new (λ link s. (rises number s Settled).state) }
 {
     parts.queues.reset(number);
     parts

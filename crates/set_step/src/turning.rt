@@ -9,6 +9,7 @@ ghost use Rattle.set_model.specs.State.{State, fate_at};
 ghost use Rattle.set_step.specs.Agreement.{StandsFor};
 ghost use Rattle.set_step.specs.Parts.{IsWhole, kept_of};
 ghost use Rattle.set_step.specs.Turning.{IsTurning, CanTurn, TurnedSoFar, TakesTurns};
+ghost use Rattle.set_step.specs.Room.{CanTurnBack};
 
 use super::parts::{Parts, fate_of_new};
 use set_events::Fate;
@@ -19,8 +20,7 @@ pub(crate) fn turn_back(parts: &mut Parts, number: u8)
     requires whole { IsWhole parts.old }
     requires known { number < length parts.old.links.items }
     requires turning { CanTurn number (kept_of parts.old) }
-    requires room { HaveRoom (length parts.old.links.items) (back_count number parts.old.queues.lists)
-        parts.old.queues.rooms }
+    requires room { CanTurnBack number parts.old }
     ensures stands { (s : State) → StandsFor (kept_of parts.old) s → IsTurning number s
         → StandsFor (kept_of parts.new) (turned_back number s) }
     ensures turns { TakesTurns (back_count number parts.old.queues.lists) parts.old.queues parts.new.queues }

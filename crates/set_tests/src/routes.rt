@@ -20,7 +20,7 @@ fn streams_run_on_the_first_link_that_comes_up(rt: HostRuntime) -> Result<(), Fa
 fn a_stream_that_has_had_messages_stays_at_an_up(rt: HostRuntime) -> Result<(), Fail> {
     let mut routes = Routes::new(2);
     routes.raise(1);
-    routes.accepted(4);
+    routes.accept(4);
     routes.raise(0);
     assert!(rt; routes.place(4) == Place::On { link: 1 });
     assert!(rt; routes.place(6) == Place::On { link: 0 });
@@ -35,7 +35,7 @@ fn a_stream_moves_when_its_link_settles(rt: HostRuntime) -> Result<(), Fail> {
     let mut routes = Routes::new(3);
     routes.raise(1);
     routes.raise(2);
-    routes.accepted(5);
+    routes.accept(5);
     routes.divert(2);
     assert!(rt; routes.place(5) == Place::On { link: 2 });
     routes.settle(2, target(&[false, true, false]));
@@ -53,7 +53,7 @@ fn asks_back() -> Routes
     let mut routes = Routes::new(2);
     routes.raise(1);
     routes.raise(0);
-    routes.accepted(5);
+    routes.accept(5);
     routes.divert(1);
     routes.settle(1, Some(0));
     routes.raise(1);

@@ -2,9 +2,9 @@
 //!
 //! It reads the file `list` of the folder that it runs in: a name a line, of a script (`.play`), a line of units
 //! (`.units`), or a table of scripts that all give the same: of each line of `NAME.first` a script is made, and of each
-//! line of `NAME.second` one with the opening before it. Beside `NAME.play` stands `NAME.stdout`, what the run prints, and
-//! where it ends with a fault `NAME.fault`, the line that tells it. A line is printed for each name. Whether a run is as it
-//! should be is all that this program tells; it proves nothing.
+//! line of `NAME.second` one with the opening before it. Beside `NAME.play` stands `NAME.stdout`, what the run
+//! prints, and where it ends with a fault `NAME.fault`, the line that tells it. A line is printed for each name.
+//! Whether a run is as it should be is all that this program tells; it proves nothing.
 #![tactic(auto)]
 
 use play_text::play;

@@ -43,9 +43,10 @@ pub record Breaks (old : MarkedLine) (bits : List Bool) (before after : List ℕ
   pub begins : (past : List Bool) (lines : List ℕ) → length past + length bits < 2 ^ 64
       → IsLine past lines old → (left : List Bool) → Begins (past ++ (bits ++ left)) (lines ++ printed)
 
--- the first of these bits were fed, and the line of their mark was added, if they gave one: what is done with the others
--- completes what is done with all
-pub record FeedsFirst (old : MarkedLine) (bits : List Bool) (before : List ℕ) (rest : List Bool) (middle : List ℕ) (new : MarkedLine) : Type 0 where
+-- the first of these bits were fed, and the line of their mark was added, if they gave one: what is done with the
+-- others completes what is done with all
+pub record FeedsFirst (old : MarkedLine) (bits : List Bool) (before : List ℕ) (rest : List Bool) (middle : List ℕ)
+    (new : MarkedLine) : Type 0 where
   pub feeds : (after : List ℕ) (last : MarkedLine) → Feeds new rest middle after last
       → Feeds old bits before after last
   pub breaks : (after : List ℕ) → Breaks new rest middle after → Breaks old bits before after
@@ -96,10 +97,12 @@ pub record Stops (stop : Stop UnreadableOctet) (old : UnitsReader) (octets befor
   pub printed : List ℕ
   pub added : after ≡ before ++ printed
   pub ends : (past lines : List ℕ) → length past + length octets ≤ 2 ^ 24
-      → HasRead past lines old → (left : List ℕ) → StopsIn stop (IsUnitsText (past ++ (octets ++ left))) (lines ++ printed)
+      → HasRead past lines old → (left : List ℕ)
+      → StopsIn stop (IsUnitsText (past ++ (octets ++ left))) (lines ++ printed)
 
 -- the input ended, and what its text still has was added
-pub record Ends (result : Result (Unit {0}) (Stop UnreadableOctet)) (old : UnitsReader) (before after : List ℕ) : Type 0 where
+pub record Ends (result : Result (Unit {0}) (Stop UnreadableOctet)) (old : UnitsReader)
+    (before after : List ℕ) : Type 0 where
   pub printed : List ℕ
   pub added : after ≡ before ++ printed
   pub ends : (past lines : List ℕ) → length past ≤ 2 ^ 24 → HasRead past lines old

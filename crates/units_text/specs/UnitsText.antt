@@ -108,14 +108,16 @@ counts_of marks = record {
 
 abbrev pub counts_text : MarkCounts → List ℕ
 counts_text c =
-    codes "end good=" ++ (decimal c.good ++ (codes " bad=" ++ (decimal c.bad ++ (codes " sixteen=" ++ (decimal c.sixteen ++ codes "\n")))))
+    codes "end good=" ++ (decimal c.good ++ (codes " bad=" ++ (decimal c.bad
+    ++ (codes " sixteen=" ++ (decimal c.sixteen ++ codes "\n")))))
 
 -- a fault leaves out the last line
 abbrev pub with_end : Option ℕ → List Mark → Printed UnreadableOctet
 with_end None marks = record { printed = marks_text marks ++ counts_text (counts_of marks); fault = None }
 with_end (Some place) marks = record { printed = marks_text marks; fault = Some (record { place = place }) }
 
--- THE TEXT: the lines of the marks that the octets' bits give, each octet's lowest bit first, and the last line or the fault
+-- THE TEXT: the lines of the marks that the octets' bits give, each octet's lowest bit first, and the last line or the
+-- fault
 pub record IsUnitsText (input : List ℕ) (played : Printed UnreadableOctet) : Type 0 where
   pub marks : List Mark
   pub are : AreMarks [] (line_bits (octets_in input)) marks

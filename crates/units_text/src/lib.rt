@@ -9,8 +9,9 @@
 //! give, and the lines. It's a relation, since the marks of bits are related and not computed;
 //! [`one_units_text`] says that an input has one text at most.
 //!
-//! A piece of the input is first read to octets, which are then fed at once. What comes in pieces is kept by types of this
-//! crate: the digits keep a lone first one and the place in the input, a line keeps its deframer and how many marks it gave.
+//! A piece of the input is first read to octets, which are then fed at once. What comes in pieces is kept by types of
+//! this crate: the digits keep a lone first one and the place in the input, a line keeps its deframer and how many
+//! marks it gave.
 #![tactic(auto)]
 
 mod digit;

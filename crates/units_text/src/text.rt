@@ -1,6 +1,6 @@
 //! `mtpbank units`: the octets of a line as hexadecimal digits, and what a signalling terminal sees.
-ghost use Rattle.std.specs.Prelude.{◌≡◌, ◌≤◌, ◌^◌, true, length, IfErr, IfSome, OnOk};
-ghost use Rattle.printing.specs.Printing.{Prints, IsDevices, HasFailed};
+ghost use Rattle.std.specs.Prelude.{◌≤◌, ◌^◌, length, IfSome, OnOk};
+ghost use Rattle.printing.specs.Printing.{Prints, FailsByDevices};
 ghost use Rattle.units_text.specs.UnitsText.{IsUnitsText};
 
 use super::fault::UnreadableOctet;
@@ -19,9 +19,11 @@ pub fn units<S: Source, W: Sink>(
     source: &mut S,
     sink: &mut W,
 ) -> Result<(), Fault<UnreadableOctet>>
-    ensures text { IfSome (S.left source.old) (λ input. Prints result (IsUnitsText input) (W.written sink.old) (W.written sink.new)) }
+    ensures text { IfSome (S.left source.old)
+        (λ input. Prints result (IsUnitsText input) (W.written sink.old) (W.written sink.new)) }
     ensures bounded { IfSome (S.left source.old) (λ input. OnOk result (length input ≤ 2 ^ 24)) }
-    ensures devices { IfSome (S.left source.old) (λ input. IfErr result (λ fault. IsDevices fault (HasFailed (S.has_failed source.new) input) (W.has_failed sink.new ≡ true))) }
+    ensures devices { IfSome (S.left source.old)
+        (FailsByDevices result (S.has_failed source.new) (W.has_failed sink.new)) }
 {
     print_all(alloc, UnitsReader::new(alloc), source, sink)
 }

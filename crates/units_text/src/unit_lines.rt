@@ -2,9 +2,9 @@
 ghost use Rattle.std.specs.Prelude.{◌≡◌, ◌++◌, IfOk, OnOk, codes, decimal};
 ghost use Rattle.l2_bits.specs.Deframing.{marked};
 ghost use Rattle.l2_units.specs.Grammar.{unit_of};
-ghost use Rattle.units_text.specs.UnitsText.{InputHasOneText, good_text, line_head as head_of_line, mark_text, unit_text as text_of_unit, counts_text as text_of_counts};
+ghost use Rattle.units_text.specs.UnitsText.{InputHasOneText, good_text, line_head, mark_text, unit_text, counts_text};
 
-use figures::{bit, push_hex};
+use figures::{bit_of, push_hex};
 use l2_bits::MarkKind;
 use l2_units::{Header, Unit, read};
 use std::alloc::{AllocError, Global};
@@ -49,7 +49,7 @@ fn push_fault(number: u8, text: &mut Vec<u8>) -> Result<(), AllocError>
 
 /// Adds the line of a unit.
 fn push_unit(unit: &Unit, text: &mut Vec<u8>) -> Result<(), AllocError>
-    ensures { OnOk result (text.new.items ≡ text.old.items ++ text_of_unit unit.now) }
+    ensures { OnOk result (text.new.items ≡ text.old.items ++ unit_text unit.now) }
 {
     match unit {
         Unit::Fisu { head } => {
@@ -73,17 +73,17 @@ fn push_unit(unit: &Unit, text: &mut Vec<u8>) -> Result<(), AllocError>
 
 /// Adds the kind of a unit and its header, without an end of the line.
 fn push_head(kind: &[u8], head: Header, text: &mut Vec<u8>) -> Result<(), AllocError>
-    ensures { OnOk result (text.new.items ≡ text.old.items ++ head_of_line kind.now head) }
+    ensures { OnOk result (text.new.items ≡ text.old.items ++ line_head kind.now head) }
 {
     text.extend_from_slice(kind)?;
     text.extend_from_slice(b" bsn=")?;
     push_number(head.bsn, text)?;
     text.extend_from_slice(b" bib=")?;
-    push_number(bit(head.bib), text)?;
+    push_number(bit_of(head.bib), text)?;
     text.extend_from_slice(b" fsn=")?;
     push_number(head.fsn, text)?;
     text.extend_from_slice(b" fib=")?;
-    push_number(bit(head.fib), text)
+    push_number(bit_of(head.fib), text)
 }
 
 /// Adds a number's decimal digits.
@@ -105,7 +105,7 @@ fn push_number(number: u8, text: &mut Vec<u8>) -> Result<(), AllocError>
 
 /// The last line.
 pub(crate) fn counts_line(alloc: Global, counts: MarkCounts) -> Result<Vec<u8>, AllocError>
-    ensures { IfOk result (λ text. text.items ≡ text_of_counts counts) }
+    ensures { IfOk result (λ text. text.items ≡ counts_text counts) }
 {
     let MarkCounts { good, bad, sixteen } = counts;
     Ok(format!(in alloc; "end good={good} bad={bad} sixteen={sixteen}\n")?.into_bytes())

@@ -6,7 +6,7 @@ use Rattle.command_line.proofs.Refusals.{not_taken}
 use Rattle.command_line.proofs.words.found_by.Goals as goal
 
 pub returns-clause-refused : goal.returns-clause-refused
-returns-clause-refused c =
-    let words = map (λ s. s.now) c.args.words.now in
+returns-clause-refused g c =
+    let words = map g.S.AsStr.text c.args.words.now in
     not_taken c.fault_of.result words (kind_of c.in-Err.error) c.fault_of.ensures.wrong
     (subst (λ (a : App). takes a words ≡ true → kind_of c.in-Err.error ≡ OutOfMemory) c.requires c.in-Err.ensures.passes)

@@ -14,8 +14,8 @@ returns c =
       c.in_ok-push_number.ensures,
       c.in_ok-extend_from_slice-2.ensures.items,
       c.in_ok-extend_from_slice.ensures.items,
-      c.bit.ensures,
-      c.bit-2.ensures,
+      c.bit_of.ensures,
+      c.bit_of-2.ensures,
     )
     (simp append_assoc))
     c.push_number-4.ensures

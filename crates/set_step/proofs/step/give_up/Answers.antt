@@ -3,7 +3,7 @@ use Rattle.set_model.specs.declared.phase.Phase.TheVariants.{Down}
 use Rattle.set_step.specs.Refusing.{waiting_refusal}
 use Rattle.set_step.proofs.Admitting.{can_wait, unwaited, is_in, here_same, agrees_same, given_done}
 use Rattle.set_step.proofs.Rooms.{here_room}
-use Rattle.set_step.proofs.step.given_up.Goals as goal
+use Rattle.set_step.proofs.step.give_up.Goals as goal
 
 pub returns-in-Some-clause-ok : goal.returns-in-Some-clause-ok
 returns-in-Some-clause-ok c = λ s a. unwaited c.args.parts.now s a c.args.number c.in-Some.why (ap (λ links. waiting_refusal (slice_get links c.args.number)) (sym c.deref.ensures.value) ∙ sym c.out_of_waiting.ensures ∙ c.in-Some.is)

@@ -5,7 +5,7 @@ use Rattle.set_step.specs.declared.link.Link.{Link}
 use Rattle.set_step.specs.Refusing.{rising_refusal}
 use Rattle.set_step.proofs.Admitting.{can_rise, unraised, is_in, here_same, agrees_same, risen_done}
 use Rattle.set_step.proofs.Rooms.{whole_of}
-use Rattle.set_step.proofs.step.raised.Goals as goal
+use Rattle.set_step.proofs.step.bring_up.Goals as goal
 
 pub returns-in-Some-clause-ok : goal.returns-in-Some-clause-ok
 returns-in-Some-clause-ok c = λ s a. unraised c.args.parts.now s a c.args.number c.in-Some.why (ap (λ links. rising_refusal (slice_get links c.args.number)) (sym c.deref.ensures.value) ∙ sym c.out_of_rising.ensures ∙ c.in-Some.is)

@@ -3,7 +3,7 @@ use Rattle.std.proofs.lemmas.Iterator.{YieldsList-from_slice}
 use Rattle.std.proofs.lemmas.Iterator.Search.{any_from_yields_List}
 use Rattle.set_route.specs.Routing.{is_away}
 use Rattle.set_route.proofs.Away.{any_away}
-use Rattle.set_route.proofs.routes.some_away.Goals as goal
+use Rattle.set_route.proofs.routes.has_away.Goals as goal
 
 pub returns : goal.returns
 returns c =

@@ -2,7 +2,7 @@ use Rattle.std.proofs.Common.{◌∙◌, ap, sym, slice_get}
 use Rattle.set_model.specs.Step.{next as next_of}
 use Rattle.set_step.specs.Refusing.{service_refusal}
 use Rattle.set_step.proofs.Admitting.{serves, unserved, is_in, served}
-use Rattle.set_step.proofs.sending.next.Goals as goal
+use Rattle.set_step.proofs.sending.send_next.Goals as goal
 
 pub returns-in-Some : goal.returns-in-Some
 returns-in-Some c = λ s a. unserved c.args.parts.now s a c.args.number c.in-Some.why (next_of c.args.number s) (ap (λ links. service_refusal (slice_get links c.args.number)) (sym c.deref.ensures.value) ∙ sym c.out_of_service.ensures ∙ c.in-Some.is)

@@ -3,12 +3,12 @@ use Rattle.set_events.specs.declared.answer.Counts.{Counts}
 use Rattle.world_steps.specs.declared.step.End.TheVariants.{A, B}
 use Rattle.answer_texts.specs.Texts.{end_text}
 use Rattle.play_text.proofs.PlayLemmas.{both_ends}
-use Rattle.play_text.proofs.whole_line.ends_text.Goals as goal
+use Rattle.play_text.proofs.whole_line.write_ends.Goals as goal
 
 -- src/whole_line.rt:115:1
 pub returns : goal.returns
 returns c =
-    both_ends c.args.world.now c.in_ok-text.text.items c.in_ok-end_text.field-0.items c.extend_from_slice.new.self.items
+    both_ends c.args.world.now c.in_ok-text.text.items c.in_ok-write_end.field-0.items c.extend_from_slice.new.self.items
     (c.in_ok-text.ensures ∙ ap (λ (n : Counts). end_text A n) c.counts.ensures.value)
-    (c.in_ok-end_text.ensures ∙ ap (λ (n : Counts). end_text B n) c.counts-2.ensures.value)
+    (c.in_ok-write_end.ensures ∙ ap (λ (n : Counts). end_text B n) c.counts-2.ensures.value)
     (c.in_ok-extend_from_slice.ensures.items ∙ ap (λ (x : List ℕ). c.in_ok-text.text.items ++ x) c.deref.ensures.value)

@@ -2,7 +2,7 @@ use Rattle.std.proofs.Common.{refl, arith, ◌∙◌, sym}
 use Rattle.set_step.specs.Parts.{kept_of}
 use Rattle.set_step.proofs.Becoming.{becomes}
 use Rattle.set_step.proofs.Releasing.{none_used, all_back}
-use Rattle.set_step.proofs.changeback.timed_out.Goals as goal
+use Rattle.set_step.proofs.changeback.time_out.Goals as goal
 
 pub returns-then-not-has_code_in_use-clause-ok : goal.returns-then-not-has_code_in_use-clause-ok
 returns-then-not-has_code_in_use-clause-ok c = λ s a.

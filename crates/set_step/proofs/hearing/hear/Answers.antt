@@ -15,7 +15,7 @@ use Rattle.set_step.specs.Parts.{Gives, AreCounted, kept_of}
 use Rattle.set_step.specs.Refusing.{service_refusal}
 use Rattle.set_step.proofs.Admitting.{IsHere, IsIn, serves, unserved, is_in, served}
 use Rattle.set_step.proofs.Told.{heard_gives, heard_controls, heard_sound, spacious_still}
-use Rattle.set_step.proofs.hearing.heard.Goals as goal
+use Rattle.set_step.proofs.hearing.hear.Goals as goal
 
 -- the state after the control heard, which the parts agree with
 agrees_then : (old new : Parts) (s : State) (n : ℕ) (unit : SignalUnit) (part : HeardPart) → Agrees (kept_of old) s → (i : IsIn s n Up) → part ≡ part_of i.link.control (window_of n i.link s.rows) (header_in unit) (is_msu unit) → StandsFor (kept_of new) (after_control part (header_in unit) unit n s i.link)

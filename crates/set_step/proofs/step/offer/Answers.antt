@@ -14,7 +14,7 @@ use Rattle.set_step.specs.Parts.{Gives, kept_of}
 use Rattle.set_step.proofs.Admitting.{agrees_same}
 use Rattle.set_step.proofs.Counting.{unsent_is}
 use Rattle.set_step.proofs.Rooms.{whole_of}
-use Rattle.set_step.proofs.step.offered.Goals as goal
+use Rattle.set_step.proofs.step.offer.Goals as goal
 
 pub fate_of_new-fate-requires-clause-whole : goal.fate_of_new-fate-requires-clause-whole
 fate_of_new-fate-requires-clause-whole c = whole_of c.args.parts.now c.requires.holds

@@ -4,7 +4,7 @@ use Rattle.set_model.specs.declared.phase.Phase.TheVariants.{Up}
 use Rattle.set_step.specs.Refusing.{service_refusal}
 use Rattle.set_step.proofs.Admitting.{serves, unserved, is_in, here_same, agrees_same, fallen_done}
 use Rattle.set_step.proofs.Leaving.{up_at}
-use Rattle.set_step.proofs.step.left.Goals as goal
+use Rattle.set_step.proofs.step.take_down.Goals as goal
 
 pub returns-in-Some-clause-ok : goal.returns-in-Some-clause-ok
 returns-in-Some-clause-ok c = λ s a. unserved c.args.parts.now s a c.args.number c.in-Some.why (falls c.args.blind c.args.number s) (ap (λ links. service_refusal (slice_get links c.args.number)) (sym c.deref.ensures.value) ∙ sym c.out_of_service.ensures ∙ c.in-Some.is)

@@ -8,7 +8,7 @@ use Rattle.set_step.specs.Refusing.{service_refusal}
 use Rattle.set_step.proofs.Admitting.{serves, unserved, is_in, here_same, agrees_same}
 use Rattle.set_step.proofs.Declaring.{came_back, none_back, count_is}
 use Rattle.set_step.proofs.Rooms.{whole_of}
-use Rattle.set_step.proofs.changeback.restored.Goals as goal
+use Rattle.set_step.proofs.changeback.restore.Goals as goal
 
 pub returns-in-Some-clause-ok : goal.returns-in-Some-clause-ok
 returns-in-Some-clause-ok c = λ s a. unserved c.args.parts.now s a c.args.number c.in-Some.why (λ link. comes_back c.args.number s) (ap (λ links. service_refusal (slice_get links c.args.number)) (sym c.deref.ensures.value) ∙ sym c.out_of_service.ensures ∙ c.in-Some.is)

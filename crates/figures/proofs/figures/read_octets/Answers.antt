@@ -1,6 +1,6 @@
 use Rattle.std.proofs.Common.{sym, arith, refl}
 use Rattle.figures.proofs.FigureLemmas.{odd_digits, octet_begin, octet_stop, octet_step, octet_end}
-use Rattle.figures.proofs.figures.octets_of.Goals as goal
+use Rattle.figures.proofs.figures.read_octets.Goals as goal
 
 pub returns-then-word-eq1 : goal.returns-then-word-eq1
 returns-then-word-eq1 c = sym (odd_digits c.args.word.now c.if-word-eq1.true)
