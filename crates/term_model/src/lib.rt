@@ -1,0 +1,11 @@
+//! The model of a signalling terminal: what it holds, and what one turn of it is, as definitions and laws
+//! (ITU-T Q.703 2 to 12).
+#![tactic(auto)]
+
+mod command;
+mod laws;
+mod timers;
+
+pub use command::{Command, Commands};
+pub use laws::{a_fault_breaks_a_talk_off, talks_follow_each_other};
+pub use timers::{Clocks, Timers};
