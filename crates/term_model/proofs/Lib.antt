@@ -1,1 +1,3 @@
+pub mod MachineSteps
+pub mod MonitorSteps
 pub mod Talks

@@ -1,5 +1,7 @@
 //! Laws that speak of definitions alone.
 ghost use Rattle.term_model.specs.Terminal.{Terminal};
+ghost use Rattle.term_model.specs.MachineLaws.{EachInputAsksAtMostOne, LayersAreWhole};
+ghost use Rattle.term_model.specs.Monitors.{AermIsItsDefinition, SuermIsItsDefinition};
 ghost use Rattle.term_model.specs.TalkLaws.{AlwaysGoes, BreaksFirst, BreaksLater, Joins, OneOutcome, Splits};
 
 /// A talk that went and the one that follows from what came of it are one talk, which went by the entries of both; and it
@@ -16,4 +18,18 @@ pub fn talks_follow_each_other()
 pub fn a_fault_breaks_a_talk_off()
     ensures first { BreaksFirst Terminal Terminal }
     ensures later { BreaksLater Terminal Terminal }
+{}
+
+/// What the monitors keep, one mark after another, is what all marks since they began leave them as: so the steps are the
+/// monitors' definitions (Q.703 10.2, 10.3).
+pub fn monitors_keep_what_their_marks_leave()
+    ensures suerm { SuermIsItsDefinition }
+    ensures aerm { AermIsItsDefinition }
+{}
+
+/// An input of a machine asks at most one thing of the set; and what link state control does to alignment and to flow control
+/// never ends the one, nor fails in the other, so that the layers of the definition leave nothing out (Q.703 12.1).
+pub fn an_input_asks_at_most_one_thing()
+    ensures one { EachInputAsksAtMostOne }
+    ensures layers { LayersAreWhole }
 {}

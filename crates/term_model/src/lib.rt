@@ -7,5 +7,8 @@ mod laws;
 mod timers;
 
 pub use command::{Command, Commands};
-pub use laws::{a_fault_breaks_a_talk_off, talks_follow_each_other};
+pub use laws::{
+    a_fault_breaks_a_talk_off, an_input_asks_at_most_one_thing,
+    monitors_keep_what_their_marks_leave, talks_follow_each_other,
+};
 pub use timers::{Clocks, Timers};
