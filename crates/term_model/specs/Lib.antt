@@ -4,3 +4,9 @@ pub mod Terminal
 pub mod Monitors
 pub mod Machines
 pub mod MachineLaws
+pub mod Obeying
+pub mod OctetIn
+pub mod Hearing
+pub mod Timing
+pub mod Choosing
+pub mod OctetOut
