@@ -1,3 +1,9 @@
+pub mod Damaged
+pub mod Keeping
 pub mod MachineSteps
 pub mod MonitorSteps
+pub mod Staying
+pub mod Tables
 pub mod Talks
+pub mod TurnStays
+pub mod Turns

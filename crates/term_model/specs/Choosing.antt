@@ -1,6 +1,6 @@
 -- STEP 5 OF A TURN: WHAT IS SENT NEXT. Where fewer than eight bits are left to send, a unit is chosen, by where the link
 -- stands (Q.703 11.2, 12.1).
-use Rattle.std.specs.Prelude.{ℕ, ◌+◌, ◌%◌, ◌==◌, Bool, true, false, nat_lt, length, Option, Some, None, if◌then◌else◌}
+use Rattle.std.specs.Prelude.{ℕ, ◌+◌, ◌%◌, ◌==◌, Bool, false, nat_lt, length, Option, Some, None, if◌then◌else◌}
 use Rattle.l2_signals.specs.declared.status.Status.{Status}
 use Rattle.l2_units.specs.declared.unit.Header.{Header}
 use Rattle.l2_units.specs.declared.unit.Unit.{Unit as SignalUnit}
@@ -71,8 +71,8 @@ sent_by _ t = sends_fisu t
 abbrev pub serves : Bool → Terminal → Talk Filled
 serves paused t =
     if t.up then (
-      if t.b_due then sends_status Status.Busy (record t { b_due = false }) else
-      if paused then sends_fisu t else ask (Event.Next t.link) (λ answer. sent_by answer t)
+    if t.b_due then sends_status Status.Busy (record t { b_due = false }) else
+    if paused then sends_fisu t else ask (Event.Next t.link) (λ answer. sent_by answer t)
     ) else sends_start_fisu t
 
 -- while the set refuses Up it's asked again before each unit

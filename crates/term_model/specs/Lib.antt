@@ -10,3 +10,5 @@ pub mod Hearing
 pub mod Timing
 pub mod Choosing
 pub mod OctetOut
+pub mod Turn
+pub mod TurnLaws

@@ -14,6 +14,11 @@ abbrev pub and_then : {A B : Type 0} → Talk A → (A → Talk B) → Talk B
 and_then (done a) next = next a
 and_then (ask event more) next = ask event (λ answer. and_then (more answer) next)
 
+-- several, one after another, each from what came of the one before
+abbrev pub in_turn : {A : Type 0} → List (A → Talk A) → A → Talk A
+in_turn [] a = done a
+in_turn (step ∷ steps) a = and_then (step a) (λ b. in_turn steps b)
+
 -- just these events were asked, in this order, each was answered so, and this came of it
 abbrev pub Went : {A : Type 0} → Talk A → List Entry → A → Type 0
 Went (done a) [] b = b ≡ a

@@ -1,13 +1,12 @@
 -- STEP 4 OF A TURN: TIMERS (Q.703 12.3). A turn is one octet time. All that run are lessened first; then T1 to T7 in order,
 -- each that still runs and has none left gives its input, once. So one that an earlier one's end stopped gives nothing, and
 -- one that was started in this step is lessened in the next turn (own).
-use Rattle.std.specs.Prelude.{ℕ, ◌-◌, ◌==◌, Bool, false, Option, Some, None, if◌then◌else◌}
+use Rattle.std.specs.Prelude.{ℕ, ◌-◌, ◌==◌, Bool, false, [], ◌∷◌, Option, Some, None, if◌then◌else◌}
 use Rattle.l2_align.specs.declared.signals.AlignIn.{AlignIn}
 use Rattle.l2_state.specs.declared.signals.StateIn.{StateIn}
 use Rattle.l2_flow.specs.declared.input.FlowIn.{FlowIn}
-use Rattle.term_model.specs.declared.timers.Clocks.{Clocks}
 use Rattle.term_model.specs.Machines.{state_in, align_in, flow_in}
-use Rattle.term_model.specs.Talk.{Talk, done, and_then}
+use Rattle.term_model.specs.Talk.{Talk, done, in_turn}
 use Rattle.term_model.specs.Terminal.{Terminal}
 
 abbrev pub one_less : Option ℕ → Option ℕ
@@ -15,15 +14,17 @@ one_less None = None
 one_less (Some left) = Some (left - 1)
 
 abbrev pub lessened : Terminal → Terminal
-lessened t = record t { clocks = record {
-  t1 = one_less t.clocks.t1;
-  t2 = one_less t.clocks.t2;
-  t3 = one_less t.clocks.t3;
-  t4 = one_less t.clocks.t4;
-  t5 = one_less t.clocks.t5;
-  t6 = one_less t.clocks.t6;
-  t7 = one_less t.clocks.t7;
-} }
+lessened t = record t {
+  clocks = record {
+    t1 = one_less t.clocks.t1;
+    t2 = one_less t.clocks.t2;
+    t3 = one_less t.clocks.t3;
+    t4 = one_less t.clocks.t4;
+    t5 = one_less t.clocks.t5;
+    t6 = one_less t.clocks.t6;
+    t7 = one_less t.clocks.t7;
+  };
+}
 
 abbrev pub is_over : Option ℕ → Bool
 is_over None = false
@@ -61,14 +62,5 @@ ends_t6 t = if is_over t.clocks.t6 then flow_in FlowIn.T6 (record t { clocks = r
 abbrev pub ends_t7 : Terminal → Talk Terminal
 ends_t7 t = if is_over t.clocks.t7 then flow_in FlowIn.T7 (record t { clocks = record t.clocks { t7 = None } }) else done t
 
-abbrev pub all_end : Terminal → Talk Terminal
-all_end t =
-    and_then (ends_t1 t) (λ t.
-    and_then (ends_t2 t) (λ t.
-    and_then (ends_t3 t) (λ t.
-    and_then (ends_t4 t) (λ t.
-    and_then (ends_t5 t) (λ t.
-    and_then (ends_t6 t) (λ t. ends_t7 t))))))
-
 abbrev pub timed : Terminal → Talk Terminal
-timed t = all_end (lessened t)
+timed t = in_turn (ends_t1 ∷ ends_t2 ∷ ends_t3 ∷ ends_t4 ∷ ends_t5 ∷ ends_t6 ∷ ends_t7 ∷ []) (lessened t)

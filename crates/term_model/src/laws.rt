@@ -1,4 +1,5 @@
 //! Laws that speak of definitions alone.
+ghost use Rattle.term_model.specs.TurnLaws.{DamagedIsNotHeard, OneTurn, TerminalsStartSound, TurnIsItsSteps, TurnsGoOn, TurnsStaySound};
 ghost use Rattle.term_model.specs.Terminal.{Terminal};
 ghost use Rattle.term_model.specs.MachineLaws.{EachInputAsksAtMostOne, LayersAreWhole};
 ghost use Rattle.term_model.specs.Monitors.{AermIsItsDefinition, SuermIsItsDefinition};
@@ -32,4 +33,26 @@ pub fn monitors_keep_what_their_marks_leave()
 pub fn an_input_asks_at_most_one_thing()
     ensures one { EachInputAsksAtMostOne }
     ensures layers { LayersAreWhole }
+{}
+
+/// A turn is its six steps, one after another. What was taken and put, and the door's answers, decide it; and whatever the door
+/// answers, there is one.
+pub fn a_turn_is_its_six_steps()
+    ensures steps { TurnIsItsSteps }
+    ensures one { OneTurn }
+    ensures goes { TurnsGoOn }
+{}
+
+/// A damaged unit isn't heard by the set: a mark that brings no readable unit is told to a monitor alone, and all that can be
+/// asked for it is Down or DownBlind (Q.703 4.2, 10).
+pub fn a_damaged_unit_is_not_heard()
+    ensures { DamagedIsNotHeard }
+{}
+
+/// A new terminal is sound, and commands and turns leave it so: no timer has more left than it was started with, the FSN last
+/// sent is one, and the link is up at the set only in service. A turn asks of its own link alone: Up, Down, DownBlind, Heard
+/// and Next.
+pub fn terminals_stay_sound()
+    ensures starts { TerminalsStartSound }
+    ensures stays { TurnsStaySound }
 {}
