@@ -2,6 +2,7 @@ pub mod Damaged
 pub mod Keeping
 pub mod MachineSteps
 pub mod MonitorSteps
+pub mod RowValues
 pub mod Staying
 pub mod Tables
 pub mod Talks

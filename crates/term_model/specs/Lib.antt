@@ -12,3 +12,4 @@ pub mod Choosing
 pub mod OctetOut
 pub mod Turn
 pub mod TurnLaws
+pub mod Rows
