@@ -1,5 +1,5 @@
--- STEP 5 OF A TURN: WHAT IS SENT NEXT. Where fewer than eight bits are left to send, a unit is chosen, by where the link
--- stands (Q.703 11.2, 12.1).
+-- STEP 5 OF A TURN: WHAT IS SENT NEXT. Where fewer than eight bits are left to send, a unit is chosen, by where the
+-- link stands (Q.703 11.2, 12.1).
 use Rattle.std.specs.Prelude.{ℕ, ◌+◌, ◌%◌, ◌==◌, Bool, false, nat_lt, length, Option, Some, None, if◌then◌else◌}
 use Rattle.l2_signals.specs.declared.status.Status.{Status}
 use Rattle.l2_units.specs.declared.unit.Header.{Header}
@@ -57,8 +57,8 @@ with_head head (SignalUnit.Msu old body) = SignalUnit.Msu head body
 abbrev pub held_back : Terminal → SignalUnit → SignalUnit
 held_back t unit = if t.flow.busy then with_head (withheld (last_head t) (head_of unit)) unit else unit
 
--- what the set answers to Next: a unit; that the link isn't up there, so that it's stopped here, and SIOS goes out; or
--- anything else, as if paused (own)
+-- what the set answers to Next: a unit; that the link isn't up there, so that it's stopped here, and SIOS goes out;
+-- or anything else, as if paused (own)
 abbrev pub sent_by : Answer → Terminal → Talk Filled
 sent_by (Answer.Sent unit) t = and_then (counts_sent unit t) (λ t. sends (held_back t unit) t)
 sent_by (Answer.Refused Refusal.NotUp) t = sends_status Status.OutOfService (stops_quietly t)
@@ -66,8 +66,8 @@ sent_by _ t = sends_fisu t
 
 -- THE CHOICE.
 
--- Q.703 11.2: in service first SIB where it's due (9.3); then, in a processor outage of the far end, no messages (8.2, own);
--- else what the set's error control gives (5, 6)
+-- Q.703 11.2: in service first SIB where it's due (9.3); then, in a processor outage of the far end, no messages
+-- (8.2, own); else what the set's error control gives (5, 6)
 abbrev pub serves : Bool → Terminal → Talk Filled
 serves paused t =
     if t.up then (

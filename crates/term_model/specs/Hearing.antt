@@ -1,5 +1,5 @@
--- STEP 3 OF A TURN: MARKS. Each mark goes to the monitor that runs, and a readable unit to the machines, and then, where the
--- link is up at the set, to the set.
+-- STEP 3 OF A TURN: MARKS. Each mark goes to the monitor that runs, and a readable unit to the machines, and then,
+-- where the link is up at the set, to the set.
 use Rattle.std.specs.Prelude.{ℕ, ◌==◌, ◌||◌, Bool, true, false, not, nat_lt, List, [], ◌∷◌, Option, Some, None, if◌then◌else◌}
 use Rattle.l2_signals.specs.declared.cause.Cause.{Cause}
 use Rattle.l2_signals.specs.declared.cause.ControlFault.{ControlFault}
@@ -73,8 +73,8 @@ abbrev pub flow_hears : Status → Terminal → Talk Terminal
 flow_hears Status.Busy t = flow_in FlowIn.HeardBusy t
 flow_hears _ t = done t
 
--- Q.703 7.3, 8.2, 11.1: a status goes to alignment, then to link state control, then to flow control; what their tables
--- don't list they ignore, as 6 and 7
+-- Q.703 7.3, 8.2, 11.1: a status goes to alignment, then to link state control, then to flow control; what their
+-- tables don't list they ignore, as 6 and 7
 abbrev pub machines_hear : SignalUnit → Terminal → Talk Terminal
 machines_hear (SignalUnit.Fisu head) t = state_in StateIn.Fisu t
 machines_hear (SignalUnit.Lssu head status) t =
@@ -84,8 +84,8 @@ machines_hear (SignalUnit.Msu head body) t = state_in StateIn.Msu t
 
 -- THE SET.
 
--- Q.703 9.3: what acknowledges, or asks for retransmission (own), ends the far end's busy time; T7 goes on where messages
--- are left: where the BSN isn't the FSN of the last one sent
+-- Q.703 9.3: what acknowledges, or asks for retransmission (own), ends the far end's busy time; T7 goes on where
+-- messages are left: where the BSN isn't the FSN of the last one sent
 abbrev pub acks : Report → ℕ → Terminal → Talk Terminal
 acks report bsn t =
     if nat_lt 0 report.acked || report.resend then flow_in (FlowIn.Acked (not (bsn == t.top))) t else done t
@@ -95,7 +95,8 @@ abbrev pub faults : Option ControlFault → Terminal → Talk Terminal
 faults None t = done t
 faults (Some fault) t = state_in (StateIn.Failure (cause_of fault)) t
 
--- what the set answers to a unit: its report; that the link isn't up there, so that it's stopped here; or a report of nothing
+-- what the set answers to a unit: its report; that the link isn't up there, so that it's stopped here; or a report of
+-- nothing
 abbrev pub reported : Answer → ℕ → Terminal → Talk Terminal
 reported (Answer.Heard report) bsn t = and_then (acks report bsn t) (λ t. faults report.fault t)
 reported (Answer.Refused Refusal.NotUp) bsn t = done (stops_quietly t)

@@ -1,8 +1,8 @@
--- THE MACHINES' OUTPUTS CARRIED OUT (Q.703 12.1): what an input of each of the three machines makes of the terminal, and
--- what is asked of the set then. Each input asks at most one thing: Up, or one of Down and DownBlind.
--- Three layers, no recursion: alignment without its end; link state, which starts and stops alignment and resets flow
--- control; alignment with its end, and flow control with its failure. That a Start or a Stop never ends alignment, and a
--- Reset never fails, is in the tables.
+-- THE MACHINES' OUTPUTS CARRIED OUT (Q.703 12.1): what an input of each of the three machines makes of the terminal,
+-- and what is asked of the set then. Each input asks at most one thing: Up, or one of Down and DownBlind. Three
+-- layers, no recursion: alignment without its end; link state, which starts and stops alignment and resets flow
+-- control; alignment with its end, and flow control with its failure. That a Start or a Stop never ends alignment,
+-- and a Reset never fails, is in the tables.
 use Rattle.std.specs.Prelude.{ℕ, ◌||◌, Bool, true, false, Option, Some, None, if◌then◌else◌}
 use Rattle.l2_signals.specs.declared.cause.Cause.{Cause}
 use Rattle.l2_signals.specs.declared.status.Status.{Status}
@@ -104,7 +104,8 @@ controls input t = with_flow (flow_row t.flow input) t
 
 -- Q.703 10.2: no unit is judged out of service; flow control begins anew and no B is due (own)
 abbrev pub fallen : Cause → Terminal → Terminal
-fallen cause t = record (controls FlowIn.Reset (record t { cause = Some cause; suerm = None; up = false })) { b_due = false }
+fallen cause t = record (controls FlowIn.Reset
+    (record t { cause = Some cause; suerm = None; up = false })) { b_due = false }
 
 -- WITH A WORD TO THE SET.
 

@@ -1,5 +1,5 @@
--- THE MONITORS' STEPS (Q.703 10): what one more mark makes of what a monitor keeps. The laws at the end tie them to the
--- monitors' own definitions, which speak of all marks since a monitor began.
+-- THE MONITORS' STEPS (Q.703 10): what one more mark makes of what a monitor keeps. The laws at the end tie them to
+-- the monitors' own definitions, which speak of all marks since a monitor began.
 use Rattle.std.specs.Prelude.{◌≡◌, ℕ, ◌+◌, ◌-◌, ◌%◌, ◌==◌, ◌&&◌, ◌↔◌, Bool, true, false, List, [], ◌∷◌, if◌then◌else◌}
 use Rattle.l2_monitors.specs.Aerm.{threshold, HasTripped as AermHasTripped, Leaves as AermLeaves}
 use Rattle.l2_monitors.specs.Suerm.{Kept, Leaves}
@@ -39,8 +39,8 @@ abbrev pub after_aerm_marks : ℕ → List Bool → ℕ
 after_aerm_marks left [] = left
 after_aerm_marks left (error ∷ marks) = after_aerm_marks (after_aerm_mark left error) marks
 
--- LAW: what a new SUERM keeps after any marks is what these marks leave it as, by its definition: so it has tripped exactly
--- where an error among them found the count 63
+-- LAW: what a new SUERM keeps after any marks is what these marks leave it as, by its definition: so it has tripped
+-- exactly where an error among them found the count 63
 abbrev pub SuermIsItsDefinition : Type 0
 SuermIsItsDefinition = (marks : List Bool) → Leaves marks (after_marks fresh marks)
 

@@ -1,5 +1,5 @@
--- STEP 1 OF A TURN: COMMANDS. What was commanded since the turn before are inputs of the machines, each once, in the order
--- Emergency, Start, Busy, Ease, Blind, Stop (own).
+-- STEP 1 OF A TURN: COMMANDS. What was commanded since the turn before are inputs of the machines, each once, in the
+-- order Emergency, Start, Busy, Ease, Blind, Stop (own).
 use Rattle.std.specs.Prelude.{Bool, ◌||◌, [], ◌∷◌, if◌then◌else◌}
 use Rattle.l2_align.specs.declared.signals.AlignIn.{AlignIn}
 use Rattle.l2_state.specs.declared.signals.StateIn.{StateIn}
@@ -12,8 +12,8 @@ use Rattle.term_model.specs.Terminal.{Terminal, no_commands}
 abbrev pub obeys_if : Bool → (Terminal → Talk Terminal) → Terminal → Talk Terminal
 obeys_if commanded obeys t = if commanded then obeys t else done t
 
--- Q.704 5.6: the next failure is one after which no FSN can be told; while the link isn't up at the set there is none to
--- tell, and the command is lost (own)
+-- Q.704 5.6: the next failure is one after which no FSN can be told; while the link isn't up at the set there is none
+-- to tell, and the command is lost (own)
 abbrev pub blinded : Terminal → Talk Terminal
 blinded t = done (record t { blind = t.blind || t.up })
 

@@ -1,5 +1,5 @@
--- STEP 2 OF A TURN: ONE OCTET IN. Where the line has an octet, its eight bits are taken, the lowest first (Q.703 2.4).
--- Which marks they give is a matter of all bits taken so far, and of nothing else that the terminal holds.
+-- STEP 2 OF A TURN: ONE OCTET IN. Where the line has an octet, its eight bits are taken, the lowest first (Q.703
+-- 2.4). Which marks they give is a matter of all bits taken so far, and of nothing else that the terminal holds.
 use Rattle.std.specs.Prelude.{ℕ, Bool, List, [], Option, Some, None}
 use Rattle.l2_bits.specs.declared.marks.Mark.{Mark}
 use Rattle.l2_bits.specs.LineBits.{bits_of}

@@ -1,5 +1,5 @@
--- STEP 6 OF A TURN: ONE OCTET OUT. A unit that was chosen is appended to the bits that are left, as its text and a flag; and
--- the next eight bits go out as one octet where the line has room. Where it's full they stay.
+-- STEP 6 OF A TURN: ONE OCTET OUT. A unit that was chosen is appended to the bits that are left, as its text and a
+-- flag; and the next eight bits go out as one octet where the line has room. Where it's full they stay.
 use Rattle.std.specs.Prelude.{◌≡◌, ℕ, Bool, List, [], ◌∷◌, ◌++◌, take, drop, Option, Some, None, if◌then◌else◌}
 use Rattle.l2_units.specs.declared.unit.Unit.{Unit as SignalUnit}
 use Rattle.l2_units.specs.Grammar.{text}
@@ -10,8 +10,8 @@ use Rattle.l2_bits.specs.Stuffing.{Stuffed}
 use Rattle.term_model.specs.Choosing.{Filled}
 use Rattle.term_model.specs.Terminal.{Terminal}
 
--- a unit on the line: its octets and their check octets (Q.703 2.2, 4.2), with zeros inserted (3.2), and its closing flag,
--- which opens the next one (3.1)
+-- a unit on the line: its octets and their check octets (Q.703 2.2, 4.2), with zeros inserted (3.2), and its closing
+-- flag, which opens the next one (3.1)
 pub record IsOnLine (unit : SignalUnit) (old new : List Bool) : Type 0 where
   pub wire : List Bool
   pub stuffed : Stuffed (line_bits (sealed_text (text unit))) wire

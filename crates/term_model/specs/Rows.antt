@@ -1,5 +1,5 @@
--- WORKED ROWS: what comes out of the definition for a link's life, computed. The expected values are those of Q.703 7 to 12
--- and of the machines' tables.
+-- WORKED ROWS: what comes out of the definition for a link's life, computed. The expected values are those of Q.703 7
+-- to 12 and of the machines' tables.
 use Rattle.std.specs.Prelude.{◌≡◌, ℕ, true, false, List, [], ◌∷◌, ◌++◌, replicate, Some, None, ⊤}
 use Rattle.l2_signals.specs.declared.cause.Cause.{Cause}
 use Rattle.l2_signals.specs.declared.status.Status.{Status}
@@ -84,12 +84,15 @@ four_times = anew ++ anew ++ anew ++ anew
 pub record AlignmentRows : Type 0 where
   -- out of alignment at first: SIO goes out, T2 runs
   pub starts : Leads (begins []) [] (λ t.
-      (t.state ≡ State.Aligning) × (t.align.state ≡ AlignState.NotAligned) × (t.status ≡ Status.OutOfAlignment) × (t.clocks.t2 ≡ Some 100000))
+      (t.state ≡ State.Aligning) × (t.align.state ≡ AlignState.NotAligned)
+      × (t.status ≡ Status.OutOfAlignment) × (t.clocks.t2 ≡ Some 100000))
   -- an SIO comes in: aligned, SIN goes out, T2 is stopped and T3 runs
   pub hears_sio : Leads (begins (sio ∷ [])) [] (λ t.
-      (t.align.state ≡ AlignState.Aligned) × (t.status ≡ Status.Normal) × (t.clocks.t2 ≡ None) × (t.clocks.t3 ≡ Some 100000))
+      (t.align.state ≡ AlignState.Aligned) × (t.status ≡ Status.Normal) × (t.clocks.t2 ≡ None)
+      × (t.clocks.t3 ≡ Some 100000))
   -- in an emergency of this end SIE goes out
-  pub in_emergency : Leads (and_then (commanded (told Command.Emergency (told Command.Start new))) (λ t. all_marked (sio ∷ []) t)) [] (λ t.
+  pub in_emergency : Leads
+      (and_then (commanded (told Command.Emergency (told Command.Start new))) (λ t. all_marked (sio ∷ []) t)) [] (λ t.
       (t.align.state ≡ AlignState.Aligned) × (t.status ≡ Status.Emergency))
   -- SIN: proving, of 2^16 octet times, with Tin = 4
   pub hears_sin : Leads (begins (sio ∷ sin ∷ [])) [] (λ t.
@@ -102,7 +105,8 @@ pub record AlignmentRows : Type 0 where
       (t.align.state ≡ AlignState.Proving) × (t.align.aborts ≡ 4) × (t.aerm ≡ Some 4))
   -- a fifth: alignment isn't possible, and the set, which was told nothing, isn't asked
   pub five_aborts : Leads (begins (sio ∷ sin ∷ (four_times ++ abort))) [] (λ t.
-      (t.align.state ≡ AlignState.Idle) × (t.state ≡ State.OutOfService) × (t.cause ≡ Some Cause.NotPossible) × (t.clocks.t4 ≡ None))
+      (t.align.state ≡ AlignState.Idle) × (t.state ≡ State.OutOfService)
+      × (t.cause ≡ Some Cause.NotPossible) × (t.clocks.t4 ≡ None))
 
 -- a link that proves, one octet time before the end
 abbrev pub proved : Terminal
@@ -123,13 +127,18 @@ serving = record new { state = State.InService false; suerm = Some fresh; up = t
 abbrev pub the_fisu : SignalUnit
 the_fisu = SignalUnit.Fisu start_head
 
+abbrev pub the_sipo : SignalUnit
+the_sipo = SignalUnit.Lssu start_head Status.ProcessorOutage
+
 -- A LINK COMES UP, AND FAILS.
 pub record ServiceRows : Type 0 where
   -- proving is complete: T1 runs, as it was started, and a FISU goes out
   pub completes : Leads (and_then (timed proved) (λ t. filled t)) [] (λ f.
-      (f.unit ≡ Some the_fisu) × (f.after.state ≡ State.Ready) × (f.after.clocks.t1 ≡ Some 100000) × (f.after.suerm ≡ Some fresh))
+      (f.unit ≡ Some the_fisu) × (f.after.state ≡ State.Ready) × (f.after.clocks.t1 ≡ Some 100000)
+      × (f.after.suerm ≡ Some fresh))
   -- a FISU comes in: the link is up, and the set hears that FISU itself
-  pub comes_up : Leads (all_marked (fisu ∷ []) ready) (got (Event.Up 0) Answer.Done ∷ got (Event.Heard 0 the_fisu) nothing_done ∷ []) (λ t.
+  pub comes_up : Leads (all_marked (fisu ∷ []) ready)
+      (got (Event.Up 0) Answer.Done ∷ got (Event.Heard 0 the_fisu) nothing_done ∷ []) (λ t.
       (t.state ≡ State.InService false) × (t.up ≡ true))
   -- the set refuses Up: in service here, and the FISU isn't heard there
   pub is_refused : Leads (all_marked (fisu ∷ []) ready) (got (Event.Up 0) (Answer.Refused Refusal.Unsettled) ∷ []) (λ t.
@@ -147,10 +156,12 @@ pub record ServiceRows : Type 0 where
   pub hears_sio : Leads (all_marked (sio ∷ []) serving) (got (Event.Down 0) Answer.Done ∷ []) (λ t.
       (t.state ≡ State.OutOfService) × (t.cause ≡ Some Cause.Status) × (t.up ≡ false))
   -- after Blind: DownBlind, in one turn with Stop too
-  pub stops_blind : Leads (commanded (told Command.Stop (told Command.Blind serving))) (got (Event.DownBlind 0) Answer.Done ∷ []) (λ t.
+  pub stops_blind : Leads (commanded (told Command.Stop (told Command.Blind serving)))
+      (got (Event.DownBlind 0) Answer.Done ∷ []) (λ t.
       (t.state ≡ State.OutOfService) × (t.cause ≡ Some Cause.Stop))
   -- a processor outage: the set hears the SIPO and refuses it, and no message is asked for
-  pub pauses : Leads (and_then (all_marked (sipo ∷ []) serving) (λ t. filled t)) (got (Event.Heard 0 (SignalUnit.Lssu start_head Status.ProcessorOutage)) (Answer.Refused Refusal.Nothing) ∷ []) (λ f.
+  pub pauses : Leads (and_then (all_marked (sipo ∷ []) serving) (λ t. filled t))
+      (got (Event.Heard 0 the_sipo) (Answer.Refused Refusal.Nothing) ∷ []) (λ f.
       (f.unit ≡ Some the_fisu) × (f.after.state ≡ State.InService true))
 
 -- THE LINE.
@@ -160,7 +171,7 @@ abbrev pub Puts : Terminal → List ℕ → Type 0
 Puts t [] = ⊤
 Puts t (octet ∷ octets) = (after : Terminal) × IsTurn [] t None [] (octet ∷ []) [] after × Puts after octets
 
--- a flag; then SIO with header 127, 1, 127, 1 and check octets 27 E6, a zero inserted after each five ones; then a flag, of
--- which three bits are left (Q.703 2.2, 3.1, 3.2, 4.2)
+-- a flag; then SIO with header 127, 1, 127, 1 and check octets 27 E6, a zero inserted after each five ones; then a
+-- flag, of which three bits are left (Q.703 2.2, 3.1, 3.2, 4.2)
 abbrev pub SioGoesOut : Type 0
 SioGoesOut = Puts (told Command.Start new) (0x7E ∷ 0xDF ∷ 0xF7 ∷ 0x0D ∷ 0x00 ∷ 0x38 ∷ 0x31 ∷ 0xF7 ∷ [])

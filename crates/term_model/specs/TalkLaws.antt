@@ -43,7 +43,8 @@ AreAnswered door who past [] = ⊤
 AreAnswered door who past (entry ∷ entries) =
     (entry.who ≡ who) × (entry.answer ≡ door past entry.event) × AreAnswered door who (past ++ entry ∷ []) entries
 
-pub record GoesBy {A : Type 0} (talk : Talk A) (door : List Entry → Event → Answer) (who : Actor) (past : List Entry) : Type 0 where
+pub record GoesBy {A : Type 0} (talk : Talk A) (door : List Entry → Event → Answer) (who : Actor)
+    (past : List Entry) : Type 0 where
   pub entries : List Entry
   pub outcome : A
   pub went : Went talk entries outcome

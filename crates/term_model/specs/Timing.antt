@@ -1,6 +1,6 @@
--- STEP 4 OF A TURN: TIMERS (Q.703 12.3). A turn is one octet time. All that run are lessened first; then T1 to T7 in order,
--- each that still runs and has none left gives its input, once. So one that an earlier one's end stopped gives nothing, and
--- one that was started in this step is lessened in the next turn (own).
+-- STEP 4 OF A TURN: TIMERS (Q.703 12.3). A turn is one octet time. All that run are lessened first; then T1 to T7 in
+-- order, each that still runs and has none left gives its input, once. So one that an earlier one's end stopped gives
+-- nothing, and one that was started in this step is lessened in the next turn (own).
 use Rattle.std.specs.Prelude.{ℕ, ◌-◌, ◌==◌, Bool, false, [], ◌∷◌, Option, Some, None, if◌then◌else◌}
 use Rattle.l2_align.specs.declared.signals.AlignIn.{AlignIn}
 use Rattle.l2_state.specs.declared.signals.StateIn.{StateIn}
@@ -52,15 +52,18 @@ ends_t4 t =
 
 -- T5, sending SIB: the next one is due (Q.703 9.3)
 abbrev pub ends_t5 : Terminal → Talk Terminal
-ends_t5 t = if is_over t.clocks.t5 then flow_in FlowIn.T5 (record t { clocks = record t.clocks { t5 = None } }) else done t
+ends_t5 t = if is_over t.clocks.t5
+    then flow_in FlowIn.T5 (record t { clocks = record t.clocks { t5 = None } }) else done t
 
 -- T6, remote congestion: the far end was busy too long (Q.703 9.3)
 abbrev pub ends_t6 : Terminal → Talk Terminal
-ends_t6 t = if is_over t.clocks.t6 then flow_in FlowIn.T6 (record t { clocks = record t.clocks { t6 = None } }) else done t
+ends_t6 t = if is_over t.clocks.t6
+    then flow_in FlowIn.T6 (record t { clocks = record t.clocks { t6 = None } }) else done t
 
 -- T7, excessive delay of acknowledgement (Q.703 5.3.1)
 abbrev pub ends_t7 : Terminal → Talk Terminal
-ends_t7 t = if is_over t.clocks.t7 then flow_in FlowIn.T7 (record t { clocks = record t.clocks { t7 = None } }) else done t
+ends_t7 t = if is_over t.clocks.t7
+    then flow_in FlowIn.T7 (record t { clocks = record t.clocks { t7 = None } }) else done t
 
 abbrev pub timed : Terminal → Talk Terminal
 timed t = in_turn (ends_t1 ∷ ends_t2 ∷ ends_t3 ∷ ends_t4 ∷ ends_t5 ∷ ends_t6 ∷ ends_t7 ∷ []) (lessened t)

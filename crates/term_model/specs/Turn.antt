@@ -19,16 +19,19 @@ turn_talk marks t =
     and_then (all_marked marks t) (λ t.
     and_then (timed t) (λ t. filled t)))
 
--- A TURN. After these bits were taken the line gave this octet, or none; the door gained just these entries; the line took
--- this octet, or none; these were the marks, and this is the terminal then.
-pub record IsTurn (taken : List Bool) (before : Terminal) (octet : Option ℕ) (entries : List Entry) (put : List ℕ) (marks : List Mark) (after : Terminal) : Type 0 where
+-- A TURN. After these bits were taken the line gave this octet, or none; the door gained just these entries; the line
+-- took this octet, or none; these were the marks, and this is the terminal then.
+pub record IsTurn (taken : List Bool) (before : Terminal) (octet : Option ℕ) (entries : List Entry)
+    (put : List ℕ) (marks : List Mark) (after : Terminal) : Type 0 where
   pub gives : GivesMarks taken octet marks
   pub chosen : Filled
   pub went : Went (turn_talk marks before) entries chosen
   pub puts : PutsOctet chosen put after
 
--- a turn that a fault of the door broke off: after these entries this event was asked, and got no answer. Nothing was put.
-pub record IsBrokenTurn (taken : List Bool) (before : Terminal) (octet : Option ℕ) (entries : List Entry) (last : Event) : Type 0 where
+-- a turn that a fault of the door broke off: after these entries this event was asked, and got no answer. Nothing was
+-- put.
+pub record IsBrokenTurn (taken : List Bool) (before : Terminal) (octet : Option ℕ)
+    (entries : List Entry) (last : Event) : Type 0 where
   pub marks : List Mark
   pub gives : GivesMarks taken octet marks
   pub broke_off : BrokeOff (turn_talk marks before) entries last

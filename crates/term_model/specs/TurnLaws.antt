@@ -20,7 +20,8 @@ use Rattle.term_model.specs.Timing.{timed}
 use Rattle.term_model.specs.Turn.{IsTurn}
 
 -- THE STEPS. Each step by itself, one after another: what each asked, and the terminal after it.
-pub record IsSixSteps (taken : List Bool) (before : Terminal) (octet : Option ℕ) (entries : List Entry) (put : List ℕ) (marks : List Mark) (after : Terminal) : Type 0 where
+pub record IsSixSteps (taken : List Bool) (before : Terminal) (octet : Option ℕ) (entries : List Entry)
+    (put : List ℕ) (marks : List Mark) (after : Terminal) : Type 0 where
   pub first : List Entry
   pub third : List Entry
   pub fourth : List Entry
@@ -40,7 +41,8 @@ pub record IsSixSteps (taken : List Bool) (before : Terminal) (octet : Option �
 -- LAW: a turn is its six steps, one after another
 abbrev pub TurnIsItsSteps : Type 0
 TurnIsItsSteps =
-    (taken : List Bool) (before : Terminal) (octet : Option ℕ) (entries : List Entry) (put : List ℕ) (marks : List Mark) (after : Terminal)
+    (taken : List Bool) (before : Terminal) (octet : Option ℕ) (entries : List Entry) (put : List ℕ)
+    (marks : List Mark) (after : Terminal)
     → IsTurn taken before octet entries put marks after ↔ IsSixSteps taken before octet entries put marks after
 
 -- LAW: what was taken and put, and the door's answers, decide a turn: its marks and the terminal after it
@@ -51,7 +53,8 @@ OneTurn =
     → IsTurn taken before octet entries put a x → IsTurn taken before octet entries put b y → (a ≡ b) × (x ≡ y)
 
 -- a turn whose entries have the answers of this door
-pub record HasTurn (taken : List Bool) (before : Terminal) (octet : Option ℕ) (marks : List Mark) (door : List Entry → Event → Answer) (who : Actor) (past : List Entry) : Type 0 where
+pub record HasTurn (taken : List Bool) (before : Terminal) (octet : Option ℕ) (marks : List Mark)
+    (door : List Entry → Event → Answer) (who : Actor) (past : List Entry) : Type 0 where
   pub entries : List Entry
   pub put : List ℕ
   pub after : Terminal
@@ -61,7 +64,8 @@ pub record HasTurn (taken : List Bool) (before : Terminal) (octet : Option ℕ) 
 -- LAW: whatever the door answers, there is a turn
 abbrev pub TurnsGoOn : Type 0
 TurnsGoOn =
-    (taken : List Bool) (before : Terminal) (octet : Option ℕ) (marks : List Mark) (door : List Entry → Event → Answer) (who : Actor) (past : List Entry)
+    (taken : List Bool) (before : Terminal) (octet : Option ℕ) (marks : List Mark)
+    (door : List Entry → Event → Answer) (who : Actor) (past : List Entry)
     → GivesMarks taken octet marks → HasTurn taken before octet marks door who past
 
 -- WHAT IS ASKED.
@@ -86,8 +90,8 @@ IsDown (Event.Down l) = ⊤
 IsDown (Event.DownBlind l) = ⊤
 IsDown _ = ⊥
 
--- LAW: a damaged unit isn't heard: a mark that brings no readable unit is told to a monitor alone, and all that can come of
--- it at the set is that the link fails
+-- LAW: a damaged unit isn't heard: a mark that brings no readable unit is told to a monitor alone, and all that can
+-- come of it at the set is that the link fails
 abbrev pub DamagedIsNotHeard : Type 0
 DamagedIsNotHeard =
     (mark : Mark) (before after : Terminal) (entries : List Entry) → unit_in mark ≡ None
@@ -104,7 +108,8 @@ abbrev pub IsInService : State → Type 0
 IsInService (State.InService paused) = ⊤
 IsInService _ = ⊥
 
--- no timer has more left than it was started with; the FSN last sent is one; and the link is up at the set only in service
+-- no timer has more left than it was started with; the FSN last sent is one; and the link is up at the set only in
+-- service
 pub record IsSound (t : Terminal) : Type 0 where
   pub t1 : IsWithin t.lengths.t1 t.clocks.t1
   pub t2 : IsWithin t.lengths.t2 t.clocks.t2
@@ -130,7 +135,8 @@ pub record IsSoundTurn (before : Terminal) (entries : List Entry) (after : Termi
 -- LAW: a turn asks of its own link alone, and a terminal stays sound
 abbrev pub TurnsStaySound : Type 0
 TurnsStaySound =
-    (taken : List Bool) (before : Terminal) (octet : Option ℕ) (entries : List Entry) (put : List ℕ) (marks : List Mark) (after : Terminal)
+    (taken : List Bool) (before : Terminal) (octet : Option ℕ) (entries : List Entry) (put : List ℕ)
+    (marks : List Mark) (after : Terminal)
     → IsSound before → IsTurn taken before octet entries put marks after → IsSoundTurn before entries after
 
 -- LAW: a new terminal is sound, and a command leaves it so
