@@ -2,7 +2,9 @@ pub mod Damaged
 pub mod Keeping
 pub mod MachineSteps
 pub mod MonitorSteps
+pub mod OrderRowValues
 pub mod RowValues
+pub mod RunSteps
 pub mod Staying
 pub mod Tables
 pub mod Talks

@@ -13,3 +13,5 @@ pub mod OctetOut
 pub mod Turn
 pub mod TurnLaws
 pub mod Rows
+pub mod Runs
+pub mod OrderRows

@@ -3,7 +3,9 @@ ghost use Rattle.term_model.specs.TurnLaws.{DamagedIsNotHeard, OneTurn, Terminal
 ghost use Rattle.term_model.specs.Terminal.{Terminal};
 ghost use Rattle.term_model.specs.MachineLaws.{EachInputAsksAtMostOne, LayersAreWhole};
 ghost use Rattle.term_model.specs.Monitors.{AermIsItsDefinition, SuermIsItsDefinition};
+ghost use Rattle.term_model.specs.OrderRows.{HeardRows, SentRows, TimerRows};
 ghost use Rattle.term_model.specs.Rows.{AlignmentRows, ServiceRows, SioGoesOut};
+ghost use Rattle.term_model.specs.Runs.{RunsJoin, RunsStaySound};
 ghost use Rattle.term_model.specs.TalkLaws.{AlwaysGoes, BreaksFirst, BreaksLater, Joins, OneOutcome, Splits};
 
 /// A talk that went and the one that follows from what came of it are one talk, which went by the entries of both;
@@ -67,4 +69,14 @@ pub fn rows_come_out()
     ensures alignment { AlignmentRows }
     ensures service { ServiceRows }
     ensures line { SioGoesOut }
+    ensures timers { TimerRows }
+    ensures heard { HeardRows }
+    ensures sent { SentRows }
+{}
+
+/// Turns follow one another: the bits that were taken are those of the octets that the line gave. All turns of a
+/// sound terminal ask of its own link alone, and leave it sound.
+pub fn runs_follow_each_other()
+    ensures join { RunsJoin }
+    ensures stay { RunsStaySound }
 {}

@@ -5,9 +5,9 @@
 //! the definition yet. It reads no clock, does no IO and takes no memory: a turn is one octet time, what the line gives
 //! and takes are octets, and what is asked of the link's set stands behind a door.
 //!
-//! `specs/` has the definitions, in the order to read them: `Terminal` (what a terminal holds), `Talk` (what is asked at
-//! the door, and how a turn goes on by the answer), `Monitors` and `Machines` (what an input of a machine makes of the
-//! terminal), the six steps, and `Turn`.
+//! `specs/` has the definitions, in the order to read them: `Terminal` (what a terminal holds), `Talk` (what is asked
+//! at the door, and how a turn goes on by the answer), `Monitors` and `Machines` (what an input of a machine makes of the
+//! terminal), the six steps, `Turn`, and `Runs` (turns one after another, and what they count).
 //!
 //! | step | file | Q.703 |
 //! |---|---|---|
@@ -24,12 +24,14 @@
 
 mod command;
 mod laws;
+mod report;
 mod timers;
 
 pub use command::{Command, Commands};
 pub use laws::{
     a_damaged_unit_is_not_heard, a_fault_breaks_a_talk_off, a_turn_is_its_six_steps,
     an_input_asks_at_most_one_thing, monitors_keep_what_their_marks_leave, rows_come_out,
-    talks_follow_each_other, terminals_stay_sound,
+    runs_follow_each_other, talks_follow_each_other, terminals_stay_sound,
 };
+pub use report::TermReport;
 pub use timers::{Clocks, Timers};
