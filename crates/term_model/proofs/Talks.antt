@@ -30,6 +30,20 @@ splits (ask event go) next (entry ∷ entries) last went =
       went_second = s.went_second;
     }
 
+ends_by_itself : {A : Type 0} (talk : Talk A) (entries : List Entry) (a : A) → Went (and_then talk (λ b. done b)) entries a → Went talk entries a
+ends_by_itself (done b) entries a went = went
+ends_by_itself (ask event go) [] a went = went
+ends_by_itself (ask event go) (entry ∷ entries) a went = (went.0, ends_by_itself (go entry.answer) entries a went.1)
+
+ends_with_done : {A : Type 0} (talk : Talk A) (entries : List Entry) (a : A) → Went talk entries a → Went (and_then talk (λ b. done b)) entries a
+ends_with_done (done b) entries a went = went
+ends_with_done (ask event go) [] a went = went
+ends_with_done (ask event go) (entry ∷ entries) a went = (went.0, ends_with_done (go entry.answer) entries a went.1)
+
+pub ends_the_same : {A : Type 0} (talk : Talk A) (entries : List Entry) (a : A)
+    → (Went (and_then talk (λ b. done b)) entries a → Went talk entries a) × (Went talk entries a → Went (and_then talk (λ b. done b)) entries a)
+ends_the_same talk entries a = (ends_by_itself talk entries a, ends_with_done talk entries a)
+
 pub breaks_first : {A B : Type 0} (talk : Talk A) (next : A → Talk B) (entries : List Entry) (last : Event)
     → BrokeOff talk entries last → BrokeOff (and_then talk next) entries last
 breaks_first (done a) next entries last broke = absurd broke

@@ -1,10 +1,10 @@
 -- LAWS of talks, of any two types of outcomes.
-use Rattle.std.specs.Prelude.{◌≡◌, List, [], ◌∷◌, ◌++◌, ⊤}
+use Rattle.std.specs.Prelude.{◌≡◌, ◌↔◌, List, [], ◌∷◌, ◌++◌, ⊤}
 use Rattle.set_events.specs.declared.answer.Answer.{Answer}
 use Rattle.set_events.specs.declared.event.Actor.{Actor}
 use Rattle.set_events.specs.declared.event.Event.{Event}
 use Rattle.set_events.specs.declared.history.Entry.{Entry}
-use Rattle.term_model.specs.Talk.{Talk, and_then, Went, BrokeOff}
+use Rattle.term_model.specs.Talk.{Talk, done, and_then, Went, BrokeOff}
 
 -- LAW: two talks that went, one after the other, are one talk that went by the entries of both
 abbrev pub Joins : Type 0 → Type 0 → Type 0
@@ -23,6 +23,11 @@ pub record Split {A B : Type 0} (talk : Talk A) (next : A → Talk B) (entries :
 abbrev pub Splits : Type 0 → Type 0 → Type 0
 Splits A B = (talk : Talk A) (next : A → Talk B) (entries : List Entry) (last : B)
     → Went (and_then talk next) entries last → Split talk next entries last
+
+-- LAW: a talk after which nothing follows goes as it would by itself
+abbrev pub EndsTheSame : Type 0 → Type 0
+EndsTheSame A = (talk : Talk A) (entries : List Entry) (a : A)
+    → Went (and_then talk (λ b. done b)) entries a ↔ Went talk entries a
 
 -- LAW: a fault in the first talk, and one in the second
 abbrev pub BreaksFirst : Type 0 → Type 0 → Type 0

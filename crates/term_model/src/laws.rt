@@ -6,7 +6,7 @@ ghost use Rattle.term_model.specs.Monitors.{AermIsItsDefinition, SuermIsItsDefin
 ghost use Rattle.term_model.specs.OrderRows.{HeardRows, SentRows, TimerRows};
 ghost use Rattle.term_model.specs.Rows.{AlignmentRows, ServiceRows, SioGoesOut};
 ghost use Rattle.term_model.specs.Runs.{RunsJoin, RunsStaySound};
-ghost use Rattle.term_model.specs.TalkLaws.{AlwaysGoes, BreaksFirst, BreaksLater, Joins, OneOutcome, Splits};
+ghost use Rattle.term_model.specs.TalkLaws.{AlwaysGoes, BreaksFirst, BreaksLater, EndsTheSame, Joins, OneOutcome, Splits};
 
 /// A talk that went and the one that follows from what came of it are one talk, which went by the entries of both;
 /// and it goes in no other way. The answers decide what comes of it, and whatever a door answers, it comes to an
@@ -14,6 +14,7 @@ ghost use Rattle.term_model.specs.TalkLaws.{AlwaysGoes, BreaksFirst, BreaksLater
 pub fn talks_follow_each_other()
     ensures joins { Joins Terminal Terminal }
     ensures splits { Splits Terminal Terminal }
+    ensures ends { EndsTheSame Terminal }
     ensures one { OneOutcome Terminal }
     ensures goes { AlwaysGoes Terminal }
 {}

@@ -1,4 +1,4 @@
-use Rattle.term_model.proofs.Talks.{joins, splits, one_outcome, always_goes}
+use Rattle.term_model.proofs.Talks.{joins, splits, one_outcome, always_goes, ends_the_same}
 use Rattle.term_model.proofs.laws.talks_follow_each_other.Goals as goal
 
 pub returns-clause-joins : goal.returns-clause-joins
@@ -12,3 +12,6 @@ returns-clause-one c = one_outcome
 
 pub returns-clause-goes : goal.returns-clause-goes
 returns-clause-goes c = always_goes
+
+pub returns-clause-ends : goal.returns-clause-ends
+returns-clause-ends c = ends_the_same
