@@ -25,6 +25,7 @@ use Rattle.term_model.proofs.Tables.{IsPlain, IsProving, AlignOrders, align_orde
 pub record IsTimed (b t : Terminal) : Type 0 where
   pub link_is : t.link ≡ b.link
   pub lengths_are : t.lengths ≡ b.lengths
+  pub bits_are : t.bits ≡ b.bits
   pub t1 : IsWithin t.lengths.t1 t.clocks.t1
   pub t2 : IsWithin t.lengths.t2 t.clocks.t2
   pub t3 : IsWithin t.lengths.t3 t.clocks.t3
@@ -59,6 +60,7 @@ timed_align : (b t : Terminal) (row : AlignRow) → AlignOrders row.out → IsTi
 timed_align b t row orders timed = record {
   link_is = timed.link_is;
   lengths_are = timed.lengths_are;
+  bits_are = timed.bits_are;
   t1 = timed.t1;
   t2 = plain_within row.out.t2 t.lengths.t2 t.clocks.t2 orders.0 timed.t2;
   t3 = plain_within row.out.t3 t.lengths.t3 t.clocks.t3 orders.1 timed.t3;
@@ -81,6 +83,7 @@ state_timed : (b t : Terminal) (row : StateRow) → IsPlain row.out.t1 → IsTim
 state_timed b t row plain timed = switched_timed b _ row.out.alignment (record {
   link_is = timed.link_is;
   lengths_are = timed.lengths_are;
+  bits_are = timed.bits_are;
   t1 = plain_within row.out.t1 t.lengths.t1 t.clocks.t1 plain timed.t1;
   t2 = timed.t2;
   t3 = timed.t3;
@@ -95,6 +98,7 @@ flow_timed : (b t : Terminal) (row : Effect) → FlowOrders row.out → IsTimed 
 flow_timed b t row orders timed = record {
   link_is = timed.link_is;
   lengths_are = timed.lengths_are;
+  bits_are = timed.bits_are;
   t1 = timed.t1;
   t2 = timed.t2;
   t3 = timed.t3;
@@ -106,10 +110,11 @@ flow_timed b t row orders timed = record {
 }
 
 -- a record of the same facts, where none of what they speak of differs
-pub same_timed : (b t u : Terminal) → u.link ≡ t.link → u.lengths ≡ t.lengths → u.clocks ≡ t.clocks → u.top < 2 ^ 7 → IsTimed b t → IsTimed b u
-same_timed b t u link lengths clocks top timed = record {
+pub same_timed : (b t u : Terminal) → u.link ≡ t.link → u.lengths ≡ t.lengths → u.bits ≡ t.bits → u.clocks ≡ t.clocks → u.top < 2 ^ 7 → IsTimed b t → IsTimed b u
+same_timed b t u link lengths bits clocks top timed = record {
   link_is = link ∙ timed.link_is;
   lengths_are = lengths ∙ timed.lengths_are;
+  bits_are = bits ∙ timed.bits_are;
   t1 = both u.lengths.t1 t.lengths.t1 u.clocks.t1 t.clocks.t1 (ap (λ l. l.t1) lengths) (ap (λ c. c.t1) clocks) timed.t1;
   t2 = both u.lengths.t2 t.lengths.t2 u.clocks.t2 t.clocks.t2 (ap (λ l. l.t2) lengths) (ap (λ c. c.t2) clocks) timed.t2;
   t3 = both u.lengths.t3 t.lengths.t3 u.clocks.t3 t.clocks.t3 (ap (λ l. l.t3) lengths) (ap (λ c. c.t3) clocks) timed.t3;
@@ -126,8 +131,8 @@ same_timed b t u link lengths clocks top timed = record {
 
 fallen_timed : (b t : Terminal) (cause : Cause) → IsTimed b t → IsTimed b (fallen cause t)
 fallen_timed b t cause timed =
-    same_timed b (controls FlowIn.Reset u) (fallen cause t) refl refl refl timed.top
-    (flow_timed b u (flow_row t.flow FlowIn.Reset) (flow_orders t.flow FlowIn.Reset) (same_timed b t u refl refl refl timed.top timed))
+    same_timed b (controls FlowIn.Reset u) (fallen cause t) refl refl refl refl timed.top
+    (flow_timed b u (flow_row t.flow FlowIn.Reset) (flow_orders t.flow FlowIn.Reset) (same_timed b t u refl refl refl refl timed.top timed))
   where
     u : Terminal
     u = record t { cause = Some cause; suerm = None; up = false }
@@ -139,7 +144,7 @@ fallen_kept b t cause timed = record { timed = fallen_timed b t cause timed; ser
 
 risen_kept : (b t : Terminal) (answer : Answer) → IsTimed b t → IsInService t.state → IsKept b (risen answer t)
 risen_kept b t Answer.Done timed is = record {
-  timed = same_timed b t (record t { up = true; blind = false; top = 127 }) refl refl refl (omega arith) timed;
+  timed = same_timed b t (record t { up = true; blind = false; top = 127 }) refl refl refl refl (omega arith) timed;
   served = λ up. is;
 }
 risen_kept b t _ timed is = record { timed = timed; served = λ up. is }

@@ -38,9 +38,9 @@ abbrev pub Stays : Terminal → Talk Terminal → Type 0
 Stays b talk = Keeps (IsOfLink b.link) (IsKept b) talk
 
 -- a change of nothing that is spoken of
-same_kept : (b t u : Terminal) → u.link ≡ t.link → u.lengths ≡ t.lengths → u.clocks ≡ t.clocks → u.top ≡ t.top → u.up ≡ t.up → u.state ≡ t.state → IsKept b t → IsKept b u
-same_kept b t u link lengths clocks top up state kept = record {
-  timed = same_timed b t u link lengths clocks (subst (λ n. n < 2 ^ 7) (sym top) kept.timed.top) kept.timed;
+same_kept : (b t u : Terminal) → u.link ≡ t.link → u.lengths ≡ t.lengths → u.bits ≡ t.bits → u.clocks ≡ t.clocks → u.top ≡ t.top → u.up ≡ t.up → u.state ≡ t.state → IsKept b t → IsKept b u
+same_kept b t u link lengths bits clocks top up state kept = record {
+  timed = same_timed b t u link lengths bits clocks (subst (λ n. n < 2 ^ 7) (sym top) kept.timed.top) kept.timed;
   served = λ now. subst IsInService (sym state) (kept.served (sym up ∙ now));
 }
 
@@ -52,7 +52,7 @@ obeys_kept b commanded obeys each t kept =
     if_keeps (IsOfLink b.link) (IsKept b) commanded (obeys t) (done t) (λ is. each t kept) (λ not. kept)
 
 blinded_kept : (b u : Terminal) → IsKept b u → Stays b (blinded u)
-blinded_kept b u kept = same_kept b u (record u { blind = u.blind || u.up }) refl refl refl refl refl refl kept
+blinded_kept b u kept = same_kept b u (record u { blind = u.blind || u.up }) refl refl refl refl refl refl refl kept
 
 commanded_kept : (b t : Terminal) → IsKept b t → Stays b (commanded t)
 commanded_kept b t kept =
@@ -79,7 +79,7 @@ commanded_kept b t kept =
         ),
       ),
     )
-    (same_kept b t (record t { commands = no_commands }) refl refl refl refl refl refl kept)
+    (same_kept b t (record t { commands = no_commands }) refl refl refl refl refl refl refl kept)
 
 -- STEP 3.
 
@@ -87,14 +87,14 @@ aerm_kept : (b t : Terminal) (aerm : Option ℕ) (error : Bool) → IsKept b t �
 aerm_kept b t None error kept = kept
 aerm_kept b t (Some left) error kept =
     let u : Terminal = record t { aerm = Some (after_aerm_mark left error) } in
-    let same : IsKept b u = same_kept b t u refl refl refl refl refl refl kept in
+    let same : IsKept b u = same_kept b t u refl refl refl refl refl refl refl kept in
     if_keeps (IsOfLink b.link) (IsKept b) (after_aerm_mark left error == 0) (align_in AlignIn.Abort u) (done u) (λ is. align_kept b u AlignIn.Abort same) (λ not. same)
 
 suerm_kept : (b t : Terminal) (suerm : Option Kept) (error : Bool) → IsKept b t → Stays b (suerm_judges suerm error t)
 suerm_kept b t None error kept = kept
 suerm_kept b t (Some old) error kept =
     let u : Terminal = record t { suerm = Some (after_mark old error) } in
-    let same : IsKept b u = same_kept b t u refl refl refl refl refl refl kept in
+    let same : IsKept b u = same_kept b t u refl refl refl refl refl refl refl kept in
     if_keeps (IsOfLink b.link) (IsKept b) (after_mark old error).tripped (state_in (StateIn.Failure Cause.Suerm) u) (done u) (λ is. state_kept b u (StateIn.Failure Cause.Suerm) same) (λ not. same)
 
 service_kept : (b t : Terminal) (state : State) (error : Bool) → IsKept b t → Stays b (service_judges state error t)
@@ -168,6 +168,7 @@ with_clocks b t c kept t1 t2 t3 t4 t5 t6 t7 = record {
   timed = record {
     link_is = kept.timed.link_is;
     lengths_are = kept.timed.lengths_are;
+    bits_are = kept.timed.bits_are;
     t1 = t1;
     t2 = t2;
     t3 = t3;
@@ -233,7 +234,7 @@ abbrev pub Chooses : Terminal → Talk Filled → Type 0
 Chooses b talk = Keeps (IsOfLink b.link) (λ f. IsKept b f.after) talk
 
 sends_kept : (b t : Terminal) (unit : SignalUnit) → IsKept b t → Chooses b (sends unit t)
-sends_kept b t unit kept = same_kept b t (record t { last = Some (head_of unit) }) refl refl refl refl refl refl kept
+sends_kept b t unit kept = same_kept b t (record t { last = Some (head_of unit) }) refl refl refl refl refl refl refl kept
 
 raised_in_range : (raises : Bool) (fsn top : ℕ) → fsn < 2 ^ 7 → top < 2 ^ 7 → (if raises then fsn else top) < 2 ^ 7
 raised_in_range true fsn top in_fsn in_top = in_fsn
@@ -243,7 +244,7 @@ counts_kept : (b t : Terminal) (unit : SignalUnit) → IsKept b t → Stays b (c
 counts_kept b t (SignalUnit.Msu head body) kept =
     let u : Terminal = record t { top = raised_top head.fsn t.top } in
     flow_kept b u FlowIn.Sent (record {
-      timed = same_timed b t u refl refl refl (raised_in_range (head.fsn == (t.top + 1) % 128) head.fsn t.top head.fsn_in_range kept.timed.top) kept.timed;
+      timed = same_timed b t u refl refl refl refl (raised_in_range (head.fsn == (t.top + 1) % 128) head.fsn t.top head.fsn_in_range kept.timed.top) kept.timed;
       served = kept.served;
     })
 counts_kept b t _ kept = kept
@@ -259,7 +260,7 @@ serves_kept : (b t : Terminal) (paused : Bool) → IsKept b t → Chooses b (ser
 serves_kept b t paused kept =
     if_keeps (IsOfLink b.link) (λ f. IsKept b f.after) t.up _ (sends_start_fisu t)
     (λ up. if_keeps (IsOfLink b.link) (λ f. IsKept b f.after) t.b_due (sends_status Status.Busy (record t { b_due = false })) _
-    (λ due. sends_kept b (record t { b_due = false }) (SignalUnit.Lssu (last_head t) Status.Busy) (same_kept b t (record t { b_due = false }) refl refl refl refl refl refl kept))
+    (λ due. sends_kept b (record t { b_due = false }) (SignalUnit.Lssu (last_head t) Status.Busy) (same_kept b t (record t { b_due = false }) refl refl refl refl refl refl refl kept))
     (λ not_due. if_keeps (IsOfLink b.link) (λ f. IsKept b f.after) paused (sends_fisu t) (ask (Event.Next t.link) (λ answer. sent_by answer t))
     (λ is. sends_kept b t (SignalUnit.Fisu (last_head t)) kept)
     (λ not. (kept.timed.link_is, λ answer. sent_kept b t answer kept))))
@@ -293,12 +294,12 @@ talk_kept b marks kept =
 
 kept_of : (b : Terminal) → IsSound b → IsKept b b
 kept_of b s = record {
-  timed = record { link_is = refl; lengths_are = refl; t1 = s.t1; t2 = s.t2; t3 = s.t3; t4 = s.t4; t5 = s.t5; t6 = s.t6; t7 = s.t7; top = s.top };
+  timed = record { link_is = refl; lengths_are = refl; bits_are = refl; t1 = s.t1; t2 = s.t2; t3 = s.t3; t4 = s.t4; t5 = s.t5; t6 = s.t6; t7 = s.t7; top = s.top };
   served = s.served;
 }
 
-goes_on_of : (b t : Terminal) → IsKept b t → GoesOn b t
-goes_on_of b t k = record {
+goes_on_of : (b t : Terminal) (bits : List Bool) → IsKept b t → GoesOn b (record t { bits = bits })
+goes_on_of b t bits k = record {
   link_is = k.timed.link_is;
   lengths_are = k.timed.lengths_are;
   sound = record {
@@ -320,11 +321,17 @@ turn_sound taken before octet entries put marks after sound turn =
     let keeps = talk_kept before marks (kept_of before sound) in
     let left : IsKept before turn.chosen.after = went_kept (IsOfLink before.link) (λ f. IsKept before f.after) (turn_talk marks before) entries turn.chosen keeps turn.went in record {
       of_link = went_asked (IsOfLink before.link) (λ f. IsKept before f.after) (turn_talk marks before) entries turn.chosen keeps turn.went;
-      goes_on = subst (λ t. GoesOn before t) (sym turn.puts.after_is) (goes_on_of before _ (same_kept before turn.chosen.after _ refl refl refl refl refl refl left));
+      goes_on = subst (λ t. GoesOn before t) (sym turn.puts.after_is) (goes_on_of before turn.chosen.after _ left);
     }
 
 pub starts_sound : (link : ℕ) (lengths : Timers) → StartsSound link lengths
 starts_sound link lengths = record {
   opened_sound = record { t1 = tt; t2 = tt; t3 = tt; t4 = tt; t5 = tt; t6 = tt; t7 = tt; top = omega arith; served = λ up. absurd cc };
-  told_sound = λ command t sound. goes_on_of t (told command t) (same_kept t t (told command t) refl refl refl refl refl refl (kept_of t sound));
+  told_sound = λ command t sound. goes_on_of t (told command t) t.bits (same_kept t t (told command t) refl refl refl refl refl refl refl (kept_of t sound));
 }
+
+-- no step but the last touches what is left to send
+pub bits_stay : (taken : List Bool) (before : Terminal) (octet : Option ℕ) (entries : List Entry) (put : List ℕ) (marks : List Mark) (after : Terminal)
+    → IsSound before → (turn : IsTurn taken before octet entries put marks after) → turn.chosen.after.bits ≡ before.bits
+bits_stay taken before octet entries put marks after sound turn =
+    (went_kept (IsOfLink before.link) (λ f. IsKept before f.after) (turn_talk marks before) entries turn.chosen (talk_kept before marks (kept_of before sound)) turn.went).timed.bits_are

@@ -15,3 +15,4 @@ pub mod TurnLaws
 pub mod Rows
 pub mod Runs
 pub mod OrderRows
+pub mod LineLaws

@@ -1,6 +1,7 @@
 //! Laws that speak of definitions alone.
 ghost use Rattle.term_model.specs.TurnLaws.{DamagedIsNotHeard, OneTurn, TerminalsStartSound, TurnIsItsSteps, TurnsGoOn, TurnsStaySound};
 ghost use Rattle.term_model.specs.Terminal.{Terminal};
+ghost use Rattle.term_model.specs.LineLaws.{TheLineCarriesUnits};
 ghost use Rattle.term_model.specs.MachineLaws.{EachInputAsksAtMostOne, LayersAreWhole};
 ghost use Rattle.term_model.specs.Monitors.{AermIsItsDefinition, SuermIsItsDefinition};
 ghost use Rattle.term_model.specs.OrderRows.{HeardRows, SentRows, TimerRows};
@@ -80,4 +81,10 @@ pub fn rows_come_out()
 pub fn runs_follow_each_other()
     ensures join { RunsJoin }
     ensures stay { RunsStaySound }
+{}
+
+/// What turns put on the line: what was left to send, and then just the units that were chosen, in order, with a flag behind
+/// each. No bit is lost or doubled, also where the line was full meanwhile (Q.703 2.2, 3).
+pub fn the_line_carries_units()
+    ensures { TheLineCarriesUnits }
 {}

@@ -18,8 +18,8 @@
 //! | 5 what is sent next | `Choosing` | 11.2, 12.1 |
 //! | 6 one octet out | `OctetOut` | 2.2, 3, 4.2 |
 //!
-//! The laws stand in `TalkLaws`, `MachineLaws`, `TurnLaws` and at the end of `Monitors`, worked rows in `Rows`; the
-//! functions here, which do nothing, carry them.
+//! The laws stand in `TalkLaws`, `MachineLaws`, `TurnLaws`, `LineLaws` and at the end of `Monitors` and `Runs`, worked
+//! rows in `Rows` and `OrderRows`; the functions here, which do nothing, carry them.
 #![tactic(auto)]
 
 mod command;
@@ -31,7 +31,7 @@ pub use command::{Command, Commands};
 pub use laws::{
     a_damaged_unit_is_not_heard, a_fault_breaks_a_talk_off, a_turn_is_its_six_steps,
     an_input_asks_at_most_one_thing, monitors_keep_what_their_marks_leave, rows_come_out,
-    runs_follow_each_other, talks_follow_each_other, terminals_stay_sound,
+    runs_follow_each_other, talks_follow_each_other, terminals_stay_sound, the_line_carries_units,
 };
 pub use report::TermReport;
 pub use timers::{Clocks, Timers};
