@@ -1,5 +1,5 @@
-ghost use Rattle.std.specs.Prelude.{◌≡◌, ◌↔◌, Bool, List, [], ◌∷◌, ◌++◌, IsTrue};
-ghost use Rattle.l2_monitors.specs.Aerm.{Leaves, HasTripped};
+ghost use Rattle.std.specs.Prelude.{◌≡◌, ◌↔◌, ◌==◌, Bool, List, [], ◌∷◌, ◌++◌, IsTrue};
+ghost use Rattle.l2_monitors.specs.Aerm.{Leaves, HasTripped, KeepsItsPast, threshold, after_mark};
 
 use std::marker::Model;
 
@@ -21,7 +21,8 @@ impl Model for Aerm {
 impl Aerm {
     /// A monitor that was given no mark, of an emergency proving or of a normal one.
     pub fn new(emergency: bool) -> Self
-        ensures { Leaves emergency [] result }
+        ensures none { Leaves emergency [] result }
+        ensures value { result ≡ threshold emergency }
     {
         Aerm {
             errors_left: if emergency { 1 } else { 4 },
@@ -34,6 +35,8 @@ impl Aerm {
             → Leaves emergency (past ++ error ∷ []) self.new }
         ensures tripped { (emergency : Bool) (past : List Bool) → Leaves emergency past self.old
             → (IsTrue result ↔ HasTripped emergency (past ++ error ∷ [])) }
+        ensures rule { self.new ≡ after_mark self.old error }
+        ensures result { result ≡ (self.new == 0) }
     {
         if error {
             self.errors_left = self.errors_left.saturating_sub(1);
@@ -41,3 +44,8 @@ impl Aerm {
         self.errors_left == 0
     }
 }
+
+/// Mark by mark, the rule of [`Aerm::mark`] leads to what the definition says of the whole list of marks.
+pub fn aerm_keeps_its_past()
+    ensures { KeepsItsPast }
+{}

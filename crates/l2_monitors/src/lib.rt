@@ -25,5 +25,5 @@
 mod aerm;
 mod suerm;
 
-pub use aerm::Aerm;
-pub use suerm::Suerm;
+pub use aerm::{Aerm, aerm_keeps_its_past};
+pub use suerm::{Suerm, suerm_keeps_its_past};

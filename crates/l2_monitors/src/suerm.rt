@@ -1,5 +1,5 @@
 ghost use Rattle.std.specs.Prelude.{◌≡◌, ◌+◌, ◌-◌, ◌≤◌, ◌↔◌, Bool, List, [], ◌∷◌, ◌++◌, IsTrue, if◌then◌else◌};
-ghost use Rattle.l2_monitors.specs.Suerm.{Leaves, HasTripped};
+ghost use Rattle.l2_monitors.specs.Suerm.{Leaves, HasTripped, KeepsItsPast, fresh, after_mark};
 
 use std::marker::Model;
 
@@ -30,7 +30,8 @@ impl Model for Suerm {
 impl Suerm {
     /// A monitor that was given no mark.
     pub fn new() -> Self
-        ensures { Leaves [] result }
+        ensures none { Leaves [] result }
+        ensures value { result ≡ fresh }
     {
         Suerm {
             tripped: false,
@@ -45,6 +46,8 @@ impl Suerm {
             → Leaves (past ++ error ∷ []) self.new }
         ensures tripped { (past : List Bool) → Leaves past self.old
             → (IsTrue result ↔ HasTripped (past ++ error ∷ [])) }
+        ensures rule { self.new ≡ after_mark self.old error }
+        ensures result { result ≡ self.new.tripped }
     {
         if self.tripped {
             return true;
@@ -66,3 +69,8 @@ fn count_after(count: u8, error: bool, leaks: bool) -> u8
 {
     (count + u8::from(error)).saturating_sub(u8::from(leaks))
 }
+
+/// Mark by mark, the rule of [`Suerm::mark`] leads to what the definition says of the whole list of marks.
+pub fn suerm_keeps_its_past()
+    ensures { KeepsItsPast }
+{}

@@ -17,7 +17,8 @@ use Rattle.set_events.specs.declared.event.Event.{Event}
 use Rattle.set_events.specs.declared.history.Entry.{Entry}
 use Rattle.term_model.specs.Hearing.{unit_in, is_error, aerm_judges, suerm_judges, service_judges, judges, judged, heard, marked}
 use Rattle.term_model.specs.Machines.{aligns, after_state, fallen, asks_down, tells, ends, state_in, align_in}
-use Rattle.term_model.specs.Monitors.{after_mark, after_aerm_mark}
+use Rattle.l2_monitors.specs.Aerm.{after_mark as after_aerm_mark}
+use Rattle.l2_monitors.specs.Suerm.{after_mark}
 use Rattle.term_model.specs.Talk.{Talk, done, and_then, Went}
 use Rattle.term_model.specs.Terminal.{Terminal}
 use Rattle.term_model.specs.TurnLaws.{IsDown, AllAsked}

@@ -1,7 +1,6 @@
 pub mod Damaged
 pub mod Keeping
 pub mod MachineSteps
-pub mod MonitorSteps
 pub mod OnLine
 pub mod OrderRowValues
 pub mod RowValues

@@ -23,7 +23,8 @@ use Rattle.term_model.specs.declared.timers.Timers.{Timers}
 use Rattle.term_model.specs.Choosing.{Filled, sends, sends_status, sends_fisu, sends_start_fisu, raised_top, counts_sent, held_back, sent_by, serves, up_first, chosen, filled}
 use Rattle.term_model.specs.Hearing.{unit_in, is_error, aerm_judges, suerm_judges, service_judges, judges, judged, flow_hears, machines_hear, acks, faults, reported, set_hears, heard, marked, all_marked}
 use Rattle.term_model.specs.Machines.{state_in, align_in, flow_in, asks_up, stops_quietly}
-use Rattle.term_model.specs.Monitors.{after_mark, after_aerm_mark}
+use Rattle.l2_monitors.specs.Aerm.{after_mark as after_aerm_mark}
+use Rattle.l2_monitors.specs.Suerm.{after_mark}
 use Rattle.term_model.specs.Obeying.{obeys_if, blinded, commanded}
 use Rattle.term_model.specs.Talk.{Talk, done, ask, and_then}
 use Rattle.term_model.specs.Terminal.{Terminal, last_head, start_head, no_commands, told}

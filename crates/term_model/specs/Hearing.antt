@@ -19,7 +19,8 @@ use Rattle.set_events.specs.declared.answer.Refusal.{Refusal}
 use Rattle.set_events.specs.declared.answer.Report.{Report}
 use Rattle.set_events.specs.declared.event.Event.{Event}
 use Rattle.term_model.specs.Machines.{state_in, align_in, flow_in, stops_quietly}
-use Rattle.term_model.specs.Monitors.{after_mark, after_aerm_mark}
+use Rattle.l2_monitors.specs.Aerm.{after_mark as after_aerm_mark}
+use Rattle.l2_monitors.specs.Suerm.{after_mark}
 use Rattle.term_model.specs.Talk.{Talk, done, ask, and_then}
 use Rattle.term_model.specs.Terminal.{Terminal}
 

@@ -21,7 +21,7 @@ use Rattle.l2_flow.specs.declared.input.FlowIn.{FlowIn}
 use Rattle.l2_flow.specs.Table.{Effect, row_of as flow_row}
 use Rattle.set_events.specs.declared.answer.Answer.{Answer}
 use Rattle.set_events.specs.declared.event.Event.{Event}
-use Rattle.term_model.specs.Monitors.{fresh}
+use Rattle.l2_monitors.specs.Suerm.{fresh}
 use Rattle.term_model.specs.Talk.{Talk, done, ask}
 use Rattle.term_model.specs.Terminal.{Terminal}
 

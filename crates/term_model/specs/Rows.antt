@@ -17,7 +17,7 @@ use Rattle.term_model.specs.declared.command.Command.{Command}
 use Rattle.term_model.specs.declared.timers.Timers.{Timers}
 use Rattle.term_model.specs.Choosing.{filled}
 use Rattle.term_model.specs.Hearing.{all_marked}
-use Rattle.term_model.specs.Monitors.{fresh}
+use Rattle.l2_monitors.specs.Suerm.{fresh}
 use Rattle.term_model.specs.Obeying.{commanded}
 use Rattle.term_model.specs.Talk.{Talk, and_then, Went}
 use Rattle.term_model.specs.Terminal.{Terminal, opened, told, start_head}

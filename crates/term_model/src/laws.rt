@@ -3,7 +3,6 @@ ghost use Rattle.term_model.specs.TurnLaws.{DamagedIsNotHeard, OneTurn, Terminal
 ghost use Rattle.term_model.specs.Terminal.{Terminal};
 ghost use Rattle.term_model.specs.LineLaws.{TheLineCarriesUnits};
 ghost use Rattle.term_model.specs.MachineLaws.{EachInputAsksAtMostOne, LayersAreWhole};
-ghost use Rattle.term_model.specs.Monitors.{AermIsItsDefinition, SuermIsItsDefinition};
 ghost use Rattle.term_model.specs.OrderRows.{HeardRows, SentRows, TimerRows};
 ghost use Rattle.term_model.specs.Rows.{AlignmentRows, ServiceRows, SioGoesOut};
 ghost use Rattle.term_model.specs.Runs.{RunsJoin, RunsStaySound};
@@ -25,13 +24,6 @@ pub fn talks_follow_each_other()
 pub fn a_fault_breaks_a_talk_off()
     ensures first { BreaksFirst Terminal Terminal }
     ensures later { BreaksLater Terminal Terminal }
-{}
-
-/// What the monitors keep, one mark after another, is what all marks since they began leave them as: so the steps
-/// are the monitors' definitions (Q.703 10.2, 10.3).
-pub fn monitors_keep_what_their_marks_leave()
-    ensures suerm { SuermIsItsDefinition }
-    ensures aerm { AermIsItsDefinition }
 {}
 
 /// An input of a machine asks at most one thing of the set; and what link state control does to alignment and to

@@ -6,7 +6,7 @@
 //! and takes are octets, and what is asked of the link's set stands behind a door.
 //!
 //! `specs/` has the definitions, in the order to read them: `Terminal` (what a terminal holds), `Talk` (what is asked
-//! at the door, and how a turn goes on by the answer), `Monitors` and `Machines` (what an input of a machine makes of the
+//! at the door, and how a turn goes on by the answer), `Machines` (what an input of a machine makes of the
 //! terminal), the six steps, `Turn`, and `Runs` (turns one after another, and what they count).
 //!
 //! | step | file | Q.703 |
@@ -18,7 +18,7 @@
 //! | 5 what is sent next | `Choosing` | 11.2, 12.1 |
 //! | 6 one octet out | `OctetOut` | 2.2, 3, 4.2 |
 //!
-//! The laws stand in `TalkLaws`, `MachineLaws`, `TurnLaws`, `LineLaws` and at the end of `Monitors` and `Runs`, worked
+//! The laws stand in `TalkLaws`, `MachineLaws`, `TurnLaws`, `LineLaws` and at the end of `Runs`, worked
 //! rows in `Rows` and `OrderRows`; the functions here, which do nothing, carry them.
 #![tactic(auto)]
 
@@ -30,8 +30,8 @@ mod timers;
 pub use command::{Command, Commands};
 pub use laws::{
     a_damaged_unit_is_not_heard, a_fault_breaks_a_talk_off, a_turn_is_its_six_steps,
-    an_input_asks_at_most_one_thing, monitors_keep_what_their_marks_leave, rows_come_out,
-    runs_follow_each_other, talks_follow_each_other, terminals_stay_sound, the_line_carries_units,
+    an_input_asks_at_most_one_thing, rows_come_out, runs_follow_each_other,
+    talks_follow_each_other, terminals_stay_sound, the_line_carries_units,
 };
 pub use report::TermReport;
 pub use timers::{Clocks, Timers};
