@@ -1,0 +1,12 @@
+pub mod Damaged
+pub mod Keeping
+pub mod MachineSteps
+pub mod OnLine
+pub mod OrderRowValues
+pub mod RowValues
+pub mod RunSteps
+pub mod Staying
+pub mod Tables
+pub mod Talks
+pub mod TurnStays
+pub mod Turns

@@ -1,0 +1,17 @@
+pub mod Talk
+pub mod TalkLaws
+pub mod Terminal
+pub mod Machines
+pub mod MachineLaws
+pub mod Obeying
+pub mod OctetIn
+pub mod Hearing
+pub mod Timing
+pub mod Choosing
+pub mod OctetOut
+pub mod Turn
+pub mod TurnLaws
+pub mod Rows
+pub mod Runs
+pub mod OrderRows
+pub mod LineLaws
