@@ -2,21 +2,23 @@
 
 A `Trace` follows a script line by line with its answers: which line is at fault and how, which links are up, what is
 under way, which messages were offered, sent, heard and taken. It's written from `mtpbank play --help`, the standard
-(ITU-T Q.703 5, Q.704 5 and 15) and docs/DECISIONS.md, apart from the program's code. A line or an answer that can't
+(ITU-T Q.703 5, Q.704 5, 6 and 15) and docs/DECISIONS.md, apart from the program's code. A line or an answer that can't
 be raises `Finding`.
 
 What is checked of every script: the line and kind of its fault, the form of every answer, the numbers of accepted
 messages, what is taken (the oldest message heard, octet for octet), the check octets, BSN and FSN of every unit sent,
-that what is sent again is what was sent under that FSN, what becomes of an order, which links can come up, and that
-the places on each `end` line add up to the messages accepted there.
+that what is sent again is what was sent under that FSN, what becomes of an order, which links can come up, which streams
+can be asked back and how many declarations that makes, and that the places on each `end` line add up to the messages
+accepted there, with those that stand back.
 
 Of a script in which no unit was heard by `hear` and no `noanswer` was obeyed also: no unit shows a fault; what a link
 brought is what was sent on it, from the first on, in order; each message that counts as acknowledged was heard; and of each
 stream what was heard is what was offered, from the first on, in order. Where a `blind` was obeyed, of each
-stream messages may be missing, but none comes twice or out of order.
+stream messages may be missing, but none comes twice or out of order; where a `backtimeout` was obeyed, their order isn't
+held against anything.
 """
 import re
-from collections import deque
+from collections import Counter, deque
 from functools import lru_cache
 from typing import NamedTuple, Optional
 
@@ -24,13 +26,14 @@ from line_bits import Unit, check_octets, unit_of
 
 NUMBER = rb"(0|[1-9][0-9]*)"
 HEX = rb"((?:[0-9a-fA-F]{2})+)"
-SHAPE = re.compile(rb"(together) N|(take) ([ab])|(offer) ([ab])(?: X)?|(emit|arrive|down|blind|noanswer|find) ([ab]) N"
+SHAPE = re.compile(rb"(together) N|(take) ([ab])|(offer) ([ab])(?: X)?|(emit|arrive|find) ([ab]) N"
+                   rb"|(down|blind|noanswer|restore|backtimeout) ([ab]) N"
                    rb"|(lose) ([ab]) N N|(hear) ([ab]) N X".replace(b"N", NUMBER).replace(b"X", HEX))
 OPENING = re.compile(rb"set links=N method=(?:basic|cyclic:N:N) a=N b=N sio=([0-9a-fA-F]{2})".replace(b"N", NUMBER))
 PLACES = ("waiting", "unacked", "acked", "held", "parked", "back", "discarded")
 END_LINE = re.compile(r"end ([ab]) accepted=(\d+) " + " ".join(rf"{place}=(\d+)" for place in PLACES))
 REPORT = re.compile(r"heard acked=(\d+) took=(nothing|message|order|ignored) asked=([01]) resend=([01]) fault=([023])")
-FOUND = re.compile(r"found (?:(?:waiting|unacked|acked|held) \d+|parked|discarded [123])")
+FOUND = re.compile(r"found (?:(?:waiting|unacked|acked|held|back) (\d+)|parked|discarded [123])")
 OTHER = {"a": "b", "b": "a"}
 
 
@@ -106,16 +109,96 @@ class Link:
         self.coming.clear()
 
 
-class End:
-    """One end: its messages as they were offered and heard, and its links."""
+class Streams:
+    """Where the streams of an end run: on a link, on none, or on their way home; and its changeback codes.
+
+    The code of streams that go from an alternative to their home is 16 times the home, and the alternative.
+    """
 
     def __init__(self, links):
+        self.links = links
+        self.on = {stream: None for stream in range(16)}  # for those on their way home: where they come from
+        self.code = {}
+        self.used = set()
+        self.asked = set()
+        self.spent = set()
+        self.back = Counter()  # how many messages stand back, by code
+
+    def home(self, stream):
+        return stream % self.links
+
+    def offered(self, stream):
+        self.used.add(stream)
+        if stream in self.code:
+            self.back[self.code[stream]] += 1
+
+    def rise(self, link):
+        """Streams that run nowhere run on the link, and those whose home it is and that have had no message."""
+        for stream, on in self.on.items():
+            is_new = self.home(stream) == link and stream not in self.used
+            if on is None or is_new and stream not in self.code:
+                self.on[stream] = link
+
+    def is_away(self, stream, home, link):
+        return self.home(stream) == home and stream not in self.code and self.on[stream] == link
+
+    def can_ask(self, home, up):
+        """The other links that are up from which streams of this home can be asked back."""
+        return [link for link in up if link != home and 16 * home + link not in self.asked | self.spent
+                and any(self.is_away(stream, home, link) for stream in range(16))]
+
+    def ask(self, home, links):
+        for link in links:
+            away = [stream for stream in range(16) if self.is_away(stream, home, link)]
+            self.code.update((stream, 16 * home + link) for stream in away)
+            self.asked.add(16 * home + link)
+
+    def leave(self, home):
+        """Its streams go no further home, and their codes will only be freed by an acknowledgement."""
+        codes = {code for code in self.asked if code // 16 == home}
+        self.asked -= codes
+        self.spent |= codes
+        for stream in [it for it, code in self.code.items() if code in codes]:
+            del self.code[stream]
+        for code in codes:
+            del self.back[code]
+
+    def settle(self, link, target):
+        """Its streams run on the target, the lowest link that is up; and those on their way home come from there."""
+        for stream, on in self.on.items():
+            if on == link:
+                self.on[stream] = target
+
+    def free(self, code):
+        """The code is acknowledged, or given up: its streams run on their home. Tells whether it was in use."""
+        was_used = code in self.asked | self.spent
+        self.asked.discard(code)
+        self.spent.discard(code)
+        for stream in [it for it, own in self.code.items() if own == code]:
+            del self.code[stream]
+            self.on[stream] = code // 16
+        del self.back[code]
+        return was_used
+
+
+class End:
+    """One end: its messages as they were offered and heard, its links and its streams."""
+
+    def __init__(self, links):
+        self.streams = Streams(links)
         self.rows = 0
         self.offered = {}
         self.bodies = set()
         self.inbox = deque()
         self.heard = []
         self.links = [Link() for _ in range(links)]
+
+    def up(self):
+        return [number for number, link in enumerate(self.links) if link.phase == "up"]
+
+    def settle(self, number):
+        self.links[number].phase = "settled"
+        self.streams.settle(number, next(iter(self.up()), None))
 
 
 class Trace:
@@ -126,6 +209,7 @@ class Trace:
         self.by_hand = False
         self.gave_up = False
         self.was_blind = False
+        self.timed_out = False
 
     def links(self):
         return len(self.ends["a"].links)
@@ -183,6 +267,7 @@ class Trace:
         for end in self.ends.values():
             end.links[line.number].phase = "up"
             end.links[line.number].rise()
+            end.streams.rise(line.number)
 
     def on_offer(self, line, end, answer):
         body = line.octets
@@ -197,6 +282,7 @@ class Trace:
             end.offered[end.rows] = body
             end.bodies.add(body)
             end.rows += 1
+            end.streams.offered(stream_of(body))
 
     def on_take(self, _line, end, answer):
         body = end.inbox.popleft() if end.inbox else None
@@ -207,7 +293,12 @@ class Trace:
         if line.number >= end.rows:
             expect(answer == "refused 8", "a message that doesn't exist was found")
             return
-        expect(FOUND.fullmatch(answer), "a message wasn't found")
+        place = FOUND.fullmatch(answer)
+        expect(place, "a message wasn't found")
+        if answer.startswith("found back"):
+            body = end.offered.get(line.number)
+            code = body and end.streams.code.get(stream_of(body))
+            expect(code == int(place[1]), "a message stands back whose stream isn't on its way home by that code")
         if answer.startswith("found acked") and line.number in end.offered and self.is_sound():
             heard = self.ends[OTHER[line.end]].heard
             expect(end.offered[line.number] in heard, "a message counts as acknowledged that the far end never heard")
@@ -285,14 +376,22 @@ class Trace:
             end.heard.append(body)
             return "message"
         number, name = order_of(body) or (16, None)
-        if number >= len(end.links) or name in ("cbd", "cba"):
+        if name == "cbd":  # acknowledged, whatever it speaks of
+            end.rows += 1
+            return "order"
+        if name == "cba":
+            return "order" if end.streams.free(body[6]) else "ignored"
+        if number >= len(end.links):
             return "ignored"
         link = end.links[number]
         if name in ("coa", "eca") and link.phase != "down":
             return "ignored"
         if name in ("coo", "eco") and link.phase != "down":
             end.rows += 1
-        link.phase = "settled"
+        if link.phase == "up":
+            end.streams.leave(number)
+        if link.phase != "settled":
+            end.settle(number)
         return "order"
 
     def on_down(self, line, end, answer):
@@ -301,6 +400,7 @@ class Trace:
         expect(answer == done, "a link that is up can't go down, or one that isn't can")
         if link.phase == "up":
             link.phase = "down"
+            end.streams.leave(line.number)
             end.rows += 1
             self.was_blind = self.was_blind or line.kind == "blind"
 
@@ -311,8 +411,22 @@ class Trace:
         done = "done" if link.phase == "down" else "refused 9"
         expect(answer == done, "noanswer isn't obeyed just where an answer is wanted")
         if link.phase == "down":
-            link.phase = "settled"
+            end.settle(line.number)
             self.gave_up = True
+
+    def on_restore(self, line, end, answer):
+        is_up = end.links[line.number].phase == "up"
+        links = end.streams.can_ask(line.number, end.up()) if is_up else []
+        expect(answer == ("done" if links else "refused 9" if is_up else "refused 5"),
+               "streams are asked back just where there are some")
+        end.streams.ask(line.number, links)
+        end.rows += len(links)
+
+    def on_backtimeout(self, line, end, answer):
+        codes = [16 * line.number + link for link in range(16)]
+        freed = [code for code in codes if end.streams.free(code)]
+        expect(answer == ("done" if freed else "refused 9"), "backtimeout isn't obeyed just where an answer is wanted")
+        self.timed_out = self.timed_out or bool(freed)
 
     def ended(self, lines):
         """Takes the lines that are printed when the script has ended, and gives the counts of each end."""
@@ -327,7 +441,8 @@ class Trace:
             offered = len(self.ends[match[1]].offered)
             expect(accepted == offered == sum(places), "the places don't add up to the accepted messages")
             counts[match[1]] = dict(zip(PLACES, places))
-            expect(counts[match[1]]["back"] == 0, "messages are back though nothing changes back")
+            back = self.ends[match[1]].streams.back.total()
+            expect(counts[match[1]]["back"] == back, f"there are {back} messages back, which the end line doesn't tell")
         if self.is_sound():
             self.check_streams(counts)
         return counts
@@ -346,4 +461,6 @@ class Trace:
                 got = [body for body in heard if stream_of(body) == stream]
                 left = iter(offered)
                 in_order = all(body in left for body in got) if self.was_blind else got == offered[:len(got)]
+                if self.timed_out:
+                    in_order = Counter(got) <= Counter(offered)
                 expect(in_order, f"stream {stream} from end {name} is lost, doubled or out of order")
