@@ -7,15 +7,15 @@ be raises `Finding`.
 
 What is checked of every script: the line and kind of its fault, the form of every answer, the numbers of accepted
 messages, what is taken (the oldest message heard, octet for octet), the check octets, BSN and FSN of every unit sent,
-that what is sent again is what was sent under that FSN, what becomes of an order, which links can come up, which streams
-can be asked back and how many declarations that makes, and that the places on each `end` line add up to the messages
-accepted there, with those that stand back.
+that what is sent again is what was sent under that FSN, what becomes of an order, which links can come up, which
+streams can be asked back and how many declarations that makes, that a message stands back just by the code that its
+stream waits for, and that the places on each `end` line add up to the messages accepted there, and how many are back.
 
 Of a script in which no unit was heard by `hear` and no `noanswer` was obeyed also: no unit shows a fault; what a link
-brought is what was sent on it, from the first on, in order; each message that counts as acknowledged was heard; and of each
-stream what was heard is what was offered, from the first on, in order. Where a `blind` was obeyed, of each
-stream messages may be missing, but none comes twice or out of order; where a `backtimeout` was obeyed, their order isn't
-held against anything.
+brought is what was sent on it, from the first on, in order; each message that counts as acknowledged was heard; and of
+each stream what was heard is what was offered, from the first on, in order. Where a `blind` was obeyed, of each
+stream messages may be missing, but none comes twice or out of order; where a `backtimeout` was obeyed, none comes
+twice.
 """
 import re
 from collections import Counter, deque
