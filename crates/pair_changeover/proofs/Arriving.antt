@@ -5,8 +5,7 @@ use Rattle.l2_units.specs.declared.unit.Unit.{Unit as SignalUnit}
 use Rattle.l3_orders.specs.declared.order.Order.{Order}
 use Rattle.l3_orders.specs.declared.order.Order.TheVariants.{Coo, Coa, Cbd, Cba, Eco, Eca}
 use Rattle.l3_orders.specs.Grammar.{order_of, link_of}
-use Rattle.link_lines.specs.Lines.{units_on, with_units}
-use Rattle.set_events.specs.declared.answer.Answer.TheVariants.{Heard as HeardBack}
+use Rattle.link_lines.specs.Lines.{units_on}
 use Rattle.set_events.specs.declared.answer.Fate.{Fate}
 use Rattle.set_events.specs.declared.answer.Fate.TheVariants.{Waiting, Unacked, Acked, Held, Parked, Back, Discarded}
 use Rattle.set_events.specs.declared.answer.Took.{Took}
@@ -26,9 +25,8 @@ use Rattle.set_model.proofs.Moving.{moved_same}
 use Rattle.set_model.proofs.Places.{false_true, itself, back_not_on, back_not_parked, not_on_unacked, not_on_waiting, not_on_held}
 use Rattle.set_model.proofs.Settling.{settled_empty}
 use Rattle.set_model.proofs.Walk.{IsAt}
-use Rattle.world_steps.specs.declared.step.Shown.TheVariants.{Answered}
 use Rattle.pair_model.specs.Promises.{IsOneMethod}
-use Rattle.pair_model.specs.Run.{Message, Past, messages, past_heard, past_risen}
+use Rattle.pair_model.specs.Run.{Message, Past, messages, past_risen}
 use Rattle.pair_model.proofs.Kept.{kept_on}
 use Rattle.pair_model.proofs.Moving as moving
 use Rattle.pair_model.proofs.Pairs.{Two, HoldsOf, settings_stay}
@@ -36,15 +34,17 @@ use Rattle.pair_model.proofs.Rising.{settled_at}
 use Rattle.pair_changeover.specs.Diverted.{Diverts, DivertsFrom, IsFsnIn, IsToldBy, FrontTells, as_left, answer_on, queue_for}
 use Rattle.pair_changeover.proofs.Alike.{left_unack, left_acked, left_alike}
 use Rattle.pair_changeover.proofs.Acked.{AckedFirst, acked_first, rises_first}
-use Rattle.pair_changeover.proofs.Changes.{Both, by_link, other_then}
+use Rattle.pair_changeover.proofs.Changes.{by_link, other_then}
 use Rattle.pair_changeover.proofs.Hearing as hearing
-use Rattle.pair_changeover.proofs.Obeying.{Moved, sent_not_discarded, obeys_both, obeys_equal, obeys_discards, obeys_moves, obeys_accepted, told_reasonable}
-use Rattle.pair_changeover.proofs.Passing.{Rises, rises_orders}
+use Rattle.pair_changeover.proofs.Obeying.{Moved, sent_not_discarded, obeys_equal, obeys_discards, obeys_moves, obeys_accepted, told_reasonable}
+use Rattle.pair_changeover.proofs.Ordered.{rises_both}
+use Rattle.pair_changeover.proofs.Ordered as orders
+use Rattle.pair_changeover.proofs.Passing.{Rises}
 use Rattle.pair_changeover.proofs.Reaching.{Reaches, reaches}
 use Rattle.pair_changeover.proofs.Table.{joined, drop_none, drop_twice, queue_rises}
 use Rattle.pair_changeover.proofs.Texts.{AreCodes}
 use Rattle.pair_changeover.proofs.Views.{View, view, IsChangeover, Tells, queue, pending, acked_of, acked_on, accepted_of, accepted_on}
-use Rattle.pair_changeover.proofs.Whole.{Half, Whole, SettlesSo, Did, none_settles}
+use Rattle.pair_changeover.proofs.Whole.{Half, Whole, ordered, SettlesSo, Did, none_settles}
 
 -- what was pending, as the promise says it
 messages_dropped : (n : ℕ) (rows : List Row) → messages (drop n rows) ≡ drop n (messages rows)
@@ -67,26 +67,23 @@ module _ (mx my : Method) (one : IsOneMethod mx my) (p : Two) (h : HoldsOf mx my
   abbrev then_near : State
   then_near = (step p.near (HeardEvent k unit)).state
 
-  abbrev heard_past : Past
-  heard_past = past_heard k unit (p.far_past.sent k) (Answered (HeardBack (moving.report mx my one p h k few unit rest front link at))) p.near_past
-
   abbrev pub heard : Two
-  heard = record p { near = then_near; near_past = heard_past; back = with_units k rest p.back }
+  heard = orders.heard mx my one p h (ordered p w) k few unit rest front link at
 
-  pub state_is : then_near ≡ (hearing.taken mx my one p h w.both k few unit rest front link at).state
-  state_is = ap (λ (o : Outcome). o.state) (moving.event_is mx my one p h k few unit rest front link at)
+  state_is : then_near ≡ (hearing.taken mx my one p h w.both k few unit rest front link at).state
+  state_is = orders.state_is mx my one p h (ordered p w) k few unit rest front link at
 
-  pub does : hearing.Hears mx my one p h w.both k few unit rest front link at
-  does = hearing.hears mx my one p h w.both k few unit rest front link at
+  does : hearing.Hears mx my one p h w.both k few unit rest front link at
+  does = orders.does mx my one p h (ordered p w) k few unit rest front link at
 
   acks : Rattle.set_model.proofs.Events.Acknowledged k (hearing.part mx my one p h w.both k few unit rest front link at).acked p.near.rows mid.rows
   acks = acknowledged k (hearing.part mx my one p h w.both k few unit rest front link at).acked p.near.rows
 
-  pub mid_sound : IsSound mid
-  mid_sound = hearing.mid_sound mx my one p h w.both k few unit rest front link at
+  mid_sound : IsSound mid
+  mid_sound = orders.mid_sound mx my one p h (ordered p w) k few unit rest front link at
 
-  abbrev pub body : List ℕ
-  body = hearing.heard_body mx my one p h w.both k few unit rest front link at
+  abbrev body : List ℕ
+  body = orders.body mx my one p h (ordered p w) k few unit rest front link at
 
   mid_all : (P : ℕ → Option LinkState → Option LinkState → Type 0) → P k (Some link) (Some (hearing.mid_link mx my one p h w.both k few unit rest front link at)) → ((l : ℕ) (o : Option LinkState) → (k == l) ≡ false → P l o o) → (l : ℕ) → P l (slice_get p.near.links l) (slice_get mid.links l)
   mid_all = by_link k link (hearing.mid_link mx my one p h w.both k few unit rest front link at) p.near mid at.there refl
@@ -101,17 +98,11 @@ module _ (mx my : Method) (one : IsOneMethod mx my) (p : Two) (h : HoldsOf mx my
   mid_discards : standing was_discarded mid.rows ≡ standing was_discarded p.near.rows
   mid_discards = turned_same (is_unacked k) was_discarded (Acked k) refl (λ fate e. sent_not_discarded k fate e) (hearing.part mx my one p h w.both k few unit rest front link at).acked p.near.rows
 
-  codes_then : AreCodes then_near.settings
-  codes_then = subst AreCodes (sym (settings_stay p.near (HeardEvent k unit))) w.near.codes
-
-  both_then : Both then_near p.far
-  both_then = subst (λ (s : State). Both s p.far) (sym state_is) (obeys_both k body mid p.far mid_sound w.near.codes does.both _ does.obeys)
-
   equal_then : (l : ℕ) → is_settled l then_near ≡ true → acked_on l then_near ≡ accepted_on l p.far
-  equal_then = subst (λ (s : State). (l : ℕ) → is_settled l s ≡ true → acked_on l s ≡ accepted_on l p.far) (sym state_is) (obeys_equal k body mid p.far mid_sound w.near.codes does.both mid_equal _ does.obeys)
+  equal_then = subst (λ (s : State). (l : ℕ) → is_settled l s ≡ true → acked_on l s ≡ accepted_on l p.far) (sym state_is) (obeys_equal k body mid p.far mid_sound w.near.codes mid_equal _ does.obeys)
 
   discards_then : standing was_discarded then_near.rows ≡ []
-  discards_then = ap (λ (s : State). standing was_discarded s.rows) state_is ∙ obeys_discards k body mid p.far mid_sound w.near.codes does.both _ does.obeys ∙ mid_discards ∙ w.near.none_discarded
+  discards_then = ap (λ (s : State). standing was_discarded s.rows) state_is ∙ obeys_discards k body mid p.far mid_sound w.near.codes _ does.obeys ∙ mid_discards ∙ w.near.none_discarded
 
   first_then : (l : ℕ) → AckedFirst l (p.near_past.sent l) then_near
   first_then l = acked_first l p.near (HeardEvent k unit) (p.near_past.sent l) h.near_sound (w.near.acked l)
@@ -128,7 +119,7 @@ module _ (mx my : Method) (one : IsOneMethod mx my) (p : Two) (h : HoldsOf mx my
   -- WHAT SETTLES
   module _ (l : ℕ) (before : is_settled l p.near ≡ false) (now : is_settled l then_near ≡ true) where
     moved_so : Moved k l mid p.far (hearing.taken mx my one p h w.both k few unit rest front link at).state
-    moved_so = obeys_moves k body mid p.far mid_sound w.near.codes does.both _ does.obeys l (mid_settled l ∙ before) (ap (is_settled l) (sym state_is) ∙ now)
+    moved_so = obeys_moves k body mid p.far mid_sound w.near.codes _ does.obeys l (mid_settled l ∙ before) (ap (is_settled l) (sym state_is) ∙ now)
 
     same_link : slice_get mid.links l ≡ slice_get p.near.links l
     same_link = other_then k link (hearing.mid_link mx my one p h w.both k few unit rest front link at) p.near mid at.there refl l moved_so.other
@@ -230,8 +221,13 @@ module _ (mx my : Method) (one : IsOneMethod mx my) (p : Two) (h : HoldsOf mx my
   pub hears_did : Did p heard
   hears_did = record {
     whole = record {
-      both = both_then;
-      near = record { equal = equal_then; acked = first_then; none_discarded = discards_then; codes = codes_then };
+      both = (orders.heard_ordered mx my one p h (ordered p w) k few unit rest front link at).both;
+      near = record {
+        equal = equal_then;
+        acked = first_then;
+        none_discarded = discards_then;
+        codes = (orders.heard_ordered mx my one p h (ordered p w) k few unit rest front link at).near_codes;
+      };
       far = record { equal = far_equal; acked = w.far.acked; none_discarded = w.far.none_discarded; codes = w.far.codes };
     };
     near = λ l before now. diverts l before now;
@@ -245,12 +241,12 @@ module _ (mx my : Method) (one : IsOneMethod mx my) (p : Two) (h : HoldsOf mx my
   any_tells TookOrder t = t
   any_tells Ignored t = tt
 
-  number_is : (fsn : ℕ) (order : Order) (v : View) → IsFsnIn fsn order → Tells v order → fsn ≡ (v.accepted (link_of order) + 127) % 128
+  number_is : (fsn : ℕ) (order : Order) (v : View) → IsFsnIn fsn order → Tells false v order → fsn ≡ (v.accepted (link_of order) + 127) % 128
   number_is fsn (Coo l n) v e t = e ∙ t
   number_is fsn (Coa l n) v e t = e ∙ t
   number_is fsn (Cbd l n) v e t = absurd t
   number_is fsn (Cba l n) v e t = absurd t
-  number_is fsn (Eco l) v e t = absurd t
+  number_is fsn (Eco l) v e t = absurd e
   number_is fsn (Eca l) v e t = absurd t
 
   is_over : (fsn : ℕ) (order : Order) → IsFsnIn fsn order → IsChangeover order
@@ -351,10 +347,7 @@ module _ (mx my : Method) (p : Two) (h : HoldsOf mx my p) (w : Whole p) (k : ℕ
       let b = rises_at k p.far h.far_sound far_at.0 far_at.1 in
       record {
         whole = record {
-          both = record {
-            near = rises_orders k p.near (step p.near (UpEvent k)).state p.far (step p.far (UpEvent k)).state a b w.both.near;
-            far = rises_orders k p.far (step p.far (UpEvent k)).state p.near (step p.near (UpEvent k)).state b a w.both.far;
-          };
+          both = rises_both k p.near (step p.near (UpEvent k)).state p.far (step p.far (UpEvent k)).state a b w.both;
           near = half_rises k p.near (step p.near (UpEvent k)).state p.far (step p.far (UpEvent k)).state p.near_past h.near_sound refl a b w.near;
           far = half_rises k p.far (step p.far (UpEvent k)).state p.near (step p.near (UpEvent k)).state p.far_past h.far_sound refl b a w.far;
         };

@@ -17,11 +17,11 @@ use Rattle.pair_changeover.proofs.Table.{new_message, queue_waits, queue_holds, 
 use Rattle.pair_changeover.proofs.Views.{view, pending, aside, queue, acked_on, accepted_of, accepted_on, Among, among_joined, stands_on, stands_aside, IsNoOrder, NoneAbout, Tells, Orders, Came, plain, stayed, moved, CameAside, plain_aside, was_in, plain_not, Passes, carries, Queues, queued_in}
 
 -- the orders of both
-pub record Both (s f : State) : Type 0 where
-  pub near : Orders (view s f) (view f s)
-  pub far : Orders (view f s) (view s f)
+pub record Both (emergencies : Bool) (s f : State) : Type 0 where
+  pub near : Orders emergencies (view s f) (view f s)
+  pub far : Orders emergencies (view f s) (view s f)
 
-pub both_back : (s f : State) → Both s f → Both f s
+pub both_back : {emergencies : Bool} (s f : State) → Both emergencies s f → Both emergencies f s
 both_back s f b = record { near = b.far; far = b.near }
 
 -- A CHANGE OF ONE END in which it makes no order
@@ -37,7 +37,7 @@ down_if : (a b : Bool) → (b ≡ true → a ≡ true) → a ≡ false → b ≡
 down_if a false w e = refl
 down_if a true w e = absurd (let no : true ≡ false = sym (w refl) ∙ e in cc)
 
-module _ (s t f : State) (a : Acts s t f) (o : Both s f) where
+module _ {emergencies : Bool} (s t f : State) (a : Acts s t f) (o : Both emergencies s f) where
   near_passes : Passes (view s f) (view t f) (view f t)
   near_passes = record {
     came = a.came;
@@ -70,7 +70,7 @@ module _ (s t f : State) (a : Acts s t f) (o : Both s f) where
       settled_case link (inl old) = o.far.none_settled link old
       settled_case link (inr both) = both.1
 
-  pub acts : Both t f
+  pub acts : Both emergencies t f
   acts = record {
     near = carries (view s f) (view t f) (view f s) (view f t) near_passes o.near;
     far = carries (view f s) (view f t) (view s f) (view t f) far_passes o.far;
@@ -175,7 +175,7 @@ module _ (s f : State) (body : List ℕ) (fate : Fate) (t : State) (rows : t.row
           again (Discarded cause) new = elim new [ ]
 
 -- AN ORDER IS QUEUED
-module _ (s f : State) (order : Order) (sound : IsSound s) (o : Both s f) (is : order_of (text order s.settings.sio s.settings.dpc s.settings.opc) ≡ Some order) (tells : Tells (view s f) order) (fresh : NoneAbout (link_of order) (view s f)) (down : is_up (link_of order) s ≡ false) (unsettled : is_settled (link_of order) f ≡ false) where
+module _ {emergencies : Bool} (s f : State) (order : Order) (sound : IsSound s) (o : Both emergencies s f) (is : order_of (text order s.settings.sio s.settings.dpc s.settings.opc) ≡ Some order) (tells : Tells emergencies (view s f) order) (fresh : NoneAbout (link_of order) (view s f)) (down : is_up (link_of order) s ≡ false) (unsettled : is_settled (link_of order) f ≡ false) where
   abbrev body : List ℕ
   body = text order s.settings.sio s.settings.dpc s.settings.opc
 
@@ -215,7 +215,7 @@ module _ (s f : State) (order : Order) (sound : IsSound s) (o : Both s f) (is : 
       go (inr (inl same)) = inl same
       go (inr (inr a)) = absurd a
 
-  queues : Queues z order (view s f) (view (queued order s) f) (view f s)
+  queues : Queues emergencies z order (view s f) (view (queued order s) f) (view f s)
   queues = record {
     is = is;
     tells = tells;
@@ -229,7 +229,7 @@ module _ (s f : State) (order : Order) (sound : IsSound s) (o : Both s f) (is : 
     accepted_same = λ link. refl;
   }
 
-  pub queues_both : Both (queued order s) f
+  pub queues_both : Both emergencies (queued order s) f
   queues_both = record {
     near = queued_in z order (view s f) (view (queued order s) f) (view f s) queues o.near;
     far = record { tells = o.far.tells; none_up = o.far.none_up; none_settled = o.far.none_settled; one = o.far.one; own = o.far.own; apart = o.far.apart };

@@ -12,7 +12,7 @@ use Rattle.link_lines.specs.Lines.{units_on}
 use Rattle.set_events.specs.declared.config.Method.{Method}
 use Rattle.set_model.specs.declared.phase.Phase.{Phase}
 use Rattle.set_model.specs.declared.phase.Phase.TheVariants.{Up, Down, Settled}
-use Rattle.set_model.specs.declared.reached.Reached.TheVariants.{Upto}
+use Rattle.set_model.specs.declared.reached.Reached.TheVariants.{Upto, Unknown}
 use Rattle.set_route.specs.declared.place.Code.{Code}
 use Rattle.set_route.specs.declared.place.Code.TheVariants.{Free, Asked, Spent}
 use Rattle.set_route.specs.Routing.{code_of}
@@ -33,7 +33,7 @@ use Rattle.pair_model.proofs.Kept.{past_of, kept_on, kept_tied}
 use Rattle.pair_model.proofs.Pairs.{Two, side, HoldsOf}
 use Rattle.pair_model.proofs.Tied.{Side, Tied, turned}
 use Rattle.pair_changeover.proofs.Changes.{Both, Acts, acts, by_link, other_then}
-use Rattle.pair_changeover.proofs.Obeying.{Told, Heard, TellsNoBack, TellsOver, Obeys, keeps, settles, answers, acknowledges, releases}
+use Rattle.pair_changeover.proofs.Obeying.{Told, Heard, TellsNoBack, TellsOver, Obeys, keeps, settles, answers, settles_blind, answers_blind, acknowledges, releases}
 use Rattle.pair_changeover.proofs.Passing.{passing, far_stays, far_loses, was_first}
 use Rattle.pair_changeover.proofs.Reaching.{Reaches, reaches, Due, due, due_message, not_queued, not_aside}
 use Rattle.pair_changeover.proofs.Table.{queue_acked, queue_untouched}
@@ -47,7 +47,7 @@ unsettled_up true b w e = absurd (let no : true ≡ false = sym e ∙ w refl in 
 up_unsettled : (phase : Phase) → phase ≡ Up → has_phase_settled phase ≡ false
 up_unsettled phase e = ap has_phase_settled e
 
-module _ (mx my : Method) (one : IsOneMethod mx my) (p : Two) (h : HoldsOf mx my p) (o : Both p.near p.far) (k : ℕ) (few : k < length p.near.links) (unit : SignalUnit) (rest : List SignalUnit) (front : units_on k p.back ≡ unit ∷ rest) (link : LinkState) (at : IsAt k link Up p.near) where
+module _ {emergencies : Bool} (mx my : Method) (one : IsOneMethod mx my) (p : Two) (h : HoldsOf mx my p) (o : Both emergencies p.near p.far) (k : ℕ) (few : k < length p.near.links) (unit : SignalUnit) (rest : List SignalUnit) (front : units_on k p.back ≡ unit ∷ rest) (link : LinkState) (at : IsAt k link Up p.near) where
   abbrev x : Side
   x = side k p.near p.near_past
 
@@ -132,7 +132,7 @@ module _ (mx my : Method) (one : IsOneMethod mx my) (p : Two) (h : HoldsOf mx my
   none_counted e = let many = hearing.took_many link.control (window_of k link p.near.rows) unit mid in sym (rw e at many)
 
   module _ (e : brought part.accept unit ≡ None) where
-    pub none_both : Both mid p.far
+    pub none_both : Both emergencies mid p.far
     none_both =
         let zero_more = none_counted e in
         acts p.near mid p.far (heard_acts (far_stays k link mid_link p.near mid p.far at.there refl (omega (arith, zero_more)))) o
@@ -190,7 +190,7 @@ module _ (mx my : Method) (one : IsOneMethod mx my) (p : Two) (h : HoldsOf mx my
     far_came : (l : ℕ) (m : Message) → Among m (pending l p.far mid) → Among m (pending l p.far p.near)
     far_came = far_loses k link mid_link p.near mid p.far at.there refl one_more next_due.row far_due next_due.there
 
-    pub some_both : Both mid p.far
+    pub some_both : Both emergencies mid p.far
     some_both = acts p.near mid p.far (heard_acts far_came) o
 
     among_first : Among first (pending k p.far p.near)
@@ -228,7 +228,7 @@ module _ (mx my : Method) (one : IsOneMethod mx my) (p : Two) (h : HoldsOf mx my
       pub other : (k == link_of order) ≡ false
       other = let a = apart (k == link_of order) refl in a
 
-      pub tells : Tells (view p.far p.near) order
+      pub tells : Tells emergencies (view p.far p.near) order
       tells = o.far.tells first first_in order first_order over
 
       pub unsettled : is_settled (link_of order) p.near ≡ false
@@ -286,7 +286,7 @@ module _ (mx my : Method) (one : IsOneMethod mx my) (p : Two) (h : HoldsOf mx my
       coo_told : (state : LinkState) → slice_get mid.links l ≡ Some state → Told fsn l state mid p.far
       coo_told state there = told_then (Coo l fsn) is tt fsn (tells (Coo l fsn) is tt) state (sym (same_link (Coo l fsn) is tt) ∙ there) (going_at (Coo l fsn) is tt state there)
 
-      coo_obeyed : (state : LinkState) → slice_get mid.links l ≡ Some state → (phase : Phase) → state.phase ≡ phase → Obeys k body mid p.far (changed_over (Upto fsn) l state phase mid).state
+      coo_obeyed : (state : LinkState) → slice_get mid.links l ≡ Some state → (phase : Phase) → state.phase ≡ phase → Obeys emergencies k body mid p.far (changed_over (Upto fsn) l state phase mid).state
       coo_obeyed state there Up e = answers fsn l state (other (Coo l fsn) is tt) (record { there = there; phase_is = e }) (coo_told state there) (heard (Coo l fsn) is tt) (over_is (Coo l fsn) is tt)
       coo_obeyed state there Down e = settles fsn l state (other (Coo l fsn) is tt) (record { there = there; phase_is = e }) (coo_told state there) (heard (Coo l fsn) is tt) (over_is (Coo l fsn) is tt)
       coo_obeyed state there Settled e = absurd (let no : true ≡ false = sym (ap has_phase_settled e) ∙ going_at (Coo l fsn) is tt state there in cc)
@@ -295,12 +295,19 @@ module _ (mx my : Method) (one : IsOneMethod mx my) (p : Two) (h : HoldsOf mx my
       coa_told : (state : LinkState) → slice_get mid.links l ≡ Some state → Told fsn l state mid p.far
       coa_told state there = told_then (Coa l fsn) is tt fsn (tells (Coa l fsn) is tt) state (sym (same_link (Coa l fsn) is tt) ∙ there) (going_at (Coa l fsn) is tt state there)
 
-      coa_obeyed : (state : LinkState) → slice_get mid.links l ≡ Some state → (phase : Phase) → state.phase ≡ phase → Obeys k body mid p.far (answered (Upto fsn) l state phase mid).state
+      coa_obeyed : (state : LinkState) → slice_get mid.links l ≡ Some state → (phase : Phase) → state.phase ≡ phase → Obeys emergencies k body mid p.far (answered (Upto fsn) l state phase mid).state
       coa_obeyed state there Up e = keeps mid refl refl refl (no_back (Coa l fsn) is tt)
       coa_obeyed state there Down e = settles fsn l state (other (Coa l fsn) is tt) (record { there = there; phase_is = e }) (coa_told state there) (heard (Coa l fsn) is tt) (over_is (Coa l fsn) is tt)
       coa_obeyed state there Settled e = keeps mid refl refl refl (no_back (Coa l fsn) is tt)
 
-    cba_obeyed : (l code : ℕ) → order_of body ≡ Some (Cba l code) → (c : Code) → code_of code mid.routing ≡ c → Obeys k body mid p.far (acknowledged_back code c mid).state
+    -- an emergency, in which no number is told
+    module _ (l : ℕ) (is : order_of body ≡ Some (Eco l)) where
+      eco_obeyed : (state : LinkState) → slice_get mid.links l ≡ Some state → (phase : Phase) → state.phase ≡ phase → Obeys emergencies k body mid p.far (changed_over Unknown l state phase mid).state
+      eco_obeyed state there Up e = answers_blind l state (tells (Eco l) is tt) (other (Eco l) is tt) (record { there = there; phase_is = e }) (heard (Eco l) is tt) (over_is (Eco l) is tt)
+      eco_obeyed state there Down e = settles_blind l state (tells (Eco l) is tt) (other (Eco l) is tt) (record { there = there; phase_is = e }) (heard (Eco l) is tt) (over_is (Eco l) is tt)
+      eco_obeyed state there Settled e = absurd (let no : true ≡ false = sym (ap has_phase_settled e) ∙ going_at (Eco l) is tt state there in cc)
+
+    cba_obeyed : (l code : ℕ) → order_of body ≡ Some (Cba l code) → (c : Code) → code_of code mid.routing ≡ c → Obeys emergencies k body mid p.far (acknowledged_back code c mid).state
     cba_obeyed l code is Free e = keeps mid refl refl refl (record {
       none_declared = λ m d f. let no : Some (Cba l code) ≡ Some (Cbd m d) = sym is ∙ f in absurd cc;
       none_in_use = λ m d f. let same : Some (Cba l code) ≡ Some (Cba m d) = sym is ∙ f in let one : code ≡ d = cc in subst (λ (n : ℕ). code_of n mid.routing ≡ Free) one e;
@@ -308,30 +315,34 @@ module _ (mx my : Method) (one : IsOneMethod mx my) (p : Two) (h : HoldsOf mx my
     cba_obeyed l code is Asked e = releases l code is
     cba_obeyed l code is Spent e = releases l code is
 
-    order_is_obeyed : (order : Order) → order_of body ≡ Some order → Obeys k body mid p.far (order_obeyed order mid).state
+    order_is_obeyed : (order : Order) → order_of body ≡ Some order → Obeys emergencies k body mid p.far (order_obeyed order mid).state
     order_is_obeyed (Coo l fsn) is = go (slice_get mid.links l) refl
       where
-        go : (there : Option LinkState) → slice_get mid.links l ≡ there → Obeys k body mid p.far (at_link l mid (λ state. changed_over (Upto fsn) l state state.phase mid) there).state
+        go : (there : Option LinkState) → slice_get mid.links l ≡ there → Obeys emergencies k body mid p.far (at_link l mid (λ state. changed_over (Upto fsn) l state state.phase mid) there).state
         go None e = keeps mid refl refl refl (no_back (Coo l fsn) is tt)
         go (Some state) e = coo_obeyed l fsn is state e state.phase refl
     order_is_obeyed (Coa l fsn) is = go (slice_get mid.links l) refl
       where
-        go : (there : Option LinkState) → slice_get mid.links l ≡ there → Obeys k body mid p.far (at_link l mid (λ state. answered (Upto fsn) l state state.phase mid) there).state
+        go : (there : Option LinkState) → slice_get mid.links l ≡ there → Obeys emergencies k body mid p.far (at_link l mid (λ state. answered (Upto fsn) l state state.phase mid) there).state
         go None e = keeps mid refl refl refl (no_back (Coa l fsn) is tt)
         go (Some state) e = coa_obeyed l fsn is state e state.phase refl
     order_is_obeyed (Cbd l code) is = acknowledges l code is
     order_is_obeyed (Cba l code) is = cba_obeyed l code is (code_of code mid.routing) refl
-    order_is_obeyed (Eco l) is = absurd (tells (Eco l) is tt)
+    order_is_obeyed (Eco l) is = go (slice_get mid.links l) refl
+      where
+        go : (there : Option LinkState) → slice_get mid.links l ≡ there → Obeys emergencies k body mid p.far (at_link l mid (λ state. changed_over Unknown l state state.phase mid) there).state
+        go None e = keeps mid refl refl refl (no_back (Eco l) is tt)
+        go (Some state) e = eco_obeyed l is state e state.phase refl
     order_is_obeyed (Eca l) is = absurd (tells (Eca l) is tt)
 
-    pub some_obeyed : Obeys k body mid p.far taken.state
+    pub some_obeyed : Obeys emergencies k body mid p.far taken.state
     some_obeyed = rw e (go (service_indicator body == 0) refl)
       where
-        obeyed_so : (order : Option Order) → order_of body ≡ order → Obeys k body mid p.far (obeyed order mid).state
+        obeyed_so : (order : Option Order) → order_of body ≡ order → Obeys emergencies k body mid p.far (obeyed order mid).state
         obeyed_so None g = keeps mid refl refl refl (no_order g)
         obeyed_so (Some order) g = order_is_obeyed order g
 
-        go : (b : Bool) → (service_indicator body == 0) ≡ b → Obeys k body mid p.far (takes (Some body) mid).state
+        go : (b : Bool) → (service_indicator body == 0) ≡ b → Obeys emergencies k body mid p.far (takes (Some body) mid).state
         go true g = rw g (obeyed_so (order_of body) refl)
         go false g = rw g (keeps _ refl refl refl (no_order (plain_body body g)))
 
@@ -345,8 +356,8 @@ module _ (mx my : Method) (one : IsOneMethod mx my) (p : Two) (h : HoldsOf mx my
 
   -- EITHER WAY
   pub record Hears : Type 0 where
-    pub both : Both mid p.far
-    pub obeys : Obeys k heard_body mid p.far taken.state
+    pub both : Both emergencies mid p.far
+    pub obeys : Obeys emergencies k heard_body mid p.far taken.state
 
   none_told : TellsNoBack [] mid
   none_told = record { none_declared = λ l code e. absurd cc; none_in_use = λ l code e. absurd cc }
@@ -355,5 +366,5 @@ module _ (mx my : Method) (one : IsOneMethod mx my) (p : Two) (h : HoldsOf mx my
   hears = go (brought part.accept unit) refl
     where
       go : (body : Option (List ℕ)) → brought part.accept unit ≡ body → Hears
-      go None e = record { both = none_both e; obeys = subst (λ (b : Option (List ℕ)). Obeys k (body_of b) mid p.far taken.state) (sym e) (subst (Obeys k [] mid p.far) (sym (none_taken e)) (keeps mid refl refl refl none_told)) }
-      go (Some body) e = record { both = some_both body e; obeys = subst (λ (b : Option (List ℕ)). Obeys k (body_of b) mid p.far taken.state) (sym e) (some_obeyed body e) }
+      go None e = record { both = none_both e; obeys = subst (λ (b : Option (List ℕ)). Obeys emergencies k (body_of b) mid p.far taken.state) (sym e) (subst (Obeys emergencies k [] mid p.far) (sym (none_taken e)) (keeps mid refl refl refl none_told)) }
+      go (Some body) e = record { both = some_both body e; obeys = subst (λ (b : Option (List ℕ)). Obeys emergencies k (body_of b) mid p.far taken.state) (sym e) (some_obeyed body e) }

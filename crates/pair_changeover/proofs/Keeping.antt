@@ -1,13 +1,13 @@
 -- WHAT EACH EVENT OF AN END KEEPS of the orders under way, but hearing and coming up: it settles nothing and accepts nothing.
-use Rattle.std.proofs.Common.{refl, arith, ◌≡◌, ◌∙◌, ap, sym, subst, ℕ, zero, suc, ◌≤◌, ◌==◌, ◌+◌, ◌-◌, ◌%◌, Bool, true, false, nat_lt, nat_le, List, [], ◌∷◌, length, slice_get, Option, Some, None, cond}
+use Rattle.std.proofs.Common.{refl, arith, ◌≡◌, ◌∙◌, ap, sym, subst, ℕ, zero, suc, ◌<◌, ◌≤◌, ◌==◌, ◌+◌, ◌-◌, ◌%◌, Bool, true, false, nat_lt, nat_le, List, [], ◌∷◌, length, slice_get, Option, Some, None, cond}
 use Rattle.std.proofs.lemmas.Bool.{eqb-true}
-use Rattle.l3_orders.specs.declared.order.Order.TheVariants.{Coo, Cbd}
-use Rattle.l3_orders.specs.Grammar.{text}
+use Rattle.l3_orders.specs.declared.order.Order.TheVariants.{Cbd}
+use Rattle.l3_orders.specs.Grammar.{text, order_of, link_of}
 use Rattle.set_events.specs.declared.answer.Fate.{Fate}
 use Rattle.set_events.specs.declared.answer.Fate.TheVariants.{Waiting, Unacked, Acked, Held, Parked, Back, Discarded}
 use Rattle.set_events.specs.declared.answer.Refusal.{Refusal as SetRefusal}
 use Rattle.set_events.specs.declared.answer.Refusal.TheVariants.{NotUp, TooShort, TooLong, Reserved, StreamFull}
-use Rattle.set_events.specs.declared.event.Event.TheVariants.{Offer, Take, Find, Down as DownEvent, Restore}
+use Rattle.set_events.specs.declared.event.Event.TheVariants.{Offer, Take, Find, Down as DownEvent, DownBlind, Restore}
 use Rattle.set_route.specs.declared.place.Place.{Place}
 use Rattle.set_route.specs.declared.place.Place.TheVariants.{On, Changing, Nowhere}
 use Rattle.set_route.specs.Routing.{place_of, code_for}
@@ -15,9 +15,9 @@ use Rattle.set_model.specs.declared.phase.Phase.{Phase}
 use Rattle.set_model.specs.declared.phase.Phase.TheVariants.{Up, Down, Settled}
 use Rattle.set_model.specs.Rows.{Row, is_waiting, was_discarded, standing, unack, parked, place, stream_of, service_indicator, unsent, octets_in}
 use Rattle.set_model.specs.Sound.{IsSound}
-use Rattle.set_model.specs.State.{LinkState, State, link_count, is_up, is_settled, link_is_up, link_is_settled, has_phase_up, has_phase_settled, last_accepted, fate_at, target, window_of}
+use Rattle.set_model.specs.State.{LinkState, State, Settings, link_count, is_up, is_settled, link_is_up, link_is_settled, has_phase_up, has_phase_settled, last_accepted, fate_at, target, window_of}
 use Rattle.set_model.specs.Control.{Choice, again, first, fill, choice_of, control_after}
-use Rattle.set_model.specs.Changeover.{fate_on, queued, left_link, left_by, can_declare, declared, declared_from, some_declare}
+use Rattle.set_model.specs.Changeover.{fate_on, queued, leaving_order, left_link, left_by, can_declare, declared, declared_from, some_declare}
 use Rattle.set_model.specs.Step.{Outcome, refused, offer_refusal, offered, taken, found, with_known, in_service, falls, comes_back, next, rows_sent, step}
 use Rattle.set_model.proofs.Events.{Untouched, untouched_self, sent, appended_out}
 use Rattle.set_model.proofs.InPlace.{turned_same}
@@ -28,18 +28,18 @@ use Rattle.pair_changeover.proofs.Leaving.{leaves_acts, leaves_discards, place_n
 use Rattle.pair_changeover.proofs.Obeying.{below, not_settled, not_discarded}
 use Rattle.pair_changeover.proofs.Passing.{passing, passing_queues, far_stays}
 use Rattle.pair_changeover.proofs.Table.{queue_sent}
-use Rattle.pair_changeover.proofs.Texts.{AreCodes, coo_read, cbd_plain, users_no_order}
-use Rattle.pair_changeover.proofs.Views.{queue, pending, acked_of, acked_on, accepted_of, accepted_on}
+use Rattle.pair_changeover.proofs.Texts.{AreCodes, coo_read, eco_read, cbd_plain, users_no_order}
+use Rattle.pair_changeover.proofs.Views.{view, queue, pending, acked_of, acked_on, accepted_of, accepted_on, NoneAbout, Tells}
 
-pub record Keeps (s t f : State) : Type 0 where
-  pub both : Both s f → Both t f
+pub record Keeps (emergencies : Bool) (s t f : State) : Type 0 where
+  pub both : Both emergencies s f → Both emergencies t f
   pub settled : (l : ℕ) → is_settled l t ≡ is_settled l s
   pub acked : (l : ℕ) → is_settled l s ≡ true → acked_on l t ≡ acked_on l s
   pub accepted : (l : ℕ) → accepted_on l t ≡ accepted_on l s
   pub discards : standing was_discarded t.rows ≡ standing was_discarded s.rows
 
 -- the same rows and links
-pub keeps_still : (s t f : State) → t.rows ≡ s.rows → t.links ≡ s.links → Keeps s t f
+pub keeps_still : {emergencies : Bool} (s t f : State) → t.rows ≡ s.rows → t.links ≡ s.links → Keeps emergencies s t f
 keeps_still s t f rows links = record {
   both = acts s t f (stands_still s t f rows links);
   settled = λ l. ap (λ (ls : List LinkState). link_is_settled (slice_get ls l)) links;
@@ -67,7 +67,7 @@ fate_new s body link sound (On k) = go (is_up k s) refl
     go true e = to_wait k (λ same. held_none s link sound (subst (λ (n : ℕ). is_up n s ≡ true) (eqb-true k link same) e))
     go false e = to_hold k
 
-offer_keeps : (s f : State) (body : List ℕ) → IsSound s → (o : Option SetRefusal) → offer_refusal s.rows body ≡ o → Keeps s (offered o s body).state f
+offer_keeps : {emergencies : Bool} (s f : State) (body : List ℕ) → IsSound s → (o : Option SetRefusal) → offer_refusal s.rows body ≡ o → Keeps emergencies s (offered o s body).state f
 offer_keeps s f body sound (Some why) e = keeps_still s s f refl refl
 offer_keeps s f body sound None e =
     let fate = fate_at (place_of (stream_of body) s.routing) s in
@@ -79,24 +79,24 @@ offer_keeps s f body sound None e =
       discards = appended_out s.rows body fate was_discarded (place_not_discarded (place_of (stream_of body) s.routing) s);
     }
 
-pub offer_kept : (s f : State) (body : List ℕ) → IsSound s → Keeps s (step s (Offer body)).state f
+pub offer_kept : {emergencies : Bool} (s f : State) (body : List ℕ) → IsSound s → Keeps emergencies s (step s (Offer body)).state f
 unfolding step
 offer_kept s f body sound = offer_keeps s f body sound (offer_refusal s.rows body) refl
 
 -- TAKE and FIND
-take_keeps : (s f : State) (inbox : List (List ℕ)) → Keeps s (taken inbox s).state f
+take_keeps : {emergencies : Bool} (s f : State) (inbox : List (List ℕ)) → Keeps emergencies s (taken inbox s).state f
 take_keeps s f [] = keeps_still s s f refl refl
 take_keeps s f (body ∷ rest) = keeps_still s (record s { inbox = rest }) f refl refl
 
-pub take_kept : (s f : State) → Keeps s (step s Take).state f
+pub take_kept : {emergencies : Bool} (s f : State) → Keeps emergencies s (step s Take).state f
 unfolding step
 take_kept s f = take_keeps s f s.inbox
 
-find_keeps : (s f : State) (fate : Option Fate) → Keeps s (found fate s).state f
+find_keeps : {emergencies : Bool} (s f : State) (fate : Option Fate) → Keeps emergencies s (found fate s).state f
 find_keeps s f None = keeps_still s s f refl refl
 find_keeps s f (Some fate) = keeps_still s s f refl refl
 
-pub find_kept : (s f : State) (number : ℕ) → Keeps s (step s (Find number)).state f
+pub find_kept : {emergencies : Bool} (s f : State) (number : ℕ) → Keeps emergencies s (step s (Find number)).state f
 unfolding step
 find_kept s f number = find_keeps s f (place number s.rows)
 
@@ -106,45 +106,63 @@ up_is Up e = refl
 up_is Down e = absurd cc
 up_is Settled e = absurd cc
 
-in_keeps : (k : ℕ) (s f : State) (act : LinkState → Outcome) → ((link : LinkState) → IsAt k link Up s → Keeps s (act link).state f) → Keeps s (in_service k s act).state f
-in_keeps k s f act all = go (slice_get s.links k) refl
+in_keeps : {emergencies : Bool} (k : ℕ) (s f : State) (act : LinkState → Outcome) → ((link : LinkState) → IsAt k link Up s → Keeps emergencies s (act link).state f) → Keeps emergencies s (in_service k s act).state f
+in_keeps {emergencies = emergencies} k s f act all = go (slice_get s.links k) refl
   where
-    at : (link : LinkState) → slice_get s.links k ≡ Some link → (b : Bool) → has_phase_up link.phase ≡ b → Keeps s (cond b (act link) (refused s NotUp)).state f
+    at : (link : LinkState) → slice_get s.links k ≡ Some link → (b : Bool) → has_phase_up link.phase ≡ b → Keeps emergencies s (cond b (act link) (refused s NotUp)).state f
     at link there true e = all link (record { there = there; phase_is = up_is link.phase e })
     at link there false e = keeps_still s s f refl refl
 
-    go : (o : Option LinkState) → slice_get s.links k ≡ o → Keeps s (with_known o s (λ link. cond (has_phase_up link.phase) (act link) (refused s NotUp))).state f
+    go : (o : Option LinkState) → slice_get s.links k ≡ o → Keeps emergencies s (with_known o s (λ link. cond (has_phase_up link.phase) (act link) (refused s NotUp))).state f
     go None e = keeps_still s s f refl refl
     go (Some link) e = at link e (has_phase_up link.phase) refl
 
--- DOWN
-down_at : (k : ℕ) (link : LinkState) (s f : State) → IsSound s → AreCodes s.settings → IsAt k link Up s → Keeps s (queued (Coo k (last_accepted link)) (left_by false k link s)) f
-down_at k link s f sound codes at =
-    let left = left_by false k link s in
-    let there = own_then k link (left_link false link) s left at.there refl in
-    let all = by_link k link (left_link false link) s left at.there refl in
+-- DOWN, and blindly where there may be emergencies
+order_tells : (emergencies blind : Bool) (k : ℕ) (link : LinkState) (s f : State) → (blind ≡ true → emergencies ≡ true) → accepted_on k s ≡ link.accepted → Tells emergencies (view s f) (leaving_order blind k link)
+order_tells emergencies false k link s f may same = ap (λ (m : ℕ). (m + 127) % 128) (sym same)
+order_tells emergencies true k link s f may same = may refl
+
+order_is_read : (blind : Bool) (k : ℕ) (link : LinkState) (settings : Settings) → AreCodes settings → k < 16 → order_of (text (leaving_order blind k link) settings.sio settings.dpc settings.opc) ≡ Some (leaving_order blind k link)
+order_is_read false k link settings codes few = coo_read settings k (last_accepted link) codes few (omega arith)
+order_is_read true k link settings codes few = eco_read settings k codes few
+
+link_is_left : (blind : Bool) (k : ℕ) (link : LinkState) → link_of (leaving_order blind k link) ≡ k
+link_is_left false k link = refl
+link_is_left true k link = refl
+
+down_at : {emergencies : Bool} (blind : Bool) (k : ℕ) (link : LinkState) (s f : State) → (blind ≡ true → emergencies ≡ true) → IsSound s → AreCodes s.settings → IsAt k link Up s → Keeps emergencies s (queued (leaving_order blind k link) (left_by blind k link s)) f
+down_at {emergencies = emergencies} blind k link s f may sound codes at =
+    let order = leaving_order blind k link in
+    let left = left_by blind k link s in
+    let there = own_then k link (left_link blind link) s left at.there refl in
+    let all = by_link k link (left_link blind link) s left at.there refl in
     let up : is_up k s ≡ true = ap link_is_up at.there ∙ ap has_phase_up at.phase_is in
     let was : link_is_settled (Some link) ≡ false = ap has_phase_settled at.phase_is in
-    let left_does = leaves_acts false k link s f sound at in
+    let left_does = leaves_acts blind k link s f sound at in
+    let of = link_is_left blind k link in
     record {
-      both = λ o. queues_both left f (Coo k (last_accepted link)) (leaves false k link s at sound) (acts s left f left_does o)
-          (coo_read s.settings k (last_accepted link) codes (below k link s f sound codes at) (omega arith))
-          (ap (λ (n : ℕ). (n + 127) % 128) (sym (ap accepted_of there)))
-          (acts_none s left f left_does k (o.near.none_up k up))
-          (ap link_is_up there)
-          (not_settled k link s f sound codes at (is_settled k f) (is_up k s) (o.far.apart k) up);
+      both = λ o. queues_both left f order (leaves blind k link s at sound) (acts s left f left_does o)
+          (order_is_read blind k link s.settings codes (below k link s f sound codes at))
+          (order_tells emergencies blind k link left f may (ap accepted_of there))
+          (subst (λ (n : ℕ). NoneAbout n (view left f)) (sym of) (acts_none s left f left_does k (o.near.none_up k up)))
+          (subst (λ (n : ℕ). is_up n left ≡ false) (sym of) (ap link_is_up there))
+          (subst (λ (n : ℕ). is_settled n f ≡ false) (sym of) (not_settled k link s f sound codes at (is_settled k f) (is_up k s) (o.far.apart k) up));
       settled = all (λ n old new. link_is_settled new ≡ link_is_settled old) (sym was) (λ n old d. refl);
       acked = λ l e. all (λ n old new. acked_of new ≡ acked_of old) refl (λ n old d. refl) l;
       accepted = all (λ n old new. accepted_of new ≡ accepted_of old) refl (λ n old d. refl);
-      discards = appended_out left.rows (text (Coo k (last_accepted link)) s.settings.sio s.settings.dpc s.settings.opc) (fate_on (target left.links)) was_discarded (not_discarded (target left.links)) ∙ leaves_discards false k link s f sound at;
+      discards = appended_out left.rows (text order s.settings.sio s.settings.dpc s.settings.opc) (fate_on (target left.links)) was_discarded (not_discarded (target left.links)) ∙ leaves_discards blind k link s f sound at;
     }
 
-pub down_kept : (k : ℕ) (s f : State) → IsSound s → AreCodes s.settings → Keeps s (step s (DownEvent k)).state f
+pub down_kept : {emergencies : Bool} (k : ℕ) (s f : State) → IsSound s → AreCodes s.settings → Keeps emergencies s (step s (DownEvent k)).state f
 unfolding step
-down_kept k s f sound codes = in_keeps k s f (falls false k s) (λ link at. down_at k link s f sound codes at)
+down_kept k s f sound codes = in_keeps k s f (falls false k s) (λ link at. down_at false k link s f (λ e. absurd cc) sound codes at)
+
+pub blind_kept : {emergencies : Bool} (k : ℕ) (s f : State) → emergencies ≡ true → IsSound s → AreCodes s.settings → Keeps emergencies s (step s (DownBlind k)).state f
+unfolding step
+blind_kept k s f may sound codes = in_keeps k s f (falls true k s) (λ link at. down_at true k link s f (λ e. may) sound codes at)
 
 -- RESTORE: declarations come to wait for links that are up
-keeps_then : (s t u f : State) → Keeps s t f → Keeps t u f → Keeps s u f
+keeps_then : {emergencies : Bool} (s t u f : State) → Keeps emergencies s t f → Keeps emergencies t u f → Keeps emergencies s u f
 keeps_then s t u f p q = record {
   both = λ o. q.both (p.both o);
   settled = λ l. q.settled l ∙ p.settled l;
@@ -153,7 +171,7 @@ keeps_then s t u f p q = record {
   discards = q.discards ∙ p.discards;
 }
 
-declared_keeps : (home alternative : ℕ) (s f : State) → IsSound s → can_declare home alternative s ≡ true → Keeps s (declared home alternative s) f
+declared_keeps : {emergencies : Bool} (home alternative : ℕ) (s f : State) → IsSound s → can_declare home alternative s ≡ true → Keeps emergencies s (declared home alternative s) f
 declared_keeps home alternative s f sound can =
     let body = text (Cbd home (code_for home alternative)) s.settings.sio s.settings.dpc s.settings.opc in
     record {
@@ -166,22 +184,22 @@ declared_keeps home alternative s f sound can =
       discards = appended_out s.rows body (Waiting alternative) was_discarded refl;
     }
 
-declares_keep : (home alternative n : ℕ) (s f : State) → IsSound s → is_up home s ≡ true → Keeps s (declared_from home alternative n s) f
-declares_keep home alternative zero s f sound up = keeps_still s s f refl refl
-declares_keep home alternative (suc n) s f sound up = go (can_declare home alternative s) refl (λ t still rising. declares_keep home (suc alternative) n t f still rising)
+declares_keep : {emergencies : Bool} (home alternative n : ℕ) (s f : State) → IsSound s → is_up home s ≡ true → Keeps emergencies s (declared_from home alternative n s) f
+declares_keep {emergencies = emergencies} home alternative zero s f sound up = keeps_still s s f refl refl
+declares_keep {emergencies = emergencies} home alternative (suc n) s f sound up = go (can_declare home alternative s) refl (λ t still rising. declares_keep home (suc alternative) n t f still rising)
   where
-    go : (b : Bool) → can_declare home alternative s ≡ b → ((t : State) → IsSound t → is_up home t ≡ true → Keeps t (declared_from home (suc alternative) n t) f) → Keeps s (declared_from home alternative (suc n) s) f
+    go : (b : Bool) → can_declare home alternative s ≡ b → ((t : State) → IsSound t → is_up home t ≡ true → Keeps emergencies t (declared_from home (suc alternative) n t) f) → Keeps emergencies s (declared_from home alternative (suc n) s) f
     go true e later = rw e (keeps_then s (declared home alternative s) _ f (declared_keeps home alternative s f sound e) (later (declared home alternative s) (declares home alternative s up e sound) up))
     go false e later = rw e (later s sound up)
 
-comes_keep : (k : ℕ) (s f : State) → IsSound s → is_up k s ≡ true → Keeps s (comes_back k s).state f
-comes_keep k s f sound up = go (some_declare k 0 (link_count s) s) refl
+comes_keep : {emergencies : Bool} (k : ℕ) (s f : State) → IsSound s → is_up k s ≡ true → Keeps emergencies s (comes_back k s).state f
+comes_keep {emergencies = emergencies} k s f sound up = go (some_declare k 0 (link_count s) s) refl
   where
-    go : (b : Bool) → some_declare k 0 (link_count s) s ≡ b → Keeps s (comes_back k s).state f
+    go : (b : Bool) → some_declare k 0 (link_count s) s ≡ b → Keeps emergencies s (comes_back k s).state f
     go true e = rw e (declares_keep k 0 (link_count s) s f sound up)
     go false e = rw e (keeps_still s s f refl refl)
 
-pub restore_kept : (k : ℕ) (s f : State) → IsSound s → Keeps s (step s (Restore k)).state f
+pub restore_kept : {emergencies : Bool} (k : ℕ) (s f : State) → IsSound s → Keeps emergencies s (step s (Restore k)).state f
 unfolding step
 restore_kept k s f sound = in_keeps k s f (λ link. comes_back k s) (λ link at. comes_keep k s f sound (ap link_is_up at.there ∙ ap has_phase_up at.phase_is))
 
@@ -234,7 +252,7 @@ next_aside k link s = go (choice_of (octets_in (unack k s.rows)) link.control (w
     go first = (sent k s.rows).parked_same
     go fill = refl
 
-pub next_keeps : (k : ℕ) (link : LinkState) (s f : State) → IsSound s → IsAt k link Up s → accepted_on k f - link.acked ≤ length (unack k s.rows) → Keeps s (next k s link).state f
+pub next_keeps : {emergencies : Bool} (k : ℕ) (link : LinkState) (s f : State) → IsSound s → IsAt k link Up s → accepted_on k f - link.acked ≤ length (unack k s.rows) → Keeps emergencies s (next k s link).state f
 next_keeps k link s f sound at few =
     let choice = choice_of (octets_in (unack k s.rows)) link.control (window_of k link s.rows) in
     let link' : LinkState = record link { control = control_after choice (octets_in (unack k s.rows)) link.control (window_of k link s.rows) } in

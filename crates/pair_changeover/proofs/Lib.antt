@@ -1,11 +1,13 @@
 pub mod Acked
 pub mod Alike
 pub mod Arriving
+pub mod Blind
 pub mod Changes
 pub mod Hearing
 pub mod Keeping
 pub mod Leaving
 pub mod Obeying
+pub mod Ordered
 pub mod Passing
 pub mod Reaching
 pub mod Runs

@@ -13,7 +13,7 @@ use Rattle.set_route.specs.Target.{target_of}
 use Rattle.set_route.specs.declared.place.Code.TheVariants.{Free}
 use Rattle.set_route.specs.Routing.{code_of}
 use Rattle.set_model.specs.declared.phase.Phase.TheVariants.{Up, Down}
-use Rattle.set_model.specs.declared.reached.Reached.TheVariants.{Upto}
+use Rattle.set_model.specs.declared.reached.Reached.TheVariants.{Upto, Unknown}
 use Rattle.set_model.specs.Rows.{Row, is_back_to, is_on, is_unacked, is_waiting, was_discarded, standing, unack, wait, parked, appended, turned, all_with, moved}
 use Rattle.set_model.specs.Sound.{IsSound}
 use Rattle.set_model.specs.State.{LinkState, State, is_up, is_settled, link_is_up, link_is_settled, has_phase_up, last_accepted, target}
@@ -31,9 +31,10 @@ use Rattle.set_model.proofs.Targets.{target_up}
 use Rattle.set_model.proofs.Walk.{IsAt}
 use Rattle.pair_model.specs.Run.{Message, messages}
 use Rattle.pair_changeover.specs.Diverted.{queue_for, as_left, answer_on}
+use Rattle.pair_changeover.proofs.Blind.{blind_both, blind_accepted}
 use Rattle.pair_changeover.proofs.Changes.{Both, Acts, acts, stands_still, acts_none, acts_far_none, queues_both, by_link, own_then, offers_acts, IsNew, to_wait, to_park, held_none}
 use Rattle.pair_changeover.proofs.Leaving.{goes_to, leaves_acts, leaves_discards, releases_acts, releases_discards}
-use Rattle.pair_changeover.proofs.Passing.{settles_acts, links_then, rows_then, link_then}
+use Rattle.pair_changeover.proofs.Passing.{IsReached, settles_acts, links_then, rows_then, link_then}
 use Rattle.pair_changeover.proofs.Texts.{AreCodes, coa_read, cba_plain}
 use Rattle.pair_changeover.proofs.Table.{joined, aside_settled, wait_settled, aside_joins, queue_apart}
 use Rattle.pair_changeover.proofs.Turning.{unack_same}
@@ -51,6 +52,12 @@ module _ (fsn l : ℕ) (link : LinkState) (s f : State) (few : length (unack l s
 
   pub told_reasonable : is_reasonable fsn l link s.rows ≡ true
   told_reasonable = let e = told_reached in grind (arith, nat_tests, e, t.within)
+
+  pub told_is_reached : slice_get s.links l ≡ Some link → IsReached fsn l link s f
+  told_is_reached there = record {
+    reasonable = told_reasonable;
+    left = ap (λ (o : Option LinkState). queue (accepted_on l f - acked_of o) l s.rows) there ∙ ap (λ (k : ℕ). queue k l s.rows) (sym told_reached);
+  }
 
 -- an order about a link that the far end left: it was the only one
 pub record Heard (l : ℕ) (s f : State) : Type 0 where
@@ -71,12 +78,14 @@ pub record TellsOver (body : List ℕ) : Type 0 where
   pub over : IsChangeover order
 
 -- what the body leads to, heard on a link; an empty one stands for none
-pub data Obeys (k : ℕ) (body : List ℕ) (s f : State) : State → Type 0 where
-  keeps : (t : State) → t.rows ≡ s.rows → t.links ≡ s.links → t.routing ≡ s.routing → TellsNoBack body s → Obeys k body s f t
-  settles : (fsn l : ℕ) (link : LinkState) → (k == l) ≡ false → IsAt l link Down s → Told fsn l link s f → Heard l s f → TellsOver body → Obeys k body s f (settled (Upto fsn) l link s)
-  answers : (fsn l : ℕ) (link : LinkState) → (k == l) ≡ false → IsAt l link Up s → Told fsn l link s f → Heard l s f → TellsOver body → Obeys k body s f (settled (Upto fsn) l (left_link false link) (left_and_told l link s))
-  acknowledges : (l code : ℕ) → order_of body ≡ Some (Cbd l code) → Obeys k body s f (queued (Cba l code) s)
-  releases : (l code : ℕ) → order_of body ≡ Some (Cba l code) → Obeys k body s f (released code s)
+pub data Obeys (emergencies : Bool) (k : ℕ) (body : List ℕ) (s f : State) : State → Type 0 where
+  keeps : (t : State) → t.rows ≡ s.rows → t.links ≡ s.links → t.routing ≡ s.routing → TellsNoBack body s → Obeys emergencies k body s f t
+  settles : (fsn l : ℕ) (link : LinkState) → (k == l) ≡ false → IsAt l link Down s → Told fsn l link s f → Heard l s f → TellsOver body → Obeys emergencies k body s f (settled (Upto fsn) l link s)
+  answers : (fsn l : ℕ) (link : LinkState) → (k == l) ≡ false → IsAt l link Up s → Told fsn l link s f → Heard l s f → TellsOver body → Obeys emergencies k body s f (settled (Upto fsn) l (left_link false link) (left_and_told l link s))
+  settles_blind : (l : ℕ) (link : LinkState) → emergencies ≡ true → (k == l) ≡ false → IsAt l link Down s → Heard l s f → TellsOver body → Obeys emergencies k body s f (settled Unknown l link s)
+  answers_blind : (l : ℕ) (link : LinkState) → emergencies ≡ true → (k == l) ≡ false → IsAt l link Up s → Heard l s f → TellsOver body → Obeys emergencies k body s f (settled Unknown l (left_link false link) (left_and_told l link s))
+  acknowledges : (l code : ℕ) → order_of body ≡ Some (Cbd l code) → Obeys emergencies k body s f (queued (Cba l code) s)
+  releases : (l code : ℕ) → order_of body ≡ Some (Cba l code) → Obeys emergencies k body s f (released code s)
 
 -- what moves, and what is acknowledged, isn't discarded
 pub not_discarded : (to : Option ℕ) → was_discarded (fate_on to) ≡ false
@@ -101,31 +110,28 @@ sent_not_discarded l Parked e = refl
 sent_not_discarded l (Back code) e = refl
 sent_not_discarded l (Discarded cause) e = absurd cc
 
--- THE LINK SETTLES
-module _ (fsn l : ℕ) (link : LinkState) (s f : State) (sound : IsSound s) (at : IsAt l link Down s) (t : Told fsn l link s f) where
-  few : length (unack l s.rows) ≤ 127
-  few = (sound.links l link at.there).window
+-- what it tells is so reached
+pub is_reached : (fsn l : ℕ) (link : LinkState) (s f : State) → IsSound s → IsAt l link Down s → Told fsn l link s f → IsReached fsn l link s f
+is_reached fsn l link s f sound at t = told_is_reached fsn l link s f ((sound.links l link at.there).window) t at.there
 
+-- THE LINK SETTLES
+module _ (fsn l : ℕ) (link : LinkState) (s f : State) (sound : IsSound s) (at : IsAt l link Down s) (r : IsReached fsn l link s f) where
   abbrev pub settled_then : State
   settled_then = settled (Upto fsn) l link s
 
-  reasonable : is_reasonable fsn l link s.rows ≡ true
-  reasonable = told_reasonable fsn l link s f few t
-
-  reached : reached_by fsn l link s.rows ≡ accepted_on l f - link.acked
-  reached = told_reached fsn l link s f few t
-
-  pub settles_both : Both s f → Heard l s f → Both settled_then f
-  settles_both o h = acts s settled_then f (settles_acts fsn l link s f sound at reasonable reached o h.far_down h.none) o
+  pub settles_both : {emergencies : Bool} → Both emergencies s f → Heard l s f → Both emergencies settled_then f
+  settles_both o h = acts s settled_then f (settles_acts fsn l link s f sound at r o h.far_down h.none) o
 
   abbrev link_after : LinkState
-  link_after = link_then fsn l link s f sound at reasonable reached
+  link_after = link_then fsn l link s f sound at r
 
   links_after : settled_then.links ≡ slice_set s.links l link_after
-  links_after = links_then fsn l link s f sound at reasonable reached
+  links_after = links_then fsn l link s f sound at r
 
-  pub settles_equal : (n : ℕ) → (is_settled n s ≡ true → acked_on n s ≡ accepted_on n f) → is_settled n settled_then ≡ true → acked_on n settled_then ≡ accepted_on n f
-  settles_equal = by_link l link link_after s settled_then at.there links_after
+  pub settles_equal : Told fsn l link s f → (n : ℕ) → (is_settled n s ≡ true → acked_on n s ≡ accepted_on n f) → is_settled n settled_then ≡ true → acked_on n settled_then ≡ accepted_on n f
+  settles_equal t =
+      let reached = told_reached fsn l link s f ((sound.links l link at.there).window) t in
+      by_link l link link_after s settled_then at.there links_after
       (λ n old new. (link_is_settled old ≡ true → acked_of old ≡ accepted_on n f) → link_is_settled new ≡ true → acked_of new ≡ accepted_on n f)
       (λ before e. omega (arith, reached, t.due)) (λ n old d before e. before e)
 
@@ -140,7 +146,7 @@ module _ (fsn l : ℕ) (link : LinkState) (s f : State) (sound : IsSound s) (at 
 
   pub settles_discards : standing was_discarded settled_then.rows ≡ standing was_discarded s.rows
   settles_discards =
-      ap (standing was_discarded) (rows_then fsn l link s f sound at reasonable reached)
+      ap (standing was_discarded) (rows_then fsn l link s f sound at r)
       ∙ moved_same (is_on l) was_discarded (all_with (fate_on (target s.links))) (turned (is_unacked l) (Acked l) (reached_by fsn l link s.rows) s.rows) (λ row. not_discarded (target s.links)) (λ fate e. on_not_discarded l fate e)
       ∙ turned_same (is_unacked l) was_discarded (Acked l) refl (λ fate e. sent_not_discarded l fate e) (reached_by fsn l link s.rows) s.rows
 
@@ -148,25 +154,22 @@ module _ (fsn l : ℕ) (link : LinkState) (s f : State) (sound : IsSound s) (at 
   pub same_target : target settled_then.links ≡ target s.links
   same_target = ap target links_after ∙ ap target_of (map_set_same (λ (k : LinkState). has_phase_up k.phase) s.links l link link_after at.there (ap has_phase_up (sym at.phase_is)))
 
-  settles_moved : (to : Option ℕ) → target s.links ≡ to → messages (queue_for to settled_then.rows) ≡ messages (queue_for to s.rows) ++ queue (accepted_on l f - link.acked) l s.rows
+  settles_moved : (to : Option ℕ) → target s.links ≡ to → messages (queue_for to settled_then.rows) ≡ messages (queue_for to s.rows) ++ queue (reached_by fsn l link s.rows) l s.rows
   settles_moved None e =
       let own = sound.links l link at.there in
-      ap (λ (rows : List Row). messages (parked rows)) (rows_then fsn l link s f sound at reasonable reached ∙ ap (λ (to : Option ℕ). moved (is_on l) (all_with (fate_on to)) (turned (is_unacked l) (Acked l) (reached_by fsn l link s.rows) s.rows)) e)
+      ap (λ (rows : List Row). messages (parked rows)) (rows_then fsn l link s f sound at r ∙ ap (λ (to : Option ℕ). moved (is_on l) (all_with (fate_on to)) (turned (is_unacked l) (Acked l) (reached_by fsn l link s.rows) s.rows)) e)
       ∙ aside_settled (reached_by fsn l link s.rows) l s.rows own.in_order own.held_last
-      ∙ ap (λ (k : ℕ). messages (parked s.rows) ++ queue k l s.rows) reached
   settles_moved (Some to) e =
       let own = sound.links l link at.there in
-      ap (λ (rows : List Row). messages (wait to rows)) (rows_then fsn l link s f sound at reasonable reached ∙ ap (λ (to : Option ℕ). moved (is_on l) (all_with (fate_on to)) (turned (is_unacked l) (Acked l) (reached_by fsn l link s.rows) s.rows)) e)
-      ∙ wait_settled (reached_by fsn l link s.rows) l to s.rows (apart l to (no_target fsn l link s at.there reasonable at.phase_is to e)) own.in_order own.held_last
-      ∙ ap (λ (k : ℕ). messages (wait to s.rows) ++ queue k l s.rows) reached
+      ap (λ (rows : List Row). messages (wait to rows)) (rows_then fsn l link s f sound at r ∙ ap (λ (to : Option ℕ). moved (is_on l) (all_with (fate_on to)) (turned (is_unacked l) (Acked l) (reached_by fsn l link s.rows) s.rows)) e)
+      ∙ wait_settled (reached_by fsn l link s.rows) l to s.rows (apart l to (no_target fsn l link s at.there r.reasonable at.phase_is to e)) own.in_order own.held_last
 
   -- what was pending on it stands behind what waited for the target
   pub settles_moves : messages (queue_for (target settled_then.links) settled_then.rows) ≡ messages (queue_for (target settled_then.links) s.rows) ++ pending l s f
   settles_moves =
-      let own : queue (accepted_on l f - link.acked) l s.rows ≡ pending l s f = ap (λ (o : Option LinkState). queue (accepted_on l f - acked_of o) l s.rows) (sym at.there) in
       ap (λ (to : Option ℕ). messages (queue_for to settled_then.rows)) same_target
       ∙ settles_moved (target s.links) refl
-      ∙ ap (λ (q : List Message). messages (queue_for (target s.links) s.rows) ++ q) own
+      ∙ ap (λ (q : List Message). messages (queue_for (target s.links) s.rows) ++ q) (sym r.left)
       ∙ ap (λ (to : Option ℕ). messages (queue_for to s.rows) ++ pending l s f) (sym same_target)
 
 -- AN END THAT IS STILL UP leaves the link, and acknowledges
@@ -199,7 +202,7 @@ module _ (l : ℕ) (link : LinkState) (s f : State) (sound : IsSound s) (codes :
   not_settled false b w e = refl
   not_settled true b w e = absurd (let no : true ≡ false = sym e ∙ w refl in cc)
 
-  pub told_both : Both s f → Both told f
+  pub told_both : {emergencies : Bool} → Both emergencies s f → Both emergencies told f
   told_both o =
       let up : is_up l s ≡ true = ap link_is_up at.there ∙ ap has_phase_up at.phase_is in
       queues_both left f (Coa l (last_accepted link)) left_sound (acts s left f left_acts o) coa_is
@@ -226,6 +229,12 @@ module _ (l : ℕ) (link : LinkState) (s f : State) (sound : IsSound s) (codes :
 
   pub told_still : (fsn : ℕ) → Told fsn l link s f → Told fsn l (left_link false link) told f
   told_still fsn t = record { last = t.last; due = t.due; within = rw unack_told (t.within) }
+
+  pub told_reached_so : (fsn : ℕ) → Told fsn l link s f → IsReached fsn l (left_link false link) told f
+  told_reached_so fsn t = is_reached fsn l (left_link false link) told f told_sound told_at (told_still fsn t)
+
+  pub told_accepted : (n : ℕ) → accepted_on n told ≡ accepted_on n s
+  told_accepted = by_link l link (left_link false link) s left at.there refl (λ m old new. accepted_of new ≡ accepted_of old) refl (λ m old d. refl)
 
   answer_is : (q : List Message) → q ++ record { number = length left.rows; body = text (Coa l (last_accepted link)) s.settings.sio s.settings.dpc s.settings.opc } ∷ [] ≡ q ++ answer_on l (Some link) s
   answer_is q = rw (at.phase_is, same_number) refl
@@ -279,48 +288,73 @@ pub record Moved (k n : ℕ) (s f t : State) : Type 0 where
   pub other : (k == n) ≡ false
   pub moved : messages (queue_for (target t.links) t.rows) ≡ messages (queue_for (target t.links) (as_left n (slice_get s.links n) s).rows) ++ answer_on n (slice_get s.links n) s ++ pending n (as_left n (slice_get s.links n) s) f
 
-module _ (k : ℕ) (body : List ℕ) (s f : State) (sound : IsSound s) (codes : AreCodes s.settings) (o : Both s f) where
-  pub obeys_both : (t : State) → Obeys k body s f t → Both t f
+module _ {emergencies : Bool} (k : ℕ) (body : List ℕ) (s f : State) (sound : IsSound s) (codes : AreCodes s.settings) (o : Both emergencies s f) where
+  pub obeys_both : (t : State) → Obeys emergencies k body s f t → Both emergencies t f
   obeys_both t (keeps _ rows links routing none) = acts s t f (stands_still s t f rows links) o
-  obeys_both _ (settles fsn l link other at told_so heard over) = settles_both fsn l link s f sound at told_so o heard
+  obeys_both _ (settles fsn l link other at told_so heard over) = settles_both fsn l link s f sound at (is_reached fsn l link s f sound at told_so) o heard
   obeys_both _ (answers fsn l link other at told_so heard over) =
-      settles_both fsn l (left_link false link) (told l link s f sound codes at) f (told_sound l link s f sound codes at) (told_at l link s f sound codes at) (told_still l link s f sound codes at fsn told_so) (told_both l link s f sound codes at o) (told_heard l link s f sound codes at heard)
+      settles_both fsn l (left_link false link) (told l link s f sound codes at) f (told_sound l link s f sound codes at) (told_at l link s f sound codes at) (told_reached_so l link s f sound codes at fsn told_so) (told_both l link s f sound codes at o) (told_heard l link s f sound codes at heard)
+  obeys_both _ (settles_blind l link may other at heard over) = blind_both l link s f sound at o heard.far_down heard.none
+  obeys_both _ (answers_blind l link may other at heard over) =
+      blind_both l (left_link false link) (told l link s f sound codes at) f (told_sound l link s f sound codes at) (told_at l link s f sound codes at) (told_both l link s f sound codes at o) heard.far_down (told_heard l link s f sound codes at heard).none
   obeys_both _ (acknowledges l code is) = acts s (queued (Cba l code) s) f (acknowledges_acts l code s f sound) o
   obeys_both _ (releases l code is) = acts s (released code s) f (releases_acts code s f sound) o
 
-  pub obeys_equal : ((n : ℕ) → is_settled n s ≡ true → acked_on n s ≡ accepted_on n f) → (t : State) → Obeys k body s f t → (n : ℕ) → is_settled n t ≡ true → acked_on n t ≡ accepted_on n f
+  -- nothing is accepted by it
+  pub obeys_accepted : (t : State) → Obeys emergencies k body s f t → (n : ℕ) → accepted_on n t ≡ accepted_on n s
+  obeys_accepted t (keeps _ rows links routing none) n = ap (λ (ls : List LinkState). accepted_of (slice_get ls n)) links
+  obeys_accepted _ (settles fsn l link other at told_so heard over) n = settles_accepted fsn l link s f sound at (is_reached fsn l link s f sound at told_so) n
+  obeys_accepted _ (settles_blind l link may other at heard over) n = blind_accepted l link s f sound at n
+  obeys_accepted _ (answers fsn l link other at told_so heard over) n =
+      settles_accepted fsn l (left_link false link) (told l link s f sound codes at) f (told_sound l link s f sound codes at) (told_at l link s f sound codes at) (told_reached_so l link s f sound codes at fsn told_so) n
+      ∙ told_accepted l link s f sound codes at n
+  obeys_accepted _ (answers_blind l link may other at heard over) n =
+      blind_accepted l (left_link false link) (told l link s f sound codes at) f (told_sound l link s f sound codes at) (told_at l link s f sound codes at) n
+      ∙ told_accepted l link s f sound codes at n
+  obeys_accepted _ (acknowledges l code is) n = refl
+  obeys_accepted _ (releases l code is) n = refl
+
+-- where there are no emergencies
+module _ (k : ℕ) (body : List ℕ) (s f : State) (sound : IsSound s) (codes : AreCodes s.settings) where
+  pub obeys_equal : ((n : ℕ) → is_settled n s ≡ true → acked_on n s ≡ accepted_on n f) → (t : State) → Obeys false k body s f t → (n : ℕ) → is_settled n t ≡ true → acked_on n t ≡ accepted_on n f
   obeys_equal equal t (keeps _ rows links routing none) n e = ap (λ (ls : List LinkState). acked_of (slice_get ls n)) links ∙ equal n (ap (λ (ls : List LinkState). link_is_settled (slice_get ls n)) (sym links) ∙ e)
-  obeys_equal equal _ (settles fsn l link other at told_so heard over) n e = settles_equal fsn l link s f sound at told_so n (equal n) e
+  obeys_equal equal _ (settles fsn l link other at told_so heard over) n e = settles_equal fsn l link s f sound at (is_reached fsn l link s f sound at told_so) told_so n (equal n) e
   obeys_equal equal _ (answers fsn l link other at told_so heard over) n e =
-      settles_equal fsn l (left_link false link) (told l link s f sound codes at) f (told_sound l link s f sound codes at) (told_at l link s f sound codes at) (told_still l link s f sound codes at fsn told_so) n
+      settles_equal fsn l (left_link false link) (told l link s f sound codes at) f (told_sound l link s f sound codes at) (told_at l link s f sound codes at) (told_reached_so l link s f sound codes at fsn told_so) (told_still l link s f sound codes at fsn told_so) n
       (by_link l link (left_link false link) s (left_by false l link s) at.there refl (λ m old new. (link_is_settled old ≡ true → acked_of old ≡ accepted_on m f) → link_is_settled new ≡ true → acked_of new ≡ accepted_on m f) (λ before g. absurd cc) (λ m old d before g. before g) n (equal n)) e
+  obeys_equal equal _ (settles_blind l link may other at heard over) n e = absurd cc
+  obeys_equal equal _ (answers_blind l link may other at heard over) n e = absurd cc
   obeys_equal equal _ (acknowledges l code is) n e = equal n e
   obeys_equal equal _ (releases l code is) n e = equal n e
 
-  pub obeys_discards : (t : State) → Obeys k body s f t → standing was_discarded t.rows ≡ standing was_discarded s.rows
+  pub obeys_discards : (t : State) → Obeys false k body s f t → standing was_discarded t.rows ≡ standing was_discarded s.rows
   obeys_discards t (keeps _ rows links routing none) = ap (standing was_discarded) rows
-  obeys_discards _ (settles fsn l link other at told_so heard over) = settles_discards fsn l link s f sound at told_so
+  obeys_discards _ (settles fsn l link other at told_so heard over) = settles_discards fsn l link s f sound at (is_reached fsn l link s f sound at told_so)
   obeys_discards _ (answers fsn l link other at told_so heard over) =
-      settles_discards fsn l (left_link false link) (told l link s f sound codes at) f (told_sound l link s f sound codes at) (told_at l link s f sound codes at) (told_still l link s f sound codes at fsn told_so)
+      settles_discards fsn l (left_link false link) (told l link s f sound codes at) f (told_sound l link s f sound codes at) (told_at l link s f sound codes at) (told_reached_so l link s f sound codes at fsn told_so)
       ∙ told_discards l link s f sound codes at
+  obeys_discards _ (settles_blind l link may other at heard over) = absurd cc
+  obeys_discards _ (answers_blind l link may other at heard over) = absurd cc
   obeys_discards _ (acknowledges l code is) = acknowledges_discards l code s f sound
   obeys_discards _ (releases l code is) = releases_discards code s f sound
 
   abbrev MovedAt : State → ℕ → Type 0
   MovedAt t n = is_settled n s ≡ false → is_settled n t ≡ true → Moved k n s f t
 
-  pub obeys_moves : (t : State) → Obeys k body s f t → (n : ℕ) → MovedAt t n
+  pub obeys_moves : (t : State) → Obeys false k body s f t → (n : ℕ) → MovedAt t n
   obeys_moves t (keeps _ rows links routing none) n e g = absurd (let no : false ≡ true = sym e ∙ ap (λ (ls : List LinkState). link_is_settled (slice_get ls n)) (sym links) ∙ g in cc)
+  obeys_moves _ (settles_blind l link may other at heard over) n e g = absurd cc
+  obeys_moves _ (answers_blind l link may other at heard over) n e g = absurd cc
   obeys_moves _ (acknowledges l code is) n e g = absurd (let no : false ≡ true = sym e ∙ g in cc)
   obeys_moves _ (releases l code is) n e g = absurd (let no : false ≡ true = sym e ∙ g in cc)
   obeys_moves _ (settles fsn l link other at told_so heard over) n e g =
       let t = settled (Upto fsn) l link s in
-      let same : l ≡ n = settles_alone fsn l link s f sound at told_so n e g in
+      let same : l ≡ n = settles_alone fsn l link s f sound at (is_reached fsn l link s f sound at told_so) n e g in
       let none : answer_on l (slice_get s.links l) s ≡ [] = ap (λ (o : Option LinkState). answer_on l o s) at.there ∙ rw (at.phase_is) refl in
       let stays : as_left l (slice_get s.links l) s ≡ s = ap (λ (o : Option LinkState). as_left l o s) at.there ∙ rw (at.phase_is) refl in
       subst (λ (m : ℕ). Moved k m s f t) same (record {
         other = other;
-        moved = settles_moves fsn l link s f sound at told_so
+        moved = settles_moves fsn l link s f sound at (is_reached fsn l link s f sound at told_so)
             ∙ ap (λ (q : List Message). q ++ pending l s f) (sym (append-nil (messages (queue_for (target t.links) s.rows))) ∙ ap (λ (a : List Message). messages (queue_for (target t.links) s.rows) ++ a) (sym none))
             ∙ ap (λ (u : State). messages (queue_for (target t.links) u.rows) ++ answer_on l (slice_get s.links l) s ++ pending l u f) (sym stays);
       })
@@ -328,7 +362,7 @@ module _ (k : ℕ) (body : List ℕ) (s f : State) (sound : IsSound s) (codes : 
       let there = told l link s f sound codes at in
       let there_sound = told_sound l link s f sound codes at in
       let there_at = told_at l link s f sound codes at in
-      let there_told = told_still l link s f sound codes at fsn told_so in
+      let there_told = told_reached_so l link s f sound codes at fsn told_so in
       let before = left_by false l link s in
       let t = settled (Upto fsn) l (left_link false link) there in
       let unsettled : is_settled n there ≡ false = by_link l link (left_link false link) s before at.there refl (λ m old new. link_is_settled old ≡ false → link_is_settled new ≡ false) (λ f. refl) (λ m old d f. f) n e in
@@ -345,13 +379,3 @@ module _ (k : ℕ) (body : List ℕ) (s f : State) (sound : IsSound s) (codes : 
             ∙ ap (λ (o : Option LinkState). messages (queue_for (target t.links) before.rows) ++ answer_on l o s ++ pending l before f) (sym at.there)
             ∙ ap (λ (u : State). messages (queue_for (target t.links) u.rows) ++ answer_on l (slice_get s.links l) s ++ pending l u f) (sym left_so);
       })
-
-  -- nothing is accepted by it
-  pub obeys_accepted : (t : State) → Obeys k body s f t → (n : ℕ) → accepted_on n t ≡ accepted_on n s
-  obeys_accepted t (keeps _ rows links routing none) n = ap (λ (ls : List LinkState). accepted_of (slice_get ls n)) links
-  obeys_accepted _ (settles fsn l link other at told_so heard over) n = settles_accepted fsn l link s f sound at told_so n
-  obeys_accepted _ (answers fsn l link other at told_so heard over) n =
-      settles_accepted fsn l (left_link false link) (told l link s f sound codes at) f (told_sound l link s f sound codes at) (told_at l link s f sound codes at) (told_still l link s f sound codes at fsn told_so) n
-      ∙ by_link l link (left_link false link) s (left_by false l link s) at.there refl (λ m old new. accepted_of new ≡ accepted_of old) refl (λ m old d. refl) n
-  obeys_accepted _ (acknowledges l code is) n = refl
-  obeys_accepted _ (releases l code is) n = refl

@@ -71,8 +71,15 @@ module _ (k : ℕ) (link link' : LinkState) (s t f : State) (there : slice_get s
         go true e = subst (λ (n : ℕ). Among m (pending n f t) → Among m (pending n f s)) (eqb-true k l e) (λ a. subst (λ (q : List Message). Among m q) (sym was_first) (inr a)) among
         go false e = subst (λ (o : Option LinkState). Among m (queue (accepted_of o - acked_on l f) l f.rows)) (other_then k link link' s t there links l e) among
 
--- A LINK SETTLES by the number that the far end counts
-module _ (fsn n : ℕ) (link : LinkState) (s f : State) (sound : IsSound s) (at : IsAt n link Down s) (reasonable : is_reasonable fsn n link s.rows ≡ true) (reached : reached_by fsn n link s.rows ≡ accepted_on n f - link.acked) where
+-- A LINK SETTLES by a number: it's reasonable, and what it leaves is just what was pending
+pub record IsReached (fsn n : ℕ) (link : LinkState) (s f : State) : Type 0 where
+  pub reasonable : is_reasonable fsn n link s.rows ≡ true
+  pub left : pending n s f ≡ queue (reached_by fsn n link s.rows) n s.rows
+
+module _ (fsn n : ℕ) (link : LinkState) (s f : State) (sound : IsSound s) (at : IsAt n link Down s) (r : IsReached fsn n link s f) where
+  reasonable : is_reasonable fsn n link s.rows ≡ true
+  reasonable = r.reasonable
+
   abbrev pub after : State
   after = settled (Upto fsn) n link s
 
@@ -110,7 +117,7 @@ module _ (fsn n : ℕ) (link : LinkState) (s f : State) (sound : IsSound s) (at 
       rw (m.unack_none, m.wait_none, m.held_none, drop_none {X = Row} k) refl
 
   own_pending : pending n s f ≡ queue count n s.rows
-  own_pending = ap (λ (o : Option LinkState). queue (accepted_on n f - acked_of o) n s.rows) at.there ∙ ap (λ (k : ℕ). queue k n s.rows) (sym reached)
+  own_pending = r.left
 
   others_stay : (k l : ℕ) (to : Option ℕ) → target s.links ≡ to → (n == l) ≡ false → is_on l (fate_on to) ≡ false → queue k l (there_then to) ≡ queue k l s.rows
   others_stay k l None e d f = queue_untouched k l mid _ ((moved_aside n mid).left_is.others l d f) ∙ queue_untouched k l s.rows mid (mid_others l d)
@@ -156,7 +163,7 @@ module _ (fsn n : ℕ) (link : LinkState) (s f : State) (sound : IsSound s) (at 
   settles_none_aside to e = ap (λ (rows : List Row). messages (parked rows)) (rows_then ∙ ap (λ (t : Option ℕ). there_then t) e) ∙ ap messages ((moved_to n to mid (no_own to e)).parked_same ∙ (acknowledged n count s.rows).parked_same)
 
   -- where its end left it and no order about it is pending there any more
-  module _ (o : Both s f) (far_down : is_up n f ≡ false) (none : NoneAbout n (view f s)) where
+  module _ {emergencies : Bool} (o : Both emergencies s f) (far_down : is_up n f ≡ false) (none : NoneAbout n (view f s)) where
     all_links : (P : ℕ → Option LinkState → Option LinkState → Type 0) → P n (Some link) (Some link_then) → ((l : ℕ) (old : Option LinkState) → (n == l) ≡ false → P l old old) → (l : ℕ) → P l (slice_get s.links l) (slice_get after.links l)
     all_links = by_link n link link_then s after at.there links_then
 
@@ -218,7 +225,7 @@ pub record Rises (k : ℕ) (s t : State) : Type 0 where
   pub none_aside : parked t.rows ≡ []
   pub links : (l : ℕ) → (k == l) ≡ false → slice_get t.links l ≡ slice_get s.links l
 
-module _ (k : ℕ) (s t f g : State) (a : Rises k s t) (b : Rises k f g) (o : Orders (view s f) (view f s)) where
+module _ {emergencies : Bool} (k : ℕ) (s t f g : State) (a : Rises k s t) (b : Rises k f g) (o : Orders emergencies (view s f) (view f s)) where
   -- the link itself, or another
   split : (P : ℕ → Type 0) → P k → ((l : ℕ) → (k == l) ≡ false → P l) → (l : ℕ) → P l
   split P own other l = go (k == l) refl
@@ -245,5 +252,5 @@ module _ (k : ℕ) (s t f g : State) (a : Rises k s t) (b : Rises k f g) (o : Or
           ∙ ap (λ (i : ℕ). queue (accepted_on l f - i) l t.rows) (ap acked_of (a.links l d))
           ∙ queue_untouched (accepted_on l f - acked_on l s) l s.rows t.rows (a.others l d)
 
-  pub rises_orders : Orders (view t g) (view g t)
+  pub rises_orders : Orders emergencies (view t g) (view g t)
   rises_orders = carries (view s f) (view t g) (view f s) (view g t) rises_passes o

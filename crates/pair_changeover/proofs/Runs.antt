@@ -248,7 +248,7 @@ pub nothing_in : (a b : Settings) (m : Message) → In m (view (opened_with a) (
 nothing_in a b m (stands_on l among) = subst (λ (q : List Row). Among m (messages (q ++ [] ++ []))) (drop_none {X = Row} (accepted_on l (opened_with b) - acked_on l (opened_with a))) among
 nothing_in a b m (stands_aside among) = among
 
-first_orders : (a b : Settings) → Orders (view (opened_with a) (opened_with b)) (view (opened_with b) (opened_with a))
+pub first_orders : {emergencies : Bool} (a b : Settings) → Orders emergencies (view (opened_with a) (opened_with b)) (view (opened_with b) (opened_with a))
 first_orders a b = record {
   tells = λ m i order e over. absurd (nothing_in a b m i);
   none_up = λ link up m i about. nothing_in a b m i;

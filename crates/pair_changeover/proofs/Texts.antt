@@ -3,7 +3,7 @@ use Rattle.std.proofs.Common.{refl, arith, ◌≡◌, ◌∙◌, sym, subst, ℕ
 use Rattle.std.proofs.lemmas.Bool.{eq-eqb}
 use Rattle.std.proofs.lemmas.Option.{same_Some}
 use Rattle.l3_orders.specs.declared.order.Order.{Order}
-use Rattle.l3_orders.specs.declared.order.Order.TheVariants.{Coo, Coa, Cbd, Cba}
+use Rattle.l3_orders.specs.declared.order.Order.TheVariants.{Coo, Coa, Cbd, Cba, Eco}
 use Rattle.l3_orders.specs.Grammar.{text, order_of, label_number}
 use Rattle.set_model.specs.Rows.{service_indicator}
 use Rattle.set_model.specs.State.{Settings}
@@ -26,6 +26,9 @@ coo_read settings link fsn codes few small = rw (eq-eqb (settings.sio % 16) 0 co
 
 pub coa_read : (settings : Settings) (link fsn : ℕ) → AreCodes settings → link < 16 → fsn < 128 → order_of (text (Coa link fsn) settings.sio settings.dpc settings.opc) ≡ Some (Coa link fsn)
 coa_read settings link fsn codes few small = rw (eq-eqb (settings.sio % 16) 0 codes.management, slc_is settings.dpc settings.opc link codes.dpc codes.opc few, field_is fsn small) refl
+
+pub eco_read : (settings : Settings) (link : ℕ) → AreCodes settings → link < 16 → order_of (text (Eco link) settings.sio settings.dpc settings.opc) ≡ Some (Eco link)
+eco_read settings link codes few = rw (eq-eqb (settings.sio % 16) 0 codes.management, slc_is settings.dpc settings.opc link codes.dpc codes.opc few) refl
 
 -- what the orders of a changeback are read as is no order of a changeover
 back_no_order : (told : Order) → (IsChangeover told → ⊥) → (b : Bool) (order : Order) → ◌≡◌ {A = Option Order} (cond b (Some told) None) (Some order) → IsChangeover order → ⊥

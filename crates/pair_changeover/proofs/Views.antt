@@ -70,17 +70,19 @@ plain_not link m plain about = plain about.order about.is about.over
 abbrev pub NoneAbout : ℕ → View → Type 0
 NoneAbout link v = (m : Message) → In m v → About link m → ⊥
 
--- it's a changeover order or its acknowledgement, with the FSN last accepted
-abbrev pub Tells : View → Order → Type 0
-Tells v (Coo link fsn) = fsn ≡ (v.accepted link + 127) % 128
-Tells v (Coa link fsn) = fsn ≡ (v.accepted link + 127) % 128
-Tells v _ = ⊥
+-- it's a changeover order or its acknowledgement, with the FSN last accepted; or an emergency changeover order, where there
+-- may be emergencies
+abbrev pub Tells : Bool → View → Order → Type 0
+Tells emergencies v (Coo link fsn) = fsn ≡ (v.accepted link + 127) % 128
+Tells emergencies v (Coa link fsn) = fsn ≡ (v.accepted link + 127) % 128
+Tells emergencies v (Eco link) = emergencies ≡ true
+Tells emergencies v _ = ⊥
 
 -- What holds of the orders of changeovers that stand at an end: none about a link that is up here or has settled there, of each other
 -- link at most one, and none on the link that it's about; each with the number that its end counts. And a link that
 -- settled here isn't up there.
-pub record Orders (x y : View) : Type 0 where
-  pub tells : (m : Message) → In m x → (order : Order) → order_of m.body ≡ Some order → IsChangeover order → Tells x order
+pub record Orders (emergencies : Bool) (x y : View) : Type 0 where
+  pub tells : (m : Message) → In m x → (order : Order) → order_of m.body ≡ Some order → IsChangeover order → Tells emergencies x order
   pub none_up : (link : ℕ) → x.up link ≡ true → NoneAbout link x
   pub none_settled : (link : ℕ) → y.settled link ≡ true → NoneAbout link x
   pub one : (link : ℕ) (m n : Message) → In m x → In n x → About link m → About link n → m.number ≡ n.number
@@ -110,7 +112,7 @@ came_in x link m (plain p) = plain_aside p
 came_in x link m (stayed a) = was_in (stands_on link a)
 came_in x link m (moved i n) = was_in i
 
-module _ (x x' y y' : View) (p : Passes x x' y') (o : Orders x y) where
+module _ {emergencies : Bool} (x x' y y' : View) (p : Passes x x' y') (o : Orders emergencies x y) where
   was : (m : Message) → In m x' → CameAside x m
   was m (stands_on link a) = came_in x link m (p.came link m a)
   was m (stands_aside a) = p.came_aside m a
@@ -119,17 +121,17 @@ module _ (x x' y y' : View) (p : Passes x x' y') (o : Orders x y) where
   about_was link m about (plain_aside q) = absurd (plain_not link m q about)
   about_was link m about (was_in i) = i
 
-  still : (m : Message) (order : Order) → order_of m.body ≡ Some order → In m x → ((x'.accepted (link_of order) ≡ x.accepted (link_of order)) ⊎ NoneAbout (link_of order) x) → Tells x order → Tells x' order
+  still : (m : Message) (order : Order) → order_of m.body ≡ Some order → In m x → ((x'.accepted (link_of order) ≡ x.accepted (link_of order)) ⊎ NoneAbout (link_of order) x) → Tells emergencies x order → Tells emergencies x' order
   still m (Coo link fsn) e i (inl same) t = t ∙ ap (λ (k : ℕ). (k + 127) % 128) (sym same)
   still m (Coa link fsn) e i (inl same) t = t ∙ ap (λ (k : ℕ). (k + 127) % 128) (sym same)
   still m (Cbd link code) e i same t = absurd t
   still m (Cba link code) e i same t = absurd t
-  still m (Eco link) e i same t = absurd t
+  still m (Eco link) e i same t = t
   still m (Eca link) e i same t = absurd t
   still m (Coo link fsn) e i (inr none) t = absurd (none m i (record { order = Coo link fsn; is = e; over = tt; of = refl }))
   still m (Coa link fsn) e i (inr none) t = absurd (none m i (record { order = Coa link fsn; is = e; over = tt; of = refl }))
 
-  pub carries : Orders x' y'
+  pub carries : Orders emergencies x' y'
   carries = record {
     tells = λ m i order e over. let j = about_was (link_of order) m (record { order = order; is = e; over = over; of = refl }) (was m i) in still m order e j (p.accepted (link_of order)) (o.tells m j order e over);
     none_up = λ link up m i about. p.none_up link up m (about_was link m about (was m i)) about;
@@ -145,9 +147,9 @@ module _ (x x' y y' : View) (p : Passes x x' y') (o : Orders x y) where
       own_case link m about (moved i n) = n about
 
 -- AN ORDER IS QUEUED about a link that was just left: none stood there about it
-pub record Queues (z : Message) (order : Order) (x x' y : View) : Type 0 where
+pub record Queues (emergencies : Bool) (z : Message) (order : Order) (x x' y : View) : Type 0 where
   pub is : order_of z.body ≡ Some order
-  pub tells : Tells x order
+  pub tells : Tells emergencies x order
   pub fresh : NoneAbout (link_of order) x
   pub down : x.up (link_of order) ≡ false
   pub unsettled : y.settled (link_of order) ≡ false
@@ -157,7 +159,7 @@ pub record Queues (z : Message) (order : Order) (x x' y : View) : Type 0 where
   pub settled_same : (link : ℕ) → x'.settled link ≡ x.settled link
   pub accepted_same : (link : ℕ) → x'.accepted link ≡ x.accepted link
 
-module _ (z : Message) (order : Order) (x x' y : View) (q : Queues z order x x' y) (o : Orders x y) where
+module _ {emergencies : Bool} (z : Message) (order : Order) (x x' y : View) (q : Queues emergencies z order x x' y) (o : Orders emergencies x y) where
   then_in : (m : Message) → In m x' → (m ≡ z) ⊎ In m x
   then_in m (stands_on link a) = go (q.came link m a)
     where
@@ -177,12 +179,12 @@ module _ (z : Message) (order : Order) (x x' y : View) (q : Queues z order x x' 
       let one : about.order ≡ order = cc in
       sym about.of ∙ ap link_of one
 
-  tells_on : (other : Order) → Tells x other → Tells x' other
+  tells_on : (other : Order) → Tells emergencies x other → Tells emergencies x' other
   tells_on (Coo link fsn) t = t ∙ ap (λ (k : ℕ). (k + 127) % 128) (sym (q.accepted_same link))
   tells_on (Coa link fsn) t = t ∙ ap (λ (k : ℕ). (k + 127) % 128) (sym (q.accepted_same link))
   tells_on (Cbd link code) t = absurd t
   tells_on (Cba link code) t = absurd t
-  tells_on (Eco link) t = absurd t
+  tells_on (Eco link) t = t
   tells_on (Eca link) t = absurd t
 
   none_then : (link : ℕ) → NoneAbout link x → link ≢ link_of order → NoneAbout link x'
@@ -192,7 +194,7 @@ module _ (z : Message) (order : Order) (x x' y : View) (q : Queues z order x x' 
       go (inl e) = other (of_new link m e about)
       go (inr j) = none m j about
 
-  pub queued_in : Orders x' y
+  pub queued_in : Orders emergencies x' y
   queued_in = record {
     tells = λ m i other e over. tells_case m other e over (then_in m i);
     none_up = λ link up. none_then link (o.none_up link (sym (q.up_same link) ∙ up)) (λ same. let no : false ≡ true = sym q.down ∙ ap x.up (sym same) ∙ sym (q.up_same link) ∙ up in absurd cc);
@@ -202,11 +204,11 @@ module _ (z : Message) (order : Order) (x x' y : View) (q : Queues z order x x' 
     apart = λ link settled. o.apart link (sym (q.settled_same link) ∙ settled);
   }
     where
-      tells_case : (m : Message) (other : Order) → order_of m.body ≡ Some other → IsChangeover other → (m ≡ z) ⊎ In m x → Tells x' other
+      tells_case : (m : Message) (other : Order) → order_of m.body ≡ Some other → IsChangeover other → (m ≡ z) ⊎ In m x → Tells emergencies x' other
       tells_case m other e over (inl same) =
           let two : Some other ≡ Some order = sym e ∙ ap (λ (k : Message). order_of k.body) same ∙ q.is in
           let one : other ≡ order = cc in
-          subst (Tells x') (sym one) (tells_on order q.tells)
+          subst (Tells emergencies x') (sym one) (tells_on order q.tells)
       tells_case m other e over (inr i) = tells_on other (o.tells m i other e over)
 
       one_case : (link : ℕ) (m n : Message) → About link m → About link n → (m ≡ z) ⊎ In m x → (n ≡ z) ⊎ In n x → m.number ≡ n.number

@@ -24,6 +24,7 @@ use Rattle.pair_changeover.specs.Diverted.{Diverts, LosesNothing}
 use Rattle.pair_changeover.proofs.Acked.{AckedFirst, sent_then as sent_by, acked_first, emits_first}
 use Rattle.pair_changeover.proofs.Changes.{Both}
 use Rattle.pair_changeover.proofs.Keeping.{Keeps, keeps_still, offer_kept, take_kept, find_kept, down_kept, restore_kept, next_keeps}
+use Rattle.pair_changeover.proofs.Ordered.{Ordered}
 use Rattle.pair_changeover.proofs.Reaching.{Reaches, reaches}
 use Rattle.pair_changeover.proofs.Texts.{AreCodes}
 use Rattle.pair_changeover.proofs.Views.{acked_of, acked_on, accepted_of, accepted_on}
@@ -37,9 +38,12 @@ pub record Half (s f : State) (past : Past) : Type 0 where
   pub codes : AreCodes s.settings
 
 pub record Whole (p : Two) : Type 0 where
-  pub both : Both p.near p.far
+  pub both : Both false p.near p.far
   pub near : Half p.near p.far p.near_past
   pub far : Half p.far p.near p.far_past
+
+abbrev pub ordered : (p : Two) → Whole p → Ordered false p
+ordered p w = record { both = w.both; near_codes = w.near.codes; far_codes = w.far.codes }
 
 pub whole_back : (p : Two) → Whole p → Whole (swapped p)
 whole_back p w = record { both = record { near = w.both.far; far = w.both.near }; near = w.far; far = w.near }
@@ -76,7 +80,7 @@ module _ (p : Two) (w : Whole p) (event : Event) where
   codes_stay : AreCodes near_then.settings
   codes_stay = subst AreCodes (sym (settings_stay p.near event)) w.near.codes
 
-  module _ (past : Past) (out back : List (List SignalUnit)) (k : Keeps p.near near_then p.far) (acked : (l : ℕ) → AckedFirst l (past.sent l) near_then) where
+  module _ (past : Past) (out back : List (List SignalUnit)) (k : Keeps false p.near near_then p.far) (acked : (l : ℕ) → AckedFirst l (past.sent l) near_then) where
     abbrev pub keeping : Two
     keeping = record { near = near_then; far = p.far; near_past = past; far_past = p.far_past; out = out; back = back }
 
@@ -128,7 +132,7 @@ module _ (mx my : Method) (one : IsOneMethod mx my) (p : Two) (h : HoldsOf mx my
 
     pub sends_did : k < length p.near.links → (link : LinkState) → IsAt k link Up p.near → Did p sent_then
     sends_did few link at = keeps_did p w (Next k) (past_sent k p.near (step p.near (Next k)).state p.near_past) out p.back
-        (subst (λ (o : Outcome). Keeps p.near o.state p.far) (sym (next_is k link p.near at)) (next_keeps k link p.near p.far h.near_sound at (let r = near_reaches in omega (arith, r.due, r.within))))
+        (subst (λ (o : Outcome). Keeps false p.near o.state p.far) (sym (next_is k link p.near at)) (next_keeps k link p.near p.far h.near_sound at (let r = near_reaches in omega (arith, r.due, r.within))))
         (λ l. emits_first l k p.near p.near_past h.near_sound (w.near.acked l))
       where
         far_at : (other : LinkState) × (slice_get p.far.links k ≡ Some other)
@@ -141,7 +145,7 @@ module _ (mx my : Method) (one : IsOneMethod mx my) (p : Two) (h : HoldsOf mx my
     sends_not e =
         let same : (step p.near (Next k)).state ≡ p.near = ap (λ (o : Outcome). o.state) (next_refused k p.near e).1 in
         keeps_did p w (Next k) (past_sent k p.near (step p.near (Next k)).state p.near_past) out p.back
-        (subst (λ (s : State). Keeps p.near s p.far) (sym same) (keeps_still p.near p.near p.far refl refl))
+        (subst (λ (s : State). Keeps false p.near s p.far) (sym same) (keeps_still p.near p.near p.far refl refl))
         (λ l. emits_first l k p.near p.near_past h.near_sound (w.near.acked l))
 
   -- WHAT IT SAYS of an end
