@@ -1,11 +1,9 @@
 -- WHAT IS ACKNOWLEDGED STAYS SO: of one end, what counts as acknowledged on a link are the first of the messages that
 -- were sent on it, and each of those stands acknowledged there.
 use Rattle.std.proofs.Common.{refl, arith, ◌≡◌, ◌∙◌, ap, sym, subst, ℕ, zero, suc, ◌+◌, ◌-◌, ◌≤◌, ◌==◌, Bool, true, false, List, [], ◌∷◌, ◌++◌, All, length, map, take, drop, slice_get, slice_set, Option, Some, None, cond, replicate, ◌⊎◌, inl, inr, if◌then◌else◌}
-use Rattle.std.specs.Option.{option_map}
 use Rattle.std.proofs.lemmas.Bool.{eqb-true, le-ltb}
 use Rattle.std.proofs.lemmas.List.{append-nil, length-append, length-drop, length-map, map-append, drop-map, take-append-le, drop-append-le, drop-drop}
 use Rattle.std.proofs.lemmas.List.Elements.{All-nil, All-cons, All-head, All-tail, All-append}
-use Rattle.std.proofs.lemmas.Option.{same_Some}
 use Rattle.std.proofs.Math.Seq.{drop-length, drop-nil, drop-append_seam, take-add}
 use Rattle.l2_units.specs.declared.unit.Unit.{Unit as SignalUnit}
 use Rattle.l2_units.specs.Grammar.{head_of as header_in}
@@ -20,16 +18,16 @@ use Rattle.set_model.specs.declared.phase.Phase.TheVariants.{Up, Down, Settled}
 use Rattle.set_model.specs.declared.reached.Reached.{Reached}
 use Rattle.set_model.specs.Changeover.{fate_on, queued, left_by, left_link, out_of_service, declared, released, acknowledged as acknowledged_link, acknowledged_by, moved_over, settled, settled_link}
 use Rattle.set_model.specs.Control.{Choice, again, first, fill, choice_of, part_of}
-use Rattle.set_model.specs.Rows.{Row, all_with, is_waiting, is_unacked, is_on, is_back, is_back_to, is_parked, stands_back, octets_in, stream_of, turned, changed, moved, appended, with_fate, place, row_of, unack, wait, IsNumbered, IsInOrder}
+use Rattle.set_model.specs.Rows.{Row, all_with, is_waiting, is_unacked, is_on, is_back, is_back_to, is_parked, stands_back, octets_in, stream_of, turned, changed, moved, appended, with_fate, place, unack, wait, IsNumbered, IsInOrder}
 use Rattle.set_model.specs.Sound.{IsSound}
 use Rattle.set_model.specs.State.{LinkState, State, Settings, has_phase_settled, is_settled, is_up, link_is_settled, new_link, opened_with, fate_at, target, window_of}
 use Rattle.set_model.specs.Step.{with_known, is_msu, after_control, next, offered, rises, rows_sent, step, takes}
 use Rattle.set_model.proofs.Events.{acknowledged, appended_out, sent_given_up, unack_gone, unparked}
 use Rattle.set_model.proofs.Events as events
 use Rattle.set_model.proofs.Finding.{with_number, numbered_appended}
-use Rattle.set_model.proofs.InPlace.{where_turned, where_changed, turned_there, turned_left, changed_same}
+use Rattle.set_model.proofs.InPlace.{turned_there, turned_left, changed_same}
 use Rattle.set_model.proofs.Lists.{get_set_same, get_set_other, same_at, within}
-use Rattle.set_model.proofs.Lookups.{at_most_one, place_moved}
+use Rattle.set_model.proofs.Lookups.{at_most_one}
 use Rattle.set_model.proofs.Moving.{moved_numbered, moved_same}
 use Rattle.set_model.proofs.Places.{false_true, itself, apart_back, on_other, not_on_unacked, waiting_not_unacked, back_not_on, code_back, home_back}
 use Rattle.set_model.proofs.Ranging.{acked_few, not_sent, offered_out}
@@ -40,6 +38,7 @@ use Rattle.pair_model.specs.Run.{Message, Past, messages, first_sent, past_sent,
 use Rattle.pair_model.proofs.Moving.{next_refused}
 use Rattle.pair_model.proofs.Runs.{is_at_up}
 use Rattle.pair_model.proofs.Sending.{next_is}
+use Rattle.pair_changeover.proofs.Staying.{Stays, turned_stay, changed_stay, moved_stay, joined_stay}
 use Rattle.pair_changeover.proofs.Views.{acked_of, acked_on}
 
 abbrev pub AreAcked : ℕ → List Row → List Message → Type 0
@@ -58,58 +57,12 @@ pub record AckedFirst (l : ℕ) (sent : List Message) (s : State) : Type 0 where
 abbrev message_of : Row → Message
 message_of row = record { number = row.number; body = row.body }
 
--- ROWS. What is acknowledged on the link stays so.
-abbrev StayAcked : ℕ → List Row → List Row → Type 0
-StayAcked l rows new = (number : ℕ) → place number rows ≡ Some (Acked l) → place number new ≡ Some (Acked l)
-
 all_then : {X : Type 0} (P Q : X → Type 0) → ((x : X) → P x → Q x) → (xs : List X) → All P xs → All Q xs
 all_then P Q f [] all = All-nil Q
 all_then P Q f (x ∷ xs) all = All-cons Q x xs (f x (All-head P x xs all)) (all_then P Q f xs (All-tail P x xs all))
 
-still : (l : ℕ) (rows new : List Row) → StayAcked l rows new → (sent : List Message) → AreAcked l rows sent → AreAcked l new sent
+still : (l : ℕ) (rows new : List Row) → Stays (Acked l) rows new → (sent : List Message) → AreAcked l rows sent → AreAcked l new sent
 still l rows new stay sent are = all_then (λ m. place m.number rows ≡ Some (Acked l)) (λ m. place m.number new ≡ Some (Acked l)) (λ m e. stay m.number e) sent are
-
-module _ (l : ℕ) (test : Fate → Bool) (w : test (Acked l) ≡ false) where
-  module _ (fate : Fate) where
-    none_stay : StayAcked l [] []
-    none_stay number e = e
-
-    row_stays : (x : Row) (xs ys : List Row) → StayAcked l xs ys → StayAcked l (x ∷ xs) (x ∷ ys)
-    row_stays x xs ys p number e = go (x.number == number) refl
-      where
-        go : (b : Bool) → (x.number == number) ≡ b → place number (x ∷ ys) ≡ Some (Acked l)
-        go true h = let f : Some x.fate ≡ Some (Acked l) = rw h at e in rw h f
-        go false h = rw h (p number (rw h at e))
-
-    row_turns : (x : Row) (xs ys : List Row) → test x.fate ≡ true → StayAcked l xs ys → StayAcked l (x ∷ xs) (with_fate fate x ∷ ys)
-    row_turns x xs ys t p number e = go (x.number == number) refl
-      where
-        go : (b : Bool) → (x.number == number) ≡ b → place number (with_fate fate x ∷ ys) ≡ Some (Acked l)
-        go true h =
-            let f : Some x.fate ≡ Some (Acked l) = rw h at e in
-            false_true (test (Acked l)) w (ap test (sym (same_Some x.fate (Acked l) f)) ∙ t)
-        go false h = rw h (p number (rw h at e))
-
-    turned_stay : (n : ℕ) (rows : List Row) → StayAcked l rows (turned test fate n rows)
-    turned_stay n rows = where_turned test fate (StayAcked l) none_stay row_stays row_turns n rows
-
-    changed_stay : (rows : List Row) → StayAcked l rows (changed test fate rows)
-    changed_stay rows = where_changed test fate (StayAcked l) none_stay row_stays row_turns rows
-
-  moved_stay : (fate : Row → Fate) (rows : List Row) → IsNumbered rows → StayAcked l rows (moved test fate rows)
-  moved_stay fate rows numbered number e = place_moved test fate number rows numbered ∙ go (row_of number rows) e
-    where
-      go : (o : Option Row) → option_map (λ r. r.fate) o ≡ Some (Acked l) → option_map (λ r. cond (test r.fate) (fate r) r.fate) o ≡ Some (Acked l)
-      go None f = absurd cc
-      go (Some x) f = let same : x.fate ≡ Acked l = same_Some x.fate (Acked l) f in rw (same, w) refl
-
-joined_stay : (l : ℕ) (rows more : List Row) → StayAcked l rows (rows ++ more)
-joined_stay l [] more number e = absurd cc
-joined_stay l (x ∷ rows) more number e = go (x.number == number) refl (joined_stay l rows more number)
-  where
-    go : (b : Bool) → (x.number == number) ≡ b → (place number rows ≡ Some (Acked l) → place number (rows ++ more) ≡ Some (Acked l)) → place number (x ∷ rows ++ more) ≡ Some (Acked l)
-    go true h later = let f : Some x.fate ≡ Some (Acked l) = rw h at e in rw h f
-    go false h later = rw h (later (rw h at e))
 
 -- THE FIRST OF THE UNACKNOWLEDGED stand acknowledged once they turned, since no other row has their numbers.
 AreApart : List Row → Type 0
@@ -175,7 +128,7 @@ grown : (l acked count : ℕ) (sent : List Message) (rows : List Row) → IsNumb
 unfolding AreApart
 grown l acked count sent rows numbered few are rest enough =
     let new = turned (is_unacked l) (Acked l) count rows in
-    let one_part = still l rows new (turned_stay l (is_unacked l) refl (Acked l) count rows) (take acked sent) are in
+    let one_part = still l rows new (turned_stay (Acked l) (is_unacked l) refl (Acked l) count rows) (take acked sent) are in
     let other_part = first_turned l count rows (λ number. at_most_one number rows numbered) in
     let many : length (unack l rows) ≡ length sent - acked = sym (length-map (unack l rows) message_of) ∙ ap length rest ∙ length-drop acked sent in
     record {
@@ -187,7 +140,7 @@ grown l acked count sent rows numbered few are rest enough =
 -- ONE END.
 module _ (l : ℕ) (sent : List Message) where
   -- nothing that is told of the link changed
-  goes_on : (s t : State) → IsNumbered t.rows → StayAcked l s.rows t.rows → slice_get t.links l ≡ slice_get s.links l → unack l t.rows ≡ unack l s.rows → AckedFirst l sent s → AckedFirst l sent t
+  goes_on : (s t : State) → IsNumbered t.rows → Stays (Acked l) s.rows t.rows → slice_get t.links l ≡ slice_get s.links l → unack l t.rows ≡ unack l s.rows → AckedFirst l sent s → AckedFirst l sent t
   goes_on s t numbered stay same unacked a =
       let count : acked_on l t ≡ acked_on l s = ap acked_of same in
       record {
@@ -236,7 +189,7 @@ module _ (l : ℕ) (sent : List Message) where
           let now = at_link s link there a in
           let few = ap length none.1 in
           let same : after.acked ≡ link.acked = omega (arith, acked, enough, few) in
-          let are : AreAcked l t.rows (take link.acked sent) = rw rows (still l s.rows new (turned_stay l (is_unacked l) refl (Acked l) count s.rows) (take link.acked sent) now.1) in
+          let are : AreAcked l t.rows (take link.acked sent) = rw rows (still l s.rows new (turned_stay (Acked l) (is_unacked l) refl (Acked l) count s.rows) (take link.acked sent) now.1) in
           own_set s t link after there links numbered (rw same now.0) (rw same are) (λ e. inr (phase ∙ none.0, ap (unack l) rows ∙ turned_left (is_unacked l) (Acked l) refl count s.rows ∙ ap (drop count) none.1 ∙ drop-nil count))
 
   -- another link is set
@@ -253,12 +206,12 @@ module _ (l : ℕ) (sent : List Message) where
 
   -- THE SMALL CHANGES
   appends : (s t : State) (body : List ℕ) (fate : Fate) → is_unacked l fate ≡ false → t.rows ≡ appended s.rows body fate → slice_get t.links l ≡ slice_get s.links l → AckedFirst l sent s → AckedFirst l sent t
-  appends s t body fate unsent rows links a = goes_on s t (rw rows (numbered_appended s.rows body fate a.numbered)) (rw rows (joined_stay l s.rows _)) links (ap (unack l) rows ∙ appended_out s.rows body fate (is_unacked l) unsent) a
+  appends s t body fate unsent rows links a = goes_on s t (rw rows (numbered_appended s.rows body fate a.numbered)) (rw rows (joined_stay (Acked l) s.rows _)) links (ap (unack l) rows ∙ appended_out s.rows body fate (is_unacked l) unsent) a
 
   -- what stood back goes elsewhere
   turns : (test : Fate → Bool) (fate : Row → Fate) (s t : State) → test (Acked l) ≡ false → ((f : Fate) → test f ≡ true → stands_back f ≡ true) → ((row : Row) → is_unacked l (fate row) ≡ false) → t.rows ≡ moved test fate s.rows → t.links ≡ s.links → AckedFirst l sent s → AckedFirst l sent t
   turns test fate s t w back unsent rows links a =
-      goes_on s t (rw rows (moved_numbered test fate s.rows a.numbered)) (rw rows (moved_stay l test w fate s.rows a.numbered)) (ap (λ (ks : List LinkState). slice_get ks l) links)
+      goes_on s t (rw rows (moved_numbered test fate s.rows a.numbered)) (rw rows (moved_stay (Acked l) test w fate s.rows a.numbered)) (ap (λ (ks : List LinkState). slice_get ks l) links)
       (ap (unack l) rows ∙ moved_same test (is_unacked l) fate s.rows unsent (λ f e. not_on_unacked l f (back_not_on l f (back f e)))) a
 
   leaves_own : (blind : Bool) (link : LinkState) (s : State) → IsAt l link Up s → AckedFirst l sent s → AckedFirst l sent (out_of_service blind l link s)
@@ -278,14 +231,14 @@ module _ (l : ℕ) (sent : List Message) where
   acknowledges_any count n link after s t there links rows acked phase unsettled enough a =
       by_link n (λ m. slice_get s.links m ≡ Some link → t.links ≡ slice_set s.links m after → t.rows ≡ turned (is_unacked m) (Acked m) count s.rows → count ≤ length (unack m s.rows) → AckedFirst l sent t)
       (λ at ls rs few. own_acked count link after s t at ls rs acked phase unsettled few a)
-      (λ d at ls rs few. goes_on s t (rw rs ((acknowledged n count s.rows).kept.numbered a.numbered)) (rw rs (turned_stay l (is_unacked n) refl (Acked n) count s.rows)) (ap (λ (ks : List LinkState). slice_get ks l) ls ∙ other_set n after s.links d) (ap (unack l) rs ∙ ((acknowledged n count s.rows).others l d).unack_same) a)
+      (λ d at ls rs few. goes_on s t (rw rs ((acknowledged n count s.rows).kept.numbered a.numbered)) (rw rs (turned_stay (Acked l) (is_unacked n) refl (Acked n) count s.rows)) (ap (λ (ks : List LinkState). slice_get ks l) ls ∙ other_set n after s.links d) (ap (unack l) rs ∙ ((acknowledged n count s.rows).others l d).unack_same) a)
       there links rows enough
 
   gives_up_own : (cause : DiscardCause) (link : LinkState) (s : State) → IsAt l link Down s → AckedFirst l sent s → AckedFirst l sent (record s { rows = changed (is_unacked l) (Discarded cause) s.rows })
   gives_up_own cause link s at a = record {
     numbered = (sent_given_up l cause s.rows).kept.numbered a.numbered;
     few = a.few;
-    first = still l s.rows (changed (is_unacked l) (Discarded cause) s.rows) (changed_stay l (is_unacked l) refl (Discarded cause) s.rows) (take (acked_on l s) sent) a.first;
+    first = still l s.rows (changed (is_unacked l) (Discarded cause) s.rows) (changed_stay (Acked l) (is_unacked l) refl (Discarded cause) s.rows) (take (acked_on l s) sent) a.first;
     going = λ other there unsettled. inr (ap (λ (k : LinkState). k.phase) (same_at s.links l link other at.there there) ∙ at.phase_is, unack_gone l cause s.rows);
   }
 
@@ -299,8 +252,8 @@ module _ (l : ℕ) (sent : List Message) where
       numbered : (m : ℕ) → IsNumbered (moved (is_on m) (all_with (fate_on (target s.links))) s.rows)
       numbered m = moved_numbered (is_on m) (all_with (fate_on (target s.links))) s.rows a.numbered
 
-      stay : (m : ℕ) → StayAcked l s.rows (moved (is_on m) (all_with (fate_on (target s.links))) s.rows)
-      stay m = moved_stay l (is_on m) refl (all_with (fate_on (target s.links))) s.rows a.numbered
+      stay : (m : ℕ) → Stays (Acked l) s.rows (moved (is_on m) (all_with (fate_on (target s.links))) s.rows)
+      stay m = moved_stay (Acked l) (is_on m) refl (all_with (fate_on (target s.links))) s.rows a.numbered
 
   -- whatever small change is made
   pub small : (Known : ℕ → Type 0) (May : Type 0) → KeptBy Known May (λ s t. AckedFirst l sent s → AckedFirst l sent t)
@@ -312,8 +265,8 @@ module _ (l : ℕ) (sent : List Message) where
     leaves = λ blind n link s known at a. leaves_any blind n link s at a;
     acknowledges = λ count n link s known at enough a. acknowledges_any count n link (acknowledged_link count link) s (acknowledged_by count n link s) at.there refl refl refl refl (ap has_phase_settled at.phase_is) enough a;
     gives_up_sent = λ cause n link s known at a. by_link n (λ m. IsAt m link Down s → AckedFirst l sent (record s { rows = changed (is_unacked m) (Discarded cause) s.rows })) (λ here. gives_up_own cause link s here a)
-        (λ d here. goes_on s (record s { rows = changed (is_unacked n) (Discarded cause) s.rows }) ((sent_given_up n cause s.rows).kept.numbered a.numbered) (changed_stay l (is_unacked n) refl (Discarded cause) s.rows) refl (((sent_given_up n cause s.rows).others l d).unack_same) a) at;
-    gives_up_waiting = λ cause n link s known at a. goes_on s (record s { rows = changed (is_waiting n) (Discarded cause) s.rows }) ((events.waiting_given_up n cause s.rows).kept.numbered a.numbered) (changed_stay l (is_waiting n) refl (Discarded cause) s.rows) refl (changed_same (is_waiting n) (is_unacked l) (Discarded cause) refl (waiting_not_unacked l n) s.rows) a;
+        (λ d here. goes_on s (record s { rows = changed (is_unacked n) (Discarded cause) s.rows }) ((sent_given_up n cause s.rows).kept.numbered a.numbered) (changed_stay (Acked l) (is_unacked n) refl (Discarded cause) s.rows) refl (((sent_given_up n cause s.rows).others l d).unack_same) a) at;
+    gives_up_waiting = λ cause n link s known at a. goes_on s (record s { rows = changed (is_waiting n) (Discarded cause) s.rows }) ((events.waiting_given_up n cause s.rows).kept.numbered a.numbered) (changed_stay (Acked l) (is_waiting n) refl (Discarded cause) s.rows) refl (changed_same (is_waiting n) (is_unacked l) (Discarded cause) refl (waiting_not_unacked l n) s.rows) a;
     moves_off = λ n link s known at a. moves_off_any n link s at a;
     declares = λ may home alternative s up can a. appends s (declared home alternative s) _ (Waiting alternative) refl refl refl a;
     releases = λ code s known a. turns (is_back code) (all_with (Waiting _)) s (released code s) refl (code_back code) (λ row. refl) refl refl a;
@@ -350,9 +303,9 @@ sent_numbered (again place) n rows numbered = numbered
 sent_numbered first n rows numbered = (events.sent n rows).kept.numbered numbered
 sent_numbered fill n rows numbered = numbered
 
-sent_stay : (choice : Choice) (l n : ℕ) (rows : List Row) → StayAcked l rows (rows_sent choice n rows)
+sent_stay : (choice : Choice) (l n : ℕ) (rows : List Row) → Stays (Acked l) rows (rows_sent choice n rows)
 sent_stay (again place) l n rows = λ number e. e
-sent_stay first l n rows = turned_stay l (is_waiting n) refl (Unacked n) 1 rows
+sent_stay first l n rows = turned_stay (Acked l) (is_waiting n) refl (Unacked n) 1 rows
 sent_stay fill l n rows = λ number e. e
 
 sent_apart : (choice : Choice) (l n : ℕ) (rows : List Row) → (n == l) ≡ false → unack l (rows_sent choice n rows) ≡ unack l rows
@@ -418,7 +371,7 @@ module _ (l : ℕ) (sent : List Message) (s : State) where
       go true e = subst (λ (m : ℕ). IsAt m link Settled s → AckedFirst l [] (rises m s Settled).state) (eqb-true l n e) own at
       go false e =
           let d = apart_back l n e in
-          goes_on l sent s (rises n s Settled).state ((unparked n s.rows).kept.numbered a.numbered) (moved_stay l is_parked refl (all_with (Waiting n)) s.rows a.numbered) (other_set l sent n _ s.links d) (((unparked n s.rows).others l d).unack_same) a
+          goes_on l sent s (rises n s Settled).state ((unparked n s.rows).kept.numbered a.numbered) (moved_stay (Acked l) is_parked refl (all_with (Waiting n)) s.rows a.numbered) (other_set l sent n _ s.links d) (((unparked n s.rows).others l d).unack_same) a
 
   up_kept : (n : ℕ) → IsSound s → AckedFirst l sent s → AckedFirst l (if is_settled n s then (if l == n then [] else sent) else sent) (step s (UpEvent n)).state
   unfolding step

@@ -11,6 +11,7 @@ pub mod Ordered
 pub mod Passing
 pub mod Reaching
 pub mod Runs
+pub mod Staying
 pub mod Table
 pub mod Texts
 pub mod Turning

@@ -1,0 +1,54 @@
+-- A FATE THAT STAYS: what is acknowledged, or was discarded, is so ever after, whatever changes of other rows.
+use Rattle.std.proofs.Common.{refl, ◌≡◌, ◌∙◌, ap, sym, ℕ, ◌==◌, Bool, true, false, List, [], ◌∷◌, ◌++◌, Option, Some, None, cond}
+use Rattle.std.specs.Option.{option_map}
+use Rattle.std.proofs.lemmas.Option.{same_Some}
+use Rattle.set_events.specs.declared.answer.Fate.{Fate}
+use Rattle.set_model.specs.Rows.{Row, turned, changed, moved, with_fate, place, row_of, IsNumbered}
+use Rattle.set_model.proofs.InPlace.{where_turned, where_changed}
+use Rattle.set_model.proofs.Lookups.{place_moved}
+use Rattle.set_model.proofs.Places.{false_true}
+
+abbrev pub Stays : Fate → List Row → List Row → Type 0
+Stays kept rows new = (number : ℕ) → place number rows ≡ Some kept → place number new ≡ Some kept
+
+module _ (kept : Fate) (test : Fate → Bool) (w : test kept ≡ false) where
+  module _ (fate : Fate) where
+    none_stay : Stays kept [] []
+    none_stay number e = e
+
+    row_stays : (x : Row) (xs ys : List Row) → Stays kept xs ys → Stays kept (x ∷ xs) (x ∷ ys)
+    row_stays x xs ys p number e = go (x.number == number) refl
+      where
+        go : (b : Bool) → (x.number == number) ≡ b → place number (x ∷ ys) ≡ Some kept
+        go true h = let f : Some x.fate ≡ Some kept = rw h at e in rw h f
+        go false h = rw h (p number (rw h at e))
+
+    row_turns : (x : Row) (xs ys : List Row) → test x.fate ≡ true → Stays kept xs ys → Stays kept (x ∷ xs) (with_fate fate x ∷ ys)
+    row_turns x xs ys t p number e = go (x.number == number) refl
+      where
+        go : (b : Bool) → (x.number == number) ≡ b → place number (with_fate fate x ∷ ys) ≡ Some kept
+        go true h =
+            let f : Some x.fate ≡ Some kept = rw h at e in
+            false_true (test kept) w (ap test (sym (same_Some x.fate kept f)) ∙ t)
+        go false h = rw h (p number (rw h at e))
+
+    pub turned_stay : (n : ℕ) (rows : List Row) → Stays kept rows (turned test fate n rows)
+    turned_stay n rows = where_turned test fate (Stays kept) none_stay row_stays row_turns n rows
+
+    pub changed_stay : (rows : List Row) → Stays kept rows (changed test fate rows)
+    changed_stay rows = where_changed test fate (Stays kept) none_stay row_stays row_turns rows
+
+  pub moved_stay : (fate : Row → Fate) (rows : List Row) → IsNumbered rows → Stays kept rows (moved test fate rows)
+  moved_stay fate rows numbered number e = place_moved test fate number rows numbered ∙ go (row_of number rows) e
+    where
+      go : (o : Option Row) → option_map (λ r. r.fate) o ≡ Some kept → option_map (λ r. cond (test r.fate) (fate r) r.fate) o ≡ Some kept
+      go None f = absurd cc
+      go (Some x) f = let same : x.fate ≡ kept = same_Some x.fate kept f in rw (same, w) refl
+
+pub joined_stay : (kept : Fate) (rows more : List Row) → Stays kept rows (rows ++ more)
+joined_stay kept [] more number e = absurd cc
+joined_stay kept (x ∷ rows) more number e = go (x.number == number) refl (joined_stay kept rows more number)
+  where
+    go : (b : Bool) → (x.number == number) ≡ b → (place number rows ≡ Some kept → place number (rows ++ more) ≡ Some kept) → place number (x ∷ rows ++ more) ≡ Some kept
+    go true h later = let f : Some x.fate ≡ Some kept = rw h at e in rw h f
+    go false h later = rw h (later (rw h at e))
