@@ -38,8 +38,12 @@ pub ordered_back : {emergencies : Bool} (p : Two) → Ordered emergencies p → 
 ordered_back p o = record { both = both_back p.near p.far o.both; near_codes = o.far_codes; far_codes = o.near_codes }
 
 -- an event at the near end
-pub asked_ordered : {emergencies : Bool} (p : Two) (event : Event) → Ordered emergencies p → Keeps emergencies p.near (step p.near event).state p.far → Both emergencies (step p.near event).state p.far × AreCodes (step p.near event).state.settings
-asked_ordered p event o k = (k.both o.both, subst AreCodes (sym (settings_stay p.near event)) o.near_codes)
+pub asked_ordered : {emergencies : Bool} (p : Two) (event : Event) (q : Two) → Ordered emergencies p → Keeps emergencies p.near (step p.near event).state p.far → q.near ≡ (step p.near event).state → q.far ≡ p.far → Ordered emergencies q
+asked_ordered p event q o k near far = record {
+  both = rw (near, far) (k.both o.both);
+  near_codes = rw near (subst AreCodes (sym (settings_stay p.near event)) o.near_codes);
+  far_codes = rw far (o.far_codes);
+}
 
 -- IT HEARS
 module _ {emergencies : Bool} (mx my : Method) (one : IsOneMethod mx my) (p : Two) (h : HoldsOf mx my p) (o : Ordered emergencies p) (k : ℕ) (few : k < length p.near.links) (unit : SignalUnit) (rest : List SignalUnit) (front : units_on k p.back ≡ unit ∷ rest) (link : LinkState) (at : IsAt k link Up p.near) where

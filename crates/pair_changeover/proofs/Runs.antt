@@ -31,6 +31,7 @@ use Rattle.pair_changeover.specs.Diverted.{OrdersTell, FrontTells, DivertsTheRes
 use Rattle.pair_changeover.proofs.Acked.{new_acked_first}
 use Rattle.pair_changeover.proofs.Arriving.{hears_did, hears_tells, rises_did}
 use Rattle.pair_changeover.proofs.Table.{drop_none}
+use Rattle.pair_changeover.proofs.Texts.{AreCodes}
 use Rattle.pair_changeover.proofs.Views.{view, acked_of, acked_on, accepted_of, accepted_on, Among, In, stands_on, stands_aside, Orders}
 use Rattle.pair_changeover.proofs.Whole.{Half, Whole, whole_back, Did, stays, asks_did, sends_did, sends_not, loses_nothing}
 
@@ -258,12 +259,15 @@ first_orders a b = record {
   apart = λ link settled. no_link_up b.links link b.method;
 }
 
+pub first_codes : (config : SetConfig) → AreCodes (settings_of config)
+first_codes config = record { management = config.management; dpc = config.dpc_in_range; opc = config.opc_in_range }
+
 first_half : (config other : SetConfig) → Half (opened_with (settings_of config)) (opened_with (settings_of other)) no_past
 first_half config other = record {
   equal = λ l e. none_counted config.links l config.method acked_of refl refl ∙ sym (none_counted other.links l other.method accepted_of refl refl);
   acked = λ l. new_acked_first l (settings_of config);
   none_discarded = refl;
-  codes = record { management = config.management; dpc = config.dpc_in_range; opc = config.opc_in_range };
+  codes = first_codes config;
 }
 
 pub whole_at_first : (a b : SetConfig) → Whole (seen A (begun a b))

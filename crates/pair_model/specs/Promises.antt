@@ -35,6 +35,14 @@ IsSoundStep (Act end (BackTimeout link)) = ⊥
 IsSoundStep (Inject end link unit) = ⊥
 IsSoundStep _ = Unit {0}
 
+-- QUIET RUNS, in which each order is answered: besides, a link may be left blindly (an emergency changeover, in which no
+-- FSN is told), so that messages may be given up
+abbrev pub IsQuietStep : Step → Type 0
+IsQuietStep (Act end (NoAnswer link)) = ⊥
+IsQuietStep (Act end (BackTimeout link)) = ⊥
+IsQuietStep (Inject end link unit) = ⊥
+IsQuietStep _ = Unit {0}
+
 -- what can be asked: of an offered body, the octets of its label tell one of 16 streams
 abbrev pub IsAskedStep : Step → Type 0
 IsAskedStep (Act end event) = IsAsked event
@@ -53,6 +61,11 @@ pub record IsSoundRun (a b : SetConfig) (run : List Step) : Type 0 where
   pub links : a.links ≡ b.links
   pub one_method : IsOneMethod a.method b.method
   pub steps : AreSteps IsSoundStep run
+
+pub record IsQuietRun (a b : SetConfig) (run : List Step) : Type 0 where
+  pub links : a.links ≡ b.links
+  pub one_method : IsOneMethod a.method b.method
+  pub steps : AreSteps IsQuietStep run
 
 -- WHAT EACH LINK KEEPS, from one end to the other, since it last came up.
 

@@ -1,5 +1,5 @@
 -- EACH STREAM, WHEN AN END ACTS: it's asked, it sends, or a link comes up.
-use Rattle.std.proofs.Common.{refl, arith, ◌≡◌, ◌∙◌, ap, sym, subst, ℕ, ◌<◌, ◌≤◌, ◌==◌, ◌-◌, Bool, true, false, List, [], ◌∷◌, ◌++◌, length, slice_get, Option, Some, None, cond, inl, inr}
+use Rattle.std.proofs.Common.{refl, ◌≡◌, ◌∙◌, ap, sym, subst, ℕ, ◌<◌, ◌==◌, Bool, true, false, List, [], ◌∷◌, ◌++◌, length, slice_get, Option, Some, None, cond, inl, inr}
 use Rattle.std.proofs.lemmas.List.{append-nil}
 use Rattle.l2_units.specs.declared.unit.Unit.{Unit as SignalUnit}
 use Rattle.l3_orders.specs.declared.order.Order.TheVariants.{Cba}
@@ -17,56 +17,91 @@ use Rattle.set_model.specs.Changeover.{leaving_order, left_by, left_link}
 use Rattle.set_model.specs.Control.{Choice, again, first, fill, choice_of}
 use Rattle.set_model.specs.Rows.{unack, place, stream_of, standing, is_waiting, is_parked, is_back, octets_in, all_with}
 use Rattle.set_model.specs.Sound.{IsSound, IsAsked}
-use Rattle.set_model.specs.State.{LinkState, State, is_up, is_settled, link_is_up, has_phase_up, has_phase_settled, last_accepted, window_of}
+use Rattle.set_model.specs.State.{LinkState, State, is_up, is_settled, link_is_up, has_phase_up, window_of}
 use Rattle.set_model.specs.Step.{Outcome, refused, offer_refusal, offered, taken, found, falls, comes_back, with_known, in_service, next, rows_sent, step}
 use Rattle.set_model.proofs.InPlace.{turned_same}
-use Rattle.set_model.proofs.Lists.{present}
 use Rattle.set_model.proofs.Moving.{moved_same}
 use Rattle.set_model.proofs.Places.{itself}
 use Rattle.set_model.proofs.SoundBack.{leaves}
 use Rattle.set_model.proofs.Walk.{IsAt}
 use Rattle.world_steps.specs.declared.step.End.{End}
 use Rattle.world_steps.specs.declared.step.Shown.TheVariants.{Answered}
+use Rattle.world_steps.specs.declared.step.Step.{Step}
 use Rattle.world_steps.specs.declared.step.Step.TheVariants.{Act}
 use Rattle.pair_model.specs.World.{has_own_step}
-use Rattle.pair_model.specs.Promises.{IsOneMethod, IsSoundStep}
+use Rattle.pair_model.specs.Promises.{IsOneMethod, IsSoundStep, IsQuietStep}
 use Rattle.pair_model.specs.Run.{Message, Past, messages, added_at, past_asked, past_sent}
-use Rattle.pair_model.proofs.Kept.{kept_on}
 use Rattle.pair_model.proofs.Moving as moving
 use Rattle.pair_model.proofs.Moving.{next_refused}
-use Rattle.pair_model.proofs.Pairs.{Two, swapped, HoldsOf}
+use Rattle.pair_model.proofs.Pairs.{Two, swapped, HoldsOf, settings_stay}
 use Rattle.pair_model.proofs.Rising.{settled_at}
 use Rattle.pair_model.proofs.Sending.{next_is}
 use Rattle.pair_changeover.specs.Pending.{pending, aside, accepted_of, accepted_on}
 use Rattle.pair_changeover.proofs.Changes.{by_link}
 use Rattle.pair_changeover.proofs.Arriving.{rises_at}
-use Rattle.pair_changeover.proofs.Keeping.{Keeps, users_body, offer_kept, take_kept, find_kept, down_kept, restore_kept, next_queues, next_aside, next_keeps}
-use Rattle.pair_changeover.proofs.Reaching.{reaches}
+use Rattle.pair_changeover.proofs.Keeping.{Keeps, keeps_still, users_body, offer_kept, take_kept, find_kept, down_kept, blind_kept, restore_kept, next_queues, next_aside}
+use Rattle.pair_changeover.proofs.Ordered.{Ordered, ordered_back, asked_ordered, sent_enough, sends_keep, rises_both}
 use Rattle.pair_changeover.proofs.Table.{new_message}
 use Rattle.pair_changeover.proofs.Texts.{AreCodes}
 use Rattle.pair_changeover.proofs.Views.{view, Among}
 use Rattle.pair_streams.proofs.Codes.{Flows, NewAcknowledges, far_carried, far_in}
-use Rattle.pair_streams.proofs.Declared.{coo_declares, coo_acknowledges}
+use Rattle.pair_streams.proofs.Declared.{leaving_declares, leaving_acknowledges}
 use Rattle.pair_streams.proofs.Declaring.{comes_flow, comes_acks}
-use Rattle.pair_streams.proofs.Flowing.{back_by}
+use Rattle.pair_streams.proofs.Flowing.{back_by, here}
+use Rattle.pair_streams.proofs.Mixed.{Mixed}
 use Rattle.pair_streams.proofs.Flows.{queues_flow, queues_acks, offers_flow, offers_acks}
 use Rattle.pair_streams.proofs.Known.{Covers, covers_on, covers_appended}
 use Rattle.pair_streams.proofs.Moving.{same_in, same_flow}
 use Rattle.pair_streams.proofs.Risen.{risen_in, rises_flow}
 use Rattle.pair_streams.proofs.Turned.{left_orders, leaves_flow}
 
--- every message of a user that a set holds was offered there
-abbrev pub Covered : Past → State → Type 0
-Covered past s = Covers (λ number body. Among (record { number = number; body = body }) (past.offered (stream_of body))) s
+-- THE STEPS of a run without emergencies, or with them
+abbrev pub IsSafe : Bool → Step → Type 0
+IsSafe false step = IsSoundStep step
+IsSafe true step = IsQuietStep step
 
-pub record Streams (p : Two) : Type 0 where
-  pub out : Flows p.near p.far p.near_past.offered p.far_past.got
-  pub back : Flows p.far p.near p.far_past.offered p.near_past.got
-  pub near_covers : Covered p.near_past p.near
-  pub far_covers : Covered p.far_past p.far
+never_unanswered : (emergencies : Bool) (end : End) (k : ℕ) → IsSafe emergencies (Act end (NoAnswer k)) → ⊥
+never_unanswered false end k safe = safe
+never_unanswered true end k safe = safe
 
-pub streams_back : (p : Two) → Streams p → Streams (swapped p)
-streams_back p w = record { out = w.back; back = w.out; near_covers = w.far_covers; far_covers = w.near_covers }
+never_timed_out : (emergencies : Bool) (end : End) (k : ℕ) → IsSafe emergencies (Act end (BackTimeout k)) → ⊥
+never_timed_out false end k safe = safe
+never_timed_out true end k safe = safe
+
+may_be_blind : (emergencies : Bool) (end : End) (k : ℕ) → IsSafe emergencies (Act end (DownBlind k)) → emergencies ≡ true
+may_be_blind false end k safe = absurd safe
+may_be_blind true end k safe = refl
+
+-- every message of a user that a set holds was offered there; and what is lost was discarded there
+abbrev pub IsLost : (ℕ → List Message) → ℕ → Type 0
+IsLost lost number = (stream : ℕ) × (m : Message) × Among m (lost stream) × (m.number ≡ number)
+
+abbrev pub Covered : Past → (ℕ → List Message) → State → Type 0
+Covered past lost s = Covers (λ number body. Among (record { number = number; body = body }) (past.offered (stream_of body))) (IsLost lost) s
+
+pub record Streams (emergencies : Bool) (p : Two) : Type 0 where
+  pub ordered : Ordered emergencies p
+  pub out_lost : ℕ → List Message
+  pub back_lost : ℕ → List Message
+  pub out : Flows p.near p.far p.near_past.offered p.far_past.got out_lost
+  pub back : Flows p.far p.near p.far_past.offered p.near_past.got back_lost
+  pub near_covers : Covered p.near_past out_lost p.near
+  pub far_covers : Covered p.far_past back_lost p.far
+  pub out_whole : emergencies ≡ false → (stream : ℕ) → out_lost stream ≡ []
+  pub back_whole : emergencies ≡ false → (stream : ℕ) → back_lost stream ≡ []
+
+pub streams_back : {emergencies : Bool} (p : Two) → Streams emergencies p → Streams emergencies (swapped p)
+streams_back p w = record {
+  ordered = ordered_back p w.ordered;
+  out_lost = w.back_lost;
+  back_lost = w.out_lost;
+  out = w.back;
+  back = w.out;
+  near_covers = w.far_covers;
+  far_covers = w.near_covers;
+  out_whole = w.back_whole;
+  back_whole = w.out_whole;
+}
 
 -- nothing more was offered
 pub added_none : {X : Type 0} (k l : ℕ) (f : ℕ → List X) → added_at k [] f l ≡ f l
@@ -76,9 +111,9 @@ added_none k l f = go (l == k) refl
     go true e = rw e (append-nil (f l))
     go false e = rw e refl
 
-none_more : (k : ℕ) (s f : State) (offered got : ℕ → List Message) → Flows s f offered got → Flows s f (added_at k [] offered) got
-none_more k s f offered got w = record {
-  flow = λ stream low. w.flow stream low ∙ sym (added_none k stream offered);
+none_more : (k : ℕ) (s f : State) (offered got lost : ℕ → List Message) → Flows s f offered got lost → Flows s f (added_at k [] offered) got lost
+none_more k s f offered got lost w = record {
+  flow = λ stream low. subst (Mixed (got stream ++ here stream s f) (lost stream)) (sym (added_none k stream offered)) (w.flow stream low);
   stands = w.stands;
   unused = λ stream low e. added_none k stream offered ∙ w.unused stream low e;
   backing = w.backing;
@@ -90,10 +125,10 @@ up_is Down e = absurd cc
 up_is Settled e = absurd cc
 
 -- WHAT AN EVENT OF AN END KEEPS, where the other stands still
-module _ (s f : State) (sound : IsSound s) (offered_here got : ℕ → List Message) (w : Flows s f offered_here got) where
+module _ (s f : State) (sound : IsSound s) (offered_here got lost : ℕ → List Message) (w : Flows s f offered_here got lost) where
   -- of the streams that it offers, and of the acknowledgements that stand there
   pub record Keeps' (t : State) : Type 0 where
-    pub out : Flows t f offered_here got
+    pub out : Flows t f offered_here got lost
     pub acks : NewAcknowledges (view t f) (view s f)
 
   keeps_self : Keeps' s
@@ -105,7 +140,7 @@ module _ (s f : State) (sound : IsSound s) (offered_here got : ℕ → List Mess
       let queues : (l : ℕ) → pending l t f ≡ pending l s f = λ l. rw (rows, links) refl in
       let aside_same : aside t ≡ aside s = rw rows refl in
       record {
-        out = same_flow s t f queues aside_same (λ c. rw rows refl) routing offered_here got w (λ c m i a. far_in s t f (λ l. rw links refl) m i);
+        out = same_flow s t f queues aside_same (λ c. rw rows refl) routing offered_here got lost w (λ c m i a. far_in s t f (λ l. rw links refl) m i);
         acks = λ c m i a. same_in s t f queues aside_same m i;
       }
 
@@ -129,51 +164,51 @@ module _ (s f : State) (sound : IsSound s) (offered_here got : ℕ → List Mess
       go (Some link) e = at link e (has_phase_up link.phase) refl
 
   -- a link is left, and the order queued
-  down_keeps : (k : ℕ) (link : LinkState) → IsAt k link Up s → Keeps' (falls false k s link).state
-  down_keeps k link at =
-      let left = left_by false k link s in
-      let left_sound = leaves false k link s at sound in
+  down_keeps : (blind : Bool) (k : ℕ) (link : LinkState) → IsAt k link Up s → Keeps' (falls blind k s link).state
+  down_keeps blind k link at =
+      let left = left_by blind k link s in
+      let left_sound = leaves blind k link s at sound in
       record {
-        out = queues_flow (leaving_order false k link) left f left_sound (λ c d. coo_declares s.settings k (length left.rows) (last_accepted link) c d) offered_here got
-            (leaves_flow false k link s f sound at offered_here got w (λ c m i a. far_in s left f (left_accepted k link at) m i));
-        acks = λ c m i a. left_orders false k link s f sound at (Cba a.link c) m
-            (queues_acks (leaving_order false k link) left f left_sound (λ d x. coo_acknowledges s.settings k (length left.rows) (last_accepted link) d x) c m i a) a.is;
+        out = queues_flow (leaving_order blind k link) left f left_sound (λ c d. leaving_declares s.settings k blind link (length left.rows) c d) offered_here got lost
+            (leaves_flow blind k link s f sound at offered_here got lost w (λ c m i a. far_in s left f (left_accepted link at) m i));
+        acks = λ c m i a. left_orders blind k link s f sound at (Cba a.link c) m
+            (queues_acks (leaving_order blind k link) left f left_sound (λ d x. leaving_acknowledges s.settings k blind link (length left.rows) d x) c m i a) a.is;
       }
     where
-      left_accepted : (k : ℕ) (link : LinkState) → IsAt k link Up s → (l : ℕ) → accepted_on l (left_by false k link s) ≡ accepted_on l s
-      left_accepted k link at = by_link k link (left_link false link) s (left_by false k link s) at.there refl
+      left_accepted : (link : LinkState) (at : IsAt k link Up s) → (l : ℕ) → accepted_on l (left_by blind k link s) ≡ accepted_on l s
+      left_accepted link at = by_link k link (left_link blind link) s (left_by blind k link s) at.there refl
           (λ n old new. accepted_of new ≡ accepted_of old) refl (λ n old d. refl)
 
   restore_keeps : (k : ℕ) (link : LinkState) → IsAt k link Up s → Keeps' (comes_back k s).state
   restore_keeps k link at =
       let up : is_up k s ≡ true = ap link_is_up at.there ∙ ap has_phase_up at.phase_is in
-      record { out = comes_flow k s f offered_here got sound up w; acks = comes_acks k s f sound up }
+      record { out = comes_flow k s f offered_here got lost sound up w; acks = comes_acks k s f sound up }
 
   -- any but an offer, that has no step of its own
-  event_keeps : (event : Event) (end : End) → has_own_step event ≡ false → IsSoundStep (Act end event) → ((body : List ℕ) → event ≡ Offer body → ⊥) → Keeps' (step s event).state
+  event_keeps : (emergencies : Bool) (event : Event) (end : End) → has_own_step event ≡ false → IsSafe emergencies (Act end event) → ((body : List ℕ) → event ≡ Offer body → ⊥) → Keeps' (step s event).state
   unfolding step
-  event_keeps (Offer body) end own safe other = absurd (other body refl)
-  event_keeps Take end own safe other = take_keeps s.inbox
-  event_keeps (Find number) end own safe other = find_keeps (place number s.rows)
-  event_keeps (Next k) end own safe other = absurd cc
-  event_keeps (HeardEvent k unit) end own safe other = absurd cc
-  event_keeps (UpEvent k) end own safe other = absurd cc
-  event_keeps (DownEvent k) end own safe other = in_keeps k (falls false k s) (λ link at. down_keeps k link at)
-  event_keeps (DownBlind k) end own safe other = absurd safe
-  event_keeps (NoAnswer k) end own safe other = absurd safe
-  event_keeps (Restore k) end own safe other = in_keeps k (λ link. comes_back k s) (λ link at. restore_keeps k link at)
-  event_keeps (BackTimeout k) end own safe other = absurd safe
+  event_keeps emergencies (Offer body) end own safe other = absurd (other body refl)
+  event_keeps emergencies Take end own safe other = take_keeps s.inbox
+  event_keeps emergencies (Find number) end own safe other = find_keeps (place number s.rows)
+  event_keeps emergencies (Next k) end own safe other = absurd cc
+  event_keeps emergencies (HeardEvent k unit) end own safe other = absurd cc
+  event_keeps emergencies (UpEvent k) end own safe other = absurd cc
+  event_keeps emergencies (DownEvent k) end own safe other = in_keeps k (falls false k s) (λ link at. down_keeps false k link at)
+  event_keeps emergencies (DownBlind k) end own safe other = in_keeps k (falls true k s) (λ link at. down_keeps true k link at)
+  event_keeps emergencies (NoAnswer k) end own safe other = absurd (never_unanswered emergencies end k safe)
+  event_keeps emergencies (Restore k) end own safe other = in_keeps k (λ link. comes_back k s) (λ link at. restore_keeps k link at)
+  event_keeps emergencies (BackTimeout k) end own safe other = absurd (never_timed_out emergencies end k safe)
 
   -- OFFER
-  offer_out : (body : List ℕ) → stream_of body < 16 → (o : Option SetRefusal) → offer_refusal s.rows body ≡ o → Flows (offered o s body).state f (past_asked (Offer body) (Answered (offered o s body).answer) (record { sent = λ l. []; taken = λ l. []; offered = offered_here; got = λ l. [] })).offered got
-  offer_out body low None e = offers_flow s f sound body low (users_body s.rows body e) offered_here got w
-  offer_out body low (Some why) e = none_more (stream_of body) s f offered_here got w
+  offer_out : (body : List ℕ) → stream_of body < 16 → (o : Option SetRefusal) → offer_refusal s.rows body ≡ o → Flows (offered o s body).state f (past_asked (Offer body) (Answered (offered o s body).answer) (record { sent = λ l. []; taken = λ l. []; offered = offered_here; got = λ l. [] })).offered got lost
+  offer_out body low None e = offers_flow s f sound body low (users_body s.rows body e) offered_here got lost w
+  offer_out body low (Some why) e = none_more (stream_of body) s f offered_here got lost w
 
   offer_acks : (body : List ℕ) → stream_of body < 16 → (o : Option SetRefusal) → offer_refusal s.rows body ≡ o → NewAcknowledges (view (offered o s body).state f) (view s f)
   offer_acks body low None e = offers_acks s f sound body low (users_body s.rows body e)
   offer_acks body low (Some why) e = λ c m i a. i
 
-  pub offers_out : (body : List ℕ) → stream_of body < 16 → Flows (step s (Offer body)).state f (past_asked (Offer body) (Answered (step s (Offer body)).answer) (record { sent = λ l. []; taken = λ l. []; offered = offered_here; got = λ l. [] })).offered got
+  pub offers_out : (body : List ℕ) → stream_of body < 16 → Flows (step s (Offer body)).state f (past_asked (Offer body) (Answered (step s (Offer body)).answer) (record { sent = λ l. []; taken = λ l. []; offered = offered_here; got = λ l. [] })).offered got lost
   unfolding step
   offers_out body low = offer_out body low (offer_refusal s.rows body) refl
 
@@ -191,54 +226,66 @@ among_more m [] ys a = absurd a
 among_more m (x ∷ xs) ys (inl e) = inl e
 among_more m (x ∷ xs) ys (inr a) = inr (among_more m xs ys a)
 
-covers_more : (stream : ℕ) (more : List Message) (past : Past) (t : State) → Covered past t → Covered (record past { offered = added_at stream more past.offered }) t
-covers_more stream more past t c = record { managed = c.managed; numbered = c.numbered; known = λ number b e users. go number b (c.known number b e users) (stream_of b == stream) refl }
+covers_more : (stream : ℕ) (more : List Message) (past : Past) (lost : ℕ → List Message) (t : State) → Covered past lost t → Covered (record past { offered = added_at stream more past.offered }) lost t
+covers_more stream more past lost t c = record { managed = c.managed; numbered = c.numbered; gone = c.gone; known = λ number b e users. go number b (c.known number b e users) (stream_of b == stream) refl }
   where
     go : (number : ℕ) (b : List ℕ) → Among (record { number = number; body = b }) (past.offered (stream_of b)) → (c : Bool) → (stream_of b == stream) ≡ c → Among (record { number = number; body = b }) (cond c (past.offered (stream_of b) ++ more) (past.offered (stream_of b)))
     go number b a true e = among_more (record { number = number; body = b }) (past.offered (stream_of b)) more a
     go number b a false e = a
 
-offer_covers : (s : State) (past : Past) (body : List ℕ) (o : Option SetRefusal) → Covered past s → Covered (past_asked (Offer body) (Answered (offered o s body).answer) past) (offered o s body).state
-offer_covers s past body None c =
-    covers_appended _ s (offered None s body).state body _ refl refl (λ e. rw (itself (stream_of body)) (among_last (new_message s.rows body) (past.offered (stream_of body)))) (covers_more (stream_of body) (new_message s.rows body ∷ []) past s c)
-offer_covers s past body (Some why) c = covers_more (stream_of body) [] past s c
+offer_covers : (s : State) (past : Past) (lost : ℕ → List Message) (body : List ℕ) (o : Option SetRefusal) → Covered past lost s → Covered (past_asked (Offer body) (Answered (offered o s body).answer) past) lost (offered o s body).state
+offer_covers s past lost body None c =
+    covers_appended _ _ s (offered None s body).state body _ refl refl (λ e. rw (itself (stream_of body)) (among_last (new_message s.rows body) (past.offered (stream_of body)))) (covers_more (stream_of body) (new_message s.rows body ∷ []) past lost s c)
+offer_covers s past lost body (Some why) c = covers_more (stream_of body) [] past lost s c
 
-offers_cover : (s : State) (past : Past) (body : List ℕ) → Covered past s → Covered (past_asked (Offer body) (Answered (step s (Offer body)).answer) past) (step s (Offer body)).state
+offers_cover : (s : State) (past : Past) (lost : ℕ → List Message) (body : List ℕ) → Covered past lost s → Covered (past_asked (Offer body) (Answered (step s (Offer body)).answer) past) lost (step s (Offer body)).state
 unfolding step
-offers_cover s past body c = offer_covers s past body (offer_refusal s.rows body) c
+offers_cover s past lost body c = offer_covers s past lost body (offer_refusal s.rows body) c
 
 -- AN EVENT THAT HAS NO STEP OF ITS OWN
-module _ (p : Two) (sound : IsSound p.near) (codes : AreCodes p.near.settings) (w : Streams p) where
+module _ {emergencies : Bool} (p : Two) (sound : IsSound p.near) (w : Streams emergencies p) where
   abbrev asked_then : Event → Two
   asked_then event = record p { near = (step p.near event).state; near_past = past_asked event (Answered (step p.near event).answer) p.near_past }
 
-  event_streams : (end : End) (event : Event) → has_own_step event ≡ false → IsSoundStep (Act end event) → ((body : List ℕ) → event ≡ Offer body → ⊥) → Keeps p.near (step p.near event).state p.far → Streams (record p { near = (step p.near event).state })
+  event_streams : (end : End) (event : Event) → has_own_step event ≡ false → IsSafe emergencies (Act end event) → ((body : List ℕ) → event ≡ Offer body → ⊥) → Keeps emergencies p.near (step p.near event).state p.far → Streams emergencies (record p { near = (step p.near event).state })
   event_streams end event own safe other k =
-      let keeps = event_keeps p.near p.far sound p.near_past.offered p.far_past.got w.out event end own safe other in
+      let keeps = event_keeps p.near p.far sound p.near_past.offered p.far_past.got w.out_lost w.out emergencies event end own safe other in
       record {
+        ordered = asked_ordered p event _ w.ordered k refl refl;
+        out_lost = w.out_lost;
+        back_lost = w.back_lost;
         out = keeps.out;
-        back = far_carried p.near (step p.near event).state p.far k.accepted p.far_past.offered p.near_past.got keeps.acks w.back;
-        near_covers = covers_on _ p.near event other w.near_covers;
+        back = far_carried p.near (step p.near event).state p.far k.accepted p.far_past.offered p.near_past.got w.back_lost keeps.acks w.back;
+        near_covers = covers_on _ _ p.near event other w.near_covers;
         far_covers = w.far_covers;
+        out_whole = w.out_whole;
+        back_whole = w.back_whole;
       }
 
-  pub asked_streams : (end : End) (event : Event) → IsAsked event → has_own_step event ≡ false → IsSoundStep (Act end event) → Streams (asked_then event)
-  asked_streams end (Offer body) asked own safe = record {
-    out = offers_out p.near p.far sound p.near_past.offered p.far_past.got w.out body asked;
-    back = far_carried p.near (step p.near (Offer body)).state p.far (offer_kept p.near p.far body sound).accepted p.far_past.offered p.near_past.got (offers_back p.near p.far sound p.near_past.offered p.far_past.got w.out body asked) w.back;
-    near_covers = offers_cover p.near p.near_past body w.near_covers;
-    far_covers = w.far_covers;
-  }
-  asked_streams end Take asked own safe = event_streams end Take refl tt (λ body e. absurd cc) (take_kept p.near p.far)
-  asked_streams end (Find number) asked own safe = event_streams end (Find number) refl tt (λ body e. absurd cc) (find_kept p.near p.far number)
+  pub asked_streams : (end : End) (event : Event) → IsAsked event → has_own_step event ≡ false → IsSafe emergencies (Act end event) → Streams emergencies (asked_then event)
+  asked_streams end (Offer body) asked own safe =
+      let keeps = offer_kept p.near p.far body sound in
+      record {
+        ordered = asked_ordered p (Offer body) _ w.ordered keeps refl refl;
+        out_lost = w.out_lost;
+        back_lost = w.back_lost;
+        out = offers_out p.near p.far sound p.near_past.offered p.far_past.got w.out_lost w.out body asked;
+        back = far_carried p.near (step p.near (Offer body)).state p.far keeps.accepted p.far_past.offered p.near_past.got w.back_lost (offers_back p.near p.far sound p.near_past.offered p.far_past.got w.out_lost w.out body asked) w.back;
+        near_covers = offers_cover p.near p.near_past w.out_lost body w.near_covers;
+        far_covers = w.far_covers;
+        out_whole = w.out_whole;
+        back_whole = w.back_whole;
+      }
+  asked_streams end Take asked own safe = event_streams end Take refl safe (λ body e. absurd cc) (take_kept p.near p.far)
+  asked_streams end (Find number) asked own safe = event_streams end (Find number) refl safe (λ body e. absurd cc) (find_kept p.near p.far number)
   asked_streams end (Next k) asked own safe = absurd cc
   asked_streams end (HeardEvent k unit) asked own safe = absurd cc
   asked_streams end (UpEvent k) asked own safe = absurd cc
-  asked_streams end (DownEvent k) asked own safe = event_streams end (DownEvent k) refl tt (λ body e. absurd cc) (down_kept k p.near p.far sound codes)
-  asked_streams end (DownBlind k) asked own safe = absurd safe
-  asked_streams end (NoAnswer k) asked own safe = absurd safe
-  asked_streams end (Restore k) asked own safe = event_streams end (Restore k) refl tt (λ body e. absurd cc) (restore_kept k p.near p.far sound)
-  asked_streams end (BackTimeout k) asked own safe = absurd safe
+  asked_streams end (DownEvent k) asked own safe = event_streams end (DownEvent k) refl safe (λ body e. absurd cc) (down_kept k p.near p.far sound w.ordered.near_codes)
+  asked_streams end (DownBlind k) asked own safe = event_streams end (DownBlind k) refl safe (λ body e. absurd cc) (blind_kept k p.near p.far (may_be_blind emergencies end k safe) sound w.ordered.near_codes)
+  asked_streams end (NoAnswer k) asked own safe = absurd (never_unanswered emergencies end k safe)
+  asked_streams end (Restore k) asked own safe = event_streams end (Restore k) refl safe (λ body e. absurd cc) (restore_kept k p.near p.far sound)
+  asked_streams end (BackTimeout k) asked own safe = absurd (never_timed_out emergencies end k safe)
 
 -- IT SENDS
 waiting_not_back : (k c : ℕ) (fate : Fate) → is_waiting k fate ≡ true → is_back c fate ≡ false
@@ -253,52 +300,51 @@ next_backs k c link s = ap messages (go (choice_of (octets_in (unack k s.rows)) 
     go first = turned_same (is_waiting k) (is_back c) (Unacked k) refl (λ fate e. waiting_not_back k c fate e) 1 s.rows
     go fill = refl
 
-module _ (mx my : Method) (one : IsOneMethod mx my) (p : Two) (h : HoldsOf mx my p) (w : Streams p) (k : ℕ) (out : List (List SignalUnit)) where
+module _ {emergencies : Bool} (mx my : Method) (one : IsOneMethod mx my) (p : Two) (h : HoldsOf mx my p) (w : Streams emergencies p) (k : ℕ) (out : List (List SignalUnit)) where
   abbrev sent_then : Two
   sent_then = record p { near = (step p.near (Next k)).state; near_past = past_sent k p.near (step p.near (Next k)).state p.near_past; out = out }
 
   record After (t : State) : Type 0 where
-    flows : Flows t p.far p.near_past.offered p.far_past.got
+    flows : Flows t p.far p.near_past.offered p.far_past.got w.out_lost
     acks : NewAcknowledges (view t p.far) (view p.near p.far)
-    accepted : (l : ℕ) → accepted_on l t ≡ accepted_on l p.near
+    keeps : Keeps emergencies p.near t p.far
 
-  after_streams : After (step p.near (Next k)).state → Streams sent_then
+  after_streams : After (step p.near (Next k)).state → Streams emergencies sent_then
   after_streams a = record {
+    ordered = asked_ordered p (Next k) _ w.ordered a.keeps refl refl;
+    out_lost = w.out_lost;
+    back_lost = w.back_lost;
     out = a.flows;
-    back = far_carried p.near (step p.near (Next k)).state p.far a.accepted p.far_past.offered p.near_past.got a.acks w.back;
-    near_covers = covers_on _ p.near (Next k) (λ body e. absurd cc) w.near_covers;
+    back = far_carried p.near (step p.near (Next k)).state p.far a.keeps.accepted p.far_past.offered p.near_past.got w.back_lost a.acks w.back;
+    near_covers = covers_on _ _ p.near (Next k) (λ body e. absurd cc) w.near_covers;
     far_covers = w.far_covers;
+    out_whole = w.out_whole;
+    back_whole = w.back_whole;
   }
 
-  pub sends_streams : k < length p.near.links → (link : LinkState) → IsAt k link Up p.near → Streams sent_then
+  pub sends_streams : k < length p.near.links → (link : LinkState) → IsAt k link Up p.near → Streams emergencies sent_then
   sends_streams few link at = after_streams (subst (λ (o : Outcome). After o.state) (sym (next_is k link p.near at)) sent)
     where
-      far_at : (other : LinkState) × (slice_get p.far.links k ≡ Some other)
-      far_at = present p.far.links k (omega (arith, few, h.far_links))
-
-      enough : accepted_on k p.far - link.acked ≤ length (unack k p.near.rows)
-      enough = let r = reaches k p.near_past p.far_past p.near p.far (kept_on mx my one p h k) link at.there (ap has_phase_settled at.phase_is) far_at.0 far_at.1 in omega (arith, r.due, r.within)
+      keeps : Keeps emergencies p.near (next k p.near link).state p.far
+      keeps = sends_keep mx my one p h k few link at
 
       queues : (l : ℕ) → pending l (next k p.near link).state p.far ≡ pending l p.near p.far
-      queues = next_queues k link p.near p.far h.near_sound at enough
+      queues = next_queues k link p.near p.far h.near_sound at (sent_enough mx my one p h k few link at)
 
       aside_same : aside (next k p.near link).state ≡ aside p.near
       aside_same = ap messages (next_aside k link p.near)
 
-      accepted : (l : ℕ) → accepted_on l (next k p.near link).state ≡ accepted_on l p.near
-      accepted = (next_keeps k link p.near p.far h.near_sound at enough).accepted
-
       sent : After (next k p.near link).state
       sent = record {
-        flows = same_flow p.near (next k p.near link).state p.far queues aside_same (λ c. next_backs k c link p.near) refl p.near_past.offered p.far_past.got w.out (λ c m i a. far_in p.near (next k p.near link).state p.far accepted m i);
+        flows = same_flow p.near (next k p.near link).state p.far queues aside_same (λ c. next_backs k c link p.near) refl p.near_past.offered p.far_past.got w.out_lost w.out (λ c m i a. far_in p.near (next k p.near link).state p.far keeps.accepted m i);
         acks = λ c m i a. same_in p.near (next k p.near link).state p.far queues aside_same m i;
-        accepted = accepted;
+        keeps = keeps;
       }
 
-  pub sends_none : is_up k p.near ≡ false → Streams sent_then
+  pub sends_none : is_up k p.near ≡ false → Streams emergencies sent_then
   sends_none e =
       let same : (step p.near (Next k)).state ≡ p.near = ap (λ (o : Outcome). o.state) (next_refused k p.near e).1 in
-      after_streams (subst After (sym same) (record { flows = w.out; acks = λ c m i a. i; accepted = λ l. refl }))
+      after_streams (subst After (sym same) (record { flows = w.out; acks = λ c m i a. i; keeps = keeps_still p.near p.near p.far refl refl }))
 
 -- A LINK COMES UP at both ends
 rises_routing : (k : ℕ) (s : State) (link : LinkState) → IsAt k link Settled s → (step s (UpEvent k)).state.routing ≡ raised k s.routing
@@ -313,8 +359,8 @@ rises_backs : (k c : ℕ) (s : State) (link : LinkState) → IsAt k link Settled
 unfolding step
 rises_backs k c s link at = rw (at.there, at.phase_is) (ap messages (moved_same is_parked (is_back c) (all_with (Waiting k)) s.rows (λ row. refl) (λ fate e. parked_not_back c fate e)))
 
-module _ (mx my : Method) (p : Two) (h : HoldsOf mx my p) (w : Streams p) (k : ℕ) (few : k < length p.near.links) (near_settled : is_settled k p.near ≡ true) (far_settled : is_settled k p.far ≡ true) where
-  pub rises_streams : Streams (moving.risen mx my p h k few near_settled far_settled)
+module _ {emergencies : Bool} (mx my : Method) (p : Two) (h : HoldsOf mx my p) (w : Streams emergencies p) (k : ℕ) (few : k < length p.near.links) (near_settled : is_settled k p.near ≡ true) (far_settled : is_settled k p.far ≡ true) where
+  pub rises_streams : Streams emergencies (moving.risen mx my p h k few near_settled far_settled)
   rises_streams =
       let near_at = settled_at k p.near near_settled in
       let far_at = settled_at k p.far far_settled in
@@ -327,8 +373,17 @@ module _ (mx my : Method) (p : Two) (h : HoldsOf mx my p) (w : Streams p) (k : �
       let near_backs : (c : ℕ) → back_by c near_then ≡ back_by c p.near = λ c. rises_backs k c p.near near_at.0 near_at.1 in
       let far_backs : (c : ℕ) → back_by c far_then ≡ back_by c p.far = λ c. rises_backs k c p.far far_at.0 far_at.1 in
       record {
-        out = rises_flow k p.near near_then p.far far_then h.near_sound a b near_routing near_backs p.near_past.offered p.far_past.got w.out (λ c m i x. risen_in k p.far far_then p.near near_then h.far_sound b a far_routing far_backs m i);
-        back = rises_flow k p.far far_then p.near near_then h.far_sound b a far_routing far_backs p.far_past.offered p.near_past.got w.back (λ c m i x. risen_in k p.near near_then p.far far_then h.near_sound a b near_routing near_backs m i);
-        near_covers = covers_on _ p.near (UpEvent k) (λ body e. absurd cc) w.near_covers;
-        far_covers = covers_on _ p.far (UpEvent k) (λ body e. absurd cc) w.far_covers;
+        ordered = record {
+          both = rises_both k p.near near_then p.far far_then a b w.ordered.both;
+          near_codes = subst AreCodes (sym (settings_stay p.near (UpEvent k))) w.ordered.near_codes;
+          far_codes = subst AreCodes (sym (settings_stay p.far (UpEvent k))) w.ordered.far_codes;
+        };
+        out_lost = w.out_lost;
+        back_lost = w.back_lost;
+        out = rises_flow k p.near near_then p.far far_then h.near_sound a b near_routing near_backs p.near_past.offered p.far_past.got w.out_lost w.out (λ c m i x. risen_in k p.far far_then p.near near_then h.far_sound b a far_routing far_backs m i);
+        back = rises_flow k p.far far_then p.near near_then h.far_sound b a far_routing far_backs p.far_past.offered p.near_past.got w.back_lost w.back (λ c m i x. risen_in k p.near near_then p.far far_then h.near_sound a b near_routing near_backs m i);
+        near_covers = covers_on _ _ p.near (UpEvent k) (λ body e. absurd cc) w.near_covers;
+        far_covers = covers_on _ _ p.far (UpEvent k) (λ body e. absurd cc) w.far_covers;
+        out_whole = w.out_whole;
+        back_whole = w.back_whole;
       }

@@ -11,6 +11,7 @@ use Rattle.pair_changeover.specs.Pending.{queue, pending, acked_on, accepted_on}
 use Rattle.pair_changeover.proofs.Views.{View, view, Among, In, stands_on, stands_aside}
 use Rattle.pair_streams.specs.Streams.{those_of}
 use Rattle.pair_streams.proofs.Declared.{Declares, Acknowledges, NoneDeclares, ClearBehind}
+use Rattle.pair_streams.proofs.Mixed.{Mixed}
 use Rattle.pair_streams.proofs.Flowing.{queue_at, back_by, here, Stands}
 
 -- of a stream that comes back by the code, from a link: the declaration stands there, and nothing of the stream behind it
@@ -31,9 +32,9 @@ pub record Backing (r : Routing) (x y : View) : Type 0 where
   pub clear : (stream : ℕ) → stream < 16 → (to code via : ℕ) → place_of stream r ≡ Changing to code via → Clear stream code via x
   pub answered : (stream : ℕ) → stream < 16 → (to code via : ℕ) → place_of stream r ≡ Changing to code via → (n : Message) → In n y → Acknowledges code n → those_of stream (x.on via) ≡ []
 
--- EACH STREAM, from an end to the far end
-pub record Flows (s f : State) (offered got : ℕ → List Message) : Type 0 where
-  pub flow : (stream : ℕ) → stream < 16 → got stream ++ here stream s f ≡ offered stream
+-- EACH STREAM, from an end to the far end: what was offered was got, stands here, or was lost in an emergency
+pub record Flows (s f : State) (offered got lost : ℕ → List Message) : Type 0 where
+  pub flow : (stream : ℕ) → stream < 16 → Mixed (got stream ++ here stream s f) (lost stream) (offered stream)
   pub stands : (stream : ℕ) → stream < 16 → Stands stream (place_of stream s.routing) s f
   pub unused : (stream : ℕ) → stream < 16 → has_messages stream s.routing ≡ false → offered stream ≡ []
   pub backing : Backing s.routing (view s f) (view f s)
@@ -83,10 +84,10 @@ backed s t f g b clear answered freed declares acknowledges = record {
     acked_case c few m i d (inr none) = none.1 m i d
 
 -- and of all
-pub carried : (s t f g : State) (offered got : ℕ → List Message) → Flows s f offered got → ((stream : ℕ) → stream < 16 → Kept stream s t f g)
-    → ((c : ℕ) → c < 256 → code_of c t.routing ≡ Free → IsFreed c s t g) → NewDeclares (view t g) (view s f) → NewAcknowledges (view g t) (view f s) → Flows t g offered got
-carried s t f g offered got w kept freed declares acknowledges = record {
-  flow = λ stream low. ap (λ (x : List Message). got stream ++ x) (kept stream low).here_is ∙ w.flow stream low;
+pub carried : (s t f g : State) (offered got lost : ℕ → List Message) → Flows s f offered got lost → ((stream : ℕ) → stream < 16 → Kept stream s t f g)
+    → ((c : ℕ) → c < 256 → code_of c t.routing ≡ Free → IsFreed c s t g) → NewDeclares (view t g) (view s f) → NewAcknowledges (view g t) (view f s) → Flows t g offered got lost
+carried s t f g offered got lost w kept freed declares acknowledges = record {
+  flow = λ stream low. subst (λ (x : List Message). Mixed (got stream ++ x) (lost stream) (offered stream)) (sym (kept stream low).here_is) (w.flow stream low);
   stands = λ stream low. (kept stream low).stands;
   unused = λ stream low e. w.unused stream low (sym (kept stream low).used ∙ e);
   backing = backed s t f g w.backing (λ stream low. (kept stream low).clear) (λ stream low. (kept stream low).answered) freed declares acknowledges;
@@ -109,9 +110,9 @@ module _ (s t f : State) (accepted : (l : ℕ) → accepted_on l t ≡ accepted_
       go (Changing to code via) = ap (λ (q : List Message). those_of stream (q ++ back_by code f)) (far_queues via)
       go Nowhere = refl
 
-  pub far_carried : (offered got : ℕ → List Message) → NewAcknowledges (view t f) (view s f) → Flows f s offered got → Flows f t offered got
-  far_carried offered got acknowledges w = record {
-    flow = λ stream low. ap (λ (x : List Message). got stream ++ x) (far_here stream) ∙ w.flow stream low;
+  pub far_carried : (offered got lost : ℕ → List Message) → NewAcknowledges (view t f) (view s f) → Flows f s offered got lost → Flows f t offered got lost
+  far_carried offered got lost acknowledges w = record {
+    flow = λ stream low. subst (λ (x : List Message). Mixed (got stream ++ x) (lost stream) (offered stream)) (sym (far_here stream)) (w.flow stream low);
     stands = λ stream low. record {
       alone = λ l e. ap (those_of stream) (far_queues l) ∙ (w.stands stream low).alone l e;
       none_aside = (w.stands stream low).none_aside;
@@ -135,7 +136,7 @@ module _ (s t f : State) (accepted : (l : ℕ) → accepted_on l t ≡ accepted_
   }
 
   -- it acknowledges a declaration that it heard
-  module _ (code : ℕ) (z : Message) (few : code < 256) (offered got : ℕ → List Message) (w : Flows f s offered got) (new : (m : Message) → In m (view t f) → In m (view s f) ⊎ (m ≡ z)) (tells : (c : ℕ) → Acknowledges c z → c ≡ code)
+  module _ (code : ℕ) (z : Message) (few : code < 256) (offered got lost : ℕ → List Message) (w : Flows f s offered got lost) (new : (m : Message) → In m (view t f) → In m (view s f) ⊎ (m ≡ z)) (tells : (c : ℕ) → Acknowledges c z → c ≡ code)
       (none_declared : (m : Message) → In m (view f s) → Declares code m → ⊥) (none_acked : (m : Message) → In m (view s f) → Acknowledges code m → ⊥) (in_use : code_of code f.routing ≡ Free → ⊥)
       (empty : (stream : ℕ) → stream < 16 → (to via : ℕ) → place_of stream f.routing ≡ Changing to code via → those_of stream (pending via f s) ≡ []) where
     at_code : (P : ℕ → Type 0) → (c : ℕ) (m : Message) → m ≡ z → Acknowledges c m → P code → P c
@@ -163,9 +164,9 @@ module _ (s t f : State) (accepted : (l : ℕ) → accepted_on l t ≡ accepted_
     answered_case stream low to c via e n a (inl i) = w.backing.answered stream low to c via e n i a
     answered_case stream low to c via e n a (inr same) = at_code (λ k. place_of stream f.routing ≡ Changing to k via → those_of stream (pending via f s) ≡ []) c n same a (empty stream low to via) e
 
-    pub acked_flow : Flows f t offered got
+    pub acked_flow : Flows f t offered got lost
     acked_flow = record {
-      flow = λ stream low. ap (λ (x : List Message). got stream ++ x) (far_here stream) ∙ w.flow stream low;
+      flow = λ stream low. subst (λ (x : List Message). Mixed (got stream ++ x) (lost stream) (offered stream)) (sym (far_here stream)) (w.flow stream low);
       stands = λ stream low. record {
         alone = λ l e. ap (those_of stream) (far_queues l) ∙ (w.stands stream low).alone l e;
         none_aside = (w.stands stream low).none_aside;

@@ -2,9 +2,10 @@
 use Rattle.std.proofs.Common.{refl, ◌≡◌, ◌∙◌, sym, ℕ, ◌==◌, ◌+◌, ◌*◌, ◌%◌, ◌/◌, Bool, true, false, List, [], ◌∷◌, ◌++◌, Option, Some, None, cond, inl, inr}
 use Rattle.std.proofs.lemmas.Bool.{eq-eqb}
 use Rattle.l3_orders.specs.declared.order.Order.{Order}
-use Rattle.l3_orders.specs.declared.order.Order.TheVariants.{Coo, Coa, Cbd, Cba}
+use Rattle.l3_orders.specs.declared.order.Order.TheVariants.{Coo, Coa, Cbd, Cba, Eco}
 use Rattle.l3_orders.specs.Grammar.{text, order_of, label_number}
-use Rattle.set_model.specs.State.{Settings}
+use Rattle.set_model.specs.Changeover.{leaving_order}
+use Rattle.set_model.specs.State.{LinkState, Settings, last_accepted}
 use Rattle.pair_model.specs.Run.{Message}
 use Rattle.pair_changeover.proofs.Views.{Among}
 use Rattle.pair_streams.specs.Streams.{those_of}
@@ -45,6 +46,10 @@ clear_none stream code (m ∷ ms) none = ((λ d. absurd (none m (inl refl) d)), 
 pub clear_joined : (stream code : ℕ) (xs ys : List Message) → ClearBehind stream code xs → those_of stream ys ≡ [] → ClearBehind stream code ys → ClearBehind stream code (xs ++ ys)
 clear_joined stream code [] ys a none b = b
 clear_joined stream code (x ∷ xs) ys a none b = ((λ d. none_both stream xs ys (a.0 d) none), clear_joined stream code xs ys a.1 none b)
+
+pub clear_rest : (stream code : ℕ) (xs ys : List Message) → ClearBehind stream code (xs ++ ys) → ClearBehind stream code ys
+clear_rest stream code [] ys c = c
+clear_rest stream code (x ∷ xs) ys c = clear_rest stream code xs ys c.1
 
 pub clear_after : (stream code : ℕ) (xs ys : List Message) → NoneDeclares code xs → ClearBehind stream code ys → ClearBehind stream code (xs ++ ys)
 clear_after stream code [] ys none b = b
@@ -98,3 +103,18 @@ module _ (s : Settings) (l : ℕ) where
 
   pub coa_acknowledges : (number fsn other : ℕ) → Acknowledges other (record { number = number; body = text (Coa l fsn) s.sio s.dpc s.opc }) → ⊥
   coa_acknowledges number fsn other d = read_acknowledges other (Coa told_link ((fsn + 128 * 0) % 128)) (λ n e. absurd cc) (s.sio % 16 == 0) d.link d.is
+
+  pub eco_declares : (number other : ℕ) → Declares other (record { number = number; body = text (Eco l) s.sio s.dpc s.opc }) → ⊥
+  eco_declares number other d = read_declares other (Eco told_link) (λ n e. absurd cc) (s.sio % 16 == 0) d.link d.is
+
+  pub eco_acknowledges : (number other : ℕ) → Acknowledges other (record { number = number; body = text (Eco l) s.sio s.dpc s.opc }) → ⊥
+  eco_acknowledges number other d = read_acknowledges other (Eco told_link) (λ n e. absurd cc) (s.sio % 16 == 0) d.link d.is
+
+-- nor does the order with which a link is left
+pub leaving_declares : (s : Settings) (l : ℕ) (blind : Bool) (link : LinkState) (number other : ℕ) → Declares other (record { number = number; body = text (leaving_order blind l link) s.sio s.dpc s.opc }) → ⊥
+leaving_declares s l false link number other d = coo_declares s l number (last_accepted link) other d
+leaving_declares s l true link number other d = eco_declares s l number other d
+
+pub leaving_acknowledges : (s : Settings) (l : ℕ) (blind : Bool) (link : LinkState) (number other : ℕ) → Acknowledges other (record { number = number; body = text (leaving_order blind l link) s.sio s.dpc s.opc }) → ⊥
+leaving_acknowledges s l false link number other d = coo_acknowledges s l number (last_accepted link) other d
+leaving_acknowledges s l true link number other d = eco_acknowledges s l number other d

@@ -28,6 +28,7 @@ use Rattle.pair_changeover.proofs.Views.{view, Among, In, stands_on, stands_asid
 use Rattle.pair_streams.specs.Streams.{is_of, those_of}
 use Rattle.pair_streams.proofs.Codes.{Clear, Flows, Kept, NewAcknowledges}
 use Rattle.pair_streams.proofs.Declared.{Declares, Acknowledges, NoneDeclares, ClearBehind, clear_after, cbd_other, cbd_acknowledges}
+use Rattle.pair_streams.proofs.Mixed.{Mixed}
 use Rattle.pair_streams.proofs.Filtered.{joins_none, both_true}
 use Rattle.pair_streams.proofs.Flowing.{back_by, queue_at, waits_by, Stands, none_back_by}
 use Rattle.pair_streams.proofs.Flows.{no_stream}
@@ -113,7 +114,7 @@ module _ (home alternative : ℕ) (s f : State) (sound : IsSound s) (home_up : i
       go (inl j) = j
       go (inr same) = absurd (cbd_acknowledges s.settings home (length s.rows) code c (subst (Acknowledges c) same a))
 
-  module _ (offered got : ℕ → List Message) (w : Flows s f offered got) where
+  module _ (offered got lost : ℕ → List Message) (w : Flows s f offered got lost) where
     none_declared : NoneDeclares code (pending alternative s f)
     none_declared m a d = w.backing.free_declared code few code_free m (stands_on alternative a) d
 
@@ -185,7 +186,7 @@ module _ (home alternative : ℕ) (s f : State) (sound : IsSound s) (home_up : i
           go true e =
               let runs = both_true (stream % s.routing.links == home) (runs_on alternative (place_of stream s.routing)) e in
               asked_kept (runs_on_so alternative (place_of stream s.routing) runs.1) (place_then ∙ ap (λ (b : Bool). cond b (Changing home code alternative) (place_of stream s.routing)) e)
-          go false e = apart_kept s then_s f body (Waiting alternative) refl refl new_at stream (of_none stream) offered got w low (place_then ∙ ap (λ (b : Bool). cond b (Changing home code alternative) (place_of stream s.routing)) e) used_then other_code
+          go false e = apart_kept s then_s f body (Waiting alternative) refl refl new_at stream (of_none stream) offered got lost w low (place_then ∙ ap (λ (b : Bool). cond b (Changing home code alternative) (place_of stream s.routing)) e) used_then other_code
 
     -- THE CODE is in use then, and told by this message alone
     code_then : (c : ℕ) → c < 256 → code_of c then_s.routing ≡ cond (c == code) Asked (code_of c s.routing)
@@ -224,9 +225,9 @@ module _ (home alternative : ℕ) (s f : State) (sound : IsSound s) (home_up : i
     either_case c m n j a b (inl i) = w.backing.either c m n i j a b
     either_case c m n j a b (inr p) = w.backing.free_acked code few code_free n j (subst (λ (k : ℕ). Acknowledges k n) p.1 b)
 
-    pub declares_flow : Flows then_s f offered got
+    pub declares_flow : Flows then_s f offered got lost
     declares_flow = record {
-      flow = λ stream low. ap (λ (x : List Message). got stream ++ x) (declared_kept stream low).here_is ∙ w.flow stream low;
+      flow = λ stream low. subst (λ (x : List Message). Mixed (got stream ++ x) (lost stream) (offered stream)) (sym (declared_kept stream low).here_is) (w.flow stream low);
       stands = λ stream low. (declared_kept stream low).stands;
       unused = λ stream low e. w.unused stream low (sym (declared_kept stream low).used ∙ e);
       backing = record {
@@ -243,12 +244,12 @@ module _ (home alternative : ℕ) (s f : State) (sound : IsSound s) (home_up : i
     }
 
 -- FROM ALL LINKS from which it can
-pub declares_from : (home alternative n : ℕ) (s f : State) (offered got : ℕ → List Message) → IsSound s → is_up home s ≡ true → Flows s f offered got → Flows (declared_from home alternative n s) f offered got
-declares_from home alternative zero s f offered got sound up w = w
-declares_from home alternative (suc n) s f offered got sound up w = go (can_declare home alternative s) refl (λ t sound_t up_t w_t. declares_from home (suc alternative) n t f offered got sound_t up_t w_t)
+pub declares_from : (home alternative n : ℕ) (s f : State) (offered got lost : ℕ → List Message) → IsSound s → is_up home s ≡ true → Flows s f offered got lost → Flows (declared_from home alternative n s) f offered got lost
+declares_from home alternative zero s f offered got lost sound up w = w
+declares_from home alternative (suc n) s f offered got lost sound up w = go (can_declare home alternative s) refl (λ t sound_t up_t w_t. declares_from home (suc alternative) n t f offered got lost sound_t up_t w_t)
   where
-    go : (b : Bool) → can_declare home alternative s ≡ b → ((t : State) → IsSound t → is_up home t ≡ true → Flows t f offered got → Flows (declared_from home (suc alternative) n t) f offered got) → Flows (declared_from home alternative (suc n) s) f offered got
-    go true e later = rw e (later (declared home alternative s) (declares home alternative s up e sound) up (declares_flow home alternative s f sound up e offered got w))
+    go : (b : Bool) → can_declare home alternative s ≡ b → ((t : State) → IsSound t → is_up home t ≡ true → Flows t f offered got lost → Flows (declared_from home (suc alternative) n t) f offered got lost) → Flows (declared_from home alternative (suc n) s) f offered got lost
+    go true e later = rw e (later (declared home alternative s) (declares home alternative s up e sound) up (declares_flow home alternative s f sound up e offered got lost w))
     go false e later = rw e (later s sound up w)
 
 pub acks_from : (home alternative n : ℕ) (s f : State) → IsSound s → is_up home s ≡ true → NewAcknowledges (view (declared_from home alternative n s) f) (view s f)
@@ -259,11 +260,11 @@ acks_from home alternative (suc n) s f sound up = go (can_declare home alternati
     go true e later = subst (λ (b : Bool). NewAcknowledges (view (declared_from home (suc alternative) n (cond b (declared home alternative s) s)) f) (view s f)) (sym e) (λ c m i a. declares_acks home alternative s f sound up e c m (later (declared home alternative s) (declares home alternative s up e sound) up c m i a) a)
     go false e later = subst (λ (b : Bool). NewAcknowledges (view (declared_from home (suc alternative) n (cond b (declared home alternative s) s)) f) (view s f)) (sym e) (later s sound up)
 
-pub comes_flow : (k : ℕ) (s f : State) (offered got : ℕ → List Message) → IsSound s → is_up k s ≡ true → Flows s f offered got → Flows (comes_back k s).state f offered got
-comes_flow k s f offered got sound up w = go (some_declare k 0 (link_count s) s) refl
+pub comes_flow : (k : ℕ) (s f : State) (offered got lost : ℕ → List Message) → IsSound s → is_up k s ≡ true → Flows s f offered got lost → Flows (comes_back k s).state f offered got lost
+comes_flow k s f offered got lost sound up w = go (some_declare k 0 (link_count s) s) refl
   where
-    go : (b : Bool) → some_declare k 0 (link_count s) s ≡ b → Flows (comes_back k s).state f offered got
-    go true e = rw e (declares_from k 0 (link_count s) s f offered got sound up w)
+    go : (b : Bool) → some_declare k 0 (link_count s) s ≡ b → Flows (comes_back k s).state f offered got lost
+    go true e = rw e (declares_from k 0 (link_count s) s f offered got lost sound up w)
     go false e = rw e w
 
 pub comes_acks : (k : ℕ) (s f : State) → IsSound s → is_up k s ≡ true → NewAcknowledges (view (comes_back k s).state f) (view s f)

@@ -25,6 +25,7 @@ use Rattle.pair_changeover.proofs.Views.{view, In}
 use Rattle.pair_streams.specs.Streams.{is_of, those_of}
 use Rattle.pair_streams.proofs.Codes.{Clear, Flows, NewAcknowledges, Kept, carried, backed}
 use Rattle.pair_streams.proofs.Declared.{Declares, Acknowledges, NoneDeclares, ClearBehind, users_declare, users_acknowledge}
+use Rattle.pair_streams.proofs.Mixed.{Mixed, mixed_last}
 use Rattle.pair_streams.proofs.Filtered.{those_joined}
 use Rattle.pair_streams.proofs.Flowing.{back_by, queue_at, here, runs_by, runs_nowhere, Stands}
 use Rattle.pair_streams.proofs.Moving.{those_out, those_in, grows_on, grows_aside, grows_back, in_new, apart_kept}
@@ -54,9 +55,9 @@ module _ (order : Order) (s f : State) (sound : IsSound s) where
   of_none : (stream : ℕ) → is_of stream order_z ≡ false
   of_none stream = no_stream stream s.settings.sio (length s.rows) (label s.settings.dpc s.settings.opc (link_of order) ++ heading_of order ∷ content_with 0 order) sound.managed
 
-  pub queues_flow : ((c : ℕ) → Declares c order_z → ⊥) → (offered got : ℕ → List Message) → Flows s f offered got → Flows (queued order s) f offered got
-  queues_flow none offered got w = carried s (queued order s) f f offered got w
-      (λ stream low. apart_kept s (queued order s) f body (fate_on (target s.links)) refl refl new_at stream (of_none stream) offered got w low refl refl (λ to code via e. none code))
+  pub queues_flow : ((c : ℕ) → Declares c order_z → ⊥) → (offered got lost : ℕ → List Message) → Flows s f offered got lost → Flows (queued order s) f offered got lost
+  queues_flow none offered got lost w = carried s (queued order s) f f offered got lost w
+      (λ stream low. apart_kept s (queued order s) f body (fate_on (target s.links)) refl refl new_at stream (of_none stream) offered got lost w low refl refl (λ to code via e. none code))
       (λ c few e. inl e) (λ c m i d. go c m d (order_in m i)) (λ c m i a. i)
     where
       go : (c : ℕ) (m : Message) → Declares c m → In m (view s f) ⊎ (m ≡ order_z) → In m (view s f)
@@ -151,10 +152,10 @@ module _ (s f : State) (sound : IsSound s) (body : List ℕ) (low : stream_of bo
       ∙ ap (λ (x : List Message). x ++ z ∷ []) (sym (those_joined (stream_of body) (pending via s f) (back_by code s)))
   grows_there Nowhere is = those_in z (stream_of body) own_is (is_parked fate) (ap (λ (q : Place). is_parked (fate_at q s)) is) (aside s) (aside then_s) aside_grows
 
-  module _ (offered got : ℕ → List Message) (w : Flows s f offered got) where
+  module _ (offered got lost : ℕ → List Message) (w : Flows s f offered got lost) where
     apart_so : (stream : ℕ) → stream < 16 → (stream == stream_of body) ≡ false → Kept stream s then_s f f
     apart_so stream few e =
-        apart_kept s then_s f body fate refl refl new_for stream (rw (users, apart_back stream (stream_of body) e) refl) offered got w few (same_place stream few)
+        apart_kept s then_s f body fate refl refl new_for stream (rw (users, apart_back stream (stream_of body) e) refl) offered got lost w few (same_place stream few)
         ((route.alone s.routing stream sound.routing few).accepted_messages (stream_of body) ∙ rw e refl) (λ to code via g. no_declaration code)
 
     -- its own stream stands alone too
@@ -214,7 +215,7 @@ module _ (s f : State) (sound : IsSound s) (body : List ℕ) (low : stream_of bo
         go (inl j) = j
         go (inr same) = absurd (no_declaration c (subst (Declares c) same d))
 
-    pub offers_flow : Flows then_s f (added_at (stream_of body) (z ∷ []) offered) got
+    pub offers_flow : Flows then_s f (added_at (stream_of body) (z ∷ []) offered) got lost
     offers_flow = record {
       flow = λ stream few. go stream few (stream == stream_of body) refl;
       stands = by_stream (λ stream. Stands stream (place_of stream then_s.routing) then_s f) (subst (λ (q : Place). Stands (stream_of body) q then_s f) (sym (same_place (stream_of body) low)) own_stands) (λ stream few d. (apart_so stream few d).stands);
@@ -222,15 +223,16 @@ module _ (s f : State) (sound : IsSound s) (body : List ℕ) (low : stream_of bo
       backing = backed s then_s f f w.backing clear_then answered_then (λ c few e. inl e) was_there (λ c m i a. i);
     }
       where
-        go : (stream : ℕ) → stream < 16 → (b : Bool) → (stream == stream_of body) ≡ b → got stream ++ here stream then_s f ≡ cond b (offered stream ++ z ∷ []) (offered stream)
+        go : (stream : ℕ) → stream < 16 → (b : Bool) → (stream == stream_of body) ≡ b → Mixed (got stream ++ here stream then_s f) (lost stream) (cond b (offered stream ++ z ∷ []) (offered stream))
         go stream few true e =
             let same : stream ≡ stream_of body = eqb-true stream (stream_of body) e in
-            ap (λ (n : ℕ). got n ++ here n then_s f) same
-            ∙ ap (λ (x : List Message). got (stream_of body) ++ x) (ap (λ (q : Place). those_of (stream_of body) (queue_at q then_s f)) (same_place (stream_of body) low) ∙ grows_there place refl)
-            ∙ sym (append_assoc (got (stream_of body)) (here (stream_of body) s f) (z ∷ []))
-            ∙ ap (λ (x : List Message). x ++ z ∷ []) (w.flow (stream_of body) low)
-            ∙ ap (λ (n : ℕ). offered n ++ z ∷ []) (sym same)
-        go stream few false e = ap (λ (x : List Message). got stream ++ x) (apart_so stream few e).here_is ∙ w.flow stream few
+            let last : got (stream_of body) ++ here (stream_of body) then_s f ≡ got (stream_of body) ++ here (stream_of body) s f ++ z ∷ [] =
+            ap (λ (x : List Message). got (stream_of body) ++ x) (ap (λ (q : Place). those_of (stream_of body) (queue_at q then_s f)) (same_place (stream_of body) low) ∙ grows_there place refl)
+            ∙ sym (append_assoc (got (stream_of body)) (here (stream_of body) s f) (z ∷ [])) in
+            subst (λ (n : ℕ). Mixed (got n ++ here n then_s f) (lost n) (offered n ++ z ∷ [])) (sym same)
+            (subst (λ (x : List Message). Mixed x (lost (stream_of body)) (offered (stream_of body) ++ z ∷ [])) (sym last)
+            (mixed_last (got (stream_of body) ++ here (stream_of body) s f) (lost (stream_of body)) (offered (stream_of body)) z (w.flow (stream_of body) low)))
+        go stream few false e = subst (λ (x : List Message). Mixed (got stream ++ x) (lost stream) (offered stream)) (sym (apart_so stream few e).here_is) (w.flow stream few)
 
         unused_case : (stream : ℕ) → stream < 16 → has_messages stream then_s.routing ≡ false → (b : Bool) → (stream == stream_of body) ≡ b → cond b (offered stream ++ z ∷ []) (offered stream) ≡ []
         unused_case stream few e true d = absurd (let never : true ≡ false = sym ((route.alone s.routing stream sound.routing few).accepted_messages (stream_of body) ∙ rw d refl) ∙ e in cc)

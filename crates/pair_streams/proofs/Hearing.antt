@@ -1,5 +1,5 @@
 -- EACH STREAM, WHEN AN END HEARS: the message that it accepts leaves what was pending, and its users get it.
-use Rattle.std.proofs.Common.{refl, arith, ◌≡◌, ◌≢◌, ◌∙◌, ap, sym, subst, ℕ, ◌<◌, ◌==◌, ◌-◌, Bool, true, false, List, [], ◌∷◌, ◌++◌, length, slice_get, Option, Some, None, append_assoc, cond, inl, inr}
+use Rattle.std.proofs.Common.{refl, arith, ◌≡◌, ◌≢◌, ◌∙◌, ap, sym, subst, ℕ, ◌<◌, ◌==◌, ◌-◌, Bool, true, false, List, [], ◌∷◌, ◌++◌, length, slice_get, Option, Some, None, append_assoc, cond, ◌⊎◌, inl, inr}
 use Rattle.std.proofs.lemmas.Bool.{eqb-true, eq-eqb}
 use Rattle.l2_units.specs.declared.unit.Unit.{Unit as SignalUnit}
 use Rattle.l3_orders.specs.declared.order.Order.{Order}
@@ -22,7 +22,7 @@ use Rattle.set_model.specs.declared.phase.Phase.TheVariants.{Up, Down, Settled}
 use Rattle.set_model.specs.declared.reached.Reached.{Reached}
 use Rattle.set_model.specs.declared.reached.Reached.TheVariants.{Upto, Unknown}
 use Rattle.set_model.specs.Changeover.{Obeyed, changed_over, answered, at_link, acknowledged_back, order_obeyed, obeyed, left_link, left_by, released, queued, settled}
-use Rattle.set_model.specs.Rows.{is_unacked, is_back, stream_of, service_indicator}
+use Rattle.set_model.specs.Rows.{is_unacked, is_back, place, stream_of, service_indicator}
 use Rattle.set_model.specs.Sound.{IsSound}
 use Rattle.set_model.specs.State.{LinkState, State, last_accepted}
 use Rattle.set_model.specs.Step.{brought, step}
@@ -33,20 +33,22 @@ use Rattle.pair_model.specs.Promises.{IsOneMethod}
 use Rattle.pair_model.specs.Run.{Message, Past, messages, body_in, got_by, added_at}
 use Rattle.pair_model.proofs.Pairs.{Two, HoldsOf}
 use Rattle.pair_changeover.specs.Pending.{queue, pending, aside, acked_on, accepted_of, accepted_on}
-use Rattle.pair_changeover.proofs.Arriving.{heard, state_is, mid_sound}
+use Rattle.pair_changeover.proofs.Blind.{blind_accepted}
+use Rattle.pair_changeover.proofs.Ordered.{heard, state_is, mid_sound, heard_ordered}
 use Rattle.pair_changeover.proofs.Changes.{by_link, other_then}
 use Rattle.pair_changeover.proofs.Hearing as hearing
-use Rattle.pair_changeover.proofs.Obeying.{Told, Obeys, keeps, settles, answers, acknowledges, releases, told, left_sound, told_sound, told_at, told_still, settles_accepted}
+use Rattle.pair_changeover.proofs.Obeying.{Told, Obeys, keeps, settles, answers, settles_blind, answers_blind, acknowledges, releases, is_reached, told, left_sound, told_sound, told_at, told_reached_so, told_accepted, settles_accepted}
 use Rattle.pair_changeover.proofs.Texts.{AreCodes}
 use Rattle.pair_changeover.proofs.Views.{view, Among, In}
-use Rattle.pair_changeover.proofs.Whole.{Whole}
 use Rattle.pair_streams.specs.Streams.{is_of, those_of}
-use Rattle.pair_streams.proofs.Acting.{Streams, keeps_same, added_none}
+use Rattle.pair_streams.proofs.Acting.{Streams, Covered, keeps_same, added_none}
+use Rattle.pair_streams.proofs.Blindly.{blind_flow, blind_was_in}
 use Rattle.pair_streams.proofs.Codes.{Clear, Flows, NewAcknowledges, backed, far_in, far_carried, acked_flow}
 use Rattle.pair_streams.proofs.Declared.{Declares, Acknowledges, ClearBehind, coa_declares, coa_acknowledges, cba_declares, cba_other}
 use Rattle.pair_streams.proofs.Flowing.{back_by, queue_at, here, runs_by}
 use Rattle.pair_streams.proofs.Flows.{order_in, queues_flow, queues_acks}
-use Rattle.pair_streams.proofs.Known.{covers_on}
+use Rattle.pair_streams.proofs.Known.{given_up, covers_on}
+use Rattle.pair_streams.proofs.Mixed.{Mixed}
 use Rattle.pair_streams.proofs.Moving.{same_in, same_flow}
 use Rattle.pair_streams.proofs.Returned.{gone_orders, releases_flow}
 use Rattle.pair_streams.proofs.Settled.{was_in, settles_flow}
@@ -57,59 +59,109 @@ sent_not_back : (n c : ℕ) (fate : Fate) → is_unacked n fate ≡ true → is_
 sent_not_back n c (Unacked l) e = refl
 sent_not_back n c _ e = absurd cc
 
-module _ (k : ℕ) (body : List ℕ) (s f : State) (sound : IsSound s) (codes : AreCodes s.settings) (offered got far_offered far_got : ℕ → List Message) (w : Flows s f offered got) (v : Flows f s far_offered far_got) where
+module _ (emergencies : Bool) (k : ℕ) (body : List ℕ) (s f : State) (sound : IsSound s) (codes : AreCodes s.settings) (offered got lost far_offered far_got far_lost : ℕ → List Message) (w : Flows s f offered got lost) (v : Flows f s far_offered far_got far_lost) where
+  -- what is lost then was lost before, or is given up; and that in an emergency alone
   pub record Both' (t : State) : Type 0 where
-    pub out : Flows t f offered got
-    pub back : Flows f t far_offered far_got
+    pub lost_then : ℕ → List Message
+    pub out : Flows t f offered got lost_then
+    pub back : Flows f t far_offered far_got far_lost
+    pub of : (stream : ℕ) (m : Message) → Among m (lost_then stream) → Among m (lost stream) ⊎ (place m.number t.rows ≡ Some given_up)
+    pub none : emergencies ≡ false → (stream : ℕ) → lost_then stream ≡ lost stream
 
   -- where no acknowledgement of a changeback comes to stand
-  by_acks : (t : State) → ((l : ℕ) → accepted_on l t ≡ accepted_on l s) → Flows t f offered got → NewAcknowledges (view t f) (view s f) → Both' t
-  by_acks t accepted out acks = record { out = out; back = far_carried s t f accepted far_offered far_got acks v }
+  by_acks : (t : State) → ((l : ℕ) → accepted_on l t ≡ accepted_on l s) → Flows t f offered got lost → NewAcknowledges (view t f) (view s f) → Both' t
+  by_acks t accepted out acks = record {
+    lost_then = lost;
+    out = out;
+    back = far_carried s t f accepted far_offered far_got far_lost acks v;
+    of = λ stream m a. inl a;
+    none = λ e stream. refl;
+  }
 
   still : (t : State) → t.rows ≡ s.rows → t.links ≡ s.links → t.routing ≡ s.routing → Both' t
   still t rows links routing =
-      let k = keeps_same s f sound offered got w t rows links routing in
+      let k = keeps_same s f sound offered got lost w t rows links routing in
       by_acks t (λ l. ap (λ (ls : List LinkState). accepted_of (slice_get ls l)) links) k.out k.acks
 
   settled_so : (fsn l : ℕ) (link : LinkState) → IsAt l link Down s → Told fsn l link s f → Both' (settled (Upto fsn) l link s)
   settled_so fsn l link at told_so =
       let t = settled (Upto fsn) l link s in
-      let accepted = settles_accepted fsn l link s f sound at told_so in
-      by_acks t accepted (settles_flow fsn l link s f sound at told_so offered got w (λ c m i a. far_in s t f accepted m i)) (λ c m i a. was_in fsn l link s f sound at told_so m i)
+      let so = is_reached fsn l link s f sound at told_so in
+      let accepted = settles_accepted fsn l link s f sound at so in
+      by_acks t accepted (settles_flow fsn l link s f sound at so offered got lost w (λ c m i a. far_in s t f accepted m i)) (λ c m i a. was_in fsn l link s f sound at so m i)
+
+  -- without a number
+  blind_so : (l : ℕ) (link : LinkState) → IsAt l link Down s → emergencies ≡ true → Both' (settled Unknown l link s)
+  blind_so l link at may =
+      let t = settled Unknown l link s in
+      let then_lost = blind_flow l link s f sound at offered got lost w in
+      record {
+        lost_then = then_lost.lost_then;
+        out = then_lost.flows;
+        back = far_carried s t f (blind_accepted l link s f sound at) far_offered far_got far_lost (λ c m i a. blind_was_in l link s f sound at m i) v;
+        of = then_lost.of;
+        none = λ e stream. absurd (let never : true ≡ false = sym may ∙ e in cc);
+      }
 
   -- it leaves the link first, and acknowledges the order
-  answered_so : (fsn l : ℕ) (link : LinkState) (at : IsAt l link Up s) → Told fsn l link s f → Both' (settled (Upto fsn) l (left_link false link) (told l link s f sound codes at))
-  answered_so fsn l link at told_so =
-      let left = left_by false l link s in
-      let leaves_sound = left_sound l link s f sound codes at in
-      let there = told l link s f sound codes at in
-      let there_sound = told_sound l link s f sound codes at in
-      let there_at = told_at l link s f sound codes at in
-      let there_told = told_still l link s f sound codes at fsn told_so in
-      let t = settled (Upto fsn) l (left_link false link) there in
-      let left_accepted : (n : ℕ) → accepted_on n left ≡ accepted_on n s = by_link l link (left_link false link) s left at.there refl (λ n old new. accepted_of new ≡ accepted_of old) refl (λ n old d. refl) in
-      let settled_accepted = settles_accepted fsn l (left_link false link) there f there_sound there_at there_told in
-      let left_out = leaves_flow false l link s f sound at offered got w (λ c m i a. far_in s left f left_accepted m i) in
-      let there_out = queues_flow (Coa l (last_accepted link)) left f leaves_sound (λ c d. coa_declares s.settings l (length left.rows) (last_accepted link) c d) offered got left_out in
-      by_acks t (λ n. settled_accepted n ∙ left_accepted n)
-      (settles_flow fsn l (left_link false link) there f there_sound there_at there_told offered got there_out (λ c m i a. far_in there t f settled_accepted m i))
-      (λ c m i a. left_orders false l link s f sound at (Cba a.link c) m
-      (queues_acks (Coa l (last_accepted link)) left f leaves_sound (λ d x. coa_acknowledges s.settings l (length left.rows) (last_accepted link) d x) c m (was_in fsn l (left_link false link) there f there_sound there_at there_told m i) a) a.is)
+  module _ (l : ℕ) (link : LinkState) (at : IsAt l link Up s) where
+    abbrev left : State
+    left = left_by false l link s
+
+    abbrev there : State
+    there = told l link s f sound codes at
+
+    there_out : Flows there f offered got lost
+    there_out = queues_flow (Coa l (last_accepted link)) left f (left_sound l link s f sound codes at) (λ c d. coa_declares s.settings l (length left.rows) (last_accepted link) c d) offered got lost
+        (leaves_flow false l link s f sound at offered got lost w (λ c m i a. far_in s left f (by_link l link (left_link false link) s left at.there refl (λ n old new. accepted_of new ≡ accepted_of old) refl (λ n old d. refl)) m i))
+
+    there_acks : (c : ℕ) (m : Message) → In m (view there f) → Acknowledges c m → In m (view s f)
+    there_acks c m i a = left_orders false l link s f sound at (Cba a.link c) m
+        (queues_acks (Coa l (last_accepted link)) left f (left_sound l link s f sound codes at) (λ d x. coa_acknowledges s.settings l (length left.rows) (last_accepted link) d x) c m i a) a.is
+
+    answered_so : (fsn : ℕ) → Told fsn l link s f → Both' (settled (Upto fsn) l (left_link false link) there)
+    answered_so fsn told_so =
+        let there_sound = told_sound l link s f sound codes at in
+        let there_at = told_at l link s f sound codes at in
+        let there_reached = told_reached_so l link s f sound codes at fsn told_so in
+        let t = settled (Upto fsn) l (left_link false link) there in
+        let settled_accepted = settles_accepted fsn l (left_link false link) there f there_sound there_at there_reached in
+        by_acks t (λ n. settled_accepted n ∙ told_accepted l link s f sound codes at n)
+        (settles_flow fsn l (left_link false link) there f there_sound there_at there_reached offered got lost there_out (λ c m i a. far_in there t f settled_accepted m i))
+        (λ c m i a. there_acks c m (was_in fsn l (left_link false link) there f there_sound there_at there_reached m i) a)
+
+    answered_blind : emergencies ≡ true → Both' (settled Unknown l (left_link false link) there)
+    answered_blind may =
+        let there_sound = told_sound l link s f sound codes at in
+        let there_at = told_at l link s f sound codes at in
+        let t = settled Unknown l (left_link false link) there in
+        let then_lost = blind_flow l (left_link false link) there f there_sound there_at offered got lost there_out in
+        record {
+          lost_then = then_lost.lost_then;
+          out = then_lost.flows;
+          back = far_carried s t f (λ n. blind_accepted l (left_link false link) there f there_sound there_at n ∙ told_accepted l link s f sound codes at n) far_offered far_got far_lost
+              (λ c m i a. there_acks c m (blind_was_in l (left_link false link) there f there_sound there_at m i) a) v;
+          of = then_lost.of;
+          none = λ e stream. absurd (let never : true ≡ false = sym may ∙ e in cc);
+        }
 
   -- a declaration is acknowledged
   module _ (code : ℕ) (few : code < 256) (none_declared : (m : Message) → In m (view f s) → Declares code m → ⊥) (none_acked : (m : Message) → In m (view s f) → Acknowledges code m → ⊥) (in_use : code_of code f.routing ≡ Free → ⊥)
       (empty : (stream : ℕ) → stream < 16 → (to via : ℕ) → place_of stream f.routing ≡ Changing to code via → those_of stream (pending via f s) ≡ []) where
     acknowledged_so : (l : ℕ) → Both' (queued (Cba l code) s)
     acknowledged_so l = record {
-      out = queues_flow (Cba l code) s f sound (λ c d. cba_declares s.settings l (length s.rows) code c d) offered got w;
-      back = acked_flow s (queued (Cba l code) s) f (λ n. refl) code _ few far_offered far_got v (order_in (Cba l code) s f sound) (λ c a. cba_other s.settings l (length s.rows) code c a) none_declared none_acked in_use empty;
+      lost_then = lost;
+      of = λ stream m a. inl a;
+      none = λ e stream. refl;
+      out = queues_flow (Cba l code) s f sound (λ c d. cba_declares s.settings l (length s.rows) code c d) offered got lost w;
+      back = acked_flow s (queued (Cba l code) s) f (λ n. refl) code _ few far_offered far_got far_lost v (order_in (Cba l code) s f sound) (λ c a. cba_other s.settings l (length s.rows) code c a) none_declared none_acked in_use empty;
     }
 
   -- what waited for an acknowledgement goes home
   module _ (code : ℕ) (none_declared : (m : Message) → In m (view s f) → Declares code m → ⊥) (none_acked : (m : Message) → In m (view f s) → Acknowledges code m → ⊥)
       (empty : (stream : ℕ) → stream < 16 → (to via : ℕ) → place_of stream s.routing ≡ Changing to code via → those_of stream (pending via s f) ≡ []) where
     released_so : Both' (released code s)
-    released_so = by_acks (released code s) (λ n. refl) (releases_flow code s f sound offered got w none_declared none_acked empty) (λ c m i a. gone_orders code s f sound (Cba a.link c) m i a.is)
+    released_so = by_acks (released code s) (λ n. refl) (releases_flow code s f sound offered got lost w none_declared none_acked empty) (λ c m i a. gone_orders code s f sound (Cba a.link c) m i a.is)
 
 -- AN ORDER IS NO USER'S
 module _ (message : Option Message) (body : List ℕ) where
@@ -176,30 +228,30 @@ rest_of stream m ms e = go (is_of stream m) refl
     go true d = let never : m ∷ those_of stream ms ≡ [] = rw d at e in absurd cc
     go false d = rw d at e
 
-module _ (mx my : Method) (one : IsOneMethod mx my) (p : Two) (h : HoldsOf mx my p) (w : Whole p) (v : Streams p) (k : ℕ) (few : k < length p.near.links) (unit : SignalUnit) (rest : List SignalUnit) (front : units_on k p.back ≡ unit ∷ rest) (link : LinkState) (at : IsAt k link Up p.near) where
+module _ {emergencies : Bool} (mx my : Method) (one : IsOneMethod mx my) (p : Two) (h : HoldsOf mx my p) (v : Streams emergencies p) (k : ℕ) (few : k < length p.near.links) (unit : SignalUnit) (rest : List SignalUnit) (front : units_on k p.back ≡ unit ∷ rest) (link : LinkState) (at : IsAt k link Up p.near) where
   abbrev mid : State
-  mid = hearing.mid mx my one p h w.both k few unit rest front link at
+  mid = hearing.mid mx my one p h v.ordered.both k few unit rest front link at
 
   abbrev taken : Obeyed
-  taken = hearing.taken mx my one p h w.both k few unit rest front link at
+  taken = hearing.taken mx my one p h v.ordered.both k few unit rest front link at
 
   abbrev then_near : State
   then_near = (step p.near (HeardEvent k unit)).state
 
   abbrev then_past : Past
-  then_past = (heard mx my one p h w k few unit rest front link at).near_past
+  then_past = (heard mx my one p h v.ordered k few unit rest front link at).near_past
 
   sound_mid : IsSound mid
-  sound_mid = mid_sound mx my one p h w k few unit rest front link at
+  sound_mid = mid_sound mx my one p h v.ordered k few unit rest front link at
 
   queues : (l : ℕ) → pending l mid p.far ≡ pending l p.near p.far
-  queues = hearing.heard_queues mx my one p h w.both k few unit rest front link at
+  queues = hearing.heard_queues mx my one p h v.ordered.both k few unit rest front link at
 
   aside_same : aside mid ≡ aside p.near
-  aside_same = ap messages (hearing.heard_aside mx my one p h w.both k few unit rest front link at)
+  aside_same = ap messages (hearing.heard_aside mx my one p h v.ordered.both k few unit rest front link at)
 
   backs : (c : ℕ) → back_by c mid ≡ back_by c p.near
-  backs c = ap messages (turned_same (is_unacked k) (is_back c) (Acked k) refl (λ fate e. sent_not_back k c fate e) (hearing.part mx my one p h w.both k few unit rest front link at).acked p.near.rows)
+  backs c = ap messages (turned_same (is_unacked k) (is_back c) (Acked k) refl (λ fate e. sent_not_back k c fate e) (hearing.part mx my one p h v.ordered.both k few unit rest front link at).acked p.near.rows)
 
   mid_in : (m : Message) → In m (view mid p.far) → In m (view p.near p.far)
   mid_in = same_in p.near mid p.far queues aside_same
@@ -207,11 +259,15 @@ module _ (mx my : Method) (one : IsOneMethod mx my) (p : Two) (h : HoldsOf mx my
   abbrev got_then : ℕ → List Message
   got_then = then_past.got
 
-  mid_out : ((m : Message) → In m (view p.far mid) → In m (view p.far p.near)) → Flows mid p.far p.near_past.offered p.far_past.got
-  mid_out less = same_flow p.near mid p.far queues aside_same backs refl p.near_past.offered p.far_past.got v.out (λ c m i a. less m i)
+  mid_out : ((m : Message) → In m (view p.far mid) → In m (view p.far p.near)) → Flows mid p.far p.near_past.offered p.far_past.got v.out_lost
+  mid_out less = same_flow p.near mid p.far queues aside_same backs refl p.near_past.offered p.far_past.got v.out_lost v.out (λ c m i a. less m i)
 
-  abbrev Then : State → Type 0
-  Then t = Flows t p.far p.near_past.offered p.far_past.got × Flows p.far t p.far_past.offered got_then
+  record Then (t : State) : Type 0 where
+    lost_then : ℕ → List Message
+    out : Flows t p.far p.near_past.offered p.far_past.got lost_then
+    back : Flows p.far t p.far_past.offered got_then v.back_lost
+    of : (stream : ℕ) (m : Message) → Among m (lost_then stream) → Among m (v.out_lost stream) ⊎ (place m.number t.rows ≡ Some given_up)
+    none : emergencies ≡ false → (stream : ℕ) → lost_then stream ≡ v.out_lost stream
 
   abbrev Got : Type 0
   Got = (stream : ℕ) → stream < 16 → added_at (stream_of (body_in unit)) (got_by taken.took (slice_get (p.far_past.sent k) (length (p.near_past.taken k))) (body_in unit)) p.near_past.got stream ++ here stream p.far mid ≡ p.near_past.got stream ++ here stream p.far p.near
@@ -224,54 +280,54 @@ module _ (mx my : Method) (one : IsOneMethod mx my) (p : Two) (h : HoldsOf mx my
       ∙ ap (λ (x : List Message). p.near_past.got stream ++ x) same
 
   -- NO BODY IS ACCEPTED
-  module _ (e : brought (hearing.part mx my one p h w.both k few unit rest front link at).accept unit ≡ None) where
+  module _ (e : brought (hearing.part mx my one p h v.ordered.both k few unit rest front link at).accept unit ≡ None) where
     none_accepted : (l : ℕ) → accepted_on l mid ≡ accepted_on l p.near
-    none_accepted = by_link k link (hearing.mid_link mx my one p h w.both k few unit rest front link at) p.near mid at.there refl (λ n old new. accepted_of new ≡ accepted_of old)
-        (let zero_more = hearing.none_counted mx my one p h w.both k few unit rest front link at e in omega (arith, zero_more)) (λ n o d. refl)
+    none_accepted = by_link k link (hearing.mid_link mx my one p h v.ordered.both k few unit rest front link at) p.near mid at.there refl (λ n old new. accepted_of new ≡ accepted_of old)
+        (let zero_more = hearing.none_counted mx my one p h v.ordered.both k few unit rest front link at e in omega (arith, zero_more)) (λ n o d. refl)
 
     same_got : (stream : ℕ) → got_then stream ≡ p.near_past.got stream
     same_got stream =
         ap (λ (x : List Message). added_at (stream_of (body_in unit)) x p.near_past.got stream) (rw e (nothing_got (slice_get (p.far_past.sent k) (length (p.near_past.taken k))) (body_in unit)))
         ∙ added_none (stream_of (body_in unit)) stream p.near_past.got
 
-    none_back : Flows p.far mid p.far_past.offered got_then
+    none_back : Flows p.far mid p.far_past.offered got_then v.back_lost
     none_back =
-        let old = far_carried p.near mid p.far none_accepted p.far_past.offered p.near_past.got (λ c m i a. mid_in m i) v.back in
+        let old = far_carried p.near mid p.far none_accepted p.far_past.offered p.near_past.got v.back_lost (λ c m i a. mid_in m i) v.back in
         record {
-          flow = λ stream low. ap (λ (x : List Message). x ++ here stream p.far mid) (same_got stream) ∙ old.flow stream low;
+          flow = λ stream low. subst (λ (x : List Message). Mixed (x ++ here stream p.far mid) (v.back_lost stream) (p.far_past.offered stream)) (sym (same_got stream)) (old.flow stream low);
           stands = old.stands;
           unused = old.unused;
           backing = old.backing;
         }
 
     none_then : Then taken.state
-    none_then = subst Then (sym (hearing.none_taken mx my one p h w.both k few unit rest front link at e)) (mid_out (far_in p.near mid p.far none_accepted), none_back)
+    none_then = subst Then (sym (hearing.none_taken mx my one p h v.ordered.both k few unit rest front link at e)) (record { lost_then = v.out_lost; out = mid_out (far_in p.near mid p.far none_accepted); back = none_back; of = λ stream m a. inl a; none = λ x stream. refl })
 
   -- ONE IS: it's the first that was pending at the other
-  module _ (body : List ℕ) (e : brought (hearing.part mx my one p h w.both k few unit rest front link at).accept unit ≡ Some body) where
+  module _ (body : List ℕ) (e : brought (hearing.part mx my one p h v.ordered.both k few unit rest front link at).accept unit ≡ Some body) where
     abbrev first : Message
-    first = hearing.first mx my one p h w.both k few unit rest front link at body e
+    first = hearing.first mx my one p h v.ordered.both k few unit rest front link at body e
 
     first_body : first.body ≡ body
-    first_body = (hearing.next_due mx my one p h w.both k few unit rest front link at body e).body_is
+    first_body = (hearing.next_due mx my one p h v.ordered.both k few unit rest front link at body e).body_is
 
     is_body : body_in unit ≡ body
-    is_body = hearing.is_body mx my one p h w.both k few unit rest front link at body e
+    is_body = hearing.is_body mx my one p h v.ordered.both k few unit rest front link at body e
 
     first_is : pending k p.far p.near ≡ first ∷ pending k p.far mid
-    first_is = hearing.first_is mx my one p h w.both k few unit rest front link at body e
+    first_is = hearing.first_is mx my one p h v.ordered.both k few unit rest front link at body e
 
     first_in : In first (view p.far p.near)
-    first_in = hearing.first_in mx my one p h w.both k few unit rest front link at body e
+    first_in = hearing.first_in mx my one p h v.ordered.both k few unit rest front link at body e
 
     far_was : (m : Message) → In m (view p.far mid) → In m (view p.far p.near)
-    far_was = hearing.was_in_far mx my one p h w.both k few unit rest front link at body e
+    far_was = hearing.was_in_far mx my one p h v.ordered.both k few unit rest front link at body e
 
     far_gone : (m : Message) → In m (view p.far mid) → m.number ≢ first.number
-    far_gone = hearing.gone mx my one p h w.both k few unit rest front link at body e
+    far_gone = hearing.gone mx my one p h v.ordered.both k few unit rest front link at body e
 
     others_same : (l : ℕ) → (k == l) ≡ false → pending l p.far mid ≡ pending l p.far p.near
-    others_same l d = ap (λ (o : Option LinkState). queue (accepted_of o - acked_on l p.far) l p.far.rows) (other_then k link (hearing.mid_link mx my one p h w.both k few unit rest front link at) p.near mid at.there refl l d)
+    others_same l d = ap (λ (o : Option LinkState). queue (accepted_of o - acked_on l p.far) l p.far.rows) (other_then k link (hearing.mid_link mx my one p h v.ordered.both k few unit rest front link at) p.near mid at.there refl l d)
 
     -- of a queue the first leaves, or nothing
     by_queue : (P : List Message → List Message → Type 0) → P (first ∷ pending k p.far mid) (pending k p.far mid) → ((q : List Message) → P q q) → (l : ℕ) → P (pending l p.far p.near) (pending l p.far mid)
@@ -332,7 +388,7 @@ module _ (mx my : Method) (one : IsOneMethod mx my) (p : Two) (h : HoldsOf mx my
       got_it : got_by taken.took (slice_get (p.far_past.sent k) (length (p.near_past.taken k))) (body_in unit) ≡ first ∷ []
       got_it =
           ap (λ (t : Took). got_by t (slice_get (p.far_past.sent k) (length (p.near_past.taken k))) (body_in unit)) took_it
-          ∙ ap (λ (m : Option Message). got_by TookMessage m (body_in unit)) (hearing.first_sent mx my one p h w.both k few unit rest front link at body e)
+          ∙ ap (λ (m : Option Message). got_by TookMessage m (body_in unit)) (hearing.first_sent mx my one p h v.ordered.both k few unit rest front link at body e)
           ∙ ap (λ (b : List ℕ). record { number = first.number; body = b } ∷ []) (is_body ∙ sym first_body)
 
       users_got : Got
@@ -373,9 +429,9 @@ module _ (mx my : Method) (one : IsOneMethod mx my) (p : Two) (h : HoldsOf mx my
         among_was : (l : ℕ) (m : Message) → Among m (pending l p.far mid) → Among m (pending l p.far p.near)
         among_was l m = by_queue (λ was now. Among m now → Among m was) (λ a. inr a) (λ q a. a) l
 
-    mid_back : Flows p.far mid p.far_past.offered got_then
+    mid_back : Flows p.far mid p.far_past.offered got_then v.back_lost
     mid_back = record {
-      flow = λ stream low. got_some stream low ∙ v.back.flow stream low;
+      flow = λ stream low. subst (λ (x : List Message). Mixed x (v.back_lost stream) (p.far_past.offered stream)) (sym (got_some stream low)) (v.back.flow stream low);
       stands = λ stream low. let old = v.back.stands stream low in record { alone = λ l d. none_left stream l (old.alone l d); none_aside = old.none_aside };
       unused = v.back.unused;
       backing = backed p.far p.far p.near mid v.back.backing
@@ -426,33 +482,47 @@ module _ (mx my : Method) (one : IsOneMethod mx my) (p : Two) (h : HoldsOf mx my
       empty_here : (stream : ℕ) → stream < 16 → (to via : ℕ) → place_of stream mid.routing ≡ Changing to code via → those_of stream (pending via mid p.far) ≡ []
       empty_here stream low to via is_there = ap (those_of stream) (queues via) ∙ v.out.backing.answered stream low to code via is_there first first_in acks_first
 
-    out_mid : Flows mid p.far p.near_past.offered p.far_past.got
+    out_mid : Flows mid p.far p.near_past.offered p.far_past.got v.out_lost
     out_mid = mid_out far_was
 
-    pair_of : (t : State) → Both' k body mid p.far sound_mid w.near.codes p.near_past.offered p.far_past.got p.far_past.offered got_then out_mid mid_back t → Then t
-    pair_of t b = (b.out, b.back)
+    pair_of : (t : State) → Both' emergencies k body mid p.far sound_mid v.ordered.near_codes p.near_past.offered p.far_past.got v.out_lost p.far_past.offered got_then v.back_lost out_mid mid_back t → Then t
+    pair_of t b = record { lost_then = b.lost_then; out = b.out; back = b.back; of = b.of; none = b.none }
 
-    obeyed_then : (t : State) → Obeys k body mid p.far t → Then t
-    obeyed_then t (keeps _ rows links routing none) = pair_of t (still k body mid p.far sound_mid w.near.codes p.near_past.offered p.far_past.got p.far_past.offered got_then out_mid mid_back t rows links routing)
-    obeyed_then t (settles fsn l other apart_from there told_so about over) = pair_of t (settled_so k body mid p.far sound_mid w.near.codes p.near_past.offered p.far_past.got p.far_past.offered got_then out_mid mid_back fsn l other there told_so)
-    obeyed_then t (answers fsn l other apart_from there told_so about over) = pair_of t (answered_so k body mid p.far sound_mid w.near.codes p.near_past.offered p.far_past.got p.far_past.offered got_then out_mid mid_back fsn l other there told_so)
-    obeyed_then t (acknowledges l code is) = pair_of t (acknowledged_so k body mid p.far sound_mid w.near.codes p.near_past.offered p.far_past.got p.far_past.offered got_then out_mid mid_back code (code_few l code is) (none_more l code is) (none_acked l code is) (in_use l code is) (empty_there l code is) l)
-    obeyed_then t (releases l code is) = pair_of t (released_so k body mid p.far sound_mid w.near.codes p.near_past.offered p.far_past.got p.far_past.offered got_then out_mid mid_back code (none_declared l code is) (none_more_acks l code is) (empty_here l code is))
+    obeyed_then : (t : State) → Obeys emergencies k body mid p.far t → Then t
+    obeyed_then t (keeps _ rows links routing none) = pair_of t (still emergencies k body mid p.far sound_mid v.ordered.near_codes p.near_past.offered p.far_past.got v.out_lost p.far_past.offered got_then v.back_lost out_mid mid_back t rows links routing)
+    obeyed_then t (settles fsn l other apart_from there told_so about over) = pair_of t (settled_so emergencies k body mid p.far sound_mid v.ordered.near_codes p.near_past.offered p.far_past.got v.out_lost p.far_past.offered got_then v.back_lost out_mid mid_back fsn l other there told_so)
+    obeyed_then t (answers fsn l other apart_from there told_so about over) = pair_of t (answered_so emergencies k body mid p.far sound_mid v.ordered.near_codes p.near_past.offered p.far_past.got v.out_lost p.far_past.offered got_then v.back_lost out_mid mid_back l other there fsn told_so)
+    obeyed_then t (settles_blind l other may apart_from there about over) = pair_of t (blind_so emergencies k body mid p.far sound_mid v.ordered.near_codes p.near_past.offered p.far_past.got v.out_lost p.far_past.offered got_then v.back_lost out_mid mid_back l other there may)
+    obeyed_then t (answers_blind l other may apart_from there about over) = pair_of t (answered_blind emergencies k body mid p.far sound_mid v.ordered.near_codes p.near_past.offered p.far_past.got v.out_lost p.far_past.offered got_then v.back_lost out_mid mid_back l other there may)
+    obeyed_then t (acknowledges l code is) = pair_of t (acknowledged_so emergencies k body mid p.far sound_mid v.ordered.near_codes p.near_past.offered p.far_past.got v.out_lost p.far_past.offered got_then v.back_lost out_mid mid_back code (code_few l code is) (none_more l code is) (none_acked l code is) (in_use l code is) (empty_there l code is) l)
+    obeyed_then t (releases l code is) = pair_of t (released_so emergencies k body mid p.far sound_mid v.ordered.near_codes p.near_past.offered p.far_past.got v.out_lost p.far_past.offered got_then v.back_lost out_mid mid_back code (none_declared l code is) (none_more_acks l code is) (empty_here l code is))
 
     some_then : Then taken.state
-    some_then = obeyed_then taken.state (hearing.some_obeyed mx my one p h w.both k few unit rest front link at body e)
+    some_then = obeyed_then taken.state (hearing.some_obeyed mx my one p h v.ordered.both k few unit rest front link at body e)
 
   both_then : Then then_near
-  both_then = subst Then (sym (state_is mx my one p h w k few unit rest front link at)) (go (brought (hearing.part mx my one p h w.both k few unit rest front link at).accept unit) refl)
+  both_then = subst Then (sym (state_is mx my one p h v.ordered k few unit rest front link at)) (go (brought (hearing.part mx my one p h v.ordered.both k few unit rest front link at).accept unit) refl)
     where
-      go : (body : Option (List ℕ)) → brought (hearing.part mx my one p h w.both k few unit rest front link at).accept unit ≡ body → Then taken.state
+      go : (body : Option (List ℕ)) → brought (hearing.part mx my one p h v.ordered.both k few unit rest front link at).accept unit ≡ body → Then taken.state
       go None e = none_then e
       go (Some body) e = some_then body e
 
-  pub hears_streams : Streams (heard mx my one p h w k few unit rest front link at)
+  pub hears_streams : Streams emergencies (heard mx my one p h v.ordered k few unit rest front link at)
   hears_streams = record {
-    out = both_then.0;
-    back = both_then.1;
-    near_covers = covers_on _ p.near (HeardEvent k unit) (λ body e. absurd cc) v.near_covers;
+    ordered = heard_ordered mx my one p h v.ordered k few unit rest front link at;
+    out_lost = both_then.lost_then;
+    back_lost = v.back_lost;
+    out = both_then.out;
+    back = both_then.back;
+    near_covers = record { managed = covered.managed; numbered = covered.numbered; known = covered.known; gone = λ number q. gone_case number q.0 q.1 (both_then.of q.0 q.1 q.2) q.3 };
     far_covers = v.far_covers;
+    out_whole = λ e stream. both_then.none e stream ∙ v.out_whole e stream;
+    back_whole = v.back_whole;
   }
+    where
+      covered : Covered p.near_past v.out_lost then_near
+      covered = covers_on _ _ p.near (HeardEvent k unit) (λ body e. absurd cc) v.near_covers
+
+      gone_case : (number stream : ℕ) (m : Message) → Among m (v.out_lost stream) ⊎ (place m.number then_near.rows ≡ Some given_up) → m.number ≡ number → place number then_near.rows ≡ Some given_up
+      gone_case number stream m (inl a) same = covered.gone number (stream, m, a, same)
+      gone_case number stream m (inr e) same = subst (λ (n : ℕ). place n then_near.rows ≡ Some given_up) same e

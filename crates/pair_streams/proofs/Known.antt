@@ -1,18 +1,20 @@
--- EVERY MESSAGE OF A USER THAT A SET HOLDS was offered there: whatever is asked, an own new row is an order.
+-- EVERY MESSAGE OF A USER THAT A SET HOLDS was offered there: whatever is asked, an own new row is an order. And what was
+-- discarded stays so.
 use Rattle.std.proofs.Common.{refl, ◌≡◌, ◌∙◌, ap, sym, subst, ℕ, ◌==◌, ◌%◌, Bool, true, false, List, [], ◌∷◌, ◌++◌, length, Some, None, ◌⊎◌, inl, inr}
 use Rattle.std.proofs.lemmas.Bool.{eq-eqb, eqb-true}
 use Rattle.l3_orders.specs.declared.order.Order.{Order}
 use Rattle.l3_orders.specs.declared.order.Order.TheVariants.{Cbd}
 use Rattle.l3_orders.specs.Grammar.{text}
 use Rattle.set_events.specs.declared.answer.Fate.{Fate}
-use Rattle.set_events.specs.declared.answer.Fate.TheVariants.{Waiting}
+use Rattle.set_events.specs.declared.answer.Fate.TheVariants.{Waiting, Unacked, Acked, Discarded}
+use Rattle.set_events.specs.declared.answer.DiscardCause.TheVariants.{Emergency}
 use Rattle.set_route.specs.Routing.{code_for}
 use Rattle.set_events.specs.declared.event.Event.{Event}
 use Rattle.set_events.specs.declared.event.Event.TheVariants.{Offer}
 use Rattle.set_model.specs.Changeover.{fate_on, left_by, moved_over, declared, released}
 use Rattle.l2_units.specs.Grammar.{head_of}
 use Rattle.set_model.specs.Control.{Choice, again, first, fill, choice_of, part_of}
-use Rattle.set_model.specs.Rows.{Row, is_on, is_back, is_back_to, appended, moved, unack, octets_in, body_at, service_indicator, IsNumbered}
+use Rattle.set_model.specs.Rows.{Row, is_on, is_back, is_back_to, is_unacked, is_waiting, is_parked, all_with, appended, moved, unack, octets_in, place, body_at, service_indicator, IsNumbered}
 use Rattle.set_model.specs.Sound.{IsManaged}
 use Rattle.set_model.specs.State.{LinkState, State, target, window_of}
 use Rattle.set_model.specs.Step.{is_msu, sends, step}
@@ -21,19 +23,26 @@ use Rattle.set_model.proofs.Finding.{numbered_appended, new_row}
 use Rattle.set_model.proofs.Lookups.{body_moved}
 use Rattle.set_model.proofs.Moving.{moved_numbered}
 use Rattle.set_model.proofs.Walk.{KeptBy, step_walks}
+use Rattle.pair_changeover.proofs.Staying.{Stays, turned_stay, changed_stay, moved_stay, joined_stay}
 
-module _ (P : ℕ → List ℕ → Type 0) where
+-- in an emergency
+abbrev pub given_up : Fate
+given_up = Discarded Emergency
+
+module _ (P : ℕ → List ℕ → Type 0) (Q : ℕ → Type 0) where
   pub record Covers (s : State) : Type 0 where
     pub managed : IsManaged s.settings
     pub numbered : IsNumbered s.rows
     pub known : (number : ℕ) (body : List ℕ) → body_at number s.rows ≡ Some body → (service_indicator body == 0) ≡ false → P number body
+    pub gone : (number : ℕ) → Q number → place number s.rows ≡ Some given_up
 
   -- rows that keep their bodies
-  covers_kept : (s t : State) → t.settings ≡ s.settings → IsNumbered t.rows → ((number : ℕ) → body_at number t.rows ≡ body_at number s.rows) → Covers s → Covers t
-  covers_kept s t settings numbered bodies c = record {
+  covers_kept : (s t : State) → t.settings ≡ s.settings → IsNumbered t.rows → ((number : ℕ) → body_at number t.rows ≡ body_at number s.rows) → Stays given_up s.rows t.rows → Covers s → Covers t
+  covers_kept s t settings numbered bodies stays c = record {
     managed = subst IsManaged (sym settings) c.managed;
     numbered = numbered;
     known = λ number body e users. c.known number body (sym (bodies number) ∙ e) users;
+    gone = λ number q. stays number (c.gone number q);
   }
 
   -- a new row has its own body
@@ -58,6 +67,7 @@ module _ (P : ℕ → List ℕ → Type 0) where
     managed = subst IsManaged (sym settings) c.managed;
     numbered = rw rows (numbered_appended s.rows body fate c.numbered);
     known = λ number other e users. go number other users (last_row number (new_row (length s.rows) body fate) s.rows other (ap (body_at number) (sym rows) ∙ e));
+    gone = λ number q. rw rows (joined_stay given_up s.rows _ number (c.gone number q));
   }
     where
       go : (number : ℕ) (other : List ℕ) → (service_indicator other == 0) ≡ false → (body_at number s.rows ≡ Some other) ⊎ ((length s.rows ≡ number) × (body ≡ other)) → P number other
@@ -68,29 +78,36 @@ module _ (P : ℕ → List ℕ → Type 0) where
   order_covers order s t fate settings rows c = covers_appended s t (text order s.settings.sio s.settings.dpc s.settings.opc) fate settings rows
       (λ users. let own : (s.settings.sio % 16 == 0) ≡ true = eq-eqb (s.settings.sio % 16) 0 c.managed in let no : true ≡ false = sym own ∙ users in absurd cc) c
 
-  moved_covers : (test : Fate → Bool) (fate : Row → Fate) (s t : State) → t.settings ≡ s.settings → t.rows ≡ moved test fate s.rows → Covers s → Covers t
-  moved_covers test fate s t settings rows c =
-      covers_kept s t settings (rw rows (moved_numbered test fate s.rows c.numbered)) (λ number. ap (body_at number) rows ∙ body_moved test fate number s.rows c.numbered) c
+  moved_covers : (test : Fate → Bool) (fate : Row → Fate) (s t : State) → test given_up ≡ false → t.settings ≡ s.settings → t.rows ≡ moved test fate s.rows → Covers s → Covers t
+  moved_covers test fate s t off settings rows c =
+      covers_kept s t settings (rw rows (moved_numbered test fate s.rows c.numbered)) (λ number. ap (body_at number) rows ∙ body_moved test fate number s.rows c.numbered)
+      (rw rows (moved_stay given_up test off fate s.rows c.numbered)) c
 
   small : (Known : ℕ → Type 0) (May : Type 0) → KeptBy Known May (λ s t. Covers s → Covers t)
   small Known May = record {
     same = λ s c. c;
     after = λ a b d p q c. q (p c);
-    delivers = λ body s c. record { managed = c.managed; numbered = c.numbered; known = c.known };
+    delivers = λ body s c. record { managed = c.managed; numbered = c.numbered; known = c.known; gone = c.gone };
     queues = λ order s c. order_covers order s _ (fate_on (target s.links)) refl refl c;
-    leaves = λ blind n link s known at c. moved_covers (is_back_to n) _ s (left_by blind n link s) refl refl c;
-    acknowledges = λ count n link s known at few c. let k = (acknowledged n count s.rows).kept in covers_kept s _ refl (k.numbered c.numbered) (k.bodies c.numbered) c;
-    gives_up_sent = λ cause n link s known at c. let k = (sent_given_up n cause s.rows).kept in covers_kept s _ refl (k.numbered c.numbered) (k.bodies c.numbered) c;
-    gives_up_waiting = λ cause n link s known at c. let k = (waiting_given_up n cause s.rows).kept in covers_kept s _ refl (k.numbered c.numbered) (k.bodies c.numbered) c;
-    moves_off = λ n link s known at c. moved_covers (is_on n) _ s (moved_over n link s) refl refl c;
+    leaves = λ blind n link s known at c. moved_covers (is_back_to n) _ s (left_by blind n link s) refl refl refl c;
+    acknowledges = λ count n link s known at few c.
+        let k = (acknowledged n count s.rows).kept in
+        covers_kept s _ refl (k.numbered c.numbered) (k.bodies c.numbered) (turned_stay given_up (is_unacked n) refl (Acked n) count s.rows) c;
+    gives_up_sent = λ cause n link s known at c.
+        let k = (sent_given_up n cause s.rows).kept in
+        covers_kept s _ refl (k.numbered c.numbered) (k.bodies c.numbered) (changed_stay given_up (is_unacked n) refl (Discarded cause) s.rows) c;
+    gives_up_waiting = λ cause n link s known at c.
+        let k = (waiting_given_up n cause s.rows).kept in
+        covers_kept s _ refl (k.numbered c.numbered) (k.bodies c.numbered) (changed_stay given_up (is_waiting n) refl (Discarded cause) s.rows) c;
+    moves_off = λ n link s known at c. moved_covers (is_on n) _ s (moved_over n link s) refl refl refl c;
     declares = λ may home alternative s up can c. order_covers (Cbd home (code_for home alternative)) s (declared home alternative s) (Waiting alternative) refl refl c;
-    releases = λ code s known c. moved_covers (is_back code) _ s (released code s) refl refl c;
+    releases = λ code s known c. moved_covers (is_back code) _ s (released code s) refl refl refl c;
   }
 
   sends_covers : (choice : Choice) (n : ℕ) (link : LinkState) (s : State) → Covers s → Covers (sends choice n s link).state
-  sends_covers (again place) n link s c = covers_kept s _ refl c.numbered (λ number. refl) c
-  sends_covers fill n link s c = covers_kept s _ refl c.numbered (λ number. refl) c
-  sends_covers first n link s c = let k = (sent n s.rows).kept in covers_kept s _ refl (k.numbered c.numbered) (k.bodies c.numbered) c
+  sends_covers (again place) n link s c = covers_kept s _ refl c.numbered (λ number. refl) (λ number e. e) c
+  sends_covers fill n link s c = covers_kept s _ refl c.numbered (λ number. refl) (λ number e. e) c
+  sends_covers first n link s c = let k = (sent n s.rows).kept in covers_kept s _ refl (k.numbered c.numbered) (k.bodies c.numbered) (turned_stay given_up (is_waiting n) refl (Unacked n) 1 s.rows) c
 
   -- every event but an offer
   pub covers_on : (s : State) (event : Event) → ((body : List ℕ) → event ≡ Offer body → ⊥) → Covers s → Covers (step s event).state
@@ -99,8 +116,13 @@ module _ (P : ℕ → List ℕ → Type 0) where
     unmoved = c;
     rests = λ t u p q. q p;
     offers = λ body e none. absurd (apart body e);
-    takes = λ body rest e there. record { managed = c.managed; numbered = c.numbered; known = c.known };
+    takes = λ body rest e there. record { managed = c.managed; numbered = c.numbered; known = c.known; gone = c.gone };
     sends = λ n link e at. sends_covers (choice_of (octets_in (unack n s.rows)) link.control (window_of n link s.rows)) n link s c;
-    hears = λ n unit link e at. let k = (acknowledged n (part_of link.control (window_of n link s.rows) (head_of unit) (is_msu unit)).acked s.rows).kept in covers_kept s _ refl (k.numbered c.numbered) (k.bodies c.numbered) c;
-    rises = λ n link e at. let k = (unparked n s.rows).kept in covers_kept s _ refl (k.numbered c.numbered) (k.bodies c.numbered) c;
+    hears = λ n unit link e at.
+        let count = (part_of link.control (window_of n link s.rows) (head_of unit) (is_msu unit)).acked in
+        let k = (acknowledged n count s.rows).kept in
+        covers_kept s _ refl (k.numbered c.numbered) (k.bodies c.numbered) (turned_stay given_up (is_unacked n) refl (Acked n) count s.rows) c;
+    rises = λ n link e at.
+        let k = (unparked n s.rows).kept in
+        covers_kept s _ refl (k.numbered c.numbered) (k.bodies c.numbered) (moved_stay given_up is_parked refl (all_with (Waiting n)) s.rows c.numbered) c;
   })

@@ -1,13 +1,16 @@
 pub mod Acting
 pub mod Arrived
+pub mod Blindly
 pub mod Codes
 pub mod Declared
 pub mod Declaring
 pub mod Filtered
 pub mod Flowing
 pub mod Flows
+pub mod Given
 pub mod Hearing
 pub mod Known
+pub mod Mixed
 pub mod Moving
 pub mod Returned
 pub mod Risen

@@ -43,7 +43,7 @@ module _ (s t f : State) (queues : (l : ℕ) → pending l t f ≡ pending l s f
     queue_same (Changing to code via) = ap₂ (λ (x y : List Message). x ++ y) (queues via) (backs code)
     queue_same Nowhere = aside_same
 
-    module _ (routing : t.routing ≡ s.routing) (offered got : ℕ → List Message) (w : Flows s f offered got) where
+    module _ (routing : t.routing ≡ s.routing) (offered got lost : ℕ → List Message) (w : Flows s f offered got lost) where
       same_kept : (stream : ℕ) → stream < 16 → Kept stream s t f f
       same_kept stream low =
           let same : place_of stream t.routing ≡ place_of stream s.routing = ap (place_of stream) routing in
@@ -55,8 +55,8 @@ module _ (s t f : State) (queues : (l : ℕ) → pending l t f ≡ pending l s f
             answered = λ to code via e n i a. ap (those_of stream) (queues via) ∙ w.backing.answered stream low to code via (sym same ∙ e) n i a;
           }
 
-      pub same_flow : NewAcknowledges (view f t) (view f s) → Flows t f offered got
-      same_flow acknowledges = carried s t f f offered got w same_kept (λ c few e. inl (ap (code_of c) (sym routing) ∙ e)) (λ c m i d. same_in m i) acknowledges
+      pub same_flow : NewAcknowledges (view f t) (view f s) → Flows t f offered got lost
+      same_flow acknowledges = carried s t f f offered got lost w same_kept (λ c few e. inl (ap (code_of c) (sym routing) ∙ e)) (λ c m i d. same_in m i) acknowledges
 
 -- A MESSAGE STANDS LAST
 module _ (z : Message) (stream : ℕ) where
@@ -149,7 +149,7 @@ module _ (s t f : State) (body : List ℕ) (fate : Fate) (rows : t.rows ≡ appe
         aside_case m (inl x) = old.none_aside m x
         aside_case m (inr p) = λ e. none (subst (Declares code) p.0 e)
 
-    module _ (offered got : ℕ → List Message) (w : Flows s f offered got) (low : stream < 16) (same : place_of stream t.routing ≡ place_of stream s.routing) (used : has_messages stream t.routing ≡ has_messages stream s.routing) (none : (to code via : ℕ) → place_of stream s.routing ≡ Changing to code via → Declares code z → ⊥) where
+    module _ (offered got lost : ℕ → List Message) (w : Flows s f offered got lost) (low : stream < 16) (same : place_of stream t.routing ≡ place_of stream s.routing) (used : has_messages stream t.routing ≡ has_messages stream s.routing) (none : (to code via : ℕ) → place_of stream s.routing ≡ Changing to code via → Declares code z → ⊥) where
       pub apart_kept : Kept stream s t f f
       apart_kept = record {
         here_is = ap (λ (p : Place). those_of stream (queue_at p t f)) same ∙ queue_stays (place_of stream s.routing);

@@ -102,7 +102,7 @@ module _ (code : ℕ) (s f : State) (sound : IsSound s) where
       go true up = added_order s gone f (adds up) (messages (parked rows_turned)) (queues up) (releases_aside code s f sound) (users_added up) (users_parked up) order m i is
       go false down = same_in s gone f (queues_same down) (aside_stays down) m i
 
-  module _ (offered got : ℕ → List Message) (w : Flows s f offered got) where
+  module _ (offered got lost : ℕ → List Message) (w : Flows s f offered got lost) where
     module _ (up : is_up to_home s ≡ true) where
       parts : (other : Fate → Bool) (b : Bool) (stream : ℕ) → other (Waiting to_home) ≡ b → those_of stream (messages (standing other rows_turned)) ≡ cond b (those_of stream (back_by code s)) []
       parts other b stream e =
@@ -246,5 +246,5 @@ module _ (code : ℕ) (s f : State) (sound : IsSound s) where
           )
           go false other = inl (ap (λ (b : Bool). cond b Free (code_of c s.routing)) (sym other) ∙ sym ((route.codes_alone s.routing c sound.routing few).back_code code) ∙ e)
 
-      pub releases_flow : Flows gone f offered got
-      releases_flow = carried s gone f f offered got w (each_kept (is_up to_home s) refl) gone_freed (λ c m i d. gone_orders (Cbd d.link c) m i d.is) (λ c m i a. i)
+      pub releases_flow : Flows gone f offered got lost
+      releases_flow = carried s gone f f offered got lost w (each_kept (is_up to_home s) refl) gone_freed (λ c m i d. gone_orders (Cbd d.link c) m i d.is) (λ c m i a. i)

@@ -15,6 +15,7 @@ use Rattle.pair_changeover.proofs.Views.{view, Among, In, stands_on, stands_asid
 use Rattle.pair_streams.specs.Streams.{those_of}
 use Rattle.pair_streams.proofs.Codes.{Clear, Flows, NewAcknowledges, Kept, carried}
 use Rattle.pair_streams.proofs.Declared.{NoneDeclares, ClearBehind}
+use Rattle.pair_streams.proofs.Mixed.{Mixed}
 use Rattle.pair_streams.proofs.Flowing.{back_by, queue_at, here, runs_by, runs_nowhere, Stands}
 
 -- what is left of a list where nothing came before it
@@ -43,7 +44,7 @@ module _ (k : ℕ) (s t f g : State) (sound : IsSound s) (a : Rises k s t) (b : 
       go false e = stands_on l (subst (Among m) (same_at l e) x)
   risen_in m (stands_aside x) = absurd (subst (Among m) aside_none x)
 
-  module _ (offered got : ℕ → List Message) (w : Flows s f offered got) (stream : ℕ) (low : stream < 16) where
+  module _ (offered got lost : ℕ → List Message) (w : Flows s f offered got lost) (stream : ℕ) (low : stream < 16) where
     place_then : place_of stream t.routing ≡ place_raised k (stream % s.routing.links) (has_messages stream s.routing) (place_of stream s.routing)
     place_then = ap (place_of stream) routing ∙ (route.alone s.routing stream sound.routing low).raised_place k
 
@@ -119,7 +120,7 @@ module _ (k : ℕ) (s t f g : State) (sound : IsSound s) (a : Rises k s t) (b : 
       where
         -- one that never had a message has none anywhere
         none_here : has_messages stream s.routing ≡ false → here stream s f ≡ []
-        none_here e = rest_none (got stream) (here stream s f) (w.flow stream low ∙ w.unused stream low e)
+        none_here e = rest_none (got stream) (here stream s f) (subst (λ (x : List Message). Mixed (got stream ++ here stream s f) (lost stream) x) (w.unused stream low e) (w.flow stream low)).0
 
         on_case : (m : ℕ) → place_of stream s.routing ≡ On m → (home used : Bool) → (stream % s.routing.links == k) ≡ home → has_messages stream s.routing ≡ used → Kept stream s t f g
         on_case m is true false h u =
@@ -154,5 +155,5 @@ module _ (k : ℕ) (s t f g : State) (sound : IsSound s) (a : Rises k s t) (b : 
             (from_aside ∙ ap (λ (q : Place). those_of stream (queue_at q s f)) (sym is))
             (λ l d. stood.alone l refl)
 
-  pub rises_flow : (offered got : ℕ → List Message) → Flows s f offered got → NewAcknowledges (view g t) (view f s) → Flows t g offered got
-  rises_flow offered got w acknowledges = carried s t f g offered got w (λ stream low. risen_kept offered got w stream low) (λ c few e. inl (ap (code_of c) (sym routing) ∙ e)) (λ c m i d. risen_in m i) acknowledges
+  pub rises_flow : (offered got lost : ℕ → List Message) → Flows s f offered got lost → NewAcknowledges (view g t) (view f s) → Flows t g offered got lost
+  rises_flow offered got lost w acknowledges = carried s t f g offered got lost w (λ stream low. risen_kept offered got lost w stream low) (λ c few e. inl (ap (code_of c) (sym routing) ∙ e)) (λ c m i d. risen_in m i) acknowledges

@@ -1,4 +1,5 @@
--- EVERY SOUND RUN KEEPS EACH STREAM: one induction over its steps, beside those of the links and of changeover.
+-- EVERY SOUND RUN KEEPS EACH STREAM, and every quiet one what isn't given up: one induction over the steps, beside that of
+-- the links.
 use Rattle.set_model.proofs.Places.{code_back}
 use Rattle.set_route.proofs.Quiet.{never_changing}
 use Rattle.pair_streams.proofs.Filtered.{none_both, none_within}
@@ -33,23 +34,24 @@ use Rattle.world_steps.specs.declared.step.Step.{Step}
 use Rattle.world_steps.specs.declared.step.Step.TheVariants.{Act, Emit, Arrive, Lose, Together, Inject}
 use Rattle.pair_model.specs.World.{Outcome, shows, impossible, exhausted, at_end, with_end, line_to, with_line, actor_of, answer_to, after, is_full, has_link, has_actor, acts, with_sent, sends_on, emits, front_arrives, arrives, loses, risen, is_settled_at_both, rises, has_own_step, done_by, carried_out}
 use Rattle.pair_model.specs.Run.{Message, messages, Past, Stage, begun, no_past, with_past, past_arrived, passed, OnShows, HoldsAlong}
-use Rattle.pair_model.specs.Promises.{IsOneMethod, IsSoundStep, IsAskedStep, AreSteps, IsSoundRun}
+use Rattle.pair_model.specs.Promises.{IsOneMethod, IsHonestStep, IsAskedStep, AreSteps, IsSoundRun, IsQuietRun}
 use Rattle.pair_model.proofs.Controls.{one_back}
 use Rattle.pair_model.proofs.Kept.{at_first, settings_sound}
 use Rattle.pair_model.proofs.Moving as moving
-use Rattle.pair_model.proofs.Pairs.{HoldsOf, swap}
+use Rattle.pair_model.proofs.Pairs.{Two, HoldsOf, swap}
 use Rattle.pair_model.proofs.Runs.{seen, Holds, Goes, is_honest, step_goes, is_at_up, both_settled}
 use Rattle.pair_changeover.specs.Pending.{pending, aside, acked_on, accepted_on, kept_back}
 use Rattle.pair_changeover.proofs.Reaching.{row_among, filtered, get_rest}
-use Rattle.pair_changeover.proofs.Runs.{Went', step_went, whole_at_first, nothing_in}
+use Rattle.pair_changeover.proofs.Runs.{first_orders, first_codes, nothing_in}
 use Rattle.pair_changeover.proofs.Table.{drop_none, joined}
 use Rattle.pair_changeover.proofs.Views.{Among, among_joined}
-use Rattle.pair_changeover.proofs.Whole.{Whole, whole_back}
-use Rattle.pair_streams.specs.Streams.{is_of, those_of, IsIn, Arrives, StreamsArrive}
-use Rattle.pair_streams.proofs.Acting.{Streams, streams_back, asked_streams, sends_streams, sends_none, rises_streams, Covered}
+use Rattle.pair_streams.specs.Streams.{is_of, those_of, IsIn, Arrives, StreamsArrive, ArrivesInPart, PartsArrive}
+use Rattle.pair_streams.proofs.Acting.{IsSafe, Streams, streams_back, asked_streams, sends_streams, sends_none, rises_streams, Covered}
 use Rattle.pair_streams.proofs.Codes.{Flows}
 use Rattle.pair_streams.proofs.Flowing.{queue_at, here, back_by}
 use Rattle.pair_streams.proofs.Hearing.{hears_streams}
+use Rattle.pair_streams.proofs.Known.{given_up}
+use Rattle.pair_streams.proofs.Mixed.{Mixed, mixed_none, mixed_among, mixed_part, part_first}
 
 -- WHAT IT SAYS
 first_part : (xs ys zs : List Message) → xs ++ ys ≡ zs → xs ≡ take (length xs) zs
@@ -77,7 +79,7 @@ among_all stream m (x ∷ xs) a = go (is_of stream x) refl a (λ b. among_all st
         cases (inr b) = inr (later b)
     go false e a later = inr (later (rw e at a))
 
-module _ (stream : ℕ) (low : stream < 16) (s f : State) (near far : Past) (w : Flows s f near.offered far.got) (covers : Covered near s) where
+module _ (stream : ℕ) (low : stream < 16) (s f : State) (near far : Past) (lost : ℕ → List Message) (w : Flows s f near.offered far.got lost) (covers : Covered near lost s) where
   -- an acknowledged message stands nowhere else
   module _ (link : ℕ) (m : Message) (placed : place m.number s.rows ≡ Some (Acked link)) where
     acked_in : (test : Fate → Bool) → test (Acked link) ≡ false → (at : ℕ) (row : Row) → slice_get (standing test s.rows) at ≡ Some row → m.number ≡ row.number → ⊥
@@ -123,62 +125,104 @@ module _ (stream : ℕ) (low : stream < 16) (s f : State) (near far : Past) (w :
     acked_got own body =
         let parts = both_parts (service_indicator m.body == 0) (stream_of m.body == stream) own in
         let offered = subst (λ (n : ℕ). Among m (near.offered n)) (eqb-true (stream_of m.body) stream parts.1) (covers.known m.number m.body body parts.0) in
-        go (among_joined m (far.got stream) (here stream s f) (subst (λ (q : List Message). Among m q) (sym (w.flow stream low)) offered))
+        go (mixed_among m (far.got stream ++ here stream s f) (lost stream) (near.offered stream) (w.flow stream low) offered)
       where
-        go : Among m (far.got stream) ⊎ Among m (here stream s f) → IsIn m (far.got stream)
-        go (inl a) = is_in m (far.got stream) a
-        go (inr a) = absurd (not_here (place_of stream s.routing) (among_all stream m (queue_at (place_of stream s.routing) s f) a))
+        kept : Among m (far.got stream) ⊎ Among m (here stream s f) → IsIn m (far.got stream)
+        kept (inl a) = is_in m (far.got stream) a
+        kept (inr a) = absurd (not_here (place_of stream s.routing) (among_all stream m (queue_at (place_of stream s.routing) s f) a))
 
-  pub arrives_so : Arrives stream near far s f
-  arrives_so = record {
-    prefix = first_part (far.got stream) (here stream s f) (near.offered stream) (w.flow stream low);
+        go : Among m (far.got stream ++ here stream s f) ⊎ Among m (lost stream) → IsIn m (far.got stream)
+        go (inl a) = kept (among_joined m (far.got stream) (here stream s f) a)
+        go (inr a) =
+            let fate : Some given_up ≡ Some (Acked link) = sym (covers.gone m.number (stream, m, a, refl)) ∙ placed in
+            let never : given_up ≡ Acked link = cc in
+            absurd cc
+
+  -- where nothing is lost
+  pub arrives_so : lost stream ≡ [] → Arrives stream near far s f
+  arrives_so whole = record {
+    prefix = first_part (far.got stream) (here stream s f) (near.offered stream) all_of;
     acked = λ link m own placed body. acked_got link m placed own body;
-    all = λ none none_aside none_back. sym (append-nil (far.got stream)) ∙ ap (λ (x : List Message). far.got stream ++ x) (sym (empty (place_of stream s.routing) none none_aside none_back)) ∙ w.flow stream low;
+    all = λ none none_aside none_back. sym (append-nil (far.got stream)) ∙ ap (λ (x : List Message). far.got stream ++ x) (sym (empty (place_of stream s.routing) none none_aside none_back)) ∙ all_of;
   }
     where
+      all_of : far.got stream ++ here stream s f ≡ near.offered stream
+      all_of = mixed_none (far.got stream ++ here stream s f) (near.offered stream) (subst (λ (l : List Message). Mixed (far.got stream ++ here stream s f) l (near.offered stream)) whole (w.flow stream low))
+
       empty : (q : Place) → ((l : ℕ) → those_of stream (pending l s f) ≡ []) → those_of stream (aside s) ≡ [] → those_of stream (kept_back s) ≡ [] → those_of stream (queue_at q s f) ≡ []
       empty (On l) none none_aside none_back = none l
       empty (Changing to code via) none none_aside none_back = none_both stream (pending via s f) (back_by code s) (none via) (none_within stream (is_back code) stands_back (λ fate e. code_back code fate e) s.rows none_back)
       empty Nowhere none none_aside none_back = none_aside
 
--- EACH STEP
-module _ (ma mb : Method) (one : IsOneMethod ma mb) where
-  abbrev Keeps : Stage → Step → Outcome → Type 0
-  Keeps g step outcome = OnShows outcome (λ shown new. Streams (seen A (passed g step shown new)))
+  -- and where some is
+  pub arrives_in_part : ArrivesInPart stream near far s f
+  arrives_in_part = record {
+    in_order = part_first (far.got stream) (here stream s f) (near.offered stream) (mixed_part (far.got stream ++ here stream s f) (lost stream) (near.offered stream) (w.flow stream low));
+    acked = λ link m own placed body. acked_got link m placed own body;
+  }
 
-  module _ (g : Stage) (h : Holds ma mb one g) (w : Whole (seen A g)) (v : Streams (seen A g)) where
+-- EACH STEP
+is_safe_honest : (emergencies : Bool) (step : Step) → IsSafe emergencies step → IsHonestStep step
+is_safe_honest false step safe = is_honest step safe
+is_safe_honest true (Act end event) safe = tt
+is_safe_honest true (Emit end k) safe = tt
+is_safe_honest true (Arrive end k) safe = tt
+is_safe_honest true (Lose end k place) safe = tt
+is_safe_honest true (Together k) safe = tt
+is_safe_honest true (Inject end k unit) safe = safe
+
+no_injection : (emergencies : Bool) (end : End) (k : ℕ) (unit : SignalUnit) → IsSafe emergencies (Inject end k unit) → ⊥
+no_injection false end k unit safe = safe
+no_injection true end k unit safe = safe
+
+-- other units are under way
+on_lines : {emergencies : Bool} (p : Two) (out back : List (List SignalUnit)) → Streams emergencies p → Streams emergencies (record p { out = out; back = back })
+on_lines p out back v = record {
+  ordered = record { both = v.ordered.both; near_codes = v.ordered.near_codes; far_codes = v.ordered.far_codes };
+  out_lost = v.out_lost;
+  back_lost = v.back_lost;
+  out = v.out;
+  back = v.back;
+  near_covers = v.near_covers;
+  far_covers = v.far_covers;
+  out_whole = v.out_whole;
+  back_whole = v.back_whole;
+}
+
+module _ (emergencies : Bool) (ma mb : Method) (one : IsOneMethod ma mb) where
+  abbrev Keeps : Stage → Step → Outcome → Type 0
+  Keeps g step outcome = OnShows outcome (λ shown new. Streams emergencies (seen A (passed g step shown new)))
+
+  module _ (g : Stage) (h : Holds ma mb one g) (v : Streams emergencies (seen A g)) where
     h_b : HoldsOf mb ma (seen B g)
     h_b = swap ma mb (seen A g) h
 
     one_b : IsOneMethod mb ma
     one_b = one_back ma mb one
 
-    w_b : Whole (seen B g)
-    w_b = whole_back (seen A g) w
-
-    v_b : Streams (seen B g)
+    v_b : Streams emergencies (seen B g)
     v_b = streams_back (seen A g) v
 
     -- ACT
-    act_keeps : (end : End) (event : Event) → IsSoundStep (Act end event) → IsAsked event → has_own_step event ≡ false → Keeps g (Act end event) (acts g.world end event)
+    act_keeps : (end : End) (event : Event) → IsSafe emergencies (Act end event) → IsAsked event → has_own_step event ≡ false → Keeps g (Act end event) (acts g.world end event)
     act_keeps end event sound asked own = go (has_actor g.world (actor_of event)) (is_full (at_end g.world end))
       where
-        shown : (end : End) → IsSoundStep (Act end event) → Keeps g (Act end event) (shows (Answered (answer_to (at_end g.world end) event)) (with_end g.world end (after (at_end g.world end) event)))
-        shown A sound = asked_streams (seen A g) h.near_sound w.near.codes v A event asked own sound
-        shown B sound = streams_back _ (asked_streams (seen B g) h_b.near_sound w_b.near.codes v_b B event asked own sound)
+        shown : (end : End) → IsSafe emergencies (Act end event) → Keeps g (Act end event) (shows (Answered (answer_to (at_end g.world end) event)) (with_end g.world end (after (at_end g.world end) event)))
+        shown A sound = asked_streams (seen A g) h.near_sound v A event asked own sound
+        shown B sound = streams_back _ (asked_streams (seen B g) h_b.near_sound v_b B event asked own sound)
 
         go : (known full : Bool) → Keeps g (Act end event) (cond known (cond full exhausted (shows (Answered (answer_to (at_end g.world end) event)) (with_end g.world end (after (at_end g.world end) event)))) impossible)
         go true true = tt
         go true false = shown end sound
         go false full = tt
 
-    own_keeps : (end : End) (event : Event) → IsSoundStep (Act end event) → IsAsked event → (own : Bool) → has_own_step event ≡ own → Keeps g (Act end event) (cond own impossible (acts g.world end event))
+    own_keeps : (end : End) (event : Event) → IsSafe emergencies (Act end event) → IsAsked event → (own : Bool) → has_own_step event ≡ own → Keeps g (Act end event) (cond own impossible (acts g.world end event))
     own_keeps end event sound asked true e = tt
     own_keeps end event sound asked false e = act_keeps end event sound asked e
 
     -- EMIT
     abbrev EmitKeeps : (end : End) (k : ℕ) → Answer → Type 0
-    EmitKeeps end k answer = Streams (seen A (passed g (Emit end k) (Answered answer) (with_sent (with_end g.world end (after (at_end g.world end) (Next k))) end k (Answered answer))))
+    EmitKeeps end k answer = Streams emergencies (seen A (passed g (Emit end k) (Answered answer) (with_sent (with_end g.world end (after (at_end g.world end) (Next k))) end k (Answered answer))))
 
     emit_a : (k : ℕ) → k < length g.world.a.state.links → (b : Bool) → is_up k g.world.a.state ≡ b → EmitKeeps A k (answer_to g.world.a (Next k))
     emit_a k few true e =
@@ -211,8 +255,8 @@ module _ (ma mb : Method) (one : IsOneMethod ma mb) where
     lose_keeps end k place = go (has_link g.world k) (nat_lt place (length (line_to g.world end k)))
       where
         lost : (end : End) → Keeps g (Lose end k place) (shows Lost (with_line g.world end k (without place (line_to g.world end k))))
-        lost A = record { out = v.out; back = v.back; near_covers = v.near_covers; far_covers = v.far_covers }
-        lost B = record { out = v.out; back = v.back; near_covers = v.near_covers; far_covers = v.far_covers }
+        lost A = on_lines (seen A g) _ _ v
+        lost B = on_lines (seen A g) _ _ v
 
         go : (known within : Bool) → Keeps g (Lose end k place) (cond known (cond within (shows Lost (with_line g.world end k (without place (line_to g.world end k)))) impossible) impossible)
         go true true = lost end
@@ -221,37 +265,37 @@ module _ (ma mb : Method) (one : IsOneMethod ma mb) where
 
     -- ARRIVE
     abbrev ArriveKeeps : (end : End) (k : ℕ) → List SignalUnit → Outcome → Type 0
-    ArriveKeeps A k line outcome = OnShows outcome (λ shown new. Streams (seen A (with_past A (past_arrived k line (g.b.sent k) shown g.a) new g)))
-    ArriveKeeps B k line outcome = OnShows outcome (λ shown new. Streams (seen A (with_past B (past_arrived k line (g.a.sent k) shown g.b) new g)))
+    ArriveKeeps A k line outcome = OnShows outcome (λ shown new. Streams emergencies (seen A (with_past A (past_arrived k line (g.b.sent k) shown g.a) new g)))
+    ArriveKeeps B k line outcome = OnShows outcome (λ shown new. Streams emergencies (seen A (with_past B (past_arrived k line (g.a.sent k) shown g.b) new g)))
 
     -- heard in service, else lost
     module _ (k : ℕ) (few : k < length g.world.a.state.links) (unit : SignalUnit) (rest : List SignalUnit) where
       heard_a : units_on k g.world.to_a ≡ unit ∷ rest → (link : LinkState) → IsAt k link Up g.world.a.state → ArriveKeeps A k (unit ∷ rest) (shows (Answered (answer_to g.world.a (Heard k unit))) (with_end (with_line g.world A k rest) A (after g.world.a (Heard k unit))))
       heard_a front link at =
-          subst (λ (answer : Answer). Streams (seen A (with_past A (past_arrived k (unit ∷ rest) (g.b.sent k) (Answered answer) g.a) (with_end (with_line g.world A k rest) A (after g.world.a (Heard k unit))) g)))
+          subst (λ (answer : Answer). Streams emergencies (seen A (with_past A (past_arrived k (unit ∷ rest) (g.b.sent k) (Answered answer) g.a) (with_end (with_line g.world A k rest) A (after g.world.a (Heard k unit))) g)))
           (sym (moving.answers_heard ma mb one (seen A g) h k few unit rest front link at))
-          (hears_streams ma mb one (seen A g) h w v k few unit rest front link at)
+          (hears_streams ma mb one (seen A g) h v k few unit rest front link at)
 
       heard_b : units_on k g.world.to_b ≡ unit ∷ rest → (link : LinkState) → IsAt k link Up g.world.b.state → ArriveKeeps B k (unit ∷ rest) (shows (Answered (answer_to g.world.b (Heard k unit))) (with_end (with_line g.world B k rest) B (after g.world.b (Heard k unit))))
       heard_b front link at =
           let few_b : k < length g.world.b.state.links = omega (arith, few, h.far_links) in
-          subst (λ (answer : Answer). Streams (seen A (with_past B (past_arrived k (unit ∷ rest) (g.a.sent k) (Answered answer) g.b) (with_end (with_line g.world B k rest) B (after g.world.b (Heard k unit))) g)))
+          subst (λ (answer : Answer). Streams emergencies (seen A (with_past B (past_arrived k (unit ∷ rest) (g.a.sent k) (Answered answer) g.b) (with_end (with_line g.world B k rest) B (after g.world.b (Heard k unit))) g)))
           (sym (moving.answers_heard mb ma one_b (seen B g) h_b k few_b unit rest front link at))
-          (streams_back _ (hears_streams mb ma one_b (seen B g) h_b w_b v_b k few_b unit rest front link at))
+          (streams_back _ (hears_streams mb ma one_b (seen B g) h_b v_b k few_b unit rest front link at))
 
       reach_a : units_on k g.world.to_a ≡ unit ∷ rest → (rising : Bool) → is_up k g.world.a.state ≡ rising → (known full : Bool)
           → ArriveKeeps A k (unit ∷ rest) (cond rising (cond known (cond full exhausted (shows (Answered (answer_to g.world.a (Heard k unit))) (with_end (with_line g.world A k rest) A (after g.world.a (Heard k unit))))) impossible) (shows Lost (with_line g.world A k rest)))
       reach_a front true e true true = tt
       reach_a front true e true false = let at = is_at_up k g.world.a.state e in heard_a front at.0 at.1
       reach_a front true e false full = tt
-      reach_a front false e known full = record { out = v.out; back = v.back; near_covers = v.near_covers; far_covers = v.far_covers }
+      reach_a front false e known full = on_lines (seen A g) _ _ v
 
       reach_b : units_on k g.world.to_b ≡ unit ∷ rest → (rising : Bool) → is_up k g.world.b.state ≡ rising → (known full : Bool)
           → ArriveKeeps B k (unit ∷ rest) (cond rising (cond known (cond full exhausted (shows (Answered (answer_to g.world.b (Heard k unit))) (with_end (with_line g.world B k rest) B (after g.world.b (Heard k unit))))) impossible) (shows Lost (with_line g.world B k rest)))
       reach_b front true e true true = tt
       reach_b front true e true false = let at = is_at_up k g.world.b.state e in heard_b front at.0 at.1
       reach_b front true e false full = tt
-      reach_b front false e known full = record { out = v.out; back = v.back; near_covers = v.near_covers; far_covers = v.far_covers }
+      reach_b front false e known full = on_lines (seen A g) _ _ v
 
     front_a : (k : ℕ) → k < length g.world.a.state.links → (line : List SignalUnit) → units_on k g.world.to_a ≡ line → ArriveKeeps A k line (front_arrives g.world A k line)
     front_a k few [] e = tt
@@ -286,34 +330,44 @@ module _ (ma mb : Method) (one : IsOneMethod ma mb) where
         go false e settled f full = tt
 
     -- EACH STEP
-    done_keeps : (step : Step) → IsSoundStep step → IsAskedStep step → Keeps g step (done_by g.world step)
-    done_keeps (Act end event) sound asked = own_keeps end event sound asked (has_own_step event) refl
-    done_keeps (Emit end k) sound asked = emit_keeps end k
-    done_keeps (Arrive end k) sound asked = arrive_keeps end k
-    done_keeps (Lose end k place) sound asked = lose_keeps end k place
-    done_keeps (Together k) sound asked = together_keeps k
-    done_keeps (Inject end k unit) sound asked = absurd sound
+    done_keeps : (step : Step) → IsSafe emergencies step → IsAskedStep step → Keeps g step (done_by g.world step)
+    done_keeps (Act end event) safe asked = own_keeps end event safe asked (has_own_step event) refl
+    done_keeps (Emit end k) safe asked = emit_keeps end k
+    done_keeps (Arrive end k) safe asked = arrive_keeps end k
+    done_keeps (Lose end k place) safe asked = lose_keeps end k place
+    done_keeps (Together k) safe asked = together_keeps k
+    done_keeps (Inject end k unit) safe asked = absurd (no_injection emergencies end k unit safe)
 
-  step_keeps : (g : Stage) → Holds ma mb one g → Whole (seen A g) → Streams (seen A g) → (step : Step) → IsSoundStep step → IsAskedStep step → Keeps g step (carried_out g.world step)
+  step_keeps : (g : Stage) → Holds ma mb one g → Streams emergencies (seen A g) → (step : Step) → IsSafe emergencies step → IsAskedStep step → Keeps g step (carried_out g.world step)
   unfolding carried_out
-  step_keeps g h w v step sound asked = done_keeps g h w v step sound asked
+  step_keeps g h v step safe asked = done_keeps g h v step safe asked
 
-  streams_arrive : (g : Stage) → Streams (seen A g) → StreamsArrive g
-  streams_arrive g v stream low = (arrives_so stream low g.world.a.state g.world.b.state g.a g.b v.out v.near_covers, arrives_so stream low g.world.b.state g.world.a.state g.b g.a v.back v.far_covers)
+  -- ALL ALONG, of what it says at each stage
+  module _ (Says : Stage → Type 0) (says : (g : Stage) → Streams emergencies (seen A g) → Says g) where
+    onward : (g : Stage) (step : Step) (steps : List Step) → ((later : Stage) → Holds ma mb one later → Streams emergencies (seen A later) → HoldsAlong Says later steps) → (outcome : Outcome) → Goes ma mb one g step outcome → Keeps g step outcome
+        → OnShows outcome (λ shown new. HoldsAlong Says (passed g step shown new) steps)
+    onward g step steps next (shows shown new) goes keeps = next (passed g step shown new) goes.1 keeps
+    onward g step steps next impossible goes keeps = tt
+    onward g step steps next exhausted goes keeps = tt
 
-  -- ALL ALONG
-  onward : (g : Stage) (step : Step) (steps : List Step) → ((later : Stage) → Holds ma mb one later → Whole (seen A later) → Streams (seen A later) → HoldsAlong StreamsArrive later steps) → (outcome : Outcome) → Goes ma mb one g step outcome → Went' ma mb one g step outcome → Keeps g step outcome
-      → OnShows outcome (λ shown new. HoldsAlong StreamsArrive (passed g step shown new) steps)
-  onward g step steps next (shows shown new) goes went keeps = next (passed g step shown new) goes.1 went.whole keeps
-  onward g step steps next impossible goes went keeps = tt
-  onward g step steps next exhausted goes went keeps = tt
+    along : (g : Stage) → Holds ma mb one g → Streams emergencies (seen A g) → (steps : List Step) → AreSteps (IsSafe emergencies) steps → AreSteps IsAskedStep steps → HoldsAlong Says g steps
+    along g h v [] safe asked = says g v
+    along g h v (step ∷ steps) safe asked = (
+      says g v,
+      onward g step steps (λ later holds streams. along later holds streams steps safe.1 asked.1) (carried_out g.world step) (step_goes ma mb one g h step (is_safe_honest emergencies step safe.0) asked.0) (step_keeps g h v step safe.0 asked.0),
+    )
 
-  along : (g : Stage) → Holds ma mb one g → Whole (seen A g) → Streams (seen A g) → (steps : List Step) → AreSteps IsSoundStep steps → AreSteps IsAskedStep steps → HoldsAlong StreamsArrive g steps
-  along g h w v [] sound asked = streams_arrive g v
-  along g h w v (step ∷ steps) sound asked = (
-    streams_arrive g v,
-    onward g step steps (λ later holds whole streams. along later holds whole streams steps sound.1 asked.1) (carried_out g.world step) (step_goes ma mb one g h step (is_honest step sound.0) asked.0) (step_went ma mb one g h w step sound.0) (step_keeps g h w v step sound.0 asked.0),
-  )
+streams_arrive : (g : Stage) → Streams false (seen A g) → StreamsArrive g
+streams_arrive g v stream low = (
+  arrives_so stream low g.world.a.state g.world.b.state g.a g.b v.out_lost v.out v.near_covers (v.out_whole refl stream),
+  arrives_so stream low g.world.b.state g.world.a.state g.b g.a v.back_lost v.back v.far_covers (v.back_whole refl stream),
+)
+
+parts_arrive : (g : Stage) → Streams true (seen A g) → PartsArrive g
+parts_arrive g v stream low = (
+  arrives_in_part stream low g.world.a.state g.world.b.state g.a g.b v.out_lost v.out v.near_covers,
+  arrives_in_part stream low g.world.b.state g.world.a.state g.b g.a v.back_lost v.back v.far_covers,
+)
 
 -- AT FIRST
 none_on : (a b : Settings) (l : ℕ) → pending l (opened_with a) (opened_with b) ≡ []
@@ -324,9 +378,9 @@ nothing_at a b (On l) = none_on a b l
 nothing_at a b (Changing to code via) = ap (λ (q : List Message). q ++ []) (none_on a b via)
 nothing_at a b Nowhere = refl
 
-first_flows : (config other : SetConfig) → Flows (opened_with (settings_of config)) (opened_with (settings_of other)) no_past.offered no_past.got
+first_flows : (config other : SetConfig) → Flows (opened_with (settings_of config)) (opened_with (settings_of other)) no_past.offered no_past.got (λ stream. [])
 first_flows config other = record {
-  flow = λ stream low. ap (those_of stream) (nothing_at a b (place_of stream (opened_with a).routing));
+  flow = λ stream low. (ap (those_of stream) (nothing_at a b (place_of stream (opened_with a).routing)), refl);
   stands = λ stream low. record { alone = λ l e. ap (those_of stream) (none_on a b l); none_aside = λ e. refl };
   unused = λ stream low e. refl;
   backing = record {
@@ -351,13 +405,33 @@ first_flows config other = record {
     never : (stream to code via : ℕ) → place_of stream (opened_with (settings_of config)).routing ≡ Changing to code via → ⊥
     never stream to code via e = never_changing stream to code via (opened_with (settings_of config)).routing (opened_sound (settings_of config) (settings_sound config)).routing (opened_straight (settings_of config) (settings_sound config)).none_open e
 
-first_covers : (config : SetConfig) → Covered no_past (opened_with (settings_of config))
+first_covers : (config : SetConfig) → Covered no_past (λ stream. []) (opened_with (settings_of config))
 first_covers config = record {
   managed = config.management;
   numbered = (opened_sound (settings_of config) (settings_sound config)).numbered;
   known = λ number body e users. absurd (let no : None ≡ Some body = e in cc);
+  gone = λ number q. absurd q.2;
+}
+
+first_streams : (emergencies : Bool) (a b : SetConfig) → Streams emergencies (seen A (begun a b))
+first_streams emergencies a b = record {
+  ordered = record {
+    both = record { near = first_orders (settings_of a) (settings_of b); far = first_orders (settings_of b) (settings_of a) };
+    near_codes = first_codes a;
+    far_codes = first_codes b;
+  };
+  out_lost = λ stream. [];
+  back_lost = λ stream. [];
+  out = first_flows a b;
+  back = first_flows b a;
+  near_covers = first_covers a;
+  far_covers = first_covers b;
+  out_whole = λ e stream. refl;
+  back_whole = λ e stream. refl;
 }
 
 pub every_sound_run : (a b : SetConfig) (steps : List Step) → AreSteps IsAskedStep steps → IsSoundRun a b steps → HoldsAlong StreamsArrive (begun a b) steps
-every_sound_run a b steps asked sound =
-    along a.method b.method sound.one_method (begun a b) (at_first a b sound.links) (whole_at_first a b) (record { out = first_flows a b; back = first_flows b a; near_covers = first_covers a; far_covers = first_covers b }) steps sound.steps asked
+every_sound_run a b steps asked sound = along false a.method b.method sound.one_method StreamsArrive streams_arrive (begun a b) (at_first a b sound.links) (first_streams false a b) steps sound.steps asked
+
+pub every_quiet_run : (a b : SetConfig) (steps : List Step) → AreSteps IsAskedStep steps → IsQuietRun a b steps → HoldsAlong PartsArrive (begun a b) steps
+every_quiet_run a b steps asked quiet = along true a.method b.method quiet.one_method PartsArrive parts_arrive (begun a b) (at_first a b quiet.links) (first_streams true a b) steps quiet.steps asked

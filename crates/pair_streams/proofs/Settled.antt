@@ -24,8 +24,7 @@ use Rattle.set_model.proofs.Targets.{none_up}
 use Rattle.set_model.proofs.Walk.{IsAt}
 use Rattle.pair_model.specs.Run.{Message, messages}
 use Rattle.pair_changeover.specs.Pending.{pending, aside, acked_on, accepted_on}
-use Rattle.pair_changeover.proofs.Obeying.{Told, told_reasonable, told_reached}
-use Rattle.pair_changeover.proofs.Passing.{gone, rows_then, settles_to, settles_apart, settles_aside, settles_none_aside}
+use Rattle.pair_changeover.proofs.Passing.{IsReached, gone, rows_then, settles_to, settles_apart, settles_aside, settles_none_aside}
 use Rattle.pair_changeover.proofs.Views.{view, Among, among_joined, In, stands_on, stands_aside}
 use Rattle.pair_streams.specs.Streams.{those_of}
 use Rattle.pair_streams.proofs.Codes.{Clear, Flows, NewAcknowledges, Kept, carried}
@@ -56,15 +55,12 @@ target_not_back c None = refl
 target_not_back c (Some to) = refl
 
 -- A LINK SETTLES
-module _ (fsn n : ℕ) (link : LinkState) (s f : State) (sound : IsSound s) (at : IsAt n link Down s) (told : Told fsn n link s f) where
+module _ (fsn n : ℕ) (link : LinkState) (s f : State) (sound : IsSound s) (at : IsAt n link Down s) (r : IsReached fsn n link s f) where
   abbrev after : State
   after = settled (Upto fsn) n link s
 
   reasonable : is_reasonable fsn n link s.rows ≡ true
-  reasonable = told_reasonable fsn n link s f ((sound.links n link at.there).window) told
-
-  reached : reached_by fsn n link s.rows ≡ accepted_on n f - link.acked
-  reached = told_reached fsn n link s f ((sound.links n link at.there).window) told
+  reasonable = r.reasonable
 
   same_target : target (acknowledged_by (reached_by fsn n link s.rows) n link s).links ≡ target s.links
   same_target = ap target_of (map_set_same (λ (l : LinkState). has_phase_up l.phase) s.links n link _ at.there refl)
@@ -87,17 +83,17 @@ module _ (fsn n : ℕ) (link : LinkState) (s f : State) (sound : IsSound s) (at 
   queues l = go (n == l) refl
     where
       joins : (to : Option ℕ) → target s.links ≡ to → (n == l) ≡ false → (b : Bool) → is_on l (fate_on to) ≡ b → pending l after f ≡ cond b (pending l s f ++ pending n s f) (pending l s f)
-      joins to e d false g = settles_apart fsn n link s f sound at reasonable reached l d (ap (λ (t : Option ℕ). is_on l (fate_on t)) e ∙ g)
+      joins to e d false g = settles_apart fsn n link s f sound at r l d (ap (λ (t : Option ℕ). is_on l (fate_on t)) e ∙ g)
       joins None e d true g = absurd cc
-      joins (Some to) e d true g = settles_to fsn n link s f sound at reasonable reached l (e ∙ ap (λ (k : ℕ). Some k) (eqb-true to l g))
+      joins (Some to) e d true g = settles_to fsn n link s f sound at r l (e ∙ ap (λ (k : ℕ). Some k) (eqb-true to l g))
 
       go : (b : Bool) → (n == l) ≡ b → pending l after f ≡ cond b [] (cond (is_on l (fate_on (target s.links))) (pending l s f ++ pending n s f) (pending l s f))
-      go true e = subst (λ (k : ℕ). pending k after f ≡ []) (eqb-true n l e) (gone fsn n link s f sound at reasonable reached (accepted_on n f - acked_on n after))
+      go true e = subst (λ (k : ℕ). pending k after f ≡ []) (eqb-true n l e) (gone fsn n link s f sound at r (accepted_on n f - acked_on n after))
       go false e = joins (target s.links) refl e (is_on l (fate_on (target s.links))) refl
 
   aside_is : (to : Option ℕ) → target s.links ≡ to → aside after ≡ aside_then to
-  aside_is None e = settles_aside fsn n link s f sound at reasonable reached e
-  aside_is (Some to) e = settles_none_aside fsn n link s f sound at reasonable reached to e
+  aside_is None e = settles_aside fsn n link s f sound at r e
+  aside_is (Some to) e = settles_none_aside fsn n link s f sound at r to e
 
   -- so nothing new is pending
   pub was_in : (m : Message) → In m (view after f) → In m (view s f)
@@ -123,7 +119,7 @@ module _ (fsn n : ℕ) (link : LinkState) (s f : State) (sound : IsSound s) (at 
 
   backs : (c : ℕ) → back_by c after ≡ back_by c s
   backs c =
-      ap (λ (rows : List Row). messages (standing (is_back c) rows)) (rows_then fsn n link s f sound at reasonable reached)
+      ap (λ (rows : List Row). messages (standing (is_back c) rows)) (rows_then fsn n link s f sound at r)
       ∙ ap messages (moved_same (is_on n) (is_back c) (all_with (fate_on (target s.links))) (turned (is_unacked n) (Acked n) (reached_by fsn n link s.rows) s.rows) (λ row. target_not_back c (target s.links)) (λ fate e. on_not_back n c fate e))
       ∙ ap messages (turned_same (is_unacked n) (is_back c) (Acked n) refl (λ fate e. sent_not_back n c fate e) (reached_by fsn n link s.rows) s.rows)
 
@@ -170,7 +166,7 @@ module _ (fsn n : ℕ) (link : LinkState) (s f : State) (sound : IsSound s) (at 
       moves_aside None e = ap (those_of stream) (aside_is None e) ∙ none_joins stream (aside s) (pending n s f) none_aside
       moves_aside (Some to) e = ap (those_of stream) (aside_is (Some to) e) ∙ none_aside
 
-    module _ (offered got : ℕ → List Message) (w : Flows s f offered got) where
+    module _ (offered got lost : ℕ → List Message) (w : Flows s f offered got lost) where
       -- IT STAYS
       module _ (p : Place) (is : place_of stream s.routing ≡ p) (apart_from : runs_by p n ≡ false) (stays : place_settled n (target s.links) p ≡ p) where
         old : Stands stream p s f
@@ -320,7 +316,7 @@ module _ (fsn n : ℕ) (link : LinkState) (s f : State) (sound : IsSound s) (at 
           moved_clear before = record {
             only = λ l d m a. on_case l m (n == l) refl (is_on l (fate_on (target s.links))) (ap (λ (o : Option ℕ). is_on l (fate_on o)) e ∙ d) (subst (Among m) (queues l) a);
             none_aside = λ m a. before.none_aside m (subst (Among m) (aside_is (Some t) e) a);
-            behind = subst (ClearBehind stream code) (sym (settles_to fsn n link s f sound at reasonable reached t e)) (clear_after stream code (pending t s f) (pending n s f) (before.only t (not_own t e)) before.behind);
+            behind = subst (ClearBehind stream code) (sym (settles_to fsn n link s f sound at r t e)) (clear_after stream code (pending t s f) (pending n s f) (before.only t (not_own t e)) before.behind);
           }
             where
               on_case : (l : ℕ) (m : Message) (own : Bool) → (n == l) ≡ own → (joins : Bool) → is_on l (fate_on (target s.links)) ≡ false → Among m (queue_then own (is_on l (fate_on (target s.links))) l) → Declares code m → ⊥
@@ -348,5 +344,5 @@ module _ (fsn n : ℕ) (link : LinkState) (s f : State) (sound : IsSound s) (at 
           go (Changing to code via) is = back_case to code via is (via == n) refl
           go Nowhere is = stays_kept Nowhere is refl refl
 
-  pub settles_flow : (offered got : ℕ → List Message) → Flows s f offered got → NewAcknowledges (view f after) (view f s) → Flows after f offered got
-  settles_flow offered got w acknowledges = carried s after f f offered got w (λ stream low. settled_kept stream low offered got w) (λ c few e. inl (ap (code_of c) (sym routing_then) ∙ e)) (λ c m i d. was_in m i) acknowledges
+  pub settles_flow : (offered got lost : ℕ → List Message) → Flows s f offered got lost → NewAcknowledges (view f after) (view f s) → Flows after f offered got lost
+  settles_flow offered got lost w acknowledges = carried s after f f offered got lost w (λ stream low. settled_kept stream low offered got lost w) (λ c few e. inl (ap (code_of c) (sym routing_then) ∙ e)) (λ c m i d. was_in m i) acknowledges

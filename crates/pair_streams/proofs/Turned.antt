@@ -222,7 +222,7 @@ module _ (blind : Bool) (k : ℕ) (link : LinkState) (s f : State) (sound : IsSo
   pub left_orders : (order : Order) (m : Message) → In m (view left f) → order_of m.body ≡ Some order → In m (view s f)
   left_orders = added_order s left f adds (messages (parked rows_turned)) (leaves_queues blind k link s f sound at) (leaves_aside blind k link s f sound at) users_added users_parked
 
-  module _ (offered got : ℕ → List Message) (w : Flows s f offered got) where
+  module _ (offered got lost : ℕ → List Message) (w : Flows s f offered got lost) where
     module _ (stream : ℕ) (low : stream < 16) where
       -- one that stays where it is
       module _ (p : Place) (is : place_of stream s.routing ≡ p) (off : turns p k ≡ false) (stays : place_left k p ≡ p) (queue_is : those_of stream (queue_at p left f) ≡ those_of stream (queue_at p s f)) where
@@ -295,6 +295,6 @@ module _ (blind : Bool) (k : ℕ) (link : LinkState) (s f : State) (sound : IsSo
         go Asked is = spent (home_of c == k) (sym ((route.codes_alone s.routing c sound.routing few).left_code k ∙ ap (code_left k c) is) ∙ e)
         go Spent is = absurd (let no : Spent ≡ Free = sym ((route.codes_alone s.routing c sound.routing few).left_code k ∙ ap (code_left k c) is) ∙ e in cc)
 
-    pub leaves_flow : NewAcknowledges (view f left) (view f s) → Flows left f offered got
-    leaves_flow acknowledges = carried s left f f offered got w left_kept left_freed
+    pub leaves_flow : NewAcknowledges (view f left) (view f s) → Flows left f offered got lost
+    leaves_flow acknowledges = carried s left f f offered got lost w left_kept left_freed
         (λ c m i d. left_orders (Cbd d.link c) m i d.is) acknowledges

@@ -1,11 +1,11 @@
 -- WHAT BECOMES OF A STREAM between two ends, in every sound run: nothing is lost, doubled or put out of order.
-use Rattle.std.specs.Prelude.{◌≡◌, ◌<◌, ℕ, ◌==◌, Bool, true, not, ◌&&◌, List, [], filter, length, take, slice_get, Some}
+use Rattle.std.specs.Prelude.{◌≡◌, ◌<◌, ℕ, ◌==◌, Bool, true, not, ◌&&◌, List, [], ◌∷◌, ◌⊎◌, filter, length, take, slice_get, Some}
 use Rattle.set_events.specs.declared.answer.Fate.TheVariants.{Acked}
 use Rattle.set_events.specs.declared.config.SetConfig.{SetConfig}
 use Rattle.set_model.specs.Rows.{stream_of, service_indicator, place, body_at}
 use Rattle.set_model.specs.State.{State}
 use Rattle.world_steps.specs.declared.step.Step.{Step}
-use Rattle.pair_model.specs.Promises.{IsAskedStep, AreSteps, IsSoundRun}
+use Rattle.pair_model.specs.Promises.{IsAskedStep, AreSteps, IsSoundRun, IsQuietRun}
 use Rattle.pair_model.specs.Run.{Message, Past, Stage, begun, HoldsAlong}
 use Rattle.pair_changeover.specs.Pending.{pending, aside, kept_back}
 
@@ -18,6 +18,12 @@ those_of stream messages = filter (is_of stream) messages
 
 abbrev pub IsIn : Message → List Message → Type 0
 IsIn message messages = (at : ℕ) × (slice_get messages at ≡ Some message)
+
+-- AN IN-ORDER PART of a list: each stands there, behind the one before
+abbrev pub IsPart : List Message → List Message → Type 0
+IsPart [] all = Unit {0}
+IsPart (message ∷ part) [] = ⊥
+IsPart (message ∷ part) (first ∷ rest) = ((message ≡ first) × IsPart part rest) ⊎ IsPart (message ∷ part) rest
 
 -- ONE STREAM, from an end to the far end
 pub record Arrives (stream : ℕ) (near far : Past) (s f : State) : Type 0 where
@@ -36,8 +42,26 @@ StreamsArrive g =
     (stream : ℕ) → stream < 16
     → Arrives stream g.a g.b g.world.a.state g.world.b.state × Arrives stream g.b g.a g.world.b.state g.world.a.state
 
+-- IN EMERGENCIES some may be given up: of one stream, from an end to the far end
+pub record ArrivesInPart (stream : ℕ) (near far : Past) (s f : State) : Type 0 where
+  -- the far end's users got some of what was offered here, in its order, numbers and octets, each at most once
+  pub in_order : IsPart (far.got stream) (near.offered stream)
+  -- each message that is acknowledged here is among it
+  pub acked : (link : ℕ) (message : Message) → is_of stream message ≡ true → place message.number s.rows ≡ Some (Acked link)
+      → body_at message.number s.rows ≡ Some message.body → IsIn message (far.got stream)
+
+abbrev pub PartsArrive : Stage → Type 0
+PartsArrive g =
+    (stream : ℕ) → stream < 16
+    → ArrivesInPart stream g.a g.b g.world.a.state g.world.b.state × ArrivesInPart stream g.b g.a g.world.b.state g.world.a.state
+
 -- LAW
 abbrev pub EverySoundRunKeepsStreams : Type 0
 EverySoundRunKeepsStreams =
     (a b : SetConfig) (steps : List Step) → AreSteps IsAskedStep steps → IsSoundRun a b steps
     → HoldsAlong StreamsArrive (begun a b) steps
+
+abbrev pub EveryQuietRunKeepsOrder : Type 0
+EveryQuietRunKeepsOrder =
+    (a b : SetConfig) (steps : List Step) → AreSteps IsAskedStep steps → IsQuietRun a b steps
+    → HoldsAlong PartsArrive (begun a b) steps
