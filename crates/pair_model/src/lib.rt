@@ -3,7 +3,7 @@
 //!
 //! There is no code in it but the laws. `specs/` has the definitions, in the order to read them: `World` (two
 //! sets, the lines between them, and each step), `Run` (lists of steps, the past of each end, and what holds all
-//! along) and `Promises` (honest runs and sound runs, and what is promised of them).
+//! along) and `Promises` (honest, quiet and sound runs, and what is promised of each link).
 #![tactic(auto)]
 
 mod laws;

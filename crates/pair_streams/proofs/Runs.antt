@@ -3,7 +3,7 @@
 use Rattle.set_model.proofs.Places.{code_back}
 use Rattle.set_route.proofs.Quiet.{never_changing}
 use Rattle.pair_streams.proofs.Filtered.{none_both, none_within}
-use Rattle.std.proofs.Common.{refl, arith, ◌≡◌, ◌∙◌, ap, sym, subst, ℕ, suc, ◌<◌, ◌==◌, ◌+◌, ◌-◌, Bool, true, false, not, ◌&&◌, ◌||◌, nat_lt, List, [], ◌∷◌, ◌++◌, length, take, drop, slice_get, Some, None, cond, ◌⊎◌, inl, inr}
+use Rattle.std.proofs.Common.{refl, arith, ◌≡◌, ◌∙◌, ap, sym, subst, ℕ, zero, suc, ◌<◌, ◌==◌, ◌+◌, ◌-◌, Bool, true, false, not, ◌&&◌, ◌||◌, nat_lt, List, [], ◌∷◌, ◌++◌, length, take, drop, slice_get, Some, None, cond, ◌⊎◌, inl, inr}
 use Rattle.std.specs.Option.{option_map}
 use Rattle.std.proofs.lemmas.Bool.{ltb-true, eqb-true}
 use Rattle.std.proofs.lemmas.List.{append-nil}
@@ -66,6 +66,11 @@ is_in : (m : Message) (xs : List Message) → Among m xs → IsIn m xs
 is_in m [] a = absurd a
 is_in m (x ∷ xs) (inl e) = (0, ap Some (sym e))
 is_in m (x ∷ xs) (inr a) = let at = is_in m xs a in (suc at.0, at.1)
+
+among_in : (m : Message) (xs : List Message) (at : ℕ) → slice_get xs at ≡ Some m → Among m xs
+among_in m [] at e = absurd cc
+among_in m (x ∷ xs) zero e = let same : Some x ≡ Some m = e in let is : x ≡ m = cc in inl (sym is)
+among_in m (x ∷ xs) (suc at) e = inr (among_in m xs at e)
 
 among_all : (stream : ℕ) (m : Message) (xs : List Message) → Among m (those_of stream xs) → Among m xs
 among_all stream m [] a = absurd a
@@ -138,6 +143,12 @@ module _ (stream : ℕ) (low : stream < 16) (s f : State) (near far : Past) (los
             let never : given_up ≡ Acked link = cc in
             absurd cc
 
+  -- where nothing of it stands
+  empty : (q : Place) → ((l : ℕ) → those_of stream (pending l s f) ≡ []) → those_of stream (aside s) ≡ [] → those_of stream (kept_back s) ≡ [] → those_of stream (queue_at q s f) ≡ []
+  empty (On l) none none_aside none_back = none l
+  empty (Changing to code via) none none_aside none_back = none_both stream (pending via s f) (back_by code s) (none via) (none_within stream (is_back code) stands_back (λ fate e. code_back code fate e) s.rows none_back)
+  empty Nowhere none none_aside none_back = none_aside
+
   -- where nothing is lost
   pub arrives_so : lost stream ≡ [] → Arrives stream near far s f
   arrives_so whole = record {
@@ -149,17 +160,20 @@ module _ (stream : ℕ) (low : stream < 16) (s f : State) (near far : Past) (los
       all_of : far.got stream ++ here stream s f ≡ near.offered stream
       all_of = mixed_none (far.got stream ++ here stream s f) (near.offered stream) (subst (λ (l : List Message). Mixed (far.got stream ++ here stream s f) l (near.offered stream)) whole (w.flow stream low))
 
-      empty : (q : Place) → ((l : ℕ) → those_of stream (pending l s f) ≡ []) → those_of stream (aside s) ≡ [] → those_of stream (kept_back s) ≡ [] → those_of stream (queue_at q s f) ≡ []
-      empty (On l) none none_aside none_back = none l
-      empty (Changing to code via) none none_aside none_back = none_both stream (pending via s f) (back_by code s) (none via) (none_within stream (is_back code) stands_back (λ fate e. code_back code fate e) s.rows none_back)
-      empty Nowhere none none_aside none_back = none_aside
-
   -- and where some is
   pub arrives_in_part : ArrivesInPart stream near far s f
   arrives_in_part = record {
     in_order = part_first (far.got stream) (here stream s f) (near.offered stream) (mixed_part (far.got stream ++ here stream s f) (lost stream) (near.offered stream) (w.flow stream low));
     acked = λ link m own placed body. acked_got link m placed own body;
+    all = λ none none_aside none_back m offered. got_or_lost (empty (place_of stream s.routing) none none_aside none_back) m offered;
   }
+    where
+      got_or_lost : here stream s f ≡ [] → (m : Message) → IsIn m (near.offered stream) → IsIn m (far.got stream) ⊎ (place m.number s.rows ≡ Some given_up)
+      got_or_lost none m offered = go (mixed_among m (far.got stream ++ here stream s f) (lost stream) (near.offered stream) (w.flow stream low) (among_in m (near.offered stream) offered.0 offered.1))
+        where
+          go : Among m (far.got stream ++ here stream s f) ⊎ Among m (lost stream) → IsIn m (far.got stream) ⊎ (place m.number s.rows ≡ Some given_up)
+          go (inl a) = inl (is_in m (far.got stream) (subst (Among m) (ap (λ (q : List Message). far.got stream ++ q) none ∙ append-nil (far.got stream)) a))
+          go (inr a) = inr (covers.gone m.number (stream, m, a, refl))
 
 -- EACH STEP
 is_safe_honest : (emergencies : Bool) (step : Step) → IsSafe emergencies step → IsHonestStep step

@@ -1,6 +1,7 @@
 -- WHAT BECOMES OF A STREAM between two ends, in every sound run: nothing is lost, doubled or put out of order.
 use Rattle.std.specs.Prelude.{◌≡◌, ◌<◌, ℕ, ◌==◌, Bool, true, not, ◌&&◌, List, [], ◌∷◌, ◌⊎◌, filter, length, take, slice_get, Some}
-use Rattle.set_events.specs.declared.answer.Fate.TheVariants.{Acked}
+use Rattle.set_events.specs.declared.answer.Fate.TheVariants.{Acked, Discarded}
+use Rattle.set_events.specs.declared.answer.DiscardCause.TheVariants.{Emergency}
 use Rattle.set_events.specs.declared.config.SetConfig.{SetConfig}
 use Rattle.set_model.specs.Rows.{stream_of, service_indicator, place, body_at}
 use Rattle.set_model.specs.State.{State}
@@ -49,6 +50,11 @@ pub record ArrivesInPart (stream : ℕ) (near far : Past) (s f : State) : Type 0
   -- each message that is acknowledged here is among it
   pub acked : (link : ℕ) (message : Message) → is_of stream message ≡ true → place message.number s.rows ≡ Some (Acked link)
       → body_at message.number s.rows ≡ Some message.body → IsIn message (far.got stream)
+  -- and where nothing of the stream is pending, parked or waits for a changeback, each that isn't was discarded in an
+  -- emergency
+  pub all : ((link : ℕ) → those_of stream (pending link s f) ≡ []) → those_of stream (aside s) ≡ []
+      → those_of stream (kept_back s) ≡ [] → (message : Message) → IsIn message (near.offered stream)
+      → IsIn message (far.got stream) ⊎ (place message.number s.rows ≡ Some (Discarded Emergency))
 
 abbrev pub PartsArrive : Stage → Type 0
 PartsArrive g =

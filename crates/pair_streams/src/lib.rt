@@ -1,10 +1,10 @@
 //! Streams between two ends: whatever fails, the users of each end get what the other's users offered, in order,
-//! nothing lost and nothing doubled (ITU-T Q.704 5.1.1).
+//! nothing lost and nothing doubled; and in emergencies some of it, in its order (ITU-T Q.704 5.1.1, 5.6).
 //!
-//! There is no code in it but the law. `specs/Streams` has the promise; it needs the definitions of a set
+//! There is no code in it but the laws. `specs/Streams` has the promises; it needs the definitions of a set
 //! (`set_model`), of two ends (`pair_model`) and of what is pending (`pair_changeover`).
 #![tactic(auto)]
 
 mod laws;
 
-pub use laws::every_sound_run_keeps_streams;
+pub use laws::{every_quiet_run_keeps_order, every_sound_run_keeps_streams};

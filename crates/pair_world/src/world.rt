@@ -45,9 +45,9 @@ impl World {
     ghost use Rattle.set_model.specs.State.{is_up as is_up_in};
     ghost use Rattle.pair_model.specs.World.{carried_out, done_by, asks, acts, has_actor, with_sent, emits, arrives, loses, has_link as has_link_in, rises, at_end, line_to, counts_at};
     ghost use Rattle.pair_model.specs.Run.{begun, played_from, HoldsAlong};
-    ghost use Rattle.pair_model.specs.Promises.{IsHonestRun, IsSoundRun, KeepsLinks};
+    ghost use Rattle.pair_model.specs.Promises.{IsHonestRun, IsQuietRun, IsSoundRun, KeepsLinks};
     ghost use Rattle.pair_changeover.specs.Diverted.{ChangesOver};
-    ghost use Rattle.pair_streams.specs.Streams.{StreamsArrive};
+    ghost use Rattle.pair_streams.specs.Streams.{PartsArrive, StreamsArrive};
     ghost use Rattle.pair_streams.specs.Arrived.{IsIdle, AllArrived};
     ghost use Rattle.pair_world.specs.Carried.{IsBegun, FailsToBegin, IsCarriedOut, IsStepped, AreCarriedOut, IsPlayed, IsTakenFrom};
 
@@ -96,7 +96,10 @@ impl World {
     /// sent on it since it came up exactly those that the far end accepted are acknowledged, and exactly the others
     /// move to the target, in order, with what waited and, as the link was left, was held behind them. And each of the 16 streams
     /// arrives in order (`StreamsArrive`): what the users of an end got is a prefix of what the other's users offered,
-    /// numbers and octets, with each message that is acknowledged.
+    /// numbers and octets, with each message that is acknowledged. Of every quiet run, in which a link may also be left
+    /// blindly, that each stream arrives in part and in order (`PartsArrive`): what the users of an end got is an in-order
+    /// part of what the other's users offered, with each message that is acknowledged; what they didn't get was
+    /// discarded in an emergency, once nothing of the stream is under way.
     pub fn play(
         alloc: Global,
         a: &SetConfig,
@@ -107,6 +110,7 @@ impl World {
         ensures keeps { IsHonestRun a.now b.now steps.now → KeepsLinks (begun a.now b.now) steps.now }
         ensures diverts { IsSoundRun a.now b.now steps.now → ChangesOver (begun a.now b.now) steps.now }
         ensures streams { IsSoundRun a.now b.now steps.now → HoldsAlong StreamsArrive (begun a.now b.now) steps.now }
+        ensures parts { IsQuietRun a.now b.now steps.now → HoldsAlong PartsArrive (begun a.now b.now) steps.now }
     {
         are_asked(steps);
         let mut world = World::new(alloc, a, b)?;

@@ -1,6 +1,6 @@
 use Rattle.pair_model.proofs.Runs.{every_honest_run as every_honest_run_keeps_links}
 use Rattle.pair_changeover.proofs.Runs.{every_sound_run as every_sound_run_diverts_the_rest}
-use Rattle.pair_streams.proofs.Runs.{every_sound_run as every_sound_run_keeps_streams}
+use Rattle.pair_streams.proofs.Runs.{every_sound_run as every_sound_run_keeps_streams, every_quiet_run as every_quiet_run_keeps_order}
 use Rattle.pair_world.proofs.Playing.{leads, fails}
 use Rattle.pair_world.proofs.world.World.play.Goals as goal
 
@@ -30,6 +30,15 @@ returns-in-Ok-clause-streams c = every_sound_run_keeps_streams _ _ _ c.are_asked
 
 pub returns-in-Err-clause-streams : goal.returns-in-Err-clause-streams
 returns-in-Err-clause-streams c = every_sound_run_keeps_streams _ _ _ c.are_asked.ensures
+
+pub returns-in_err-world-clause-parts : goal.returns-in_err-world-clause-parts
+returns-in_err-world-clause-parts c = every_quiet_run_keeps_order _ _ _ c.are_asked.ensures
+
+pub returns-in-Ok-clause-parts : goal.returns-in-Ok-clause-parts
+returns-in-Ok-clause-parts c = every_quiet_run_keeps_order _ _ _ c.are_asked.ensures
+
+pub returns-in-Err-clause-parts : goal.returns-in-Err-clause-parts
+returns-in-Err-clause-parts c = every_quiet_run_keeps_order _ _ _ c.are_asked.ensures
 
 pub returns-in-Ok-clause-world : goal.returns-in-Ok-clause-world
 returns-in-Ok-clause-world c = leads _ _ _ _ c.in_ok-world.ensures _ c.in-Ok.ensures

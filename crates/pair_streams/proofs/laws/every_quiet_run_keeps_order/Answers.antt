@@ -1,0 +1,5 @@
+use Rattle.pair_streams.proofs.Runs.{every_quiet_run}
+use Rattle.pair_streams.proofs.laws.every_quiet_run_keeps_order.Goals as goal
+
+pub returns : goal.returns
+returns c a b steps asked quiet = every_quiet_run a b steps asked quiet
