@@ -10,7 +10,8 @@ is_lost (suc before) number = number % suc before == 0
 abbrev pub passing_from : ℕ → ℕ → List ℕ → List ℕ
 passing_from every number [] = []
 passing_from every number (octet ∷ octets) =
-    let behind : List ℕ = passing_from every (number + 1) octets in if is_lost every number then behind else octet ∷ behind
+    let behind : List ℕ = passing_from every (number + 1) octets in
+    if is_lost every number then behind else octet ∷ behind
 
 -- what passes of all octets that were ever put
 abbrev pub passing : ℕ → List ℕ → List ℕ

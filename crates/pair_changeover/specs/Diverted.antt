@@ -26,7 +26,8 @@ use Rattle.pair_model.specs.World.{at_end, other, line_to}
 
 -- of each link, settled or not, at most n messages count as acknowledged; and nothing is discarded
 pub record LosesNothing (s : State) (far : Past) : Type 0 where
-  pub acked : (link : ℕ) (state : LinkState) → slice_get s.links link ≡ Some state → state.acked ≤ length (far.taken link)
+  pub acked : (link : ℕ) (state : LinkState) → slice_get s.links link ≡ Some state
+      → state.acked ≤ length (far.taken link)
   pub none_discarded : standing was_discarded s.rows ≡ []
 
 -- AN ORDER IS HEARD, about a link that hasn't settled: its number is that of the last message that its end accepted, so

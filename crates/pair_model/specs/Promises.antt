@@ -71,7 +71,8 @@ pub record IsQuietRun (a b : SetConfig) (run : List Step) : Type 0 where
 
 -- for as long as the link isn't settled: what counts as acknowledged was accepted, and what is unacknowledged is the rest
 -- of what was sent
-pub record IsGoing (link : ℕ) (state : LinkState) (rows : List Row) (sent : List Message) (taken : List (List ℕ)) : Type 0 where
+pub record IsGoing (link : ℕ) (state : LinkState) (rows : List Row)
+    (sent : List Message) (taken : List (List ℕ)) : Type 0 where
   pub acked : state.acked ≤ length taken
   pub unacked : messages (unack link rows) ≡ drop state.acked sent
 
@@ -87,7 +88,8 @@ pub record IsKeptOn (link : ℕ) (near far : Past) (s t : State) : Type 0 where
 -- in both directions
 abbrev pub LinksKeep : Stage → Type 0
 LinksKeep g =
-    (link : ℕ) → IsKeptOn link g.a g.b g.world.a.state g.world.b.state × IsKeptOn link g.b g.a g.world.b.state g.world.a.state
+    (link : ℕ)
+    → IsKeptOn link g.a g.b g.world.a.state g.world.b.state × IsKeptOn link g.b g.a g.world.b.state g.world.a.state
 
 -- a heard unit tells no fault of the far end's error control
 abbrev pub TellsNoFault : Shown → Type 0

@@ -98,10 +98,13 @@ got_by TookMessage (Some message) body = record { number = message.number; body 
 got_by _ message body = []
 
 abbrev pub past_heard : ℕ → SignalUnit → List Message → Shown → Past → Past
-past_heard link unit sent (Answered (Heard report)) past = record past {
-  taken = added_at link (taken_by report.took (body_in unit)) past.taken;
-  got = added_at (stream_of (body_in unit)) (got_by report.took (slice_get sent (length (past.taken link))) (body_in unit)) past.got;
-}
+past_heard link unit sent (Answered (Heard report)) past =
+    let body = body_in unit in
+    let message = slice_get sent (length (past.taken link)) in
+    record past {
+      taken = added_at link (taken_by report.took body) past.taken;
+      got = added_at (stream_of body) (got_by report.took message body) past.got;
+    }
 past_heard link unit sent _ past = past
 
 abbrev pub past_arrived : ℕ → List SignalUnit → List Message → Shown → Past → Past
@@ -136,7 +139,8 @@ passed g (Act end event) shown new = with_past end (past_asked event shown (past
 passed g (Emit end link) shown new =
     with_past end (past_sent link (at_end g.world end).state (at_end new end).state (past_at g end)) new g
 passed g (Arrive end link) shown new =
-    with_past end (past_arrived link (line_to g.world end link) ((past_at g (other end)).sent link) shown (past_at g end)) new g
+    let sent = (past_at g (other end)).sent link in
+    with_past end (past_arrived link (line_to g.world end link) sent shown (past_at g end)) new g
 passed g (Lose end link place) shown new = record g { world = new }
 passed g (Together link) shown new = record { world = new; a = past_risen link g.a; b = past_risen link g.b }
 passed g (Inject end link unit) shown new =
@@ -158,4 +162,5 @@ HoldsAlong P g (step ∷ steps) =
 abbrev pub HoldsAtEach : (Stage → Step → Shown → Stage → Type 0) → Stage → List Step → Type 0
 HoldsAtEach P g [] = Unit {0}
 HoldsAtEach P g (step ∷ steps) =
-    OnShows (carried_out g.world step) (λ shown new. P g step shown (passed g step shown new) × HoldsAtEach P (passed g step shown new) steps)
+    OnShows (carried_out g.world step) (λ shown new.
+    P g step shown (passed g step shown new) × HoldsAtEach P (passed g step shown new) steps)

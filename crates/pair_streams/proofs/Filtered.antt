@@ -1,5 +1,5 @@
 -- THOSE OF A STREAM, in lists that are joined, shortened or filtered.
-use Rattle.std.proofs.Common.{refl, ◌≡◌, ◌∙◌, ap, sym, ℕ, zero, suc, ◌==◌, Bool, true, false, not, ◌&&◌, List, [], ◌∷◌, ◌++◌, map, filter, drop, cond}
+use Rattle.std.proofs.Common.{refl, ◌≡◌, ◌∙◌, ap, sym, ℕ, zero, suc, ◌==◌, Bool, true, false, not, ◌&&◌, List, [], ◌∷◌, ◌++◌, map, filter, drop, cond, ◌⊎◌, inl, inr}
 use Rattle.std.proofs.lemmas.Bool.{eqb-true}
 use Rattle.std.proofs.lemmas.List.{append-nil}
 use Rattle.std.proofs.lemmas.List.Elements.{filter-append}
@@ -8,6 +8,7 @@ use Rattle.set_model.specs.Rows.{Row, stream_of, service_indicator, standing, fa
 use Rattle.pair_model.specs.Run.{Message, messages}
 use Rattle.pair_changeover.specs.Pending.{queue}
 use Rattle.pair_changeover.proofs.Table.{joined}
+use Rattle.pair_changeover.proofs.Views.{Among}
 use Rattle.pair_streams.specs.Streams.{is_of, those_of}
 
 pub those_joined : (stream : ℕ) (xs ys : List Message) → those_of stream (xs ++ ys) ≡ those_of stream xs ++ those_of stream ys
@@ -117,3 +118,16 @@ none_within stream some all within (row ∷ rows) e = go (some row.fate) (all ro
     go false true false g h k later = rw g (later (rw (h, k) at e))
     go false false d g h k later = rw g (later (rw h at e))
     go true false d g h k later = absurd (let never : true ≡ false = sym (within row.fate g) ∙ h in cc)
+
+-- those of a stream are among all
+pub among_all : (stream : ℕ) (m : Message) (xs : List Message) → Among m (those_of stream xs) → Among m xs
+among_all stream m [] a = absurd a
+among_all stream m (x ∷ xs) a = go (is_of stream x) refl a (λ b. among_all stream m xs b)
+  where
+    go : (b : Bool) → is_of stream x ≡ b → Among m (those_of stream (x ∷ xs)) → (Among m (those_of stream xs) → Among m xs) → Among m (x ∷ xs)
+    go true e a later = cases (rw e at a)
+      where
+        cases : (m ≡ x) ⊎ Among m (those_of stream xs) → (m ≡ x) ⊎ Among m xs
+        cases (inl same) = inl same
+        cases (inr b) = inr (later b)
+    go false e a later = inr (later (rw e at a))

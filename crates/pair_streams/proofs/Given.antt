@@ -19,10 +19,10 @@ use Rattle.pair_changeover.specs.Pending.{pending, aside, acked_on, accepted_on}
 use Rattle.pair_changeover.proofs.Blind.{given_up, own_rest, others_stay, aside_stays}
 use Rattle.pair_changeover.proofs.Table.{joined}
 use Rattle.pair_changeover.proofs.Views.{view, Among, In, stands_on, stands_aside}
-use Rattle.pair_streams.specs.Streams.{is_of, those_of}
+use Rattle.pair_streams.specs.Streams.{those_of}
 use Rattle.pair_streams.proofs.Codes.{Clear, Flows, NewAcknowledges, backed}
 use Rattle.pair_streams.proofs.Declared.{NoneDeclares, ClearBehind, clear_rest}
-use Rattle.pair_streams.proofs.Filtered.{those_joined}
+use Rattle.pair_streams.proofs.Filtered.{those_joined, among_all}
 use Rattle.pair_streams.proofs.Flowing.{back_by, queue_at, here}
 use Rattle.pair_streams.proofs.Mixed.{Mixed, Fewer, fewer}
 
@@ -121,25 +121,13 @@ module _ (n : ℕ) (link : LinkState) (s f : State) (sound : IsSound s) (at : Is
     mixed_if stream low true e = (each stream (ltb-true stream 16 e)).mixed
     mixed_if stream low false e = absurd (grind (arith, nat_tests, low, e))
 
-    among_those : (stream : ℕ) (m : Message) (xs : List Message) → Among m (those_of stream xs) → Among m xs
-    among_those stream m [] a = absurd a
-    among_those stream m (x ∷ xs) a = go (is_of stream x) refl a (λ b. among_those stream m xs b)
-      where
-        go : (b : Bool) → is_of stream x ≡ b → Among m (those_of stream (x ∷ xs)) → (Among m (those_of stream xs) → Among m xs) → Among m (x ∷ xs)
-        go true e a later = cases (rw e at a)
-          where
-            cases : (m ≡ x) ⊎ Among m (those_of stream xs) → (m ≡ x) ⊎ Among m xs
-            cases (inl same) = inl same
-            cases (inr b) = inr (later b)
-        go false e a later = inr (later (rw e at a))
-
     of_if : (stream : ℕ) (m : Message) (b : Bool) (e : nat_lt stream 16 ≡ b) → Among m (lost_if stream b e) → Among m (lost stream) ⊎ Among m gone_then
     unfolding lost_if
     of_if stream m true e a = go ((each stream (ltb-true stream 16 e)).of m a)
       where
         go : Among m (lost stream) ⊎ Among m (those_of stream gone_then) → Among m (lost stream) ⊎ Among m gone_then
         go (inl x) = inl x
-        go (inr x) = inr (among_those stream m gone_then x)
+        go (inr x) = inr (among_all stream m gone_then x)
     of_if stream m false e a = inl a
 
     clear_then : (stream code via : ℕ) → Clear stream code via (view s f) → Clear stream code via (view after f)

@@ -2,7 +2,7 @@
 -- the links.
 use Rattle.set_model.proofs.Places.{code_back}
 use Rattle.set_route.proofs.Quiet.{never_changing}
-use Rattle.pair_streams.proofs.Filtered.{none_both, none_within}
+use Rattle.pair_streams.proofs.Filtered.{among_all, none_both, none_within}
 use Rattle.std.proofs.Common.{refl, arith, ◌≡◌, ◌∙◌, ap, sym, subst, ℕ, zero, suc, ◌<◌, ◌==◌, ◌+◌, ◌-◌, Bool, true, false, not, ◌&&◌, ◌||◌, nat_lt, List, [], ◌∷◌, ◌++◌, length, take, drop, slice_get, Some, None, cond, ◌⊎◌, inl, inr}
 use Rattle.std.specs.Option.{option_map}
 use Rattle.std.proofs.lemmas.Bool.{ltb-true, eqb-true}
@@ -71,18 +71,6 @@ among_in : (m : Message) (xs : List Message) (at : ℕ) → slice_get xs at ≡ 
 among_in m [] at e = absurd cc
 among_in m (x ∷ xs) zero e = let same : Some x ≡ Some m = e in let is : x ≡ m = cc in inl (sym is)
 among_in m (x ∷ xs) (suc at) e = inr (among_in m xs at e)
-
-among_all : (stream : ℕ) (m : Message) (xs : List Message) → Among m (those_of stream xs) → Among m xs
-among_all stream m [] a = absurd a
-among_all stream m (x ∷ xs) a = go (is_of stream x) refl a (λ b. among_all stream m xs b)
-  where
-    go : (b : Bool) → is_of stream x ≡ b → Among m (those_of stream (x ∷ xs)) → (Among m (those_of stream xs) → Among m xs) → Among m (x ∷ xs)
-    go true e a later = cases (rw e at a)
-      where
-        cases : (m ≡ x) ⊎ Among m (those_of stream xs) → (m ≡ x) ⊎ Among m xs
-        cases (inl same) = inl same
-        cases (inr b) = inr (later b)
-    go false e a later = inr (later (rw e at a))
 
 module _ (stream : ℕ) (low : stream < 16) (s f : State) (near far : Past) (lost : ℕ → List Message) (w : Flows s f near.offered far.got lost) (covers : Covered near lost s) where
   -- an acknowledged message stands nowhere else

@@ -23,7 +23,8 @@ pub record IsIdle (w : World) : Type 0 where
 -- what holds where a run of steps ends, if each can be done
 abbrev pub HoldsAtEnd : (Stage → Type 0) → Stage → List Step → Type 0
 HoldsAtEnd P g [] = P g
-HoldsAtEnd P g (step ∷ steps) = OnShows (carried_out g.world step) (λ shown new. HoldsAtEnd P (passed g step shown new) steps)
+HoldsAtEnd P g (step ∷ steps) =
+    OnShows (carried_out g.world step) (λ shown new. HoldsAtEnd P (passed g step shown new) steps)
 
 -- the users of each end got all that the other's users offered
 abbrev pub AllGot : Stage → Type 0

@@ -31,8 +31,9 @@ pub record Arrives (stream : ℕ) (near far : Past) (s f : State) : Type 0 where
   -- the far end's users got the first of what was offered here, numbers and octets
   pub prefix : far.got stream ≡ take (length (far.got stream)) (near.offered stream)
   -- each message that is acknowledged here is among it
-  pub acked : (link : ℕ) (message : Message) → is_of stream message ≡ true → place message.number s.rows ≡ Some (Acked link)
-      → body_at message.number s.rows ≡ Some message.body → IsIn message (far.got stream)
+  pub acked : (link : ℕ) (message : Message) → is_of stream message ≡ true
+      → place message.number s.rows ≡ Some (Acked link) → body_at message.number s.rows ≡ Some message.body
+      → IsIn message (far.got stream)
   -- and where nothing of the stream is pending, parked or waits for a changeback, it's all
   pub all : ((link : ℕ) → those_of stream (pending link s f) ≡ []) → those_of stream (aside s) ≡ []
       → those_of stream (kept_back s) ≡ [] → far.got stream ≡ near.offered stream
@@ -48,8 +49,9 @@ pub record ArrivesInPart (stream : ℕ) (near far : Past) (s f : State) : Type 0
   -- the far end's users got some of what was offered here, in its order, numbers and octets, each at most once
   pub in_order : IsPart (far.got stream) (near.offered stream)
   -- each message that is acknowledged here is among it
-  pub acked : (link : ℕ) (message : Message) → is_of stream message ≡ true → place message.number s.rows ≡ Some (Acked link)
-      → body_at message.number s.rows ≡ Some message.body → IsIn message (far.got stream)
+  pub acked : (link : ℕ) (message : Message) → is_of stream message ≡ true
+      → place message.number s.rows ≡ Some (Acked link) → body_at message.number s.rows ≡ Some message.body
+      → IsIn message (far.got stream)
   -- and where nothing of the stream is pending, parked or waits for a changeback, each that isn't was discarded in an
   -- emergency
   pub all : ((link : ℕ) → those_of stream (pending link s f) ≡ []) → those_of stream (aside s) ≡ []
@@ -59,7 +61,8 @@ pub record ArrivesInPart (stream : ℕ) (near far : Past) (s f : State) : Type 0
 abbrev pub PartsArrive : Stage → Type 0
 PartsArrive g =
     (stream : ℕ) → stream < 16
-    → ArrivesInPart stream g.a g.b g.world.a.state g.world.b.state × ArrivesInPart stream g.b g.a g.world.b.state g.world.a.state
+    → ArrivesInPart stream g.a g.b g.world.a.state g.world.b.state
+    × ArrivesInPart stream g.b g.a g.world.b.state g.world.a.state
 
 -- LAW
 abbrev pub EverySoundRunKeepsStreams : Type 0

@@ -55,8 +55,10 @@ pub(crate) struct Rest<C: Ledger, M: Ledger, O: Ledger, A: Ledger> {
     pub(crate) messages: Share<M>,
     pub(crate) octets: Share<O>,
     pub(crate) acknowledged: Share<A>,
-    pub(crate) ghost no_parts: { (calls.parts ≡ 0) × (messages.parts ≡ 0) × (octets.parts ≡ 0) × (acknowledged.parts ≡ 0) },
-    pub(crate) ghost no_amount: { (calls.amount ≡ 0) × (messages.amount ≡ 0) × (octets.amount ≡ 0) × (acknowledged.amount ≡ 0) },
+    pub(crate) ghost no_parts: { (calls.parts ≡ 0) × (messages.parts ≡ 0)
+        × (octets.parts ≡ 0) × (acknowledged.parts ≡ 0) },
+    pub(crate) ghost no_amount: { (calls.amount ≡ 0) × (messages.amount ≡ 0)
+        × (octets.amount ≡ 0) × (acknowledged.amount ≡ 0) },
 }
 
 /// Why a set can't be opened. The blanks are given up.
