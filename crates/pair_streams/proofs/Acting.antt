@@ -52,6 +52,7 @@ use Rattle.pair_streams.proofs.Mixed.{Mixed}
 use Rattle.pair_streams.proofs.Flows.{queues_flow, queues_acks, offers_flow, offers_acks}
 use Rattle.pair_streams.proofs.Known.{Covers, covers_on, covers_appended}
 use Rattle.pair_streams.proofs.Moving.{same_in, same_flow}
+use Rattle.pair_streams.proofs.Rising.{Rising, rising_on, offers_rise}
 use Rattle.pair_streams.proofs.Risen.{risen_in, rises_flow}
 use Rattle.pair_streams.proofs.Turned.{left_orders, leaves_flow}
 
@@ -87,6 +88,8 @@ pub record Streams (emergencies : Bool) (p : Two) : Type 0 where
   pub back : Flows p.far p.near p.far_past.offered p.near_past.got back_lost
   pub near_covers : Covered p.near_past out_lost p.near
   pub far_covers : Covered p.far_past back_lost p.far
+  pub near_rises : Rising p.near_past p.near
+  pub far_rises : Rising p.far_past p.far
   pub out_whole : emergencies ≡ false → (stream : ℕ) → out_lost stream ≡ []
   pub back_whole : emergencies ≡ false → (stream : ℕ) → back_lost stream ≡ []
 
@@ -99,6 +102,8 @@ streams_back p w = record {
   back = w.out;
   near_covers = w.far_covers;
   far_covers = w.near_covers;
+  near_rises = w.far_rises;
+  far_rises = w.near_rises;
   out_whole = w.back_whole;
   back_whole = w.out_whole;
 }
@@ -258,6 +263,8 @@ module _ {emergencies : Bool} (p : Two) (sound : IsSound p.near) (w : Streams em
         back = far_carried p.near (step p.near event).state p.far k.accepted p.far_past.offered p.near_past.got w.back_lost keeps.acks w.back;
         near_covers = covers_on _ _ p.near event other w.near_covers;
         far_covers = w.far_covers;
+        near_rises = rising_on p.near_past p.near event w.near_rises;
+        far_rises = w.far_rises;
         out_whole = w.out_whole;
         back_whole = w.back_whole;
       }
@@ -273,6 +280,8 @@ module _ {emergencies : Bool} (p : Two) (sound : IsSound p.near) (w : Streams em
         back = far_carried p.near (step p.near (Offer body)).state p.far keeps.accepted p.far_past.offered p.near_past.got w.back_lost (offers_back p.near p.far sound p.near_past.offered p.far_past.got w.out_lost w.out body asked) w.back;
         near_covers = offers_cover p.near p.near_past w.out_lost body w.near_covers;
         far_covers = w.far_covers;
+        near_rises = offers_rise p.near_past p.near body w.near_rises;
+        far_rises = w.far_rises;
         out_whole = w.out_whole;
         back_whole = w.back_whole;
       }
@@ -318,6 +327,8 @@ module _ {emergencies : Bool} (mx my : Method) (one : IsOneMethod mx my) (p : Tw
     back = far_carried p.near (step p.near (Next k)).state p.far a.keeps.accepted p.far_past.offered p.near_past.got w.back_lost a.acks w.back;
     near_covers = covers_on _ _ p.near (Next k) (λ body e. absurd cc) w.near_covers;
     far_covers = w.far_covers;
+    near_rises = rising_on p.near_past p.near (Next k) w.near_rises;
+    far_rises = w.far_rises;
     out_whole = w.out_whole;
     back_whole = w.back_whole;
   }
@@ -384,6 +395,8 @@ module _ {emergencies : Bool} (mx my : Method) (p : Two) (h : HoldsOf mx my p) (
         back = rises_flow k p.far far_then p.near near_then h.far_sound b a far_routing far_backs p.far_past.offered p.near_past.got w.back_lost w.back (λ c m i x. risen_in k p.near near_then p.far far_then h.near_sound a b near_routing near_backs m i);
         near_covers = covers_on _ _ p.near (UpEvent k) (λ body e. absurd cc) w.near_covers;
         far_covers = covers_on _ _ p.far (UpEvent k) (λ body e. absurd cc) w.far_covers;
+        near_rises = rising_on p.near_past p.near (UpEvent k) w.near_rises;
+        far_rises = rising_on p.far_past p.far (UpEvent k) w.far_rises;
         out_whole = w.out_whole;
         back_whole = w.back_whole;
       }

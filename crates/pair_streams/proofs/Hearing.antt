@@ -51,6 +51,7 @@ use Rattle.pair_streams.proofs.Known.{given_up, covers_on}
 use Rattle.pair_streams.proofs.Mixed.{Mixed}
 use Rattle.pair_streams.proofs.Moving.{same_in, same_flow}
 use Rattle.pair_streams.proofs.Returned.{gone_orders, releases_flow}
+use Rattle.pair_streams.proofs.Rising.{rising_on}
 use Rattle.pair_streams.proofs.Settled.{was_in, settles_flow}
 use Rattle.pair_streams.proofs.Turned.{left_orders, leaves_flow}
 
@@ -516,6 +517,8 @@ module _ {emergencies : Bool} (mx my : Method) (one : IsOneMethod mx my) (p : Tw
     back = both_then.back;
     near_covers = record { managed = covered.managed; numbered = covered.numbered; known = covered.known; gone = λ number q. gone_case number q.0 q.1 (both_then.of q.0 q.1 q.2) q.3 };
     far_covers = v.far_covers;
+    near_rises = rising_on p.near_past p.near (HeardEvent k unit) v.near_rises;
+    far_rises = v.far_rises;
     out_whole = λ e stream. both_then.none e stream ∙ v.out_whole e stream;
     back_whole = v.back_whole;
   }

@@ -14,6 +14,7 @@ pub mod Mixed
 pub mod Moving
 pub mod Returned
 pub mod Risen
+pub mod Rising
 pub mod Runs
 pub mod Settled
 pub mod Turned

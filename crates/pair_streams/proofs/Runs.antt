@@ -45,12 +45,13 @@ use Rattle.pair_changeover.proofs.Reaching.{row_among, filtered, get_rest}
 use Rattle.pair_changeover.proofs.Runs.{first_orders, first_codes, nothing_in}
 use Rattle.pair_changeover.proofs.Table.{drop_none, joined}
 use Rattle.pair_changeover.proofs.Views.{Among, among_joined}
-use Rattle.pair_streams.specs.Streams.{is_of, those_of, IsIn, Arrives, StreamsArrive, ArrivesInPart, PartsArrive}
+use Rattle.pair_streams.specs.Streams.{is_of, those_of, IsIn, IsPart, RiseFrom, Arrives, StreamsArrive, ArrivesInPart, PartsArrive}
 use Rattle.pair_streams.proofs.Acting.{IsSafe, Streams, streams_back, asked_streams, sends_streams, sends_none, rises_streams, Covered}
 use Rattle.pair_streams.proofs.Codes.{Flows}
 use Rattle.pair_streams.proofs.Flowing.{queue_at, here, back_by}
 use Rattle.pair_streams.proofs.Hearing.{hears_streams}
 use Rattle.pair_streams.proofs.Known.{given_up}
+use Rattle.pair_streams.proofs.Rising.{Rising, rise_part}
 use Rattle.pair_streams.proofs.Mixed.{Mixed, mixed_none, mixed_among, mixed_part, part_first}
 
 -- WHAT IT SAYS
@@ -72,7 +73,7 @@ among_in m [] at e = absurd cc
 among_in m (x ∷ xs) zero e = let same : Some x ≡ Some m = e in let is : x ≡ m = cc in inl (sym is)
 among_in m (x ∷ xs) (suc at) e = inr (among_in m xs at e)
 
-module _ (stream : ℕ) (low : stream < 16) (s f : State) (near far : Past) (lost : ℕ → List Message) (w : Flows s f near.offered far.got lost) (covers : Covered near lost s) where
+module _ (stream : ℕ) (low : stream < 16) (s f : State) (near far : Past) (lost : ℕ → List Message) (w : Flows s f near.offered far.got lost) (covers : Covered near lost s) (rising : Rising near s) where
   -- an acknowledged message stands nowhere else
   module _ (link : ℕ) (m : Message) (placed : place m.number s.rows ≡ Some (Acked link)) where
     acked_in : (test : Fate → Bool) → test (Acked link) ≡ false → (at : ℕ) (row : Row) → slice_get (standing test s.rows) at ≡ Some row → m.number ≡ row.number → ⊥
@@ -137,10 +138,17 @@ module _ (stream : ℕ) (low : stream < 16) (s f : State) (near far : Past) (los
   empty (Changing to code via) none none_aside none_back = none_both stream (pending via s f) (back_by code s) (none via) (none_within stream (is_back code) stands_back (λ fate e. code_back code fate e) s.rows none_back)
   empty Nowhere none none_aside none_back = none_aside
 
+  part_of : IsPart (far.got stream) (near.offered stream)
+  part_of = part_first (far.got stream) (here stream s f) (near.offered stream) (mixed_part (far.got stream ++ here stream s f) (lost stream) (near.offered stream) (w.flow stream low))
+
+  once_each : RiseFrom 0 (far.got stream)
+  once_each = rise_part 0 0 (far.got stream) (near.offered stream) (length s.rows) (omega arith) part_of (rising stream)
+
   -- where nothing is lost
   pub arrives_so : lost stream ≡ [] → Arrives stream near far s f
   arrives_so whole = record {
     prefix = first_part (far.got stream) (here stream s f) (near.offered stream) all_of;
+    once = once_each;
     acked = λ link m own placed body. acked_got link m placed own body;
     all = λ none none_aside none_back. sym (append-nil (far.got stream)) ∙ ap (λ (x : List Message). far.got stream ++ x) (sym (empty (place_of stream s.routing) none none_aside none_back)) ∙ all_of;
   }
@@ -151,7 +159,8 @@ module _ (stream : ℕ) (low : stream < 16) (s f : State) (near far : Past) (los
   -- and where some is
   pub arrives_in_part : ArrivesInPart stream near far s f
   arrives_in_part = record {
-    in_order = part_first (far.got stream) (here stream s f) (near.offered stream) (mixed_part (far.got stream ++ here stream s f) (lost stream) (near.offered stream) (w.flow stream low));
+    in_order = part_of;
+    once = once_each;
     acked = λ link m own placed body. acked_got link m placed own body;
     all = λ none none_aside none_back m offered. got_or_lost (empty (place_of stream s.routing) none none_aside none_back) m offered;
   }
@@ -187,6 +196,8 @@ on_lines p out back v = record {
   back = v.back;
   near_covers = v.near_covers;
   far_covers = v.far_covers;
+  near_rises = v.near_rises;
+  far_rises = v.far_rises;
   out_whole = v.out_whole;
   back_whole = v.back_whole;
 }
@@ -361,14 +372,14 @@ module _ (emergencies : Bool) (ma mb : Method) (one : IsOneMethod ma mb) where
 
 streams_arrive : (g : Stage) → Streams false (seen A g) → StreamsArrive g
 streams_arrive g v stream low = (
-  arrives_so stream low g.world.a.state g.world.b.state g.a g.b v.out_lost v.out v.near_covers (v.out_whole refl stream),
-  arrives_so stream low g.world.b.state g.world.a.state g.b g.a v.back_lost v.back v.far_covers (v.back_whole refl stream),
+  arrives_so stream low g.world.a.state g.world.b.state g.a g.b v.out_lost v.out v.near_covers v.near_rises (v.out_whole refl stream),
+  arrives_so stream low g.world.b.state g.world.a.state g.b g.a v.back_lost v.back v.far_covers v.far_rises (v.back_whole refl stream),
 )
 
 parts_arrive : (g : Stage) → Streams true (seen A g) → PartsArrive g
 parts_arrive g v stream low = (
-  arrives_in_part stream low g.world.a.state g.world.b.state g.a g.b v.out_lost v.out v.near_covers,
-  arrives_in_part stream low g.world.b.state g.world.a.state g.b g.a v.back_lost v.back v.far_covers,
+  arrives_in_part stream low g.world.a.state g.world.b.state g.a g.b v.out_lost v.out v.near_covers v.near_rises,
+  arrives_in_part stream low g.world.b.state g.world.a.state g.b g.a v.back_lost v.back v.far_covers v.far_rises,
 )
 
 -- AT FIRST
@@ -428,6 +439,8 @@ first_streams emergencies a b = record {
   back = first_flows b a;
   near_covers = first_covers a;
   far_covers = first_covers b;
+  near_rises = λ stream. omega arith;
+  far_rises = λ stream. omega arith;
   out_whole = λ e stream. refl;
   back_whole = λ e stream. refl;
 }

@@ -1,5 +1,5 @@
 -- WHAT BECOMES OF A STREAM between two ends, in every sound run: nothing is lost, doubled or put out of order.
-use Rattle.std.specs.Prelude.{◌≡◌, ◌<◌, ℕ, ◌==◌, Bool, true, not, ◌&&◌, List, [], ◌∷◌, ◌⊎◌, filter, length, take, slice_get, Some}
+use Rattle.std.specs.Prelude.{◌≡◌, ◌<◌, ◌≤◌, ℕ, ◌+◌, ◌==◌, Bool, true, not, ◌&&◌, List, [], ◌∷◌, ◌⊎◌, filter, length, take, slice_get, Some}
 use Rattle.set_events.specs.declared.answer.Fate.TheVariants.{Acked, Discarded}
 use Rattle.set_events.specs.declared.answer.DiscardCause.TheVariants.{Emergency}
 use Rattle.set_events.specs.declared.config.SetConfig.{SetConfig}
@@ -26,10 +26,17 @@ IsPart [] all = Unit {0}
 IsPart (message ∷ part) [] = ⊥
 IsPart (message ∷ part) (first ∷ rest) = ((message ≡ first) × IsPart part rest) ⊎ IsPart (message ∷ part) rest
 
+-- NUMBERS THAT RISE, from this one on: none comes twice
+abbrev pub RiseFrom : ℕ → List Message → Type 0
+RiseFrom least [] = Unit {0}
+RiseFrom least (message ∷ rest) = (least ≤ message.number) × RiseFrom (message.number + 1) rest
+
 -- ONE STREAM, from an end to the far end
 pub record Arrives (stream : ℕ) (near far : Past) (s f : State) : Type 0 where
   -- the far end's users got the first of what was offered here, numbers and octets
   pub prefix : far.got stream ≡ take (length (far.got stream)) (near.offered stream)
+  -- no number among them comes twice
+  pub once : RiseFrom 0 (far.got stream)
   -- each message that is acknowledged here is among it
   pub acked : (link : ℕ) (message : Message) → is_of stream message ≡ true
       → place message.number s.rows ≡ Some (Acked link) → body_at message.number s.rows ≡ Some message.body
@@ -46,8 +53,10 @@ StreamsArrive g =
 
 -- IN EMERGENCIES some may be given up: of one stream, from an end to the far end
 pub record ArrivesInPart (stream : ℕ) (near far : Past) (s f : State) : Type 0 where
-  -- the far end's users got some of what was offered here, in its order, numbers and octets, each at most once
+  -- the far end's users got some of what was offered here, in its order, numbers and octets
   pub in_order : IsPart (far.got stream) (near.offered stream)
+  -- no number among them comes twice
+  pub once : RiseFrom 0 (far.got stream)
   -- each message that is acknowledged here is among it
   pub acked : (link : ℕ) (message : Message) → is_of stream message ≡ true
       → place message.number s.rows ≡ Some (Acked link) → body_at message.number s.rows ≡ Some message.body

@@ -2,16 +2,16 @@
 ghost use Rattle.pair_streams.specs.Streams.{EverySoundRunKeepsStreams, EveryQuietRunKeepsOrder};
 
 /// In every sound run, after every step of it, for each of the 16 streams and in both directions: what the far
-/// end's users got is a prefix of what was offered here, numbers and octets, and holds each message of the stream
-/// that is acknowledged here. And where nothing of the stream is pending, parked or waits for a changeback, they got all
+/// end's users got is a prefix of what was offered here, numbers and octets, no number twice, and holds each message of
+/// the stream that is acknowledged here. And where nothing of the stream is pending, parked or waits for a changeback, they got all
 /// that was offered (Q.704 5.1.1, 6.1).
 pub fn every_sound_run_keeps_streams()
     ensures { EverySoundRunKeepsStreams }
 {}
 
 /// In every quiet run, in which a link may also be left blindly, after every step of it, for each of the 16 streams and in
-/// both directions: what the far end's users got is an in-order part of what was offered here, numbers and octets, and
-/// holds each message of the stream that is acknowledged here. And where nothing of the stream is pending, parked or waits
+/// both directions: what the far end's users got is an in-order part of what was offered here, numbers and octets, no number
+/// twice, and holds each message of the stream that is acknowledged here. And where nothing of the stream is pending, parked or waits
 /// for a changeback, each message that they didn't get was discarded here in an emergency (Q.704 5.6).
 pub fn every_quiet_run_keeps_order()
     ensures { EveryQuietRunKeepsOrder }
