@@ -19,10 +19,12 @@ use std::marker::Model;
 use world_steps::{End, Shown, Step};
 
 /// Two ends with the same links, and the units under way to each on each link, oldest first.
+///
+/// A set takes some thousands of octets and a world is handed on with each step, so the sets stay where they are.
 #[derive(Drop)]
 pub struct World {
-    a: SetCore,
-    b: SetCore,
+    a: Box<SetCore>,
+    b: Box<SetCore>,
     to_a: Lines,
     to_b: Lines,
 }
@@ -32,11 +34,11 @@ impl Model for World {
 
     ghost Value = { WorldState };
 
-    ghost view = { λ w. record { a = w.a; b = w.b; to_a = w.to_a; to_b = w.to_b } };
+    ghost view = { λ w. record { a = w.a.value; b = w.b.value; to_a = w.to_a; to_b = w.to_b } };
 
     ghost use Rattle.pair_model.specs.World.{IsPaired};
 
-    ghost invariant = { λ w. IsPaired (record { a = w.a; b = w.b; to_a = w.to_a; to_b = w.to_b }) };
+    ghost invariant = { λ w. IsPaired (record { a = w.a.value; b = w.b.value; to_a = w.to_a; to_b = w.to_b }) };
 }
 
 impl World {
@@ -63,8 +65,8 @@ impl World {
         }
         let to_a = Lines::new(alloc, a.links)?;
         let to_b = Lines::new(alloc, a.links)?;
-        let a = new_end(alloc, a)?;
-        let b = new_end(alloc, b)?;
+        let a = Box::new(alloc, new_end(alloc, a)?)?;
+        let b = Box::new(alloc, new_end(alloc, b)?)?;
         Ok(World { a, b, to_a, to_b })
     }
 
@@ -125,8 +127,8 @@ impl World {
         ensures { result.now ≡ at_end self.now end }
     {
         match end {
-            End::A => &self.a,
-            End::B => &self.b,
+            End::A => &*self.a,
+            End::B => &*self.b,
         }
     }
 
@@ -224,8 +226,8 @@ impl World {
             return Err(PlayFault::Impossible { place: 0 });
         };
         match end {
-            End::A => Ok(Shown::Answered(apply(&mut self.a, who, event)?)),
-            End::B => Ok(Shown::Answered(apply(&mut self.b, who, event)?)),
+            End::A => Ok(Shown::Answered(apply(&mut *self.a, who, event)?)),
+            End::B => Ok(Shown::Answered(apply(&mut *self.b, who, event)?)),
         }
     }
 
@@ -352,8 +354,8 @@ impl World {
         if !self.has_link(link) || !self.a.is_settled(link) || !self.b.is_settled(link) {
             return Err(PlayFault::Impossible { place: 0 });
         }
-        apply(&mut self.a, Actor::Terminal(link), &Event::Up { link })?;
-        apply(&mut self.b, Actor::Terminal(link), &Event::Up { link })?;
+        apply(&mut *self.a, Actor::Terminal(link), &Event::Up { link })?;
+        apply(&mut *self.b, Actor::Terminal(link), &Event::Up { link })?;
         self.to_a.clear(link);
         self.to_b.clear(link);
         Ok(Shown::Up)
