@@ -1,5 +1,5 @@
 -- What an entry brings to the books, and how far they go: what is added up of several parts of a history.
-use Rattle.std.specs.Prelude.{◌≡◌, ◌≤◌, ℕ, ◌+◌, ◌*◌, ◌^◌, List, All, slice_index, slice_set}
+use Rattle.std.specs.Prelude.{◌≡◌, ◌≤◌, ℕ, ◌+◌, ◌*◌, List, All, slice_index, slice_set}
 use Rattle.set_events.specs.declared.answer.Answer.{Answer}
 use Rattle.set_events.specs.declared.books.Books.{Books}
 use Rattle.set_events.specs.declared.event.Actor.{Actor}

@@ -1,6 +1,6 @@
 -- What every set keeps beside the model: its history is legal, what it keeps agrees with the state after it, and its
 -- tally is that history's.
-use Rattle.std.specs.Prelude.{◌≡◌, ◌≤◌, ◌+◌, ◌*◌, ◌^◌, List, length, sum}
+use Rattle.std.specs.Prelude.{◌≡◌, ◌≤◌, ◌+◌, ◌*◌, List, length, sum}
 use Rattle.set_events.specs.declared.history.Entry.{Entry}
 use Rattle.set_core.specs.declared.tally.Tally.{Tally}
 use Rattle.set_model.specs.State.{State}

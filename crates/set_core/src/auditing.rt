@@ -1,7 +1,8 @@
 //! Whether a list of entries is the history of a set.
-ghost use Rattle.std.specs.Prelude.{◌≡◌, ◌<◌, ◌↔◌, length, IfOk, IsTrue};
+ghost use Rattle.std.specs.Prelude.{◌≡◌, ◌<◌, ◌≤◌, ◌↔◌, length, IfOk, IfErr, IsTrue};
 ghost use Rattle.set_model.specs.State.{new_state};
 ghost use Rattle.set_model.specs.History.{IsActor, IsLegal, longest_history};
+ghost use Rattle.set_step.specs.Agreement.{Agrees};
 
 use super::set::LONGEST_HISTORY;
 use set_events::{Actor, Entry, SetConfig};
@@ -22,6 +23,17 @@ pub fn audit(alloc: Global, config: &SetConfig, entries: &[Entry]) -> Result<boo
         return Err(SetFault::Exhausted);
     }
     let mut core = Core::new(alloc, config)?;
+    replay(&mut core, config, entries)
+}
+
+/// Whether these entries are a legal history from the opening, which `core` stands for at first. It goes by
+/// reference, as each way out of a function lets go of what it owns.
+fn replay(core: &mut Core, config: &SetConfig, entries: &[Entry]) -> Result<bool, SetFault>
+    requires opened { Agrees core.old (new_state config.now) }
+    requires few { length entries.now ≤ longest_history }
+    ensures legal { IfOk result (λ is_legal. IsTrue is_legal ↔ IsLegal (new_state config.now) entries.now) }
+    ensures fault { IfErr result (λ fault. fault ≡ SetFault.NoMemory) }
+{
     for entry in entries {
         if !is_actor(entry.who) {
             return Ok(false);

@@ -4,10 +4,10 @@ use Rattle.set_events.specs.declared.history.Entry.{Entry}
 use Rattle.set_model.specs.History.{IsLegal, after}
 use Rattle.set_model.specs.State.{new_state}
 use Rattle.set_core.proofs.Keeping.{replay_none, replay_next, replay_taken, replay_more, replay_actor, replay_answer, few_more}
-use Rattle.set_core.proofs.auditing.audit.Goals as goal
+use Rattle.set_core.proofs.auditing.replay.Goals as goal
 
 pub loop-entry-init : goal.loop-entry-init
-loop-entry-init c = replay_none c.args.config.now c.args.entries.now c.in_ok-core.core c.in_ok-core.ensures.ok
+loop-entry-init c = replay_none c.args.config.now c.args.entries.now c.args.core.now c.requires.opened
 
 pub loop-entry-preserved : goal.loop-entry-preserved
 loop-entry-preserved c =
@@ -26,7 +26,7 @@ pub apply-requires : goal.apply-requires
 apply-requires c =
     let l = c.loop-entry.invariant in
     let s = after (new_state c.args.config.now) (take c.loop-entry.entry-index c.args.entries.now) in
-    (s, l.agrees, few_more c.loop-entry.entry-index (2 ^ 48) s (grind (arith, c.loop-entry-test.true, c.if-entries-gt-LONGEST_HISTORY.false)) l.few)
+    (s, l.agrees, few_more c.loop-entry.entry-index (2 ^ 48) s (grind (arith, c.loop-entry-test.true, c.requires.few)) l.few)
 
 pub returns-then-not-is_actor-clause-legal : goal.returns-then-not-is_actor-clause-legal
 returns-then-not-is_actor-clause-legal c =
