@@ -1,7 +1,7 @@
 -- What an event of a link does where the link is there, and as the event needs it.
-use Rattle.std.proofs.Common.{refl, ◌≡◌, ◌∙◌, ap, sym, subst, ◌<◌, ℕ, zero, suc, List, [], ◌∷◌, map, length, slice_get, Option, Some, None, Bool, true, false, if◌then◌else◌}
+use Rattle.std.proofs.Common.{refl, ◌≡◌, ◌∙◌, ap, sym, subst, ◌<◌, ◌≤◌, ℕ, zero, suc, List, [], ◌∷◌, map, length, slice_get, Option, Some, None, Bool, true, false, if◌then◌else◌}
 use Rattle.std.specs.Option.{option_map}
-use Rattle.std.proofs.lemmas.Option.{same_Some}
+use Rattle.std.proofs.lemmas.Option.{same_Some, slice_get_past}
 use Rattle.set_events.specs.declared.answer.Answer.{Answer}
 use Rattle.set_events.specs.declared.answer.Answer.TheVariants.{Refused, Done}
 use Rattle.set_events.specs.declared.answer.Refusal.{Refusal as SetRefusal}
@@ -111,6 +111,9 @@ module _ (parts : Parts) (s : State) (a : Agrees (kept_of parts) s) (n : ℕ) (w
 
   not_there : NoSuchLink ≡ why → (outcome : LinkState → Outcome) → slice_get s.links n ≡ None → on_link n s outcome ≡ record { answer = Refused why; state = s }
   not_there same outcome e = rw e (ap (λ w. record { answer = Refused w; state = s }) same)
+
+  pub unknown : NoSuchLink ≡ why → (outcome : LinkState → Outcome) → length parts.links.items ≤ n → Gives (on_link n s outcome) (Refused why) parts
+  unknown same outcome few = refuses _ (not_there same outcome (absent (slice_get_past parts.links.items n few)))
 
   pub unserved : (outcome : LinkState → Outcome) → service_refusal (slice_get parts.links.items n) ≡ Some why → Gives (in_service n s outcome) (Refused why) parts
   unserved outcome is = go (slice_get parts.links.items n) refl is

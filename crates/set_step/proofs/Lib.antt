@@ -1,6 +1,7 @@
 pub mod Admitting
 pub mod Becoming
 pub mod Bodies
+pub mod Carrying
 pub mod Choosing
 pub mod Counting
 pub mod Declaring

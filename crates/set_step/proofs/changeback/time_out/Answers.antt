@@ -1,8 +1,60 @@
-use Rattle.std.proofs.Common.{refl, arith, ◌∙◌, sym}
+use Rattle.std.proofs.Common.{refl, arith, ◌∙◌, ap, sym, length}
+use Rattle.set_events.specs.declared.answer.Refusal.TheVariants.{NoSuchLink}
+use Rattle.set_queues.specs.Buffers.{Lists}
+use Rattle.set_model.specs.Step.{runs_out}
 use Rattle.set_step.specs.Parts.{kept_of}
+use Rattle.set_step.proofs.Admitting.{unknown}
 use Rattle.set_step.proofs.Becoming.{becomes}
 use Rattle.set_step.proofs.Releasing.{none_used, all_back}
+use Rattle.set_step.proofs.Rooms.{whole_of}
 use Rattle.set_step.proofs.changeback.time_out.Goals as goal
+
+pub returns-then-from-len-clause-ok : goal.returns-then-from-len-clause-ok
+returns-then-from-len-clause-ok c = λ s a.
+    let past = c.if-from-len.true in
+    let number = c.from.ensures in
+    let many = c.len.ensures in
+    unknown c.args.parts.now s a c.args.number NoSuchLink refl (λ link. runs_out c.args.number s) (omega (arith, past, number, many))
+
+pub has_code_in_use-requires : goal.has_code_in_use-requires
+has_code_in_use-requires c =
+    let low = c.if-from-len.false in
+    let number = c.from.ensures in
+    let many = c.len.ensures in
+    let few = (whole_of c.args.parts.now c.requires.holds).few in
+    omega (arith, low, number, many, few)
+
+pub back_count-back-requires : goal.back_count-back-requires
+back_count-back-requires c =
+    let low = c.if-from-len.false in
+    let number = c.from.ensures in
+    let many = c.len.ensures in
+    let few = (whole_of c.args.parts.now c.requires.holds).few in
+    omega (arith, low, number, many, few)
+
+pub reserve_at-requires-clause-known : goal.reserve_at-requires-clause-known
+reserve_at-requires-clause-known c =
+    let low = c.if-from-len.false in
+    let number = c.from.ensures in
+    let many = c.len.ensures in
+    let each = (whole_of c.args.parts.now c.requires.holds).as_many in
+    omega (arith, low, number, many, each)
+
+pub release_all-requires-clause-whole : goal.release_all-requires-clause-whole
+release_all-requires-clause-whole c =
+    let whole = whole_of c.args.parts.now c.requires.holds in
+    record {
+      as_many = ap (λ (q : Lists). length q.links) c.in_ok-reserve_at.ensures.same.0 ∙ whole.as_many;
+      routed = whole.routed;
+      few = whole.few;
+    }
+
+pub release_all-requires-clause-known : goal.release_all-requires-clause-known
+release_all-requires-clause-known c =
+    let low = c.if-from-len.false in
+    let number = c.from.ensures in
+    let many = c.len.ensures in
+    omega (arith, low, number, many)
 
 pub returns-then-not-has_code_in_use-clause-ok : goal.returns-then-not-has_code_in_use-clause-ok
 returns-then-not-has_code_in_use-clause-ok c = λ s a.

@@ -1,0 +1,28 @@
+-- What is answered to an event, once it's known which one it is. Stated here once, since it's the same of each.
+use Rattle.std.proofs.Common.{◌≡◌, true, false, IfOk, IsOk, Result, subst, sym}
+use Rattle.set_events.specs.declared.answer.Answer.{Answer}
+use Rattle.set_events.specs.declared.event.Event.{Event}
+use Rattle.l3_orders.specs.declared.order.Order.{Order}
+use Rattle.set_events.specs.declared.answer.Took.{Took}
+use Rattle.set_model.specs.Changeover.{order_obeyed}
+use Rattle.set_model.specs.State.{State}
+use Rattle.set_model.specs.Step.{stepped}
+use Rattle.set_step.specs.Faults.{wants_none}
+use Rattle.set_step.specs.Agreement.{Agrees}
+use Rattle.set_step.specs.Parts.{Answers, Obeys, kept_of}
+use Rattle.set_step.specs.declared.fault.SetFault.{SetFault}
+use Rattle.set_step.specs.declared.parts.Parts.{Parts}
+
+pub answers_it : (old new : Parts) (answer : Answer) (event known : Event) → event ≡ known → Answers old new answer (λ s. stepped s known) → Answers old new answer (λ s. stepped s event)
+answers_it old new answer event known is told = subst (λ (e : Event). Answers old new answer (λ s. stepped s e)) (sym is) told
+
+pub may_answer_it : (old new : Parts) (result : Result Answer SetFault) (event known : Event) → event ≡ known → IfOk result (λ answer. Answers old new answer (λ s. stepped s known)) → IfOk result (λ answer. Answers old new answer (λ s. stepped s event))
+may_answer_it old new result event known is told = subst (λ (e : Event). IfOk result (λ answer. Answers old new answer (λ s. stepped s e))) (sym is) told
+
+-- an event that may want memory is no other
+pub may_want : (result : Result Answer SetFault) (event known : Event) → event ≡ known → wants_none known ≡ false → wants_none event ≡ true → IsOk result
+may_want result event known is wants none = cc
+
+-- what becomes of an order, so too
+pub obeys_it : (old new : Parts) (took : Took) (order known : Order) → order ≡ known → ((s : State) → Agrees (kept_of old) s → Obeys (order_obeyed known s) took new) → (s : State) → Agrees (kept_of old) s → Obeys (order_obeyed order s) took new
+obeys_it old new took order known is told = subst (λ (o : Order). (s : State) → Agrees (kept_of old) s → Obeys (order_obeyed o s) took new) (sym is) told
