@@ -1,7 +1,8 @@
 //! Whole runs, in the trade's words.
-
+use super::holds;
 use l2_align::{Align, AlignIn, AlignOut, End, Monitor};
 use l2_signals::{Status, TimerOrder};
+use std::test::Fail;
 
 /// What the machine answers. All tests ask through here, so that the prover meets the contract once.
 fn told(align: &mut Align, event: AlignIn) -> AlignOut {
@@ -40,13 +41,15 @@ fn begins_to_prove(align: &mut Align) -> bool {
 }
 
 #[test]
-fn normal_alignment_completes(rt: HostRuntime) {
-    let mut align = Align::new();
-    assert!(rt; starts(&mut align));
-    assert!(rt; is_aligned(&mut align));
-    assert!(rt; begins_to_prove(&mut align));
-    let end = told(&mut align, AlignIn::T4);
-    assert_eq!(rt; end.end, Some(End::Complete));
+fn normal_alignment_completes() -> Result<(), Fail> {
+    completes(&mut Align::new())
+}
+
+fn completes(align: &mut Align) -> Result<(), Fail> {
+    holds(starts(align))?;
+    holds(is_aligned(align))?;
+    holds(begins_to_prove(align))?;
+    holds(told(align, AlignIn::T4).end == Some(End::Complete))
 }
 
 fn is_aborted(align: &mut Align) -> bool {
@@ -55,19 +58,24 @@ fn is_aborted(align: &mut Align) -> bool {
 }
 
 #[test]
-fn fifth_abort_since_aligned_was_left(rt: HostRuntime) {
-    let mut align = proving_normally();
+fn fifth_abort_since_aligned_was_left() -> Result<(), Fail> {
+    ends_at_the_fifth(&mut proving_normally())
+}
+
+fn ends_at_the_fifth(align: &mut Align) -> Result<(), Fail> {
     for _ in 0..4u8 {
-        assert!(rt; is_aborted(&mut align));
-        assert!(rt; is_normal_proving(&told(&mut align, AlignIn::Good)));
+        holds(is_aborted(align))?;
+        holds(is_normal_proving(&told(align, AlignIn::Good)))?;
     }
-    let fifth = told(&mut align, AlignIn::Abort);
-    assert_eq!(rt; fifth.end, Some(End::NotPossible));
+    holds(told(align, AlignIn::Abort).end == Some(End::NotPossible))
 }
 
 #[test]
-fn emergency_heard_in_normal_proving(rt: HostRuntime) {
-    let mut align = proving_normally();
+fn emergency_heard_in_normal_proving() -> Result<(), Fail> {
+    is_shortened(&mut proving_normally())
+}
+
+fn is_shortened(align: &mut Align) -> Result<(), Fail> {
     let shortened = AlignOut {
         send: None,
         t2: TimerOrder::Keep,
@@ -76,8 +84,5 @@ fn emergency_heard_in_normal_proving(rt: HostRuntime) {
         monitor: Monitor::Emergency,
         end: None,
     };
-    assert_eq!(rt;
-        told(&mut align, AlignIn::Heard(Status::Emergency)),
-        shortened
-    );
+    holds(told(align, AlignIn::Heard(Status::Emergency)) == shortened)
 }

@@ -1,4 +1,5 @@
 //! Situations on one link, worked out by hand from Q.703 5. Units are written as their octets.
+use super::holds;
 use l2_basic::*;
 use l2_units::{Header, header_in, read};
 use l2_window::{Choice, ControlFault, HeardPart, Window};
@@ -103,14 +104,6 @@ impl End {
         forward: u8,
     ) -> Result<(), Fail> {
         holds(self.hears_fill(backward, forward)?.fault == fault)
-    }
-}
-
-fn holds(fact: bool) -> Result<(), Fail> {
-    if fact {
-        Ok(())
-    } else {
-        Err(Fail::from("it isn't so"))
     }
 }
 

@@ -1,27 +1,38 @@
 //! Whole runs, in the trade's words.
-
+use super::holds;
 use l2_signals::{Cause, Status, TimerOrder};
 use l2_state::{LinkState, Sending, StateIn, StateOut, Switch, Told};
+use std::test::Fail;
 
 /// What the machine answers. All tests ask through here, so that the prover meets the contract once.
 fn told(link: &mut LinkState, event: StateIn) -> StateOut {
     link.input(event)
 }
 
-#[test]
-fn up_then_out_of_alignment(rt: HostRuntime) {
-    let mut link = LinkState::new();
-    let start = told(&mut link, StateIn::Start);
-    assert_eq!(rt; start.alignment, Some(Switch::Start));
-    let complete = told(&mut link, StateIn::Complete);
-    assert_eq!(rt; complete.send, Some(Sending::FillIn));
-    assert_eq!(rt; complete.t1, TimerOrder::Start);
-    assert!(rt; complete.new_suerm);
-    let heard = told(&mut link, StateIn::Fisu);
-    assert_eq!(rt; heard.told, Some(Told::Up));
-    assert_eq!(rt; heard.send, Some(Sending::Traffic));
-    let lost = told(&mut link, StateIn::Heard(Status::OutOfAlignment));
-    assert_eq!(rt; lost.told, Some(Told::Down(Cause::Status)));
+fn begins_alignment(link: &mut LinkState) -> Result<(), Fail> {
+    holds(told(link, StateIn::Start).alignment == Some(Switch::Start))
+}
+
+fn is_aligned(link: &mut LinkState) -> Result<(), Fail> {
+    let complete = told(link, StateIn::Complete);
+    holds(complete.send == Some(Sending::FillIn))?;
+    holds(complete.t1 == TimerOrder::Start && complete.new_suerm)
+}
+
+fn comes_up(link: &mut LinkState) -> Result<(), Fail> {
+    let heard = told(link, StateIn::Fisu);
+    holds(heard.told == Some(Told::Up))?;
+    holds(heard.send == Some(Sending::Traffic))
+}
+
+/// It hears that the far end is out of alignment.
+fn is_lost(link: &mut LinkState) -> Result<(), Fail> {
+    let lost = told(link, StateIn::Heard(Status::OutOfAlignment));
+    holds(lost.told == Some(Told::Down(Cause::Status)))
+}
+
+/// It hears that once more.
+fn does_nothing(link: &mut LinkState) -> Result<(), Fail> {
     let ignored = StateOut {
         send: None,
         t1: TimerOrder::Keep,
@@ -30,17 +41,32 @@ fn up_then_out_of_alignment(rt: HostRuntime) {
         told: None,
         paused: false,
     };
-    let again = told(&mut link, StateIn::Heard(Status::OutOfAlignment));
-    assert_eq!(rt; again, ignored);
+    holds(told(link, StateIn::Heard(Status::OutOfAlignment)) == ignored)
 }
 
 #[test]
-fn processor_outage_in_service(rt: HostRuntime) {
-    let mut link = LinkState::new();
-    told(&mut link, StateIn::Start);
-    told(&mut link, StateIn::Complete);
-    told(&mut link, StateIn::Fisu);
-    assert!(rt; told(&mut link, StateIn::Heard(Status::ProcessorOutage)).paused);
-    assert!(rt; told(&mut link, StateIn::T1).paused);
-    assert!(rt; !told(&mut link, StateIn::Msu).paused);
+fn up_then_out_of_alignment() -> Result<(), Fail> {
+    goes_up_and_down(&mut LinkState::new())
+}
+
+fn goes_up_and_down(link: &mut LinkState) -> Result<(), Fail> {
+    begins_alignment(link)?;
+    is_aligned(link)?;
+    comes_up(link)?;
+    is_lost(link)?;
+    does_nothing(link)
+}
+
+#[test]
+fn processor_outage_in_service() -> Result<(), Fail> {
+    pauses(&mut LinkState::new())
+}
+
+fn pauses(link: &mut LinkState) -> Result<(), Fail> {
+    begins_alignment(link)?;
+    is_aligned(link)?;
+    comes_up(link)?;
+    holds(told(link, StateIn::Heard(Status::ProcessorOutage)).paused)?;
+    holds(told(link, StateIn::T1).paused)?;
+    holds(!told(link, StateIn::Msu).paused)
 }
