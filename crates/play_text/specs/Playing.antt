@@ -43,11 +43,6 @@ abbrev pub IsDone : Result (Unit {0}) (Stop ScriptFault) → LineOutcome → Lis
 IsDone result outcome before after new =
     MatchResult result (λ done. Does outcome before after new) (λ stop. Tells stop outcome × (after ≡ before))
 
--- the same, with the world that is left
-abbrev pub IsGone : Result World (Stop ScriptFault) → LineOutcome → List ℕ → List ℕ → Type 0
-IsGone result outcome before after =
-    MatchResult result (λ world. Does outcome before after (Some world)) (λ stop. Tells stop outcome × (after ≡ before))
-
 -- The text that a script prints from a reading on.
 
 -- so much was read of an input, and printed

@@ -2,8 +2,10 @@
 ghost use Rattle.std.specs.Prelude.{◌≡◌, ◌≤◌, ◌++◌, [], Some, length, IfOk, MatchResult};
 ghost use Rattle.printing.specs.declared.fault.Stop.TheVariants.{Memory};
 ghost use Rattle.play_script.specs.Script.{first_line, step_of};
-ghost use Rattle.play_text.specs.PlayText.{ends_text, is_remark as is_remark_in, prints, opened as opened_in, asked, on_line, at_the_end};
-ghost use Rattle.play_text.specs.Playing.{Tells, IsDone, IsGone};
+ghost use Rattle.answer_texts.specs.Texts.{shown_text};
+ghost use Rattle.pair_model.specs.World.{World as ModelWorld, carried_out, shows};
+ghost use Rattle.play_text.specs.PlayText.{ends_text, is_remark as is_remark_in, prints, opened as opened_in, asked, shown as shown_in, on_line, at_the_end};
+ghost use Rattle.play_text.specs.Playing.{Tells, IsDone};
 
 use super::fault::ScriptFault;
 use answer_texts::{write_end, write_shown};
@@ -11,6 +13,7 @@ use pair_world::{End, PlayFault, World};
 use play_script::{read_opening, read_step};
 use printing::Stop;
 use std::alloc::{AllocError, Global};
+use world_steps::{Shown, Step};
 
 /// Carries out the line of this number, and appends what it prints.
 pub(crate) fn end_line(
@@ -26,22 +29,16 @@ pub(crate) fn end_line(
     if is_remark(text) {
         return Ok(());
     }
-    match world.take() {
-        None => match opened(alloc, text, line) {
-            Ok(made) => {
-                *world = Some(made);
-                Ok(())
-            }
-            Err(stop) => Err(stop),
-        },
-        Some(old) => match carry_out(alloc, old, text, line, out) {
-            Ok(new) => {
-                *world = Some(new);
-                Ok(())
-            }
-            Err(stop) => Err(stop),
-        },
+    if world.is_none() {
+        return open(alloc, world, text, line);
     }
+    let step = asked_step(alloc, text, line)?;
+    let Some(old) = world.take() else {
+        unreachable!();
+    };
+    let (new, shown) = stepped(old, &step, line)?;
+    *world = Some(new);
+    add_shown(alloc, &shown, out)
 }
 
 /// Whether the line is empty or begins with `#`.
@@ -69,33 +66,58 @@ fn opened(alloc: Global, text: &[u8], line: u64) -> Result<World, Stop<ScriptFau
     }
 }
 
-/// The world after a line that isn't the first; what it prints is appended.
-fn carry_out(
+/// The first line makes the world.
+fn open(
     alloc: Global,
-    world: World,
+    world: &mut Option<World>,
     text: &[u8],
     line: u64,
-    out: &mut Vec<u8>,
-) -> Result<World, Stop<ScriptFault>>
-    ensures { IsGone result (asked line world (step_of text.now)) out.old.items out.new.items }
+) -> Result<(), Stop<ScriptFault>>
+    ensures { MatchResult result (λ done. opened_in line (first_line text.now) ≡ prints [] world.new)
+        (λ stop. Tells stop (opened_in line (first_line text.now))) }
 {
-    let step = match read_step(alloc, text) {
-        Ok(Some(step)) => step,
-        Ok(None) => return Err(Stop::Input(ScriptFault::Text { line })),
-        Err(_) => return Err(Stop::Memory),
-    };
-    let (world, shown) = match world.step(&step) {
-        Ok(after) => after,
-        Err(PlayFault::NoMemory) => return Err(Stop::Memory),
-        Err(PlayFault::Impossible { .. }) => return Err(Stop::Input(ScriptFault::Step { line })),
-        Err(PlayFault::Exhausted) => return Err(Stop::Input(ScriptFault::Exhausted)),
+    let made = opened(alloc, text, line)?;
+    *world = Some(made);
+    Ok(())
+}
+
+/// The step that a line after the first asks for.
+fn asked_step(alloc: Global, text: &[u8], line: u64) -> Result<Step, Stop<ScriptFault>>
+    ensures { MatchResult result (λ step. step_of text.now ≡ Some step)
+        (λ stop. (w : ModelWorld) → Tells stop (asked line w (step_of text.now))) }
+{
+    match read_step(alloc, text) {
+        Ok(Some(step)) => Ok(step),
+        Ok(None) => Err(Stop::Input(ScriptFault::Text { line })),
+        Err(_) => Err(Stop::Memory),
+    }
+}
+
+/// The world after the step of this line, and what that shows. A world that is let go on each of many ways out is dear
+/// to prove, so nothing but the step owns it here.
+fn stepped(world: World, step: &Step, line: u64) -> Result<(World, Shown), Stop<ScriptFault>>
+    ensures { MatchResult result (λ after. carried_out world step.now ≡ shows after.1 after.0)
+        (λ stop. Tells stop (shown_in line (carried_out world step.now))) }
+{
+    match world.step(step) {
+        Ok(after) => Ok(after),
+        Err(PlayFault::NoMemory) => Err(Stop::Memory),
+        Err(PlayFault::Impossible { .. }) => Err(Stop::Input(ScriptFault::Step { line })),
+        Err(PlayFault::Exhausted) => Err(Stop::Input(ScriptFault::Exhausted)),
         Err(PlayFault::Links) => unreachable!(),
-    };
-    let Ok(text) = write_shown(alloc, &shown) else {
+    }
+}
+
+/// Appends the text of what a step showed.
+fn add_shown(alloc: Global, shown: &Shown, out: &mut Vec<u8>) -> Result<(), Stop<ScriptFault>>
+    ensures { MatchResult result (λ done. out.new.items ≡ out.old.items ++ shown_text shown.now)
+        (λ stop. (stop ≡ Memory) × (out.new.items ≡ out.old.items)) }
+{
+    let Ok(text) = write_shown(alloc, shown) else {
         return Err(Stop::Memory);
     };
     match out.extend_from_slice(&text) {
-        Ok(()) => Ok(world),
+        Ok(()) => Ok(()),
         Err(_) => Err(Stop::Memory),
     }
 }
