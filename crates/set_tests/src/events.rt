@@ -1,4 +1,5 @@
 //! What the contracts leave to be seen: that calls succeed, and the numbers that users meet.
+use super::bench::holds;
 use l2_units::read;
 use set_events::*;
 use std::test::Fail;
@@ -6,20 +7,20 @@ use std::test::Fail;
 #[test]
 fn an_entry_and_its_copy_are_the_same(rt: HostRuntime) -> Result<(), Fail> {
     let body = Body::from_slice(rt.alloc(), &[0x85, 1, 0x80, 0, 0x30])?;
-    assert_eq!(rt; body.len(), 5);
+    holds(body.len() == 5)?;
     let offer = Entry {
         who: Actor::User(3),
         event: Event::Offer { body },
         answer: Answer::Accepted { number: 7 },
     };
     let copy = offer.try_copy()?;
-    assert!(rt; offer.same(&copy));
+    holds(offer.same(&copy))?;
     let other = Entry {
         who: Actor::User(4),
         event: copy.event,
         answer: copy.answer,
     };
-    assert!(rt; !offer.same(&other));
+    holds(!offer.same(&other))?;
     Ok(())
 }
 
@@ -41,7 +42,7 @@ fn is_unit_copied(octets: &[u8]) -> Result<(), Fail> {
 }
 
 #[test]
-fn each_event_is_copied(_rt: HostRuntime) -> Result<(), Fail> {
+fn each_event_is_copied() -> Result<(), Fail> {
     is_copied(&Event::Take)?;
     is_copied(&Event::Find { number: 3 })?;
     is_copied(&Event::Next { link: 0 })?;
@@ -59,101 +60,123 @@ fn each_event_is_copied(_rt: HostRuntime) -> Result<(), Fail> {
 fn a_body_gives_its_octets_back(rt: HostRuntime) -> Result<(), Fail> {
     let octets = [0x85, 1, 0x80, 0, 0x30].to_vec(rt.alloc())?;
     let body = Body::from_vec(octets);
-    assert_eq!(rt; body.octets(), [0x85, 1, 0x80, 0, 0x30].as_slice());
+    holds(body.octets() == [0x85, 1, 0x80, 0, 0x30].as_slice())?;
     let octets = body.into_vec();
-    assert_eq!(rt; octets.as_slice(), [0x85, 1, 0x80, 0, 0x30].as_slice());
+    holds(octets.as_slice() == [0x85, 1, 0x80, 0, 0x30].as_slice())?;
     Ok(())
 }
 
-#[test]
-fn answers_differ_by_what_they_tell(rt: HostRuntime) {
-    let first = Answer::Accepted { number: 0 };
-    assert!(rt; !first.same(&Answer::Accepted { number: 1 }));
-    assert!(rt; !first.same(&Answer::Done));
-    assert!(rt; Actor::Terminal(0).same(Actor::Terminal(0)));
-    assert!(rt; !Actor::Terminal(0).same(Actor::User(0)));
+/// The two answers tell the same, or don't.
+fn are_same(first: &Answer, second: &Answer, same: bool) -> Result<(), Fail> {
+    holds(first.same(second) == same)
+}
+
+/// The two events ask for something else each.
+fn differ(first: &Event, second: &Event) -> Result<(), Fail> {
+    holds(!first.same(second))
 }
 
 #[test]
-fn refusals_have_the_numbers_that_are_printed(rt: HostRuntime) {
-    for (refusal, number) in [
-        (Refusal::TooShort, 1),
-        (Refusal::Unsettled, 7),
-        (Refusal::Nothing, 9),
-        (Refusal::NoSuchLink, 10),
-    ] {
-        assert_eq!(rt; refusal.number(), number);
-    }
-    for (cause, number) in [
-        (DiscardCause::Emergency, 1),
-        (DiscardCause::Unreasonable, 2),
-        (DiscardCause::NoAnswer, 3),
-    ] {
-        assert_eq!(rt; cause.number(), number);
-    }
-    assert!(rt; ControlFault::Bsn.number() == 2 && ConfigFault::Cyclic.number() == 4);
+fn answers_differ_by_what_they_tell() -> Result<(), Fail> {
+    let accepted = Answer::Accepted { number: 0 };
+    are_same(&accepted, &Answer::Accepted { number: 1 }, false)?;
+    are_same(&accepted, &Answer::Done, false)
 }
 
 #[test]
-fn a_link_that_fails_blind_differs_from_one_that_fails(rt: HostRuntime) {
+fn actors_differ_by_their_kind() -> Result<(), Fail> {
+    holds(Actor::Terminal(0).same(Actor::Terminal(0)))?;
+    holds(!Actor::Terminal(0).same(Actor::User(0)))
+}
+
+fn is_refusal(refusal: Refusal, number: u8) -> Result<(), Fail> {
+    holds(refusal.number() == number)
+}
+
+fn is_cause(cause: DiscardCause, number: u8) -> Result<(), Fail> {
+    holds(cause.number() == number)
+}
+
+#[test]
+fn refusals_have_the_numbers_that_are_printed() -> Result<(), Fail> {
+    is_refusal(Refusal::TooShort, 1)?;
+    is_refusal(Refusal::Unsettled, 7)?;
+    is_refusal(Refusal::Nothing, 9)?;
+    is_refusal(Refusal::NoSuchLink, 10)?;
+    is_cause(DiscardCause::Emergency, 1)?;
+    is_cause(DiscardCause::Unreasonable, 2)?;
+    is_cause(DiscardCause::NoAnswer, 3)?;
+    holds(ControlFault::Bsn.number() == 2)?;
+    holds(ConfigFault::Cyclic.number() == 4)
+}
+
+#[test]
+fn a_link_that_fails_blind_differs_from_one_that_fails() -> Result<(), Fail> {
     let down = Event::Down { link: 1 };
-    assert!(rt; !down.same(&Event::DownBlind { link: 1 }));
-    assert!(rt; !down.same(&Event::Down { link: 2 }));
+    differ(&down, &Event::DownBlind { link: 1 })?;
+    differ(&down, &Event::Down { link: 2 })
+}
+
+#[test]
+fn a_held_message_differs_from_a_discarded_one() -> Result<(), Fail> {
     let held = Answer::Found {
         fate: Fate::Held { link: 1 },
     };
+    let cause = DiscardCause::NoAnswer;
     let discarded = Answer::Found {
-        fate: Fate::Discarded {
-            cause: DiscardCause::NoAnswer,
-        },
+        fate: Fate::Discarded { cause },
     };
-    assert!(rt; held.same(&held));
-    assert!(rt; !held.same(&discarded));
+    are_same(&held, &held, true)?;
+    are_same(&held, &discarded, false)
 }
 
 #[test]
-fn each_changeback_differs_by_its_link_or_code(rt: HostRuntime) {
+fn each_changeback_differs_by_its_link() -> Result<(), Fail> {
     let restore = Event::Restore { link: 1 };
-    assert!(rt; !restore.same(&Event::BackTimeout { link: 1 }));
-    assert!(rt; !restore.same(&Event::Restore { link: 2 }));
+    differ(&restore, &Event::BackTimeout { link: 1 })?;
+    differ(&restore, &Event::Restore { link: 2 })
+}
+
+#[test]
+fn what_waits_for_a_changeback_differs_by_its_code() -> Result<(), Fail> {
     let back = Answer::Found {
         fate: Fate::Back { code: 16 },
     };
     let other = Answer::Found {
         fate: Fate::Back { code: 17 },
     };
-    assert!(rt; back.same(&back));
-    assert!(rt; !back.same(&other));
+    are_same(&back, &back, true)?;
+    are_same(&back, &other, false)
+}
+
+/// With the basic method and point codes like these a configuration is refused so, or taken.
+fn tells(links: u8, opc: u16, dpc: u16, sio: u8, why: Option<ConfigFault>) -> Result<(), Fail> {
+    holds(SetConfig::new(0, links, opc, dpc, sio, Method::Basic).err() == why)
 }
 
 #[test]
-fn configurations_out_of_range_are_refused(rt: HostRuntime) {
-    for links in [0, 17, 255] {
-        let config = SetConfig::new(0, links, 16_384, 1, 0x80, Method::Basic);
-        assert!(rt; config.err() == Some(ConfigFault::Links));
-    }
-    for links in [1, 2, 16] {
-        assert!(rt; SetConfig::new(0, links, 1, 1, 0x80, Method::Basic).is_ok());
-    }
-    let code = SetConfig::new(0, 1, 16_384, 1, 0x81, Method::Basic);
-    assert!(rt; code.err() == Some(ConfigFault::PointCode));
-    let sio = SetConfig::new(0, 1, 16_383, 0, 0x81, Method::Basic);
-    assert!(rt; sio.err() == Some(ConfigFault::Sio));
-    for (n1, n2) in [(0, 1000), (128, 1000), (2, 0), (2, 34_672)] {
-        let cyclic = SetConfig::new(0, 1, 2, 1, 0x80, Method::Cyclic { n1, n2 });
-        assert!(rt; cyclic.err() == Some(ConfigFault::Cyclic));
-    }
-    let cyclic = SetConfig::new(
-        0,
-        1,
-        2,
-        1,
-        0x80,
-        Method::Cyclic {
-            n1: 127,
-            n2: 34_671,
-        },
-    );
-    assert!(rt; cyclic.is_ok());
-    assert!(rt; SetConfig::new(0, 1, 16_383, 0, 0x80, Method::Basic).is_ok());
+fn configurations_out_of_range_are_refused() -> Result<(), Fail> {
+    tells(0, 16_384, 1, 0x80, Some(ConfigFault::Links))?;
+    tells(17, 16_384, 1, 0x80, Some(ConfigFault::Links))?;
+    tells(255, 16_384, 1, 0x80, Some(ConfigFault::Links))?;
+    tells(1, 1, 1, 0x80, None)?;
+    tells(2, 1, 1, 0x80, None)?;
+    tells(16, 1, 1, 0x80, None)?;
+    tells(1, 16_384, 1, 0x81, Some(ConfigFault::PointCode))?;
+    tells(1, 16_383, 0, 0x81, Some(ConfigFault::Sio))?;
+    tells(1, 16_383, 0, 0x80, None)
+}
+
+/// Cyclic retransmission forced by so many messages or octets is refused so, or taken.
+fn tells_of_cycles(n1: u8, n2: u32, why: Option<ConfigFault>) -> Result<(), Fail> {
+    holds(SetConfig::new(0, 1, 2, 1, 0x80, Method::Cyclic { n1, n2 }).err() == why)
+}
+
+#[test]
+fn cycles_out_of_range_are_refused() -> Result<(), Fail> {
+    tells_of_cycles(0, 1000, Some(ConfigFault::Cyclic))?;
+    tells_of_cycles(128, 1000, Some(ConfigFault::Cyclic))?;
+    tells_of_cycles(2, 0, Some(ConfigFault::Cyclic))?;
+    tells_of_cycles(2, 34_672, Some(ConfigFault::Cyclic))?;
+    tells_of_cycles(127, 34_671, None)
 }

@@ -1,6 +1,7 @@
 //! Three units on two links, each step by hand.
 ghost use Rattle.std.specs.Prelude.{◌<◌};
 
+use super::bench::holds;
 use l2_units::{Header, Unit};
 use link_lines::Lines;
 use std::test::Fail;
@@ -37,11 +38,11 @@ fn the_lines_of_two_links(rt: HostRuntime) -> Result<(), Fail> {
     let second = fsn_of(lines.taken_out(1, 1));
     let third = fsn_of(lines.taken_out(1, 2));
     let first = fsn_of(lines.taken_out(1, 0));
-    assert!(rt; [second, third, first] == [Some(5), None, Some(4)]);
+    holds([second, third, first] == [Some(5), None, Some(4)])?;
     lines.clear(1);
     let cleared = lines.taken_out(1, 0);
     let other = fsn_of(lines.taken_out(0, 0));
     let last = lines.taken_out(0, 0);
-    assert!(rt; cleared.is_none() && other == Some(3) && last.is_none());
+    holds(cleared.is_none() && other == Some(3) && last.is_none())?;
     Ok(())
 }

@@ -163,9 +163,12 @@ fn wait_for_1(queues: &Queues, numbers: &[u64]) -> Result<(), Fail> {
 
 #[test]
 fn a_link_settles_and_its_messages_go_on_in_order(rt: HostRuntime) -> Result<(), Fail> {
-    let mut queues = waiting(&rt, 4)?;
-    three_of_four_go(&mut queues)?;
-    link_0_settles(&mut queues)
+    go_on(&mut waiting(&rt, 4)?)
+}
+
+fn go_on(queues: &mut Queues) -> Result<(), Fail> {
+    three_of_four_go(queues)?;
+    link_0_settles(queues)
 }
 
 /// Three messages are sent, and the first is acknowledged; one is held for the link, and one waits for the other.
@@ -218,9 +221,12 @@ fn settle(queues: &mut Queues, link: u8, target: Option<u8>) -> Result<(), Alloc
 
 #[test]
 fn what_was_sent_is_given_up_and_the_rest_is_parked(rt: HostRuntime) -> Result<(), Fail> {
-    let mut queues = waiting(&rt, 3)?;
-    is_given_up_and_parked(&mut queues)?;
-    lives_anew(&mut queues)
+    is_given_up_and_lives_anew(&mut waiting(&rt, 3)?)
+}
+
+fn is_given_up_and_lives_anew(queues: &mut Queues) -> Result<(), Fail> {
+    is_given_up_and_parked(queues)?;
+    lives_anew(queues)
 }
 
 fn is_given_up_and_parked(queues: &mut Queues) -> Result<(), Fail> {
@@ -267,10 +273,13 @@ fn start_anew(queues: &mut Queues, link: u8) -> bool {
 
 #[test]
 fn an_order_is_nobodys_message(rt: HostRuntime) -> Result<(), Fail> {
-    let mut queues = Queues::new(rt.alloc(), 16)?;
-    let order = park(&mut queues)?;
+    is_nobodys(&mut Queues::new(rt.alloc(), 16)?)
+}
+
+fn is_nobodys(queues: &mut Queues) -> Result<(), Fail> {
+    let order = park(queues)?;
     holds(queues.message(0) == Some(order))?;
-    holds(counts_of(&queues).parked == 0)?;
+    holds(counts_of(queues).parked == 0)?;
     holds(queues.len() == 1)
 }
 
@@ -290,10 +299,13 @@ fn park(queues: &mut Queues) -> Result<Message, Fail> {
 /// FSNs go round 15 times, and no message is lost among so many.
 #[test]
 fn each_of_100_000_messages_is_found_again(rt: HostRuntime) -> Result<(), Fail> {
-    let mut queues = waiting(&rt, 100_000)?;
-    two_thousand_are_acknowledged(&mut queues)?;
-    settle(&mut queues, 0, Some(1))?;
-    all_are_found(&queues)
+    are_found(&mut waiting(&rt, 100_000)?)
+}
+
+fn are_found(queues: &mut Queues) -> Result<(), Fail> {
+    two_thousand_are_acknowledged(queues)?;
+    settle(queues, 0, Some(1))?;
+    all_are_found(queues)
 }
 
 fn two_thousand_are_acknowledged(queues: &mut Queues) -> Result<(), Fail> {

@@ -340,9 +340,12 @@ fn a_refused_growth_changes_nothing(rt: HostRuntime) -> Result<(), Fail> {
     let Ok(body) = Body::from_slice(rt.alloc(), &MESSAGE) else {
         return Ok(());
     };
-    let message = Event::Offer { body };
+    are_parked_or_refused(&mut set, &Event::Offer { body })
+}
+
+fn are_parked_or_refused(set: &mut SetCore, message: &Event) -> Result<(), Fail> {
     for _ in 0..6u8 {
-        is_parked_or_refused(&mut set, &message)?;
+        is_parked_or_refused(set, message)?;
     }
     Ok(())
 }
