@@ -1,4 +1,5 @@
 //! A script under way: the line that is being read, and the world.
+ghost use Rattle.play_text.specs.Playing.{Finishes, IsReading};
 
 use super::fault::ScriptFault;
 use super::whole_line::{add_ends, end_line};
@@ -111,13 +112,27 @@ impl Player {
             text,
             mut world,
         } = self;
-        if text.is_empty() {
-            return add_ends(alloc, &world, out);
-        }
-        match end_line(alloc, &mut world, &text, line, out) {
-            Ok(()) => add_ends(alloc, &world, out),
-            Err(stop) => Err(stop),
-        }
+        finished(alloc, &mut world, &text, line, out)
+    }
+}
+
+/// What is left of the script is carried out, and both ends are told. It owns no world, since it branches.
+fn finished(
+    alloc: Global,
+    world: &mut Option<World>,
+    text: &[u8],
+    line: u64,
+    out: &mut Vec<u8>,
+) -> Result<(), Stop<ScriptFault>>
+    requires { IsReading text.now }
+    ensures { Finishes result (record { line = line; text = text.now; world = world.old }) out.old.items out.new.items }
+{
+    if text.is_empty() {
+        return add_ends(alloc, world, out);
+    }
+    match end_line(alloc, world, text, line, out) {
+        Ok(()) => add_ends(alloc, world, out),
+        Err(stop) => Err(stop),
     }
 }
 
