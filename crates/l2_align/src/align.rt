@@ -93,6 +93,13 @@ impl Align {
         }
     }
 
+    /// Where alignment stands.
+    pub fn state(&self) -> State
+        ensures { result ≡ self.now.state }
+    {
+        self.state
+    }
+
     /// Carries out the row of the table for this state and this input, or ignores it where there is none
     /// (Q.703 7.3).
     pub fn input(&mut self, event: AlignIn) -> AlignOut

@@ -36,6 +36,13 @@ impl Flow {
         }
     }
 
+    /// Whether this end is busy.
+    pub fn is_busy(&self) -> bool
+        ensures { result ≡ self.now.busy }
+    {
+        self.busy
+    }
+
     /// Carries out the row of the table at the head of the crate; an input without a row is ignored.
     pub fn input(&mut self, input: FlowIn) -> FlowOut
         ensures tells { result ≡ (row_of self.old input).out }

@@ -64,6 +64,13 @@ impl LinkState {
         }
     }
 
+    /// Where the link stands.
+    pub fn state(&self) -> State
+        ensures { result ≡ self.now }
+    {
+        self.state
+    }
+
     /// Carries out the row of the table for this state and this input, or ignores it where there is none
     /// (Q.703 12).
     pub fn input(&mut self, event: StateIn) -> StateOut

@@ -1,0 +1,123 @@
+//! What is sent: the header of units, and the bits that are left (Q.703 2, 3, 9.3).
+
+ghost use Rattle.std.specs.Prelude.{◌≡◌, ◌<◌, false, length, nat_lt, take, drop, Some};
+ghost use Rattle.l2_bits.specs.LineBits.{number_of};
+ghost use Rattle.l2_units.specs.Grammar.{head_of};
+ghost use Rattle.term_model.specs.Terminal.{last_head as head_before, start_head as first_head};
+ghost use Rattle.term_model.specs.Choosing.{held_back, raised_top, withheld as bsn_withheld};
+ghost use Rattle.term_model.specs.OctetOut.{Appends};
+
+use crate::inside::Inside;
+use l2_units::{Header, Unit, header_in, write};
+
+impl Inside {
+    /// A SIB that was due was chosen to be sent.
+    pub fn drop_b(&mut self)
+        ensures { self.new ≡ record self.old { b_due = false } }
+    {
+        self.b_due = false;
+    }
+
+    /// A message with this FSN was chosen to be sent: a new one follows the last new one, any other is retransmitted
+    /// (Q.703 5.2).
+    pub fn raise_top(&mut self, fsn: u8)
+        ensures { self.new ≡ record self.old { top = raised_top fsn self.old.top } }
+    {
+        if fsn == self.top.wrapping_add(1) % 128 {
+            self.top = fsn;
+        }
+    }
+
+    /// The header that says nothing new: that of the last unit appended, or that of a link which has neither sent nor
+    /// accepted a message (own).
+    pub fn last_head(&self) -> Header
+        ensures { result ≡ head_before self.now }
+    {
+        match self.last {
+            None => start_head(),
+            Some(head) => head,
+        }
+    }
+
+    /// The unit as it's sent: while this end is busy it acknowledges nothing new (Q.703 9.3).
+    pub fn hold_back(&self, unit: Unit) -> Unit
+        ensures { result ≡ held_back self.now unit }
+    {
+        if !self.flow.is_busy() {
+            return unit;
+        }
+        let last = self.last_head();
+        match unit {
+            Unit::Fisu { head } => Unit::Fisu {
+                head: withheld(last, head),
+            },
+            Unit::Lssu { head, status } => Unit::Lssu {
+                head: withheld(last, head),
+                status,
+            },
+            Unit::Msu { head, body } => Unit::Msu {
+                head: withheld(last, head),
+                body,
+            },
+        }
+    }
+
+    /// Whether fewer than eight bits are left to send, so that a unit is to be chosen.
+    #[inline(always)]
+    pub fn is_short(&self) -> bool
+        ensures { result ≡ nat_lt (length self.now.bits) 8 }
+    {
+        self.bits.is_short()
+    }
+
+    /// Appends a unit to the bits that are left: its octets and their check octets, with zeros inserted, and a flag
+    /// (Q.703 2.2, 3, 4.2). Fewer than eight bits may be left.
+    pub fn append(&mut self, unit: &Unit)
+        requires { length self.old.bits < 8 }
+        ensures on_line { Appends (Some unit.now) self.old.bits self.new.bits }
+        ensures next { self.new ≡ record self.old { bits = self.new.bits; last = Some (head_of unit.now) } }
+    {
+        self.bits.append(write(unit).as_slice());
+        self.last = Some(header_in(unit));
+    }
+
+    /// The next eight bits, the first the lowest (Q.703 2.4); where fewer are left, these.
+    #[inline(always)]
+    pub fn octet(&self) -> u8
+        ensures { result ≡ number_of (take 8 self.now.bits) }
+    {
+        self.bits.octet()
+    }
+
+    /// The next eight bits were put on the line.
+    #[inline(always)]
+    pub fn drop_octet(&mut self)
+        ensures { self.new ≡ record self.old { bits = drop 8 self.old.bits } }
+    {
+        self.bits.drop_octet();
+    }
+}
+
+/// BSN 127, BIB 1, FSN 127, FIB 1: no message was sent or accepted yet.
+fn start_head() -> Header
+    ensures { result ≡ first_head }
+{
+    Header {
+        bsn: 127,
+        bib: true,
+        fsn: 127,
+        fib: true,
+    }
+}
+
+/// A header with the acknowledgement of another.
+fn withheld(last: Header, head: Header) -> Header
+    ensures { result ≡ bsn_withheld last head }
+{
+    Header {
+        bsn: last.bsn,
+        bib: last.bib,
+        fsn: head.fsn,
+        fib: head.fib,
+    }
+}
