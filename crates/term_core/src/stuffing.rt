@@ -19,9 +19,9 @@ use arrayvec::ArrayVec;
 /// A flag, `01111110` (Q.703 3.1).
 pub(crate) const FLAG: u8 = 0b0111_1110;
 
-/// The texts of the sixteen values of four bits, a row for each run of ones before them, 0 to 4. From the lowest octet
-/// on: the text's bits, the first the lowest; how many they are (the third digit from the right); and the run of ones
-/// that they end in (the first digit).
+/// The texts of four bits: of their sixteen values where no one stands before them, then behind a run of one, and so on
+/// to four. In each the last two digits are the text's bits, the first the lowest; the second is how many they are; and
+/// the first is the run of ones that they end in.
 static TEXTS: [u16; 80] = [
     0x0400, 0x0401, 0x0402, 0x0403, 0x0404, 0x0405, 0x0406, 0x0407, 0x1408, 0x1409, 0x140A, 0x140B,
     0x240C, 0x240D, 0x340E, 0x440F, 0x0400, 0x0401, 0x0402, 0x0403, 0x0404, 0x0405, 0x0406, 0x0407,
