@@ -1,3 +1,4 @@
 pub mod Leaving
 pub mod Putting
 pub mod Texts
+pub mod Running

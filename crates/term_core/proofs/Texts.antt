@@ -49,14 +49,14 @@ same_is (true ∷ a) (false ∷ b) h = absurd (false≢true h)
 same_is (false ∷ a) (true ∷ b) h = absurd (false≢true h)
 
 -- what an entry says
-abbrev pub bits_in : ℕ → ℕ
-bits_in entry = entry % 256
+abbrev pub bits_at : ℕ → ℕ
+bits_at entry = entry % 256
 
-abbrev pub count_in : ℕ → ℕ
-count_in entry = entry / 256 % 16
+abbrev pub count_at : ℕ → ℕ
+count_at entry = entry / 256 % 16
 
-abbrev pub run_in : ℕ → ℕ
-run_in entry = entry / 4096
+abbrev pub run_at : ℕ → ℕ
+run_at entry = entry / 4096
 
 -- THE RULE of an entry: the text of four bits after a run of ones
 pub record IsText (run half bits count after : ℕ) : Type 0 where
@@ -67,15 +67,15 @@ pub record IsText (run half bits count after : ℕ) : Type 0 where
   pub bound : count * 5 + after ≤ run + 24
 
 IsEntry : ℕ → ℕ → ℕ → Type 0
-IsEntry run half entry = IsText run half (bits_in entry) (count_in entry) (run_in entry)
+IsEntry run half entry = IsText run half (bits_at entry) (count_at entry) (run_at entry)
 
 is_entry : ℕ → ℕ → ℕ → Bool
 is_entry run half entry =
-    if same (text_after run (bits_of 4 half)) (bits_of (count_in entry) (bits_in entry)) then
-    if run_after run (bits_of 4 half) == run_in entry then
-    if nat_le (run_in entry) 4 then
-    if nat_lt (bits_in entry) (2 ^ count_in entry) then
-    if nat_le (count_in entry) 5 then nat_le (count_in entry * 5 + run_in entry) (run + 24)
+    if same (text_after run (bits_of 4 half)) (bits_of (count_at entry) (bits_at entry)) then
+    if run_after run (bits_of 4 half) == run_at entry then
+    if nat_le (run_at entry) 4 then
+    if nat_lt (bits_at entry) (2 ^ count_at entry) then
+    if nat_le (count_at entry) 5 then nat_le (count_at entry * 5 + run_at entry) (run + 24)
     else false else false else false else false else false
 
 both : (a b : Bool) → (if a then b else false) ≡ true → (a ≡ true) × (b ≡ true)
@@ -105,7 +105,7 @@ entry_is run half entry passes =
       text = λ rest.
           text_apart run (bits_of 4 half) rest
           ∙ ap (λ (front : List Bool). front ++ text_after (run_after run (bits_of 4 half)) rest) texts
-          ∙ ap (λ (n : ℕ). bits_of (count_in entry) (bits_in entry) ++ text_after n rest) runs;
+          ∙ ap (λ (n : ℕ). bits_of (count_at entry) (bits_at entry) ++ text_after n rest) runs;
       few = within _ _ third.0;
       fits = below _ _ fourth.0;
       most = within _ _ fifth.0;

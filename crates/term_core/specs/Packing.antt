@@ -12,8 +12,8 @@ abbrev pub packed : ArrayVec ℕ → Part → List Bool
 packed octets part = line_bits octets.items ++ bits_of part.count part.bits
 
 -- how many they are
-abbrev pub packed_bits : ArrayVec ℕ → Part → ℕ
-packed_bits octets part = 8 * array_vec_len octets + part.count
+abbrev pub bits_in : ArrayVec ℕ → Part → ℕ
+bits_in octets part = 8 * array_vec_len octets + part.count
 
 -- the octets of a unit and their check octets, with zeros inserted, and a flag
 pub record AppendsUnit (octets : List ℕ) (old new : List Bool) : Type 0 where

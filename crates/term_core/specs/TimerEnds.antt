@@ -1,8 +1,9 @@
 -- The timers by their names (Q.703 12.3).
-use Rattle.std.specs.Prelude.{ℕ, Option, None, if◌then◌else◌}
+use Rattle.std.specs.Prelude.{◌≡◌, ℕ, ◌||◌, Bool, true, false, Option, Some, None, if◌then◌else◌}
 use Rattle.term_model.specs.declared.timers.Clocks.{Clocks}
+use Rattle.term_model.specs.Talk.{done}
 use Rattle.term_model.specs.Terminal.{Terminal}
-use Rattle.term_model.specs.Timing.{is_over}
+use Rattle.term_model.specs.Timing.{is_over, lessened, timed}
 use Rattle.term_core.specs.declared.clocks.Timer.{Timer}
 
 -- what is left of a timer
@@ -24,6 +25,20 @@ without Timer.T4 clocks = record clocks { t4 = None }
 without Timer.T5 clocks = record clocks { t5 = None }
 without Timer.T6 clocks = record clocks { t6 = None }
 without Timer.T7 clocks = record clocks { t7 = None }
+
+-- it runs
+abbrev pub is_running : Option ℕ → Bool
+is_running None = false
+is_running (Some left) = true
+
+-- of the seven, from T1 on, one is such
+abbrev pub has_such : (Option ℕ → Bool) → Clocks → Bool
+has_such such clocks = ((((((such clocks.t1 || such clocks.t2) || such clocks.t3) || such clocks.t4)
+    || such clocks.t5) || such clocks.t6) || such clocks.t7)
+
+-- LAW: where none has ended once all are lessened, nothing comes of timers in this turn
+abbrev pub NoEndNoTalk : Type 0
+NoEndNoTalk = (t : Terminal) → has_such is_over (lessened t).clocks ≡ false → timed t ≡ done (lessened t)
 
 -- a timer that has nothing left doesn't run any more
 abbrev pub ended_now : Timer → Terminal → Terminal

@@ -19,9 +19,9 @@ use std::marker::Model;
 /// part                     b b b  the bits behind them, at most seven
 /// ```
 ///
-/// A unit is appended only where no whole octet is left, so that they begin at the front each time: 276 octets of a unit
-/// and two check octets are at most 2,668 bits with the inserted zeros, and with the bits before and a flag 335 octets
-/// and a part.
+/// A unit is appended only where no whole octet is left, so that they begin at the front each time: 276 octets of a
+/// unit and two check octets are at most 2,668 bits with the inserted zeros, and with the bits before and a flag 335
+/// octets and a part.
 #[derive(Drop)]
 pub(crate) struct BitsLeft {
     octets: ArrayVec<u8, 336>,

@@ -1,8 +1,8 @@
 //! The timers T1 to T7 (Q.703 12.3). A turn is one octet time.
 
 ghost use Rattle.std.specs.Prelude.{◌≡◌};
-ghost use Rattle.term_model.specs.Timing.{lessened, one_less as lessened_by_one, is_over as has_ended};
-ghost use Rattle.term_core.specs.TimerEnds.{clock_of, without as stopped, ended_now};
+ghost use Rattle.term_model.specs.Timing.{lessened, one_less as lessened_by_one, is_over as is_over_in};
+ghost use Rattle.term_core.specs.TimerEnds.{clock_of, without as stopped, ended_now, has_such, is_running, NoEndNoTalk};
 
 use crate::inside::Inside;
 use term_model::Clocks;
@@ -33,6 +33,9 @@ impl Inside {
         ensures { self.new ≡ lessened self.old }
     {
         let clocks = self.clocks;
+        if !has_running(clocks) {
+            return;
+        }
         self.clocks = Clocks {
             t1: one_less(clocks.t1),
             t2: one_less(clocks.t2),
@@ -44,10 +47,26 @@ impl Inside {
         };
     }
 
+    /// Whether any timer runs and has nothing left: where none does, no timer gives an input in this turn
+    /// ([`no_end_no_talk`]).
+    #[inline(always)]
+    pub fn has_ended(&self) -> bool
+        ensures { result ≡ has_such is_over_in self.now.clocks }
+    {
+        let clocks = self.clocks;
+        is_over(clocks.t1)
+            || is_over(clocks.t2)
+            || is_over(clocks.t3)
+            || is_over(clocks.t4)
+            || is_over(clocks.t5)
+            || is_over(clocks.t6)
+            || is_over(clocks.t7)
+    }
+
     /// Whether this timer runs and has nothing left; it doesn't run then.
     #[inline(always)]
     pub fn ended(&mut self, timer: Timer) -> bool
-        ensures is_over { result ≡ has_ended (clock_of timer self.old.clocks) }
+        ensures is_over { result ≡ is_over_in (clock_of timer self.old.clocks) }
         ensures next { self.new ≡ ended_now timer self.old }
     {
         let is_over = is_over(left(self.clocks, timer));
@@ -56,6 +75,25 @@ impl Inside {
         }
         is_over
     }
+}
+
+/// A law about definitions: where no timer has ended once all are lessened, nothing comes of timers in this turn.
+pub fn no_end_no_talk()
+    ensures { NoEndNoTalk }
+{}
+
+/// Whether any timer runs.
+#[inline(always)]
+fn has_running(clocks: Clocks) -> bool
+    ensures { result ≡ has_such is_running clocks }
+{
+    clocks.t1.is_some()
+        || clocks.t2.is_some()
+        || clocks.t3.is_some()
+        || clocks.t4.is_some()
+        || clocks.t5.is_some()
+        || clocks.t6.is_some()
+        || clocks.t7.is_some()
 }
 
 /// What is left of a timer.
@@ -102,7 +140,7 @@ fn one_less(clock: Option<u32>) -> Option<u32>
 
 #[inline(always)]
 fn is_over(clock: Option<u32>) -> bool
-    ensures { result ≡ has_ended clock }
+    ensures { result ≡ is_over_in clock }
 {
     match clock {
         None => false,

@@ -145,8 +145,8 @@ impl Inside {
         self.up
     }
 
-    /// Whether Blind was commanded since that Up: the next failure is told as one after which no FSN can be given to the
-    /// far end (Q.704 5.6).
+    /// Whether Blind was commanded since that Up: the next failure is told as one after which no FSN can be given to
+    /// the far end (Q.704 5.6).
     pub fn is_blind(&self) -> bool
         ensures { result ≡ self.now.blind }
     {

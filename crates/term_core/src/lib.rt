@@ -1,31 +1,32 @@
 //! What a signalling terminal holds, and what it does by itself (ITU-T Q.703 7 to 12).
 //!
-//! An [`Inside`] is a terminal without its door, its line and its gate: it asks the set nothing, takes no octet and puts
-//! none. Each method is one word of `term_model`'s definition of a turn; the crate that asks the set composes them. It
-//! reads no clock, does no IO, takes no lock and no memory, and nothing in it fails.
+//! An [`Inside`] is a terminal without its door, its line and its gate: it asks the set nothing, takes no octet and
+//! puts none. Each method is one word of `term_model`'s definition of a turn; the crate that asks the set composes
+//! them. It reads no clock, does no IO, takes no lock and no memory, and nothing in it fails.
 //!
 //! ```text
-//!   commands ---> | Commands |                  +-- Inside ------------------------------------------+
-//!                                               |                                                    |
-//!   a readable unit, a timer's end, a command   |  Align --- status to send, T2 T3 T4, Aerm          |
-//!          align(..) control(..) state(..) ---> |  LinkState - T1, Suerm, starts and stops Align     | ---> End, Cause, Told:
-//!                                               |  Flow ---- T5 T6 T7, whether a B is due            |      what is told next
-//!   an error, or none       judge(..) --------> |  Aerm | Suerm                                      | ---> Verdict
-//!   an octet time           lessen() ---------> |  Clocks, T1 to T7                                  | ---> ended(T1) .. (T7)
-//!   what the set answered   rise(..) fall(..)   |  up, blind, the FSN last sent, the cause           |
-//!                                               |                                                    |
-//!   a unit to send          append(..) -------> |  bits left to send: octets, and a part of one      | ---> octet()
-//!                                               +----------------------------------------------------+
+//!                                    +- Inside ---------------------------------------+
+//!   a command       command(..) ---> | Commands, until the next turn                  | ---> take_commands()
+//!                                    |                                                |
+//!   what is heard,  align(..)   ---> | Align       status to send, T2 T3 T4, AERM     | ---> how alignment ended
+//!   a timer's end,  state(..)   ---> | LinkState   T1, SUERM, starts and stops Align  | ---> what level 3 is told
+//!   an order        control(..) ---> | Flow        T5 T6 T7, whether a B is due       | ---> a failure
+//!   a mark          judge(..)   ---> | AERM or SUERM                                  | ---> Verdict
+//!   an octet time   lessen()    ---> | Clocks      T1 to T7                           | ---> ended(..)
+//!   the set's word  rise(..)    ---> | up, blind, the FSN last sent, the cause        |
+//!                   fall(..)         |                                                |
+//!   a unit          append(..)  ---> | bits left   octets, and a part of one          | ---> octet()
+//!                                    +------------------------------------------------+
 //! ```
 //!
-//! - Readers: `link`, `state_now`, `status`, `is_up`, `is_blind`, `is_b_due`, `top`, `cause`, `last_head`, `hold_back`,
-//!   `is_short`, `octet`.
+//! - Readers: `link`, `state_now`, `status`, `is_up`, `is_blind`, `is_b_due`, `top`, `cause`, `last_head`,
+//!   `hold_back`, `has_ended`, `is_short`, `octet`.
 //! - Commands wait in it (`command`) until a turn takes them (`take_commands`, `blind`).
 //! - Inputs of the machines: `align`, `control`, `state`; the monitors': `judge`; the timers': `lessen`, `ended`.
 //! - What the set said: `rise`, `fall`, `stop_quietly`.
 //! - What is sent: `drop_b`, `raise_top`, `append`, `drop_octet`.
 //!
-//! [`judging_is_the_models`] is a law about definitions.
+//! [`judging_is_the_models`] and [`no_end_no_talk`] are laws about definitions.
 #![tactic(auto)]
 
 mod bits_left;
@@ -39,6 +40,6 @@ mod stuffing;
 #[cfg(test)]
 mod tests;
 
-pub use clocks::Timer;
+pub use clocks::{Timer, no_end_no_talk};
 pub use inside::Inside;
 pub use monitors::{Verdict, judging_is_the_models};

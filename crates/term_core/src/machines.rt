@@ -87,8 +87,8 @@ impl Inside {
         }
     }
 
-    /// The link has failed, for this cause: no unit is judged, flow control begins anew, no B is due, and the link isn't
-    /// up at the set (Q.703 12.1).
+    /// The link has failed, for this cause: no unit is judged, flow control begins anew, no B is due, and the link
+    /// isn't up at the set (Q.703 12.1).
     pub fn fall(&mut self, cause: Cause)
         ensures { self.new ≡ fallen cause self.old }
     {

@@ -20,8 +20,8 @@ pub enum Verdict {
 }
 
 impl Inside {
-    /// Tells the monitor that runs of one more mark, an error or not: AERM in a proving, SUERM where the link is ready or
-    /// in service, else none (Q.703 10).
+    /// Tells the monitor that runs of one more mark, an error or not: AERM in a proving, SUERM where the link is ready
+    /// or in service, else none (Q.703 10).
     pub fn judge(&mut self, error: bool) -> Verdict
         ensures after { self.new ≡ (judgement error self.old).after }
         ensures verdict { result ≡ (judgement error self.old).verdict }

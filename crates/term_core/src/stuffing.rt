@@ -11,7 +11,7 @@ ghost use Rattle.std.specs.Prelude.{◌≡◌, ◌+◌, ◌*◌, ◌≤◌, ◌<
 ghost use Rattle.arrayvec.specs.ArrayVec.{array_vec_len};
 ghost use Rattle.l2_bits.specs.LineBits.{bits_of, line_bits};
 ghost use Rattle.l2_bits.specs.Stuffing.{AppendsText, text_after};
-ghost use Rattle.term_core.specs.Packing.{packed, packed_bits};
+ghost use Rattle.term_core.specs.Packing.{packed, bits_in};
 
 use crate::part::Part;
 use arrayvec::ArrayVec;
@@ -52,7 +52,7 @@ pub(crate) fn put_text(octets: &mut ArrayVec<u8, 336>, part: Part, text: &[u8]) 
     requires none { array_vec_len octets.old ≡ 0 }
     requires text { length text.now ≤ 278 }
     ensures text { AppendsText (line_bits text.now) (packed octets.old part) (packed octets.new result) }
-    ensures bound { packed_bits octets.new result * 5 ≤ packed_bits octets.old part * 5 + 48 * length text.now }
+    ensures bound { bits_in octets.new result * 5 ≤ bits_in octets.old part * 5 + 48 * length text.now }
 {
     let mut end = TextEnd { part, run: 0 };
     for octet in text {
@@ -69,7 +69,7 @@ fn put_octet(octets: &mut ArrayVec<u8, 336>, end: TextEnd, octet: u8) -> TextEnd
         packed octets.old end.part ++ text_after end.run (bits_of 8 octet ++ rest)
         ≡ packed octets.new result.part ++ text_after result.run rest }
     ensures few { result.run ≤ 4 }
-    ensures bound { packed_bits octets.new result.part * 5 + result.run ≤ packed_bits octets.old end.part * 5 + end.run + 48 }
+    ensures bound { bits_in octets.new result.part * 5 + result.run ≤ bits_in octets.old end.part * 5 + end.run + 48 }
 {
     let end = put_half(octets, end, octet & 0xF);
     put_half(octets, end, octet >> 4)
@@ -85,7 +85,7 @@ fn put_half(octets: &mut ArrayVec<u8, 336>, end: TextEnd, half: u8) -> TextEnd
         packed octets.old end.part ++ text_after end.run (bits_of 4 half ++ rest)
         ≡ packed octets.new result.part ++ text_after result.run rest }
     ensures few { result.run ≤ 4 }
-    ensures bound { packed_bits octets.new result.part * 5 + result.run ≤ packed_bits octets.old end.part * 5 + end.run + 24 }
+    ensures bound { bits_in octets.new result.part * 5 + result.run ≤ bits_in octets.old end.part * 5 + end.run + 24 }
     ensures len { array_vec_len octets.new ≤ array_vec_len octets.old + 1 }
 {
     let text = text_of(half, end.run);
@@ -122,7 +122,7 @@ pub(crate) fn put(octets: &mut ArrayVec<u8, 336>, part: Part, bits: u8, count: u
     requires fits { bits < 2 ^ count }
     requires room { array_vec_len octets.old < 336 }
     ensures bits { packed octets.new result ≡ packed octets.old part ++ bits_of count bits }
-    ensures len { packed_bits octets.new result ≡ packed_bits octets.old part + count }
+    ensures len { bits_in octets.new result ≡ bits_in octets.old part + count }
     ensures room { array_vec_len octets.new ≤ array_vec_len octets.old + 1 }
 {
     let whole = u16::from(part.bits) | u16::from(bits) << part.count;

@@ -180,10 +180,10 @@ fn nothing_heard_until_t2_ends(rt: HostRuntime) {
     assert_eq!(rt; inside.state_now(), State::Aligning);
     assert_eq!(rt; inside.status(), Status::OutOfAlignment);
     wait(&mut inside, 19);
-    assert!(rt; !inside.ended(Timer::T2));
+    assert!(rt; !inside.has_ended() && !inside.ended(Timer::T2));
     wait(&mut inside, 1);
-    assert!(rt; inside.ended(Timer::T2));
-    assert!(rt; !inside.ended(Timer::T2));
+    assert!(rt; inside.has_ended() && inside.ended(Timer::T2));
+    assert!(rt; !inside.has_ended() && !inside.ended(Timer::T2));
     assert_eq!(rt; inside.align(AlignIn::T2), Some(End::NotPossible));
     assert_eq!(rt;
         inside.state(StateIn::NotPossible),

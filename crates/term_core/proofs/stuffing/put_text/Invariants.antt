@@ -1,7 +1,7 @@
 use Rattle.std.proofs.Common.{◌≡◌, ◌+◌, ◌*◌, ◌≤◌, ◌++◌, drop}
 use Rattle.l2_bits.specs.LineBits.{line_bits}
 use Rattle.l2_bits.specs.Stuffing.{text_after}
-use Rattle.term_core.specs.Packing.{packed, packed_bits}
+use Rattle.term_core.specs.Packing.{packed, bits_in}
 use Rattle.term_core.proofs.stuffing.put_text.Given as goal
 
 -- what stands there and the text of the octets that are left make the text of all
@@ -10,5 +10,5 @@ invariant-loop-octet l = record {
   text : packed l.initial.octets l.initial.end.part ++ text_after 0 (line_bits l.text)
       ≡ packed l.octets l.end.part ++ text_after l.end.run (line_bits (drop l.octet-index l.text));
   few : l.end.run ≤ 4;
-  bound : packed_bits l.octets l.end.part * 5 + l.end.run ≤ packed_bits l.initial.octets l.initial.end.part * 5 + 48 * l.octet-index;
+  bound : bits_in l.octets l.end.part * 5 + l.end.run ≤ bits_in l.initial.octets l.initial.end.part * 5 + 48 * l.octet-index;
 }
