@@ -25,6 +25,7 @@ mod ring;
 
 pub use line::{Full, Line};
 pub use lossy::LossyLine;
+pub use past::Past;
 pub use ring::{RingLine, beside, ring_pair};
 
 #[cfg(test)]

@@ -7,7 +7,7 @@ use std::mem::replace;
 
 /// A list of octets that only contracts see: it takes no octets at run time, and its calls do nothing there.
 #[derive(Drop)]
-pub(crate) struct Past {
+pub struct Past {
     octets: Tag,
 }
 
@@ -35,7 +35,7 @@ impl Names<Passing> for Longer {
 
 impl Past {
     /// Nothing passed.
-    pub(crate) fn new() -> Past
+    pub fn new() -> Past
         ensures { result ≡ [] }
     {
         Past {
@@ -44,7 +44,7 @@ impl Past {
     }
 
     /// An octet passes.
-    pub(crate) fn note(&mut self, octet: u8)
+    pub fn note(&mut self, octet: u8)
         ensures { self.new ≡ self.old ++ octet ∷ [] }
     {
         let passing = Passing {

@@ -1,0 +1,12 @@
+use Rattle.std.proofs.Common.{◌≡◌, drop}
+use Rattle.link_term.specs.Orders.{obeys_among}
+use Rattle.link_term.proofs.Rows.{Completes}
+use Rattle.link_term.proofs.obeying.obey_each.Given as goal
+
+-- what is left of the row completes it, and the door is that of the terminal's link
+abbrev pub invariant-loop-command : goal.invariant-loop-command
+invariant-loop-command g l = record {
+  at : g.D.Door.number l.door ≡ l.inside.link;
+  completes : Completes (obeys_among l.commands) l.order (drop l.command-index l.order) l.initial.inside l.inside
+      (g.D.Door.made l.initial.door) (g.D.Door.made l.door) (g.D.Door.faults l.initial.door) (g.D.Door.faults l.door);
+}

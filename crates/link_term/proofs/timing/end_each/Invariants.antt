@@ -1,0 +1,12 @@
+use Rattle.std.proofs.Common.{◌≡◌, drop}
+use Rattle.link_term.specs.Orders.{ends}
+use Rattle.link_term.proofs.Rows.{Completes}
+use Rattle.link_term.proofs.timing.end_each.Given as goal
+
+-- what is left of the row completes it, and the door is that of the terminal's link
+abbrev pub invariant-loop-timer : goal.invariant-loop-timer
+invariant-loop-timer g l = record {
+  at : g.D.Door.number l.door ≡ l.inside.link;
+  completes : Completes ends l.timers (drop l.timer-index l.timers) l.initial.inside l.inside
+      (g.D.Door.made l.initial.door) (g.D.Door.made l.door) (g.D.Door.faults l.initial.door) (g.D.Door.faults l.door);
+}

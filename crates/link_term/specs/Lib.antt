@@ -1,0 +1,5 @@
+pub mod Talking
+pub mod Faults
+pub mod Seats
+pub mod Reading
+pub mod Orders

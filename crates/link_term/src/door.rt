@@ -1,0 +1,65 @@
+//! What a terminal asks of its link's set, and where tests may step in.
+ghost use Rattle.std.specs.Prelude.{◌≡◌, [], ◌∷◌, ◌++◌, IfOk, IfErr};
+ghost use Rattle.set_core.specs.Gaining.{IsOwn};
+ghost use Rattle.set_events.specs.declared.event.Actor.TheVariants.{Terminal};
+
+use set_events::{Answer, Event};
+use set_shared::SetFault;
+
+/// The door of a link's set, for the terminal of that link.
+pub trait Door {
+    ghost use Rattle.std.specs.Prelude.{ℕ, List};
+    ghost use Rattle.set_events.specs.declared.history.Entry.{Entry};
+    ghost use Rattle.set_step.specs.declared.fault.SetFault.{SetFault};
+
+    /// The number of its link. It never changes.
+    ghost number: { Self → ℕ };
+
+    /// Each entry that was made through it, oldest first.
+    ghost made: { Self → List Entry };
+
+    /// Each fault that it answered, oldest first.
+    ghost faults: { Self → List SetFault };
+
+    /// The number of its link.
+    fn link(&self) -> u8
+        ensures { result ≡ number self.now };
+
+    /// One step of the link's terminal at the set: what the set answers. The event is one of that terminal: Next, Heard,
+    /// Up, Down, DownBlind, NoAnswer, Restore or BackTimeout, on its own link.
+    ///
+    /// Faults: 2 [`SetFault::Exhausted`], 1 [`SetFault::NoMemory`]. No entry was made then.
+    fn step(&mut self, event: &Event) -> Result<Answer, SetFault>
+        requires { IsOwn (Terminal (number self.old)) event.now }
+        ensures ok { IfOk result (λ answer. (made self.new ≡ made self.old
+            ++ record { who = Terminal (number self.old); event = event.now; answer = answer } ∷ [])
+            × (faults self.new ≡ faults self.old)) }
+        ensures err { IfErr result (λ fault. (made self.new ≡ made self.old)
+            × (faults self.new ≡ faults self.old ++ fault ∷ [])) }
+        ensures number { number self.new ≡ number self.old };
+}
+
+/// Where the threads of sets pass, by the numbers of a set, a link and a user: a test may hold them up there, so as to
+/// show that they run side by side. Nothing is asked of it.
+pub trait Gate {
+    /// A terminal begins a turn.
+    fn outside(&self, set: u16, link: u8);
+
+    /// A terminal has its set's lock, and steps.
+    fn inside(&self, set: u16, link: u8);
+
+    /// A user is about to call.
+    fn user(&self, set: u16, user: u16);
+}
+
+/// The gate that stands open: nobody is held up.
+#[derive(Clone, Copy, Debug, Drop, PartialEq, Eq)]
+pub struct OpenGate;
+
+impl Gate for OpenGate {
+    fn outside(&self, _set: u16, _link: u8) {}
+
+    fn inside(&self, _set: u16, _link: u8) {}
+
+    fn user(&self, _set: u16, _user: u16) {}
+}

@@ -1,0 +1,44 @@
+//! Why a terminal stopped.
+ghost use Rattle.std.specs.Prelude.{◌≡◌};
+ghost use Rattle.link_term.specs.Faults.{fault_number, fault_of};
+
+use set_shared::SetFault;
+use thiserror::Error;
+
+/// Why a turn wasn't finished. Each later one answers [`TermFault::Failed`].
+#[derive(Clone, Copy, Debug, Drop, PartialEq, Eq, Error)]
+pub enum TermFault {
+    /// 1: memory is wanted for a step of the set.
+    #[error("out of memory")]
+    NoMemory = 1,
+    /// 2: a turn before wasn't finished.
+    #[error("the terminal has failed")]
+    Failed = 2,
+    /// 3: the set's history is full.
+    #[error("the history is full")]
+    Exhausted = 3,
+}
+
+impl TermFault {
+    /// The fault's number: 1 memory is wanted, 2 a turn before wasn't finished, 3 the history is full.
+    pub fn number(self) -> u8
+        ensures { result ≡ fault_number self }
+    {
+        match self {
+            TermFault::NoMemory => 1,
+            TermFault::Failed => 2,
+            TermFault::Exhausted => 3,
+        }
+    }
+}
+
+impl From<SetFault> for TermFault {
+    ghost from_gives = { λ fault told. told ≡ fault_of fault };
+
+    fn from(fault: SetFault) -> TermFault {
+        match fault {
+            SetFault::NoMemory => TermFault::NoMemory,
+            SetFault::Exhausted => TermFault::Exhausted,
+        }
+    }
+}

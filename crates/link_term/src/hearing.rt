@@ -1,0 +1,238 @@
+//! What a terminal does with a mark of the line: the monitors, the machines, the set (Q.703 5 to 10).
+ghost use Rattle.std.specs.Prelude.{◌≡◌, Some, None};
+ghost use Rattle.l2_bits.specs.Deframing.{marked as mark_of};
+ghost use Rattle.link_term.specs.Reading.{brings, status_heard, report_heard, told_heard};
+ghost use Rattle.link_term.specs.Talking.{Talks};
+ghost use Rattle.term_model.specs.Hearing.{
+  marked,
+  judged,
+  heard,
+  machines_hear as machines_talk,
+  flow_hears as flow_talk,
+  set_hears as set_talk,
+  reported,
+  acks as acks_talk,
+  faults as faults_talk,
+};
+
+use super::door::Door;
+use super::machines::{align_in, flow_in, state_in};
+use l2_align::AlignIn;
+use l2_bits::MarkKind;
+use l2_flow::FlowIn;
+use l2_signals::{Cause, ControlFault, Status};
+use l2_state::StateIn;
+use l2_units::{Unit, header_in, read};
+use set_events::{Answer, Event, Refusal, Report};
+use set_shared::SetFault;
+use term_core::{Inside, Verdict};
+
+/// A mark of this kind, of these octets where it's a good unit: the monitor that runs is told, and then a unit that is
+/// readable is heard.
+pub(crate) fn mark<D: Door>(
+    inside: &mut Inside,
+    door: &mut D,
+    kind: MarkKind,
+    octets: &[u8],
+) -> Result<(), SetFault>
+    requires { D.number door.old ≡ inside.old.link }
+    ensures talks { Talks (marked (mark_of kind octets.now) inside.old) result (D.made door.old) (D.made door.new)
+        (D.faults door.old) (D.faults door.new) inside.new }
+    ensures at { D.number door.new ≡ inside.new.link }
+{
+    match kind {
+        MarkKind::Good => match read(octets) {
+            Ok(unit) => readable(inside, door, unit),
+            Err(_) => damaged(inside, door),
+        },
+        MarkKind::Bad | MarkKind::Sixteen => damaged(inside, door),
+    }
+}
+
+/// A mark that brings no readable unit is an error, and no more.
+fn damaged<D: Door>(inside: &mut Inside, door: &mut D) -> Result<(), SetFault>
+    requires { D.number door.old ≡ inside.old.link }
+    ensures talks { Talks (brings None inside.old) result (D.made door.old) (D.made door.new)
+        (D.faults door.old) (D.faults door.new) inside.new }
+    ensures at { D.number door.new ≡ inside.new.link }
+{
+    judge(inside, door, true)
+}
+
+/// A mark that brings this unit is no error, and the unit is heard.
+fn readable<D: Door>(inside: &mut Inside, door: &mut D, unit: Unit) -> Result<(), SetFault>
+    requires { D.number door.old ≡ inside.old.link }
+    ensures talks { Talks (brings (Some unit) inside.old) result (D.made door.old) (D.made door.new)
+        (D.faults door.old) (D.faults door.new) inside.new }
+    ensures at { D.number door.new ≡ inside.new.link }
+{
+    judge(inside, door, false)?;
+    hear(inside, door, unit)
+}
+
+/// The monitor that runs is told of a mark, an error or not (Q.703 10).
+#[tactic(auto, using(crate::proofs::Links::judged_link))]
+fn judge<D: Door>(inside: &mut Inside, door: &mut D, error: bool) -> Result<(), SetFault>
+    requires { D.number door.old ≡ inside.old.link }
+    ensures talks { Talks (judged error inside.old) result (D.made door.old) (D.made door.new)
+        (D.faults door.old) (D.faults door.new) inside.new }
+    ensures at { D.number door.new ≡ inside.new.link }
+{
+    match inside.judge(error) {
+        Verdict::Fine => Ok(()),
+        Verdict::Abort => align_in(inside, door, AlignIn::Abort),
+        Verdict::Failed => state_in(inside, door, StateIn::Failure(Cause::Suerm)),
+    }
+}
+
+/// A unit that is readable: a proving that was aborted may begin anew before the machines hear it (Q.703 7.3), and the
+/// set hears it where the link is up there after that.
+fn hear<D: Door>(inside: &mut Inside, door: &mut D, unit: Unit) -> Result<(), SetFault>
+    requires { D.number door.old ≡ inside.old.link }
+    ensures talks { Talks (heard (Some unit) inside.old) result (D.made door.old) (D.made door.new)
+        (D.faults door.old) (D.faults door.new) inside.new }
+    ensures at { D.number door.new ≡ inside.new.link }
+{
+    align_in(inside, door, AlignIn::Good)?;
+    machines_hear(inside, door, &unit)?;
+    set_hears(inside, door, unit)
+}
+
+/// The machines hear a unit (Q.703 7.3, 8.2, 9.3, 11.1).
+fn machines_hear<D: Door>(inside: &mut Inside, door: &mut D, unit: &Unit) -> Result<(), SetFault>
+    requires { D.number door.old ≡ inside.old.link }
+    ensures talks { Talks (machines_talk unit.now inside.old) result (D.made door.old) (D.made door.new)
+        (D.faults door.old) (D.faults door.new) inside.new }
+    ensures at { D.number door.new ≡ inside.new.link }
+{
+    match unit {
+        Unit::Fisu { .. } => state_in(inside, door, StateIn::Fisu),
+        Unit::Lssu { status, .. } => hear_status(inside, door, *status),
+        Unit::Msu { .. } => state_in(inside, door, StateIn::Msu),
+    }
+}
+
+/// A status: alignment hears it, then link state control, then flow control (Q.703 7.3, 8.2, 9.3).
+fn hear_status<D: Door>(inside: &mut Inside, door: &mut D, status: Status) -> Result<(), SetFault>
+    requires { D.number door.old ≡ inside.old.link }
+    ensures talks { Talks (status_heard status inside.old) result (D.made door.old) (D.made door.new)
+        (D.faults door.old) (D.faults door.new) inside.new }
+    ensures at { D.number door.new ≡ inside.new.link }
+{
+    align_in(inside, door, AlignIn::Heard(status))?;
+    state_in(inside, door, StateIn::Heard(status))?;
+    flow_hears(inside, door, status)
+}
+
+/// Busy is flow control's, in every state of the link (Q.703 9.3, own).
+fn flow_hears<D: Door>(inside: &mut Inside, door: &mut D, status: Status) -> Result<(), SetFault>
+    requires { D.number door.old ≡ inside.old.link }
+    ensures talks { Talks (flow_talk status inside.old) result (D.made door.old) (D.made door.new)
+        (D.faults door.old) (D.faults door.new) inside.new }
+    ensures at { D.number door.new ≡ inside.new.link }
+{
+    match status {
+        Status::Busy => flow_in(inside, door, FlowIn::HeardBusy),
+        _ => Ok(()),
+    }
+}
+
+/// The set hears a unit of any kind, where the link is up there (Q.703 5, 6).
+fn set_hears<D: Door>(inside: &mut Inside, door: &mut D, unit: Unit) -> Result<(), SetFault>
+    requires { D.number door.old ≡ inside.old.link }
+    ensures talks { Talks (set_talk unit inside.old) result (D.made door.old) (D.made door.new)
+        (D.faults door.old) (D.faults door.new) inside.new }
+    ensures at { D.number door.new ≡ inside.new.link }
+{
+    if inside.is_up() {
+        return tell_heard(inside, door, unit);
+    }
+    Ok(())
+}
+
+/// The set hears a unit, and its answer is obeyed.
+fn tell_heard<D: Door>(inside: &mut Inside, door: &mut D, unit: Unit) -> Result<(), SetFault>
+    requires { D.number door.old ≡ inside.old.link }
+    ensures talks { Talks (told_heard unit inside.old) result (D.made door.old) (D.made door.new)
+        (D.faults door.old) (D.faults door.new) inside.new }
+    ensures at { D.number door.new ≡ inside.new.link }
+{
+    let link = inside.link();
+    let bsn = header_in(&unit).bsn;
+    let answer = door.step(&Event::Heard { link, unit })?;
+    report(inside, door, &answer, bsn)
+}
+
+/// What the set answers to a unit with this BSN: its report; that the link isn't up there, so that it's stopped here;
+/// or anything else, as a report of nothing (own).
+#[tactic(auto, using(crate::proofs::Links::quiet_link))]
+fn report<D: Door>(
+    inside: &mut Inside,
+    door: &mut D,
+    answer: &Answer,
+    bsn: u8,
+) -> Result<(), SetFault>
+    requires { D.number door.old ≡ inside.old.link }
+    ensures talks { Talks (reported answer.now bsn inside.old) result (D.made door.old) (D.made door.new)
+        (D.faults door.old) (D.faults door.new) inside.new }
+    ensures at { D.number door.new ≡ inside.new.link }
+{
+    match answer {
+        Answer::Heard { report } => obey_report(inside, door, *report, bsn),
+        Answer::Refused {
+            why: Refusal::NotUp,
+        } => {
+            inside.stop_quietly();
+            Ok(())
+        }
+        _ => Ok(()),
+    }
+}
+
+/// A report of the set: flow control first, and then the link's failure, if it tells one (Q.703 5.3, 9.3).
+fn obey_report<D: Door>(
+    inside: &mut Inside,
+    door: &mut D,
+    report: Report,
+    bsn: u8,
+) -> Result<(), SetFault>
+    requires { D.number door.old ≡ inside.old.link }
+    ensures talks { Talks (report_heard report bsn inside.old) result (D.made door.old) (D.made door.new)
+        (D.faults door.old) (D.faults door.new) inside.new }
+    ensures at { D.number door.new ≡ inside.new.link }
+{
+    acks(inside, door, report, bsn)?;
+    faults(inside, door, report.fault)
+}
+
+/// What acknowledges, or asks for retransmission (own), ends the far end's busy time; T7 goes on where messages are
+/// left (Q.703 9.3).
+fn acks<D: Door>(inside: &mut Inside, door: &mut D, report: Report, bsn: u8) -> Result<(), SetFault>
+    requires { D.number door.old ≡ inside.old.link }
+    ensures talks { Talks (acks_talk report bsn inside.old) result (D.made door.old) (D.made door.new)
+        (D.faults door.old) (D.faults door.new) inside.new }
+    ensures at { D.number door.new ≡ inside.new.link }
+{
+    if report.acked > 0 || report.resend {
+        let more = bsn != inside.top();
+        return flow_in(inside, door, FlowIn::Acked { more });
+    }
+    Ok(())
+}
+
+/// Two abnormal BSNs, or FIBs, in three units are a failure of the link (Q.703 5.3.1, 5.3.2).
+fn faults<D: Door>(
+    inside: &mut Inside,
+    door: &mut D,
+    fault: Option<ControlFault>,
+) -> Result<(), SetFault>
+    requires { D.number door.old ≡ inside.old.link }
+    ensures talks { Talks (faults_talk fault inside.old) result (D.made door.old) (D.made door.new)
+        (D.faults door.old) (D.faults door.new) inside.new }
+    ensures at { D.number door.new ≡ inside.new.link }
+{
+    match fault {
+        None => Ok(()),
+        Some(fault) => state_in(inside, door, StateIn::Failure(fault.cause())),
+    }
+}

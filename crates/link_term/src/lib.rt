@@ -1,0 +1,15 @@
+//! A signalling terminal, turn by turn (ITU-T Q.703 7 to 12).
+#![tactic(auto)]
+
+mod door;
+mod fault;
+mod faults;
+mod hearing;
+mod machines;
+mod obeying;
+mod seat_door;
+mod timing;
+
+pub use door::{Door, Gate, OpenGate};
+pub use fault::TermFault;
+pub use seat_door::SeatDoor;

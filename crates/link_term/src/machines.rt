@@ -1,0 +1,125 @@
+//! The three machines' inputs, with what they ask of the set (Q.703 12.1).
+ghost use Rattle.std.specs.Prelude.{◌≡◌, Some, if◌then◌else◌};
+ghost use Rattle.set_events.specs.declared.event.Event.TheVariants.{Down, DownBlind};
+ghost use Rattle.l2_state.specs.declared.signals.Told.TheVariants.{Down as ToldDown};
+ghost use Rattle.link_term.specs.Talking.{Talks};
+ghost use Rattle.term_model.specs.Machines.{asks_up, asks_down, tells, state_in as state_talk, align_in as align_talk, flow_in as flow_talk};
+
+use super::door::Door;
+use l2_align::{AlignIn, End};
+use l2_flow::FlowIn;
+use l2_signals::Cause;
+use l2_state::{StateIn, Told};
+use set_events::Event;
+use set_shared::SetFault;
+use term_core::Inside;
+
+/// The link is in service here: the set is told.
+pub(crate) fn ask_up<D: Door>(inside: &mut Inside, door: &mut D) -> Result<(), SetFault>
+    requires { D.number door.old ≡ inside.old.link }
+    ensures talks { Talks (asks_up inside.old) result (D.made door.old) (D.made door.new)
+        (D.faults door.old) (D.faults door.new) inside.new }
+    ensures at { D.number door.new ≡ inside.new.link }
+{
+    let link = inside.link();
+    let answer = door.step(&Event::Up { link })?;
+    inside.rise(&answer);
+    Ok(())
+}
+
+/// What the set is told of a link that failed: after a Blind, that no FSN can be told to the far end (Q.704 5.6).
+fn down_event(inside: &Inside) -> Event
+    ensures { result ≡ (if inside.now.blind then DownBlind inside.now.link else Down inside.now.link) }
+{
+    let link = inside.link();
+    if inside.is_blind() {
+        Event::DownBlind { link }
+    } else {
+        Event::Down { link }
+    }
+}
+
+/// The link is out of service here, and is up at the set: the set is told.
+fn ask_down<D: Door>(inside: &mut Inside, door: &mut D, cause: Cause) -> Result<(), SetFault>
+    requires { D.number door.old ≡ inside.old.link }
+    ensures talks { Talks (asks_down cause inside.old) result (D.made door.old) (D.made door.new)
+        (D.faults door.old) (D.faults door.new) inside.new }
+    ensures at { D.number door.new ≡ inside.new.link }
+{
+    let event = down_event(inside);
+    let _ = door.step(&event)?;
+    inside.fall(cause);
+    Ok(())
+}
+
+/// The link is out of service here: the set is told where it's up there.
+pub(crate) fn leave<D: Door>(
+    inside: &mut Inside,
+    door: &mut D,
+    cause: Cause,
+) -> Result<(), SetFault>
+    requires { D.number door.old ≡ inside.old.link }
+    ensures talks { Talks (tells (Some (ToldDown cause)) inside.old) result (D.made door.old) (D.made door.new)
+        (D.faults door.old) (D.faults door.new) inside.new }
+    ensures at { D.number door.new ≡ inside.new.link }
+{
+    if inside.is_up() {
+        return ask_down(inside, door, cause);
+    }
+    inside.fall(cause);
+    Ok(())
+}
+
+/// An input of link state control.
+#[tactic(auto, using(crate::proofs::Links::state_link))]
+pub(crate) fn state_in<D: Door>(
+    inside: &mut Inside,
+    door: &mut D,
+    input: StateIn,
+) -> Result<(), SetFault>
+    requires { D.number door.old ≡ inside.old.link }
+    ensures talks { Talks (state_talk input inside.old) result (D.made door.old) (D.made door.new)
+        (D.faults door.old) (D.faults door.new) inside.new }
+    ensures at { D.number door.new ≡ inside.new.link }
+{
+    match inside.state(input) {
+        None => Ok(()),
+        Some(Told::Up) => ask_up(inside, door),
+        Some(Told::Down(cause)) => leave(inside, door, cause),
+    }
+}
+
+/// An input of initial alignment control.
+pub(crate) fn align_in<D: Door>(
+    inside: &mut Inside,
+    door: &mut D,
+    input: AlignIn,
+) -> Result<(), SetFault>
+    requires { D.number door.old ≡ inside.old.link }
+    ensures talks { Talks (align_talk input inside.old) result (D.made door.old) (D.made door.new)
+        (D.faults door.old) (D.faults door.new) inside.new }
+    ensures at { D.number door.new ≡ inside.new.link }
+{
+    match inside.align(input) {
+        None => Ok(()),
+        Some(End::Complete) => state_in(inside, door, StateIn::Complete),
+        Some(End::NotPossible) => state_in(inside, door, StateIn::NotPossible),
+    }
+}
+
+/// An input of flow control.
+pub(crate) fn flow_in<D: Door>(
+    inside: &mut Inside,
+    door: &mut D,
+    input: FlowIn,
+) -> Result<(), SetFault>
+    requires { D.number door.old ≡ inside.old.link }
+    ensures talks { Talks (flow_talk input inside.old) result (D.made door.old) (D.made door.new)
+        (D.faults door.old) (D.faults door.new) inside.new }
+    ensures at { D.number door.new ≡ inside.new.link }
+{
+    match inside.control(input) {
+        None => Ok(()),
+        Some(cause) => state_in(inside, door, StateIn::Failure(cause)),
+    }
+}

@@ -1,0 +1,105 @@
+//! The commands that waited (Q.703 7.2, 9.2, 12.1).
+ghost use Rattle.std.specs.Prelude.{◌≡◌};
+ghost use Rattle.link_term.specs.Orders.{is_among as is_among_these, obeys, obeys_among, obeys_all};
+ghost use Rattle.link_term.specs.Talking.{Talks};
+ghost use Rattle.term_model.specs.Obeying.{commanded};
+
+use super::door::Door;
+use super::machines::{align_in, flow_in, state_in};
+use l2_align::AlignIn;
+use l2_flow::FlowIn;
+use l2_state::StateIn;
+use set_shared::SetFault;
+use term_core::Inside;
+use term_model::{Command, Commands};
+
+/// The commands, in the order in which they are obeyed (own).
+static ORDER: [Command; 6] = [
+    Command::Emergency,
+    Command::Start,
+    Command::Busy,
+    Command::Ease,
+    Command::Blind,
+    Command::Stop,
+];
+
+/// The commands that waited are obeyed, each once.
+pub(crate) fn obey<D: Door>(inside: &mut Inside, door: &mut D) -> Result<(), SetFault>
+    requires { D.number door.old ≡ inside.old.link }
+    ensures talks { Talks (commanded inside.old) result (D.made door.old) (D.made door.new)
+        (D.faults door.old) (D.faults door.new) inside.new }
+    ensures at { D.number door.new ≡ inside.new.link }
+{
+    let commands = inside.take_commands();
+    obey_each(inside, door, commands, &ORDER)
+}
+
+/// These commands are obeyed, in order, where they were given.
+fn obey_each<D: Door>(
+    inside: &mut Inside,
+    door: &mut D,
+    commands: Commands,
+    order: &[Command],
+) -> Result<(), SetFault>
+    requires { D.number door.old ≡ inside.old.link }
+    ensures talks { Talks (obeys_all commands order.now inside.old) result (D.made door.old) (D.made door.new)
+        (D.faults door.old) (D.faults door.new) inside.new }
+    ensures at { D.number door.new ≡ inside.new.link }
+{
+    for command in order {
+        obey_if(inside, door, commands, *command)?;
+    }
+    Ok(())
+}
+
+/// This command is obeyed, where it was given.
+fn obey_if<D: Door>(
+    inside: &mut Inside,
+    door: &mut D,
+    commands: Commands,
+    command: Command,
+) -> Result<(), SetFault>
+    requires { D.number door.old ≡ inside.old.link }
+    ensures talks { Talks (obeys_among commands command inside.old) result (D.made door.old) (D.made door.new)
+        (D.faults door.old) (D.faults door.new) inside.new }
+    ensures at { D.number door.new ≡ inside.new.link }
+{
+    if is_among(commands, command) {
+        return obey_one(inside, door, command);
+    }
+    Ok(())
+}
+
+/// Whether this command was given.
+fn is_among(commands: Commands, command: Command) -> bool
+    ensures { result ≡ is_among_these command commands }
+{
+    match command {
+        Command::Emergency => commands.emergency,
+        Command::Start => commands.start,
+        Command::Busy => commands.busy,
+        Command::Ease => commands.ease,
+        Command::Blind => commands.blind,
+        Command::Stop => commands.stop,
+    }
+}
+
+/// A command is obeyed. Blind is for the next failure, and lost while the link isn't up at the set (own).
+fn obey_one<D: Door>(inside: &mut Inside, door: &mut D, command: Command) -> Result<(), SetFault>
+    requires { D.number door.old ≡ inside.old.link }
+    ensures talks { Talks (obeys command inside.old) result (D.made door.old) (D.made door.new)
+        (D.faults door.old) (D.faults door.new) inside.new }
+    ensures at { D.number door.new ≡ inside.new.link }
+{
+    match command {
+        Command::Emergency => align_in(inside, door, AlignIn::Emergency),
+        Command::Start => state_in(inside, door, StateIn::Start),
+        Command::Busy => flow_in(inside, door, FlowIn::Busy),
+        Command::Ease => flow_in(inside, door, FlowIn::Ease),
+        Command::Blind => {
+            inside.blind();
+            Ok(())
+        }
+        Command::Stop => state_in(inside, door, StateIn::Stop),
+    }
+}

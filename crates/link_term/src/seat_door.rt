@@ -1,0 +1,94 @@
+//! The door of a set that threads share.
+ghost use Rattle.std.specs.Prelude.{◌≡◌, [], ◌∷◌, ◌++◌};
+ghost use Rattle.set_events.specs.declared.event.Actor.TheVariants.{Terminal};
+ghost use Rattle.link_term.specs.Seats.{link_in};
+
+use super::door::{Door, Gate};
+use super::faults::Faults;
+use set_events::{Answer, Event};
+use set_shared::{LinkSet, SetFault, TermSeat};
+use std::sync::Wait;
+use std::sync::ledger::Ledger;
+
+/// A terminal's own seat at a set that threads share. Each step takes the set's lock, passes the gate's `inside`
+/// under it, and leaves its entry among the seat's receipts: those are all that this door made. The lock may be
+/// waited for.
+#[derive(Drop)]
+pub struct SeatDoor<'a, C: Ledger, M: Ledger, O: Ledger, A: Ledger, R: Wait, G: Gate> {
+    rt: &'a R,
+    set: &'a LinkSet<C, M, O, A>,
+    number: u16,
+    seat: TermSeat<C, M, O, A>,
+    gate: &'a G,
+    faults: Faults,
+}
+
+impl<'a, C: Ledger, M: Ledger, O: Ledger, A: Ledger, R: Wait, G: Gate> SeatDoor<
+    'a,
+    C,
+    M,
+    O,
+    A,
+    R,
+    G,
+> {
+    /// The door of this seat's link, at its set, whose number is only told to the gate. Its link is the seat's, and what
+    /// it made are the seat's receipts.
+    pub fn new(
+        rt: &'a R,
+        set: &'a LinkSet<C, M, O, A>,
+        number: u16,
+        seat: TermSeat<C, M, O, A>,
+        gate: &'a G,
+    ) -> SeatDoor<'a, C, M, O, A, R, G>
+        ensures seat { result.seat ≡ seat }
+        ensures faults { result.faults ≡ [] }
+    {
+        SeatDoor {
+            rt,
+            set,
+            number,
+            seat,
+            gate,
+            faults: Faults::new(),
+        }
+    }
+
+    /// The seat, with a receipt for each step that was made through the door.
+    pub fn into_seat(self) -> TermSeat<C, M, O, A>
+        ensures { result ≡ self.entry.seat }
+    {
+        self.seat
+    }
+}
+
+impl<'a, C: Ledger, M: Ledger, O: Ledger, A: Ledger, R: Wait, G: Gate> Door
+    for SeatDoor<'a, C, M, O, A, R, G> {
+    ghost use Rattle.link_term.specs.Seats.{link_in};
+
+    ghost number = { λ door. link_in door.seat.who };
+
+    ghost made = { λ door. door.seat.receipts };
+
+    ghost faults = { λ door. door.faults };
+
+    fn link(&self) -> u8 {
+        self.seat.link()
+    }
+
+    fn step(&mut self, event: &Event) -> Result<Answer, SetFault> {
+        let link = self.seat.link();
+        let (set, gate) = (self.number, self.gate);
+        let inside = || gate.inside(set, link);
+        match self
+            .set
+            .term_step_held(self.rt, &mut self.seat, event, inside)
+        {
+            Ok(answer) => Ok(answer),
+            Err(fault) => {
+                self.faults.note(fault);
+                Err(fault)
+            }
+        }
+    }
+}

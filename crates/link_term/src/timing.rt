@@ -1,0 +1,79 @@
+//! An octet time goes by (Q.703 12.3).
+ghost use Rattle.std.specs.Prelude.{◌≡◌};
+ghost use Rattle.link_term.specs.Orders.{end_told, ends, ends_all};
+ghost use Rattle.link_term.specs.Talking.{Talks};
+ghost use Rattle.term_model.specs.Timing.{timed};
+
+use super::door::Door;
+use super::machines::{align_in, flow_in, state_in};
+use l2_align::AlignIn;
+use l2_flow::FlowIn;
+use l2_state::StateIn;
+use set_shared::SetFault;
+use term_core::{Inside, Timer};
+
+/// The timers, in the order in which their ends are looked at (own).
+static TIMERS: [Timer; 7] = [
+    Timer::T1,
+    Timer::T2,
+    Timer::T3,
+    Timer::T4,
+    Timer::T5,
+    Timer::T6,
+    Timer::T7,
+];
+
+/// All timers that run are lessened, and then each that has nothing left is told where it belongs, T1 to T7.
+pub(crate) fn end_timers<D: Door>(inside: &mut Inside, door: &mut D) -> Result<(), SetFault>
+    requires { D.number door.old ≡ inside.old.link }
+    ensures talks { Talks (timed inside.old) result (D.made door.old) (D.made door.new)
+        (D.faults door.old) (D.faults door.new) inside.new }
+    ensures at { D.number door.new ≡ inside.new.link }
+{
+    inside.lessen();
+    end_each(inside, door, &TIMERS)
+}
+
+/// The ends of these timers, in order.
+fn end_each<D: Door>(inside: &mut Inside, door: &mut D, timers: &[Timer]) -> Result<(), SetFault>
+    requires { D.number door.old ≡ inside.old.link }
+    ensures talks { Talks (ends_all timers.now inside.old) result (D.made door.old) (D.made door.new)
+        (D.faults door.old) (D.faults door.new) inside.new }
+    ensures at { D.number door.new ≡ inside.new.link }
+{
+    for timer in timers {
+        end(inside, door, *timer)?;
+    }
+    Ok(())
+}
+
+/// The end of this timer, where it has nothing left.
+fn end<D: Door>(inside: &mut Inside, door: &mut D, timer: Timer) -> Result<(), SetFault>
+    requires { D.number door.old ≡ inside.old.link }
+    ensures talks { Talks (ends timer inside.old) result (D.made door.old) (D.made door.new)
+        (D.faults door.old) (D.faults door.new) inside.new }
+    ensures at { D.number door.new ≡ inside.new.link }
+{
+    if inside.ended(timer) {
+        return tell_end(inside, door, timer);
+    }
+    Ok(())
+}
+
+/// The machine whose timer it is hears that it has ended.
+fn tell_end<D: Door>(inside: &mut Inside, door: &mut D, timer: Timer) -> Result<(), SetFault>
+    requires { D.number door.old ≡ inside.old.link }
+    ensures talks { Talks (end_told timer inside.old) result (D.made door.old) (D.made door.new)
+        (D.faults door.old) (D.faults door.new) inside.new }
+    ensures at { D.number door.new ≡ inside.new.link }
+{
+    match timer {
+        Timer::T1 => state_in(inside, door, StateIn::T1),
+        Timer::T2 => align_in(inside, door, AlignIn::T2),
+        Timer::T3 => align_in(inside, door, AlignIn::T3),
+        Timer::T4 => align_in(inside, door, AlignIn::T4),
+        Timer::T5 => flow_in(inside, door, FlowIn::T5),
+        Timer::T6 => flow_in(inside, door, FlowIn::T6),
+        Timer::T7 => flow_in(inside, door, FlowIn::T7),
+    }
+}
