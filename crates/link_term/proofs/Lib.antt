@@ -1,3 +1,4 @@
+pub mod Filling
 pub mod Links
 pub mod Rows
 pub mod Talking

@@ -55,3 +55,26 @@ aligning_link AlignState.Aligned error t = service_link t.state error t
 
 pub judged_link : (error : Bool) (t : Terminal) → (judgement error t).after.link ≡ t.link
 judged_link error t = aligning_link t.align.state error t
+
+-- nor what is left to send
+
+switched_bits : (switch : Option Switch) (t : Terminal) → (switched switch t).bits ≡ t.bits
+switched_bits None t = refl
+switched_bits (Some Switch.Start) t = refl
+switched_bits (Some Switch.Stop) t = refl
+
+pub state_bits : (input : StateIn) (t : Terminal) → (after_state input t).bits ≡ t.bits
+state_bits input t = switched_bits (state_row t.state input).out.alignment _
+
+pub risen_bits : (answer : Answer) (t : Terminal) → (risen answer t).bits ≡ t.bits
+risen_bits Answer.Done t = refl
+risen_bits _ t = refl
+
+fallen_bits : (told : Option Told) (t : Terminal) → (fallen_if told t).bits ≡ t.bits
+fallen_bits None t = refl
+fallen_bits (Some Told.Up) t = refl
+fallen_bits (Some (Told.Down cause)) t = refl
+
+pub quiet_bits : (t : Terminal) → (stops_quietly t).bits ≡ t.bits
+quiet_bits t = fallen_bits (state_row t.state StateIn.Stop).out.told (after_state StateIn.Stop t) ∙ state_bits StateIn.Stop t
+

@@ -3,3 +3,4 @@ pub mod Faults
 pub mod Seats
 pub mod Reading
 pub mod Orders
+pub mod Filling

@@ -1,6 +1,7 @@
 //! A signalling terminal, turn by turn (ITU-T Q.703 7 to 12).
 #![tactic(auto)]
 
+mod choosing;
 mod door;
 mod fault;
 mod faults;

@@ -1,5 +1,5 @@
 //! The three machines' inputs, with what they ask of the set (Q.703 12.1).
-ghost use Rattle.std.specs.Prelude.{◌≡◌, Some, if◌then◌else◌};
+ghost use Rattle.std.specs.Prelude.{◌≡◌, Some, if◌then◌else◌, IfOk};
 ghost use Rattle.set_events.specs.declared.event.Event.TheVariants.{Down, DownBlind};
 ghost use Rattle.l2_state.specs.declared.signals.Told.TheVariants.{Down as ToldDown};
 ghost use Rattle.link_term.specs.Talking.{Talks};
@@ -15,11 +15,13 @@ use set_shared::SetFault;
 use term_core::Inside;
 
 /// The link is in service here: the set is told.
+#[tactic(auto, using(crate::proofs::Links::risen_link, crate::proofs::Links::risen_bits))]
 pub(crate) fn ask_up<D: Door>(inside: &mut Inside, door: &mut D) -> Result<(), SetFault>
     requires { D.number door.old ≡ inside.old.link }
     ensures talks { Talks (asks_up inside.old) result (D.made door.old) (D.made door.new)
         (D.faults door.old) (D.faults door.new) inside.new }
     ensures at { D.number door.new ≡ inside.new.link }
+    ensures bits { IfOk result (λ done. inside.new.bits ≡ inside.old.bits) }
 {
     let link = inside.link();
     let answer = door.step(&Event::Up { link })?;
@@ -45,6 +47,7 @@ fn ask_down<D: Door>(inside: &mut Inside, door: &mut D, cause: Cause) -> Result<
     ensures talks { Talks (asks_down cause inside.old) result (D.made door.old) (D.made door.new)
         (D.faults door.old) (D.faults door.new) inside.new }
     ensures at { D.number door.new ≡ inside.new.link }
+    ensures bits { IfOk result (λ done. inside.new.bits ≡ inside.old.bits) }
 {
     let event = down_event(inside);
     let _ = door.step(&event)?;
@@ -62,6 +65,7 @@ pub(crate) fn leave<D: Door>(
     ensures talks { Talks (tells (Some (ToldDown cause)) inside.old) result (D.made door.old) (D.made door.new)
         (D.faults door.old) (D.faults door.new) inside.new }
     ensures at { D.number door.new ≡ inside.new.link }
+    ensures bits { IfOk result (λ done. inside.new.bits ≡ inside.old.bits) }
 {
     if inside.is_up() {
         return ask_down(inside, door, cause);
@@ -71,7 +75,7 @@ pub(crate) fn leave<D: Door>(
 }
 
 /// An input of link state control.
-#[tactic(auto, using(crate::proofs::Links::state_link))]
+#[tactic(auto, using(crate::proofs::Links::state_link, crate::proofs::Links::state_bits))]
 pub(crate) fn state_in<D: Door>(
     inside: &mut Inside,
     door: &mut D,
@@ -81,6 +85,7 @@ pub(crate) fn state_in<D: Door>(
     ensures talks { Talks (state_talk input inside.old) result (D.made door.old) (D.made door.new)
         (D.faults door.old) (D.faults door.new) inside.new }
     ensures at { D.number door.new ≡ inside.new.link }
+    ensures bits { IfOk result (λ done. inside.new.bits ≡ inside.old.bits) }
 {
     match inside.state(input) {
         None => Ok(()),
@@ -117,6 +122,7 @@ pub(crate) fn flow_in<D: Door>(
     ensures talks { Talks (flow_talk input inside.old) result (D.made door.old) (D.made door.new)
         (D.faults door.old) (D.faults door.new) inside.new }
     ensures at { D.number door.new ≡ inside.new.link }
+    ensures bits { IfOk result (λ done. inside.new.bits ≡ inside.old.bits) }
 {
     match inside.control(input) {
         None => Ok(()),
