@@ -1,4 +1,6 @@
+pub mod Feeding
 pub mod Filling
 pub mod Links
 pub mod Rows
+pub mod SixSteps
 pub mod Talking

@@ -4,3 +4,5 @@ pub mod Seats
 pub mod Reading
 pub mod Orders
 pub mod Filling
+pub mod Octets
+pub mod Turning

@@ -2,14 +2,18 @@
 #![tactic(auto)]
 
 mod choosing;
+mod counts;
 mod door;
 mod fault;
 mod faults;
 mod hearing;
 mod machines;
 mod obeying;
+mod octets;
+mod receiver;
 mod seat_door;
 mod timing;
+mod turning;
 
 pub use door::{Door, Gate, OpenGate};
 pub use fault::TermFault;

@@ -1,0 +1,94 @@
+-- A TURN, as its calls tell it.
+use Rattle.std.specs.Prelude.{◌≡◌, ◌≤◌, ℕ, ◌+◌, Bool, List, [], ◌∷◌, ◌++◌, Option, Some, None, Result, MatchResult}
+use Rattle.std.specs.Option.{option_to_list}
+use Rattle.l2_bits.specs.declared.marks.Mark.{Mark}
+use Rattle.l2_bits.specs.Marks.{AreMarks}
+use Rattle.set_events.specs.declared.event.Event.{Event}
+use Rattle.set_events.specs.declared.history.Entry.{Entry}
+use Rattle.set_step.specs.declared.fault.SetFault.{SetFault}
+use Rattle.term_model.specs.Choosing.{Filled, filled}
+use Rattle.term_model.specs.Hearing.{all_marked}
+use Rattle.term_model.specs.OctetIn.{GivesMarks}
+use Rattle.term_model.specs.OctetOut.{Appends, PutsOctet}
+use Rattle.term_model.specs.Talk.{Talk, and_then}
+use Rattle.term_model.specs.Terminal.{Terminal}
+use Rattle.term_model.specs.Timing.{timed}
+use Rattle.term_model.specs.Turn.{turn_talk, IsTurn, IsBrokenTurn}
+use Rattle.link_term.specs.declared.counts.MarkCounts.{MarkCounts}
+use Rattle.link_term.specs.declared.counts.Turned.{Turned}
+use Rattle.link_term.specs.Filling.{has_unit}
+use Rattle.link_term.specs.Octets.{counts_of}
+use Rattle.link_term.specs.Talking.{Gains, Breaks}
+
+-- the marks of these bits were heard, in order, or up to a fault
+pub record HearsMarks (past bits : List Bool) (before : Terminal) (counts : MarkCounts) (made made' : List Entry)
+    (after : Terminal) : Type 0 where
+  pub marks : List Mark
+  pub are : AreMarks past bits marks
+  pub gains : Gains (all_marked marks before) made made' after
+  pub counts_are : counts ≡ counts_of marks
+
+pub record BreaksMarks (past bits : List Bool) (before : Terminal) (made made' : List Entry) : Type 0 where
+  pub marks : List Mark
+  pub are : AreMarks past bits marks
+  pub breaks : Breaks (all_marked marks before) made made'
+
+abbrev pub HearsOctet : List Bool → List Bool → Terminal → Result MarkCounts SetFault → List Entry → List Entry
+    → List SetFault → List SetFault → Terminal → Type 0
+HearsOctet past bits before result made made' faults faults' after = MatchResult result
+    (λ counts. HearsMarks past bits before counts made made' after × (faults' ≡ faults))
+    (λ fault. BreaksMarks past bits before made made' × (faults' ≡ faults ++ fault ∷ []))
+
+-- steps 3 to 5: the marks of a turn's octet, timers, what is sent next
+abbrev pub from_marks : List Mark → Terminal → Talk Filled
+from_marks marks t = and_then (all_marked marks t) (λ t. and_then (timed t) (λ t. filled t))
+
+-- THESE STEPS went, and the unit that was chosen, if any, was appended; so many marks were heard
+pub record Steps (past : List Bool) (octet : Option ℕ) (before : Terminal) (turned : Turned) (made made' : List Entry)
+    (after : Terminal) : Type 0 where
+  pub marks : List Mark
+  pub gives : GivesMarks past octet marks
+  pub chosen : Filled
+  pub gains : Gains (from_marks marks before) made made' chosen
+  pub appends : Appends chosen.unit chosen.after.bits after.bits
+  pub after_is : after ≡ record chosen.after { bits = after.bits }
+  pub counts_are : turned.marks ≡ counts_of marks
+  pub sent_is : turned.sent ≡ has_unit chosen.unit
+
+-- a fault broke them off
+pub record BrokenSteps (past : List Bool) (octet : Option ℕ) (before : Terminal) (made made' : List Entry) : Type 0 where
+  pub marks : List Mark
+  pub gives : GivesMarks past octet marks
+  pub breaks : Breaks (from_marks marks before) made made'
+
+abbrev pub StepsTo : List Bool → Option ℕ → Terminal → Result Turned SetFault → List Entry → List Entry
+    → List SetFault → List SetFault → Terminal → Type 0
+StepsTo past octet before result made made' faults faults' after = MatchResult result
+    (λ turned. Steps past octet before turned made made' after × (faults' ≡ faults))
+    (λ fault. BrokenSteps past octet before made made' × (faults' ≡ faults ++ fault ∷ []))
+
+-- A TURN WENT: what the line gave and took, what the door made, the terminal then, and what the turn tells. Where no
+-- octet was taken none waited; where none was put the line is full.
+pub record TurnsOnce (past : List Bool) (before : Terminal) (turned : Turned) (made made' : List Entry)
+    (given given' waiting : List ℕ) (put put' : List ℕ) (free : ℕ) (octet : Option ℕ) (after : Terminal) : Type 0 where
+  pub entries : List Entry
+  pub out : List ℕ
+  pub marks : List Mark
+  pub turn : IsTurn past before octet entries out marks after
+  pub made_is : made' ≡ made ++ entries
+  pub given_is : given' ≡ given ++ option_to_list octet
+  pub put_is : put' ≡ put ++ out
+  pub none_waited : octet ≡ None → waiting ≡ []
+  pub was_full : out ≡ [] → free ≡ 0
+  pub counts_are : turned.marks ≡ counts_of marks
+  pub sent_is : turned.sent ≡ has_unit turn.chosen.unit
+
+-- a fault broke it off: what the line gave by then; it took nothing
+pub record TurnBreaks (past : List Bool) (before : Terminal) (made made' : List Entry)
+    (given given' waiting : List ℕ) (put put' : List ℕ) (octet : Option ℕ) : Type 0 where
+  pub entries : List Entry
+  pub last : Event
+  pub turn : IsBrokenTurn past before octet entries last
+  pub made_is : made' ≡ made ++ entries
+  pub given_is : given' ≡ given ++ option_to_list octet
+  pub put_is : put' ≡ put

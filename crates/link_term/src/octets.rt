@@ -1,0 +1,54 @@
+//! An octet that was taken: its bits, and their marks (Q.703 2.4, 3, 4).
+ghost use Rattle.std.specs.Prelude.{◌≡◌, ◌≤◌, List, Bool, length, IfOk};
+ghost use Rattle.l2_bits.specs.Deframing.{StandsFor, rest_of};
+ghost use Rattle.link_term.specs.Octets.{FedSome, Hears};
+
+use super::counts::MarkCounts;
+use super::door::Door;
+use super::hearing::mark;
+use l2_bits::{Deframer, Rest};
+use set_shared::SetFault;
+use term_core::Inside;
+
+/// The bits that are left of an octet: each mark that they give is heard, in order. Answers how many of each kind there
+/// were. Where the door fails, the bits that are left then are taken all the same, and their marks are heard no more.
+pub(crate) fn hear_bits<D: Door>(
+    deframer: &mut Deframer,
+    rest: &mut Rest,
+    inside: &mut Inside,
+    door: &mut D,
+) -> Result<MarkCounts, SetFault>
+    requires at { D.number door.old ≡ inside.old.link }
+    requires few { length (rest_of rest.old) ≤ 8 }
+    ensures hears { (past : List Bool) → StandsFor past deframer.old
+        → Hears past (rest_of rest.old) inside.old result (D.made door.old) (D.made door.new)
+        (D.faults door.old) (D.faults door.new) inside.new deframer.new }
+    ensures at { D.number door.new ≡ inside.new.link }
+    ensures few { IfOk result (λ counts. (counts.good ≤ length (rest_of rest.old))
+        × (counts.bad ≤ length (rest_of rest.old)) × (counts.sixteen ≤ length (rest_of rest.old))) }
+{
+    let Some(kind) = deframer.feed_octet(rest) else {
+        return Ok(MarkCounts::NONE);
+    };
+    match mark(inside, door, kind, deframer.unit()) {
+        Ok(()) => {}
+        Err(fault) => {
+            drain(deframer, rest);
+            return Err(fault);
+        }
+    }
+    match hear_bits(deframer, rest, inside, door) {
+        Ok(later) => Ok(later.after(kind)),
+        Err(fault) => Err(fault),
+    }
+}
+
+/// Takes the bits that are left, whatever marks they give.
+fn drain(deframer: &mut Deframer, rest: &mut Rest)
+    ensures { (past : List Bool) → StandsFor past deframer.old → FedSome past (rest_of rest.old) deframer.new }
+{
+    match deframer.feed_octet(rest) {
+        Some(_kind) => drain(deframer, rest),
+        None => {}
+    }
+}

@@ -1,0 +1,52 @@
+//! The steps of a turn, between the octet that is taken and the one that is put.
+ghost use Rattle.std.specs.Prelude.{◌≡◌, [], ◌++◌};
+ghost use Rattle.std.specs.Option.{option_to_list};
+ghost use Rattle.l2_bits.specs.LineBits.{line_bits};
+ghost use Rattle.link_term.specs.Turning.{HearsOctet, StepsTo};
+ghost use Rattle.term_model.specs.OctetIn.{bits_in};
+
+use super::choosing::fill;
+use super::counts::{MarkCounts, Turned};
+use super::door::Door;
+use super::receiver::Receiver;
+use super::timing::end_timers;
+use set_shared::SetFault;
+use term_core::Inside;
+
+/// Steps 2 to 5 of a turn: the marks of the octet that was taken, timers, and what is sent next.
+pub(crate) fn from_octet<D: Door>(
+    receiver: &mut Receiver,
+    inside: &mut Inside,
+    door: &mut D,
+    octet: Option<u8>,
+) -> Result<Turned, SetFault>
+    requires { D.number door.old ≡ inside.old.link }
+    ensures steps { StepsTo (line_bits receiver.old) octet inside.old result
+        (D.made door.old) (D.made door.new) (D.faults door.old) (D.faults door.new) inside.new }
+    ensures taken { receiver.new ≡ receiver.old ++ option_to_list octet }
+    ensures at { D.number door.new ≡ inside.new.link }
+{
+    let marks = hear_octet(receiver, inside, door, octet)?;
+    end_timers(inside, door)?;
+    let sent = fill(inside, door)?;
+    Ok(Turned { marks, sent })
+}
+
+/// The marks of the octet that was taken, if one was.
+fn hear_octet<D: Door>(
+    receiver: &mut Receiver,
+    inside: &mut Inside,
+    door: &mut D,
+    octet: Option<u8>,
+) -> Result<MarkCounts, SetFault>
+    requires { D.number door.old ≡ inside.old.link }
+    ensures hears { HearsOctet (line_bits receiver.old) (bits_in octet) inside.old result
+        (D.made door.old) (D.made door.new) (D.faults door.old) (D.faults door.new) inside.new }
+    ensures taken { receiver.new ≡ receiver.old ++ option_to_list octet }
+    ensures at { D.number door.new ≡ inside.new.link }
+{
+    match octet {
+        Some(octet) => receiver.hear(octet, inside, door),
+        None => Ok(MarkCounts::NONE),
+    }
+}
