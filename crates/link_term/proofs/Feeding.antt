@@ -113,14 +113,20 @@ pub octet_heard : (past past' bits bits' : List Bool) (t after : Terminal) (resu
     (made made' : List Entry) (faults faults' : List SetFault) (deframer : Deframer) → past ≡ past' → bits ≡ bits'
     → Hears past bits t result made made' faults faults' after deframer
     → HearsOctet past' bits' t result made made' faults faults' after
-octet_heard past past' bits bits' t after (Ok counts) made made' faults faults' deframer same is hears = (record {
+octet_heard past past' bits bits' t after (Ok counts) made made' faults faults' deframer same is hears = (
+  record {
     marks = hears.0.marks;
     are = subst (λ p. AreMarks p bits' hears.0.marks) same (subst (λ b. AreMarks past b hears.0.marks) is hears.0.fed.are);
     gains = hears.0.gains;
     counts_are = hears.0.counts_are;
-  }, hears.1)
-octet_heard past past' bits bits' t after (Err fault) made made' faults faults' deframer same is hears = (record {
+  },
+  hears.1,
+)
+octet_heard past past' bits bits' t after (Err fault) made made' faults faults' deframer same is hears = (
+  record {
     marks = hears.0.marks;
     are = subst (λ p. AreMarks p bits' hears.0.marks) same (subst (λ b. AreMarks past b hears.0.marks) is hears.0.fed.are);
     breaks = hears.0.breaks;
-  }, hears.1)
+  },
+  hears.1,
+)

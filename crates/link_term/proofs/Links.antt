@@ -77,4 +77,3 @@ fallen_bits (Some (Told.Down cause)) t = refl
 
 pub quiet_bits : (t : Terminal) → (stops_quietly t).bits ≡ t.bits
 quiet_bits t = fallen_bits (state_row t.state StateIn.Stop).out.told (after_state StateIn.Stop t) ∙ state_bits StateIn.Stop t
-

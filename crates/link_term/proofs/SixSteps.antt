@@ -1,11 +1,16 @@
 -- The steps of a turn, one after another.
-use Rattle.std.proofs.Common.{refl, sym, ap, subst, ◌≡◌, ◌∙◌, ℕ, Bool, List, [], ◌∷◌, ◌++◌, Option, Some, None, Result, Ok, Err}
+use Rattle.std.proofs.Common.{refl, sym, ap, subst, ◌≡◌, ◌∙◌, ℕ, Bool, List, [], ◌∷◌, ◌++◌, Option, Some, None, Result, Ok, Err, IfErr, IfSome, IsNone, append-nil}
+use mathlib.Core.List.{IsPrefix}
+use Rattle.std.specs.Option.{option_to_list}
 use Rattle.std.specs.Result.{IsErrAnd}
+use Rattle.l2_bits.specs.LineBits.{line_bits}
 use Rattle.set_events.specs.declared.history.Entry.{Entry}
 use Rattle.set_step.specs.declared.fault.SetFault.{SetFault}
 use Rattle.term_model.specs.Choosing.{Filled, filled}
 use Rattle.term_model.specs.Hearing.{all_marked}
+use Rattle.term_model.specs.Obeying.{commanded}
 use Rattle.term_model.specs.OctetIn.{bits_in}
+use Rattle.term_model.specs.OctetOut.{put_of, left_of}
 use Rattle.term_model.specs.Talk.{and_then}
 use Rattle.term_model.specs.Terminal.{Terminal}
 use Rattle.term_model.specs.Timing.{timed}
@@ -13,7 +18,7 @@ use Rattle.link_term.specs.declared.counts.MarkCounts.{MarkCounts}
 use Rattle.link_term.specs.declared.counts.Turned.{Turned}
 use Rattle.link_term.specs.Filling.{FillsBits}
 use Rattle.link_term.specs.Talking.{Gains, Breaks}
-use Rattle.link_term.specs.Turning.{HearsMarks, BreaksMarks, Steps, BrokenSteps, StepsTo}
+use Rattle.link_term.specs.Turning.{HearsMarks, BreaksMarks, from_marks, Steps, BrokenSteps, StepsTo, PutsOut, TurnsOnce, TurnBreaks}
 use Rattle.link_term.proofs.Talking.{gains_joined, breaks_at_first, breaks_at_last}
 
 -- the call that answers a fault of the door tells that one
@@ -70,3 +75,92 @@ module _ (past : List Bool) (octet : Option ℕ) (t u : Terminal) (counts : Mark
     counts_are = heard.counts_are;
     sent_is = fills.sent_is;
   }
+
+-- STEPS 1 AND 6.
+
+pub turn_broken : {R : Type 0} (result : Result R SetFault) (fault : SetFault) (taken taken' : List ℕ) (t : Terminal)
+    (made made' : List Entry) (given given' put put' : List ℕ) (faults faults' : List SetFault)
+    → IsErrAnd result (λ e. e ≡ fault) → TurnBreaks taken taken' t made made' given given' put put'
+    → faults' ≡ faults ++ fault ∷ []
+    → IfErr result (λ e. TurnBreaks taken taken' t made made' given given' put put' × (faults' ≡ faults ++ e ∷ []))
+turn_broken (Ok turned) fault taken taken' t made made' given given' put put' faults faults' is broke told = absurd is
+turn_broken (Err other) fault taken taken' t made made' given given' put put' faults faults' is broke told =
+    (broke, told ∙ ap (λ (f : SetFault). faults ++ f ∷ []) (sym is))
+
+-- a fault at a command: no octet was taken
+pub breaks_at_command : (taken : List ℕ) (t : Terminal) (made made' : List Entry) (given put : List ℕ)
+    → Breaks (commanded t) made made' → TurnBreaks taken taken t made made' given given put put
+breaks_at_command taken t made made' given put broke =
+    let all = breaks_at_first (commanded t) (λ v. from_marks [] v) made made' broke in record {
+      octet = None;
+      entries = all.entries;
+      last = all.last;
+      turn = record { marks = []; gives = refl; broke_off = all.broke_off };
+      taken_is = sym (append-nil taken);
+      made_is = all.made_is;
+      given_is = sym (append-nil given);
+      put_is = refl;
+    }
+
+-- a fault later on
+pub breaks_after : (taken taken' : List ℕ) (octet : Option ℕ) (t u : Terminal) (made mid made' : List Entry)
+    (given given' put put' : List ℕ) → Gains (commanded t) made mid u → BrokenSteps (line_bits taken) octet u mid made'
+    → taken' ≡ taken ++ option_to_list octet → given' ≡ given ++ option_to_list octet → put' ≡ put
+    → TurnBreaks taken taken' t made made' given given' put put'
+breaks_after taken taken' octet t u made mid made' given given' put put' obeyed broke took gave same =
+    let all = breaks_at_last (commanded t) (λ v. from_marks broke.marks v) made mid made' u obeyed broke.breaks in record {
+      octet = octet;
+      entries = all.entries;
+      last = all.last;
+      turn = record { marks = broke.marks; gives = broke.gives; broke_off = all.broke_off };
+      taken_is = took;
+      made_is = all.made_is;
+      given_is = gave;
+      put_is = same;
+    }
+
+-- none
+pub turn_went : (taken taken' : List ℕ) (octet : Option ℕ) (t u v after : Terminal) (turned : Turned)
+    (made mid made' : List Entry) (given given' waiting put put_mid put' : List ℕ) (free : ℕ)
+    → Gains (commanded t) made mid u → Steps (line_bits taken) octet u turned mid made' v
+    → PutsOut v after put_mid put' free → put_mid ≡ put → taken' ≡ taken ++ option_to_list octet → given' ≡ given ++ option_to_list octet
+    → (octet ≡ None → waiting ≡ [])
+    → TurnsOnce taken taken' t turned made made' given given' waiting put put' free after
+turn_went taken taken' octet t u v after turned made mid made' given given' waiting put put_mid put' free obeyed steps puts same took gave none =
+    let all = gains_joined (commanded t) (λ w. from_marks steps.marks w) made mid made' u steps.chosen obeyed steps.gains in record {
+      octet = octet;
+      entries = all.entries;
+      out = put_of puts.has_room v.bits;
+      marks = steps.marks;
+      turn = record {
+        gives = steps.gives;
+        chosen = steps.chosen;
+        went = all.went;
+        puts = record {
+          bits = v.bits;
+          appends = steps.appends;
+          has_room = puts.has_room;
+          put_is = refl;
+          after_is = puts.after_is ∙ ap (λ (w : Terminal). record w { bits = left_of puts.has_room v.bits }) steps.after_is;
+        };
+      };
+      taken_is = took;
+      made_is = all.made_is;
+      given_is = gave;
+      put_is = puts.put_is ∙ ap (λ (p : List ℕ). p ++ put_of puts.has_room v.bits) same;
+      none_waited = none;
+      was_full = puts.was_full;
+      counts_are = steps.counts_are;
+      sent_is = steps.sent_is;
+    }
+
+-- what the line gave
+pub took : (octet : Option ℕ) (given given' waiting waiting' : List ℕ)
+    → IfSome octet (λ o. (given' ≡ given ++ o ∷ []) × IsPrefix waiting (o ∷ waiting'))
+    → (IsNone octet → (given' ≡ given) × (waiting ≡ []) × (waiting' ≡ [])) → given' ≡ given ++ option_to_list octet
+took (Some o) given given' waiting waiting' some none = some.0
+took None given given' waiting waiting' some none = (none refl).0 ∙ sym (append-nil given)
+
+pub none_waited : (octet : Option ℕ) (given given' waiting waiting' : List ℕ)
+    → (IsNone octet → (given' ≡ given) × (waiting ≡ []) × (waiting' ≡ [])) → octet ≡ None → waiting ≡ []
+none_waited octet given given' waiting waiting' none is = (none (subst (λ o. IsNone o) (sym is) refl)).1

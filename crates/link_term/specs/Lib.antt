@@ -6,3 +6,4 @@ pub mod Orders
 pub mod Filling
 pub mod Octets
 pub mod Turning
+pub mod Failing

@@ -1,7 +1,8 @@
 -- A TURN, as its calls tell it.
-use Rattle.std.specs.Prelude.{◌≡◌, ◌≤◌, ℕ, ◌+◌, Bool, List, [], ◌∷◌, ◌++◌, Option, Some, None, Result, MatchResult}
+use Rattle.std.specs.Prelude.{◌≡◌, ℕ, Bool, false, List, [], ◌∷◌, ◌++◌, Option, None, Result, MatchResult}
 use Rattle.std.specs.Option.{option_to_list}
 use Rattle.l2_bits.specs.declared.marks.Mark.{Mark}
+use Rattle.l2_bits.specs.LineBits.{line_bits}
 use Rattle.l2_bits.specs.Marks.{AreMarks}
 use Rattle.set_events.specs.declared.event.Event.{Event}
 use Rattle.set_events.specs.declared.history.Entry.{Entry}
@@ -9,7 +10,7 @@ use Rattle.set_step.specs.declared.fault.SetFault.{SetFault}
 use Rattle.term_model.specs.Choosing.{Filled, filled}
 use Rattle.term_model.specs.Hearing.{all_marked}
 use Rattle.term_model.specs.OctetIn.{GivesMarks}
-use Rattle.term_model.specs.OctetOut.{Appends, PutsOctet}
+use Rattle.term_model.specs.OctetOut.{Appends, put_of, left_of}
 use Rattle.term_model.specs.Talk.{Talk, and_then}
 use Rattle.term_model.specs.Terminal.{Terminal}
 use Rattle.term_model.specs.Timing.{timed}
@@ -67,28 +68,39 @@ StepsTo past octet before result made made' faults faults' after = MatchResult r
     (λ turned. Steps past octet before turned made made' after × (faults' ≡ faults))
     (λ fault. BrokenSteps past octet before made made' × (faults' ≡ faults ++ fault ∷ []))
 
--- A TURN WENT: what the line gave and took, what the door made, the terminal then, and what the turn tells. Where no
--- octet was taken none waited; where none was put the line is full.
-pub record TurnsOnce (past : List Bool) (before : Terminal) (turned : Turned) (made made' : List Entry)
-    (given given' waiting : List ℕ) (put put' : List ℕ) (free : ℕ) (octet : Option ℕ) (after : Terminal) : Type 0 where
+-- STEP 6: the next octet was put, or the line is full and it stays
+pub record PutsOut (before after : Terminal) (put put' : List ℕ) (free : ℕ) : Type 0 where
+  pub has_room : Bool
+  pub put_is : put' ≡ put ++ put_of has_room before.bits
+  pub after_is : after ≡ record before { bits = left_of has_room before.bits }
+  pub was_full : has_room ≡ false → free ≡ 0
+
+-- A TURN WENT: the octets taken, what the door made, what the line gave and took, the terminal then, and what the turn
+-- tells. Where no octet was taken none waited; where none was put the line is full.
+pub record TurnsOnce (taken taken' : List ℕ) (before : Terminal) (turned : Turned) (made made' : List Entry)
+    (given given' waiting put put' : List ℕ) (free : ℕ) (after : Terminal) : Type 0 where
+  pub octet : Option ℕ
   pub entries : List Entry
   pub out : List ℕ
   pub marks : List Mark
-  pub turn : IsTurn past before octet entries out marks after
+  pub turn : IsTurn (line_bits taken) before octet entries out marks after
+  pub taken_is : taken' ≡ taken ++ option_to_list octet
   pub made_is : made' ≡ made ++ entries
   pub given_is : given' ≡ given ++ option_to_list octet
   pub put_is : put' ≡ put ++ out
   pub none_waited : octet ≡ None → waiting ≡ []
-  pub was_full : out ≡ [] → free ≡ 0
+  pub was_full : turn.puts.has_room ≡ false → free ≡ 0
   pub counts_are : turned.marks ≡ counts_of marks
   pub sent_is : turned.sent ≡ has_unit turn.chosen.unit
 
 -- a fault broke it off: what the line gave by then; it took nothing
-pub record TurnBreaks (past : List Bool) (before : Terminal) (made made' : List Entry)
-    (given given' waiting : List ℕ) (put put' : List ℕ) (octet : Option ℕ) : Type 0 where
+pub record TurnBreaks (taken taken' : List ℕ) (before : Terminal) (made made' : List Entry)
+    (given given' put put' : List ℕ) : Type 0 where
+  pub octet : Option ℕ
   pub entries : List Entry
   pub last : Event
-  pub turn : IsBrokenTurn past before octet entries last
+  pub turn : IsBrokenTurn (line_bits taken) before octet entries last
+  pub taken_is : taken' ≡ taken ++ option_to_list octet
   pub made_is : made' ≡ made ++ entries
   pub given_is : given' ≡ given ++ option_to_list octet
   pub put_is : put' ≡ put

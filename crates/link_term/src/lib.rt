@@ -12,9 +12,11 @@ mod obeying;
 mod octets;
 mod receiver;
 mod seat_door;
+mod terminal;
 mod timing;
 mod turning;
 
 pub use door::{Door, Gate, OpenGate};
 pub use fault::TermFault;
 pub use seat_door::SeatDoor;
+pub use terminal::Terminal;

@@ -1,17 +1,55 @@
 //! The steps of a turn, between the octet that is taken and the one that is put.
-ghost use Rattle.std.specs.Prelude.{◌≡◌, [], ◌++◌};
+ghost use Rattle.std.specs.Prelude.{◌≡◌, [], ◌∷◌, ◌++◌, IfOk, IfErr};
 ghost use Rattle.std.specs.Option.{option_to_list};
 ghost use Rattle.l2_bits.specs.LineBits.{line_bits};
-ghost use Rattle.link_term.specs.Turning.{HearsOctet, StepsTo};
+ghost use Rattle.link_term.specs.Turning.{HearsOctet, StepsTo, PutsOut, TurnsOnce, TurnBreaks};
 ghost use Rattle.term_model.specs.OctetIn.{bits_in};
 
 use super::choosing::fill;
 use super::counts::{MarkCounts, Turned};
 use super::door::Door;
+use super::obeying::obey;
 use super::receiver::Receiver;
 use super::timing::end_timers;
+use line_ring::Line;
 use set_shared::SetFault;
 use term_core::Inside;
+
+/// A turn: commands, one octet in, marks, timers, what is sent next, one octet out.
+pub(crate) fn take_turn<D: Door, L: Line>(
+    receiver: &mut Receiver,
+    inside: &mut Inside,
+    door: &mut D,
+    line: &mut L,
+) -> Result<Turned, SetFault>
+    requires { D.number door.old ≡ inside.old.link }
+    ensures turns { IfOk result (λ turned. TurnsOnce receiver.old receiver.new inside.old turned
+        (D.made door.old) (D.made door.new) (L.taken_so_far line.old) (L.taken_so_far line.new) (L.waiting line.old)
+        (L.put_so_far line.old) (L.put_so_far line.new) (L.free line.new) inside.new
+        × (D.faults door.new ≡ D.faults door.old)) }
+    ensures breaks { IfErr result (λ fault. TurnBreaks receiver.old receiver.new inside.old
+        (D.made door.old) (D.made door.new) (L.taken_so_far line.old) (L.taken_so_far line.new)
+        (L.put_so_far line.old) (L.put_so_far line.new)
+        × (D.faults door.new ≡ D.faults door.old ++ fault ∷ [])) }
+    ensures at { D.number door.new ≡ inside.new.link }
+{
+    obey(inside, door)?;
+    let octet = line.take();
+    let turned = from_octet(receiver, inside, door, octet)?;
+    put_octet(inside, line);
+    Ok(turned)
+}
+
+/// The next octet is put; where the line is full it stays for the next turn.
+fn put_octet<L: Line>(inside: &mut Inside, line: &mut L)
+    ensures puts { PutsOut inside.old inside.new (L.put_so_far line.old) (L.put_so_far line.new) (L.free line.new) }
+    ensures taken { L.taken_so_far line.new ≡ L.taken_so_far line.old }
+{
+    match line.put(inside.octet()) {
+        Ok(()) => inside.drop_octet(),
+        Err(_full) => {}
+    }
+}
 
 /// Steps 2 to 5 of a turn: the marks of the octet that was taken, timers, and what is sent next.
 pub(crate) fn from_octet<D: Door>(

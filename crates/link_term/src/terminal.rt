@@ -1,0 +1,131 @@
+//! A terminal with its door, its line and its gate.
+ghost use Rattle.std.specs.Prelude.{◌≡◌, [], true, false, IfOk, IfErr, OnOk, OnErr};
+ghost use Rattle.link_term.specs.Turning.{TurnsOnce, TurnBreaks};
+ghost use Rattle.link_term.specs.Failing.{HasBroken};
+ghost use Rattle.link_term.specs.declared.counts.Turned.{Turned as WasTurned};
+ghost use Rattle.link_term.specs.declared.fault.TermFault.TheVariants.{Failed};
+ghost use Rattle.term_model.specs.Terminal.{opened, told};
+
+use super::counts::Turned;
+use super::door::{Door, Gate};
+use super::fault::TermFault;
+use super::receiver::Receiver;
+use super::turning::take_turn;
+use line_ring::Line;
+use term_core::Inside;
+use term_model::{Command, Timers};
+
+/// A signalling terminal of one link (Q.703 7 to 12): its inside, the door of the link's set, one end of a line, and a
+/// gate. It takes no memory; a turn waits only where the door does.
+#[derive(Drop)]
+pub struct Terminal<D: Door, L: Line, G: Gate> {
+    door: D,
+    line: L,
+    gate: G,
+    /// The number of its set, which is told to the gate alone.
+    set: u16,
+    inside: Inside,
+    receiver: Receiver,
+    /// A turn was broken off.
+    failed: bool,
+    ghost at: { D.number door ≡ inside.link },
+}
+
+impl<D: Door, L: Line, G: Gate> Terminal<D, L, G> {
+    /// A terminal of the door's link, which is out of service, with timers of these lengths, in octet times. No octet
+    /// was taken from the line by it, and one flag is left to send.
+    pub fn new(door: D, line: L, gate: G, set: u16, link: u8, lengths: Timers) -> Terminal<D, L, G>
+        requires { D.number door ≡ link }
+        ensures inside { result.inside ≡ opened link lengths }
+        ensures taken { result.receiver ≡ [] }
+        ensures door { result.door ≡ door }
+        ensures line { result.line ≡ line }
+        ensures failed { result.failed ≡ false }
+    {
+        Terminal {
+            door,
+            line,
+            gate,
+            set,
+            inside: Inside::new(link, lengths),
+            receiver: Receiver::new(),
+            failed: false,
+        }
+    }
+
+    /// A command, which is obeyed in the next turn; it's no matter that it was given before.
+    pub fn command(&mut self, command: Command)
+        ensures inside { self.new.inside ≡ told command self.old.inside }
+        ensures taken { self.new.receiver ≡ self.old.receiver }
+        ensures door { self.new.door ≡ self.old.door }
+        ensures line { self.new.line ≡ self.old.line }
+        ensures failed { self.new.failed ≡ self.old.failed }
+    {
+        self.inside.command(command);
+    }
+
+    /// One turn, an octet time: commands, one octet in, marks, timers, what is sent next, one octet out.
+    ///
+    /// Faults, where the door answered so: 1 [`TermFault::NoMemory`], 3 [`TermFault::Exhausted`]; the turn was broken off
+    /// there, and nothing was put. After one, 2 [`TermFault::Failed`], and nothing is done.
+    pub fn turn(&mut self) -> Result<(), TermFault>
+        ensures turns { IfOk result (λ done. (turned : WasTurned) × (self.old.failed ≡ false)
+            × TurnsOnce self.old.receiver self.new.receiver self.old.inside turned
+            (D.made self.old.door) (D.made self.new.door)
+            (L.taken_so_far self.old.line) (L.taken_so_far self.new.line) (L.waiting self.old.line)
+            (L.put_so_far self.old.line) (L.put_so_far self.new.line) (L.free self.new.line) self.new.inside
+            × (D.faults self.new.door ≡ D.faults self.old.door)) }
+        ensures breaks { self.old.failed ≡ false → IfErr result (λ fault. HasBroken fault
+            (D.faults self.old.door) (D.faults self.new.door)
+            × TurnBreaks self.old.receiver self.new.receiver self.old.inside (D.made self.old.door) (D.made self.new.door)
+            (L.taken_so_far self.old.line) (L.taken_so_far self.new.line)
+            (L.put_so_far self.old.line) (L.put_so_far self.new.line)) }
+        ensures failed { self.old.failed ≡ true → (result ≡ Err Failed) × (self.new.door ≡ self.old.door)
+            × (self.new.line ≡ self.old.line) × (self.new.inside ≡ self.old.inside)
+            × (self.new.receiver ≡ self.old.receiver) }
+        ensures fails { OnErr result (self.new.failed ≡ true) }
+        ensures goes_on { OnOk result (self.new.failed ≡ false) }
+    {
+        match self.take_turn() {
+            Ok(_turned) => Ok(()),
+            Err(fault) => Err(fault),
+        }
+    }
+
+    /// [`Terminal::turn`], which tells what it did.
+    fn take_turn(&mut self) -> Result<Turned, TermFault>
+        ensures turns { IfOk result (λ turned. (self.old.failed ≡ false)
+            × TurnsOnce self.old.receiver self.new.receiver self.old.inside turned
+            (D.made self.old.door) (D.made self.new.door)
+            (L.taken_so_far self.old.line) (L.taken_so_far self.new.line) (L.waiting self.old.line)
+            (L.put_so_far self.old.line) (L.put_so_far self.new.line) (L.free self.new.line) self.new.inside
+            × (D.faults self.new.door ≡ D.faults self.old.door)) }
+        ensures breaks { self.old.failed ≡ false → IfErr result (λ fault. HasBroken fault
+            (D.faults self.old.door) (D.faults self.new.door)
+            × TurnBreaks self.old.receiver self.new.receiver self.old.inside (D.made self.old.door) (D.made self.new.door)
+            (L.taken_so_far self.old.line) (L.taken_so_far self.new.line)
+            (L.put_so_far self.old.line) (L.put_so_far self.new.line)) }
+        ensures failed { self.old.failed ≡ true → (result ≡ Err Failed) × (self.new.door ≡ self.old.door)
+            × (self.new.line ≡ self.old.line) × (self.new.inside ≡ self.old.inside)
+            × (self.new.receiver ≡ self.old.receiver) }
+        ensures fails { OnErr result (self.new.failed ≡ true) }
+        ensures goes_on { OnOk result (self.new.failed ≡ false) }
+    {
+        if self.failed {
+            return Err(TermFault::Failed);
+        }
+        self.gate.outside(self.set, self.inside.link());
+        match take_turn(
+            &mut self.receiver,
+            &mut self.inside,
+            &mut self.door,
+            &mut self.line,
+        ) {
+            Ok(turned) => Ok(turned),
+            Err(fault) => {
+                self.failed = true;
+                Err(TermFault::from(fault))
+            }
+        }
+    }
+}
