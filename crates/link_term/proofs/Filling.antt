@@ -1,7 +1,7 @@
 -- Step 5 of a turn, as it's carried out.
-use Rattle.std.proofs.Common.{refl, sym, subst, ◌≡◌, Bool, true, false, nat_lt, length, List, Option, Some, None, if◌then◌else◌}
+use Rattle.std.proofs.Common.{refl, sym, subst, ◌≡◌, false, nat_lt, length, List, None, if◌then◌else◌}
 use Rattle.set_events.specs.declared.history.Entry.{Entry}
-use Rattle.term_model.specs.Choosing.{Filled, chosen, filled}
+use Rattle.term_model.specs.Choosing.{chosen, filled}
 use Rattle.term_model.specs.Talk.{done}
 use Rattle.term_model.specs.Terminal.{Terminal}
 use Rattle.link_term.specs.Filling.{FillsBits}

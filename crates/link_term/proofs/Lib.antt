@@ -4,3 +4,4 @@ pub mod Links
 pub mod Rows
 pub mod SixSteps
 pub mod Talking
+pub mod Turns

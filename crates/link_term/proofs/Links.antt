@@ -1,6 +1,5 @@
 -- No input of a machine changes which link a terminal is of.
 use Rattle.std.proofs.Common.{refl, ◌≡◌, ◌∙◌, ℕ, Bool, Option, Some, None}
-use Rattle.l2_signals.specs.declared.cause.Cause.{Cause}
 use Rattle.l2_monitors.specs.Suerm.{Kept}
 use Rattle.l2_align.specs.declared.align.State.{State as AlignState}
 use Rattle.l2_state.specs.declared.link_state.State.{State}

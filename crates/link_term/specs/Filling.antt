@@ -1,5 +1,5 @@
 -- WHAT IS SENT NEXT, as its calls tell it.
-use Rattle.std.specs.Prelude.{◌≡◌, ◌==◌, Bool, true, false, List, ◌∷◌, [], ◌++◌, Option, Some, None, Result, MatchResult, if◌then◌else◌}
+use Rattle.std.specs.Prelude.{◌≡◌, Bool, true, false, List, ◌∷◌, [], ◌++◌, Option, Some, None, Result, MatchResult}
 use Rattle.l2_units.specs.declared.unit.Unit.{Unit as SignalUnit}
 use Rattle.l2_units.specs.Grammar.{head_of}
 use Rattle.set_events.specs.declared.event.Event.{Event}

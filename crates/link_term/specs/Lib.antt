@@ -7,3 +7,4 @@ pub mod Filling
 pub mod Octets
 pub mod Turning
 pub mod Failing
+pub mod Running

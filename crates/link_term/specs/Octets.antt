@@ -1,5 +1,5 @@
 -- THE BITS OF AN OCTET that was taken, and what their marks make of a terminal.
-use Rattle.std.specs.Prelude.{◌≡◌, ℕ, Bool, List, [], ◌∷◌, ◌++◌, Result, MatchResult}
+use Rattle.std.specs.Prelude.{◌≡◌, Bool, List, [], ◌∷◌, ◌++◌, Result, MatchResult}
 use Rattle.l2_bits.specs.declared.deframing.Deframer.{Deframer}
 use Rattle.l2_bits.specs.declared.marks.Mark.{Mark}
 use Rattle.l2_bits.specs.Deframing.{StandsFor}

@@ -1,5 +1,5 @@
 -- COMMANDS AND TIMERS ONE BY ONE: the rows of steps 1 and 4 of a turn.
-use Rattle.std.specs.Prelude.{◌≡◌, ℕ, Bool, List, [], ◌∷◌, map, if◌then◌else◌}
+use Rattle.std.specs.Prelude.{Bool, List, [], ◌∷◌, map, if◌then◌else◌}
 use Rattle.l2_align.specs.declared.signals.AlignIn.{AlignIn}
 use Rattle.l2_state.specs.declared.signals.StateIn.{StateIn}
 use Rattle.l2_flow.specs.declared.input.FlowIn.{FlowIn}

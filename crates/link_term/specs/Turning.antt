@@ -14,7 +14,7 @@ use Rattle.term_model.specs.OctetOut.{Appends, put_of, left_of}
 use Rattle.term_model.specs.Talk.{Talk, and_then}
 use Rattle.term_model.specs.Terminal.{Terminal}
 use Rattle.term_model.specs.Timing.{timed}
-use Rattle.term_model.specs.Turn.{turn_talk, IsTurn, IsBrokenTurn}
+use Rattle.term_model.specs.Turn.{IsTurn, IsBrokenTurn}
 use Rattle.link_term.specs.declared.counts.MarkCounts.{MarkCounts}
 use Rattle.link_term.specs.declared.counts.Turned.{Turned}
 use Rattle.link_term.specs.Filling.{has_unit}

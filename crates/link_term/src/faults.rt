@@ -5,9 +5,10 @@ use line_ring::Past;
 use set_shared::SetFault;
 use std::marker::Model;
 
-/// A list of faults that only contracts see: it takes no octets at run time, and its calls do nothing there.
+/// A list of faults that only contracts see, for a door to keep what it answered: it takes no octets at run time, and its
+/// calls do nothing there.
 #[derive(Drop)]
-pub(crate) struct Faults {
+pub struct Faults {
     /// Their numbers.
     numbers: Past,
 }
@@ -25,7 +26,7 @@ impl Model for Faults {
 
 impl Faults {
     /// No fault.
-    pub(crate) fn new() -> Faults
+    pub fn new() -> Faults
         ensures { result ≡ [] }
     {
         Faults {
@@ -34,7 +35,7 @@ impl Faults {
     }
 
     /// This fault was answered.
-    pub(crate) fn note(&mut self, fault: SetFault)
+    pub fn note(&mut self, fault: SetFault)
         ensures { self.new ≡ self.old ++ fault ∷ [] }
     {
         self.numbers.note(fault.number());

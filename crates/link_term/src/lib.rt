@@ -18,5 +18,8 @@ mod turning;
 
 pub use door::{Door, Gate, OpenGate};
 pub use fault::TermFault;
+pub use faults::Faults;
 pub use seat_door::SeatDoor;
+pub use set_shared::SetFault;
+pub use term_model::{Command, TermReport, Timers};
 pub use terminal::Terminal;

@@ -1,7 +1,9 @@
 //! A terminal with its door, its line and its gate.
-ghost use Rattle.std.specs.Prelude.{◌≡◌, [], true, false, IfOk, IfErr, OnOk, OnErr};
+ghost use Rattle.std.specs.Prelude.{◌≡◌, ◌+◌, ◌^◌, ◌<◌, ◌≤◌, [], true, false, if◌then◌else◌, IfOk, IfErr, OnOk, OnErr};
 ghost use Rattle.link_term.specs.Turning.{TurnsOnce, TurnBreaks};
 ghost use Rattle.link_term.specs.Failing.{HasBroken};
+ghost use Rattle.link_term.specs.Running.{Runs};
+ghost use Rattle.term_model.specs.Runs.{cause_or_0};
 ghost use Rattle.link_term.specs.declared.counts.Turned.{Turned as WasTurned};
 ghost use Rattle.link_term.specs.declared.fault.TermFault.TheVariants.{Failed};
 ghost use Rattle.term_model.specs.Terminal.{opened, told};
@@ -13,7 +15,7 @@ use super::receiver::Receiver;
 use super::turning::take_turn;
 use line_ring::Line;
 use term_core::Inside;
-use term_model::{Command, Timers};
+use term_model::{Command, TermReport, Timers};
 
 /// A signalling terminal of one link (Q.703 7 to 12): its inside, the door of the link's set, one end of a line, and a
 /// gate. It takes no memory; a turn waits only where the door does.
@@ -92,6 +94,48 @@ impl<D: Door, L: Line, G: Gate> Terminal<D, L, G> {
         }
     }
 
+    /// So many turns, one after another, at most 2^32: what they counted, and why the link failed last.
+    ///
+    /// Faults as of [`Terminal::turn`]: the turn that is broken off is the last.
+    pub fn run(&mut self, turns: u64) -> Result<TermReport, TermFault>
+        requires { turns ≤ 2 ^ 32 }
+        ensures runs { IfOk result (λ report. (self.old.failed ≡ false)
+            × Runs turns self.old.receiver self.new.receiver self.old.inside (D.made self.old.door) (D.made self.new.door)
+            (L.taken_so_far self.old.line) (L.taken_so_far self.new.line)
+            (L.put_so_far self.old.line) (L.put_so_far self.new.line) report self.new.inside
+            × (D.faults self.new.door ≡ D.faults self.old.door)) }
+        ensures breaks { self.old.failed ≡ false → IfErr result (λ fault. HasBroken fault
+            (D.faults self.old.door) (D.faults self.new.door)) }
+        ensures failed { self.old.failed ≡ true → (result ≡ Err Failed) × (self.new.door ≡ self.old.door)
+            × (self.new.line ≡ self.old.line) × (self.new.inside ≡ self.old.inside)
+            × (self.new.receiver ≡ self.old.receiver) }
+        ensures fails { OnErr result (self.new.failed ≡ true) }
+        ensures goes_on { OnOk result (self.new.failed ≡ false) }
+    {
+        if self.failed {
+            return Err(TermFault::Failed);
+        }
+        let mut report = NO_TURNS;
+        for _turn in 0..turns {
+            match self.take_turn() {
+                Ok(turned) => report = and_one(report, turned),
+                Err(fault) => return Err(fault),
+            }
+        }
+        Ok(TermReport {
+            cause: last_cause(&self.inside),
+            ..report
+        })
+    }
+
+    /// The door, the line and the gate, with all that passed them.
+    pub fn into_parts(self) -> (D, L, G)
+        ensures door { result.0 ≡ self.door }
+        ensures line { result.1 ≡ self.line }
+    {
+        (self.door, self.line, self.gate)
+    }
+
     /// [`Terminal::turn`], which tells what it did.
     fn take_turn(&mut self) -> Result<Turned, TermFault>
         ensures turns { IfOk result (λ turned. (self.old.failed ≡ false)
@@ -127,5 +171,48 @@ impl<D: Door, L: Line, G: Gate> Terminal<D, L, G> {
                 Err(TermFault::from(fault))
             }
         }
+    }
+}
+
+/// No turn was counted yet.
+const NO_TURNS: TermReport = TermReport {
+    turns: 0,
+    sent: 0,
+    good: 0,
+    bad: 0,
+    sixteen: 0,
+    cause: 0,
+};
+
+/// One turn more was counted.
+fn and_one(report: TermReport, turned: Turned) -> TermReport
+    requires turns { report.turns < 2 ^ 33 }
+    requires sent { report.sent < 2 ^ 33 }
+    requires good { report.good < 2 ^ 48 }
+    requires bad { report.bad < 2 ^ 48 }
+    requires sixteen { report.sixteen < 2 ^ 48 }
+    ensures turns { result.turns ≡ report.turns + 1 }
+    ensures sent { result.sent ≡ report.sent + (if turned.sent then 1 else 0) }
+    ensures good { (result.good ≡ report.good + turned.marks.good) × (turned.marks.good < 256) }
+    ensures bad { (result.bad ≡ report.bad + turned.marks.bad) × (turned.marks.bad < 256) }
+    ensures sixteen { (result.sixteen ≡ report.sixteen + turned.marks.sixteen) × (turned.marks.sixteen < 256) }
+{
+    TermReport {
+        turns: report.turns + 1,
+        sent: report.sent + u64::from(turned.sent),
+        good: report.good + u64::from(turned.marks.good),
+        bad: report.bad + u64::from(turned.marks.bad),
+        sixteen: report.sixteen + u64::from(turned.marks.sixteen),
+        cause: report.cause,
+    }
+}
+
+/// The number of the cause for which the link failed last; 0: it didn't.
+fn last_cause(inside: &Inside) -> u8
+    ensures { result ≡ cause_or_0 inside.now.cause }
+{
+    match inside.cause() {
+        None => 0,
+        Some(cause) => cause.number(),
     }
 }

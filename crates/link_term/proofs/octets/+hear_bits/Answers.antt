@@ -1,4 +1,4 @@
-use Rattle.std.proofs.Common.{arith, ap, ◌∙◌, [], ◌∷◌, ◌++◌}
+use Rattle.std.proofs.Common.{ap, ◌∙◌, [], ◌∷◌, ◌++◌}
 use Rattle.link_term.proofs.Feeding.{hears_one, breaks_later, breaks_now, same_gains, same_breaks}
 use Rattle.link_term.proofs.octets.+hear_bits.Goals as goal
 

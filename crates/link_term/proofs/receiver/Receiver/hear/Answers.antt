@@ -1,4 +1,4 @@
-use Rattle.std.proofs.Common.{arith, ap, ◌≡◌, ◌∙◌, sym, length}
+use Rattle.std.proofs.Common.{arith, ap, ◌≡◌, ◌∙◌, length}
 use Rattle.l2_bits.specs.Deframing.{rest_of}
 use Rattle.l2_bits.specs.LineBits.{line_bits}
 use Rattle.l2_bits.proofs.BitLemmas.{length-bits_of}

@@ -1,0 +1,170 @@
+-- One turn more, and its counts.
+use Rattle.std.proofs.Common.{refl, sym, ap, subst, arith, ◌≡◌, ◌∙◌, ℕ, ◌+◌, ◌≤◌, Bool, true, false, List, [], ◌∷◌, ◌++◌, length, Option, Some, None, if◌then◌else◌, append_assoc, append-nil, length-append}
+use Rattle.std.proofs.lemmas.Grind.{flat_map-append}
+use Rattle.std.specs.List.{flat_map}
+use Rattle.std.specs.Option.{option_to_list}
+use Rattle.l2_bits.specs.declared.marks.Mark.{Mark}
+use Rattle.l2_bits.specs.LineBits.{bits_of, line_bits}
+use Rattle.l2_units.specs.declared.unit.Unit.{Unit as SignalUnit}
+use Rattle.set_events.specs.declared.history.Entry.{Entry}
+use Rattle.term_model.specs.declared.report.TermReport.{TermReport}
+use Rattle.term_model.specs.Runs.{Doing, Did, AreTurns, octets_in, octets_out, entries_of, units_of, marks_of, counted, is_good, is_bad, is_sixteen, report_of, cause_or_0}
+use Rattle.term_model.specs.Terminal.{Terminal}
+use Rattle.term_model.proofs.RunSteps.{runs_join}
+use Rattle.link_term.specs.declared.counts.MarkCounts.{MarkCounts}
+use Rattle.link_term.specs.declared.counts.Turned.{Turned}
+use Rattle.link_term.specs.Filling.{has_unit}
+use Rattle.link_term.specs.Running.{Runs}
+use Rattle.link_term.specs.Turning.{TurnsOnce}
+
+-- what the turns so far did, but for the cause
+pub record RanSo (taken taken' : List ℕ) (before : Terminal) (made made' : List Entry)
+    (given given' put put' : List ℕ) (report : TermReport) (after : Terminal) : Type 0 where
+  pub doings : List Doing
+  pub are_turns : AreTurns doings (line_bits taken) before after
+  pub taken_is : taken' ≡ taken ++ octets_in doings
+  pub made_is : made' ≡ made ++ entries_of doings
+  pub given_is : given' ≡ given ++ octets_in doings
+  pub put_is : put' ≡ put ++ octets_out doings
+  pub turns_are : report.turns ≡ length doings
+  pub sent_are : report.sent ≡ length (units_of doings)
+  pub good_are : report.good ≡ counted is_good (marks_of doings)
+  pub bad_are : report.bad ≡ counted is_bad (marks_of doings)
+  pub sixteen_are : report.sixteen ≡ counted is_sixteen (marks_of doings)
+
+-- none so far
+pub ran_none : (taken : List ℕ) (t : Terminal) (made : List Entry) (given put : List ℕ) (report : TermReport)
+    → report ≡ record { turns = 0; sent = 0; good = 0; bad = 0; sixteen = 0; cause = 0 }
+    → RanSo taken taken t made made given given put put report t
+ran_none taken t made given put report is = record {
+  doings = [];
+  are_turns = refl;
+  taken_is = sym (append-nil taken);
+  made_is = sym (append-nil made);
+  given_is = sym (append-nil given);
+  put_is = sym (append-nil put);
+  turns_are = ap (λ (r : TermReport). r.turns) is;
+  sent_are = ap (λ (r : TermReport). r.sent) is;
+  good_are = ap (λ (r : TermReport). r.good) is;
+  bad_are = ap (λ (r : TermReport). r.bad) is;
+  sixteen_are = ap (λ (r : TermReport). r.sixteen) is;
+}
+
+counted_then : (such : Mark → Bool) (xs ys : List Mark) → counted such (xs ++ ys) ≡ counted such xs + counted such ys
+counted_then such [] ys = omega arith
+counted_then such (x ∷ xs) ys = omega (arith, counted_then such xs ys)
+
+one_more_mapped : {X Y : Type 0} (f : X → List Y) (xs : List X) (x : X) → flat_map f (xs ++ x ∷ []) ≡ flat_map f xs ++ f x
+one_more_mapped f xs x = flat_map-append f xs (x ∷ []) ∙ ap (λ rest. flat_map f xs ++ rest) (append-nil (f x))
+
+-- a list that grew by what a turn did, after it had grown by what those before it did
+grown : {X Y : Type 0} (f : X → List Y) (xs : List X) (x : X) (start mid last : List Y)
+    → mid ≡ start ++ flat_map f xs → last ≡ mid ++ f x → last ≡ start ++ flat_map f (xs ++ x ∷ [])
+grown f xs x start mid last so now =
+    now ∙ ap (λ (m : List _). m ++ f x) so ∙ append_assoc start (flat_map f xs) (f x)
+    ∙ ap (λ (m : List _). start ++ m) (sym (one_more_mapped f xs x))
+
+sent_one : (unit : Option SignalUnit) → (if has_unit unit then 1 else 0) ≡ length (option_to_list unit)
+sent_one None = refl
+sent_one (Some unit) = refl
+
+-- ONE TURN MORE.
+module _ (taken taken_mid taken' : List ℕ) (before mid after : Terminal) (made made_mid made' : List Entry)
+    (given given_mid given' put put_mid put' waiting : List ℕ) (free : ℕ) (report report' : TermReport) (turned : Turned)
+    (so : RanSo taken taken_mid before made made_mid given given_mid put put_mid report mid)
+    (once : TurnsOnce taken_mid taken' mid turned made_mid made' given_mid given' waiting put_mid put' free after) where
+  did : Doing
+  did = record {
+    octet = once.octet;
+    entries = once.entries;
+    put = once.out;
+    marks = once.marks;
+    unit = once.turn.chosen.unit;
+  }
+
+  bits_so : line_bits taken_mid ≡ line_bits taken ++ line_bits (octets_in so.doings)
+  bits_so = ap line_bits so.taken_is ∙ flat_map-append (bits_of 8) taken (octets_in so.doings)
+
+  more_turns : AreTurns (so.doings ++ did ∷ []) (line_bits taken) before after
+  unfolding did
+  more_turns = runs_join so.doings (did ∷ []) (line_bits taken) before mid after so.are_turns
+      (after, subst (λ b. Did b mid did after) bits_so (record { turn = once.turn; unit_is = refl }), refl)
+
+  more_marks : (such : Mark → Bool) (old now one : ℕ) → old ≡ counted such (marks_of so.doings) → one ≡ counted such once.marks
+      → now ≡ old + one → now ≡ counted such (marks_of (so.doings ++ did ∷ []))
+  unfolding did
+  more_marks such old now one were is sum =
+      let split : counted such (marks_of (so.doings ++ did ∷ [])) ≡ counted such (marks_of so.doings) + counted such once.marks =
+      ap (counted such) (one_more_mapped (λ (d : Doing). d.marks) so.doings did)
+      ∙ counted_then such (marks_of so.doings) once.marks in
+      omega (arith, were, is, sum, split)
+
+  pub ran_more : report'.turns ≡ report.turns + 1 → report'.sent ≡ report.sent + (if turned.sent then 1 else 0)
+      → report'.good ≡ report.good + turned.marks.good → report'.bad ≡ report.bad + turned.marks.bad
+      → report'.sixteen ≡ report.sixteen + turned.marks.sixteen
+      → RanSo taken taken' before made made' given given' put put' report' after
+  unfolding did
+  ran_more turns sent good bad sixteen = record {
+    doings = so.doings ++ did ∷ [];
+    are_turns = more_turns;
+    taken_is = grown (λ (d : Doing). option_to_list d.octet) so.doings did taken taken_mid taken' so.taken_is once.taken_is;
+    made_is = grown (λ (d : Doing). d.entries) so.doings did made made_mid made' so.made_is once.made_is;
+    given_is = grown (λ (d : Doing). option_to_list d.octet) so.doings did given given_mid given' so.given_is once.given_is;
+    put_is = grown (λ (d : Doing). d.put) so.doings did put put_mid put' so.put_is once.put_is;
+    turns_are = omega (arith, turns, so.turns_are, length-append so.doings (did ∷ []));
+    sent_are =
+        let split : length (units_of (so.doings ++ did ∷ [])) ≡ length (units_of so.doings) + length (option_to_list once.turn.chosen.unit) =
+        ap length (one_more_mapped (λ (d : Doing). option_to_list d.unit) so.doings did)
+        ∙ length-append (units_of so.doings) (option_to_list once.turn.chosen.unit) in
+        let one : (if turned.sent then 1 else 0) ≡ length (option_to_list once.turn.chosen.unit) =
+        ap (λ (s : Bool). (if s then 1 else 0)) once.sent_is ∙ sent_one once.turn.chosen.unit in
+        omega (arith, sent, so.sent_are, split, one);
+    good_are = more_marks is_good report.good report'.good turned.marks.good so.good_are
+        (ap (λ (c : MarkCounts). c.good) once.counts_are) good;
+    bad_are = more_marks is_bad report.bad report'.bad turned.marks.bad so.bad_are
+        (ap (λ (c : MarkCounts). c.bad) once.counts_are) bad;
+    sixteen_are = more_marks is_sixteen report.sixteen report'.sixteen turned.marks.sixteen so.sixteen_are
+        (ap (λ (c : MarkCounts). c.sixteen) once.counts_are) sixteen;
+  }
+
+-- the report, field by field
+told_so : (report : TermReport) (doings : List Doing) (after : Terminal) (a b c d e f : ℕ)
+    → a ≡ length doings → b ≡ length (units_of doings) → c ≡ counted is_good (marks_of doings)
+    → d ≡ counted is_bad (marks_of doings) → e ≡ counted is_sixteen (marks_of doings) → f ≡ cause_or_0 after.cause
+    → ◌≡◌ {A = TermReport} (record { turns = a; sent = b; good = c; bad = d; sixteen = e; cause = f }) (report_of doings after)
+told_so report doings after a b c d e f is_a is_b is_c is_d is_e is_f =
+    ap (λ x. record { turns = x; sent = b; good = c; bad = d; sixteen = e; cause = f }) is_a
+    ∙ ap (λ x. record { turns = length doings; sent = x; good = c; bad = d; sixteen = e; cause = f }) is_b
+    ∙ ap (λ x. record { turns = length doings; sent = length (units_of doings); good = x; bad = d; sixteen = e; cause = f }) is_c
+    ∙ ap (λ x. record { turns = length doings; sent = length (units_of doings); good = counted is_good (marks_of doings); bad = x; sixteen = e; cause = f }) is_d
+    ∙ ap (λ x. record { turns = length doings; sent = length (units_of doings); good = counted is_good (marks_of doings); bad = counted is_bad (marks_of doings); sixteen = x; cause = f }) is_e
+    ∙ ap (λ x. record { turns = length doings; sent = length (units_of doings); good = counted is_good (marks_of doings); bad = counted is_bad (marks_of doings); sixteen = counted is_sixteen (marks_of doings); cause = x }) is_f
+
+pub ran_all : (turns : ℕ) (taken taken' : List ℕ) (before : Terminal) (made made' : List Entry)
+    (given given' put put' : List ℕ) (report last : TermReport) (after : Terminal)
+    → RanSo taken taken' before made made' given given' put put' report after → report.turns ≡ turns
+    → last ≡ record report { cause = cause_or_0 after.cause }
+    → Runs turns taken taken' before made made' given given' put put' last after
+ran_all turns taken taken' before made made' given given' put put' report last after so are is = record {
+  octets = octets_in so.doings;
+  entries = entries_of so.doings;
+  out = octets_out so.doings;
+  run = record {
+    doings = so.doings;
+    are_turns = so.are_turns;
+    turns_are = sym so.turns_are ∙ are;
+    given_is = refl;
+    entries_are = refl;
+    put_is = refl;
+    report_is = is ∙ told_so report so.doings after report.turns report.sent report.good report.bad report.sixteen
+        (cause_or_0 after.cause) so.turns_are so.sent_are so.good_are so.bad_are so.sixteen_are refl;
+  };
+  taken_is = so.taken_is;
+  made_is = so.made_is;
+  given_is = so.given_is;
+  put_is = so.put_is;
+}
+
+pub at_most_one : (b : Bool) → (if b then 1 else 0) ≤ 1
+at_most_one false = omega arith
+at_most_one true = omega arith

@@ -1,0 +1,20 @@
+use Rattle.std.proofs.Common.{arith, ◌∙◌, ◌≤◌, if◌then◌else◌}
+use Rattle.link_term.proofs.Turns.{ran_more, at_most_one}
+use Rattle.link_term.proofs.terminal.Terminal.run.Goals as goal
+
+pub loop-turn-preserved : goal.loop-turn-preserved
+loop-turn-preserved g c =
+    let once = c.in-Ok.ensures.turns in
+    let sums = c.and_one-report.ensures in
+    let so = c.loop-turn.invariant in
+    let one : (if c.in-Ok.turned.sent then 1 else 0) ≤ 1 = at_most_one c.in-Ok.turned.sent in record {
+      so = ran_more _ _ _ _ _ _ _ _ _ _ _ _ _ _ _ _ _ _ _ _ so.so once.1
+          sums.turns sums.sent sums.good.0 sums.bad.0 sums.sixteen.0;
+      works = c.in-Ok.ensures.goes_on;
+      no_fault = once.2 ∙ so.no_fault;
+      turns = omega (arith, sums.turns, so.turns);
+      sent = omega (arith, sums.sent, so.sent, one);
+      good = omega (arith, sums.good.0, sums.good.1, so.good);
+      bad = omega (arith, sums.bad.0, sums.bad.1, so.bad);
+      sixteen = omega (arith, sums.sixteen.0, sums.sixteen.1, so.sixteen);
+    }

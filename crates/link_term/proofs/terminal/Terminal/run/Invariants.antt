@@ -1,0 +1,19 @@
+use Rattle.std.proofs.Common.{◌≡◌, ◌≤◌, ◌*◌, false}
+use Rattle.link_term.proofs.Turns.{RanSo}
+use Rattle.link_term.proofs.terminal.Terminal.run.Given as goal
+
+-- the turns so far, and that no count is too large
+abbrev pub invariant-loop-turn : goal.invariant-loop-turn
+invariant-loop-turn g l = record {
+  so : RanSo l.initial.self.receiver l.self.receiver l.initial.self.inside
+      (g.D.Door.made l.initial.self.door) (g.D.Door.made l.self.door)
+      (g.L.Line.taken_so_far l.initial.self.line) (g.L.Line.taken_so_far l.self.line)
+      (g.L.Line.put_so_far l.initial.self.line) (g.L.Line.put_so_far l.self.line) l.report l.self.inside;
+  works : l.self.failed ≡ false;
+  no_fault : g.D.Door.faults l.self.door ≡ g.D.Door.faults l.initial.self.door;
+  turns : l.report.turns ≡ l._turn;
+  sent : l.report.sent ≤ l._turn;
+  good : l.report.good ≤ 255 * l._turn;
+  bad : l.report.bad ≤ 255 * l._turn;
+  sixteen : l.report.sixteen ≤ 255 * l._turn;
+}
