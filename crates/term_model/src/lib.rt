@@ -1,9 +1,9 @@
 //! The model of a signalling terminal: what it holds, and what one turn of it is, as definitions and laws
 //! (ITU-T Q.703 7 to 12).
 //!
-//! There is no code in it but the words that a terminal's code is to share: its commands and its timers. No code meets
-//! the definition yet. It reads no clock, does no IO and takes no memory: a turn is one octet time, what the line gives
-//! and takes are octets, and what is asked of the link's set stands behind a door.
+//! There is no code in it but the words that a terminal's code shares: its commands and its timers. `link_term` meets the
+//! definition. It reads no clock, does no IO and takes no memory: a turn is one octet time, what the line gives and
+//! takes are octets, and what is asked of the link's set stands behind a door.
 //!
 //! `specs/` has the definitions, in the order to read them: `Terminal` (what a terminal holds), `Talk` (what is asked
 //! at the door, and how a turn goes on by the answer), `Machines` (what an input of a machine makes of the
