@@ -1,0 +1,120 @@
+//! A door round a bare set, and what the tests open terminals with.
+ghost use Rattle.std.specs.Prelude.{◌≡◌, ◌<◌, [], IfOk};
+
+use line_ring::Line;
+use link_term::{Command, Door, Faults, OpenGate, SetFault, Terminal, Timers};
+use set_core::{SetCore, audit};
+use set_events::{Actor, Answer, Entry, Event, Method, SetConfig};
+use std::alloc::Global;
+use std::test::Fail;
+
+/// A set that one terminal has for itself.
+#[derive(Drop)]
+pub(crate) struct CoreDoor {
+    pub(crate) core: SetCore,
+    link: u8,
+    faults: Faults,
+    ghost in_range: { link < 16 },
+}
+
+impl Door for CoreDoor {
+    ghost number = { λ door. door.link };
+
+    ghost made = { λ door. door.core.history };
+
+    ghost faults = { λ door. door.faults };
+
+    fn link(&self) -> u8 {
+        self.link
+    }
+
+    fn step(&mut self, event: &Event) -> Result<Answer, SetFault> {
+        match self.core.apply(Actor::Terminal(self.link), event) {
+            Ok(answer) => Ok(answer),
+            Err(fault) => {
+                self.faults.note(fault);
+                Err(fault)
+            }
+        }
+    }
+}
+
+/// So it is.
+pub(crate) fn holds(fact: bool) -> Result<(), Fail> {
+    if fact {
+        Ok(())
+    } else {
+        Err(Fail::from("it isn't so"))
+    }
+}
+
+/// A set of one link.
+pub(crate) fn config_of() -> Result<SetConfig, Fail> {
+    match SetConfig::new(0, 1, 2, 1, 0x80, Method::Basic) {
+        Ok(config) => Ok(config),
+        Err(_) => Err(Fail::from("refused")),
+    }
+}
+
+/// A door of link 0 of a new set.
+pub(crate) fn door_of(alloc: Global) -> Result<CoreDoor, Fail> {
+    let config = config_of()?;
+    match SetCore::new(alloc, &config) {
+        Ok(core) => Ok(CoreDoor {
+            core,
+            link: 0,
+            faults: Faults::new(),
+        }),
+        Err(_) => Err(Fail::from("no memory")),
+    }
+}
+
+/// Timers that are long beside the time that a link takes to come up.
+pub(crate) const LONG: Timers = Timers {
+    t1: 100_000,
+    t2: 100_000,
+    t3: 100_000,
+    t5: 800,
+    t6: 100_000,
+    t7: 100_000,
+};
+
+/// A terminal of link 0 of a new set, which is told to come up in an emergency.
+pub(crate) fn started<L: Line + Drop>(
+    alloc: Global,
+    line: L,
+    lengths: Timers,
+) -> Result<Terminal<CoreDoor, L, OpenGate>, Fail> {
+    let door = door_of(alloc)?;
+    let link = door.link();
+    let mut terminal = Terminal::new(door, line, OpenGate, 0, link, lengths);
+    terminal.command(Command::Emergency);
+    terminal.command(Command::Start);
+    Ok(terminal)
+}
+
+/// How many of these entries are an Up that was done.
+pub(crate) fn ups(entries: &[Entry]) -> usize {
+    entries
+        .iter()
+        .filter(|entry| matches!(entry.event, Event::Up { .. })
+            && matches!(entry.answer, Answer::Done))
+        .count()
+}
+
+/// How many of these entries are a Down.
+pub(crate) fn downs(entries: &[Entry]) -> usize {
+    entries
+        .iter()
+        .filter(|entry| matches!(entry.event, Event::Down { .. }))
+        .count()
+}
+
+/// The history of a door's set is legal.
+pub(crate) fn is_legal(alloc: Global, door: &CoreDoor) -> Result<(), Fail> {
+    let config = config_of()?;
+    match audit(alloc, &config, door.core.history()) {
+        Ok(legal) => holds(legal),
+        Err(_) => Err(Fail::from("no memory")),
+    }
+}
