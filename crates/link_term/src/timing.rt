@@ -10,7 +10,7 @@ use l2_align::AlignIn;
 use l2_flow::FlowIn;
 use l2_state::StateIn;
 use set_shared::SetFault;
-use term_core::{Inside, Timer};
+use term_core::{Inside, Timer, no_end_no_talk};
 
 /// The timers, in the order in which their ends are looked at (own).
 static TIMERS: [Timer; 7] = [
@@ -31,6 +31,10 @@ pub(crate) fn end_timers<D: Door>(inside: &mut Inside, door: &mut D) -> Result<(
     ensures at { D.number door.new ≡ inside.new.link }
 {
     inside.lessen();
+    if !inside.has_ended() {
+        no_end_no_talk();
+        return Ok(());
+    }
     end_each(inside, door, &TIMERS)
 }
 
