@@ -1,0 +1,20 @@
+//! A text that is read line by line, and printed as its lines are carried out.
+//!
+//! ```text
+//! octets -> lines of at most 4,096 octets -> what each that is no remark does (LineText) -> what it prints
+//! ```
+//!
+//! [`print_lines`] reads a source and writes what its lines print, each when it has ended, for every [`LineText`]: the
+//! rules of a text, and the code that carries out one line of it. It has the line ends, the remarks, the longest
+//! line and the numbers of the lines, once. `specs/Lines.antt` says what is printed: a function from the octets of
+//! the input and the rules.
+//!
+//! This crate knows no text.
+#![tactic(auto)]
+
+mod line_reader;
+mod line_text;
+mod text;
+
+pub use line_text::LineText;
+pub use text::print_lines;
