@@ -1,0 +1,88 @@
+//! What is said of a message.
+ghost use Rattle.std.specs.Prelude.{◌≡◌, ◌++◌, IfOk, codes, decimal};
+ghost use Rattle.figures.specs.Figures.{hex_text};
+ghost use Rattle.decode_text.specs.Decoding.{about as about_in, about_no_number, body_text, data_text, label_text, order_text, short_text};
+
+use super::unit_line::write_both;
+use figures::push_hex;
+use l3_orders::{Order, read_order};
+use std::alloc::{AllocError, Global};
+
+/// The label, and the order or the data behind it; or the octets, where there is no whole label.
+pub(crate) fn write_body(alloc: Global, body: &[u8]) -> Result<Vec<u8>, AllocError>
+    ensures { IfOk result (λ text. text.items ≡ body_text body.now) }
+{
+    let [sio, a, b, c, d, data @ ..] = body else {
+        return write_octets(alloc, body);
+    };
+    let label = write_label(alloc, *sio, *a, *b, *c, *d)?;
+    match read_order(body) {
+        Ok(order) => write_both(label, &write_order(alloc, order)?),
+        Err(_) => write_both(label, &write_data(alloc, *d / 16, data)?),
+    }
+}
+
+/// Octets without a whole label.
+fn write_octets(alloc: Global, octets: &[u8]) -> Result<Vec<u8>, AllocError>
+    ensures { IfOk result (λ text. text.items ≡ short_text octets.now) }
+{
+    let mut text = Vec::from_slice(alloc, b" body=")?;
+    push_hex(&mut text, octets)?;
+    text.push(b'\n')?;
+    Ok(text)
+}
+
+/// The SIO and the point codes of a label.
+fn write_label(alloc: Global, sio: u8, a: u8, b: u8, c: u8, d: u8) -> Result<Vec<u8>, AllocError>
+    ensures { IfOk result (λ text. text.items ≡ label_text sio a b c d) }
+{
+    let si = sio % 16;
+    let ssf = sio / 16;
+    let dpc = u16::from(a) + 256 * u16::from(b % 64);
+    let opc = u16::from(b / 64) + 4 * u16::from(c) + 1024 * u16::from(d % 16);
+    Ok(format!(in alloc; " si={si} ssf={ssf} dpc={dpc} opc={opc}")?.into_bytes())
+}
+
+/// An order of the changeover or the changeback.
+fn write_order(alloc: Global, order: Order) -> Result<Vec<u8>, AllocError>
+    ensures { IfOk result (λ text. text.items ≡ order_text order) }
+{
+    match order {
+        Order::Coo { link, number } => about(alloc, "COO", link, "fsn", number),
+        Order::Coa { link, number } => about(alloc, "COA", link, "fsn", number),
+        Order::Cbd { link, code } => about(alloc, "CBD", link, "code", code),
+        Order::Cba { link, code } => about(alloc, "CBA", link, "code", code),
+        Order::Eco { link } => about_link(alloc, "ECO", link),
+        Order::Eca { link } => about_link(alloc, "ECA", link),
+    }
+}
+
+/// An order that carries this field.
+fn about(
+    alloc: Global,
+    name: &str,
+    link: u8,
+    field: &str,
+    number: u8,
+) -> Result<Vec<u8>, AllocError>
+    ensures { IfOk result (λ text. text.items ≡ about_in name.now link field.now number) }
+{
+    Ok(format!(in alloc; " {name} link {link} {field}={number}\n")?.into_bytes())
+}
+
+/// An order that carries nothing.
+fn about_link(alloc: Global, name: &str, link: u8) -> Result<Vec<u8>, AllocError>
+    ensures { IfOk result (λ text. text.items ≡ about_no_number name.now link) }
+{
+    Ok(format!(in alloc; " {name} link {link}\n")?.into_bytes())
+}
+
+/// The stream of a message, and what stands behind its label.
+fn write_data(alloc: Global, stream: u8, data: &[u8]) -> Result<Vec<u8>, AllocError>
+    ensures { IfOk result (λ text. text.items ≡ data_text stream data.now) }
+{
+    let mut text = format!(in alloc; " stream={stream} data=")?.into_bytes();
+    push_hex(&mut text, data)?;
+    text.push(b'\n')?;
+    Ok(text)
+}

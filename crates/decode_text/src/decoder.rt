@@ -1,0 +1,68 @@
+//! The lines of `decode`.
+ghost use Rattle.std.specs.Prelude.{◌≡◌, IfOk, MatchResult, Some};
+ghost use Rattle.figures.specs.Figures.{octets_of};
+ghost use Rattle.decode_text.specs.Decoding.{decode_rules};
+
+use super::fault::UnreadableUnit;
+use super::unit_line::write_line;
+use figures::read_octets;
+use printing::Stop;
+use std::alloc::Global;
+use std::marker::Model;
+use text_lines::LineText;
+
+/// Decodes lines, each by itself.
+#[derive(Drop)]
+pub(crate) struct Decoder;
+
+impl Model for Decoder {
+    ghost Value = { Unit {0} };
+
+    ghost view = { λ _. tt };
+}
+
+impl Decoder {
+    /// A decoder.
+    pub(crate) fn new() -> Decoder {
+        Decoder
+    }
+}
+
+impl LineText for Decoder {
+    type Fault = UnreadableUnit;
+
+    ghost use Rattle.decode_text.specs.Decoding.{decode_rules};
+
+    ghost rules = { decode_rules };
+
+    fn unreadable(number: u64) -> UnreadableUnit {
+        UnreadableUnit { line: number }
+    }
+
+    fn line(
+        &mut self,
+        alloc: Global,
+        number: u64,
+        text: &[u8],
+        out: &mut Vec<u8>,
+    ) -> Result<(), Stop<UnreadableUnit>> {
+        let octets = match read_octets(alloc, text) {
+            Ok(Some(octets)) => octets,
+            Ok(None) => return Err(Stop::Input(UnreadableUnit { line: number })),
+            Err(_) => return Err(Stop::Memory),
+        };
+        let Ok(line) = write_line(alloc, &octets) else {
+            return Err(Stop::Memory);
+        };
+        match out.extend_from_slice(&line) {
+            Ok(()) => Ok(()),
+            Err(_) => Err(Stop::Memory),
+        }
+    }
+
+    fn end(&self, alloc: Global, out: &mut Vec<u8>) -> Result<(), Stop<UnreadableUnit>> {
+        let _ = alloc;
+        let _ = out;
+        Ok(())
+    }
+}

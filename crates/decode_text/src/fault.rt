@@ -1,0 +1,11 @@
+//! How an input of `decode` can be at fault.
+
+use thiserror::Error;
+
+/// The line of this number, from 1, isn't octets of two hexadecimal digits each, or has more than 4,096 characters.
+#[derive(Clone, Copy, Debug, Drop, PartialEq, Eq, Error)]
+#[error("line {line} text")]
+pub struct UnreadableUnit {
+    /// The number of the line.
+    pub line: u64,
+}

@@ -1,0 +1,28 @@
+//! `mtpbank decode`: octets of units, a unit a line, and what they say.
+ghost use Rattle.std.specs.Prelude.{◌≤◌, ◌^◌, length, IfSome, OnOk};
+ghost use Rattle.printing.specs.Printing.{Prints, FailsByDevices};
+ghost use Rattle.decode_text.specs.Decoding.{IsDecodeText};
+
+use super::decoder::Decoder;
+use super::fault::UnreadableUnit;
+use printing::{Fault, Sink, Source};
+use std::alloc::Global;
+use text_lines::print_lines;
+
+/// Reads the units that the source gives, and writes what they say.
+///
+/// Ends with the first fault; what was printed before it stays printed. An input of more than 2^24 octets
+/// is never answered Ok, and one of 2^24 or more may be [`Fault::Read`], as [`print_lines`] tells.
+pub fn decode<S: Source, W: Sink>(
+    alloc: Global,
+    source: &mut S,
+    sink: &mut W,
+) -> Result<(), Fault<UnreadableUnit>>
+    ensures text { IfSome (S.left source.old)
+        (λ input. Prints result (IsDecodeText input) (W.written sink.old) (W.written sink.new)) }
+    ensures bounded { IfSome (S.left source.old) (λ input. OnOk result (length input ≤ 2 ^ 24)) }
+    ensures devices { IfSome (S.left source.old)
+        (FailsByDevices result (S.has_failed source.new) (W.has_failed sink.new)) }
+{
+    print_lines(alloc, Decoder::new(), source, sink)
+}

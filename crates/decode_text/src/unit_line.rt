@@ -1,0 +1,171 @@
+//! The line of a unit.
+ghost use Rattle.std.specs.Prelude.{◌≡◌, ◌++◌, IfOk, codes, decimal};
+ghost use Rattle.std.specs.Str.{bytes_eq};
+ghost use Rattle.decode_text.specs.Decoding.{check_word, indicator_in, head_text, numbers_text, checks_text, status_word, status_text, unit_text, front_of as front_in, is_sealed as is_sealed_in, line_text};
+
+use super::body_line::write_body;
+use figures::bit_of;
+use l2_bits::seal;
+use l2_signals::Status;
+use l2_units::{Header, Unit, read};
+use std::alloc::{AllocError, Global};
+
+/// The most octets of a unit.
+const LONGEST: usize = 276;
+
+/// Whether a unit's check octets are there, and right.
+#[derive(Clone, Copy, Debug, PartialEq, Eq)]
+pub(crate) enum Check {
+    Right,
+    Wrong,
+    Absent,
+}
+
+/// The line of these octets: the unit that they are, with or without its check octets, if it's one.
+pub(crate) fn write_line(alloc: Global, octets: &[u8]) -> Result<Vec<u8>, AllocError>
+    ensures { IfOk result (λ line. line.items ≡ line_text octets.now) }
+{
+    let indicator = indicator_of(octets);
+    match (read(front_of(octets)), is_sealed(octets), read(octets)) {
+        (Ok(unit), true, _) => write_unit(alloc, Check::Right, indicator, &unit),
+        (_, _, Ok(unit)) => write_unit(alloc, Check::Absent, indicator, &unit),
+        (Ok(unit), false, Err(_)) => write_unit(alloc, Check::Wrong, indicator, &unit),
+        (Err(_), _, Err(_)) => Vec::from_slice(alloc, b"no unit\n"),
+    }
+}
+
+/// All octets but the last two.
+fn front_of(octets: &[u8]) -> &[u8]
+    ensures { result.now ≡ front_in octets.now }
+{
+    &octets[..octets.len().saturating_sub(2)]
+}
+
+/// Whether the last two octets are the check octets of those before.
+fn is_sealed(octets: &[u8]) -> bool
+    ensures { result ≡ is_sealed_in octets.now }
+{
+    let front = front_of(octets);
+    front.len() <= LONGEST && is_same(octets, seal(front).as_slice())
+}
+
+/// Whether these are the same octets.
+fn is_same(octets: &[u8], others: &[u8]) -> bool
+    ensures { result ≡ bytes_eq octets.now others.now }
+{
+    octets == others
+}
+
+/// The length indicator of these octets, 0 where they end before it.
+fn indicator_of(octets: &[u8]) -> u8
+    ensures { result ≡ indicator_in octets.now }
+{
+    match octets {
+        [_, _, third, ..] => *third % 64,
+        _ => 0,
+    }
+}
+
+/// The line of a unit.
+fn write_unit(
+    alloc: Global,
+    check: Check,
+    indicator: u8,
+    unit: &Unit,
+) -> Result<Vec<u8>, AllocError>
+    ensures { IfOk result (λ line. line.items ≡ unit_text check indicator unit.now) }
+{
+    match unit {
+        Unit::Fisu { head } => write_both(
+            write_head(alloc, "fisu", *head, indicator, check)?,
+            b"\n",
+        ),
+        Unit::Lssu { head, status } => write_both(
+            write_head(alloc, "lssu", *head, indicator, check)?,
+            &write_status(alloc, *status)?,
+        ),
+        Unit::Msu { head, body } => write_both(
+            write_head(alloc, "msu", *head, indicator, check)?,
+            &write_body(alloc, body.as_slice())?,
+        ),
+    }
+}
+
+/// A text and one behind it.
+pub(crate) fn write_both(text: Vec<u8>, more: &[u8]) -> Result<Vec<u8>, AllocError>
+    ensures { IfOk result (λ both. both.items ≡ text.items ++ more.now) }
+{
+    let mut both = text;
+    both.extend_from_slice(more)?;
+    Ok(both)
+}
+
+/// The kind of a unit, its header, and what its check octets are.
+fn write_head(
+    alloc: Global,
+    kind: &str,
+    head: Header,
+    indicator: u8,
+    check: Check,
+) -> Result<Vec<u8>, AllocError>
+    ensures { IfOk result (λ text. text.items ≡ head_text kind.now head indicator check) }
+{
+    write_both(
+        write_numbers(alloc, kind, head)?,
+        &write_checks(alloc, indicator, check)?,
+    )
+}
+
+/// The kind of a unit, and the numbers and bits of its header.
+fn write_numbers(alloc: Global, kind: &str, head: Header) -> Result<Vec<u8>, AllocError>
+    ensures { IfOk result (λ text. text.items ≡ numbers_text kind.now head) }
+{
+    let bsn = head.bsn;
+    let bib = bit_of(head.bib);
+    let fsn = head.fsn;
+    let fib = bit_of(head.fib);
+    Ok(format!(in alloc; "{kind} bsn={bsn} bib={bib} fsn={fsn} fib={fib}")?.into_bytes())
+}
+
+/// The length indicator, and what the check octets are.
+fn write_checks(alloc: Global, indicator: u8, check: Check) -> Result<Vec<u8>, AllocError>
+    ensures { IfOk result (λ text. text.items ≡ checks_text indicator check) }
+{
+    let check = word_of(check);
+    Ok(format!(in alloc; " li={indicator} check={check}")?.into_bytes())
+}
+
+/// The word for the check octets.
+fn word_of(check: Check) -> &'static str
+    ensures { result.now ≡ check_word check }
+{
+    match check {
+        Check::Right => "right",
+        Check::Wrong => "wrong",
+        Check::Absent => "none",
+    }
+}
+
+/// The status of a link status signal unit.
+fn write_status(alloc: Global, status: Status) -> Result<Vec<u8>, AllocError>
+    ensures { IfOk result (λ text. text.items ≡ status_text status) }
+{
+    let name = name_of(status);
+    Ok(format!(in alloc; " status={name}\n")?.into_bytes())
+}
+
+/// The name of a status indication (Q.703 11.1.3); 6 and 7 have none.
+fn name_of(status: Status) -> &'static str
+    ensures { result.now ≡ status_word status }
+{
+    match status {
+        Status::OutOfAlignment => "SIO",
+        Status::Normal => "SIN",
+        Status::Emergency => "SIE",
+        Status::OutOfService => "SIOS",
+        Status::ProcessorOutage => "SIPO",
+        Status::Busy => "SIB",
+        Status::Unassigned6 => "6",
+        Status::Unassigned7 => "7",
+    }
+}
