@@ -1,0 +1,3 @@
+pub mod WordLemmas
+pub mod FigureLemmas
+pub mod ReadingLemmas

@@ -1,0 +1,5 @@
+use Rattle.history_text.proofs.ReadingLemmas.{one_entry_each}
+use Rattle.history_text.proofs.reading.one_entry.Goals as goal
+
+pub returns : goal.returns
+returns c = one_entry_each c.one_text.ensures

@@ -1,0 +1,8 @@
+use Rattle.std.proofs.Common.{sym, ◌∙◌, ap}
+use Rattle.world_steps.specs.declared.step.Shown.TheVariants.{Answered}
+use Rattle.answer_texts.specs.Texts.{answer_text}
+use Rattle.answer_texts.proofs.Sealed.{shown_is}
+use Rattle.history_text.proofs.writing.write_answer.Goals as goal
+
+pub returns : goal.returns
+returns c = rw (ap answer_text (sym c.copy.ensures) ∙ sym (shown_is (Answered c.copy.result))) c.write_shown.ensures

@@ -1,0 +1,25 @@
+//! The text of a set's history: an entry a line.
+//!
+//! ```text
+//! user 0 offer 8501800030 -> accepted 0
+//! terminal 0 next 0 -> sent ff80058501800030156e
+//! ```
+//!
+//! | what | its text |
+//! |---|---|
+//! | who asked | `user N`, `terminal L` |
+//! | what was asked | `offer HEX` (`offer` alone for the empty body), `take`, `find N`, `next L`, `hear L HEX`, `up L`, `down L`, `blind L`, `noanswer L`, `restore L`, `backtimeout L` |
+//! | what was answered | the words of `play` (`answer_texts`) |
+//!
+//! [`write_entry`] writes it, [`read_entry`] reads it back, and [`one_entry`] is the law that no two entries share a
+//! text. `specs/Entries.antt` has the words. This crate knows no set: whether a history is legal isn't its matter.
+#![tactic(auto)]
+
+mod answers;
+mod events;
+mod reading;
+mod words;
+mod writing;
+
+pub use reading::{one_entry, read_entry};
+pub use writing::write_entry;
