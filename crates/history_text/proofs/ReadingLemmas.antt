@@ -1,7 +1,8 @@
 -- The words of an entry's text tell that entry.
-use Rattle.std.proofs.Common.{refl, arith, ◌≡◌, ◌∙◌, ap, sym, ◌<◌, ◌≤◌, [], ◌∷◌, length, ℕ, ◌+◌, ◌-◌, ◌^◌, ◌/◌, Bool, true, false, nat_le, nat_lt, nat_eq, List, ◌++◌, Option, Some, None, decimal, codes, append_assoc, take, zero, suc, if◌then◌else◌}
+use Rattle.std.proofs.Common.{refl, arith, ◌≡◌, ◌∙◌, ap, sym, ◌<◌, ◌≤◌, [], ◌∷◌, length, ℕ, ◌+◌, ◌-◌, ◌^◌, ◌/◌, Bool, true, false, nat_le, nat_lt, nat_eq, List, ◌++◌, Option, Some, None, decimal, codes, append_assoc, append-nil, take, zero, suc, if◌then◌else◌}
 use Rattle.std.proofs.lemmas.Bool.Decides.{nat_tests}
 use Rattle.std.proofs.lemmas.Grind.{common_steps}
+use Rattle.std.proofs.lemmas.List.{append_cancel_left}
 use Rattle.std.proofs.lemmas.List.Elements.{All-append}
 use Rattle.std.proofs.lemmas.Fmt.{decimal_digit}
 use Rattle.std.specs.Option.{option_map, option_and_then}
@@ -29,8 +30,8 @@ use Rattle.set_events.specs.declared.answer.Answer.TheVariants.{Accepted, Taken,
 use Rattle.set_events.specs.declared.history.Entry.{Entry}
 use Rattle.set_events.specs.Numbers.{refusal_number}
 use Rattle.figures.specs.Figures.{number_of, number_below, octets_of, hex_text, bit}
-use Rattle.answer_texts.specs.Texts.{answer_text, fate_text, took_text, fault_code}
-use Rattle.history_text.specs.Entries.{numbered, actor_text, event_text, entry_text, AreOctets, IsOnLine, ActorFits, EventFits, FateFits, AnswerFits, EntryFits}
+use Rattle.answer_texts.specs.Texts.{answer_text, fate_text, took_text, fault_code, report_text}
+use Rattle.history_text.specs.Entries.{numbered, actor_text, event_text, entry_text, AreOctets, IsOnLine, ActorFits, EventFits, FateFits, AnswerFits, EntryFits, EntriesFit, entries_text}
 use Rattle.history_text.specs.Reading.{behind, is_gap, is_arrow, word, others, value, link_in, actor_in, body_in, unit_in, link_event_in, linked_fate_in, refusal_in, took_in, yes_in, fault_in, heard_in, told, asked_in, told_in, entry_in}
 use Rattle.history_text.proofs.WordLemmas.{passes, until_passed, behind_passed, behind_ended}
 use Rattle.history_text.proofs.FigureLemmas.{number_again, below_again, number_is_word, number_no_arrow, octets_again, octets_are_word, octets_no_arrow, first_octet}
@@ -131,16 +132,22 @@ asked_back law (BackTimeout n) more h = ap asked_in (numbered_front (codes "back
 
 -- What was answered.
 
-fate_back : (fate : Fate) → FateFits fate → told_in (fate_text fate) ≡ Some (Found fate)
-fate_back (Waiting n) h = ap (λ (l : Option ℕ). option_map Found (option_and_then (linked_fate_in (codes "waiting")) l)) (link_read n 10 [] h refl)
-fate_back (Unacked n) h = ap (λ (l : Option ℕ). option_map Found (option_and_then (linked_fate_in (codes "unacked")) l)) (link_read n 10 [] h refl)
-fate_back (Acked n) h = ap (λ (l : Option ℕ). option_map Found (option_and_then (linked_fate_in (codes "acked")) l)) (link_read n 10 [] h refl)
-fate_back (Held n) h = ap (λ (l : Option ℕ). option_map Found (option_and_then (linked_fate_in (codes "held")) l)) (link_read n 10 [] h refl)
-fate_back Parked h = refl
-fate_back (Back n) h = ap (λ (l : Option ℕ). option_map Found (option_and_then (linked_fate_in (codes "back")) l)) (link_read n 10 [] h refl)
-fate_back (Discarded Emergency) h = ap (λ (l : Option ℕ). option_map Found (option_and_then (linked_fate_in (codes "discarded")) l)) (link_read 1 10 [] (omega arith) refl)
-fate_back (Discarded Unreasonable) h = ap (λ (l : Option ℕ). option_map Found (option_and_then (linked_fate_in (codes "discarded")) l)) (link_read 2 10 [] (omega arith) refl)
-fate_back (Discarded NobodyAnswered) h = ap (λ (l : Option ℕ). option_map Found (option_and_then (linked_fate_in (codes "discarded")) l)) (link_read 3 10 [] (omega arith) refl)
+-- a place with a number behind its name
+placed : (name : List ℕ) (n : ℕ) (more : List ℕ) → n < 2 ^ 8 → option_map Found (option_and_then (linked_fate_in name) (link_in (word ((decimal n ++ codes "\n") ++ more)))) ≡ option_map Found (linked_fate_in name n)
+placed name n more h =
+    ap (λ (l : List ℕ). option_map Found (option_and_then (linked_fate_in name) (link_in (word l)))) (append_assoc (decimal n) (codes "\n") more)
+    ∙ ap (λ (l : Option ℕ). option_map Found (option_and_then (linked_fate_in name) l)) (link_read n 10 more h refl)
+
+fate_back : (fate : Fate) (more : List ℕ) → FateFits fate → told_in (fate_text fate ++ more) ≡ Some (Found fate)
+fate_back (Waiting n) more h = placed (codes "waiting") n more h
+fate_back (Unacked n) more h = placed (codes "unacked") n more h
+fate_back (Acked n) more h = placed (codes "acked") n more h
+fate_back (Held n) more h = placed (codes "held") n more h
+fate_back Parked more h = refl
+fate_back (Back n) more h = placed (codes "back") n more h
+fate_back (Discarded Emergency) more h = placed (codes "discarded") 1 more (omega arith)
+fate_back (Discarded Unreasonable) more h = placed (codes "discarded") 2 more (omega arith)
+fate_back (Discarded NobodyAnswered) more h = placed (codes "discarded") 3 more (omega arith)
 
 refusal_small : (why : SetRefusal) → refusal_number why < 2 ^ 64
 refusal_small TooShort = omega arith
@@ -178,37 +185,40 @@ octets_more os low high h p q = All-append (λ octet. octet < 2 ^ 8) os (low ∷
 without_two : (os : List ℕ) (low high : ℕ) → take (length (os ++ low ∷ high ∷ []) - 2) (os ++ low ∷ high ∷ []) ≡ os
 without_two os low high = grind (arith, common_steps)
 
-sent_back : UnitsHaveOneText → (unit : SignalUnit) → IsOnLine unit → told_in (answer_text (Sent unit)) ≡ Some (Sent unit)
-sent_back law unit h =
+sent_back : UnitsHaveOneText → (unit : SignalUnit) (more : List ℕ) → IsOnLine unit → told_in (answer_text (Sent unit) ++ more) ≡ Some (Sent unit)
+sent_back law unit more h =
     let sealed = sealed_meets_check (text unit) in
+    let octets = text unit ++ sealed.low ∷ sealed.high ∷ [] in
     let fit = octets_more (text unit) sealed.low sealed.high h.1 sealed.low_in_range sealed.high_in_range in
-    ap (λ (l : List ℕ). told_in (codes "sent " ++ (hex_text l ++ codes "\n"))) sealed.followed
-    ∙ ap (λ (o : Option (List ℕ)). option_and_then (λ (octets : List ℕ). option_map Sent (unit_of (take (length octets - 2) octets))) o) (octets_read (text unit ++ sealed.low ∷ sealed.high ∷ []) 10 [] fit refl)
+    ap (λ (l : List ℕ). told_in (codes "sent " ++ ((hex_text l ++ codes "\n") ++ more))) sealed.followed
+    ∙ ap (λ (l : List ℕ). told_in (codes "sent " ++ l)) (append_assoc (hex_text octets) (codes "\n") more)
+    ∙ ap (λ (o : Option (List ℕ)). option_and_then (λ (octets : List ℕ). option_map Sent (unit_of (take (length octets - 2) octets))) o) (octets_read octets 10 more fit refl)
     ∙ ap (λ (octets : List ℕ). option_map Sent (unit_of octets)) (without_two (text unit) sealed.low sealed.high)
     ∙ ap (option_map Sent) (unit_again law unit h)
 
-taken_back : (body : List ℕ) → AreOctets body → length body ≤ 273 → told_in (answer_text (Taken (record { items = body }))) ≡ Some (Taken (record { items = body }))
-taken_back body h short =
+taken_back : (body more : List ℕ) → AreOctets body → length body ≤ 273 → told_in (answer_text (Taken (record { items = body })) ++ more) ≡ Some (Taken (record { items = body }))
+taken_back body more h short =
     let fits : nat_le (length body) 273 ≡ true = grind (arith, nat_tests) in
-    ap (λ (o : Option (List ℕ)). option_and_then (λ (octets : List ℕ). if nat_le (length octets) 273 then Some (Taken (record { items = octets })) else None) o) (octets_read body 10 [] h refl)
+    ap (λ (l : List ℕ). told_in (codes "taken " ++ l)) (append_assoc (hex_text body) (codes "\n") more)
+    ∙ ap (λ (o : Option (List ℕ)). option_and_then (λ (octets : List ℕ). if nat_le (length octets) 273 then Some (Taken (record { items = octets })) else None) o) (octets_read body 10 more h refl)
     ∙ rw fits refl
 
 -- The words of a report, from each on.
 
-abbrev fault_on : Option ControlFault → List ℕ
-fault_on fault = codes "fault=" ++ (decimal (fault_code fault) ++ codes "\n")
+abbrev fault_on : Option ControlFault → List ℕ → List ℕ
+fault_on fault more = codes "fault=" ++ (decimal (fault_code fault) ++ 10 ∷ more)
 
-abbrev resend_on : Bool → Option ControlFault → List ℕ
-resend_on resend fault = codes "resend=" ++ (decimal (bit resend) ++ 32 ∷ fault_on fault)
+abbrev resend_on : Bool → Option ControlFault → List ℕ → List ℕ
+resend_on resend fault more = codes "resend=" ++ (decimal (bit resend) ++ 32 ∷ fault_on fault more)
 
-abbrev asked_on : Bool → Bool → Option ControlFault → List ℕ
-asked_on asked resend fault = codes "asked=" ++ (decimal (bit asked) ++ 32 ∷ resend_on resend fault)
+abbrev asked_on : Bool → Bool → Option ControlFault → List ℕ → List ℕ
+asked_on asked resend fault more = codes "asked=" ++ (decimal (bit asked) ++ 32 ∷ resend_on resend fault more)
 
-abbrev took_on : Took → Bool → Bool → Option ControlFault → List ℕ
-took_on took asked resend fault = codes "took=" ++ (took_text took ++ 32 ∷ asked_on asked resend fault)
+abbrev took_on : Took → Bool → Bool → Option ControlFault → List ℕ → List ℕ
+took_on took asked resend fault more = codes "took=" ++ (took_text took ++ 32 ∷ asked_on asked resend fault more)
 
-abbrev acked_on : Report → List ℕ
-acked_on r = codes "acked=" ++ (decimal r.acked ++ 32 ∷ took_on r.took r.asked r.resend r.fault)
+abbrev acked_on : Report → List ℕ → List ℕ
+acked_on r more = codes "acked=" ++ (decimal r.acked ++ 32 ∷ took_on r.took r.asked r.resend r.fault more)
 
 took_value : (took : Took) (more : List ℕ) → took_in (value (codes "took=" ++ (took_text took ++ 32 ∷ more))) ≡ Some took
 took_value TookNothing more = refl
@@ -230,10 +240,10 @@ resend_value : (b : Bool) (more : List ℕ) → yes_in (value (codes "resend=" +
 resend_value true more = ap (λ (d : List ℕ). yes_in (value (codes "resend=" ++ (d ++ 32 ∷ more)))) (decimal_digit 1 (omega arith))
 resend_value false more = ap (λ (d : List ℕ). yes_in (value (codes "resend=" ++ (d ++ 32 ∷ more)))) (decimal_digit 0 (omega arith))
 
-fault_value : (fault : Option ControlFault) → fault_in (value (fault_on fault)) ≡ fault
-fault_value None = ap (λ (d : List ℕ). fault_in (value (codes "fault=" ++ (d ++ codes "\n")))) (decimal_digit 0 (omega arith))
-fault_value (Some Bsn) = ap (λ (d : List ℕ). fault_in (value (codes "fault=" ++ (d ++ codes "\n")))) (decimal_digit 2 (omega arith))
-fault_value (Some Fib) = ap (λ (d : List ℕ). fault_in (value (codes "fault=" ++ (d ++ codes "\n")))) (decimal_digit 3 (omega arith))
+fault_value : (fault : Option ControlFault) (more : List ℕ) → fault_in (value (fault_on fault more)) ≡ fault
+fault_value None more = ap (λ (d : List ℕ). fault_in (value (codes "fault=" ++ (d ++ 10 ∷ more)))) (decimal_digit 0 (omega arith))
+fault_value (Some Bsn) more = ap (λ (d : List ℕ). fault_in (value (codes "fault=" ++ (d ++ 10 ∷ more)))) (decimal_digit 2 (omega arith))
+fault_value (Some Fib) more = ap (λ (d : List ℕ). fault_in (value (codes "fault=" ++ (d ++ 10 ∷ more)))) (decimal_digit 3 (omega arith))
 
 bit_small : (b : Bool) → bit b < 2 ^ 64
 bit_small true = omega arith
@@ -244,13 +254,13 @@ abbrev built : Option ℕ → Option Took → Bool → Bool → Option ControlFa
 built acked took asked resend fault =
     option_and_then (λ a. option_map (λ t. Heard (record { acked = a; took = t; asked = asked; resend = resend; fault = fault })) took) acked
 
-report_read : (r : Report) → r.acked < 2 ^ 8 → heard_in (acked_on r) ≡ Some (Heard r)
-report_read r h =
-    let m = took_on r.took r.asked r.resend r.fault in
-    let n = asked_on r.asked r.resend r.fault in
-    let o = resend_on r.resend r.fault in
-    let p = fault_on r.fault in
-    ap (λ (l : List ℕ). built (link_in (value (acked_on r))) (took_in (value l)) (yes_in (value (others l))) (yes_in (value (others (others l)))) (fault_in (value (others (others (others l)))))) (number_others r.acked 32 m (omega (arith, h)) refl)
+report_read : (r : Report) (more : List ℕ) → r.acked < 2 ^ 8 → heard_in (acked_on r more) ≡ Some (Heard r)
+report_read r more h =
+    let m = took_on r.took r.asked r.resend r.fault more in
+    let n = asked_on r.asked r.resend r.fault more in
+    let o = resend_on r.resend r.fault more in
+    let p = fault_on r.fault more in
+    ap (λ (l : List ℕ). built (link_in (value (acked_on r more))) (took_in (value l)) (yes_in (value (others l))) (yes_in (value (others (others l)))) (fault_in (value (others (others (others l)))))) (number_others r.acked 32 m (omega (arith, h)) refl)
     ∙ ap (λ (a : Option ℕ). built a (took_in (value m)) (yes_in (value (others m))) (yes_in (value (others (others m)))) (fault_in (value (others (others (others m)))))) (link_read r.acked 32 m h refl)
     ∙ ap (λ (t : Option Took). built (Some r.acked) t (yes_in (value (others m))) (yes_in (value (others (others m)))) (fault_in (value (others (others (others m)))))) (took_value r.took n)
     ∙ ap (λ (l : List ℕ). built (Some r.acked) (Some r.took) (yes_in (value l)) (yes_in (value (others l))) (fault_in (value (others (others l))))) (took_others r.took n)
@@ -258,17 +268,36 @@ report_read r h =
     ∙ ap (λ (l : List ℕ). built (Some r.acked) (Some r.took) r.asked (yes_in (value l)) (fault_in (value (others l)))) (number_others (bit r.asked) 32 o (bit_small r.asked) refl)
     ∙ ap (λ (b : Bool). built (Some r.acked) (Some r.took) r.asked b (fault_in (value (others o)))) (resend_value r.resend p)
     ∙ ap (λ (l : List ℕ). built (Some r.acked) (Some r.took) r.asked r.resend (fault_in (value l))) (number_others (bit r.resend) 32 p (bit_small r.resend) refl)
-    ∙ ap (λ (f : Option ControlFault). built (Some r.acked) (Some r.took) r.asked r.resend f) (fault_value r.fault)
+    ∙ ap (λ (f : Option ControlFault). built (Some r.acked) (Some r.took) r.asked r.resend f) (fault_value r.fault more)
 
-told_back : UnitsHaveOneText → (answer : Answer) → AnswerFits answer → told_in (answer_text answer) ≡ Some answer
-told_back law (Accepted n) h = ap (option_map Accepted) (number_read n 10 [] h refl)
-told_back law (Taken body) h = taken_back body.items h.0 h.1
-told_back law (Found fate) h = fate_back fate h
-told_back law (Sent unit) h = sent_back law unit h
-told_back law (Heard r) h = report_read r h
-told_back law Done h = refl
-told_back law (Refused why) h =
-    ap (λ (o : Option ℕ). option_map Refused (option_and_then refusal_in o)) (number_read (refusal_number why) 10 [] (refusal_small why) refl)
+-- a report's text with what stands behind it
+report_front : (r : Report) (more : List ℕ) → report_text r ++ more ≡ codes "heard " ++ acked_on r more
+report_front r more =
+    let fault = decimal (fault_code r.fault) in
+    let resend = decimal (bit r.resend) in
+    let asked = decimal (bit r.asked) in
+    let a : (fault ++ codes "\n") ++ more ≡ fault ++ 10 ∷ more = append_assoc fault (codes "\n") more in
+    let b : (resend ++ (codes " fault=" ++ (fault ++ codes "\n"))) ++ more ≡ resend ++ 32 ∷ fault_on r.fault more =
+    append_assoc resend (codes " fault=" ++ (fault ++ codes "\n")) more ∙ ap (λ (l : List ℕ). resend ++ (codes " fault=" ++ l)) a in
+    let c : (asked ++ (codes " resend=" ++ (resend ++ (codes " fault=" ++ (fault ++ codes "\n"))))) ++ more ≡ asked ++ 32 ∷ resend_on r.resend r.fault more =
+    append_assoc asked (codes " resend=" ++ (resend ++ (codes " fault=" ++ (fault ++ codes "\n")))) more ∙ ap (λ (l : List ℕ). asked ++ (codes " resend=" ++ l)) b in
+    let rest = codes " asked=" ++ (asked ++ (codes " resend=" ++ (resend ++ (codes " fault=" ++ (fault ++ codes "\n"))))) in
+    let d : (took_text r.took ++ rest) ++ more ≡ took_text r.took ++ 32 ∷ asked_on r.asked r.resend r.fault more =
+    append_assoc (took_text r.took) rest more ∙ ap (λ (l : List ℕ). took_text r.took ++ (codes " asked=" ++ l)) c in
+    ap (λ (l : List ℕ). codes "heard acked=" ++ l) (append_assoc (decimal r.acked) (codes " took=" ++ (took_text r.took ++ rest)) more
+    ∙ ap (λ (l : List ℕ). decimal r.acked ++ (codes " took=" ++ l)) d)
+
+told_back : UnitsHaveOneText → (answer : Answer) (more : List ℕ) → AnswerFits answer → told_in (answer_text answer ++ more) ≡ Some answer
+told_back law (Accepted n) more h =
+    ap (λ (l : List ℕ). told_in (codes "accepted " ++ l)) (append_assoc (decimal n) (codes "\n") more) ∙ ap (option_map Accepted) (number_read n 10 more h refl)
+told_back law (Taken body) more h = taken_back body.items more h.0 h.1
+told_back law (Found fate) more h = fate_back fate more h
+told_back law (Sent unit) more h = sent_back law unit more h
+told_back law (Heard r) more h = ap told_in (report_front r more) ∙ report_read r more h
+told_back law Done more h = refl
+told_back law (Refused why) more h =
+    ap (λ (l : List ℕ). told_in (codes "refused " ++ l)) (append_assoc (decimal (refusal_number why)) (codes "\n") more)
+    ∙ ap (λ (o : Option ℕ). option_map Refused (option_and_then refusal_in o)) (number_read (refusal_number why) 10 more (refusal_small why) refl)
     ∙ ap (option_map Refused) (refusal_again why)
 
 -- No arrow stands before the answer's.
@@ -312,14 +341,26 @@ all_three : (line : List ℕ) (who : Actor) (event : Event) (answer : Answer) �
     → entry_in line ≡ Some (record { who = who; event = event; answer = answer })
 all_three line who event answer w e a = rw (w, e, a) refl
 
-pub read_back : UnitsHaveOneText → (entry : Entry) → EntryFits entry → entry_in (entry_text entry) ≡ Some entry
-read_back law entry fits =
-    let answer = codes "-> " ++ answer_text entry.answer in
+-- the text of an entry with what stands behind it
+front : (entry : Entry) (more : List ℕ) → entry_text entry ++ more ≡ actor_text entry.who ++ (event_text entry.event ++ (codes "-> " ++ (answer_text entry.answer ++ more)))
+front entry more =
+    append_assoc (actor_text entry.who) (event_text entry.event ++ (codes "-> " ++ answer_text entry.answer)) more
+    ∙ ap (λ (l : List ℕ). actor_text entry.who ++ l) (append_assoc (event_text entry.event) (codes "-> " ++ answer_text entry.answer) more)
+
+-- whatever stands behind the text of an entry, the words at its front tell that entry
+pub front_back : UnitsHaveOneText → (entry : Entry) (more : List ℕ) → EntryFits entry → entry_in (entry_text entry ++ more) ≡ Some entry
+front_back law entry more fits =
+    let told_text = answer_text entry.answer ++ more in
+    let answer = codes "-> " ++ told_text in
     let asked = event_text entry.event ++ answer in
-    all_three (entry_text entry) entry.who entry.event entry.answer
+    ap entry_in (front entry more)
+    ∙ all_three (actor_text entry.who ++ asked) entry.who entry.event entry.answer
     (actor_back entry.who asked fits.who)
-    (ap asked_in (behind_actor entry.who asked fits.who) ∙ asked_back law entry.event (answer_text entry.answer) fits.event)
-    (ap (λ (l : List ℕ). told_in (others l)) (skip_actor entry.who asked fits.who ∙ skip_event entry.event answer fits.event) ∙ told_back law entry.answer fits.answer)
+    (ap asked_in (behind_actor entry.who asked fits.who) ∙ asked_back law entry.event told_text fits.event)
+    (ap (λ (l : List ℕ). told_in (others l)) (skip_actor entry.who asked fits.who ∙ skip_event entry.event answer fits.event) ∙ told_back law entry.answer more fits.answer)
+
+read_back : UnitsHaveOneText → (entry : Entry) → EntryFits entry → entry_in (entry_text entry) ≡ Some entry
+read_back law entry fits = ap entry_in (sym (append-nil (entry_text entry))) ∙ front_back law entry [] fits
 
 -- the words of a line that is an entry's text tell that entry
 pub words_tell : UnitsHaveOneText → (line : List ℕ) (entry : Entry) → EntryFits entry → entry_text entry ≡ line → entry_in line ≡ Some entry
@@ -327,3 +368,29 @@ words_tell law line entry fits is = ap entry_in (sym is) ∙ read_back law entry
 
 pub one_entry_each : UnitsHaveOneText → (a b : Entry) → EntryFits a → EntryFits b → entry_text a ≡ entry_text b → a ≡ b
 one_entry_each law a b p q e = let same : Some a ≡ Some b = sym (read_back law a p) ∙ words_tell law (entry_text a) b q (sym e) in cc same
+
+-- Lists of entries.
+
+some_text : (who : Actor) (more : List ℕ) → 0 < length (actor_text who ++ more)
+some_text (User n) more = omega arith
+some_text (Terminal n) more = omega arith
+
+entry_not_empty : (entry : Entry) (more : List ℕ) → [] ≡ entry_text entry ++ more → ⊥
+entry_not_empty entry more e =
+    let none : length (entry_text entry ++ more) ≡ 0 = ap length (sym e) in
+    let some : 0 < length (actor_text entry.who ++ (event_text entry.event ++ (codes "-> " ++ (answer_text entry.answer ++ more)))) = some_text entry.who (event_text entry.event ++ (codes "-> " ++ (answer_text entry.answer ++ more))) in
+    let same = ap length (front entry more) in
+    absurd (omega (arith, none, some, same))
+
+first_same : UnitsHaveOneText → (a b : Entry) (xs ys : List ℕ) → EntryFits a → EntryFits b → entry_text a ++ xs ≡ entry_text b ++ ys → a ≡ b
+first_same law a b xs ys p q e = let same : Some a ≡ Some b = sym (front_back law a xs p) ∙ ap entry_in e ∙ front_back law b ys q in cc same
+
+pub one_history_each : UnitsHaveOneText → (a b : List Entry) → EntriesFit a → EntriesFit b → entries_text a ≡ entries_text b → a ≡ b
+one_history_each law [] [] p q e = refl
+one_history_each law [] (b ∷ ys) p q e = absurd (entry_not_empty b (entries_text ys) e)
+one_history_each law (a ∷ xs) [] p q e = absurd (entry_not_empty a (entries_text xs) (sym e))
+one_history_each law (a ∷ xs) (b ∷ ys) p q e =
+    let same = first_same law a b (entries_text xs) (entries_text ys) p.0 q.0 e in
+    let again : entry_text a ++ entries_text xs ≡ entry_text a ++ entries_text ys = e ∙ ap (λ (x : Entry). entry_text x ++ entries_text ys) (sym same) in
+    let left = append_cancel_left (entry_text a) (entries_text xs) (entries_text ys) again in
+    ap (λ (x : Entry). x ∷ xs) same ∙ ap (λ (rest : List Entry). b ∷ rest) (one_history_each law xs ys p.1 q.1 left)

@@ -97,3 +97,16 @@ pub record EntryFits (entry : Entry) : Type 0 where
 -- THE LAW: one text for an entry, and no other entry has it
 abbrev pub OneEntry : Type 0
 OneEntry = (a b : Entry) → EntryFits a → EntryFits b → entry_text a ≡ entry_text b → a ≡ b
+
+-- THE TEXT of a list of entries: their texts, one after another
+abbrev pub entries_text : List Entry → List ℕ
+entries_text [] = []
+entries_text (entry ∷ entries) = entry_text entry ++ entries_text entries
+
+abbrev pub EntriesFit : List Entry → Type 0
+EntriesFit [] = Unit {0}
+EntriesFit (entry ∷ entries) = EntryFits entry × EntriesFit entries
+
+-- and so for lists: one text for a history, and no other has it
+abbrev pub OneHistory : Type 0
+OneHistory = (a b : List Entry) → EntriesFit a → EntriesFit b → entries_text a ≡ entries_text b → a ≡ b

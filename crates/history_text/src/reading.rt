@@ -1,7 +1,7 @@
 //! An entry from its text.
 ghost use Rattle.std.specs.Prelude.{◌≡◌, IfOk, IfSome, Some};
 ghost use Rattle.set_events.specs.declared.history.Entry.{Entry as HistoryEntry};
-ghost use Rattle.history_text.specs.Entries.{entry_text, EntryFits, OneEntry};
+ghost use Rattle.history_text.specs.Entries.{entry_text, EntryFits, OneEntry, OneHistory};
 ghost use Rattle.history_text.specs.Reading.{entry_in};
 
 use super::answers::read_told;
@@ -54,6 +54,13 @@ fn read_words(alloc: Global, line: &[u8]) -> Result<Option<Entry>, AllocError>
 /// A law over the definitions alone: one text for an entry, and no other entry has it.
 pub fn one_entry()
     ensures { OneEntry }
+{
+    one_text();
+}
+
+/// The same law of lists: a history that is written has one text, and no other history has it.
+pub fn one_history()
+    ensures { OneHistory }
 {
     one_text();
 }

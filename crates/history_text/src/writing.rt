@@ -3,7 +3,7 @@ ghost use Rattle.std.specs.Prelude.{◌≡◌, ◌++◌, IfOk, OnOk, codes, deci
 ghost use Rattle.l2_units.specs.Grammar.{text};
 ghost use Rattle.figures.specs.Figures.{hex_text};
 ghost use Rattle.answer_texts.specs.Texts.{answer_text};
-ghost use Rattle.history_text.specs.Entries.{numbered, actor_text, body_text, event_text, entry_text};
+ghost use Rattle.history_text.specs.Entries.{numbered, actor_text, body_text, event_text, entry_text, entries_text};
 
 use answer_texts::write_shown;
 use figures::push_hex;
@@ -21,6 +21,17 @@ pub fn write_entry(alloc: Global, entry: &Entry) -> Result<Vec<u8>, AllocError>
     line.extend_from_slice(b"-> ")?;
     line.extend_from_slice(&write_answer(alloc, &entry.answer)?)?;
     Ok(line)
+}
+
+/// The texts of these entries, one after another; it fails only where memory is wanted.
+pub fn write_entries(alloc: Global, entries: &[Entry]) -> Result<Vec<u8>, AllocError>
+    ensures { IfOk result (λ lines. lines.items ≡ entries_text entries.now) }
+{
+    let mut lines = Vec::new(alloc);
+    for entry in entries {
+        lines.extend_from_slice(&write_entry(alloc, entry)?)?;
+    }
+    Ok(lines)
 }
 
 /// Words, and a number behind them.

@@ -1,0 +1,5 @@
+use Rattle.history_text.proofs.ReadingLemmas.{one_history_each}
+use Rattle.history_text.proofs.reading.one_history.Goals as goal
+
+pub returns : goal.returns
+returns c = one_history_each c.one_text.ensures
