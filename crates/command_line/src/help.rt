@@ -1,10 +1,10 @@
 //! What help says below usage and options: `-h` a page of at most 80 columns, `--help` all there is to say.
 
 pub(crate) const PROGRAM_PAGE: &str = "\
-Both read standard input to its end, and print what they see line by line:
+All read standard input to its end, and print what they see line by line:
   mtpbank play < examples/changeover.play
 The status is 0, or 1 after a fault, or 2 where the words are wrong.
-`mtpbank play --help` and `mtpbank units --help` say how, and list each fault.";
+`mtpbank play --help` says how, and lists each fault; so do the others.";
 
 pub(crate) const UNITS_PAGE: &str = "\
 Standard input is hexadecimal digits, two an octet, fed lowest bit first:
@@ -27,11 +27,44 @@ and each other asks end E for one thing, mostly on link L:
 `mtpbank play --help` says how each line is written, what it prints, and each
 fault. Begin with `mtpbank play < examples/first_message.play`.";
 
+pub(crate) const DECODE_PAGE: &str = "\
+Standard input is the octets of a unit a line, in hexadecimal, with or without
+their check octets, as `mtpbank play` prints sent ones:
+  echo ff80058501800030156e | mtpbank decode
+Each prints a line: fisu, lssu or msu, what its header and check octets are, its
+status, or its label with an order or with stream and data; or `no unit`.
+`mtpbank decode --help` says what each word of it tells, and each fault.";
+
+pub(crate) const DECODE_HELP: &str = "\
+Each line of standard input is the octets of one unit, of two hexadecimal digits each and nothing between them:
+without flags and inserted zeros, and with or without the check octets. Lines that are empty or begin with # are
+passed over. Each other line prints one, which begins with the kind of the unit and its header:
+  fisu bsn=B bib=0|1 fsn=F fib=0|1 li=I check=C      I is the length indicator; C is right or wrong, or none
+                      where there are no check octets
+Behind that stands what the unit carries:
+  lssu .. status=S    S is SIO, SIN, SIE, SIOS, SIPO or SIB, or 6 or 7, which aren't assigned
+  msu .. si=N ssf=N dpc=X opc=Y stream=S data=HEX    the service indicator and the subservice field, the point
+                      codes, the SLS, which is the stream, and the octets behind the label
+  msu .. si=0 ssf=N dpc=X opc=Y COO link L fsn=F     a changeover order about link L, whose end accepted FSN F
+                      last; so too COA, its acknowledgement
+  msu .. CBD link L code=C, CBA link L code=C        a changeback declaration, its acknowledgement
+  msu .. ECO link L, ECA link L                      an emergency changeover order, its acknowledgement
+  msu .. body=HEX     SIO and SIF without a whole label
+  no unit             neither all octets nor all but the last two are a unit: the length indicator is wrong, or
+                      there are too few or too many
+The last two octets are check octets where they are right for those before them, or where only those before them are
+a unit. From length indicator 63 on, a unit with wrong check octets looks like a longer one without them.
+A fault ends the input: one line on standard error, with status 1; what was printed before it stays.
+  fault line N text   line N, from 1 and with those passed over, is no octets in hexadecimal, or has more than
+                      4,096 characters
+  fault read          standard input failed, or has more than 2^24 octets
+  fault write, fault memory";
+
 pub(crate) const HELP: &str = "\
-Both read standard input to its end, as in `mtpbank play < examples/changeover.play`. `mtpbank play --help` says
-how a script is written and what it prints, `mtpbank units --help` which digits are read and what is printed;
-with `-h` each is a page. A fault is one line on standard error, and what was printed before it stays:
-  fault line N text, fault line N step               a line of a script can't be read, or can't be done
+All read standard input to its end, as in `mtpbank play < examples/changeover.play`. `mtpbank play --help` says
+how a script is written and what it prints, `mtpbank units --help` and `mtpbank decode --help` which digits are
+read and what is printed; with `-h` each is a page. A fault is one line on standard error, and what was printed before it stays:
+  fault line N text, fault line N step               a line can't be read, or one of a script can't be done
   fault octet P                                      a character is no hexadecimal digit, or one is left over
   fault read, fault write, fault memory              standard input, standard output or memory failed
   fault exhausted                                    the history of an end is full

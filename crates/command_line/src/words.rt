@@ -1,12 +1,16 @@
 //! The words of the command line.
-ghost use Rattle.std.specs.Prelude.{◌≡◌, ◌≢◌, IfErr, IfOk, MatchOption, Some, map};
+ghost use Rattle.std.specs.Prelude.{◌≡◌, ◌≢◌, IfErr, IfOk, MatchOption, Some, codes, false, map};
 ghost use Rattle.clap.specs.Words.{app_of, subcommand_name_of};
 ghost use Rattle.clap.specs.declared.error.ErrorKind.TheVariants.{InvalidSubcommand, MissingSubcommand, OutOfMemory};
+ghost use Rattle.clap.specs.Simple.{new_shape, shape_of};
+ghost use Rattle.clap.specs.declared.builder.command.Command.{out-Command};
 ghost use Rattle.clap.specs.Values.{kind_of};
 ghost use Rattle.command_line.specs.CommandLine.{program, without_subcommands, name_of, named_by, words_in};
 ghost use Rattle.command_line.specs.CommandLine.{AreWrong, IsKind, Refuses};
 
-use super::help::{HELP, PLAY_HELP, PLAY_PAGE, PROGRAM_PAGE, UNITS_HELP, UNITS_PAGE};
+use super::help::{
+    DECODE_HELP, DECODE_PAGE, HELP, PLAY_HELP, PLAY_PAGE, PROGRAM_PAGE, UNITS_HELP, UNITS_PAGE,
+};
 use clap::error::ErrorKind;
 use clap::{ArgMatches, Command};
 use std::alloc::{AllocError, Global};
@@ -19,6 +23,8 @@ pub enum Words {
     Units,
     /// Play a script of two ends of a link set from standard input.
     Play,
+    /// Tell what the units on standard input say.
+    Decode,
 }
 
 /// Why the words ask for nothing.
@@ -89,6 +95,7 @@ fn named(matches: &ArgMatches<'_>) -> Option<Words>
     match matches.subcommand_name() {
         Some("units") => Some(Words::Units),
         Some("play") => Some(Words::Play),
+        Some("decode") => Some(Words::Decode),
         _ => None,
     }
 }
@@ -138,15 +145,43 @@ fn fault_of(error: clap::Error) -> WordsFault
 fn command<'a>(alloc: Global) -> Result<Command<'a>, AllocError>
     ensures { IfOk result (λ command. app_of command ≡ program) }
 {
-    let units = Command::new(alloc, "units")
+    itself(alloc)?
+        .subcommand(units_command(alloc))?
+        .subcommand(play_command(alloc))?
+        .subcommand(decode_command(alloc))
+}
+
+/// The word `units`.
+fn units_command<'a>(alloc: Global) -> Command<'a>
+    ensures shape { shape_of result ≡ new_shape (codes "units") }
+    ensures local { (out-Command result).has_globals ≡ false }
+{
+    Command::new(alloc, "units")
         .about("Tells what a signalling terminal sees of the octets of a line")
         .after_help(UNITS_PAGE)
-        .after_long_help(UNITS_HELP);
-    let play = Command::new(alloc, "play")
+        .after_long_help(UNITS_HELP)
+}
+
+/// The word `play`.
+fn play_command<'a>(alloc: Global) -> Command<'a>
+    ensures shape { shape_of result ≡ new_shape (codes "play") }
+    ensures local { (out-Command result).has_globals ≡ false }
+{
+    Command::new(alloc, "play")
         .about("Plays a script of two ends of a link set, line by line")
         .after_help(PLAY_PAGE)
-        .after_long_help(PLAY_HELP);
-    itself(alloc)?.subcommand(units)?.subcommand(play)
+        .after_long_help(PLAY_HELP)
+}
+
+/// The word `decode`.
+fn decode_command<'a>(alloc: Global) -> Command<'a>
+    ensures shape { shape_of result ≡ new_shape (codes "decode") }
+    ensures local { (out-Command result).has_globals ≡ false }
+{
+    Command::new(alloc, "decode")
+        .about("Tells what the octets of signal units say, a unit a line")
+        .after_help(DECODE_PAGE)
+        .after_long_help(DECODE_HELP)
 }
 
 /// The program's words but for its subcommands.

@@ -2,14 +2,15 @@
 use Rattle.std.specs.Prelude.{◌≡◌, ℕ, List, Result, Ok, Err}
 use Rattle.std.specs.Option.{option_map}
 use Rattle.command_line.specs.declared.words.Words.{Words}
-use Rattle.command_line.specs.declared.words.Words.TheVariants.{Units, Play}
+use Rattle.command_line.specs.declared.words.Words.TheVariants.{Units, Play, Decode}
 use Rattle.printing.specs.declared.fault.Fault.{Fault}
 use Rattle.printing.specs.declared.fault.Fault.TheVariants.{Input, Memory, Read, Write}
 use Rattle.printing.specs.Printing.{Printed}
 use Rattle.play_text.specs.Playing.{IsPlayText}
 use Rattle.units_text.specs.UnitsText.{IsUnitsText}
+use Rattle.decode_text.specs.Decoding.{IsDecodeText}
 use Rattle.mtpbank.specs.declared.running.TextFault.{TextFault}
-use Rattle.mtpbank.specs.declared.running.TextFault.TheVariants.{Units as UnitsFault, Play as PlayFault}
+use Rattle.mtpbank.specs.declared.running.TextFault.TheVariants.{Units as UnitsFault, Play as PlayFault, Decode as DecodeFault}
 
 -- a text of which only the fault, if any, has another type
 pub record IsText {F : Type 0} (IsIt : Printed F → Type 0) (of : F → TextFault)
@@ -21,6 +22,7 @@ pub record IsText {F : Type 0} (IsIt : Printed F → Type 0) (of : F → TextFau
 abbrev pub IsTextOf : Words → List ℕ → Printed TextFault → Type 0
 IsTextOf Units input text = IsText (IsUnitsText input) UnitsFault text
 IsTextOf Play input text = IsText (IsPlayText input) PlayFault text
+IsTextOf Decode input text = IsText (IsDecodeText input) DecodeFault text
 
 -- the same answer with a fault of that type
 abbrev pub with_fault : {F : Type 0} → (F → TextFault) → Result (Unit {0}) (Fault F)

@@ -1,10 +1,11 @@
 //! What the subcommands do, over any source and sink.
 ghost use Rattle.std.specs.Prelude.{◌≡◌, ◌≤◌, ◌^◌, length, IfSome, OnOk};
 ghost use Rattle.printing.specs.Printing.{Prints, FailsByDevices};
-ghost use Rattle.mtpbank.specs.declared.running.TextFault.TheVariants.{Play as PlayFault, Units as UnitsFault};
+ghost use Rattle.mtpbank.specs.declared.running.TextFault.TheVariants.{Decode as DecodeFault, Play as PlayFault, Units as UnitsFault};
 ghost use Rattle.mtpbank.specs.Running.{IsTextOf, with_fault};
 
 use command_line::Words;
+use decode_text::{UnreadableUnit, decode};
 use play_text::{ScriptFault, play};
 use printing::{Fault, Sink, Source};
 use std::alloc::Global;
@@ -20,6 +21,9 @@ pub enum TextFault {
     /// In a way of `play`.
     #[error("{0}")]
     Play(ScriptFault),
+    /// In a way of `decode`.
+    #[error("{0}")]
+    Decode(UnreadableUnit),
 }
 
 /// Reads what the source gives, and writes what the subcommand makes of it, up to the first fault.
@@ -38,10 +42,11 @@ pub fn run<S: Source, W: Sink>(
     match words {
         Words::Units => of_units(units(alloc, source, sink)),
         Words::Play => of_play(play(alloc, source, sink)),
+        Words::Decode => of_decode(decode(alloc, source, sink)),
     }
 }
 
-/// What `units` answered, with a fault of either text.
+/// What `units` answered, with a fault of any text.
 fn of_units(ran: Result<(), Fault<UnreadableOctet>>) -> Result<(), Fault<TextFault>>
     ensures { result ≡ with_fault UnitsFault ran }
 {
@@ -54,13 +59,26 @@ fn of_units(ran: Result<(), Fault<UnreadableOctet>>) -> Result<(), Fault<TextFau
     }
 }
 
-/// What `play` answered, with a fault of either text.
+/// What `play` answered, with a fault of any text.
 fn of_play(ran: Result<(), Fault<ScriptFault>>) -> Result<(), Fault<TextFault>>
     ensures { result ≡ with_fault PlayFault ran }
 {
     match ran {
         Ok(()) => Ok(()),
         Err(Fault::Input(fault)) => Err(Fault::Input(TextFault::Play(fault))),
+        Err(Fault::Memory) => Err(Fault::Memory),
+        Err(Fault::Read) => Err(Fault::Read),
+        Err(Fault::Write) => Err(Fault::Write),
+    }
+}
+
+/// What `decode` answered, with a fault of any text.
+fn of_decode(ran: Result<(), Fault<UnreadableUnit>>) -> Result<(), Fault<TextFault>>
+    ensures { result ≡ with_fault DecodeFault ran }
+{
+    match ran {
+        Ok(()) => Ok(()),
+        Err(Fault::Input(fault)) => Err(Fault::Input(TextFault::Decode(fault))),
         Err(Fault::Memory) => Err(Fault::Memory),
         Err(Fault::Read) => Err(Fault::Read),
         Err(Fault::Write) => Err(Fault::Write),

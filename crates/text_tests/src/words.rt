@@ -9,6 +9,7 @@ fn told_of(alloc: Global, words: &[&str]) -> Result<String, AllocError> {
     match words_of(alloc, words) {
         Ok(Words::Play) => "play".to_string(alloc),
         Ok(Words::Units) => "units".to_string(alloc),
+        Ok(Words::Decode) => "decode".to_string(alloc),
         Err(WordsFault::Words(error)) => error.to_string(alloc),
         Err(WordsFault::NoMemory) => Ok(String::new(alloc)),
     }
@@ -36,6 +37,7 @@ fn ask_for(alloc: Global, words: &[&str], subcommand: &str) -> Result<(), Fail> 
 fn words_of_the_command_line(rt: HostRuntime) -> Result<(), Fail> {
     ask_for(rt.alloc(), &["play"], "play")?;
     ask_for(rt.alloc(), &["units"], "units")?;
+    ask_for(rt.alloc(), &["decode"], "decode")?;
     ask_for(rt.alloc(), &["play", "--"], "play")?;
     let refused: [&[&str]; 4] = [&[], &["run"], &["play", "it"], &["--", "units"]];
     for words in refused {
@@ -53,7 +55,7 @@ fn a_word_that_is_not_unicode(rt: HostRuntime) {
 /// `-h` is a page of at most 25 rows and 80 columns, which names the program and leads to `--help`; that says more.
 #[test]
 fn short_help_is_a_page(rt: HostRuntime) -> Result<(), Fail> {
-    let asked: [(&[&str], &[&str], &str); 3] = [
+    let asked: [(&[&str], &[&str], &str); 4] = [
         (&["-h"], &["--help"], "\nUsage: mtpbank <COMMAND>\n"),
         (
             &["units", "-h"],
@@ -64,6 +66,11 @@ fn short_help_is_a_page(rt: HostRuntime) -> Result<(), Fail> {
             &["play", "-h"],
             &["play", "--help"],
             "\nUsage: mtpbank play\n",
+        ),
+        (
+            &["decode", "-h"],
+            &["decode", "--help"],
+            "\nUsage: mtpbank decode\n",
         ),
     ];
     for (short, long, usage) in asked {

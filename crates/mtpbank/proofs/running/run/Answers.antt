@@ -1,6 +1,7 @@
 use Rattle.units_text.specs.UnitsText.{IsUnitsText}
 use Rattle.play_text.specs.Playing.{IsPlayText}
-use Rattle.mtpbank.specs.declared.running.TextFault.TheVariants.{Units as UnitsFault, Play as PlayFault}
+use Rattle.decode_text.specs.Decoding.{IsDecodeText}
+use Rattle.mtpbank.specs.declared.running.TextFault.TheVariants.{Units as UnitsFault, Play as PlayFault, Decode as DecodeFault}
 use Rattle.mtpbank.proofs.RunLemmas.{prints_all}
 use Rattle.mtpbank.proofs.running.run.Goals as goal
 
@@ -9,3 +10,6 @@ returns-in-Units-clause-text g c = rw (c.of_units.ensures, c.in-Units.is) (print
 
 pub returns-in-Play-clause-text : goal.returns-in-Play-clause-text
 returns-in-Play-clause-text g c = rw (c.of_play.ensures, c.in-Play.is) (prints_all IsPlayText PlayFault c.play.result _ _ _ c.play.ensures.text)
+
+pub returns-in-Decode-clause-text : goal.returns-in-Decode-clause-text
+returns-in-Decode-clause-text g c = rw (c.of_decode.ensures, c.in-Decode.is) (prints_all IsDecodeText DecodeFault c.decode.result _ _ _ c.decode.ensures.text)
