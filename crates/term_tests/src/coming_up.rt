@@ -1,6 +1,6 @@
 //! A terminal that is joined to itself by its line.
 
-use super::core_door::{LONG, downs, holds, is_legal, started, ups};
+use super::core_door::{LONG, config_of, downs, holds, is_legal, started, ups};
 use super::test_lines::{FadingLine, FullLine};
 use line_ring::{Line, LossyLine};
 use link_term::{Command, Door, Gate, Terminal, Timers};
@@ -27,7 +27,7 @@ fn a_link_comes_up(rt: HostRuntime) -> Result<(), Fail> {
     holds(report.cause == 0 && report.bad == 0 && report.sixteen == 0 && report.good > 2_000)?;
     let (door, _line, _gate) = terminal.into_parts();
     holds(ups(door.core.history()) == 1 && downs(door.core.history()) == 0)?;
-    is_legal(rt.alloc(), &door)
+    is_legal(rt.alloc(), &config_of()?, &door)
 }
 
 #[test]
@@ -90,5 +90,5 @@ fn a_link_that_loses_octets_fails_and_comes_up_again(rt: HostRuntime) -> Result<
     }
     let (door, _line, _gate) = again.into_parts();
     holds(ups(door.core.history()) == 2)?;
-    is_legal(rt.alloc(), &door)
+    is_legal(rt.alloc(), &config_of()?, &door)
 }

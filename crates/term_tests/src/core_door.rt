@@ -4,7 +4,7 @@ ghost use Rattle.std.specs.Prelude.{◌≡◌, ◌<◌, [], IfOk};
 use line_ring::Line;
 use link_term::{Command, Door, Faults, OpenGate, SetFault, Terminal, Timers};
 use set_core::{SetCore, audit};
-use set_events::{Actor, Answer, Entry, Event, Method, SetConfig};
+use set_events::{Actor, Answer, Body, Entry, Event, Method, SetConfig};
 use std::alloc::Global;
 use std::test::Fail;
 
@@ -12,7 +12,7 @@ use std::test::Fail;
 #[derive(Drop)]
 pub(crate) struct CoreDoor {
     pub(crate) core: SetCore,
-    link: u8,
+    pub(crate) link: u8,
     faults: Faults,
     ghost in_range: { link < 16 },
 }
@@ -48,18 +48,32 @@ pub(crate) fn holds(fact: bool) -> Result<(), Fail> {
     }
 }
 
-/// A set of one link.
-pub(crate) fn config_of() -> Result<SetConfig, Fail> {
-    match SetConfig::new(0, 1, 2, 1, 0x80, Method::Basic) {
+/// A set of one link, between these point codes.
+fn config_between(near: u16, far: u16) -> Result<SetConfig, Fail> {
+    match SetConfig::new(0, 1, near, far, 0x80, Method::Basic) {
         Ok(config) => Ok(config),
         Err(_) => Err(Fail::from("refused")),
     }
 }
 
+/// A set of one link.
+pub(crate) fn config_of() -> Result<SetConfig, Fail> {
+    config_between(2, 1)
+}
+
+/// Its far end.
+pub(crate) fn far_config_of() -> Result<SetConfig, Fail> {
+    config_between(1, 2)
+}
+
 /// A door of link 0 of a new set.
 pub(crate) fn door_of(alloc: Global) -> Result<CoreDoor, Fail> {
-    let config = config_of()?;
-    match SetCore::new(alloc, &config) {
+    door_at(alloc, &config_of()?)
+}
+
+/// A door of link 0 of a new set with these settings.
+pub(crate) fn door_at(alloc: Global, config: &SetConfig) -> Result<CoreDoor, Fail> {
+    match SetCore::new(alloc, config) {
         Ok(core) => Ok(CoreDoor {
             core,
             link: 0,
@@ -85,12 +99,47 @@ pub(crate) fn started<L: Line + Drop>(
     line: L,
     lengths: Timers,
 ) -> Result<Terminal<CoreDoor, L, OpenGate>, Fail> {
-    let door = door_of(alloc)?;
+    Ok(started_at(door_of(alloc)?, line, lengths))
+}
+
+/// A terminal at this door, which is told to come up in an emergency.
+pub(crate) fn started_at<D: Door, L: Line>(
+    door: D,
+    line: L,
+    lengths: Timers,
+) -> Terminal<D, L, OpenGate> {
     let link = door.link();
     let mut terminal = Terminal::new(door, line, OpenGate, 0, link, lengths);
     terminal.command(Command::Emergency);
     terminal.command(Command::Start);
-    Ok(terminal)
+    terminal
+}
+
+/// The octets of message `number` of stream 3: SIO, a label (Q.704 2.2), and the number, the high octet first.
+pub(crate) fn message_of(number: u16) -> [u8; 7] {
+    [
+        0x85,
+        1,
+        0x80,
+        0,
+        0x30,
+        (number / 256) as u8,
+        (number % 256) as u8,
+    ]
+}
+
+/// User 0 offers so many messages, which are accepted.
+pub(crate) fn offer(alloc: Global, door: &mut CoreDoor, messages: u16) -> Result<(), Fail> {
+    for number in 0..messages {
+        let event = Event::Offer {
+            body: Body::from_slice(alloc, &message_of(number))?,
+        };
+        match door.core.apply(Actor::User(0), &event) {
+            Ok(Answer::Accepted { .. }) => {}
+            _ => return Err(Fail::from("not accepted")),
+        }
+    }
+    Ok(())
 }
 
 /// How many of these entries are an Up that was done.
@@ -110,10 +159,9 @@ pub(crate) fn downs(entries: &[Entry]) -> usize {
         .count()
 }
 
-/// The history of a door's set is legal.
-pub(crate) fn is_legal(alloc: Global, door: &CoreDoor) -> Result<(), Fail> {
-    let config = config_of()?;
-    match audit(alloc, &config, door.core.history()) {
+/// The history of a door's set is legal, by these settings.
+pub(crate) fn is_legal(alloc: Global, config: &SetConfig, door: &CoreDoor) -> Result<(), Fail> {
+    match audit(alloc, config, door.core.history()) {
         Ok(legal) => holds(legal),
         Err(_) => Err(Fail::from("no memory")),
     }

@@ -8,4 +8,8 @@ mod coming_up;
 #[cfg(test)]
 mod core_door;
 #[cfg(test)]
+mod failing_doors;
+#[cfg(test)]
 mod test_lines;
+#[cfg(test)]
+mod two_threads;

@@ -1,0 +1,113 @@
+//! Terminals whose door fails: each later call answers Failed.
+ghost use Rattle.std.specs.Prelude.{◌≡◌, [], ◌∷◌, ◌++◌, ◌<◌, IfOk, IfErr};
+
+use super::core_door::{CoreDoor, LONG, door_of, holds, started_at};
+use line_ring::{Line, LossyLine};
+use link_term::{Command, Door, Faults, Gate, OpenGate, SetFault, TermFault, Terminal};
+use set_events::{Answer, Event};
+use std::alloc::Global;
+use std::test::Fail;
+
+/// A door that does so many steps, and then answers a fault.
+#[derive(Drop)]
+struct FailingDoor {
+    door: CoreDoor,
+    left: u32,
+    fault: SetFault,
+    faults: Faults,
+}
+
+impl Door for FailingDoor {
+    ghost number = { λ door. door.door.link };
+
+    ghost made = { λ door. door.door.core.history };
+
+    ghost faults = { λ door. door.faults };
+
+    fn link(&self) -> u8 {
+        self.door.link()
+    }
+
+    fn step(&mut self, event: &Event) -> Result<Answer, SetFault> {
+        if self.left == 0 {
+            self.faults.note(self.fault);
+            return Err(self.fault);
+        }
+        self.left -= 1;
+        match self.door.step(event) {
+            Ok(answer) => Ok(answer),
+            Err(fault) => {
+                self.faults.note(fault);
+                Err(fault)
+            }
+        }
+    }
+}
+
+/// A terminal whose door does so many steps and then answers this fault.
+fn failing(
+    alloc: Global,
+    steps: u32,
+    fault: SetFault,
+) -> Result<Terminal<FailingDoor, LossyLine, OpenGate>, Fail> {
+    let door = FailingDoor {
+        door: door_of(alloc)?,
+        left: steps,
+        fault,
+        faults: Faults::new(),
+    };
+    Ok(started_at(door, LossyLine::new(0), LONG))
+}
+
+/// The fault that ends one of so many turns.
+fn first_fault<D: Door, L: Line, G: Gate>(
+    terminal: &mut Terminal<D, L, G>,
+    turns: u16,
+) -> Option<TermFault> {
+    for _turn in 0..turns {
+        if let Err(fault) = terminal.turn() {
+            return Some(fault);
+        }
+    }
+    None
+}
+
+/// Whatever is called then, it answers Failed.
+fn stays_failed<D: Door, L: Line, G: Gate>(terminal: &mut Terminal<D, L, G>) -> Result<(), Fail> {
+    terminal.command(Command::Start);
+    holds(terminal.turn() == Err(TermFault::Failed))?;
+    holds(terminal.run(1_000).is_err())?;
+    holds(terminal.run(0).is_err())?;
+    holds(terminal.turn() == Err(TermFault::Failed))
+}
+
+/// The step of this number fails: that fault is told, once.
+fn fails_at(alloc: Global, steps: u32, fault: SetFault, told: TermFault) -> Result<(), Fail> {
+    let mut terminal = failing(alloc, steps, fault)?;
+    holds(first_fault(&mut terminal, 20_000) == Some(told))?;
+    stays_failed(&mut terminal)?;
+    let (door, _line, _gate) = terminal.into_parts();
+    holds(door.left == 0 && door.door.core.history().len() == steps as usize)
+}
+
+#[test]
+fn a_fault_is_told_once_and_then_failed(rt: HostRuntime) -> Result<(), Fail> {
+    // an Up, the first Heard, the first Next, and steps in the midst of service
+    for steps in 0..6u32 {
+        fails_at(rt.alloc(), steps, SetFault::NoMemory, TermFault::NoMemory)?;
+    }
+    fails_at(rt.alloc(), 100, SetFault::NoMemory, TermFault::NoMemory)?;
+    fails_at(rt.alloc(), 101, SetFault::Exhausted, TermFault::Exhausted)
+}
+
+#[test]
+fn a_run_that_fails_tells_the_fault(rt: HostRuntime) -> Result<(), Fail> {
+    let mut terminal = failing(rt.alloc(), 7, SetFault::Exhausted)?;
+    match terminal.run(20_000) {
+        Ok(_) => Err(Fail::from("it went on")),
+        Err(fault) => {
+            holds(fault == TermFault::Exhausted)?;
+            stays_failed(&mut terminal)
+        }
+    }
+}
