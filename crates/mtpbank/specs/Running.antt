@@ -6,7 +6,7 @@ use Rattle.command_line.specs.declared.words.Words.TheVariants.{Units, Play, Dec
 use Rattle.printing.specs.declared.fault.Fault.{Fault}
 use Rattle.printing.specs.declared.fault.Fault.TheVariants.{Input, Memory, Read, Write}
 use Rattle.printing.specs.Printing.{Printed}
-use Rattle.play_text.specs.Playing.{IsPlayText}
+use Rattle.play_text.specs.PlayText.{IsPlayText}
 use Rattle.units_text.specs.UnitsText.{IsUnitsText}
 use Rattle.decode_text.specs.Decoding.{IsDecodeText}
 use Rattle.mtpbank.specs.declared.running.TextFault.{TextFault}

@@ -1,1 +1,1 @@
-pub mod PlayLemmas
+pub mod EndLemmas

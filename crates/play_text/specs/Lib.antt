@@ -1,2 +1,1 @@
 pub mod PlayText
-pub mod Playing

@@ -1,17 +1,17 @@
 //! `mtpbank play`: a script of two ends, line by line.
 ghost use Rattle.std.specs.Prelude.{◌≤◌, ◌^◌, length, IfSome, OnOk};
 ghost use Rattle.printing.specs.Printing.{Prints, FailsByDevices};
-ghost use Rattle.play_text.specs.Playing.{IsPlayText};
+ghost use Rattle.play_text.specs.PlayText.{IsPlayText};
 
-use super::fault::ScriptFault;
-use super::player::Player;
-use printing::{Fault, Sink, Source, print_all};
+use super::answers::Answers;
+use printing::{Fault, Sink, Source};
+use script_text::{ScriptFault, tell_script};
 use std::alloc::Global;
 
 /// Plays the script that the source gives, and writes what its lines print.
 ///
 /// Ends with the first fault; what was printed before it stays printed. An input of more than 2^24 octets
-/// is never answered Ok, and one of 2^24 or more may be [`Fault::Read`], as [`print_all`] tells.
+/// is never answered Ok, and one of 2^24 or more may be [`Fault::Read`], as [`tell_script`] tells.
 pub fn play<S: Source, W: Sink>(
     alloc: Global,
     source: &mut S,
@@ -23,5 +23,5 @@ pub fn play<S: Source, W: Sink>(
     ensures devices { IfSome (S.left source.old)
         (FailsByDevices result (S.has_failed source.new) (W.has_failed sink.new)) }
 {
-    print_all(alloc, Player::new(alloc), source, sink)
+    tell_script::<Answers, S, W>(alloc, source, sink)
 }

@@ -1,5 +1,5 @@
 use Rattle.units_text.specs.UnitsText.{IsUnitsText}
-use Rattle.play_text.specs.Playing.{IsPlayText}
+use Rattle.play_text.specs.PlayText.{IsPlayText}
 use Rattle.decode_text.specs.Decoding.{IsDecodeText}
 use Rattle.mtpbank.specs.declared.running.TextFault.TheVariants.{Units as UnitsFault, Play as PlayFault, Decode as DecodeFault}
 use Rattle.mtpbank.proofs.RunLemmas.{prints_all}

@@ -2,10 +2,10 @@ use Rattle.std.proofs.Common.{ap, ◌∙◌, ℕ, List, ◌++◌}
 use Rattle.set_events.specs.declared.answer.Counts.{Counts}
 use Rattle.world_steps.specs.declared.step.End.TheVariants.{A, B}
 use Rattle.answer_texts.specs.Texts.{end_text}
-use Rattle.play_text.proofs.PlayLemmas.{both_ends}
-use Rattle.play_text.proofs.whole_line.write_ends.Goals as goal
+use Rattle.play_text.proofs.EndLemmas.{both_ends}
+use Rattle.play_text.proofs.answers.write_ends.Goals as goal
 
--- src/whole_line.rt:115:1
+-- src/answers.rt:49:1
 pub returns : goal.returns
 returns c =
     both_ends c.args.world.now c.in_ok-text.text.items c.in_ok-write_end.field-0.items c.extend_from_slice.new.self.items

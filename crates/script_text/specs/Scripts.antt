@@ -1,0 +1,65 @@
+-- A SCRIPT OF TWO ENDS: from the octets that are read to what is told of it and the fault that it ends with.
+use Rattle.std.specs.Prelude.{◌≡◌, ℕ, List, [], Option, Some, None}
+use Rattle.script_text.specs.declared.fault.ScriptFault.{ScriptFault}
+use Rattle.script_text.specs.declared.fault.ScriptFault.TheVariants.{Text, Step, Exhausted}
+use Rattle.set_model.specs.State.{Settings, opened_with}
+use Rattle.set_model.specs.History.{LinkSet}
+use Rattle.world_steps.specs.declared.step.End.{End}
+use Rattle.world_steps.specs.declared.step.End.TheVariants.{A, B}
+use Rattle.world_steps.specs.declared.step.Step.{Step as WorldStep}
+use Rattle.world_steps.specs.declared.step.Shown.{Shown}
+use Rattle.pair_model.specs.World.{World, Outcome, shows, impossible, exhausted, world_of, carried_out}
+use Rattle.play_script.specs.declared.script.Values.{Values}
+use Rattle.play_script.specs.Script.{step_of, first_line}
+use Rattle.printing.specs.Printing.{Printed}
+use Rattle.text_lines.specs.Lines.{LineOutcome, Rules, prints, stops, IsLinesText}
+
+-- WHAT IS TOLD of a script: of the world that its first line makes; of the step on the line of a number, what it
+-- showed and the world that it left; and of the world behind the last line, if a line has made one.
+pub record Told : Type 0 where
+  pub opening : World → List ℕ
+  pub step : ℕ → WorldStep → Shown → World → List ℕ
+  pub at_the_end : Option World → List ℕ
+
+-- A line of a script leaves a world, if one is made yet.
+abbrev pub ScriptOutcome : Type 0
+ScriptOutcome = LineOutcome (Option World) ScriptFault
+
+-- what each end is opened with: its own point code is the far end's for the other
+abbrev pub settings_at : Values → End → Settings
+settings_at v A = record { set = 0; links = v.links; method = v.method; sio = v.sio; dpc = v.code_b; opc = v.code_a }
+settings_at v B = record { set = 0; links = v.links; method = v.method; sio = v.sio; dpc = v.code_a; opc = v.code_b }
+
+-- a set that nothing was asked of
+abbrev pub opened_set : Settings → LinkSet
+opened_set settings = record { opening = opened_with settings; state = opened_with settings; history = [] }
+
+-- two ends that nothing was asked of
+abbrev pub opened_world : Values → World
+opened_world v = world_of (opened_set (settings_at v A)) (opened_set (settings_at v B))
+
+-- the first line that is no remark makes the world
+abbrev pub opened : Told → ℕ → Option Values → ScriptOutcome
+opened t n None = stops (Text n)
+opened t n (Some v) = prints (t.opening (opened_world v)) (Some (opened_world v))
+
+-- each further one asks for a step, which is carried out
+abbrev pub outcome_of : Told → ℕ → WorldStep → Outcome → ScriptOutcome
+outcome_of t n step (shows s w) = prints (t.step n step s w) (Some w)
+outcome_of t n step impossible = stops (Step n)
+outcome_of t n step exhausted = stops Exhausted
+
+abbrev pub asked : Told → ℕ → World → Option WorldStep → ScriptOutcome
+asked t n w None = stops (Text n)
+asked t n w (Some step) = outcome_of t n step (carried_out w step)
+
+abbrev pub read_script : Told → ℕ → Option World → List ℕ → ScriptOutcome
+read_script t n None text = opened t n (first_line text)
+read_script t n (Some w) text = asked t n w (step_of text)
+
+abbrev pub script_rules : Told → Rules (Option World) ScriptFault
+script_rules t = record { start = None; on_line = read_script t; at_the_end = t.at_the_end; unreadable = Text }
+
+-- THE TEXT: lines of at most 4,096 octets, counted from 1; a remark tells nothing (text_lines, specs/Lines.antt)
+abbrev pub IsScriptText : Told → List ℕ → Printed ScriptFault → Type 0
+IsScriptText t = IsLinesText (script_rules t)

@@ -1,0 +1,172 @@
+//! A script under way, and what a line of it does.
+ghost use Rattle.std.specs.Prelude.{◌≡◌, Some, Err, IsOk, IsSome, MatchResult};
+ghost use Rattle.play_script.specs.Script.{first_line, step_of};
+ghost use Rattle.pair_model.specs.World.{World as ModelWorld, carried_out, shows};
+ghost use Rattle.printing.specs.declared.fault.Stop.TheVariants.{Memory};
+ghost use Rattle.text_lines.specs.Lines.{prints};
+ghost use Rattle.text_lines.specs.Reading.{IsDone, Tells};
+ghost use Rattle.script_text.specs.Scripts.{Told, asked, opened as opened_in, outcome_of, read_script};
+
+use super::account::Account;
+use super::fault::ScriptFault;
+use pair_world::{PlayFault, World};
+use play_script::{read_opening, read_step};
+use printing::Stop;
+use std::alloc::{AllocError, Global};
+use std::marker::{Model, PhantomData};
+use text_lines::LineText;
+use world_steps::{Shown, Step};
+
+/// A script under way.
+#[derive(Drop)]
+pub(crate) struct Script<A> {
+    /// The world, once the first line has made it.
+    world: Option<World>,
+    account: PhantomData<A>,
+}
+
+impl<A> Model for Script<A> {
+    ghost use Rattle.std.specs.Prelude.{Option};
+    ghost use Rattle.pair_model.specs.World.{World as ModelWorld};
+
+    ghost Value = { Option ModelWorld };
+
+    ghost view = { λ script. script.world };
+}
+
+impl<A: Account> Script<A> {
+    ghost use Rattle.std.specs.Prelude.{◌≡◌, None};
+
+    /// Before the first line.
+    pub(crate) fn new() -> Script<A>
+        ensures { result ≡ None }
+    {
+        Script {
+            world: None,
+            account: PhantomData,
+        }
+    }
+}
+
+impl<A: Account> LineText for Script<A> {
+    type Fault = ScriptFault;
+
+    ghost use Rattle.script_text.specs.Scripts.{script_rules};
+
+    ghost rules = { script_rules A.told };
+
+    fn unreadable(number: u64) -> ScriptFault {
+        ScriptFault::Text { line: number }
+    }
+
+    fn line(
+        &mut self,
+        alloc: Global,
+        number: u64,
+        text: &[u8],
+        out: &mut Vec<u8>,
+    ) -> Result<(), Stop<ScriptFault>> {
+        if self.world.is_none() {
+            open::<A>(alloc, &mut self.world, number, text, out)
+        } else {
+            carry_out::<A>(alloc, &mut self.world, number, text, out)
+        }
+    }
+
+    fn end(&self, alloc: Global, out: &mut Vec<u8>) -> Result<(), Stop<ScriptFault>> {
+        match A::tell_end(alloc, &self.world, out) {
+            Ok(()) => Ok(()),
+            Err(_) => Err(Stop::Memory),
+        }
+    }
+}
+
+/// The first line makes the world.
+fn open<A: Account>(
+    alloc: Global,
+    world: &mut Option<World>,
+    number: u64,
+    text: &[u8],
+    out: &mut Vec<u8>,
+) -> Result<(), Stop<ScriptFault>>
+    ensures { IsDone result (opened_in A.told number (first_line text.now)) out.old.items out.new.items world.new }
+{
+    let made = opened(alloc, number, text)?;
+    let told = A::tell_opening(alloc, &made, out);
+    *world = Some(made);
+    or_memory(told)
+}
+
+/// The world that the first line asks for.
+fn opened(alloc: Global, number: u64, text: &[u8]) -> Result<World, Stop<ScriptFault>>
+    ensures { MatchResult result
+        (λ world. (t : Told) → opened_in t number (first_line text.now) ≡ prints (t.opening world) (Some world))
+        (λ stop. (t : Told) → Tells stop (opened_in t number (first_line text.now))) }
+{
+    let Some(opening) = read_opening(text) else {
+        return Err(Stop::Input(ScriptFault::Text { line: number }));
+    };
+    match World::new(alloc, &opening.a, &opening.b) {
+        Ok(world) => Ok(world),
+        Err(PlayFault::NoMemory) => Err(Stop::Memory),
+        Err(_) => unreachable!(),
+    }
+}
+
+/// A line after the first asks for a step, which is carried out.
+fn carry_out<A: Account>(
+    alloc: Global,
+    world: &mut Option<World>,
+    number: u64,
+    text: &[u8],
+    out: &mut Vec<u8>,
+) -> Result<(), Stop<ScriptFault>>
+    requires { IsSome world.old }
+    ensures { IsDone result (read_script A.told number world.old text.now) out.old.items out.new.items world.new }
+{
+    let step = asked_step(alloc, number, text)?;
+    let Some(old) = world.take() else {
+        unreachable!();
+    };
+    let (new, shown) = stepped(old, &step, number)?;
+    let told = A::tell_step(alloc, number, &step, &shown, &new, out);
+    *world = Some(new);
+    or_memory(told)
+}
+
+/// The step that a line after the first asks for.
+fn asked_step(alloc: Global, number: u64, text: &[u8]) -> Result<Step, Stop<ScriptFault>>
+    ensures { MatchResult result (λ step. step_of text.now ≡ Some step)
+        (λ stop. (t : Told) (w : ModelWorld) → Tells stop (asked t number w (step_of text.now))) }
+{
+    match read_step(alloc, text) {
+        Ok(Some(step)) => Ok(step),
+        Ok(None) => Err(Stop::Input(ScriptFault::Text { line: number })),
+        Err(_) => Err(Stop::Memory),
+    }
+}
+
+/// The world after the step of this line, and what that shows. A world that is let go on each of many ways out is dear
+/// to prove, so nothing but the step owns it here.
+fn stepped(world: World, step: &Step, number: u64) -> Result<(World, Shown), Stop<ScriptFault>>
+    ensures { MatchResult result (λ after. carried_out world step.now ≡ shows after.1 after.0)
+        (λ stop. (t : Told) → Tells stop (outcome_of t number step.now (carried_out world step.now))) }
+{
+    match world.step(step) {
+        Ok(after) => Ok(after),
+        Err(PlayFault::NoMemory) => Err(Stop::Memory),
+        Err(PlayFault::Impossible { .. }) => Err(Stop::Input(ScriptFault::Step { line: number })),
+        Err(PlayFault::Exhausted) => Err(Stop::Input(ScriptFault::Exhausted)),
+        Err(PlayFault::Links) => unreachable!(),
+    }
+}
+
+/// Want of memory stops the script.
+fn or_memory(told: Result<(), AllocError>) -> Result<(), Stop<ScriptFault>>
+    ensures { MatchResult told (λ done. IsOk result) (λ want. result ≡ Err Memory) }
+{
+    match told {
+        Ok(()) => Ok(()),
+        Err(_) => Err(Stop::Memory),
+    }
+}
