@@ -35,6 +35,24 @@ Each prints a line: fisu, lssu or msu, what its header and check octets are, its
 status, or its label with an order or with stream and data; or `no unit`.
 `mtpbank decode --help` says what each word of it tells, and each fault.";
 
+pub(crate) const CAPTURE_PAGE: &str = "\
+Standard input is a script, as that of `mtpbank play`. What is written is a file
+of the units that its ends send, for Wireshark and other network analysers:
+  mtpbank capture < examples/changeover.play > changeover.pcap
+`mtpbank capture --help` says what stands in it, and each fault.";
+
+pub(crate) const CAPTURE_HELP: &str = "\
+Standard input is a script, as `mtpbank play --help` says. Standard output is a pcap file of link type 140 (MTP2), low
+octet first, with a record for each unit that end a or b sends (the lines `emit E L`), in the order in which they are sent,
+whether or not they arrive:
+  time                a millisecond for each line of the script: the unit of line 12 has 0.012000 seconds
+  octets              the unit's header and what it carries, without check octets; `tshark -r FILE -V` shows them
+The units of both ends and of all links stand in one list. A script without a line writes a file without a record.
+A fault ends the script: one line on standard error, with status 1; what was written before it stays, and is a capture
+of what was sent until then. The faults are those of `mtpbank play`:
+  fault line N text, fault line N step, fault exhausted
+  fault read, fault write, fault memory";
+
 pub(crate) const DECODE_HELP: &str = "\
 Each line of standard input is the octets of one unit, of two hexadecimal digits each and nothing between them:
 without flags and inserted zeros, and with or without the check octets. Lines that are empty or begin with # are
@@ -63,7 +81,7 @@ A fault ends the input: one line on standard error, with status 1; what was prin
 pub(crate) const HELP: &str = "\
 All read standard input to its end, as in `mtpbank play < examples/changeover.play`. `mtpbank play --help` says
 how a script is written and what it prints, `mtpbank units --help` and `mtpbank decode --help` which digits are
-read and what is printed; with `-h` each is a page. A fault is one line on standard error, and what was printed before it stays:
+read and what is printed, `mtpbank capture --help` what the file holds; with `-h` each is a page. A fault is one line on standard error, and what was printed before it stays:
   fault line N text, fault line N step               a line can't be read, or one of a script can't be done
   fault octet P                                      a character is no hexadecimal digit, or one is left over
   fault read, fault write, fault memory              standard input, standard output or memory failed

@@ -1,6 +1,6 @@
 //! The words of the program's command line: which subcommand they ask for, and what help says of each.
 //!
-//! `clap` reads the words; what it takes is its definition over this program's two subcommands
+//! `clap` reads the words; what it takes is its definition over this program's subcommands
 //! (`specs/CommandLine.antt`), and contracts tie [`words_of`] to that in both directions, and [`asked_by`], which is
 //! handed a program's arguments. This crate carries nothing out, prints nothing and reads no file.
 #![tactic(auto)]

@@ -9,7 +9,8 @@ ghost use Rattle.command_line.specs.CommandLine.{program, without_subcommands, n
 ghost use Rattle.command_line.specs.CommandLine.{AreWrong, IsKind, Refuses};
 
 use super::help::{
-    DECODE_HELP, DECODE_PAGE, HELP, PLAY_HELP, PLAY_PAGE, PROGRAM_PAGE, UNITS_HELP, UNITS_PAGE,
+    CAPTURE_HELP, CAPTURE_PAGE, DECODE_HELP, DECODE_PAGE, HELP, PLAY_HELP, PLAY_PAGE, PROGRAM_PAGE,
+    UNITS_HELP, UNITS_PAGE,
 };
 use clap::error::ErrorKind;
 use clap::{ArgMatches, Command};
@@ -25,6 +26,8 @@ pub enum Words {
     Play,
     /// Tell what the units on standard input say.
     Decode,
+    /// Write what a script's ends send as a file that network analysers read.
+    Capture,
 }
 
 /// Why the words ask for nothing.
@@ -96,6 +99,7 @@ fn named(matches: &ArgMatches<'_>) -> Option<Words>
         Some("units") => Some(Words::Units),
         Some("play") => Some(Words::Play),
         Some("decode") => Some(Words::Decode),
+        Some("capture") => Some(Words::Capture),
         _ => None,
     }
 }
@@ -148,7 +152,8 @@ fn command<'a>(alloc: Global) -> Result<Command<'a>, AllocError>
     itself(alloc)?
         .subcommand(units_command(alloc))?
         .subcommand(play_command(alloc))?
-        .subcommand(decode_command(alloc))
+        .subcommand(decode_command(alloc))?
+        .subcommand(capture_command(alloc))
 }
 
 /// The word `units`.
@@ -182,6 +187,17 @@ fn decode_command<'a>(alloc: Global) -> Command<'a>
         .about("Tells what the octets of signal units say, a unit a line")
         .after_help(DECODE_PAGE)
         .after_long_help(DECODE_HELP)
+}
+
+/// The word `capture`.
+fn capture_command<'a>(alloc: Global) -> Command<'a>
+    ensures shape { shape_of result ≡ new_shape (codes "capture") }
+    ensures local { (out-Command result).has_globals ≡ false }
+{
+    Command::new(alloc, "capture")
+        .about("Plays a script, and writes the units that are sent as a pcap file")
+        .after_help(CAPTURE_PAGE)
+        .after_long_help(CAPTURE_HELP)
 }
 
 /// The program's words but for its subcommands.

@@ -2,13 +2,14 @@
 use Rattle.std.specs.Prelude.{◌≡◌, ℕ, List, Result, Ok, Err}
 use Rattle.std.specs.Option.{option_map}
 use Rattle.command_line.specs.declared.words.Words.{Words}
-use Rattle.command_line.specs.declared.words.Words.TheVariants.{Units, Play, Decode}
+use Rattle.command_line.specs.declared.words.Words.TheVariants.{Units, Play, Decode, Capture}
 use Rattle.printing.specs.declared.fault.Fault.{Fault}
 use Rattle.printing.specs.declared.fault.Fault.TheVariants.{Input, Memory, Read, Write}
 use Rattle.printing.specs.Printing.{Printed}
 use Rattle.play_text.specs.PlayText.{IsPlayText}
 use Rattle.units_text.specs.UnitsText.{IsUnitsText}
 use Rattle.decode_text.specs.Decoding.{IsDecodeText}
+use Rattle.script_capture.specs.Capture.{IsCapture}
 use Rattle.mtpbank.specs.declared.running.TextFault.{TextFault}
 use Rattle.mtpbank.specs.declared.running.TextFault.TheVariants.{Units as UnitsFault, Play as PlayFault, Decode as DecodeFault}
 
@@ -23,6 +24,7 @@ abbrev pub IsTextOf : Words → List ℕ → Printed TextFault → Type 0
 IsTextOf Units input text = IsText (IsUnitsText input) UnitsFault text
 IsTextOf Play input text = IsText (IsPlayText input) PlayFault text
 IsTextOf Decode input text = IsText (IsDecodeText input) DecodeFault text
+IsTextOf Capture input text = IsText (IsCapture input) PlayFault text
 
 -- the same answer with a fault of that type
 abbrev pub with_fault : {F : Type 0} → (F → TextFault) → Result (Unit {0}) (Fault F)

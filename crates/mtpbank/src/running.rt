@@ -8,6 +8,7 @@ use command_line::Words;
 use decode_text::{UnreadableUnit, decode};
 use play_text::{ScriptFault, play};
 use printing::{Fault, Sink, Source};
+use script_capture::capture;
 use std::alloc::Global;
 use thiserror::Error;
 use units_text::{UnreadableOctet, units};
@@ -18,7 +19,7 @@ pub enum TextFault {
     /// In a way of `units`.
     #[error("{0}")]
     Units(UnreadableOctet),
-    /// In a way of `play`.
+    /// In a way of a script.
     #[error("{0}")]
     Play(ScriptFault),
     /// In a way of `decode`.
@@ -43,6 +44,7 @@ pub fn run<S: Source, W: Sink>(
         Words::Units => of_units(units(alloc, source, sink)),
         Words::Play => of_play(play(alloc, source, sink)),
         Words::Decode => of_decode(decode(alloc, source, sink)),
+        Words::Capture => of_play(capture(alloc, source, sink)),
     }
 }
 

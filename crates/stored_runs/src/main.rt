@@ -1,15 +1,17 @@
 //! Stored runs: each script and each line of units beside which its output stands is run anew, and held against it.
 //!
 //! It reads the file `list` of the folder that it runs in: a name a line, of a script (`.play`), a line of units
-//! (`.units`), units to decode (`.decode`), or a table of scripts that all give the same: of each line of `NAME.first` a script is made, and of each
-//! line of `NAME.second` one with the opening before it. Beside `NAME.play` stands `NAME.stdout`, what the run
-//! prints, and where it ends with a fault `NAME.fault`, the line that tells it. A line is printed for each name.
+//! (`.units`), units to decode (`.decode`), or a table of scripts that all give the same: of each line of `NAME.first` a
+//! script is made, and of each line of `NAME.second` one with the opening before it. Beside `NAME.play` stands
+//! `NAME.stdout`, what the run prints, and where it ends with a fault `NAME.fault`, the line that tells it. `NAME.pcap` is
+//! what the capture of `NAME.play` writes. A line is printed for each name.
 //! Whether a run is as it should be is all that this program tells; it proves nothing.
 #![tactic(auto)]
 
 use decode_text::decode;
 use play_text::play;
 use printing::{Fault, Reader, Writer};
+use script_capture::capture;
 use std::alloc::Global;
 use std::fmt::Display;
 use std::process::ExitCode;
@@ -50,7 +52,8 @@ fn is_as_stored(rt: &HostRuntime, name: &str) -> io::Result<bool> {
     } else if name.ends_with(".second") {
         all_give(rt, name, OPENING, &stored)
     } else {
-        Ok(run_of(rt.alloc(), name, &fs::read(rt, name)?)? == stored)
+        let input = fs::read(rt, input_of(rt.alloc(), name)?.as_str())?;
+        Ok(run_of(rt.alloc(), name, &input)? == stored)
     }
 }
 
@@ -65,9 +68,22 @@ fn all_give(rt: &HostRuntime, name: &str, opening: &str, stored: &Ran) -> io::Re
     Ok(all)
 }
 
-/// What is stored beside this name.
+/// The file that the run of this name reads: a capture is that of the script beside it.
+fn input_of(alloc: Global, name: &str) -> io::Result<String> {
+    if name.ends_with(".pcap") {
+        beside(alloc, name, "play")
+    } else {
+        Ok(format!(in alloc; "{name}")?)
+    }
+}
+
+/// What is stored beside this name, or under it.
 fn stored_beside(rt: &HostRuntime, name: &str) -> io::Result<Ran> {
-    let printed = fs::read(rt, beside(rt.alloc(), name, "stdout")?.as_str())?;
+    let printed = if name.ends_with(".pcap") {
+        fs::read(rt, name)?
+    } else {
+        fs::read(rt, beside(rt.alloc(), name, "stdout")?.as_str())?
+    };
     let told = match fs::read_to_string(rt, beside(rt.alloc(), name, "fault")?.as_str()) {
         Ok(text) => text,
         Err(_) => String::new(rt.alloc()),
@@ -92,6 +108,8 @@ fn run_of(alloc: Global, name: &str, input: &[u8]) -> io::Result<Ran> {
         told_of(alloc, units(alloc, &mut source, &mut sink))?
     } else if name.ends_with(".decode") {
         told_of(alloc, decode(alloc, &mut source, &mut sink))?
+    } else if name.ends_with(".pcap") {
+        told_of(alloc, capture(alloc, &mut source, &mut sink))?
     } else {
         told_of(alloc, play(alloc, &mut source, &mut sink))?
     };

@@ -10,6 +10,8 @@ returns c =
     ∙ ap₂ with_subcommand c.in_ok-itself.ensures c.units_command.ensures.shape in
     let second = c.in_ok-subcommand-2.ensures.shape c.play_command.ensures.local
     ∙ ap₂ with_subcommand first c.play_command.ensures.shape in
-    IfOk-weaker c.subcommand-3.result _ _
-    (λ command added. added.shape c.decode_command.ensures.local ∙ ap₂ with_subcommand second c.decode_command.ensures.shape)
-    c.subcommand-3.ensures
+    let third = c.in_ok-subcommand-3.ensures.shape c.decode_command.ensures.local
+    ∙ ap₂ with_subcommand second c.decode_command.ensures.shape in
+    IfOk-weaker c.subcommand-4.result _ _
+    (λ command added. added.shape c.capture_command.ensures.local ∙ ap₂ with_subcommand third c.capture_command.ensures.shape)
+    c.subcommand-4.ensures

@@ -1,6 +1,7 @@
 use Rattle.units_text.specs.UnitsText.{IsUnitsText}
 use Rattle.play_text.specs.PlayText.{IsPlayText}
 use Rattle.decode_text.specs.Decoding.{IsDecodeText}
+use Rattle.script_capture.specs.Capture.{IsCapture}
 use Rattle.mtpbank.specs.declared.running.TextFault.TheVariants.{Units as UnitsFault, Play as PlayFault, Decode as DecodeFault}
 use Rattle.mtpbank.proofs.RunLemmas.{prints_all}
 use Rattle.mtpbank.proofs.running.run.Goals as goal
@@ -13,3 +14,6 @@ returns-in-Play-clause-text g c = rw (c.of_play.ensures, c.in-Play.is) (prints_a
 
 pub returns-in-Decode-clause-text : goal.returns-in-Decode-clause-text
 returns-in-Decode-clause-text g c = rw (c.of_decode.ensures, c.in-Decode.is) (prints_all IsDecodeText DecodeFault c.decode.result _ _ _ c.decode.ensures.text)
+
+pub returns-in-Capture-clause-text : goal.returns-in-Capture-clause-text
+returns-in-Capture-clause-text g c = rw (c.of_play-in-Capture.ensures, c.in-Capture.is) (prints_all IsCapture PlayFault c.capture.result _ _ _ c.capture.ensures.text)

@@ -1,0 +1,39 @@
+//! The parts of a pcap file.
+ghost use Rattle.std.specs.Prelude.{◌≡◌, IfOk};
+ghost use Rattle.l2_units.specs.Grammar.{text};
+ghost use Rattle.script_capture.specs.Capture.{file_head as file_head_in, four as four_in, record_of, two as two_in};
+
+use l2_units::{Unit, write};
+use std::alloc::{AllocError, Global};
+
+/// What the file begins with, in its low octet first: the magic number of microseconds, version 2.4, no offset and no
+/// accuracy of time stamps, the most octets of a record, the link type.
+pub(crate) const FILE_HEAD: [u8; 24] = [
+    0xD4, 0xC3, 0xB2, 0xA1, 2, 0, 4, 0, 0, 0, 0, 0, 0, 0, 0, 0, 0x14, 0x01, 0, 0, 140, 0, 0, 0,
+];
+
+/// The low 32 bits of a number, the low octet first.
+fn four(number: u64) -> [u8; 4]
+    ensures { result ≡ four_in number }
+{
+    [
+        (number % 256) as u8,
+        (number / 256 % 256) as u8,
+        (number / 65_536 % 256) as u8,
+        (number / 16_777_216 % 256) as u8,
+    ]
+}
+
+/// The record of a unit that the line of this number sent.
+pub(crate) fn write_record(alloc: Global, number: u64, unit: &Unit) -> Result<Vec<u8>, AllocError>
+    ensures { IfOk result (λ made. made.items ≡ record_of number (text unit.now)) }
+{
+    let octets = write(unit);
+    let length = four(octets.len() as u64);
+    let mut record = Vec::from_slice(alloc, &four(number / 1_000))?;
+    record.extend_from_slice(&four(number % 1_000 * 1_000))?;
+    record.extend_from_slice(&length)?;
+    record.extend_from_slice(&length)?;
+    record.extend_from_slice(octets.as_slice())?;
+    Ok(record)
+}

@@ -1,0 +1,72 @@
+//! `mtpbank capture`: the units of a script as a pcap file.
+ghost use Rattle.std.specs.Prelude.{◌≤◌, ◌^◌, length, IfSome, OnOk};
+ghost use Rattle.printing.specs.Printing.{Prints, FailsByDevices};
+ghost use Rattle.script_capture.specs.Capture.{IsCapture};
+
+use super::records::{FILE_HEAD, write_record};
+use pair_world::World;
+use printing::{Fault, Sink, Source};
+use script_text::{Account, ScriptFault, tell_script};
+use set_events::Answer;
+use std::alloc::{AllocError, Global};
+use world_steps::{Shown, Step};
+
+/// The units of a script.
+struct Units;
+
+impl Account for Units {
+    ghost use Rattle.script_capture.specs.Capture.{capture_told};
+
+    ghost told = { capture_told };
+
+    fn tell_opening(alloc: Global, world: &World, out: &mut Vec<u8>) -> Result<(), AllocError> {
+        let _ = alloc;
+        let _ = world;
+        out.extend_from_slice(&FILE_HEAD)
+    }
+
+    fn tell_step(
+        alloc: Global,
+        number: u64,
+        step: &Step,
+        shown: &Shown,
+        world: &World,
+        out: &mut Vec<u8>,
+    ) -> Result<(), AllocError> {
+        let _ = step;
+        let _ = world;
+        match shown {
+            Shown::Answered(Answer::Sent { unit }) => {
+                out.extend_from_slice(&write_record(alloc, number, unit)?)
+            }
+            _ => Ok(()),
+        }
+    }
+
+    fn tell_end(alloc: Global, world: &Option<World>, out: &mut Vec<u8>) -> Result<(), AllocError> {
+        let _ = alloc;
+        match world {
+            Some(_) => Ok(()),
+            None => out.extend_from_slice(&FILE_HEAD),
+        }
+    }
+}
+
+/// Plays the script that the source gives, and writes the units that its ends send as a pcap file.
+///
+/// Ends with the first fault; what was written before it stays written, and is a whole capture of what was sent until
+/// then where the fault isn't the first line's. An input of more than 2^24 octets is never answered Ok, and one of 2^24 or
+/// more may be [`Fault::Read`], as [`tell_script`] tells.
+pub fn capture<S: Source, W: Sink>(
+    alloc: Global,
+    source: &mut S,
+    sink: &mut W,
+) -> Result<(), Fault<ScriptFault>>
+    ensures text { IfSome (S.left source.old)
+        (λ input. Prints result (IsCapture input) (W.written sink.old) (W.written sink.new)) }
+    ensures bounded { IfSome (S.left source.old) (λ input. OnOk result (length input ≤ 2 ^ 24)) }
+    ensures devices { IfSome (S.left source.old)
+        (FailsByDevices result (S.has_failed source.new) (W.has_failed sink.new)) }
+{
+    tell_script::<Units, S, W>(alloc, source, sink)
+}
