@@ -1,11 +1,11 @@
 //! Where a list of entries leaves the history of a set.
-ghost use Rattle.std.specs.Prelude.{◌≡◌, ◌<◌, ◌≤◌, ◌↔◌, length, IfOk, IfErr, MatchOption};
+ghost use Rattle.std.specs.Prelude.{◌≡◌, ◌<◌, ◌≤◌, ◌↔◌, [], length, IfOk, IfErr, OnOk, MatchOption};
 ghost use Rattle.set_model.specs.State.{new_state};
-ghost use Rattle.set_model.specs.History.{IsLegal, longest_history};
+ghost use Rattle.set_model.specs.History.{IsLegal, books_of as books_in, longest_history, new_set};
 ghost use Rattle.history_audit.specs.FirstWrong.{IsFirstWrong};
 
-use set_core::{SetFault, audit};
-use set_events::{Entry, SetConfig};
+use set_core::{SetCore, SetFault, audit};
+use set_events::{Books, Entry, SetConfig};
 use std::alloc::Global;
 
 /// The place, from 0, of the first of these entries that a set which is opened with this configuration doesn't make;
@@ -48,4 +48,33 @@ fn halved(alloc: Global, config: &SetConfig, entries: &[Entry]) -> Result<usize,
         }
     }
     Ok(legal)
+}
+
+/// What a legal history adds up to: it's asked of a set anew.
+///
+/// Fault: 1 [`SetFault::NoMemory`], only where memory was refused.
+pub fn books_of(alloc: Global, config: &SetConfig, entries: &[Entry]) -> Result<Books, SetFault>
+    requires legal { IsLegal (new_state config.now) entries.now }
+    requires few { length entries.now ≤ longest_history }
+    ensures books { IfOk result (λ books. books ≡ books_in (new_state config.now) entries.now) }
+    ensures fault { IfErr result (λ fault. fault ≡ SetFault.NoMemory) }
+{
+    let mut set = SetCore::new(alloc, config)?;
+    repeat(&mut set, entries)?;
+    Ok(set.books())
+}
+
+/// Asks the set what these entries tell.
+fn repeat(set: &mut SetCore, entries: &[Entry]) -> Result<(), SetFault>
+    requires new { set.old.history ≡ [] }
+    requires legal { IsLegal set.old.state entries.now }
+    requires few { length entries.now ≤ longest_history }
+    ensures opening { set.new.opening ≡ set.old.opening }
+    ensures history { OnOk result (set.new.history ≡ entries.now) }
+    ensures fault { IfErr result (λ fault. fault ≡ SetFault.NoMemory) }
+{
+    for entry in entries {
+        set.apply(entry.who, &entry.event)?;
+    }
+    Ok(())
 }

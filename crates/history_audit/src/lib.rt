@@ -7,4 +7,4 @@
 
 mod auditing;
 
-pub use auditing::first_wrong;
+pub use auditing::{books_of, first_wrong};

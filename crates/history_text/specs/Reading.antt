@@ -23,6 +23,7 @@ use Rattle.set_events.specs.declared.answer.Answer.{Answer}
 use Rattle.set_events.specs.declared.answer.Answer.TheVariants.{Accepted, Taken, Found, Sent, Heard, Done, Refused}
 use Rattle.set_events.specs.declared.history.Entry.{Entry}
 use Rattle.figures.specs.Figures.{number_of, number_below, octets_of}
+use Rattle.history_text.specs.Entries.{entry_text}
 
 -- what stands before the first octet of a kind, and what stands behind it
 abbrev pub until : (ℕ → Bool) → List ℕ → List ℕ
@@ -185,3 +186,8 @@ entry_in line =
     option_and_then (λ who. option_and_then (λ event. option_map (λ answer.
     record { who = who; event = event; answer = answer })
     (told_in (told line))) (asked_in (others (others line)))) (actor_in (word line) (word (others line)))
+
+-- THE ENTRY whose text a line is, with its LF; an entry has one text
+abbrev pub entry_of : List ℕ → Option Entry
+entry_of line =
+    option_and_then (λ entry. if bytes_eq (entry_text entry) line then Some entry else None) (entry_in line)

@@ -2,7 +2,7 @@
 ghost use Rattle.std.specs.Prelude.{◌≡◌, IfOk, IfSome, Some};
 ghost use Rattle.set_events.specs.declared.history.Entry.{Entry as HistoryEntry};
 ghost use Rattle.history_text.specs.Entries.{entry_text, EntryFits, OneEntry, OneHistory};
-ghost use Rattle.history_text.specs.Reading.{entry_in};
+ghost use Rattle.history_text.specs.Reading.{entry_in, entry_of};
 
 use super::answers::read_told;
 use super::events::{read_actor, read_asked};
@@ -18,6 +18,7 @@ use std::alloc::{AllocError, Global};
 /// unit are right: an entry has one text.
 pub fn read_entry(alloc: Global, line: &[u8]) -> Result<Option<Entry>, AllocError>
     ensures found { IfOk result (λ found. IfSome found (λ entry. entry_text entry ≡ line.now)) }
+    ensures is { IfOk result (λ found. found ≡ entry_of line.now) }
     ensures only { IfOk result (λ found.
         (entry : HistoryEntry) → EntryFits entry → entry_text entry ≡ line.now → found ≡ Some entry) }
 {
