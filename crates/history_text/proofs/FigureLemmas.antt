@@ -77,7 +77,7 @@ first_octet o os h = h 0 0 (omega arith)
 pub other_octets : (o : ℕ) (os : List ℕ) → AreOctets (o ∷ os) → AreOctets os
 other_octets o os h = λ k d l. h (suc k) d (omega (arith, l))
 
-digit_again : (v : ℕ) → v < 16 → hex_value (hex_digit v) ≡ Some v
+pub digit_again : (v : ℕ) → v < 16 → hex_value (hex_digit v) ≡ Some v
 digit_again v h = go (nat_lt v 10) refl
   where
     go : (b : Bool) → nat_lt v 10 ≡ b → hex_value (hex_digit v) ≡ Some v

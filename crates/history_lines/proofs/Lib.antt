@@ -1,0 +1,2 @@
+mod CuttingLemmas
+mod FirstLineLemmas

@@ -1,0 +1,136 @@
+//! What the lines so far tell.
+ghost use Rattle.std.specs.Prelude.{◌≡◌, ◌++◌, ◌∷◌, [], IfOk, MatchResult, Some, None};
+ghost use Rattle.text_lines.specs.Lines.{is_remark as is_remark_in};
+ghost use Rattle.set_model.specs.State.{settings_of};
+ghost use Rattle.std.specs.Option.{option_map};
+ghost use Rattle.history_text.specs.Reading.{entry_of};
+ghost use Rattle.history_lines.specs.FirstLine.{settings_in};
+ghost use Rattle.history_lines.specs.Telling.{nothing_told, with_line, opened, entered};
+
+use super::fault::UnreadableEntry;
+use history_text::read_entry;
+use play_script::read_opening;
+use printing::Stop;
+use set_events::{Entry, SetConfig};
+use std::alloc::{AllocError, Global};
+use std::marker::Model;
+
+/// What the lines so far tell: the configuration, once it's told, and the entries with the numbers of their lines.
+#[derive(Drop)]
+pub(crate) struct Told {
+    pub(crate) config: Option<SetConfig>,
+    pub(crate) entries: Vec<Entry>,
+    pub(crate) lines: Vec<u64>,
+}
+
+impl Model for Told {
+    ghost use Rattle.std.specs.Option.{option_map};
+    ghost use Rattle.set_model.specs.State.{settings_of};
+    ghost use Rattle.history_lines.specs.Telling.{Told};
+
+    ghost Value = { Told };
+
+    ghost view = { λ t. record {
+      settings = option_map settings_of t.config;
+      entries = t.entries.items;
+      lines = t.lines.items;
+    } };
+}
+
+impl Told {
+    ghost use Rattle.std.specs.Prelude.{◌≡◌, Some, None, MatchResult};
+    ghost use Rattle.history_lines.specs.Telling.{nothing_told, opened, entered, with_line, IsRead};
+
+    /// Before the first line.
+    pub(crate) fn new(alloc: Global) -> Told
+        ensures { result ≡ nothing_told }
+    {
+        Told {
+            config: None,
+            entries: Vec::new(alloc),
+            lines: Vec::new(alloc),
+        }
+    }
+
+    /// Reads the line of this number.
+    pub(crate) fn add(
+        &mut self,
+        alloc: Global,
+        number: u64,
+        line: &[u8],
+    ) -> Result<(), Stop<UnreadableEntry>>
+        ensures { IsRead result number (with_line number self.old line.now) self.new }
+    {
+        if is_remark(line) {
+            return Ok(());
+        }
+        match self.config {
+            None => self.open(number, line),
+            Some(_) => self.enter(alloc, number, line),
+        }
+    }
+
+    /// Reads the configuration.
+    fn open(&mut self, number: u64, line: &[u8]) -> Result<(), Stop<UnreadableEntry>>
+        ensures { IsRead result number (opened self.old line.now) self.new }
+    {
+        match read_config(line) {
+            Some(config) => {
+                self.config = Some(config);
+                Ok(())
+            }
+            None => Err(Stop::Input(UnreadableEntry { line: number })),
+        }
+    }
+
+    /// Reads an entry.
+    fn enter(
+        &mut self,
+        alloc: Global,
+        number: u64,
+        line: &[u8],
+    ) -> Result<(), Stop<UnreadableEntry>>
+        ensures { IsRead result number (entered number self.old line.now) self.new }
+    {
+        let Ok(found) = read_line(alloc, line) else {
+            return Err(Stop::Memory);
+        };
+        let Some(entry) = found else {
+            return Err(Stop::Input(UnreadableEntry { line: number }));
+        };
+        let (Ok(()), Ok(())) = (self.entries.reserve(1), self.lines.push(number)) else {
+            return Err(Stop::Memory);
+        };
+        match self.entries.push(entry) {
+            Ok(()) => Ok(()),
+            Err(_) => Err(Stop::Memory),
+        }
+    }
+}
+
+/// Whether the line is empty or begins with `#`.
+fn is_remark(line: &[u8]) -> bool
+    ensures { result ≡ is_remark_in line.now }
+{
+    match line {
+        [] => true,
+        [first, ..] => *first == b'#',
+    }
+}
+
+/// The configuration that a line tells: that of end a of a script with this first line.
+fn read_config(line: &[u8]) -> Option<SetConfig>
+    ensures { option_map settings_of result ≡ settings_in line.now }
+{
+    let opening = read_opening(line)?;
+    Some(opening.a)
+}
+
+/// The entry whose text this line is, but for its LF.
+fn read_line(alloc: Global, line: &[u8]) -> Result<Option<Entry>, AllocError>
+    ensures { IfOk result (λ entry. entry ≡ entry_of (line.now ++ 10 ∷ [])) }
+{
+    let mut text = Vec::from_slice(alloc, line)?;
+    text.push(b'\n')?;
+    read_entry(alloc, &text)
+}
