@@ -1,0 +1,105 @@
+-- What is said of a history, and that nothing else can be said of it.
+use Rattle.std.proofs.Common.{refl, arith, sym, subst, ◌≡◌, ◌∙◌, ap, ◌<◌, ◌≤◌, ◌+◌, [], ◌∷◌, length, ℕ, zero, suc, Bool, true, false, nat_lt, List, Option, None, Some, Result, Ok, Err, IfOk, MatchOption, MatchResult, take, get_or}
+use Rattle.std.proofs.lemmas.Bool.Decides.{nat_tests}
+use Rattle.printing.specs.Printing.{Printed}
+use Rattle.printing.specs.declared.fault.Stop.{Stop}
+use Rattle.printing.specs.declared.fault.Stop.TheVariants.{Input, Memory}
+use Rattle.set_events.specs.declared.history.Entry.{Entry}
+use Rattle.set_model.specs.State.{State, Settings, opened_with}
+use Rattle.set_model.specs.Step.{step}
+use Rattle.set_model.specs.History.{IsLegal, longest_history}
+use Rattle.history_audit.specs.FirstWrong.{IsFirstWrong}
+use Rattle.history_lines.specs.Telling.{Telling, tells, unreadable, history_in}
+use Rattle.audit_text.specs.declared.fault.AuditFault.{AuditFault}
+use Rattle.audit_text.specs.Auditing.{IsAudited, legal, wrong, full, IsAuditOf, IsAuditText, Faults, says, legal_text, wrong_text}
+
+-- Nothing else can be said.
+
+legal_front : (s : State) (k : ℕ) (entries : List Entry) → IsLegal s entries → IsLegal s (take k entries)
+legal_front s zero [] h = tt
+legal_front s zero (e ∷ es) h = tt
+legal_front s (suc k) [] h = tt
+legal_front s (suc k) (e ∷ es) h = (h.0, h.1, legal_front (step s e.event).state k es h.2)
+
+-- a front of a front
+front_of : (j k : ℕ) (entries : List Entry) → j ≤ k → take j (take k entries) ≡ take j entries
+front_of zero zero [] h = refl
+front_of zero (suc k) [] h = refl
+front_of zero zero (e ∷ es) h = refl
+front_of zero (suc k) (e ∷ es) h = refl
+front_of (suc j) zero entries h = absurd (omega (arith, h))
+front_of (suc j) (suc k) [] h = refl
+front_of (suc j) (suc k) (e ∷ es) h = ap (λ (l : List Entry). e ∷ l) (front_of j k es (omega (arith, h)))
+
+not_before : (s : State) (entries : List Entry) (p q : ℕ) → IsFirstWrong s entries p → IsFirstWrong s entries q → p < q → ⊥
+not_before s entries p q a b lt =
+    a.wrong (subst (λ (l : List Entry). IsLegal s l) (front_of (p + 1) q entries (omega (arith, lt))) (legal_front s (p + 1) (take q entries) b.legal))
+
+one_place : (s : State) (entries : List Entry) (p q : ℕ) → IsFirstWrong s entries p → IsFirstWrong s entries q → p ≡ q
+one_place s entries p q a b = go (nat_lt p q) (nat_lt q p) refl refl
+  where
+    go : (x y : Bool) → nat_lt p q ≡ x → nat_lt q p ≡ y → p ≡ q
+    go true y e f = absurd (not_before s entries p q a b (grind (arith, nat_tests, e)))
+    go false true e f = absurd (not_before s entries q p b a (grind (arith, nat_tests, f)))
+    go false false e f = grind (arith, nat_tests, e, f)
+
+not_legal : (s : State) (entries : List Entry) (p : ℕ) → IsLegal s entries → IsFirstWrong s entries p → ⊥
+not_legal s entries p l w = w.wrong (legal_front s (p + 1) entries l)
+
+one_audit : (s : State) (entries : List Entry) (lines : List ℕ) (a b : Printed AuditFault) → IsAudited s entries lines a → IsAudited s entries lines b → a ≡ b
+one_audit s entries lines a b (legal few l is) (legal few2 l2 is2) = is ∙ sym is2
+one_audit s entries lines a b (legal few l is) (wrong p few2 w is2) = absurd (not_legal s entries p l w)
+one_audit s entries lines a b (legal few l is) (full many is2) = absurd (omega (arith, few, many))
+one_audit s entries lines a b (wrong p few w is) (legal few2 l is2) = absurd (not_legal s entries p l w)
+one_audit s entries lines a b (wrong p few w is) (wrong q few2 w2 is2) = is ∙ (ap (λ (n : ℕ). says (wrong_text (get_or lines n 0))) (one_place s entries p q w w2) ∙ sym is2)
+one_audit s entries lines a b (wrong p few w is) (full many is2) = absurd (omega (arith, few, many))
+one_audit s entries lines a b (full many is) (legal few l is2) = absurd (omega (arith, few, many))
+one_audit s entries lines a b (full many is) (wrong p few w is2) = absurd (omega (arith, few, many))
+one_audit s entries lines a b (full many is) (full many2 is2) = is ∙ sym is2
+
+one_of_telling : (t : Telling) (a b : Printed AuditFault) → IsAuditOf t a → IsAuditOf t b → a ≡ b
+one_of_telling (unreadable n) a b x y = x ∙ sym y
+one_of_telling (tells s entries lines) a b x y = one_audit (opened_with s) entries lines a b x y
+
+pub one_text_each : (input : List ℕ) (a b : Printed AuditFault) → IsAuditText input a → IsAuditText input b → a ≡ b
+one_text_each input a b x y = one_of_telling (history_in input) a b x y
+
+-- What is said.
+
+abbrev Outcome : {T : Type 0} → (T → List ℕ) → Result T (Stop AuditFault) → (Printed AuditFault → Type 0) → Type 0
+Outcome items result IsIt = MatchResult result (λ text. IsIt (says (items text))) (λ stop. Faults stop IsIt)
+
+pub wrong_told : {T E : Type 0} (items : T → List ℕ) (s : State) (entries : List Entry) (lines : List ℕ) (p : ℕ) (line : Result T E) (result : Result T (Stop AuditFault))
+    → length entries ≤ longest_history → IsFirstWrong s entries p → IfOk line (λ text. items text ≡ wrong_text (get_or lines p 0))
+    → MatchResult result (λ text. line ≡ Ok text) (λ stop. stop ≡ Memory) → Outcome items result (IsAudited s entries lines)
+wrong_told items s entries lines p line (Ok text) few w is told =
+    let same : items text ≡ wrong_text (get_or lines p 0) = subst (λ r. IfOk r (λ text. items text ≡ wrong_text (get_or lines p 0))) told is in
+    wrong p few w (ap says same)
+wrong_told items s entries lines p line (Err stop) few w is told = rw told tt
+
+pub legal_told : {T : Type 0} (items : T → List ℕ) (s : State) (entries : List Entry) (lines : List ℕ) (result : Result T (Stop AuditFault))
+    → length entries ≤ longest_history → IsLegal s entries
+    → MatchResult result (λ text. items text ≡ legal_text s entries) (λ stop. stop ≡ Memory) → Outcome items result (IsAudited s entries lines)
+legal_told items s entries lines (Ok text) few l told = legal few l (ap says told)
+legal_told items s entries lines (Err stop) few l told = rw told tt
+
+-- what is said of the history that a text tells is said of the text
+pub of_text : {T : Type 0} (items : T → List ℕ) (input : List ℕ) (s : Settings) (entries : List Entry) (lines : List ℕ) (result : Result T (Stop AuditFault))
+    → history_in input ≡ tells s entries lines → Outcome items result (IsAudited (opened_with s) entries lines) → Outcome items result (IsAuditText input)
+of_text items input s entries lines (Ok text) is said = rw is said
+of_text items input s entries lines (Err (Input fault)) is said = rw is said
+of_text items input s entries lines (Err Memory) is said = tt
+
+pub found_some : {A : Type 0} (p : A) (found : Option A) (N : Type 0) (S : A → Type 0) → found ≡ Some p → MatchOption found N S → S p
+found_some p found N S is h = subst (λ f. MatchOption f N S) is h
+
+pub found_none : {A : Type 0} (found : Option A) (N : Type 0) (S : A → Type 0) → found ≡ None → MatchOption found N S → N
+found_none found N S is h = subst (λ f. MatchOption f N S) is h
+
+-- a set's audit that answers anything else wasn't exhausted
+pub not_full : {A F : Type 0} (n : ℕ) (found : A) (exhausted : F) (result : Result A F) → (longest_history < n → result ≡ Err exhausted) → result ≡ Ok found → n ≤ longest_history
+not_full n found exhausted result h e = go (nat_lt longest_history n) refl
+  where
+    go : (b : Bool) → nat_lt longest_history n ≡ b → n ≤ longest_history
+    go true f = let no : Err exhausted ≡ Ok found = sym (h (grind (arith, nat_tests, f))) ∙ e in cc no
+    go false f = grind (arith, nat_tests, f)

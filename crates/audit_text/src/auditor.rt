@@ -1,0 +1,90 @@
+//! A history under way: the octets so far.
+ghost use Rattle.std.specs.Prelude.{◌≡◌, ◌++◌, MatchResult};
+ghost use Rattle.audit_text.specs.Auditing.{IsAuditText, IsSaid};
+
+use super::fault::AuditFault;
+use super::verdict::write_verdict;
+use printing::{Printer, Stop};
+use std::alloc::Global;
+use std::marker::Model;
+
+/// Keeps a history until it has ended.
+#[derive(Drop)]
+pub(crate) struct Auditor {
+    alloc: Global,
+    /// The octets so far.
+    input: Vec<u8>,
+}
+
+impl Model for Auditor {
+    ghost use Rattle.std.specs.Prelude.{List, ℕ};
+
+    ghost Value = { List ℕ };
+
+    ghost view = { λ a. a.input.items };
+}
+
+impl Auditor {
+    ghost use Rattle.std.specs.Prelude.{◌≡◌, ◌++◌, [], MatchResult};
+
+    /// Before the first octet.
+    pub(crate) fn new(alloc: Global) -> Auditor
+        ensures { result ≡ [] }
+    {
+        Auditor {
+            alloc,
+            input: Vec::new(alloc),
+        }
+    }
+
+    /// Keeps these octets.
+    fn keep(&mut self, octets: &[u8]) -> Result<(), Stop<AuditFault>>
+        ensures { MatchResult result (λ done. self.new ≡ self.old ++ octets.now) (λ stop. stop ≡ Stop.Memory) }
+    {
+        match self.input.extend_from_slice(octets) {
+            Ok(()) => Ok(()),
+            Err(_) => Err(Stop::Memory),
+        }
+    }
+}
+
+/// Appends the line about the history that this text tells.
+fn add_verdict(alloc: Global, input: &[u8], out: &mut Vec<u8>) -> Result<(), Stop<AuditFault>>
+    ensures { IsSaid result (IsAuditText input.now) out.old.items out.new.items }
+{
+    match write_verdict(alloc, input) {
+        Ok(text) => add(out, &text),
+        Err(stop) => Err(stop),
+    }
+}
+
+/// Appends a text.
+fn add(out: &mut Vec<u8>, text: &[u8]) -> Result<(), Stop<AuditFault>>
+    ensures { MatchResult result (λ done. out.new.items ≡ out.old.items ++ text.now)
+        (λ stop. (stop ≡ Stop.Memory) × (out.new.items ≡ out.old.items)) }
+{
+    match out.extend_from_slice(text) {
+        Ok(()) => Ok(()),
+        Err(_) => Err(Stop::Memory),
+    }
+}
+
+impl Printer for Auditor {
+    type Fault = AuditFault;
+
+    ghost use Rattle.std.specs.Prelude.{◌≡◌, []};
+    ghost use Rattle.audit_text.specs.Auditing.{IsAuditText};
+
+    ghost is_text = { IsAuditText };
+
+    ghost has_read = { λ auditor past lines. (auditor ≡ past) × (lines ≡ []) };
+
+    fn read(&mut self, octets: &[u8], out: &mut Vec<u8>) -> Result<(), Stop<AuditFault>> {
+        let _ = out;
+        self.keep(octets)
+    }
+
+    fn end(self, out: &mut Vec<u8>) -> Result<(), Stop<AuditFault>> {
+        add_verdict(self.alloc, &self.input, out)
+    }
+}
