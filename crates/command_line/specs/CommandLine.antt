@@ -6,7 +6,7 @@ use Rattle.clap.specs.Simple.{new_shape}
 use Rattle.clap.specs.Values.{kind_of}
 use Rattle.clap.specs.declared.error.kind.ErrorKind.{ErrorKind}
 use Rattle.command_line.specs.declared.words.Words.{Words}
-use Rattle.command_line.specs.declared.words.Words.TheVariants.{Units, Play, Decode, Capture}
+use Rattle.command_line.specs.declared.words.Words.TheVariants.{Units, Play, Decode, Capture, Audit}
 use Rattle.command_line.specs.declared.words.WordsFault.{WordsFault}
 use Rattle.command_line.specs.declared.words.WordsFault.TheVariants.{NoMemory, Words as WrongWords}
 
@@ -21,14 +21,17 @@ program_itself = record (new_shape (codes "mtpbank")) {
 abbrev pub without_subcommands : App
 without_subcommands = record { top = program_itself; subs = [] }
 
--- four subcommands, which take no words
+-- five subcommands, which take no words
 abbrev pub units_and_play : App
 units_and_play =
     with_subcommand (with_subcommand without_subcommands (new_shape (codes "units"))) (new_shape (codes "play"))
 
-abbrev pub program : App
-program =
+abbrev pub with_units : App
+with_units =
     with_subcommand (with_subcommand units_and_play (new_shape (codes "decode"))) (new_shape (codes "capture"))
+
+abbrev pub program : App
+program = with_subcommand with_units (new_shape (codes "audit"))
 
 -- the subcommand that was asked for
 abbrev pub name_of : Words → List ℕ
@@ -36,6 +39,7 @@ name_of Units = codes "units"
 name_of Play = codes "play"
 name_of Decode = codes "decode"
 name_of Capture = codes "capture"
+name_of Audit = codes "audit"
 
 -- the words of a program's arguments, of which the first is its own name
 abbrev pub words_in : {A : Type 0} → List (String A) → List (List ℕ)

@@ -41,6 +41,40 @@ of the units that its ends send, for Wireshark and other network analysers:
   mtpbank capture < examples/changeover.play > changeover.pcap
 `mtpbank capture --help` says what stands in it, and each fault.";
 
+pub(crate) const AUDIT_PAGE: &str = "\
+Standard input is a history of one link set, wherever it comes from: what the
+set was opened with, and then a line for each thing that was asked and answered:
+  set links=1 method=basic a=2 b=1 sio=80
+  terminal 0 up 0 -> done
+  user 0 offer 8501800030 -> accepted 0
+What is printed is legal=yes with what the history adds up to, or legal=no with
+the line of the first entry that no such set makes.
+`mtpbank audit --help` says how each line is written, and each fault.";
+
+pub(crate) const AUDIT_HELP: &str = "\
+Standard input is a history of one link set. Lines that are empty or begin with # are passed over; the first other line
+is the one that opens a script (`mtpbank play --help`), with a the set's own point code and b the far end's. Each further
+line is an entry: who asked, what, an arrow, and what was answered, in lower case with one space between two words:
+  user N ..           user N, 0 to 63, who offers, takes or looks for messages
+  terminal L ..       the terminal of link L, 0 to 15
+  .. offer HEX, .. take, .. find N                   as in a script; offer without HEX is the empty body
+  .. next L           the next unit to send on link L
+  .. hear L HEX       a unit that was heard on link L, without check octets
+  .. up L, down L, blind L, noanswer L, restore L, backtimeout L
+  .. -> ANSWER        as `mtpbank play` prints it; the octets that were sent stand with their check octets
+The set is replayed from its opening. It prints one line:
+  legal=yes calls=N accepted=M octets=O acked=A      every entry is what such a set answers then: there are N, which
+                      accepted M messages with O octets in all, of which A are acknowledged
+  legal=no line=N     the entry on line N, from 1, is the first that isn't: its actor can't be, or the answer is another
+A line that can't be read is a fault, whether or not an entry before it is wrong. A fault is one line on standard error,
+with status 1, and nothing is printed:
+  fault line N text   line N, from 1 and with those passed over, is no such line; or the text ended before line N
+                      without the one that opens the set
+  fault exhausted     there are more than 2^48 entries
+  fault read          standard input failed, or has more than 2^24 octets
+  fault write, fault memory
+The status is 0 for legal=yes and for legal=no.";
+
 pub(crate) const CAPTURE_HELP: &str = "\
 Standard input is a script, as `mtpbank play --help` says. Standard output is a pcap file of link type 140 (MTP2), low
 octet first, with a record for each unit that end a or b sends (the lines `emit E L`), in the order in which they are sent,
@@ -81,7 +115,9 @@ A fault ends the input: one line on standard error, with status 1; what was prin
 pub(crate) const HELP: &str = "\
 All read standard input to its end, as in `mtpbank play < examples/changeover.play`. `mtpbank play --help` says
 how a script is written and what it prints, `mtpbank units --help` and `mtpbank decode --help` which digits are
-read and what is printed, `mtpbank capture --help` what the file holds; with `-h` each is a page. A fault is one line on standard error, and what was printed before it stays:
+read and what is printed, `mtpbank capture --help` what the file holds,
+`mtpbank audit --help` how a history is written; with `-h` each is a page. A fault is one line on standard error, and
+what was printed before it stays:
   fault line N text, fault line N step               a line can't be read, or one of a script can't be done
   fault octet P                                      a character is no hexadecimal digit, or one is left over
   fault read, fault write, fault memory              standard input, standard output or memory failed

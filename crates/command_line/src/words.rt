@@ -9,7 +9,7 @@ ghost use Rattle.command_line.specs.CommandLine.{program, without_subcommands, n
 ghost use Rattle.command_line.specs.CommandLine.{AreWrong, IsKind, Refuses};
 
 use super::help::{
-    CAPTURE_HELP, CAPTURE_PAGE, DECODE_HELP, DECODE_PAGE, HELP, PLAY_HELP, PLAY_PAGE, PROGRAM_PAGE,
+    AUDIT_HELP, AUDIT_PAGE, CAPTURE_HELP, CAPTURE_PAGE, DECODE_HELP, DECODE_PAGE, HELP, PLAY_HELP, PLAY_PAGE, PROGRAM_PAGE,
     UNITS_HELP, UNITS_PAGE,
 };
 use clap::error::ErrorKind;
@@ -28,6 +28,8 @@ pub enum Words {
     Decode,
     /// Write what a script's ends send as a file that network analysers read.
     Capture,
+    /// Tell whether the history on standard input is legal.
+    Audit,
 }
 
 /// Why the words ask for nothing.
@@ -100,6 +102,7 @@ fn named(matches: &ArgMatches<'_>) -> Option<Words>
         Some("play") => Some(Words::Play),
         Some("decode") => Some(Words::Decode),
         Some("capture") => Some(Words::Capture),
+        Some("audit") => Some(Words::Audit),
         _ => None,
     }
 }
@@ -153,7 +156,8 @@ fn command<'a>(alloc: Global) -> Result<Command<'a>, AllocError>
         .subcommand(units_command(alloc))?
         .subcommand(play_command(alloc))?
         .subcommand(decode_command(alloc))?
-        .subcommand(capture_command(alloc))
+        .subcommand(capture_command(alloc))?
+        .subcommand(audit_command(alloc))
 }
 
 /// The word `units`.
@@ -198,6 +202,17 @@ fn capture_command<'a>(alloc: Global) -> Command<'a>
         .about("Plays a script, and writes the units that are sent as a pcap file")
         .after_help(CAPTURE_PAGE)
         .after_long_help(CAPTURE_HELP)
+}
+
+/// The word `audit`.
+fn audit_command<'a>(alloc: Global) -> Command<'a>
+    ensures shape { shape_of result ≡ new_shape (codes "audit") }
+    ensures local { (out-Command result).has_globals ≡ false }
+{
+    Command::new(alloc, "audit")
+        .about("Tells whether a history of a link set is legal")
+        .after_help(AUDIT_PAGE)
+        .after_long_help(AUDIT_HELP)
 }
 
 /// The program's words but for its subcommands.

@@ -1,9 +1,10 @@
 //! What the subcommands do, over any source and sink.
 ghost use Rattle.std.specs.Prelude.{◌≡◌, ◌≤◌, ◌^◌, length, IfSome, OnOk};
 ghost use Rattle.printing.specs.Printing.{Prints, FailsByDevices};
-ghost use Rattle.mtpbank.specs.declared.running.TextFault.TheVariants.{Decode as DecodeFault, Play as PlayFault, Units as UnitsFault};
+ghost use Rattle.mtpbank.specs.declared.running.TextFault.TheVariants.{Audit as AuditedFault, Decode as DecodeFault, Play as PlayFault, Units as UnitsFault};
 ghost use Rattle.mtpbank.specs.Running.{IsTextOf, with_fault};
 
+use audit_text::{AuditFault, audit};
 use command_line::Words;
 use decode_text::{UnreadableUnit, decode};
 use play_text::{ScriptFault, play};
@@ -25,6 +26,9 @@ pub enum TextFault {
     /// In a way of `decode`.
     #[error("{0}")]
     Decode(UnreadableUnit),
+    /// In a way of `audit`.
+    #[error("{0}")]
+    Audit(AuditFault),
 }
 
 /// Reads what the source gives, and writes what the subcommand makes of it, up to the first fault.
@@ -45,6 +49,7 @@ pub fn run<S: Source, W: Sink>(
         Words::Play => of_play(play(alloc, source, sink)),
         Words::Decode => of_decode(decode(alloc, source, sink)),
         Words::Capture => of_play(capture(alloc, source, sink)),
+        Words::Audit => of_audit(audit(alloc, source, sink)),
     }
 }
 
@@ -81,6 +86,19 @@ fn of_decode(ran: Result<(), Fault<UnreadableUnit>>) -> Result<(), Fault<TextFau
     match ran {
         Ok(()) => Ok(()),
         Err(Fault::Input(fault)) => Err(Fault::Input(TextFault::Decode(fault))),
+        Err(Fault::Memory) => Err(Fault::Memory),
+        Err(Fault::Read) => Err(Fault::Read),
+        Err(Fault::Write) => Err(Fault::Write),
+    }
+}
+
+/// What `audit` answered, with a fault of any text.
+fn of_audit(ran: Result<(), Fault<AuditFault>>) -> Result<(), Fault<TextFault>>
+    ensures { result ≡ with_fault AuditedFault ran }
+{
+    match ran {
+        Ok(()) => Ok(()),
+        Err(Fault::Input(fault)) => Err(Fault::Input(TextFault::Audit(fault))),
         Err(Fault::Memory) => Err(Fault::Memory),
         Err(Fault::Read) => Err(Fault::Read),
         Err(Fault::Write) => Err(Fault::Write),

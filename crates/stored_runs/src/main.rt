@@ -1,13 +1,14 @@
 //! Stored runs: each script and each line of units beside which its output stands is run anew, and held against it.
 //!
 //! It reads the file `list` of the folder that it runs in: a name a line, of a script (`.play`), a line of units
-//! (`.units`), units to decode (`.decode`), or a table of scripts that all give the same: of each line of `NAME.first` a
-//! script is made, and of each line of `NAME.second` one with the opening before it. Beside `NAME.play` stands
+//! (`.units`), units to decode (`.decode`), a history to audit (`.history`), or a table of scripts that all give the same:
+//! of each line of `NAME.first` a script is made, and of each line of `NAME.second` one with the opening before it. Beside `NAME.play` stands
 //! `NAME.stdout`, what the run prints, and where it ends with a fault `NAME.fault`, the line that tells it. `NAME.pcap` is
 //! what the capture of `NAME.play` writes. A line is printed for each name.
 //! Whether a run is as it should be is all that this program tells; it proves nothing.
 #![tactic(auto)]
 
+use audit_text::audit;
 use decode_text::decode;
 use play_text::play;
 use printing::{Fault, Reader, Writer};
@@ -108,6 +109,8 @@ fn run_of(alloc: Global, name: &str, input: &[u8]) -> io::Result<Ran> {
         told_of(alloc, units(alloc, &mut source, &mut sink))?
     } else if name.ends_with(".decode") {
         told_of(alloc, decode(alloc, &mut source, &mut sink))?
+    } else if name.ends_with(".history") {
+        told_of(alloc, audit(alloc, &mut source, &mut sink))?
     } else if name.ends_with(".pcap") {
         told_of(alloc, capture(alloc, &mut source, &mut sink))?
     } else {

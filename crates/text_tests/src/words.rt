@@ -11,6 +11,7 @@ fn told_of(alloc: Global, words: &[&str]) -> Result<String, AllocError> {
         Ok(Words::Units) => "units".to_string(alloc),
         Ok(Words::Decode) => "decode".to_string(alloc),
         Ok(Words::Capture) => "capture".to_string(alloc),
+        Ok(Words::Audit) => "audit".to_string(alloc),
         Err(WordsFault::Words(error)) => error.to_string(alloc),
         Err(WordsFault::NoMemory) => Ok(String::new(alloc)),
     }
@@ -40,6 +41,7 @@ fn words_of_the_command_line(rt: HostRuntime) -> Result<(), Fail> {
     ask_for(rt.alloc(), &["units"], "units")?;
     ask_for(rt.alloc(), &["decode"], "decode")?;
     ask_for(rt.alloc(), &["capture"], "capture")?;
+    ask_for(rt.alloc(), &["audit"], "audit")?;
     ask_for(rt.alloc(), &["play", "--"], "play")?;
     let refused: [&[&str]; 4] = [&[], &["run"], &["play", "it"], &["--", "units"]];
     for words in refused {
@@ -57,7 +59,7 @@ fn a_word_that_is_not_unicode(rt: HostRuntime) {
 /// `-h` is a page of at most 25 rows and 80 columns, which names the program and leads to `--help`; that says more.
 #[test]
 fn short_help_is_a_page(rt: HostRuntime) -> Result<(), Fail> {
-    let asked: [(&[&str], &[&str], &str); 5] = [
+    let asked: [(&[&str], &[&str], &str); 6] = [
         (&["-h"], &["--help"], "\nUsage: mtpbank <COMMAND>\n"),
         (
             &["units", "-h"],
@@ -78,6 +80,11 @@ fn short_help_is_a_page(rt: HostRuntime) -> Result<(), Fail> {
             &["capture", "-h"],
             &["capture", "--help"],
             "\nUsage: mtpbank capture\n",
+        ),
+        (
+            &["audit", "-h"],
+            &["audit", "--help"],
+            "\nUsage: mtpbank audit\n",
         ),
     ];
     for (short, long, usage) in asked {

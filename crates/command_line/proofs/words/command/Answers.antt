@@ -12,6 +12,8 @@ returns c =
     ∙ ap₂ with_subcommand first c.play_command.ensures.shape in
     let third = c.in_ok-subcommand-3.ensures.shape c.decode_command.ensures.local
     ∙ ap₂ with_subcommand second c.decode_command.ensures.shape in
-    IfOk-weaker c.subcommand-4.result _ _
-    (λ command added. added.shape c.capture_command.ensures.local ∙ ap₂ with_subcommand third c.capture_command.ensures.shape)
-    c.subcommand-4.ensures
+    let fourth = c.in_ok-subcommand-4.ensures.shape c.capture_command.ensures.local
+    ∙ ap₂ with_subcommand third c.capture_command.ensures.shape in
+    IfOk-weaker c.subcommand-5.result _ _
+    (λ command added. added.shape c.audit_command.ensures.local ∙ ap₂ with_subcommand fourth c.audit_command.ensures.shape)
+    c.subcommand-5.ensures

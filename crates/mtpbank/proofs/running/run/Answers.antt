@@ -2,7 +2,8 @@ use Rattle.units_text.specs.UnitsText.{IsUnitsText}
 use Rattle.play_text.specs.PlayText.{IsPlayText}
 use Rattle.decode_text.specs.Decoding.{IsDecodeText}
 use Rattle.script_capture.specs.Capture.{IsCapture}
-use Rattle.mtpbank.specs.declared.running.TextFault.TheVariants.{Units as UnitsFault, Play as PlayFault, Decode as DecodeFault}
+use Rattle.audit_text.specs.Auditing.{IsAuditText}
+use Rattle.mtpbank.specs.declared.running.TextFault.TheVariants.{Units as UnitsFault, Play as PlayFault, Decode as DecodeFault, Audit as AuditedFault}
 use Rattle.mtpbank.proofs.RunLemmas.{prints_all}
 use Rattle.mtpbank.proofs.running.run.Goals as goal
 
@@ -17,3 +18,6 @@ returns-in-Decode-clause-text g c = rw (c.of_decode.ensures, c.in-Decode.is) (pr
 
 pub returns-in-Capture-clause-text : goal.returns-in-Capture-clause-text
 returns-in-Capture-clause-text g c = rw (c.of_play-in-Capture.ensures, c.in-Capture.is) (prints_all IsCapture PlayFault c.capture.result _ _ _ c.capture.ensures.text)
+
+pub returns-in-Audit-clause-text : goal.returns-in-Audit-clause-text
+returns-in-Audit-clause-text g c = rw (c.of_audit.ensures, c.in-Audit.is) (prints_all IsAuditText AuditedFault c.audit.result _ _ _ c.audit.ensures.text)
