@@ -1,7 +1,7 @@
 //! The text of `audit`: a history that is read, wherever it comes from, and whether it's legal.
 //!
 //! ```text
-//! octets -> lines -> configuration and entries (history_lines) -> the first wrong one (history_audit) -> legal=yes, legal=no
+//! octets -> configuration and entries (history_lines) -> the first wrong one (history_audit) -> legal=yes or legal=no
 //! ```
 //!
 //! [`audit`] reads a source's history and writes one line about it. `specs/Auditing.antt` is the text: `legal=yes`

@@ -1,12 +1,11 @@
 -- THE COMMAND LINE: the words behind the program's name, as the library that reads them defines it.
-use Rattle.std.specs.Prelude.{◌≡◌, ◌≢◌, ℕ, true, List, [], codes, drop, map, Option, Some, String, string_bytes}
-use Rattle.std.specs.Option.{option_map}
-use Rattle.clap.specs.Words.{App, Shape, with_subcommand, subcommand_of, takes}
+use Rattle.std.specs.Prelude.{◌≡◌, ℕ, true, List, [], ◌∷◌, codes, drop, map, Option, None, Some, String, string_bytes}
+use Rattle.clap.specs.Words.{App, Shape, Row, Rule, Text, first_of, new_rule, with_subcommand, subcommand_of, takes}
 use Rattle.clap.specs.Simple.{new_shape}
 use Rattle.clap.specs.Values.{kind_of}
 use Rattle.clap.specs.declared.error.kind.ErrorKind.{ErrorKind}
 use Rattle.command_line.specs.declared.words.Words.{Words}
-use Rattle.command_line.specs.declared.words.Words.TheVariants.{Units, Play, Decode, Capture, Audit}
+use Rattle.command_line.specs.declared.words.Words.TheVariants.{Units, Play, Decode, Capture, Audit, HistoryOfA, HistoryOfB}
 use Rattle.command_line.specs.declared.words.WordsFault.{WordsFault}
 use Rattle.command_line.specs.declared.words.WordsFault.TheVariants.{NoMemory, Words as WrongWords}
 
@@ -21,7 +20,7 @@ program_itself = record (new_shape (codes "mtpbank")) {
 abbrev pub without_subcommands : App
 without_subcommands = record { top = program_itself; subs = [] }
 
--- five subcommands, which take no words
+-- five subcommands, which take no words, and one that takes an end
 abbrev pub units_and_play : App
 units_and_play =
     with_subcommand (with_subcommand without_subcommands (new_shape (codes "units"))) (new_shape (codes "play"))
@@ -30,8 +29,17 @@ abbrev pub with_units : App
 with_units =
     with_subcommand (with_subcommand units_and_play (new_shape (codes "decode"))) (new_shape (codes "capture"))
 
+abbrev pub without_history : App
+without_history = with_subcommand with_units (new_shape (codes "audit"))
+
+abbrev pub end_rule : Rule
+end_rule = record (new_rule (codes "END")) { required = true }
+
+abbrev pub history_shape : Shape
+history_shape = record (new_shape (codes "history")) { rules = end_rule ∷ [] }
+
 abbrev pub program : App
-program = with_subcommand with_units (new_shape (codes "audit"))
+program = with_subcommand without_history history_shape
 
 -- the subcommand that was asked for
 abbrev pub name_of : Words → List ℕ
@@ -40,19 +48,40 @@ name_of Play = codes "play"
 name_of Decode = codes "decode"
 name_of Capture = codes "capture"
 name_of Audit = codes "audit"
+name_of HistoryOfA = codes "history"
+name_of HistoryOfB = codes "history"
 
 -- the words of a program's arguments, of which the first is its own name
 abbrev pub words_in : {A : Type 0} → List (String A) → List (List ℕ)
 words_in args = map string_bytes (drop 1 args)
 
--- the subcommand that the library finds in these words, if any
-abbrev pub named_by : List (List ℕ) → Option (List ℕ)
-named_by words = option_map (λ p. p.0) (subcommand_of program words)
+-- the word that stands behind it, where one does
+abbrev pub IsEnd : Words → Option (List ℕ) → Type 0
+IsEnd Units end = Unit {0}
+IsEnd Play end = Unit {0}
+IsEnd Decode end = Unit {0}
+IsEnd Capture end = Unit {0}
+IsEnd Audit end = Unit {0}
+IsEnd HistoryOfA end = end ≡ Some (codes "a")
+IsEnd HistoryOfB end = end ≡ Some (codes "b")
 
--- where the library takes the words, they name no subcommand of the program
+-- a name of a subcommand, and the word behind it, ask for this
+pub record IsWord (asked : Words) (name : List ℕ) (end : Option (List ℕ)) : Type 0 where
+  pub name_is : name ≡ name_of asked
+  pub end_is : IsEnd asked end
+
+-- what the library finds in words asks for this: a subcommand of this name, and what it has for END
+abbrev pub IsFound : Words → Option (Text × List Row) → Type 0
+IsFound asked None = ⊥
+IsFound asked (Some found) = IsWord asked found.0 (first_of (codes "END") found.1)
+
+abbrev pub IsAsked : Words → List (List ℕ) → Type 0
+IsAsked asked words = IsFound asked (subcommand_of program words)
+
+-- where the library takes the words, they ask for nothing
 abbrev pub IsRefused : List (List ℕ) → Type 0
 IsRefused words =
-    takes program words ≡ true → (asked : Words) → named_by words ≢ Some (name_of asked)
+    takes program words ≡ true → (asked : Words) → IsAsked asked words → ⊥
 
 -- wrong words are those; want of memory says nothing of them
 abbrev pub Refuses : WordsFault → List (List ℕ) → Type 0

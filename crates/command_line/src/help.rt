@@ -35,6 +35,26 @@ Each prints a line: fisu, lssu or msu, what its header and check octets are, its
 status, or its label with an order or with stream and data; or `no unit`.
 `mtpbank decode --help` says what each word of it tells, and each fault.";
 
+pub(crate) const HISTORY_PAGE: &str = "\
+END is a or b. Standard input is a script, as that of `mtpbank play`. What is
+printed is the history of that end: what it was opened with, and a line for each
+thing that it was asked and answered, which `mtpbank audit` reads:
+  mtpbank history a < examples/changeover.play | mtpbank audit
+`mtpbank history --help` says what stands in it, and each fault.";
+
+pub(crate) const HISTORY_HELP: &str = "\
+END is a or b. Standard input is a script, as `mtpbank play --help` says. When it has ended, all that this end was asked
+and answered is printed, an entry a line, in the order in which it was:
+  set links=L method=W a=X b=Y sio=HH                what the end was opened with; here X is its own point code, and Y
+                      the far end's
+  user 0 ..           what the script offers, takes and looks for at this end
+  terminal L ..       what happens to link L there: next is a unit that is sent, hear one that arrives
+`mtpbank audit --help` says how each line is written. A script without a line prints nothing.
+A fault ends the script: one line on standard error, with status 1, and no history is printed. The faults are those of
+`mtpbank play`:
+  fault line N text, fault line N step, fault exhausted
+  fault read, fault write, fault memory";
+
 pub(crate) const CAPTURE_PAGE: &str = "\
 Standard input is a script, as that of `mtpbank play`. What is written is a file
 of the units that its ends send, for Wireshark and other network analysers:
@@ -52,9 +72,9 @@ the line of the first entry that no such set makes.
 `mtpbank audit --help` says how each line is written, and each fault.";
 
 pub(crate) const AUDIT_HELP: &str = "\
-Standard input is a history of one link set. Lines that are empty or begin with # are passed over; the first other line
-is the one that opens a script (`mtpbank play --help`), with a the set's own point code and b the far end's. Each further
-line is an entry: who asked, what, an arrow, and what was answered, in lower case with one space between two words:
+Standard input is a history of one link set. Lines that are empty or begin with # are passed over; the first other
+line is the one that opens a script (`mtpbank play --help`), with a the set's own point code and b the far end's. Each
+further line is an entry: who asked, what, an arrow, and what was answered, in lower case with one space between two words:
   user N ..           user N, 0 to 63, who offers, takes or looks for messages
   terminal L ..       the terminal of link L, 0 to 15
   .. offer HEX, .. take, .. find N                   as in a script; offer without HEX is the empty body
@@ -116,7 +136,7 @@ pub(crate) const HELP: &str = "\
 All read standard input to its end, as in `mtpbank play < examples/changeover.play`. `mtpbank play --help` says
 how a script is written and what it prints, `mtpbank units --help` and `mtpbank decode --help` which digits are
 read and what is printed, `mtpbank capture --help` what the file holds,
-`mtpbank audit --help` how a history is written; with `-h` each is a page. A fault is one line on standard error, and
+`mtpbank history --help` and `mtpbank audit --help` how a history is; with `-h` each is a page. A fault is one line on standard error, and
 what was printed before it stays:
   fault line N text, fault line N step               a line can't be read, or one of a script can't be done
   fault octet P                                      a character is no hexadecimal digit, or one is left over

@@ -1,19 +1,20 @@
 //! The words of the command line.
-ghost use Rattle.std.specs.Prelude.{◌≡◌, ◌≢◌, IfErr, IfOk, MatchOption, Some, codes, false, map};
-ghost use Rattle.clap.specs.Words.{app_of, subcommand_name_of};
-ghost use Rattle.clap.specs.declared.error.ErrorKind.TheVariants.{InvalidSubcommand, MissingSubcommand, OutOfMemory};
+ghost use Rattle.std.specs.Prelude.{◌≡◌, ◌≢◌, IfErr, IfOk, MatchOption, codes, false, map};
+ghost use Rattle.std.specs.Option.{option_map};
+ghost use Rattle.clap.specs.Words.{app_of, subcommand_rows_of};
+ghost use Rattle.clap.specs.declared.error.ErrorKind.TheVariants.{InvalidSubcommand, InvalidValue, OutOfMemory};
 ghost use Rattle.clap.specs.Simple.{new_shape, shape_of};
 ghost use Rattle.clap.specs.declared.builder.command.Command.{out-Command};
 ghost use Rattle.clap.specs.Values.{kind_of};
-ghost use Rattle.command_line.specs.CommandLine.{program, without_subcommands, name_of, named_by, words_in};
-ghost use Rattle.command_line.specs.CommandLine.{AreWrong, IsKind, Refuses};
+ghost use Rattle.command_line.specs.CommandLine.{program, without_subcommands, history_shape, words_in};
+ghost use Rattle.command_line.specs.CommandLine.{AreWrong, IsAsked, IsFound, IsKind, IsWord, Refuses};
 
 use super::help::{
-    AUDIT_HELP, AUDIT_PAGE, CAPTURE_HELP, CAPTURE_PAGE, DECODE_HELP, DECODE_PAGE, HELP, PLAY_HELP, PLAY_PAGE, PROGRAM_PAGE,
-    UNITS_HELP, UNITS_PAGE,
+    AUDIT_HELP, AUDIT_PAGE, CAPTURE_HELP, CAPTURE_PAGE, DECODE_HELP, DECODE_PAGE, HELP,
+    HISTORY_HELP, HISTORY_PAGE, PLAY_HELP, PLAY_PAGE, PROGRAM_PAGE, UNITS_HELP, UNITS_PAGE,
 };
 use clap::error::ErrorKind;
-use clap::{ArgMatches, Command};
+use clap::{Arg, ArgMatches, Command};
 use std::alloc::{AllocError, Global};
 use std::convert::AsStr;
 
@@ -30,6 +31,10 @@ pub enum Words {
     Capture,
     /// Tell whether the history on standard input is legal.
     Audit,
+    /// Print the history of end a of a script.
+    HistoryOfA,
+    /// Print the history of end b of a script.
+    HistoryOfB,
 }
 
 /// Why the words ask for nothing.
@@ -55,9 +60,9 @@ impl From<AllocError> for WordsFault {
 /// What these words, those after the program's name, ask for.
 ///
 /// 1 [`WordsFault::NoMemory`] may come before the other; 2 [`WordsFault::Words`] only where `clap`'s definition
-/// refuses the words, or where they name no subcommand of the program.
+/// refuses the words, or where they name no subcommand of the program, or no end behind `history`.
 pub fn words_of<S: AsStr>(alloc: Global, words: &[S]) -> Result<Words, WordsFault>
-    ensures asked { IfOk result (λ found. named_by (map S.text words.now) ≡ Some (name_of found)) }
+    ensures asked { IfOk result (λ found. IsAsked found (map S.text words.now)) }
     ensures refused { IfErr result (λ fault. Refuses fault (map S.text words.now)) }
 {
     let mut command = command(alloc)?;
@@ -67,7 +72,7 @@ pub fn words_of<S: AsStr>(alloc: Global, words: &[S]) -> Result<Words, WordsFaul
 /// What these arguments ask for: the first is the program's own name, as the system hands it, and the words are all
 /// behind it. Faults as [`words_of`]'s, of those words.
 pub fn asked_by(alloc: Global, args: &[String]) -> Result<Words, WordsFault>
-    ensures asked { IfOk result (λ found. named_by (words_in args.now) ≡ Some (name_of found)) }
+    ensures asked { IfOk result (λ found. IsAsked found (words_in args.now)) }
     ensures refused { IfErr result (λ fault. Refuses fault (words_in args.now)) }
 {
     if args.is_empty() {
@@ -79,7 +84,7 @@ pub fn asked_by(alloc: Global, args: &[String]) -> Result<Words, WordsFault>
 /// What the program's command finds in the words.
 fn found_by<'a, S: AsStr>(command: &mut Command<'a>, words: &'a [S]) -> Result<Words, WordsFault>
     requires { app_of command.old ≡ program }
-    ensures asked { IfOk result (λ found. named_by (map S.text words.entry.now) ≡ Some (name_of found)) }
+    ensures asked { IfOk result (λ found. IsAsked found (map S.text words.entry.now)) }
     ensures refused { IfErr result (λ fault. Refuses fault (map S.text words.entry.now)) }
 {
     match command.try_get_matches_from_mut(words) {
@@ -91,27 +96,54 @@ fn found_by<'a, S: AsStr>(command: &mut Command<'a>, words: &'a [S]) -> Result<W
     }
 }
 
-/// The subcommand that was found.
+/// What the subcommand that was found asks for.
 fn named(matches: &ArgMatches<'_>) -> Option<Words>
     ensures { MatchOption result
-        ((asked : Words) → subcommand_name_of matches.now ≢ Some (name_of asked))
-        (λ asked. subcommand_name_of matches.now ≡ Some (name_of asked)) }
+        ((asked : Words) → IsFound asked (subcommand_rows_of matches.now) → ⊥)
+        (λ asked. IsFound asked (subcommand_rows_of matches.now)) }
 {
-    match matches.subcommand_name() {
-        Some("units") => Some(Words::Units),
-        Some("play") => Some(Words::Play),
-        Some("decode") => Some(Words::Decode),
-        Some("capture") => Some(Words::Capture),
-        Some("audit") => Some(Words::Audit),
+    let (name, found) = matches.subcommand()?;
+    word_of(name, found.get_str("END"))
+}
+
+/// What a subcommand of this name asks for, with the word behind it, if there is one.
+fn word_of(name: &str, end: Option<&str>) -> Option<Words>
+    ensures { MatchOption result
+        ((asked : Words) → IsWord asked name.now (option_map (λ s. s.now) end.entry) → ⊥)
+        (λ asked. IsWord asked name.now (option_map (λ s. s.now) end.entry)) }
+{
+    match name {
+        "units" => Some(Words::Units),
+        "play" => Some(Words::Play),
+        "decode" => Some(Words::Decode),
+        "capture" => Some(Words::Capture),
+        "audit" => Some(Words::Audit),
+        "history" => history_of(end),
         _ => None,
     }
 }
 
-/// The words name no subcommand of the program.
-fn nothing_asked(command: &mut Command<'_>) -> WordsFault
-    ensures { IsKind MissingSubcommand result }
+/// The history that is asked for.
+fn history_of(end: Option<&str>) -> Option<Words>
+    ensures { MatchOption result
+        ((asked : Words) → IsWord asked (codes "history") (option_map (λ s. s.now) end.entry) → ⊥)
+        (λ asked. IsWord asked (codes "history") (option_map (λ s. s.now) end.entry)) }
 {
-    match command.error(ErrorKind::MissingSubcommand, "a subcommand is wanted") {
+    match end {
+        Some("a") => Some(Words::HistoryOfA),
+        Some("b") => Some(Words::HistoryOfB),
+        _ => None,
+    }
+}
+
+/// The words ask for nothing: the end is neither.
+fn nothing_asked(command: &mut Command<'_>) -> WordsFault
+    ensures { IsKind InvalidValue result }
+{
+    match command.error(
+        ErrorKind::InvalidValue,
+        "an end is a or b, as in `mtpbank history a`",
+    ) {
         Ok(error) => WordsFault::Words(error),
         Err(_) => WordsFault::NoMemory,
     }
@@ -157,7 +189,8 @@ fn command<'a>(alloc: Global) -> Result<Command<'a>, AllocError>
         .subcommand(play_command(alloc))?
         .subcommand(decode_command(alloc))?
         .subcommand(capture_command(alloc))?
-        .subcommand(audit_command(alloc))
+        .subcommand(audit_command(alloc))?
+        .subcommand(history_command(alloc)?)
 }
 
 /// The word `units`.
@@ -213,6 +246,19 @@ fn audit_command<'a>(alloc: Global) -> Command<'a>
         .about("Tells whether a history of a link set is legal")
         .after_help(AUDIT_PAGE)
         .after_long_help(AUDIT_HELP)
+}
+
+/// The word `history`, and an end behind it.
+fn history_command<'a>(alloc: Global) -> Result<Command<'a>, AllocError>
+    ensures shape { IfOk result (λ command. shape_of command ≡ history_shape) }
+    ensures local { IfOk result (λ command. (out-Command command).has_globals ≡ false) }
+{
+    let end = Arg::new(alloc, "END").required(true);
+    Command::new(alloc, "history")
+        .about("Prints what an end of a script, a or b, was asked and answered")
+        .after_help(HISTORY_PAGE)
+        .after_long_help(HISTORY_HELP)
+        .arg(end)
 }
 
 /// The program's words but for its subcommands.

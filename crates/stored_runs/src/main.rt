@@ -4,7 +4,7 @@
 //! (`.units`), units to decode (`.decode`), a history to audit (`.history`), or a table of scripts that all give the same:
 //! of each line of `NAME.first` a script is made, and of each line of `NAME.second` one with the opening before it. Beside `NAME.play` stands
 //! `NAME.stdout`, what the run prints, and where it ends with a fault `NAME.fault`, the line that tells it. `NAME.pcap` is
-//! what the capture of `NAME.play` writes. A line is printed for each name.
+//! what the capture of `NAME.play` writes, `NAME.history_a` and `NAME.history_b` what the histories of its ends print. A line is printed for each name.
 //! Whether a run is as it should be is all that this program tells; it proves nothing.
 #![tactic(auto)]
 
@@ -13,6 +13,7 @@ use decode_text::decode;
 use play_text::play;
 use printing::{Fault, Reader, Writer};
 use script_capture::capture;
+use script_history::{End, history};
 use std::alloc::Global;
 use std::fmt::Display;
 use std::process::ExitCode;
@@ -69,9 +70,14 @@ fn all_give(rt: &HostRuntime, name: &str, opening: &str, stored: &Ran) -> io::Re
     Ok(all)
 }
 
-/// The file that the run of this name reads: a capture is that of the script beside it.
+/// Whether the run of this name is told of the script beside it: its capture, or the history of one of its ends.
+fn is_of_a_script(name: &str) -> bool {
+    name.ends_with(".pcap") || name.ends_with(".history_a") || name.ends_with(".history_b")
+}
+
+/// The file that the run of this name reads.
 fn input_of(alloc: Global, name: &str) -> io::Result<String> {
-    if name.ends_with(".pcap") {
+    if is_of_a_script(name) {
         beside(alloc, name, "play")
     } else {
         Ok(format!(in alloc; "{name}")?)
@@ -80,7 +86,7 @@ fn input_of(alloc: Global, name: &str) -> io::Result<String> {
 
 /// What is stored beside this name, or under it.
 fn stored_beside(rt: &HostRuntime, name: &str) -> io::Result<Ran> {
-    let printed = if name.ends_with(".pcap") {
+    let printed = if is_of_a_script(name) {
         fs::read(rt, name)?
     } else {
         fs::read(rt, beside(rt.alloc(), name, "stdout")?.as_str())?
@@ -109,6 +115,10 @@ fn run_of(alloc: Global, name: &str, input: &[u8]) -> io::Result<Ran> {
         told_of(alloc, units(alloc, &mut source, &mut sink))?
     } else if name.ends_with(".decode") {
         told_of(alloc, decode(alloc, &mut source, &mut sink))?
+    } else if name.ends_with(".history_a") {
+        told_of(alloc, history(alloc, End::A, &mut source, &mut sink))?
+    } else if name.ends_with(".history_b") {
+        told_of(alloc, history(alloc, End::B, &mut source, &mut sink))?
     } else if name.ends_with(".history") {
         told_of(alloc, audit(alloc, &mut source, &mut sink))?
     } else if name.ends_with(".pcap") {

@@ -12,6 +12,8 @@ fn told_of(alloc: Global, words: &[&str]) -> Result<String, AllocError> {
         Ok(Words::Decode) => "decode".to_string(alloc),
         Ok(Words::Capture) => "capture".to_string(alloc),
         Ok(Words::Audit) => "audit".to_string(alloc),
+        Ok(Words::HistoryOfA) => "history a".to_string(alloc),
+        Ok(Words::HistoryOfB) => "history b".to_string(alloc),
         Err(WordsFault::Words(error)) => error.to_string(alloc),
         Err(WordsFault::NoMemory) => Ok(String::new(alloc)),
     }
@@ -42,8 +44,18 @@ fn words_of_the_command_line(rt: HostRuntime) -> Result<(), Fail> {
     ask_for(rt.alloc(), &["decode"], "decode")?;
     ask_for(rt.alloc(), &["capture"], "capture")?;
     ask_for(rt.alloc(), &["audit"], "audit")?;
+    ask_for(rt.alloc(), &["history", "a"], "history a")?;
+    ask_for(rt.alloc(), &["history", "b"], "history b")?;
     ask_for(rt.alloc(), &["play", "--"], "play")?;
-    let refused: [&[&str]; 4] = [&[], &["run"], &["play", "it"], &["--", "units"]];
+    let refused: [&[&str]; 7] = [
+        &[],
+        &["run"],
+        &["play", "it"],
+        &["--", "units"],
+        &["history"],
+        &["history", "c"],
+        &["history", "a", "b"],
+    ];
     for words in refused {
         are_refused(rt.alloc(), words)?;
     }
@@ -59,7 +71,7 @@ fn a_word_that_is_not_unicode(rt: HostRuntime) {
 /// `-h` is a page of at most 25 rows and 80 columns, which names the program and leads to `--help`; that says more.
 #[test]
 fn short_help_is_a_page(rt: HostRuntime) -> Result<(), Fail> {
-    let asked: [(&[&str], &[&str], &str); 6] = [
+    let asked: [(&[&str], &[&str], &str); 7] = [
         (&["-h"], &["--help"], "\nUsage: mtpbank <COMMAND>\n"),
         (
             &["units", "-h"],
@@ -85,6 +97,11 @@ fn short_help_is_a_page(rt: HostRuntime) -> Result<(), Fail> {
             &["audit", "-h"],
             &["audit", "--help"],
             "\nUsage: mtpbank audit\n",
+        ),
+        (
+            &["history", "-h"],
+            &["history", "--help"],
+            "\nUsage: mtpbank history <END>\n",
         ),
     ];
     for (short, long, usage) in asked {

@@ -3,6 +3,8 @@ use Rattle.play_text.specs.PlayText.{IsPlayText}
 use Rattle.decode_text.specs.Decoding.{IsDecodeText}
 use Rattle.script_capture.specs.Capture.{IsCapture}
 use Rattle.audit_text.specs.Auditing.{IsAuditText}
+use Rattle.script_history.specs.Histories.{IsHistoryText}
+use Rattle.world_steps.specs.declared.step.End.TheVariants.{A, B}
 use Rattle.mtpbank.specs.declared.running.TextFault.TheVariants.{Units as UnitsFault, Play as PlayFault, Decode as DecodeFault, Audit as AuditedFault}
 use Rattle.mtpbank.proofs.RunLemmas.{prints_all}
 use Rattle.mtpbank.proofs.running.run.Goals as goal
@@ -21,3 +23,9 @@ returns-in-Capture-clause-text g c = rw (c.of_play-in-Capture.ensures, c.in-Capt
 
 pub returns-in-Audit-clause-text : goal.returns-in-Audit-clause-text
 returns-in-Audit-clause-text g c = rw (c.of_audit.ensures, c.in-Audit.is) (prints_all IsAuditText AuditedFault c.audit.result _ _ _ c.audit.ensures.text)
+
+pub returns-in-HistoryOfA-clause-text : goal.returns-in-HistoryOfA-clause-text
+returns-in-HistoryOfA-clause-text g c = rw (c.of_play-in-HistoryOfA.ensures, c.in-HistoryOfA.is) (prints_all (IsHistoryText A) PlayFault c.history.result _ _ _ c.history.ensures.text)
+
+pub returns-in-HistoryOfB-clause-text : goal.returns-in-HistoryOfB-clause-text
+returns-in-HistoryOfB-clause-text g c = rw (c.of_play-in-HistoryOfB.ensures, c.in-HistoryOfB.is) (prints_all (IsHistoryText B) PlayFault c.history-in-HistoryOfB.result _ _ _ c.history-in-HistoryOfB.ensures.text)

@@ -1,0 +1,32 @@
+//! `mtpbank history`: what one end of a script was asked and answered.
+ghost use Rattle.std.specs.Prelude.{◌≤◌, ◌^◌, length, IfSome, OnOk};
+ghost use Rattle.printing.specs.Printing.{Prints, FailsByDevices};
+ghost use Rattle.script_history.specs.Histories.{IsHistoryText};
+
+use super::accounts::{HistoryOfA, HistoryOfB};
+use pair_world::End;
+use printing::{Fault, Sink, Source};
+use script_text::{ScriptFault, tell_script};
+use std::alloc::Global;
+
+/// Plays the script that the source gives, and writes the history of this end when it has ended.
+///
+/// Ends with the first fault, and writes nothing then. An input of more than 2^24 octets is never answered Ok, and one
+/// of 2^24 or more may be [`Fault::Read`], as [`tell_script`] tells.
+pub fn history<S: Source, W: Sink>(
+    alloc: Global,
+    end: End,
+    source: &mut S,
+    sink: &mut W,
+) -> Result<(), Fault<ScriptFault>>
+    ensures text { IfSome (S.left source.old)
+        (λ input. Prints result (IsHistoryText end input) (W.written sink.old) (W.written sink.new)) }
+    ensures bounded { IfSome (S.left source.old) (λ input. OnOk result (length input ≤ 2 ^ 24)) }
+    ensures devices { IfSome (S.left source.old)
+        (FailsByDevices result (S.has_failed source.new) (W.has_failed sink.new)) }
+{
+    match end {
+        End::A => tell_script::<HistoryOfA, S, W>(alloc, source, sink),
+        End::B => tell_script::<HistoryOfB, S, W>(alloc, source, sink),
+    }
+}
