@@ -69,19 +69,21 @@ label_text sio a b c d =
 -- the link that an order speaks of, and what it carries (Q.704 15.4 to 15.6)
 abbrev pub about : List ℕ → ℕ → List ℕ → ℕ → List ℕ
 about name link field number =
-    codes " " ++ (name ++ (codes " link " ++ (decimal link
-    ++ (codes " " ++ (field ++ (codes "=" ++ (decimal number ++ codes "\n")))))))
+    name ++ (codes " link " ++ (decimal link ++ (codes " " ++ (field ++ (codes "=" ++ decimal number)))))
 
 abbrev pub about_no_number : List ℕ → ℕ → List ℕ
-about_no_number name link = codes " " ++ (name ++ (codes " link " ++ (decimal link ++ codes "\n")))
+about_no_number name link = name ++ (codes " link " ++ decimal link)
+
+abbrev pub order_words : Order → List ℕ
+order_words (Coo link number) = about (codes "COO") link (codes "fsn") number
+order_words (Coa link number) = about (codes "COA") link (codes "fsn") number
+order_words (Cbd link code) = about (codes "CBD") link (codes "code") code
+order_words (Cba link code) = about (codes "CBA") link (codes "code") code
+order_words (Eco link) = about_no_number (codes "ECO") link
+order_words (Eca link) = about_no_number (codes "ECA") link
 
 abbrev pub order_text : Order → List ℕ
-order_text (Coo link number) = about (codes "COO") link (codes "fsn") number
-order_text (Coa link number) = about (codes "COA") link (codes "fsn") number
-order_text (Cbd link code) = about (codes "CBD") link (codes "code") code
-order_text (Cba link code) = about (codes "CBA") link (codes "code") code
-order_text (Eco link) = about_no_number (codes "ECO") link
-order_text (Eca link) = about_no_number (codes "ECA") link
+order_text order = codes " " ++ (order_words order ++ codes "\n")
 
 -- any other message is one of the stream that its SLS is, and has this behind its label
 abbrev pub data_text : ℕ → List ℕ → List ℕ

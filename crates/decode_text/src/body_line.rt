@@ -1,7 +1,7 @@
 //! What is said of a message.
 ghost use Rattle.std.specs.Prelude.{◌≡◌, ◌++◌, IfOk, codes, decimal};
 ghost use Rattle.figures.specs.Figures.{hex_text};
-ghost use Rattle.decode_text.specs.Decoding.{about as about_in, about_no_number, body_text, data_text, label_text, order_text, short_text};
+ghost use Rattle.decode_text.specs.Decoding.{about as about_in, about_no_number, body_text, data_text, label_text, order_text, order_words, short_text};
 
 use super::unit_line::write_both;
 use figures::push_hex;
@@ -43,9 +43,22 @@ fn write_label(alloc: Global, sio: u8, a: u8, b: u8, c: u8, d: u8) -> Result<Vec
     Ok(format!(in alloc; " si={si} ssf={ssf} dpc={dpc} opc={opc}")?.into_bytes())
 }
 
-/// An order of the changeover or the changeback.
+/// An order of the changeover or the changeback, in its line.
 fn write_order(alloc: Global, order: Order) -> Result<Vec<u8>, AllocError>
     ensures { IfOk result (λ text. text.items ≡ order_text order) }
+{
+    let mut text = write_both(
+        Vec::from_slice(alloc, b" ")?,
+        &write_order_words(alloc, order)?,
+    )?;
+    text.push(b'\n')?;
+    Ok(text)
+}
+
+/// An order of the changeover or the changeback: its name, the link that it speaks of, and what it carries, as
+/// `COO link 1 fsn=0` (Q.704 15.4 to 15.6).
+pub fn write_order_words(alloc: Global, order: Order) -> Result<Vec<u8>, AllocError>
+    ensures { IfOk result (λ text. text.items ≡ order_words order) }
 {
     match order {
         Order::Coo { link, number } => about(alloc, "COO", link, "fsn", number),
@@ -67,14 +80,14 @@ fn about(
 ) -> Result<Vec<u8>, AllocError>
     ensures { IfOk result (λ text. text.items ≡ about_in name.now link field.now number) }
 {
-    Ok(format!(in alloc; " {name} link {link} {field}={number}\n")?.into_bytes())
+    Ok(format!(in alloc; "{name} link {link} {field}={number}")?.into_bytes())
 }
 
 /// An order that carries nothing.
 fn about_link(alloc: Global, name: &str, link: u8) -> Result<Vec<u8>, AllocError>
     ensures { IfOk result (λ text. text.items ≡ about_no_number name.now link) }
 {
-    Ok(format!(in alloc; " {name} link {link}\n")?.into_bytes())
+    Ok(format!(in alloc; "{name} link {link}")?.into_bytes())
 }
 
 /// The stream of a message, and what stands behind its label.

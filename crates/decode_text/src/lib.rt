@@ -17,5 +17,6 @@ mod fault;
 mod text;
 mod unit_line;
 
+pub use body_line::write_order_words;
 pub use fault::UnreadableUnit;
 pub use text::decode;

@@ -12,9 +12,18 @@ use world_steps::{Shown, Step};
 pub(crate) struct Answers;
 
 impl Account for Answers {
+    type Note = ();
+
     ghost use Rattle.play_text.specs.PlayText.{play_told};
 
     ghost told = { play_told };
+
+    ghost is_note = { λ world step note. Unit {0} };
+
+    fn note(world: &World, step: &Step) {
+        let _ = world;
+        let _ = step;
+    }
 
     fn tell_opening(alloc: Global, world: &World, out: &mut Vec<u8>) -> Result<(), AllocError> {
         let _ = alloc;
@@ -26,12 +35,14 @@ impl Account for Answers {
     fn tell_step(
         alloc: Global,
         number: u64,
+        note: (),
         step: &Step,
         shown: &Shown,
         world: &World,
         out: &mut Vec<u8>,
     ) -> Result<(), AllocError> {
         let _ = number;
+        let () = note;
         let _ = step;
         let _ = world;
         out.extend_from_slice(&write_shown(alloc, shown)?)

@@ -49,7 +49,7 @@ at_the_end None = file_head
 at_the_end (Some w) = []
 
 abbrev pub capture_told : Told
-capture_told = record { opening = λ w. file_head; step = λ n step shown w. shown_record n shown; at_the_end = at_the_end }
+capture_told = record { opening = λ w. file_head; step = λ n before step shown w. shown_record n shown; at_the_end = at_the_end }
 
 -- THE FILE (script_text, specs/Scripts.antt)
 abbrev pub IsCapture : List ℕ → Printed ScriptFault → Type 0

@@ -15,9 +15,18 @@ use world_steps::{Shown, Step};
 struct Units;
 
 impl Account for Units {
+    type Note = ();
+
     ghost use Rattle.script_capture.specs.Capture.{capture_told};
 
     ghost told = { capture_told };
+
+    ghost is_note = { λ world step note. Unit {0} };
+
+    fn note(world: &World, step: &Step) {
+        let _ = world;
+        let _ = step;
+    }
 
     fn tell_opening(alloc: Global, world: &World, out: &mut Vec<u8>) -> Result<(), AllocError> {
         let _ = alloc;
@@ -28,11 +37,13 @@ impl Account for Units {
     fn tell_step(
         alloc: Global,
         number: u64,
+        note: (),
         step: &Step,
         shown: &Shown,
         world: &World,
         out: &mut Vec<u8>,
     ) -> Result<(), AllocError> {
+        let () = note;
         let _ = step;
         let _ = world;
         match shown {

@@ -13,10 +13,19 @@ use world_steps::{Shown, Step};
 pub(crate) struct HistoryOfA;
 
 impl Account for HistoryOfA {
+    type Note = ();
+
     ghost use Rattle.world_steps.specs.declared.step.End.TheVariants.{A};
     ghost use Rattle.script_history.specs.Histories.{history_told};
 
     ghost told = { history_told A };
+
+    ghost is_note = { λ world step note. Unit {0} };
+
+    fn note(world: &World, step: &Step) {
+        let _ = world;
+        let _ = step;
+    }
 
     fn tell_opening(alloc: Global, world: &World, out: &mut Vec<u8>) -> Result<(), AllocError> {
         let _ = alloc;
@@ -28,6 +37,7 @@ impl Account for HistoryOfA {
     fn tell_step(
         alloc: Global,
         number: u64,
+        note: (),
         step: &Step,
         shown: &Shown,
         world: &World,
@@ -35,6 +45,7 @@ impl Account for HistoryOfA {
     ) -> Result<(), AllocError> {
         let _ = alloc;
         let _ = number;
+        let () = note;
         let _ = step;
         let _ = shown;
         let _ = world;
@@ -51,10 +62,19 @@ impl Account for HistoryOfA {
 pub(crate) struct HistoryOfB;
 
 impl Account for HistoryOfB {
+    type Note = ();
+
     ghost use Rattle.world_steps.specs.declared.step.End.TheVariants.{B};
     ghost use Rattle.script_history.specs.Histories.{history_told};
 
     ghost told = { history_told B };
+
+    ghost is_note = { λ world step note. Unit {0} };
+
+    fn note(world: &World, step: &Step) {
+        let _ = world;
+        let _ = step;
+    }
 
     fn tell_opening(alloc: Global, world: &World, out: &mut Vec<u8>) -> Result<(), AllocError> {
         let _ = alloc;
@@ -66,6 +86,7 @@ impl Account for HistoryOfB {
     fn tell_step(
         alloc: Global,
         number: u64,
+        note: (),
         step: &Step,
         shown: &Shown,
         world: &World,
@@ -73,6 +94,7 @@ impl Account for HistoryOfB {
     ) -> Result<(), AllocError> {
         let _ = alloc;
         let _ = number;
+        let () = note;
         let _ = step;
         let _ = shown;
         let _ = world;

@@ -14,11 +14,12 @@ use Rattle.play_script.specs.Script.{step_of, first_line}
 use Rattle.printing.specs.Printing.{Printed}
 use Rattle.text_lines.specs.Lines.{LineOutcome, Rules, prints, stops, IsLinesText}
 
--- WHAT IS TOLD of a script: of the world that its first line makes; of the step on the line of a number, what it
--- showed and the world that it left; and of the world behind the last line, if a line has made one.
+-- WHAT IS TOLD of a script: of the world that its first line makes; on the line of a number, of the world before its
+-- step, the step, what it showed and the world that it left; and of the world behind the last line, if a line has
+-- made one.
 pub record Told : Type 0 where
   pub opening : World → List ℕ
-  pub step : ℕ → WorldStep → Shown → World → List ℕ
+  pub step : ℕ → World → WorldStep → Shown → World → List ℕ
   pub at_the_end : Option World → List ℕ
 
 -- A line of a script leaves a world, if one is made yet.
@@ -44,14 +45,14 @@ opened t n None = stops (Text n)
 opened t n (Some v) = prints (t.opening (opened_world v)) (Some (opened_world v))
 
 -- each further one asks for a step, which is carried out
-abbrev pub outcome_of : Told → ℕ → WorldStep → Outcome → ScriptOutcome
-outcome_of t n step (shows s w) = prints (t.step n step s w) (Some w)
-outcome_of t n step impossible = stops (Step n)
-outcome_of t n step exhausted = stops Exhausted
+abbrev pub outcome_of : Told → ℕ → World → WorldStep → Outcome → ScriptOutcome
+outcome_of t n before step (shows s w) = prints (t.step n before step s w) (Some w)
+outcome_of t n before step impossible = stops (Step n)
+outcome_of t n before step exhausted = stops Exhausted
 
 abbrev pub asked : Told → ℕ → World → Option WorldStep → ScriptOutcome
 asked t n w None = stops (Text n)
-asked t n w (Some step) = outcome_of t n step (carried_out w step)
+asked t n w (Some step) = outcome_of t n w step (carried_out w step)
 
 abbrev pub read_script : Told → ℕ → Option World → List ℕ → ScriptOutcome
 read_script t n None text = opened t n (first_line text)

@@ -1,5 +1,7 @@
 //! What is told of a script.
 ghost use Rattle.std.specs.Prelude.{◌≡◌, ◌++◌, Some, None, MatchResult};
+ghost use Rattle.pair_model.specs.World.{World};
+ghost use Rattle.world_steps.specs.declared.step.Step.{Step};
 ghost use Rattle.script_text.specs.Scripts.{Told};
 
 use pair_world::World;
@@ -8,25 +10,37 @@ use world_steps::{Shown, Step};
 
 /// What is told of a script. What is told is appended whole, or nothing is where memory is wanted.
 pub trait Account {
+    /// What is kept of a world before a step, for what is told of it then.
+    type Note: Drop;
+
     /// What it tells.
     ghost told: { Told };
+
+    /// Which note is that of a world before a step.
+    ghost is_note: { World → Step → Self.Note → Type 0 };
+
+    /// Keeps what is needed of the world before a step.
+    fn note(world: &World, step: &Step) -> Self::Note
+        ensures { is_note world.now step.now result };
 
     /// Tells of the world that the first line makes.
     fn tell_opening(alloc: Global, world: &World, out: &mut Vec<u8>) -> Result<(), AllocError>
         ensures { MatchResult result (λ done. out.new.items ≡ out.old.items ++ told.opening world.now)
             (λ want. out.new.items ≡ out.old.items) };
 
-    /// Tells of the step on the line of this number: what it showed, and the world that it left.
+    /// Tells of the step on the line of this number: with the note of the world before it, what it showed, and the world
+    /// that it left.
     fn tell_step(
         alloc: Global,
         number: u64,
+        note: Self::Note,
         step: &Step,
         shown: &Shown,
         world: &World,
         out: &mut Vec<u8>,
     ) -> Result<(), AllocError>
-        ensures { MatchResult result
-            (λ done. out.new.items ≡ out.old.items ++ told.step number step.now shown.now world.now)
+        ensures { (before : World) → is_note before step.now note → MatchResult result
+            (λ done. out.new.items ≡ out.old.items ++ told.step number before step.now shown.now world.now)
             (λ want. out.new.items ≡ out.old.items) };
 
     /// Tells of the world behind the last line, if a line has made one.

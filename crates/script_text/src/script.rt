@@ -128,8 +128,9 @@ fn carry_out<A: Account>(
     let Some(old) = world.take() else {
         unreachable!();
     };
+    let note = A::note(&old, &step);
     let (new, shown) = stepped(old, &step, number)?;
-    let told = A::tell_step(alloc, number, &step, &shown, &new, out);
+    let told = A::tell_step(alloc, number, note, &step, &shown, &new, out);
     *world = Some(new);
     or_memory(told)
 }
@@ -150,7 +151,7 @@ fn asked_step(alloc: Global, number: u64, text: &[u8]) -> Result<Step, Stop<Scri
 /// to prove, so nothing but the step owns it here.
 fn stepped(world: World, step: &Step, number: u64) -> Result<(World, Shown), Stop<ScriptFault>>
     ensures { MatchResult result (λ after. carried_out world step.now ≡ shows after.1 after.0)
-        (λ stop. (t : Told) → Tells stop (outcome_of t number step.now (carried_out world step.now))) }
+        (λ stop. (t : Told) → Tells stop (outcome_of t number world step.now (carried_out world step.now))) }
 {
     match world.step(step) {
         Ok(after) => Ok(after),
