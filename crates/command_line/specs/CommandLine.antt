@@ -5,7 +5,7 @@ use Rattle.clap.specs.Simple.{new_shape}
 use Rattle.clap.specs.Values.{kind_of}
 use Rattle.clap.specs.declared.error.kind.ErrorKind.{ErrorKind}
 use Rattle.command_line.specs.declared.words.Words.{Words}
-use Rattle.command_line.specs.declared.words.Words.TheVariants.{Units, Play, Decode, Capture, Audit, HistoryOfA, HistoryOfB}
+use Rattle.command_line.specs.declared.words.Words.TheVariants.{Units, Play, Decode, Capture, Ladder, Audit, HistoryOfA, HistoryOfB}
 use Rattle.command_line.specs.declared.words.WordsFault.{WordsFault}
 use Rattle.command_line.specs.declared.words.WordsFault.TheVariants.{NoMemory, Words as WrongWords}
 
@@ -20,7 +20,7 @@ program_itself = record (new_shape (codes "mtpbank")) {
 abbrev pub without_subcommands : App
 without_subcommands = record { top = program_itself; subs = [] }
 
--- five subcommands, which take no words, and one that takes an end
+-- six subcommands, which take no words, and one that takes an end
 abbrev pub units_and_play : App
 units_and_play =
     with_subcommand (with_subcommand without_subcommands (new_shape (codes "units"))) (new_shape (codes "play"))
@@ -30,7 +30,8 @@ with_units =
     with_subcommand (with_subcommand units_and_play (new_shape (codes "decode"))) (new_shape (codes "capture"))
 
 abbrev pub without_history : App
-without_history = with_subcommand with_units (new_shape (codes "audit"))
+without_history =
+    with_subcommand (with_subcommand with_units (new_shape (codes "ladder"))) (new_shape (codes "audit"))
 
 abbrev pub end_rule : Rule
 end_rule = record (new_rule (codes "END")) { required = true }
@@ -47,6 +48,7 @@ name_of Units = codes "units"
 name_of Play = codes "play"
 name_of Decode = codes "decode"
 name_of Capture = codes "capture"
+name_of Ladder = codes "ladder"
 name_of Audit = codes "audit"
 name_of HistoryOfA = codes "history"
 name_of HistoryOfB = codes "history"
@@ -61,6 +63,7 @@ IsEnd Units end = Unit {0}
 IsEnd Play end = Unit {0}
 IsEnd Decode end = Unit {0}
 IsEnd Capture end = Unit {0}
+IsEnd Ladder end = Unit {0}
 IsEnd Audit end = Unit {0}
 IsEnd HistoryOfA end = end ≡ Some (codes "a")
 IsEnd HistoryOfB end = end ≡ Some (codes "b")

@@ -107,6 +107,32 @@ of what was sent until then. The faults are those of `mtpbank play`:
   fault line N text, fault line N step, fault exhausted
   fault read, fault write, fault memory";
 
+pub(crate) const LADDER_PAGE: &str = "\
+Standard input is a script, as that of `mtpbank play`. What is printed is a chart
+of what happens, end a at the left and end b at the right, a row for each thing:
+  mtpbank ladder < examples/changeover.play
+`mtpbank ladder --help` says what each arrow and word of it tells.";
+
+pub(crate) const LADDER_HELP: &str = "\
+Standard input is a script, as `mtpbank play --help` says. Standard output is a chart of 100 columns in plain ASCII: the
+number of the script's line, what happens at end a, what is under way, and what happens at end b.
+  --1-->|, |<--1--    at the side of an end: a unit goes out on link 1 from there, or arrives there; it's named in that
+                      end's words: MSU with its FSN, BSN and stream, FISU, or an order, as COO link 1 fsn=0
+  --1--x, x--1--      a unit is lost on its way to that end, by lose or because the link isn't up there
+  --1..>, <..1--      a unit that nobody sent is heard (hear)
+  1>0 1>1 0<f         in the middle, the units that are under way then, each with its link: to end b with FSN 0 and FSN
+                      1 on link 1, the oldest first, and to end a a fill-in unit (f) on link 0; s is a status unit, and a
+                      plus stands where there are more
+  link 1 up, left, settled    so it is at that end
+  took T, acked K     what the unit did: T as in `mtpbank play`, K messages are acknowledged; behind it in a row of its
+                      own asked=0|1 resend=0|1 fault=F, where one isn't 0
+  held+3 parked-1     so many messages more or fewer stand so at that end: held for a link that isn't settled, parked
+                      where no link is up, back while their stream is on its way home, discarded for good
+Other words are the answers of `mtpbank play`. A fault ends the script: one line on standard error, with status 1; what was
+drawn before it stays. The faults are those of `mtpbank play`:
+  fault line N text, fault line N step, fault exhausted
+  fault read, fault write, fault memory";
+
 pub(crate) const DECODE_HELP: &str = "\
 Each line of standard input is the octets of one unit, of two hexadecimal digits each and nothing between them:
 without flags and inserted zeros, and with or without the check octets. Lines that are empty or begin with # are
@@ -135,7 +161,7 @@ A fault ends the input: one line on standard error, with status 1; what was prin
 pub(crate) const HELP: &str = "\
 All read standard input to its end, as in `mtpbank play < examples/changeover.play`. `mtpbank play --help` says
 how a script is written and what it prints, `mtpbank units --help` and `mtpbank decode --help` which digits are
-read and what is printed, `mtpbank capture --help` what the file holds,
+read and what is printed, `mtpbank capture --help` what the file holds, `mtpbank ladder --help` what the chart shows,
 `mtpbank history --help` and `mtpbank audit --help` how a history is; with `-h` each is a page. A fault is one line on standard error, and
 what was printed before it stays:
   fault line N text, fault line N step               a line can't be read, or one of a script can't be done

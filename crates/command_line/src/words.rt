@@ -11,7 +11,8 @@ ghost use Rattle.command_line.specs.CommandLine.{AreWrong, IsAsked, IsFound, IsK
 
 use super::help::{
     AUDIT_HELP, AUDIT_PAGE, CAPTURE_HELP, CAPTURE_PAGE, DECODE_HELP, DECODE_PAGE, HELP,
-    HISTORY_HELP, HISTORY_PAGE, PLAY_HELP, PLAY_PAGE, PROGRAM_PAGE, UNITS_HELP, UNITS_PAGE,
+    HISTORY_HELP, HISTORY_PAGE, LADDER_HELP, LADDER_PAGE, PLAY_HELP, PLAY_PAGE, PROGRAM_PAGE,
+    UNITS_HELP, UNITS_PAGE,
 };
 use clap::error::ErrorKind;
 use clap::{Arg, ArgMatches, Command};
@@ -29,6 +30,8 @@ pub enum Words {
     Decode,
     /// Write what a script's ends send as a file that network analysers read.
     Capture,
+    /// Draw what happens at both ends of a script as a chart.
+    Ladder,
     /// Tell whether the history on standard input is legal.
     Audit,
     /// Print the history of end a of a script.
@@ -117,6 +120,7 @@ fn word_of(name: &str, end: Option<&str>) -> Option<Words>
         "play" => Some(Words::Play),
         "decode" => Some(Words::Decode),
         "capture" => Some(Words::Capture),
+        "ladder" => Some(Words::Ladder),
         "audit" => Some(Words::Audit),
         "history" => history_of(end),
         _ => None,
@@ -189,6 +193,7 @@ fn command<'a>(alloc: Global) -> Result<Command<'a>, AllocError>
         .subcommand(play_command(alloc))?
         .subcommand(decode_command(alloc))?
         .subcommand(capture_command(alloc))?
+        .subcommand(ladder_command(alloc))?
         .subcommand(audit_command(alloc))?
         .subcommand(history_command(alloc)?)
 }
@@ -235,6 +240,17 @@ fn capture_command<'a>(alloc: Global) -> Command<'a>
         .about("Plays a script, and writes the units that are sent as a pcap file")
         .after_help(CAPTURE_PAGE)
         .after_long_help(CAPTURE_HELP)
+}
+
+/// The word `ladder`.
+fn ladder_command<'a>(alloc: Global) -> Command<'a>
+    ensures shape { shape_of result ≡ new_shape (codes "ladder") }
+    ensures local { (out-Command result).has_globals ≡ false }
+{
+    Command::new(alloc, "ladder")
+        .about("Plays a script, and draws what happens at both ends as a chart")
+        .after_help(LADDER_PAGE)
+        .after_long_help(LADDER_HELP)
 }
 
 /// The word `audit`.

@@ -2,7 +2,7 @@
 use Rattle.std.specs.Prelude.{◌≡◌, ℕ, List, Result, Ok, Err}
 use Rattle.std.specs.Option.{option_map}
 use Rattle.command_line.specs.declared.words.Words.{Words}
-use Rattle.command_line.specs.declared.words.Words.TheVariants.{Units, Play, Decode, Capture, Audit, HistoryOfA, HistoryOfB}
+use Rattle.command_line.specs.declared.words.Words.TheVariants.{Units, Play, Decode, Capture, Ladder, Audit, HistoryOfA, HistoryOfB}
 use Rattle.printing.specs.declared.fault.Fault.{Fault}
 use Rattle.printing.specs.declared.fault.Fault.TheVariants.{Input, Memory, Read, Write}
 use Rattle.printing.specs.Printing.{Printed}
@@ -10,6 +10,7 @@ use Rattle.play_text.specs.PlayText.{IsPlayText}
 use Rattle.units_text.specs.UnitsText.{IsUnitsText}
 use Rattle.decode_text.specs.Decoding.{IsDecodeText}
 use Rattle.script_capture.specs.Capture.{IsCapture}
+use Rattle.script_ladder.specs.Ladder.{IsLadder}
 use Rattle.script_history.specs.Histories.{IsHistoryText}
 use Rattle.world_steps.specs.declared.step.End.TheVariants.{A, B}
 use Rattle.audit_text.specs.Auditing.{IsAuditText}
@@ -28,6 +29,7 @@ IsTextOf Units input text = IsText (IsUnitsText input) UnitsFault text
 IsTextOf Play input text = IsText (IsPlayText input) PlayFault text
 IsTextOf Decode input text = IsText (IsDecodeText input) DecodeFault text
 IsTextOf Capture input text = IsText (IsCapture input) PlayFault text
+IsTextOf Ladder input text = IsText (IsLadder input) PlayFault text
 IsTextOf Audit input text = IsText (IsAuditText input) AuditedFault text
 IsTextOf HistoryOfA input text = IsText (IsHistoryText A input) PlayFault text
 IsTextOf HistoryOfB input text = IsText (IsHistoryText B input) PlayFault text

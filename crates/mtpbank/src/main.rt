@@ -3,8 +3,8 @@
 //! The program is a thin edge: it reads its words and its input, hands them to functions over
 //! values, and prints what they give. `units` tells what a signalling terminal sees of a line's octets;
 //! `play` walks two ends of a link set through a script; `capture` writes what they send there as a file for network
-//! analysers; `decode` tells what the octets of units say; `history` prints what one of those
-//! ends was asked and answered, and `audit` tells whether such a history is legal.
+//! analysers, `ladder` draws it as a chart, and `history` prints what one of those ends was asked and answered;
+//! `audit` tells whether such a history is legal, and `decode` what the octets of units say.
 #![tactic(auto)]
 
 ghost use Rattle.std.specs.Prelude.{◌≡◌, ◌≢◌, IsOk, IsErr, IfOk};

@@ -11,6 +11,7 @@ use play_text::{ScriptFault, play};
 use printing::{Fault, Sink, Source};
 use script_capture::capture;
 use script_history::{End, history};
+use script_ladder::ladder;
 use std::alloc::Global;
 use thiserror::Error;
 use units_text::{UnreadableOctet, units};
@@ -50,6 +51,7 @@ pub fn run<S: Source, W: Sink>(
         Words::Play => of_play(play(alloc, source, sink)),
         Words::Decode => of_decode(decode(alloc, source, sink)),
         Words::Capture => of_play(capture(alloc, source, sink)),
+        Words::Ladder => of_play(ladder(alloc, source, sink)),
         Words::Audit => of_audit(audit(alloc, source, sink)),
         Words::HistoryOfA => of_play(history(alloc, End::A, source, sink)),
         Words::HistoryOfB => of_play(history(alloc, End::B, source, sink)),

@@ -4,7 +4,7 @@
 //! (`.units`), units to decode (`.decode`), a history to audit (`.history`), or a table of scripts that all give the same:
 //! of each line of `NAME.first` a script is made, and of each line of `NAME.second` one with the opening before it. Beside `NAME.play` stands
 //! `NAME.stdout`, what the run prints, and where it ends with a fault `NAME.fault`, the line that tells it. `NAME.pcap` is
-//! what the capture of `NAME.play` writes, `NAME.history_a` and `NAME.history_b` what the histories of its ends print. A line is printed for each name.
+//! what the capture of `NAME.play` writes, `NAME.history_a` and `NAME.history_b` what the histories of its ends print, and `NAME.ladder` is its chart. A line is printed for each name.
 //! Whether a run is as it should be is all that this program tells; it proves nothing.
 #![tactic(auto)]
 
@@ -14,6 +14,7 @@ use play_text::play;
 use printing::{Fault, Reader, Writer};
 use script_capture::capture;
 use script_history::{End, history};
+use script_ladder::ladder;
 use std::alloc::Global;
 use std::fmt::Display;
 use std::process::ExitCode;
@@ -70,9 +71,12 @@ fn all_give(rt: &HostRuntime, name: &str, opening: &str, stored: &Ran) -> io::Re
     Ok(all)
 }
 
-/// Whether the run of this name is told of the script beside it: its capture, or the history of one of its ends.
+/// Whether the run of this name is told of the script beside it: its capture, its chart, or the history of one of its ends.
 fn is_of_a_script(name: &str) -> bool {
-    name.ends_with(".pcap") || name.ends_with(".history_a") || name.ends_with(".history_b")
+    name.ends_with(".pcap")
+        || name.ends_with(".ladder")
+        || name.ends_with(".history_a")
+        || name.ends_with(".history_b")
 }
 
 /// The file that the run of this name reads.
@@ -121,6 +125,8 @@ fn run_of(alloc: Global, name: &str, input: &[u8]) -> io::Result<Ran> {
         told_of(alloc, history(alloc, End::B, &mut source, &mut sink))?
     } else if name.ends_with(".history") {
         told_of(alloc, audit(alloc, &mut source, &mut sink))?
+    } else if name.ends_with(".ladder") {
+        told_of(alloc, ladder(alloc, &mut source, &mut sink))?
     } else if name.ends_with(".pcap") {
         told_of(alloc, capture(alloc, &mut source, &mut sink))?
     } else {

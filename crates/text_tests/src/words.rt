@@ -11,6 +11,7 @@ fn told_of(alloc: Global, words: &[&str]) -> Result<String, AllocError> {
         Ok(Words::Units) => "units".to_string(alloc),
         Ok(Words::Decode) => "decode".to_string(alloc),
         Ok(Words::Capture) => "capture".to_string(alloc),
+        Ok(Words::Ladder) => "ladder".to_string(alloc),
         Ok(Words::Audit) => "audit".to_string(alloc),
         Ok(Words::HistoryOfA) => "history a".to_string(alloc),
         Ok(Words::HistoryOfB) => "history b".to_string(alloc),
@@ -43,6 +44,7 @@ fn words_of_the_command_line(rt: HostRuntime) -> Result<(), Fail> {
     ask_for(rt.alloc(), &["units"], "units")?;
     ask_for(rt.alloc(), &["decode"], "decode")?;
     ask_for(rt.alloc(), &["capture"], "capture")?;
+    ask_for(rt.alloc(), &["ladder"], "ladder")?;
     ask_for(rt.alloc(), &["audit"], "audit")?;
     ask_for(rt.alloc(), &["history", "a"], "history a")?;
     ask_for(rt.alloc(), &["history", "b"], "history b")?;
@@ -71,7 +73,7 @@ fn a_word_that_is_not_unicode(rt: HostRuntime) {
 /// `-h` is a page of at most 25 rows and 80 columns, which names the program and leads to `--help`; that says more.
 #[test]
 fn short_help_is_a_page(rt: HostRuntime) -> Result<(), Fail> {
-    let asked: [(&[&str], &[&str], &str); 7] = [
+    let asked: [(&[&str], &[&str], &str); 8] = [
         (&["-h"], &["--help"], "\nUsage: mtpbank <COMMAND>\n"),
         (
             &["units", "-h"],
@@ -92,6 +94,11 @@ fn short_help_is_a_page(rt: HostRuntime) -> Result<(), Fail> {
             &["capture", "-h"],
             &["capture", "--help"],
             "\nUsage: mtpbank capture\n",
+        ),
+        (
+            &["ladder", "-h"],
+            &["ladder", "--help"],
+            "\nUsage: mtpbank ladder\n",
         ),
         (
             &["audit", "-h"],

@@ -14,8 +14,10 @@ returns c =
     ∙ ap₂ with_subcommand second c.decode_command.ensures.shape in
     let fourth = c.in_ok-subcommand-4.ensures.shape c.capture_command.ensures.local
     ∙ ap₂ with_subcommand third c.capture_command.ensures.shape in
-    let fifth = c.in_ok-subcommand-5.ensures.shape c.audit_command.ensures.local
-    ∙ ap₂ with_subcommand fourth c.audit_command.ensures.shape in
-    IfOk-weaker c.subcommand-6.result _ _
-    (λ command added. added.shape c.in_ok-history_command.ensures.local ∙ ap₂ with_subcommand fifth c.in_ok-history_command.ensures.shape)
-    c.subcommand-6.ensures
+    let fifth = c.in_ok-subcommand-5.ensures.shape c.ladder_command.ensures.local
+    ∙ ap₂ with_subcommand fourth c.ladder_command.ensures.shape in
+    let sixth = c.in_ok-subcommand-6.ensures.shape c.audit_command.ensures.local
+    ∙ ap₂ with_subcommand fifth c.audit_command.ensures.shape in
+    IfOk-weaker c.subcommand-7.result _ _
+    (λ command added. added.shape c.in_ok-history_command.ensures.local ∙ ap₂ with_subcommand sixth c.in_ok-history_command.ensures.shape)
+    c.subcommand-7.ensures

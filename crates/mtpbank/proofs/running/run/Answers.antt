@@ -2,6 +2,7 @@ use Rattle.units_text.specs.UnitsText.{IsUnitsText}
 use Rattle.play_text.specs.PlayText.{IsPlayText}
 use Rattle.decode_text.specs.Decoding.{IsDecodeText}
 use Rattle.script_capture.specs.Capture.{IsCapture}
+use Rattle.script_ladder.specs.Ladder.{IsLadder}
 use Rattle.audit_text.specs.Auditing.{IsAuditText}
 use Rattle.script_history.specs.Histories.{IsHistoryText}
 use Rattle.world_steps.specs.declared.step.End.TheVariants.{A, B}
@@ -20,6 +21,9 @@ returns-in-Decode-clause-text g c = rw (c.of_decode.ensures, c.in-Decode.is) (pr
 
 pub returns-in-Capture-clause-text : goal.returns-in-Capture-clause-text
 returns-in-Capture-clause-text g c = rw (c.of_play-in-Capture.ensures, c.in-Capture.is) (prints_all IsCapture PlayFault c.capture.result _ _ _ c.capture.ensures.text)
+
+pub returns-in-Ladder-clause-text : goal.returns-in-Ladder-clause-text
+returns-in-Ladder-clause-text g c = rw (c.of_play-in-Ladder.ensures, c.in-Ladder.is) (prints_all IsLadder PlayFault c.ladder.result _ _ _ c.ladder.ensures.text)
 
 pub returns-in-Audit-clause-text : goal.returns-in-Audit-clause-text
 returns-in-Audit-clause-text g c = rw (c.of_audit.ensures, c.in-Audit.is) (prints_all IsAuditText AuditedFault c.audit.result _ _ _ c.audit.ensures.text)

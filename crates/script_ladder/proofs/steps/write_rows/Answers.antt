@@ -1,0 +1,12 @@
+use Rattle.std.proofs.Common.{refl, ap₂, ◌∙◌, ◌++◌, List, ℕ}
+use Rattle.std.proofs.lemmas.Result.{IfOk-weaker}
+use Rattle.script_ladder.proofs.steps.write_rows.Goals as goal
+
+-- src/steps.rt
+pub returns : goal.returns
+returns c before is =
+    IfOk-weaker c.join.result _ _
+    (λ rows both. both ∙ ap₂ (λ (x y : List ℕ). x ++ y) (c.in_ok-first.ensures before is.unit_is)
+    (c.deref.ensures.value ∙ (c.in_ok-effects.ensures
+    ∙ rw (is.unit_is, is.a_is, is.b_is, c.end_of.ensures, c.report_in.ensures) refl)))
+    c.join.ensures

@@ -1,0 +1,218 @@
+//! The rows of the chart.
+ghost use Rattle.std.specs.Prelude.{◌≡◌, ◌++◌, IfOk, decimal, replicate, take};
+ghost use Rattle.script_ladder.specs.Ladder.{at_right, dashed, further, last_cell, padded, row_at, row_text, side_a, side_b, trailed};
+ghost use Rattle.script_ladder.specs.Ladder.{arriving as arriving_in, forged as forged_in, going as going_in, losing as losing_in};
+
+use std::alloc::{AllocError, Global};
+use world_steps::End;
+
+/// The columns of an end's words.
+const CELL: usize = 30;
+
+/// The columns of an arrow, and at end a's side of the space behind it.
+const ARROW: usize = 6;
+
+/// The columns of what is under way.
+const UNDER_WAY: usize = 17;
+
+/// So many of this octet.
+fn filled(alloc: Global, octet: u8, columns: usize) -> Result<Vec<u8>, AllocError>
+    ensures { IfOk result (λ text. text.items ≡ replicate columns octet) }
+{
+    let mut text: Vec<u8> = Vec::new(alloc);
+    text.resize(columns, octet)?;
+    Ok(text)
+}
+
+/// A text in so many columns: cut, or filled up with spaces.
+fn pad(alloc: Global, text: &[u8], columns: usize) -> Result<Vec<u8>, AllocError>
+    ensures { IfOk result (λ cell. cell.items ≡ padded columns text.now) }
+{
+    let mut cell = Vec::from_slice(alloc, text)?;
+    cell.resize(columns, b' ')?;
+    Ok(cell)
+}
+
+/// The number of a line, at the right of five columns.
+fn number_cell(alloc: Global, number: &[u8]) -> Result<Vec<u8>, AllocError>
+    ensures { IfOk result (λ cell. cell.items ≡ at_right 5 number.now) }
+{
+    let mut cell = filled(alloc, b' ', 5usize.saturating_sub(number.len()))?;
+    cell.extend_from_slice(number)?;
+    Ok(cell)
+}
+
+/// A row: the number of the script's line, end a's words, an arrow at its side, what is under way, and so too for end b.
+pub(crate) fn write_row(
+    alloc: Global,
+    number: &[u8],
+    a: &[u8],
+    at_a: &[u8],
+    under_way: &[u8],
+    at_b: &[u8],
+    b: &[u8],
+) -> Result<Vec<u8>, AllocError>
+    ensures { IfOk result (λ row. row.items ≡ row_text number.now a.now at_a.now under_way.now at_b.now b.now) }
+{
+    let middle = join(
+        pad(alloc, under_way, UNDER_WAY)?,
+        &write_side_b(alloc, at_b, b)?,
+    )?;
+    let sides = join(write_side_a(alloc, a, at_a)?, &middle)?;
+    join(
+        number_cell(alloc, number)?,
+        &join(Vec::from_slice(alloc, b" ")?, &sides)?,
+    )
+}
+
+/// End a's words, and the arrow at its side.
+fn write_side_a(alloc: Global, words: &[u8], arrow: &[u8]) -> Result<Vec<u8>, AllocError>
+    ensures { IfOk result (λ side. side.items ≡ side_a words.now arrow.now) }
+{
+    let bar = join(
+        Vec::from_slice(alloc, b" |")?,
+        &pad(alloc, arrow, ARROW + 1)?,
+    )?;
+    join(pad(alloc, words, CELL)?, &bar)
+}
+
+/// The words that end a row.
+fn write_last(alloc: Global, words: &[u8]) -> Result<Vec<u8>, AllocError>
+    ensures { IfOk result (λ cell. cell.items ≡ last_cell words.now) }
+{
+    if words.is_empty() {
+        return Vec::from_slice(alloc, b"|\n");
+    }
+    let words = join(Vec::from_slice(alloc, cut(words))?, b"\n")?;
+    join(Vec::from_slice(alloc, b"| ")?, &words)
+}
+
+/// As much of the words as a cell has columns for.
+fn cut(words: &[u8]) -> &[u8]
+    ensures { result.now ≡ take 30 words.now }
+{
+    &words[..CELL.min(words.len())]
+}
+
+/// The arrow at end b's side, and its words.
+fn write_side_b(alloc: Global, arrow: &[u8], words: &[u8]) -> Result<Vec<u8>, AllocError>
+    ensures { IfOk result (λ side. side.items ≡ side_b arrow.now words.now) }
+{
+    join(pad(alloc, arrow, ARROW)?, &write_last(alloc, words)?)
+}
+
+/// A text and one behind it.
+pub(crate) fn join(text: Vec<u8>, more: &[u8]) -> Result<Vec<u8>, AllocError>
+    ensures { IfOk result (λ both. both.items ≡ text.items ++ more.now) }
+{
+    let mut both = text;
+    both.extend_from_slice(more)?;
+    Ok(both)
+}
+
+/// A row with the words of one end, and an arrow at its side.
+pub(crate) fn write_row_at(
+    alloc: Global,
+    end: End,
+    number: &[u8],
+    under_way: &[u8],
+    arrow: &[u8],
+    words: &[u8],
+) -> Result<Vec<u8>, AllocError>
+    ensures { IfOk result (λ row. row.items ≡ row_at end number.now under_way.now arrow.now words.now) }
+{
+    match end {
+        End::A => write_row(alloc, number, words, arrow, under_way, &[], &[]),
+        End::B => write_row(alloc, number, &[], &[], under_way, arrow, words),
+    }
+}
+
+/// A further row of a line, where there are words for it.
+pub(crate) fn write_further(
+    alloc: Global,
+    end: End,
+    under_way: &[u8],
+    words: &[u8],
+) -> Result<Vec<u8>, AllocError>
+    ensures { IfOk result (λ row. row.items ≡ further end under_way.now words.now) }
+{
+    if words.is_empty() {
+        return Ok(Vec::new(alloc));
+    }
+    write_row_at(alloc, end, &[], under_way, &[], words)
+}
+
+/// A link's number behind dashes.
+fn dashes(alloc: Global, link: u8) -> Result<Vec<u8>, AllocError>
+    ensures { IfOk result (λ text. text.items ≡ dashed (decimal link)) }
+{
+    let number = format!(in alloc; "{link}")?.into_bytes();
+    let mut text = filled(alloc, b'-', 3usize.saturating_sub(number.len()))?;
+    text.extend_from_slice(&number)?;
+    Ok(text)
+}
+
+/// A link's number before dashes.
+fn dashes_behind(alloc: Global, link: u8) -> Result<Vec<u8>, AllocError>
+    ensures { IfOk result (λ text. text.items ≡ trailed (decimal link)) }
+{
+    let number = format!(in alloc; "{link}")?.into_bytes();
+    let columns = 3usize.saturating_sub(number.len());
+    join(number, &filled(alloc, b'-', columns)?)
+}
+
+/// An arrow whose tip comes first.
+fn tip_first(alloc: Global, tip: &[u8], link: u8) -> Result<Vec<u8>, AllocError>
+    ensures { IfOk result (λ text. text.items ≡ tip.now ++ trailed (decimal link)) }
+{
+    join(Vec::from_slice(alloc, tip)?, &dashes_behind(alloc, link)?)
+}
+
+/// An arrow whose tip comes last.
+fn tip_last(alloc: Global, link: u8, tip: &[u8]) -> Result<Vec<u8>, AllocError>
+    ensures { IfOk result (λ text. text.items ≡ dashed (decimal link) ++ tip.now) }
+{
+    let mut text = dashes(alloc, link)?;
+    text.extend_from_slice(tip)?;
+    Ok(text)
+}
+
+/// A unit goes out from the end.
+pub(crate) fn going(alloc: Global, end: End, link: u8) -> Result<Vec<u8>, AllocError>
+    ensures { IfOk result (λ arrow. arrow.items ≡ going_in end link) }
+{
+    match end {
+        End::A => tip_last(alloc, link, b"-->"),
+        End::B => tip_first(alloc, b"<--", link),
+    }
+}
+
+/// A unit arrives at the end.
+pub(crate) fn arriving(alloc: Global, end: End, link: u8) -> Result<Vec<u8>, AllocError>
+    ensures { IfOk result (λ arrow. arrow.items ≡ arriving_in end link) }
+{
+    match end {
+        End::A => tip_first(alloc, b"<--", link),
+        End::B => tip_last(alloc, link, b"-->"),
+    }
+}
+
+/// A unit is lost on its way to the end.
+pub(crate) fn losing(alloc: Global, end: End, link: u8) -> Result<Vec<u8>, AllocError>
+    ensures { IfOk result (λ arrow. arrow.items ≡ losing_in end link) }
+{
+    match end {
+        End::A => tip_first(alloc, b"x--", link),
+        End::B => tip_last(alloc, link, b"--x"),
+    }
+}
+
+/// A unit that nobody sent arrives at the end.
+pub(crate) fn forged(alloc: Global, end: End, link: u8) -> Result<Vec<u8>, AllocError>
+    ensures { IfOk result (λ arrow. arrow.items ≡ forged_in end link) }
+{
+    match end {
+        End::A => tip_first(alloc, b"<..", link),
+        End::B => tip_last(alloc, link, b"..>"),
+    }
+}

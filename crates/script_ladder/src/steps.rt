@@ -1,0 +1,363 @@
+//! `mtpbank ladder`: a script as a chart.
+ghost use Rattle.std.specs.Prelude.{◌≡◌, ◌≤◌, ◌^◌, [], codes, length, slice_get, IfOk, IfSome, OnOk};
+ghost use Rattle.printing.specs.Printing.{Prints, FailsByDevices};
+ghost use Rattle.pair_model.specs.World.{World as ModelWorld};
+ghost use Rattle.script_ladder.specs.Ladder.{IsLadder, affected as affected_by, arrived_row, change_rows, effect_rows, end_of as end_of_step, first_row, forged_row};
+ghost use Rattle.script_ladder.specs.Ladder.{heading, link_words, report_in as report_in_shown, row_text, rows_with, sent_row, sent_in as sent_in_shown, step_rows, unit_words};
+ghost use Rattle.script_ladder.specs.Notes.{IsBefore};
+
+use super::cells::{report_in, write_event, write_link, write_plain};
+use super::effects::{write_changes, write_heard};
+use super::rows::{arriving, forged, going, join, losing, write_row, write_row_at};
+use super::under_way::under_way;
+use super::units::{write_any, write_unit};
+use l2_units::{Unit, copy_of_unit};
+use pair_world::{End, World};
+use printing::{Fault, Sink, Source};
+use script_text::{Account, ScriptFault, tell_script};
+use set_events::{Answer, Counts, Report};
+use std::alloc::{AllocError, Global};
+use world_steps::{Shown, Step};
+
+/// The chart of a script.
+struct Chart;
+
+/// What the rows of a step want of the world before it.
+#[derive(Drop)]
+pub(crate) struct Before {
+    /// The unit that the step is about.
+    unit: Option<Unit>,
+    /// How the messages of end a stood.
+    a: Counts,
+    /// How those of end b stood.
+    b: Counts,
+}
+
+impl Account for Chart {
+    type Note = Before;
+
+    ghost use Rattle.script_ladder.specs.Ladder.{ladder_told};
+    ghost use Rattle.script_ladder.specs.Notes.{IsBefore};
+
+    ghost told = { ladder_told };
+
+    ghost is_note = { IsBefore };
+
+    fn note(world: &World, step: &Step) -> Before {
+        Before {
+            unit: affected(world, step),
+            a: world.counts(End::A),
+            b: world.counts(End::B),
+        }
+    }
+
+    fn tell_opening(alloc: Global, world: &World, out: &mut Vec<u8>) -> Result<(), AllocError> {
+        let _ = world;
+        out.extend_from_slice(&write_heading(alloc)?)
+    }
+
+    fn tell_step(
+        alloc: Global,
+        number: u64,
+        note: Before,
+        step: &Step,
+        shown: &Shown,
+        world: &World,
+        out: &mut Vec<u8>,
+    ) -> Result<(), AllocError> {
+        out.extend_from_slice(&write_step(alloc, number, &note, step, shown, world)?)
+    }
+
+    fn tell_end(alloc: Global, world: &Option<World>, out: &mut Vec<u8>) -> Result<(), AllocError> {
+        let _ = alloc;
+        let _ = world;
+        let _ = out;
+        Ok(())
+    }
+}
+
+/// Plays the script that the source gives, and draws what happens.
+///
+/// Ends with the first fault; what was drawn before it stays drawn. An input of more than 2^24 octets
+/// is never answered Ok, and one of 2^24 or more may be [`Fault::Read`], as [`tell_script`] tells.
+pub fn ladder<S: Source, W: Sink>(
+    alloc: Global,
+    source: &mut S,
+    sink: &mut W,
+) -> Result<(), Fault<ScriptFault>>
+    ensures text { IfSome (S.left source.old)
+        (λ input. Prints result (IsLadder input) (W.written sink.old) (W.written sink.new)) }
+    ensures bounded { IfSome (S.left source.old) (λ input. OnOk result (length input ≤ 2 ^ 24)) }
+    ensures devices { IfSome (S.left source.old)
+        (FailsByDevices result (S.has_failed source.new) (W.has_failed sink.new)) }
+{
+    tell_script::<Chart, S, W>(alloc, source, sink)
+}
+
+/// The names of the columns.
+#[tactic(auto, unfolding(crate::specs::Ladder::heading))]
+fn write_heading(alloc: Global) -> Result<Vec<u8>, AllocError>
+    ensures { IfOk result (λ row. row.items ≡ heading) }
+{
+    write_row(alloc, b"line", b"end a", &[], b"under way", &[], b"end b")
+}
+
+/// The unit that a step is about, in the world before it.
+fn affected(world: &World, step: &Step) -> Option<Unit>
+    ensures { result ≡ affected_by world.now step.now }
+{
+    match step {
+        Step::Arrive { end, link } => unit_at(world.line(*end, *link), 0),
+        Step::Lose { end, link, place } => unit_at(world.line(*end, *link), *place),
+        Step::Inject { unit, .. } => Some(copy_of_unit(unit)),
+        Step::Act { .. } | Step::Emit { .. } | Step::Together { .. } => None,
+    }
+}
+
+/// The unit at this place of a line, from 0.
+fn unit_at(line: &[Unit], place: u64) -> Option<Unit>
+    ensures { result ≡ slice_get line.now place }
+{
+    match line.get(place as usize) {
+        Some(unit) => Some(copy_of_unit(unit)),
+        None => None,
+    }
+}
+
+/// The rows of a step.
+#[tactic(auto, unfolding(crate::specs::Ladder::step_rows))]
+fn write_step(
+    alloc: Global,
+    number: u64,
+    note: &Before,
+    step: &Step,
+    shown: &Shown,
+    world: &World,
+) -> Result<Vec<u8>, AllocError>
+    ensures { (before : ModelWorld) → IsBefore before step.now note.now
+        → IfOk result (λ rows. rows.items ≡ step_rows number before step.now shown.now world.now) }
+{
+    let number = format!(in alloc; "{number}")?.into_bytes();
+    write_rows(
+        alloc,
+        &under_way(alloc, world)?,
+        &number,
+        note,
+        step,
+        shown,
+        world,
+    )
+}
+
+/// The rows of a step, with what is under way after it.
+fn write_rows(
+    alloc: Global,
+    under_way: &[u8],
+    number: &[u8],
+    note: &Before,
+    step: &Step,
+    shown: &Shown,
+    world: &World,
+) -> Result<Vec<u8>, AllocError>
+    ensures { (before : ModelWorld) → IsBefore before step.now note.now
+        → IfOk result (λ rows. rows.items
+        ≡ rows_with under_way.now number.now before step.now shown.now world.now) }
+{
+    let first = write_first(alloc, number, under_way, &note.unit, step, shown)?;
+    let effects = write_effects(
+        alloc,
+        under_way,
+        note,
+        end_of(step),
+        report_in(shown),
+        world,
+    )?;
+    join(first, &effects)
+}
+
+/// The rows of what a step did.
+fn write_effects(
+    alloc: Global,
+    under_way: &[u8],
+    note: &Before,
+    end: End,
+    report: Option<Report>,
+    world: &World,
+) -> Result<Vec<u8>, AllocError>
+    ensures { IfOk result (λ rows. rows.items
+        ≡ effect_rows under_way.now world.now end note.now.unit report note.now.a note.now.b) }
+{
+    let heard = write_heard(alloc, under_way, world, end, &note.unit, report)?;
+    join(heard, &write_both_changes(alloc, under_way, note, world)?)
+}
+
+/// The rows of the messages that stand aside, or are discarded, at both ends.
+fn write_both_changes(
+    alloc: Global,
+    under_way: &[u8],
+    note: &Before,
+    world: &World,
+) -> Result<Vec<u8>, AllocError>
+    ensures { IfOk result (λ rows. rows.items ≡ change_rows under_way.now world.now note.now.a note.now.b) }
+{
+    let at_a = write_changes(alloc, End::A, under_way, note.a, world.counts(End::A))?;
+    join(
+        at_a,
+        &write_changes(alloc, End::B, under_way, note.b, world.counts(End::B))?,
+    )
+}
+
+/// The end that a step is about.
+fn end_of(step: &Step) -> End
+    ensures { result ≡ end_of_step step.now }
+{
+    match step {
+        Step::Act { end, .. } => *end,
+        Step::Emit { end, .. } => *end,
+        Step::Arrive { end, .. } => *end,
+        Step::Lose { end, .. } => *end,
+        Step::Inject { end, .. } => *end,
+        Step::Together { .. } => End::A,
+    }
+}
+
+/// The first row of a step, about this unit.
+fn write_first(
+    alloc: Global,
+    number: &[u8],
+    under_way: &[u8],
+    unit: &Option<Unit>,
+    step: &Step,
+    shown: &Shown,
+) -> Result<Vec<u8>, AllocError>
+    ensures { (before : ModelWorld) → unit.now ≡ affected_by before step.now
+        → IfOk result (λ row. row.items ≡ first_row number.now under_way.now before step.now shown.now) }
+{
+    match step {
+        Step::Act { end, event } => {
+            write_row_at(
+                alloc,
+                *end,
+                number,
+                under_way,
+                &[],
+                &write_event(alloc, event, shown)?,
+            )
+        }
+        Step::Emit { end, link } => write_sent(alloc, number, under_way, *end, *link, shown),
+        Step::Arrive { end, link } => {
+            write_arrived(
+                alloc,
+                number,
+                under_way,
+                *end,
+                *link,
+                report_in(shown),
+                &write_any(alloc, unit)?,
+            )
+        }
+        Step::Lose { end, link, .. } => {
+            write_row_at(
+                alloc,
+                *end,
+                number,
+                under_way,
+                &losing(alloc, *end, *link)?,
+                &write_any(alloc, unit)?,
+            )
+        }
+        Step::Together { link } => write_up(alloc, number, under_way, *link),
+        Step::Inject { end, link, unit } => write_forged(
+            alloc, number, under_way, *end, *link, shown, unit,
+        ),
+    }
+}
+
+/// A link that comes up at both ends.
+fn write_up(alloc: Global, number: &[u8], under_way: &[u8], link: u8) -> Result<Vec<u8>, AllocError>
+    ensures { IfOk result (λ row. row.items ≡ row_text number.now (link_words [] link (codes " up")) [] under_way.now
+        [] (link_words [] link (codes " up"))) }
+{
+    let words = write_link(alloc, "", link, " up")?;
+    write_row(alloc, number, &words, &[], under_way, &[], &words)
+}
+
+/// A unit that goes out, or the answer.
+fn write_sent(
+    alloc: Global,
+    number: &[u8],
+    under_way: &[u8],
+    end: End,
+    link: u8,
+    shown: &Shown,
+) -> Result<Vec<u8>, AllocError>
+    ensures { IfOk result (λ row. row.items
+        ≡ sent_row number.now under_way.now end link shown.now (sent_in_shown shown.now)) }
+{
+    match shown {
+        Shown::Answered(Answer::Sent { unit }) => {
+            write_row_at(
+                alloc,
+                end,
+                number,
+                under_way,
+                &going(alloc, end, link)?,
+                &write_unit(alloc, unit)?,
+            )
+        }
+        _ => write_row_at(
+            alloc,
+            end,
+            number,
+            under_way,
+            &[],
+            &write_plain(alloc, shown)?,
+        ),
+    }
+}
+
+/// A unit that arrives, or is lost where the link isn't up.
+fn write_arrived(
+    alloc: Global,
+    number: &[u8],
+    under_way: &[u8],
+    end: End,
+    link: u8,
+    report: Option<Report>,
+    words: &[u8],
+) -> Result<Vec<u8>, AllocError>
+    ensures { IfOk result (λ row. row.items ≡ arrived_row number.now under_way.now end link report words.now) }
+{
+    let arrow = match report {
+        Some(_) => arriving(alloc, end, link)?,
+        None => losing(alloc, end, link)?,
+    };
+    write_row_at(alloc, end, number, under_way, &arrow, words)
+}
+
+/// A unit that nobody sent.
+fn write_forged(
+    alloc: Global,
+    number: &[u8],
+    under_way: &[u8],
+    end: End,
+    link: u8,
+    shown: &Shown,
+    unit: &Unit,
+) -> Result<Vec<u8>, AllocError>
+    ensures { IfOk result (λ row. row.items
+        ≡ forged_row number.now under_way.now end link shown.now (report_in_shown shown.now) (unit_words unit.now)) }
+{
+    let words = match report_in(shown) {
+        Some(_) => write_unit(alloc, unit)?,
+        None => write_plain(alloc, shown)?,
+    };
+    write_row_at(
+        alloc,
+        end,
+        number,
+        under_way,
+        &forged(alloc, end, link)?,
+        &words,
+    )
+}

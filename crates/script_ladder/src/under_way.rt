@@ -1,0 +1,85 @@
+//! What is under way between the ends.
+ghost use Rattle.std.specs.Prelude.{◌≡◌, IfOk, take};
+ghost use Rattle.script_ladder.specs.Ladder.{fitted, marks, marks_below, marks_on, mark, under_way as under_way_in};
+
+use l2_units::Unit;
+use pair_world::{End, World};
+use std::alloc::{AllocError, Global};
+
+/// The columns of what is under way.
+const UNDER_WAY: usize = 17;
+
+/// The most units of a line that are told: four fill the place.
+const MOST: usize = 5;
+
+/// What is under way on all links, in both ways.
+#[tactic(auto, unfolding(crate::specs::Ladder::under_way))]
+pub(crate) fn under_way(alloc: Global, world: &World) -> Result<Vec<u8>, AllocError>
+    ensures { IfOk result (λ text. text.items ≡ under_way_in world.now) }
+{
+    fit(write_all(alloc, world)?)
+}
+
+/// What doesn't fit is told by a plus.
+fn fit(text: Vec<u8>) -> Result<Vec<u8>, AllocError>
+    ensures { IfOk result (λ short. short.items ≡ fitted text.items) }
+{
+    let mut short = text;
+    if short.len() > UNDER_WAY {
+        short.truncate(UNDER_WAY - 1);
+        short.push(b'+')?;
+    }
+    Ok(short)
+}
+
+/// What is under way on all links.
+fn write_all(alloc: Global, world: &World) -> Result<Vec<u8>, AllocError>
+    ensures { IfOk result (λ text. text.items ≡ marks_below world.now 16) }
+{
+    let mut text: Vec<u8> = Vec::new(alloc);
+    for link in 0..16u8 {
+        text.extend_from_slice(&write_link(alloc, world, link)?)?;
+    }
+    Ok(text)
+}
+
+/// What is under way on a link, in both ways.
+fn write_link(alloc: Global, world: &World, link: u8) -> Result<Vec<u8>, AllocError>
+    ensures { IfOk result (λ text. text.items ≡ marks_on world.now link) }
+{
+    let mut text = write_marks(alloc, link, ">", first_of(world.line(End::B, link)))?;
+    text.extend_from_slice(&write_marks(alloc, link, "<", first_of(world.line(End::A, link)))?)?;
+    Ok(text)
+}
+
+/// The first units of a line.
+fn first_of(units: &[Unit]) -> &[Unit]
+    ensures { result.now ≡ take 5 units.now }
+{
+    &units[..units.len().min(MOST)]
+}
+
+/// Each of these units with its link and its way.
+fn write_marks(alloc: Global, link: u8, way: &str, units: &[Unit]) -> Result<Vec<u8>, AllocError>
+    ensures { IfOk result (λ text. text.items ≡ marks link way.now units.now) }
+{
+    let mut text: Vec<u8> = Vec::new(alloc);
+    for unit in units {
+        text.extend_from_slice(&write_mark(alloc, link, way, unit)?)?;
+    }
+    Ok(text)
+}
+
+/// A unit with its link and its way.
+fn write_mark(alloc: Global, link: u8, way: &str, unit: &Unit) -> Result<Vec<u8>, AllocError>
+    ensures { IfOk result (λ text. text.items ≡ mark link way.now unit.now) }
+{
+    match unit {
+        Unit::Fisu { .. } => Ok(format!(in alloc; "{link}{way}f ")?.into_bytes()),
+        Unit::Lssu { .. } => Ok(format!(in alloc; "{link}{way}s ")?.into_bytes()),
+        Unit::Msu { head, .. } => {
+            let fsn = head.fsn;
+            Ok(format!(in alloc; "{link}{way}{fsn} ")?.into_bytes())
+        }
+    }
+}
