@@ -142,6 +142,14 @@ pub(crate) fn offer(alloc: Global, door: &mut CoreDoor, messages: u16) -> Result
     Ok(())
 }
 
+/// How many of these entries are an Up, whatever was answered.
+pub(crate) fn asked_up(entries: &[Entry]) -> usize {
+    entries
+        .iter()
+        .filter(|entry| matches!(entry.event, Event::Up { .. }))
+        .count()
+}
+
 /// How many of these entries are an Up that was done.
 pub(crate) fn ups(entries: &[Entry]) -> usize {
     entries

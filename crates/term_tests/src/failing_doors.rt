@@ -100,14 +100,22 @@ fn a_fault_is_told_once_and_then_failed(rt: HostRuntime) -> Result<(), Fail> {
     fails_at(rt.alloc(), 101, SetFault::Exhausted, TermFault::Exhausted)
 }
 
-#[test]
-fn a_run_that_fails_tells_the_fault(rt: HostRuntime) -> Result<(), Fail> {
-    let mut terminal = failing(rt.alloc(), 7, SetFault::Exhausted)?;
+/// A run ends with this fault, and the terminal has failed then.
+fn run_fails<D: Door, L: Line, G: Gate>(
+    terminal: &mut Terminal<D, L, G>,
+    told: TermFault,
+) -> Result<(), Fail> {
     match terminal.run(20_000) {
         Ok(_) => Err(Fail::from("it went on")),
         Err(fault) => {
-            holds(fault == TermFault::Exhausted)?;
-            stays_failed(&mut terminal)
+            holds(fault == told)?;
+            stays_failed(terminal)
         }
     }
+}
+
+#[test]
+fn a_run_that_fails_tells_the_fault(rt: HostRuntime) -> Result<(), Fail> {
+    let mut terminal = failing(rt.alloc(), 7, SetFault::Exhausted)?;
+    run_fails(&mut terminal, TermFault::Exhausted)
 }

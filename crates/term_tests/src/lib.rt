@@ -10,6 +10,10 @@ mod core_door;
 #[cfg(test)]
 mod failing_doors;
 #[cfg(test)]
+mod far_end;
+#[cfg(test)]
+mod far_ends;
+#[cfg(test)]
 mod test_lines;
 #[cfg(test)]
 mod two_threads;
