@@ -62,3 +62,9 @@ pub commands_taken : (commands : Commands) (t u after : Terminal) (result : Resu
 commands_taken commands t u after result made made' faults faults' were taken talks =
     subst (λ c. Talks (obeys_all c every_command (record t { commands = no_commands })) result made made' faults faults' after) were
     (subst (λ v. Talks (obeys_all commands every_command v) result made made' faults faults' after) taken talks)
+
+-- none was given
+pub none_given : (commands : Commands) (t : Terminal) (made : List Entry) (faults : List SetFault) → commands ≡ no_commands
+    → Talks (obeys_all commands every_command t) (Ok tt) made made faults faults t
+none_given commands t made faults none =
+    subst (λ c. Talks (obeys_all c every_command t) (Ok tt) made made faults faults t) (sym none) (gains_none t made, refl)

@@ -1,6 +1,6 @@
 //! The commands that waited (Q.703 7.2, 9.2, 12.1).
 ghost use Rattle.std.specs.Prelude.{◌≡◌};
-ghost use Rattle.link_term.specs.Orders.{is_among as is_among_these, obeys, obeys_among, obeys_all};
+ghost use Rattle.link_term.specs.Orders.{is_among as is_among_these, every_command, obeys, obeys_among, obeys_all};
 ghost use Rattle.link_term.specs.Talking.{Talks};
 ghost use Rattle.term_model.specs.Obeying.{commanded};
 
@@ -31,6 +31,34 @@ pub(crate) fn obey<D: Door>(inside: &mut Inside, door: &mut D) -> Result<(), Set
     ensures at { D.number door.new ≡ inside.new.link }
 {
     let commands = inside.take_commands();
+    obey_given(inside, door, commands)
+}
+
+/// No command waits.
+const NONE: Commands = Commands {
+    emergency: false,
+    start: false,
+    busy: false,
+    ease: false,
+    blind: false,
+    stop: false,
+};
+
+/// The commands that were given are obeyed: in most turns there is none.
+#[tactic(auto, using(crate::proofs::Rows::none_given))]
+fn obey_given<D: Door>(
+    inside: &mut Inside,
+    door: &mut D,
+    commands: Commands,
+) -> Result<(), SetFault>
+    requires { D.number door.old ≡ inside.old.link }
+    ensures talks { Talks (obeys_all commands every_command inside.old) result (D.made door.old) (D.made door.new)
+        (D.faults door.old) (D.faults door.new) inside.new }
+    ensures at { D.number door.new ≡ inside.new.link }
+{
+    if commands == NONE {
+        return Ok(());
+    }
     obey_each(inside, door, commands, &ORDER)
 }
 
