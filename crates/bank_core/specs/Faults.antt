@@ -1,0 +1,19 @@
+-- THE FAULTS of a bank, by their numbers.
+use Rattle.std.specs.Prelude.{ℕ}
+use Rattle.bank_core.specs.declared.fault.BankFault.{BankFault}
+use Rattle.bank_core.specs.declared.fault.BankFault.TheVariants.{NoMemory, Users, Sets, NoThread, Unclosed}
+
+abbrev pub fault_number : BankFault → ℕ
+fault_number NoMemory = 1
+fault_number Users = 2
+fault_number Sets = 3
+fault_number NoThread = 4
+fault_number Unclosed = 5
+
+-- why a set that was started doesn't come to its end
+abbrev pub EndsEarly : BankFault → Type 0
+EndsEarly NoMemory = Unit {0}
+EndsEarly Users = ⊥
+EndsEarly Sets = ⊥
+EndsEarly NoThread = Unit {0}
+EndsEarly Unclosed = Unit {0}

@@ -1,0 +1,137 @@
+//! A bank of sets, and how it's started.
+ghost use Rattle.std.specs.Prelude.{◌≡◌, ◌<◌, ◌≤◌, ◌↔◌, ◌⊎◌, map, length, IfOk, IfErr};
+ghost use Rattle.bank_core.specs.Faults.{EndsEarly};
+
+use super::fault::BankFault;
+use super::orders::Orders;
+use super::plan::{Job, Plan};
+use super::running::Running;
+use super::set_thread::Work;
+use line_ring::Line;
+use link_term::Gate;
+use set_events::SetConfig;
+use std::alloc::Global;
+use std::marker::Model;
+use std::sync::Wait;
+use std::thread::Threads;
+
+/// The most users of a set.
+const MOST_USERS: u16 = 64;
+
+/// The most sets of a bank.
+const MOST_SETS: usize = 16;
+
+/// Sets that aren't started yet: 1 to 16 of them, with 1 to 64 users each. Contracts see the configurations, and how
+/// many users each set has.
+#[derive(Drop)]
+pub struct Bank {
+    configs: Vec<SetConfig>,
+    users: u16,
+    alloc: Global,
+}
+
+impl Model for Bank {
+    ghost use Rattle.bank_core.specs.Ends.{BankState};
+
+    ghost Value = { BankState };
+
+    ghost use Rattle.std.specs.Prelude.{◌<◌, ◌≤◌};
+
+    ghost view = { λ b. record { configs = b.configs.items; users = b.users } };
+
+    ghost invariant = { λ b. (0 < b.users) × (b.users ≤ 64) };
+}
+
+impl Bank {
+    /// A bank of sets of these configurations, each with so many users, and each under a lock of its own.
+    ///
+    /// Refusals, in this order: 2 [`BankFault::Users`] exactly where there is no user or more than 64;
+    /// 3 [`BankFault::Sets`] where there is no set or more than 16; 1 [`BankFault::NoMemory`] only where memory was
+    /// refused.
+    pub fn create(alloc: Global, configs: &[SetConfig], users: u16) -> Result<Bank, BankFault>
+        ensures bank { IfOk result (λ bank. bank ≡ record { configs = configs.now; users = users }) }
+        ensures users { (result ≡ Err BankFault.Users) ↔ ((users ≡ 0) ⊎ (64 < users)) }
+        ensures sets { (result ≡ Err BankFault.Sets) ↔ (((0 < users) × (users ≤ 64))
+            × ((length configs.now ≡ 0) ⊎ (16 < length configs.now))) }
+    {
+        if users == 0 || users > MOST_USERS {
+            return Err(BankFault::Users);
+        }
+        if configs.is_empty() || configs.len() > MOST_SETS {
+            return Err(BankFault::Sets);
+        }
+        match Vec::from_slice(alloc, configs) {
+            Ok(configs) => Ok(Bank {
+                configs,
+                users,
+                alloc,
+            }),
+            Err(_) => Err(BankFault::NoMemory),
+        }
+    }
+
+    /// Starts a thread for each set, which opens the set, runs its terminals and users in threads of their own, gathers
+    /// their seats and closes it.
+    ///
+    /// Set by set, and link by link, a terminal runs over its line; set by set, and user by user, a user does its job.
+    /// A link that has no line isn't run, and a user that has no job makes no call; lines and jobs that are over are given
+    /// up. Each terminal is told to come up in an emergency before its first turn. Of the gate, each set gets a clone.
+    ///
+    /// Faults: 1 [`BankFault::NoMemory`], before any thread was started; 4 [`BankFault::NoThread`], once the threads
+    /// that were started have ended.
+    pub fn start<
+        L: Line + Drop + Send + 'static,
+        G: Gate + Clone + Drop + Send + Sync + 'static,
+        R: Threads + Wait + Copy + Send + Sync + 'static,
+    >(
+        self,
+        rt: &R,
+        lines: Vec<Vec<L>>,
+        jobs: Vec<Vec<Job>>,
+        gate: G,
+        plan: Plan,
+    ) -> Result<Running, BankFault>
+        ensures running { IfOk result (λ running. running ≡ self.configs) }
+        ensures early { IfErr result EndsEarly }
+    {
+        let alloc = self.alloc;
+        let works = self.works(lines, jobs, gate, plan)?;
+        Running::start(rt, alloc, works)
+    }
+
+    /// What the thread of each set is to do.
+    fn works<L: Line + Drop, G: Gate + Clone + Drop>(
+        self,
+        lines: Vec<Vec<L>>,
+        jobs: Vec<Vec<Job>>,
+        gate: G,
+        plan: Plan,
+    ) -> Result<Vec<Work<L, G>>, BankFault>
+        ensures works { IfOk result (λ works. map (λ work. work.config) works.items ≡ self.configs) }
+        ensures early { IfErr result EndsEarly }
+    {
+        let Bank {
+            configs,
+            users,
+            alloc,
+        } = self;
+        let mut lines = lines.into_iter();
+        let mut jobs = jobs.into_iter();
+        let mut works = Vec::with_capacity(alloc, configs.len())?;
+        for config in configs {
+            let orders = Orders {
+                set: config.set,
+                gate: gate.clone()?,
+                plan,
+            };
+            works.push_reserved(Work {
+                config,
+                users,
+                lines: lines.next().unwrap_or(Vec::new(alloc)),
+                jobs: jobs.next().unwrap_or(Vec::new(alloc)),
+                orders,
+            });
+        }
+        Ok(works)
+    }
+}

@@ -1,0 +1,139 @@
+//! Sets that run in threads, and what they come to.
+ghost use Rattle.std.specs.Prelude.{◌≡◌, map, IfOk, IfErr};
+ghost use Rattle.bank_core.specs.Ends.{AreEnds};
+ghost use Rattle.bank_core.specs.Faults.{EndsEarly};
+
+use super::fault::BankFault;
+use super::set_thread::{Work, one_set};
+use line_ring::Line;
+use link_term::{Gate, TermFault, TermReport};
+use set_events::SetConfig;
+use set_shared::Closed;
+use std::alloc::Global;
+use std::marker::Model;
+use std::sync::Wait;
+use std::thread;
+use std::thread::{Promise, PromisedHandle, Threads};
+
+/// What a set came to.
+#[derive(Drop)]
+pub struct SetEnd {
+    /// The history, legal for the set's configuration, with its books and counts.
+    pub closed: Closed,
+    /// What the turns of each terminal counted, by the links' numbers, or why they ended early.
+    pub reports: Vec<Result<TermReport, TermFault>>,
+    /// Whether each user got through, by the users' numbers.
+    pub users: Vec<bool>,
+}
+
+/// What a set's thread answers: the end of the set of this configuration, or why there is none.
+#[derive(Drop)]
+pub(crate) struct EndOf(pub(crate) SetConfig);
+
+impl Promise<Result<SetEnd, BankFault>> for EndOf {
+    ghost use Rattle.std.specs.Prelude.{MatchResult};
+    ghost use Rattle.bank_core.specs.Ends.{IsEndOf};
+    ghost use Rattle.bank_core.specs.Faults.{EndsEarly};
+
+    ghost kept_by = { λ promise result. MatchResult result (IsEndOf promise.0) EndsEarly };
+}
+
+/// The thread of a set.
+pub(crate) type SetThread = PromisedHandle<Result<SetEnd, BankFault>, EndOf>;
+
+/// A bank whose sets run. Contracts see their configurations, in order. Where it's dropped they run on, and nobody
+/// learns what they come to.
+#[derive(Drop)]
+pub struct Running {
+    threads: Vec<SetThread>,
+    /// Empty, with room for the end of each set.
+    ends: Vec<SetEnd>,
+}
+
+impl Model for Running {
+    ghost use Rattle.std.specs.Prelude.{List};
+    ghost use Rattle.set_events.specs.declared.config.SetConfig.{SetConfig};
+
+    ghost Value = { List SetConfig };
+
+    ghost use Rattle.std.specs.Prelude.{◌≡◌, ◌≤◌, [], map, vec_len, vec_capacity};
+
+    ghost view = { λ r. map (λ thread. thread.promise.0) r.threads.items };
+
+    ghost invariant = { λ r. (r.ends.items ≡ []) × (vec_len r.ends ≡ 0)
+        × (vec_len r.threads ≤ vec_capacity r.ends) };
+}
+
+impl Running {
+    /// A thread for each of these sets.
+    pub(crate) fn start<
+        L: Line + Drop + Send + 'static,
+        G: Gate + Drop + Send + Sync + 'static,
+        R: Threads + Wait + Copy + Send + Sync + 'static,
+    >(rt: &R, alloc: Global, works: Vec<Work<L, G>>) -> Result<Running, BankFault>
+        ensures running { IfOk result (λ running. running ≡ map (λ work. work.config) works.items) }
+        ensures early { IfErr result EndsEarly }
+    {
+        let ends = Vec::with_capacity(alloc, works.len())?;
+        let mut threads = Vec::with_capacity(alloc, works.len())?;
+        for work in works {
+            match start_one(rt, alloc, work) {
+                Ok(thread) => threads.push_reserved(thread),
+                Err(fault) => {
+                    wait_for(rt, threads);
+                    return Err(fault);
+                }
+            }
+        }
+        Ok(Running { threads, ends })
+    }
+
+    /// Waits for all sets, and hands out what each came to, in the order of their configurations. It takes no memory.
+    ///
+    /// Faults, of the first set that ended so, once all threads have ended: 1 [`BankFault::NoMemory`],
+    /// 4 [`BankFault::NoThread`], 5 [`BankFault::Unclosed`]. The ends of the other sets are given up then.
+    pub fn join<R: Threads>(self, rt: &R) -> Result<Vec<SetEnd>, BankFault>
+        ensures ends { IfOk result (λ ends. AreEnds self ends.items) }
+        ensures early { IfErr result EndsEarly }
+    {
+        let mut ends = self.ends;
+        let mut first_fault = None;
+        for thread in self.threads {
+            match thread.join(rt) {
+                Ok(end) => ends.push_reserved(end),
+                Err(fault) => {
+                    if first_fault.is_none() {
+                        first_fault = Some(fault);
+                    }
+                }
+            }
+        }
+        match first_fault {
+            None => Ok(ends),
+            Some(fault) => Err(fault),
+        }
+    }
+}
+
+/// Starts the thread of one set.
+fn start_one<
+    L: Line + Drop + Send + 'static,
+    G: Gate + Drop + Send + Sync + 'static,
+    R: Threads + Wait + Copy + Send + Sync + 'static,
+>(rt: &R, alloc: Global, work: Work<L, G>) -> Result<SetThread, BankFault>
+    ensures started { IfOk result (λ thread. thread.promise.0 ≡ work.config) }
+    ensures early { IfErr result EndsEarly }
+{
+    let own = *rt;
+    match thread::spawn_with(rt, EndOf(work.config), move || one_set(&own, alloc, work)) {
+        Ok(thread) => Ok(thread),
+        Err(_) => Err(BankFault::NoThread),
+    }
+}
+
+/// Waits for these threads, whatever their sets come to.
+fn wait_for<R: Threads>(rt: &R, threads: Vec<SetThread>) {
+    for thread in threads {
+        let _ = thread.join(rt);
+    }
+}
