@@ -92,7 +92,7 @@ impl Running {
     ///
     /// Faults, of the first set that ended so, once all threads have ended: 1 [`BankFault::NoMemory`],
     /// 4 [`BankFault::NoThread`], 5 [`BankFault::Unclosed`]. The ends of the other sets are given up then.
-    pub fn join<R: Threads>(self, rt: &R) -> Result<Vec<SetEnd>, BankFault>
+    pub fn join<R: Threads + Wait>(self, rt: &R) -> Result<Vec<SetEnd>, BankFault>
         ensures ends { IfOk result (λ ends. AreEnds self ends.items) }
         ensures early { IfErr result EndsEarly }
     {

@@ -1,0 +1,223 @@
+//! Gates at which threads wait for one another: a bank whose sets, links and users didn't run at the same time would
+//! never come past them.
+
+use super::openings::{
+    are_legal, bank_of, configs_of, ends_of, holds, loops_of, offers_of, plan_of,
+};
+use link_term::Gate;
+use set_events::Method;
+use std::alloc::{AllocError, Global};
+use std::sync::atomic::{AtomicU64, Ordering};
+use std::sync::{Arc, Wait};
+use std::test::Fail;
+use std::thread;
+use std::thread::Threads;
+
+/// How often a thread yields to the others before it gives up.
+const PATIENCE: u32 = 1_000_000;
+
+/// Who waits for whom.
+#[derive(Clone, Copy, Debug, PartialEq, Eq)]
+enum Meeting {
+    /// Set 0 in its first step, under its lock, for a step of set 1 that was answered.
+    Sets,
+    /// Link 0 in its first turn for a step of link 1, and link 1 in its next turn for the second turn of link 0.
+    Links,
+    /// Link 0 in its first turn for the first call of user 0, and user 0 in its second call for the second turn of
+    /// link 0.
+    Users,
+}
+
+/// What a link's terminal did.
+#[derive(Drop)]
+struct LinkSeen {
+    turns: AtomicU64,
+    steps: AtomicU64,
+}
+
+/// What the threads of a set did.
+#[derive(Drop)]
+struct SetSeen {
+    first: LinkSeen,
+    second: LinkSeen,
+    steps: AtomicU64,
+    calls: AtomicU64,
+}
+
+/// What all threads did.
+#[derive(Drop)]
+struct Seen {
+    first: SetSeen,
+    second: SetSeen,
+    /// How often somebody came whom another waited for.
+    met: AtomicU64,
+    /// How often nobody came.
+    missed: AtomicU64,
+}
+
+fn no_link() -> LinkSeen {
+    LinkSeen {
+        turns: AtomicU64::new(0),
+        steps: AtomicU64::new(0),
+    }
+}
+
+fn no_set() -> SetSeen {
+    SetSeen {
+        first: no_link(),
+        second: no_link(),
+        steps: AtomicU64::new(0),
+        calls: AtomicU64::new(0),
+    }
+}
+
+/// One more; how many there were.
+fn count(counter: &AtomicU64) -> u64 {
+    counter.fetch_add(1, Ordering::SeqCst)
+}
+
+fn read(counter: &AtomicU64) -> u64 {
+    counter.load(Ordering::SeqCst)
+}
+
+impl SetSeen {
+    fn link(&self, link: u8) -> &LinkSeen {
+        if link == 0 { &self.first } else { &self.second }
+    }
+}
+
+impl Seen {
+    fn nothing() -> Seen {
+        Seen {
+            first: no_set(),
+            second: no_set(),
+            met: AtomicU64::new(0),
+            missed: AtomicU64::new(0),
+        }
+    }
+
+    fn set(&self, set: u16) -> &SetSeen {
+        if set == 0 { &self.first } else { &self.second }
+    }
+
+    /// Waits until so many are counted. Once somebody has given up, nobody waits any more.
+    fn wait_for(&self, counter: &AtomicU64, least: u64) {
+        for _time in 0..PATIENCE {
+            if read(counter) >= least {
+                count(&self.met);
+                return;
+            }
+            if read(&self.missed) > 0 {
+                return;
+            }
+            thread::yield_now();
+        }
+        count(&self.missed);
+    }
+}
+
+/// The gate of a meeting, which all threads share.
+#[derive(Drop)]
+struct MeetingGate {
+    meeting: Meeting,
+    seen: Arc<Seen, Global>,
+}
+
+impl Clone for MeetingGate {
+    fn clone(&self) -> Result<MeetingGate, AllocError> {
+        Ok(MeetingGate {
+            meeting: self.meeting,
+            seen: Arc::try_clone(&self.seen)?,
+        })
+    }
+}
+
+impl Gate for MeetingGate {
+    fn outside(&self, set: u16, link: u8) {
+        let of_set = self.seen.set(set);
+        let own = of_set.link(link);
+        let turns = count(&own.turns);
+        match (self.meeting, link) {
+            (Meeting::Links, 0) => {
+                if turns == 0 {
+                    self.seen.wait_for(&of_set.second.steps, 1);
+                }
+            }
+            (Meeting::Links, _) => {
+                if read(&own.steps) > 0 {
+                    self.seen.wait_for(&of_set.first.turns, 2);
+                }
+            }
+            (Meeting::Users, 0) => {
+                if turns == 0 {
+                    self.seen.wait_for(&of_set.calls, 1);
+                }
+            }
+            _ => {}
+        }
+    }
+
+    fn inside(&self, set: u16, link: u8) {
+        let of_set = self.seen.set(set);
+        count(&of_set.link(link).steps);
+        let steps = count(&of_set.steps);
+        if self.meeting == Meeting::Sets && set == 0 && steps == 0 {
+            // the second step of a set begins when the first was answered
+            self.seen.wait_for(&self.seen.second.steps, 2);
+            if read(&of_set.steps) != 1 {
+                count(&self.seen.missed);
+            }
+        }
+    }
+
+    fn user(&self, set: u16, user: u16) {
+        let of_set = self.seen.set(set);
+        if user == 0 && count(&of_set.calls) == 1 && self.meeting == Meeting::Users {
+            self.seen.wait_for(&of_set.first.turns, 2);
+        }
+    }
+}
+
+/// Two sets of two links, with a user each that offers two messages: everybody meets, at least so often.
+fn all_meet<R: Threads + Wait + Copy + Send + Sync + 'static>(
+    rt: &R,
+    alloc: Global,
+    meeting: Meeting,
+    least: u64,
+) -> Result<(), Fail> {
+    let seen = Arc::new(alloc, Seen::nothing())?;
+    let gate = MeetingGate {
+        meeting,
+        seen: Arc::try_clone(&seen)?,
+    };
+    let configs = configs_of(alloc, 2, 2, Method::Basic, 2, 1)?;
+    let ends = ends_of(
+        rt,
+        bank_of(alloc, &configs, 1)?,
+        loops_of(alloc, 2, 2)?,
+        offers_of(alloc, 2, 1, 2)?,
+        gate,
+        plan_of(20_000, None),
+    )?;
+    holds(read(&seen.missed) == 0 && read(&seen.met) >= least)?;
+    are_legal(alloc, &configs, &ends)?;
+    for end in ends.iter() {
+        holds(end.closed.books.messages == 2 && end.users.iter().all(|user| *user))?;
+    }
+    Ok(())
+}
+
+#[test]
+fn sets_run_at_the_same_time(rt: HostRuntime) -> Result<(), Fail> {
+    all_meet(&rt, rt.alloc(), Meeting::Sets, 1)
+}
+
+#[test]
+fn links_run_at_the_same_time(rt: HostRuntime) -> Result<(), Fail> {
+    all_meet(&rt, rt.alloc(), Meeting::Links, 4)
+}
+
+#[test]
+fn users_run_beside_terminals(rt: HostRuntime) -> Result<(), Fail> {
+    all_meet(&rt, rt.alloc(), Meeting::Users, 4)
+}
