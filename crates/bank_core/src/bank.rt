@@ -74,8 +74,9 @@ impl Bank {
     /// their seats and closes it.
     ///
     /// Set by set, and link by link, a terminal runs over its line; set by set, and user by user, a user does its job.
-    /// A link that has no line isn't run, and a user that has no job makes no call; lines and jobs that are over are given
-    /// up. Each terminal is told to come up in an emergency before its first turn. Of the gate, each set gets a clone.
+    /// A link that has no line isn't run, and a user that has no job makes no call; lines and jobs that are over are
+    /// given up. Each terminal is told to come up in an emergency before its first turn. Each set gets a clone of the
+    /// gate.
     ///
     /// Faults: 1 [`BankFault::NoMemory`], before any thread was started; 4 [`BankFault::NoThread`], once the threads
     /// that were started have ended.

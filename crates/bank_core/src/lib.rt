@@ -1,8 +1,8 @@
 //! A bank: up to 16 sets of links, each with its terminals and users in threads of their own.
 //!
-//! [`Bank::create`] takes the sets' configurations, [`Bank::start`] gives each set a thread, and [`Running::join`] hands
-//! out what each set came to. A set's thread opens its set, runs its terminals and users, gathers their seats, and
-//! closes it: its history is legal for its configuration, whatever the threads did, and in whatever order.
+//! [`Bank::create`] takes the sets' configurations, [`Bank::start`] gives each set a thread, and [`Running::join`]
+//! hands out what each set came to. A set's thread opens its set, runs its terminals and users, gathers their seats,
+//! and closes it: its history is legal for its configuration, whatever the threads did, and in whatever order.
 //!
 //! ```text
 //! bank        start                                                  join: a list of SetEnds, in the sets' order

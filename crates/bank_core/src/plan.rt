@@ -6,8 +6,8 @@ use link_term::Timers;
 /// What a user does, as calls of its seat at the set.
 #[derive(Drop)]
 pub enum Job {
-    /// The user offers a message of each of these bodies, in this order, and finds each one that was accepted, before it
-    /// offers the next.
+    /// The user offers a message of each of these bodies, in this order, and finds each one that was accepted,
+    /// before it offers the next.
     Offer {
         /// The octets of the messages: SIO and SIF (Q.703 2.3.8).
         bodies: Vec<Vec<u8>>,

@@ -13,3 +13,5 @@ mod refusals;
 mod runs;
 #[cfg(test)]
 mod sums;
+#[cfg(test)]
+mod traffic;

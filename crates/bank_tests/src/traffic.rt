@@ -1,0 +1,133 @@
+//! Traffic between two banks whose terminals are kept beside one another: it really goes through.
+
+use super::openings::{holds, message_of, placed};
+use bank_core::SetEnd;
+use l2_units::Unit;
+use paced_banks::{Traffic, run_traffic};
+use set_core::audit;
+use set_events::{Answer, Entry, Event, Took};
+use std::alloc::Global;
+use std::sync::Wait;
+use std::test::Fail;
+use std::thread::Threads;
+
+/// The next message of each of four users.
+#[derive(Clone, Copy, Debug, PartialEq, Eq)]
+struct Next {
+    numbers: [u16; 4],
+}
+
+impl Next {
+    /// This body is the next message of its user.
+    fn is(&mut self, body: &[u8]) -> bool {
+        for user in 0..4u8 {
+            let number = self.numbers[usize::from(user)];
+            if body == message_of(user, number).as_slice() {
+                self.numbers[usize::from(user)] = number.saturating_add(1);
+                return true;
+            }
+        }
+        false
+    }
+}
+
+/// The body of a message that was accepted from the line, if this entry is one.
+fn heard(entry: &Entry) -> Option<&[u8]> {
+    match (&entry.event, &entry.answer) {
+        (
+            Event::Heard {
+                unit: Unit::Msu { body, .. },
+                ..
+            },
+            Answer::Heard { report },
+        ) => {
+            if report.took == Took::Message {
+                Some(body.as_slice())
+            } else {
+                None
+            }
+        }
+        _ => None,
+    }
+}
+
+/// The body of a message that was taken by a user, if this entry is one.
+fn taken(entry: &Entry) -> Option<&[u8]> {
+    match &entry.answer {
+        Answer::Taken { body } => Some(body.as_slice()),
+        _ => None,
+    }
+}
+
+/// Four users' messages were heard at this end, so many of each, each user's in order, and were taken in order.
+fn heard_all(end: &SetEnd, messages: u16) -> Result<(), Fail> {
+    let mut next_heard = Next { numbers: [0; 4] };
+    let mut next_taken = Next { numbers: [0; 4] };
+    for entry in end.closed.history.iter() {
+        if let Some(body) = heard(entry) {
+            holds(next_heard.is(body))?;
+        }
+        if let Some(body) = taken(entry) {
+            holds(next_taken.is(body))?;
+        }
+    }
+    holds(next_heard.numbers == [messages; 4])
+}
+
+/// A legal history, with so many messages accepted, each in one place.
+fn is_sound(alloc: Global, end: &SetEnd, messages: u64) -> Result<(), Fail> {
+    match audit(alloc, &end.closed.config, end.closed.history.as_slice()) {
+        Ok(legal) => holds(legal)?,
+        Err(_) => return Err(Fail::from("no memory")),
+    }
+    holds(end.closed.books.messages == messages && placed(end) == messages)
+}
+
+/// Two sets of two links, and four users at end a with a hundred messages each: all are acknowledged, and the far end
+/// has them.
+fn goes_through<R: Threads + Wait + Copy + Send + Sync + 'static>(
+    rt: &R,
+    alloc: Global,
+    cyclic: bool,
+    fail: Option<u8>,
+    turns: u32,
+) -> Result<(), Fail> {
+    let traffic = Traffic {
+        sets: 2,
+        links: 2,
+        users: 4,
+        messages: 100,
+        fail,
+        cyclic,
+        turns: u64::from(turns),
+    };
+    let Ok(ends) = run_traffic(rt, alloc, &traffic) else {
+        return Err(Fail::from("not run"));
+    };
+    holds(ends.near.len() == 2 && ends.far.len() == 2)?;
+    for end in ends.near.iter() {
+        is_sound(alloc, end, 400)?;
+        holds(end.closed.counts.acked == 400 && end.users.iter().all(|user| *user))?;
+    }
+    for end in ends.far.iter() {
+        is_sound(alloc, end, 0)?;
+        heard_all(end, 100)?;
+    }
+    Ok(())
+}
+
+#[test]
+fn all_messages_go_through(rt: HostRuntime) -> Result<(), Fail> {
+    goes_through(&rt, rt.alloc(), false, None, 60_000)
+}
+
+#[test]
+fn all_messages_go_through_by_cycles(rt: HostRuntime) -> Result<(), Fail> {
+    goes_through(&rt, rt.alloc(), true, None, 60_000)
+}
+
+#[test]
+fn all_messages_go_through_where_a_link_fails(rt: HostRuntime) -> Result<(), Fail> {
+    // links come up by turn 5,000, and two links have sent 400 messages after turn 7,000: Stop comes between
+    goes_through(&rt, rt.alloc(), false, Some(0), 13_000)
+}

@@ -1,0 +1,150 @@
+//! What two banks are opened with.
+ghost use Rattle.std.specs.Prelude.{◌≡◌, ◌<◌, ◌≤◌, ◌^◌, true, IfOk};
+ghost use Rattle.paced_banks.specs.Opening.{AreConfigs, method_of};
+ghost use Rattle.set_events.specs.Method.{is_method};
+
+use bank_core::Job;
+use line_ring::{RingLine, ring_pair};
+use set_events::{Method, SetConfig};
+use std::alloc::{AllocError, Global};
+
+/// How many octets fit into a ring.
+const PLACES: usize = 4_096;
+
+/// How messages are kept safe.
+pub(crate) fn method_of(cyclic: bool) -> Method
+    ensures { result ≡ method_of cyclic }
+{
+    if cyclic {
+        Method::Cyclic { n1: 127, n2: 8_000 }
+    } else {
+        Method::Basic
+    }
+}
+
+/// The configurations of the sets 0, 1, .., at the end of this point code.
+pub(crate) fn configs_of(
+    alloc: Global,
+    sets: u16,
+    links: u8,
+    opc: u16,
+    dpc: u16,
+    method: Method,
+) -> Result<Vec<SetConfig>, AllocError>
+    requires links { (1 ≤ links) × (links ≤ 16) }
+    requires codes { (opc < 2 ^ 14) × (dpc < 2 ^ 14) }
+    requires method { is_method method ≡ true }
+    ensures { IfOk result (λ configs. AreConfigs sets links opc dpc method configs.items) }
+{
+    let mut configs = Vec::new(alloc);
+    for set in 0..sets {
+        configs.reserve(1)?;
+        match SetConfig::new(set, links, opc, dpc, 0x80, method) {
+            Ok(config) => configs.push_reserved(config),
+            Err(_) => unreachable!(),
+        }
+    }
+    Ok(configs)
+}
+
+/// The two ends of each link of each set.
+#[derive(Drop)]
+pub(crate) struct Lines {
+    pub(crate) near: Vec<Vec<RingLine>>,
+    pub(crate) far: Vec<Vec<RingLine>>,
+}
+
+/// A pair of rings for each link of each set.
+pub(crate) fn lines_of(alloc: Global, sets: u16, links: u8) -> Result<Lines, AllocError> {
+    let mut lines = Lines {
+        near: Vec::new(alloc),
+        far: Vec::new(alloc),
+    };
+    for _set in 0..sets {
+        lines.near.reserve(1)?;
+        lines.far.reserve(1)?;
+        let (near, far) = set_lines(alloc, links)?;
+        lines.near.push_reserved(near);
+        lines.far.push_reserved(far);
+    }
+    Ok(lines)
+}
+
+/// A pair of rings for each link of one set.
+fn set_lines(alloc: Global, links: u8) -> Result<(Vec<RingLine>, Vec<RingLine>), AllocError> {
+    let mut near = Vec::new(alloc);
+    let mut far = Vec::new(alloc);
+    for _link in 0..links {
+        near.reserve(1)?;
+        far.reserve(1)?;
+        let (near_line, far_line) = ring_pair(alloc, PLACES)?;
+        near.push_reserved(near_line);
+        far.push_reserved(far_line);
+    }
+    Ok((near, far))
+}
+
+/// The jobs of each set's users at the ends a: each offers so many messages.
+pub(crate) fn offers_of(
+    alloc: Global,
+    sets: u16,
+    users: u16,
+    messages: u16,
+) -> Result<Vec<Vec<Job>>, AllocError> {
+    let mut all = Vec::new(alloc);
+    for _set in 0..sets {
+        all.reserve(1)?;
+        let jobs = set_offers(alloc, users, messages)?;
+        all.push_reserved(jobs);
+    }
+    Ok(all)
+}
+
+/// The jobs of one set's users at end a.
+fn set_offers(alloc: Global, users: u16, messages: u16) -> Result<Vec<Job>, AllocError> {
+    let mut jobs = Vec::new(alloc);
+    for user in 0..users {
+        jobs.reserve(1)?;
+        let bodies = bodies_of(alloc, user, messages)?;
+        jobs.push_reserved(Job::Offer { bodies });
+    }
+    Ok(jobs)
+}
+
+/// The bodies of a user's messages.
+fn bodies_of(alloc: Global, user: u16, messages: u16) -> Result<Vec<Vec<u8>>, AllocError> {
+    let mut bodies = Vec::new(alloc);
+    for number in 0..messages {
+        bodies.reserve(1)?;
+        let body = Vec::from_slice(alloc, &body_of(user, number))?;
+        bodies.push_reserved(body);
+    }
+    Ok(bodies)
+}
+
+/// A message: SIO, a label to point code 1 from point code 2 whose SLS is the user's number modulo 16 (Q.704 2.2), and
+/// its own number, the high octet first.
+fn body_of(user: u16, number: u16) -> [u8; 7] {
+    [
+        0x85,
+        0x01,
+        0x80,
+        0x00,
+        ((user % 16) * 16) as u8,
+        (number / 256) as u8,
+        (number % 256) as u8,
+    ]
+}
+
+/// The job of each set's one user at the ends b: to ask so often for a message.
+pub(crate) fn takes_of(alloc: Global, sets: u16, times: u32) -> Result<Vec<Vec<Job>>, AllocError> {
+    let mut all = Vec::new(alloc);
+    for _set in 0..sets {
+        let mut jobs = Vec::new(alloc);
+        jobs.reserve(1)?;
+        jobs.push_reserved(Job::Take { times });
+        all.reserve(1)?;
+        all.push_reserved(jobs);
+    }
+    Ok(all)
+}

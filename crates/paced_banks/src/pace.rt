@@ -1,0 +1,103 @@
+//! The gate that keeps the two ends of each link beside one another.
+
+use link_term::Gate;
+use std::alloc::{AllocError, Global};
+use std::sync::Arc;
+use std::sync::atomic::{AtomicU64, Ordering};
+use std::thread;
+
+/// How many turns a terminal may be ahead of the one at the other end.
+const LEAD: u64 = 64;
+
+/// How often a terminal yields to other threads before it goes on alone.
+const PATIENCE: u32 = 1_000_000;
+
+/// The turns of one link's terminals.
+#[derive(Drop)]
+struct LinkTurns {
+    /// How many turns the terminal at end a has begun.
+    near: AtomicU64,
+    /// How many turns the terminal at end b has begun.
+    far: AtomicU64,
+    /// 1: an end waited in vain, so that neither waits any more.
+    apart: AtomicU64,
+}
+
+/// The gate of one of two banks: a terminal that is 64 turns ahead of the one at the other end of its link yields to
+/// other threads until that is no longer so. It yields at most 1,000,000 times, for the other end may have ended by a
+/// fault, or may never have begun; then the link's ends wait for each other no more.
+#[derive(Drop)]
+pub struct PaceGate {
+    /// Those of link 0 of set 0, of link 1 of set 0, .., of link 0 of set 1, ..
+    turns: Arc<Vec<LinkTurns>, Global>,
+    links: u8,
+    is_near: bool,
+}
+
+/// The gates of the bank of the ends a and of that of the ends b, for sets 0, 1, .., each of so many links.
+pub fn pace_gates(alloc: Global, sets: u16, links: u8) -> Result<(PaceGate, PaceGate), AllocError> {
+    let mut turns = Vec::new(alloc);
+    for _set in 0..sets {
+        for _link in 0..links {
+            turns.reserve(1)?;
+            turns.push_reserved(LinkTurns {
+                near: AtomicU64::new(0),
+                far: AtomicU64::new(0),
+                apart: AtomicU64::new(0),
+            });
+        }
+    }
+    let near = PaceGate {
+        turns: Arc::new(alloc, turns)?,
+        links,
+        is_near: true,
+    };
+    let far = PaceGate {
+        is_near: false,
+        ..near.clone()?
+    };
+    Ok((near, far))
+}
+
+impl Clone for PaceGate {
+    fn clone(&self) -> Result<PaceGate, AllocError> {
+        Ok(PaceGate {
+            turns: Arc::try_clone(&self.turns)?,
+            links: self.links,
+            is_near: self.is_near,
+        })
+    }
+}
+
+impl Gate for PaceGate {
+    fn outside(&self, set: u16, link: u8) {
+        let place = usize::from(set) * usize::from(self.links) + usize::from(link);
+        let Some(turns) = self.turns.get(place) else {
+            return;
+        };
+        if self.is_near {
+            keep_pace(&turns.near, &turns.far, &turns.apart);
+        } else {
+            keep_pace(&turns.far, &turns.near, &turns.apart);
+        }
+    }
+
+    fn inside(&self, _set: u16, _link: u8) {}
+
+    fn user(&self, _set: u16, _user: u16) {}
+}
+
+/// One turn more begins, once the other end isn't too far behind.
+fn keep_pace(own: &AtomicU64, other: &AtomicU64, apart: &AtomicU64) {
+    let begun = own.fetch_add(1, Ordering::SeqCst);
+    for _time in 0..PATIENCE {
+        if begun < other.load(Ordering::SeqCst).saturating_add(LEAD) {
+            return;
+        }
+        if apart.load(Ordering::SeqCst) > 0 {
+            return;
+        }
+        thread::yield_now();
+    }
+    apart.store(1, Ordering::SeqCst);
+}

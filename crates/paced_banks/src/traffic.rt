@@ -1,0 +1,141 @@
+//! Traffic between the ends of sets, for so many turns of their terminals.
+ghost use Rattle.std.specs.Prelude.{◌≡◌, ◌<◌, ◌≤◌, ◌^◌, IfOk, IfErr};
+ghost use Rattle.bank_core.specs.Ends.{AreEnds};
+ghost use Rattle.bank_core.specs.Faults.{EndsEarly};
+ghost use Rattle.paced_banks.specs.Opening.{AreConfigs, AreEndsOf, method_of};
+
+use super::opening::{configs_of, lines_of, method_of, offers_of, takes_of};
+use super::pace::pace_gates;
+use bank_core::{Bank, BankFault, Plan, Running, SetEnd};
+use link_term::Timers;
+use std::alloc::Global;
+use std::sync::Wait;
+use std::thread::Threads;
+
+/// The lengths of the terminals' timers: long beside the time that a link takes to come up, in octet times.
+const TIMERS: Timers = Timers {
+    t1: 100_000,
+    t2: 100_000,
+    t3: 100_000,
+    t5: 800,
+    t6: 100_000,
+    t7: 100_000,
+};
+
+/// How often the user at an end b asks for a message.
+const TAKES: u32 = 1_000;
+
+/// What runs between the ends a and b of sets.
+#[derive(Clone, Copy, Debug, PartialEq, Eq)]
+pub struct Traffic {
+    /// How many sets, 1 to 16.
+    pub sets: u16,
+    /// How many links each set has, 1 to 16.
+    pub links: u8,
+    /// How many users each set has at its end a, 1 to 16.
+    pub users: u16,
+    /// How many messages each of them offers, 1 to 1,024.
+    pub messages: u16,
+    /// The link whose terminal at end a is told Stop half way.
+    pub fail: Option<u8>,
+    /// Messages are kept safe by preventive cyclic retransmission (Q.703 6), with N1 127 and N2 8,000; else by the
+    /// basic method.
+    pub cyclic: bool,
+    /// How many turns each terminal takes, in octet times; at most 2^32.
+    pub turns: u64,
+    pub ghost few_sets: { (1 ≤ sets) × (sets ≤ 16) },
+    pub ghost few_links: { (1 ≤ links) × (links ≤ 16) },
+    pub ghost few_users: { (1 ≤ users) × (users ≤ 16) },
+    pub ghost few_turns: { turns ≤ 2 ^ 32 },
+}
+
+/// What the sets came to at their ends.
+#[derive(Drop)]
+pub struct TrafficEnds {
+    /// At the ends a, set by set.
+    pub near: Vec<SetEnd>,
+    /// At the ends b, set by set.
+    pub far: Vec<SetEnd>,
+}
+
+/// Runs this traffic: the ends a of all sets in one bank, the ends b in another, each link over a pair of rings, with a
+/// gate that keeps its two terminals beside one another.
+///
+/// Faults, once all threads that were started have ended: those of [`Bank::start`] and [`Running::join`], of the ends a
+/// first.
+pub fn run_traffic<R: Threads + Wait + Copy + Send + Sync + 'static>(
+    rt: &R,
+    alloc: Global,
+    traffic: &Traffic,
+) -> Result<TrafficEnds, BankFault>
+    ensures near { IfOk result (λ ends. AreEndsOf traffic.now.sets traffic.now.links 2 1
+        (method_of traffic.now.cyclic) ends.near.items) }
+    ensures far { IfOk result (λ ends. AreEndsOf traffic.now.sets traffic.now.links 1 2
+        (method_of traffic.now.cyclic) ends.far.items) }
+    ensures early { IfErr result EndsEarly }
+{
+    let lines = lines_of(alloc, traffic.sets, traffic.links)?;
+    let offers = offers_of(alloc, traffic.sets, traffic.users, traffic.messages)?;
+    let takes = takes_of(alloc, traffic.sets, TAKES)?;
+    let near_bank = bank_of(alloc, traffic, 2, 1, traffic.users)?;
+    let far_bank = bank_of(alloc, traffic, 1, 2, 1)?;
+    let (near_gate, far_gate) = pace_gates(alloc, traffic.sets, traffic.links)?;
+    let near_plan = plan_of(traffic, traffic.fail);
+    let far_plan = plan_of(traffic, None);
+    let near = near_bank.start(rt, lines.near, offers, near_gate, near_plan)?;
+    match far_bank.start(rt, lines.far, takes, far_gate, far_plan) {
+        Ok(far) => joined(rt, near, far),
+        Err(fault) => {
+            let _ = near.join(rt);
+            Err(fault)
+        }
+    }
+}
+
+/// What a bank's terminals do.
+fn plan_of(traffic: &Traffic, fail: Option<u8>) -> Plan
+    ensures turns { result.turns ≡ traffic.now.turns }
+    ensures fail { result.fail ≡ fail }
+{
+    Plan {
+        timers: TIMERS,
+        turns: traffic.turns,
+        fail,
+    }
+}
+
+/// The bank of one end of all sets, with so many users each.
+fn bank_of(
+    alloc: Global,
+    traffic: &Traffic,
+    opc: u16,
+    dpc: u16,
+    users: u16,
+) -> Result<Bank, BankFault>
+    requires codes { (opc < 2 ^ 14) × (dpc < 2 ^ 14) }
+    ensures configs { IfOk result (λ bank. AreConfigs traffic.now.sets traffic.now.links opc dpc
+        (method_of traffic.now.cyclic) bank.configs) }
+    ensures early { IfErr result EndsEarly }
+{
+    let method = method_of(traffic.cyclic);
+    let configs = configs_of(alloc, traffic.sets, traffic.links, opc, dpc, method)?;
+    match Bank::create(alloc, &configs, users) {
+        Ok(bank) => Ok(bank),
+        // there are 1 to 16 sets, with 1 to 16 users
+        Err(_) => Err(BankFault::NoMemory),
+    }
+}
+
+/// Waits for both banks.
+fn joined<R: Threads + Wait>(rt: &R, near: Running, far: Running) -> Result<TrafficEnds, BankFault>
+    ensures near { IfOk result (λ ends. AreEnds near ends.near.items) }
+    ensures far { IfOk result (λ ends. AreEnds far ends.far.items) }
+    ensures early { IfErr result EndsEarly }
+{
+    let near_ends = near.join(rt);
+    let far_ends = far.join(rt);
+    Ok(TrafficEnds {
+        near: near_ends?,
+        far: far_ends?,
+    })
+}
