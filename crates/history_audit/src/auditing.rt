@@ -30,7 +30,8 @@ pub fn first_wrong(
     Ok(Some(place))
 }
 
-/// The place of the first wrong entry of a list that isn't legal: up to `legal` the entries are, up to `wrong` they aren't.
+/// The place of the first wrong entry of a list that isn't legal: up to `legal` the entries are, up to `wrong` they
+/// aren't.
 fn halved(alloc: Global, config: &SetConfig, entries: &[Entry]) -> Result<usize, SetFault>
     requires wrong { IsLegal (new_state config.now) entries.now → ⊥ }
     requires few { length entries.now ≤ longest_history }

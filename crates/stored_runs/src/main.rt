@@ -2,9 +2,10 @@
 //!
 //! It reads the file `list` of the folder that it runs in: a name a line, of a script (`.play`), a line of units
 //! (`.units`), units to decode (`.decode`), a history to audit (`.history`), or a table of scripts that all give the same:
-//! of each line of `NAME.first` a script is made, and of each line of `NAME.second` one with the opening before it. Beside `NAME.play` stands
-//! `NAME.stdout`, what the run prints, and where it ends with a fault `NAME.fault`, the line that tells it. `NAME.pcap` is
-//! what the capture of `NAME.play` writes, `NAME.history_a` and `NAME.history_b` what the histories of its ends print, and `NAME.ladder` is its chart. A line is printed for each name.
+//! of each line of `NAME.first` a script is made, and of each line of `NAME.second` one with the opening before it. Beside
+//! `NAME.play` stands `NAME.stdout`, what the run prints, and where it ends with a fault `NAME.fault`, the line that tells
+//! it. `NAME.pcap` is what the capture of `NAME.play` writes, `NAME.history_a` and `NAME.history_b` what the histories of
+//! its ends print, and `NAME.ladder` is its chart. A line is printed for each name.
 //! Whether a run is as it should be is all that this program tells; it proves nothing.
 #![tactic(auto)]
 
