@@ -27,16 +27,29 @@ fn runs_to<D: Door, L: Line, G: Gate>(
     }
 }
 
+/// All went well, and the set's history is legal.
+fn ends_well(alloc: Global, door: &CoreDoor, well: bool) -> Result<(), Fail> {
+    holds(well)?;
+    is_legal(alloc, &config_of()?, door)
+}
+
+/// It never failed, and heard more than 2,000 marks, each of them good.
+fn stays_good<D: Door, L: Line, G: Gate>(terminal: &mut Terminal<D, L, G>) -> bool {
+    match terminal.run(20_000) {
+        Ok(report) => {
+            report.cause == 0 && report.bad == 0 && report.sixteen == 0 && report.good > 2_000
+        }
+        Err(_) => false,
+    }
+}
+
 #[test]
 fn a_link_comes_up(rt: HostRuntime) -> Result<(), Fail> {
     let mut terminal = started(rt.alloc(), LossyLine::new(0), LONG)?;
-    let Ok(report) = terminal.run(20_000) else {
-        return Err(Fail::from("failed"));
-    };
-    holds(report.cause == 0 && report.bad == 0 && report.sixteen == 0 && report.good > 2_000)?;
+    let good = stays_good(&mut terminal);
     let (door, _line, _gate) = terminal.into_parts();
-    holds(ups(door.core.history()) == 1 && downs(door.core.history()) == 0)?;
-    is_legal(rt.alloc(), &config_of()?, &door)
+    let well = good && ups(door.core.history()) == 1 && downs(door.core.history()) == 0;
+    ends_well(rt.alloc(), &door, well)
 }
 
 #[test]
@@ -84,12 +97,12 @@ fn goes_on<D: Door, L: Line, G: Gate>(terminal: &mut Terminal<D, L, G>) -> bool 
 fn comes_up_again(alloc: Global, door: CoreDoor, line: FadingLine) -> Result<(), Fail> {
     let mut door = door;
     let link = door.link();
-    holds(door.step(&Event::NoAnswer { link }).is_ok())?;
+    let settled = door.step(&Event::NoAnswer { link }).is_ok();
     let mut terminal = started_at(door, line, LONG);
     let well = terminal.run(20_000).is_ok();
     let (door, _line, _gate) = terminal.into_parts();
-    holds(well && ups(door.core.history()) == 2)?;
-    is_legal(alloc, &config_of()?, &door)
+    let well = settled && well && ups(door.core.history()) == 2;
+    ends_well(alloc, &door, well)
 }
 
 /// In service on a good line, which then loses each 50th octet for 100,000 turns. The link goes down. An emergency proving
