@@ -108,8 +108,8 @@ of what was sent until then. The faults are those of `mtpbank play`:
   fault read, fault write, fault memory";
 
 pub(crate) const LADDER_PAGE: &str = "\
-Standard input is a script, as that of `mtpbank play`. What is printed is a chart
-of what happens, end a at the left and end b at the right, a row for each thing:
+Standard input is a script, as that of `mtpbank play`. What is printed is a
+chart of what happens, end a at the left, end b at the right, a row a thing:
   mtpbank ladder < examples/changeover.play
 `mtpbank ladder --help` says what each arrow and word of it tells.";
 
@@ -162,8 +162,8 @@ pub(crate) const HELP: &str = "\
 All read standard input to its end, as in `mtpbank play < examples/changeover.play`. `mtpbank play --help` says
 how a script is written and what it prints, `mtpbank units --help` and `mtpbank decode --help` which digits are
 read and what is printed, `mtpbank capture --help` what the file holds, `mtpbank ladder --help` what the chart shows,
-`mtpbank history --help` and `mtpbank audit --help` how a history is; with `-h` each is a page. A fault is one line on standard error, and
-what was printed before it stays:
+`mtpbank history --help` and `mtpbank audit --help` how a history is; with `-h` each is a page. A fault is one line on
+standard error, and what was printed before it stays:
   fault line N text, fault line N step               a line can't be read, or one of a script can't be done
   fault octet P                                      a character is no hexadecimal digit, or one is left over
   fault read, fault write, fault memory              standard input, standard output or memory failed
