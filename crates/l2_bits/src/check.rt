@@ -124,14 +124,3 @@ fn after_more_zeros(low: u8) -> u16
 {
     AFTER_MORE_ZEROS[low as usize]
 }
-
-#[cfg(test)]
-mod tests {
-    use super::*;
-
-    #[test]
-    fn public_check_value(rt: HostRuntime) {
-        // The value that catalogues of checksums give for CRC-16/X.25, which has these parameters.
-        assert_eq!(rt; check_of(b"123456789"), 0x906E);
-    }
-}

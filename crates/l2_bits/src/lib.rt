@@ -23,8 +23,6 @@
 mod check;
 mod content;
 mod deframing;
-#[cfg(test)]
-mod deframing_tests;
 mod flags;
 mod marks;
 mod rest;

@@ -32,8 +32,6 @@ mod control;
 mod fault;
 mod law;
 mod queue;
-#[cfg(test)]
-mod tests;
 mod window;
 
 pub use control::{Choice, HeardPart, Sending, number_after};

@@ -11,6 +11,10 @@ mod align;
 #[cfg(test)]
 mod basic;
 #[cfg(test)]
+mod bits;
+#[cfg(test)]
+mod deframing;
+#[cfg(test)]
 mod flow;
 #[cfg(test)]
 mod monitors;
@@ -22,6 +26,8 @@ mod signals;
 mod state;
 #[cfg(test)]
 mod units;
+#[cfg(test)]
+mod window;
 
 /// So it is. It stands in the place of `assert!`, whose text of what isn't so costs the prover a multiple.
 #[cfg(test)]

@@ -27,6 +27,3 @@ pub use line::{Full, Line};
 pub use lossy::LossyLine;
 pub use past::Past;
 pub use ring::{RingLine, beside, ring_pair};
-
-#[cfg(test)]
-mod tests;

@@ -37,8 +37,6 @@ mod monitors;
 mod part;
 mod sending;
 mod stuffing;
-#[cfg(test)]
-mod tests;
 
 pub use clocks::{Timer, no_end_no_talk};
 pub use inside::Inside;

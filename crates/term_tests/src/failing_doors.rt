@@ -73,21 +73,22 @@ fn first_fault<D: Door, L: Line, G: Gate>(
 }
 
 /// Whatever is called then, it answers Failed.
-fn stays_failed<D: Door, L: Line, G: Gate>(terminal: &mut Terminal<D, L, G>) -> Result<(), Fail> {
+fn stays_failed<D: Door, L: Line, G: Gate>(terminal: &mut Terminal<D, L, G>) -> bool {
     terminal.command(Command::Start);
-    holds(terminal.turn() == Err(TermFault::Failed))?;
-    holds(terminal.run(1_000).is_err())?;
-    holds(terminal.run(0).is_err())?;
-    holds(terminal.turn() == Err(TermFault::Failed))
+    terminal.turn() == Err(TermFault::Failed)
+        && terminal.run(1_000).is_err()
+        && terminal.run(0).is_err()
+        && terminal.turn() == Err(TermFault::Failed)
 }
 
 /// The step of this number fails: that fault is told, once.
 fn fails_at(alloc: Global, steps: u32, fault: SetFault, told: TermFault) -> Result<(), Fail> {
     let mut terminal = failing(alloc, steps, fault)?;
-    holds(first_fault(&mut terminal, 20_000) == Some(told))?;
-    stays_failed(&mut terminal)?;
+    let is_told = first_fault(&mut terminal, 20_000) == Some(told);
+    let stays = stays_failed(&mut terminal);
     let (door, _line, _gate) = terminal.into_parts();
-    holds(door.left == 0 && door.door.core.history().len() == steps as usize)
+    let stepped = door.left == 0 && door.door.core.history().len() == steps as usize;
+    holds(is_told && stays && stepped)
 }
 
 #[test]
@@ -101,21 +102,16 @@ fn a_fault_is_told_once_and_then_failed(rt: HostRuntime) -> Result<(), Fail> {
 }
 
 /// A run ends with this fault, and the terminal has failed then.
-fn run_fails<D: Door, L: Line, G: Gate>(
-    terminal: &mut Terminal<D, L, G>,
-    told: TermFault,
-) -> Result<(), Fail> {
+fn run_fails<D: Door, L: Line, G: Gate>(terminal: &mut Terminal<D, L, G>, told: TermFault) -> bool {
     match terminal.run(20_000) {
-        Ok(_) => Err(Fail::from("it went on")),
-        Err(fault) => {
-            holds(fault == told)?;
-            stays_failed(terminal)
-        }
+        Ok(_) => false,
+        Err(fault) => fault == told && stays_failed(terminal),
     }
 }
 
 #[test]
 fn a_run_that_fails_tells_the_fault(rt: HostRuntime) -> Result<(), Fail> {
     let mut terminal = failing(rt.alloc(), 7, SetFault::Exhausted)?;
-    run_fails(&mut terminal, TermFault::Exhausted)
+    let fails = run_fails(&mut terminal, TermFault::Exhausted);
+    holds(fails)
 }

@@ -1,4 +1,5 @@
-//! Tests of terminals, over the public calls of `link_term` (Q.703 7 to 12).
+//! Tests of terminals, of their insides and of the lines between them, over the public calls of `link_term`, `term_core` and
+//! `line_ring` (Q.703 7 to 12).
 //!
 //! They stand in a crate of their own, since a crate with tests is proved twice. There is nothing here but tests.
 #![tactic(auto)]
@@ -13,6 +14,10 @@ mod failing_doors;
 mod far_end;
 #[cfg(test)]
 mod far_ends;
+#[cfg(test)]
+mod inside;
+#[cfg(test)]
+mod lines;
 #[cfg(test)]
 mod test_lines;
 #[cfg(test)]

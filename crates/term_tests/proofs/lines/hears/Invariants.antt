@@ -1,5 +1,5 @@
 use Rattle.line_ring.specs.Rings.{IsSameEnd}
-use Rattle.line_ring.proofs.tests.hears.Given as goal
+use Rattle.term_tests.proofs.lines.hears.Given as goal
 
 abbrev pub invariant-loop-number : goal.invariant-loop-number
 invariant-loop-number g l = IsSameEnd l.initial.line l.line

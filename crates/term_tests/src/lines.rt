@@ -2,19 +2,11 @@
 ghost use Rattle.std.specs.Prelude.{◌≡◌};
 ghost use Rattle.line_ring.specs.Rings.{IsSameEnd};
 
-use super::*;
+use super::core_door::holds;
+use line_ring::{Full, Line, LossyLine, RingLine, beside, ring_pair};
 use std::sync::Wait;
 use std::test::Fail;
 use std::thread;
-
-/// So it is.
-fn holds(fact: bool) -> Result<(), Fail> {
-    if fact {
-        Ok(())
-    } else {
-        Err(Fail::from("it isn't so"))
-    }
-}
 
 /// The line takes these octets, in order.
 fn takes_in<L: Line>(line: &mut L, octets: &[u8]) -> Result<(), Fail> {

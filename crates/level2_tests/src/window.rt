@@ -1,0 +1,172 @@
+//! Situations at the ends of a window, worked out by hand from Q.703 5.2 and 5.3.
+use super::holds;
+use l2_window::*;
+use std::alloc::{AllocError, Global};
+use std::test::Fail;
+
+/// A new window with messages 0, 1, .. unsent.
+fn filled(alloc: Global, messages: u64) -> Result<Window, Fail> {
+    let mut window = Window::new(alloc)?;
+    fill(&mut window, messages)?;
+    Ok(window)
+}
+
+/// Gives the window messages 0, 1, .. to send.
+fn fill(window: &mut Window, messages: u64) -> Result<(), AllocError> {
+    window.reserve(messages as usize)?;
+    for message in 0..messages {
+        window.push(message)?;
+    }
+    Ok(())
+}
+
+/// Sends so many messages; they are those from this one on, and have the FSNs of their numbers modulo 128.
+fn sends(window: &mut Window, first: u64, count: u64) -> bool {
+    for message in first..first.saturating_add(count) {
+        if window.send() != Ok((message, (message % 128) as u8)) {
+            return false;
+        }
+    }
+    true
+}
+
+/// There is nothing to send, and no FSN but 127 is reasonable.
+fn is_empty(window: &mut Window) -> bool {
+    window.send() == Err(WindowFault::Empty) && window.ack(5) == Err(WindowFault::Unreasonable)
+}
+
+/// Of 128 messages 127 go out, and the last one once all those are acknowledged.
+fn goes_round(window: &mut Window) -> bool {
+    sends(window, 0, 127)
+        && window.send() == Err(WindowFault::Full)
+        && window.distance(127) == Some(0)
+        && window.distance(126) == Some(127)
+        && window.ack(126) == Ok(127)
+        && sends(window, 127, 1)
+        && window.send() == Err(WindowFault::Empty)
+}
+
+#[test]
+fn numbers_go_round_at_127(rt: HostRuntime) -> Result<(), Fail> {
+    let mut window = filled(rt.alloc(), 0)?;
+    let empty = is_empty(&mut window);
+    let filled = fill(&mut window, 128).is_ok();
+    let round = goes_round(&mut window);
+    holds(empty && filled && round)
+}
+
+/// Unacknowledged FSNs 126, 127, 0 and 1 after number 125, and one message unsent.
+fn lies_across(window: &Window) -> bool {
+    window.last() == 125
+        && window.unacked_len() == 4
+        && window.unsent_len() == 1
+        && window.unacked_at(1) == Some(127)
+        && window.unacked_at(4).is_none()
+        && window.distance(125) == Some(0)
+        && window.distance(2).is_none()
+}
+
+#[test]
+fn a_window_lies_across_number_127(rt: HostRuntime) -> Result<(), Fail> {
+    let mut window = filled(rt.alloc(), 131)?;
+    let sent = sends(&mut window, 0, 126) && window.ack(125) == Ok(126);
+    let across = sends(&mut window, 126, 4) && lies_across(&window);
+    let acked = window.ack(127) == Ok(2) && window.unacked_at(0) == Some(128);
+    holds(sent && across && acked)
+}
+
+/// Messages 1 and 2 come back, in order, and then none; an empty window that is reset begins anew.
+fn gives_back(window: &mut Window) -> bool {
+    let given = window.pop() == Some(1) && window.pop() == Some(2) && window.pop().is_none();
+    let last = window.last();
+    if window.unacked_len() == 0 && window.unsent_len() == 0 {
+        window.reset();
+    }
+    given && last == 0 && window.last() == 127
+}
+
+#[test]
+fn a_link_that_goes_down_gives_its_messages_back_in_order(rt: HostRuntime) -> Result<(), Fail> {
+    let mut window = filled(rt.alloc(), 3)?;
+    let sent = sends(&mut window, 0, 2) && window.ack(0) == Ok(1);
+    let back = gives_back(&mut window);
+    holds(sent && back)
+}
+
+/// First the unacknowledged message is given up, then the unsent one.
+fn gives_up(window: &mut Window) -> bool {
+    window.clear_unacked();
+    let sent = window.unacked_len() == 0 && window.unsent_len() == 1 && window.last() == 0;
+    window.clear_unsent();
+    sent && window.unsent_len() == 0 && window.last() == 0
+}
+
+#[test]
+fn the_messages_of_a_link_are_given_up(rt: HostRuntime) -> Result<(), Fail> {
+    let mut window = filled(rt.alloc(), 3)?;
+    let sent = sends(&mut window, 0, 2) && window.ack(0) == Ok(1);
+    let up = gives_up(&mut window);
+    holds(sent && up)
+}
+
+#[test]
+fn a_window_hands_out_its_rings(rt: HostRuntime) -> Result<(), Fail> {
+    let mut window = filled(rt.alloc(), 130)?;
+    let sent = sends(&mut window, 0, 127) && window.ack(1) == Ok(2);
+    let (unacked, unsent) = window.into_rings();
+    let first = unacked.capacity() == MOST_UNACKED && unacked.len() == 125;
+    let second = unacked.front() == Some(&2) && unsent.front() == Some(&127);
+    let last = unsent.back() == Some(&129);
+    holds(sent && first && second && last)
+}
+
+/// Puts in 1,000 messages, and takes one out at each third.
+fn goes_through(queue: &mut Queue) -> bool {
+    for message in 0..1000u64 {
+        if queue.push(message).is_err() {
+            return false;
+        }
+        if message % 3 == 0 && queue.pop() != Some(message / 3) {
+            return false;
+        }
+    }
+    queue.len() == 666 && queue.at(0) == Some(334)
+}
+
+/// Room for so many messages, and one more at the end.
+fn grows(queue: &mut Queue) -> bool {
+    if queue.reserve(5000).is_err() {
+        return false;
+    }
+    queue.push_reserved(1000);
+    queue.at(666) == Some(1000)
+}
+
+#[test]
+fn a_queue_grows_and_keeps_its_order(rt: HostRuntime) -> Result<(), Fail> {
+    let mut queue = Queue::new(rt.alloc())?;
+    let through = goes_through(&mut queue);
+    let grown = grows(&mut queue);
+    let last = queue.into_ring().back() == Some(&1000);
+    holds(through && grown && last)
+}
+
+#[test]
+fn a_queue_is_cleared(rt: HostRuntime) -> Result<(), Fail> {
+    let mut queue = Queue::new(rt.alloc())?;
+    let pushed = queue.push(7).is_ok();
+    queue.clear();
+    let empty = queue.is_empty();
+    holds(pushed && empty)
+}
+
+#[test]
+fn refusals_have_their_numbers(_rt: HostRuntime) -> Result<(), Fail> {
+    holds(
+        WindowFault::Empty.number() == 1
+            && WindowFault::Full.number() == 2
+            && WindowFault::Unreasonable.number() == 3
+            && ControlFault::Bsn.number() == 2
+            && ControlFault::Fib.number() == 3,
+    )
+}
