@@ -17,4 +17,4 @@ mod pace;
 mod traffic;
 
 pub use pace::{PaceGate, pace_gates};
-pub use traffic::{Traffic, TrafficEnds, run_traffic};
+pub use traffic::{Traffic, TrafficEnds, run_through, run_traffic};

@@ -59,6 +59,17 @@ pub fn pace_gates(alloc: Global, sets: u16, links: u8) -> Result<(PaceGate, Pace
     Ok((near, far))
 }
 
+impl PaceGate {
+    /// How many turns the terminals at the ends a have begun, of all links together.
+    pub fn near_turns(&self) -> u64 {
+        let mut sum: u64 = 0;
+        for turns in self.turns.iter() {
+            sum = sum.saturating_add(turns.near.load(Ordering::SeqCst));
+        }
+        sum
+    }
+}
+
 impl Clone for PaceGate {
     fn clone(&self) -> Result<PaceGate, AllocError> {
         Ok(PaceGate {

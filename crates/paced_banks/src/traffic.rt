@@ -5,7 +5,7 @@ ghost use Rattle.bank_core.specs.Faults.{EndsEarly};
 ghost use Rattle.paced_banks.specs.Opening.{AreConfigs, AreEndsOf, method_of};
 
 use super::opening::{configs_of, lines_of, method_of, offers_of, takes_of};
-use super::pace::pace_gates;
+use super::pace::{PaceGate, pace_gates};
 use bank_core::{Bank, BankFault, Plan, Running, SetEnd};
 use link_term::Timers;
 use std::alloc::Global;
@@ -58,15 +58,33 @@ pub struct TrafficEnds {
     pub far: Vec<SetEnd>,
 }
 
-/// Runs this traffic: the ends a of all sets in one bank, the ends b in another, each link over a pair of rings, with a
-/// gate that keeps its two terminals beside one another.
-///
-/// Faults, once all threads that were started have ended: those of [`Bank::start`] and [`Running::join`], of the ends a
-/// first.
+/// [`run_through`] with gates of its own.
 pub fn run_traffic<R: Threads + Wait + Copy + Send + Sync + 'static>(
     rt: &R,
     alloc: Global,
     traffic: &Traffic,
+) -> Result<TrafficEnds, BankFault>
+    ensures near { IfOk result (λ ends. AreEndsOf traffic.now.sets traffic.now.links 2 1
+        (method_of traffic.now.cyclic) ends.near.items) }
+    ensures far { IfOk result (λ ends. AreEndsOf traffic.now.sets traffic.now.links 1 2
+        (method_of traffic.now.cyclic) ends.far.items) }
+    ensures early { IfErr result EndsEarly }
+{
+    let (near_gate, far_gate) = pace_gates(alloc, traffic.sets, traffic.links)?;
+    run_through(rt, alloc, traffic, near_gate, far_gate)
+}
+
+/// Runs this traffic: the ends a of all sets in one bank, the ends b in another, each link over a pair of rings, with
+/// these gates, which keep its two terminals beside one another: [`pace_gates`] for as many sets and links.
+///
+/// Faults, once all threads that were started have ended: those of [`Bank::start`] and [`Running::join`], of the ends a
+/// first.
+pub fn run_through<R: Threads + Wait + Copy + Send + Sync + 'static>(
+    rt: &R,
+    alloc: Global,
+    traffic: &Traffic,
+    near_gate: PaceGate,
+    far_gate: PaceGate,
 ) -> Result<TrafficEnds, BankFault>
     ensures near { IfOk result (λ ends. AreEndsOf traffic.now.sets traffic.now.links 2 1
         (method_of traffic.now.cyclic) ends.near.items) }
@@ -79,7 +97,6 @@ pub fn run_traffic<R: Threads + Wait + Copy + Send + Sync + 'static>(
     let takes = takes_of(alloc, traffic.sets, TAKES)?;
     let near_bank = bank_of(alloc, traffic, 2, 1, traffic.users)?;
     let far_bank = bank_of(alloc, traffic, 1, 2, 1)?;
-    let (near_gate, far_gate) = pace_gates(alloc, traffic.sets, traffic.links)?;
     let near_plan = plan_of(traffic, traffic.fail);
     let far_plan = plan_of(traffic, None);
     let near = near_bank.start(rt, lines.near, offers, near_gate, near_plan)?;
