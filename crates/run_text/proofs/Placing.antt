@@ -1,0 +1,91 @@
+-- What a legal history accepted stands in so many places: each message in one.
+use Rattle.std.proofs.Common.{refl, arith, ◌≡◌, ◌∙◌, ap, sym, ℕ, ◌+◌, ◌<◌, ◌≤◌, ◌^◌, ◌↔◌, ◌⊎◌, inl, inr, Bool, List, [], ◌∷◌, length, Result, Ok, Err}
+use Rattle.set_events.specs.declared.config.SetConfig.{SetConfig}
+use Rattle.set_events.specs.declared.event.Event.{Event}
+use Rattle.set_events.specs.declared.history.Entry.{Entry}
+use Rattle.std.proofs.lemmas.Bool.{cases_lt}
+use Rattle.set_events.specs.declared.books.Books.{Books}
+use Rattle.set_step.specs.declared.fault.SetFault.{SetFault}
+use Rattle.set_step.specs.declared.fault.SetFault.TheVariants.{Exhausted}
+use Rattle.set_core.proofs.Keeping.{messages_few}
+use Rattle.bank_core.specs.declared.running.SetEnd.{SetEnd}
+use Rattle.run_text.specs.Running.{IsAnEnd}
+use Rattle.set_model.specs.Rows.{counts_of, total_of}
+use Rattle.set_model.specs.State.{State, new_state}
+use Rattle.set_model.specs.Sound.{IsManaged}
+use Rattle.set_model.specs.Step.{step, messages_in}
+use Rattle.set_model.specs.History.{IsLegal, after, messages_of, longest_history}
+use Rattle.set_model.proofs.Gaining.{step_gains}
+use Rattle.set_model.proofs.Walk.{KeptBy, step_walks}
+
+-- the settings stay
+small_settings : (Known : ℕ → Type 0) (May : Type 0) → KeptBy Known May (λ s t. t.settings ≡ s.settings)
+small_settings Known May = record {
+  same = λ s. refl;
+  after = λ a b c p q. q ∙ p;
+  delivers = λ body s. refl;
+  queues = λ order s. refl;
+  leaves = λ blind n link s known at. refl;
+  acknowledges = λ count n link s known at few. refl;
+  gives_up_sent = λ cause n link s known at. refl;
+  gives_up_waiting = λ cause n link s known at. refl;
+  moves_off = λ n link s known at. refl;
+  declares = λ may home alternative s up can. refl;
+  releases = λ code s known. refl;
+}
+
+settings_stay : (s : State) (event : Event) → (step s event).state.settings ≡ s.settings
+settings_stay s event = step_walks s (λ t u. u.settings ≡ t.settings) (λ t. t.settings ≡ s.settings) event (record {
+  small = small_settings _ _;
+  unmoved = refl;
+  rests = λ t u p q. q ∙ p;
+  offers = λ body e none. refl;
+  takes = λ body rest e there. refl;
+  sends = λ n link e at. refl;
+  hears = λ n unit link e at. refl;
+  rises = λ n link e at. refl;
+})
+
+-- each entry that accepts a message puts it in one place, and none is lost
+placed_after : (s : State) (history : List Entry) → IsManaged s.settings → IsLegal s history
+    → total_of (counts_of (after s history).rows) ≡ total_of (counts_of s.rows) + messages_of history
+placed_after s [] managed legal = omega arith
+placed_after s (entry ∷ history) managed legal =
+    let gains = step_gains s entry.event managed in
+    let still : IsManaged (step s entry.event).state.settings = rw (settings_stay s entry.event) managed in
+    let rest = placed_after (step s entry.event).state history still legal.2 in
+    let same : messages_in entry.answer ≡ messages_in (step s entry.event).answer = ap messages_in legal.1 in
+    let one = gains.messages in
+    omega (arith, rest, same, one)
+
+pub placed : (config : SetConfig) (history : List Entry) → IsLegal (new_state config) history
+    → total_of (counts_of (after (new_state config) history).rows) ≡ messages_of history
+placed config history legal =
+    let all = placed_after (new_state config) history config.management legal in
+    let none : total_of (counts_of (new_state config).rows) ≡ 0 = refl in
+    omega (arith, all, none)
+
+-- What holds of an end: its history is legal, and each message that it accepted stands in one place.
+pub record EndFacts (end : SetEnd) : Type 0 where
+  pub legal : IsLegal (new_state end.closed.config) end.closed.history.items
+  pub placed_all : total_of end.closed.counts ≡ end.closed.books.messages
+  pub few : end.closed.books.messages ≤ length end.closed.history.items
+
+pub end_facts : (end : SetEnd) → IsAnEnd end → EndFacts end
+end_facts end is =
+    let closed = is.1 in
+    let messages = ap (λ (books : Books). books.messages) closed.books_are in
+    record {
+      legal = rw closed.config_is closed.legal;
+      placed_all = ap total_of closed.counts_are ∙ (placed is.0 end.closed.history.items closed.legal ∙ sym messages);
+      few = omega (arith, messages, messages_few end.closed.history.items);
+    }
+
+-- what was audited isn't longer than a history can be
+pub not_exhausted : (result : Result Bool SetFault) (legal : Bool) (n : ℕ) → result ≡ Ok legal
+    → (result ≡ Err Exhausted) ↔ (longest_history < n) → n ≤ 2 ^ 48
+not_exhausted result legal n ok exhausted = short (cases_lt longest_history n)
+  where
+    short : (longest_history < n) ⊎ (n ≤ longest_history) → n ≤ 2 ^ 48
+    short (inl long) = absurd (cc (sym ok ∙ exhausted.1 long))
+    short (inr few) = few

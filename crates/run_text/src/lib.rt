@@ -1,0 +1,22 @@
+//! The text of `run`: traffic between two banks, and what their sets came to.
+//!
+//! ```text
+//! Traffic -- run_through (paced_banks), in threads --> a SetEnd for each set and end
+//!     -- audit (set_core), totals (bank_core) --> a line an end, a line in all, and a line an end of each link
+//! ```
+//!
+//! [`run`] does all of it. What the threads do is nobody's to say, so the text isn't a function of the traffic: it's one of
+//! the ends that the banks hand out (`specs/RunText.antt`), and those are what the contract of [`run_through`] says
+//! (`specs/Running.antt`): each history is legal for the configuration that the traffic asks for. So `legal=yes` is
+//! promised; that each message stands in one place and is counted once is promised of any legal history.
+#![tactic(auto)]
+
+mod counting;
+mod fault;
+mod link;
+mod running;
+mod summing;
+mod texts;
+
+pub use fault::RunFault;
+pub use running::run;

@@ -1,0 +1,115 @@
+//! A run, from its traffic to what is written.
+ghost use Rattle.std.specs.Prelude.{◌≡◌, ◌≤◌, All, IfErr, IfOk, length, true};
+ghost use Rattle.bank_core.specs.Faults.{EndsEarly};
+ghost use Rattle.run_text.specs.RunText.{run_text};
+ghost use Rattle.run_text.specs.Running.{IsAnEnd, IsCut, Runs, WritesEnds};
+
+use super::fault::RunFault;
+use super::summing::{all_got_through, totals_of_ends};
+use super::texts::{write_all_sets, write_links};
+use bank_core::{BankFault, SetEnd};
+use paced_banks::{PaceGate, Traffic, run_through};
+use printing::{Fault, Sink};
+use std::alloc::{AllocError, Global};
+use std::sync::Wait;
+use std::thread::Threads;
+
+/// Runs this traffic through these gates, and writes what its sets came to at both ends; with `per_link` behind that what
+/// each link came to. When all threads have ended, before anything is written, `ended` is called.
+///
+/// Faults: [`RunFault::Thread`] and [`RunFault::Close`] as [`run_through`] has them; [`Fault::Memory`] where memory was
+/// wanted there or here, a user didn't get through, or a terminal failed. Nothing is written then. [`Fault::Write`] where
+/// the sink fails; what was written is a beginning of the text.
+pub fn run<R: Threads + Wait + Copy + Send + Sync + 'static, W: Sink, F: FnOnce()>(
+    rt: &R,
+    alloc: Global,
+    traffic: &Traffic,
+    gates: (PaceGate, PaceGate),
+    per_link: bool,
+    sink: &mut W,
+    ended: F,
+) -> Result<(), Fault<RunFault>>
+    requires callable { F.IsAlwaysCallable ended }
+    ensures text { Runs traffic.now per_link result (W.written sink.old) (W.written sink.new) }
+    ensures failed { IfErr result (λ fault. fault ≡ Fault.Write → W.has_failed sink.new ≡ true) }
+{
+    let (near_gate, far_gate) = gates;
+    let came_to = run_through(rt, alloc, traffic, near_gate, far_gate);
+    ended();
+    let ends = match came_to {
+        Ok(ends) => ends,
+        Err(fault) => return Err(fault_of(fault)),
+    };
+    if !all_got_through(&ends.near) || !all_got_through(&ends.far) {
+        return Err(Fault::Memory);
+    }
+    write_ends(alloc, &ends.near, &ends.far, per_link, sink)
+}
+
+/// Why there is nothing to write.
+fn fault_of(fault: BankFault) -> Fault<RunFault>
+    requires early { EndsEarly fault }
+    ensures { IsCut result }
+{
+    match fault {
+        BankFault::NoThread => Fault::Input(RunFault::Thread),
+        BankFault::Unclosed => Fault::Input(RunFault::Close),
+        _ => Fault::Memory,
+    }
+}
+
+/// Writes what these ends came to.
+fn write_ends<W: Sink>(
+    alloc: Global,
+    near: &[SetEnd],
+    far: &[SetEnd],
+    per_link: bool,
+    sink: &mut W,
+) -> Result<(), Fault<RunFault>>
+    requires ends { All IsAnEnd near.now × All IsAnEnd far.now }
+    requires few { (length near.now ≤ 16) × (length far.now ≤ 16) }
+    ensures text { WritesEnds (run_text per_link near.now far.now) result (W.written sink.old) (W.written sink.new) }
+    ensures failed { IfErr result (λ fault. fault ≡ Fault.Write → W.has_failed sink.new ≡ true) }
+{
+    match text_of(alloc, near, far, per_link) {
+        Ok(text) => write_all(sink, &text),
+        Err(_) => Err(Fault::Memory),
+    }
+}
+
+/// The text about these ends.
+fn text_of(
+    alloc: Global,
+    near: &[SetEnd],
+    far: &[SetEnd],
+    per_link: bool,
+) -> Result<Vec<u8>, AllocError>
+    requires ends { All IsAnEnd near.now × All IsAnEnd far.now }
+    requires few { (length near.now ≤ 16) × (length far.now ≤ 16) }
+    ensures { IfOk result (λ text. text.items ≡ run_text per_link near.now far.now) }
+{
+    let near_totals = totals_of_ends(alloc, near)?;
+    let far_totals = totals_of_ends(alloc, far)?;
+    let mut text = write_all_sets(alloc, near_totals, &far_totals)?;
+    if !per_link {
+        return Ok(text);
+    }
+    let links = write_links(alloc, near, far)?;
+    text.extend_from_slice(&links)?;
+    Ok(text)
+}
+
+/// Writes all these octets.
+fn write_all<W: Sink>(sink: &mut W, octets: &[u8]) -> Result<(), Fault<RunFault>>
+    ensures writes { WritesEnds octets.now result (W.written sink.old) (W.written sink.new) }
+    ensures failed { IfErr result (λ fault. fault ≡ Fault.Write → W.has_failed sink.new ≡ true) }
+{
+    let mut written: usize = 0;
+    while written < octets.len() {
+        match sink.write(&octets[written..]) {
+            Ok(count) => written += count,
+            Err(_) => return Err(Fault::Write),
+        }
+    }
+    Ok(())
+}

@@ -1,0 +1,93 @@
+//! What the sets of an end came to.
+ghost use Rattle.std.specs.Prelude.{◌≡◌, ◌<◌, ◌^◌, All, IfOk, IsOk, IsTrue, map, true};
+ghost use Rattle.bank_core.specs.Totals.{IsInRange};
+ghost use Rattle.set_model.specs.Rows.{total_of};
+ghost use Rattle.run_text.specs.RunText.{end_totals as totals_in};
+ghost use Rattle.run_text.specs.Running.{GotThrough, IsAnEnd};
+
+use bank_core::{SetEnd, SetTotals};
+use link_term::{TermFault, TermReport};
+use set_core::audit;
+use set_events::Counts;
+use std::alloc::{AllocError, Global};
+
+/// What each of these sets came to. Each history is audited, in as much memory as a set of such a history takes.
+pub(crate) fn totals_of_ends(alloc: Global, ends: &[SetEnd]) -> Result<Vec<SetTotals>, AllocError>
+    requires ends { All IsAnEnd ends.now }
+    ensures totals { IfOk result (λ totals. totals.items ≡ map totals_in ends.now) }
+    ensures small { IfOk result (λ totals. All IsInRange totals.items) }
+{
+    let mut totals = Vec::new(alloc);
+    for end in ends {
+        totals.reserve(1)?;
+        let of_end = end_totals(alloc, end)?;
+        totals.push_reserved(of_end);
+    }
+    Ok(totals)
+}
+
+/// What a set came to at this end. Its history is legal, as the audit tells anew.
+fn end_totals(alloc: Global, end: &SetEnd) -> Result<SetTotals, AllocError>
+    requires end { IsAnEnd end.now }
+    ensures totals { IfOk result (λ totals. totals ≡ totals_in end.now) }
+    ensures small { IfOk result IsInRange }
+{
+    let Ok(legal) = audit(alloc, &end.closed.config, &end.closed.history) else {
+        return Err(AllocError);
+    };
+    Ok(SetTotals {
+        accepted: end.closed.books.messages,
+        placed: placed(&end.closed.counts),
+        legal,
+    })
+}
+
+/// The messages of all places.
+fn placed(counts: &Counts) -> u64
+    requires few { total_of counts.now < 2 ^ 64 }
+    ensures { result ≡ total_of counts.now }
+{
+    counts.waiting
+        + counts.unacked
+        + counts.acked
+        + counts.held
+        + counts.parked
+        + counts.back
+        + counts.discarded
+}
+
+/// Whether each user of these ends got through, and no terminal failed.
+pub(crate) fn all_got_through(ends: &[SetEnd]) -> bool
+    ensures { IsTrue result → All GotThrough ends.now }
+{
+    for end in ends {
+        if !users_got_through(&end.users) || !terminals_got_through(&end.reports) {
+            return false;
+        }
+    }
+    true
+}
+
+/// Whether each of these users got through.
+fn users_got_through(users: &[bool]) -> bool
+    ensures { IsTrue result → All (λ got_through. got_through ≡ true) users.now }
+{
+    for got_through in users {
+        if !*got_through {
+            return false;
+        }
+    }
+    true
+}
+
+/// Whether none of the terminals with these reports failed.
+fn terminals_got_through(reports: &[Result<TermReport, TermFault>]) -> bool
+    ensures { IsTrue result → All IsOk reports.now }
+{
+    for report in reports {
+        if report.is_err() {
+            return false;
+        }
+    }
+    true
+}
