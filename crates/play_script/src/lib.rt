@@ -10,6 +10,9 @@
 //! | `together LINK`, `emit END LINK`, `arrive END LINK`, `lose END LINK PLACE`, `hear END LINK HEX` | the world's step of that name; `hear` is `Inject` |
 //! | `offer END HEX`, `take END`, `find END NUMBER`, `down END LINK`, `blind END LINK`, `noanswer END LINK`, `restore END LINK`, `backtimeout END LINK` | `Act`: the event of that name at the end |
 //!
+//! The readers of single words ([`cut`], [`read_end`], [`read_links`] and the others) are for who tells what is wrong
+//! with a line that is none of these.
+//!
 //! This crate reads one line and carries none out: remarks, line ends and lengths are the text's
 //! (`play_text`), what a step does is the world's (`pair_world`). `specs/Script.antt` is the grammar.
 #![tactic(auto)]
@@ -18,6 +21,6 @@ mod opening;
 mod reading;
 mod script;
 
-pub use opening::read_opening;
-pub use reading::read_step;
+pub use opening::{read_code, read_links, read_method, read_opening, read_sio, value_in_word};
+pub use reading::{cut, is_word, read_end, read_link, read_some_octets, read_step, read_unit};
 pub use script::{Opening, Values};

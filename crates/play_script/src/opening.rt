@@ -89,7 +89,7 @@ fn read_six_words(text: &[u8]) -> Option<SixWords<'_>>
 }
 
 /// The value of a word NAME=VALUE with this name and its sign.
-fn value_in_word<'a>(name: &[u8], word: &'a [u8]) -> Option<&'a [u8]>
+pub fn value_in_word<'a>(name: &[u8], word: &'a [u8]) -> Option<&'a [u8]>
     ensures { option_copied result ≡ value_in name.now word.now }
 {
     if word.len() < name.len() {
@@ -104,7 +104,7 @@ fn value_in_word<'a>(name: &[u8], word: &'a [u8]) -> Option<&'a [u8]>
 }
 
 /// `links=L`, L below 256.
-fn read_links(word: &[u8]) -> Option<u8>
+pub fn read_links(word: &[u8]) -> Option<u8>
     ensures { result ≡ links_of word.now }
 {
     let number = read_number(value_in_word(b"links=", word)?)?;
@@ -116,7 +116,7 @@ fn read_links(word: &[u8]) -> Option<u8>
 }
 
 /// `method=basic` or `method=cyclic:N1:N2`
-fn read_method(word: &[u8]) -> Option<Method>
+pub fn read_method(word: &[u8]) -> Option<Method>
     ensures { result ≡ method_of word.now }
 {
     if is_word(word, b"method=basic") {
@@ -151,7 +151,7 @@ fn colon_in(word: &[u8]) -> Option<usize>
 }
 
 /// A point code below 65,536 behind a name and its sign.
-fn read_code(name: &[u8], word: &[u8]) -> Option<u16>
+pub fn read_code(name: &[u8], word: &[u8]) -> Option<u16>
     ensures { result ≡ code_of name.now word.now }
 {
     let number = read_number(value_in_word(name, word)?)?;
@@ -163,7 +163,7 @@ fn read_code(name: &[u8], word: &[u8]) -> Option<u16>
 }
 
 /// `sio=HH`
-fn read_sio(word: &[u8]) -> Option<u8>
+pub fn read_sio(word: &[u8]) -> Option<u8>
     ensures { result ≡ sio_of word.now }
 {
     read_octet(value_in_word(b"sio=", word)?)

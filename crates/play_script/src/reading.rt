@@ -31,14 +31,14 @@ pub fn read_step(alloc: Global, text: &[u8]) -> Result<Option<Step>, AllocError>
 }
 
 /// Whether the word is this text.
-pub(crate) fn is_word(word: &[u8], text: &[u8]) -> bool
+pub fn is_word(word: &[u8], text: &[u8]) -> bool
     ensures { result ≡ bytes_eq word.now text.now }
 {
     word == text
 }
 
 /// The first word, and the words after it, if there are any.
-pub(crate) fn cut(words: &[u8]) -> (&[u8], Option<&[u8]>)
+pub fn cut(words: &[u8]) -> (&[u8], Option<&[u8]>)
     ensures first { result.0.now ≡ first_word words.now }
     ensures others { option_copied result.1 ≡ other_words words.now }
 {
@@ -57,7 +57,7 @@ fn space_in(words: &[u8]) -> Option<usize>
 }
 
 /// An end's name.
-fn read_end(word: &[u8]) -> Option<End>
+pub fn read_end(word: &[u8]) -> Option<End>
     ensures { result ≡ end_of word.now }
 {
     if is_word(word, b"a") {
@@ -70,7 +70,7 @@ fn read_end(word: &[u8]) -> Option<End>
 }
 
 /// A link's number.
-fn read_link(word: &[u8]) -> Option<u8>
+pub fn read_link(word: &[u8]) -> Option<u8>
     ensures { result ≡ link_of word.now }
 {
     let number = read_number(word)?;
@@ -82,7 +82,7 @@ fn read_link(word: &[u8]) -> Option<u8>
 }
 
 /// Octets in hexadecimal, at least one.
-fn read_some_octets(alloc: Global, word: &[u8]) -> Result<Option<Vec<u8>>, AllocError>
+pub fn read_some_octets(alloc: Global, word: &[u8]) -> Result<Option<Vec<u8>>, AllocError>
     ensures { IfOk result (λ found. option_map (λ octets. octets.items) found ≡ some_octets word.now) }
 {
     if word.is_empty() {
@@ -203,7 +203,7 @@ fn read_hear(alloc: Global, end: End, words: &[u8]) -> Result<Option<Step>, Allo
 }
 
 /// The unit that a word gives: its octets, without check octets.
-fn read_unit(alloc: Global, word: &[u8]) -> Result<Option<Unit>, AllocError>
+pub fn read_unit(alloc: Global, word: &[u8]) -> Result<Option<Unit>, AllocError>
     ensures { IfOk result (λ unit. unit ≡ unit_of word.now) }
 {
     let Some(octets) = read_some_octets(alloc, word)? else {

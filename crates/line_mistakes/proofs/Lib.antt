@@ -1,0 +1,3 @@
+mod Blamed
+mod Openings
+mod Spaces

@@ -1,0 +1,115 @@
+//! The forms of a script's lines: which words each wants.
+ghost use Rattle.std.specs.Prelude.{◌≡◌};
+ghost use Rattle.line_mistakes.specs.Blaming.{form_of as form_in, kinds_of as kinds_in, is_on_link as is_on_link_in, wants as wants_in, may_miss as may_miss_in, opening_kinds};
+
+use super::mistake::Mistake;
+use super::words::Kind;
+use play_script::is_word;
+
+/// What a line after the first is, by its first word.
+#[derive(Clone, Copy, Debug, PartialEq, Eq)]
+pub enum Form {
+    /// `together LINK`
+    Together,
+    /// `offer END HEX`, or `offer END`
+    Offer,
+    /// `take END`
+    Take,
+    /// `find END NUMBER`
+    Find,
+    /// `lose END LINK PLACE`
+    Lose,
+    /// `hear END LINK HEX`
+    Hear,
+    /// `emit END LINK`, and six more
+    OnLink,
+}
+
+/// The form of the lines that begin with this word, if there is one.
+pub(crate) fn form_of(name: &[u8]) -> Option<Form>
+    ensures { result ≡ form_in name.now }
+{
+    if is_word(name, b"together") {
+        Some(Form::Together)
+    } else if is_word(name, b"offer") {
+        Some(Form::Offer)
+    } else if is_word(name, b"take") {
+        Some(Form::Take)
+    } else if is_word(name, b"find") {
+        Some(Form::Find)
+    } else if is_word(name, b"lose") {
+        Some(Form::Lose)
+    } else if is_word(name, b"hear") {
+        Some(Form::Hear)
+    } else if is_on_link(name) {
+        Some(Form::OnLink)
+    } else {
+        None
+    }
+}
+
+/// Whether lines with this word want an end and a link, and nothing else.
+fn is_on_link(name: &[u8]) -> bool
+    ensures { result ≡ is_on_link_in name.now }
+{
+    is_word(name, b"emit")
+        || is_word(name, b"arrive")
+        || is_word(name, b"down")
+        || is_word(name, b"blind")
+        || is_word(name, b"noanswer")
+        || is_word(name, b"restore")
+        || is_word(name, b"backtimeout")
+}
+
+/// What each word behind the first has to be.
+pub(crate) fn kinds_of(form: Form) -> &'static [Kind]
+    ensures { result.now ≡ kinds_in form }
+{
+    match form {
+        Form::Together => &[Kind::Link],
+        Form::Offer => &[Kind::End, Kind::Octets],
+        Form::Take => &[Kind::End],
+        Form::Find => &[Kind::End, Kind::Number],
+        Form::Lose => &[Kind::End, Kind::Link, Kind::Number],
+        Form::Hear => &[Kind::End, Kind::Link, Kind::Unit],
+        Form::OnLink => &[Kind::End, Kind::Link],
+    }
+}
+
+/// The mistake of a line in which a word is missing.
+pub(crate) fn wants(form: Form) -> Mistake
+    ensures { result ≡ wants_in form }
+{
+    match form {
+        Form::Together => Mistake::TogetherWants,
+        Form::Offer => Mistake::OfferWants,
+        Form::Take => Mistake::TakeWants,
+        Form::Find => Mistake::FindWants,
+        Form::Lose => Mistake::LoseWants,
+        Form::Hear => Mistake::HearWants,
+        Form::OnLink => Mistake::OnLinkWants,
+    }
+}
+
+/// Whether a line may end before a word of this kind: `offer` does before its octets, where the body is empty.
+pub(crate) fn may_miss(kind: Kind) -> bool
+    ensures { result ≡ may_miss_in kind }
+{
+    match kind {
+        Kind::Octets => true,
+        _ => false,
+    }
+}
+
+/// What each word of the first line behind `set` has to be.
+pub(crate) fn kinds_of_opening() -> &'static [Kind]
+    ensures { result.now ≡ opening_kinds }
+{
+    &[
+        Kind::Links,
+        Kind::Method,
+        Kind::CodeA,
+        Kind::CodeB,
+        Kind::Sio,
+    ]
+}

@@ -1,0 +1,60 @@
+//! Why a step can't be done.
+ghost use Rattle.std.specs.Prelude.{◌≡◌};
+ghost use Rattle.line_mistakes.specs.Impossible.{blamed_impossible, why_not as why_not_in, words_from as words_from_in, behind as behind_in};
+
+use super::lines::Blame;
+use super::mistake::Mistake;
+use play_script::cut;
+use world_steps::Step;
+
+/// Why the step that this line asks for can't be done, in a world of so many links in which it can't be.
+///
+/// The word at fault is the link's, or the place's where no unit has it.
+pub fn blame_impossible(links: u8, step: &Step, text: &[u8]) -> Blame
+    ensures { result ≡ blamed_impossible links step.now text.now }
+{
+    let (place, mistake) = why_not(links, step);
+    Blame {
+        column: text.len().saturating_sub(words_from(place, text).len()),
+        mistake,
+    }
+}
+
+/// Why this step can't be done with so many links, and which word of its line says so, from 0.
+fn why_not(links: u8, step: &Step) -> (u8, Mistake)
+    ensures { result ≡ why_not_in links step.now }
+{
+    match step {
+        Step::Together { link } if *link < links => (1, Mistake::NotSettled),
+        Step::Together { .. } => (1, Mistake::NoSuchLink),
+        Step::Arrive { link, .. } if *link < links => (2, Mistake::NothingUnderWay),
+        Step::Lose { link, .. } if *link < links => (3, Mistake::NoUnitThere),
+        Step::Arrive { .. }
+        | Step::Lose { .. }
+        | Step::Act { .. }
+        | Step::Emit { .. }
+        | Step::Inject { .. } => (2, Mistake::NoSuchLink),
+    }
+}
+
+/// The words from this one on, from 0; none where there are fewer.
+fn words_from(place: u8, text: &[u8]) -> &[u8]
+    ensures { result.now ≡ words_from_in place text.now }
+{
+    let mut words = text;
+    for passed in 0..place {
+        let _ = passed;
+        words = behind(words);
+    }
+    words
+}
+
+/// The words behind the first; none where there is no other.
+fn behind(words: &[u8]) -> &[u8]
+    ensures { result.now ≡ behind_in words.now }
+{
+    match cut(words) {
+        (_, Some(others)) => others,
+        (_, None) => &[],
+    }
+}

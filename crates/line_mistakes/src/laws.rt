@@ -1,0 +1,12 @@
+//! Laws over the definitions alone.
+ghost use Rattle.line_mistakes.specs.Laws.{StepsBlamed, OpeningsBlamed};
+
+/// A line after the first has a word at fault exactly where it can't be read.
+pub fn refused_steps_are_blamed()
+    ensures { StepsBlamed }
+{}
+
+/// A first line has a word at fault exactly where it can't be read.
+pub fn refused_openings_are_blamed()
+    ensures { OpeningsBlamed }
+{}

@@ -1,0 +1,138 @@
+//! Which word of a line is at fault.
+ghost use Rattle.std.specs.Prelude.{◌≡◌, ◌≤◌, IfOk, OnSome, length};
+ghost use Rattle.std.specs.Option.{option_copied, ForSome};
+ghost use Rattle.line_mistakes.specs.Blaming.{blame_of, blamed_opening, blamed_step, misread as misread_in, missing as missing_in, surplus as surplus_in, not_set as not_set_in, wrong_name as wrong_name_in};
+
+use super::forms::{form_of, kinds_of, kinds_of_opening, may_miss, wants};
+use super::mistake::Mistake;
+use super::words::{Kind, mistake_in, odd};
+use play_script::{cut, is_word};
+use std::alloc::{AllocError, Global};
+
+/// The word at fault of a line, and its mistake.
+#[derive(Clone, Copy, Debug, PartialEq, Eq)]
+pub struct Blame {
+    /// The word's first column, from 0; right behind the line where a word is missing.
+    pub column: usize,
+    /// What is wrong there.
+    pub mistake: Mistake,
+}
+
+/// What is wrong with the first line of a script that is no remark, if anything: nothing exactly where
+/// `play_script::read_opening` reads it. It fails only where memory is wanted.
+pub fn blame_opening(alloc: Global, text: &[u8]) -> Result<Option<Blame>, AllocError>
+    ensures { IfOk result (λ blame. blame ≡ blamed_opening text.now) }
+{
+    let (name, words) = cut(text);
+    if !is_word(name, b"set") {
+        return Ok(Some(Blame {
+            column: 0,
+            mistake: not_set(name),
+        }));
+    }
+    misread(
+        alloc,
+        text.len(),
+        Mistake::OpeningShort,
+        kinds_of_opening(),
+        words,
+    )
+}
+
+/// What is wrong with a line after the first, if anything: nothing exactly where `play_script::read_step` reads it.
+/// It fails only where memory is wanted.
+pub fn blame_step(alloc: Global, text: &[u8]) -> Result<Option<Blame>, AllocError>
+    ensures { IfOk result (λ blame. blame ≡ blamed_step text.now) }
+{
+    let (name, words) = cut(text);
+    match form_of(name) {
+        Some(form) => misread(alloc, text.len(), wants(form), kinds_of(form), words),
+        None => Ok(Some(Blame {
+            column: 0,
+            mistake: wrong_name(name),
+        })),
+    }
+}
+
+/// What is wrong with a first word that isn't `set`, where that is wanted.
+fn not_set(name: &[u8]) -> Mistake
+    ensures { result ≡ not_set_in name.now }
+{
+    match odd(name) {
+        Some(mistake) => mistake,
+        None => Mistake::NotSet,
+    }
+}
+
+/// What is wrong with a first word that no line after the first has.
+fn wrong_name(name: &[u8]) -> Mistake
+    ensures { result ≡ wrong_name_in name.now }
+{
+    match odd(name) {
+        Some(mistake) => mistake,
+        None if is_word(name, b"set") => Mistake::SecondSet,
+        None => Mistake::UnknownWord,
+    }
+}
+
+/// What is wrong with the words behind the first of a line of this size, which have to be of these kinds.
+fn misread(
+    alloc: Global,
+    size: usize,
+    short: Mistake,
+    kinds: &[Kind],
+    words: Option<&[u8]>,
+) -> Result<Option<Blame>, AllocError>
+    ensures { IfOk result (λ blame. blame ≡ misread_in short size kinds.now (option_copied words.entry)) }
+{
+    let mut left = words;
+    for kind in kinds {
+        let Some(words) = left else {
+            return Ok(missing(*kind, size, short));
+        };
+        let (word, others) = cut(words);
+        if let Some(mistake) = mistake_in(alloc, *kind, word)? {
+            return Ok(Some(blame_at(size, words, mistake)));
+        }
+        left = others;
+    }
+    match left {
+        Some(words) => Ok(Some(blame_at(size, words, surplus(words)))),
+        None => Ok(None),
+    }
+}
+
+/// What is wrong where the line ends before a word of this kind.
+fn missing(kind: Kind, size: usize, short: Mistake) -> Option<Blame>
+    ensures { result ≡ missing_in kind size short }
+{
+    if may_miss(kind) {
+        None
+    } else {
+        Some(Blame {
+            column: size,
+            mistake: short,
+        })
+    }
+}
+
+/// What is wrong with words that no kind is left for.
+fn surplus(words: &[u8]) -> Mistake
+    ensures { result ≡ surplus_in words.now }
+{
+    let (word, _) = cut(words);
+    match odd(word) {
+        Some(mistake) => mistake,
+        None => Mistake::Surplus,
+    }
+}
+
+/// A mistake of the word with which these words, the last of a line of this size, begin.
+fn blame_at(size: usize, words: &[u8], mistake: Mistake) -> Blame
+    ensures { result ≡ blame_of size words.now mistake }
+{
+    Blame {
+        column: size.saturating_sub(words.len()),
+        mistake,
+    }
+}

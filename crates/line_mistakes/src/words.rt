@@ -1,0 +1,249 @@
+//! What a word of a line has to be, and what is wrong with one that isn't.
+ghost use Rattle.std.specs.Prelude.{◌≡◌, IfOk, codes};
+ghost use Rattle.line_mistakes.specs.Mistakes.{mistake_in as mistake_of, is_kind as is_of_kind, wrong as wrong_in, odd_in, wrong_word as wrong_word_in, wrong_value, wrong_digits, wrong_sio as wrong_sio_in, wrong_length as wrong_length_in, has_links, is_point_code, is_orders_sio, is_met, is_plain as is_plain_octet, is_hex, is_cr};
+ghost use Rattle.std.specs.List.{list_any, list_all};
+
+use super::mistake::Mistake;
+use figures::read_number;
+use play_script::{
+    read_code, read_end, read_link, read_links, read_method, read_sio, read_some_octets, read_unit,
+    value_in_word,
+};
+use set_events::{Method, SetConfig};
+use std::alloc::{AllocError, Global};
+
+/// What a word of a line has to be.
+#[derive(Clone, Copy, Debug, PartialEq, Eq)]
+pub enum Kind {
+    /// `links=L`, 1 to 16 links.
+    Links,
+    /// `method=basic` or `method=cyclic:N1:N2`, with limits in their ranges.
+    Method,
+    /// `a=X`, a point code of 14 bits.
+    CodeA,
+    /// `b=Y`, so too.
+    CodeB,
+    /// `sio=HH`, with service indicator 0.
+    Sio,
+    /// `a` or `b`.
+    End,
+    /// The number of a link.
+    Link,
+    /// The number of a message or a place.
+    Number,
+    /// Octets in hexadecimal.
+    Octets,
+    /// The octets of a unit.
+    Unit,
+}
+
+/// What is wrong with a word that has to be of this kind, if anything; it fails only where memory is wanted.
+pub(crate) fn mistake_in(
+    alloc: Global,
+    kind: Kind,
+    word: &[u8],
+) -> Result<Option<Mistake>, AllocError>
+    ensures { IfOk result (λ mistake. mistake ≡ mistake_of kind word.now) }
+{
+    if is_kind(alloc, kind, word)? {
+        Ok(None)
+    } else {
+        Ok(Some(wrong(kind, word)))
+    }
+}
+
+/// Whether a word is of this kind.
+fn is_kind(alloc: Global, kind: Kind, word: &[u8]) -> Result<bool, AllocError>
+    ensures { IfOk result (λ is. is ≡ is_of_kind kind word.now) }
+{
+    match kind {
+        Kind::Links => Ok(are_links(read_links(word))),
+        Kind::Method => Ok(can_be_met(read_method(word))),
+        Kind::CodeA => Ok(is_code(read_code(b"a=", word))),
+        Kind::CodeB => Ok(is_code(read_code(b"b=", word))),
+        Kind::Sio => Ok(is_management(read_sio(word))),
+        Kind::End => Ok(read_end(word).is_some()),
+        Kind::Link => Ok(read_link(word).is_some()),
+        Kind::Number => Ok(read_number(word).is_some()),
+        Kind::Octets => Ok(read_some_octets(alloc, word)?.is_some()),
+        Kind::Unit => Ok(read_unit(alloc, word)?.is_some()),
+    }
+}
+
+/// Whether a set can have so many links (Q.704 15.2).
+fn are_links(number: Option<u8>) -> bool
+    ensures { result ≡ has_links number }
+{
+    match number {
+        Some(number) => number >= 1 && number <= 16,
+        None => false,
+    }
+}
+
+/// Whether the limits of a method can be met.
+fn can_be_met(method: Option<Method>) -> bool
+    ensures { result ≡ is_met method }
+{
+    match method {
+        Some(method) => SetConfig::new(0, 1, 0, 0, 0, method).is_ok(),
+        None => false,
+    }
+}
+
+/// Whether it's a point code of 14 bits (Q.704 2.2).
+fn is_code(number: Option<u16>) -> bool
+    ensures { result ≡ is_point_code number }
+{
+    match number {
+        Some(number) => number < 16_384,
+        None => false,
+    }
+}
+
+/// Whether it's an SIO of orders.
+fn is_management(sio: Option<u8>) -> bool
+    ensures { result ≡ is_orders_sio sio }
+{
+    match sio {
+        Some(sio) => sio % 16 == 0,
+        None => false,
+    }
+}
+
+/// What is wrong with a word that isn't of this kind.
+fn wrong(kind: Kind, word: &[u8]) -> Mistake
+    ensures { result ≡ wrong_in kind word.now }
+{
+    match odd(word) {
+        Some(mistake) => mistake,
+        None => wrong_word(kind, word),
+    }
+}
+
+/// What is wrong with a word of octets that words have, which isn't of this kind.
+fn wrong_word(kind: Kind, word: &[u8]) -> Mistake
+    ensures { result ≡ wrong_word_in kind word.now }
+{
+    match kind {
+        Kind::Links => wrong_behind(b"links=", word, Mistake::LinksName, Mistake::LinksRange),
+        Kind::Method => wrong_behind(
+            b"method=cyclic:",
+            word,
+            Mistake::MethodName,
+            Mistake::MethodLimits,
+        ),
+        Kind::CodeA => wrong_behind(b"a=", word, Mistake::CodeAName, Mistake::CodeRange),
+        Kind::CodeB => wrong_behind(b"b=", word, Mistake::CodeBName, Mistake::CodeRange),
+        Kind::Sio => wrong_sio(word),
+        Kind::End => Mistake::End,
+        Kind::Link => Mistake::Link,
+        Kind::Number => Mistake::Number,
+        Kind::Octets => wrong_octets(word, Mistake::OddDigits),
+        Kind::Unit => wrong_unit(word),
+    }
+}
+
+/// What no word has in it: nothing at all, a CR, or another octet that is no printable character of ASCII.
+pub(crate) fn odd(word: &[u8]) -> Option<Mistake>
+    ensures { result ≡ odd_in word.now }
+{
+    if word.is_empty() {
+        Some(Mistake::Space)
+    } else if has_cr(word) {
+        Some(Mistake::CarriageReturn)
+    } else if are_plain(word) {
+        None
+    } else {
+        Some(Mistake::NotPrintable)
+    }
+}
+
+/// Whether a CR stands in it.
+fn has_cr(word: &[u8]) -> bool
+    ensures { result ≡ list_any is_cr word.now }
+{
+    word.iter().any(|c| *c == b'\r')
+}
+
+/// Whether it's printable characters of ASCII alone.
+fn are_plain(word: &[u8]) -> bool
+    ensures { result ≡ list_all is_plain_octet word.now }
+{
+    word.iter().all(|c| is_plain(*c))
+}
+
+/// Whether it's a printable character of ASCII.
+pub(crate) fn is_plain(octet: u8) -> bool
+    ensures { result ≡ is_plain_octet octet }
+{
+    octet >= 32 && octet <= 126
+}
+
+/// What is wrong with a word NAME=VALUE: another name, or another value.
+fn wrong_behind(name: &[u8], word: &[u8], other_name: Mistake, other_value: Mistake) -> Mistake
+    ensures { result ≡ wrong_value name.now other_name other_value word.now }
+{
+    if value_in_word(name, word).is_some() {
+        other_value
+    } else {
+        other_name
+    }
+}
+
+/// What is wrong with the word of the SIO.
+fn wrong_sio(word: &[u8]) -> Mistake
+    ensures { result ≡ wrong_sio_in word.now }
+{
+    if read_sio(word).is_some() {
+        Mistake::SioIndicator
+    } else {
+        wrong_behind(b"sio=", word, Mistake::SioName, Mistake::SioDigits)
+    }
+}
+
+/// What is wrong with octets: their digits, or this.
+fn wrong_octets(word: &[u8], other: Mistake) -> Mistake
+    ensures { result ≡ wrong_digits word.now other }
+{
+    if !are_digits(word) {
+        Mistake::NotHexadecimal
+    } else if word.len() % 2 == 1 {
+        Mistake::OddDigits
+    } else {
+        other
+    }
+}
+
+/// What is wrong with the octets of a unit (Q.703 2.2, 2.3).
+fn wrong_unit(word: &[u8]) -> Mistake
+    ensures { result ≡ wrong_digits word.now (wrong_length_in word.now) }
+{
+    wrong_octets(word, wrong_length(word))
+}
+
+/// What is wrong with a unit whose digits are octets.
+fn wrong_length(word: &[u8]) -> Mistake
+    ensures { result ≡ wrong_length_in word.now }
+{
+    if word.len() < 6 {
+        Mistake::UnitShort
+    } else if word.len() > 552 {
+        Mistake::UnitLong
+    } else {
+        Mistake::UnitLength
+    }
+}
+
+/// Whether it's hexadecimal digits alone.
+fn are_digits(word: &[u8]) -> bool
+    ensures { result ≡ list_all is_hex word.now }
+{
+    word.iter().all(|c| is_digit(*c))
+}
+
+/// Whether it's a hexadecimal digit of either case.
+fn is_digit(octet: u8) -> bool
+    ensures { result ≡ is_hex octet }
+{
+    matches!(octet, b'0'..=b'9' | b'A'..=b'F' | b'a'..=b'f')
+}
