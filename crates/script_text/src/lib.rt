@@ -19,4 +19,5 @@ mod text;
 
 pub use account::Account;
 pub use fault::ScriptFault;
+pub use script::Script;
 pub use text::tell_script;

@@ -9,7 +9,7 @@ ghost use Rattle.script_text.specs.Scripts.{Told, asked, opened as opened_in, ou
 
 use super::account::Account;
 use super::fault::ScriptFault;
-use pair_world::{PlayFault, World};
+use pair_world::{End, PlayFault, World};
 use play_script::{read_opening, read_step};
 use printing::Stop;
 use std::alloc::{AllocError, Global};
@@ -19,7 +19,7 @@ use world_steps::{Shown, Step};
 
 /// A script under way.
 #[derive(Drop)]
-pub(crate) struct Script<A> {
+pub struct Script<A> {
     /// The world, once the first line has made it.
     world: Option<World>,
     account: PhantomData<A>,
@@ -36,14 +36,26 @@ impl<A> Model for Script<A> {
 
 impl<A: Account> Script<A> {
     ghost use Rattle.std.specs.Prelude.{◌≡◌, None};
+    ghost use Rattle.std.specs.Option.{option_map};
+    ghost use Rattle.set_model.specs.State.{link_count};
 
     /// Before the first line.
-    pub(crate) fn new() -> Script<A>
+    pub fn new() -> Script<A>
         ensures { result ≡ None }
     {
         Script {
             world: None,
             account: PhantomData,
+        }
+    }
+
+    /// How many links the world has, once the first line has made it.
+    pub fn links(&self) -> Option<u8>
+        ensures { result ≡ option_map (λ w. link_count w.a.state) self.now }
+    {
+        match &self.world {
+            Some(world) => Some(world.core(End::A).links()),
+            None => None,
         }
     }
 }

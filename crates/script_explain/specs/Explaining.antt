@@ -1,0 +1,86 @@
+-- A SCRIPT OF TWO ENDS with explanations: what is said of a line that ends it with a fault.
+use Rattle.std.specs.Prelude.{◌≡◌, ℕ, List, Option, Some, None, Result, Ok, Err}
+use Rattle.std.specs.Option.{option_map}
+use Rattle.set_model.specs.State.{link_count}
+use Rattle.pair_model.specs.World.{World}
+use Rattle.world_steps.specs.declared.step.Step.{Step as WorldStep}
+use Rattle.play_script.specs.Script.{step_of}
+use Rattle.printing.specs.declared.fault.Fault.{Fault}
+use Rattle.printing.specs.declared.fault.Fault.TheVariants.{Input as InputFault, Memory as NoMemory, Read, Write}
+use Rattle.printing.specs.declared.fault.Stop.{Stop}
+use Rattle.printing.specs.declared.fault.Stop.TheVariants.{Input, Memory}
+use Rattle.printing.specs.Printing.{Printed}
+use Rattle.text_lines.specs.Lines.{LineOutcome, Rules, prints, stops, IsLinesText}
+use Rattle.line_mistakes.specs.declared.lines.Blame.{Blame}
+use Rattle.line_mistakes.specs.Blaming.{blamed_opening, blamed_step}
+use Rattle.line_mistakes.specs.Impossible.{blamed_impossible}
+use Rattle.script_text.specs.declared.fault.ScriptFault.{ScriptFault}
+use Rattle.script_text.specs.declared.fault.ScriptFault.TheVariants.{Text, Step, Exhausted}
+use Rattle.script_text.specs.Scripts.{Told, read_script}
+use Rattle.line_mistakes.specs.Showing.{explanation}
+
+-- a fault of a script, and the lines that explain it
+pub record Explained : Type 0 where
+  pub fault : ScriptFault
+  pub told : Option (List ℕ)
+
+-- how many links there are, once the first line has made the world
+abbrev pub links_in : Option World → Option ℕ
+links_in world = option_map (λ w. link_count w.a.state) world
+
+-- the word at fault of a line that can't be read
+abbrev pub unread : Option ℕ → List ℕ → Option Blame
+unread None text = blamed_opening text
+unread (Some links) text = blamed_step text
+
+-- the word at fault of a line whose step can't be done
+abbrev pub undone_step : ℕ → List ℕ → Option WorldStep → Option Blame
+undone_step links text None = None
+undone_step links text (Some step) = Some (blamed_impossible links step text)
+
+abbrev pub undone : Option ℕ → List ℕ → Option Blame
+undone None text = None
+undone (Some links) text = undone_step links text (step_of text)
+
+-- the lines that explain a fault on this line, with so many links
+abbrev pub said : Option ℕ → List ℕ → ScriptFault → Option (List ℕ)
+said links text (Text n) = option_map (λ blame. explanation n blame text) (unread links text)
+said links text (Step n) = option_map (λ blame. explanation n blame text) (undone links text)
+said links text Exhausted = None
+
+abbrev pub explained : Option World → List ℕ → ScriptFault → Explained
+explained world text fault = record { fault = fault; told = said (links_in world) text fault }
+
+-- a line does what it does, and its fault is explained
+abbrev pub explains : Option World → List ℕ → LineOutcome (Option World) ScriptFault
+    → LineOutcome (Option World) Explained
+explains world text (prints printed new) = prints printed new
+explains world text (stops fault) = stops (explained world text fault)
+
+abbrev pub explained_rules : Told → Rules (Option World) Explained
+explained_rules t = record {
+  start = None;
+  on_line = λ n world text. explains world text (read_script t n world text);
+  at_the_end = t.at_the_end;
+  unreadable = λ n. record { fault = Text n; told = None };
+}
+
+-- THE TEXT: that of the script, with an explanation of the fault
+abbrev pub IsExplainedText : Told → List ℕ → Printed Explained → Type 0
+IsExplainedText t = IsLinesText (explained_rules t)
+
+-- but for what is said of a fault
+abbrev pub with_fault_alone : Printed Explained → Printed ScriptFault
+with_fault_alone p = record { printed = p.printed; fault = option_map (λ e. e.fault) p.fault }
+
+abbrev pub fault_alone : Result (Unit {0}) (Fault Explained) → Result (Unit {0}) (Fault ScriptFault)
+fault_alone (Ok done) = Ok done
+fault_alone (Err (InputFault e)) = Err (InputFault e.fault)
+fault_alone (Err NoMemory) = Err NoMemory
+fault_alone (Err Read) = Err Read
+fault_alone (Err Write) = Err Write
+
+-- The code beside the definition: a fault with its explanation, or want of memory.
+abbrev pub IsExplanation : Stop Explained → Option ℕ → List ℕ → ScriptFault → Type 0
+IsExplanation (Input e) links text fault = e ≡ record { fault = fault; told = said links text fault }
+IsExplanation Memory links text fault = Unit {0}

@@ -1,0 +1,149 @@
+//! A script whose faults are explained.
+ghost use Rattle.std.specs.Prelude.{◌≡◌, IfOk, MatchResult, string_bytes};
+ghost use Rattle.std.specs.Option.{option_map};
+ghost use Rattle.printing.specs.declared.fault.Stop.TheVariants.{Input, Memory};
+ghost use Rattle.script_explain.specs.Explaining.{said as said_of, undone as undone_in, unread as unread_in, IsExplanation};
+ghost use Rattle.line_mistakes.specs.Showing.{explanation};
+
+use super::fault::ExplainedFault;
+use line_mistakes::{Blame, blame_impossible, blame_opening, blame_step, explain};
+use play_script::read_step;
+use printing::Stop;
+use script_text::{Account, Script, ScriptFault};
+use std::alloc::{AllocError, Global};
+use std::marker::Model;
+use text_lines::LineText;
+
+/// A script under way, whose faults are explained.
+#[derive(Drop)]
+pub(crate) struct Explaining<A> {
+    script: Script<A>,
+}
+
+impl<A> Model for Explaining<A> {
+    ghost use Rattle.std.specs.Prelude.{Option};
+    ghost use Rattle.pair_model.specs.World.{World as ModelWorld};
+
+    ghost Value = { Option ModelWorld };
+
+    ghost view = { λ e. e.script };
+}
+
+impl<A: Account> Explaining<A> {
+    ghost use Rattle.std.specs.Prelude.{◌≡◌, None};
+
+    /// Before the first line.
+    pub(crate) fn new() -> Explaining<A>
+        ensures { result ≡ None }
+    {
+        Explaining {
+            script: Script::new(),
+        }
+    }
+}
+
+impl<A: Account> LineText for Explaining<A> {
+    type Fault = ExplainedFault;
+
+    ghost use Rattle.script_explain.specs.Explaining.{explained_rules};
+
+    ghost rules = { explained_rules A.told };
+
+    fn unreadable(number: u64) -> ExplainedFault {
+        ExplainedFault {
+            fault: ScriptFault::Text { line: number },
+            told: None,
+        }
+    }
+
+    fn line(
+        &mut self,
+        alloc: Global,
+        number: u64,
+        text: &[u8],
+        out: &mut Vec<u8>,
+    ) -> Result<(), Stop<ExplainedFault>> {
+        let links = self.script.links();
+        match self.script.line(alloc, number, text, out) {
+            Ok(()) => Ok(()),
+            Err(Stop::Input(fault)) => Err(explained(alloc, links, text, fault)),
+            Err(Stop::Memory) => Err(Stop::Memory),
+        }
+    }
+
+    fn end(&self, alloc: Global, out: &mut Vec<u8>) -> Result<(), Stop<ExplainedFault>> {
+        match self.script.end(alloc, out) {
+            Ok(()) => Ok(()),
+            Err(_) => Err(Stop::Memory),
+        }
+    }
+}
+
+/// The fault of this line with its explanation, or want of memory.
+fn explained(
+    alloc: Global,
+    links: Option<u8>,
+    text: &[u8],
+    fault: ScriptFault,
+) -> Stop<ExplainedFault>
+    ensures { IsExplanation result links text.now fault }
+{
+    match said(alloc, links, text, fault) {
+        Ok(told) => Stop::Input(ExplainedFault { fault, told }),
+        Err(_) => Stop::Memory,
+    }
+}
+
+/// The lines that explain a fault on this line.
+fn said(
+    alloc: Global,
+    links: Option<u8>,
+    text: &[u8],
+    fault: ScriptFault,
+) -> Result<Option<String>, AllocError>
+    ensures { IfOk result (λ told. option_map string_bytes told ≡ said_of links text.now fault) }
+{
+    match fault {
+        ScriptFault::Text { line } => shown(alloc, line, unread(alloc, links, text)?, text),
+        ScriptFault::Step { line } => shown(alloc, line, undone(alloc, links, text)?, text),
+        ScriptFault::Exhausted => Ok(None),
+    }
+}
+
+/// The explanation of the word at fault of this line, if there is one.
+fn shown(
+    alloc: Global,
+    line: u64,
+    blame: Option<Blame>,
+    text: &[u8],
+) -> Result<Option<String>, AllocError>
+    ensures { IfOk result (λ told. option_map string_bytes told ≡ option_map (λ b. explanation line b text.now) blame) }
+{
+    match blame {
+        Some(blame) => Ok(Some(explain(alloc, line, blame, text)?)),
+        None => Ok(None),
+    }
+}
+
+/// The word at fault of a line that can't be read.
+fn unread(alloc: Global, links: Option<u8>, text: &[u8]) -> Result<Option<Blame>, AllocError>
+    ensures { IfOk result (λ blame. blame ≡ unread_in links text.now) }
+{
+    match links {
+        Some(_) => blame_step(alloc, text),
+        None => blame_opening(alloc, text),
+    }
+}
+
+/// The word at fault of a line whose step can't be done.
+fn undone(alloc: Global, links: Option<u8>, text: &[u8]) -> Result<Option<Blame>, AllocError>
+    ensures { IfOk result (λ blame. blame ≡ undone_in links text.now) }
+{
+    let Some(links) = links else {
+        return Ok(None);
+    };
+    match read_step(alloc, text)? {
+        Some(step) => Ok(Some(blame_impossible(links, &step, text))),
+        None => Ok(None),
+    }
+}

@@ -1,0 +1,40 @@
+//! How a script is at fault, with an explanation.
+use line_mistakes::Mistake;
+use script_text::ScriptFault;
+use std::fmt;
+use std::fmt::Display;
+use std::marker::Model;
+
+/// How a script is at fault, with an explanation. Its text is the fault's, and then the lines of the explanation.
+#[derive(Debug, Drop)]
+pub struct ExplainedFault {
+    /// The fault, as `script_text` tells it.
+    pub fault: ScriptFault,
+    /// The lines that explain it, each but the last ended by LF; `None` where the line is too long, which says enough, and
+    /// where the fault is no line's.
+    pub told: Option<String>,
+}
+
+impl Model for ExplainedFault {
+    ghost use Rattle.std.specs.Prelude.{string_bytes};
+    ghost use Rattle.std.specs.Option.{option_map};
+    ghost use Rattle.script_explain.specs.Explaining.{Explained};
+
+    ghost Value = { Explained };
+
+    ghost view = { λ e. record { fault = e.fault; told = option_map string_bytes e.told } };
+}
+
+impl Display for ExplainedFault {
+    fn fmt<W: fmt::Write>(&self, f: &mut fmt::Formatter<W>) -> fmt::Result {
+        let fault = self.fault;
+        match (&self.told, fault) {
+            (Some(told), _) => write!(f, "{fault}\n{told}"),
+            (None, ScriptFault::Text { line }) => {
+                let text = Mistake::TooLong.text();
+                write!(f, "{fault}\nline {line}: {text}")
+            }
+            _ => write!(f, "{fault}"),
+        }
+    }
+}

@@ -1,0 +1,33 @@
+//! The whole text of a script, with an explanation of its fault.
+ghost use Rattle.std.specs.Prelude.{◌≤◌, ◌^◌, length, IfSome, OnOk};
+ghost use Rattle.printing.specs.Printing.{Prints, FailsByDevices};
+ghost use Rattle.script_explain.specs.Explaining.{IsExplainedText, fault_alone};
+ghost use Rattle.script_text.specs.Scripts.{IsScriptText};
+
+use super::explained::Explaining;
+use super::fault::ExplainedFault;
+use printing::{Fault, Sink, Source};
+use script_text::Account;
+use std::alloc::Global;
+use text_lines::print_lines;
+
+/// Plays the script that the source gives, and writes what the account tells of it, as `script_text::tell_script` does;
+/// a fault of the script brings its explanation.
+///
+/// Ends with the first fault; what was printed before it stays printed. An input of more than 2^24 octets
+/// is never answered Ok, and one of 2^24 or more may be [`Fault::Read`], as [`print_lines`] tells.
+pub fn tell_explained<A: Account, S: Source, W: Sink>(
+    alloc: Global,
+    source: &mut S,
+    sink: &mut W,
+) -> Result<(), Fault<ExplainedFault>>
+    ensures text { IfSome (S.left source.old)
+        (λ input. Prints result (IsExplainedText A.told input) (W.written sink.old) (W.written sink.new)) }
+    ensures same { IfSome (S.left source.old)
+        (λ input. Prints (fault_alone result) (IsScriptText A.told input) (W.written sink.old) (W.written sink.new)) }
+    ensures bounded { IfSome (S.left source.old) (λ input. OnOk result (length input ≤ 2 ^ 24)) }
+    ensures devices { IfSome (S.left source.old)
+        (FailsByDevices result (S.has_failed source.new) (W.has_failed sink.new)) }
+{
+    print_lines(alloc, Explaining::<A>::new(), source, sink)
+}
