@@ -1,2 +1,3 @@
+mod Options
 mod Refusals
 mod Subcommands

@@ -5,15 +5,17 @@ use Rattle.clap.specs.declared.error.kind.ErrorKind.{ErrorKind}
 use Rattle.clap.specs.declared.error.kind.ErrorKind.TheVariants.{OutOfMemory}
 use Rattle.command_line.specs.declared.words.Words.{Words}
 use Rattle.command_line.specs.declared.words.WordsFault.{WordsFault}
-use Rattle.command_line.specs.declared.words.WordsFault.TheVariants.{NoMemory, Words as WrongWords}
-use Rattle.command_line.specs.CommandLine.{program, AreWrong, IsAsked, Refuses}
+use Rattle.command_line.specs.declared.words.WordsFault.TheVariants.{NoMemory, Words as WrongWords, Link}
+use Rattle.command_line.specs.CommandLine.{program, AreWrong, IsAsked, IsKind, Refuses}
 
 -- they name no subcommand
-pub unnamed : (fault : WordsFault) (words : List (List ℕ)) → ((asked : Words) → IsAsked asked words → ⊥) → Refuses fault words
-unnamed NoMemory words none = tt
-unnamed (WrongWords error) words none = λ taken. none
+pub unnamed : (fault : WordsFault) (words : List (List ℕ)) (kind : ErrorKind) → IsKind kind fault → ((asked : Words) → IsAsked asked words → ⊥) → Refuses fault words
+unnamed NoMemory words kind is none = tt
+unnamed (WrongWords error) words kind is none = λ taken. none
+unnamed Link words kind is none = absurd is
 
 -- the library refuses them
-pub not_taken : (fault : WordsFault) (words : List (List ℕ)) (kind : ErrorKind) → (AreWrong fault → kind ≢ OutOfMemory) → (takes program words ≡ true → kind ≡ OutOfMemory) → Refuses fault words
-not_taken NoMemory words kind f g = tt
-not_taken (WrongWords error) words kind f g = λ taken. absurd (f tt (g taken))
+pub not_taken : (fault : WordsFault) (words : List (List ℕ)) (kind : ErrorKind) → IsKind kind fault → (AreWrong fault → kind ≢ OutOfMemory) → (takes program words ≡ true → kind ≡ OutOfMemory) → Refuses fault words
+not_taken NoMemory words kind is f g = tt
+not_taken (WrongWords error) words kind is f g = λ taken. absurd (f tt (g taken))
+not_taken Link words kind is f g = absurd is

@@ -1,10 +1,17 @@
--- The subcommand that was found, with its rows.
-use Rattle.std.proofs.Common.{◌≡◌, ap, ap₂, sym, ◌∙◌, List, Option, None, Some, Box}
+-- The subcommand that was found, with its rows, and what it can't ask for.
+use Rattle.std.proofs.Common.{◌≡◌, ◌≢◌, ap, ap₂, sym, ◌∙◌, arith, codes, slice_index, ℕ, List, Option, None, Some, Box}
 use Rattle.std.specs.Option.{option_map}
 use Rattle.std.specs.Box.{box_value}
-use Rattle.clap.specs.Words.{Row, Text, subcommand_rows}
+use Rattle.clap.specs.Words.{Row, Text, first_of, subcommand_rows}
 use Rattle.clap.specs.declared.parser.matches.ArgMatches.TheViews.{out-SubCommand}
 use Rattle.clap.specs.declared.parser.matches.SubCommand.{SubCommand}
+use Rattle.command_line.specs.declared.words.Words.{Words}
+use Rattle.command_line.specs.declared.words.Words.TheVariants.{Units, Play, Decode, Capture, Ladder, Audit, HistoryOfA, HistoryOfB, Run}
+use Rattle.command_line.specs.declared.run_words.RunWords.{RunWords}
+use Rattle.command_line.specs.declared.run_words.Unasked.{Unasked}
+use Rattle.command_line.specs.declared.run_words.Unasked.TheVariants.{Value, Link}
+use Rattle.command_line.specs.RunOptions.{IsRun, IsUnasked}
+use Rattle.command_line.specs.CommandLine.{HasOptions, IsNotFound, IsWord, name_of}
 
 pub found_is : {Z : Type 0} (found : Option (Box SubCommand Z)) (name : Text) (rows : List Row)
     → Some name ≡ option_map (λ b. (out-SubCommand (box_value b)).name.now) found
@@ -14,3 +21,38 @@ found_is (Some s) name rows a b =
     let first : (out-SubCommand (box_value s)).name.now ≡ name = cc a in
     let second : _ ≡ rows = cc b in
     ap₂ (λ (n : Text) (r : List Row). Some (n, r)) first second
+
+-- only `run` has options
+pub options : (asked : Words) (name : Text) (end : Option Text) (rows : List Row) → name ≢ codes "run" → IsWord asked name end
+    → HasOptions asked rows
+options Units name end rows other is = tt
+options Play name end rows other is = tt
+options Decode name end rows other is = tt
+options Capture name end rows other is = tt
+options Ladder name end rows other is = tt
+options Audit name end rows other is = tt
+options HistoryOfA name end rows other is = tt
+options HistoryOfB name end rows other is = tt
+options (Run run) name end rows other is = absurd (other is.name_is)
+
+-- the first letter tells `run` from the others
+letter : (asked : Words) (name : Text) (end : Option Text) → name ≡ codes "run" → IsWord asked name end → slice_index (name_of asked) 0 ≡ 114
+letter asked name end is_run is = ap (λ (text : List ℕ). slice_index text 0) (sym is.name_is ∙ is_run)
+
+module _ (name : Text) (rows : List Row) (is_run : name ≡ codes "run") where
+  no_word : (asked : Words) → ((run : RunWords) → IsRun run rows → ⊥)
+      → IsWord asked name (first_of (codes "END") rows) × HasOptions asked rows → ⊥
+  no_word Units none is = let bad : 117 ≡ 114 = letter Units name _ is_run is.0 in omega (arith, bad)
+  no_word Play none is = let bad : 112 ≡ 114 = letter Play name _ is_run is.0 in omega (arith, bad)
+  no_word Decode none is = let bad : 100 ≡ 114 = letter Decode name _ is_run is.0 in omega (arith, bad)
+  no_word Capture none is = let bad : 99 ≡ 114 = letter Capture name _ is_run is.0 in omega (arith, bad)
+  no_word Ladder none is = let bad : 108 ≡ 114 = letter Ladder name _ is_run is.0 in omega (arith, bad)
+  no_word Audit none is = let bad : 97 ≡ 114 = letter Audit name _ is_run is.0 in omega (arith, bad)
+  no_word HistoryOfA none is = let bad : 104 ≡ 114 = letter HistoryOfA name _ is_run is.0 in omega (arith, bad)
+  no_word HistoryOfB none is = let bad : 104 ≡ 114 = letter HistoryOfB name _ is_run is.0 in omega (arith, bad)
+  no_word (Run run) none is = none run is.1
+
+  -- options that ask for no run
+  pub no_run : (why : Unasked) → IsUnasked why rows → IsNotFound why (Some (name, rows))
+  no_run (Value said) none = λ asked is. no_word asked none is
+  no_run Link lacks = (is_run, lacks)

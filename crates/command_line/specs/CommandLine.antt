@@ -5,9 +5,12 @@ use Rattle.clap.specs.Simple.{new_shape}
 use Rattle.clap.specs.Values.{kind_of}
 use Rattle.clap.specs.declared.error.kind.ErrorKind.{ErrorKind}
 use Rattle.command_line.specs.declared.words.Words.{Words}
-use Rattle.command_line.specs.declared.words.Words.TheVariants.{Units, Play, Decode, Capture, Ladder, Audit, HistoryOfA, HistoryOfB}
+use Rattle.command_line.specs.declared.words.Words.TheVariants.{Units, Play, Decode, Capture, Ladder, Audit, HistoryOfA, HistoryOfB, Run}
 use Rattle.command_line.specs.declared.words.WordsFault.{WordsFault}
-use Rattle.command_line.specs.declared.words.WordsFault.TheVariants.{NoMemory, Words as WrongWords}
+use Rattle.command_line.specs.declared.words.WordsFault.TheVariants.{NoMemory, Words as WrongWords, Link}
+use Rattle.command_line.specs.declared.run_words.Unasked.{Unasked}
+use Rattle.command_line.specs.declared.run_words.Unasked.TheVariants.{Value, Link as NoLink}
+use Rattle.command_line.specs.RunOptions.{IsRun, LacksLink, run_shape}
 
 -- no program's name comes first, there is a version, and a subcommand has to be there
 abbrev pub program_itself : Shape
@@ -20,7 +23,7 @@ program_itself = record (new_shape (codes "mtpbank")) {
 abbrev pub without_subcommands : App
 without_subcommands = record { top = program_itself; subs = [] }
 
--- six subcommands, which take no words, and one that takes an end
+-- six subcommands, which take no words, one that takes an end, and one that takes options
 abbrev pub units_and_play : App
 units_and_play =
     with_subcommand (with_subcommand without_subcommands (new_shape (codes "units"))) (new_shape (codes "play"))
@@ -39,8 +42,11 @@ end_rule = record (new_rule (codes "END")) { required = true }
 abbrev pub history_shape : Shape
 history_shape = record (new_shape (codes "history")) { rules = end_rule ∷ [] }
 
+abbrev pub without_run : App
+without_run = with_subcommand without_history history_shape
+
 abbrev pub program : App
-program = with_subcommand without_history history_shape
+program = with_subcommand without_run run_shape
 
 -- the subcommand that was asked for
 abbrev pub name_of : Words → List ℕ
@@ -52,6 +58,7 @@ name_of Ladder = codes "ladder"
 name_of Audit = codes "audit"
 name_of HistoryOfA = codes "history"
 name_of HistoryOfB = codes "history"
+name_of (Run run) = codes "run"
 
 -- the words of a program's arguments, of which the first is its own name
 abbrev pub words_in : {A : Type 0} → List (String A) → List (List ℕ)
@@ -67,16 +74,32 @@ IsEnd Ladder end = Unit {0}
 IsEnd Audit end = Unit {0}
 IsEnd HistoryOfA end = end ≡ Some (codes "a")
 IsEnd HistoryOfB end = end ≡ Some (codes "b")
+IsEnd (Run run) end = Unit {0}
+
+-- what its options tell
+abbrev pub HasOptions : Words → List Row → Type 0
+HasOptions (Run run) rows = IsRun run rows
+HasOptions asked rows = Unit {0}
 
 -- a name of a subcommand, and the word behind it, ask for this
 pub record IsWord (asked : Words) (name : List ℕ) (end : Option (List ℕ)) : Type 0 where
   pub name_is : name ≡ name_of asked
   pub end_is : IsEnd asked end
 
--- what the library finds in words asks for this: a subcommand of this name, and what it has for END
+-- what the library finds in words asks for this: a subcommand of this name, what it has for END, and its options
 abbrev pub IsFound : Words → Option (Text × List Row) → Type 0
 IsFound asked None = ⊥
-IsFound asked (Some found) = IsWord asked found.0 (first_of (codes "END") found.1)
+IsFound asked (Some found) = IsWord asked found.0 (first_of (codes "END") found.1) × HasOptions asked found.1
+
+-- a run, but for the link that is to fail, which isn't below the links
+abbrev pub IsLinkless : Option (Text × List Row) → Type 0
+IsLinkless None = ⊥
+IsLinkless (Some found) = (found.0 ≡ codes "run") × LacksLink found.1
+
+-- why what the library finds asks for nothing
+abbrev pub IsNotFound : Unasked → Option (Text × List Row) → Type 0
+IsNotFound (Value said) found = (asked : Words) → IsFound asked found → ⊥
+IsNotFound NoLink found = IsLinkless found
 
 abbrev pub IsAsked : Words → List (List ℕ) → Type 0
 IsAsked asked words = IsFound asked (subcommand_of program words)
@@ -86,16 +109,19 @@ abbrev pub IsRefused : List (List ℕ) → Type 0
 IsRefused words =
     takes program words ≡ true → (asked : Words) → IsAsked asked words → ⊥
 
--- wrong words are those; want of memory says nothing of them
+-- wrong words are those; want of memory says nothing of them; a link that isn't there is told as such
 abbrev pub Refuses : WordsFault → List (List ℕ) → Type 0
 Refuses NoMemory words = Unit {0}
 Refuses (WrongWords error) words = IsRefused words
+Refuses Link words = IsLinkless (subcommand_of program words)
 
 abbrev pub AreWrong : WordsFault → Type 0
 AreWrong NoMemory = ⊥
 AreWrong (WrongWords error) = Unit {0}
+AreWrong Link = ⊥
 
 -- the library tells the wrong words as this kind of error
 abbrev pub IsKind : ErrorKind → WordsFault → Type 0
 IsKind kind NoMemory = Unit {0}
 IsKind kind (WrongWords error) = kind_of error ≡ kind
+IsKind kind Link = ⊥

@@ -1,7 +1,7 @@
 //! What help says below usage and options: `-h` a page of at most 80 columns, `--help` all there is to say.
 
 pub(crate) const PROGRAM_PAGE: &str = "\
-All read standard input to its end, and print what they see line by line:
+All but run read standard input to its end, and print what they see by lines:
   mtpbank play < examples/changeover.play
 The status is 0, or 1 after a fault, or 2 where the words are wrong.
 `mtpbank play --help` says how, and lists each fault; so do the others.";
@@ -158,16 +158,58 @@ A fault ends the input: one line on standard error, with status 1; what was prin
   fault read          standard input failed, or has more than 2^24 octets
   fault write, fault memory";
 
+pub(crate) const RUN_PAGE: &str = "\
+Two banks run, a set of each for every number: the users of ends a offer, those
+of ends b take, and each link is a pair of rings between two terminals. Printed
+is what was accepted, where it stands, and that each history is legal:
+  mtpbank run --fail 0
+`mtpbank run --help` says what each line tells, and each fault.";
+
+pub(crate) const RUN_HELP: &str = "\
+Each set has two ends, a and b, in banks of their own, and a thread for each
+user and each terminal. Standard input isn't read. Each user of end a offers
+its messages one after the other, and looks where each stands as soon as it was
+accepted; the user of end b asks for a message 1,000 times. Each link is a pair
+of rings between its two terminals, which take T turns each: an octet is sent
+and, if there is one, an octet is heard. Neither is more than 64 turns ahead of
+the other. With --fail the terminal of that link at end a, in each set, is told
+to stop after half of its turns. When all threads have ended each set is closed
+and audited, and these lines are printed, the sets from 0:
+  set=I end=a accepted=X placed=Y legal=yes
+                    so many messages were accepted from users at end a of set
+                    I, so many stand in some place, and the history is one
+                    that such a set makes
+  set=I end=b ..    so too at end b, where users offer nothing
+  total accepted=X placed=Y legal=yes
+                    of all ends together
+With --per-link, behind those, for each link K of each set and both its ends:
+  set=I link=K end=a up=yes|no sent=S good=G bad=B cause=C delivered=D
+                    whether it ever came up there, the units that its terminal
+                    sent, the good and bad ones that it heard, the cause of
+                    its last failure, 1 to 9, or 0 (9 is --fail), and how many
+                    messages that this end sent on it the other end accepted
+Who gets on and when is the threads' affair, so what is sent on a link differs
+from run to run. With few turns messages are left unsent. A run of more than
+two seconds tells how far it is on standard error, where that is a terminal. A
+fault is one line on standard error, with status 1, and nothing is printed:
+  fault memory      memory was wanted, by whichever thread
+  fault thread      a thread couldn't be started
+  fault close       a set couldn't be closed
+  fault write       standard output failed; what was printed stays
+Where the link of --fail isn't one of the links it's `fault link`, with status
+2, as other wrong words have it.";
+
 pub(crate) const HELP: &str = "\
-All read standard input to its end, as in `mtpbank play < examples/changeover.play`. `mtpbank play --help` says
+All but run read standard input to its end, as in `mtpbank play < examples/changeover.play`. `mtpbank play --help` says
 how a script is written and what it prints, `mtpbank units --help` and `mtpbank decode --help` which digits are
 read and what is printed, `mtpbank capture --help` what the file holds, `mtpbank ladder --help` what the chart shows,
-`mtpbank history --help` and `mtpbank audit --help` how a history is; with `-h` each is a page. A fault is one line on
-standard error, and what was printed before it stays:
+`mtpbank history --help` and `mtpbank audit --help` how a history is, `mtpbank run --help` what runs in threads; with
+`-h` each is a page. A fault is one line on standard error, and what was printed before it stays:
   fault line N text, fault line N step               a line can't be read, or one of a script can't be done
   fault octet P                                      a character is no hexadecimal digit, or one is left over
   fault read, fault write, fault memory              standard input, standard output or memory failed
   fault exhausted                                    the history of an end is full
+  fault thread, fault close                          a thread couldn't be started, a set couldn't be closed
 The status is 0, or 1 after a fault, or 2 where the words of the command line are wrong.";
 
 pub(crate) const UNITS_HELP: &str = "\

@@ -6,6 +6,9 @@
 #![tactic(auto)]
 
 mod help;
+mod run_options;
+mod run_words;
 mod words;
 
+pub use run_words::RunWords;
 pub use words::{Words, WordsFault, asked_by, not_unicode, words_of};

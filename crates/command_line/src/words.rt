@@ -1,5 +1,5 @@
 //! The words of the command line.
-ghost use Rattle.std.specs.Prelude.{◌≡◌, ◌≢◌, IfErr, IfOk, MatchOption, codes, false, map};
+ghost use Rattle.std.specs.Prelude.{◌≡◌, ◌≢◌, IfErr, IfOk, MatchOption, MatchResult, codes, false, map};
 ghost use Rattle.std.specs.Option.{option_map};
 ghost use Rattle.clap.specs.Words.{app_of, subcommand_rows_of};
 ghost use Rattle.clap.specs.declared.error.ErrorKind.TheVariants.{InvalidSubcommand, InvalidValue, OutOfMemory};
@@ -7,13 +7,15 @@ ghost use Rattle.clap.specs.Simple.{new_shape, shape_of};
 ghost use Rattle.clap.specs.declared.builder.command.Command.{out-Command};
 ghost use Rattle.clap.specs.Values.{kind_of};
 ghost use Rattle.command_line.specs.CommandLine.{program, without_subcommands, history_shape, words_in};
-ghost use Rattle.command_line.specs.CommandLine.{AreWrong, IsAsked, IsFound, IsKind, IsWord, Refuses};
+ghost use Rattle.command_line.specs.CommandLine.{AreWrong, IsAsked, IsFound, IsKind, IsNotFound, IsWord, Refuses};
 
 use super::help::{
     AUDIT_HELP, AUDIT_PAGE, CAPTURE_HELP, CAPTURE_PAGE, DECODE_HELP, DECODE_PAGE, HELP,
     HISTORY_HELP, HISTORY_PAGE, LADDER_HELP, LADDER_PAGE, PLAY_HELP, PLAY_PAGE, PROGRAM_PAGE,
     UNITS_HELP, UNITS_PAGE,
 };
+use super::run_options::{run_command, run_of};
+use super::run_words::{RunWords, Unasked};
 use clap::error::ErrorKind;
 use clap::{Arg, ArgMatches, Command};
 use std::alloc::{AllocError, Global};
@@ -38,6 +40,8 @@ pub enum Words {
     HistoryOfA,
     /// Print the history of end b of a script.
     HistoryOfB,
+    /// Run two banks of sets in threads, with traffic between them.
+    Run(RunWords),
 }
 
 /// Why the words ask for nothing.
@@ -47,6 +51,8 @@ pub enum WordsFault {
     NoMemory,
     /// 2: wrong words, or a question for help or the version.
     Words(clap::Error),
+    /// 3: the link that is to fail in a run isn't one of its links.
+    Link,
 }
 
 impl From<AllocError> for WordsFault {
@@ -63,7 +69,9 @@ impl From<AllocError> for WordsFault {
 /// What these words, those after the program's name, ask for.
 ///
 /// 1 [`WordsFault::NoMemory`] may come before the other; 2 [`WordsFault::Words`] only where `clap`'s definition
-/// refuses the words, or where they name no subcommand of the program, or no end behind `history`.
+/// refuses the words, or where they name no subcommand of the program, no end behind `history`, or behind `run` a number
+/// out of its range or no method; 3 [`WordsFault::Link`] only where all these are right, but the link that is to fail
+/// isn't below the links.
 pub fn words_of<S: AsStr>(alloc: Global, words: &[S]) -> Result<Words, WordsFault>
     ensures asked { IfOk result (λ found. IsAsked found (map S.text words.now)) }
     ensures refused { IfErr result (λ fault. Refuses fault (map S.text words.now)) }
@@ -92,25 +100,41 @@ fn found_by<'a, S: AsStr>(command: &mut Command<'a>, words: &'a [S]) -> Result<W
 {
     match command.try_get_matches_from_mut(words) {
         Ok(matches) => match named(&matches) {
-            Some(asked) => Ok(asked),
-            None => Err(nothing_asked(command)),
+            Ok(asked) => Ok(asked),
+            Err(Unasked::Value(said)) => Err(nothing_asked(command, said)),
+            Err(Unasked::Link) => Err(WordsFault::Link),
         },
         Err(error) => Err(fault_of(error)),
     }
 }
 
 /// What the subcommand that was found asks for.
-fn named(matches: &ArgMatches<'_>) -> Option<Words>
-    ensures { MatchOption result
-        ((asked : Words) → IsFound asked (subcommand_rows_of matches.now) → ⊥)
-        (λ asked. IsFound asked (subcommand_rows_of matches.now)) }
+fn named(matches: &ArgMatches<'_>) -> Result<Words, Unasked>
+    ensures { MatchResult result
+        (λ asked. IsFound asked (subcommand_rows_of matches.now))
+        (λ why. IsNotFound why (subcommand_rows_of matches.now)) }
 {
-    let (name, found) = matches.subcommand()?;
-    word_of(name, found.get_str("END"))
+    let Some((name, found)) = matches.subcommand() else {
+        return Err(Unasked::Value(NO_END));
+    };
+    match name {
+        "run" => match run_of(found) {
+            Ok(run) => Ok(Words::Run(run)),
+            Err(why) => Err(why),
+        },
+        _ => match word_of(name, found.get_str("END")) {
+            Some(asked) => Ok(asked),
+            None => Err(Unasked::Value(NO_END)),
+        },
+    }
 }
+
+/// What is said where the end is neither.
+const NO_END: &str = "an end is a or b, as in `mtpbank history a`";
 
 /// What a subcommand of this name asks for, with the word behind it, if there is one.
 fn word_of(name: &str, end: Option<&str>) -> Option<Words>
+    requires other { name.now ≢ codes "run" }
     ensures { MatchOption result
         ((asked : Words) → IsWord asked name.now (option_map (λ s. s.now) end.entry) → ⊥)
         (λ asked. IsWord asked name.now (option_map (λ s. s.now) end.entry)) }
@@ -140,14 +164,11 @@ fn history_of(end: Option<&str>) -> Option<Words>
     }
 }
 
-/// The words ask for nothing: the end is neither.
-fn nothing_asked(command: &mut Command<'_>) -> WordsFault
+/// The words ask for nothing, since a value is none; this is said.
+fn nothing_asked(command: &mut Command<'_>, said: &str) -> WordsFault
     ensures { IsKind InvalidValue result }
 {
-    match command.error(
-        ErrorKind::InvalidValue,
-        "an end is a or b, as in `mtpbank history a`",
-    ) {
+    match command.error(ErrorKind::InvalidValue, said) {
         Ok(error) => WordsFault::Words(error),
         Err(_) => WordsFault::NoMemory,
     }
@@ -195,7 +216,8 @@ fn command<'a>(alloc: Global) -> Result<Command<'a>, AllocError>
         .subcommand(capture_command(alloc))?
         .subcommand(ladder_command(alloc))?
         .subcommand(audit_command(alloc))?
-        .subcommand(history_command(alloc)?)
+        .subcommand(history_command(alloc)?)?
+        .subcommand(run_command(alloc)?)
 }
 
 /// The word `units`.

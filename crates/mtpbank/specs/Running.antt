@@ -2,7 +2,7 @@
 use Rattle.std.specs.Prelude.{◌≡◌, ℕ, List, Result, Ok, Err}
 use Rattle.std.specs.Option.{option_map}
 use Rattle.command_line.specs.declared.words.Words.{Words}
-use Rattle.command_line.specs.declared.words.Words.TheVariants.{Units, Play, Decode, Capture, Ladder, Audit, HistoryOfA, HistoryOfB}
+use Rattle.command_line.specs.declared.words.Words.TheVariants.{Units, Play, Decode, Capture, Ladder, Audit, HistoryOfA, HistoryOfB, Run}
 use Rattle.printing.specs.declared.fault.Fault.{Fault}
 use Rattle.printing.specs.declared.fault.Fault.TheVariants.{Input, Memory, Read, Write}
 use Rattle.printing.specs.Printing.{Printed}
@@ -33,6 +33,12 @@ IsTextOf Ladder input text = IsText (IsLadder input) PlayFault text
 IsTextOf Audit input text = IsText (IsAuditText input) AuditedFault text
 IsTextOf HistoryOfA input text = IsText (IsHistoryText A input) PlayFault text
 IsTextOf HistoryOfB input text = IsText (IsHistoryText B input) PlayFault text
+IsTextOf (Run run) input text = ⊥
+
+-- all subcommands read an input but `run`, whose text stands in `run_text`
+abbrev pub ReadsInput : Words → Type 0
+ReadsInput (Run run) = ⊥
+ReadsInput words = Unit {0}
 
 -- the same answer with a fault of that type
 abbrev pub with_fault : {F : Type 0} → (F → TextFault) → Result (Unit {0}) (Fault F)

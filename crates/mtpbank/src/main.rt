@@ -4,30 +4,50 @@
 //! values, and prints what they give. `units` tells what a signalling terminal sees of a line's octets;
 //! `play` walks two ends of a link set through a script; `capture` writes what they send there as a file for network
 //! analysers, `ladder` draws it as a chart, and `history` prints what one of those ends was asked and answered;
-//! `audit` tells whether such a history is legal, and `decode` what the octets of units say.
+//! `audit` tells whether such a history is legal, and `decode` what the octets of units say. `run` reads nothing: it runs two
+//! banks in threads, and prints what they came to.
 #![tactic(auto)]
 
 ghost use Rattle.std.specs.Prelude.{◌≡◌, ◌≢◌, IsOk, IsErr, IfOk};
 ghost use Rattle.std.specs.Process.{exit_status};
 ghost use Rattle.clap.specs.Values.{kind_of};
+ghost use Rattle.mtpbank.specs.Running.{ReadsInput};
 ghost use Rattle.clap.specs.declared.error.kind.ErrorKind.TheVariants.{DisplayHelp, DisplayVersion};
 
+mod progress;
 mod running;
 
-use command_line::{Words, WordsFault, asked_by, not_unicode};
+use command_line::{RunWords, Words, WordsFault, asked_by, not_unicode};
+use paced_banks::{Traffic, pace_gates};
 use printing::{Fault, Reader, Writer};
-use running::{TextFault, run};
+use progress::Progress;
+use run_text::RunFault;
+use running::run;
+use std::alloc::Global;
+use std::fmt::Display;
 use std::io;
+use std::io::{Eprint, IsTerminal, Print};
 use std::process::ExitCode;
+use std::sync::Wait;
+use std::thread::Threads;
+use std::time::Clock;
 
 /// The status of a fault of input, memory, reading or writing.
 const FAULT: u8 = 1;
 
+/// The status of wrong words.
+const WRONG: u8 = 2;
+
 fn main(rt: HostRuntime) -> io::Result<ExitCode> {
     match asked(&rt) {
+        Ok(Words::Run(words)) => {
+            let shows = rt.stderr().is_terminal();
+            ended(&rt, ran(&rt, rt.alloc(), shows, &words))
+        }
         Ok(words) => done(&rt, words),
         Err(WordsFault::Words(error)) => said(&rt, &error),
-        Err(WordsFault::NoMemory) => told(&rt, Fault::Memory),
+        Err(WordsFault::Link) => linkless(&rt),
+        Err(WordsFault::NoMemory) => told(&rt, "fault memory"),
     }
 }
 
@@ -49,7 +69,7 @@ fn said(rt: &HostRuntime, error: &clap::Error) -> io::Result<ExitCode>
         → IfOk result (λ code. exit_status code ≡ 2) }
 {
     match error.print(rt) {
-        Err(_) if !error.use_stderr() => told(rt, Fault::Write),
+        Err(_) if !error.use_stderr() => told(rt, "fault write"),
         _ => Ok(status_of(error)),
     }
 }
@@ -62,15 +82,79 @@ fn status_of(error: &clap::Error) -> ExitCode
     ExitCode::from(error.exit_code() as u8)
 }
 
+/// Tells on standard error, with status 2, that the link that is to fail isn't one of the links.
+fn linkless(rt: &HostRuntime) -> io::Result<ExitCode>
+    ensures { IfOk result (λ code. exit_status code ≡ 2) }
+{
+    rt.eprintln("fault link")?;
+    Ok(ExitCode::from(WRONG))
+}
+
 /// Does what the words ask for, with standard input and output.
-fn done(rt: &HostRuntime, words: Words) -> io::Result<ExitCode> {
+fn done(rt: &HostRuntime, words: Words) -> io::Result<ExitCode>
+    requires reads { ReadsInput words }
+{
     let mut source = Reader::new(rt.reader());
     let mut sink = Writer::new(io::writer(rt));
     ended(rt, run(rt.alloc(), words, &mut source, &mut sink))
 }
 
+/// Runs two banks in threads, and prints what they came to; meanwhile it shows how far they are, if it's to.
+fn ran<R: Threads + Wait + Clock + Print + Eprint + Copy + Send + Sync + 'static>(
+    rt: &R,
+    alloc: Global,
+    shows: bool,
+    words: &RunWords,
+) -> Result<(), Fault<RunFault>> {
+    let traffic = traffic_of(words);
+    let Ok((near, far)) = pace_gates(alloc, traffic.sets, traffic.links) else {
+        return Err(Fault::Memory);
+    };
+    let progress = if shows {
+        let turns = u64::from(words.sets) * u64::from(words.links) * u64::from(words.turns);
+        Progress::start(rt, alloc, &near, turns)
+    } else {
+        None
+    };
+    let mut sink = Writer::new(io::writer(rt));
+    run_text::run(
+        rt,
+        alloc,
+        &traffic,
+        (near, far),
+        words.per_link,
+        &mut sink,
+        || {
+            if let Some(progress) = progress {
+                progress.end(rt);
+            }
+        },
+    )
+}
+
+/// The traffic that these words ask for.
+fn traffic_of(words: &RunWords) -> Traffic
+    ensures sets { result.sets ≡ words.now.sets }
+    ensures links { result.links ≡ words.now.links }
+    ensures users { result.users ≡ words.now.users }
+    ensures messages { result.messages ≡ words.now.messages }
+    ensures fail { result.fail ≡ words.now.fail }
+    ensures cyclic { result.cyclic ≡ words.now.cyclic }
+    ensures turns { result.turns ≡ words.now.turns }
+{
+    Traffic {
+        sets: words.sets,
+        links: words.links,
+        users: words.users,
+        messages: words.messages,
+        fail: words.fail,
+        cyclic: words.cyclic,
+        turns: u64::from(words.turns),
+    }
+}
+
 /// Ends with status 0, or with 1 and the fault in a line on standard error.
-fn ended(rt: &HostRuntime, ran: Result<(), Fault<TextFault>>) -> io::Result<ExitCode>
+fn ended<T: Display + Drop>(rt: &HostRuntime, ran: Result<(), Fault<T>>) -> io::Result<ExitCode>
     ensures done { IsOk ran → IfOk result (λ code. exit_status code ≡ 0) }
     ensures fault { IsErr ran → IfOk result (λ code. exit_status code ≡ 1) }
 {
@@ -81,7 +165,7 @@ fn ended(rt: &HostRuntime, ran: Result<(), Fault<TextFault>>) -> io::Result<Exit
 }
 
 /// Tells a fault in one line on standard error, and ends with status 1.
-fn told(rt: &HostRuntime, fault: Fault<TextFault>) -> io::Result<ExitCode>
+fn told<D: Display + Drop>(rt: &HostRuntime, fault: D) -> io::Result<ExitCode>
     ensures { IfOk result (λ code. exit_status code ≡ 1) }
 {
     rt.eprintln(fault)?;

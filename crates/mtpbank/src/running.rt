@@ -2,7 +2,7 @@
 ghost use Rattle.std.specs.Prelude.{◌≡◌, ◌≤◌, ◌^◌, length, IfSome, OnOk};
 ghost use Rattle.printing.specs.Printing.{Prints, FailsByDevices};
 ghost use Rattle.mtpbank.specs.declared.running.TextFault.TheVariants.{Audit as AuditedFault, Decode as DecodeFault, Play as PlayFault, Units as UnitsFault};
-ghost use Rattle.mtpbank.specs.Running.{IsTextOf, with_fault};
+ghost use Rattle.mtpbank.specs.Running.{IsTextOf, ReadsInput, with_fault};
 
 use audit_text::{AuditFault, audit};
 use command_line::Words;
@@ -40,6 +40,7 @@ pub fn run<S: Source, W: Sink>(
     source: &mut S,
     sink: &mut W,
 ) -> Result<(), Fault<TextFault>>
+    requires reads { ReadsInput words }
     ensures text { IfSome (S.left source.old)
         (λ input. Prints result (IsTextOf words input) (W.written sink.old) (W.written sink.new)) }
     ensures bounded { IfSome (S.left source.old) (λ input. OnOk result (length input ≤ 2 ^ 24)) }
@@ -55,6 +56,7 @@ pub fn run<S: Source, W: Sink>(
         Words::Audit => of_audit(audit(alloc, source, sink)),
         Words::HistoryOfA => of_play(history(alloc, End::A, source, sink)),
         Words::HistoryOfB => of_play(history(alloc, End::B, source, sink)),
+        Words::Run(_) => unreachable!(),
     }
 }
 

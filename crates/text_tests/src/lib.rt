@@ -1,11 +1,14 @@
 //! Tests of what the program's texts are made by, over the public calls of those crates: devices that fail, the texts
-//! of faults, words of the command line and help. Scripts and lines with what they print are stored runs.
+//! of faults, words of the command line and help, and runs of two banks. Scripts and lines with what they print are
+//! stored runs.
 //!
 //! They stand in a crate of their own, since a crate with tests is proved twice. There is nothing here but tests.
 #![tactic(auto)]
 
 #[cfg(test)]
 mod devices;
+#[cfg(test)]
+mod runs;
 #[cfg(test)]
 mod texts;
 #[cfg(test)]

@@ -1,5 +1,5 @@
 //! Words with what they ask for, and help.
-use command_line::{Words, WordsFault, not_unicode, words_of};
+use command_line::{RunWords, Words, WordsFault, not_unicode, words_of};
 use std::alloc::{AllocError, Global};
 use std::test::Fail;
 
@@ -15,9 +15,30 @@ fn told_of(alloc: Global, words: &[&str]) -> Result<String, AllocError> {
         Ok(Words::Audit) => "audit".to_string(alloc),
         Ok(Words::HistoryOfA) => "history a".to_string(alloc),
         Ok(Words::HistoryOfB) => "history b".to_string(alloc),
+        Ok(Words::Run(run)) => run_told(alloc, &run),
         Err(WordsFault::Words(error)) => error.to_string(alloc),
+        Err(WordsFault::Link) => "fault link".to_string(alloc),
         Err(WordsFault::NoMemory) => Ok(String::new(alloc)),
     }
+}
+
+/// A run that is asked for, number by number.
+fn run_told(alloc: Global, run: &RunWords) -> Result<String, AllocError> {
+    let RunWords {
+        sets,
+        links,
+        users,
+        messages,
+        turns,
+        ..
+    } = *run;
+    let fail = match run.fail {
+        Some(link) => link.to_string(alloc)?,
+        None => "none".to_string(alloc)?,
+    };
+    let method = if run.cyclic { "cyclic" } else { "basic" };
+    let lines = if run.per_link { " per-link" } else { "" };
+    format!(in alloc; "run {sets} {links} {users} {messages} {fail} {method} {turns}{lines}")
 }
 
 /// The words are refused.
@@ -49,9 +70,8 @@ fn words_of_the_command_line(rt: HostRuntime) -> Result<(), Fail> {
     ask_for(rt.alloc(), &["history", "a"], "history a")?;
     ask_for(rt.alloc(), &["history", "b"], "history b")?;
     ask_for(rt.alloc(), &["play", "--"], "play")?;
-    let refused: [&[&str]; 7] = [
+    let refused: [&[&str]; 6] = [
         &[],
-        &["run"],
         &["play", "it"],
         &["--", "units"],
         &["history"],
@@ -64,6 +84,83 @@ fn words_of_the_command_line(rt: HostRuntime) -> Result<(), Fail> {
     Ok(())
 }
 
+/// `run` has a value for each option that isn't there, and takes the others to the ends of their ranges.
+#[test]
+fn numbers_of_a_run(rt: HostRuntime) -> Result<(), Fail> {
+    let alloc = rt.alloc();
+    ask_for(alloc, &["run"], "run 1 2 4 1000 none basic 20000")?;
+    let least = [
+        "run",
+        "--sets=1",
+        "--links=1",
+        "--users=1",
+        "--messages=1",
+        "--fail=0",
+        "--turns=1",
+    ];
+    ask_for(alloc, &least, "run 1 1 1 1 0 basic 1")?;
+    let most = [
+        "run",
+        "--sets=16",
+        "--links=16",
+        "--users=16",
+        "--messages=1024",
+        "--fail=15",
+        "--method=cyclic",
+        "--turns=1000000",
+        "--per-link",
+    ];
+    ask_for(alloc, &most, "run 16 16 16 1024 15 cyclic 1000000 per-link")?;
+    ask_for(
+        alloc,
+        &["run", "--method", "basic", "--fail", "1"],
+        "run 1 2 4 1000 1 basic 20000",
+    )
+}
+
+/// Values past the ends of their ranges are wrong words, and so is what is no number.
+#[test]
+fn a_run_of_wrong_numbers(rt: HostRuntime) -> Result<(), Fail> {
+    let refused = [
+        "--sets=0",
+        "--sets=17",
+        "--links=0",
+        "--links=17",
+        "--users=0",
+        "--users=17",
+        "--messages=0",
+        "--messages=1025",
+        "--fail=16",
+        "--turns=0",
+        "--turns=1000001",
+        "--sets=01",
+        "--sets=",
+        "--sets=one",
+        "--turns=18446744073709551617",
+        "--method=other",
+        "--per-link=yes",
+        "--checkpoint=1",
+    ];
+    for word in refused {
+        are_refused(rt.alloc(), &["run", word])?;
+    }
+    are_refused(rt.alloc(), &["run", "--sets"])?;
+    are_refused(rt.alloc(), &["run", "--sets=1", "--sets=1"])?;
+    are_refused(rt.alloc(), &["run", "1"])
+}
+
+/// The link that is to fail has to be one of the links; a number out of its range comes first.
+#[test]
+fn a_run_without_the_link_that_fails(rt: HostRuntime) -> Result<(), Fail> {
+    ask_for(
+        rt.alloc(),
+        &["run", "--links", "2", "--fail", "2"],
+        "fault link",
+    )?;
+    ask_for(rt.alloc(), &["run", "--fail=15"], "fault link")?;
+    are_refused(rt.alloc(), &["run", "--links=2", "--fail=2", "--turns=0"])
+}
+
 /// A word that isn't Unicode is a wrong word.
 #[test]
 fn a_word_that_is_not_unicode(rt: HostRuntime) {
@@ -73,7 +170,7 @@ fn a_word_that_is_not_unicode(rt: HostRuntime) {
 /// `-h` is a page of at most 25 rows and 80 columns, which names the program and leads to `--help`; that says more.
 #[test]
 fn short_help_is_a_page(rt: HostRuntime) -> Result<(), Fail> {
-    let asked: [(&[&str], &[&str], &str); 8] = [
+    let asked: [(&[&str], &[&str], &str); 9] = [
         (&["-h"], &["--help"], "\nUsage: mtpbank <COMMAND>\n"),
         (
             &["units", "-h"],
@@ -109,6 +206,11 @@ fn short_help_is_a_page(rt: HostRuntime) -> Result<(), Fail> {
             &["history", "-h"],
             &["history", "--help"],
             "\nUsage: mtpbank history <END>\n",
+        ),
+        (
+            &["run", "-h"],
+            &["run", "--help"],
+            "\nUsage: mtpbank run [OPTIONS]\n",
         ),
     ];
     for (short, long, usage) in asked {

@@ -18,6 +18,8 @@ returns c =
     ∙ ap₂ with_subcommand fourth c.ladder_command.ensures.shape in
     let sixth = c.in_ok-subcommand-6.ensures.shape c.audit_command.ensures.local
     ∙ ap₂ with_subcommand fifth c.audit_command.ensures.shape in
-    IfOk-weaker c.subcommand-7.result _ _
-    (λ command added. added.shape c.in_ok-history_command.ensures.local ∙ ap₂ with_subcommand sixth c.in_ok-history_command.ensures.shape)
-    c.subcommand-7.ensures
+    let seventh = c.in_ok-subcommand-7.ensures.shape c.in_ok-history_command.ensures.local
+    ∙ ap₂ with_subcommand sixth c.in_ok-history_command.ensures.shape in
+    IfOk-weaker c.subcommand-8.result _ _
+    (λ command added. added.shape c.in_ok-run_command.ensures.local ∙ ap₂ with_subcommand seventh c.in_ok-run_command.ensures.shape)
+    c.subcommand-8.ensures

@@ -1,13 +1,29 @@
 use Rattle.std.proofs.Common.{sym, ◌∙◌, codes}
-use Rattle.clap.specs.Words.{found_of, rows_of}
+use Rattle.clap.specs.Words.{first_of, found_of, rows_of}
 use Rattle.clap.specs.declared.parser.matches.ArgMatches.TheViews.{out-ArgMatches}
 use Rattle.clap.proofs.WalkLemmas.{first_value-rows}
-use Rattle.command_line.proofs.Subcommands.{found_is}
+use Rattle.command_line.specs.CommandLine.{IsWord}
+use Rattle.command_line.proofs.Subcommands.{found_is, no_run, options}
 use Rattle.command_line.proofs.words.named.Goals as goal
 
-pub returns : goal.returns
-returns c =
-    let f = found_of c.in_ok-name.found.now in
-    let is = found_is (out-ArgMatches c.args.matches.now).subcommand c.in_ok-name.name.now (rows_of f) c.in_ok-name.ensures.name c.in_ok-name.ensures.rows in
+-- src/words.rt
+pub returns-in-Err : goal.returns-in-Err
+returns-in-Err c =
+    let f = found_of c.in-Some.found.now in
+    let is = found_is (out-ArgMatches c.args.matches.now).subcommand c.in-Some.name.now (rows_of f) c.in-Some.ensures.name c.in-Some.ensures.rows in
+    rw is (no_run c.in-Some.name.now (rows_of f) c.in-run.is c.in-Err.why c.in-Err.ensures)
+
+pub returns-in-Some-word_of : goal.returns-in-Some-word_of
+returns-in-Some-word_of c =
+    let f = found_of c.in-Some.found.now in
+    let is = found_is (out-ArgMatches c.args.matches.now).subcommand c.in-Some.name.now (rows_of f) c.in-Some.ensures.name c.in-Some.ensures.rows in
     let end = c.get_str.ensures ∙ first_value-rows f (codes "END") in
-    rw (is, sym end) c.word_of.ensures
+    let word : IsWord c.in-Some-word_of.asked c.in-Some.name.now (first_of (codes "END") (rows_of f)) = rw (sym end) c.in-Some-word_of.ensures in
+    rw is (word, options c.in-Some-word_of.asked c.in-Some.name.now (first_of (codes "END") (rows_of f)) (rows_of f) c.in_default-name.not-run word)
+
+pub returns-in-None : goal.returns-in-None
+returns-in-None c =
+    let f = found_of c.in-Some.found.now in
+    let is = found_is (out-ArgMatches c.args.matches.now).subcommand c.in-Some.name.now (rows_of f) c.in-Some.ensures.name c.in-Some.ensures.rows in
+    let end = c.get_str.ensures ∙ first_value-rows f (codes "END") in
+    rw (is, sym end) (λ asked found. c.in-None.ensures asked found.0)

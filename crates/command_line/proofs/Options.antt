@@ -1,0 +1,29 @@
+-- The options of a command, one after the other, and a run whose link is looked at.
+use Rattle.std.proofs.Common.{refl, ◌≡◌, ◌≢◌, ◌∙◌, ap, ap₂, ◌<◌, ◌≤◌, ℕ, List, [], ◌∷◌, ◌++◌, Option, None, Some, Result, Ok, Err, IfSome}
+use Rattle.std.specs.Prelude.{MatchResult}
+use Rattle.std.proofs.lemmas.List.{append_assoc}
+use Rattle.clap.specs.Words.{Shape, Row, Rule}
+use Rattle.command_line.specs.declared.run_words.RunWords.{RunWords}
+use Rattle.command_line.specs.declared.run_words.Unasked.{Unasked}
+use Rattle.command_line.specs.declared.run_words.Unasked.TheVariants.{Link}
+use Rattle.command_line.specs.RunOptions.{AreValues, IsRun, IsUnasked, LacksLink, with_rules}
+
+-- one option more, behind these of a command
+pub one_more : (old new base : Shape) (rules : List Rule) (rule its : Rule) → old ≡ with_rules base rules
+    → new ≡ with_rules old (rule ∷ []) → rule ≡ its → new ≡ with_rules base (rules ++ its ∷ [])
+one_more old new base rules rule its before added same =
+    added ∙ (ap₂ (λ (s : Shape) (r : Rule). with_rules s (r ∷ [])) before same
+    ∙ ap (λ (all : List Rule). record base { rules = all }) (append_assoc base.rules rules (its ∷ [])))
+
+lacks : (run : RunWords) (rows : List Row) (fail : Option ℕ) → run.fail ≡ fail → AreValues run rows
+    → IfSome fail (λ (link : ℕ). run.links ≤ link) → fail ≢ None → LacksLink rows
+lacks run rows None is values past some = absurd (some refl)
+lacks run rows (Some link) is values past some = (run, link, values, is, past)
+
+-- the link that is to fail is one of the links, or it's told that it isn't
+pub looked_at : (run : RunWords) (rows : List Row) (result : Result RunWords Unasked) → AreValues run rows
+    → MatchResult result (λ (same : RunWords). (same ≡ run) × IfSome run.fail (λ (link : ℕ). link < run.links))
+    (λ (why : Unasked). (why ≡ Link) × IfSome run.fail (λ (link : ℕ). run.links ≤ link) × (run.fail ≢ None))
+    → MatchResult result (λ (it : RunWords). IsRun it rows) (λ (why : Unasked). IsUnasked why rows)
+looked_at run rows (Ok same) values is = rw is.0 (record { values = values; link = is.1 })
+looked_at run rows (Err why) values is = rw is.0 (lacks run rows run.fail refl values is.1 is.2)

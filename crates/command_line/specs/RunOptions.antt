@@ -1,0 +1,82 @@
+-- THE OPTIONS of `run`: how the library reads them, and which values they have.
+use Rattle.std.specs.Prelude.{◌≡◌, ◌<◌, ◌≤◌, ◌↔◌, ℕ, Bool, true, false, List, [], ◌∷◌, ◌++◌, codes, Option, None, Some, IfSome, IsTrue}
+use Rattle.clap.specs.Words.{Shape, Row, Rule, Text, first_of, new_rule}
+use Rattle.clap.specs.Simple.{new_shape}
+use Rattle.clap.specs.declared.builder.action.ArgAction.TheVariants.{SetTrue}
+use Rattle.figures.specs.Figures.{number_of}
+use Rattle.command_line.specs.declared.run_words.RunWords.{RunWords}
+use Rattle.command_line.specs.declared.run_words.Unasked.{Unasked}
+use Rattle.command_line.specs.declared.run_words.Unasked.TheVariants.{Value, Link}
+
+-- an option with a value, and one that stands there or doesn't
+abbrev pub option_rule : List ℕ → Rule
+option_rule name = record (new_rule name) { long = Some name; value_names = 1 }
+
+abbrev pub flag_rule : List ℕ → Rule
+flag_rule name = record (new_rule name) { long = Some name; action = Some SetTrue }
+
+-- how much runs
+abbrev pub size_rules : List Rule
+size_rules =
+    option_rule (codes "sets") ∷ option_rule (codes "links") ∷ option_rule (codes "users")
+    ∷ option_rule (codes "messages") ∷ []
+
+-- how it runs
+abbrev pub way_rules : List Rule
+way_rules =
+    option_rule (codes "fail") ∷ option_rule (codes "method") ∷ option_rule (codes "turns")
+    ∷ flag_rule (codes "per-link") ∷ []
+
+abbrev pub with_rules : Shape → List Rule → Shape
+with_rules shape rules = record shape { rules = shape.rules ++ rules }
+
+abbrev pub run_shape : Shape
+run_shape = with_rules (with_rules (new_shape (codes "run")) size_rules) way_rules
+
+-- a decimal number in this range, without leading zeros
+abbrev pub IsWithin : ℕ → ℕ → ℕ → List ℕ → Type 0
+IsWithin least most n word = (number_of word ≡ Some n) × (least ≤ n) × (n ≤ most)
+
+-- so it stands behind an option; where the option isn't there, it's the usual one
+abbrev pub IsNumber : ℕ → ℕ → ℕ → ℕ → Option Text → Type 0
+IsNumber least most usual n None = n ≡ usual
+IsNumber least most usual n (Some word) = IsWithin least most n word
+
+-- no link fails, or the one that is told
+abbrev pub IsFail : Option ℕ → Option Text → Type 0
+IsFail None None = Unit {0}
+IsFail (Some link) None = ⊥
+IsFail None (Some word) = ⊥
+IsFail (Some link) (Some word) = IsWithin 0 15 link word
+
+-- the basic method, unless the other is told
+abbrev pub IsMethod : Bool → Option Text → Type 0
+IsMethod false None = Unit {0}
+IsMethod true None = ⊥
+IsMethod false (Some word) = word ≡ codes "basic"
+IsMethod true (Some word) = word ≡ codes "cyclic"
+
+-- each number in its range, as the options tell it
+pub record AreValues (run : RunWords) (rows : List Row) : Type 0 where
+  pub sets : IsNumber 1 16 1 run.sets (first_of (codes "sets") rows)
+  pub links : IsNumber 1 16 2 run.links (first_of (codes "links") rows)
+  pub users : IsNumber 1 16 4 run.users (first_of (codes "users") rows)
+  pub messages : IsNumber 1 1024 1000 run.messages (first_of (codes "messages") rows)
+  pub fail : IsFail run.fail (first_of (codes "fail") rows)
+  pub method : IsMethod run.cyclic (first_of (codes "method") rows)
+  pub turns : IsNumber 1 1000000 20000 run.turns (first_of (codes "turns") rows)
+  pub per_link : IsTrue run.per_link ↔ (first_of (codes "per-link") rows ≡ Some (codes "true"))
+
+-- THE RUN that is asked for: each number in its range, the failing link below the links
+pub record IsRun (run : RunWords) (rows : List Row) : Type 0 where
+  pub values : AreValues run rows
+  pub link : IfSome run.fail (λ (link : ℕ). link < run.links)
+
+-- each number is in its range, but the link that is to fail isn't below the links
+abbrev pub LacksLink : List Row → Type 0
+LacksLink rows = (run : RunWords) × (link : ℕ) × AreValues run rows × (run.fail ≡ Some link) × (run.links ≤ link)
+
+-- why these options ask for no run
+abbrev pub IsUnasked : Unasked → List Row → Type 0
+IsUnasked (Value said) rows = (run : RunWords) → IsRun run rows → ⊥
+IsUnasked Link rows = LacksLink rows
