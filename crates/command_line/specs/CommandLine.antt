@@ -1,11 +1,12 @@
 -- THE COMMAND LINE: the words behind the program's name, as the library that reads them defines it.
-use Rattle.std.specs.Prelude.{◌≡◌, ℕ, true, List, [], ◌∷◌, codes, drop, map, Option, None, Some, String, string_bytes}
+use Rattle.std.specs.Prelude.{◌≡◌, ◌≢◌, ℕ, true, List, [], ◌∷◌, codes, drop, map, Option, None, Some, String, string_bytes}
 use Rattle.clap.specs.Words.{App, Shape, Row, Rule, Text, first_of, new_rule, with_subcommand, subcommand_of, takes}
 use Rattle.clap.specs.Simple.{new_shape}
 use Rattle.clap.specs.Values.{kind_of}
 use Rattle.clap.specs.declared.error.kind.ErrorKind.{ErrorKind}
+use Rattle.clap.specs.declared.builder.action.ArgAction.TheVariants.{SetTrue}
 use Rattle.command_line.specs.declared.words.Words.{Words}
-use Rattle.command_line.specs.declared.words.Words.TheVariants.{Units, Play, Decode, Capture, Ladder, Audit, HistoryOfA, HistoryOfB, Run}
+use Rattle.command_line.specs.declared.words.Words.TheVariants.{Units, Play, PlayExplained, Decode, Capture, Ladder, Audit, HistoryOfA, HistoryOfB, Run}
 use Rattle.command_line.specs.declared.words.WordsFault.{WordsFault}
 use Rattle.command_line.specs.declared.words.WordsFault.TheVariants.{NoMemory, Words as WrongWords, Link}
 use Rattle.command_line.specs.declared.run_words.Unasked.{Unasked}
@@ -23,10 +24,17 @@ program_itself = record (new_shape (codes "mtpbank")) {
 abbrev pub without_subcommands : App
 without_subcommands = record { top = program_itself; subs = [] }
 
--- six subcommands, which take no words, one that takes an end, and one that takes options
+-- five subcommands, which take no words, one that takes a flag, and one that takes an end, either of which is its END,
+-- and one that takes options
+abbrev pub explain_rule : Rule
+explain_rule = record (new_rule (codes "END")) { long = Some (codes "explain"); action = Some SetTrue }
+
+abbrev pub play_shape : Shape
+play_shape = record (new_shape (codes "play")) { rules = explain_rule ∷ [] }
+
 abbrev pub units_and_play : App
 units_and_play =
-    with_subcommand (with_subcommand without_subcommands (new_shape (codes "units"))) (new_shape (codes "play"))
+    with_subcommand (with_subcommand without_subcommands (new_shape (codes "units"))) play_shape
 
 abbrev pub with_units : App
 with_units =
@@ -52,6 +60,7 @@ program = with_subcommand without_run run_shape
 abbrev pub name_of : Words → List ℕ
 name_of Units = codes "units"
 name_of Play = codes "play"
+name_of PlayExplained = codes "play"
 name_of Decode = codes "decode"
 name_of Capture = codes "capture"
 name_of Ladder = codes "ladder"
@@ -64,10 +73,11 @@ name_of (Run run) = codes "run"
 abbrev pub words_in : {A : Type 0} → List (String A) → List (List ℕ)
 words_in args = map string_bytes (drop 1 args)
 
--- the word that stands behind it, where one does
+-- the word that stands behind it, where one does, or whether the flag does
 abbrev pub IsEnd : Words → Option (List ℕ) → Type 0
 IsEnd Units end = Unit {0}
-IsEnd Play end = Unit {0}
+IsEnd Play end = end ≢ Some (codes "true")
+IsEnd PlayExplained end = end ≡ Some (codes "true")
 IsEnd Decode end = Unit {0}
 IsEnd Capture end = Unit {0}
 IsEnd Ladder end = Unit {0}

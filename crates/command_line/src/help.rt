@@ -25,7 +25,8 @@ and each other asks end E for one thing, mostly on link L:
   noanswer                nobody answered that order
   restore, backtimeout    streams are asked back to it, nobody answered that
 `mtpbank play --help` says how each line is written, what it prints, and each
-fault. Begin with `mtpbank play < examples/first_message.play`.";
+fault. Begin with `mtpbank play < examples/first_message.play`. With --explain a
+line at fault is explained: what is wanted, and a caret under the wrong word.";
 
 pub(crate) const DECODE_PAGE: &str = "\
 Standard input is the octets of a unit a line, in hexadecimal, with or without
@@ -291,4 +292,12 @@ A fault ends the script: one line on standard error, with status 1; what was pri
   fault line N step   it can't be done: no such link, together where the link isn't settled at both ends, or
                       arrive or lose where no such unit is under way
   fault read          standard input failed, or has more than 2^24 octets
-  fault write, fault memory, fault exhausted (a history has 2^48 entries)";
+  fault write, fault memory, fault exhausted (a history has 2^48 entries)
+With --explain more lines come behind that of a line's fault, on standard error: what is wanted there, the script's line,
+and a caret under the word at fault, or right behind the line where a word is missing:
+  fault line 3 text
+  line 3: offer wants an end, a or b, and octets of two hexadecimal digits
+    offer
+         ^
+A long line is cut around the caret, where two dots stand, and an octet that is no printable character of ASCII is shown as
+one; a line of more than 4,096 octets isn't shown.";

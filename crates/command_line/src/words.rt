@@ -6,7 +6,7 @@ ghost use Rattle.clap.specs.declared.error.ErrorKind.TheVariants.{InvalidSubcomm
 ghost use Rattle.clap.specs.Simple.{new_shape, shape_of};
 ghost use Rattle.clap.specs.declared.builder.command.Command.{out-Command};
 ghost use Rattle.clap.specs.Values.{kind_of};
-ghost use Rattle.command_line.specs.CommandLine.{program, without_subcommands, history_shape, words_in};
+ghost use Rattle.command_line.specs.CommandLine.{program, without_subcommands, history_shape, play_shape, words_in};
 ghost use Rattle.command_line.specs.CommandLine.{AreWrong, IsAsked, IsFound, IsKind, IsNotFound, IsWord, Refuses};
 
 use super::help::{
@@ -17,7 +17,7 @@ use super::help::{
 use super::run_options::{run_command, run_of};
 use super::run_words::{RunWords, Unasked};
 use clap::error::ErrorKind;
-use clap::{Arg, ArgMatches, Command};
+use clap::{Arg, ArgAction, ArgMatches, Command};
 use std::alloc::{AllocError, Global};
 use std::convert::AsStr;
 
@@ -28,6 +28,8 @@ pub enum Words {
     Units,
     /// Play a script of two ends of a link set from standard input.
     Play,
+    /// Play it so, and explain the line that ends it with a fault.
+    PlayExplained,
     /// Tell what the units on standard input say.
     Decode,
     /// Write what a script's ends send as a file that network analysers read.
@@ -141,13 +143,23 @@ fn word_of(name: &str, end: Option<&str>) -> Option<Words>
 {
     match name {
         "units" => Some(Words::Units),
-        "play" => Some(Words::Play),
+        "play" => Some(play_of(end)),
         "decode" => Some(Words::Decode),
         "capture" => Some(Words::Capture),
         "ladder" => Some(Words::Ladder),
         "audit" => Some(Words::Audit),
         "history" => history_of(end),
         _ => None,
+    }
+}
+
+/// What is asked for by `play`, with what its flag says.
+fn play_of(explains: Option<&str>) -> Words
+    ensures { IsWord result (codes "play") (option_map (λ s. s.now) explains.entry) }
+{
+    match explains {
+        Some("true") => Words::PlayExplained,
+        _ => Words::Play,
     }
 }
 
@@ -211,7 +223,7 @@ fn command<'a>(alloc: Global) -> Result<Command<'a>, AllocError>
 {
     itself(alloc)?
         .subcommand(units_command(alloc))?
-        .subcommand(play_command(alloc))?
+        .subcommand(play_command(alloc)?)?
         .subcommand(decode_command(alloc))?
         .subcommand(capture_command(alloc))?
         .subcommand(ladder_command(alloc))?
@@ -231,15 +243,20 @@ fn units_command<'a>(alloc: Global) -> Command<'a>
         .after_long_help(UNITS_HELP)
 }
 
-/// The word `play`.
-fn play_command<'a>(alloc: Global) -> Command<'a>
-    ensures shape { shape_of result ≡ new_shape (codes "play") }
-    ensures local { (out-Command result).has_globals ≡ false }
+/// The word `play`, and a flag. What stands behind a subcommand is END to the library, so that one reader serves all.
+fn play_command<'a>(alloc: Global) -> Result<Command<'a>, AllocError>
+    ensures shape { IfOk result (λ command. shape_of command ≡ play_shape) }
+    ensures local { IfOk result (λ command. (out-Command command).has_globals ≡ false) }
 {
+    let explain = Arg::new(alloc, "END")
+        .long("explain")
+        .action(ArgAction::SetTrue)
+        .help("Explains the line that ends the script with a fault");
     Command::new(alloc, "play")
         .about("Plays a script of two ends of a link set, line by line")
         .after_help(PLAY_PAGE)
         .after_long_help(PLAY_HELP)
+        .arg(explain)
 }
 
 /// The word `decode`.

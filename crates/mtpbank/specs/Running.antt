@@ -2,11 +2,11 @@
 use Rattle.std.specs.Prelude.{◌≡◌, ℕ, List, Result, Ok, Err}
 use Rattle.std.specs.Option.{option_map}
 use Rattle.command_line.specs.declared.words.Words.{Words}
-use Rattle.command_line.specs.declared.words.Words.TheVariants.{Units, Play, Decode, Capture, Ladder, Audit, HistoryOfA, HistoryOfB, Run}
+use Rattle.command_line.specs.declared.words.Words.TheVariants.{Units, Play, PlayExplained, Decode, Capture, Ladder, Audit, HistoryOfA, HistoryOfB, Run}
 use Rattle.printing.specs.declared.fault.Fault.{Fault}
 use Rattle.printing.specs.declared.fault.Fault.TheVariants.{Input, Memory, Read, Write}
 use Rattle.printing.specs.Printing.{Printed}
-use Rattle.play_text.specs.PlayText.{IsPlayText}
+use Rattle.play_text.specs.PlayText.{IsPlayText, IsExplainedPlayText}
 use Rattle.units_text.specs.UnitsText.{IsUnitsText}
 use Rattle.decode_text.specs.Decoding.{IsDecodeText}
 use Rattle.script_capture.specs.Capture.{IsCapture}
@@ -15,7 +15,7 @@ use Rattle.script_history.specs.Histories.{IsHistoryText}
 use Rattle.world_steps.specs.declared.step.End.TheVariants.{A, B}
 use Rattle.audit_text.specs.Auditing.{IsAuditText}
 use Rattle.mtpbank.specs.declared.running.TextFault.{TextFault}
-use Rattle.mtpbank.specs.declared.running.TextFault.TheVariants.{Units as UnitsFault, Play as PlayFault, Decode as DecodeFault, Audit as AuditedFault}
+use Rattle.mtpbank.specs.declared.running.TextFault.TheVariants.{Units as UnitsFault, Play as PlayFault, Explained as ExplainedPlayFault, Decode as DecodeFault, Audit as AuditedFault}
 
 -- a text of which only the fault, if any, has another type
 pub record IsText {F : Type 0} (IsIt : Printed F → Type 0) (of : F → TextFault)
@@ -27,6 +27,7 @@ pub record IsText {F : Type 0} (IsIt : Printed F → Type 0) (of : F → TextFau
 abbrev pub IsTextOf : Words → List ℕ → Printed TextFault → Type 0
 IsTextOf Units input text = IsText (IsUnitsText input) UnitsFault text
 IsTextOf Play input text = IsText (IsPlayText input) PlayFault text
+IsTextOf PlayExplained input text = IsText (IsExplainedPlayText input) ExplainedPlayFault text
 IsTextOf Decode input text = IsText (IsDecodeText input) DecodeFault text
 IsTextOf Capture input text = IsText (IsCapture input) PlayFault text
 IsTextOf Ladder input text = IsText (IsLadder input) PlayFault text

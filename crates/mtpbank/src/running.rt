@@ -1,13 +1,13 @@
 //! What the subcommands do, over any source and sink.
 ghost use Rattle.std.specs.Prelude.{◌≡◌, ◌≤◌, ◌^◌, length, IfSome, OnOk};
 ghost use Rattle.printing.specs.Printing.{Prints, FailsByDevices};
-ghost use Rattle.mtpbank.specs.declared.running.TextFault.TheVariants.{Audit as AuditedFault, Decode as DecodeFault, Play as PlayFault, Units as UnitsFault};
+ghost use Rattle.mtpbank.specs.declared.running.TextFault.TheVariants.{Audit as AuditedFault, Decode as DecodeFault, Explained as ExplainedPlayFault, Play as PlayFault, Units as UnitsFault};
 ghost use Rattle.mtpbank.specs.Running.{IsTextOf, ReadsInput, with_fault};
 
 use audit_text::{AuditFault, audit};
 use command_line::Words;
 use decode_text::{UnreadableUnit, decode};
-use play_text::{ScriptFault, play};
+use play_text::{ExplainedFault, ScriptFault, play, play_explained};
 use printing::{Fault, Sink, Source};
 use script_capture::capture;
 use script_history::{End, history};
@@ -17,7 +17,7 @@ use thiserror::Error;
 use units_text::{UnreadableOctet, units};
 
 /// How the input of a subcommand can be at fault.
-#[derive(Clone, Copy, Debug, Drop, PartialEq, Eq, Error)]
+#[derive(Debug, Drop, Error)]
 pub enum TextFault {
     /// In a way of `units`.
     #[error("{0}")]
@@ -25,6 +25,9 @@ pub enum TextFault {
     /// In a way of a script.
     #[error("{0}")]
     Play(ScriptFault),
+    /// In a way of a script, with an explanation.
+    #[error("{0}")]
+    Explained(ExplainedFault),
     /// In a way of `decode`.
     #[error("{0}")]
     Decode(UnreadableUnit),
@@ -50,6 +53,7 @@ pub fn run<S: Source, W: Sink>(
     match words {
         Words::Units => of_units(units(alloc, source, sink)),
         Words::Play => of_play(play(alloc, source, sink)),
+        Words::PlayExplained => of_explained(play_explained(alloc, source, sink)),
         Words::Decode => of_decode(decode(alloc, source, sink)),
         Words::Capture => of_play(capture(alloc, source, sink)),
         Words::Ladder => of_play(ladder(alloc, source, sink)),
@@ -80,6 +84,19 @@ fn of_play(ran: Result<(), Fault<ScriptFault>>) -> Result<(), Fault<TextFault>>
     match ran {
         Ok(()) => Ok(()),
         Err(Fault::Input(fault)) => Err(Fault::Input(TextFault::Play(fault))),
+        Err(Fault::Memory) => Err(Fault::Memory),
+        Err(Fault::Read) => Err(Fault::Read),
+        Err(Fault::Write) => Err(Fault::Write),
+    }
+}
+
+/// What `play --explain` answered, with a fault of any text.
+fn of_explained(ran: Result<(), Fault<ExplainedFault>>) -> Result<(), Fault<TextFault>>
+    ensures { result ≡ with_fault ExplainedPlayFault ran }
+{
+    match ran {
+        Ok(()) => Ok(()),
+        Err(Fault::Input(fault)) => Err(Fault::Input(TextFault::Explained(fault))),
         Err(Fault::Memory) => Err(Fault::Memory),
         Err(Fault::Read) => Err(Fault::Read),
         Err(Fault::Write) => Err(Fault::Write),

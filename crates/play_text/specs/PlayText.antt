@@ -6,6 +6,7 @@ use Rattle.answer_texts.specs.Texts.{shown_text, end_text}
 use Rattle.printing.specs.Printing.{Printed}
 use Rattle.script_text.specs.declared.fault.ScriptFault.{ScriptFault}
 use Rattle.script_text.specs.Scripts.{Told, IsScriptText}
+use Rattle.script_explain.specs.Explaining.{Explained, IsExplainedText}
 
 -- how the ends stand when the script has ended, a first
 unfoldable pub ends_text : World → List ℕ
@@ -22,3 +23,7 @@ play_told = record { opening = λ w. []; step = λ n before step shown w. shown_
 -- THE TEXT (script_text, specs/Scripts.antt)
 abbrev pub IsPlayText : List ℕ → Printed ScriptFault → Type 0
 IsPlayText = IsScriptText play_told
+
+-- the same text, with an explanation of the line that ends it with a fault (script_explain, specs/Explaining.antt)
+abbrev pub IsExplainedPlayText : List ℕ → Printed Explained → Type 0
+IsExplainedPlayText = IsExplainedText play_told

@@ -1,10 +1,11 @@
 //! `mtpbank play`: a script of two ends, line by line.
 ghost use Rattle.std.specs.Prelude.{◌≤◌, ◌^◌, length, IfSome, OnOk};
 ghost use Rattle.printing.specs.Printing.{Prints, FailsByDevices};
-ghost use Rattle.play_text.specs.PlayText.{IsPlayText};
+ghost use Rattle.play_text.specs.PlayText.{IsPlayText, IsExplainedPlayText};
 
 use super::answers::Answers;
 use printing::{Fault, Sink, Source};
+use script_explain::{ExplainedFault, tell_explained};
 use script_text::{ScriptFault, tell_script};
 use std::alloc::Global;
 
@@ -24,4 +25,22 @@ pub fn play<S: Source, W: Sink>(
         (FailsByDevices result (S.has_failed source.new) (W.has_failed sink.new)) }
 {
     tell_script::<Answers, S, W>(alloc, source, sink)
+}
+
+/// Plays the script so, and explains the line that ends it with a fault.
+///
+/// What is written and which fault ends it is as [`play`] does it; the fault brings its explanation along, as
+/// [`tell_explained`] tells.
+pub fn play_explained<S: Source, W: Sink>(
+    alloc: Global,
+    source: &mut S,
+    sink: &mut W,
+) -> Result<(), Fault<ExplainedFault>>
+    ensures text { IfSome (S.left source.old)
+        (λ input. Prints result (IsExplainedPlayText input) (W.written sink.old) (W.written sink.new)) }
+    ensures bounded { IfSome (S.left source.old) (λ input. OnOk result (length input ≤ 2 ^ 24)) }
+    ensures devices { IfSome (S.left source.old)
+        (FailsByDevices result (S.has_failed source.new) (W.has_failed sink.new)) }
+{
+    tell_explained::<Answers, S, W>(alloc, source, sink)
 }

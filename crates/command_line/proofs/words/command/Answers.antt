@@ -8,8 +8,8 @@ pub returns : goal.returns
 returns c =
     let first = c.in_ok-subcommand.ensures.shape c.units_command.ensures.local
     ∙ ap₂ with_subcommand c.in_ok-itself.ensures c.units_command.ensures.shape in
-    let second = c.in_ok-subcommand-2.ensures.shape c.play_command.ensures.local
-    ∙ ap₂ with_subcommand first c.play_command.ensures.shape in
+    let second = c.in_ok-subcommand-2.ensures.shape c.in_ok-play_command.ensures.local
+    ∙ ap₂ with_subcommand first c.in_ok-play_command.ensures.shape in
     let third = c.in_ok-subcommand-3.ensures.shape c.decode_command.ensures.local
     ∙ ap₂ with_subcommand second c.decode_command.ensures.shape in
     let fourth = c.in_ok-subcommand-4.ensures.shape c.capture_command.ensures.local

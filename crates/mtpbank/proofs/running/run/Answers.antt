@@ -1,12 +1,12 @@
 use Rattle.units_text.specs.UnitsText.{IsUnitsText}
-use Rattle.play_text.specs.PlayText.{IsPlayText}
+use Rattle.play_text.specs.PlayText.{IsPlayText, IsExplainedPlayText}
 use Rattle.decode_text.specs.Decoding.{IsDecodeText}
 use Rattle.script_capture.specs.Capture.{IsCapture}
 use Rattle.script_ladder.specs.Ladder.{IsLadder}
 use Rattle.audit_text.specs.Auditing.{IsAuditText}
 use Rattle.script_history.specs.Histories.{IsHistoryText}
 use Rattle.world_steps.specs.declared.step.End.TheVariants.{A, B}
-use Rattle.mtpbank.specs.declared.running.TextFault.TheVariants.{Units as UnitsFault, Play as PlayFault, Decode as DecodeFault, Audit as AuditedFault}
+use Rattle.mtpbank.specs.declared.running.TextFault.TheVariants.{Units as UnitsFault, Play as PlayFault, Explained as ExplainedPlayFault, Decode as DecodeFault, Audit as AuditedFault}
 use Rattle.mtpbank.proofs.RunLemmas.{prints_all}
 use Rattle.mtpbank.proofs.running.run.Goals as goal
 
@@ -15,6 +15,9 @@ returns-in-Units-clause-text g c = rw (c.of_units.ensures, c.in-Units.is) (print
 
 pub returns-in-Play-clause-text : goal.returns-in-Play-clause-text
 returns-in-Play-clause-text g c = rw (c.of_play.ensures, c.in-Play.is) (prints_all IsPlayText PlayFault c.play.result _ _ _ c.play.ensures.text)
+
+pub returns-in-PlayExplained-clause-text : goal.returns-in-PlayExplained-clause-text
+returns-in-PlayExplained-clause-text g c = rw (c.of_explained.ensures, c.in-PlayExplained.is) (prints_all IsExplainedPlayText ExplainedPlayFault c.play_explained.result _ _ _ c.play_explained.ensures.text)
 
 pub returns-in-Decode-clause-text : goal.returns-in-Decode-clause-text
 returns-in-Decode-clause-text g c = rw (c.of_decode.ensures, c.in-Decode.is) (prints_all IsDecodeText DecodeFault c.decode.result _ _ _ c.decode.ensures.text)
