@@ -5,12 +5,15 @@
 //! of each line of `NAME.first` a script is made, and of each line of `NAME.second` one with the opening before it. Beside
 //! `NAME.play` stands `NAME.stdout`, what the run prints, and where it ends with a fault `NAME.fault`, the line that tells
 //! it. `NAME.pcap` is what the capture of `NAME.play` writes, `NAME.history_a` and `NAME.history_b` what the histories of
-//! its ends print, and `NAME.ladder` is its chart. A line is printed for each name.
+//! its ends print, and `NAME.ladder` is its chart. `NAME.run` is the words behind `mtpbank run`, one a line: threads run as they
+//! ask. A line is printed for each name.
 //! Whether a run is as it should be is all that this program tells; it proves nothing.
 #![tactic(auto)]
 
 use audit_text::audit;
+use command_line::{RunWords, Words, words_of};
 use decode_text::decode;
+use paced_banks::{Traffic, pace_gates};
 use play_text::play;
 use printing::{Fault, Reader, Writer};
 use script_capture::capture;
@@ -19,6 +22,8 @@ use script_ladder::ladder;
 use std::alloc::Global;
 use std::fmt::Display;
 use std::process::ExitCode;
+use std::sync::Wait;
+use std::thread::Threads;
 use std::{fs, io};
 use units_text::units;
 
@@ -36,7 +41,12 @@ fn main(rt: HostRuntime) -> io::Result<ExitCode> {
     let list = fs::read_to_string(&rt, "list")?;
     let mut all = true;
     for name in list.lines() {
-        let same = is_as_stored(&rt, name)?;
+        let same = if name.ends_with(".run") {
+            let words = fs::read_to_string(&rt, name)?;
+            threads_of(&rt, rt.alloc(), &words)? == stored_beside(&rt, name)?
+        } else {
+            is_as_stored(&rt, name)?
+        };
         let told = if same { "as stored" } else { "ANOTHER OUTPUT" };
         println!(rt; "{name} {told}")?;
         all = all && same;
@@ -136,6 +146,50 @@ fn run_of(alloc: Global, name: &str, input: &[u8]) -> io::Result<Ran> {
     Ok(Ran {
         printed: sink.into_inner(),
         told,
+    })
+}
+
+/// What the threads give that these words behind `run` ask for.
+fn threads_of<R: Threads + Wait + Copy + Send + Sync + 'static>(
+    rt: &R,
+    alloc: Global,
+    text: &str,
+) -> io::Result<Ran> {
+    let mut words = Vec::new(alloc);
+    words.push("run")?;
+    for word in text.lines() {
+        words.push(word)?;
+    }
+    match words_of(alloc, words.as_slice()) {
+        Ok(Words::Run(run)) => ran_as(rt, alloc, &run),
+        _ => Ok(Ran {
+            printed: Vec::new(alloc),
+            told: "no run\n".to_string(alloc)?,
+        }),
+    }
+}
+
+/// What a run of threads gives.
+fn ran_as<R: Threads + Wait + Copy + Send + Sync + 'static>(
+    rt: &R,
+    alloc: Global,
+    words: &RunWords,
+) -> io::Result<Ran> {
+    let traffic = Traffic {
+        sets: words.sets,
+        links: words.links,
+        users: words.users,
+        messages: words.messages,
+        fail: words.fail,
+        cyclic: words.cyclic,
+        turns: u64::from(words.turns),
+    };
+    let gates = pace_gates(alloc, words.sets, words.links)?;
+    let mut sink = Writer::new(Vec::new(alloc));
+    let ended = run_text::run(rt, alloc, &traffic, gates, words.per_link, &mut sink, || {});
+    Ok(Ran {
+        told: told_of(alloc, ended)?,
+        printed: sink.into_inner(),
     })
 }
 
