@@ -5,8 +5,10 @@
 //! of each line of `NAME.first` a script is made, and of each line of `NAME.second` one with the opening before it. Beside
 //! `NAME.play` stands `NAME.stdout`, what the run prints, and where it ends with a fault `NAME.fault`, the line that tells
 //! it. `NAME.pcap` is what the capture of `NAME.play` writes, `NAME.history_a` and `NAME.history_b` what the histories of
-//! its ends print, and `NAME.ladder` is its chart. `NAME.run` is the words behind `mtpbank run`, one a line: threads run as they
-//! ask. A line is printed for each name.
+//! its ends print, and `NAME.ladder` is its chart. `NAME.explained` is what is told of `NAME.play` where its fault is
+//! explained; a table `NAME.told_first` or `NAME.told_second` has four such lines each, of which the third shows the line
+//! that is played, alone or with the opening before it. `NAME.run` is the words behind `mtpbank
+//! run`, one a line: threads run as they ask. A line is printed for each name.
 //! Whether a run is as it should be is all that this program tells; it proves nothing.
 #![tactic(auto)]
 
@@ -14,7 +16,7 @@ use audit_text::audit;
 use command_line::{RunWords, Words, words_of};
 use decode_text::decode;
 use paced_banks::{Traffic, pace_gates};
-use play_text::play;
+use play_text::{play, play_explained};
 use printing::{Fault, Reader, Writer};
 use script_capture::capture;
 use script_history::{End, history};
@@ -60,14 +62,17 @@ fn main(rt: HostRuntime) -> io::Result<ExitCode> {
 
 /// Whether each run of this name gives what is stored beside it.
 fn is_as_stored(rt: &HostRuntime, name: &str) -> io::Result<bool> {
-    let stored = stored_beside(rt, name)?;
     if name.ends_with(".first") {
-        all_give(rt, name, "", &stored)
+        all_give(rt, name, "", &stored_beside(rt, name)?)
     } else if name.ends_with(".second") {
-        all_give(rt, name, OPENING, &stored)
+        all_give(rt, name, OPENING, &stored_beside(rt, name)?)
+    } else if name.ends_with(".told_first") {
+        all_told(rt, name, "")
+    } else if name.ends_with(".told_second") {
+        all_told(rt, name, OPENING)
     } else {
         let input = fs::read(rt, input_of(rt.alloc(), name)?.as_str())?;
-        Ok(run_of(rt.alloc(), name, &input)? == stored)
+        Ok(run_of(rt.alloc(), name, &input)? == stored_beside(rt, name)?)
     }
 }
 
@@ -82,12 +87,37 @@ fn all_give(rt: &HostRuntime, name: &str, opening: &str, stored: &Ran) -> io::Re
     Ok(all)
 }
 
+/// Whether of each line that this table shows, behind the opening, just what stands around it is told.
+fn all_told(rt: &HostRuntime, name: &str, opening: &str) -> io::Result<bool> {
+    let table = fs::read_to_string(rt, name)?;
+    let mut all = !table.is_empty();
+    let lines: Vec<&str> = table.split_terminator('\n').collect(rt.alloc())?;
+    for told in lines.chunks(4) {
+        all = all && is_told(rt.alloc(), opening, told)?;
+    }
+    Ok(all)
+}
+
+/// Whether just these four lines are told of the script of which the third shows the line, behind two columns.
+fn is_told(alloc: Global, opening: &str, told: &[&str]) -> io::Result<bool> {
+    let [fault, wanted, shown, caret] = told else {
+        return Ok(false);
+    };
+    let Some(line) = shown.strip_prefix("  ") else {
+        return Ok(false);
+    };
+    let script = format!(in alloc; "{opening}{line}\n")?;
+    let told = format!(in alloc; "{fault}\n{wanted}\n{shown}\n{caret}\n")?;
+    Ok(run_of(alloc, ".explained", script.as_bytes())?.told == told)
+}
+
 /// Whether the run of this name is told of the script beside it: its capture, its chart, or the history of one of its ends.
 fn is_of_a_script(name: &str) -> bool {
     name.ends_with(".pcap")
         || name.ends_with(".ladder")
         || name.ends_with(".history_a")
         || name.ends_with(".history_b")
+        || name.ends_with(".explained")
 }
 
 /// The file that the run of this name reads.
@@ -101,6 +131,12 @@ fn input_of(alloc: Global, name: &str) -> io::Result<String> {
 
 /// What is stored beside this name, or under it.
 fn stored_beside(rt: &HostRuntime, name: &str) -> io::Result<Ran> {
+    if name.ends_with(".explained") {
+        return Ok(Ran {
+            printed: fs::read(rt, beside(rt.alloc(), name, "stdout")?.as_str())?,
+            told: fs::read_to_string(rt, name)?,
+        });
+    }
     let printed = if is_of_a_script(name) {
         fs::read(rt, name)?
     } else {
@@ -138,6 +174,8 @@ fn run_of(alloc: Global, name: &str, input: &[u8]) -> io::Result<Ran> {
         told_of(alloc, audit(alloc, &mut source, &mut sink))?
     } else if name.ends_with(".ladder") {
         told_of(alloc, ladder(alloc, &mut source, &mut sink))?
+    } else if name.ends_with(".explained") {
+        told_of(alloc, play_explained(alloc, &mut source, &mut sink))?
     } else if name.ends_with(".pcap") {
         told_of(alloc, capture(alloc, &mut source, &mut sink))?
     } else {

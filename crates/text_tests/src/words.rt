@@ -8,6 +8,7 @@ use std::test::Fail;
 fn told_of(alloc: Global, words: &[&str]) -> Result<String, AllocError> {
     match words_of(alloc, words) {
         Ok(Words::Play) => "play".to_string(alloc),
+        Ok(Words::PlayExplained) => "play --explain".to_string(alloc),
         Ok(Words::Units) => "units".to_string(alloc),
         Ok(Words::Decode) => "decode".to_string(alloc),
         Ok(Words::Capture) => "capture".to_string(alloc),
@@ -62,6 +63,7 @@ fn ask_for(alloc: Global, words: &[&str], subcommand: &str) -> Result<(), Fail> 
 #[test]
 fn words_of_the_command_line(rt: HostRuntime) -> Result<(), Fail> {
     ask_for(rt.alloc(), &["play"], "play")?;
+    ask_for(rt.alloc(), &["play", "--explain"], "play --explain")?;
     ask_for(rt.alloc(), &["units"], "units")?;
     ask_for(rt.alloc(), &["decode"], "decode")?;
     ask_for(rt.alloc(), &["capture"], "capture")?;
@@ -70,8 +72,10 @@ fn words_of_the_command_line(rt: HostRuntime) -> Result<(), Fail> {
     ask_for(rt.alloc(), &["history", "a"], "history a")?;
     ask_for(rt.alloc(), &["history", "b"], "history b")?;
     ask_for(rt.alloc(), &["play", "--"], "play")?;
-    let refused: [&[&str]; 6] = [
+    let refused: [&[&str]; 8] = [
         &[],
+        &["units", "--explain"],
+        &["play", "--explain", "it"],
         &["play", "it"],
         &["--", "units"],
         &["history"],
@@ -180,7 +184,7 @@ fn short_help_is_a_page(rt: HostRuntime) -> Result<(), Fail> {
         (
             &["play", "-h"],
             &["play", "--help"],
-            "\nUsage: mtpbank play\n",
+            "\nUsage: mtpbank play [OPTIONS]\n",
         ),
         (
             &["decode", "-h"],
@@ -252,6 +256,7 @@ fn the_help_shows_each_line(rt: HostRuntime) -> Result<(), Fail> {
         "  refused C ",
         "  fault line N text ",
         "  fault line N step ",
+        "      --explain\n",
     ] {
         assert!(rt; help.contains(line), "{line}");
     }
