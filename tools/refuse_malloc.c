@@ -12,8 +12,8 @@ static long calls;
 static int is_refused(void)
 {
     const char *first = getenv("REFUSE");
-    calls++;
-    if (!first || calls < atol(first) || (calls > atol(first) && !getenv("REFUSE_ON")))
+    long call = __atomic_add_fetch(&calls, 1, __ATOMIC_RELAXED);
+    if (!first || call < atol(first) || (call > atol(first) && !getenv("REFUSE_ON")))
         return 0;
     errno = ENOMEM;
     return 1;
