@@ -14,12 +14,14 @@
 //! This crate decides nothing and waits for nothing; [`History::reserve`] alone takes memory, and what is read may.
 #![tactic(auto)]
 
+mod asked;
 mod history;
 mod numbers;
 mod reader;
 mod record;
 mod told;
 
+pub use asked::Asked;
 pub use history::History;
 pub use reader::Reader;
 pub use told::Told;

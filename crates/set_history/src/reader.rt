@@ -1,6 +1,8 @@
 //! A history from its first entry to its last.
 use super::record::Record;
 use super::told::Told;
+use set_events::Entry;
+use std::alloc::{AllocError, Global};
 use std::marker::Model;
 
 /// A history that is read in order. Contracts see the entries that are left.
@@ -23,7 +25,7 @@ impl<'a> Model for Reader<'a> {
 }
 
 impl<'a> Reader<'a> {
-    ghost use Rattle.std.specs.Prelude.{◌≡◌, ◌<◌, ◌^◌, [], ◌∷◌, length, MatchOption};
+    ghost use Rattle.std.specs.Prelude.{◌≡◌, ◌<◌, ◌^◌, [], ◌∷◌, length, IfOk, MatchOption};
 
     /// The next entry, which is the first of those that are left; `None` where none is.
     pub fn next(&mut self) -> Option<Told<'a>>
@@ -42,5 +44,27 @@ impl<'a> Reader<'a> {
         ensures { result ≡ length self.now }
     {
         self.records.len()
+    }
+
+    /// The same once more, from its next entry on.
+    pub fn again(&self) -> Reader<'a>
+        ensures { result ≡ self.now }
+    {
+        Reader {
+            records: self.records,
+            octets: self.octets,
+        }
+    }
+
+    /// The entries that are left, each by itself; it fails only where memory is wanted.
+    pub fn entries(&self, alloc: Global) -> Result<Vec<Entry>, AllocError>
+        ensures { IfOk result (λ entries. entries.items ≡ self.now) }
+    {
+        let mut entries = Vec::new(alloc);
+        let mut left = self.again();
+        while let Some(told) = left.next() {
+            entries.push(told.entry(alloc)?)?;
+        }
+        Ok(entries)
     }
 }

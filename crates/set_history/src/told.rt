@@ -3,6 +3,7 @@ ghost use Rattle.std.specs.Prelude.{◌≡◌, ◌≤◌, ◌↔◌, length, IfO
 ghost use Rattle.set_history.specs.Kept.{unit_size, event_size, answer_size};
 ghost use Rattle.set_history.specs.Told.{told_unit, told_event, told_answer};
 
+use super::asked::{Asked, asked_of};
 use super::record::{KeptAnswer, KeptEvent, KeptUnit, Record};
 use arrayvec::ArrayVec;
 use l2_units::{LONGEST_BODY, Unit};
@@ -31,6 +32,7 @@ impl<'a> Model for Told<'a> {
 
 impl<'a> Told<'a> {
     ghost use Rattle.std.specs.Prelude.{◌≡◌, ◌↔◌, IfOk, IsTrue};
+    ghost use Rattle.set_history.specs.Told.{event_in};
 
     /// Who asked.
     pub fn who(&self) -> Actor
@@ -39,7 +41,14 @@ impl<'a> Told<'a> {
         self.record.who
     }
 
-    /// What was asked; it fails only where memory is wanted.
+    /// What was asked. It takes no memory.
+    pub fn asked(&self) -> Asked<'a>
+        ensures { event_in result ≡ self.now.event }
+    {
+        asked_of(&self.record.event, self.octets)
+    }
+
+    /// What was asked, by itself; it fails only where memory is wanted.
     pub fn event(&self, alloc: Global) -> Result<Event, AllocError>
         ensures { IfOk result (λ event. event ≡ self.now.event) }
     {
@@ -75,10 +84,19 @@ impl<'a> Told<'a> {
             && is_event(&self.record.event, self.octets, &entry.event)
             && self.answer().same(&entry.answer)
     }
+
+    /// Whether both are the same, octet by octet. It takes no memory.
+    pub fn same(&self, other: &Told<'_>) -> bool
+        ensures { IsTrue result ↔ (self.now ≡ other.now) }
+    {
+        self.who().same(other.who())
+            && self.asked().same(&other.asked())
+            && self.answer().same(&other.answer())
+    }
 }
 
 /// The unit of which this is kept, with the first of these octets as its body.
-fn unit_of(kept: &KeptUnit, octets: &[u8]) -> Unit
+pub(crate) fn unit_of(kept: &KeptUnit, octets: &[u8]) -> Unit
     requires { unit_size kept.now ≤ length octets.now }
     ensures { result ≡ told_unit kept.now octets.now }
 {
