@@ -213,3 +213,20 @@ pub replay_taken : (opening : State) (entries : List Entry) (kept : Kept) (i : �
 replay_taken opening entries kept i entry low is replayed =
     let grown : take i entries ++ entry ∷ [] ≡ take (i + 1) entries = ap (λ (e : Entry). take i entries ++ e ∷ []) is ∙ sym (take_more entries i entry low) in
     subst (λ before. Replayed opening entries kept (i + 1) before (drop (i + 1) entries)) grown replayed
+
+-- the same of entries that are read one after another: so many were replayed, and these are left
+abbrev pub Replaying : State → List Entry → Kept → List Entry → Type 0
+Replaying opening entries kept left = (before : List Entry) × Replayed opening entries kept (length before) before left × (length before + length left ≡ length entries)
+
+module _ (opening : State) (entries : List Entry) (kept : Kept) (left rest : List Entry) (entry : Entry) (replaying : Replaying opening entries kept left) (split : left ≡ entry ∷ rest) where
+  pub reading_now : Replayed opening entries kept (length replaying.0) replaying.0 (entry ∷ rest)
+  reading_now = subst (λ left. Replayed opening entries kept (length replaying.0) replaying.0 left) split replaying.1
+
+  pub reading_on : (new : Kept) (answer : Answer) → AnswersFor (step (after opening replaying.0) entry.event) answer new → IsActor entry.who → answer ≡ entry.answer → Replaying opening entries new rest
+  reading_on new answer answers actor same =
+      let before = replaying.0 in
+      let long : length (before ++ entry ∷ []) ≡ length before + 1 = length-append before (entry ∷ []) in (
+        before ++ entry ∷ [],
+        rw long (replay_more opening entries kept (length before) before rest entry reading_now new answer answers actor same),
+        omega (arith, long, replaying.2, ap length split),
+      )

@@ -6,6 +6,7 @@ ghost use Rattle.set_step.specs.Agreement.{Agrees};
 
 use super::set::LONGEST_HISTORY;
 use set_events::{Actor, Entry, SetConfig};
+use set_history::Reader;
 use set_step::{Core, SetFault};
 use std::alloc::Global;
 
@@ -40,6 +41,50 @@ fn replay(core: &mut Core, config: &SetConfig, entries: &[Entry]) -> Result<bool
         }
         let answer = core.apply(&entry.event)?;
         if !answer.same(&entry.answer) {
+            return Ok(false);
+        }
+    }
+    Ok(true)
+}
+
+/// [`audit`] of a history where it's kept: the entries that are left to read.
+///
+/// Faults: 2 [`SetFault::Exhausted`] exactly where there are more than 2^48, tested first;
+/// 1 [`SetFault::NoMemory`] only where memory was refused.
+pub fn audit_history(
+    alloc: Global,
+    config: &SetConfig,
+    entries: Reader<'_>,
+) -> Result<bool, SetFault>
+    ensures legal { IfOk result (λ is_legal. IsTrue is_legal ↔ IsLegal (new_state config.now) entries.entry) }
+    ensures exhausted { (result ≡ Err SetFault.Exhausted) ↔ (longest_history < length entries.entry) }
+{
+    if entries.len() > LONGEST_HISTORY {
+        return Err(SetFault::Exhausted);
+    }
+    let mut core = Core::new(alloc, config)?;
+    replay_history(alloc, &mut core, config, entries)
+}
+
+/// [`replay`] of the entries that are left to read.
+fn replay_history(
+    alloc: Global,
+    core: &mut Core,
+    config: &SetConfig,
+    entries: Reader<'_>,
+) -> Result<bool, SetFault>
+    requires opened { Agrees core.old (new_state config.now) }
+    requires few { length entries ≤ longest_history }
+    ensures legal { IfOk result (λ is_legal. IsTrue is_legal ↔ IsLegal (new_state config.now) entries.entry) }
+    ensures fault { IfErr result (λ fault. fault ≡ SetFault.NoMemory) }
+{
+    let mut left = entries;
+    while let Some(told) = left.next() {
+        if !is_actor(told.who()) {
+            return Ok(false);
+        }
+        let answer = core.apply(&told.event(alloc)?)?;
+        if !answer.same(&told.answer()) {
             return Ok(false);
         }
     }

@@ -18,6 +18,6 @@ mod auditing;
 mod set;
 mod tally;
 
-pub use auditing::audit;
+pub use auditing::{audit, audit_history};
 pub use set::SetCore;
 pub use set_step::{Core, Numbered, SetFault};

@@ -2,7 +2,8 @@
 ghost use Rattle.std.specs.Prelude.{◌≡◌};
 
 use super::tally::Tally;
-use set_events::{Actor, Answer, Books, Counts, Entry, Event, Fate, SetConfig};
+use set_events::{Actor, Answer, Books, Counts, Event, Fate, SetConfig};
+use set_history::{History, Reader};
 use set_step::{Core, Numbered, SetFault};
 use std::alloc::Global;
 use std::marker::Model;
@@ -25,7 +26,7 @@ pub struct SetCore {
     config: SetConfig,
     core: Core,
     tally: Tally,
-    history: Vec<Entry>,
+    history: History,
 }
 
 impl Model for SetCore {
@@ -61,7 +62,7 @@ impl SetCore {
             config: *config,
             core: Core::new(alloc, config)?,
             tally: Tally::new(),
-            history: Vec::new(alloc),
+            history: History::new(alloc),
         })
     }
 
@@ -83,19 +84,11 @@ impl SetCore {
         if self.history.len() >= LONGEST_HISTORY {
             return Err(SetFault::Exhausted);
         }
-        let kept = event.try_copy()?;
-        self.history.reserve(1)?;
+        self.history.reserve(event)?;
         let answer = self.core.apply(event)?;
         self.tally.count(who, event, &answer);
-        let entry = Entry {
-            who,
-            event: kept,
-            answer: answer.copy(),
-        };
-        match self.history.push(entry) {
-            Ok(()) => Ok(answer),
-            Err(_) => unreachable!(),
-        }
+        self.history.push(who, event, &answer);
+        Ok(answer)
     }
 
     /// The configuration that the set was opened with, from which [`crate::audit`] replays its history.
@@ -178,14 +171,14 @@ impl SetCore {
     }
 
     /// All that was asked and answered, in order.
-    pub fn history(&self) -> &[Entry]
-        ensures { result.now ≡ self.now.history }
+    pub fn history(&self) -> Reader<'_>
+        ensures { result ≡ self.now.history }
     {
-        &self.history
+        self.history.reader()
     }
 
     /// All that was asked and answered, in order, of a set that is given up. It takes no memory.
-    pub fn into_history(self) -> Vec<Entry>
+    pub fn into_history(self) -> History
         ensures { result.items ≡ self.history }
     {
         self.history

@@ -1,6 +1,4 @@
 use Rattle.std.proofs.Common.{arith, ◌≡◌, ◌∙◌, ap, ◌<◌, ◌^◌, ◌∷◌, [], ◌++◌, List, length}
-use Rattle.set_events.specs.declared.answer.Answer.{Answer}
-use Rattle.set_events.specs.declared.event.Event.{Event}
 use Rattle.set_events.specs.declared.history.Entry.{Entry}
 use Rattle.set_model.specs.History.{is_user, is_terminal, after}
 use Rattle.set_model.specs.State.{State, new_state}
@@ -11,30 +9,26 @@ use Rattle.set_core.specs.Keeping.{IsKept}
 use Rattle.set_core.proofs.Calls.{any_few}
 use Rattle.set_core.proofs.Keeping.{messages_few, few_more, kept_more, gained, is_step, bounded}
 use Rattle.set_core.proofs.set.SetCore.apply.Goals as goal
-use Rattle.set_core.proofs.set.SetCore.apply.Goals.{In-Ok}
+use Rattle.set_core.proofs.set.SetCore.apply.Goals.{After-push}
 
-abbrev entry : In-Ok → Entry
+abbrev entry : After-push → Entry
 entry c = record { who = c.args.who; event = c.args.event.now; answer = c.in_ok-answer.answer }
 
-abbrev opening : In-Ok → State
+abbrev opening : After-push → State
 opening c = new_state c.self.inside.config
 
 -- the entry stands last
-grown : (c : In-Ok) → c.push.new.self.items ≡ c.self.inside.history.items ++ entry c ∷ []
-grown c =
-    c.in-Ok.ensures.items
-    ∙ ap (λ (xs : List Entry). xs ++ record { who = c.args.who; event = c.in_ok-kept.kept; answer = c.copy.result } ∷ []) c.reserve.ensures.items
-    ∙ ap (λ (event : Event). c.self.inside.history.items ++ record { who = c.args.who; event = event; answer = c.copy.result } ∷ []) c.in_ok-kept.ensures
-    ∙ ap (λ (answer : Answer). c.self.inside.history.items ++ record { who = c.args.who; event = c.args.event.now; answer = answer } ∷ []) c.copy.ensures
+grown : (c : After-push) → c.push.new.self.items ≡ c.self.inside.history.items ++ entry c ∷ []
+grown c = c.push.ensures ∙ ap (λ (xs : List Entry). xs ++ entry c ∷ []) c.reserve.ensures.same
 
 -- what is kept agreed with the state after the history, and is answered for
-told : (c : In-Ok) → AnswersFor (step (after (opening c) c.self.inside.history.items) (entry c).event) (entry c).answer c.apply.new.self
+told : (c : After-push) → AnswersFor (step (after (opening c) c.self.inside.history.items) (entry c).event) (entry c).answer c.apply.new.self
 told c = c.in_ok-answer.ensures.ok (after (opening c) c.self.inside.history.items) c.self.invariant.agrees
 
-kept : (c : In-Ok) → IsKept (opening c) c.apply.new.self c.count.new.self c.push.new.self.items
+kept : (c : After-push) → IsKept (opening c) c.apply.new.self c.count.new.self c.push.new.self.items
 kept c =
     let k = c.self.invariant in
-    let room : length c.self.inside.history.items < 2 ^ 48 = omega (arith, c.if-len-ge-LONGEST_HISTORY.false, c.len.ensures) in
+    let room : length c.self.inside.history.items < 2 ^ 48 = omega (arith, c.if-len-ge-LONGEST_HISTORY.false, c.len.ensures.value) in
     rw (grown c) (kept_more (opening c) c.self.inside.core c.apply.new.self c.self.inside.history.items (entry c) c.requires k.agrees (told c) c.self.inside.tally c.count.new.self k room
     (record { user_calls = c.count.ensures.user_calls; term_calls = c.count.ensures.term_calls; messages = c.count.ensures.messages; octets = c.count.ensures.octets }))
 
@@ -81,7 +75,7 @@ pub returns-clause-bounded : goal.returns-clause-bounded
 returns-clause-bounded c = bounded (opening c) c.apply.new.self c.count.new.self c.push.new.self.items (kept c)
 
 pub invariant_of-self : goal.invariant_of-self
-invariant_of-self c = rw (c.reserve.ensures.items) c.self.invariant
+invariant_of-self c = rw (c.reserve.ensures.same) c.self.invariant
 
 pub invariant_of-self-in_err-answer : goal.invariant_of-self-in_err-answer
-invariant_of-self-in_err-answer c = rw (c.reserve.ensures.items) (rw (c.in_err-answer.ensures.err) c.self.invariant)
+invariant_of-self-in_err-answer c = rw (c.reserve.ensures.same) (rw (c.in_err-answer.ensures.err) c.self.invariant)

@@ -6,7 +6,7 @@ use Rattle.set_core.proofs.set.SetCore.new.Goals as goal
 pub invariant_of-result : goal.invariant_of-result
 invariant_of-result c =
     let agrees = c.in_ok-new.ensures.ok in
-    rw c.new-3.ensures.items (record {
+    rw c.new-3.ensures (record {
       legal = tt;
       agrees = agrees;
       counted = c.new-2.ensures;
