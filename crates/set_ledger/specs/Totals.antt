@@ -1,5 +1,5 @@
 -- THE TOTALS of a set: what its ledgers' books say, which is what its history adds up to.
-use Rattle.std.specs.Prelude.{◌≡◌, ◌+◌, ◌*◌, ◌^◌, ◌≤◌, ℕ, [], length, Vec, vec_len, vec_capacity}
+use Rattle.std.specs.Prelude.{◌≡◌, ◌+◌, ◌*◌, ◌≤◌, ℕ, [], length, Vec, vec_len, vec_capacity}
 use Rattle.std.specs.declared.sync.ledger.Blank.{Blank}
 use Rattle.set_events.specs.declared.answer.Answer.{Answer}
 use Rattle.set_events.specs.declared.event.Actor.{Actor}

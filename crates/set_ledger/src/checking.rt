@@ -1,10 +1,11 @@
 //! Whether all seats of a set are there, and whether their receipts are its history.
-ghost use Rattle.std.specs.Prelude.{◌≡◌, ◌↔◌, IsTrue, All, filter};
+ghost use Rattle.std.specs.Prelude.{◌≡◌, ◌∷◌, ◌↔◌, IsTrue, All, filter};
 ghost use Rattle.set_events.specs.declared.event.Actor.TheVariants.{User, Terminal};
 ghost use Rattle.set_ledger.specs.Ending.{is_actor as is_this_actor, has_seat as has_this_seat, are_seats, is_by, IsFaithful};
 
 use super::seat::{Seat, TermSeat, UserSeat};
-use set_events::{Actor, Entry};
+use set_events::Actor;
+use set_history::{Reader, Told};
 use std::sync::ledger::Ledger;
 
 /// Whether these are one seat for each of so many users, and no other.
@@ -58,13 +59,13 @@ fn has_seat<C: Ledger, M: Ledger, O: Ledger, A: Ledger, S: Seat<C, M, O, A>>(
 
 /// Whether the receipts of each of these seats are its entries of the history, in order.
 pub(crate) fn are_faithful<C: Ledger, M: Ledger, O: Ledger, A: Ledger, S: Seat<C, M, O, A>>(
-    history: &[Entry],
+    history: &Reader<'_>,
     seats: &[S],
 ) -> bool
     ensures { IsTrue result ↔ All (λ seat. IsFaithful history.now (S.state seat)) seats.now }
 {
     for seat in seats {
-        if !is_faithful(history, seat.actor(), seat.receipts()) {
+        if !is_faithful(history.again(), seat.actor(), seat.receipts()) {
             return false;
         }
     }
@@ -72,22 +73,28 @@ pub(crate) fn are_faithful<C: Ledger, M: Ledger, O: Ledger, A: Ledger, S: Seat<C
 }
 
 /// Whether these receipts are the entries that this actor has in the history, in order.
-fn is_faithful(history: &[Entry], who: Actor, receipts: &[Entry]) -> bool
-    ensures { IsTrue result ↔ (receipts.now ≡ filter (is_by who) history.now) }
+fn is_faithful(history: Reader<'_>, who: Actor, receipts: Reader<'_>) -> bool
+    ensures { IsTrue result ↔ (receipts.entry ≡ filter (is_by who) history.entry) }
 {
-    let mut next = 0usize;
-    for entry in history {
-        if is_actor(who, entry.who) {
-            if next >= receipts.len() {
-                return false;
-            }
-            if !receipts[next].same(entry) {
-                return false;
-            }
-            next += 1;
+    let mut left = history;
+    let mut own = receipts;
+    while let Some(entry) = left.next() {
+        if is_actor(who, entry.who()) && !is_next(&mut own, &entry) {
+            return false;
         }
     }
-    next == receipts.len()
+    own.len() == 0
+}
+
+/// Whether the next receipt is of this entry. It's read then.
+fn is_next(receipts: &mut Reader<'_>, entry: &Told<'_>) -> bool
+    ensures next { IsTrue result → receipts.old ≡ entry.now ∷ receipts.new }
+    ensures other { (rest : _) → receipts.old ≡ entry.now ∷ rest → IsTrue result }
+{
+    match receipts.next() {
+        Some(receipt) => receipt.same(entry),
+        None => false,
+    }
 }
 
 /// Whether both are the same user or the same terminal.

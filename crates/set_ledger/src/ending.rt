@@ -6,7 +6,8 @@ ghost use Rattle.set_ledger.specs.Ending.{is_complete as is_complete_of, AreFait
 use super::checking::{are_faithful, are_terminals, are_users};
 use super::held::{Held, Rest};
 use super::seat::{TermSeat, UserSeat};
-use set_events::{Books, Counts, Entry, SetConfig};
+use set_events::{Books, Counts, SetConfig};
+use set_history::History;
 use std::sync::ledger::{Ledger, Share};
 
 /// A set that came to its end, with its totals.
@@ -15,7 +16,7 @@ pub struct Closed {
     /// What the set was opened with: its history replays from there.
     pub config: SetConfig,
     /// All that was asked and answered, in order.
-    pub history: Vec<Entry>,
+    pub history: History,
     /// What it adds up to.
     pub books: Books,
     /// How many messages stand in each place.
@@ -114,8 +115,8 @@ impl<C: Ledger, M: Ledger, O: Ledger, A: Ledger> Held<C, M, O, A> {
         ensures { IsTrue result ↔ AreFaithful self.now.set.history users.now terminals.now }
     {
         let history = self.core.history();
-        are_faithful::<C, M, O, A, UserSeat<C, M, O, A>>(history, users)
-            && are_faithful::<C, M, O, A, TermSeat<C, M, O, A>>(history, terminals)
+        are_faithful::<C, M, O, A, UserSeat<C, M, O, A>>(&history, users)
+            && are_faithful::<C, M, O, A, TermSeat<C, M, O, A>>(&history, terminals)
     }
 
     /// The end of a set whose seats are all there.

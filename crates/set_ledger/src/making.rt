@@ -6,7 +6,8 @@ ghost use Rattle.set_ledger.specs.Totals.{Gains};
 
 use super::share::{SeatShare, messages_in, octets_of};
 use set_core::{SetCore, SetFault};
-use set_events::{Actor, Answer, Entry, Event};
+use set_events::{Actor, Answer, Event};
+use set_history::History;
 
 /// A step that was made: its answer, and what it brought to the totals.
 #[derive(Drop)]
@@ -19,7 +20,7 @@ pub(crate) struct Made {
 pub(crate) fn make(
     core: &mut SetCore,
     who: Actor,
-    receipts: &mut Vec<Entry>,
+    receipts: &mut History,
     event: &Event,
 ) -> Result<Made, SetFault>
     requires actor { IsActor who }
@@ -31,8 +32,7 @@ pub(crate) fn make(
     ensures exhausted { result ≡ Err SetFault.Exhausted → longest_history ≤ length core.old.history }
     ensures err { OnErr result ((core.new ≡ core.old) × (receipts.new.items ≡ receipts.old.items)) }
 {
-    let kept = event.try_copy()?;
-    receipts.reserve(1)?;
+    receipts.reserve(event)?;
     let before = core.acknowledged();
     let answer = core.apply(who, event)?;
     core.replays();
@@ -42,17 +42,6 @@ pub(crate) fn make(
         octets: octets_of(event, &answer),
         acknowledged: core.acknowledged() - before,
     };
-    receipts.push_reserved(receipt_of(who, kept, &answer));
+    receipts.push(who, event, &answer);
     Ok(Made { answer, gained })
-}
-
-/// The receipt of a step: its entry.
-fn receipt_of(who: Actor, event: Event, answer: &Answer) -> Entry
-    ensures { result ≡ record { who = who; event = event; answer = answer.now } }
-{
-    Entry {
-        who,
-        event,
-        answer: answer.copy(),
-    }
 }

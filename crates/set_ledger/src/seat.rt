@@ -10,7 +10,8 @@ use super::held::Held;
 use super::making::make;
 use super::share::{Part, SeatShare};
 use set_core::SetFault;
-use set_events::{Actor, Answer, Entry, Event};
+use set_events::{Actor, Answer, Event};
+use set_history::{History, Reader};
 use std::marker::{Model, PhantomData};
 use std::sync::ledger::{Ledger, Share};
 
@@ -31,8 +32,8 @@ pub trait Seat<C: Ledger, M: Ledger, O: Ledger, A: Ledger> {
         ensures adds_up { AddsUp (state self.now) };
 
     /// The entries that its steps made, in order.
-    fn receipts(&self) -> &[Entry]
-        ensures { result.now ≡ (state self.now).receipts };
+    fn receipts(&self) -> Reader<'_>
+        ensures { result ≡ (state self.now).receipts };
 
     /// [`step_in`].
     fn step(&mut self, held: &mut Held<C, M, O, A>, event: &Event) -> Result<Answer, SetFault>
@@ -53,7 +54,7 @@ pub struct UserSeat<C: Ledger, M: Ledger, O: Ledger, A: Ledger> {
     pub(crate) calls: Part<C>,
     pub(crate) messages: Part<M>,
     pub(crate) octets: Part<O>,
-    receipts: Vec<Entry>,
+    receipts: History,
     set: PhantomData<A>,
 }
 
@@ -77,7 +78,7 @@ pub struct TermSeat<C: Ledger, M: Ledger, O: Ledger, A: Ledger> {
     link: u8,
     pub(crate) calls: Part<C>,
     pub(crate) acknowledged: Part<A>,
-    receipts: Vec<Entry>,
+    receipts: History,
     set: PhantomData<(M, O)>,
 }
 
@@ -111,8 +112,8 @@ impl<C: Ledger, M: Ledger, O: Ledger, A: Ledger> Seat<C, M, O, A> for UserSeat<C
         }
     }
 
-    fn receipts(&self) -> &[Entry] {
-        &self.receipts
+    fn receipts(&self) -> Reader<'_> {
+        self.receipts.reader()
     }
 
     fn step(&mut self, held: &mut Held<C, M, O, A>, event: &Event) -> Result<Answer, SetFault> {
@@ -145,8 +146,8 @@ impl<C: Ledger, M: Ledger, O: Ledger, A: Ledger> Seat<C, M, O, A> for TermSeat<C
         }
     }
 
-    fn receipts(&self) -> &[Entry] {
-        &self.receipts
+    fn receipts(&self) -> Reader<'_> {
+        self.receipts.reader()
     }
 
     fn step(&mut self, held: &mut Held<C, M, O, A>, event: &Event) -> Result<Answer, SetFault> {
@@ -258,7 +259,7 @@ pub(crate) fn put_users<C: Ledger, M: Ledger, O: Ledger, A: Ledger>(
             calls: Part::cut(calls),
             messages: Part::cut(messages),
             octets: Part::cut(octets),
-            receipts: Vec::new(*seats.allocator()),
+            receipts: History::new(*seats.allocator()),
             set: PhantomData,
         };
         seats.push_reserved(seat);
@@ -286,7 +287,7 @@ pub(crate) fn put_terminals<C: Ledger, M: Ledger, O: Ledger, A: Ledger>(
             link,
             calls: Part::cut(calls),
             acknowledged: Part::cut(acknowledged),
-            receipts: Vec::new(*seats.allocator()),
+            receipts: History::new(*seats.allocator()),
             set: PhantomData,
         };
         seats.push_reserved(seat);
