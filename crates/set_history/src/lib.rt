@@ -9,7 +9,7 @@
 //! ```
 //!
 //! Contracts see the list of entries. Whoever reads it goes from the first to the last by a [`Reader`], and sees each
-//! entry ([`Told`]) where it's kept, without a copy.
+//! entry ([`Told`]) where it's kept, without a copy; what was asked so, too ([`Asked`]).
 //!
 //! This crate decides nothing and waits for nothing; [`History::reserve`] alone takes memory, and what is read may.
 #![tactic(auto)]
