@@ -4,7 +4,9 @@ ghost use Rattle.set_ledger.specs.Totals.{AreParts};
 
 use super::openings::{MESSAGE, blanks_of, config_of, holds};
 use set_events::{Answer, Event, SetConfig};
-use set_shared::{Blanks, CreateFault, EndFault, LinkSet, Opened, Seat, TermSeat, UserSeat};
+use set_shared::{
+    Back, Blanks, Closed, CreateFault, EndFault, LinkSet, Opened, Seat, TermSeat, UserSeat,
+};
 use std::alloc::Global;
 use std::cell::Cell;
 use std::marker::Brand;
@@ -41,6 +43,42 @@ fn rises<C: Ledger, M: Ledger, O: Ledger, A: Ledger, R: Wait>(
     }
 }
 
+/// Whether a set that ended has two messages and five entries.
+fn is_whole(closed: &Closed) -> bool {
+    closed.books.messages == 2 && closed.history.len() == 5
+}
+
+/// The set is closed without one of its seats: it comes back with the others.
+fn comes_back<C: Ledger, M: Ledger, O: Ledger, A: Ledger>(
+    set: LinkSet<C, M, O, A>,
+    users: Vec<UserSeat<C, M, O, A>>,
+    terminals: Vec<TermSeat<C, M, O, A>>,
+) -> Result<Back<C, M, O, A>, Fail> {
+    match set.close(users, terminals) {
+        Err(EndFault::Missing(back)) => Ok(back),
+        _ => Err(Fail::from("not missing")),
+    }
+}
+
+/// With the seat that was kept beside the one that came back, the set ends.
+fn ends_with<C: Ledger, M: Ledger, O: Ledger, A: Ledger>(
+    alloc: Global,
+    back: Back<C, M, O, A>,
+    kept: UserSeat<C, M, O, A>,
+) -> Result<(), Fail> {
+    let Back {
+        held,
+        mut users,
+        terminals,
+    } = back;
+    let came = users.len() == 1 && terminals.len() == 1;
+    let whole = users.push(kept).is_ok();
+    match LinkSet::of(alloc, held).close(users, terminals) {
+        Ok(closed) => holds(came && whole && is_whole(&closed)),
+        Err(_) => Err(Fail::from("not ended")),
+    }
+}
+
 /// A seat is kept back: the set comes back with the others, and ends once all are there.
 fn ends_once_complete<C: Ledger, M: Ledger, O: Ledger, A: Ledger>(
     alloc: Global,
@@ -49,22 +87,26 @@ fn ends_once_complete<C: Ledger, M: Ledger, O: Ledger, A: Ledger>(
     terminals: Vec<TermSeat<C, M, O, A>>,
 ) -> Result<(), Fail> {
     let mut users = users;
-    let Some(kept) = users.pop() else {
-        return Err(Fail::from("no seat"));
-    };
-    let Err(EndFault::Missing(back)) = set.close(users, terminals) else {
-        return Err(Fail::from("not missing"));
-    };
-    holds(back.users.len() == 1 && back.terminals.len() == 1)?;
-    let again = LinkSet::of(alloc, back.held);
-    let mut all = back.users;
-    if all.push(kept).is_err() {
-        return Err(Fail::from("no memory"));
+    match users.pop() {
+        Some(kept) => ends_with(alloc, comes_back(set, users, terminals)?, kept),
+        None => Err(Fail::from("no seat")),
     }
-    match again.close(all, back.terminals) {
-        Ok(closed) => holds(closed.books.messages == 2 && closed.history.len() == 5),
-        Err(_) => Err(Fail::from("not ended")),
+}
+
+/// Each user offers a message and finds it, and each terminal tells that its link is up.
+fn all_call<C: Ledger, M: Ledger, O: Ledger, A: Ledger, R: Wait>(
+    rt: &R,
+    set: &LinkSet<C, M, O, A>,
+    users: &mut [UserSeat<C, M, O, A>],
+    terminals: &mut [TermSeat<C, M, O, A>],
+) -> Result<(), Fail> {
+    for seat in users.iter_mut() {
+        offers(rt, set, seat)?;
     }
+    for seat in terminals.iter_mut() {
+        rises(rt, set, seat)?;
+    }
+    Ok(())
 }
 
 /// Two users and the terminal of one link, in one thread.
@@ -88,12 +130,7 @@ fn two_users<C: Ledger, M: Ledger, O: Ledger, A: Ledger, R: Wait>(
         mut users,
         mut terminals,
     } = opened;
-    for seat in users.iter_mut() {
-        offers(rt, &set, seat)?;
-    }
-    for seat in terminals.iter_mut() {
-        rises(rt, &set, seat)?;
-    }
+    all_call(rt, &set, &mut users, &mut terminals)?;
     ends_once_complete(alloc, set, users, terminals)
 }
 

@@ -4,7 +4,7 @@ ghost use Rattle.set_ledger.specs.Totals.{AreParts};
 
 use super::openings::{MESSAGE, blanks_of, config_of, holds};
 use set_events::{Actor, Answer, Body, Event, SetConfig};
-use set_ledger::{Blanks, Held, Opened, Seat, UserSeat, step_in};
+use set_ledger::{Blanks, Closed, Held, Opened, Seat, UserSeat, step_in};
 use std::alloc::Global;
 use std::marker::Brand;
 use std::sync::ledger::Ledger;
@@ -24,6 +24,26 @@ fn offered<C: Ledger, M: Ledger, O: Ledger, A: Ledger>(
         Ok(answer) => Ok(answer),
         Err(_) => Err(Fail::from("no memory")),
     }
+}
+
+/// The first user offers a message: the receipt and the share tell it.
+fn is_received<C: Ledger, M: Ledger, O: Ledger, A: Ledger>(
+    alloc: Global,
+    held: &mut Held<C, M, O, A>,
+    users: &mut [UserSeat<C, M, O, A>],
+) -> Result<(), Fail> {
+    let Some(seat) = users.first_mut() else {
+        return Err(Fail::from("no seat"));
+    };
+    holds(seat.actor() == Actor::User(0))?;
+    let answer = offered(alloc, held, seat)?;
+    holds(answer.same(&Answer::Accepted { number: 0 }))?;
+    holds(seat.receipts().len() == 1 && seat.share().octets == 5)
+}
+
+/// A set that ends has this message alone.
+fn is_one_message(closed: &Closed) -> bool {
+    closed.books.messages == 1 && closed.books.octets == 5 && closed.history.len() == 1
 }
 
 /// One user offers one message: the receipt, the share and the end tell it.
@@ -46,17 +66,9 @@ fn one_message<C: Ledger, M: Ledger, O: Ledger, A: Ledger>(
         mut users,
         terminals,
     } = opened;
-    let Some(seat) = users.first_mut() else {
-        return Err(Fail::from("no seat"));
-    };
-    holds(seat.actor() == Actor::User(0))?;
-    let answer = offered(alloc, &mut held, seat)?;
-    holds(answer.same(&Answer::Accepted { number: 0 }))?;
-    holds(seat.receipts().len() == 1 && seat.share().octets == 5)?;
+    is_received(alloc, &mut held, &mut users)?;
     match held.end(users, terminals) {
-        Ok(closed) => holds(
-            closed.books.messages == 1 && closed.books.octets == 5 && closed.history.len() == 1,
-        ),
+        Ok(closed) => holds(is_one_message(&closed)),
         Err(_) => Err(Fail::from("not ended")),
     }
 }

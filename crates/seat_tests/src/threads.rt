@@ -11,7 +11,7 @@ use std::sync::Wait;
 use std::sync::ledger::Ledger;
 use std::test::Fail;
 use std::thread;
-use std::thread::Threads;
+use std::thread::{JoinHandle, Threads};
 
 /// A user offers a hundred messages, and finds each one as soon as it was accepted. Where one isn't: `None`.
 fn offers_all<C: Ledger, M: Ledger, O: Ledger, A: Ledger, R: Wait>(
@@ -63,6 +63,23 @@ fn sends_all<C: Ledger, M: Ledger, O: Ledger, A: Ledger, R: Wait>(
     Some(seat)
 }
 
+/// What each of these threads hands out, in order; one that hands out nothing was refused.
+fn all_of<T: Drop, R: Threads + Wait>(
+    rt: &R,
+    alloc: Global,
+    threads: Vec<JoinHandle<Option<T>>>,
+) -> Result<Vec<T>, Fail> {
+    let mut all = Vec::new(alloc);
+    for started in threads {
+        let Some(seat) = started.join(rt) else {
+            return Err(Fail::from("refused"));
+        };
+        all.reserve(1)?;
+        all.push_reserved(seat);
+    }
+    Ok(all)
+}
+
 /// Each seat in a thread of its own; all come back.
 fn run<
     C: Ledger + Send + Sync,
@@ -97,23 +114,8 @@ fn run<
                     Err(_) => return Err(Fail::from("no thread")),
                 }
             }
-            let mut users = Vec::new(alloc);
-            for started in user_threads {
-                let Some(seat) = started.join(rt) else {
-                    return Err(Fail::from("refused"));
-                };
-                users.reserve(1)?;
-                users.push_reserved(seat);
-            }
-            let mut terminals = Vec::new(alloc);
-            for started in term_threads {
-                let Some(seat) = started.join(rt) else {
-                    return Err(Fail::from("refused"));
-                };
-                terminals.reserve(1)?;
-                terminals.push_reserved(seat);
-            }
-            Ok((users, terminals))
+            let users = all_of(rt, alloc, user_threads)?;
+            Ok((users, all_of(rt, alloc, term_threads)?))
         },
     )
 }
