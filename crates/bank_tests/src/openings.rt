@@ -4,7 +4,7 @@ ghost use Rattle.std.specs.Prelude.{◌≡◌};
 use bank_core::{Bank, Job, Plan, SetEnd};
 use line_ring::{Line, LossyLine, RingLine, ring_pair};
 use link_term::{Gate, Timers};
-use set_core::audit;
+use set_core::audit_history;
 use set_events::{Method, SetConfig};
 use std::alloc::Global;
 use std::sync::Wait;
@@ -215,7 +215,7 @@ pub(crate) fn are_legal(alloc: Global, configs: &[SetConfig], ends: &[SetEnd]) -
     holds(configs.len() == ends.len())?;
     for (config, end) in configs.iter().zip(ends) {
         holds(end.closed.config == *config)?;
-        match audit(alloc, config, end.closed.history.as_slice()) {
+        match audit_history(alloc, config, end.closed.history.reader()) {
             Ok(legal) => holds(legal)?,
             Err(_) => return Err(Fail::from("no memory")),
         }

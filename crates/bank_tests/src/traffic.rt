@@ -1,11 +1,13 @@
 //! Traffic between two banks whose terminals are kept beside one another: it really goes through.
 
 use super::openings::{holds, message_of, placed};
+use arrayvec::ArrayVec;
 use bank_core::SetEnd;
-use l2_units::Unit;
+use l2_units::{LONGEST_BODY, Unit};
 use paced_banks::{Traffic, run_traffic};
-use set_core::audit;
-use set_events::{Answer, Entry, Event, Took};
+use set_core::audit_history;
+use set_events::{Answer, Took};
+use set_history::{Asked, Told};
 use std::alloc::Global;
 use std::sync::Wait;
 use std::test::Fail;
@@ -32,17 +34,17 @@ impl Next {
 }
 
 /// The body of a message that was accepted from the line, if this entry is one.
-fn heard(entry: &Entry) -> Option<&[u8]> {
-    match (&entry.event, &entry.answer) {
+fn heard(told: &Told<'_>) -> Option<ArrayVec<u8, LONGEST_BODY>> {
+    match (told.asked(), told.answer()) {
         (
-            Event::Heard {
+            Asked::Heard {
                 unit: Unit::Msu { body, .. },
                 ..
             },
             Answer::Heard { report },
         ) => {
             if report.took == Took::Message {
-                Some(body.as_slice())
+                Some(body)
             } else {
                 None
             }
@@ -52,10 +54,21 @@ fn heard(entry: &Entry) -> Option<&[u8]> {
 }
 
 /// The body of a message that was taken by a user, if this entry is one.
-fn taken(entry: &Entry) -> Option<&[u8]> {
-    match &entry.answer {
-        Answer::Taken { body } => Some(body.as_slice()),
+fn taken(told: &Told<'_>) -> Option<ArrayVec<u8, LONGEST_BODY>> {
+    match told.answer() {
+        Answer::Taken { body } => Some(body),
         _ => None,
+    }
+}
+
+/// Where this entry is a message that was heard or taken, it's its user's next one.
+fn is_next(told: &Told<'_>, next_heard: &mut Next, next_taken: &mut Next) -> bool {
+    if let Some(body) = heard(told) {
+        return next_heard.is(body.as_slice());
+    }
+    match taken(told) {
+        Some(body) => next_taken.is(body.as_slice()),
+        None => true,
     }
 }
 
@@ -63,12 +76,11 @@ fn taken(entry: &Entry) -> Option<&[u8]> {
 fn heard_all(end: &SetEnd, messages: u16) -> Result<(), Fail> {
     let mut next_heard = Next { numbers: [0; 4] };
     let mut next_taken = Next { numbers: [0; 4] };
-    for entry in end.closed.history.iter() {
-        if let Some(body) = heard(entry) {
-            holds(next_heard.is(body))?;
-        }
-        if let Some(body) = taken(entry) {
-            holds(next_taken.is(body))?;
+    let mut left = end.closed.history.reader();
+    for _entry in 0..left.len() {
+        match left.next() {
+            Some(told) => holds(is_next(&told, &mut next_heard, &mut next_taken))?,
+            None => return Err(Fail::from("an entry is missing")),
         }
     }
     holds(next_heard.numbers == [messages; 4])
@@ -76,7 +88,7 @@ fn heard_all(end: &SetEnd, messages: u16) -> Result<(), Fail> {
 
 /// A legal history, with so many messages accepted, each in one place.
 fn is_sound(alloc: Global, end: &SetEnd, messages: u64) -> Result<(), Fail> {
-    match audit(alloc, &end.closed.config, end.closed.history.as_slice()) {
+    match audit_history(alloc, &end.closed.config, end.closed.history.reader()) {
         Ok(legal) => holds(legal)?,
         Err(_) => return Err(Fail::from("no memory")),
     }
@@ -118,12 +130,12 @@ fn goes_through<R: Threads + Wait + Copy + Send + Sync + 'static>(
 
 #[test]
 fn all_messages_go_through(rt: HostRuntime) -> Result<(), Fail> {
-    goes_through(&rt, rt.alloc(), false, None, 60_000)
+    goes_through(&rt, rt.alloc(), false, None, 200_000)
 }
 
 #[test]
 fn all_messages_go_through_by_cycles(rt: HostRuntime) -> Result<(), Fail> {
-    goes_through(&rt, rt.alloc(), true, None, 60_000)
+    goes_through(&rt, rt.alloc(), true, None, 200_000)
 }
 
 #[test]

@@ -113,7 +113,8 @@ fn a_link_that_loses_octets_fails_and_comes_up_again(rt: HostRuntime) -> Result<
     let mut terminal = started(rt.alloc(), FadingLine::new(10_000, 110_000), LONG)?;
     let well = goes_on(&mut terminal);
     let (door, line, _gate) = terminal.into_parts();
-    let entries = door.core.history();
-    holds(well && asked_up(entries) == 1 && ups(entries) == 1 && downs(entries) == 1)?;
+    let core = &door.core;
+    let was_up = asked_up(core.history()) == 1 && ups(core.history()) == 1;
+    holds(well && was_up && downs(core.history()) == 1)?;
     comes_up_again(rt.alloc(), door, line)
 }

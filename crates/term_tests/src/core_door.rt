@@ -3,8 +3,9 @@ ghost use Rattle.std.specs.Prelude.{◌≡◌, ◌<◌, [], IfOk};
 
 use line_ring::Line;
 use link_term::{Command, Door, Faults, OpenGate, SetFault, Terminal, Timers};
-use set_core::{SetCore, audit};
-use set_events::{Actor, Answer, Body, Entry, Event, Method, SetConfig};
+use set_core::{SetCore, audit_history};
+use set_events::{Actor, Answer, Body, Event, Method, SetConfig};
+use set_history::{Asked, Reader, Told};
 use std::alloc::Global;
 use std::test::Fail;
 
@@ -142,34 +143,56 @@ pub(crate) fn offer(alloc: Global, door: &mut CoreDoor, messages: u16) -> Result
     Ok(())
 }
 
-/// How many of these entries are an Up, whatever was answered.
-pub(crate) fn asked_up(entries: &[Entry]) -> usize {
-    entries
-        .iter()
-        .filter(|entry| matches!(entry.event, Event::Up { .. }))
-        .count()
+/// What of a history is counted.
+#[derive(Clone, Copy)]
+enum Counted {
+    AskedUp,
+    Up,
+    Down,
+}
+
+/// Whether this entry is counted.
+fn is_counted(told: &Told<'_>, what: Counted) -> bool {
+    match (told.asked(), what) {
+        (Asked::Up { .. }, Counted::AskedUp) => true,
+        (Asked::Up { .. }, Counted::Up) => matches!(told.answer(), Answer::Done),
+        (Asked::Down { .. }, Counted::Down) => true,
+        _ => false,
+    }
+}
+
+/// How many of these entries are counted.
+fn count_of(history: Reader<'_>, what: Counted) -> usize {
+    let mut left = history;
+    let mut found = 0usize;
+    for _entry in 0..left.len() {
+        if let Some(told) = left.next() {
+            if is_counted(&told, what) {
+                found = found.saturating_add(1);
+            }
+        }
+    }
+    found
+}
+
+/// How many of these entries are an Up.
+pub(crate) fn asked_up(history: Reader<'_>) -> usize {
+    count_of(history, Counted::AskedUp)
 }
 
 /// How many of these entries are an Up that was done.
-pub(crate) fn ups(entries: &[Entry]) -> usize {
-    entries
-        .iter()
-        .filter(|entry| matches!(entry.event, Event::Up { .. })
-            && matches!(entry.answer, Answer::Done))
-        .count()
+pub(crate) fn ups(history: Reader<'_>) -> usize {
+    count_of(history, Counted::Up)
 }
 
 /// How many of these entries are a Down.
-pub(crate) fn downs(entries: &[Entry]) -> usize {
-    entries
-        .iter()
-        .filter(|entry| matches!(entry.event, Event::Down { .. }))
-        .count()
+pub(crate) fn downs(history: Reader<'_>) -> usize {
+    count_of(history, Counted::Down)
 }
 
 /// The history of a door's set is legal, by these settings.
 pub(crate) fn is_legal(alloc: Global, config: &SetConfig, door: &CoreDoor) -> Result<(), Fail> {
-    match audit(alloc, config, door.core.history()) {
+    match audit_history(alloc, config, door.core.history()) {
         Ok(legal) => holds(legal),
         Err(_) => Err(Fail::from("no memory")),
     }
