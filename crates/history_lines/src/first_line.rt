@@ -5,7 +5,8 @@ ghost use Rattle.history_lines.specs.FirstLine.{method_text, settings_text, hist
 
 use figures::push_hex;
 use history_text::write_entries;
-use set_events::{Entry, Method, SetConfig};
+use set_events::{Method, SetConfig};
+use set_history::Reader;
 use std::alloc::{AllocError, Global};
 
 /// The text of the history of a set that was opened with this configuration; it fails only where memory is wanted.
@@ -13,9 +14,9 @@ use std::alloc::{AllocError, Global};
 pub fn write_history(
     alloc: Global,
     config: &SetConfig,
-    entries: &[Entry],
+    entries: Reader<'_>,
 ) -> Result<Vec<u8>, AllocError>
-    ensures { IfOk result (λ text. text.items ≡ history_text (settings_of config.now) entries.now) }
+    ensures { IfOk result (λ text. text.items ≡ history_text (settings_of config.now) entries.entry) }
 {
     let mut text = write_config(alloc, config)?;
     text.push(b'\n')?;

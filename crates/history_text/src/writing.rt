@@ -9,6 +9,7 @@ use answer_texts::write_shown;
 use figures::push_hex;
 use l2_units::{Unit, write};
 use set_events::{Actor, Answer, Entry, Event};
+use set_history::Reader;
 use std::alloc::{AllocError, Global};
 use world_steps::Shown;
 
@@ -24,12 +25,14 @@ pub fn write_entry(alloc: Global, entry: &Entry) -> Result<Vec<u8>, AllocError>
 }
 
 /// The texts of these entries, one after another; it fails only where memory is wanted.
-pub fn write_entries(alloc: Global, entries: &[Entry]) -> Result<Vec<u8>, AllocError>
-    ensures { IfOk result (λ lines. lines.items ≡ entries_text entries.now) }
+pub fn write_entries(alloc: Global, entries: Reader<'_>) -> Result<Vec<u8>, AllocError>
+    ensures { IfOk result (λ lines. lines.items ≡ entries_text entries.entry) }
 {
     let mut lines = Vec::new(alloc);
-    for entry in entries {
-        lines.extend_from_slice(&write_entry(alloc, entry)?)?;
+    let mut left = entries;
+    while let Some(told) = left.next() {
+        let entry = told.entry(alloc)?;
+        lines.extend_from_slice(&write_entry(alloc, &entry)?)?;
     }
     Ok(lines)
 }

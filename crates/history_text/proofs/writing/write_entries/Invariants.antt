@@ -1,6 +1,9 @@
-use Rattle.std.proofs.Common.{◌≡◌, ◌++◌, drop}
+use Rattle.std.proofs.Common.{◌≡◌, ◌++◌, length}
 use Rattle.history_text.specs.Entries.{entries_text}
 use Rattle.history_text.proofs.writing.write_entries.Given as goal
 
-abbrev pub invariant-loop-entry : goal.invariant-loop-entry
-invariant-loop-entry l = entries_text l.entries ≡ l.lines.items ++ entries_text (drop l.entry-index l.entries)
+abbrev pub invariant-loop-told : goal.invariant-loop-told
+invariant-loop-told l = entries_text l.fn.entries ≡ l.lines.items ++ entries_text l.left
+
+abbrev pub decreases-loop-told : goal.decreases-loop-told
+decreases-loop-told l = length l.left
