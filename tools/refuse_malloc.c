@@ -6,6 +6,8 @@
 #include <errno.h>
 #include <stdio.h>
 #include <stdlib.h>
+#include <sys/syscall.h>
+#include <unistd.h>
 
 static long calls;
 
@@ -35,7 +37,7 @@ void *realloc(void *old, size_t size)
     return is_refused() ? NULL : next(old, size);
 }
 
-__attribute__((destructor)) static void tell(void)
+static void tell(void)
 {
     long counted = calls;
     const char *path = getenv("COUNT");
@@ -44,4 +46,12 @@ __attribute__((destructor)) static void tell(void)
         fprintf(file, "%ld\n", counted);
         fclose(file);
     }
+}
+
+/* The program's way out. */
+void _exit(int status)
+{
+    tell();
+    syscall(SYS_exit_group, status);
+    __builtin_unreachable();
 }
