@@ -1,5 +1,5 @@
 -- The ends of a traffic, one by one, and what is written of them.
-use Rattle.std.proofs.Common.{refl, arith, ◌≡◌, ◌∙◌, ap, ap₂, sym, ℕ, zero, suc, Bool, false, List, [], ◌∷◌, ◌++◌, length, map, Option, Result, Ok, Err, All, IsOk}
+use Rattle.std.proofs.Common.{refl, arith, ◌≡◌, ap, ℕ, zero, suc, false, List, [], ◌∷◌, ◌++◌, length, Option, Result, Ok, Err, All, IsOk}
 use Rattle.std.specs.Result.{is_err}
 use Rattle.std.proofs.lemmas.List.{length-append, length-map}
 use Rattle.std.proofs.lemmas.List.Elements.{All-nil, All-cons}

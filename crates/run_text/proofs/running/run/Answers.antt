@@ -1,5 +1,4 @@
-use Rattle.std.proofs.Common.{refl, arith, ◌≡◌, ◌∙◌, ap, ap₂, sym, subst, ℕ, List, All, length}
-use Rattle.bank_core.specs.declared.running.SetEnd.{SetEnd}
+use Rattle.std.proofs.Common.{refl, arith, ◌∙◌, ap, ap₂, sym, subst, All, length}
 use Rattle.paced_banks.specs.Opening.{method_of}
 use Rattle.run_text.specs.RunText.{run_text}
 use Rattle.run_text.specs.Running.{GotThrough, IsAnEnd, IsRunText}

@@ -1,4 +1,4 @@
-use Rattle.std.proofs.Common.{refl, arith, subst, sym, length, take, drop, take-append-drop, ◌≤◌}
+use Rattle.std.proofs.Common.{refl, arith, subst, length, take, drop, take-append-drop, ◌≤◌}
 use Rattle.std.proofs.lemmas.Grind.{common_steps}
 use Rattle.std.proofs.lemmas.List.{take_all}
 use Rattle.std.specs.Io.KnownBytes.{Appends}
