@@ -7,7 +7,7 @@ ghost use Rattle.run_text.specs.Running.{GotThrough, IsAnEnd};
 
 use bank_core::{SetEnd, SetTotals};
 use link_term::{TermFault, TermReport};
-use set_core::audit;
+use set_core::audit_history;
 use set_events::Counts;
 use std::alloc::{AllocError, Global};
 
@@ -32,7 +32,8 @@ fn end_totals(alloc: Global, end: &SetEnd) -> Result<SetTotals, AllocError>
     ensures totals { IfOk result (λ totals. totals ≡ totals_in end.now) }
     ensures small { IfOk result IsInRange }
 {
-    let Ok(legal) = audit(alloc, &end.closed.config, &end.closed.history) else {
+    let closed = &end.closed;
+    let Ok(legal) = audit_history(alloc, &closed.config, closed.history.reader()) else {
         return Err(AllocError);
     };
     Ok(SetTotals {

@@ -1,6 +1,9 @@
-use Rattle.std.proofs.Common.{◌≡◌, drop}
+use Rattle.std.proofs.Common.{◌≡◌, length}
 use Rattle.run_text.specs.RunText.{came_up}
 use Rattle.run_text.proofs.counting.came_up.Given as goal
 
-abbrev pub invariant-loop-entry : goal.invariant-loop-entry
-invariant-loop-entry l = came_up l.link l.history ≡ came_up l.link (drop l.entry-index l.history)
+abbrev pub invariant-loop-told : goal.invariant-loop-told
+invariant-loop-told l = came_up l.link l.fn.history ≡ came_up l.link l.left
+
+abbrev pub decreases-loop-told : goal.decreases-loop-told
+decreases-loop-told l = length l.left
