@@ -1,6 +1,6 @@
 -- The queues of one link change: what that is for the lists and the rooms of a set.
-use Rattle.std.proofs.Common.{refl, arith, ◌≡◌, ◌∙◌, ap, subst, ◌+◌, ◌≤◌, ◌<◌, length, map, ℕ, Bool, true, false, ◌==◌, [], List, Some, cond, get_or, ◌⊎◌, inl, inr}
-use Rattle.std.specs.Prelude.{slice_get, slice_set}
+use Rattle.std.proofs.Common.{refl, arith, ◌≡◌, ◌∙◌, ap, subst, ◌+◌, ◌≤◌, ◌<◌, length, map, ℕ, Bool, true, false, ◌==◌, [], List, Some, cond, get_or, ◌⊎◌, inl, inr, Result, Ok, Err, IfOk, OnOk}
+use Rattle.std.specs.Prelude.{slice_get, slice_set, vec_len}
 use Rattle.std.specs.Option.{option_map}
 use Rattle.std.proofs.lemmas.Bool.{eqb-true, eqb-false, eq-eqb, cases_lt}
 use Rattle.std.proofs.lemmas.List.{length-map}
@@ -48,15 +48,19 @@ nothing : (b : Bool) → ◌≡◌ {A = ℕ} (cond b 0 0) 0
 nothing true = refl
 nothing false = refl
 
+there_too : (xs : List Link) (l : ℕ) (x : Link) → slice_get xs l ≡ Some x → slice_get (map rooms_of xs) l ≡ Some (rooms_of x)
+there_too xs l x e = slice_get-map rooms_of xs l ∙ ap (option_map rooms_of) e
+
+-- one of its rooms, as the set's rooms have it
+pub rooms_there : (room : LinkRooms → ℕ) (xs : List Link) (l : ℕ) (x : Link) → slice_get xs l ≡ Some x → room_in room (slice_get (map rooms_of xs) l) ≡ room (rooms_of x)
+rooms_there room xs l x e = ap (room_in room) (there_too xs l x e)
+
 -- the rooms when a link is set
 abbrev pub rooms : List Link → ℕ → List ℕ → Rooms
 rooms xs parked back = record { links = map rooms_of xs; parked = parked; back = back }
 
 rooms_set : (xs : List Link) (l : ℕ) (x y : Link) (parked : ℕ) (back : List ℕ) → slice_get xs l ≡ Some x → rooms (slice_set xs l y) parked back ≡ record (rooms xs parked back) { links = updated l (λ (z : LinkRooms). rooms_of y) (map rooms_of xs) }
 rooms_set xs l x y parked back e = ap (λ (ls : List LinkRooms). record { links = ls; parked = parked; back = back }) (map_set_updated rooms_of (λ (z : LinkRooms). rooms_of y) xs l x y e refl)
-
-there_too : (xs : List Link) (l : ℕ) (x : Link) → slice_get xs l ≡ Some x → slice_get (map rooms_of xs) l ≡ Some (rooms_of x)
-there_too xs l x e = slice_get-map rooms_of xs l ∙ ap (option_map rooms_of) e
 
 pub keeps : (xs : List Link) (l : ℕ) (x y : Link) (parked : ℕ) (back : List ℕ) → slice_get xs l ≡ Some x → x.window.room ≤ y.window.room → x.held.room ≤ y.held.room → KeepsRoom (rooms xs parked back) (rooms (slice_set xs l y) parked back)
 keeps xs l x y parked back e u h fate = rw (rooms_set xs l x y parked back e) (omega (arith, rooms_changed (rooms xs parked back) l (rooms_of x) (rooms_of y) 0 0 (there_too xs l x e) (omega arith) (omega arith) fate, nothing (same_fate (Waiting l) fate), nothing (same_fate (Held l) fate)))
@@ -80,12 +84,38 @@ found fields value i l x v b n e =
     let below : l < length (map lists_of fields.links.items) = rw (← v) at b in
     link_there fields.links.items l x below (rw n at e)
 
+-- an index of this number is within the list
+pub within : (fields : Inside) (value : BuffersState) (i l : ℕ) → state_of fields ≡ value → l < length value.lists.links → i ≡ l → i < vec_len fields.links
+within fields value i l v b n =
+    let below : l < length (map lists_of fields.links.items) = rw (← v) at b in
+    omega (arith, below, n, length-map fields.links.items lists_of, fields.links.ok.0)
+
+pub within_back : (fields : Inside) (value : BuffersState) (i c : ℕ) → state_of fields ≡ value → c < length value.lists.back → i ≡ c → i < vec_len fields.back
+within_back fields value i c v b n =
+    let below : c < length (map messages_of fields.back.items) = rw (← v) at b in
+    omega (arith, below, n, length-map fields.back.items messages_of, fields.back.ok.0)
+
 -- the lists of the set when a link changes, and when a code's queue does
 abbrev pub links_in : Inside → List LinkLists → Lists
 links_in fields links = record (state_of fields).lists { links = links }
 
 abbrev pub back_in : Inside → List (List ℕ) → Lists
 back_in fields back = record (state_of fields).lists { back = back }
+
+-- a link that is set to what is seen alike changes nothing
+abbrev state_with : Inside → List LinkLists → List LinkRooms → BuffersState
+state_with fields lists rooms = record {
+  lists = record (state_of fields).lists { links = lists };
+  rooms = record (state_of fields).rooms { links = rooms };
+}
+
+pub same_links : (fields : Inside) (l : ℕ) (x y : Link) → slice_get fields.links.items l ≡ Some x → lists_of y ≡ lists_of x → rooms_of y ≡ rooms_of x → state_with fields (map lists_of (slice_set fields.links.items l y)) (map rooms_of (slice_set fields.links.items l y)) ≡ state_of fields
+same_links fields l x y e same rooms = rw (map_set_same lists_of fields.links.items l x y e same, map_set_same rooms_of fields.links.items l x y e rooms) refl
+
+-- a fact of what is returned where it's Ok
+pub on_ok_of : {T E Q : Type 0} {P : T → Type 0} (r : Result T E) → ((x : T) → P x → Q) → IfOk r P → OnOk r Q
+on_ok_of (Ok x) f p = f x p
+on_ok_of (Err e) f p = tt
 
 -- one of its lists, as the set's lists have it
 pub list_there : (list : LinkLists → List ℕ) (xs : List Link) (l : ℕ) (x : Link) → slice_get xs l ≡ Some x → list_in list (slice_get (map lists_of xs) l) ≡ list (lists_of x)
@@ -122,7 +152,7 @@ back_set ns xs c x y e h = map_set_updated messages_of (λ (z : List ℕ). ns) x
 pub back_same : (xs : List QueueState) (c : ℕ) (x y : QueueState) → slice_get xs c ≡ Some x → y.messages ≡ x.messages → map messages_of (slice_set xs c y) ≡ map messages_of xs
 back_same xs c x y e h = map_set_same messages_of xs c x y e h
 
-room_there : (xs : List QueueState) (c : ℕ) (x : QueueState) → slice_get xs c ≡ Some x → get_or (map room_of xs) c 0 ≡ x.room
+pub room_there : (xs : List QueueState) (c : ℕ) (x : QueueState) → slice_get xs c ≡ Some x → get_or (map room_of xs) c 0 ≡ x.room
 room_there xs c x e = get_or_from_slice_get (map room_of xs) c (room_of x) 0 (slice_get-map room_of xs c ∙ ap (option_map room_of) e)
 
 room_read : (xs : List QueueState) (c k : ℕ) (x y : QueueState) → slice_get xs c ≡ Some x → get_or (map room_of (slice_set xs c y)) k 0 ≡ cond (c == k) y.room (get_or (map room_of xs) k 0)

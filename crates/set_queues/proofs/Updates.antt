@@ -1,6 +1,7 @@
 -- Lists of which the element at one place changes.
-use Rattle.std.proofs.Common.{refl, arith, ◌≡◌, ◌∙◌, ap, sym, subst, ◌<◌, ◌==◌, [], ◌∷◌, length, map, ℕ, zero, suc, Bool, true, false, cond, get_or, List, Some}
+use Rattle.std.proofs.Common.{refl, arith, ◌≡◌, ◌∙◌, ap, sym, subst, ◌<◌, ◌+◌, ◌==◌, [], ◌∷◌, ◌++◌, length, map, replicate, ℕ, zero, suc, Bool, true, false, cond, get_or, List, Some}
 use Rattle.std.proofs.lemmas.Bool.{eqb-true, eqb-false}
+use Rattle.std.proofs.lemmas.List.{map-append, replicate_more}
 use Rattle.std.specs.Prelude.{slice_get, slice_set}
 use Rattle.std.specs.Option.{option_map}
 use Rattle.set_queues.specs.Messages.{updated}
@@ -75,3 +76,8 @@ module _ {X : Type 0} where
   pub read_set : (x : X) (xs : List X) (n k : ℕ) (d : X) (b : Bool) → (n == k) ≡ b → n < length xs → get_or (updated n (λ (y : X). x) xs) k d ≡ cond b x (get_or xs k d)
   read_set x xs n k d true t h = subst (λ (i : ℕ). get_or (updated n (λ (y : X). x) xs) i d ≡ x) (eqb-true n k t) (read_same x xs n d h)
   read_set x xs n k d false t h = read_other x xs n k d (eqb-false n k t)
+
+module _ {X Y : Type 0} where
+  -- one more that is seen alike
+  pub map_push_same : (v : X → Y) (xs : List X) (x : X) (n : ℕ) (y : Y) → map v xs ≡ replicate n y → v x ≡ y → map v (xs ++ x ∷ []) ≡ replicate (n + 1) y
+  map_push_same v xs x n y e h = map-append v xs (x ∷ []) ∙ ap (λ (zs : List Y). zs ++ v x ∷ []) e ∙ ap (λ (z : Y). replicate n y ++ z ∷ []) h ∙ replicate_more n y

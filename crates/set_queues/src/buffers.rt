@@ -1,7 +1,7 @@
 //! The queues in which messages stand: of each link those of its window and the held ones, the parked
 //! ones, and of each changeback code those that wait for its acknowledgement.
 ghost use Rattle.std.specs.Prelude.{◌≡◌, ◌+◌, ◌<◌, ◌≤◌, ◌++◌, [], ◌∷◌, IfOk, map, replicate};
-ghost use Rattle.set_queues.specs.Kept.{messages_of};
+ghost use Rattle.set_queues.specs.Kept.{lists_of, messages_of};
 
 use l2_window::{Queue, Window, WindowFault};
 use set_events::Fate;
@@ -9,14 +9,14 @@ use std::alloc::{AllocError, Global};
 use std::marker::Model;
 
 /// The queues of a link.
-#[derive(Debug, Drop)]
+#[derive(Drop)]
 pub(crate) struct Link {
     window: Window,
     held: Queue,
 }
 
 /// The queues of a set. A fate that isn't final names one of them.
-#[derive(Debug, Drop)]
+#[derive(Drop)]
 pub(crate) struct Buffers {
     links: Vec<Link>,
     parked: Queue,
@@ -64,15 +64,12 @@ impl Buffers {
         ensures parked { IfOk result (λ buffers. buffers.lists.parked ≡ []) }
         ensures back { IfOk result (λ buffers. buffers.lists.back ≡ replicate 256 []) }
     {
-        let mut made = Vec::new(alloc);
-        for _ in 0..links {
-            let link = Link::new(alloc)?;
-            made.push(link)?;
-        }
+        let links = no_links(alloc, links)?;
+        let back = no_backs(alloc)?;
         Ok(Buffers {
-            links: made,
+            links,
             parked: Queue::new(alloc)?,
-            back: no_backs(alloc)?,
+            back,
         })
     }
 
@@ -228,8 +225,7 @@ impl Buffers {
         ensures room { OnOk result (KeepsRoom self.old.rooms self.new.rooms) }
         ensures err { OnErr result (self.new ≡ self.old) }
     {
-        let sent = self.links[usize::from(link)].window.send()?;
-        Ok(sent)
+        self.links[usize::from(link)].window.send()
     }
 
     /// The messages of the link up to this FSN leave the unacknowledged ones: how many.
@@ -245,8 +241,7 @@ impl Buffers {
         ensures room { OnOk result (KeepsRoom self.old.rooms self.new.rooms) }
         ensures err { OnErr result (self.new ≡ self.old) }
     {
-        let acked = self.links[usize::from(link)].window.ack(fsn)?;
-        Ok(acked)
+        self.links[usize::from(link)].window.ack(fsn)
     }
 
     /// FSN 127 counts as acknowledged on the link again (Q.703 5.2.1).
@@ -259,6 +254,19 @@ impl Buffers {
     {
         self.links[usize::from(link)].window.reset();
     }
+}
+
+/// So many links, with nothing in their queues.
+fn no_links(alloc: Global, links: u8) -> Result<Vec<Link>, AllocError>
+    ensures { IfOk result (λ made. map lists_of made.items ≡ replicate links
+        (record { last = 127; unacked = []; unsent = []; held = [] })) }
+{
+    let mut made = Vec::new(alloc);
+    for _ in 0..links {
+        let link = Link::new(alloc)?;
+        made.push(link)?;
+    }
+    Ok(made)
 }
 
 /// A queue for each changeback code. It takes no memory while nothing stands in it.

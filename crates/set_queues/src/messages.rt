@@ -9,7 +9,7 @@ use std::marker::Model;
 ///
 /// Contracts see the list, and a room: so many [`Messages::add`]s want no memory. Each call costs the
 /// same however many messages there are.
-#[derive(Debug, Drop)]
+#[derive(Drop)]
 pub(crate) struct Messages {
     messages: Vec<Message>,
     tally: Tally,

@@ -21,7 +21,7 @@ use std::marker::Model;
 /// [`Fate::Unacked`] what was sent on it, [`Fate::Held`] what is held for it, [`Fate::Parked`] what no
 /// link can take, [`Fate::Back`] what waits for the acknowledgement of a changeback, one queue for each
 /// of the codes 0 to 255 (Q.704 6.3).
-#[derive(Debug, Drop)]
+#[derive(Drop)]
 pub struct Queues {
     buffers: Buffers,
     messages: Messages,

@@ -9,7 +9,7 @@ use super::message::{Kind, Message};
 use set_events::Counts;
 
 /// The running counts of a list of messages.
-#[derive(Debug, Drop)]
+#[derive(Drop)]
 pub(crate) struct Tally {
     /// Of the users' messages, how many stand in each place.
     pub(crate) counts: Counts,

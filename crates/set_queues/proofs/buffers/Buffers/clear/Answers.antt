@@ -1,6 +1,6 @@
 use Rattle.std.proofs.Common.{arith, refl, ◌<◌, [], ap, length}
 use Rattle.set_queues.specs.Buffers.{LinkLists}
-use Rattle.set_queues.proofs.Linked.{links_in, found, lists_set, keeps, back_in, back_found, back_set, keeps_back}
+use Rattle.set_queues.proofs.Linked.{links_in, found, within, lists_set, keeps, back_in, back_found, within_back, back_set, keeps_back}
 use Rattle.set_queues.proofs.buffers.Buffers.clear.Goals as goal
 
 pub returns-in-Waiting-clause-lists : goal.returns-in-Waiting-clause-lists
@@ -50,3 +50,26 @@ returns-in-Back-clause-room c =
     let known : c.in-Back.code < length c.args.self.now.lists.back = rw c.in-Back.is at c.requires.known in
     let there = back_found c.self.inside _ _ _ _ c.self.view_is known c.from-in-Back.ensures c.index_mut-in-Back.ensures.value in
     rw (c.from-in-Back.ensures, ← c.self.view_is) (keeps_back _ _ _ _ _ _ there c.clear-in-Back.ensures.room)
+
+pub index_mut-requires : goal.index_mut-requires
+index_mut-requires c =
+    let known : c.in-Waiting.link < length c.args.self.now.lists.links = rw c.in-Waiting.is at c.requires.known in
+    within c.self.inside _ _ _ c.self.view_is known c.from.ensures
+
+pub index_mut-requires-in-Unacked : goal.index_mut-requires-in-Unacked
+index_mut-requires-in-Unacked c =
+    let known : c.in-Unacked.link < length c.args.self.now.lists.links = rw c.in-Unacked.is at c.requires.known in
+    within c.self.inside _ _ _ c.self.view_is known c.from-in-Unacked.ensures
+
+pub index_mut-requires-in-Held : goal.index_mut-requires-in-Held
+index_mut-requires-in-Held c =
+    let known : c.in-Held.link < length c.args.self.now.lists.links = rw c.in-Held.is at c.requires.known in
+    within c.self.inside _ _ _ c.self.view_is known c.from-in-Held.ensures
+
+pub index_mut-requires-in-Back : goal.index_mut-requires-in-Back
+index_mut-requires-in-Back c =
+    let known : c.in-Back.code < length c.args.self.now.lists.back = rw c.in-Back.is at c.requires.known in
+    within_back c.self.inside _ _ _ c.self.view_is known c.from-in-Back.ensures
+
+pub returns-in-Parked-clause-lists : goal.returns-in-Parked-clause-lists
+returns-in-Parked-clause-lists c = rw (c.in-Parked.is, ← c.self.view_is, c.clear-in-Parked.ensures.messages) refl

@@ -1,32 +1,58 @@
-use Rattle.std.proofs.Common.{arith, refl, ◌++◌, [], ◌∷◌, ap, sym, map, drop, ◌∙◌}
+use Rattle.std.proofs.Common.{arith, refl, ℕ, ◌++◌, [], ◌∷◌, ap, sym, map, drop, ◌∙◌}
+use Rattle.std.proofs.lemmas.Result.{IfOk-weaker, on_err_weaker}
 use Rattle.std.specs.Prelude.{slice_get}
+use Rattle.l2_window.specs.Window.{WindowState, Sends}
 use Rattle.set_queues.specs.Buffers.{LinkLists, list_in}
-use Rattle.set_queues.specs.Kept.{lists_of}
+use Rattle.set_queues.specs.Kept.{lists_of, rooms_of}
 use Rattle.set_queues.proofs.Updates.{updated_twice}
-use Rattle.set_queues.proofs.Linked.{links_in, found, lists_set, list_there, last_there, keeps}
+use Rattle.set_queues.proofs.Linked.{links_in, found, within, lists_set, list_there, last_there, keeps, same_links, on_ok_of}
 use Rattle.set_queues.proofs.buffers.Buffers.send.Goals as goal
+
+pub index_mut-requires : goal.index_mut-requires
+index_mut-requires c = within c.self.inside _ _ _ c.self.view_is c.requires c.from.ensures
+
+pub returns-clause-empty : goal.returns-clause-empty
+returns-clause-empty c =
+    let there = found c.self.inside _ _ _ _ c.self.view_is c.requires c.from.ensures c.index_mut.ensures.value in
+    rw (← c.self.view_is, list_there (λ (z : LinkLists). z.unsent) _ _ _ there) c.send.ensures.empty
+
+pub returns-clause-full : goal.returns-clause-full
+returns-clause-full c =
+    let there = found c.self.inside _ _ _ _ c.self.view_is c.requires c.from.ensures c.index_mut.ensures.value in
+    rw (← c.self.view_is, list_there (λ (z : LinkLists). z.unsent) _ _ _ there, list_there (λ (z : LinkLists). z.unacked) _ _ _ there) c.send.ensures.full
+
+pub returns-clause-succeeds : goal.returns-clause-succeeds
+returns-clause-succeeds c =
+    let there = found c.self.inside _ _ _ _ c.self.view_is c.requires c.from.ensures c.index_mut.ensures.value in
+    rw (← c.self.view_is, list_there (λ (z : LinkLists). z.unsent) _ _ _ there, list_there (λ (z : LinkLists). z.unacked) _ _ _ there) c.send.ensures.succeeds
 
 pub returns-clause-sent : goal.returns-clause-sent
 returns-clause-sent c =
     let there = found c.self.inside _ _ _ _ c.self.view_is c.requires c.from.ensures c.index_mut.ensures.value in
-    let sent = c.in_ok-sent.ensures.sent in
-    record {
+    IfOk-weaker c.send.result (λ (is : ℕ × ℕ). Sends is.0 c.index_mut.result.now.window c.send.new.self) _ (λ is sent. record {
       first = rw (← c.self.view_is, list_there (λ (z : LinkLists). z.unsent) _ _ _ there, sent.unsent) refl;
       lists = rw (c.from.ensures, ← c.self.view_is) (ap (links_in c.self.inside) (
           lists_set (λ (z : LinkLists). record z {
-            unacked = list_in (λ (w : LinkLists). w.unacked) (slice_get (map lists_of c.self.inside.links.items) c.args.link) ++ c.in_ok-sent.sent.0 ∷ [];
+            unacked = list_in (λ (w : LinkLists). w.unacked) (slice_get (map lists_of c.self.inside.links.items) c.args.link) ++ is.0 ∷ [];
             unsent = drop 1 (list_in (λ (w : LinkLists). w.unsent) (slice_get (map lists_of c.self.inside.links.items) c.args.link));
           }) _ _ c.index_mut.result.now (record { window = c.send.new.self; held = c.index_mut.result.now.held }) there
           (rw (sent.last, sent.unacked, list_there (λ (z : LinkLists). z.unacked) _ _ _ there, list_there (λ (z : LinkLists). z.unsent) _ _ _ there, sent.unsent) refl)
           ∙ sym (updated_twice _ _ _ _)));
-    }
+    }) c.send.ensures.sent
 
 pub returns-clause-fsn : goal.returns-clause-fsn
 returns-clause-fsn c =
     let there = found c.self.inside _ _ _ _ c.self.view_is c.requires c.from.ensures c.index_mut.ensures.value in
-    rw (← c.self.view_is, last_there _ _ _ there, list_there (λ (z : LinkLists). z.unacked) _ _ _ there) c.in_ok-sent.ensures.fsn
+    rw (← c.self.view_is, last_there _ _ _ there, list_there (λ (z : LinkLists). z.unacked) _ _ _ there) c.send.ensures.fsn
 
 pub returns-clause-room : goal.returns-clause-room
 returns-clause-room c =
     let there = found c.self.inside _ _ _ _ c.self.view_is c.requires c.from.ensures c.index_mut.ensures.value in
-    rw (c.from.ensures, ← c.self.view_is) (keeps _ _ _ _ _ _ there c.in_ok-sent.ensures.sent.room (omega arith))
+    on_ok_of {P = λ (is : ℕ × ℕ). Sends is.0 c.index_mut.result.now.window c.send.new.self} c.send.result (λ is sent. rw (c.from.ensures, ← c.self.view_is) (keeps _ _ _ _ _ _ there sent.room (omega arith))) c.send.ensures.sent
+
+pub returns-clause-err : goal.returns-clause-err
+returns-clause-err c =
+    let there = found c.self.inside _ _ _ _ c.self.view_is c.requires c.from.ensures c.index_mut.ensures.value in
+    on_err_weaker c.send.result (λ same. rw (c.from.ensures) (same_links c.self.inside c.args.link c.index_mut.result.now (record { window = c.send.new.self; held = c.index_mut.result.now.held }) there
+    (ap (λ (w : WindowState). lists_of (record { window = w; held = c.index_mut.result.now.held })) same)
+    (ap (λ (w : WindowState). rooms_of (record { window = w; held = c.index_mut.result.now.held })) same) ∙ c.self.view_is)) c.send.ensures.err
