@@ -1,5 +1,5 @@
 -- A LINK THAT IS LEFT: what stood back for it can turn.
-use Rattle.std.proofs.Common.{refl, ◌≡◌, ◌∙◌, ap, sym, subst, ◌<◌, ℕ, Bool, true, List, length, slice_get, slice_set, Option, None, Some}
+use Rattle.std.proofs.Common.{refl, ◌≡◌, ◌∙◌, ap, sym, subst, ◌<◌, ℕ, Bool, true, false, List, length, slice_get, slice_set, Option, None, Some}
 use Rattle.std.specs.Option.{option_map}
 use Rattle.set_events.specs.declared.answer.Fate.{Fate}
 use Rattle.set_events.specs.declared.answer.Fate.TheVariants.{Waiting, Unacked, Acked, Held, Parked, Back, Discarded}
@@ -7,7 +7,7 @@ use Rattle.set_route.specs.Routing.{Routing}
 use Rattle.set_model.specs.declared.phase.Phase.TheVariants.{Up, Down}
 use Rattle.set_model.specs.Changeover.{Obeyed, out_of_service, at_link}
 use Rattle.set_model.specs.Rows.{Row, is_back_to, stands_back, stream_of, is_users, numbers, back}
-use Rattle.set_model.specs.State.{LinkState, State}
+use Rattle.set_model.specs.State.{LinkState, State, has_phase_up}
 use Rattle.set_model.specs.Sound.{IsAscending, IsBackOf}
 use Rattle.set_model.proofs.Filters.{filter_within}
 use Rattle.set_model.proofs.Lists.{within, present, same_at, length_set}
@@ -20,7 +20,7 @@ use Rattle.set_step.specs.declared.parts.Parts.{Parts}
 use Rattle.set_step.specs.Agreement.{Agrees, Holds}
 use Rattle.set_events.specs.declared.answer.Took.TheVariants.{Ignored}
 use Rattle.set_model.specs.declared.phase.Phase.{Phase}
-use Rattle.set_step.specs.Parts.{AtLink, BecomesAt, Obeys, kept_of}
+use Rattle.set_step.specs.Parts.{AtLink, IsOut, BecomesAt, Obeys, kept_of}
 use Rattle.set_step.specs.Turning.{IsTurningRow, IsTurning, CanTurn}
 use Rattle.set_step.proofs.Admitting.{IsHere, is_in, none_map}
 
@@ -64,6 +64,10 @@ as_long old new n blind known links = let x = present old.links.items n known in
 -- a link that is up
 pub up_at : (links : List Link) (n : ℕ) → IsHere links n Up → AtLink n links (λ link. link.phase ≡ Up)
 up_at links n h link there = ap (λ (l : Link). l.phase) (same_at links n h.link link h.there there) ∙ h.phase_is
+
+-- and one that is out
+pub out_at : (links : List Link) (n : ℕ) (phase : Phase) → IsHere links n phase → has_phase_up phase ≡ false → AtLink n links IsOut
+out_at links n phase h e link there = ap (λ (l : Link). has_phase_up l.phase) (same_at links n h.link link h.there there) ∙ ap has_phase_up h.phase_is ∙ e
 
 -- where there is no such link an order about it is ignored
 no_phase : (o : Option Link) → option_map (λ (l : Link). l.phase) o ≡ None → o ≡ None

@@ -2,8 +2,11 @@
 use Rattle.std.proofs.Common.{◌≡◌, ◌∙◌, ap, sym, ◌<◌, ℕ, List, map, length, slice_get, slice_set, slice_index_or, Some}
 use Rattle.std.proofs.lemmas.Option.{same_Some}
 use Rattle.set_step.specs.declared.link.Link.{Link}
-use Rattle.set_step.specs.Parts.{link_of}
-use Rattle.set_model.specs.State.{LinkState}
+use Rattle.set_step.specs.Parts.{link_of, kept_of}
+use Rattle.std.proofs.lemmas.List.{length-map}
+use Rattle.set_step.specs.declared.parts.Parts.{Parts}
+use Rattle.set_step.specs.Agreement.{Kept, StandsFor}
+use Rattle.set_model.specs.State.{LinkState, State, link_count}
 use Rattle.set_model.proofs.Lists.{here, map_at, map_set, map_set_same}
 
 -- the link that an index of this number read
@@ -22,3 +25,7 @@ module _ (links : List Link) (n i : ℕ) (x : Link) (is : i ≡ n) (known : n < 
   -- and nothing that this tells of it
   pub set_view : {Y : Type 0} (f : Link → Y) (y : Link) → f y ≡ f x → map f (slice_set links i y) ≡ map f links
   set_view f y e = ap (λ k. map f (slice_set links k y)) is ∙ map_set_same f links n x y found e
+
+-- how many there are
+pub length_links : (value : Kept) (s : State) (parts : Parts) (n : ℕ) → n ≡ length parts.links.items → kept_of parts ≡ value → StandsFor value s → n ≡ link_count s
+length_links value s parts n e v st = e ∙ sym (length-map parts.links.items link_of) ∙ ap (λ (k : Kept). length k.links) v ∙ ap length st.links

@@ -1,7 +1,8 @@
 -- What is read of a set: how many messages stand in each place, and the unacknowledged ones of a link.
-use Rattle.std.proofs.Common.{refl, arith, ◌≡◌, ◌∙◌, ap, sym, ℕ, zero, suc, ◌+◌, ◌%◌, ◌<◌, ◌==◌, ◌&&◌, Bool, true, false, List, [], ◌∷◌, length, slice_get, Option, Some, None}
+use Rattle.std.proofs.Common.{refl, arith, ◌≡◌, ◌∙◌, ap, sym, ℕ, zero, suc, ◌+◌, ◌%◌, ◌<◌, ◌≤◌, ◌==◌, ◌&&◌, Bool, true, false, List, [], ◌∷◌, length, slice_get, Option, Some, None}
 use Rattle.std.specs.Prelude.{filter}
 use Rattle.std.specs.Option.{option_map}
+use Rattle.std.proofs.lemmas.Option.{slice_get_past}
 use Rattle.set_events.specs.declared.answer.DiscardCause.{DiscardCause}
 use Rattle.set_events.specs.declared.answer.Fate.{Fate}
 use Rattle.set_events.specs.declared.answer.Fate.TheVariants.{Waiting, Unacked, Acked, Held, Parked, Back, Discarded}
@@ -93,3 +94,7 @@ unacked_none k s n place st at = go (slice_get s.links n) (none_at (unack n s.ro
     go : (o : Option LinkState) → slice_get (unack n s.rows) place ≡ None → unacked_of o n place s.rows ≡ None
     go None none = refl
     go (Some link) none = ap (option_map (λ (row : Row). numbered row.number ((link.acked + place) % 128))) none
+
+-- nor on a link that isn't there
+pub unacked_past : (k : Kept) (s : State) (n place : ℕ) → StandsFor k s → length k.links ≤ n → unacked_in s n place ≡ None
+unacked_past k s n place st past = ap (λ (o : Option LinkState). unacked_of o n place s.rows) (slice_get_past s.links n (omega (arith, past, ap length st.links)))

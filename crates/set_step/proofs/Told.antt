@@ -10,11 +10,12 @@ use Rattle.l2_units.specs.Grammar.{head_of as header_in}
 use Rattle.l2_window.specs.declared.control.HeardPart.{HeardPart}
 use Rattle.l3_orders.specs.declared.order.Order.{Order}
 use Rattle.l3_orders.specs.declared.order.Order.TheVariants.{Coo, Coa, Cbd, Cba, Eco, Eca}
+use Rattle.l3_orders.specs.Grammar.{order_of}
 use Rattle.set_events.specs.declared.answer.Fate.TheVariants.{Waiting, Held}
 use Rattle.set_events.specs.declared.answer.Answer.TheVariants.{Heard as HeardBack}
 use Rattle.set_events.specs.declared.answer.Report.{Report}
 use Rattle.set_events.specs.declared.answer.Took.{Took}
-use Rattle.set_events.specs.declared.answer.Took.TheVariants.{Message}
+use Rattle.set_events.specs.declared.answer.Took.TheVariants.{Message, Nothing, Ignored}
 use Rattle.set_queues.specs.Backs.{back_from, back_count}
 use Rattle.set_queues.specs.Buffers.{room_at}
 use Rattle.set_route.specs.Routing.{home_of}
@@ -23,7 +24,7 @@ use Rattle.set_route.specs.Target.{target_of}
 use Rattle.set_model.specs.declared.phase.Phase.TheVariants.{Up}
 use Rattle.set_model.specs.Control.{part_of}
 use Rattle.set_model.specs.Rows.{service_indicator}
-use Rattle.set_model.specs.Changeover.{fate_on}
+use Rattle.set_model.specs.Changeover.{fate_on, order_obeyed}
 use Rattle.set_model.specs.Sound.{IsSound}
 use Rattle.set_model.specs.State.{LinkState, State, target, window_of}
 use Rattle.set_model.specs.Step.{heard as heard_of, controls, hears, takes, brought, after_control, report_of, is_msu}
@@ -32,7 +33,7 @@ use Rattle.set_model.proofs.Walk.{IsAt}
 use Rattle.set_step.specs.declared.link.Link.{Link}
 use Rattle.set_step.specs.declared.parts.Parts.{Parts}
 use Rattle.set_step.specs.Agreement.{Kept, StandsFor}
-use Rattle.set_step.specs.Hearing.{IsSpacious, IsSpaciousFor, KeepsSpace}
+use Rattle.set_step.specs.Hearing.{IsSpacious, IsSpaciousFor, KeepsSpace, order_brought}
 use Rattle.set_step.specs.Parts.{Gives, Obeys, bodies_in, kept_of, link_of as link_kept}
 use Rattle.set_step.specs.Room.{HasRoom, IsReady, target_beside}
 use Rattle.set_step.proofs.Targets.{same_ups, same_target}
@@ -61,6 +62,25 @@ delivered k s old new body copy f was is same =
 
 pub message_taken : (parts : Parts) (s : State) (accept : Bool) (unit : SignalUnit) (head : Header) (body : ArrayVec ℕ 273 (Unit {0})) → unit ≡ Msu head body → accept ≡ true → (service_indicator body.items == 0) ≡ false → StandsFor (kept_of parts) (record s { inbox = s.inbox ++ body.items ∷ [] }) → Obeys (takes (brought accept unit) s) Message parts
 message_taken parts s accept unit head body e g h stands = rw (e, g) (rw h (record { took_is = refl; stands = stands }))
+
+-- WHAT ELSE A UNIT BRINGS
+pub nothing_brought : (parts : Parts) (s : State) (accept : Bool) (unit : SignalUnit) → ((head : Header) (body : ArrayVec ℕ 273 (Unit {0})) → unit ≡ Msu head body → ⊥) → StandsFor (kept_of parts) s → Obeys (takes (brought accept unit) s) Nothing parts
+nothing_brought parts s accept (Fisu head) other stands = record { took_is = refl; stands = stands }
+nothing_brought parts s accept (Lssu head status) other stands = record { took_is = refl; stands = stands }
+nothing_brought parts s accept (Msu head body) other stands = absurd (other head body refl)
+
+pub not_accepted : (parts : Parts) (s : State) (accept : Bool) (unit : SignalUnit) (head : Header) (body : ArrayVec ℕ 273 (Unit {0})) → unit ≡ Msu head body → accept ≡ false → StandsFor (kept_of parts) s → Obeys (takes (brought accept unit) s) Nothing parts
+not_accepted parts s accept unit head body e g stands = rw (e, g) (record { took_is = refl; stands = stands })
+
+pub order_taken : (parts : Parts) (s : State) (accept : Bool) (unit : SignalUnit) (head : Header) (body : ArrayVec ℕ 273 (Unit {0})) (order : Order) (took : Took) → unit ≡ Msu head body → accept ≡ true → (service_indicator body.items == 0) ≡ true → order_brought unit ≡ Some order → Obeys (order_obeyed order s) took parts → Obeys (takes (brought accept unit) s) took parts
+order_taken parts s accept unit head body order took e g h is obeyed =
+    let same : order_of body.items ≡ Some order = ap order_brought (sym e) ∙ is in
+    rw (e, g) (rw (h, same) obeyed)
+
+pub no_order_taken : (parts : Parts) (s : State) (accept : Bool) (unit : SignalUnit) (head : Header) (body : ArrayVec ℕ 273 (Unit {0})) → unit ≡ Msu head body → accept ≡ true → (service_indicator body.items == 0) ≡ true → order_brought unit ≡ None → StandsFor (kept_of parts) s → Obeys (takes (brought accept unit) s) Ignored parts
+no_order_taken parts s accept unit head body e g h is stands =
+    let same : order_of body.items ≡ None = ap order_brought (sym e) ∙ is in
+    rw (e, g) (rw (h, same) (record { took_is = refl; stands = stands }))
 
 -- THE REPORT
 module _ (n : ℕ) (s : State) (link : LinkState) (unit : SignalUnit) where

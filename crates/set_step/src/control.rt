@@ -12,13 +12,13 @@ use set_events::Method;
 use std::marker::Model;
 
 /// The error control of a link, in the link's present life.
-#[derive(Debug, Drop)]
+#[derive(Drop)]
 pub struct Control {
     by: ByMethod,
 }
 
 /// By its method.
-#[derive(Debug, Drop)]
+#[derive(Drop)]
 pub(crate) enum ByMethod {
     /// Retransmission where it's asked for (Q.703 5).
     Basic(Basic),

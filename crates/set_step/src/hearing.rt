@@ -1,5 +1,5 @@
 //! What a heard unit does to a set.
-ghost use Rattle.std.specs.Prelude.{◌≡◌, ◌<◌, ◌≤◌, ◌^◌, true, false, length, Some, IsOk, IfOk, IfSome, IfErr, OnErr, OnOk};
+ghost use Rattle.std.specs.Prelude.{◌≡◌, ◌<◌, ◌≤◌, ◌^◌, true, false, is_some, length, Some, IsOk, IfOk, IfSome, IfErr, OnErr, OnOk};
 ghost use Rattle.std.specs.VecDeque.{deque_len, deque_capacity};
 ghost use Rattle.std.specs.Vec.{vec_len, vec_capacity};
 ghost use Rattle.l2_units.specs.Grammar.{head_of as header_of};
@@ -74,6 +74,17 @@ fn make_space(parts: &mut Parts, unit: &Unit, order: Option<Order>) -> Result<Ve
         return Ok(Vec::new(*parts.links.allocator()));
     }
     parts.inbox.reserve(1)?;
+    make_order_space(parts, order)
+}
+
+/// Takes the memory that the order may want, if there is one: for its answer, and for the messages that it moves.
+fn make_order_space(parts: &mut Parts, order: Option<Order>) -> Result<Vec<u8>, SetFault>
+    requires whole { IsWhole parts.old }
+    ensures space { IfOk result (λ space. is_some order ≡ true → (vec_len space ≡ 0) × (7 ≤ vec_capacity space)) }
+    ensures room { OnOk result (IsSpacious order parts.new) }
+    ensures same { SameButRoom parts.old parts.new }
+    ensures fault { IfErr result (λ fault. fault ≡ SetFault.NoMemory) }
+{
     let Some(order) = order else {
         return Ok(Vec::new(*parts.links.allocator()));
     };

@@ -9,7 +9,7 @@ use set_events::Method;
 use set_model::Phase;
 
 /// A link in its present life, or its last one.
-#[derive(Debug, Drop)]
+#[derive(Drop)]
 pub struct Link {
     /// Where it stands in its life.
     pub(crate) phase: Phase,

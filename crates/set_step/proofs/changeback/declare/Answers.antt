@@ -1,4 +1,4 @@
-use Rattle.std.proofs.Common.{◌∙◌, ap, sym, length, ◌++◌, [], ◌∷◌}
+use Rattle.std.proofs.Common.{◌∙◌, ap, sym, length, ◌++◌, [], ◌∷◌, arith}
 use Rattle.set_events.specs.declared.answer.Fate.TheVariants.{Waiting}
 use Rattle.set_queues.specs.Buffers.{Lists, queue_at}
 use Rattle.set_queues.proofs.Passing.{links_stay}
@@ -12,3 +12,39 @@ returns-clause-whole c = record {
   routed = asked_links c.ask.result c.args.home c.args.alternative c.stand_last.new.parts.routes c.ask.new.self c.ask.ensures.change ∙ ap (λ (r : Routing). r.links) c.stand_last.ensures.routes ∙ c.requires.whole.routed ∙ sym (ap (λ ls. length ls.items) c.stand_last.ensures.links);
   few = rw (c.stand_last.ensures.links) c.requires.whole.few;
 }
+
+pub changeback_code-requires-clause-home : goal.changeback_code-requires-clause-home
+changeback_code-requires-clause-home c = omega (arith, c.requires.home, c.requires.whole.few)
+
+pub changeback_code-requires-clause-alternative : goal.changeback_code-requires-clause-alternative
+changeback_code-requires-clause-alternative c = omega (arith, c.requires.alternative, c.requires.whole.few)
+
+pub body_of-body-requires-clause-space : goal.body_of-body-requires-clause-space
+body_of-body-requires-clause-space c = c.requires.space
+
+pub stand_last-requires-clause-fits : goal.stand_last-requires-clause-fits
+stand_last-requires-clause-fits c = c.body_of-body.ensures.fits
+
+pub stand_last-requires-clause-known : goal.stand_last-requires-clause-known
+stand_last-requires-clause-known c = omega (arith, c.requires.alternative, c.requires.whole.as_many)
+
+pub stand_last-requires-clause-queued : goal.stand_last-requires-clause-queued
+stand_last-requires-clause-queued c = tt
+
+pub stand_last-requires-clause-room : goal.stand_last-requires-clause-room
+stand_last-requires-clause-room c = c.requires.room
+
+pub returns-clause-rooms : goal.returns-clause-rooms
+returns-clause-rooms c = c.stand_last.ensures.rooms
+
+pub returns-clause-message : goal.returns-clause-message
+returns-clause-message c = c.stand_last.ensures.message
+
+pub returns-clause-body : goal.returns-clause-body
+returns-clause-body c = c.stand_last.ensures.body
+
+pub returns-clause-bodies : goal.returns-clause-bodies
+returns-clause-bodies c = c.stand_last.ensures.bodies
+
+pub returns-clause-links : goal.returns-clause-links
+returns-clause-links c = c.stand_last.ensures.links

@@ -1,3 +1,4 @@
+use Rattle.set_step.proofs.Rooms.{whole_of}
 use Rattle.std.proofs.Common.{arith, ◌∙◌, sym}
 use Rattle.set_step.proofs.Declaring.{first_none, none_next, found_here, none_of_all, count_is}
 use Rattle.set_step.proofs.changeback.has_alternative.Goals as goal
@@ -22,3 +23,6 @@ returns c = λ s a.
     let many = c.len-alternative-end.ensures in
     let count = count_is c.args.parts.now s a.stands in
     sym (none_of_all c.args.number c.loop-alternative.alternative s (omega (arith, past, most, many, count)) (c.loop-alternative.invariant s a.stands))
+
+pub can_declare-requires-clause-home : goal.can_declare-requires-clause-home
+can_declare-requires-clause-home c = let few = (whole_of c.args.parts.now c.requires.holds).few in omega (arith, c.requires.known, few)

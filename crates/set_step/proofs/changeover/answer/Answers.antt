@@ -1,8 +1,8 @@
 use Rattle.std.proofs.Common.{refl, ◌∙◌, ap, Some}
 use Rattle.set_model.specs.declared.phase.Phase.TheVariants.{Up, Down, Settled}
 use Rattle.set_step.proofs.Admitting.{phase_in, is_in, answered_at, unanswered}
-use Rattle.set_step.proofs.Leaving.{none_there}
-use Rattle.set_step.proofs.Rooms.{here_room}
+use Rattle.set_step.proofs.Leaving.{none_there, out_at}
+use Rattle.set_step.proofs.Rooms.{here_room, whole_of}
 use Rattle.set_step.proofs.changeover.answer.Goals as goal
 
 pub settle-requires-clause-room : goal.settle-requires-clause-room
@@ -34,3 +34,18 @@ returns-in-Some-Settled c = record {
 
 pub returns-in-None : goal.returns-in-None
 returns-in-None c = record { stands = λ s a. none_there c.args.parts.now c.deref.result.now c.args.number c.phase_of.result s _ c.deref.ensures.value c.phase_of.ensures c.in-None.is a }
+
+pub settle-requires-clause-whole : goal.settle-requires-clause-whole
+settle-requires-clause-whole c = whole_of c.args.parts.now c.requires.holds
+
+pub settle-requires-clause-counted : goal.settle-requires-clause-counted
+settle-requires-clause-counted c = c.requires.counted
+
+pub settle-requires-clause-reached : goal.settle-requires-clause-reached
+settle-requires-clause-reached c = c.requires.reached
+
+pub settle-requires-clause-known : goal.settle-requires-clause-known
+settle-requires-clause-known c = (phase_in c.args.parts.now.links.items c.deref.result.now c.args.number Down c.phase_of.result c.deref.ensures.value c.phase_of.ensures (c.in-Some-Down.is ∙ ap Some c.in-Some-Down.field-0-is)).known
+
+pub settle-requires-clause-out : goal.settle-requires-clause-out
+settle-requires-clause-out c = out_at c.args.parts.now.links.items c.args.number Down (phase_in c.args.parts.now.links.items c.deref.result.now c.args.number Down c.phase_of.result c.deref.ensures.value c.phase_of.ensures (c.in-Some-Down.is ∙ ap Some c.in-Some-Down.field-0-is)) refl

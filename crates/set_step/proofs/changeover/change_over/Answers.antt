@@ -1,8 +1,8 @@
 use Rattle.std.proofs.Common.{refl, ◌∙◌, ap, Some}
 use Rattle.set_model.specs.declared.phase.Phase.TheVariants.{Up, Down, Settled}
 use Rattle.set_step.proofs.Admitting.{phase_in, is_in, ordered_at}
-use Rattle.set_step.proofs.Rooms.{here_room}
-use Rattle.set_step.proofs.Leaving.{up_at, none_there}
+use Rattle.set_step.proofs.Rooms.{here_room, whole_of}
+use Rattle.set_step.proofs.Leaving.{up_at, none_there, out_at}
 use Rattle.set_step.proofs.changeover.change_over.Goals as goal
 
 pub returns-in-None : goal.returns-in-None
@@ -54,3 +54,45 @@ returns-in-Some-Settled c = record {
       let i = is_in c.args.parts.now s c.args.number Settled a h in
       ordered_at s c.args.number c.args.reached Settled c.reply_again.new.parts i refl (c.reply_again.ensures.stands s i.link i.there a.stands);
 }
+
+pub answer_and_settle-requires-clause-holds : goal.answer_and_settle-requires-clause-holds
+answer_and_settle-requires-clause-holds c = c.requires.holds
+
+pub answer_and_settle-requires-clause-counted : goal.answer_and_settle-requires-clause-counted
+answer_and_settle-requires-clause-counted c = c.requires.counted
+
+pub answer_and_settle-requires-clause-reached : goal.answer_and_settle-requires-clause-reached
+answer_and_settle-requires-clause-reached c = c.requires.reached
+
+pub answer_and_settle-requires-clause-number : goal.answer_and_settle-requires-clause-number
+answer_and_settle-requires-clause-number c = c.requires.number
+
+pub answer_and_settle-requires-clause-space : goal.answer_and_settle-requires-clause-space
+answer_and_settle-requires-clause-space c = c.requires.space
+
+pub settle-requires-clause-whole : goal.settle-requires-clause-whole
+settle-requires-clause-whole c = whole_of c.args.parts.now c.requires.holds
+
+pub settle-requires-clause-counted : goal.settle-requires-clause-counted
+settle-requires-clause-counted c = c.requires.counted
+
+pub settle-requires-clause-reached : goal.settle-requires-clause-reached
+settle-requires-clause-reached c = c.requires.reached
+
+pub settle-requires-clause-out : goal.settle-requires-clause-out
+settle-requires-clause-out c = out_at c.args.parts.now.links.items c.args.number Down (phase_in c.args.parts.now.links.items c.deref.result.now c.args.number Down c.phase_of.result c.deref.ensures.value c.phase_of.ensures (c.in-Some-Down.is ∙ ap Some c.in-Some-Down.field-0-is)) refl
+
+pub reply_again-requires-clause-whole : goal.reply_again-requires-clause-whole
+reply_again-requires-clause-whole c = whole_of c.args.parts.now c.requires.holds
+
+pub reply_again-requires-clause-counted : goal.reply_again-requires-clause-counted
+reply_again-requires-clause-counted c = c.requires.counted
+
+pub reply_again-requires-clause-number : goal.reply_again-requires-clause-number
+reply_again-requires-clause-number c = c.requires.number
+
+pub reply_again-requires-clause-out : goal.reply_again-requires-clause-out
+reply_again-requires-clause-out c = out_at c.args.parts.now.links.items c.args.number Settled (phase_in c.args.parts.now.links.items c.deref.result.now c.args.number Settled c.phase_of.result c.deref.ensures.value c.phase_of.ensures (c.in-Some-Settled.is ∙ ap Some c.in-Some-Settled.field-0-is)) refl
+
+pub reply_again-requires-clause-space : goal.reply_again-requires-clause-space
+reply_again-requires-clause-space c = c.requires.space

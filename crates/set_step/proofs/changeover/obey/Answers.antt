@@ -1,3 +1,4 @@
+use Rattle.set_step.proofs.Rooms.{whole_of}
 use Rattle.std.proofs.Common.{refl, subst}
 use Rattle.l3_orders.specs.Grammar.{IsOrder}
 use Rattle.l3_orders.specs.declared.order.Order.{Order}
@@ -98,3 +99,6 @@ returns-in-Cbd c = record { stands = obeys_it c.args.parts.now c.queue.new.parts
 
 pub returns-in-Cba : goal.returns-in-Cba
 returns-in-Cba c = record { stands = obeys_it c.args.parts.now c.acknowledge_back.new.parts c.acknowledge_back.result c.args.order _ c.in-Cba.is c.acknowledge_back.ensures.stands }
+
+pub queue-requires-clause-whole : goal.queue-requires-clause-whole
+queue-requires-clause-whole c = whole_of c.args.parts.now c.requires.holds

@@ -150,3 +150,9 @@ returns-else-part-gt0-clause-keeps c = record {
   inbox = refl;
   backs = λ code. refl;
 }
+
+pub index_mut-link-requires : goal.index_mut-link-requires
+index_mut-link-requires c = omega (arith, c.from.ensures, c.requires.known, c.args.parts.now.links.ok.0)
+
+pub acknowledge-requires-clause-fsn : goal.acknowledge-requires-clause-fsn
+acknowledge-requires-clause-fsn c = c.header_in-head.result.bsn_in_range

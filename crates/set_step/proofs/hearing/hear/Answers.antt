@@ -83,3 +83,21 @@ control_hears-part-requires c =
       counted = subst (AreCounted 1152921504606846976) (sym same) c.requires.counted;
       known = (subst (λ links. IsHere links n Up) (sym same) h).known;
     }
+
+pub returns-in-Some-clause-err : goal.returns-in-Some-clause-err
+returns-in-Some-clause-err c = tt
+
+pub returns-in-Some-clause-fault : goal.returns-in-Some-clause-fault
+returns-in-Some-clause-fault c = tt
+
+pub returns-in-Some-clause-none : goal.returns-in-Some-clause-none
+returns-in-Some-clause-none c = λ none. refl
+
+pub returns-in-Lssu-clause-err : goal.returns-in-Lssu-clause-err
+returns-in-Lssu-clause-err c = tt
+
+pub returns-in-Lssu-clause-fault : goal.returns-in-Lssu-clause-fault
+returns-in-Lssu-clause-fault c = tt
+
+pub returns-in-Lssu-clause-none : goal.returns-in-Lssu-clause-none
+returns-in-Lssu-clause-none c = λ none. refl

@@ -1,4 +1,4 @@
-use Rattle.std.proofs.Common.{refl, ◌∙◌, ap, sym, slice_get}
+use Rattle.std.proofs.Common.{refl, ◌∙◌, ap, sym, slice_get, arith}
 use Rattle.set_model.specs.Control.{control_after}
 use Rattle.set_model.specs.Rows.{octets_in, unack}
 use Rattle.set_model.specs.State.{LinkState, window_of}
@@ -46,3 +46,9 @@ returns-clause-stands c = λ s link there a.
       routing_is = a.stands.routing;
       inbox_same = refl;
     })
+
+pub index_mut-requires : goal.index_mut-requires
+index_mut-requires c = omega (arith, c.from.ensures, c.requires.known, c.args.parts.now.links.ok.0)
+
+pub returns-clause-queues : goal.returns-clause-queues
+returns-clause-queues c = refl

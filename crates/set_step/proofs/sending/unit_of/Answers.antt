@@ -1,4 +1,5 @@
-use Rattle.std.proofs.Common.{◌≡◌, subst}
+use Rattle.set_step.proofs.Rooms.{whole_of}
+use Rattle.std.proofs.Common.{◌≡◌, subst, arith}
 use Rattle.l2_window.specs.Control.{fsn_of}
 use Rattle.l2_window.specs.declared.control.Choice.TheVariants.{First}
 use Rattle.set_events.specs.declared.answer.Fate.TheVariants.{Waiting, Unacked}
@@ -7,7 +8,7 @@ use Rattle.set_model.specs.Rows.{octets_in, unack}
 use Rattle.set_model.specs.State.{window_of}
 use Rattle.set_model.proofs.Lists.{within, get_set_same}
 use Rattle.set_step.specs.Agreement.{StandsFor}
-use Rattle.set_step.specs.Sending.{goes_on}
+use Rattle.set_step.specs.Sending.{goes_on, IsThere}
 use Rattle.set_step.specs.Parts.{kept_of}
 use Rattle.set_step.proofs.Bodies.{row_there}
 use Rattle.set_step.proofs.Chosen.{again_given, first_given, fill_given}
@@ -37,3 +38,54 @@ returns-in-Fill c = λ s link there a.
     fill_given n link s c.go_on-head-in-Fill.new.parts c.go_on-head-in-Fill.result (c.in-Fill.ensures.chosen s link there a)
     (subst (λ choice. c.go_on-head-in-Fill.result ≡ head_of link.control (fsn_of choice (window_of n link s.rows))) c.in-Fill.is (c.go_on-head-in-Fill.ensures.head s link there a))
     (subst (λ choice. StandsFor (kept_of c.go_on-head-in-Fill.new.parts) (goes_on n choice link s)) c.in-Fill.is (c.go_on-head-in-Fill.ensures.stands s link there a))
+
+pub choice_for-choice-requires-clause-holds : goal.choice_for-choice-requires-clause-holds
+choice_for-choice-requires-clause-holds c = c.requires.holds
+
+pub choice_for-choice-requires-clause-known : goal.choice_for-choice-requires-clause-known
+choice_for-choice-requires-clause-known c = c.requires.known
+
+pub body_at-body-requires-clause-holds : goal.body_at-body-requires-clause-holds
+body_at-body-requires-clause-holds c = c.requires.holds
+
+pub body_at-body-requires-clause-known : goal.body_at-body-requires-clause-known
+body_at-body-requires-clause-known c = let as_many = (whole_of c.args.parts.now c.requires.holds).as_many in let known = c.requires.known in omega (arith, as_many, known)
+
+pub body_at-body-requires-clause-place : goal.body_at-body-requires-clause-place
+body_at-body-requires-clause-place c = rw c.in-Again.is at c.choice_for-choice.ensures.there
+
+pub go_on-head-requires-clause-holds : goal.go_on-head-requires-clause-holds
+go_on-head-requires-clause-holds c = c.requires.holds
+
+pub go_on-head-requires-clause-known : goal.go_on-head-requires-clause-known
+go_on-head-requires-clause-known c = c.requires.known
+
+pub go_on-head-requires-clause-chosen : goal.go_on-head-requires-clause-chosen
+go_on-head-requires-clause-chosen c = rw c.in-Again.is at c.choice_for-choice.ensures.chosen
+
+pub body_at-body-requires-in-First-clause-holds : goal.body_at-body-requires-in-First-clause-holds
+body_at-body-requires-in-First-clause-holds c = c.requires.holds
+
+pub body_at-body-requires-in-First-clause-known : goal.body_at-body-requires-in-First-clause-known
+body_at-body-requires-in-First-clause-known c = let as_many = (whole_of c.args.parts.now c.requires.holds).as_many in let known = c.requires.known in omega (arith, as_many, known)
+
+pub body_at-body-requires-in-First-clause-place : goal.body_at-body-requires-in-First-clause-place
+body_at-body-requires-in-First-clause-place c = let there : IsThere First c.args.number c.args.parts.now.queues.lists = rw c.in-First.is at c.choice_for-choice.ensures.there in there.0
+
+pub go_on-head-requires-in-First-clause-holds : goal.go_on-head-requires-in-First-clause-holds
+go_on-head-requires-in-First-clause-holds c = c.requires.holds
+
+pub go_on-head-requires-in-First-clause-known : goal.go_on-head-requires-in-First-clause-known
+go_on-head-requires-in-First-clause-known c = c.requires.known
+
+pub go_on-head-requires-in-First-clause-chosen : goal.go_on-head-requires-in-First-clause-chosen
+go_on-head-requires-in-First-clause-chosen c = c.choice_for-choice.ensures.chosen
+
+pub go_on-head-requires-in-Fill-clause-holds : goal.go_on-head-requires-in-Fill-clause-holds
+go_on-head-requires-in-Fill-clause-holds c = c.requires.holds
+
+pub go_on-head-requires-in-Fill-clause-known : goal.go_on-head-requires-in-Fill-clause-known
+go_on-head-requires-in-Fill-clause-known c = c.requires.known
+
+pub go_on-head-requires-in-Fill-clause-chosen : goal.go_on-head-requires-in-Fill-clause-chosen
+go_on-head-requires-in-Fill-clause-chosen c = c.choice_for-choice.ensures.chosen

@@ -2,7 +2,7 @@ use Rattle.std.proofs.Common.{refl, ◌∙◌, ap, sym, slice_get}
 use Rattle.set_model.specs.declared.phase.Phase.TheVariants.{Down}
 use Rattle.set_step.specs.Refusing.{waiting_refusal}
 use Rattle.set_step.proofs.Admitting.{can_wait, unwaited, is_in, here_same, agrees_same, given_done}
-use Rattle.set_step.proofs.Rooms.{here_room}
+use Rattle.set_step.proofs.Rooms.{here_room, whole_of}
 use Rattle.set_step.proofs.step.give_up.Goals as goal
 
 pub returns-in-Some-clause-ok : goal.returns-in-Some-clause-ok
@@ -28,3 +28,21 @@ returns-clause-ok c = λ s a.
     let now = agrees_same c.args.parts.now c.make_room_beside.new.parts s same a in
     let i = is_in c.make_room_beside.new.parts s c.args.number Down now (here_same c.args.parts.now c.make_room_beside.new.parts c.args.number Down same h) in
     given_done s c.args.number c.settle.new.parts i (c.settle.ensures.stands s i.link i.there i.phase_is now)
+
+pub returns-in-Some-clause-err : goal.returns-in-Some-clause-err
+returns-in-Some-clause-err c = tt
+
+pub returns-in-Some-clause-fault : goal.returns-in-Some-clause-fault
+returns-in-Some-clause-fault c = tt
+
+pub make_room_beside-requires-clause-whole : goal.make_room_beside-requires-clause-whole
+make_room_beside-requires-clause-whole c = whole_of c.args.parts.now c.requires.holds
+
+pub settle-requires-clause-reached : goal.settle-requires-clause-reached
+settle-requires-clause-reached c = tt
+
+pub returns-clause-err : goal.returns-clause-err
+returns-clause-err c = tt
+
+pub returns-clause-fault : goal.returns-clause-fault
+returns-clause-fault c = tt

@@ -3,7 +3,7 @@ use Rattle.std.proofs.lemmas.List.{length-map}
 use Rattle.set_events.specs.declared.answer.Fate.TheVariants.{Unacked}
 use Rattle.set_queues.specs.Buffers.{queue_at}
 use Rattle.set_step.specs.Parts.{kept_of, link_of}
-use Rattle.set_step.proofs.Reading.{unacked_there, unacked_none}
+use Rattle.set_step.proofs.Reading.{unacked_there, unacked_none, unacked_past}
 use Rattle.set_step.proofs.contents.Core.unacked_at.Goals as goal
 use Rattle.set_step.proofs.contents.Core.unacked_at.Goals.{After-number_at}
 
@@ -24,3 +24,6 @@ returns c =
     let a = (goal.at.returns c).After-number_at in
     let last = c.from-3.ensures ∙ c.last-last.ensures.value ∙ c.window.ensures.last in
     rw (← c.self.view_is) (rw (last, c.from-4.ensures) (λ s st. sym (unacked_there (kept_of c.self.inside.parts) s c.args.link c.args.place c.in-Some.number st (known a) (at_place a ∙ c.in-Some.is))))
+
+pub returns-then-from-len : goal.returns-then-from-len
+returns-then-from-len c = rw (← c.self.view_is) (λ s st. sym (unacked_past (kept_of c.self.inside.parts) s c.args.link c.args.place st (let size = length-map c.self.inside.parts.links.items link_of in omega (arith, size, c.if-from-len.true, c.len.ensures, c.from.ensures, c.self.inside.parts.links.ok.0))))
