@@ -1,5 +1,5 @@
 -- Room that was taken, as orders and moved messages need it.
-use Rattle.std.proofs.Common.{refl, arith, ◌≡◌, ◌≢◌, ◌∙◌, ap, sym, subst, ◌≤◌, ◌<◌, ◌+◌, ◌++◌, ℕ, Bool, false, List, map, length, Option, Some, None, slice_get, slice_set, ◌⊎◌, inl, inr}
+use Rattle.std.proofs.Common.{refl, arith, ◌≡◌, ◌≢◌, ◌∙◌, ap, sym, subst, ◌≤◌, ◌<◌, ◌+◌, ◌++◌, ℕ, Bool, false, List, map, length, Option, Some, None, slice_get, slice_set, ◌⊎◌, inl, inr, Vec, Global}
 use Rattle.std.specs.Prelude.{IfSome}
 use Rattle.std.proofs.lemmas.Bool.{ne_eqb}
 use Rattle.std.proofs.lemmas.List.{length-map}
@@ -18,9 +18,9 @@ use Rattle.set_model.specs.State.{target, has_phase_up}
 use Rattle.set_model.proofs.Lists.{map_at, map_set, set_same, present, same_at, at_set, length_set}
 use Rattle.set_step.specs.declared.link.Link.{Link}
 use Rattle.set_step.specs.declared.parts.Parts.{Parts}
-use Rattle.set_step.specs.Agreement.{Holds}
+use Rattle.set_step.specs.Agreement.{Holds, Kept}
 use Rattle.set_step.specs.Parts.{IsWhole, IsCounted, AreCounted, AtLink, IsOut, link_of, kept_of}
-use Rattle.set_step.specs.Room.{HasRoom, IsReady, target_beside}
+use Rattle.set_step.specs.Room.{HasRoom, IsReady, SameButRoom, target_beside}
 use Rattle.set_step.specs.Turning.{TakesTurns}
 use Rattle.set_step.proofs.Admitting.{IsHere}
 use Rattle.set_step.proofs.Targets.{ups}
@@ -148,3 +148,11 @@ room_after n old left new low r turns beside same elsewhere takes =
 
 pub wider : (bound more : ℕ) (links : List Link) → bound ≤ more → AreCounted bound links → AreCounted more links
 wider bound more links h all n link there = let k = all n link there in record { acked = let low = k.acked in omega (arith, h, low); accepted = let low = k.accepted in omega (arith, h, low) }
+
+-- what is whole stays so where room alone changes
+pub whole_still : (old new : Parts) → SameButRoom old new → IsWhole old → IsWhole new
+whole_still old new same whole = record {
+  as_many = ap (λ (k : Kept). length k.lists.links) same.kept ∙ whole.as_many ∙ ap (λ (ls : Vec Link Global). length ls.items) (sym same.links);
+  routed = ap (λ (k : Kept). k.routing.links) same.kept ∙ whole.routed ∙ ap (λ (ls : Vec Link Global). length ls.items) (sym same.links);
+  few = omega (arith, whole.few, ap (λ (ls : Vec Link Global). length ls.items) same.links);
+}

@@ -1,4 +1,4 @@
-use Rattle.std.proofs.Common.{refl, ◌≡◌, ◌∙◌, ap, sym, ℕ, true, false}
+use Rattle.std.proofs.Common.{refl, arith, ◌≡◌, ◌∙◌, ap, sym, ℕ, true, false}
 use Rattle.set_events.specs.declared.answer.Took.TheVariants.{Ignored, Order as TookOrder}
 use Rattle.set_route.specs.declared.place.Code.{Code}
 use Rattle.set_route.specs.declared.place.Code.TheVariants.{Free, Asked, Spent}
@@ -23,6 +23,22 @@ in_none code Spent s parts e f = absurd cc
 
 pub release-requires-clause-whole : goal.release-requires-clause-whole
 release-requires-clause-whole c = whole_of c.args.parts.now c.requires.holds
+
+used : (x : Code) → is_free x ≡ false → x ≡ Free → ⊥
+used x e f = let g : is_free x ≡ true = ap is_free f in absurd cc
+
+-- a code in use is one of a link of the set
+pub release-requires-clause-known : goal.release-requires-clause-known
+release-requires-clause-known c =
+    let low = c.is_sound.ensures.known c.args.code (λ e. used c.code.result (sym c.is_free.ensures ∙ c.if-is_free.false) (c.code.ensures ∙ e)) in
+    let routed = (whole_of c.args.parts.now c.requires.holds).routed in
+    omega (arith, low, routed)
+
+pub release-requires-clause-room : goal.release-requires-clause-room
+release-requires-clause-room c =
+    let low = c.is_sound.ensures.known c.args.code (λ e. used c.code.result (sym c.is_free.ensures ∙ c.if-is_free.false) (c.code.ensures ∙ e)) in
+    let routed = (whole_of c.args.parts.now c.requires.holds).routed in
+    c.requires.room (omega (arith, low, routed))
 
 pub returns-then-is_free : goal.returns-then-is_free
 returns-then-is_free c = record {

@@ -156,3 +156,9 @@ index_mut-link-requires c = omega (arith, c.from.ensures, c.requires.known, c.ar
 
 pub acknowledge-requires-clause-fsn : goal.acknowledge-requires-clause-fsn
 acknowledge-requires-clause-fsn c = c.header_in-head.result.bsn_in_range
+
+pub window-window-requires : goal.window-window-requires
+window-window-requires c = let as_many = (whole_of c.args.parts.now c.requires.holds).as_many in let known = c.requires.known in omega (arith, as_many, known)
+
+pub acknowledge-requires-clause-known : goal.acknowledge-requires-clause-known
+acknowledge-requires-clause-known c = let as_many = (whole_of c.args.parts.now c.requires.holds).as_many in let known = c.requires.known in omega (arith, as_many, known)

@@ -1,3 +1,4 @@
+use Rattle.set_step.proofs.Rooms.{whole_of}
 use Rattle.std.proofs.Common.{◌∙◌, ap, arith}
 use Rattle.set_model.specs.State.{LinkState, window_of}
 use Rattle.set_model.specs.Rows.{octets_in, unack}
@@ -17,3 +18,9 @@ returns-clause-chosen c = λ s link there a.
 
 pub index-requires : goal.index-requires
 index-requires c = omega (arith, c.from.ensures, c.requires.known, c.args.parts.now.links.ok.0)
+
+pub window-window-requires : goal.window-window-requires
+window-window-requires c = let as_many = (whole_of c.args.parts.now c.requires.holds).as_many in let known = c.requires.known in omega (arith, as_many, known)
+
+pub octets-octets-requires : goal.octets-octets-requires
+octets-octets-requires c = let as_many = (whole_of c.args.parts.now c.requires.holds).as_many in let known = c.requires.known in omega (arith, as_many, known)

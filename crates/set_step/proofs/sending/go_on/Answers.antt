@@ -1,3 +1,4 @@
+use Rattle.set_step.proofs.Rooms.{whole_of}
 use Rattle.std.proofs.Common.{refl, ◌∙◌, ap, sym, slice_get, arith}
 use Rattle.set_model.specs.Control.{control_after}
 use Rattle.set_model.specs.Rows.{octets_in, unack}
@@ -52,3 +53,9 @@ index_mut-requires c = omega (arith, c.from.ensures, c.requires.known, c.args.pa
 
 pub returns-clause-queues : goal.returns-clause-queues
 returns-clause-queues c = refl
+
+pub window-window-requires : goal.window-window-requires
+window-window-requires c = let as_many = (whole_of c.args.parts.now c.requires.holds).as_many in let known = c.requires.known in omega (arith, as_many, known)
+
+pub octets-octets-requires : goal.octets-octets-requires
+octets-octets-requires c = let as_many = (whole_of c.args.parts.now c.requires.holds).as_many in let known = c.requires.known in omega (arith, as_many, known)

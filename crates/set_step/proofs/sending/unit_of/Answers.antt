@@ -89,3 +89,12 @@ go_on-head-requires-in-Fill-clause-known c = c.requires.known
 
 pub go_on-head-requires-in-Fill-clause-chosen : goal.go_on-head-requires-in-Fill-clause-chosen
 go_on-head-requires-in-Fill-clause-chosen c = c.choice_for-choice.ensures.chosen
+
+pub send_first-requires-clause-known : goal.send_first-requires-clause-known
+send_first-requires-clause-known c = rw c.go_on-head-in-First.ensures.queues (let as_many = (whole_of c.args.parts.now c.requires.holds).as_many in let known = c.requires.known in omega (arith, as_many, known))
+
+pub send_first-requires-clause-some : goal.send_first-requires-clause-some
+send_first-requires-clause-some c = let there : IsThere First c.args.number c.args.parts.now.queues.lists = rw c.in-First.is at c.choice_for-choice.ensures.there in rw c.go_on-head-in-First.ensures.queues there.0
+
+pub send_first-requires-clause-few : goal.send_first-requires-clause-few
+send_first-requires-clause-few c = let there : IsThere First c.args.number c.args.parts.now.queues.lists = rw c.in-First.is at c.choice_for-choice.ensures.there in rw c.go_on-head-in-First.ensures.queues there.1

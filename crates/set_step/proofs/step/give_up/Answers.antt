@@ -1,8 +1,10 @@
-use Rattle.std.proofs.Common.{refl, ◌∙◌, ap, sym, slice_get}
+use Rattle.set_step.specs.declared.link.Link.{Link}
+use Rattle.set_step.proofs.Leaving.{out_at}
+use Rattle.std.proofs.Common.{refl, ◌∙◌, ap, sym, slice_get, arith, List}
 use Rattle.set_model.specs.declared.phase.Phase.TheVariants.{Down}
 use Rattle.set_step.specs.Refusing.{waiting_refusal}
 use Rattle.set_step.proofs.Admitting.{can_wait, unwaited, is_in, here_same, agrees_same, given_done}
-use Rattle.set_step.proofs.Rooms.{here_room, whole_of}
+use Rattle.set_step.proofs.Rooms.{here_room, whole_of, whole_still}
 use Rattle.set_step.proofs.step.give_up.Goals as goal
 
 pub returns-in-Some-clause-ok : goal.returns-in-Some-clause-ok
@@ -46,3 +48,12 @@ returns-clause-err c = tt
 
 pub returns-clause-fault : goal.returns-clause-fault
 returns-clause-fault c = tt
+
+pub settle-requires-clause-whole : goal.settle-requires-clause-whole
+settle-requires-clause-whole c = whole_still c.args.parts.now c.make_room_beside.new.parts c.make_room_beside.ensures.same (whole_of c.args.parts.now c.requires.holds)
+
+pub settle-requires-clause-counted : goal.settle-requires-clause-counted
+settle-requires-clause-counted c = rw c.make_room_beside.ensures.same.links (λ number link there. let few = c.requires.counted number link there in record { acked = omega (arith, few.acked); accepted = omega (arith, few.accepted) })
+
+pub settle-requires-clause-out : goal.settle-requires-clause-out
+settle-requires-clause-out c = rw c.make_room_beside.ensures.same.links (out_at c.args.parts.now.links.items c.args.number Down (can_wait c.args.parts.now.links.items c.args.number (sym (ap (λ (ls : List Link). waiting_refusal (slice_get ls c.args.number)) c.deref.ensures.value) ∙ sym c.out_of_waiting.ensures ∙ c.in_default.is)) refl)

@@ -4,6 +4,7 @@ use Rattle.set_events.specs.declared.answer.Fate.TheVariants.{Unacked}
 use Rattle.set_queues.specs.Buffers.{queue_at}
 use Rattle.set_step.specs.Parts.{kept_of, link_of}
 use Rattle.set_step.proofs.Reading.{unacked_there, unacked_none, unacked_past}
+use Rattle.set_step.proofs.Rooms.{whole_of}
 use Rattle.set_step.proofs.contents.Core.unacked_at.Goals as goal
 use Rattle.set_step.proofs.contents.Core.unacked_at.Goals.{After-number_at}
 
@@ -27,3 +28,13 @@ returns c =
 
 pub returns-then-from-len : goal.returns-then-from-len
 returns-then-from-len c = rw (← c.self.view_is) (λ s st. sym (unacked_past (kept_of c.self.inside.parts) s c.args.link c.args.place st (let size = length-map c.self.inside.parts.links.items link_of in omega (arith, size, c.if-from-len.true, c.len.ensures, c.from.ensures, c.self.inside.parts.links.ok.0))))
+
+pub number_at-requires : goal.number_at-requires
+number_at-requires c =
+    let as_many = (whole_of c.self.inside.parts c.self.invariant).as_many in
+    omega (arith, as_many, c.if-from-len.false, c.len.ensures, c.from.ensures, c.self.inside.parts.links.ok.0)
+
+pub window-requires : goal.window-requires
+window-requires c =
+    let as_many = (whole_of c.self.inside.parts c.self.invariant).as_many in
+    omega (arith, as_many, c.if-from-len.false, c.len.ensures, c.from.ensures, c.self.inside.parts.links.ok.0)
