@@ -1,7 +1,7 @@
 //! The queues in which messages stand: of each link those of its window and the held ones, the parked
 //! ones, and of each changeback code those that wait for its acknowledgement.
 ghost use Rattle.std.specs.Prelude.{◌≡◌, ◌+◌, ◌<◌, ◌≤◌, ◌++◌, [], ◌∷◌, IfOk, map, replicate};
-ghost use Rattle.set_queues.specs.Kept.{lists_of, messages_of};
+ghost use Rattle.set_queues.specs.Kept.{messages_of};
 
 use l2_window::{Queue, Window, WindowFault};
 use set_events::Fate;
@@ -35,7 +35,7 @@ impl Model for Buffers {
 }
 
 impl Link {
-    ghost use Rattle.std.specs.Prelude.{◌≡◌, [], IfOk};
+    ghost use Rattle.std.specs.Prelude.{◌≡◌, [], IfOk, map, replicate};
     ghost use Rattle.set_queues.specs.Kept.{lists_of};
 
     fn new(alloc: Global) -> Result<Link, AllocError>
@@ -51,6 +51,19 @@ impl Link {
             held: Queue::new(alloc)?,
         })
     }
+
+    /// So many links, with nothing in their queues.
+    fn no_messages(alloc: Global, links: u8) -> Result<Vec<Link>, AllocError>
+        ensures { IfOk result (λ made. map lists_of made.items ≡ replicate links
+            (record { last = 127; unacked = []; unsent = []; held = [] })) }
+    {
+        let mut made = Vec::new(alloc);
+        for _ in 0..links {
+            let link = Link::new(alloc)?;
+            made.push(link)?;
+        }
+        Ok(made)
+    }
 }
 
 impl Buffers {
@@ -64,7 +77,7 @@ impl Buffers {
         ensures parked { IfOk result (λ buffers. buffers.lists.parked ≡ []) }
         ensures back { IfOk result (λ buffers. buffers.lists.back ≡ replicate 256 []) }
     {
-        let links = no_links(alloc, links)?;
+        let links = Link::no_messages(alloc, links)?;
         let back = no_backs(alloc)?;
         Ok(Buffers {
             links,
@@ -254,19 +267,6 @@ impl Buffers {
     {
         self.links[usize::from(link)].window.reset();
     }
-}
-
-/// So many links, with nothing in their queues.
-fn no_links(alloc: Global, links: u8) -> Result<Vec<Link>, AllocError>
-    ensures { IfOk result (λ made. map lists_of made.items ≡ replicate links
-        (record { last = 127; unacked = []; unsent = []; held = [] })) }
-{
-    let mut made = Vec::new(alloc);
-    for _ in 0..links {
-        let link = Link::new(alloc)?;
-        made.push(link)?;
-    }
-    Ok(made)
 }
 
 /// A queue for each changeback code. It takes no memory while nothing stands in it.

@@ -1,7 +1,7 @@
 use Rattle.std.proofs.Common.{arith, ◌≡◌, ℕ, [], map, replicate, subst}
 use Rattle.set_queues.specs.Kept.{lists_of}
 use Rattle.set_queues.proofs.Updates.{map_push_same}
-use Rattle.set_queues.proofs.buffers.no_links.Goals as goal
+use Rattle.set_queues.proofs.buffers.Link.no_messages.Goals as goal
 
 pub loop-preserved : goal.loop-preserved
 loop-preserved c = rw c.in_ok-push.ensures.items (map_push_same lists_of c.loop.made.items c.in_ok-link.link c.loop.counter _ c.loop.invariant c.in_ok-link.ensures)
