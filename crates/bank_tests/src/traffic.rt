@@ -95,17 +95,18 @@ fn is_sound(alloc: Global, end: &SetEnd, messages: u64) -> Result<(), Fail> {
     holds(end.closed.books.messages == messages && placed(end) == messages)
 }
 
-/// Two sets of two links, and four users at end a with a hundred messages each: all are acknowledged, and the far end
-/// has them.
+/// So many sets of two links, and four users at end a with a hundred messages each: all are acknowledged, and the far
+/// end has them.
 fn goes_through<R: Threads + Wait + Copy + Send + Sync + 'static>(
     rt: &R,
     alloc: Global,
+    sets: u16,
     cyclic: bool,
     fail: Option<u8>,
     turns: u32,
 ) -> Result<(), Fail> {
     let traffic = Traffic {
-        sets: 2,
+        sets,
         links: 2,
         users: 4,
         messages: 100,
@@ -116,7 +117,8 @@ fn goes_through<R: Threads + Wait + Copy + Send + Sync + 'static>(
     let Ok(ends) = run_traffic(rt, alloc, &traffic) else {
         return Err(Fail::from("not run"));
     };
-    holds(ends.near.len() == 2 && ends.far.len() == 2)?;
+    let many = usize::from(sets);
+    holds(ends.near.len() == many && ends.far.len() == many)?;
     for end in ends.near.iter() {
         is_sound(alloc, end, 400)?;
         holds(end.closed.counts.acked == 400 && end.users.iter().all(|user| *user))?;
@@ -130,16 +132,16 @@ fn goes_through<R: Threads + Wait + Copy + Send + Sync + 'static>(
 
 #[test]
 fn all_messages_go_through(rt: HostRuntime) -> Result<(), Fail> {
-    goes_through(&rt, rt.alloc(), false, None, 200_000)
+    goes_through(&rt, rt.alloc(), 1, false, None, 200_000)
 }
 
 #[test]
 fn all_messages_go_through_by_cycles(rt: HostRuntime) -> Result<(), Fail> {
-    goes_through(&rt, rt.alloc(), true, None, 200_000)
+    goes_through(&rt, rt.alloc(), 2, true, None, 60_000)
 }
 
 #[test]
 fn all_messages_go_through_where_a_link_fails(rt: HostRuntime) -> Result<(), Fail> {
     // links come up by turn 5,000, and two links have sent 400 messages after turn 7,000: Stop comes between
-    goes_through(&rt, rt.alloc(), false, Some(0), 13_000)
+    goes_through(&rt, rt.alloc(), 2, false, Some(0), 13_000)
 }
