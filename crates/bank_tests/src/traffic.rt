@@ -1,4 +1,5 @@
 //! Traffic between two banks whose terminals are kept beside one another: it really goes through.
+ghost use Rattle.std.specs.Prelude.{◌≤◌};
 
 use super::openings::{holds, message_of, placed};
 use arrayvec::ArrayVec;
@@ -104,7 +105,9 @@ fn goes_through<R: Threads + Wait + Copy + Send + Sync + 'static>(
     cyclic: bool,
     fail: Option<u8>,
     turns: u32,
-) -> Result<(), Fail> {
+) -> Result<(), Fail>
+    requires { (1 ≤ sets) × (sets ≤ 16) }
+{
     let traffic = Traffic {
         sets,
         links: 2,
