@@ -17,7 +17,8 @@ use std::alloc::Global;
 /// Faults: 2 [`SetFault::Exhausted`] exactly where there are more than 2^48, tested first;
 /// 1 [`SetFault::NoMemory`] only where memory was refused.
 pub fn audit(alloc: Global, config: &SetConfig, entries: &[Entry]) -> Result<bool, SetFault>
-    ensures legal { IfOk result (λ is_legal. IsTrue is_legal ↔ IsLegal (new_state config.now) entries.now) }
+    ensures legal { IfOk result
+        (λ is_legal. IsTrue is_legal ↔ IsLegal (new_state config.now) entries.now) }
     ensures exhausted { (result ≡ Err SetFault.Exhausted) ↔ (longest_history < length entries.now) }
 {
     if entries.len() > LONGEST_HISTORY {
@@ -32,7 +33,8 @@ pub fn audit(alloc: Global, config: &SetConfig, entries: &[Entry]) -> Result<boo
 fn replay(core: &mut Core, config: &SetConfig, entries: &[Entry]) -> Result<bool, SetFault>
     requires opened { Agrees core.old (new_state config.now) }
     requires few { length entries.now ≤ longest_history }
-    ensures legal { IfOk result (λ is_legal. IsTrue is_legal ↔ IsLegal (new_state config.now) entries.now) }
+    ensures legal { IfOk result
+        (λ is_legal. IsTrue is_legal ↔ IsLegal (new_state config.now) entries.now) }
     ensures fault { IfErr result (λ fault. fault ≡ SetFault.NoMemory) }
 {
     for entry in entries {
@@ -56,8 +58,10 @@ pub fn audit_history(
     config: &SetConfig,
     entries: Reader<'_>,
 ) -> Result<bool, SetFault>
-    ensures legal { IfOk result (λ is_legal. IsTrue is_legal ↔ IsLegal (new_state config.now) entries.entry) }
-    ensures exhausted { (result ≡ Err SetFault.Exhausted) ↔ (longest_history < length entries.entry) }
+    ensures legal { IfOk result
+        (λ is_legal. IsTrue is_legal ↔ IsLegal (new_state config.now) entries.entry) }
+    ensures exhausted { (result ≡ Err SetFault.Exhausted)
+        ↔ (longest_history < length entries.entry) }
 {
     if entries.len() > LONGEST_HISTORY {
         return Err(SetFault::Exhausted);
@@ -75,7 +79,8 @@ fn replay_history(
 ) -> Result<bool, SetFault>
     requires opened { Agrees core.old (new_state config.now) }
     requires few { length entries ≤ longest_history }
-    ensures legal { IfOk result (λ is_legal. IsTrue is_legal ↔ IsLegal (new_state config.now) entries.entry) }
+    ensures legal { IfOk result
+        (λ is_legal. IsTrue is_legal ↔ IsLegal (new_state config.now) entries.entry) }
     ensures fault { IfErr result (λ fault. fault ≡ SetFault.NoMemory) }
 {
     let mut left = entries;

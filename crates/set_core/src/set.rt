@@ -76,9 +76,11 @@ impl SetCore {
     pub fn apply(&mut self, who: Actor, event: &Event) -> Result<Answer, SetFault>
         requires { IsActor who }
         ensures ok { IfOk result (λ answer. IsStep self.old who event.now answer self.new) }
-        ensures gains { IfOk result (λ answer. BooksGain (books_in self.old) who event.now answer (books_in self.new)) }
+        ensures gains { IfOk result
+            (λ answer. BooksGain (books_in self.old) who event.now answer (books_in self.new)) }
         ensures bounded { IfOk result (λ answer. AreBounded (books_in self.new)) }
-        ensures exhausted { (result ≡ Err SetFault.Exhausted) ↔ (longest_history ≤ length self.old.history) }
+        ensures exhausted { (result ≡ Err SetFault.Exhausted)
+            ↔ (longest_history ≤ length self.old.history) }
         ensures err { OnErr result (self.new ≡ self.old) }
     {
         if self.history.len() >= LONGEST_HISTORY {

@@ -3,7 +3,7 @@ ghost use Rattle.std.specs.Prelude.{◌≡◌, ◌+◌, ◌<◌, ◌≤◌, ◌^
 ghost use Rattle.set_core.specs.Gaining.{users_after, terminals_after};
 ghost use Rattle.set_model.specs.History.{IsActor};
 ghost use Rattle.set_core.specs.Keeping.{IsTally};
-ghost use Rattle.set_model.specs.Step.{messages_in, octets_of, octets_offered as octets_offered_by};
+ghost use Rattle.set_model.specs.Step.{messages_in, octets_of, octets_offered};
 
 use set_events::{Actor, Answer, Event};
 
@@ -49,7 +49,7 @@ impl Tally {
         self.count_call(who);
         if let Answer::Accepted { .. } = answer {
             self.messages += 1;
-            self.octets += octets_offered(event);
+            self.octets += offered_octets(event);
         }
     }
 
@@ -71,8 +71,8 @@ impl Tally {
 }
 
 /// The octets of an offered body; of another event none.
-fn octets_offered(event: &Event) -> u64
-    ensures { result ≡ octets_offered_by event.now }
+fn offered_octets(event: &Event) -> u64
+    ensures { result ≡ octets_offered event.now }
 {
     match event {
         Event::Offer { body } => body.len() as u64,

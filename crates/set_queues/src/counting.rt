@@ -1,6 +1,6 @@
 //! One more or one fewer of the users' messages in a place.
 ghost use Rattle.std.specs.Prelude.{◌≡◌, ◌<◌, ◌^◌};
-ghost use Rattle.set_queues.specs.Counts.{AreCountable, IsOneMore, count_at, is_unsent as is_unsent_there};
+ghost use Rattle.set_queues.specs.Counts.{AreCountable, IsOneMore, count_at, is_unsent};
 
 use set_events::{Counts, Fate};
 
@@ -37,8 +37,8 @@ pub(crate) fn uncount(counts: &mut Counts, fate: Fate)
 }
 
 /// Whether a message of this fate isn't sent yet.
-pub(crate) fn is_unsent(fate: Fate) -> bool
-    ensures { result ≡ is_unsent_there fate }
+pub(crate) fn counts_as_unsent(fate: Fate) -> bool
+    ensures { result ≡ is_unsent fate }
 {
     match fate {
         Fate::Waiting { .. } | Fate::Held { .. } | Fate::Parked | Fate::Back { .. } => true,

@@ -4,7 +4,7 @@ ghost use Rattle.set_queues.specs.Kind.{is_kind};
 ghost use Rattle.set_queues.specs.Tally.{IsAmong, IsMore, AreFew};
 ghost use Rattle.set_queues.specs.Counts.{no_counts};
 
-use super::counting::{count, is_unsent, uncount};
+use super::counting::{count, counts_as_unsent, uncount};
 use super::message::{Kind, Message};
 use set_events::Counts;
 
@@ -25,7 +25,7 @@ pub(crate) fn enter(tally: &mut Tally, message: Message)
 {
     if let Kind::User { stream } = message.kind {
         count(&mut tally.counts, message.fate);
-        if is_unsent(message.fate) {
+        if counts_as_unsent(message.fate) {
             tally.unsent[usize::from(stream)] += 1;
         }
     }
@@ -39,7 +39,7 @@ pub(crate) fn leave(tally: &mut Tally, message: Message)
 {
     if let Kind::User { stream } = message.kind {
         uncount(&mut tally.counts, message.fate);
-        if is_unsent(message.fate) {
+        if counts_as_unsent(message.fate) {
             tally.unsent[usize::from(stream)] -= 1;
         }
     }

@@ -3,8 +3,8 @@ ghost use Rattle.std.specs.Prelude.{◌≡◌, ◌≢◌, ◌+◌, ◌*◌, ◌<
 ghost use Rattle.std.specs.Vec.{vec_len, vec_capacity};
 ghost use Rattle.set_queues.specs.Buffers.{TakesRoom, room_at};
 ghost use Rattle.set_queues.specs.Backs.{back_count};
-ghost use Rattle.set_route.specs.Routing.{code_of, home_of, is_free as is_free_code, can_ask};
-ghost use Rattle.set_model.specs.Changeover.{released, released_from, acknowledged_back, can_declare as can_declare_in, declared, declared_if, declared_from, some_declare, some_in_use};
+ghost use Rattle.set_route.specs.Routing.{code_of, home_of, is_free, can_ask};
+ghost use Rattle.set_model.specs.Changeover.{released, released_from, acknowledged_back, can_declare, declared, declared_if, declared_from, some_declare, some_in_use};
 ghost use Rattle.set_model.specs.State.{State, link_count};
 ghost use Rattle.set_model.specs.Step.{on_link, in_service, comes_back, runs_out};
 ghost use Rattle.set_step.specs.Agreement.{Agrees, Holds, StandsFor};
@@ -80,10 +80,11 @@ pub(crate) fn time_out(parts: &mut Parts, number: u8) -> Result<Answer, SetFault
 fn has_alternative(parts: &Parts, number: u8) -> bool
     requires holds { Holds (kept_of parts.now) }
     requires known { number < length parts.now.links.items }
-    ensures { (s : State) → Agrees (kept_of parts.now) s → result ≡ some_declare number 0 (link_count s) s }
+    ensures { (s : State) → Agrees (kept_of parts.now) s
+        → result ≡ some_declare number 0 (link_count s) s }
 {
     for alternative in 0..parts.links.len() as u8 {
-        if can_declare(parts, number, alternative) {
+        if may_declare(parts, number, alternative) {
             return true;
         }
     }
@@ -91,10 +92,11 @@ fn has_alternative(parts: &Parts, number: u8) -> bool
 }
 
 /// Whether streams of this home can come back from that link.
-fn can_declare(parts: &Parts, home: u8, alternative: u8) -> bool
+fn may_declare(parts: &Parts, home: u8, alternative: u8) -> bool
     requires home { home < 16 }
     requires alternative { alternative < 16 }
-    ensures value { (s : State) → StandsFor (kept_of parts.now) s → result ≡ can_declare_in home alternative s }
+    ensures value { (s : State) → StandsFor (kept_of parts.now) s
+        → result ≡ can_declare home alternative s }
     ensures asks { result ≡ true → can_ask home alternative parts.now.routes ≡ true }
 {
     alternative != home
@@ -104,8 +106,8 @@ fn can_declare(parts: &Parts, home: u8, alternative: u8) -> bool
 
 /// Space for as many orders as a set has links at most.
 fn order_spaces(links: &Vec<Link>) -> Result<Vec<Vec<u8>>, AllocError>
-    ensures spaces { IfOk result (λ spaces. All (λ space. (vec_len space ≡ 0) × (7 ≤ vec_capacity space))
-        spaces.items) }
+    ensures spaces { IfOk result
+        (λ spaces. All (λ space. (vec_len space ≡ 0) × (7 ≤ vec_capacity space)) spaces.items) }
     ensures count { IfOk result (λ spaces. length spaces.items ≡ 16) }
 {
     let mut spaces = Vec::new(*links.allocator());
@@ -134,7 +136,8 @@ fn declare_all(parts: &mut Parts, home: u8, spaces: Vec<Vec<u8>>)
     requires room { HasRoomFrom 0 parts.old }
     requires spaces { All (λ space. (vec_len space ≡ 0) × (7 ≤ vec_capacity space)) spaces.items }
     requires count { length spaces.items ≡ 16 }
-    ensures stands { Becomes parts.old parts.new (declared_from home 0 (length parts.old.links.items)) }
+    ensures stands { Becomes parts.old parts.new
+        (declared_from home 0 (length parts.old.links.items)) }
 {
     let mut spaces = spaces;
     for alternative in 0..parts.links.len() as u8 {
@@ -148,16 +151,18 @@ fn declare_if_due(parts: &mut Parts, home: u8, alternative: u8, spaces: &mut Vec
     requires home { home < length parts.old.links.items }
     requires alternative { alternative < length parts.old.links.items }
     requires room { HasRoomFrom alternative parts.old }
-    requires spaces { All (λ space. (vec_len space ≡ 0) × (7 ≤ vec_capacity space)) spaces.old.items }
+    requires spaces { All
+        (λ space. (vec_len space ≡ 0) × (7 ≤ vec_capacity space)) spaces.old.items }
     requires count { 16 ≤ alternative + length spaces.old.items }
     ensures stands { Becomes parts.old parts.new (declared_if home alternative) }
     ensures room { HasRoomFrom (alternative + 1) parts.new }
-    ensures spaces { All (λ space. (vec_len space ≡ 0) × (7 ≤ vec_capacity space)) spaces.new.items }
+    ensures spaces { All
+        (λ space. (vec_len space ≡ 0) × (7 ≤ vec_capacity space)) spaces.new.items }
     ensures count { 16 ≤ alternative + 1 + length spaces.new.items }
     ensures links { parts.new.links ≡ parts.old.links }
     ensures whole { IsWhole parts.new }
 {
-    if !can_declare(parts, home, alternative) {
+    if !may_declare(parts, home, alternative) {
         return;
     }
     match spaces.pop() {
@@ -175,7 +180,8 @@ fn declare(parts: &mut Parts, home: u8, alternative: u8, space: Vec<u8>)
     requires space { (vec_len space ≡ 0) × (7 ≤ vec_capacity space) }
     requires room { HasRoom (Fate.Waiting alternative) parts.old }
     ensures stands { Becomes parts.old parts.new (declared home alternative) }
-    ensures rooms { TakesRoom (Fate.Waiting alternative) 1 parts.old.queues.rooms parts.new.queues.rooms }
+    ensures rooms { TakesRoom (Fate.Waiting alternative) 1 parts.old.queues.rooms
+        parts.new.queues.rooms }
     ensures message { parts.old.queues.room ≤ parts.new.queues.room + 1 }
     ensures body { vec_len parts.new.bodies ≡ vec_len parts.old.bodies + 1 }
     ensures bodies { vec_capacity parts.new.bodies ≡ vec_capacity parts.old.bodies }
@@ -195,10 +201,11 @@ fn declare(parts: &mut Parts, home: u8, alternative: u8, space: Vec<u8>)
 /// Whether a code of this home is open or spent.
 fn has_code_in_use(parts: &Parts, home: u8) -> bool
     requires { home < 16 }
-    ensures { (s : State) → StandsFor (kept_of parts.now) s → result ≡ some_in_use (16 * home) 16 s }
+    ensures { (s : State) → StandsFor (kept_of parts.now) s
+        → result ≡ some_in_use (16 * home) 16 s }
 {
     for alternative in 0..16u8 {
-        if !is_free(parts.routes.code(changeback_code(home, alternative))) {
+        if !is_unused(parts.routes.code(changeback_code(home, alternative))) {
             return true;
         }
     }
@@ -209,7 +216,8 @@ fn has_code_in_use(parts: &Parts, home: u8) -> bool
 fn release_all(parts: &mut Parts, home: u8)
     requires whole { IsWhole parts.old }
     requires known { home < length parts.old.links.items }
-    requires room { back_count home parts.old.queues.lists ≤ room_at (Fate.Waiting home) parts.old.queues.rooms }
+    requires room { back_count home parts.old.queues.lists ≤ room_at (Fate.Waiting home)
+        parts.old.queues.rooms }
     ensures stands { Becomes parts.old parts.new (released_from (16 * home) 16) }
 {
     for alternative in 0..16u8 {
@@ -224,8 +232,10 @@ fn release(parts: &mut Parts, code: u8)
     requires known { home_of code < length parts.old.links.items }
     requires room { length (back_at code parts.old) ≤ home_room code parts.old }
     ensures stands { Becomes parts.old parts.new (released code) }
-    ensures rooms { home_room code parts.old ≤ home_room code parts.new + length (back_at code parts.old) }
-    ensures others { (other : ℕ) → other ≢ code → back_at other parts.new ≡ back_at other parts.old }
+    ensures rooms { home_room code parts.old ≤ home_room code parts.new + length
+        (back_at code parts.old) }
+    ensures others { (other : ℕ) → other ≢ code
+        → back_at other parts.new ≡ back_at other parts.old }
     ensures links { parts.new.links ≡ parts.old.links }
     ensures whole { IsWhole parts.new }
 {
@@ -247,7 +257,7 @@ pub(crate) fn acknowledge_back(parts: &mut Parts, code: u8) -> Took
         → Obeys (acknowledged_back code (code_of code s.routing) s) result parts.new }
 {
     parts.routes.is_sound();
-    if is_free(parts.routes.code(code)) {
+    if is_unused(parts.routes.code(code)) {
         return Took::Ignored;
     }
     release(parts, code);
@@ -255,8 +265,8 @@ pub(crate) fn acknowledge_back(parts: &mut Parts, code: u8) -> Took
 }
 
 /// Whether a code is in no use.
-fn is_free(code: Code) -> bool
-    ensures { result ≡ is_free_code code }
+fn is_unused(code: Code) -> bool
+    ensures { result ≡ is_free code }
 {
     matches!(code, Code::Free)
 }

@@ -44,8 +44,10 @@ pub(crate) fn queue(parts: &mut Parts, order: Order, space: Vec<u8>)
     requires space { (vec_len space ≡ 0) × (7 ≤ vec_capacity space) }
     requires room { HasRoom (order_fate parts.old) parts.old }
     ensures stands { Becomes parts.old parts.new (queued order) }
-    ensures rooms { TakesRoom (order_fate parts.old) 1 parts.old.queues.rooms parts.new.queues.rooms }
-    ensures elsewhere { (number : ℕ) → number < length parts.old.links.items → AtLink number parts.old.links.items IsOut
+    ensures rooms { TakesRoom (order_fate parts.old) 1 parts.old.queues.rooms
+        parts.new.queues.rooms }
+    ensures elsewhere { (number : ℕ) → number < length parts.old.links.items
+        → AtLink number parts.old.links.items IsOut
         → on number parts.new.queues.lists ≡ on number parts.old.queues.lists }
     ensures links { parts.new.links ≡ parts.old.links }
     ensures whole { IsWhole parts.new }
@@ -83,7 +85,8 @@ pub(crate) fn leave(parts: &mut Parts, number: u8, blind: bool)
     ensures stands { AgreedBecomes number parts.old parts.new (left_by blind number) }
     ensures links { AtLink number parts.old.links.items (λ link. parts.new.links.items
         ≡ slice_set parts.old.links.items number (record link { phase = Down; blind = blind })) }
-    ensures turns { TakesTurns (back_count number parts.old.queues.lists) parts.old.queues parts.new.queues }
+    ensures turns { TakesTurns (back_count number parts.old.queues.lists) parts.old.queues
+        parts.new.queues }
     ensures bodies { parts.new.bodies ≡ parts.old.bodies }
     ensures whole { IsWhole parts.new }
 {
@@ -115,7 +118,8 @@ pub(crate) fn obey(parts: &mut Parts, order: Order, space: Vec<u8>) -> Took
     requires order { IsOrder order }
     requires space { (vec_len space ≡ 0) × (7 ≤ vec_capacity space) }
     requires room { IsSpaciousFor order parts.old }
-    ensures stands { (s : State) → Agrees (kept_of parts.old) s → Obeys (order_obeyed order s) result parts.new }
+    ensures stands { (s : State) → Agrees (kept_of parts.old) s
+        → Obeys (order_obeyed order s) result parts.new }
 {
     match order {
         Order::Coo { link, number } => change_over(parts, link, Reached::Upto { number }, space),
@@ -139,8 +143,10 @@ fn change_over(parts: &mut Parts, number: u8, reached: Reached, space: Vec<u8>) 
     requires number { number < 16 }
     requires space { (vec_len space ≡ 0) × (7 ≤ vec_capacity space) }
     requires room { number < length parts.old.links.items → IsReady number 1 parts.old }
-    ensures stands { (s : State) → Agrees (kept_of parts.old) s → Obeys (at_link number s (λ link.
-        changed_over reached number link link.phase s) (slice_get s.links number)) result parts.new }
+    ensures stands { (s : State) → Agrees (kept_of parts.old) s
+        → Obeys (at_link number s
+        (λ link. changed_over reached number link link.phase s) (slice_get s.links number)) result
+        parts.new }
 {
     match phase_of(&parts.links, number) {
         None => return Took::Ignored,
@@ -161,8 +167,10 @@ fn answer_and_settle(parts: &mut Parts, number: u8, reached: Reached, space: Vec
     requires up { AtLink number parts.old.links.items (λ link. link.phase ≡ Up) }
     requires space { (vec_len space ≡ 0) × (7 ≤ vec_capacity space) }
     requires room { IsReady number 1 parts.old }
-    ensures stands { (s : State) (link : LinkState) → slice_get s.links number ≡ Some link → link.phase ≡ Up
-        → Agrees (kept_of parts.old) s → StandsFor (kept_of parts.new) (settled reached number (left_link false link)
+    ensures stands { (s : State) (link : LinkState) → slice_get s.links number ≡ Some link
+        → link.phase ≡ Up
+        → Agrees (kept_of parts.old) s
+        → StandsFor (kept_of parts.new) (settled reached number (left_link false link)
         (queued (Order.Coa number (last_accepted link)) (left_by false number link s))) }
 {
     let order = Order::Coa {
@@ -183,7 +191,8 @@ fn reply_again(parts: &mut Parts, number: u8, space: Vec<u8>)
     requires out { AtLink number parts.old.links.items IsOut }
     requires space { (vec_len space ≡ 0) × (7 ≤ vec_capacity space) }
     requires room { IsReady number 1 parts.old }
-    ensures stands { BecomesAt number parts.old parts.new (λ link s. queued (reply_of number link) s) }
+    ensures stands { BecomesAt number parts.old parts.new
+        (λ link s. queued (reply_of number link) s) }
 {
     let order = reply(&parts.links[usize::from(number)], number);
     queue(parts, order, space);

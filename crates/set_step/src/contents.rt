@@ -160,7 +160,9 @@ impl Core {
 
 /// The links of a set, none of which was up.
 fn new_links(alloc: Global, config: &SetConfig) -> Result<Vec<Link>, AllocError>
-    ensures { IfOk result (λ links. map link_of links.items ≡ replicate config.now.links (new_link config.now.method)) }
+    ensures { IfOk result
+        (λ links. map link_of links.items ≡ replicate config.now.links
+        (new_link config.now.method)) }
 {
     let mut links = Vec::new(alloc);
     for _ in 0..config.links {

@@ -96,7 +96,8 @@ impl ByMethod {
     fn send(&mut self, choice: Choice, window: &Window, octets: u32) -> Header
         requires { choice ≡ choice_of octets (control_of self.old) window.now }
         ensures head { result ≡ head_of (control_of self.old) (fsn_of choice window.now) }
-        ensures state { control_of self.new ≡ control_after choice octets (control_of self.old) window.now }
+        ensures state { control_of self.new ≡ control_after choice octets (control_of self.old)
+            window.now }
     {
         match self {
             ByMethod::Basic(basic) => basic.send(choice, window),
@@ -106,7 +107,8 @@ impl ByMethod {
 
     fn hear(&mut self, window: &Window, head: Header, is_msu: bool) -> HeardPart
         ensures part { result ≡ part_of (control_of self.old) window.now head is_msu }
-        ensures state { control_of self.new ≡ control_heard (control_of self.old) window.now head is_msu }
+        ensures state { control_of self.new ≡ control_heard (control_of self.old) window.now head
+            is_msu }
     {
         match self {
             ByMethod::Basic(basic) => basic.hear(window, head, is_msu),

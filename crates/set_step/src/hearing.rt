@@ -6,9 +6,9 @@ ghost use Rattle.l2_units.specs.Grammar.{head_of as header_of};
 ghost use Rattle.l3_orders.specs.Grammar.{IsOrder};
 ghost use Rattle.set_route.specs.Routing.{home_of};
 ghost use Rattle.set_model.specs.Control.{part_of};
-ghost use Rattle.set_model.specs.Rows.{service_indicator as indicator_of};
+ghost use Rattle.set_model.specs.Rows.{service_indicator};
 ghost use Rattle.set_model.specs.State.{State, window_of};
-ghost use Rattle.set_model.specs.Step.{in_service, heard, is_msu as is_message, brought, takes, after_control, report_of as report_for};
+ghost use Rattle.set_model.specs.Step.{in_service, heard, is_msu, brought, takes, after_control, report_of};
 ghost use Rattle.set_step.specs.Agreement.{Agrees, Holds};
 ghost use Rattle.set_step.specs.Hearing.{IsSpacious, IsSpaciousFor, KeepsSpace, order_brought, has_order};
 ghost use Rattle.set_step.specs.Parts.{Answers, AreCounted, IsWhole, OfStates, BecomesAt, Obeys, kept_of};
@@ -37,7 +37,7 @@ pub(crate) fn hear(parts: &mut Parts, number: u8, unit: &Unit) -> Result<Answer,
         (heard unit.now number s))) }
     ensures err { OnErr result (kept_of parts.new ≡ kept_of parts.old) }
     ensures fault { IfErr result (λ fault. fault ≡ SetFault.NoMemory) }
-    ensures none { is_message unit.now ≡ false → IsOk result }
+    ensures none { is_msu unit.now ≡ false → IsOk result }
 {
     if let Some(why) = out_of_service(&parts.links, number) {
         return Ok(Answer::Refused { why });
@@ -52,7 +52,7 @@ pub(crate) fn hear(parts: &mut Parts, number: u8, unit: &Unit) -> Result<Answer,
     let part = control_hears(parts, number, unit);
     let took = take_in(parts, part.accept, unit, order, space);
     Ok(Answer::Heard {
-        report: report_of(part, took),
+        report: report_on(part, took),
     })
 }
 
@@ -61,16 +61,17 @@ pub(crate) fn hear(parts: &mut Parts, number: u8, unit: &Unit) -> Result<Answer,
 fn make_space(parts: &mut Parts, unit: &Unit, order: Option<Order>) -> Result<Vec<u8>, SetFault>
     requires whole { IsWhole parts.old }
     requires order { order ≡ order_brought unit.now }
-    ensures space { IfOk result (λ space. has_order unit.now ≡ true → (vec_len space ≡ 0) × (7 ≤ vec_capacity space)) }
+    ensures space { IfOk result
+        (λ space. has_order unit.now ≡ true → (vec_len space ≡ 0) × (7 ≤ vec_capacity space)) }
     ensures inbox { OnOk result
-        (is_message unit.now ≡ true → deque_len parts.new.inbox < deque_capacity parts.new.inbox) }
+        (is_msu unit.now ≡ true → deque_len parts.new.inbox < deque_capacity parts.new.inbox) }
     ensures room { OnOk result (IsSpacious (order_brought unit.now) parts.new) }
     ensures same { kept_of parts.new ≡ kept_of parts.old }
     ensures links { parts.new.links ≡ parts.old.links }
     ensures fault { IfErr result (λ fault. fault ≡ SetFault.NoMemory) }
-    ensures none { is_message unit.now ≡ false → IsOk result }
+    ensures none { is_msu unit.now ≡ false → IsOk result }
 {
-    if !is_msu(unit) {
+    if !has_message(unit) {
         return Ok(Vec::new(*parts.links.allocator()));
     }
     parts.inbox.reserve(1)?;
@@ -80,7 +81,8 @@ fn make_space(parts: &mut Parts, unit: &Unit, order: Option<Order>) -> Result<Ve
 /// Takes the memory that the order may want, if there is one: for its answer, and for the messages that it moves.
 fn make_order_space(parts: &mut Parts, order: Option<Order>) -> Result<Vec<u8>, SetFault>
     requires whole { IsWhole parts.old }
-    ensures space { IfOk result (λ space. is_some order ≡ true → (vec_len space ≡ 0) × (7 ≤ vec_capacity space)) }
+    ensures space { IfOk result
+        (λ space. is_some order ≡ true → (vec_len space ≡ 0) × (7 ≤ vec_capacity space)) }
     ensures room { OnOk result (IsSpacious order parts.new) }
     ensures same { SameButRoom parts.old parts.new }
     ensures fault { IfErr result (λ fault. fault ≡ SetFault.NoMemory) }
@@ -130,7 +132,8 @@ fn make_room_about(parts: &mut Parts, link: u8) -> Result<(), AllocError>
 fn make_room_back(parts: &mut Parts, code: u8) -> Result<(), AllocError>
     requires whole { IsWhole parts.old }
     ensures room { OnOk result
-        (home_of code < length parts.new.links.items → length (back_at code parts.new) ≤ home_room code parts.new) }
+        (home_of code < length parts.new.links.items
+        → length (back_at code parts.new) ≤ home_room code parts.new) }
     ensures same { SameButRoom parts.old parts.new }
 {
     let home = home_of_code(code);
@@ -158,8 +161,9 @@ fn control_hears(parts: &mut Parts, number: u8, unit: &Unit) -> HeardPart
     requires holds { Holds (kept_of parts.old) }
     requires counted { AreCounted (2 ^ 60) parts.old.links.items }
     requires known { number < length parts.old.links.items }
-    ensures part { OfStates number parts.old (λ link s.
-        result ≡ part_of link.control (window_of number link s.rows) (header_of unit.now) (is_message unit.now)) }
+    ensures part { OfStates number parts.old
+        (λ link s. result ≡ part_of link.control (window_of number link s.rows)
+        (header_of unit.now) (is_msu unit.now)) }
     ensures stands { BecomesAt number parts.old parts.new (λ link s.
         after_control result (header_of unit.now) unit.now number s link) }
     ensures counted { AreCounted (2 ^ 61) parts.new.links.items }
@@ -168,7 +172,7 @@ fn control_hears(parts: &mut Parts, number: u8, unit: &Unit) -> HeardPart
     let window = parts.queues.window(number);
     let link = &mut parts.links[usize::from(number)];
     let head = header_in(unit);
-    let part = link.control.hear(window, head, is_msu(unit));
+    let part = link.control.hear(window, head, has_message(unit));
     link.acked += u64::from(part.acked);
     link.accepted += u64::from(part.accept);
     if part.acked > 0 {
@@ -181,8 +185,8 @@ fn control_hears(parts: &mut Parts, number: u8, unit: &Unit) -> HeardPart
 }
 
 /// Whether the unit is an MSU.
-fn is_msu(unit: &Unit) -> bool
-    ensures { result ≡ is_message unit.now }
+fn has_message(unit: &Unit) -> bool
+    ensures { result ≡ is_msu unit.now }
 {
     matches!(unit, Unit::Msu { .. })
 }
@@ -202,7 +206,8 @@ fn take_in(
     requires holds { Holds (kept_of parts.old) }
     requires counted { AreCounted (2 ^ 61) parts.old.links.items }
     requires space { has_order unit.now ≡ true → (vec_len space ≡ 0) × (7 ≤ vec_capacity space) }
-    requires inbox { is_message unit.now ≡ true → deque_len parts.old.inbox < deque_capacity parts.old.inbox }
+    requires inbox { is_msu unit.now ≡ true
+        → deque_len parts.old.inbox < deque_capacity parts.old.inbox }
     requires room { IsSpacious (order_brought unit.now) parts.old }
     ensures { (s : State) → Agrees (kept_of parts.old) s
         → Obeys (takes (brought accept unit.now) s) result parts.new }
@@ -213,7 +218,7 @@ fn take_in(
     if !accept {
         return Took::Nothing;
     }
-    if service_indicator(body.as_slice()) == 0 {
+    if indicator_of(body.as_slice()) == 0 {
         return match order {
             Some(order) => obey(parts, order, space),
             None => Took::Ignored,
@@ -224,8 +229,8 @@ fn take_in(
 }
 
 /// The service indicator of a body, 0 where there is none.
-fn service_indicator(body: &[u8]) -> u8
-    ensures { result ≡ indicator_of body.now }
+fn indicator_of(body: &[u8]) -> u8
+    ensures { result ≡ service_indicator body.now }
 {
     match body.first() {
         Some(sio) => *sio % 16,
@@ -244,8 +249,8 @@ fn copy_of(body: &ArrayVec<u8, LONGEST_BODY>) -> ArrayVec<u8, LONGEST_BODY>
 }
 
 /// The report of what the control found, with what became of the body.
-fn report_of(part: HeardPart, took: Took) -> Report
-    ensures { result ≡ report_for part took }
+fn report_on(part: HeardPart, took: Took) -> Report
+    ensures { result ≡ report_of part took }
 {
     Report {
         acked: part.acked,

@@ -4,13 +4,13 @@ ghost use Rattle.std.specs.Option.{option_map};
 ghost use Rattle.std.specs.Vec.{vec_len, vec_capacity};
 ghost use Rattle.set_queues.specs.Buffers.{IsKnown, IsQueued, TakesRoom, queue_at, room_at, with_queue};
 ghost use Rattle.set_queues.specs.Kind.{is_kind};
-ghost use Rattle.set_model.specs.Rows.{appended, stream_of as stream_in};
+ghost use Rattle.set_model.specs.Rows.{appended, stream_of};
 ghost use Rattle.set_route.specs.Routing.{place_of};
 ghost use Rattle.set_model.specs.State.{State, fate_at, target, has_phase_up};
 ghost use Rattle.set_model.specs.Changeover.{fate_on};
-ghost use Rattle.set_step.specs.Agreement.{StandsFor, kind_of as kind_in};
+ghost use Rattle.set_step.specs.Agreement.{StandsFor, kind_of};
 ghost use Rattle.set_step.specs.Parts.{IsWhole, Becomes, link_of, kept_of};
-ghost use Rattle.set_step.specs.Room.{HasRoom, IsReady, SameButRoom, target_beside as target_without};
+ghost use Rattle.set_step.specs.Room.{HasRoom, IsReady, SameButRoom, target_beside};
 
 use super::link::Link;
 use arrayvec::ArrayVec;
@@ -52,10 +52,10 @@ pub(crate) fn target_of(links: &[Link]) -> Option<u8>
 }
 
 /// The lowest-numbered link that is up beside this one: the target once this one is out of service.
-fn target_beside(links: &[Link], number: u8) -> Option<u8>
+fn other_target(links: &[Link], number: u8) -> Option<u8>
     requires few { length links.now ≤ 16 }
     requires known { number < length links.now }
-    ensures value { result ≡ target_without number links.now }
+    ensures value { result ≡ target_beside number links.now }
     ensures below { IfSome result (λ to. to < length links.now) }
 {
     let mut up = up_links(links);
@@ -121,7 +121,7 @@ pub(crate) fn make_room_beside(
     ensures room { OnOk result (IsReady number orders parts.new) }
     ensures same { SameButRoom parts.old parts.new }
 {
-    let fate = fate_of(target_beside(&parts.links, number));
+    let fate = fate_of(other_target(&parts.links, number));
     let back = parts.queues.back_count(number);
     let Some(more) = with_turns(orders, back) else {
         return Err(AllocError);
@@ -161,7 +161,8 @@ pub(crate) fn stand_last(parts: &mut Parts, body: Body, fate: Fate) -> u64
     requires queued { IsQueued fate }
     requires room { HasRoom fate parts.old }
     ensures number { result ≡ length parts.old.queues.messages }
-    ensures stands { Becomes parts.old parts.new (λ s. record s { rows = appended s.rows body fate }) }
+    ensures stands { Becomes parts.old parts.new
+        (λ s. record s { rows = appended s.rows body fate }) }
     ensures rooms { TakesRoom fate 1 parts.old.queues.rooms parts.new.queues.rooms }
     ensures message { parts.old.queues.room ≤ parts.new.queues.room + 1 }
     ensures body { vec_len parts.new.bodies ≡ vec_len parts.old.bodies + 1 }
@@ -173,7 +174,7 @@ pub(crate) fn stand_last(parts: &mut Parts, body: Body, fate: Fate) -> u64
 {
     let message = Message {
         fate,
-        kind: kind_of(&body),
+        kind: kind_of_body(&body),
         octets: body.len() as u16,
     };
     parts.bodies.push_reserved(body);
@@ -181,21 +182,21 @@ pub(crate) fn stand_last(parts: &mut Parts, body: Body, fate: Fate) -> u64
 }
 
 /// Whose a body is.
-fn kind_of(body: &Body) -> Kind
-    ensures value { result ≡ kind_in body.now }
+fn kind_of_body(body: &Body) -> Kind
+    ensures value { result ≡ kind_of body.now }
     ensures known { is_kind result ≡ true }
 {
     match body.octets().first() {
         Some(sio) if *sio % 16 != 0 => Kind::User {
-            stream: stream_of(body),
+            stream: stream_of_body(body),
         },
         _ => Kind::Order,
     }
 }
 
 /// The stream of a body: the high four bits of its fifth octet, 0 where there is none.
-pub(crate) fn stream_of(body: &Body) -> u8
-    ensures value { result ≡ stream_in body.now }
+pub(crate) fn stream_of_body(body: &Body) -> u8
+    ensures value { result ≡ stream_of body.now }
     ensures few { result < 16 }
 {
     match body.octets().get(4) {
@@ -208,7 +209,8 @@ pub(crate) fn stream_of(body: &Body) -> u8
 pub(crate) fn fate_of_new(parts: &Parts, stream: u8) -> Fate
     requires whole { IsWhole parts.now }
     requires stream { stream < 16 }
-    ensures value { (s : State) → StandsFor (kept_of parts.now) s → result ≡ fate_at (place_of stream s.routing) s }
+    ensures value { (s : State) → StandsFor (kept_of parts.now) s
+        → result ≡ fate_at (place_of stream s.routing) s }
     ensures known { IsKnown result parts.now.queues.lists }
     ensures queued { IsQueued result }
 {

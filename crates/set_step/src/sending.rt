@@ -47,7 +47,8 @@ pub(crate) fn send_next(parts: &mut Parts, number: u8) -> Answer
 fn unit_of(parts: &mut Parts, number: u8) -> Unit
     requires holds { Holds (kept_of parts.old) }
     requires known { number < length parts.old.links.items }
-    ensures { AnswersAt number parts.old parts.new (Answer.Sent result) (λ link s. next number s link) }
+    ensures { AnswersAt number parts.old parts.new (Answer.Sent result)
+        (λ link s. next number s link) }
 {
     let choice = choice_for(parts, number);
     match choice {
@@ -105,8 +106,8 @@ fn body_at(parts: &Parts, fate: Fate, place: usize) -> ArrayVec<u8, LONGEST_BODY
     requires holds { Holds (kept_of parts.now) }
     requires known { IsKnown fate parts.now.queues.lists }
     requires place { place < length (queue_at fate parts.now.queues.lists) }
-    ensures { (s : State) (row : Row) → Agrees (kept_of parts.now) s → slice_get (rows_at fate s.rows) place ≡ Some row
-        → result.items ≡ row.body }
+    ensures { (s : State) (row : Row) → Agrees (kept_of parts.now) s
+        → slice_get (rows_at fate s.rows) place ≡ Some row → result.items ≡ row.body }
 {
     match parts.queues.number_at(fate, place) {
         Some(message) => copy_of(&parts.bodies[message as usize]),
@@ -119,7 +120,8 @@ fn send_first(parts: &mut Parts, number: u8)
     requires known { number < length parts.old.queues.lists.links }
     requires some { 0 < length (queue_at (Fate.Waiting number) parts.old.queues.lists) }
     requires few { length (queue_at (Fate.Unacked number) parts.old.queues.lists) < 127 }
-    ensures { (s : State) (link : LinkState) → slice_get s.links number ≡ Some link → StandsFor (kept_of parts.old) s
+    ensures { (s : State) (link : LinkState) → slice_get s.links number ≡ Some link
+        → StandsFor (kept_of parts.old) s
         → IsInOrder number s.rows → StandsFor (kept_of parts.new)
         (record s { rows = turned (is_waiting number) (Fate.Unacked number) 1 s.rows }) }
 {

@@ -23,8 +23,9 @@ pub(crate) fn settle(parts: &mut Parts, number: u8, reached: Reached)
     requires out { AtLink number parts.old.links.items IsOut }
     requires room { length (on number parts.old.queues.lists) ≤ room_at (fate_on
         (target (map link_of parts.old.links.items))) parts.old.queues.rooms }
-    ensures stands { (s : State) (link : LinkState) → slice_get s.links number ≡ Some link → link.phase ≡ Down
-        → Agrees (kept_of parts.old) s → StandsFor (kept_of parts.new) (settled reached number link s) }
+    ensures stands { (s : State) (link : LinkState) → slice_get s.links number ≡ Some link
+        → link.phase ≡ Down → Agrees (kept_of parts.old) s
+        → StandsFor (kept_of parts.new) (settled reached number link s) }
 {
     judge(parts, number, reached);
     move_all(parts, number);
@@ -37,9 +38,11 @@ fn judge(parts: &mut Parts, number: u8, reached: Reached)
     requires reached { IsReach reached }
     requires known { number < length parts.old.links.items }
     ensures stands { BecomesAt number parts.old parts.new (judged reached number) }
-    ensures fewer { length (on number parts.new.queues.lists) ≤ length (on number parts.old.queues.lists) }
+    ensures fewer { length (on number parts.new.queues.lists) ≤ length
+        (on number parts.old.queues.lists) }
     ensures rooms { KeepsRoom parts.old.queues.rooms parts.new.queues.rooms }
-    ensures phases { map (λ link. link.phase) parts.new.links.items ≡ map (λ link. link.phase) parts.old.links.items }
+    ensures phases { map (λ link. link.phase) parts.new.links.items ≡ map
+        (λ link. link.phase) parts.old.links.items }
     ensures whole { IsWhole parts.new }
 {
     match reached {
@@ -59,7 +62,8 @@ fn discard(parts: &mut Parts, number: u8, cause: DiscardCause)
     requires whole { IsWhole parts.old }
     requires known { number < length parts.old.links.items }
     ensures stands { Becomes parts.old parts.new (discarded cause number) }
-    ensures fewer { length (on number parts.new.queues.lists) ≤ length (on number parts.old.queues.lists) }
+    ensures fewer { length (on number parts.new.queues.lists) ≤ length
+        (on number parts.old.queues.lists) }
     ensures rooms { KeepsRoom parts.old.queues.rooms parts.new.queues.rooms }
     ensures links { parts.new.links ≡ parts.old.links }
     ensures whole { IsWhole parts.new }

@@ -5,10 +5,10 @@ ghost use Rattle.l3_orders.specs.Grammar.{IsOrder};
 ghost use Rattle.set_queues.specs.Buffers.{IsKnown, IsQueued, room_at};
 ghost use Rattle.set_queues.specs.Messages.{unsent_of};
 ghost use Rattle.set_route.specs.Routing.{accepted};
-ghost use Rattle.set_model.specs.Changeover.{leaving_order as order_of_leaving, left_by, queued};
+ghost use Rattle.set_model.specs.Changeover.{leaving_order, left_by, queued};
 ghost use Rattle.set_model.specs.Sound.{IsAsked};
 ghost use Rattle.set_model.specs.Step.{offer_refusal, offered, on_link, in_service, rises, falls, gives_up, taken, found, stepped};
-ghost use Rattle.set_model.specs.Rows.{appended, place, stream_of as stream_in};
+ghost use Rattle.set_model.specs.Rows.{appended, place, stream_of};
 ghost use Rattle.set_model.specs.declared.phase.Phase.TheVariants.{Up, Settled};
 ghost use Rattle.set_step.specs.Agreement.{Holds};
 ghost use Rattle.set_step.specs.Faults.{wants_none};
@@ -22,7 +22,7 @@ use super::fault::SetFault;
 use super::hearing::hear;
 use super::link::Link;
 use super::parts::{
-    Parts, fate_of_new, make_room, make_room_beside, make_room_parked, stand_last, stream_of,
+    Parts, fate_of_new, make_room, make_room_beside, make_room_parked, stand_last, stream_of_body,
 };
 use super::sending::{out_of_service, send_next};
 use super::settling::settle;
@@ -36,7 +36,8 @@ use set_queues::Queues;
 pub(crate) fn carry_out(parts: &mut Parts, event: &Event) -> Result<Answer, SetFault>
     requires holds { Holds (kept_of parts.old) }
     requires counted { AreCounted (2 ^ 60) parts.old.links.items }
-    ensures ok { IfOk result (λ answer. Answers parts.old parts.new answer (λ s. stepped s event.now)) }
+    ensures ok { IfOk result
+        (λ answer. Answers parts.old parts.new answer (λ s. stepped s event.now)) }
     ensures err { OnErr result (kept_of parts.new ≡ kept_of parts.old) }
     ensures fault { IfErr result (λ fault. fault ≡ SetFault.NoMemory) }
     ensures none { wants_none event.now ≡ true → IsOk result }
@@ -74,7 +75,7 @@ fn offer(parts: &mut Parts, body: &Body) -> Result<Answer, SetFault>
         return Ok(Answer::Refused { why });
     }
     let copy = body.try_copy()?;
-    let fate = fate_of_new(parts, stream_of(body));
+    let fate = fate_of_new(parts, stream_of_body(body));
     make_room(parts, fate)?;
     let number = accept(parts, copy, fate);
     Ok(Answer::Accepted { number })
@@ -89,10 +90,10 @@ fn accept(parts: &mut Parts, body: Body, fate: Fate) -> u64
     ensures number { result ≡ length parts.old.queues.messages }
     ensures stands { Becomes parts.old parts.new (λ s. record s {
       rows = appended s.rows body fate;
-      routing = accepted (stream_in body) s.routing;
+      routing = accepted (stream_of body) s.routing;
     }) }
 {
-    let stream = stream_of(&body);
+    let stream = stream_of_body(&body);
     let number = stand_last(parts, body, fate);
     parts.routes.accept(stream);
     number
@@ -100,7 +101,7 @@ fn accept(parts: &mut Parts, body: Body, fate: Fate) -> u64
 
 /// Why an offer is refused, if it is: the first reason in the order of the refusals.
 fn refusal_of(queues: &Queues, body: &Body) -> Option<Refusal>
-    ensures { result ≡ refusal_by (unsent_of (stream_in body.now) queues.now.messages) body.now }
+    ensures { result ≡ refusal_by (unsent_of (stream_of body.now) queues.now.messages) body.now }
 {
     let octets = body.octets();
     if octets.len() < SHORTEST_OFFER {
@@ -112,7 +113,7 @@ fn refusal_of(queues: &Queues, body: &Body) -> Option<Refusal>
     if octets[0] % 16 == 0 {
         return Some(Refusal::Reserved);
     }
-    if queues.unsent(stream_of(body)) >= STREAM_LIMIT {
+    if queues.unsent(stream_of_body(body)) >= STREAM_LIMIT {
         return Some(Refusal::StreamFull);
     }
     None
@@ -147,8 +148,9 @@ fn find(parts: &Parts, number: u64) -> Answer
 fn give_up(parts: &mut Parts, number: u8) -> Result<Answer, SetFault>
     requires holds { Holds (kept_of parts.old) }
     requires counted { AreCounted (2 ^ 60) parts.old.links.items }
-    ensures ok { IfOk result (λ answer. Answers parts.old parts.new answer (λ s. on_link number s (λ link.
-        gives_up number s link link.phase))) }
+    ensures ok { IfOk result
+        (λ answer. Answers parts.old parts.new answer
+        (λ s. on_link number s (λ link. gives_up number s link link.phase))) }
     ensures err { OnErr result (kept_of parts.new ≡ kept_of parts.old) }
     ensures fault { IfErr result (λ fault. fault ≡ SetFault.NoMemory) }
 {
@@ -199,18 +201,18 @@ fn fall(parts: &mut Parts, number: u8, blind: bool, space: Vec<u8>)
     requires space { (vec_len space ≡ 0) × (7 ≤ vec_capacity space) }
     requires room { IsReady number 1 parts.old }
     ensures stands { AgreedBecomes number parts.old parts.new (λ link s.
-        queued (order_of_leaving blind number link) (left_by blind number link s)) }
+        queued (leaving_order blind number link) (left_by blind number link s)) }
 {
-    let order = leaving_order(&parts.links[usize::from(number)], number, blind);
+    let order = order_on_leaving(&parts.links[usize::from(number)], number, blind);
     leave(parts, number, blind);
     queue(parts, order, space);
 }
 
 /// The order with which a link is left.
-fn leaving_order(link: &Link, number: u8, blind: bool) -> Order
+fn order_on_leaving(link: &Link, number: u8, blind: bool) -> Order
     requires number { number < 16 }
     requires counted { link.now.accepted < 2 ^ 62 }
-    ensures order { result ≡ order_of_leaving blind number (link_of link.now) }
+    ensures order { result ≡ leaving_order blind number (link_of link.now) }
     ensures fits { IsOrder result }
 {
     if blind {
@@ -228,8 +230,9 @@ fn leaving_order(link: &Link, number: u8, blind: bool) -> Order
 /// Room in its queue is taken first, so a fault leaves everything as it was.
 fn bring_up(parts: &mut Parts, number: u8) -> Result<Answer, SetFault>
     requires holds { Holds (kept_of parts.old) }
-    ensures ok { IfOk result (λ answer. Answers parts.old parts.new answer (λ s. on_link number s (λ link.
-        rises number s link.phase))) }
+    ensures ok { IfOk result
+        (λ answer. Answers parts.old parts.new answer
+        (λ s. on_link number s (λ link. rises number s link.phase))) }
     ensures err { OnErr result (kept_of parts.new ≡ kept_of parts.old) }
     ensures fault { IfErr result (λ fault. fault ≡ SetFault.NoMemory) }
 {
@@ -246,8 +249,10 @@ fn rise(parts: &mut Parts, number: u8)
     requires holds { Holds (kept_of parts.old) }
     requires known { number < length parts.old.links.items }
     requires settled { AtLink number parts.old.links.items (λ link. link.phase ≡ Settled) }
-    requires room { length parts.old.queues.lists.parked ≤ room_at (Fate.Waiting number) parts.old.queues.rooms }
-    ensures stands { BecomesAt number parts.old parts.new (λ link s. (rises number s Settled).state) }
+    requires room { length parts.old.queues.lists.parked ≤ room_at (Fate.Waiting number)
+        parts.old.queues.rooms }
+    ensures stands { BecomesAt number parts.old parts.new
+        (λ link s. (rises number s Settled).state) }
 {
     parts.queues.reset(number);
     parts
@@ -274,6 +279,6 @@ pub(crate) fn is_asked(event: &Event)
     ensures { IsAsked event.now }
 {
     if let Event::Offer { body } = event {
-        stream_of(body);
+        stream_of_body(body);
     }
 }

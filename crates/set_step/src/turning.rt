@@ -23,7 +23,8 @@ pub(crate) fn turn_back(parts: &mut Parts, number: u8)
     requires room { CanTurnBack number parts.old }
     ensures stands { (s : State) → StandsFor (kept_of parts.old) s → IsTurning number s
         → StandsFor (kept_of parts.new) (turned_back number s) }
-    ensures turns { TakesTurns (back_count number parts.old.queues.lists) parts.old.queues parts.new.queues }
+    ensures turns { TakesTurns (back_count number parts.old.queues.lists) parts.old.queues
+        parts.new.queues }
     ensures links { parts.new.links ≡ parts.old.links }
     ensures bodies { parts.new.bodies ≡ parts.old.bodies }
     ensures whole { IsWhole parts.new }
@@ -45,7 +46,8 @@ fn turn_first(parts: &mut Parts, number: u8, code: u8)
     ensures stands { (s : State) → StandsFor (kept_of parts.old) s → IsTurning number s
         → TurnedSoFar number 1 s (kept_of parts.new) }
     ensures turns { TakesTurns 1 parts.old.queues parts.new.queues }
-    ensures fewer { back_count number parts.new.queues.lists + 1 ≡ back_count number parts.old.queues.lists }
+    ensures fewer { back_count number parts.new.queues.lists + 1 ≡ back_count number
+        parts.old.queues.lists }
     ensures links { parts.new.links ≡ parts.old.links }
     ensures bodies { parts.new.bodies ≡ parts.old.bodies }
     ensures whole { IsWhole parts.new }

@@ -1,7 +1,7 @@
 //! What is left to send, as octets (Q.703 2.4).
 
 ghost use Rattle.std.specs.Prelude.{◌≡◌, ◌≤◌, ◌<◌, length, nat_lt, take, drop};
-ghost use Rattle.l2_bits.specs.Flags.{flag as flag_bits};
+ghost use Rattle.l2_bits.specs.Flags.{flag};
 ghost use Rattle.l2_bits.specs.LineBits.{number_of};
 ghost use Rattle.term_core.specs.Packing.{AppendsUnit};
 
@@ -42,8 +42,8 @@ impl Model for BitsLeft {
 
 impl BitsLeft {
     /// A flag is left.
-    pub(crate) fn flag() -> BitsLeft
-        ensures { result ≡ flag_bits }
+    pub(crate) fn flag_bits() -> BitsLeft
+        ensures { result ≡ flag }
     {
         let mut octets = ArrayVec::new();
         octets.push(FLAG);

@@ -1,8 +1,8 @@
 //! The timers T1 to T7 (Q.703 12.3). A turn is one octet time.
 
 ghost use Rattle.std.specs.Prelude.{◌≡◌};
-ghost use Rattle.term_model.specs.Timing.{lessened, one_less as lessened_by_one, is_over as is_over_in};
-ghost use Rattle.term_core.specs.TimerEnds.{clock_of, without as stopped, ended_now, has_such, is_running, NoEndNoTalk};
+ghost use Rattle.term_model.specs.Timing.{lessened, one_less, is_over};
+ghost use Rattle.term_core.specs.TimerEnds.{clock_of, without, ended_now, has_such, is_running, NoEndNoTalk};
 
 use crate::inside::Inside;
 use term_model::Clocks;
@@ -37,13 +37,13 @@ impl Inside {
             return;
         }
         self.clocks = Clocks {
-            t1: one_less(clocks.t1),
-            t2: one_less(clocks.t2),
-            t3: one_less(clocks.t3),
-            t4: one_less(clocks.t4),
-            t5: one_less(clocks.t5),
-            t6: one_less(clocks.t6),
-            t7: one_less(clocks.t7),
+            t1: tick(clocks.t1),
+            t2: tick(clocks.t2),
+            t3: tick(clocks.t3),
+            t4: tick(clocks.t4),
+            t5: tick(clocks.t5),
+            t6: tick(clocks.t6),
+            t7: tick(clocks.t7),
         };
     }
 
@@ -51,27 +51,27 @@ impl Inside {
     /// ([`no_end_no_talk`]).
     #[inline(always)]
     pub fn has_ended(&self) -> bool
-        ensures { result ≡ has_such is_over_in self.now.clocks }
+        ensures { result ≡ has_such is_over self.now.clocks }
     {
         let clocks = self.clocks;
-        is_over(clocks.t1)
-            || is_over(clocks.t2)
-            || is_over(clocks.t3)
-            || is_over(clocks.t4)
-            || is_over(clocks.t5)
-            || is_over(clocks.t6)
-            || is_over(clocks.t7)
+        has_run_out(clocks.t1)
+            || has_run_out(clocks.t2)
+            || has_run_out(clocks.t3)
+            || has_run_out(clocks.t4)
+            || has_run_out(clocks.t5)
+            || has_run_out(clocks.t6)
+            || has_run_out(clocks.t7)
     }
 
     /// Whether this timer runs and has nothing left; it doesn't run then.
     #[inline(always)]
     pub fn ended(&mut self, timer: Timer) -> bool
-        ensures is_over { result ≡ is_over_in (clock_of timer self.old.clocks) }
+        ensures is_over { result ≡ is_over (clock_of timer self.old.clocks) }
         ensures next { self.new ≡ ended_now timer self.old }
     {
-        let is_over = is_over(left(self.clocks, timer));
+        let is_over = has_run_out(left(self.clocks, timer));
         if is_over {
-            self.clocks = without(self.clocks, timer);
+            self.clocks = stopped(self.clocks, timer);
         }
         is_over
     }
@@ -114,8 +114,8 @@ fn left(clocks: Clocks, timer: Timer) -> Option<u32>
 
 /// The timers where this one doesn't run.
 #[inline(always)]
-fn without(clocks: Clocks, timer: Timer) -> Clocks
-    ensures { result ≡ stopped timer clocks }
+fn stopped(clocks: Clocks, timer: Timer) -> Clocks
+    ensures { result ≡ without timer clocks }
 {
     match timer {
         Timer::T1 => Clocks { t1: None, ..clocks },
@@ -129,8 +129,8 @@ fn without(clocks: Clocks, timer: Timer) -> Clocks
 }
 
 #[inline(always)]
-fn one_less(clock: Option<u32>) -> Option<u32>
-    ensures { result ≡ lessened_by_one clock }
+fn tick(clock: Option<u32>) -> Option<u32>
+    ensures { result ≡ one_less clock }
 {
     match clock {
         None => None,
@@ -139,8 +139,8 @@ fn one_less(clock: Option<u32>) -> Option<u32>
 }
 
 #[inline(always)]
-fn is_over(clock: Option<u32>) -> bool
-    ensures { result ≡ is_over_in clock }
+fn has_run_out(clock: Option<u32>) -> bool
+    ensures { result ≡ is_over clock }
 {
     match clock {
         None => false,

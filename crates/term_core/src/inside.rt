@@ -107,7 +107,7 @@ impl Inside {
             clocks: NO_CLOCKS,
             status: Status::OutOfAlignment,
             commands: NO_COMMANDS,
-            bits: BitsLeft::flag(),
+            bits: BitsLeft::flag_bits(),
             last: None,
             b_due: false,
             up: false,

@@ -12,8 +12,8 @@ ghost use Rattle.term_model.specs.Machines.{
   risen,
   stops_quietly,
   switched,
-  ordered as clock_ordered,
-  status_after as status_named,
+  ordered,
+  status_after,
   aerm_after,
 };
 
@@ -36,11 +36,11 @@ impl Inside {
         ensures end { result ≡ (align_row self.old.align input).out.end }
     {
         let out = self.align.input(input);
-        self.status = status_after(out.send, self.status);
+        self.status = named_status(out.send, self.status);
         set_aerm(&mut self.aerm, out.monitor);
-        self.clocks.t2 = ordered(out.t2, self.lengths.t2, self.clocks.t2);
-        self.clocks.t3 = ordered(out.t3, self.lengths.t3, self.clocks.t3);
-        self.clocks.t4 = ordered(out.t4, NORMAL_PROVING, self.clocks.t4);
+        self.clocks.t2 = order_clock(out.t2, self.lengths.t2, self.clocks.t2);
+        self.clocks.t3 = order_clock(out.t3, self.lengths.t3, self.clocks.t3);
+        self.clocks.t4 = order_clock(out.t4, NORMAL_PROVING, self.clocks.t4);
         out.end
     }
 
@@ -51,9 +51,9 @@ impl Inside {
     {
         let out = self.flow.input(input);
         self.b_due = self.b_due || out.send_busy;
-        self.clocks.t5 = ordered(out.t5, self.lengths.t5, self.clocks.t5);
-        self.clocks.t6 = ordered(out.t6, self.lengths.t6, self.clocks.t6);
-        self.clocks.t7 = ordered(out.t7, self.lengths.t7, self.clocks.t7);
+        self.clocks.t5 = order_clock(out.t5, self.lengths.t5, self.clocks.t5);
+        self.clocks.t6 = order_clock(out.t6, self.lengths.t6, self.clocks.t6);
+        self.clocks.t7 = order_clock(out.t7, self.lengths.t7, self.clocks.t7);
         out.failure
     }
 
@@ -67,7 +67,7 @@ impl Inside {
         if out.new_suerm {
             self.suerm = Some(Suerm::new());
         }
-        self.clocks.t1 = ordered(out.t1, self.lengths.t1, self.clocks.t1);
+        self.clocks.t1 = order_clock(out.t1, self.lengths.t1, self.clocks.t1);
         self.switch(out.alignment);
         out.told
     }
@@ -122,8 +122,8 @@ impl Inside {
 }
 
 /// What an order makes of a timer of this length (Q.703 12.3).
-fn ordered(order: TimerOrder, length: u32, clock: Option<u32>) -> Option<u32>
-    ensures { result ≡ clock_ordered order length clock }
+fn order_clock(order: TimerOrder, length: u32, clock: Option<u32>) -> Option<u32>
+    ensures { result ≡ ordered order length clock }
 {
     match order {
         TimerOrder::Keep => clock,
@@ -134,8 +134,8 @@ fn ordered(order: TimerOrder, length: u32, clock: Option<u32>) -> Option<u32>
 }
 
 /// The status that is sent, where alignment names another or none (Q.703 7.2).
-fn status_after(named: Option<Status>, status: Status) -> Status
-    ensures { result ≡ status_named named status }
+fn named_status(named: Option<Status>, status: Status) -> Status
+    ensures { result ≡ status_after named status }
 {
     match named {
         None => status,

@@ -3,8 +3,8 @@
 ghost use Rattle.std.specs.Prelude.{◌≡◌, ◌<◌, false, length, nat_lt, take, drop, Some};
 ghost use Rattle.l2_bits.specs.LineBits.{number_of};
 ghost use Rattle.l2_units.specs.Grammar.{head_of};
-ghost use Rattle.term_model.specs.Terminal.{last_head as head_before, start_head as first_head};
-ghost use Rattle.term_model.specs.Choosing.{held_back, raised_top, withheld as bsn_withheld};
+ghost use Rattle.term_model.specs.Terminal.{last_head as head_before, start_head};
+ghost use Rattle.term_model.specs.Choosing.{held_back, raised_top, withheld};
 ghost use Rattle.term_model.specs.OctetOut.{Appends};
 
 use crate::inside::Inside;
@@ -34,7 +34,7 @@ impl Inside {
         ensures { result ≡ head_before self.now }
     {
         match self.last {
-            None => start_head(),
+            None => first_header(),
             Some(head) => head,
         }
     }
@@ -49,14 +49,14 @@ impl Inside {
         let last = self.last_head();
         match unit {
             Unit::Fisu { head } => Unit::Fisu {
-                head: withheld(last, head),
+                head: hold_bsn(last, head),
             },
             Unit::Lssu { head, status } => Unit::Lssu {
-                head: withheld(last, head),
+                head: hold_bsn(last, head),
                 status,
             },
             Unit::Msu { head, body } => Unit::Msu {
-                head: withheld(last, head),
+                head: hold_bsn(last, head),
                 body,
             },
         }
@@ -99,8 +99,8 @@ impl Inside {
 }
 
 /// BSN 127, BIB 1, FSN 127, FIB 1: no message was sent or accepted yet.
-fn start_head() -> Header
-    ensures { result ≡ first_head }
+fn first_header() -> Header
+    ensures { result ≡ start_head }
 {
     Header {
         bsn: 127,
@@ -111,8 +111,8 @@ fn start_head() -> Header
 }
 
 /// A header with the acknowledgement of another.
-fn withheld(last: Header, head: Header) -> Header
-    ensures { result ≡ bsn_withheld last head }
+fn hold_bsn(last: Header, head: Header) -> Header
+    ensures { result ≡ withheld last head }
 {
     Header {
         bsn: last.bsn,

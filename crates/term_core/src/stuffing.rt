@@ -51,8 +51,10 @@ struct Text {
 pub(crate) fn put_text(octets: &mut ArrayVec<u8, 336>, part: Part, text: &[u8]) -> Part
     requires none { array_vec_len octets.old ≡ 0 }
     requires text { length text.now ≤ 278 }
-    ensures text { AppendsText (line_bits text.now) (packed octets.old part) (packed octets.new result) }
-    ensures bound { bits_in octets.new result * 5 ≤ bits_in octets.old part * 5 + 48 * length text.now }
+    ensures text { AppendsText (line_bits text.now) (packed octets.old part)
+        (packed octets.new result) }
+    ensures bound { bits_in octets.new result * 5 ≤ bits_in octets.old part * 5 + 48 * length
+        text.now }
 {
     let mut end = TextEnd { part, run: 0 };
     for octet in text {
@@ -69,7 +71,8 @@ fn put_octet(octets: &mut ArrayVec<u8, 336>, end: TextEnd, octet: u8) -> TextEnd
         packed octets.old end.part ++ text_after end.run (bits_of 8 octet ++ rest)
         ≡ packed octets.new result.part ++ text_after result.run rest }
     ensures few { result.run ≤ 4 }
-    ensures bound { bits_in octets.new result.part * 5 + result.run ≤ bits_in octets.old end.part * 5 + end.run + 48 }
+    ensures bound { bits_in octets.new result.part * 5 + result.run ≤ bits_in octets.old end.part *
+        5 + end.run + 48 }
 {
     let end = put_half(octets, end, octet & 0xF);
     put_half(octets, end, octet >> 4)
@@ -85,7 +88,8 @@ fn put_half(octets: &mut ArrayVec<u8, 336>, end: TextEnd, half: u8) -> TextEnd
         packed octets.old end.part ++ text_after end.run (bits_of 4 half ++ rest)
         ≡ packed octets.new result.part ++ text_after result.run rest }
     ensures few { result.run ≤ 4 }
-    ensures bound { bits_in octets.new result.part * 5 + result.run ≤ bits_in octets.old end.part * 5 + end.run + 24 }
+    ensures bound { bits_in octets.new result.part * 5 + result.run ≤ bits_in octets.old end.part *
+        5 + end.run + 24 }
     ensures len { array_vec_len octets.new ≤ array_vec_len octets.old + 1 }
 {
     let text = text_of(half, end.run);
@@ -100,8 +104,9 @@ fn put_half(octets: &mut ArrayVec<u8, 336>, end: TextEnd, half: u8) -> TextEnd
 fn text_of(half: u8, run: u8) -> Text
     requires half { half < 16 }
     requires few { run ≤ 4 }
-    ensures text { (rest : List Bool) →
-        text_after run (bits_of 4 half ++ rest) ≡ bits_of result.count result.bits ++ text_after result.run rest }
+    ensures text { (rest : List Bool)
+        → text_after run (bits_of 4 half ++ rest) ≡ bits_of result.count result.bits ++ text_after
+        result.run rest }
     ensures few { result.run ≤ 4 }
     ensures fits { result.bits < 2 ^ result.count }
     ensures most { result.count ≤ 5 }

@@ -30,22 +30,22 @@ used x e f = let g : is_free x ≡ true = ap is_free f in absurd cc
 -- a code in use is one of a link of the set
 pub release-requires-clause-known : goal.release-requires-clause-known
 release-requires-clause-known c =
-    let low = c.is_sound.ensures.known c.args.code (λ e. used c.code.result (sym c.is_free.ensures ∙ c.if-is_free.false) (c.code.ensures ∙ e)) in
+    let low = c.is_sound.ensures.known c.args.code (λ e. used c.code.result (sym c.is_unused.ensures ∙ c.if-is_unused.false) (c.code.ensures ∙ e)) in
     let routed = (whole_of c.args.parts.now c.requires.holds).routed in
     omega (arith, low, routed)
 
 pub release-requires-clause-room : goal.release-requires-clause-room
 release-requires-clause-room c =
-    let low = c.is_sound.ensures.known c.args.code (λ e. used c.code.result (sym c.is_free.ensures ∙ c.if-is_free.false) (c.code.ensures ∙ e)) in
+    let low = c.is_sound.ensures.known c.args.code (λ e. used c.code.result (sym c.is_unused.ensures ∙ c.if-is_unused.false) (c.code.ensures ∙ e)) in
     let routed = (whole_of c.args.parts.now c.requires.holds).routed in
     c.requires.room (omega (arith, low, routed))
 
-pub returns-then-is_free : goal.returns-then-is_free
-returns-then-is_free c = record {
-  stands = λ s a. in_none c.args.code (code_of c.args.code s.routing) s c.args.parts.now (ap (λ (r : Routing). is_free (code_of c.args.code r)) (sym a.stands.routing) ∙ ap is_free (sym c.code.ensures) ∙ sym c.is_free.ensures ∙ c.if-is_free.true) a.stands;
+pub returns-then-is_unused : goal.returns-then-is_unused
+returns-then-is_unused c = record {
+  stands = λ s a. in_none c.args.code (code_of c.args.code s.routing) s c.args.parts.now (ap (λ (r : Routing). is_free (code_of c.args.code r)) (sym a.stands.routing) ∙ ap is_free (sym c.code.ensures) ∙ sym c.is_unused.ensures ∙ c.if-is_unused.true) a.stands;
 }
 
 pub returns : goal.returns
 returns c = record {
-  stands = λ s a. in_use c.args.code (code_of c.args.code s.routing) s c.release.new.parts (ap (λ (r : Routing). is_free (code_of c.args.code r)) (sym a.stands.routing) ∙ ap is_free (sym c.code.ensures) ∙ sym c.is_free.ensures ∙ c.if-is_free.false) (c.release.ensures.stands s a.stands);
+  stands = λ s a. in_use c.args.code (code_of c.args.code s.routing) s c.release.new.parts (ap (λ (r : Routing). is_free (code_of c.args.code r)) (sym a.stands.routing) ∙ ap is_free (sym c.code.ensures) ∙ sym c.is_unused.ensures ∙ c.if-is_unused.false) (c.release.ensures.stands s a.stands);
 }

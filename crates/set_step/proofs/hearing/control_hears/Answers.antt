@@ -22,7 +22,7 @@ pub overflow_add-link : goal.overflow_add-link
 overflow_add-link c =
     let at = found c.args.parts.now.links.items c.args.number c.from.result c.index_mut-link.result.now c.from.ensures c.requires.known c.index_mut-link.ensures.value in
     let low = (c.requires.counted c.args.number _ at).acked in
-    let small = low_part c.index_mut-link.result.now.control c.window-window.result.now c.header_in-head.result c.is_msu.result c.hear-part.result c.hear-part.ensures.part in
+    let small = low_part c.index_mut-link.result.now.control c.window-window.result.now c.header_in-head.result c.has_message.result c.hear-part.result c.hear-part.ensures.part in
     omega (arith, low, small, c.from-2.ensures)
 
 pub overflow_add-link-2 : goal.overflow_add-link-2
@@ -40,7 +40,7 @@ returns-in-Ok-clause-part c = λ s link there f.
     let w = c.window-window.result.now in
     let is = window_is (kept_of c.args.parts.now) s n link w f there c.window-window.ensures.last c.window-window.ensures.unacked c.window-window.ensures.unsent in
     let control = ap (λ (l : LinkState). l.control) (stands_for c.args.parts.now.links.items n c.from.result x c.from.ensures c.requires.known c.index_mut-link.ensures.value s.links link f.links there) in
-    part_told w (window_of n link s.rows) is x.control link.control control c.header_in-head.result (head_of c.args.unit.now) c.header_in-head.ensures c.is_msu.result (is_msu c.args.unit.now) c.is_msu.ensures c.hear-part.result c.hear-part.ensures.part
+    part_told w (window_of n link s.rows) is x.control link.control control c.header_in-head.result (head_of c.args.unit.now) c.header_in-head.ensures c.has_message.result (is_msu c.args.unit.now) c.has_message.ensures c.hear-part.result c.hear-part.ensures.part
 
 pub returns-else-part-gt0-clause-part : goal.returns-else-part-gt0-clause-part
 returns-else-part-gt0-clause-part c = λ s link there f.
@@ -49,7 +49,7 @@ returns-else-part-gt0-clause-part c = λ s link there f.
     let w = c.window-window.result.now in
     let is = window_is (kept_of c.args.parts.now) s n link w f there c.window-window.ensures.last c.window-window.ensures.unacked c.window-window.ensures.unsent in
     let control = ap (λ (l : LinkState). l.control) (stands_for c.args.parts.now.links.items n c.from.result x c.from.ensures c.requires.known c.index_mut-link.ensures.value s.links link f.links there) in
-    part_told w (window_of n link s.rows) is x.control link.control control c.header_in-head.result (head_of c.args.unit.now) c.header_in-head.ensures c.is_msu.result (is_msu c.args.unit.now) c.is_msu.ensures c.hear-part.result c.hear-part.ensures.part
+    part_told w (window_of n link s.rows) is x.control link.control control c.header_in-head.result (head_of c.args.unit.now) c.header_in-head.ensures c.has_message.result (is_msu c.args.unit.now) c.has_message.ensures c.hear-part.result c.hear-part.ensures.part
 
 pub returns-in-Ok-clause-stands : goal.returns-in-Ok-clause-stands
 returns-in-Ok-clause-stands c = λ s link there f.
@@ -61,9 +61,9 @@ returns-in-Ok-clause-stands c = λ s link there f.
     let is = window_is k s n link w f there c.window-window.ensures.last c.window-window.ensures.unacked c.window-window.ensures.unsent in
     let same = stands_for c.args.parts.now.links.items n c.from.result x c.from.ensures c.requires.known c.index_mut-link.ensures.value s.links link f.links there in
     let control = ap (λ (l : LinkState). l.control) same in
-    let state = heard_told w (window_of n link s.rows) is x.control link.control control c.header_in-head.result head c.header_in-head.ensures c.is_msu.result (is_msu c.args.unit.now) c.is_msu.ensures c.hear-part.new.self c.hear-part.ensures.state in
+    let state = heard_told w (window_of n link s.rows) is x.control link.control control c.header_in-head.result head c.header_in-head.ensures c.has_message.result (is_msu c.args.unit.now) c.has_message.ensures c.hear-part.new.self c.hear-part.ensures.state in
     let some : 0 < c.hear-part.result.acked = grind (arith, nat_tests, c.if-part-gt0.true) in
-    let reaches = reach_told w (window_of n link s.rows) is x.control link.control control c.header_in-head.result head c.header_in-head.ensures c.is_msu.result (is_msu c.args.unit.now) c.is_msu.ensures c.hear-part.result n k c.hear-part.ensures.part c.window-window.ensures.last some in
+    let reaches = reach_told w (window_of n link s.rows) is x.control link.control control c.header_in-head.result head c.header_in-head.ensures c.has_message.result (is_msu c.args.unit.now) c.has_message.ensures c.hear-part.result n k c.hear-part.ensures.part c.window-window.ensures.last some in
     some_heard k _ s n link f there c.hear-part.result head c.args.unit.now head.bsn_in_range reaches (record {
       settings_same = refl;
       lists_are = c.in-Ok.ensures.lists ∙ ap (λ (h : Header). acked_lists n h.bsn c.args.parts.now.queues.lists) c.header_in-head.ensures;
@@ -83,7 +83,7 @@ returns-else-part-gt0-clause-stands c = λ s link there f.
     let head = head_of c.args.unit.now in
     let is = window_is k s n link w f there c.window-window.ensures.last c.window-window.ensures.unacked c.window-window.ensures.unsent in
     let same = stands_for c.args.parts.now.links.items n c.from.result x c.from.ensures c.requires.known c.index_mut-link.ensures.value s.links link f.links there in
-    let state = heard_told w (window_of n link s.rows) is x.control link.control (ap (λ (l : LinkState). l.control) same) c.header_in-head.result head c.header_in-head.ensures c.is_msu.result (is_msu c.args.unit.now) c.is_msu.ensures c.hear-part.new.self c.hear-part.ensures.state in
+    let state = heard_told w (window_of n link s.rows) is x.control link.control (ap (λ (l : LinkState). l.control) same) c.header_in-head.result head c.header_in-head.ensures c.has_message.result (is_msu c.args.unit.now) c.has_message.ensures c.hear-part.new.self c.hear-part.ensures.state in
     let none : c.hear-part.result.acked ≡ 0 = grind (arith, nat_tests, c.if-part-gt0.false) in
     none_heard k _ s n link f there c.hear-part.result head c.args.unit.now none (record {
       settings_same = refl;
@@ -112,7 +112,7 @@ returns-in-Ok-clause-counted c =
     let links = c.args.parts.now.links.items in
     let n = c.args.number in
     let at = found links n c.from.result c.index_mut-link.result.now c.from.ensures c.requires.known c.index_mut-link.ensures.value in
-    let small = low_part c.index_mut-link.result.now.control c.window-window.result.now c.header_in-head.result c.is_msu.result c.hear-part.result c.hear-part.ensures.part in
+    let small = low_part c.index_mut-link.result.now.control c.window-window.result.now c.header_in-head.result c.has_message.result c.hear-part.result c.hear-part.ensures.part in
     let one = more_counted c.index_mut-link.result.now c.from-2.result c.from-3.result c.hear-part.new.self (c.requires.counted n _ at) (few c.from-2.result c.hear-part.result.acked c.from-2.ensures small) (at_most c.from-3.result _ (c.from-3.ensures ∙ one_byte c.hear-part.result.accept) (one_low c.hear-part.result.accept)) in
     counted_set 2305843009213693952 links _ n (record c.index_mut-link.result.now { acked = c.index_mut-link.result.now.acked + c.from-2.result; accepted = c.index_mut-link.result.now.accepted + c.from-3.result; control = c.hear-part.new.self }) (wider 1152921504606846976 2305843009213693952 links (omega arith) c.requires.counted) (ap (λ k. slice_set links k (record c.index_mut-link.result.now { acked = c.index_mut-link.result.now.acked + c.from-2.result; accepted = c.index_mut-link.result.now.accepted + c.from-3.result; control = c.hear-part.new.self })) c.from.ensures) one
 
@@ -121,7 +121,7 @@ returns-else-part-gt0-clause-counted c =
     let links = c.args.parts.now.links.items in
     let n = c.args.number in
     let at = found links n c.from.result c.index_mut-link.result.now c.from.ensures c.requires.known c.index_mut-link.ensures.value in
-    let small = low_part c.index_mut-link.result.now.control c.window-window.result.now c.header_in-head.result c.is_msu.result c.hear-part.result c.hear-part.ensures.part in
+    let small = low_part c.index_mut-link.result.now.control c.window-window.result.now c.header_in-head.result c.has_message.result c.hear-part.result c.hear-part.ensures.part in
     let one = more_counted c.index_mut-link.result.now c.from-2.result c.from-3.result c.hear-part.new.self (c.requires.counted n _ at) (few c.from-2.result c.hear-part.result.acked c.from-2.ensures small) (at_most c.from-3.result _ (c.from-3.ensures ∙ one_byte c.hear-part.result.accept) (one_low c.hear-part.result.accept)) in
     counted_set 2305843009213693952 links _ n (record c.index_mut-link.result.now { acked = c.index_mut-link.result.now.acked + c.from-2.result; accepted = c.index_mut-link.result.now.accepted + c.from-3.result; control = c.hear-part.new.self }) (wider 1152921504606846976 2305843009213693952 links (omega arith) c.requires.counted) (ap (λ k. slice_set links k (record c.index_mut-link.result.now { acked = c.index_mut-link.result.now.acked + c.from-2.result; accepted = c.index_mut-link.result.now.accepted + c.from-3.result; control = c.hear-part.new.self })) c.from.ensures) one
 

@@ -54,9 +54,9 @@ returns c = record {
       let i = is_in mid s n Up now (subst (λ links. IsHere links n Up) (sym (ap (λ ls. ls.items) c.in_ok-space.ensures.links)) h) in
       let told = c.control_hears-part.ensures.part s i.link i.there now.stands in
       let after = agrees_then mid c.control_hears-part.new.parts s n unit c.control_hears-part.result now i told (c.control_hears-part.ensures.stands s i.link i.there now.stands) in
-      let gives = heard_gives n s i.link unit c.control_hears-part.result c.take_in-took.result c.report_of.result c.take_in-took.new.parts told c.report_of.ensures (c.take_in-took.ensures _ after) in
-      served s n (heard_of unit n s) (HeardBack c.report_of.result) c.take_in-took.new.parts i
-      (subst (λ (o : Outcome). Gives o (HeardBack c.report_of.result) c.take_in-took.new.parts) (sym (heard_controls n s i.link unit (λ head status e. c.in_default-unit.not-Lssu head status e))) gives);
+      let gives = heard_gives n s i.link unit c.control_hears-part.result c.take_in-took.result c.report_on.result c.take_in-took.new.parts told c.report_on.ensures (c.take_in-took.ensures _ after) in
+      served s n (heard_of unit n s) (HeardBack c.report_on.result) c.take_in-took.new.parts i
+      (subst (λ (o : Outcome). Gives o (HeardBack c.report_on.result) c.take_in-took.new.parts) (sym (heard_controls n s i.link unit (λ head status e. c.in_default-unit.not-Lssu head status e))) gives);
   err = tt;
   fault = tt;
   none = λ e. refl;

@@ -7,7 +7,7 @@ use Rattle.set_step.proofs.hearing.take_in.Goals as goal
 
 pub returns : goal.returns
 returns c = λ s a.
-    message_taken _ s c.args.accept c.args.unit.now c.in-Msu.head c.in-Msu.body c.in-Msu.is c.if-not-accept.false (ne_eqb (service_indicator c.in-Msu.body.items) 0 (λ e. c.if-service_indicator-eq0.false (c.service_indicator.ensures ∙ ap service_indicator c.as_slice.ensures.value ∙ e)))
+    message_taken _ s c.args.accept c.args.unit.now c.in-Msu.head c.in-Msu.body c.in-Msu.is c.if-not-accept.false (ne_eqb (service_indicator c.in-Msu.body.items) 0 (λ e. c.if-indicator_of-eq0.false (c.indicator_of.ensures ∙ ap service_indicator c.as_slice.ensures.value ∙ e)))
     (delivered (kept_of c.args.parts.now) s c.args.parts.now.inbox.items c.push_back_reserved.new.self.items c.in-Msu.body c.copy_of.result a.stands refl c.push_back_reserved.ensures.items c.copy_of.ensures)
 
 pub returns-in_default : goal.returns-in_default
@@ -32,7 +32,7 @@ pub obey-requires-clause-room : goal.obey-requires-clause-room
 obey-requires-clause-room c = rw (sym c.requires.order ∙ c.in-Some.is) at c.requires.room
 
 pub returns-in-Some : goal.returns-in-Some
-returns-in-Some c = λ s a. order_taken c.obey.new.parts s c.args.accept c.args.unit.now c.in-Msu.head c.in-Msu.body c.in-Some.order c.obey.result c.in-Msu.is c.if-not-accept.false (eq-eqb (service_indicator c.in-Msu.body.items) 0 (sym (c.service_indicator.ensures ∙ ap service_indicator c.as_slice.ensures.value) ∙ c.if-service_indicator-eq0.true)) (sym c.requires.order ∙ c.in-Some.is) (c.obey.ensures.stands s a)
+returns-in-Some c = λ s a. order_taken c.obey.new.parts s c.args.accept c.args.unit.now c.in-Msu.head c.in-Msu.body c.in-Some.order c.obey.result c.in-Msu.is c.if-not-accept.false (eq-eqb (service_indicator c.in-Msu.body.items) 0 (sym (c.indicator_of.ensures ∙ ap service_indicator c.as_slice.ensures.value) ∙ c.if-indicator_of-eq0.true)) (sym c.requires.order ∙ c.in-Some.is) (c.obey.ensures.stands s a)
 
 pub returns-in-None : goal.returns-in-None
-returns-in-None c = λ s a. no_order_taken c.args.parts.now s c.args.accept c.args.unit.now c.in-Msu.head c.in-Msu.body c.in-Msu.is c.if-not-accept.false (eq-eqb (service_indicator c.in-Msu.body.items) 0 (sym (c.service_indicator.ensures ∙ ap service_indicator c.as_slice.ensures.value) ∙ c.if-service_indicator-eq0.true)) (sym c.requires.order ∙ c.in-None.is) a.stands
+returns-in-None c = λ s a. no_order_taken c.args.parts.now s c.args.accept c.args.unit.now c.in-Msu.head c.in-Msu.body c.in-Msu.is c.if-not-accept.false (eq-eqb (service_indicator c.in-Msu.body.items) 0 (sym (c.indicator_of.ensures ∙ ap service_indicator c.as_slice.ensures.value) ∙ c.if-indicator_of-eq0.true)) (sym c.requires.order ∙ c.in-None.is) a.stands

@@ -33,7 +33,7 @@ returns-clause-room c = on_ok c.reserve_all.result (λ enough.
     let after : c.reserve_all.new.self.lists ≡ q = c.reserve_all.ensures.same.0 ∙ before in
     let more : c.in-Some.more ≡ c.args.orders + 2 * c.back_count-back.result = some_of (λ (m : ℕ). m ≡ c.args.orders + 2 * c.back_count-back.result) c.with_turns.result c.in-Some.more c.with_turns.ensures c.in-Some.is in
     let back : c.back_count-back.result ≡ back_count n q = c.back_count-back.ensures.value in
-    let fate : c.fate_of-fate.result ≡ fate_on (target_beside n c.args.parts.now.links.items) = c.fate_of-fate.ensures.value ∙ ap fate_on (c.target_beside.ensures.value ∙ ap (target_beside n) c.deref.ensures.value) in
+    let fate : c.fate_of-fate.result ≡ fate_on (target_beside n c.args.parts.now.links.items) = c.fate_of-fate.ensures.value ∙ ap fate_on (c.other_target.ensures.value ∙ ap (target_beside n) c.deref.ensures.value) in
     let room : length (on n c.reserve_each.new.self.lists) + c.in-Some.more ≤ room_at c.fate_of-fate.result c.reserve_all.new.self.rooms = enough in
     let there : room_at c.fate_of-fate.result c.reserve_all.new.self.rooms ≡ room_at (fate_on (target_beside n c.args.parts.now.links.items)) c.reserve_all.new.self.rooms = ap (λ (f : Fate). room_at f c.reserve_all.new.self.rooms) fate in
     let on_same : length (on n c.reserve_all.new.self.lists) ≡ length (on n c.reserve_each.new.self.lists) = ap (λ (l : Lists). length (on n l)) (after ∙ sym before) in
@@ -49,11 +49,11 @@ returns-clause-room c = on_ok c.reserve_all.result (λ enough.
           (subst (λ (k : ℕ). HaveRoom k c.back_count-back.result c.reserve_each.new.self.rooms) many c.in_ok-reserve_each.ensures.room);
     }) c.reserve_all.ensures.room
 
-pub target_beside-requires-clause-few : goal.target_beside-requires-clause-few
-target_beside-requires-clause-few c = rw c.deref.ensures.value c.requires.whole.few
+pub other_target-requires-clause-few : goal.other_target-requires-clause-few
+other_target-requires-clause-few c = rw c.deref.ensures.value c.requires.whole.few
 
-pub target_beside-requires-clause-known : goal.target_beside-requires-clause-known
-target_beside-requires-clause-known c = rw c.deref.ensures.value c.requires.known
+pub other_target-requires-clause-known : goal.other_target-requires-clause-known
+other_target-requires-clause-known c = rw c.deref.ensures.value c.requires.known
 
 pub returns-in_default-clause-room : goal.returns-in_default-clause-room
 returns-in_default-clause-room c = tt

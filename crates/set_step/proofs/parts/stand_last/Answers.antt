@@ -11,7 +11,7 @@ is : (fate : Fate) (body : List ℕ) (kind : Kind) (octets : ℕ) → kind ≡ k
 is fate body kind octets e f = rw (e, f) refl
 
 pub returns-clause-stands : goal.returns-clause-stands
-returns-clause-stands c = λ s f. appended_then (kept_of c.args.parts.now) _ s c.args.body c.args.fate _ f c.requires.queued c.requires.known (is c.args.fate c.args.body c.kind_of.result c.len.result c.kind_of.ensures.value c.len.ensures) (record {
+returns-clause-stands c = λ s f. appended_then (kept_of c.args.parts.now) _ s c.args.body c.args.fate _ f c.requires.queued c.requires.known (is c.args.fate c.args.body c.kind_of_body.result c.len.result c.kind_of_body.ensures.value c.len.ensures) (record {
   settings_same = refl;
   lists_are = c.add.ensures.lists;
   messages_are = c.add.ensures.messages;

@@ -6,8 +6,8 @@ use Rattle.set_step.proofs.Links.{found, stands_for}
 use Rattle.set_step.proofs.Rooms.{has_room_left, beside_left}
 use Rattle.set_step.proofs.step.fall.Goals as goal
 
-pub leaving_order-order-requires-clause-counted : goal.leaving_order-order-requires-clause-counted
-leaving_order-order-requires-clause-counted c = let few = (c.requires.counted c.args.number _ (found c.args.parts.now.links.items c.args.number c.from.result c.index.result.now c.from.ensures c.requires.known c.index.ensures)).accepted in omega (arith, few)
+pub order_on_leaving-order-requires-clause-counted : goal.order_on_leaving-order-requires-clause-counted
+order_on_leaving-order-requires-clause-counted c = let few = (c.requires.counted c.args.number _ (found c.args.parts.now.links.items c.args.number c.from.result c.index.result.now c.from.ensures c.requires.known c.index.ensures)).accepted in omega (arith, few)
 
 pub leave-requires-clause-room : goal.leave-requires-clause-room
 leave-requires-clause-room c = c.requires.room.each
@@ -22,7 +22,7 @@ returns c = record {
   stands = λ s link there a.
       let n = c.args.number in
       let same = stands_for c.args.parts.now.links.items n c.from.result c.index.result.now c.from.ensures c.requires.known c.index.ensures s.links link a.stands.links there in
-      let order = c.leaving_order-order.ensures.order ∙ ap (leaving_order c.args.blind n) same in
+      let order = c.order_on_leaving-order.ensures.order ∙ ap (leaving_order c.args.blind n) same in
       let mid = left_by c.args.blind n link s in
       subst (λ o. StandsFor (kept_of c.queue.new.parts) (queued o mid)) order (c.queue.ensures.stands mid (c.leave.ensures.stands s link there a));
 }

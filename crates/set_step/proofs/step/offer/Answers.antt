@@ -47,7 +47,7 @@ returns-clause-ok c = λ s a.
     accepted_so c.accept-number.new.parts s body c.in_ok-copy.copy c.fate_of_new-fate.result c.accept-number.result
     (sym (same_refusal (kept_of c.args.parts.now) s body a.stands) ∙ sym c.refusal_of.ensures ∙ c.in_default.is)
     c.in_ok-copy.ensures
-    (c.fate_of_new-fate.ensures.value s a.stands ∙ ap (λ stream. fate_at (place_of stream s.routing) s) c.stream_of.ensures.value)
+    (c.fate_of_new-fate.ensures.value s a.stands ∙ ap (λ stream. fate_at (place_of stream s.routing) s) c.stream_of_body.ensures.value)
     (c.accept-number.ensures.number ∙ now.stands.stands.count)
     (c.accept-number.ensures.stands s now.stands)
 
@@ -58,7 +58,7 @@ pub returns-in-Some-clause-fault : goal.returns-in-Some-clause-fault
 returns-in-Some-clause-fault c = tt
 
 pub fate_of_new-fate-requires-clause-stream : goal.fate_of_new-fate-requires-clause-stream
-fate_of_new-fate-requires-clause-stream c = c.stream_of.ensures.few
+fate_of_new-fate-requires-clause-stream c = c.stream_of_body.ensures.few
 
 pub make_room-requires-clause-known : goal.make_room-requires-clause-known
 make_room-requires-clause-known c = c.fate_of_new-fate.ensures.known

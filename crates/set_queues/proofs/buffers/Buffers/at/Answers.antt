@@ -1,4 +1,4 @@
-use Rattle.std.proofs.Common.{refl, ◌<◌, ap, sym, length}
+use Rattle.std.proofs.Common.{◌<◌, length}
 use Rattle.set_queues.specs.Buffers.{LinkLists}
 use Rattle.set_queues.proofs.Linked.{found, within, list_there, back_found, within_back, back_there}
 use Rattle.set_queues.proofs.buffers.Buffers.at.Goals as goal

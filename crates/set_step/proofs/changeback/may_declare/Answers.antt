@@ -1,5 +1,5 @@
 use Rattle.std.proofs.Common.{sym, ◌∙◌}
-use Rattle.set_step.proofs.changeback.can_declare.Goals as goal
+use Rattle.set_step.proofs.changeback.may_declare.Goals as goal
 
 pub can_ask-requires-clause-home : goal.can_ask-requires-clause-home
 can_ask-requires-clause-home c = c.requires.home
