@@ -1,5 +1,5 @@
 -- One turn more, and its counts.
-use Rattle.std.proofs.Common.{refl, sym, ap, subst, arith, ◌≡◌, ◌∙◌, ℕ, ◌+◌, ◌≤◌, Bool, true, false, List, [], ◌∷◌, ◌++◌, length, Option, Some, None, if◌then◌else◌, append_assoc, append-nil, length-append}
+use Rattle.std.proofs.Common.{refl, sym, ap, subst, arith, ◌≡◌, ◌∙◌, ℕ, ◌+◌, ◌≤◌, ◌<◌, Bool, true, false, List, [], ◌∷◌, ◌++◌, length, Option, Some, None, if◌then◌else◌, append_assoc, append-nil, length-append}
 use Rattle.std.proofs.lemmas.Grind.{flat_map-append}
 use Rattle.std.specs.List.{flat_map}
 use Rattle.std.specs.Option.{option_to_list}
@@ -14,8 +14,8 @@ use Rattle.term_model.proofs.RunSteps.{runs_join}
 use Rattle.link_term.specs.declared.counts.MarkCounts.{MarkCounts}
 use Rattle.link_term.specs.declared.counts.Turned.{Turned}
 use Rattle.link_term.specs.Filling.{has_unit}
-use Rattle.link_term.specs.Running.{Runs}
-use Rattle.link_term.specs.Turning.{TurnsOnce}
+use Rattle.link_term.specs.Running.{Runs, RunBreaks}
+use Rattle.link_term.specs.Turning.{TurnsOnce, TurnBreaks}
 
 -- what the turns so far did, but for the cause
 pub record RanSo (taken taken' : List ℕ) (before : Terminal) (made made' : List Entry)
@@ -168,3 +168,23 @@ ran_all turns taken taken' before made made' given given' put put' report last a
 pub at_most_one : (b : Bool) → (if b then 1 else 0) ≤ 1
 at_most_one false = omega arith
 at_most_one true = omega arith
+
+-- A TURN THAT A FAULT BROKE OFF, behind those that went whole
+pub run_broken : (turns whole : ℕ) (taken mid taken' : List ℕ) (before between : Terminal) (made made_mid made' : List Entry)
+    (given given_mid given' put put_mid put' : List ℕ) (report : TermReport)
+    → RanSo taken mid before made made_mid given given_mid put put_mid report between → report.turns ≡ whole → whole < turns
+    → TurnBreaks mid taken' between made_mid made' given_mid given' put_mid put'
+    → RunBreaks turns taken taken' before made made' given given' put put'
+run_broken turns whole taken mid taken' before between made made_mid made' given given_mid given' put put_mid put' report so are few
+    breaks = record {
+      whole = whole;
+      fewer = few;
+      taken_by_then = mid;
+      made_by_then = made_mid;
+      given_by_then = given_mid;
+      put_by_then = put_mid;
+      report = record report { cause = cause_or_0 between.cause };
+      between = between;
+      runs = ran_all whole taken mid before made made_mid given given_mid put put_mid report _ between so are refl;
+      breaks = breaks;
+    }

@@ -1,10 +1,11 @@
 -- TURNS ONE AFTER ANOTHER, as a run tells them.
-use Rattle.std.specs.Prelude.{◌≡◌, ℕ, List, ◌++◌}
+use Rattle.std.specs.Prelude.{◌≡◌, ◌<◌, ℕ, List, ◌++◌}
 use Rattle.l2_bits.specs.LineBits.{line_bits}
 use Rattle.set_events.specs.declared.history.Entry.{Entry}
 use Rattle.term_model.specs.declared.report.TermReport.{TermReport}
 use Rattle.term_model.specs.Runs.{IsRun}
 use Rattle.term_model.specs.Terminal.{Terminal}
+use Rattle.link_term.specs.Turning.{TurnBreaks}
 
 -- A RUN WENT: the octets taken, what the door made, what the line gave and took, the terminal then, and the report
 pub record Runs (turns : ℕ) (taken taken' : List ℕ) (before : Terminal) (made made' : List Entry)
@@ -17,3 +18,17 @@ pub record Runs (turns : ℕ) (taken taken' : List ℕ) (before : Terminal) (mad
   pub made_is : made' ≡ made ++ entries
   pub given_is : given' ≡ given ++ octets
   pub put_is : put' ≡ put ++ out
+
+-- a fault broke it off: fewer turns than were asked for went whole, and a fault broke off the one behind them
+pub record RunBreaks (turns : ℕ) (taken taken' : List ℕ) (before : Terminal) (made made' : List Entry)
+    (given given' put put' : List ℕ) : Type 0 where
+  pub whole : ℕ
+  pub fewer : whole < turns
+  pub taken_by_then : List ℕ
+  pub made_by_then : List Entry
+  pub given_by_then : List ℕ
+  pub put_by_then : List ℕ
+  pub report : TermReport
+  pub between : Terminal
+  pub runs : Runs whole taken taken_by_then before made made_by_then given given_by_then put put_by_then report between
+  pub breaks : TurnBreaks taken_by_then taken' between made_by_then made' given_by_then given' put_by_then put'

@@ -1,14 +1,13 @@
 //! What a terminal sends next (Q.703 11.2, 12.1).
 ghost use Rattle.std.specs.Prelude.{◌≡◌, ◌==◌, nat_lt, true, length, Some, None, IfOk};
-ghost use Rattle.l2_signals.specs.declared.status.Status.TheVariants.{OutOfService as StatusOutOfService, Busy as StatusBusy};
 ghost use Rattle.l2_units.specs.declared.unit.Unit.TheVariants.{Fisu as FisuUnit, Lssu as LssuUnit};
 ghost use Rattle.link_term.specs.Filling.{as_sent, next_asked, message_counted, served, Fills};
 ghost use Rattle.link_term.specs.Talking.{Talks, TalksTo};
-ghost use Rattle.term_model.specs.Choosing.{chosen, counts_sent, filled, sent_by, serves, sends, up_first as up_talk};
-ghost use Rattle.term_model.specs.Terminal.{last_head as head_before, start_head as first_head};
+ghost use Rattle.term_model.specs.Choosing.{chosen, counts_sent, filled, sent_by, serves, sends, up_first};
+ghost use Rattle.term_model.specs.Terminal.{last_head, start_head};
 
 use super::door::Door;
-use super::machines::{ask_up, flow_in};
+use super::machines::{ask_up, input_flow};
 use l2_flow::FlowIn;
 use l2_signals::Status;
 use l2_state::State;
@@ -35,8 +34,9 @@ pub(crate) fn fill<D: Door>(inside: &mut Inside, door: &mut D) -> Result<bool, S
 /// The unit to send, by where the link stands (Q.703 7.2, 12.1).
 fn choose<D: Door>(inside: &mut Inside, door: &mut D) -> Result<Unit, SetFault>
     requires { D.number door.old ≡ inside.old.link }
-    ensures talks { TalksTo (chosen inside.old.state inside.old) result (D.made door.old) (D.made door.new)
-        (D.faults door.old) (D.faults door.new) (λ unit. as_sent unit inside.new) }
+    ensures talks { TalksTo (chosen inside.old.state inside.old) result (D.made door.old)
+        (D.made door.new) (D.faults door.old) (D.faults door.new)
+        (λ unit. as_sent unit inside.new) }
     ensures at { D.number door.new ≡ inside.new.link }
     ensures bits { IfOk result (λ unit. inside.new.bits ≡ inside.old.bits) }
 {
@@ -50,7 +50,7 @@ fn choose<D: Door>(inside: &mut Inside, door: &mut D) -> Result<Unit, SetFault>
 
 /// An LSSU of this status, with the header of the last unit before (own).
 fn status_unit(inside: &Inside, status: Status) -> Unit
-    ensures { result ≡ LssuUnit (head_before inside.now) status }
+    ensures { result ≡ LssuUnit (last_head inside.now) status }
 {
     Unit::Lssu {
         head: inside.last_head(),
@@ -60,7 +60,7 @@ fn status_unit(inside: &Inside, status: Status) -> Unit
 
 /// A FISU with the header of the last unit before (own).
 fn fisu(inside: &Inside) -> Unit
-    ensures { result ≡ FisuUnit (head_before inside.now) }
+    ensures { result ≡ FisuUnit (last_head inside.now) }
 {
     Unit::Fisu {
         head: inside.last_head(),
@@ -69,14 +69,16 @@ fn fisu(inside: &Inside) -> Unit
 
 /// The FISU of a link on which nothing was sent or accepted (Q.703 12.1).
 fn start_fisu() -> Unit
-    ensures { result ≡ FisuUnit first_head }
+    ensures { result ≡ FisuUnit start_head }
 {
-    Unit::Fisu { head: start_head() }
+    Unit::Fisu {
+        head: first_header(),
+    }
 }
 
 /// BSN 127, BIB 1, FSN 127, FIB 1.
-fn start_head() -> Header
-    ensures { result ≡ first_head }
+fn first_header() -> Header
+    ensures { result ≡ start_head }
 {
     Header {
         bsn: 127,
@@ -94,14 +96,14 @@ fn serve<D: Door>(inside: &mut Inside, door: &mut D, paused: bool) -> Result<Uni
     ensures at { D.number door.new ≡ inside.new.link }
     ensures bits { IfOk result (λ unit. inside.new.bits ≡ inside.old.bits) }
 {
-    up_first(inside, door)?;
+    ask_up_first(inside, door)?;
     serve_up(inside, door, paused)
 }
 
 /// The set is asked for Up, unless it has said Done.
-fn up_first<D: Door>(inside: &mut Inside, door: &mut D) -> Result<(), SetFault>
+fn ask_up_first<D: Door>(inside: &mut Inside, door: &mut D) -> Result<(), SetFault>
     requires { D.number door.old ≡ inside.old.link }
-    ensures talks { Talks (up_talk inside.old) result (D.made door.old) (D.made door.new)
+    ensures talks { Talks (up_first inside.old) result (D.made door.old) (D.made door.new)
         (D.faults door.old) (D.faults door.new) inside.new }
     ensures at { D.number door.new ≡ inside.new.link }
     ensures bits { IfOk result (λ done. inside.new.bits ≡ inside.old.bits) }
@@ -172,8 +174,9 @@ fn send<D: Door>(inside: &mut Inside, door: &mut D, answer: Answer) -> Result<Un
 /// A unit that the set gives, as it's sent (Q.703 5.2, 9.3).
 fn send_unit<D: Door>(inside: &mut Inside, door: &mut D, unit: Unit) -> Result<Unit, SetFault>
     requires { D.number door.old ≡ inside.old.link }
-    ensures talks { TalksTo (message_counted unit inside.old) result (D.made door.old) (D.made door.new)
-        (D.faults door.old) (D.faults door.new) (λ sent. as_sent sent inside.new) }
+    ensures talks { TalksTo (message_counted unit inside.old) result (D.made door.old)
+        (D.made door.new) (D.faults door.old) (D.faults door.new)
+        (λ sent. as_sent sent inside.new) }
     ensures at { D.number door.new ≡ inside.new.link }
     ensures bits { IfOk result (λ sent. inside.new.bits ≡ inside.old.bits) }
 {
@@ -184,15 +187,15 @@ fn send_unit<D: Door>(inside: &mut Inside, door: &mut D, unit: Unit) -> Result<U
 /// T7 runs from the first message on that isn't acknowledged (Q.703 9.3).
 fn count_sent<D: Door>(inside: &mut Inside, door: &mut D, unit: &Unit) -> Result<(), SetFault>
     requires { D.number door.old ≡ inside.old.link }
-    ensures talks { Talks (counts_sent unit.now inside.old) result (D.made door.old) (D.made door.new)
-        (D.faults door.old) (D.faults door.new) inside.new }
+    ensures talks { Talks (counts_sent unit.now inside.old) result (D.made door.old)
+        (D.made door.new) (D.faults door.old) (D.faults door.new) inside.new }
     ensures at { D.number door.new ≡ inside.new.link }
     ensures bits { IfOk result (λ done. inside.new.bits ≡ inside.old.bits) }
 {
     match unit {
         Unit::Msu { head, .. } => {
             inside.raise_top(head.fsn);
-            flow_in(inside, door, FlowIn::Sent)
+            input_flow(inside, door, FlowIn::Sent)
         }
         Unit::Fisu { .. } | Unit::Lssu { .. } => Ok(()),
     }

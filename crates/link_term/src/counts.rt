@@ -29,7 +29,8 @@ impl MarkCounts {
         requires sixteen { self.sixteen < 8 }
         ensures counts { (marks : List Mark) (octets : List ℕ) → self ≡ counts_of marks
             → result ≡ counts_of (mark_of kind octets ∷ marks) }
-        ensures few { (result.good ≤ self.good + 1) × (result.bad ≤ self.bad + 1) × (result.sixteen ≤ self.sixteen + 1) }
+        ensures few { (result.good ≤ self.good + 1) × (result.bad ≤ self.bad + 1)
+            × (result.sixteen ≤ self.sixteen + 1) }
     {
         match kind {
             MarkKind::Good => MarkCounts {

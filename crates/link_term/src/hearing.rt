@@ -7,16 +7,16 @@ ghost use Rattle.term_model.specs.Hearing.{
   marked,
   judged,
   heard,
-  machines_hear as machines_talk,
-  flow_hears as flow_talk,
-  set_hears as set_talk,
+  machines_hear,
+  flow_hears,
+  set_hears,
   reported,
-  acks as acks_talk,
-  faults as faults_talk,
+  acks,
+  faults,
 };
 
 use super::door::Door;
-use super::machines::{align_in, flow_in, state_in};
+use super::machines::{input_align, input_flow, input_state};
 use l2_align::AlignIn;
 use l2_bits::MarkKind;
 use l2_flow::FlowIn;
@@ -36,8 +36,8 @@ pub(crate) fn mark<D: Door>(
     octets: &[u8],
 ) -> Result<(), SetFault>
     requires { D.number door.old ≡ inside.old.link }
-    ensures talks { Talks (marked (mark_of kind octets.now) inside.old) result (D.made door.old) (D.made door.new)
-        (D.faults door.old) (D.faults door.new) inside.new }
+    ensures talks { Talks (marked (mark_of kind octets.now) inside.old) result (D.made door.old)
+        (D.made door.new) (D.faults door.old) (D.faults door.new) inside.new }
     ensures at { D.number door.new ≡ inside.new.link }
 {
     match kind {
@@ -80,8 +80,8 @@ fn judge<D: Door>(inside: &mut Inside, door: &mut D, error: bool) -> Result<(), 
 {
     match inside.judge(error) {
         Verdict::Fine => Ok(()),
-        Verdict::Abort => align_in(inside, door, AlignIn::Abort),
-        Verdict::Failed => state_in(inside, door, StateIn::Failure(Cause::Suerm)),
+        Verdict::Abort => input_align(inside, door, AlignIn::Abort),
+        Verdict::Failed => input_state(inside, door, StateIn::Failure(Cause::Suerm)),
     }
 }
 
@@ -93,54 +93,54 @@ fn hear<D: Door>(inside: &mut Inside, door: &mut D, unit: Unit) -> Result<(), Se
         (D.faults door.old) (D.faults door.new) inside.new }
     ensures at { D.number door.new ≡ inside.new.link }
 {
-    align_in(inside, door, AlignIn::Good)?;
-    machines_hear(inside, door, &unit)?;
-    set_hears(inside, door, unit)
+    input_align(inside, door, AlignIn::Good)?;
+    tell_machines(inside, door, &unit)?;
+    tell_set(inside, door, unit)
 }
 
 /// The machines hear a unit (Q.703 7.3, 8.2, 9.3, 11.1).
-fn machines_hear<D: Door>(inside: &mut Inside, door: &mut D, unit: &Unit) -> Result<(), SetFault>
+fn tell_machines<D: Door>(inside: &mut Inside, door: &mut D, unit: &Unit) -> Result<(), SetFault>
     requires { D.number door.old ≡ inside.old.link }
-    ensures talks { Talks (machines_talk unit.now inside.old) result (D.made door.old) (D.made door.new)
-        (D.faults door.old) (D.faults door.new) inside.new }
+    ensures talks { Talks (machines_hear unit.now inside.old) result (D.made door.old)
+        (D.made door.new) (D.faults door.old) (D.faults door.new) inside.new }
     ensures at { D.number door.new ≡ inside.new.link }
 {
     match unit {
-        Unit::Fisu { .. } => state_in(inside, door, StateIn::Fisu),
+        Unit::Fisu { .. } => input_state(inside, door, StateIn::Fisu),
         Unit::Lssu { status, .. } => hear_status(inside, door, *status),
-        Unit::Msu { .. } => state_in(inside, door, StateIn::Msu),
+        Unit::Msu { .. } => input_state(inside, door, StateIn::Msu),
     }
 }
 
 /// A status: alignment hears it, then link state control, then flow control (Q.703 7.3, 8.2, 9.3).
 fn hear_status<D: Door>(inside: &mut Inside, door: &mut D, status: Status) -> Result<(), SetFault>
     requires { D.number door.old ≡ inside.old.link }
-    ensures talks { Talks (status_heard status inside.old) result (D.made door.old) (D.made door.new)
-        (D.faults door.old) (D.faults door.new) inside.new }
+    ensures talks { Talks (status_heard status inside.old) result (D.made door.old)
+        (D.made door.new) (D.faults door.old) (D.faults door.new) inside.new }
     ensures at { D.number door.new ≡ inside.new.link }
 {
-    align_in(inside, door, AlignIn::Heard(status))?;
-    state_in(inside, door, StateIn::Heard(status))?;
-    flow_hears(inside, door, status)
+    input_align(inside, door, AlignIn::Heard(status))?;
+    input_state(inside, door, StateIn::Heard(status))?;
+    tell_flow(inside, door, status)
 }
 
 /// Busy is flow control's, in every state of the link (Q.703 9.3, own).
-fn flow_hears<D: Door>(inside: &mut Inside, door: &mut D, status: Status) -> Result<(), SetFault>
+fn tell_flow<D: Door>(inside: &mut Inside, door: &mut D, status: Status) -> Result<(), SetFault>
     requires { D.number door.old ≡ inside.old.link }
-    ensures talks { Talks (flow_talk status inside.old) result (D.made door.old) (D.made door.new)
+    ensures talks { Talks (flow_hears status inside.old) result (D.made door.old) (D.made door.new)
         (D.faults door.old) (D.faults door.new) inside.new }
     ensures at { D.number door.new ≡ inside.new.link }
 {
     match status {
-        Status::Busy => flow_in(inside, door, FlowIn::HeardBusy),
+        Status::Busy => input_flow(inside, door, FlowIn::HeardBusy),
         _ => Ok(()),
     }
 }
 
 /// The set hears a unit of any kind, where the link is up there (Q.703 5, 6).
-fn set_hears<D: Door>(inside: &mut Inside, door: &mut D, unit: Unit) -> Result<(), SetFault>
+fn tell_set<D: Door>(inside: &mut Inside, door: &mut D, unit: Unit) -> Result<(), SetFault>
     requires { D.number door.old ≡ inside.old.link }
-    ensures talks { Talks (set_talk unit inside.old) result (D.made door.old) (D.made door.new)
+    ensures talks { Talks (set_hears unit inside.old) result (D.made door.old) (D.made door.new)
         (D.faults door.old) (D.faults door.new) inside.new }
     ensures at { D.number door.new ≡ inside.new.link }
 {
@@ -173,8 +173,8 @@ fn report<D: Door>(
     bsn: u8,
 ) -> Result<(), SetFault>
     requires { D.number door.old ≡ inside.old.link }
-    ensures talks { Talks (reported answer.now bsn inside.old) result (D.made door.old) (D.made door.new)
-        (D.faults door.old) (D.faults door.new) inside.new }
+    ensures talks { Talks (reported answer.now bsn inside.old) result (D.made door.old)
+        (D.made door.new) (D.faults door.old) (D.faults door.new) inside.new }
     ensures at { D.number door.new ≡ inside.new.link }
 {
     match answer {
@@ -197,42 +197,47 @@ fn obey_report<D: Door>(
     bsn: u8,
 ) -> Result<(), SetFault>
     requires { D.number door.old ≡ inside.old.link }
-    ensures talks { Talks (report_heard report bsn inside.old) result (D.made door.old) (D.made door.new)
-        (D.faults door.old) (D.faults door.new) inside.new }
+    ensures talks { Talks (report_heard report bsn inside.old) result (D.made door.old)
+        (D.made door.new) (D.faults door.old) (D.faults door.new) inside.new }
     ensures at { D.number door.new ≡ inside.new.link }
 {
-    acks(inside, door, report, bsn)?;
-    faults(inside, door, report.fault)
+    tell_acks(inside, door, report, bsn)?;
+    tell_faults(inside, door, report.fault)
 }
 
 /// What acknowledges, or asks for retransmission (own), ends the far end's busy time; T7 goes on where messages are
 /// left (Q.703 9.3).
-fn acks<D: Door>(inside: &mut Inside, door: &mut D, report: Report, bsn: u8) -> Result<(), SetFault>
+fn tell_acks<D: Door>(
+    inside: &mut Inside,
+    door: &mut D,
+    report: Report,
+    bsn: u8,
+) -> Result<(), SetFault>
     requires { D.number door.old ≡ inside.old.link }
-    ensures talks { Talks (acks_talk report bsn inside.old) result (D.made door.old) (D.made door.new)
-        (D.faults door.old) (D.faults door.new) inside.new }
+    ensures talks { Talks (acks report bsn inside.old) result (D.made door.old)
+        (D.made door.new) (D.faults door.old) (D.faults door.new) inside.new }
     ensures at { D.number door.new ≡ inside.new.link }
 {
     if report.acked > 0 || report.resend {
         let more = bsn != inside.top();
-        return flow_in(inside, door, FlowIn::Acked { more });
+        return input_flow(inside, door, FlowIn::Acked { more });
     }
     Ok(())
 }
 
 /// Two abnormal BSNs, or FIBs, in three units are a failure of the link (Q.703 5.3.1, 5.3.2).
-fn faults<D: Door>(
+fn tell_faults<D: Door>(
     inside: &mut Inside,
     door: &mut D,
     fault: Option<ControlFault>,
 ) -> Result<(), SetFault>
     requires { D.number door.old ≡ inside.old.link }
-    ensures talks { Talks (faults_talk fault inside.old) result (D.made door.old) (D.made door.new)
+    ensures talks { Talks (faults fault inside.old) result (D.made door.old) (D.made door.new)
         (D.faults door.old) (D.faults door.new) inside.new }
     ensures at { D.number door.new ≡ inside.new.link }
 {
     match fault {
         None => Ok(()),
-        Some(fault) => state_in(inside, door, StateIn::Failure(fault.cause())),
+        Some(fault) => input_state(inside, door, StateIn::Failure(fault.cause())),
     }
 }

@@ -3,7 +3,7 @@ ghost use Rattle.std.specs.Prelude.{◌≡◌, Some, if◌then◌else◌, IfOk};
 ghost use Rattle.set_events.specs.declared.event.Event.TheVariants.{Down, DownBlind};
 ghost use Rattle.l2_state.specs.declared.signals.Told.TheVariants.{Down as ToldDown};
 ghost use Rattle.link_term.specs.Talking.{Talks};
-ghost use Rattle.term_model.specs.Machines.{asks_up, asks_down, tells, state_in as state_talk, align_in as align_talk, flow_in as flow_talk};
+ghost use Rattle.term_model.specs.Machines.{asks_up, asks_down, tells, state_in, align_in, flow_in};
 
 use super::door::Door;
 use l2_align::{AlignIn, End};
@@ -31,7 +31,8 @@ pub(crate) fn ask_up<D: Door>(inside: &mut Inside, door: &mut D) -> Result<(), S
 
 /// What the set is told of a link that failed: after a Blind, that no FSN can be told to the far end (Q.704 5.6).
 fn down_event(inside: &Inside) -> Event
-    ensures { result ≡ (if inside.now.blind then DownBlind inside.now.link else Down inside.now.link) }
+    ensures { result ≡ (if inside.now.blind then DownBlind inside.now.link else Down
+        inside.now.link) }
 {
     let link = inside.link();
     if inside.is_blind() {
@@ -62,8 +63,8 @@ pub(crate) fn leave<D: Door>(
     cause: Cause,
 ) -> Result<(), SetFault>
     requires { D.number door.old ≡ inside.old.link }
-    ensures talks { Talks (tells (Some (ToldDown cause)) inside.old) result (D.made door.old) (D.made door.new)
-        (D.faults door.old) (D.faults door.new) inside.new }
+    ensures talks { Talks (tells (Some (ToldDown cause)) inside.old) result (D.made door.old)
+        (D.made door.new) (D.faults door.old) (D.faults door.new) inside.new }
     ensures at { D.number door.new ≡ inside.new.link }
     ensures bits { IfOk result (λ done. inside.new.bits ≡ inside.old.bits) }
 {
@@ -76,13 +77,13 @@ pub(crate) fn leave<D: Door>(
 
 /// An input of link state control.
 #[tactic(auto, using(crate::proofs::Links::state_link, crate::proofs::Links::state_bits))]
-pub(crate) fn state_in<D: Door>(
+pub(crate) fn input_state<D: Door>(
     inside: &mut Inside,
     door: &mut D,
     input: StateIn,
 ) -> Result<(), SetFault>
     requires { D.number door.old ≡ inside.old.link }
-    ensures talks { Talks (state_talk input inside.old) result (D.made door.old) (D.made door.new)
+    ensures talks { Talks (state_in input inside.old) result (D.made door.old) (D.made door.new)
         (D.faults door.old) (D.faults door.new) inside.new }
     ensures at { D.number door.new ≡ inside.new.link }
     ensures bits { IfOk result (λ done. inside.new.bits ≡ inside.old.bits) }
@@ -95,37 +96,37 @@ pub(crate) fn state_in<D: Door>(
 }
 
 /// An input of initial alignment control.
-pub(crate) fn align_in<D: Door>(
+pub(crate) fn input_align<D: Door>(
     inside: &mut Inside,
     door: &mut D,
     input: AlignIn,
 ) -> Result<(), SetFault>
     requires { D.number door.old ≡ inside.old.link }
-    ensures talks { Talks (align_talk input inside.old) result (D.made door.old) (D.made door.new)
+    ensures talks { Talks (align_in input inside.old) result (D.made door.old) (D.made door.new)
         (D.faults door.old) (D.faults door.new) inside.new }
     ensures at { D.number door.new ≡ inside.new.link }
 {
     match inside.align(input) {
         None => Ok(()),
-        Some(End::Complete) => state_in(inside, door, StateIn::Complete),
-        Some(End::NotPossible) => state_in(inside, door, StateIn::NotPossible),
+        Some(End::Complete) => input_state(inside, door, StateIn::Complete),
+        Some(End::NotPossible) => input_state(inside, door, StateIn::NotPossible),
     }
 }
 
 /// An input of flow control.
-pub(crate) fn flow_in<D: Door>(
+pub(crate) fn input_flow<D: Door>(
     inside: &mut Inside,
     door: &mut D,
     input: FlowIn,
 ) -> Result<(), SetFault>
     requires { D.number door.old ≡ inside.old.link }
-    ensures talks { Talks (flow_talk input inside.old) result (D.made door.old) (D.made door.new)
+    ensures talks { Talks (flow_in input inside.old) result (D.made door.old) (D.made door.new)
         (D.faults door.old) (D.faults door.new) inside.new }
     ensures at { D.number door.new ≡ inside.new.link }
     ensures bits { IfOk result (λ done. inside.new.bits ≡ inside.old.bits) }
 {
     match inside.control(input) {
         None => Ok(()),
-        Some(cause) => state_in(inside, door, StateIn::Failure(cause)),
+        Some(cause) => input_state(inside, door, StateIn::Failure(cause)),
     }
 }

@@ -1,11 +1,11 @@
 //! The commands that waited (Q.703 7.2, 9.2, 12.1).
 ghost use Rattle.std.specs.Prelude.{◌≡◌};
-ghost use Rattle.link_term.specs.Orders.{is_among as is_among_these, every_command, obeys, obeys_among, obeys_all};
+ghost use Rattle.link_term.specs.Orders.{is_among, every_command, obeys, obeys_among, obeys_all};
 ghost use Rattle.link_term.specs.Talking.{Talks};
 ghost use Rattle.term_model.specs.Obeying.{commanded};
 
 use super::door::Door;
-use super::machines::{align_in, flow_in, state_in};
+use super::machines::{input_align, input_flow, input_state};
 use l2_align::AlignIn;
 use l2_flow::FlowIn;
 use l2_state::StateIn;
@@ -52,8 +52,8 @@ fn obey_given<D: Door>(
     commands: Commands,
 ) -> Result<(), SetFault>
     requires { D.number door.old ≡ inside.old.link }
-    ensures talks { Talks (obeys_all commands every_command inside.old) result (D.made door.old) (D.made door.new)
-        (D.faults door.old) (D.faults door.new) inside.new }
+    ensures talks { Talks (obeys_all commands every_command inside.old) result (D.made door.old)
+        (D.made door.new) (D.faults door.old) (D.faults door.new) inside.new }
     ensures at { D.number door.new ≡ inside.new.link }
 {
     if commands == NONE {
@@ -70,8 +70,8 @@ fn obey_each<D: Door>(
     order: &[Command],
 ) -> Result<(), SetFault>
     requires { D.number door.old ≡ inside.old.link }
-    ensures talks { Talks (obeys_all commands order.now inside.old) result (D.made door.old) (D.made door.new)
-        (D.faults door.old) (D.faults door.new) inside.new }
+    ensures talks { Talks (obeys_all commands order.now inside.old) result (D.made door.old)
+        (D.made door.new) (D.faults door.old) (D.faults door.new) inside.new }
     ensures at { D.number door.new ≡ inside.new.link }
 {
     for command in order {
@@ -88,19 +88,19 @@ fn obey_if<D: Door>(
     command: Command,
 ) -> Result<(), SetFault>
     requires { D.number door.old ≡ inside.old.link }
-    ensures talks { Talks (obeys_among commands command inside.old) result (D.made door.old) (D.made door.new)
-        (D.faults door.old) (D.faults door.new) inside.new }
+    ensures talks { Talks (obeys_among commands command inside.old) result (D.made door.old)
+        (D.made door.new) (D.faults door.old) (D.faults door.new) inside.new }
     ensures at { D.number door.new ≡ inside.new.link }
 {
-    if is_among(commands, command) {
+    if contains(commands, command) {
         return obey_one(inside, door, command);
     }
     Ok(())
 }
 
 /// Whether this command was given.
-fn is_among(commands: Commands, command: Command) -> bool
-    ensures { result ≡ is_among_these command commands }
+fn contains(commands: Commands, command: Command) -> bool
+    ensures { result ≡ is_among command commands }
 {
     match command {
         Command::Emergency => commands.emergency,
@@ -120,14 +120,14 @@ fn obey_one<D: Door>(inside: &mut Inside, door: &mut D, command: Command) -> Res
     ensures at { D.number door.new ≡ inside.new.link }
 {
     match command {
-        Command::Emergency => align_in(inside, door, AlignIn::Emergency),
-        Command::Start => state_in(inside, door, StateIn::Start),
-        Command::Busy => flow_in(inside, door, FlowIn::Busy),
-        Command::Ease => flow_in(inside, door, FlowIn::Ease),
+        Command::Emergency => input_align(inside, door, AlignIn::Emergency),
+        Command::Start => input_state(inside, door, StateIn::Start),
+        Command::Busy => input_flow(inside, door, FlowIn::Busy),
+        Command::Ease => input_flow(inside, door, FlowIn::Ease),
         Command::Blind => {
             inside.blind();
             Ok(())
         }
-        Command::Stop => state_in(inside, door, StateIn::Stop),
+        Command::Stop => input_state(inside, door, StateIn::Stop),
     }
 }

@@ -45,7 +45,8 @@ pub(crate) fn hear_bits<D: Door>(
 
 /// Takes the bits that are left, whatever marks they give.
 fn drain(deframer: &mut Deframer, rest: &mut Rest)
-    ensures { (past : List Bool) → StandsFor past deframer.old → FedSome past (rest_of rest.old) deframer.new }
+    ensures { (past : List Bool) → StandsFor past deframer.old
+        → FedSome past (rest_of rest.old) deframer.new }
 {
     match deframer.feed_octet(rest) {
         Some(_kind) => drain(deframer, rest),

@@ -2,7 +2,7 @@
 ghost use Rattle.std.specs.Prelude.{◌≡◌, ◌+◌, ◌^◌, ◌<◌, ◌≤◌, [], true, false, if◌then◌else◌, IfOk, IfErr, OnOk, OnErr};
 ghost use Rattle.link_term.specs.Turning.{TurnsOnce, TurnBreaks};
 ghost use Rattle.link_term.specs.Failing.{HasBroken};
-ghost use Rattle.link_term.specs.Running.{Runs};
+ghost use Rattle.link_term.specs.Running.{Runs, RunBreaks};
 ghost use Rattle.term_model.specs.Runs.{cause_or_0};
 ghost use Rattle.link_term.specs.declared.counts.Turned.{Turned as WasTurned};
 ghost use Rattle.link_term.specs.declared.fault.TermFault.TheVariants.{Failed};
@@ -75,14 +75,17 @@ impl<D: Door, L: Line, G: Gate> Terminal<D, L, G> {
             × TurnsOnce self.old.receiver self.new.receiver self.old.inside turned
             (D.made self.old.door) (D.made self.new.door)
             (L.taken_so_far self.old.line) (L.taken_so_far self.new.line) (L.waiting self.old.line)
-            (L.put_so_far self.old.line) (L.put_so_far self.new.line) (L.free self.new.line) self.new.inside
+            (L.put_so_far self.old.line) (L.put_so_far self.new.line) (L.free self.new.line)
+            self.new.inside
             × (D.faults self.new.door ≡ D.faults self.old.door)) }
         ensures breaks { self.old.failed ≡ false → IfErr result (λ fault. HasBroken fault
             (D.faults self.old.door) (D.faults self.new.door)
-            × TurnBreaks self.old.receiver self.new.receiver self.old.inside (D.made self.old.door) (D.made self.new.door)
+            × TurnBreaks self.old.receiver self.new.receiver self.old.inside (D.made self.old.door)
+            (D.made self.new.door)
             (L.taken_so_far self.old.line) (L.taken_so_far self.new.line)
             (L.put_so_far self.old.line) (L.put_so_far self.new.line)) }
-        ensures failed { self.old.failed ≡ true → (result ≡ Err Failed) × (self.new.door ≡ self.old.door)
+        ensures failed { self.old.failed ≡ true → (result ≡ Err Failed)
+            × (self.new.door ≡ self.old.door)
             × (self.new.line ≡ self.old.line) × (self.new.inside ≡ self.old.inside)
             × (self.new.receiver ≡ self.old.receiver) }
         ensures fails { OnErr result (self.new.failed ≡ true) }
@@ -96,17 +99,24 @@ impl<D: Door, L: Line, G: Gate> Terminal<D, L, G> {
 
     /// So many turns, one after another, at most 2^32: what they counted, and why the link failed last.
     ///
-    /// Faults as of [`Terminal::turn`]: the turn that is broken off is the last.
+    /// Faults as of [`Terminal::turn`]: the turns before the one that was broken off went whole, and it's the last.
     pub fn run(&mut self, turns: u64) -> Result<TermReport, TermFault>
         requires { turns ≤ 2 ^ 32 }
         ensures runs { IfOk result (λ report. (self.old.failed ≡ false)
-            × Runs turns self.old.receiver self.new.receiver self.old.inside (D.made self.old.door) (D.made self.new.door)
+            × Runs turns self.old.receiver self.new.receiver self.old.inside (D.made self.old.door)
+            (D.made self.new.door)
             (L.taken_so_far self.old.line) (L.taken_so_far self.new.line)
             (L.put_so_far self.old.line) (L.put_so_far self.new.line) report self.new.inside
             × (D.faults self.new.door ≡ D.faults self.old.door)) }
         ensures breaks { self.old.failed ≡ false → IfErr result (λ fault. HasBroken fault
             (D.faults self.old.door) (D.faults self.new.door)) }
-        ensures failed { self.old.failed ≡ true → (result ≡ Err Failed) × (self.new.door ≡ self.old.door)
+        ensures whole { self.old.failed ≡ false → OnErr result (RunBreaks turns
+            self.old.receiver self.new.receiver self.old.inside
+            (D.made self.old.door) (D.made self.new.door)
+            (L.taken_so_far self.old.line) (L.taken_so_far self.new.line)
+            (L.put_so_far self.old.line) (L.put_so_far self.new.line)) }
+        ensures failed { self.old.failed ≡ true → (result ≡ Err Failed)
+            × (self.new.door ≡ self.old.door)
             × (self.new.line ≡ self.old.line) × (self.new.inside ≡ self.old.inside)
             × (self.new.receiver ≡ self.old.receiver) }
         ensures fails { OnErr result (self.new.failed ≡ true) }
@@ -142,14 +152,17 @@ impl<D: Door, L: Line, G: Gate> Terminal<D, L, G> {
             × TurnsOnce self.old.receiver self.new.receiver self.old.inside turned
             (D.made self.old.door) (D.made self.new.door)
             (L.taken_so_far self.old.line) (L.taken_so_far self.new.line) (L.waiting self.old.line)
-            (L.put_so_far self.old.line) (L.put_so_far self.new.line) (L.free self.new.line) self.new.inside
+            (L.put_so_far self.old.line) (L.put_so_far self.new.line) (L.free self.new.line)
+            self.new.inside
             × (D.faults self.new.door ≡ D.faults self.old.door)) }
         ensures breaks { self.old.failed ≡ false → IfErr result (λ fault. HasBroken fault
             (D.faults self.old.door) (D.faults self.new.door)
-            × TurnBreaks self.old.receiver self.new.receiver self.old.inside (D.made self.old.door) (D.made self.new.door)
+            × TurnBreaks self.old.receiver self.new.receiver self.old.inside (D.made self.old.door)
+            (D.made self.new.door)
             (L.taken_so_far self.old.line) (L.taken_so_far self.new.line)
             (L.put_so_far self.old.line) (L.put_so_far self.new.line)) }
-        ensures failed { self.old.failed ≡ true → (result ≡ Err Failed) × (self.new.door ≡ self.old.door)
+        ensures failed { self.old.failed ≡ true → (result ≡ Err Failed)
+            × (self.new.door ≡ self.old.door)
             × (self.new.line ≡ self.old.line) × (self.new.inside ≡ self.old.inside)
             × (self.new.receiver ≡ self.old.receiver) }
         ensures fails { OnErr result (self.new.failed ≡ true) }
@@ -195,7 +208,8 @@ fn and_one(report: TermReport, turned: Turned) -> TermReport
     ensures sent { result.sent ≡ report.sent + (if turned.sent then 1 else 0) }
     ensures good { (result.good ≡ report.good + turned.marks.good) × (turned.marks.good < 256) }
     ensures bad { (result.bad ≡ report.bad + turned.marks.bad) × (turned.marks.bad < 256) }
-    ensures sixteen { (result.sixteen ≡ report.sixteen + turned.marks.sixteen) × (turned.marks.sixteen < 256) }
+    ensures sixteen { (result.sixteen ≡ report.sixteen + turned.marks.sixteen)
+        × (turned.marks.sixteen < 256) }
 {
     TermReport {
         turns: report.turns + 1,

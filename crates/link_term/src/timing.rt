@@ -5,7 +5,7 @@ ghost use Rattle.link_term.specs.Talking.{Talks};
 ghost use Rattle.term_model.specs.Timing.{timed};
 
 use super::door::Door;
-use super::machines::{align_in, flow_in, state_in};
+use super::machines::{input_align, input_flow, input_state};
 use l2_align::AlignIn;
 use l2_flow::FlowIn;
 use l2_state::StateIn;
@@ -41,8 +41,8 @@ pub(crate) fn end_timers<D: Door>(inside: &mut Inside, door: &mut D) -> Result<(
 /// The ends of these timers, in order.
 fn end_each<D: Door>(inside: &mut Inside, door: &mut D, timers: &[Timer]) -> Result<(), SetFault>
     requires { D.number door.old ≡ inside.old.link }
-    ensures talks { Talks (ends_all timers.now inside.old) result (D.made door.old) (D.made door.new)
-        (D.faults door.old) (D.faults door.new) inside.new }
+    ensures talks { Talks (ends_all timers.now inside.old) result (D.made door.old)
+        (D.made door.new) (D.faults door.old) (D.faults door.new) inside.new }
     ensures at { D.number door.new ≡ inside.new.link }
 {
     for timer in timers {
@@ -72,12 +72,12 @@ fn tell_end<D: Door>(inside: &mut Inside, door: &mut D, timer: Timer) -> Result<
     ensures at { D.number door.new ≡ inside.new.link }
 {
     match timer {
-        Timer::T1 => state_in(inside, door, StateIn::T1),
-        Timer::T2 => align_in(inside, door, AlignIn::T2),
-        Timer::T3 => align_in(inside, door, AlignIn::T3),
-        Timer::T4 => align_in(inside, door, AlignIn::T4),
-        Timer::T5 => flow_in(inside, door, FlowIn::T5),
-        Timer::T6 => flow_in(inside, door, FlowIn::T6),
-        Timer::T7 => flow_in(inside, door, FlowIn::T7),
+        Timer::T1 => input_state(inside, door, StateIn::T1),
+        Timer::T2 => input_align(inside, door, AlignIn::T2),
+        Timer::T3 => input_align(inside, door, AlignIn::T3),
+        Timer::T4 => input_align(inside, door, AlignIn::T4),
+        Timer::T5 => input_flow(inside, door, FlowIn::T5),
+        Timer::T6 => input_flow(inside, door, FlowIn::T6),
+        Timer::T7 => input_flow(inside, door, FlowIn::T7),
     }
 }

@@ -24,7 +24,8 @@ pub(crate) fn take_turn<D: Door, L: Line>(
 ) -> Result<Turned, SetFault>
     requires { D.number door.old ≡ inside.old.link }
     ensures turns { IfOk result (λ turned. TurnsOnce receiver.old receiver.new inside.old turned
-        (D.made door.old) (D.made door.new) (L.taken_so_far line.old) (L.taken_so_far line.new) (L.waiting line.old)
+        (D.made door.old) (D.made door.new) (L.taken_so_far line.old) (L.taken_so_far line.new)
+        (L.waiting line.old)
         (L.put_so_far line.old) (L.put_so_far line.new) (L.free line.new) inside.new
         × (D.faults door.new ≡ D.faults door.old)) }
     ensures breaks { IfErr result (λ fault. TurnBreaks receiver.old receiver.new inside.old
@@ -42,7 +43,8 @@ pub(crate) fn take_turn<D: Door, L: Line>(
 
 /// The next octet is put; where the line is full it stays for the next turn.
 fn put_octet<L: Line>(inside: &mut Inside, line: &mut L)
-    ensures puts { PutsOut inside.old inside.new (L.put_so_far line.old) (L.put_so_far line.new) (L.free line.new) }
+    ensures puts { PutsOut inside.old inside.new (L.put_so_far line.old) (L.put_so_far line.new)
+        (L.free line.new) }
     ensures taken { L.taken_so_far line.new ≡ L.taken_so_far line.old }
 {
     match line.put(inside.octet()) {

@@ -3,9 +3,9 @@ ghost use Rattle.std.specs.Prelude.{◌≡◌, ◌<◌, ◌↔◌, IfErr, IfOk, 
 ghost use Rattle.set_model.specs.History.{IsActor, new_set};
 ghost use Rattle.set_model.specs.State.{link_count};
 ghost use Rattle.set_step.specs.declared.fault.SetFault.TheVariants.{NoMemory};
-ghost use Rattle.pair_model.specs.World.{actor_of, has_own_step as has_own_step_in};
+ghost use Rattle.pair_model.specs.World.{actor_of, has_own_step};
 ghost use Rattle.pair_model.specs.Promises.{AreSteps, IsAskedStep};
-ghost use Rattle.set_model.specs.Rows.{stream_of as stream_in};
+ghost use Rattle.set_model.specs.Rows.{stream_of};
 ghost use Rattle.pair_world.specs.Carried.{Applies};
 ghost use Rattle.pair_streams.specs.Arrived.{AreDone};
 
@@ -44,8 +44,8 @@ impl Model for World {
 impl World {
     ghost use Rattle.std.specs.Prelude.{◌≡◌, ◌<◌, ◌^◌, ◌↔◌, IfErr, IfSome, IsTrue, OnOk, MatchResult, is_some, true};
     ghost use Rattle.set_model.specs.Rows.{total_of};
-    ghost use Rattle.set_model.specs.State.{is_up as is_up_in};
-    ghost use Rattle.pair_model.specs.World.{carried_out, done_by, asks, acts, has_actor, with_sent, emits, arrives, loses, has_link as has_link_in, rises, at_end, line_to, counts_at};
+    ghost use Rattle.set_model.specs.State.{is_up};
+    ghost use Rattle.pair_model.specs.World.{carried_out, done_by, asks, acts, has_actor, with_sent, emits, arrives, loses, has_link, rises, at_end, line_to, counts_at};
     ghost use Rattle.pair_model.specs.Run.{begun, played_from, HoldsAlong};
     ghost use Rattle.pair_model.specs.Promises.{IsHonestRun, IsQuietRun, IsSoundRun, KeepsLinks};
     ghost use Rattle.pair_changeover.specs.Diverted.{ChangesOver};
@@ -58,7 +58,8 @@ impl World {
     /// Faults: 4 [`PlayFault::Links`] exactly where the configurations differ in links, tested first;
     /// 1 [`PlayFault::NoMemory`] only where memory was refused.
     pub fn new(alloc: Global, a: &SetConfig, b: &SetConfig) -> Result<World, PlayFault>
-        ensures { MatchResult result (IsBegun a.now b.now) (λ fault. FailsToBegin fault a.now b.now) }
+        ensures { MatchResult result (IsBegun a.now b.now)
+            (λ fault. FailsToBegin fault a.now b.now) }
     {
         if a.links != b.links {
             return Err(PlayFault::Links);
@@ -109,10 +110,14 @@ impl World {
         steps: &[Step],
     ) -> Result<World, PlayFault>
         ensures world { IsPlayed result a.now b.now steps.now }
-        ensures keeps { IsHonestRun a.now b.now steps.now → KeepsLinks (begun a.now b.now) steps.now }
-        ensures diverts { IsSoundRun a.now b.now steps.now → ChangesOver (begun a.now b.now) steps.now }
-        ensures streams { IsSoundRun a.now b.now steps.now → HoldsAlong StreamsArrive (begun a.now b.now) steps.now }
-        ensures parts { IsQuietRun a.now b.now steps.now → HoldsAlong PartsArrive (begun a.now b.now) steps.now }
+        ensures keeps { IsHonestRun a.now b.now steps.now
+            → KeepsLinks (begun a.now b.now) steps.now }
+        ensures diverts { IsSoundRun a.now b.now steps.now
+            → ChangesOver (begun a.now b.now) steps.now }
+        ensures streams { IsSoundRun a.now b.now steps.now
+            → HoldsAlong StreamsArrive (begun a.now b.now) steps.now }
+        ensures parts { IsQuietRun a.now b.now steps.now
+            → HoldsAlong PartsArrive (begun a.now b.now) steps.now }
     {
         are_asked(steps);
         let mut world = World::new(alloc, a, b)?;
@@ -210,7 +215,7 @@ impl World {
     fn ask(&mut self, end: End, event: &Event) -> Result<Shown, PlayFault>
         ensures { IsCarriedOut result (asks self.old end event.now) self.new }
     {
-        if has_own_step(event) {
+        if takes_own_step(event) {
             return Err(PlayFault::Impossible { place: 0 });
         }
         self.act(end, event)
@@ -252,11 +257,11 @@ impl World {
 
     /// The terminal of a link, if the world has that link.
     fn terminal_of(&self, link: u8) -> Option<Actor>
-        ensures known { is_some result ≡ has_link_in self.now link }
+        ensures known { is_some result ≡ has_link self.now link }
         ensures who { IfSome result (λ who. who ≡ Actor.Terminal link) }
         ensures few { IfSome result (λ who. link < 16) }
     {
-        if self.has_link(link) {
+        if self.holds_link(link) {
             Some(Actor::Terminal(link))
         } else {
             None
@@ -264,8 +269,8 @@ impl World {
     }
 
     /// Whether the world has this link.
-    fn has_link(&self, link: u8) -> bool
-        ensures value { result ≡ has_link_in self.now link }
+    fn holds_link(&self, link: u8) -> bool
+        ensures value { result ≡ has_link self.now link }
         ensures few { result ≡ true → link < 16 }
     {
         link < self.a.links()
@@ -282,7 +287,7 @@ impl World {
 
     /// A unit that an end sent on the link joins the link's line to the other end.
     fn join(&mut self, end: End, link: u8, shown: &Shown) -> Result<(), PlayFault>
-        requires { has_link_in self.old link ≡ true }
+        requires { has_link self.old link ≡ true }
         ensures ok { OnOk result (self.new ≡ with_sent self.old end link shown.now) }
         ensures err { IfErr result (λ fault. fault ≡ PlayFault.NoMemory) }
     {
@@ -301,13 +306,13 @@ impl World {
     fn arrive(&mut self, end: End, link: u8) -> Result<Shown, PlayFault>
         ensures { IsCarriedOut result (arrives self.old end link) self.new }
     {
-        if !self.has_link(link) {
+        if !self.holds_link(link) {
             return Err(PlayFault::Impossible { place: 0 });
         }
         let Some(unit) = self.take_out(end, link, 0) else {
             return Err(PlayFault::Impossible { place: 0 });
         };
-        if !self.is_up(end, link) {
+        if !self.is_link_up(end, link) {
             return Ok(Shown::Lost);
         }
         self.act(end, &Event::Heard { link, unit })
@@ -317,7 +322,7 @@ impl World {
     fn lose(&mut self, end: End, link: u8, place: u64) -> Result<Shown, PlayFault>
         ensures { IsCarriedOut result (loses self.old end link place) self.new }
     {
-        if !self.has_link(link) {
+        if !self.holds_link(link) {
             return Err(PlayFault::Impossible { place: 0 });
         }
         match self.take_out(end, link, place) {
@@ -328,7 +333,7 @@ impl World {
 
     /// Takes the unit at this place out of the link's line to the end, if there is one.
     fn take_out(&mut self, end: End, link: u8, place: u64) -> Option<Unit>
-        requires { has_link_in self.old link ≡ true }
+        requires { has_link self.old link ≡ true }
         ensures { IsTakenFrom result self.old end link place self.new }
     {
         match end {
@@ -338,8 +343,8 @@ impl World {
     }
 
     /// Whether the link is up at this end.
-    fn is_up(&self, end: End, link: u8) -> bool
-        ensures { result ≡ is_up_in link (at_end self.now end).state }
+    fn is_link_up(&self, end: End, link: u8) -> bool
+        ensures { result ≡ is_up link (at_end self.now end).state }
     {
         match end {
             End::A => self.a.is_up(link),
@@ -351,7 +356,7 @@ impl World {
     fn raise(&mut self, link: u8) -> Result<Shown, PlayFault>
         ensures { IsCarriedOut result (rises self.old link) self.new }
     {
-        if !self.has_link(link) || !self.a.is_settled(link) || !self.b.is_settled(link) {
+        if !self.holds_link(link) || !self.a.is_settled(link) || !self.b.is_settled(link) {
             return Err(PlayFault::Impossible { place: 0 });
         }
         apply(&mut *self.a, Actor::Terminal(link), &Event::Up { link })?;
@@ -374,8 +379,8 @@ fn are_done(counts: Counts) -> bool
 }
 
 /// Whether an event is asked by a step of its own: a unit is sent, a unit is heard, a link comes up.
-fn has_own_step(event: &Event) -> bool
-    ensures { result ≡ has_own_step_in event.now }
+fn takes_own_step(event: &Event) -> bool
+    ensures { result ≡ has_own_step event.now }
 {
     matches!(
         event,
@@ -392,13 +397,13 @@ fn is_asked(step: &Step)
         ..
     } = step
     {
-        stream_of(body);
+        stream_of_body(body);
     }
 }
 
 /// The stream of a body: the high four bits of its fifth octet, 0 where there is none.
-fn stream_of(body: &Body) -> u8
-    ensures value { result ≡ stream_in body.now }
+fn stream_of_body(body: &Body) -> u8
+    ensures value { result ≡ stream_of body.now }
     ensures few { result < 16 }
 {
     match body.octets().get(4) {

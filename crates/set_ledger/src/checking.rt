@@ -1,7 +1,7 @@
 //! Whether all seats of a set are there, and whether their receipts are its history.
 ghost use Rattle.std.specs.Prelude.{◌≡◌, ◌∷◌, ◌↔◌, IsTrue, All, filter};
 ghost use Rattle.set_events.specs.declared.event.Actor.TheVariants.{User, Terminal};
-ghost use Rattle.set_ledger.specs.Ending.{is_actor as is_this_actor, has_seat as has_this_seat, are_seats, is_by, IsFaithful};
+ghost use Rattle.set_ledger.specs.Ending.{is_actor, has_seat, are_seats, is_by, IsFaithful};
 
 use super::seat::{Seat, TermSeat, UserSeat};
 use set_events::Actor;
@@ -20,7 +20,7 @@ pub(crate) fn are_users<C: Ledger, M: Ledger, O: Ledger, A: Ledger>(
     }
     let mut all = true;
     for number in 0..users {
-        all = all && has_seat::<C, M, O, A, UserSeat<C, M, O, A>>(seats, Actor::User(number));
+        all = all && has_seat_of::<C, M, O, A, UserSeat<C, M, O, A>>(seats, Actor::User(number));
     }
     all
 }
@@ -37,20 +37,20 @@ pub(crate) fn are_terminals<C: Ledger, M: Ledger, O: Ledger, A: Ledger>(
     }
     let mut all = true;
     for link in 0..links {
-        all = all && has_seat::<C, M, O, A, TermSeat<C, M, O, A>>(seats, Actor::Terminal(link));
+        all = all && has_seat_of::<C, M, O, A, TermSeat<C, M, O, A>>(seats, Actor::Terminal(link));
     }
     all
 }
 
 /// Whether one of these seats is this actor's.
-fn has_seat<C: Ledger, M: Ledger, O: Ledger, A: Ledger, S: Seat<C, M, O, A>>(
+fn has_seat_of<C: Ledger, M: Ledger, O: Ledger, A: Ledger, S: Seat<C, M, O, A>>(
     seats: &[S],
     who: Actor,
 ) -> bool
-    ensures { result ≡ has_this_seat S.state who seats.now }
+    ensures { result ≡ has_seat S.state who seats.now }
 {
     for seat in seats {
-        if is_actor(who, seat.actor()) {
+        if is_same_actor(who, seat.actor()) {
             return true;
         }
     }
@@ -79,7 +79,7 @@ fn is_faithful(history: Reader<'_>, who: Actor, receipts: Reader<'_>) -> bool
     let mut left = history;
     let mut own = receipts;
     while let Some(entry) = left.next() {
-        if is_actor(who, entry.who()) && !is_next(&mut own, &entry) {
+        if is_same_actor(who, entry.who()) && !is_next(&mut own, &entry) {
             return false;
         }
     }
@@ -98,8 +98,8 @@ fn is_next(receipts: &mut Reader<'_>, entry: &Told<'_>) -> bool
 }
 
 /// Whether both are the same user or the same terminal.
-fn is_actor(who: Actor, other: Actor) -> bool
-    ensures { result ≡ is_this_actor who other }
+fn is_same_actor(who: Actor, other: Actor) -> bool
+    ensures { result ≡ is_actor who other }
 {
     match (who, other) {
         (Actor::User(number), Actor::User(another)) => another == number,

@@ -1,7 +1,7 @@
 //! The end of a set: all its seats are back, and their receipts are held against its history.
 ghost use Rattle.std.specs.Prelude.{◌≡◌, ◌↔◌, true, IsTrue, IfOk, IfErr, OnOk, OnErr, if◌then◌else◌};
 ghost use Rattle.set_model.specs.State.{new_state};
-ghost use Rattle.set_ledger.specs.Ending.{is_complete as is_complete_of, AreFaithful, IsClosed, IsMerged};
+ghost use Rattle.set_ledger.specs.Ending.{is_complete, AreFaithful, IsClosed, IsMerged};
 
 use super::checking::{are_faithful, are_terminals, are_users};
 use super::held::{Held, Rest};
@@ -65,20 +65,22 @@ impl<C: Ledger, M: Ledger, O: Ledger, A: Ledger> Held<C, M, O, A> {
         users: Vec<UserSeat<C, M, O, A>>,
         terminals: Vec<TermSeat<C, M, O, A>>,
     ) -> Result<Closed, EndFault<C, M, O, A>>
-        ensures complete { OnOk result (is_complete_of self.users self.links users.items terminals.items ≡ true) }
+        ensures complete { OnOk result
+            (is_complete self.users self.links users.items terminals.items ≡ true) }
         ensures closed { IfOk result (λ closed.
             IsClosed users.items terminals.items (new_state closed.config) closed.history.items
             closed.books closed.counts) }
         ensures config { IfOk result (λ closed. new_state closed.config ≡ self.set.opening) }
         ensures history { IfOk result (λ closed. closed.history.items ≡ self.set.history) }
         ensures back { IfErr result (λ fault. fault ≡
-            (if is_complete_of self.users self.links users.items terminals.items
+            (if is_complete self.users self.links users.items terminals.items
             then EndFault.Strange else EndFault.Missing)
             (record { held = self; users = users; terminals = terminals })) }
-        ensures strange { OnErr result (is_complete_of self.users self.links users.items terminals.items ≡ true
+        ensures strange { OnErr result
+            (is_complete self.users self.links users.items terminals.items ≡ true
             → AreFaithful self.set.history users.items terminals.items → ⊥) }
     {
-        if !self.is_complete(&users, &terminals) {
+        if !self.has_all_seats(&users, &terminals) {
             return Err(EndFault::Missing(Back {
                 held: self,
                 users,
@@ -96,12 +98,12 @@ impl<C: Ledger, M: Ledger, O: Ledger, A: Ledger> Held<C, M, O, A> {
     }
 
     /// Whether there is one seat for each user and each link of the set, and no other.
-    fn is_complete(
+    fn has_all_seats(
         &self,
         users: &[UserSeat<C, M, O, A>],
         terminals: &[TermSeat<C, M, O, A>],
     ) -> bool
-        ensures { result ≡ is_complete_of self.now.users self.now.links users.now terminals.now }
+        ensures { result ≡ is_complete self.now.users self.now.links users.now terminals.now }
     {
         are_users(users, self.users) && are_terminals(terminals, self.links)
     }
@@ -125,10 +127,10 @@ impl<C: Ledger, M: Ledger, O: Ledger, A: Ledger> Held<C, M, O, A> {
         users: Vec<UserSeat<C, M, O, A>>,
         terminals: Vec<TermSeat<C, M, O, A>>,
     ) -> Closed
-        requires complete { is_complete_of self.users self.links users.items terminals.items ≡ true }
+        requires complete { is_complete self.users self.links users.items terminals.items ≡ true }
         requires faithful { AreFaithful self.set.history users.items terminals.items }
-        ensures closed { IsClosed users.items terminals.items (new_state result.config) result.history.items
-            result.books result.counts }
+        ensures closed { IsClosed users.items terminals.items (new_state result.config)
+            result.history.items result.books result.counts }
         ensures config { new_state result.config ≡ self.set.opening }
         ensures history { result.history.items ≡ self.set.history }
     {
@@ -194,8 +196,9 @@ fn merge_terminals<C: Ledger, M: Ledger, O: Ledger, A: Ledger>(
 )
     ensures calls { IsMerged (λ share. share.calls) seats.items
         calls.old.parts calls.old.amount calls.new.parts calls.new.amount }
-    ensures acknowledged { IsMerged (λ share. share.acknowledged) seats.items
-        acknowledged.old.parts acknowledged.old.amount acknowledged.new.parts acknowledged.new.amount }
+    ensures acknowledged { IsMerged
+        (λ share. share.acknowledged) seats.items acknowledged.old.parts acknowledged.old.amount
+        acknowledged.new.parts acknowledged.new.amount }
 {
     for seat in seats {
         seat.give_back(calls, acknowledged);

@@ -98,13 +98,15 @@ impl<C: Ledger, M: Ledger, O: Ledger, A: Ledger> Held<C, M, O, A> {
         requires calls { (0 < users) × (users ≤ 64) → Names blanks.calls C.name C.parts }
         requires messages { (0 < users) × (users ≤ 64) → Names blanks.messages M.name M.parts }
         requires octets { (0 < users) × (users ≤ 64) → Names blanks.octets O.name O.parts }
-        requires acknowledged { (0 < users) × (users ≤ 64) → Names blanks.acknowledged A.name A.parts }
+        requires acknowledged { (0 < users) × (users ≤ 64)
+            → Names blanks.acknowledged A.name A.parts }
         requires parts { (0 < users) × (users ≤ 64)
             → AreParts C.parts M.parts O.parts A.parts users config.now.links }
         ensures held { IfOk result (λ opened.
             opened.held ≡ record { users = users; links = config.now.links; set = new_set config.now }) }
         ensures users { IfOk result (λ opened. opened.users.items ≡ new_seats User users) }
-        ensures terminals { IfOk result (λ opened. opened.terminals.items ≡ new_seats Terminal config.now.links) }
+        ensures terminals { IfOk result
+            (λ opened. opened.terminals.items ≡ new_seats Terminal config.now.links) }
         ensures range { (result ≡ Err CreateFault.Users) ↔ ((users ≡ 0) ⊎ (64 < users)) }
     {
         if users == 0 || users > MOST_USERS {

@@ -4,7 +4,7 @@ ghost use Rattle.set_core.specs.Gaining.{IsOwn};
 ghost use Rattle.set_model.specs.History.{IsActor, IsStep, longest_history};
 ghost use Rattle.set_ledger.specs.Totals.{Gains};
 
-use super::share::{SeatShare, messages_in, octets_of};
+use super::share::{SeatShare, count_messages, count_octets};
 use set_core::{SetCore, SetFault};
 use set_events::{Actor, Answer, Event};
 use set_history::History;
@@ -28,8 +28,10 @@ pub(crate) fn make(
     ensures step { IfOk result (λ made. IsStep core.old who event.now made.answer core.new) }
     ensures receipt { IfOk result (λ made. receipts.new.items
         ≡ receipts.old.items ++ record { who = who; event = event.now; answer = made.answer } ∷ []) }
-    ensures gains { IfOk result (λ made. Gains core.old who event.now made.answer made.gained core.new) }
-    ensures exhausted { result ≡ Err SetFault.Exhausted → longest_history ≤ length core.old.history }
+    ensures gains { IfOk result
+        (λ made. Gains core.old who event.now made.answer made.gained core.new) }
+    ensures exhausted { result ≡ Err SetFault.Exhausted
+        → longest_history ≤ length core.old.history }
     ensures err { OnErr result ((core.new ≡ core.old) × (receipts.new.items ≡ receipts.old.items)) }
 {
     receipts.reserve(event)?;
@@ -38,8 +40,8 @@ pub(crate) fn make(
     core.replays();
     let gained = SeatShare {
         calls: 1,
-        messages: messages_in(&answer),
-        octets: octets_of(event, &answer),
+        messages: count_messages(&answer),
+        octets: count_octets(event, &answer),
         acknowledged: core.acknowledged() - before,
     };
     receipts.push(who, event, &answer);

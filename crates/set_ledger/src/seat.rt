@@ -38,12 +38,16 @@ pub trait Seat<C: Ledger, M: Ledger, O: Ledger, A: Ledger> {
     /// [`step_in`].
     fn step(&mut self, held: &mut Held<C, M, O, A>, event: &Event) -> Result<Answer, SetFault>
         requires { IsOwn (state self.old).who event.now }
-        ensures step { IfOk result (λ answer. IsStep held.old.set (state self.old).who event.now answer held.new.set) }
-        ensures receipt { IfOk result (λ answer. Receives (state self.old) event.now answer (state self.new)) }
+        ensures step { IfOk result
+            (λ answer. IsStep held.old.set (state self.old).who event.now answer held.new.set) }
+        ensures receipt { IfOk result
+            (λ answer. Receives (state self.old) event.now answer (state self.new)) }
         ensures acknowledged { OnOk result
-            (AcknowledgesAs held.old.set held.new.set (state self.old).share (state self.new).share) }
+            (AcknowledgesAs held.old.set held.new.set (state self.old).share
+            (state self.new).share) }
         ensures seats { (held.new.users ≡ held.old.users) × (held.new.links ≡ held.old.links) }
-        ensures exhausted { result ≡ Err SetFault.Exhausted → longest_history ≤ length held.old.set.history }
+        ensures exhausted { result ≡ Err SetFault.Exhausted
+            → longest_history ≤ length held.old.set.history }
         ensures err { OnErr result ((held.new ≡ held.old) × (state self.new ≡ state self.old)) };
 }
 
@@ -180,7 +184,8 @@ impl<C: Ledger, M: Ledger, O: Ledger, A: Ledger> UserSeat<C, M, O, A> {
         messages: &mut Share<M>,
         octets: &mut Share<O>,
     )
-        ensures calls { Returns calls.old.parts calls.old.amount self.share.calls calls.new.parts calls.new.amount }
+        ensures calls { Returns calls.old.parts calls.old.amount self.share.calls calls.new.parts
+            calls.new.amount }
         ensures messages { Returns messages.old.parts messages.old.amount self.share.messages
             messages.new.parts messages.new.amount }
         ensures octets { Returns octets.old.parts octets.old.amount self.share.octets
@@ -203,9 +208,10 @@ impl<C: Ledger, M: Ledger, O: Ledger, A: Ledger> TermSeat<C, M, O, A> {
 
     /// The parts of a seat that is given up with its receipts go back to these.
     pub(crate) fn give_back(self, calls: &mut Share<C>, acknowledged: &mut Share<A>)
-        ensures calls { Returns calls.old.parts calls.old.amount self.share.calls calls.new.parts calls.new.amount }
-        ensures acknowledged { Returns acknowledged.old.parts acknowledged.old.amount self.share.acknowledged
-            acknowledged.new.parts acknowledged.new.amount }
+        ensures calls { Returns calls.old.parts calls.old.amount self.share.calls calls.new.parts
+            calls.new.amount }
+        ensures acknowledged { Returns acknowledged.old.parts acknowledged.old.amount
+            self.share.acknowledged acknowledged.new.parts acknowledged.new.amount }
     {
         self.calls.give_back(calls);
         self.acknowledged.give_back(acknowledged);
@@ -224,12 +230,16 @@ pub fn step_in<C: Ledger, M: Ledger, O: Ledger, A: Ledger, S: Seat<C, M, O, A>>(
     event: &Event,
 ) -> Result<Answer, SetFault>
     requires { IsOwn (S.state seat.old).who event.now }
-    ensures step { IfOk result (λ answer. IsStep held.old.set (S.state seat.old).who event.now answer held.new.set) }
-    ensures receipt { IfOk result (λ answer. Receives (S.state seat.old) event.now answer (S.state seat.new)) }
+    ensures step { IfOk result
+        (λ answer. IsStep held.old.set (S.state seat.old).who event.now answer held.new.set) }
+    ensures receipt { IfOk result
+        (λ answer. Receives (S.state seat.old) event.now answer (S.state seat.new)) }
     ensures acknowledged { OnOk result
-        (AcknowledgesAs held.old.set held.new.set (S.state seat.old).share (S.state seat.new).share) }
+        (AcknowledgesAs held.old.set held.new.set (S.state seat.old).share
+        (S.state seat.new).share) }
     ensures seats { (held.new.users ≡ held.old.users) × (held.new.links ≡ held.old.links) }
-    ensures exhausted { result ≡ Err SetFault.Exhausted → longest_history ≤ length held.old.set.history }
+    ensures exhausted { result ≡ Err SetFault.Exhausted
+        → longest_history ≤ length held.old.set.history }
     ensures err { OnErr result ((held.new ≡ held.old) × (S.state seat.new ≡ S.state seat.old)) }
 {
     seat.step(held, event)
@@ -250,7 +260,8 @@ pub(crate) fn put_users<C: Ledger, M: Ledger, O: Ledger, A: Ledger>(
     requires octets { (octets.old.amount ≡ 0) × (users ≤ octets.old.parts) }
     ensures seats { seats.new.items ≡ new_seats User users }
     ensures calls { (calls.new.amount ≡ 0) × (calls.new.parts + users ≡ calls.old.parts) }
-    ensures messages { (messages.new.amount ≡ 0) × (messages.new.parts + users ≡ messages.old.parts) }
+    ensures messages { (messages.new.amount ≡ 0)
+        × (messages.new.parts + users ≡ messages.old.parts) }
     ensures octets { (octets.new.amount ≡ 0) × (octets.new.parts + users ≡ octets.old.parts) }
 {
     for number in 0..users {
@@ -280,7 +291,8 @@ pub(crate) fn put_terminals<C: Ledger, M: Ledger, O: Ledger, A: Ledger>(
     requires acknowledged { (acknowledged.old.amount ≡ 0) × (links ≤ acknowledged.old.parts) }
     ensures seats { seats.new.items ≡ new_seats Terminal links }
     ensures calls { (calls.new.amount ≡ 0) × (calls.new.parts + links ≡ calls.old.parts) }
-    ensures acknowledged { (acknowledged.new.amount ≡ 0) × (acknowledged.new.parts + links ≡ acknowledged.old.parts) }
+    ensures acknowledged { (acknowledged.new.amount ≡ 0)
+        × (acknowledged.new.parts + links ≡ acknowledged.old.parts) }
 {
     for link in 0..links {
         let seat = TermSeat {

@@ -1,7 +1,7 @@
 //! What a seat has of the totals: plain numbers, and the tokens of the ledgers that say the same.
 ghost use Rattle.std.specs.Prelude.{◌≡◌, ◌<◌, ◌+◌, ◌^◌};
 ghost use Rattle.set_ledger.specs.Seats.{Returns};
-ghost use Rattle.set_model.specs.Step.{messages_in as messages_in_answer, octets_of as octets_of_answer};
+ghost use Rattle.set_model.specs.Step.{messages_in, octets_of};
 
 use set_events::{Answer, Event};
 use std::sync::ledger::{Blank, Book, Ledger, Share};
@@ -70,8 +70,8 @@ impl<L: Ledger> Part<L> {
 }
 
 /// How many messages this answer accepts: 1 or none.
-pub(crate) fn messages_in(answer: &Answer) -> u64
-    ensures { result ≡ messages_in_answer answer.now }
+pub(crate) fn count_messages(answer: &Answer) -> u64
+    ensures { result ≡ messages_in answer.now }
 {
     match answer {
         Answer::Accepted { .. } => 1,
@@ -80,8 +80,8 @@ pub(crate) fn messages_in(answer: &Answer) -> u64
 }
 
 /// The octets of the body that this answer to this event accepts.
-pub(crate) fn octets_of(event: &Event, answer: &Answer) -> u64
-    ensures { result ≡ octets_of_answer event.now answer.now }
+pub(crate) fn count_octets(event: &Event, answer: &Answer) -> u64
+    ensures { result ≡ octets_of event.now answer.now }
 {
     match (event, answer) {
         (Event::Offer { body }, Answer::Accepted { .. }) => body.len() as u64,

@@ -3,5 +3,5 @@ use Rattle.link_term.proofs.choosing.serve.Goals as goal
 
 pub returns-clause-talks : goal.returns-clause-talks
 returns-clause-talks g c =
-    let first = c.in_ok-up_first.ensures.talks in
+    let first = c.in_ok-ask_up_first.ensures.talks in
     talks_then _ _ _ _ _ _ _ _ _ _ _ first.0 first.1 c.serve_up.ensures.talks

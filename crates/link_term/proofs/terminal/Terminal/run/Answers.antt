@@ -1,5 +1,5 @@
 use Rattle.std.proofs.Common.{arith, ◌∙◌, ◌≤◌, if◌then◌else◌}
-use Rattle.link_term.proofs.Turns.{ran_more, at_most_one}
+use Rattle.link_term.proofs.Turns.{ran_more, run_broken, at_most_one}
 use Rattle.link_term.proofs.terminal.Terminal.run.Goals as goal
 
 pub loop-turn-preserved : goal.loop-turn-preserved
@@ -18,3 +18,8 @@ loop-turn-preserved g c =
       bad = omega (arith, sums.bad.0, sums.bad.1, so.bad);
       sixteen = omega (arith, sums.sixteen.0, sums.sixteen.1, so.sixteen);
     }
+
+pub returns-in-Err-clause-whole : goal.returns-in-Err-clause-whole
+returns-in-Err-clause-whole g c = λ _.
+    let so = c.loop-turn.invariant in
+    run_broken _ _ _ _ _ _ _ _ _ _ _ _ _ _ _ _ _ so.so so.turns c.loop-turn-test.true (c.in-Err.ensures.breaks so.works).1
