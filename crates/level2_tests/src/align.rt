@@ -42,14 +42,14 @@ fn begins_to_prove(align: &mut Align) -> bool {
 
 #[test]
 fn normal_alignment_completes() -> Result<(), Fail> {
-    completes(&mut Align::new())
+    holds(completes(&mut Align::new()))
 }
 
-fn completes(align: &mut Align) -> Result<(), Fail> {
-    holds(starts(align))?;
-    holds(is_aligned(align))?;
-    holds(begins_to_prove(align))?;
-    holds(told(align, AlignIn::T4).end == Some(End::Complete))
+fn completes(align: &mut Align) -> bool {
+    starts(align)
+        && is_aligned(align)
+        && begins_to_prove(align)
+        && told(align, AlignIn::T4).end == Some(End::Complete)
 }
 
 fn is_aborted(align: &mut Align) -> bool {
@@ -59,23 +59,20 @@ fn is_aborted(align: &mut Align) -> bool {
 
 #[test]
 fn fifth_abort_since_aligned_was_left() -> Result<(), Fail> {
-    ends_at_the_fifth(&mut proving_normally())
+    holds(ends_at_the_fifth(&mut proving_normally()))
 }
 
-fn ends_at_the_fifth(align: &mut Align) -> Result<(), Fail> {
+fn ends_at_the_fifth(align: &mut Align) -> bool {
     for _ in 0..4u8 {
-        holds(is_aborted(align))?;
-        holds(is_normal_proving(&told(align, AlignIn::Good)))?;
+        if !is_aborted(align) || !is_normal_proving(&told(align, AlignIn::Good)) {
+            return false;
+        }
     }
-    holds(told(align, AlignIn::Abort).end == Some(End::NotPossible))
+    told(align, AlignIn::Abort).end == Some(End::NotPossible)
 }
 
 #[test]
 fn emergency_heard_in_normal_proving() -> Result<(), Fail> {
-    is_shortened(&mut proving_normally())
-}
-
-fn is_shortened(align: &mut Align) -> Result<(), Fail> {
     let shortened = AlignOut {
         send: None,
         t2: TimerOrder::Keep,
@@ -84,5 +81,6 @@ fn is_shortened(align: &mut Align) -> Result<(), Fail> {
         monitor: Monitor::Emergency,
         end: None,
     };
-    holds(told(align, AlignIn::Heard(Status::Emergency)) == shortened)
+    let mut align = proving_normally();
+    holds(told(&mut align, AlignIn::Heard(Status::Emergency)) == shortened)
 }

@@ -91,10 +91,10 @@ fn marks_of_slices(line: &[u8], piece: usize, marks: &mut Vec<Mark>) -> Result<(
 }
 
 /// Whether a line of these octets gives these marks, by bits.
-fn gives(alloc: Global, line: &[u8], wanted: &[Mark]) -> Result<(), Fail> {
+fn gives(alloc: Global, line: &[u8], wanted: &[Mark]) -> bool {
     let mut marks = Vec::new(alloc);
     let done = marks_of(line, &mut marks).is_ok();
-    holds(done && marks.as_slice() == wanted)
+    done && marks.as_slice() == wanted
 }
 
 /// Whether it gives these marks by calls of all kinds.
@@ -117,30 +117,28 @@ const STATUS: [u8; 9] = [0x7E, 0xDF, 0xF7, 0x0D, 0x00, 0x38, 0x31, 0xF7, 0x03];
 
 #[test]
 fn a_fill_in_unit_between_flags(rt: HostRuntime) -> Result<(), Fail> {
-    gives(rt.alloc(), &FILL_IN, &[good(&[0xFF, 0xFF, 0x00])])
+    holds(gives(rt.alloc(), &FILL_IN, &[good(&[0xFF, 0xFF, 0x00])]))
 }
 
 #[test]
 fn a_status_unit_between_flags(rt: HostRuntime) -> Result<(), Fail> {
-    gives(rt.alloc(), &STATUS, &[good(&[0xFF, 0xFF, 0x01, 0x00])])
+    let unit = good(&[0xFF, 0xFF, 0x01, 0x00]);
+    holds(gives(rt.alloc(), &STATUS, &[unit]))
 }
 
 #[test]
 fn the_length_indicator_is_the_readers_business(rt: HostRuntime) -> Result<(), Fail> {
     let line = [0x7E, 0xDF, 0xF7, 0x0D, 0xB0, 0x73, 0xF7, 0x03];
-    gives(rt.alloc(), &line, &[good(&[0xFF, 0xFF, 0x01])])
+    holds(gives(rt.alloc(), &line, &[good(&[0xFF, 0xFF, 0x01])]))
 }
 
 #[test]
 fn nothing_and_too_little_between_flags(rt: HostRuntime) -> Result<(), Fail> {
-    gives(rt.alloc(), &[], &[])?;
+    let nothing = gives(rt.alloc(), &[], &[]);
     // Two flags that share a zero.
-    gives(rt.alloc(), &[0x7E, 0x3F], &[])?;
-    gives(
-        rt.alloc(),
-        &[0x7E, 0x00, 0x00, 0x00, 0x00, 0x7E],
-        &[Mark::Bad],
-    )
+    let flags = gives(rt.alloc(), &[0x7E, 0x3F], &[]);
+    let line = [0x7E, 0x00, 0x00, 0x00, 0x00, 0x7E];
+    holds(nothing && flags && gives(rt.alloc(), &line, &[Mark::Bad]))
 }
 
 #[test]
@@ -149,14 +147,14 @@ fn unit_ends_octet_counting(rt: HostRuntime) -> Result<(), Fail> {
     line[0] = 0xFF;
     line[33..].copy_from_slice(&FILL_IN);
     let marks = [Mark::Sixteen, Mark::Sixteen, good(&[0xFF, 0xFF, 0x00])];
-    gives(rt.alloc(), &line, &marks)
+    holds(gives(rt.alloc(), &line, &marks))
 }
 
 #[test]
 fn silence_begins_octet_counting(rt: HostRuntime) -> Result<(), Fail> {
     // 2,677 bits without a flag, and 128 more: the 350th octet ends before, the 351st after them.
-    gives(rt.alloc(), &[0x00; 350], &[])?;
-    gives(rt.alloc(), &[0x00; 351], &[Mark::Sixteen])
+    let before = gives(rt.alloc(), &[0x00; 350], &[]);
+    holds(before && gives(rt.alloc(), &[0x00; 351], &[Mark::Sixteen]))
 }
 
 /// Whether calls of all kinds give the marks of bits, of which there are five or more.
@@ -178,44 +176,40 @@ fn calls_of_all_kinds_give_the_marks_of_bits(rt: HostRuntime) -> Result<(), Fail
     line[28..37].copy_from_slice(&STATUS);
     line[38..42].copy_from_slice(&[0x7E, 0x55, 0xAA, 0x7E]);
     line[412..].copy_from_slice(&FILL_IN);
-    for cut in 0..3usize {
-        is_same_from(rt.alloc(), &line[cut..])?;
-    }
-    Ok(())
+    holds(
+        is_same_from(rt.alloc(), &line)
+            && is_same_from(rt.alloc(), &line[1..])
+            && is_same_from(rt.alloc(), &line[2..]),
+    )
 }
 
 /// The same for this line.
-fn is_same_from(alloc: Global, line: &[u8]) -> Result<(), Fail> {
+fn is_same_from(alloc: Global, line: &[u8]) -> bool {
     let mut marks = Vec::new(alloc);
     let done = marks_of(line, &mut marks).is_ok();
-    holds(done && is_same_by_all(alloc, line, &marks))
+    done && is_same_by_all(alloc, line, &marks)
 }
 
 #[test]
 fn the_longest_unit_by_slices(rt: HostRuntime) -> Result<(), Fail> {
     // 276 octets; without its flags the text ends in the last octets that there is room for.
     let octets = [0x55; 276];
-    is_by_slices(rt.alloc(), &octets, good(&octets))
+    holds(is_by_slices(rt.alloc(), &octets, good(&octets)))
 }
 
 #[test]
 fn one_octet_more_than_the_longest_unit(rt: HostRuntime) -> Result<(), Fail> {
-    is_by_slices(rt.alloc(), &[0x55; 277], Mark::Bad)
+    holds(is_by_slices(rt.alloc(), &[0x55; 277], Mark::Bad))
 }
 
-/// A line of these octets gives this mark, by one slice.
-fn is_by_slices(alloc: Global, octets: &[u8], mark: Mark) -> Result<(), Fail> {
-    let line = line_of(alloc, octets)?;
-    holds(gives_by_slices(alloc, &line, 4096, &[mark]))
-}
-
-/// A line of these octets between flags; no ones stand in a row in them.
-fn line_of(alloc: Global, octets: &[u8]) -> Result<Vec<u8>, AllocError> {
+/// A line of these octets between flags gives this mark, by one slice.
+fn is_by_slices(alloc: Global, octets: &[u8], mark: Mark) -> bool {
     let mut line = Vec::new(alloc);
-    write_line(octets, &mut line)?;
-    Ok(line)
+    let written = write_line(octets, &mut line).is_ok();
+    written && gives_by_slices(alloc, &line, 4096, &[mark])
 }
 
+/// Writes these octets between flags; no ones stand in a row in them.
 fn write_line(octets: &[u8], line: &mut Vec<u8>) -> Result<(), AllocError> {
     line.push(0x7E)?;
     line.extend_from_slice(octets)?;

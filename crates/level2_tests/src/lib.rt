@@ -11,6 +11,8 @@ mod align;
 #[cfg(test)]
 mod basic;
 #[cfg(test)]
+mod bench;
+#[cfg(test)]
 mod bits;
 #[cfg(test)]
 mod deframing;

@@ -14,55 +14,55 @@ fn repeat(monitor: &mut Suerm, error: bool, count: u16) -> bool {
 
 #[test]
 fn suerm_leaks_one_at_mark_256() -> Result<(), Fail> {
-    leaks_one(&mut Suerm::new())
+    holds(leaks_one(&mut Suerm::new()))
 }
 
-fn leaks_one(monitor: &mut Suerm) -> Result<(), Fail> {
-    holds(!repeat(monitor, true, 63))?;
-    holds(!repeat(monitor, false, 193))?;
+fn leaks_one(monitor: &mut Suerm) -> bool {
+    let early = repeat(monitor, true, 63) || repeat(monitor, false, 193);
     // The count is 62: the second error from here makes it 64.
-    holds(!repeat(monitor, true, 1))?;
-    holds(repeat(monitor, true, 1))?;
-    holds(repeat(monitor, false, 1))
+    let next = repeat(monitor, true, 1);
+    !early && !next && repeat(monitor, true, 1) && repeat(monitor, false, 1)
 }
 
 #[test]
 fn suerm_trips_on_the_64th_error() -> Result<(), Fail> {
-    trips_on_the_64th(&mut Suerm::new())
+    let mut monitor = Suerm::new();
+    let early = repeat(&mut monitor, true, 63);
+    let tripped = repeat(&mut monitor, true, 1);
+    holds(!early && tripped)
 }
 
-fn trips_on_the_64th(monitor: &mut Suerm) -> Result<(), Fail> {
-    holds(!repeat(monitor, true, 63))?;
-    holds(repeat(monitor, true, 1))
-}
-
-/// The next mark leaves the monitor tripped, or not.
-fn marks(monitor: &mut Aerm, error: bool, tripped: bool) -> Result<(), Fail> {
-    holds(monitor.mark(error) == tripped)
+/// Each of these marks, an error or not, leaves the monitor tripped, or not.
+fn marks(monitor: &mut Aerm, marks: &[(bool, bool)]) -> bool {
+    for mark in marks {
+        let (error, tripped) = *mark;
+        if monitor.mark(error) != tripped {
+            return false;
+        }
+    }
+    true
 }
 
 #[test]
 fn aerm_trips_on_the_4th_error_of_a_normal_proving() -> Result<(), Fail> {
-    trips_on_the_4th(&mut Aerm::new(false))
-}
-
-fn trips_on_the_4th(monitor: &mut Aerm) -> Result<(), Fail> {
-    marks(monitor, true, false)?;
-    marks(monitor, true, false)?;
-    marks(monitor, false, false)?;
-    marks(monitor, true, false)?;
-    marks(monitor, true, true)
+    let rows = [
+        (true, false),
+        (true, false),
+        (false, false),
+        (true, false),
+        (true, true),
+    ];
+    holds(marks(&mut Aerm::new(false), &rows))
 }
 
 #[test]
 fn aerm_stays_tripped_after_one_error_in_emergency() -> Result<(), Fail> {
-    stays_tripped(&mut Aerm::new(true))
-}
-
-fn stays_tripped(monitor: &mut Aerm) -> Result<(), Fail> {
-    marks(monitor, false, false)?;
-    marks(monitor, true, true)?;
-    marks(monitor, false, true)?;
-    marks(monitor, true, true)?;
-    marks(monitor, false, true)
+    let rows = [
+        (false, false),
+        (true, true),
+        (false, true),
+        (true, true),
+        (false, true),
+    ];
+    holds(marks(&mut Aerm::new(true), &rows))
 }

@@ -1,9 +1,10 @@
 //! Situations on one link, worked out by hand from Q.703 6. Units are written as their octets.
+use super::bench::{filled, head_of, is_head};
 use super::holds;
 use l2_pcr::*;
-use l2_units::{Header, header_in, read};
+use l2_units::Header;
 use l2_window::{Choice, ControlFault, HeardPart, Window};
-use std::alloc::Global;
+use std::alloc::{AllocError, Global};
 use std::test::Fail;
 
 /// One end of a link. Each message has five octets.
@@ -13,22 +14,11 @@ struct End {
     control: Pcr,
 }
 
-fn end_with(alloc: Global, messages: u64, n1: u8, n2: u32) -> Result<End, Fail> {
-    let mut window = Window::new(alloc)?;
-    window.reserve(messages as usize)?;
-    for message in 0..messages {
-        window.push(message)?;
-    }
+fn end_with(alloc: Global, messages: u64, n1: u8, n2: u32) -> Result<End, AllocError> {
     Ok(End {
-        window,
+        window: filled(alloc, messages)?,
         control: Pcr::new(n1, n2),
     })
-}
-
-/// The header of a FISU of these two octets.
-fn head(backward: u8, forward: u8) -> Result<Header, Fail> {
-    let unit = read(&[backward, forward, 0])?;
-    Ok(header_in(&unit))
 }
 
 impl End {
@@ -54,126 +44,133 @@ impl End {
         (head, message)
     }
 
-    fn sends_message(&mut self, message: u64, fsn: u8) -> Result<Header, Fail> {
-        let (head, number) = self.sends();
-        holds(number == Some(message) && head.fsn == fsn)?;
-        Ok(head)
+    fn sends_message(&mut self, message: u64, fsn: u8) -> Option<Header> {
+        match self.sends() {
+            (head, Some(number)) if number == message && head.fsn == fsn => Some(head),
+            _ => None,
+        }
     }
 
-    fn sends_fill(&mut self, fsn: u8) -> Result<Header, Fail> {
-        let (head, number) = self.sends();
-        holds(number.is_none() && head.fsn == fsn)?;
-        Ok(head)
+    fn sends_fill(&mut self, fsn: u8) -> Option<Header> {
+        match self.sends() {
+            (head, None) if head.fsn == fsn => Some(head),
+            _ => None,
+        }
     }
 
     /// Sends these messages, whose numbers on the line are theirs.
-    fn sends_all(&mut self, messages: &[u8]) -> Result<(), Fail> {
+    fn sends_all(&mut self, messages: &[u8]) -> bool {
         for fsn in messages {
-            self.sends_message(u64::from(*fsn), *fsn)?;
+            if self.sends_message(u64::from(*fsn), *fsn).is_none() {
+                return false;
+            }
         }
-        Ok(())
+        true
     }
 
     /// Hears a FISU of these two octets.
-    fn hears_fill(&mut self, backward: u8, forward: u8) -> Result<HeardPart, Fail> {
-        let head = head(backward, forward)?;
-        Ok(self.hears(head, false))
+    fn hears_fill(&mut self, backward: u8, forward: u8) -> Option<HeardPart> {
+        let head = head_of(backward, forward)?;
+        Some(self.hears(head, false))
     }
 
     /// A FISU of these two octets acknowledges so many.
-    fn hears_of(&mut self, acked: u8, backward: u8, forward: u8) -> Result<(), Fail> {
-        holds(self.hears_fill(backward, forward)?.acked == acked)
+    fn hears_of(&mut self, acked: u8, backward: u8, forward: u8) -> bool {
+        match self.hears_fill(backward, forward) {
+            Some(part) => part.acked == acked,
+            None => false,
+        }
     }
 
     /// A message with this header is accepted or not, and makes it ask for another or not.
-    fn takes(&mut self, head: Header, accept: bool, asked: bool) -> Result<(), Fail> {
+    fn takes(&mut self, head: Header, accept: bool, asked: bool) -> bool {
         let part = self.hears(head, true);
-        holds(part.accept == accept && part.asked == asked && !part.resend && part.fault.is_none())
+        part.accept == accept && part.asked == asked && !part.resend && part.fault.is_none()
     }
 
     /// A FISU of these two octets is this fault, or none.
-    fn tells(
-        &mut self,
-        fault: Option<ControlFault>,
-        backward: u8,
-        forward: u8,
-    ) -> Result<(), Fail> {
-        holds(self.hears_fill(backward, forward)?.fault == fault)
+    fn tells(&mut self, fault: Option<ControlFault>, backward: u8, forward: u8) -> bool {
+        match self.hears_fill(backward, forward) {
+            Some(part) => part.fault == fault,
+            None => false,
+        }
     }
-}
-
-/// The header has these two octets.
-fn is_head(it: Header, backward: u8, forward: u8) -> Result<(), Fail> {
-    holds(it == head(backward, forward)?)
 }
 
 #[test]
 fn two_messages_force_a_cycle_that_an_acknowledgement_does_not_end(
     rt: HostRuntime,
 ) -> Result<(), Fail> {
-    ends_a_cycle_by_itself(&mut end_with(rt.alloc(), 3, 2, 1000)?)
+    holds(ends_a_cycle_by_itself(&mut end_with(rt.alloc(), 3, 2, 1000)?))
 }
 
-fn ends_a_cycle_by_itself(end: &mut End) -> Result<(), Fail> {
-    end.sends_all(&[0, 1, 0, 1, 0])?;
-    end.hears_of(1, 0x80, 0xFF)?;
-    end.sends_all(&[1, 2])
+fn ends_a_cycle_by_itself(end: &mut End) -> bool {
+    end.sends_all(&[0, 1, 0, 1, 0]) && end.hears_of(1, 0x80, 0xFF) && end.sends_all(&[1, 2])
 }
 
 /// Fifteen octets are three messages, though N1 is far off.
 #[test]
 fn octets_force_a_cycle(rt: HostRuntime) -> Result<(), Fail> {
-    is_forced_by_octets(&mut end_with(rt.alloc(), 4, 127, 15)?)
+    holds(is_forced_by_octets(&mut end_with(rt.alloc(), 4, 127, 15)?))
 }
 
-fn is_forced_by_octets(end: &mut End) -> Result<(), Fail> {
-    end.sends_all(&[0, 1, 2, 0, 1, 2, 0])?;
-    end.hears_of(3, 0x82, 0xFF)?;
-    end.sends_all(&[3])
+fn is_forced_by_octets(end: &mut End) -> bool {
+    end.sends_all(&[0, 1, 2, 0, 1, 2, 0]) && end.hears_of(3, 0x82, 0xFF) && end.sends_all(&[3])
 }
 
 #[test]
 fn with_nothing_new_the_unacknowledged_go_round(rt: HostRuntime) -> Result<(), Fail> {
-    sends_round(&mut end_with(rt.alloc(), 3, 127, 1000)?)
+    holds(sends_round(&mut end_with(rt.alloc(), 3, 127, 1000)?))
 }
 
-fn sends_round(end: &mut End) -> Result<(), Fail> {
-    end.sends_all(&[0, 1, 2, 0, 1, 2, 0, 1])?;
+fn sends_round(end: &mut End) -> bool {
+    let round = end.sends_all(&[0, 1, 2, 0, 1, 2, 0, 1]);
     // Message 2 is due, and stays so.
-    end.hears_of(1, 0x80, 0xFF)?;
-    end.sends_all(&[2, 1, 2])?;
-    end.window.push(3)?;
-    end.sends_all(&[3])
+    let due = end.hears_of(1, 0x80, 0xFF) && end.sends_all(&[2, 1, 2]);
+    round && due && end.window.push(3).is_ok() && end.sends_all(&[3])
 }
 
 #[test]
 fn nothing_is_asked_for(rt: HostRuntime) -> Result<(), Fail> {
     let mut near = end_with(rt.alloc(), 2, 127, 1000)?;
     let mut far = end_with(rt.alloc(), 0, 127, 1000)?;
-    is_not_asked_for(&mut near, &mut far)
+    holds(is_not_asked_for(&mut near, &mut far))
 }
 
-fn is_not_asked_for(near: &mut End, far: &mut End) -> Result<(), Fail> {
-    let first = near.sends_message(0, 0)?;
-    let second = near.sends_message(1, 1)?;
-    is_head(second, 0xFF, 0x81)?;
-    far.takes(second, false, false)?;
-    far.takes(first, true, false)?;
-    far.takes(first, false, false)?;
-    far.takes(second, true, false)?;
-    holds(far.control.accepted() == 1)?;
-    is_head(far.sends_fill(127)?, 0x81, 0xFF)
+fn is_not_asked_for(near: &mut End, far: &mut End) -> bool {
+    let Some(first) = near.sends_message(0, 0) else {
+        return false;
+    };
+    let Some(second) = near.sends_message(1, 1) else {
+        return false;
+    };
+    is_head(second, 0xFF, 0x81) && takes_both(far, first, second) && acknowledges_both(far)
+}
+
+/// The second message is discarded until the first has come, and the first is taken once.
+fn takes_both(far: &mut End, first: Header, second: Header) -> bool {
+    far.takes(second, false, false)
+        && far.takes(first, true, false)
+        && far.takes(first, false, false)
+        && far.takes(second, true, false)
+}
+
+fn acknowledges_both(far: &mut End) -> bool {
+    match far.sends_fill(127) {
+        Some(head) => far.control.accepted() == 1 && is_head(head, 0x81, 0xFF),
+        None => false,
+    }
 }
 
 #[test]
 fn two_abnormal_bsns_in_three_are_a_fault(rt: HostRuntime) -> Result<(), Fail> {
-    has_abnormal_bsns(&mut end_with(rt.alloc(), 0, 127, 1000)?)
+    holds(has_abnormal_bsns(&mut end_with(rt.alloc(), 0, 127, 1000)?))
 }
 
-fn has_abnormal_bsns(end: &mut End) -> Result<(), Fail> {
-    end.tells(None, 0x85, 0xFF)?;
-    end.tells(None, 0xFF, 0x7F)?;
-    end.tells(Some(ControlFault::Bsn), 0x85, 0xFF)
+fn has_abnormal_bsns(end: &mut End) -> bool {
+    end.tells(None, 0x85, 0xFF)
+        && end.tells(None, 0xFF, 0x7F)
+        && end.tells(Some(ControlFault::Bsn), 0x85, 0xFF)
 }
 
 /// 300 messages one after another: numbers go round twice.
@@ -181,21 +178,25 @@ fn has_abnormal_bsns(end: &mut End) -> Result<(), Fail> {
 fn numbers_go_round_twice(rt: HostRuntime) -> Result<(), Fail> {
     let mut near = end_with(rt.alloc(), 300, 127, 1000)?;
     let mut far = end_with(rt.alloc(), 0, 127, 1000)?;
-    go_round(&mut near, &mut far)
+    holds(go_round(&mut near, &mut far))
 }
 
-fn go_round(near: &mut End, far: &mut End) -> Result<(), Fail> {
+fn go_round(near: &mut End, far: &mut End) -> bool {
     for message in 0..300u64 {
-        is_answered(near, far, message)?;
+        if !is_answered(near, far, message) {
+            return false;
+        }
     }
-    holds(near.window.last() == 43)?;
-    near.sends_fill(43)?;
-    Ok(())
+    near.window.last() == 43 && near.sends_fill(43).is_some()
 }
 
-fn is_answered(near: &mut End, far: &mut End, message: u64) -> Result<(), Fail> {
-    let unit = near.sends_message(message, (message % 128) as u8)?;
-    holds(far.hears(unit, true).accept)?;
-    let answer = far.sends_fill(127)?;
-    holds(near.hears(answer, false).acked == 1)
+fn is_answered(near: &mut End, far: &mut End, message: u64) -> bool {
+    let Some(unit) = near.sends_message(message, (message % 128) as u8) else {
+        return false;
+    };
+    let accepted = far.hears(unit, true).accept;
+    let Some(answer) = far.sends_fill(127) else {
+        return false;
+    };
+    accepted && near.hears(answer, false).acked == 1
 }

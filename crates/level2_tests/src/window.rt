@@ -1,24 +1,8 @@
 //! Situations at the ends of a window, worked out by hand from Q.703 5.2 and 5.3.
+use super::bench::{fill, filled};
 use super::holds;
 use l2_window::*;
-use std::alloc::{AllocError, Global};
 use std::test::Fail;
-
-/// A new window with messages 0, 1, .. unsent.
-fn filled(alloc: Global, messages: u64) -> Result<Window, Fail> {
-    let mut window = Window::new(alloc)?;
-    fill(&mut window, messages)?;
-    Ok(window)
-}
-
-/// Gives the window messages 0, 1, .. to send.
-fn fill(window: &mut Window, messages: u64) -> Result<(), AllocError> {
-    window.reserve(messages as usize)?;
-    for message in 0..messages {
-        window.push(message)?;
-    }
-    Ok(())
-}
 
 /// Sends so many messages; they are those from this one on, and have the FSNs of their numbers modulo 128.
 fn sends(window: &mut Window, first: u64, count: u64) -> bool {
