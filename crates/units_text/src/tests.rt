@@ -3,146 +3,131 @@ use super::fault::UnreadableOctet;
 use super::units_reading::UnitsReader;
 use printing::{Printer, Stop};
 use std::alloc::Global;
-use std::process::Abort;
 use std::test::Fail;
 
-/// Prints of the input, handed in by pieces of so many octets, and the fault that it ends with.
+/// So it is. It stands in the place of `assert!`, whose text of what isn't so costs the prover a multiple.
+fn holds(fact: bool) -> Result<(), Fail> {
+    if fact {
+        Ok(())
+    } else {
+        Err(Fail::from("it isn't so"))
+    }
+}
+
+/// Prints of the input, handed in by pieces of so many octets; the fault that it ends with.
 fn read_by(
     alloc: Global,
     input: &[u8],
     piece: usize,
-) -> Result<(Vec<u8>, Option<Stop<UnreadableOctet>>), Fail> {
+    out: &mut Vec<u8>,
+) -> Option<Stop<UnreadableOctet>> {
     let mut reader = UnitsReader::new(alloc);
-    let mut out = Vec::new(alloc);
     for octets in input.chunks(piece.max(1)) {
-        if let Err(fault) = reader.read(octets, &mut out) {
-            return Ok((out, Some(fault)));
+        if let Err(fault) = reader.read(octets, out) {
+            return Some(fault);
         }
     }
-    let fault = reader.end(&mut out).err();
-    Ok((out, fault))
+    reader.end(out).err()
 }
 
-/// The input prints these lines, whole and in smaller pieces.
-fn prints(
-    rt: &impl Abort,
+/// The input prints these lines, by pieces of so many octets, and ends with a fault at this place, or well.
+fn prints_by(
     alloc: Global,
     input: &[u8],
+    piece: usize,
     lines: &[u8],
-    fault: Option<Stop<UnreadableOctet>>,
-) -> Result<(), Fail> {
-    for piece in [4096usize, 1, 3] {
-        let (printed, ended) = read_by(alloc, input, piece)?;
-        assert_eq!(rt; printed.as_slice(), lines);
-        assert!(rt; ended == fault);
+    unreadable: Option<u64>,
+) -> bool {
+    let mut printed = Vec::new(alloc);
+    let ended = match read_by(alloc, input, piece, &mut printed) {
+        None => unreadable.is_none(),
+        Some(Stop::Input(octet)) => unreadable == Some(octet.place),
+        Some(Stop::Memory) => false,
+    };
+    ended && printed.as_slice() == lines
+}
+
+/// The same, whole and in smaller pieces.
+fn prints(alloc: Global, input: &[u8], lines: &[u8], unreadable: Option<u64>) -> bool {
+    prints_by(alloc, input, 4096, lines, unreadable)
+        && prints_by(alloc, input, 1, lines, unreadable)
+        && prints_by(alloc, input, 3, lines, unreadable)
+}
+
+/// Each of these inputs prints these lines, and ends well.
+fn print_well(alloc: Global, rows: &[(&[u8], &[u8])]) -> bool {
+    for row in rows {
+        if !prints(alloc, row.0, row.1, None) {
+            return false;
+        }
     }
-    Ok(())
+    true
 }
 
 const FISU: &[u8] = b"7edff705f8beaf1f";
 
 #[test]
 fn each_kind_of_unit_has_its_line(rt: HostRuntime) -> Result<(), Fail> {
-    let fill_in = b"good fisu bsn=127 bib=1 fsn=127 fib=1\nend good=1 bad=0 sixteen=0\n";
-    prints(&rt, rt.alloc(), FISU, fill_in, None)?;
-    let status = b"good lssu bsn=127 bib=1 fsn=127 fib=1 status=0\nend good=1 bad=0 sixteen=0\n";
-    prints(&rt, rt.alloc(), b"7edff70d003831f703", status, None)?;
-    let message =
-        b"good msu bsn=127 bib=1 fsn=0 fib=1 body=8501800030\nend good=1 bad=0 sixteen=0\n";
-    prints(
-        &rt,
-        rt.alloc(),
-        b"7edf010b0a030001602adcfc00",
-        message,
-        None,
-    )?;
-    let other = b"good lssu bsn=5 bib=0 fsn=6 fib=1 status=5\nend good=1 bad=0 sixteen=0\n";
-    prints(&rt, rt.alloc(), b"7e0586020500d7447e", other, None)?;
-    let no_unit = b"good fault=3\nend good=1 bad=0 sixteen=0\n";
-    prints(&rt, rt.alloc(), b"7edff70db073f703", no_unit, None)
+    let rows: [(&[u8], &[u8]); 5] = [
+        (
+            FISU,
+            b"good fisu bsn=127 bib=1 fsn=127 fib=1\nend good=1 bad=0 sixteen=0\n",
+        ),
+        (
+            b"7edff70d003831f703",
+            b"good lssu bsn=127 bib=1 fsn=127 fib=1 status=0\nend good=1 bad=0 sixteen=0\n",
+        ),
+        (
+            b"7edf010b0a030001602adcfc00",
+            b"good msu bsn=127 bib=1 fsn=0 fib=1 body=8501800030\nend good=1 bad=0 sixteen=0\n",
+        ),
+        (
+            b"7e0586020500d7447e",
+            b"good lssu bsn=5 bib=0 fsn=6 fib=1 status=5\nend good=1 bad=0 sixteen=0\n",
+        ),
+        (
+            b"7edff70db073f703",
+            b"good fault=3\nend good=1 bad=0 sixteen=0\n",
+        ),
+    ];
+    holds(print_well(rt.alloc(), &rows))
 }
 
 #[test]
 fn marks_of_no_unit_have_their_lines(rt: HostRuntime) -> Result<(), Fail> {
-    prints(
-        &rt,
-        rt.alloc(),
-        b"7e000000007e",
-        b"bad\nend good=0 bad=1 sixteen=0\n",
-        None,
-    )?;
-    prints(&rt, rt.alloc(), b"", b"end good=0 bad=0 sixteen=0\n", None)?;
-    prints(
-        &rt,
-        rt.alloc(),
-        b"7e3f",
-        b"end good=0 bad=0 sixteen=0\n",
-        None,
-    )?;
-    prints(
-        &rt,
-        rt.alloc(),
-        &[b'0'; 700],
-        b"end good=0 bad=0 sixteen=0\n",
-        None,
-    )?;
-    prints(
-        &rt,
-        rt.alloc(),
-        &[b'0'; 702],
-        b"sixteen\nend good=0 bad=0 sixteen=1\n",
-        None,
-    )?;
     let mut counted = [b'0'; 82];
     counted[..2].copy_from_slice(b"ff");
     counted[66..].copy_from_slice(FISU);
-    let lines =
-        b"sixteen\nsixteen\ngood fisu bsn=127 bib=1 fsn=127 fib=1\nend good=1 bad=0 sixteen=2\n";
-    prints(&rt, rt.alloc(), &counted, lines, None)
+    let rows: [(&[u8], &[u8]); 6] = [
+        (b"7e000000007e", b"bad\nend good=0 bad=1 sixteen=0\n"),
+        (b"", b"end good=0 bad=0 sixteen=0\n"),
+        (b"7e3f", b"end good=0 bad=0 sixteen=0\n"),
+        (&[b'0'; 700], b"end good=0 bad=0 sixteen=0\n"),
+        (&[b'0'; 702], b"sixteen\nend good=0 bad=0 sixteen=1\n"),
+        (
+            &counted,
+            b"sixteen\nsixteen\ngood fisu bsn=127 bib=1 fsn=127 fib=1\nend good=1 bad=0 sixteen=2\n",
+        ),
+    ];
+    holds(print_well(rt.alloc(), &rows))
 }
 
 #[test]
 fn blanks_stand_anywhere_and_digits_have_either_case(rt: HostRuntime) -> Result<(), Fail> {
+    let input = b" 7E\r\ndF\tf 7\n05 F8be\naF1f\n";
     let lines = b"good fisu bsn=127 bib=1 fsn=127 fib=1\nend good=1 bad=0 sixteen=0\n";
-    prints(
-        &rt,
-        rt.alloc(),
-        b" 7E\r\ndF\tf 7\n05 F8be\naF1f\n",
-        lines,
-        None,
-    )
+    holds(prints(rt.alloc(), input, lines, None))
 }
 
 #[test]
 fn faults_tell_their_place(rt: HostRuntime) -> Result<(), Fail> {
-    prints(
-        &rt,
-        rt.alloc(),
-        b"7",
-        b"",
-        Some(Stop::Input(UnreadableOctet { place: 1 })),
-    )?;
-    prints(
-        &rt,
-        rt.alloc(),
-        b"7e0\n",
-        b"",
-        Some(Stop::Input(UnreadableOctet { place: 4 })),
-    )?;
-    prints(
-        &rt,
-        rt.alloc(),
-        b"7 g",
-        b"",
-        Some(Stop::Input(UnreadableOctet { place: 2 })),
-    )?;
+    let alloc = rt.alloc();
     let lines = b"good fisu bsn=127 bib=1 fsn=127 fib=1\n";
-    prints(
-        &rt,
-        rt.alloc(),
-        b"7edff705f8beaf1f-7e00007e",
-        lines,
-        Some(Stop::Input(UnreadableOctet { place: 16 })),
+    holds(
+        prints(alloc, b"7", b"", Some(1))
+            && prints(alloc, b"7e0\n", b"", Some(4))
+            && prints(alloc, b"7 g", b"", Some(2))
+            && prints(alloc, b"7edff705f8beaf1f-7e00007e", lines, Some(16)),
     )
 }
 
@@ -154,9 +139,15 @@ fn a_refused_growth_prints_a_beginning(rt: HostRuntime) -> Result<(), Fail> {
     // Two zeros stand between the unit's closing flag and the next.
     let input = b"7edff705f8beaf1f7e00007e";
     let lines = b"good fisu bsn=127 bib=1 fsn=127 fib=1\nbad\nbad\nend good=1 bad=2 sixteen=0\n";
-    let (printed, ended) = read_by(rt.alloc(), input, 4)?;
-    assert!(rt; lines.starts_with(&printed));
-    assert!(rt; ended.is_none() || ended == Some(Stop::Memory));
-    assert!(rt; ended.is_some() || printed.len() == lines.len());
-    Ok(())
+    holds(prints_a_beginning(rt.alloc(), input, lines))
+}
+
+/// The input prints these lines; or memory is wanted, and it prints a beginning of them.
+fn prints_a_beginning(alloc: Global, input: &[u8], lines: &[u8]) -> bool {
+    let mut printed = Vec::new(alloc);
+    match read_by(alloc, input, 4, &mut printed) {
+        None => printed.as_slice() == lines,
+        Some(Stop::Memory) => lines.starts_with(&printed),
+        Some(Stop::Input(_)) => false,
+    }
 }
