@@ -2,7 +2,7 @@
 ghost use Rattle.std.specs.Prelude.{◌≡◌, ◌<◌, ◌⊎◌};
 ghost use Rattle.set_ledger.specs.Totals.{AreParts};
 
-use super::openings::{MESSAGE, blanks_of, config_of, holds};
+use super::openings::{blanks_of, closed, config_of, holds, offers};
 use set_events::{Answer, Event, SetConfig};
 use set_shared::{
     Back, Blanks, Closed, CreateFault, EndFault, LinkSet, Opened, Seat, TermSeat, UserSeat,
@@ -14,38 +14,26 @@ use std::sync::Wait;
 use std::sync::ledger::Ledger;
 use std::test::Fail;
 
-/// A user offers a message and finds it again.
-fn offers<C: Ledger, M: Ledger, O: Ledger, A: Ledger, R: Wait>(
-    rt: &R,
-    set: &LinkSet<C, M, O, A>,
-    seat: &mut UserSeat<C, M, O, A>,
-) -> Result<(), Fail> {
-    let Ok(Answer::Accepted { number }) = set.offer(rt, seat, &MESSAGE) else {
-        return Err(Fail::from("not accepted"));
-    };
-    let Ok(Answer::Found { .. }) = set.find(rt, seat, number) else {
-        return Err(Fail::from("not found"));
-    };
-    Ok(())
-}
-
 /// A terminal tells that its link is up, and what it was handed is called under the lock.
 fn rises<C: Ledger, M: Ledger, O: Ledger, A: Ledger, R: Wait>(
     rt: &R,
     set: &LinkSet<C, M, O, A>,
     seat: &mut TermSeat<C, M, O, A>,
-) -> Result<(), Fail> {
+) -> bool {
     let called = Cell::new(false);
     let event = Event::Up { link: seat.link() };
     match set.term_step_held(rt, seat, &event, || called.set(true)) {
-        Ok(answer) => holds(called.get() && answer.same(&Answer::Done)),
-        Err(_) => Err(Fail::from("no memory")),
+        Ok(answer) => called.get() && answer.same(&Answer::Done),
+        Err(_) => false,
     }
 }
 
-/// Whether a set that ended has two messages and five entries.
-fn is_whole(closed: &Closed) -> bool {
-    closed.books.messages == 2 && closed.history.len() == 5
+/// Whether a set ended, with two messages and five entries.
+fn is_whole(closed: Option<Closed>) -> bool {
+    match closed {
+        Some(closed) => closed.books.messages == 2 && closed.history.len() == 5,
+        None => false,
+    }
 }
 
 /// The set is closed without one of its seats: it comes back with the others.
@@ -53,10 +41,10 @@ fn comes_back<C: Ledger, M: Ledger, O: Ledger, A: Ledger>(
     set: LinkSet<C, M, O, A>,
     users: Vec<UserSeat<C, M, O, A>>,
     terminals: Vec<TermSeat<C, M, O, A>>,
-) -> Result<Back<C, M, O, A>, Fail> {
+) -> Option<Back<C, M, O, A>> {
     match set.close(users, terminals) {
-        Err(EndFault::Missing(back)) => Ok(back),
-        _ => Err(Fail::from("not missing")),
+        Err(EndFault::Missing(back)) => Some(back),
+        _ => None,
     }
 }
 
@@ -65,7 +53,7 @@ fn ends_with<C: Ledger, M: Ledger, O: Ledger, A: Ledger>(
     alloc: Global,
     back: Back<C, M, O, A>,
     kept: UserSeat<C, M, O, A>,
-) -> Result<(), Fail> {
+) -> bool {
     let Back {
         held,
         mut users,
@@ -73,10 +61,8 @@ fn ends_with<C: Ledger, M: Ledger, O: Ledger, A: Ledger>(
     } = back;
     let came = users.len() == 1 && terminals.len() == 1;
     let whole = users.push(kept).is_ok();
-    match LinkSet::of(alloc, held).close(users, terminals) {
-        Ok(closed) => holds(came && whole && is_whole(&closed)),
-        Err(_) => Err(Fail::from("not ended")),
-    }
+    let ended = is_whole(closed(LinkSet::of(alloc, held), users, terminals));
+    came && whole && ended
 }
 
 /// A seat is kept back: the set comes back with the others, and ends once all are there.
@@ -85,11 +71,14 @@ fn ends_once_complete<C: Ledger, M: Ledger, O: Ledger, A: Ledger>(
     set: LinkSet<C, M, O, A>,
     users: Vec<UserSeat<C, M, O, A>>,
     terminals: Vec<TermSeat<C, M, O, A>>,
-) -> Result<(), Fail> {
+) -> bool {
     let mut users = users;
-    match users.pop() {
-        Some(kept) => ends_with(alloc, comes_back(set, users, terminals)?, kept),
-        None => Err(Fail::from("no seat")),
+    let Some(kept) = users.pop() else {
+        return false;
+    };
+    match comes_back(set, users, terminals) {
+        Some(back) => ends_with(alloc, back, kept),
+        None => false,
     }
 }
 
@@ -99,14 +88,18 @@ fn all_call<C: Ledger, M: Ledger, O: Ledger, A: Ledger, R: Wait>(
     set: &LinkSet<C, M, O, A>,
     users: &mut [UserSeat<C, M, O, A>],
     terminals: &mut [TermSeat<C, M, O, A>],
-) -> Result<(), Fail> {
+) -> bool {
     for seat in users.iter_mut() {
-        offers(rt, set, seat)?;
+        if !offers(rt, set, seat) {
+            return false;
+        }
     }
     for seat in terminals.iter_mut() {
-        rises(rt, set, seat)?;
+        if !rises(rt, set, seat) {
+            return false;
+        }
     }
-    Ok(())
+    true
 }
 
 /// Two users and the terminal of one link, in one thread.
@@ -130,8 +123,9 @@ fn two_users<C: Ledger, M: Ledger, O: Ledger, A: Ledger, R: Wait>(
         mut users,
         mut terminals,
     } = opened;
-    all_call(rt, &set, &mut users, &mut terminals)?;
-    ends_once_complete(alloc, set, users, terminals)
+    let called = all_call(rt, &set, &mut users, &mut terminals);
+    let ended = ends_once_complete(alloc, set, users, terminals);
+    holds(called && ended)
 }
 
 #[test]
@@ -141,18 +135,18 @@ fn a_set_ends_once_all_seats_are_back(rt: HostRuntime) -> Result<(), Fail> {
 }
 
 /// A set isn't opened for so many users.
-fn is_refused(alloc: Global, users: u16) -> Result<(), Fail>
+fn is_refused(alloc: Global, config: &SetConfig, users: u16) -> bool
     requires { (users ≡ 0) ⊎ (64 < users) }
 {
-    let config = config_of()?;
-    match LinkSet::<Brand, Brand, Brand, Brand>::create(alloc, &config, users, blanks_of(1)) {
-        Ok(_) => Err(Fail::from("opened")),
-        Err(fault) => holds(fault == CreateFault::Users && fault.number() == 2),
+    match LinkSet::<Brand, Brand, Brand, Brand>::create(alloc, config, users, blanks_of(1)) {
+        Ok(_) => false,
+        Err(fault) => fault == CreateFault::Users && fault.number() == 2,
     }
 }
 
 #[test]
 fn a_set_has_1_to_64_users(rt: HostRuntime) -> Result<(), Fail> {
-    is_refused(rt.alloc(), 0)?;
-    is_refused(rt.alloc(), 65)
+    let config = config_of()?;
+    let none = is_refused(rt.alloc(), &config, 0);
+    holds(none && is_refused(rt.alloc(), &config, 65))
 }

@@ -1,9 +1,11 @@
 //! What the tests open sets with, and ask through.
 ghost use Rattle.std.specs.Prelude.{◌≡◌, ◌<◌, ◌+◌, IfOk};
 
-use set_events::{Method, SetConfig};
+use set_events::{Answer, Method, SetConfig};
 use set_ledger::Blanks;
-use std::sync::ledger::Blank;
+use set_shared::{Closed, LinkSet, TermSeat, UserSeat};
+use std::sync::Wait;
+use std::sync::ledger::{Blank, Ledger};
 use std::test::Fail;
 
 /// The octets of a message of stream 3.
@@ -35,11 +37,38 @@ pub(crate) fn blanks_of(users: u64) -> Blanks
     }
 }
 
-/// So it is.
+/// So it is. It stands in the place of `assert!`, whose text of what isn't so costs the prover a multiple.
 pub(crate) fn holds(fact: bool) -> Result<(), Fail> {
     if fact {
         Ok(())
     } else {
         Err(Fail::from("it isn't so"))
+    }
+}
+
+/// A user offers a message, and finds it as soon as it was accepted.
+pub(crate) fn offers<C: Ledger, M: Ledger, O: Ledger, A: Ledger, R: Wait>(
+    rt: &R,
+    set: &LinkSet<C, M, O, A>,
+    seat: &mut UserSeat<C, M, O, A>,
+) -> bool {
+    match set.offer(rt, seat, &MESSAGE) {
+        Ok(Answer::Accepted { number }) => {
+            matches!(set.find(rt, seat, number), Ok(Answer::Found { .. }))
+        }
+        _ => false,
+    }
+}
+
+/// What a set came to, if all its seats are there. What it hands back where they aren't is let go here alone: that's dear to
+/// prove.
+pub(crate) fn closed<C: Ledger, M: Ledger, O: Ledger, A: Ledger>(
+    set: LinkSet<C, M, O, A>,
+    users: Vec<UserSeat<C, M, O, A>>,
+    terminals: Vec<TermSeat<C, M, O, A>>,
+) -> Option<Closed> {
+    match set.close(users, terminals) {
+        Ok(closed) => Some(closed),
+        Err(_) => None,
     }
 }

@@ -4,46 +4,66 @@ ghost use Rattle.set_ledger.specs.Totals.{AreParts};
 
 use super::openings::{MESSAGE, blanks_of, config_of, holds};
 use set_events::{Actor, Answer, Body, Event, SetConfig};
-use set_ledger::{Blanks, Closed, Held, Opened, Seat, UserSeat, step_in};
+use set_ledger::{Blanks, Closed, Held, Opened, Seat, TermSeat, UserSeat, step_in};
 use std::alloc::Global;
 use std::marker::Brand;
 use std::sync::ledger::Ledger;
 use std::test::Fail;
 
-/// The seat offers a message: what the set answers.
-fn offered<C: Ledger, M: Ledger, O: Ledger, A: Ledger>(
-    alloc: Global,
+/// The seat's offer of these octets is accepted under number 0.
+fn is_accepted<C: Ledger, M: Ledger, O: Ledger, A: Ledger>(
     held: &mut Held<C, M, O, A>,
     seat: &mut UserSeat<C, M, O, A>,
-) -> Result<Answer, Fail> {
+    body: Body,
+) -> bool {
     let _ = seat.number();
-    let event = Event::Offer {
-        body: Body::from_slice(alloc, &MESSAGE)?,
-    };
-    match step_in(held, seat, &event) {
-        Ok(answer) => Ok(answer),
-        Err(_) => Err(Fail::from("no memory")),
+    match step_in(held, seat, &Event::Offer { body }) {
+        Ok(answer) => answer.same(&Answer::Accepted { number: 0 }),
+        Err(_) => false,
     }
 }
 
-/// The first user offers a message: the receipt and the share tell it.
+/// User 0 offers a message: the receipt and the share tell it.
 fn is_received<C: Ledger, M: Ledger, O: Ledger, A: Ledger>(
     alloc: Global,
     held: &mut Held<C, M, O, A>,
-    users: &mut [UserSeat<C, M, O, A>],
-) -> Result<(), Fail> {
-    let Some(seat) = users.first_mut() else {
-        return Err(Fail::from("no seat"));
+    seat: &mut UserSeat<C, M, O, A>,
+) -> bool {
+    let Ok(body) = Body::from_slice(alloc, &MESSAGE) else {
+        return false;
     };
-    holds(seat.actor() == Actor::User(0))?;
-    let answer = offered(alloc, held, seat)?;
-    holds(answer.same(&Answer::Accepted { number: 0 }))?;
-    holds(seat.receipts().len() == 1 && seat.share().octets == 5)
+    let first = seat.actor() == Actor::User(0);
+    let accepted = is_accepted(held, seat, body);
+    first && accepted && seat.receipts().len() == 1 && seat.share().octets == 5
+}
+
+/// So does the first user.
+fn first_is_received<C: Ledger, M: Ledger, O: Ledger, A: Ledger>(
+    alloc: Global,
+    held: &mut Held<C, M, O, A>,
+    users: &mut [UserSeat<C, M, O, A>],
+) -> bool {
+    match users.first_mut() {
+        Some(seat) => is_received(alloc, held, seat),
+        None => false,
+    }
 }
 
 /// A set that ends has this message alone.
 fn is_one_message(closed: &Closed) -> bool {
     closed.books.messages == 1 && closed.books.octets == 5 && closed.history.len() == 1
+}
+
+/// Whether the set ends, with this message alone.
+fn ends_well<C: Ledger, M: Ledger, O: Ledger, A: Ledger>(
+    held: Held<C, M, O, A>,
+    users: Vec<UserSeat<C, M, O, A>>,
+    terminals: Vec<TermSeat<C, M, O, A>>,
+) -> bool {
+    match held.end(users, terminals) {
+        Ok(closed) => is_one_message(&closed),
+        Err(_) => false,
+    }
 }
 
 /// One user offers one message: the receipt, the share and the end tell it.
@@ -66,11 +86,9 @@ fn one_message<C: Ledger, M: Ledger, O: Ledger, A: Ledger>(
         mut users,
         terminals,
     } = opened;
-    is_received(alloc, &mut held, &mut users)?;
-    match held.end(users, terminals) {
-        Ok(closed) => holds(is_one_message(&closed)),
-        Err(_) => Err(Fail::from("not ended")),
-    }
+    let received = first_is_received(alloc, &mut held, &mut users);
+    let ended = ends_well(held, users, terminals);
+    holds(received && ended)
 }
 
 #[test]

@@ -2,7 +2,7 @@
 ghost use Rattle.std.specs.Prelude.{◌≡◌};
 ghost use Rattle.set_ledger.specs.Totals.{AreParts};
 
-use super::openings::{MESSAGE, blanks_of, config_of, holds};
+use super::openings::{blanks_of, closed, config_of, holds, offers};
 use set_events::{Answer, Event, SetConfig};
 use set_shared::{Blanks, Closed, LinkSet, Opened, TermSeat, UserSeat};
 use std::alloc::Global;
@@ -13,22 +13,32 @@ use std::test::Fail;
 use std::thread;
 use std::thread::{JoinHandle, Threads};
 
-/// A user offers a hundred messages, and finds each one as soon as it was accepted. Where one isn't: `None`.
+/// A user offers a hundred messages, and finds each one as soon as it was accepted.
+fn offers_hundred<C: Ledger, M: Ledger, O: Ledger, A: Ledger, R: Wait>(
+    rt: &R,
+    set: &LinkSet<C, M, O, A>,
+    seat: &mut UserSeat<C, M, O, A>,
+) -> bool {
+    for _message in 0..100u8 {
+        if !offers(rt, set, seat) {
+            return false;
+        }
+    }
+    true
+}
+
+/// The same by a user's own seat. Where a message isn't found: `None`.
 fn offers_all<C: Ledger, M: Ledger, O: Ledger, A: Ledger, R: Wait>(
     rt: &R,
     set: &LinkSet<C, M, O, A>,
     seat: UserSeat<C, M, O, A>,
 ) -> Option<UserSeat<C, M, O, A>> {
     let mut seat = seat;
-    for _message in 0..100u8 {
-        let Ok(Answer::Accepted { number }) = set.offer(rt, &mut seat, &MESSAGE) else {
-            return None;
-        };
-        let Ok(Answer::Found { .. }) = set.find(rt, &mut seat, number) else {
-            return None;
-        };
+    if offers_hundred(rt, set, &mut seat) {
+        Some(seat)
+    } else {
+        None
     }
-    Some(seat)
 }
 
 /// Whether a terminal is told what is to be sent.
@@ -38,49 +48,63 @@ fn asks<C: Ledger, M: Ledger, O: Ledger, A: Ledger, R: Wait>(
     seat: &mut TermSeat<C, M, O, A>,
 ) -> bool {
     let event = Event::Next { link: seat.link() };
-    match set.term_step(rt, seat, &event) {
-        Ok(Answer::Sent { .. }) => true,
-        _ => false,
-    }
+    matches!(set.term_step(rt, seat, &event), Ok(Answer::Sent { .. }))
 }
 
-/// A terminal brings its link up and asks 400 times for what is to be sent. Where it isn't told: `None`.
+/// A terminal brings its link up.
+fn rises<C: Ledger, M: Ledger, O: Ledger, A: Ledger, R: Wait>(
+    rt: &R,
+    set: &LinkSet<C, M, O, A>,
+    seat: &mut TermSeat<C, M, O, A>,
+) -> bool {
+    let event = Event::Up { link: seat.link() };
+    matches!(set.term_step(rt, seat, &event), Ok(Answer::Done))
+}
+
+/// A terminal asks 400 times for what is to be sent, and is told each time.
+fn asks_often<C: Ledger, M: Ledger, O: Ledger, A: Ledger, R: Wait>(
+    rt: &R,
+    set: &LinkSet<C, M, O, A>,
+    seat: &mut TermSeat<C, M, O, A>,
+) -> bool {
+    for _turn in 0..400u16 {
+        if !asks(rt, set, seat) {
+            return false;
+        }
+    }
+    true
+}
+
+/// A terminal brings its link up, and sends. Where it isn't told what: `None`.
 fn sends_all<C: Ledger, M: Ledger, O: Ledger, A: Ledger, R: Wait>(
     rt: &R,
     set: &LinkSet<C, M, O, A>,
     seat: TermSeat<C, M, O, A>,
 ) -> Option<TermSeat<C, M, O, A>> {
     let mut seat = seat;
-    let event = Event::Up { link: seat.link() };
-    let Ok(Answer::Done) = set.term_step(rt, &mut seat, &event) else {
-        return None;
-    };
-    for _turn in 0..400u16 {
-        if !asks(rt, set, &mut seat) {
-            return None;
-        }
+    if rises(rt, set, &mut seat) && asks_often(rt, set, &mut seat) {
+        Some(seat)
+    } else {
+        None
     }
-    Some(seat)
 }
 
-/// What each of these threads hands out, in order; one that hands out nothing was refused.
+/// Joins all of these threads; what they hand out, in order. A thread that hands out nothing was refused.
 fn all_of<T: Drop, R: Threads + Wait>(
     rt: &R,
     alloc: Global,
     threads: Vec<JoinHandle<Option<T>>>,
-) -> Result<Vec<T>, Fail> {
+) -> Vec<T> {
     let mut all = Vec::new(alloc);
     for started in threads {
-        let Some(seat) = started.join(rt) else {
-            return Err(Fail::from("refused"));
-        };
-        all.reserve(1)?;
-        all.push_reserved(seat);
+        if let Some(seat) = started.join(rt) {
+            let _ = all.push(seat);
+        }
     }
-    Ok(all)
+    all
 }
 
-/// Each seat in a thread of its own; all come back.
+/// Each seat in a thread of its own; those that come back. One that finds no thread or no memory doesn't.
 fn run<
     C: Ledger + Send + Sync,
     M: Ledger + Send + Sync,
@@ -93,40 +117,45 @@ fn run<
     set: &LinkSet<C, M, O, A>,
     users: Vec<UserSeat<C, M, O, A>>,
     terminals: Vec<TermSeat<C, M, O, A>>,
-) -> Result<(Vec<UserSeat<C, M, O, A>>, Vec<TermSeat<C, M, O, A>>), Fail> {
+) -> (Vec<UserSeat<C, M, O, A>>, Vec<TermSeat<C, M, O, A>>) {
     thread::scope(
         thread::scope_env(),
         rt,
-        |scope| -> Result<(Vec<UserSeat<C, M, O, A>>, Vec<TermSeat<C, M, O, A>>), Fail> {
+        |scope| -> (Vec<UserSeat<C, M, O, A>>, Vec<TermSeat<C, M, O, A>>) {
             let mut user_threads = Vec::new(alloc);
             for seat in users {
-                user_threads.reserve(1)?;
-                match scope.spawn(move || offers_all(rt, set, seat)) {
-                    Ok(started) => user_threads.push_reserved(started),
-                    Err(_) => return Err(Fail::from("no thread")),
+                if let Ok(started) = scope.spawn(move || offers_all(rt, set, seat)) {
+                    let _ = user_threads.push(started);
                 }
             }
             let mut term_threads = Vec::new(alloc);
             for seat in terminals {
-                term_threads.reserve(1)?;
-                match scope.spawn(move || sends_all(rt, set, seat)) {
-                    Ok(started) => term_threads.push_reserved(started),
-                    Err(_) => return Err(Fail::from("no thread")),
+                if let Ok(started) = scope.spawn(move || sends_all(rt, set, seat)) {
+                    let _ = term_threads.push(started);
                 }
             }
-            let users = all_of(rt, alloc, user_threads)?;
-            Ok((users, all_of(rt, alloc, term_threads)?))
+            let users = all_of(rt, alloc, user_threads);
+            (users, all_of(rt, alloc, term_threads))
         },
     )
 }
 
 /// What a set of four users came to.
-fn adds_up(closed: &Closed) -> Result<(), Fail> {
+fn adds_up(closed: &Closed) -> bool {
     let counts = closed.counts;
     let sendable = counts.waiting.saturating_add(counts.parked);
-    holds(sendable.saturating_add(counts.unacked) == 400 && counts.unacked <= 127)?;
-    holds(closed.books.messages == 400 && closed.books.octets == 2000)?;
-    holds(closed.history.len() == 1201)
+    sendable.saturating_add(counts.unacked) == 400
+        && counts.unacked <= 127
+        && closed.books.messages == 400
+        && closed.books.octets == 2000
+        && closed.history.len() == 1201
+}
+
+fn ends_well(closed: Option<Closed>) -> bool {
+    match closed {
+        Some(closed) => adds_up(&closed),
+        None => false,
+    }
 }
 
 /// Four users beside the terminal of one link.
@@ -151,11 +180,8 @@ fn four_users<
         users,
         terminals,
     } = opened;
-    let (users, terminals) = run(rt, alloc, &set, users, terminals)?;
-    match set.close(users, terminals) {
-        Ok(closed) => adds_up(&closed),
-        Err(_) => Err(Fail::from("not ended")),
-    }
+    let (users, terminals) = run(rt, alloc, &set, users, terminals);
+    holds(ends_well(closed(set, users, terminals)))
 }
 
 #[test]
