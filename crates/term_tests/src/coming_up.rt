@@ -1,7 +1,7 @@
 //! A terminal that is joined to itself by its line.
 
 use super::core_door::{
-    CoreDoor, LONG, asked_up, config_of, downs, holds, is_legal, started, started_at, ups,
+    CoreDoor, LONG, asked_up, downs, holds, is_legal, started, started_at, ups,
 };
 use super::test_lines::{FadingLine, FullLine};
 use line_ring::{Line, LossyLine};
@@ -11,26 +11,19 @@ use std::alloc::Global;
 use std::test::Fail;
 
 /// A terminal with timers of these lengths isn't up after so many turns, for this cause.
-fn fails_for(alloc: Global, lengths: Timers, cause: u8) -> Result<(), Fail> {
-    let mut terminal = started(alloc, LossyLine::new(0), lengths)?;
+fn fails_for(alloc: Global, lengths: Timers, cause: u8) -> bool {
+    let Some(mut terminal) = started(alloc, LossyLine::new(0), lengths) else {
+        return false;
+    };
     runs_to(&mut terminal, cause)
 }
 
 /// So many turns end with this cause of the last failure.
-fn runs_to<D: Door, L: Line, G: Gate>(
-    terminal: &mut Terminal<D, L, G>,
-    cause: u8,
-) -> Result<(), Fail> {
+fn runs_to<D: Door, L: Line, G: Gate>(terminal: &mut Terminal<D, L, G>, cause: u8) -> bool {
     match terminal.run(20_000) {
-        Ok(report) => holds(report.cause == cause && report.turns == 20_000),
-        Err(_) => Err(Fail::from("failed")),
+        Ok(report) => report.cause == cause && report.turns == 20_000,
+        Err(_) => false,
     }
-}
-
-/// All went well, and the set's history is legal.
-fn ends_well(alloc: Global, door: &CoreDoor, well: bool) -> Result<(), Fail> {
-    holds(well)?;
-    is_legal(alloc, &config_of()?, door)
 }
 
 /// It never failed, and heard more than 2,000 marks, each of them good.
@@ -45,39 +38,55 @@ fn stays_good<D: Door, L: Line, G: Gate>(terminal: &mut Terminal<D, L, G>) -> bo
 
 #[test]
 fn a_link_comes_up(rt: HostRuntime) -> Result<(), Fail> {
-    let mut terminal = started(rt.alloc(), LossyLine::new(0), LONG)?;
+    holds(comes_up(rt.alloc()))
+}
+
+fn comes_up(alloc: Global) -> bool {
+    let Some(mut terminal) = started(alloc, LossyLine::new(0), LONG) else {
+        return false;
+    };
     let good = stays_good(&mut terminal);
     let (door, _line, _gate) = terminal.into_parts();
-    let well = good && ups(door.core.history()) == 1 && downs(door.core.history()) == 0;
-    ends_well(rt.alloc(), &door, well)
+    good && is_legal_with(alloc, &door, 1, 0)
+}
+
+/// The set was told so often that the link is up, and that it's down; its history is legal.
+fn is_legal_with(alloc: Global, door: &CoreDoor, up: usize, down: usize) -> bool {
+    ups(door.core.history()) == up
+        && downs(door.core.history()) == down
+        && is_legal(alloc, door)
 }
 
 #[test]
 fn t1_is_too_short(rt: HostRuntime) -> Result<(), Fail> {
-    let lengths = Timers { t1: 1, ..LONG };
-    fails_for(rt.alloc(), lengths, 4)
+    holds(fails_for(rt.alloc(), Timers { t1: 1, ..LONG }, 4))
 }
 
 #[test]
 fn t2_is_too_short(rt: HostRuntime) -> Result<(), Fail> {
-    let lengths = Timers { t2: 1, ..LONG };
-    fails_for(rt.alloc(), lengths, 8)
+    holds(fails_for(rt.alloc(), Timers { t2: 1, ..LONG }, 8))
 }
 
 #[test]
 fn t3_is_too_short(rt: HostRuntime) -> Result<(), Fail> {
-    let lengths = Timers { t3: 1, ..LONG };
-    fails_for(rt.alloc(), lengths, 8)
+    holds(fails_for(rt.alloc(), Timers { t3: 1, ..LONG }, 8))
 }
 
 #[test]
 fn the_first_octet_waits_where_the_line_is_full(rt: HostRuntime) -> Result<(), Fail> {
-    let mut terminal = started(rt.alloc(), FullLine::new(), LONG)?;
-    let Ok(report) = terminal.run(100) else {
-        return Err(Fail::from("failed"));
+    holds(waits_for_the_line(rt.alloc()))
+}
+
+fn waits_for_the_line(alloc: Global) -> bool {
+    let Some(mut terminal) = started(alloc, FullLine::new(), LONG) else {
+        return false;
+    };
+    let sent = match terminal.run(100) {
+        Ok(report) => Some(report.sent),
+        Err(_) => None,
     };
     let (_door, line, _gate) = terminal.into_parts();
-    holds(report.sent == 0 && line.asked == 100 && line.always_the_flag)
+    sent == Some(0) && line.asked == 100 && line.always_the_flag
 }
 
 /// 110,000 turns, in each thousand of which the link is told to start in an emergency; whether they went well.
@@ -94,15 +103,14 @@ fn goes_on<D: Door, L: Line, G: Gate>(terminal: &mut Terminal<D, L, G>) -> bool 
 
 /// On a good line, after its far end didn't answer its changeover, it comes up. It's started once, since its own order of
 /// changeover, which comes back to it, takes it out of service again.
-fn comes_up_again(alloc: Global, door: CoreDoor, line: FadingLine) -> Result<(), Fail> {
+fn comes_up_again(alloc: Global, door: CoreDoor, line: FadingLine) -> bool {
     let mut door = door;
     let link = door.link();
     let settled = door.step(&Event::NoAnswer { link }).is_ok();
     let mut terminal = started_at(door, line, LONG);
     let well = terminal.run(20_000).is_ok();
     let (door, _line, _gate) = terminal.into_parts();
-    let well = settled && well && ups(door.core.history()) == 2;
-    ends_well(alloc, &door, well)
+    settled && well && ups(door.core.history()) == 2 && is_legal(alloc, &door)
 }
 
 /// In service on a good line, which then loses each 50th octet for 100,000 turns. The link goes down. An emergency proving
@@ -110,11 +118,23 @@ fn comes_up_again(alloc: Global, door: CoreDoor, line: FadingLine) -> Result<(),
 /// the set isn't asked for another Up until the line is good again.
 #[test]
 fn a_link_that_loses_octets_fails_and_comes_up_again(rt: HostRuntime) -> Result<(), Fail> {
-    let mut terminal = started(rt.alloc(), FadingLine::new(10_000, 110_000), LONG)?;
+    holds(fails_and_comes_up_again(rt.alloc()))
+}
+
+fn fails_and_comes_up_again(alloc: Global) -> bool {
+    let Some(mut terminal) = started(alloc, FadingLine::new(10_000, 110_000), LONG) else {
+        return false;
+    };
     let well = goes_on(&mut terminal);
     let (door, line, _gate) = terminal.into_parts();
-    let core = &door.core;
-    let was_up = asked_up(core.history()) == 1 && ups(core.history()) == 1;
-    holds(well && was_up && downs(core.history()) == 1)?;
-    comes_up_again(rt.alloc(), door, line)
+    let failed = has_failed_once(&door);
+    let again = comes_up_again(alloc, door, line);
+    well && failed && again
+}
+
+/// The set was asked for one Up, which was done, and then told of one Down.
+fn has_failed_once(door: &CoreDoor) -> bool {
+    asked_up(door.core.history()) == 1
+        && ups(door.core.history()) == 1
+        && downs(door.core.history()) == 1
 }

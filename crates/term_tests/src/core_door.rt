@@ -50,37 +50,44 @@ pub(crate) fn holds(fact: bool) -> Result<(), Fail> {
 }
 
 /// A set of one link, between these point codes.
-fn config_between(near: u16, far: u16) -> Result<SetConfig, Fail> {
-    match SetConfig::new(0, 1, near, far, 0x80, Method::Basic) {
-        Ok(config) => Ok(config),
-        Err(_) => Err(Fail::from("refused")),
-    }
+fn config_between(near: u16, far: u16) -> Option<SetConfig> {
+    SetConfig::new(0, 1, near, far, 0x80, Method::Basic).ok()
 }
 
 /// A set of one link.
-pub(crate) fn config_of() -> Result<SetConfig, Fail> {
+pub(crate) fn config_of() -> Option<SetConfig> {
     config_between(2, 1)
 }
 
 /// Its far end.
-pub(crate) fn far_config_of() -> Result<SetConfig, Fail> {
+pub(crate) fn far_config_of() -> Option<SetConfig> {
     config_between(1, 2)
 }
 
 /// A door of link 0 of a new set.
-pub(crate) fn door_of(alloc: Global) -> Result<CoreDoor, Fail> {
+pub(crate) fn door_of(alloc: Global) -> Option<CoreDoor> {
     door_at(alloc, &config_of()?)
 }
 
 /// A door of link 0 of a new set with these settings.
-pub(crate) fn door_at(alloc: Global, config: &SetConfig) -> Result<CoreDoor, Fail> {
+fn door_at(alloc: Global, config: &SetConfig) -> Option<CoreDoor> {
     match SetCore::new(alloc, config) {
-        Ok(core) => Ok(CoreDoor {
+        Ok(core) => Some(CoreDoor {
             core,
             link: 0,
             faults: Faults::new(),
         }),
-        Err(_) => Err(Fail::from("no memory")),
+        Err(_) => None,
+    }
+}
+
+/// The same, after user 0 has offered so many messages, which were accepted.
+pub(crate) fn loaded(alloc: Global, config: &SetConfig, messages: u16) -> Option<CoreDoor> {
+    let mut door = door_at(alloc, config)?;
+    if offer(alloc, &mut door.core, messages) {
+        Some(door)
+    } else {
+        None
     }
 }
 
@@ -99,8 +106,11 @@ pub(crate) fn started<L: Line + Drop>(
     alloc: Global,
     line: L,
     lengths: Timers,
-) -> Result<Terminal<CoreDoor, L, OpenGate>, Fail> {
-    Ok(started_at(door_of(alloc)?, line, lengths))
+) -> Option<Terminal<CoreDoor, L, OpenGate>> {
+    match door_of(alloc) {
+        Some(door) => Some(started_at(door, line, lengths)),
+        None => None,
+    }
 }
 
 /// A terminal at this door, which is told to come up in an emergency.
@@ -130,17 +140,31 @@ pub(crate) fn message_of(number: u16) -> [u8; 7] {
 }
 
 /// User 0 offers so many messages, which are accepted.
-pub(crate) fn offer(alloc: Global, door: &mut CoreDoor, messages: u16) -> Result<(), Fail> {
+fn offer(alloc: Global, core: &mut SetCore, messages: u16) -> bool {
     for number in 0..messages {
-        let event = Event::Offer {
-            body: Body::from_slice(alloc, &message_of(number))?,
-        };
-        match door.core.apply(Actor::User(0), &event) {
-            Ok(Answer::Accepted { .. }) => {}
-            _ => return Err(Fail::from("not accepted")),
+        if !accepts(alloc, core, number) {
+            return false;
         }
     }
-    Ok(())
+    true
+}
+
+fn accepts(alloc: Global, core: &mut SetCore, number: u16) -> bool {
+    match Body::from_slice(alloc, &message_of(number)) {
+        Ok(body) => matches!(
+            asked(core, &Event::Offer { body }),
+            Some(Answer::Accepted { .. })
+        ),
+        Err(_) => false,
+    }
+}
+
+/// What the set answers user 0. No answer: there was no memory.
+pub(crate) fn asked(core: &mut SetCore, event: &Event) -> Option<Answer> {
+    match core.apply(Actor::User(0), event) {
+        Ok(answer) => Some(answer),
+        Err(_) => None,
+    }
 }
 
 /// What of a history is counted.
@@ -190,10 +214,15 @@ pub(crate) fn downs(history: Reader<'_>) -> usize {
     count_of(history, Counted::Down)
 }
 
-/// The history of a door's set is legal, by these settings.
-pub(crate) fn is_legal(alloc: Global, config: &SetConfig, door: &CoreDoor) -> Result<(), Fail> {
-    match audit_history(alloc, config, door.core.history()) {
-        Ok(legal) => holds(legal),
-        Err(_) => Err(Fail::from("no memory")),
+/// Whether the history of a door's set is legal, by these settings.
+pub(crate) fn is_legal_by(alloc: Global, config: &SetConfig, door: &CoreDoor) -> bool {
+    audit_history(alloc, config, door.core.history()) == Ok(true)
+}
+
+/// The same by those of a set of one link.
+pub(crate) fn is_legal(alloc: Global, door: &CoreDoor) -> bool {
+    match config_of() {
+        Some(config) => is_legal_by(alloc, &config, door),
+        None => false,
     }
 }

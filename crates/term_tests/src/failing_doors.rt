@@ -49,14 +49,14 @@ fn failing(
     alloc: Global,
     steps: u32,
     fault: SetFault,
-) -> Result<Terminal<FailingDoor, LossyLine, OpenGate>, Fail> {
+) -> Option<Terminal<FailingDoor, LossyLine, OpenGate>> {
     let door = FailingDoor {
         door: door_of(alloc)?,
         left: steps,
         fault,
         faults: Faults::new(),
     };
-    Ok(started_at(door, LossyLine::new(0), LONG))
+    Some(started_at(door, LossyLine::new(0), LONG))
 }
 
 /// The fault that ends one of so many turns.
@@ -82,23 +82,38 @@ fn stays_failed<D: Door, L: Line, G: Gate>(terminal: &mut Terminal<D, L, G>) -> 
 }
 
 /// The step of this number fails: that fault is told, once.
-fn fails_at(alloc: Global, steps: u32, fault: SetFault, told: TermFault) -> Result<(), Fail> {
-    let mut terminal = failing(alloc, steps, fault)?;
+fn fails_at(alloc: Global, steps: u32, fault: SetFault, told: TermFault) -> bool {
+    let Some(mut terminal) = failing(alloc, steps, fault) else {
+        return false;
+    };
     let is_told = first_fault(&mut terminal, 20_000) == Some(told);
     let stays = stays_failed(&mut terminal);
     let (door, _line, _gate) = terminal.into_parts();
-    let stepped = door.left == 0 && door.door.core.history().len() == steps as usize;
-    holds(is_told && stays && stepped)
+    is_told && stays && has_stepped(&door, steps)
+}
+
+/// The door did all its steps, and each is in the history.
+fn has_stepped(door: &FailingDoor, steps: u32) -> bool {
+    door.left == 0 && door.door.core.history().len() == steps as usize
+}
+
+/// Each of the first steps fails: an Up, the first Heard, the first Next.
+fn fails_at_first(alloc: Global) -> bool {
+    for steps in 0..6u32 {
+        if !fails_at(alloc, steps, SetFault::NoMemory, TermFault::NoMemory) {
+            return false;
+        }
+    }
+    true
 }
 
 #[test]
 fn a_fault_is_told_once_and_then_failed(rt: HostRuntime) -> Result<(), Fail> {
-    // an Up, the first Heard, the first Next, and steps in the midst of service
-    for steps in 0..6u32 {
-        fails_at(rt.alloc(), steps, SetFault::NoMemory, TermFault::NoMemory)?;
-    }
-    fails_at(rt.alloc(), 100, SetFault::NoMemory, TermFault::NoMemory)?;
-    fails_at(rt.alloc(), 101, SetFault::Exhausted, TermFault::Exhausted)
+    let first = fails_at_first(rt.alloc());
+    // steps in the midst of service
+    let memory = fails_at(rt.alloc(), 100, SetFault::NoMemory, TermFault::NoMemory);
+    let full = fails_at(rt.alloc(), 101, SetFault::Exhausted, TermFault::Exhausted);
+    holds(first && memory && full)
 }
 
 /// A run ends with this fault, and the terminal has failed then.
@@ -111,7 +126,12 @@ fn run_fails<D: Door, L: Line, G: Gate>(terminal: &mut Terminal<D, L, G>, told: 
 
 #[test]
 fn a_run_that_fails_tells_the_fault(rt: HostRuntime) -> Result<(), Fail> {
-    let mut terminal = failing(rt.alloc(), 7, SetFault::Exhausted)?;
-    let fails = run_fails(&mut terminal, TermFault::Exhausted);
-    holds(fails)
+    holds(is_told_by_a_run(rt.alloc()))
+}
+
+fn is_told_by_a_run(alloc: Global) -> bool {
+    let Some(mut terminal) = failing(alloc, 7, SetFault::Exhausted) else {
+        return false;
+    };
+    run_fails(&mut terminal, TermFault::Exhausted)
 }

@@ -2,7 +2,7 @@
 ghost use Rattle.std.specs.Prelude.{◌≤◌};
 
 use super::core_door::{
-    CoreDoor, LONG, config_of, door_of, downs, holds, is_legal, offer, started_at, ups,
+    CoreDoor, LONG, config_of, downs, holds, is_legal, loaded, started_at, ups,
 };
 use super::far_end::{FarEnd, Heard, Script};
 use l2_signals::Status;
@@ -41,6 +41,8 @@ struct Near {
 /// What came of it.
 #[derive(Clone, Copy)]
 struct Outcome {
+    /// The set's history is legal.
+    is_legal: bool,
     /// The cause of the last failure; 0: none.
     cause: u8,
     /// How often the set was told that the link is up, and down.
@@ -56,12 +58,13 @@ struct Outcome {
 impl Outcome {
     /// The link came up once, and stayed up.
     fn is_well(&self) -> bool {
-        self.cause == 0 && self.ups == 1 && self.downs == 0
+        self.is_legal && self.cause == 0 && self.ups == 1 && self.downs == 0
     }
 
     /// The link came up once, and failed for this cause; SIOS went out (Q.703 12.1).
     fn failed_for(&self, cause: u8) -> bool {
-        self.cause == cause && self.ups == 1 && self.downs == 1 && self.heard.statuses[3] > 0
+        let failed = self.is_legal && self.cause == cause && self.downs == 1;
+        failed && self.ups == 1 && self.heard.statuses[3] > 0
     }
 }
 
@@ -87,32 +90,37 @@ fn plays(terminal: &mut Terminal<CoreDoor, FarEnd, OpenGate>, is_busy: bool) -> 
     runs(terminal, 20_000)
 }
 
-/// What a terminal came to, whose history is legal.
+/// What a terminal came to.
 fn seen(
     alloc: Global,
     terminal: Terminal<CoreDoor, FarEnd, OpenGate>,
     cause: Option<u8>,
-) -> Result<Outcome, Fail> {
+) -> Outcome {
     let (door, line, _gate) = terminal.into_parts();
-    let outcome = Outcome {
+    Outcome {
+        is_legal: is_legal(alloc, &door),
         cause: cause.unwrap_or(255),
         ups: ups(door.core.history()),
         downs: downs(door.core.history()),
         acked: door.core.counts().acked,
         heard: line.heard(),
         meanwhile: line.meanwhile(),
-    };
-    is_legal(alloc, &config_of()?, &door)?;
-    Ok(outcome)
+    }
 }
 
 /// What comes of a near end over a line with this far end.
 fn faces(alloc: Global, script: Script, near: Near) -> Result<Outcome, Fail> {
-    let mut door = door_of(alloc)?;
-    offer(alloc, &mut door, near.messages)?;
+    match outcome_of(alloc, script, near) {
+        Some(outcome) => Ok(outcome),
+        None => Err(Fail::from("not offered")),
+    }
+}
+
+fn outcome_of(alloc: Global, script: Script, near: Near) -> Option<Outcome> {
+    let door = loaded(alloc, &config_of()?, near.messages)?;
     let mut terminal = started_at(door, FarEnd::new(script), near.lengths);
     let cause = plays(&mut terminal, near.is_busy);
-    seen(alloc, terminal, cause)
+    Some(seen(alloc, terminal, cause))
 }
 
 /// A near end that isn't busy, with so many messages.
@@ -166,8 +174,8 @@ fn a_busy_terminal_sends_sib_again_and_again(rt: HostRuntime) -> Result<(), Fail
         is_busy: true,
     };
     let outcome = faces(rt.alloc(), SILENT, near)?;
-    holds(u64::from(LONG.t5) == T5)?;
-    holds(outcome.is_well() && outcome.heard.statuses[5] == 1 + 10)
+    let well = outcome.is_well() && u64::from(LONG.t5) == T5;
+    holds(well && outcome.heard.statuses[5] == 1 + 10)
 }
 
 /// No message goes out while the far end has a processor outage, and all do after it (Q.703 8.2).
@@ -179,6 +187,6 @@ fn a_processor_outage_stops_messages(rt: HostRuntime) -> Result<(), Fail> {
         status: Status::ProcessorOutage,
     };
     let outcome = faces(rt.alloc(), script, eased(LONG, 300))?;
-    holds(outcome.is_well() && outcome.acked == 300 && outcome.heard.msus == 300)?;
-    holds(outcome.meanwhile.msus == 0 && outcome.meanwhile.fisus > 500)
+    let well = outcome.is_well() && outcome.acked == 300 && outcome.heard.msus == 300;
+    holds(well && outcome.meanwhile.msus == 0 && outcome.meanwhile.fisus > 500)
 }

@@ -9,99 +9,118 @@ use std::test::Fail;
 use std::thread;
 
 /// The line takes these octets, in order.
-fn takes_in<L: Line>(line: &mut L, octets: &[u8]) -> Result<(), Fail> {
+fn takes_in<L: Line>(line: &mut L, octets: &[u8]) -> bool {
     for octet in octets {
-        holds(line.put(*octet).is_ok())?;
+        if line.put(*octet).is_err() {
+            return false;
+        }
     }
-    Ok(())
+    true
+}
+
+/// The line hands out this octet.
+fn gives<L: Line>(line: &mut L, octet: u8) -> bool {
+    line.take() == Some(octet)
 }
 
 /// The line hands out these octets, in order, and then none.
-fn hands_out<L: Line>(line: &mut L, octets: &[u8]) -> Result<(), Fail> {
+fn hands_out<L: Line>(line: &mut L, octets: &[u8]) -> bool {
     for octet in octets {
-        holds(line.take() == Some(*octet))?;
+        if !gives(line, *octet) {
+            return false;
+        }
     }
-    holds(line.take().is_none())
+    line.take().is_none()
 }
 
 /// The line is full, and the octet comes back.
-fn is_full<L: Line>(line: &mut L, octet: u8) -> Result<(), Fail> {
-    holds(line.put(octet) == Err(Full { octet }))
+fn is_full<L: Line>(line: &mut L, octet: u8) -> bool {
+    line.put(octet) == Err(Full { octet })
+}
+
+/// A line of a loss of each so many octets takes these in, and hands those out.
+fn loses(each: u16, octets: &[u8], left: &[u8]) -> bool {
+    let mut line = LossyLine::new(each);
+    takes_in(&mut line, octets) && hands_out(&mut line, left)
 }
 
 #[test]
 fn each_third_octet_is_lost(_rt: HostRuntime) -> Result<(), Fail> {
-    let mut line = LossyLine::new(3);
-    line.passes();
-    takes_in(&mut line, &[1, 2, 3, 4, 5, 6])?;
-    hands_out(&mut line, &[1, 2, 4, 5])
+    LossyLine::new(3).passes();
+    holds(loses(3, &[1, 2, 3, 4, 5, 6], &[1, 2, 4, 5]))
 }
 
 #[test]
 fn no_octet_and_each_octet_is_lost(_rt: HostRuntime) -> Result<(), Fail> {
-    let mut line = LossyLine::new(0);
-    takes_in(&mut line, &[1, 2, 3])?;
-    hands_out(&mut line, &[1, 2, 3])?;
-    let mut line = LossyLine::new(1);
-    takes_in(&mut line, &[1, 2, 3])?;
-    hands_out(&mut line, &[])
+    holds(loses(0, &[1, 2, 3], &[1, 2, 3]) && loses(1, &[1, 2, 3], &[]))
 }
 
 /// Puts the octets of 256 numbers, so often.
-fn rounds<L: Line>(line: &mut L, times: u8) -> Result<(), Fail> {
+fn rounds<L: Line>(line: &mut L, times: u8) -> bool {
     for _time in 0..times {
         for octet in 0..=255u8 {
-            holds(line.put(octet).is_ok())?;
+            if line.put(octet).is_err() {
+                return false;
+            }
         }
     }
-    Ok(())
+    true
 }
 
 #[test]
 fn a_full_lossy_line_hands_the_octet_back(_rt: HostRuntime) -> Result<(), Fail> {
-    let mut line = LossyLine::new(0);
-    rounds(&mut line, 16)?;
-    is_full(&mut line, 9)?;
-    holds(line.take() == Some(0) && line.take() == Some(1))?;
-    takes_in(&mut line, &[7, 8])?;
-    is_full(&mut line, 9)?;
-    holds(line.take() == Some(2))
+    holds(hands_back(&mut LossyLine::new(0)))
+}
+
+fn hands_back<L: Line>(line: &mut L) -> bool {
+    rounds(line, 16)
+        && is_full(line, 9)
+        && gives(line, 0)
+        && gives(line, 1)
+        && takes_in(line, &[7, 8])
+        && is_full(line, 9)
+        && gives(line, 2)
 }
 
 #[test]
 fn a_pair_has_its_places_each_way(rt: HostRuntime) -> Result<(), Fail> {
     let (mut near, mut far) = ring_pair(rt.alloc(), 2)?;
-    takes_in(&mut near, &[7, 8])?;
-    is_full(&mut near, 9)?;
-    takes_in(&mut far, &[1])?;
-    holds(far.take() == Some(7))?;
-    takes_in(&mut near, &[9])?;
-    hands_out(&mut far, &[8, 9])?;
-    hands_out(&mut near, &[1])?;
-    holds(ring_pair(rt.alloc(), usize::MAX).is_err())
+    let each_way = has_two_places(&mut near, &mut far);
+    let too_many = ring_pair(rt.alloc(), usize::MAX).is_err();
+    holds(each_way && too_many)
+}
+
+fn has_two_places<L: Line>(near: &mut L, far: &mut L) -> bool {
+    takes_in(near, &[7, 8])
+        && is_full(near, 9)
+        && takes_in(far, &[1])
+        && gives(far, 7)
+        && takes_in(near, &[9])
+        && hands_out(far, &[8, 9])
+        && hands_out(near, &[1])
 }
 
 #[test]
 fn both_ends_look_side_by_side(rt: HostRuntime) -> Result<(), Fail> {
     let (mut near, mut far) = ring_pair(rt.alloc(), 2)?;
-    holds(near.put(7).is_ok() && near.put(8).is_ok() && near.put(9).is_err())?;
-    holds(far.take() == Some(7) && near.put(9).is_ok())?;
+    let filled = near.put(7).is_ok() && near.put(8).is_ok() && near.put(9).is_err();
+    let taken = far.take() == Some(7) && near.put(9).is_ok();
     beside(&mut near, &mut far);
-    hands_out(&mut far, &[8, 9])
+    let left = hands_out(&mut far, &[8, 9]);
+    holds(filled && taken && left)
 }
 
 #[test]
 fn a_pair_without_places_is_always_full(rt: HostRuntime) -> Result<(), Fail> {
     let (mut near, mut far) = ring_pair(rt.alloc(), 0)?;
-    is_full(&mut near, 9)?;
-    hands_out(&mut far, &[])?;
-    is_full(&mut near, 9)
+    let full = is_full(&mut near, 9) && hands_out(&mut far, &[]) && is_full(&mut near, 9);
+    holds(full)
 }
 
 #[test]
 fn a_lossy_line_goes_to_another_thread(rt: HostRuntime) -> Result<(), Fail> {
     let mut line = LossyLine::new(2);
-    takes_in(&mut line, &[1, 2, 3])?;
+    let taken = takes_in(&mut line, &[1, 2, 3]);
     let (heard, _) = thread::join(
         &rt,
         move || -> bool {
@@ -110,7 +129,7 @@ fn a_lossy_line_goes_to_another_thread(rt: HostRuntime) -> Result<(), Fail> {
         },
         || (),
     );
-    holds(heard)
+    holds(taken && heard)
 }
 
 /// How many octets cross between two threads.
@@ -184,8 +203,7 @@ fn octets_cross_between_two_threads(rt: HostRuntime) -> Result<(), Fail> {
             ensures { IsSameEnd far result.0 }
         { hears(&rt, far) },
     );
-    holds(answered && right)?;
     beside(&mut near, &mut far);
-    hands_out(&mut far, &[])?;
-    hands_out(&mut near, &[])
+    let empty = hands_out(&mut far, &[]) && hands_out(&mut near, &[]);
+    holds(answered && right && empty)
 }

@@ -1,13 +1,14 @@
 //! Two terminals over a pair of rings, each in a thread of its own.
 
 use super::core_door::{
-    CoreDoor, LONG, config_of, door_at, far_config_of, holds, is_legal, message_of, offer,
+    CoreDoor, LONG, asked, config_of, far_config_of, holds, is_legal_by, loaded, message_of,
     started_at, ups,
 };
 use line_ring::{Line, RingLine, ring_pair};
 use link_term::{OpenGate, Terminal};
-use set_events::{Actor, Answer, Event, SetConfig};
-use std::alloc::Global;
+use set_core::SetCore;
+use set_events::{Answer, Event, SetConfig};
+use std::alloc::{AllocError, Global};
 use std::sync::Wait;
 use std::test::Fail;
 use std::thread;
@@ -51,46 +52,73 @@ fn plays<R: Wait>(
     (door, well)
 }
 
-/// A door of a new set, to which all messages were offered.
-fn loaded(alloc: Global, config: &SetConfig) -> Result<CoreDoor, Fail> {
-    let mut door = door_at(alloc, config)?;
-    offer(alloc, &mut door, MESSAGES)?;
-    Ok(door)
-}
-
 /// User 0 takes the other end's messages, all of them in the order in which they were offered.
-fn takes_all(door: &mut CoreDoor) -> Result<(), Fail> {
+fn takes_all(core: &mut SetCore) -> bool {
     for number in 0..MESSAGES {
-        match door.core.apply(Actor::User(0), &Event::Take) {
-            Ok(Answer::Taken { body }) => holds(body.as_slice() == message_of(number).as_slice())?,
-            _ => return Err(Fail::from("not all were heard")),
+        if !takes(core, number) {
+            return false;
         }
     }
-    Ok(())
+    true
+}
+
+fn takes(core: &mut SetCore, number: u16) -> bool {
+    match asked(core, &Event::Take) {
+        Some(Answer::Taken { body }) => body.as_slice() == message_of(number).as_slice(),
+        _ => false,
+    }
 }
 
 /// What an end came to: one Up, all messages acknowledged, the other's in its inbox, and a legal history.
-fn came_through(alloc: Global, config: &SetConfig, door: CoreDoor) -> Result<(), Fail> {
-    let mut door = door;
-    holds(ups(door.core.history()) == 1)?;
-    holds(door.core.counts().acked == u64::from(MESSAGES))?;
-    takes_all(&mut door)?;
-    is_legal(alloc, config, &door)
+fn came_through(alloc: Global, config: Option<SetConfig>, door: &mut CoreDoor) -> bool {
+    let Some(config) = config else {
+        return false;
+    };
+    ups(door.core.history()) == 1
+        && door.core.counts().acked == u64::from(MESSAGES)
+        && takes_all(&mut door.core)
+        && is_legal_by(alloc, &config, door)
+}
+
+/// A door of a new set of each end, to which all messages were offered.
+fn doors(alloc: Global) -> Option<(CoreDoor, CoreDoor)> {
+    let near = loaded(alloc, &config_of()?, MESSAGES)?;
+    let far = loaded(alloc, &far_config_of()?, MESSAGES)?;
+    Some((near, far))
+}
+
+/// A terminal at each of these doors, joined by a pair of rings.
+fn joined(
+    alloc: Global,
+    near: CoreDoor,
+    far: CoreDoor,
+) -> Result<
+    (
+        Terminal<CoreDoor, RingLine, OpenGate>,
+        Terminal<CoreDoor, RingLine, OpenGate>,
+    ),
+    AllocError,
+> {
+    let (near_line, far_line) = ring_pair(alloc, 4_096)?;
+    Ok((
+        started_at(near, near_line, LONG),
+        started_at(far, far_line, LONG),
+    ))
 }
 
 #[test]
 fn two_terminals_exchange_messages_between_threads(rt: HostRuntime) -> Result<(), Fail> {
-    let (near_config, far_config) = (config_of()?, far_config_of()?);
-    let (near_line, far_line) = ring_pair(rt.alloc(), 4_096)?;
+    let Some((near, far)) = doors(rt.alloc()) else {
+        return Err(Fail::from("not offered"));
+    };
+    let (near, far) = joined(rt.alloc(), near, far)?;
     let (near_ticks, far_ticks) = ring_pair(rt.alloc(), 2)?;
-    let near = started_at(loaded(rt.alloc(), &near_config)?, near_line, LONG);
-    let far = started_at(loaded(rt.alloc(), &far_config)?, far_line, LONG);
-    let ((near, near_well), (far, far_well)) = thread::join(
+    let ((mut near, near_well), (mut far, far_well)) = thread::join(
         &rt,
         move || plays(&rt, near, near_ticks),
         move || plays(&rt, far, far_ticks),
     );
-    holds(near_well && far_well)?;
-    came_through(rt.alloc(), &near_config, near)?;
-    came_through(rt.alloc(), &far_config, far)
+    let near_came = came_through(rt.alloc(), config_of(), &mut near);
+    let far_came = came_through(rt.alloc(), far_config_of(), &mut far);
+    holds(near_well && far_well && near_came && far_came)
 }
