@@ -3,6 +3,7 @@
 //! The expected lines are worked out by hand from Q.703 2 to 5 and the script's rules.
 ghost use Rattle.std.specs.Prelude.{◌≡◌, ◌≤◌, ◌<◌, Some};
 
+use super::holds;
 use play_text::{ScriptFault, play};
 use printing::{DeviceFault, Fault, Sink, Source};
 use std::alloc::{AllocError, Global};
@@ -43,8 +44,8 @@ impl Source for Text<'_> {
 
 /// What is written, in memory.
 #[derive(Drop)]
-pub(crate) struct Page {
-    pub(crate) octets: Vec<u8>,
+struct Page {
+    octets: Vec<u8>,
     /// How many octets a write takes at most.
     piece: usize,
     /// How many writes succeed.
@@ -76,7 +77,7 @@ impl Sink for Page {
 }
 
 /// Plays a script in pieces of this many octets; the devices take this many calls.
-pub(crate) fn run_of(
+fn run_of(
     alloc: Global,
     script: &[u8],
     piece: usize,
@@ -101,10 +102,15 @@ pub(crate) fn run_of(
     (page, end)
 }
 
+fn write_script(lines: &[u8], script: &mut Vec<u8>) -> Result<(), AllocError> {
+    script.extend_from_slice(OPENING)?;
+    script.extend_from_slice(lines)
+}
+
 /// The script behind the opening line, whole.
 fn script_of(alloc: Global, lines: &[u8]) -> Result<Vec<u8>, AllocError> {
-    let mut script = Vec::from_slice(alloc, OPENING)?;
-    script.extend_from_slice(lines)?;
+    let mut script = Vec::new(alloc);
+    write_script(lines, &mut script)?;
     Ok(script)
 }
 
@@ -126,15 +132,23 @@ end a accepted=1 waiting=0 unacked=0 acked=1 held=0 parked=0 back=0 discarded=0
 end b accepted=0 waiting=0 unacked=0 acked=0 held=0 parked=0 back=0 discarded=0
 ";
 
+/// The script prints all in pieces of this many octets.
+fn prints_first(alloc: Global, script: &[u8], piece: usize) -> bool
+    requires { 0 < piece }
+{
+    let (page, end) = run_of(alloc, script, piece, 1000, 1000);
+    page.octets.as_slice() == FIRST_PRINTED && end == Ok(())
+}
+
 #[test]
 fn the_pieces_of_the_input_change_nothing(rt: HostRuntime) -> Result<(), Fail> {
     let script = script_of(rt.alloc(), FIRST_MESSAGE)?;
-    for piece in [1, 2, 7, 64] {
-        let (page, end) = run_of(rt.alloc(), &script, piece, 1000, 1000);
-        assert_eq!(rt; page.octets.as_slice(), FIRST_PRINTED);
-        assert!(rt; end == Ok(()));
-    }
-    Ok(())
+    holds(
+        prints_first(rt.alloc(), &script, 1)
+            && prints_first(rt.alloc(), &script, 2)
+            && prints_first(rt.alloc(), &script, 7)
+            && prints_first(rt.alloc(), &script, 64),
+    )
 }
 
 #[test]
@@ -142,27 +156,38 @@ fn a_reader_fails_in_mid_stream(rt: HostRuntime) -> Result<(), Fail> {
     let script = script_of(rt.alloc(), FIRST_MESSAGE)?;
     // Sixty octets are read, one at a time: the opening line, `together 0` and the begin of an offer.
     let (page, end) = run_of(rt.alloc(), &script, 1, 60, 1000);
-    assert_eq!(rt; page.octets.as_slice(), b"up\n".as_slice());
-    assert!(rt; end == Err(Fault::Read));
-    Ok(())
+    holds(page.octets.as_slice() == b"up\n".as_slice() && end == Err(Fault::Read))
+}
+
+/// Whether a page that failed has the first so many octets of these.
+fn is_cut(page: &Page, all: &[u8], writes: usize) -> bool {
+    page.failed && page.octets.len() == writes && all.starts_with(&page.octets)
+}
+
+/// One octet a call: so many were written, and nothing after the call that failed.
+fn script_is_cut(alloc: Global, script: &[u8], writes: usize) -> bool
+    requires { writes < 2 ^ 32 }
+{
+    let (page, end) = run_of(alloc, script, 1, 1000, writes as u32);
+    end == Err(Fault::Write) && is_cut(&page, FIRST_PRINTED, writes)
+}
+
+fn is_cut_at_each_call(alloc: Global, script: &[u8]) -> bool {
+    for writes in 0..FIRST_PRINTED.len() {
+        if !script_is_cut(alloc, script, writes) {
+            return false;
+        }
+    }
+    true
 }
 
 #[test]
 fn a_writer_fails_at_each_call(rt: HostRuntime) -> Result<(), Fail> {
     let script = script_of(rt.alloc(), FIRST_MESSAGE)?;
-    let all = FIRST_PRINTED.len();
-    // One octet a call: so many were written, and nothing after the call that failed.
-    for writes in 0..all {
-        let (page, end) = run_of(rt.alloc(), &script, 1, 1000, writes as u32);
-        assert!(rt; end == Err(Fault::Write));
-        assert!(rt; page.failed);
-        assert_eq!(rt; page.octets.len(), writes);
-        assert!(rt; FIRST_PRINTED.starts_with(&page.octets));
-    }
-    let (page, end) = run_of(rt.alloc(), &script, 1, 1000, all as u32);
-    assert!(rt; end == Ok(()));
-    assert_eq!(rt; page.octets.as_slice(), FIRST_PRINTED);
-    Ok(())
+    let cut = is_cut_at_each_call(rt.alloc(), &script);
+    let all = FIRST_PRINTED.len() as u32;
+    let (page, end) = run_of(rt.alloc(), &script, 1, 1000, all);
+    holds(cut && end == Ok(()) && page.octets.as_slice() == FIRST_PRINTED)
 }
 
 /// Reads digits in pieces of this many octets, and writes so too.
@@ -200,36 +225,62 @@ good fisu bsn=127 bib=1 fsn=127 fib=1
 end good=1 bad=0 sixteen=2
 ";
 
-#[test]
-fn octets_are_counted_whatever_the_pieces(rt: HostRuntime) {
-    for piece in [4096, 1, 7] {
-        let (page, end) = seen_of(rt.alloc(), COUNTED, piece, 1000);
-        assert_eq!(rt; page.octets.as_slice(), COUNTED_PRINTED);
-        assert!(rt; end == Ok(()));
-    }
+/// The digits print all in pieces of this many octets.
+fn prints_counted(alloc: Global, piece: usize) -> bool
+    requires { 0 < piece }
+{
+    let (page, end) = seen_of(alloc, COUNTED, piece, 1000);
+    page.octets.as_slice() == COUNTED_PRINTED && end == Ok(())
 }
 
 #[test]
-fn a_writer_of_marks_fails_at_each_call(rt: HostRuntime) {
+fn octets_are_counted_whatever_the_pieces(rt: HostRuntime) -> Result<(), Fail> {
+    let whole = prints_counted(rt.alloc(), 4096);
+    holds(whole && prints_counted(rt.alloc(), 1) && prints_counted(rt.alloc(), 7))
+}
+
+/// One octet a call: so many were written, and nothing after the call that failed.
+fn counting_is_cut(alloc: Global, writes: usize) -> bool
+    requires { writes < 2 ^ 32 }
+{
+    let (page, end) = seen_of(alloc, COUNTED, 1, writes as u32);
+    end == Err(Fault::Write) && is_cut(&page, COUNTED_PRINTED, writes)
+}
+
+fn counting_is_cut_at_each_call(alloc: Global) -> bool {
     for writes in 0..COUNTED_PRINTED.len() {
-        let (page, end) = seen_of(rt.alloc(), COUNTED, 1, writes as u32);
-        assert!(rt; end == Err(Fault::Write));
-        assert_eq!(rt; page.octets.len(), writes);
-        assert!(rt; COUNTED_PRINTED.starts_with(&page.octets));
+        if !counting_is_cut(alloc, writes) {
+            return false;
+        }
     }
+    true
+}
+
+#[test]
+fn a_writer_of_marks_fails_at_each_call(rt: HostRuntime) -> Result<(), Fail> {
+    holds(counting_is_cut_at_each_call(rt.alloc()))
+}
+
+/// Lengthens the script's last line by so many octets.
+fn lengthen(script: &mut Vec<u8>, octets: u16) -> Result<(), AllocError> {
+    for _ in 0..octets {
+        script.push(b'#')?;
+    }
+    Ok(())
+}
+
+/// How the script ends, in large pieces.
+fn end_of(alloc: Global, script: &[u8]) -> Result<(), Fault<ScriptFault>> {
+    let (_, end) = run_of(alloc, script, 4096, 1000, 1000);
+    end
 }
 
 /// A line of 4,096 octets is read, one of 4,097 isn't.
 #[test]
 fn the_longest_line(rt: HostRuntime) -> Result<(), Fail> {
     let mut script = script_of(rt.alloc(), b"")?;
-    for _ in 0..4096u16 {
-        script.push(b'#')?;
-    }
-    let (_, end) = run_of(rt.alloc(), &script, 4096, 1000, 1000);
-    assert!(rt; end == Ok(()));
-    script.push(b'#')?;
-    let (_, end) = run_of(rt.alloc(), &script, 4096, 1000, 1000);
-    assert!(rt; end == Err(Fault::Input(ScriptFault::Text { line: 2 })));
-    Ok(())
+    let longest = lengthen(&mut script, 4096).is_ok() && end_of(rt.alloc(), &script) == Ok(());
+    let longer = lengthen(&mut script, 1).is_ok();
+    let refused = Err(Fault::Input(ScriptFault::Text { line: 2 }));
+    holds(longest && longer && end_of(rt.alloc(), &script) == refused)
 }

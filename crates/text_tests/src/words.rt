@@ -1,4 +1,5 @@
 //! Words with what they ask for, and help.
+use super::holds;
 use command_line::{RunWords, Words, WordsFault, not_unicode, words_of};
 use std::alloc::{AllocError, Global};
 use std::test::Fail;
@@ -43,35 +44,45 @@ fn run_told(alloc: Global, run: &RunWords) -> Result<String, AllocError> {
 }
 
 /// The words are refused.
-fn are_refused(alloc: Global, words: &[&str]) -> Result<(), Fail> {
-    if told_of(alloc, words)?.starts_with("error: ") {
-        Ok(())
-    } else {
-        Err(Fail::from("not refused"))
+fn are_refused(alloc: Global, words: &[&str]) -> bool {
+    match told_of(alloc, words) {
+        Ok(told) => told.starts_with("error: "),
+        Err(_) => false,
     }
 }
 
+/// Each of these is refused.
+fn all_are_refused(alloc: Global, rows: &[&[&str]]) -> bool {
+    for words in rows {
+        if !are_refused(alloc, words) {
+            return false;
+        }
+    }
+    true
+}
+
 /// The words ask for this subcommand.
-fn ask_for(alloc: Global, words: &[&str], subcommand: &str) -> Result<(), Fail> {
-    if told_of(alloc, words)?.as_str() == subcommand {
-        Ok(())
-    } else {
-        Err(Fail::from("another subcommand, or none"))
+fn ask_for(alloc: Global, words: &[&str], subcommand: &str) -> bool {
+    match told_of(alloc, words) {
+        Ok(told) => told.as_str() == subcommand,
+        Err(_) => false,
     }
 }
 
 #[test]
 fn words_of_the_command_line(rt: HostRuntime) -> Result<(), Fail> {
-    ask_for(rt.alloc(), &["play"], "play")?;
-    ask_for(rt.alloc(), &["play", "--explain"], "play --explain")?;
-    ask_for(rt.alloc(), &["units"], "units")?;
-    ask_for(rt.alloc(), &["decode"], "decode")?;
-    ask_for(rt.alloc(), &["capture"], "capture")?;
-    ask_for(rt.alloc(), &["ladder"], "ladder")?;
-    ask_for(rt.alloc(), &["audit"], "audit")?;
-    ask_for(rt.alloc(), &["history", "a"], "history a")?;
-    ask_for(rt.alloc(), &["history", "b"], "history b")?;
-    ask_for(rt.alloc(), &["play", "--"], "play")?;
+    let asked: [(&[&str], &str); 10] = [
+        (&["play"], "play"),
+        (&["play", "--explain"], "play --explain"),
+        (&["units"], "units"),
+        (&["decode"], "decode"),
+        (&["capture"], "capture"),
+        (&["ladder"], "ladder"),
+        (&["audit"], "audit"),
+        (&["history", "a"], "history a"),
+        (&["history", "b"], "history b"),
+        (&["play", "--"], "play"),
+    ];
     let refused: [&[&str]; 8] = [
         &[],
         &["units", "--explain"],
@@ -82,17 +93,23 @@ fn words_of_the_command_line(rt: HostRuntime) -> Result<(), Fail> {
         &["history", "c"],
         &["history", "a", "b"],
     ];
-    for words in refused {
-        are_refused(rt.alloc(), words)?;
+    holds(all_ask_for(rt.alloc(), &asked) && all_are_refused(rt.alloc(), &refused))
+}
+
+/// Each of these asks for this subcommand.
+fn all_ask_for(alloc: Global, rows: &[(&[&str], &str)]) -> bool {
+    for row in rows {
+        if !ask_for(alloc, row.0, row.1) {
+            return false;
+        }
     }
-    Ok(())
+    true
 }
 
 /// `run` has a value for each option that isn't there, and takes the others to the ends of their ranges.
 #[test]
 fn numbers_of_a_run(rt: HostRuntime) -> Result<(), Fail> {
     let alloc = rt.alloc();
-    ask_for(alloc, &["run"], "run 1 2 4 1000 none basic 20000")?;
     let least = [
         "run",
         "--sets=1",
@@ -102,7 +119,6 @@ fn numbers_of_a_run(rt: HostRuntime) -> Result<(), Fail> {
         "--fail=0",
         "--turns=1",
     ];
-    ask_for(alloc, &least, "run 1 1 1 1 0 basic 1")?;
     let most = [
         "run",
         "--sets=16",
@@ -114,11 +130,12 @@ fn numbers_of_a_run(rt: HostRuntime) -> Result<(), Fail> {
         "--turns=1000000",
         "--per-link",
     ];
-    ask_for(alloc, &most, "run 16 16 16 1024 15 cyclic 1000000 per-link")?;
-    ask_for(
-        alloc,
-        &["run", "--method", "basic", "--fail", "1"],
-        "run 1 2 4 1000 1 basic 20000",
+    let split = ["run", "--method", "basic", "--fail", "1"];
+    holds(
+        ask_for(alloc, &["run"], "run 1 2 4 1000 none basic 20000")
+            && ask_for(alloc, &least, "run 1 1 1 1 0 basic 1")
+            && ask_for(alloc, &most, "run 16 16 16 1024 15 cyclic 1000000 per-link")
+            && ask_for(alloc, &split, "run 1 2 4 1000 1 basic 20000"),
     )
 }
 
@@ -145,96 +162,90 @@ fn a_run_of_wrong_numbers(rt: HostRuntime) -> Result<(), Fail> {
         "--per-link=yes",
         "--checkpoint=1",
     ];
-    for word in refused {
-        are_refused(rt.alloc(), &["run", word])?;
+    let others: [&[&str]; 3] = [
+        &["run", "--sets"],
+        &["run", "--sets=1", "--sets=1"],
+        &["run", "1"],
+    ];
+    holds(are_wrong_options(rt.alloc(), &refused) && all_are_refused(rt.alloc(), &others))
+}
+
+/// Each of these is refused behind `run`.
+fn are_wrong_options(alloc: Global, options: &[&str]) -> bool {
+    for option in options {
+        if !are_refused(alloc, &["run", option]) {
+            return false;
+        }
     }
-    are_refused(rt.alloc(), &["run", "--sets"])?;
-    are_refused(rt.alloc(), &["run", "--sets=1", "--sets=1"])?;
-    are_refused(rt.alloc(), &["run", "1"])
+    true
 }
 
 /// The link that is to fail has to be one of the links; a number out of its range comes first.
 #[test]
 fn a_run_without_the_link_that_fails(rt: HostRuntime) -> Result<(), Fail> {
-    ask_for(
-        rt.alloc(),
-        &["run", "--links", "2", "--fail", "2"],
-        "fault link",
-    )?;
-    ask_for(rt.alloc(), &["run", "--fail=15"], "fault link")?;
-    are_refused(rt.alloc(), &["run", "--links=2", "--fail=2", "--turns=0"])
+    let alloc = rt.alloc();
+    holds(
+        ask_for(alloc, &["run", "--links", "2", "--fail", "2"], "fault link")
+            && ask_for(alloc, &["run", "--fail=15"], "fault link")
+            && are_refused(alloc, &["run", "--links=2", "--fail=2", "--turns=0"]),
+    )
 }
 
 /// A word that isn't Unicode is a wrong word.
 #[test]
-fn a_word_that_is_not_unicode(rt: HostRuntime) {
-    assert!(rt; matches!(not_unicode(rt.alloc()), WordsFault::Words(_)));
+fn a_word_that_is_not_unicode(rt: HostRuntime) -> Result<(), Fail> {
+    holds(matches!(not_unicode(rt.alloc()), WordsFault::Words(_)))
 }
 
-/// `-h` is a page of at most 25 rows and 80 columns, which names the program and leads to `--help`; that says more.
+/// A page of help is of at most 25 rows and 80 columns, shows this usage and leads to `--help`.
+fn is_page(page: &str, usage: &str) -> bool {
+    page.contains(usage)
+        && page.contains("--help` say")
+        && page.lines().count() <= 25
+        && page.lines().all(|line| line.len() <= 80)
+}
+
+/// With `-h` this subcommand's help is a page; with `--help` it shows the usage too, and says more.
+fn has_help(alloc: Global, short: &[&str], long: &[&str], usage: &str) -> Result<bool, AllocError> {
+    let page = told_of(alloc, short)?;
+    let whole = told_of(alloc, long)?;
+    Ok(is_page(&page, usage) && whole.contains(usage) && whole.len() > page.len())
+}
+
+/// `-h` is a page that names the program and leads to `--help`; that says more.
 #[test]
 fn short_help_is_a_page(rt: HostRuntime) -> Result<(), Fail> {
-    let asked: [(&[&str], &[&str], &str); 9] = [
-        (&["-h"], &["--help"], "\nUsage: mtpbank <COMMAND>\n"),
-        (
-            &["units", "-h"],
-            &["units", "--help"],
-            "\nUsage: mtpbank units\n",
-        ),
-        (
-            &["play", "-h"],
-            &["play", "--help"],
-            "\nUsage: mtpbank play [OPTIONS]\n",
-        ),
-        (
-            &["decode", "-h"],
-            &["decode", "--help"],
-            "\nUsage: mtpbank decode\n",
-        ),
-        (
-            &["capture", "-h"],
-            &["capture", "--help"],
-            "\nUsage: mtpbank capture\n",
-        ),
-        (
-            &["ladder", "-h"],
-            &["ladder", "--help"],
-            "\nUsage: mtpbank ladder\n",
-        ),
-        (
-            &["audit", "-h"],
-            &["audit", "--help"],
-            "\nUsage: mtpbank audit\n",
-        ),
-        (
-            &["history", "-h"],
-            &["history", "--help"],
-            "\nUsage: mtpbank history <END>\n",
-        ),
-        (
-            &["run", "-h"],
-            &["run", "--help"],
-            "\nUsage: mtpbank run [OPTIONS]\n",
-        ),
+    let alloc = rt.alloc();
+    let usage = "\nUsage: mtpbank <COMMAND>\n";
+    let whole = has_help(alloc, &["-h"], &["--help"], usage) == Ok(true);
+    let asked = [
+        ("units", "\nUsage: mtpbank units\n"),
+        ("play", "\nUsage: mtpbank play [OPTIONS]\n"),
+        ("decode", "\nUsage: mtpbank decode\n"),
+        ("capture", "\nUsage: mtpbank capture\n"),
+        ("ladder", "\nUsage: mtpbank ladder\n"),
+        ("audit", "\nUsage: mtpbank audit\n"),
+        ("history", "\nUsage: mtpbank history <END>\n"),
+        ("run", "\nUsage: mtpbank run [OPTIONS]\n"),
     ];
-    for (short, long, usage) in asked {
-        let page = told_of(rt.alloc(), short)?;
-        assert!(rt; page.contains(usage), "{page}");
-        assert!(rt; page.contains("--help` say"), "{page}");
-        assert!(rt; page.lines().count() <= 25, "{page}");
-        assert!(rt; page.lines().all(|line| line.len() <= 80), "{page}");
-        let whole = told_of(rt.alloc(), long)?;
-        assert!(rt; whole.contains(usage), "{whole}");
-        assert!(rt; whole.len() > page.len(), "{whole}");
+    holds(whole && all_have_help(alloc, &asked))
+}
+
+/// Each of these subcommands has a page with its usage.
+fn all_have_help(alloc: Global, rows: &[(&str, &str)]) -> bool {
+    for row in rows {
+        let (subcommand, usage) = *row;
+        if has_help(alloc, &[subcommand, "-h"], &[subcommand, "--help"], usage) != Ok(true) {
+            return false;
+        }
     }
-    Ok(())
+    true
 }
 
 /// A script can be written by its help: each line's words stand in it, and each line that is printed.
 #[test]
 fn the_help_shows_each_line(rt: HostRuntime) -> Result<(), Fail> {
-    let help = told_of(rt.alloc(), &["play", "--help"])?;
-    for line in [
+    let lines = [
         "set links=L method=W a=X b=Y sio=HH\n",
         "  together L ",
         "  offer E HEX ",
@@ -257,10 +268,24 @@ fn the_help_shows_each_line(rt: HostRuntime) -> Result<(), Fail> {
         "  fault line N text ",
         "  fault line N step ",
         "      --explain\n",
-    ] {
-        assert!(rt; help.contains(line), "{line}");
+    ];
+    let version = ask_for(rt.alloc(), &["--version"], "mtpbank 0.1.0\n");
+    holds(version && help_shows(rt.alloc(), &lines))
+}
+
+/// The help of `play` shows each of these.
+fn help_shows(alloc: Global, lines: &[&str]) -> bool {
+    match told_of(alloc, &["play", "--help"]) {
+        Ok(help) => contains_all(&help, lines),
+        Err(_) => false,
     }
-    let version = told_of(rt.alloc(), &["--version"])?;
-    assert_eq!(rt; version.as_str(), "mtpbank 0.1.0\n");
-    Ok(())
+}
+
+fn contains_all(text: &str, lines: &[&str]) -> bool {
+    for line in lines {
+        if !text.contains(*line) {
+            return false;
+        }
+    }
+    true
 }
