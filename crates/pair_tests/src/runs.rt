@@ -9,41 +9,36 @@ use std::alloc::Global;
 use std::test::Fail;
 
 /// An end with so many links, its own point code and the far end's.
-fn end_of(links: u8, own: u16, far: u16) -> Result<SetConfig, Fail> {
-    match SetConfig::new(0, links, own, far, 0x80, Method::Basic) {
-        Ok(config) => Ok(config),
-        Err(_) => Err(Fail::from("refused")),
-    }
+fn end_of(links: u8, own: u16, far: u16) -> Option<SetConfig> {
+    SetConfig::new(0, links, own, far, 0x80, Method::Basic).ok()
 }
 
 /// What this line asks for, if anything.
-fn read(alloc: Global, line: &str) -> Result<Option<Step>, Fail> {
-    let step = read_step(alloc, line.as_bytes())?;
-    Ok(step)
-}
-
-fn the_step(step: Option<Step>) -> Result<Step, Fail> {
-    match step {
-        Some(step) => Ok(step),
-        None => Err(Fail::from("no step")),
+fn read(alloc: Global, line: &str) -> Option<Step> {
+    match read_step(alloc, line.as_bytes()) {
+        Ok(step) => step,
+        Err(_) => None,
     }
 }
 
-/// The steps that these lines ask for.
-fn steps_of(alloc: Global, lines: &[&str]) -> Result<Vec<Step>, Fail> {
-    let mut steps = Vec::new(alloc);
+/// Adds the steps that these lines ask for; whether each asks for one.
+fn add_steps(alloc: Global, lines: &[&str], steps: &mut Vec<Step>) -> bool {
     for line in lines {
-        let step = read(alloc, line)?;
-        steps.push(the_step(step)?)?;
+        let Some(step) = read(alloc, line) else {
+            return false;
+        };
+        if steps.push(step).is_err() {
+            return false;
+        }
     }
-    Ok(steps)
+    true
 }
 
 /// What a run of these steps leads to, from ends with so many links at a and at b.
-fn played(alloc: Global, links: [u8; 2], steps: &[Step]) -> Result<Result<World, PlayFault>, Fail> {
+fn played(alloc: Global, links: [u8; 2], steps: &[Step]) -> Option<Result<World, PlayFault>> {
     let a = end_of(links[0], 2, 1)?;
     let b = end_of(links[1], 1, 2)?;
-    Ok(World::play(alloc, &a, &b, steps))
+    Some(World::play(alloc, &a, &b, steps))
 }
 
 /// How a run of these steps ends: in a fault, or with whether the world is so.
@@ -53,9 +48,9 @@ fn ends(
     steps: &[Step],
     fates: &[Fate],
     up: &[bool],
-) -> Result<Result<bool, PlayFault>, Fail> {
+) -> Option<Result<bool, PlayFault>> {
     let ended = played(alloc, links, steps)?;
-    Ok(told_of(&ended, fates, up))
+    Some(told_of(&ended, fates, up))
 }
 
 fn told_of(
@@ -69,11 +64,12 @@ fn told_of(
     }
 }
 
-/// Whether a run of these steps leads to an idle world.
-fn is_idle_after(alloc: Global, lines: &[&str]) -> Result<bool, Fail> {
-    let steps = steps_of(alloc, lines)?;
+/// Whether a run of these steps leads to an idle world. No answer: a line asks for no step.
+fn is_idle_after(alloc: Global, lines: &[&str]) -> Option<bool> {
+    let mut steps = Vec::new(alloc);
+    let read = add_steps(alloc, lines, &mut steps);
     let ended = played(alloc, [1, 1], &steps)?;
-    Ok(told_idle(&ended))
+    if read { Some(told_idle(&ended)) } else { None }
 }
 
 fn told_idle(ended: &Result<World, PlayFault>) -> bool {
@@ -84,28 +80,25 @@ fn told_idle(ended: &Result<World, PlayFault>) -> bool {
 }
 
 /// A run of these steps leads to a world that is so.
-fn leads(
-    alloc: Global,
-    links: u8,
-    lines: &[&str],
-    fates: &[Fate],
-    up: &[bool],
-) -> Result<(), Fail> {
-    let steps = steps_of(alloc, lines)?;
-    let ended = ends(alloc, [links, links], &steps, fates, up)?;
-    holds(ended == Ok(true))
+fn leads(alloc: Global, links: u8, lines: &[&str], fates: &[Fate], up: &[bool]) -> bool {
+    let mut steps = Vec::new(alloc);
+    let read = add_steps(alloc, lines, &mut steps);
+    read && ends(alloc, [links, links], &steps, fates, up) == Some(Ok(true))
 }
 
 /// A run of these steps ends in this fault.
-fn fails(alloc: Global, links: [u8; 2], steps: &[Step], wanted: PlayFault) -> Result<(), Fail> {
-    is_fault(ends(alloc, links, steps, &[], &[])?, wanted)
+fn fails(alloc: Global, links: [u8; 2], steps: &[Step], wanted: PlayFault) -> bool {
+    match ends(alloc, links, steps, &[], &[]) {
+        Some(Err(fault)) => fault == wanted && fault.number() == wanted.number(),
+        _ => false,
+    }
 }
 
-fn is_fault(ended: Result<bool, PlayFault>, wanted: PlayFault) -> Result<(), Fail> {
-    match ended {
-        Err(fault) => holds(fault == wanted && fault.number() == wanted.number()),
-        Ok(_) => Err(Fail::from("all could be done")),
-    }
+/// The same by the steps that these lines ask for.
+fn lines_fail(alloc: Global, links: [u8; 2], lines: &[&str], wanted: PlayFault) -> bool {
+    let mut steps = Vec::new(alloc);
+    let read = add_steps(alloc, lines, &mut steps);
+    read && fails(alloc, links, &steps, wanted)
 }
 
 /// The messages 0, 1, .. of end a stand so; the links 0, 1, .. are up at both ends, or settled at both with nothing on
@@ -144,13 +137,8 @@ fn holds(it: bool) -> Result<(), Fail> {
 
 #[test]
 fn nothing_arrives_from_an_empty_line(rt: HostRuntime) -> Result<(), Fail> {
-    let steps = steps_of(rt.alloc(), &["arrive b 0"])?;
-    fails(
-        rt.alloc(),
-        [1, 1],
-        &steps,
-        PlayFault::Impossible { place: 0 },
-    )
+    let fault = PlayFault::Impossible { place: 0 };
+    holds(lines_fail(rt.alloc(), [1, 1], &["arrive b 0"], fault))
 }
 
 /// What no line of a script asks for.
@@ -162,42 +150,27 @@ fn next_of_a() -> Step {
 
 #[test]
 fn a_unit_is_sent_by_a_step_of_its_own(rt: HostRuntime) -> Result<(), Fail> {
-    let mut steps = steps_of(rt.alloc(), &["together 0"])?;
-    steps.push(next_of_a())?;
-    fails(
-        rt.alloc(),
-        [1, 1],
-        &steps,
-        PlayFault::Impossible { place: 1 },
-    )
+    let mut steps = Vec::new(rt.alloc());
+    let read = add_steps(rt.alloc(), &["together 0"], &mut steps);
+    let added = steps.push(next_of_a()).is_ok();
+    let fault = PlayFault::Impossible { place: 1 };
+    holds(read && added && fails(rt.alloc(), [1, 1], &steps, fault))
 }
 
 #[test]
 fn one_link_against_two(rt: HostRuntime) -> Result<(), Fail> {
-    let steps = steps_of(rt.alloc(), &["arrive b 0"])?;
-    fails(rt.alloc(), [1, 2], &steps, PlayFault::Links)?;
-    fails(rt.alloc(), [2, 1], &[], PlayFault::Links)
+    let first = lines_fail(rt.alloc(), [1, 2], &["arrive b 0"], PlayFault::Links);
+    holds(first && fails(rt.alloc(), [2, 1], &[], PlayFault::Links))
 }
 
 #[test]
 fn no_steps_leave_two_new_ends(rt: HostRuntime) -> Result<(), Fail> {
-    leads(rt.alloc(), 2, &[], &[], &[false, false])
+    holds(leads(rt.alloc(), 2, &[], &[], &[false, false]))
 }
 
 /// A new world.
-fn new_world(alloc: Global) -> Result<World, Fail> {
-    match World::new(alloc, &end_of(1, 2, 1)?, &end_of(1, 1, 2)?) {
-        Ok(world) => Ok(world),
-        Err(_) => Err(Fail::from("no world")),
-    }
-}
-
-/// The world after a step, and what that shows.
-fn done(stepped: Result<(World, Shown), PlayFault>) -> Result<(World, Shown), Fail> {
-    match stepped {
-        Ok(after) => Ok(after),
-        Err(_) => Err(Fail::from("it can't be done")),
-    }
+fn new_world(alloc: Global) -> Option<World> {
+    World::new(alloc, &end_of(1, 2, 1)?, &end_of(1, 1, 2)?).ok()
 }
 
 fn is_up(shown: Shown) -> bool {
@@ -218,13 +191,21 @@ fn has_nothing_to_lose(world: World) -> bool {
 /// A link comes up, from which nothing is then lost.
 #[test]
 fn a_step_shows_what_it_does(rt: HostRuntime) -> Result<(), Fail> {
-    let link = 0;
-    let world = new_world(rt.alloc())?;
-    let (world, shown) = done(world.step(&Step::Together { link }))?;
-    let shows_up = is_up(shown);
-    let is_up = link_is(&world, link, true);
-    let is_empty = has_nothing_to_lose(world);
-    holds(shows_up && is_up && is_empty)
+    match new_world(rt.alloc()) {
+        Some(world) => holds(comes_up_with_nothing_to_lose(world)),
+        None => Err(Fail::from("no world")),
+    }
+}
+
+fn comes_up_with_nothing_to_lose(world: World) -> bool {
+    match world.step(&Step::Together { link: 0 }) {
+        Ok((world, shown)) => {
+            let comes_up = is_up(shown) && link_is(&world, 0, true);
+            let is_empty = has_nothing_to_lose(world);
+            comes_up && is_empty
+        }
+        Err(_) => false,
+    }
 }
 
 /// The first of two messages is lost: it's sent again, and accepted.
@@ -245,13 +226,8 @@ fn a_lost_unit_is_sent_again(rt: HostRuntime) -> Result<(), Fail> {
         "emit b 0",
         "arrive a 0",
     ];
-    leads(
-        rt.alloc(),
-        1,
-        &steps,
-        &[Fate::Acked { link: 0 }, Fate::Unacked { link: 0 }],
-        &[true],
-    )
+    let fates = [Fate::Acked { link: 0 }, Fate::Unacked { link: 0 }];
+    holds(leads(rt.alloc(), 1, &steps, &fates, &[true]))
 }
 
 /// The far end leaves first; what it accepted isn't sent again on the other link (Q.704 5.4).
@@ -278,13 +254,8 @@ fn the_far_end_leaves_first(rt: HostRuntime) -> Result<(), Fail> {
         "arrive b 1",
     ];
     let acked = Fate::Acked { link: 1 };
-    leads(
-        rt.alloc(),
-        2,
-        &steps,
-        &[acked, acked, Fate::Unacked { link: 0 }],
-        &[true, false],
-    )
+    let fates = [acked, acked, Fate::Unacked { link: 0 }];
+    holds(leads(rt.alloc(), 2, &steps, &fates, &[true, false]))
 }
 
 /// A link fails at one end, and the other learns of it by the order (Q.704 5.3 to 5.5).
@@ -309,13 +280,8 @@ fn a_link_fails(rt: HostRuntime) -> Result<(), Fail> {
     let acked = Fate::Acked { link: 1 };
     let waiting = Fate::Waiting { link: 0 };
     let order = Fate::Acked { link: 0 };
-    leads(
-        rt.alloc(),
-        2,
-        &steps,
-        &[acked, waiting, waiting, order, waiting],
-        &[true],
-    )
+    let fates = [acked, waiting, waiting, order, waiting];
+    holds(leads(rt.alloc(), 2, &steps, &fates, &[true]))
 }
 
 /// Both leave at once: each settles by the other's order, and the link comes up again with nothing on its way.
@@ -336,7 +302,7 @@ fn both_leave_at_once(rt: HostRuntime) -> Result<(), Fail> {
     ];
     let waiting = Fate::Waiting { link: 0 };
     let order = Fate::Unacked { link: 0 };
-    leads(rt.alloc(), 2, &steps, &[waiting, order], &[true, true])
+    holds(leads(rt.alloc(), 2, &steps, &[waiting, order], &[true, true]))
 }
 
 /// An old answer: without a timer's NoAnswer nothing would be sent twice, with it b has message 1 that a sends again. No
@@ -360,7 +326,7 @@ fn an_answer_of_an_earlier_life(rt: HostRuntime) -> Result<(), Fail> {
     ];
     let order = Fate::Acked { link: 0 };
     let waiting = Fate::Waiting { link: 0 };
-    leads(rt.alloc(), 2, &steps, &[order, waiting], &[true])
+    holds(leads(rt.alloc(), 2, &steps, &[order, waiting], &[true]))
 }
 
 /// All that was offered has arrived where nothing is left: not while a message is parked, waits, or was sent and isn't
@@ -375,9 +341,17 @@ fn all_that_was_offered_has_arrived(rt: HostRuntime) -> Result<(), Fail> {
         "emit b 0",
         "arrive a 0",
     ];
-    holds(is_idle_after(rt.alloc(), &[])?)?;
-    for place in 1..steps.len() {
-        holds(!is_idle_after(rt.alloc(), &steps[..place])?)?;
+    let nothing = is_idle_after(rt.alloc(), &[]) == Some(true);
+    let all = is_idle_after(rt.alloc(), &steps) == Some(true);
+    holds(nothing && all && is_never_idle_before(rt.alloc(), &steps))
+}
+
+/// Some steps of these, but not all, leave no world idle.
+fn is_never_idle_before(alloc: Global, lines: &[&str]) -> bool {
+    for place in 1..lines.len() {
+        if is_idle_after(alloc, &lines[..place]) != Some(false) {
+            return false;
+        }
     }
-    holds(is_idle_after(rt.alloc(), &steps)?)
+    true
 }
