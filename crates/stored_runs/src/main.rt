@@ -41,59 +41,87 @@ struct Ran {
 
 fn main(rt: HostRuntime) -> io::Result<ExitCode> {
     let list = fs::read_to_string(&rt, "list")?;
-    let mut all = true;
-    for name in list.lines() {
-        let same = if name.ends_with(".run") {
-            let words = fs::read_to_string(&rt, name)?;
-            threads_of(&rt, rt.alloc(), &words)? == stored_beside(&rt, name)?
-        } else {
-            is_as_stored(&rt, name)?
-        };
-        let told = if same { "as stored" } else { "ANOTHER OUTPUT" };
-        println!(rt; "{name} {told}")?;
-        all = all && same;
-    }
-    Ok(if all {
+    Ok(if all_are_as_stored(&rt, &rt, &list)? {
         ExitCode::SUCCESS
     } else {
         ExitCode::FAILURE
     })
 }
 
+/// Whether each run of this list gives what is stored beside it. A line is printed for each. What starts threads is the same
+/// runtime.
+fn all_are_as_stored<R: Threads + Wait + Copy + Send + Sync + 'static>(
+    rt: &HostRuntime,
+    threads: &R,
+    list: &str,
+) -> io::Result<bool> {
+    let mut all = true;
+    for name in list.lines() {
+        let same = is_as_stored(rt, threads, name)?;
+        let told = if same { "as stored" } else { "ANOTHER OUTPUT" };
+        println!(rt; "{name} {told}")?;
+        all = all && same;
+    }
+    Ok(all)
+}
+
 /// Whether each run of this name gives what is stored beside it.
-fn is_as_stored(rt: &HostRuntime, name: &str) -> io::Result<bool> {
+fn is_as_stored<R: Threads + Wait + Copy + Send + Sync + 'static>(
+    rt: &HostRuntime,
+    threads: &R,
+    name: &str,
+) -> io::Result<bool> {
     if name.ends_with(".first") {
-        all_give(rt, name, "", &stored_beside(rt, name)?)
+        all_give(rt, name, "")
     } else if name.ends_with(".second") {
-        all_give(rt, name, OPENING, &stored_beside(rt, name)?)
+        all_give(rt, name, OPENING)
     } else if name.ends_with(".told_first") {
         all_told(rt, name, "")
     } else if name.ends_with(".told_second") {
         all_told(rt, name, OPENING)
+    } else if name.ends_with(".run") {
+        gives_stored(rt, name, threads_of(threads, rt, name)?)
     } else {
-        let input = fs::read(rt, input_of(rt.alloc(), name)?.as_str())?;
-        Ok(run_of(rt.alloc(), name, &input)? == stored_beside(rt, name)?)
+        gives_stored(rt, name, ran_by_name(rt, name)?)
     }
 }
 
-/// Whether each line of this table gives that, behind the opening.
-fn all_give(rt: &HostRuntime, name: &str, opening: &str, stored: &Ran) -> io::Result<bool> {
+/// Whether this is what is stored beside this name.
+fn gives_stored(rt: &HostRuntime, name: &str, ran: Ran) -> io::Result<bool> {
+    Ok(ran == stored_beside(rt, name)?)
+}
+
+/// Whether each line of this table gives what is stored beside it, behind the opening.
+fn all_give(rt: &HostRuntime, name: &str, opening: &str) -> io::Result<bool> {
     let table = fs::read_to_string(rt, name)?;
+    all_lines_give(rt.alloc(), opening, &table, &stored_beside(rt, name)?)
+}
+
+fn all_lines_give(alloc: Global, opening: &str, table: &str, stored: &Ran) -> io::Result<bool> {
     let mut all = !table.is_empty();
     for line in table.split_terminator('\n') {
-        let script = format!(in rt.alloc(); "{opening}{line}\n")?;
-        all = all && run_of(rt.alloc(), name, script.as_bytes())? == *stored;
+        all = all && ran_behind(alloc, Kind::Played, opening, line)? == *stored;
     }
     Ok(all)
+}
+
+/// What the run of this line gives, behind the opening.
+fn ran_behind(alloc: Global, kind: Kind, opening: &str, line: &str) -> io::Result<Ran> {
+    let script = format!(in alloc; "{opening}{line}\n")?;
+    run_of(alloc, kind, script.as_bytes())
 }
 
 /// Whether of each line that this table shows, behind the opening, just what stands around it is told.
 fn all_told(rt: &HostRuntime, name: &str, opening: &str) -> io::Result<bool> {
     let table = fs::read_to_string(rt, name)?;
-    let mut all = !table.is_empty();
     let lines: Vec<&str> = table.split_terminator('\n').collect(rt.alloc())?;
+    all_lines_told(rt.alloc(), opening, &lines)
+}
+
+fn all_lines_told(alloc: Global, opening: &str, lines: &[&str]) -> io::Result<bool> {
+    let mut all = !lines.is_empty();
     for told in lines.chunks(4) {
-        all = all && is_told(rt.alloc(), opening, told)?;
+        all = all && is_told(alloc, opening, told)?;
     }
     Ok(all)
 }
@@ -106,47 +134,105 @@ fn is_told(alloc: Global, opening: &str, told: &[&str]) -> io::Result<bool> {
     let Some(line) = shown.strip_prefix("  ") else {
         return Ok(false);
     };
-    let script = format!(in alloc; "{opening}{line}\n")?;
     let told = format!(in alloc; "{fault}\n{wanted}\n{shown}\n{caret}\n")?;
-    Ok(run_of(alloc, ".explained", script.as_bytes())?.told == told)
+    Ok(ran_behind(alloc, Kind::Explained, opening, line)?.told == told)
 }
 
-/// Whether the run of this name is told of the script beside it: its capture, its chart, or the history of one of its ends.
-fn is_of_a_script(name: &str) -> bool {
-    name.ends_with(".pcap")
-        || name.ends_with(".ladder")
-        || name.ends_with(".history_a")
-        || name.ends_with(".history_b")
-        || name.ends_with(".explained")
+/// What the run of a name does with its input.
+#[derive(Clone, Copy, PartialEq, Eq)]
+enum Kind {
+    Units,
+    Decoded,
+    HistoryOfA,
+    HistoryOfB,
+    Audited,
+    Ladder,
+    Captured,
+    Explained,
+    Played,
 }
 
-/// The file that the run of this name reads.
-fn input_of(alloc: Global, name: &str) -> io::Result<String> {
-    if is_of_a_script(name) {
-        beside(alloc, name, "play")
-    } else {
-        Ok(format!(in alloc; "{name}")?)
+fn kind_of(name: &str) -> Kind {
+    match ending_of(name) {
+        "units" => Kind::Units,
+        "decode" => Kind::Decoded,
+        "history_a" => Kind::HistoryOfA,
+        "history_b" => Kind::HistoryOfB,
+        "history" => Kind::Audited,
+        "ladder" => Kind::Ladder,
+        "pcap" => Kind::Captured,
+        "explained" => Kind::Explained,
+        _ => Kind::Played,
     }
+}
+
+/// What stands behind the last dot of a name.
+fn ending_of(name: &str) -> &str {
+    match name.rsplit_once('.') {
+        Some((_, ending)) => ending,
+        None => "",
+    }
+}
+
+impl Kind {
+    /// Whether the run is told of the script beside its name: its capture, its chart, or the history of one of its ends.
+    fn is_of_a_script(self) -> bool {
+        match self {
+            Kind::Units | Kind::Decoded | Kind::Audited | Kind::Played => false,
+            _ => true,
+        }
+    }
+}
+
+/// What the run of this name gives.
+fn ran_by_name(rt: &HostRuntime, name: &str) -> io::Result<Ran> {
+    let kind = kind_of(name);
+    let input = if kind.is_of_a_script() {
+        read_beside(rt, name, "play")?
+    } else {
+        fs::read(rt, name)?
+    };
+    run_of(rt.alloc(), kind, &input)
 }
 
 /// What is stored beside this name, or under it.
 fn stored_beside(rt: &HostRuntime, name: &str) -> io::Result<Ran> {
-    if name.ends_with(".explained") {
-        return Ok(Ran {
-            printed: fs::read(rt, beside(rt.alloc(), name, "stdout")?.as_str())?,
-            told: fs::read_to_string(rt, name)?,
-        });
-    }
-    let printed = if is_of_a_script(name) {
-        fs::read(rt, name)?
+    ran_with(printed_beside(rt, name)?, told_beside(rt, name))
+}
+
+/// What a run printed, and what was told of its end.
+fn ran_with(printed: Vec<u8>, told: io::Result<String>) -> io::Result<Ran> {
+    Ok(Ran {
+        printed,
+        told: told?,
+    })
+}
+
+/// What is to be printed.
+fn printed_beside(rt: &HostRuntime, name: &str) -> io::Result<Vec<u8>> {
+    let kind = kind_of(name);
+    if kind.is_of_a_script() && kind != Kind::Explained {
+        fs::read(rt, name)
     } else {
-        fs::read(rt, beside(rt.alloc(), name, "stdout")?.as_str())?
-    };
-    let told = match fs::read_to_string(rt, beside(rt.alloc(), name, "fault")?.as_str()) {
-        Ok(text) => text,
-        Err(_) => String::new(rt.alloc()),
-    };
-    Ok(Ran { printed, told })
+        read_beside(rt, name, "stdout")
+    }
+}
+
+/// What is to be told; nothing where no fault is stored.
+fn told_beside(rt: &HostRuntime, name: &str) -> io::Result<String> {
+    if kind_of(name) == Kind::Explained {
+        return fs::read_to_string(rt, name);
+    }
+    let path = beside(rt.alloc(), name, "fault")?;
+    match fs::read_to_string(rt, path.as_str()) {
+        Ok(text) => Ok(text),
+        Err(_) => Ok(String::new(rt.alloc())),
+    }
+}
+
+fn read_beside(rt: &HostRuntime, name: &str, kind: &str) -> io::Result<Vec<u8>> {
+    let path = beside(rt.alloc(), name, kind)?;
+    fs::read(rt, path.as_str())
 }
 
 /// The file of this kind beside a script or a line.
@@ -159,52 +245,66 @@ fn beside(alloc: Global, name: &str, kind: &str) -> io::Result<String> {
 }
 
 /// What the run of this input gives.
-fn run_of(alloc: Global, name: &str, input: &[u8]) -> io::Result<Ran> {
+fn run_of(alloc: Global, kind: Kind, input: &[u8]) -> io::Result<Ran> {
     let mut source = Reader::new(input);
     let mut sink = Writer::new(Vec::new(alloc));
-    let told = if name.ends_with(".units") {
-        told_of(alloc, units(alloc, &mut source, &mut sink))?
-    } else if name.ends_with(".decode") {
-        told_of(alloc, decode(alloc, &mut source, &mut sink))?
-    } else if name.ends_with(".history_a") {
-        told_of(alloc, history(alloc, End::A, &mut source, &mut sink))?
-    } else if name.ends_with(".history_b") {
-        told_of(alloc, history(alloc, End::B, &mut source, &mut sink))?
-    } else if name.ends_with(".history") {
-        told_of(alloc, audit(alloc, &mut source, &mut sink))?
-    } else if name.ends_with(".ladder") {
-        told_of(alloc, ladder(alloc, &mut source, &mut sink))?
-    } else if name.ends_with(".explained") {
-        told_of(alloc, play_explained(alloc, &mut source, &mut sink))?
-    } else if name.ends_with(".pcap") {
-        told_of(alloc, capture(alloc, &mut source, &mut sink))?
-    } else {
-        told_of(alloc, play(alloc, &mut source, &mut sink))?
-    };
-    Ok(Ran {
-        printed: sink.into_inner(),
-        told,
-    })
+    let told = run_on(alloc, kind, &mut source, &mut sink);
+    ran_with(sink.into_inner(), told)
 }
 
-/// What the threads give that these words behind `run` ask for.
-fn threads_of<R: Threads + Wait + Copy + Send + Sync + 'static>(
-    rt: &R,
+/// Runs the source to the sink; the line that tells how that ended.
+fn run_on(
     alloc: Global,
-    text: &str,
-) -> io::Result<Ran> {
-    let mut words = Vec::new(alloc);
-    words.push("run")?;
-    for word in text.lines() {
-        words.push(word)?;
+    kind: Kind,
+    source: &mut Reader<&[u8]>,
+    sink: &mut Writer<Vec<u8>>,
+) -> io::Result<String> {
+    match kind {
+        Kind::Units => told_of(alloc, units(alloc, source, sink)),
+        Kind::Decoded => told_of(alloc, decode(alloc, source, sink)),
+        Kind::HistoryOfA => told_of(alloc, history(alloc, End::A, source, sink)),
+        Kind::HistoryOfB => told_of(alloc, history(alloc, End::B, source, sink)),
+        Kind::Audited => told_of(alloc, audit(alloc, source, sink)),
+        Kind::Ladder => told_of(alloc, ladder(alloc, source, sink)),
+        Kind::Captured => told_of(alloc, capture(alloc, source, sink)),
+        Kind::Explained => told_of(alloc, play_explained(alloc, source, sink)),
+        Kind::Played => told_of(alloc, play(alloc, source, sink)),
     }
-    match words_of(alloc, words.as_slice()) {
-        Ok(Words::Run(run)) => ran_as(rt, alloc, &run),
-        _ => Ok(Ran {
+}
+
+/// What the threads give that the words in the file of this name ask for, behind `run`.
+fn threads_of<R: Threads + Wait + Copy + Send + Sync + 'static>(
+    threads: &R,
+    rt: &HostRuntime,
+    name: &str,
+) -> io::Result<Ran> {
+    let alloc = rt.alloc();
+    let text = fs::read_to_string(rt, name)?;
+    match run_words(alloc, &text)? {
+        Some(words) => ran_as(threads, alloc, &words),
+        None => Ok(Ran {
             printed: Vec::new(alloc),
             told: "no run\n".to_string(alloc)?,
         }),
     }
+}
+
+/// The run that these words ask for, one a line, if they ask for one.
+fn run_words(alloc: Global, text: &str) -> io::Result<Option<RunWords>> {
+    let mut words = Vec::new(alloc);
+    push_words(text, &mut words)?;
+    Ok(match words_of(alloc, words.as_slice()) {
+        Ok(Words::Run(run)) => Some(run),
+        _ => None,
+    })
+}
+
+fn push_words<'a>(text: &'a str, words: &mut Vec<&'a str>) -> io::Result<()> {
+    words.push("run")?;
+    for word in text.lines() {
+        words.push(word)?;
+    }
+    Ok(())
 }
 
 /// What a run of threads gives.
@@ -225,10 +325,7 @@ fn ran_as<R: Threads + Wait + Copy + Send + Sync + 'static>(
     let gates = pace_gates(alloc, words.sets, words.links)?;
     let mut sink = Writer::new(Vec::new(alloc));
     let ended = run_text::run(rt, alloc, &traffic, gates, words.per_link, &mut sink, || {});
-    Ok(Ran {
-        told: told_of(alloc, ended)?,
-        printed: sink.into_inner(),
-    })
+    ran_with(sink.into_inner(), told_of(alloc, ended))
 }
 
 /// The line that tells how a run ended, if it tells anything.
