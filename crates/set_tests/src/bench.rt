@@ -1,4 +1,5 @@
-//! What the tests of changeback ask a set. They all ask through here, so that the prover meets each contract once.
+//! What the tests of sets ask a set. They all ask through here, so that the prover meets each contract once; and they hand in
+//! plain values and learn whether it is so, since each way out of a function that owns an event or an answer is dear to prove.
 ghost use Rattle.std.specs.Prelude.{◌<◌};
 ghost use Rattle.l3_orders.specs.Grammar.{IsOrder};
 
@@ -9,9 +10,14 @@ use set_events::{Actor, Answer, Body, Event, Fate, Method, Refusal, Report, SetC
 use std::alloc::Global;
 use std::test::Fail;
 
-/// A set of so many links with point code 2, none of which was up. The far end has 1.
-pub(crate) fn set_of(alloc: Global, links: u8) -> Result<SetCore, Fail> {
-    let Ok(config) = SetConfig::new(0, links, 2, 1, 0x80, Method::Basic) else {
+/// The settings of a set of so many links with point code 2. The far end has 1.
+pub(crate) fn config_by(links: u8, method: Method) -> Option<SetConfig> {
+    SetConfig::new(0, links, 2, 1, 0x80, method).ok()
+}
+
+/// A set of so many links, none of which was up.
+pub(crate) fn set_by(alloc: Global, links: u8, method: Method) -> Result<SetCore, Fail> {
+    let Some(config) = config_by(links, method) else {
         return Err(Fail::from("refused"));
     };
     match SetCore::new(alloc, &config) {
@@ -20,7 +26,12 @@ pub(crate) fn set_of(alloc: Global, links: u8) -> Result<SetCore, Fail> {
     }
 }
 
-/// So it is.
+/// The same by the basic method.
+pub(crate) fn set_of(alloc: Global, links: u8) -> Result<SetCore, Fail> {
+    set_by(alloc, links, Method::Basic)
+}
+
+/// So it is. It stands in the place of `assert!`, whose text of what isn't so costs the prover a multiple.
 pub(crate) fn holds(fact: bool) -> Result<(), Fail> {
     if fact {
         Ok(())
@@ -29,41 +40,110 @@ pub(crate) fn holds(fact: bool) -> Result<(), Fail> {
     }
 }
 
-/// Each accepted message stands in one place.
-fn adds_up(set: &SetCore) -> Result<(), Fail> {
+/// How many messages stand in some place.
+pub(crate) fn placed(set: &SetCore) -> u64 {
     let counts = set.counts();
     let sent = counts.unacked + counts.acked;
     let unsent = counts.waiting + counts.held + counts.parked;
-    holds(sent + unsent + counts.back + counts.discarded == set.books().messages)
+    sent + unsent + counts.back + counts.discarded
 }
 
-/// What the set answers to an event.
-fn asked(set: &mut SetCore, event: &Event) -> Result<Answer, Fail> {
-    match set.apply(Actor::Terminal(0), event) {
-        Ok(answer) => Ok(answer),
-        Err(_) => Err(Fail::from("no memory")),
+/// Each accepted message stands in one place.
+fn adds_up(set: &SetCore) -> bool {
+    placed(set) == set.books().messages
+}
+
+/// What the set answers to this event of its user, or of a link's terminal. No answer: there was no memory.
+pub(crate) fn asked(set: &mut SetCore, event: &Event) -> Option<Answer> {
+    let who = match event {
+        Event::Offer { .. } | Event::Take | Event::Find { .. } => Actor::User(0),
+        _ => Actor::Terminal(0),
+    };
+    match set.apply(who, event) {
+        Ok(answer) => Some(answer),
+        Err(_) => None,
     }
 }
 
-/// The set answers this event so, and the places add up after it.
-pub(crate) fn answers(set: &mut SetCore, event: &Event, wanted: &Answer) -> Result<(), Fail> {
-    holds(asked(set, event)?.same(wanted))?;
-    adds_up(set)
+/// Whether the set answers this event so.
+pub(crate) fn answers(set: &mut SetCore, event: Event, wanted: Answer) -> bool {
+    match asked(set, &event) {
+        Some(answer) => answer.same(&wanted),
+        None => false,
+    }
 }
 
-/// The set does what this event tells.
-pub(crate) fn does(set: &mut SetCore, event: &Event) -> Result<(), Fail> {
-    answers(set, event, &Answer::Done)
+/// What a terminal tells of this link, beside what was heard.
+#[derive(Clone, Copy)]
+pub(crate) enum Call {
+    Up(u8),
+    Down(u8),
+    DownBlind(u8),
+    NoAnswer(u8),
+    Restore(u8),
+    BackTimeout(u8),
 }
 
-/// The set refuses this event so.
-pub(crate) fn refuses(set: &mut SetCore, event: &Event, why: Refusal) -> Result<(), Fail> {
-    answers(set, event, &Answer::Refused { why })
+fn event_of(call: Call) -> Event {
+    match call {
+        Call::Up(link) => Event::Up { link },
+        Call::Down(link) => Event::Down { link },
+        Call::DownBlind(link) => Event::DownBlind { link },
+        Call::NoAnswer(link) => Event::NoAnswer { link },
+        Call::Restore(link) => Event::Restore { link },
+        Call::BackTimeout(link) => Event::BackTimeout { link },
+    }
 }
 
-/// The message of this number is found there.
-pub(crate) fn stands(set: &mut SetCore, number: u64, fate: Fate) -> Result<(), Fail> {
-    answers(set, &Event::Find { number }, &Answer::Found { fate })
+/// The set does what this call tells.
+pub(crate) fn does(set: &mut SetCore, call: Call) -> bool {
+    answers(set, event_of(call), Answer::Done) && adds_up(set)
+}
+
+/// The set does what these calls tell, one after another.
+pub(crate) fn does_all(set: &mut SetCore, calls: &[Call]) -> bool {
+    for call in calls {
+        if !does(set, *call) {
+            return false;
+        }
+    }
+    true
+}
+
+/// The set refuses this call so.
+pub(crate) fn refuses(set: &mut SetCore, call: Call, why: Refusal) -> bool {
+    answers(set, event_of(call), Answer::Refused { why }) && adds_up(set)
+}
+
+/// The set finds the message of this number there.
+pub(crate) fn finds(set: &mut SetCore, number: u64, fate: Fate) -> bool {
+    answers(set, Event::Find { number }, Answer::Found { fate })
+}
+
+/// The same, and the places add up.
+pub(crate) fn stands(set: &mut SetCore, number: u64, fate: Fate) -> bool {
+    finds(set, number, fate) && adds_up(set)
+}
+
+/// What the set answers to an offer of these octets. No answer: there was no memory.
+pub(crate) fn offered(alloc: Global, set: &mut SetCore, octets: &[u8]) -> Option<Answer> {
+    match Body::from_slice(alloc, octets) {
+        Ok(body) => asked(set, &Event::Offer { body }),
+        Err(_) => None,
+    }
+}
+
+/// A message of these octets is accepted under this number.
+pub(crate) fn is_accepted(alloc: Global, set: &mut SetCore, octets: &[u8], number: u64) -> bool {
+    match offered(alloc, set, octets) {
+        Some(answer) => answer.same(&Answer::Accepted { number }),
+        None => false,
+    }
+}
+
+/// The octets of a message of this stream: SIO, and a label between these point codes (Q.704 2.2).
+pub(crate) fn message_of(stream: u8) -> [u8; 5] {
+    [0x85, 1, 0x80, 0, 16 * (stream % 16)]
 }
 
 /// A message of this stream is accepted under this number, and found there then.
@@ -73,38 +153,47 @@ pub(crate) fn accepts(
     stream: u8,
     number: u64,
     fate: Fate,
-) -> Result<(), Fail> {
-    let body = Body::from_slice(alloc, &[0x85, 1, 0x80, 0, 16 * (stream % 16)])?;
-    answers(set, &Event::Offer { body }, &Answer::Accepted { number })?;
-    stands(set, number, fate)
+) -> bool {
+    is_accepted(alloc, set, &message_of(stream), number)
+        && adds_up(set)
+        && stands(set, number, fate)
+}
+
+/// The unit that the link sends next, if it sends one.
+pub(crate) fn emitted(set: &mut SetCore, link: u8) -> Option<Unit> {
+    match asked(set, &Event::Next { link }) {
+        Some(Answer::Sent { unit }) => Some(unit),
+        _ => None,
+    }
 }
 
 /// Whether the link sends a unit.
-fn is_sent(set: &mut SetCore, link: u8) -> Result<bool, Fail> {
-    Ok(matches!(asked(set, &Event::Next { link })?, Answer::Sent { .. }))
+pub(crate) fn is_sent(set: &mut SetCore, link: u8) -> bool {
+    emitted(set, link).is_some()
+}
+
+/// The message of this place of the link's unacknowledged ones is this one, if there is any.
+pub(crate) fn is_unacked(set: &SetCore, link: u8, place: u8, wanted: Option<Numbered>) -> bool {
+    set.unacked_at(link, place) == wanted
 }
 
 /// The link sends the message of this number next, under this FSN, and so many others are unacknowledged.
-pub(crate) fn sends(
-    set: &mut SetCore,
-    link: u8,
-    number: u64,
-    fsn: u8,
-    others: u8,
-) -> Result<(), Fail> {
-    holds(is_sent(set, link)?)?;
-    holds(set.unacked_at(link, others) == Some(Numbered { number, fsn }))?;
-    adds_up(set)
+pub(crate) fn sends(set: &mut SetCore, link: u8, number: u64, fsn: u8, others: u8) -> bool {
+    is_sent(set, link)
+        && is_unacked(set, link, others, Some(Numbered { number, fsn }))
+        && adds_up(set)
 }
 
 /// The link sends just the messages of these numbers, in this order, from FSN 0 on.
-pub(crate) fn sends_in_order(set: &mut SetCore, link: u8, numbers: &[u64]) -> Result<(), Fail> {
+pub(crate) fn sends_in_order(set: &mut SetCore, link: u8, numbers: &[u64]) -> bool {
     let mut fsn = 0u8;
     for number in numbers {
-        sends(set, link, *number, fsn, fsn)?;
+        if !sends(set, link, *number, fsn, fsn) {
+            return false;
+        }
         fsn = fsn.wrapping_add(1);
     }
-    holds(set.unacked_at(link, fsn).is_none())
+    is_unacked(set, link, fsn, None)
 }
 
 /// A header of these numbers modulo 128, with indicator bits as they are at first.
@@ -118,7 +207,7 @@ pub(crate) fn head_of(bsn: u64, fsn: u64) -> Header {
 }
 
 /// A report of nothing but these.
-fn report(acked: u8, took: Took) -> Report {
+pub(crate) fn report_of(acked: u8, took: Took) -> Report {
     Report {
         acked,
         took,
@@ -128,16 +217,28 @@ fn report(acked: u8, took: Took) -> Report {
     }
 }
 
-/// The link hears of so many messages more.
-pub(crate) fn acknowledges(
-    set: &mut SetCore,
-    link: u8,
-    head: Header,
-    messages: u8,
-) -> Result<(), Fail> {
-    let unit = Unit::Fisu { head };
-    let report = report(messages, Took::Nothing);
-    answers(set, &Event::Heard { link, unit }, &Answer::Heard { report })
+/// What the link tells of this unit that it heard.
+pub(crate) fn heard(set: &mut SetCore, link: u8, unit: Unit) -> Option<Report> {
+    match asked(set, &Event::Heard { link, unit }) {
+        Some(Answer::Heard { report }) => Some(report),
+        _ => None,
+    }
+}
+
+/// The link hears a FISU of this header, of so many messages more.
+pub(crate) fn acknowledges(set: &mut SetCore, link: u8, head: Header, messages: u8) -> bool {
+    heard(set, link, Unit::Fisu { head }) == Some(report_of(messages, Took::Nothing))
+        && adds_up(set)
+}
+
+/// The unit of this header that brings the order.
+pub(crate) fn unit_with(head: Header, order: &Order) -> Unit
+    requires { IsOrder order.now }
+{
+    Unit::Msu {
+        head,
+        body: write_order(order, 0x80, 2, 1),
+    }
 }
 
 /// Link 0 hears an order, which is taken so; the unit that brings it acknowledges so many messages.
@@ -147,23 +248,14 @@ pub(crate) fn hears(
     order: &Order,
     messages: u8,
     took: Took,
-) -> Result<(), Fail>
+) -> bool
     requires { IsOrder order.now }
 {
-    let unit = Unit::Msu {
-        head,
-        body: write_order(order, 0x80, 2, 1),
-    };
-    let report = report(messages, took);
-    answers(
-        set,
-        &Event::Heard { link: 0, unit },
-        &Answer::Heard { report },
-    )
+    heard(set, 0, unit_with(head, order)) == Some(report_of(messages, took)) && adds_up(set)
 }
 
 /// Link 0 hears an acknowledgement of this code, in a unit that acknowledges nothing.
-pub(crate) fn hears_cba(set: &mut SetCore, head: Header, code: u8, took: Took) -> Result<(), Fail> {
+pub(crate) fn hears_cba(set: &mut SetCore, head: Header, code: u8, took: Took) -> bool {
     let order = Order::Cba {
         link: code / 16,
         code,
@@ -172,12 +264,12 @@ pub(crate) fn hears_cba(set: &mut SetCore, head: Header, code: u8, took: Took) -
 }
 
 /// Link 0 sends this order next, of the set's own.
-pub(crate) fn sends_order(set: &mut SetCore, head: Header, order: &Order) -> Result<(), Fail>
+pub(crate) fn sends_order(set: &mut SetCore, head: Header, order: &Order) -> bool
     requires { IsOrder order.now }
 {
     let unit = Unit::Msu {
         head,
         body: write_order(order, 0x80, 1, 2),
     };
-    answers(set, &Event::Next { link: 0 }, &Answer::Sent { unit })
+    answers(set, Event::Next { link: 0 }, Answer::Sent { unit }) && adds_up(set)
 }

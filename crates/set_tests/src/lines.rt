@@ -1,5 +1,5 @@
 //! Three units on two links, each step by hand.
-ghost use Rattle.std.specs.Prelude.{◌<◌};
+ghost use Rattle.std.specs.Prelude.{◌≡◌, ◌<◌, length};
 
 use super::bench::holds;
 use l2_units::{Header, Unit};
@@ -28,21 +28,30 @@ fn fsn_of(unit: Option<Unit>) -> Option<u8> {
     }
 }
 
+/// A fill-in unit of this FSN comes on the link.
+fn is_joined(lines: &mut Lines, link: u8, fsn: u8) -> bool
+    requires link { link < length lines.old }
+    requires fsn { fsn < 128 }
+    ensures { length lines.new ≡ length lines.old }
+{
+    lines.join(link, fill_in(fsn)).is_ok()
+}
+
 #[test]
 fn the_lines_of_two_links(rt: HostRuntime) -> Result<(), Fail> {
     let mut lines = Lines::new(rt.alloc(), 2)?;
-    lines.join(0, fill_in(3))?;
-    lines.join(1, fill_in(4))?;
-    lines.join(1, fill_in(5))?;
-    lines.join(1, fill_in(6))?;
+    let other_link = is_joined(&mut lines, 0, 3);
+    let oldest = is_joined(&mut lines, 1, 4);
+    let between = is_joined(&mut lines, 1, 5);
+    let newest = is_joined(&mut lines, 1, 6);
+    let joined = other_link && oldest && between && newest;
     let second = fsn_of(lines.taken_out(1, 1));
     let third = fsn_of(lines.taken_out(1, 2));
     let first = fsn_of(lines.taken_out(1, 0));
-    holds([second, third, first] == [Some(5), None, Some(4)])?;
     lines.clear(1);
-    let cleared = lines.taken_out(1, 0);
+    let cleared = lines.taken_out(1, 0).is_none();
     let other = fsn_of(lines.taken_out(0, 0));
-    let last = lines.taken_out(0, 0);
-    holds(cleared.is_none() && other == Some(3) && last.is_none())?;
-    Ok(())
+    let last = lines.taken_out(0, 0).is_none();
+    let left = cleared && last && other == Some(3);
+    holds(joined && left && [second, third, first] == [Some(5), None, Some(4)])
 }

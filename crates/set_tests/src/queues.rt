@@ -4,6 +4,7 @@
 ghost use Rattle.std.specs.Prelude.{◌≡◌, true};
 ghost use Rattle.set_queues.specs.Buffers.{IsKnown, IsQueued};
 
+use super::bench::holds;
 use set_events::{Counts, DiscardCause, Fate};
 use set_queues::*;
 use std::alloc::AllocError;
@@ -119,80 +120,39 @@ fn waiting(rt: &HostRuntime, messages: u64) -> Result<Queues, AllocError> {
     Ok(queues)
 }
 
-/// So it is.
-fn holds(fact: bool) -> Result<(), Fail> {
-    if fact {
-        Ok(())
-    } else {
-        Err(Fail::from("it isn't so"))
-    }
-}
-
 /// So many messages of stream 3 aren't sent.
-fn has_unsent(queues: &Queues, messages: u64) -> Result<(), Fail> {
-    holds(queues.unsent(3) == messages)
+fn has_unsent(queues: &Queues, messages: u64) -> bool {
+    queues.unsent(3) == messages
 }
 
 /// So many messages stand there.
-fn has_at(queues: &Queues, fate: Fate, messages: usize) -> Result<(), Fail> {
-    holds(is_known(queues, fate) && queues.count_at(fate) == messages)
+fn has_at(queues: &Queues, fate: Fate, messages: usize) -> bool {
+    is_known(queues, fate) && queues.count_at(fate) == messages
 }
 
 /// The message of this number is sent next on the link, with this FSN.
-fn sends(queues: &mut Queues, link: u8, number: u64, fsn: u8) -> Result<(), Fail> {
-    holds(send(queues, link) == Some((number, fsn)))
+fn sends(queues: &mut Queues, link: u8, number: u64, fsn: u8) -> bool {
+    send(queues, link) == Some((number, fsn))
 }
 
 /// The message of this number stands there, if there is one.
-fn stands(queues: &Queues, number: u64, there: Option<Fate>) -> Result<(), Fail> {
-    holds(fate_of(queues, number) == there)
+fn stands(queues: &Queues, number: u64, there: Option<Fate>) -> bool {
+    fate_of(queues, number) == there
 }
 
 /// A message is put there, and gets this number.
-fn is_put(queues: &mut Queues, fate: Fate, number: u64) -> Result<(), Fail> {
-    holds(put(queues, fate)? == number)
+fn is_put(queues: &mut Queues, fate: Fate, number: u64) -> bool {
+    put(queues, fate) == Ok(number)
 }
 
 /// These numbers wait for link 1, in this order.
-fn wait_for_1(queues: &Queues, numbers: &[u64]) -> Result<(), Fail> {
+fn wait_for_1(queues: &Queues, numbers: &[u64]) -> bool {
     for place in 0..numbers.len() {
-        holds(stand(queues, TO_LINK_1, place) == Some(numbers[place]))?;
+        if stand(queues, TO_LINK_1, place) != Some(numbers[place]) {
+            return false;
+        }
     }
-    Ok(())
-}
-
-#[test]
-fn a_link_settles_and_its_messages_go_on_in_order(rt: HostRuntime) -> Result<(), Fail> {
-    go_on(&mut waiting(&rt, 4)?)
-}
-
-fn go_on(queues: &mut Queues) -> Result<(), Fail> {
-    three_of_four_go(queues)?;
-    link_0_settles(queues)
-}
-
-/// Three messages are sent, and the first is acknowledged; one is held for the link, and one waits for the other.
-fn three_of_four_go(queues: &mut Queues) -> Result<(), Fail> {
-    sends(queues, 0, 0, 0)?;
-    sends(queues, 0, 1, 1)?;
-    sends(queues, 0, 2, 2)?;
-    holds(acknowledge(queues, 0, 0) == Some(1))?;
-    holds(acknowledge(queues, 0, 9).is_none())?;
-    is_put(queues, Fate::Held { link: 0 }, 4)?;
-    is_put(queues, TO_LINK_1, 5)
-}
-
-/// What stands on link 0 goes on, behind what waits for link 1.
-fn link_0_settles(queues: &mut Queues) -> Result<(), Fail> {
-    settle(queues, 0, Some(1))?;
-    wait_for_1(queues, &[5, 1, 2, 3, 4])?;
-    has_at(queues, Fate::Held { link: 0 }, 0)?;
-    stands(queues, 0, Some(Fate::Acked { link: 0 }))?;
-    stands(queues, 4, Some(TO_LINK_1))?;
-    stands(queues, 6, None)?;
-    has_unsent(queues, 5)?;
-    let counts = counts_of(queues);
-    holds(counts.acked == 1 && counts.waiting == 5 && counts.unacked == 0)
+    true
 }
 
 /// Where there is a link, the number at this place of the queue.
@@ -220,33 +180,74 @@ fn settle(queues: &mut Queues, link: u8, target: Option<u8>) -> Result<(), Alloc
 }
 
 #[test]
+fn a_link_settles_and_its_messages_go_on_in_order(rt: HostRuntime) -> Result<(), Fail> {
+    holds(go_on(&mut waiting(&rt, 4)?))
+}
+
+fn go_on(queues: &mut Queues) -> bool {
+    three_of_four_go(queues) && link_0_settles(queues)
+}
+
+/// Three messages are sent, and the first is acknowledged; one is held for the link, and one waits for the other.
+fn three_of_four_go(queues: &mut Queues) -> bool {
+    sends(queues, 0, 0, 0)
+        && sends(queues, 0, 1, 1)
+        && sends(queues, 0, 2, 2)
+        && acknowledge(queues, 0, 0) == Some(1)
+        && acknowledge(queues, 0, 9).is_none()
+        && is_put(queues, Fate::Held { link: 0 }, 4)
+        && is_put(queues, TO_LINK_1, 5)
+}
+
+/// What stands on link 0 goes on, behind what waits for link 1.
+fn link_0_settles(queues: &mut Queues) -> bool {
+    settle(queues, 0, Some(1)).is_ok()
+        && wait_for_1(queues, &[5, 1, 2, 3, 4])
+        && has_at(queues, Fate::Held { link: 0 }, 0)
+        && stands(queues, 0, Some(Fate::Acked { link: 0 }))
+        && stands(queues, 4, Some(TO_LINK_1))
+        && stands(queues, 6, None)
+        && has_unsent(queues, 5)
+        && has_gone_on(&counts_of(queues))
+}
+
+fn has_gone_on(counts: &Counts) -> bool {
+    counts.acked == 1 && counts.waiting == 5 && counts.unacked == 0
+}
+
+#[test]
 fn what_was_sent_is_given_up_and_the_rest_is_parked(rt: HostRuntime) -> Result<(), Fail> {
-    is_given_up_and_lives_anew(&mut waiting(&rt, 3)?)
+    holds(is_given_up_and_lives_anew(&mut waiting(&rt, 3)?))
 }
 
-fn is_given_up_and_lives_anew(queues: &mut Queues) -> Result<(), Fail> {
-    is_given_up_and_parked(queues)?;
-    lives_anew(queues)
+fn is_given_up_and_lives_anew(queues: &mut Queues) -> bool {
+    is_given_up(queues) && is_parked(queues) && lives_anew(queues)
 }
 
-fn is_given_up_and_parked(queues: &mut Queues) -> Result<(), Fail> {
+fn is_given_up(queues: &mut Queues) -> bool {
     send(queues, 0);
-    holds(weight(queues, 0) == Some(20))?;
+    let sent = weight(queues, 0) == Some(20);
     give_up(queues, 0);
-    holds(weight(queues, 0) == Some(0))?;
-    settle(queues, 0, None)?;
-    has_at(queues, Fate::Parked, 2)?;
-    unpark(queues, 1)?;
-    wait_for_1(queues, &[1, 2])
+    sent && weight(queues, 0) == Some(0)
 }
 
-fn lives_anew(queues: &mut Queues) -> Result<(), Fail> {
-    holds(start_anew(queues, 0))?;
-    is_put(queues, TO_LINK_0, 3)?;
-    sends(queues, 0, 3, 0)?;
-    sends(queues, 1, 1, 0)?;
-    let counts = counts_of(queues);
-    holds(counts.discarded == 1 && counts.waiting == 1 && counts.unacked == 2)
+fn is_parked(queues: &mut Queues) -> bool {
+    settle(queues, 0, None).is_ok()
+        && has_at(queues, Fate::Parked, 2)
+        && unpark(queues, 1).is_ok()
+        && wait_for_1(queues, &[1, 2])
+}
+
+fn lives_anew(queues: &mut Queues) -> bool {
+    start_anew(queues, 0)
+        && is_put(queues, TO_LINK_0, 3)
+        && sends(queues, 0, 3, 0)
+        && sends(queues, 1, 1, 0)
+        && lives(&counts_of(queues))
+}
+
+fn lives(counts: &Counts) -> bool {
+    counts.discarded == 1 && counts.waiting == 1 && counts.unacked == 2
 }
 
 /// The octets of the unacknowledged bodies of the link, if the set has it.
@@ -273,80 +274,102 @@ fn start_anew(queues: &mut Queues, link: u8) -> bool {
 
 #[test]
 fn an_order_is_nobodys_message(rt: HostRuntime) -> Result<(), Fail> {
-    is_nobodys(&mut Queues::new(rt.alloc(), 16)?)
+    holds(is_nobodys(&mut Queues::new(rt.alloc(), 16)?))
 }
 
-fn is_nobodys(queues: &mut Queues) -> Result<(), Fail> {
-    let order = park(queues)?;
-    holds(queues.message(0) == Some(order))?;
-    holds(counts_of(queues).parked == 0)?;
-    holds(queues.len() == 1)
-}
-
-/// An order is parked, as message 0.
-fn park(queues: &mut Queues) -> Result<Message, Fail> {
+fn is_nobodys(queues: &mut Queues) -> bool {
     let order = Message {
         fate: Fate::Parked,
         kind: Kind::Order,
         octets: 7,
     };
+    park(queues) == Ok(0)
+        && queues.message(0) == Some(order)
+        && counts_of(queues).parked == 0
+        && queues.len() == 1
+}
+
+/// An order is parked; its number.
+fn park(queues: &mut Queues) -> Result<u64, AllocError> {
     queues.reserve(1)?;
     queues.reserve_at(Fate::Parked, 1)?;
-    holds(queues.add(order) == 0)?;
-    Ok(order)
+    Ok(queues.add(Message {
+        fate: Fate::Parked,
+        kind: Kind::Order,
+        octets: 7,
+    }))
 }
 
 /// FSNs go round 15 times, and no message is lost among so many.
 #[test]
 fn each_of_100_000_messages_is_found_again(rt: HostRuntime) -> Result<(), Fail> {
-    are_found(&mut waiting(&rt, 100_000)?)
+    holds(are_found(&mut waiting(&rt, 100_000)?))
 }
 
-fn are_found(queues: &mut Queues) -> Result<(), Fail> {
-    two_thousand_are_acknowledged(queues)?;
-    settle(queues, 0, Some(1))?;
-    all_are_found(queues)
+fn are_found(queues: &mut Queues) -> bool {
+    two_thousand_are_acknowledged(queues)
+        && settle(queues, 0, Some(1)).is_ok()
+        && all_are_found(queues)
+        && counts_of(queues).waiting == 98_000
 }
 
-fn two_thousand_are_acknowledged(queues: &mut Queues) -> Result<(), Fail> {
+fn two_thousand_are_acknowledged(queues: &mut Queues) -> bool {
     for number in 0..2_000u64 {
         let fsn = (number % 128) as u8;
-        sends(queues, 0, number, fsn)?;
-        holds(acknowledge(queues, 0, fsn) == Some(1))?;
+        if !sends(queues, 0, number, fsn) || acknowledge(queues, 0, fsn) != Some(1) {
+            return false;
+        }
     }
-    Ok(())
+    true
 }
 
-fn all_are_found(queues: &Queues) -> Result<(), Fail> {
+fn all_are_found(queues: &Queues) -> bool {
     for number in 0..100_000u64 {
         let fate = if number < 2_000 {
             Fate::Acked { link: 0 }
         } else {
             TO_LINK_1
         };
-        stands(queues, number, Some(fate))?;
+        if !stands(queues, number, Some(fate)) {
+            return false;
+        }
     }
-    holds(counts_of(queues).waiting == 98_000)
+    true
 }
 
 /// Messages 0, 1 and 3 wait for codes of home 1, message 2 for one of home 2: those of home 1 turn back in their order.
 #[test]
 fn the_oldest_turns_back_first(rt: HostRuntime) -> Result<(), Fail> {
-    turn_all_back(&mut Queues::new(rt.alloc(), 2)?)
+    holds(turn_all_back(&mut Queues::new(rt.alloc(), 2)?))
 }
 
-fn turn_all_back(queues: &mut Queues) -> Result<(), Fail> {
-    for code in [18u8, 16, 33, 18] {
-        put(queues, Fate::Back { code })?;
+fn turn_all_back(queues: &mut Queues) -> bool {
+    wait_for_codes(queues, &[18, 16, 33, 18])
+        && queues.back_count(1) == 3
+        && oldest_turn_back(queues, &[18, 16, 18])
+        && queues.oldest_back(1).is_none()
+        && counts_of(queues).back == 1
+        && sends(queues, 0, 0, 0)
+        && sends(queues, 0, 1, 1)
+        && sends(queues, 0, 3, 2)
+}
+
+/// A message is put to wait for each of these codes.
+fn wait_for_codes(queues: &mut Queues, codes: &[u8]) -> bool {
+    for code in codes {
+        if put(queues, Fate::Back { code: *code }).is_err() {
+            return false;
+        }
     }
-    holds(queues.back_count(1) == 3)?;
-    for code in [18u8, 16, 18] {
-        holds(queues.oldest_back(1) == Some(code))?;
-        turn_back(queues, code)?;
+    true
+}
+
+/// The oldest messages of home 1 wait for these codes, and turn back.
+fn oldest_turn_back(queues: &mut Queues, codes: &[u8]) -> bool {
+    for code in codes {
+        if queues.oldest_back(1) != Some(*code) || turn_back(queues, *code).is_err() {
+            return false;
+        }
     }
-    holds(queues.oldest_back(1).is_none() && counts_of(queues).back == 1)?;
-    for (fsn, number) in [(0u8, 0u64), (1, 1), (2, 3)] {
-        holds(send(queues, 0) == Some((number, fsn)))?;
-    }
-    Ok(())
+    true
 }

@@ -1,19 +1,34 @@
 //! Streams at changeover and changeback. The expected places follow from Q.704 5 and the rules of the set by hand.
-ghost use Rattle.std.specs.Prelude.{◌≡◌};
+ghost use Rattle.std.specs.Prelude.{◌≡◌, ◌<◌};
 
 use super::bench::holds;
 use set_route::*;
 use std::test::Fail;
 
+/// Whether this stream runs on the link.
+fn is_on(routes: &Routes, stream: u8, link: u8) -> bool
+    requires { stream < 16 }
+{
+    routes.place(stream) == Place::On { link }
+}
+
+/// Whether stream 5 is on its way to link 1 from this link, and was asked back by code 16.
+fn comes_via(routes: &Routes, via: u8) -> bool {
+    let there = Place::Changing {
+        to: 1,
+        code: 16,
+        via,
+    };
+    routes.place(5) == there && routes.code(16) == Code::Asked
+}
+
 /// Two links: stream 3 has home 1, stream 4 has home 0. While link 1 alone is up both run on it.
 #[test]
 fn streams_run_on_the_first_link_that_comes_up() -> Result<(), Fail> {
     let mut routes = Routes::new(2);
-    holds(routes.place(3) == Place::Nowhere)?;
+    let nowhere = routes.place(3) == Place::Nowhere;
     routes.raise(1);
-    holds(routes.place(3) == Place::On { link: 1 })?;
-    holds(routes.place(4) == Place::On { link: 1 })?;
-    Ok(())
+    holds(nowhere && is_on(&routes, 3, 1) && is_on(&routes, 4, 1))
 }
 
 /// Link 0 comes up while link 1 carries its streams: one with messages stays, one without goes home.
@@ -23,10 +38,7 @@ fn a_stream_that_has_had_messages_stays_at_an_up() -> Result<(), Fail> {
     routes.raise(1);
     routes.accept(4);
     routes.raise(0);
-    holds(routes.place(4) == Place::On { link: 1 })?;
-    holds(routes.place(6) == Place::On { link: 0 })?;
-    holds(routes.place(3) == Place::On { link: 1 })?;
-    Ok(())
+    holds(is_on(&routes, 4, 1) && is_on(&routes, 6, 0) && is_on(&routes, 3, 1))
 }
 
 /// Of three links the third fails: its streams stay until it settles, then run on the lowest that is
@@ -38,13 +50,11 @@ fn a_stream_moves_when_its_link_settles() -> Result<(), Fail> {
     routes.raise(2);
     routes.accept(5);
     routes.divert(2);
-    holds(routes.place(5) == Place::On { link: 2 })?;
+    let stays = is_on(&routes, 5, 2);
     routes.settle(2, target(&[false, true, false]));
-    holds(routes.place(5) == Place::On { link: 1 })?;
-    holds(routes.place(15) == Place::On { link: 1 })?;
+    let moved = is_on(&routes, 5, 1) && is_on(&routes, 15, 1);
     routes.settle(1, None);
-    holds(routes.place(5) == Place::Nowhere)?;
-    Ok(())
+    holds(stays && moved && routes.place(5) == Place::Nowhere)
 }
 
 /// Two links, of which link 1 fails and comes up again: stream 5 is on its way back to it from link 0, by code 16.
@@ -66,18 +76,12 @@ fn asks_back() -> Routes
 #[test]
 fn a_stream_with_messages_comes_back_by_its_code() -> Result<(), Fail> {
     let mut routes = asks_back();
-    let there = Place::Changing {
-        to: 1,
-        code: 16,
-        via: 0,
-    };
-    holds(routes.place(5) == there && routes.code(16) == Code::Asked)?;
-    holds(routes.place(3) == Place::On { link: 1 })?;
-    holds(!routes.ask(1, 0))?;
+    let on_its_way = comes_via(&routes, 0) && is_on(&routes, 3, 1);
+    let again = routes.ask(1, 0);
     routes.give_back(16);
-    holds(routes.place(5) == Place::On { link: 1 } && routes.code(16) == Code::Free)?;
-    holds(!routes.ask(1, 0))?;
-    Ok(())
+    let back = is_on(&routes, 5, 1) && routes.code(16) == Code::Free;
+    let once_more = routes.ask(1, 0);
+    holds(on_its_way && !again && back && !once_more)
 }
 
 /// The home is left: the stream stays where it came from, and its code is spent until it's given back.
@@ -85,14 +89,14 @@ fn a_stream_with_messages_comes_back_by_its_code() -> Result<(), Fail> {
 fn a_code_is_spent_where_its_home_is_left() -> Result<(), Fail> {
     let mut routes = asks_back();
     routes.divert(1);
-    holds(routes.place(5) == Place::On { link: 0 } && routes.code(16) == Code::Spent)?;
+    let spent = is_on(&routes, 5, 0) && routes.code(16) == Code::Spent;
     routes.settle(1, Some(0));
     routes.raise(1);
-    holds(!routes.ask(1, 0))?;
+    let early = routes.ask(1, 0);
     routes.give_back(16);
-    holds(routes.place(5) == Place::On { link: 0 })?;
-    holds(routes.ask(1, 0) && routes.code(16) == Code::Asked)?;
-    Ok(())
+    let stays = is_on(&routes, 5, 0);
+    let asked = routes.ask(1, 0) && routes.code(16) == Code::Asked;
+    holds(spent && !early && stays && asked)
 }
 
 /// The link that the stream comes from settles: it comes from the target then, and its code stays.
@@ -101,21 +105,14 @@ fn a_stream_on_its_way_comes_from_the_target() -> Result<(), Fail> {
     let mut routes = asks_back();
     routes.divert(0);
     routes.settle(0, Some(1));
-    let there = Place::Changing {
-        to: 1,
-        code: 16,
-        via: 1,
-    };
-    holds(routes.place(5) == there && routes.code(16) == Code::Asked)?;
+    let on_its_way = comes_via(&routes, 1);
     routes.clear(1);
-    holds(routes.place(5) == Place::On { link: 1 } && routes.code(16) == Code::Free)?;
-    Ok(())
+    holds(on_its_way && is_on(&routes, 5, 1) && routes.code(16) == Code::Free)
 }
 
 #[test]
 fn the_target_is_the_lowest_link_that_is_up() -> Result<(), Fail> {
-    holds(target(&[false, true, true]) == Some(1))?;
-    holds(target(&[false, false]) == None)?;
-    holds(target(&[true; 16]) == Some(0))?;
-    Ok(())
+    let second = target(&[false, true, true]) == Some(1);
+    let none = target(&[false, false]) == None;
+    holds(second && none && target(&[true; 16]) == Some(0))
 }
