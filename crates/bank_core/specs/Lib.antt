@@ -1,3 +1,4 @@
 pub mod Ends
 pub mod Faults
+pub mod Room
 pub mod Totals

@@ -1,6 +1,7 @@
 //! A bank of sets, and how it's started.
 ghost use Rattle.std.specs.Prelude.{◌≡◌, ◌<◌, ◌≤◌, ◌↔◌, ◌⊎◌, map, length, IfOk, IfErr};
 ghost use Rattle.bank_core.specs.Faults.{EndsEarly};
+ghost use Rattle.bank_core.specs.Room.{IsRoomFor};
 
 use super::fault::BankFault;
 use super::orders::Orders;
@@ -111,6 +112,25 @@ impl Bank {
         ensures works { IfOk result (λ works. map (λ work. work.config) works.items ≡ self.configs) }
         ensures early { IfErr result EndsEarly }
     {
+        match Vec::with_capacity(self.alloc, self.configs.len()) {
+            Ok(room) => self.put_works(room, lines, jobs, gate, plan),
+            Err(_) => Err(BankFault::NoMemory),
+        }
+    }
+
+    /// [`Bank::works`], put into this room.
+    fn put_works<L: Line + Drop, G: Gate + Clone + Drop>(
+        self,
+        room: Vec<Work<L, G>>,
+        lines: Vec<Vec<L>>,
+        jobs: Vec<Vec<Job>>,
+        gate: G,
+        plan: Plan,
+    ) -> Result<Vec<Work<L, G>>, BankFault>
+        requires { IsRoomFor (length self.configs) room }
+        ensures works { IfOk result (λ works. map (λ work. work.config) works.items ≡ self.configs) }
+        ensures early { IfErr result EndsEarly }
+    {
         let Bank {
             configs,
             users,
@@ -118,7 +138,7 @@ impl Bank {
         } = self;
         let mut lines = lines.into_iter();
         let mut jobs = jobs.into_iter();
-        let mut works = Vec::with_capacity(alloc, configs.len())?;
+        let mut works = room;
         for config in configs {
             let orders = Orders {
                 set: config.set,

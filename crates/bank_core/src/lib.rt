@@ -19,6 +19,7 @@
 #![tactic(auto)]
 
 mod bank;
+mod crew;
 mod fault;
 mod orders;
 mod plan;

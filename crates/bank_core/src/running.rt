@@ -1,7 +1,8 @@
 //! Sets that run in threads, and what they come to.
-ghost use Rattle.std.specs.Prelude.{◌≡◌, map, IfOk, IfErr};
+ghost use Rattle.std.specs.Prelude.{◌≡◌, length, map, vec_len, IfOk, IfErr, OnOk};
 ghost use Rattle.bank_core.specs.Ends.{AreEnds};
 ghost use Rattle.bank_core.specs.Faults.{EndsEarly};
+ghost use Rattle.bank_core.specs.Room.{IsRoomFor};
 
 use super::fault::BankFault;
 use super::set_thread::{Work, one_set};
@@ -9,7 +10,7 @@ use line_ring::Line;
 use link_term::{Gate, TermFault, TermReport};
 use set_events::SetConfig;
 use set_shared::Closed;
-use std::alloc::Global;
+use std::alloc::{AllocError, Global};
 use std::marker::Model;
 use std::sync::Wait;
 use std::thread;
@@ -74,18 +75,16 @@ impl Running {
         ensures running { IfOk result (λ running. running ≡ map (λ work. work.config) works.items) }
         ensures early { IfErr result EndsEarly }
     {
-        let ends = Vec::with_capacity(alloc, works.len())?;
-        let mut threads = Vec::with_capacity(alloc, works.len())?;
-        for work in works {
-            match start_one(rt, alloc, work) {
-                Ok(thread) => threads.push_reserved(thread),
+        match room_for(alloc, works.len()) {
+            Ok((mut threads, ends)) => match start_each(rt, alloc, works, &mut threads) {
+                Ok(()) => Ok(Running { threads, ends }),
                 Err(fault) => {
                     wait_for(rt, threads);
-                    return Err(fault);
+                    Err(fault)
                 }
-            }
+            },
+            Err(_) => Err(BankFault::NoMemory),
         }
-        Ok(Running { threads, ends })
     }
 
     /// Waits for all sets, and hands out what each came to, in the order of their configurations. It takes no memory.
@@ -113,6 +112,39 @@ impl Running {
             Some(fault) => Err(fault),
         }
     }
+}
+
+/// Room for the threads of so many sets, and for their ends.
+fn room_for(alloc: Global, sets: usize) -> Result<(Vec<SetThread>, Vec<SetEnd>), AllocError>
+    ensures threads { IfOk result (λ room. IsRoomFor sets room.0) }
+    ensures ends { IfOk result (λ room. IsRoomFor sets room.1) }
+{
+    let threads = Vec::with_capacity(alloc, sets)?;
+    let ends = Vec::with_capacity(alloc, sets)?;
+    Ok((threads, ends))
+}
+
+/// Starts a thread for each of these sets, up to the first that can't be started.
+fn start_each<
+    L: Line + Drop + Send + 'static,
+    G: Gate + Drop + Send + Sync + 'static,
+    R: Threads + Wait + Copy + Send + Sync + 'static,
+>(
+    rt: &R,
+    alloc: Global,
+    works: Vec<Work<L, G>>,
+    threads: &mut Vec<SetThread>,
+) -> Result<(), BankFault>
+    requires room { IsRoomFor (length works.items) threads.old }
+    ensures started { OnOk result (map (λ thread. thread.promise.0) threads.new.items
+        ≡ map (λ work. work.config) works.items) }
+    ensures few { OnOk result (vec_len threads.new ≡ length works.items) }
+    ensures early { IfErr result EndsEarly }
+{
+    for work in works {
+        threads.push_reserved(start_one(rt, alloc, work)?);
+    }
+    Ok(())
 }
 
 /// Starts the thread of one set.

@@ -4,14 +4,15 @@ ghost use Rattle.set_ledger.specs.Totals.{AreParts, Names};
 ghost use Rattle.bank_core.specs.Ends.{IsEndOf, IsClosedAs};
 ghost use Rattle.bank_core.specs.Faults.{EndsEarly};
 
+use super::crew::{Crew, Gathered, start_shift};
 use super::fault::BankFault;
 use super::orders::Orders;
 use super::plan::Job;
 use super::running::SetEnd;
-use super::terminal::{TermEnd, run_terminal};
-use super::user::{UserEnd, run_user};
+use super::terminal::TermShift;
+use super::user::UserShift;
 use line_ring::Line;
-use link_term::{Gate, TermFault, TermReport};
+use link_term::Gate;
 use set_events::SetConfig;
 use set_shared::{Blanks, Closed, LinkSet, Opened, TermSeat, UserSeat};
 use std::alloc::Global;
@@ -19,7 +20,7 @@ use std::marker::Brand;
 use std::sync::Wait;
 use std::sync::ledger::{Blank, Ledger};
 use std::thread;
-use std::thread::{JoinHandle, Threads};
+use std::thread::{Scope, Threads};
 
 /// What the thread of one set is to do.
 #[derive(Drop)]
@@ -41,15 +42,6 @@ struct Seats<C: Ledger, M: Ledger, O: Ledger, A: Ledger, L: Drop> {
     jobs: Vec<Job>,
     terminals: Vec<TermSeat<C, M, O, A>>,
     lines: Vec<L>,
-}
-
-/// The seats of a set, and what was gathered beside them.
-#[derive(Drop)]
-struct Gathered<C: Ledger, M: Ledger, O: Ledger, A: Ledger> {
-    users: Vec<UserSeat<C, M, O, A>>,
-    got_through: Vec<bool>,
-    terminals: Vec<TermSeat<C, M, O, A>>,
-    reports: Vec<Result<TermReport, TermFault>>,
 }
 
 /// Opens a set, runs its terminals and users, and closes it.
@@ -89,28 +81,63 @@ fn run_set<
     ensures { MatchResult result (IsEndOf work.config) EndsEarly }
 {
     let config = work.config;
-    let Ok(opened) = LinkSet::<C, M, O, A>::create(alloc, &config, work.users, blanks) else {
-        return Err(BankFault::NoMemory);
-    };
+    match LinkSet::<C, M, O, A>::create(alloc, &config, work.users, blanks) {
+        Ok(opened) => run_opened(rt, alloc, opened, work),
+        Err(_) => Err(BankFault::NoMemory),
+    }
+}
+
+/// Runs the terminals and users of a set that was opened, and closes it.
+fn run_opened<
+    C: Ledger + Send + Sync,
+    M: Ledger + Send + Sync,
+    O: Ledger + Send + Sync,
+    A: Ledger + Send + Sync,
+    L: Line + Drop + Send,
+    G: Gate + Drop + Send + Sync,
+    R: Threads + Wait + Sync,
+>(rt: &R, alloc: Global, opened: Opened<C, M, O, A>, work: Work<L, G>) -> Result<SetEnd, BankFault>
+    ensures { MatchResult result (IsEndOf work.config) EndsEarly }
+{
     let Opened {
         set,
         users,
         terminals,
     } = opened;
+    let Work {
+        config,
+        users: _,
+        lines,
+        jobs,
+        orders,
+    } = work;
     let seats = Seats {
         users,
-        jobs: work.jobs,
+        jobs,
         terminals,
-        lines: work.lines,
+        lines,
     };
-    let gathered = run_seats(rt, alloc, &set, seats, &work.orders)?;
+    match run_seats(rt, alloc, &set, seats, &orders) {
+        Ok(gathered) => end_set(set, gathered, &config),
+        Err(fault) => Err(fault),
+    }
+}
+
+/// What a set came to whose seats are gathered.
+fn end_set<C: Ledger, M: Ledger, O: Ledger, A: Ledger>(
+    set: LinkSet<C, M, O, A>,
+    gathered: Gathered<C, M, O, A>,
+    config: &SetConfig,
+) -> Result<SetEnd, BankFault>
+    ensures { MatchResult result (IsEndOf config.now) EndsEarly }
+{
     let Gathered {
         users,
         got_through,
         terminals,
         reports,
     } = gathered;
-    let closed = close(set, users, terminals, &config)?;
+    let closed = close(set, users, terminals, config)?;
     Ok(SetEnd {
         closed,
         reports,
@@ -170,92 +197,123 @@ fn run_seats<
         |scope| -> Result<Gathered<C, M, O, A>, BankFault>
             ensures { IfErr result EndsEarly }
         {
-            let Seats {
-                users,
-                jobs,
-                terminals,
-                lines,
-            } = seats;
-            let mut lines = lines.into_iter();
-            let mut idle = Vec::new(alloc);
-            let mut term_threads = Vec::new(alloc);
-            for seat in terminals {
-                let Some(line) = lines.next() else {
-                    idle.reserve(1)?;
-                    idle.push_reserved(seat);
-                    continue;
-                };
-                term_threads.reserve(1)?;
-                match scope.spawn(move || run_terminal(rt, set, seat, line, orders)) {
-                    Ok(started) => term_threads.push_reserved(started),
-                    Err(_) => return Err(BankFault::NoThread),
-                }
+            let mut crew = Crew::new(alloc);
+            match start_all(scope, rt, set, seats, orders, &mut crew) {
+                Ok(()) => crew.gather(rt, alloc),
+                Err(fault) => Err(fault),
             }
-            let mut jobs = jobs.into_iter();
-            let mut user_threads = Vec::new(alloc);
-            for seat in users {
-                let job = jobs.next().unwrap_or(Job::Take { times: 0 });
-                user_threads.reserve(1)?;
-                match scope.spawn(move || run_user(rt, set, seat, job, orders)) {
-                    Ok(started) => user_threads.push_reserved(started),
-                    Err(_) => return Err(BankFault::NoThread),
-                }
-            }
-            let (users, got_through) = gather_users(rt, alloc, user_threads)?;
-            let (terminals, reports) = gather_terminals(rt, alloc, idle, term_threads)?;
-            Ok(Gathered {
-                users,
-                got_through,
-                terminals,
-                reports,
-            })
         },
     )
 }
 
-/// Waits for these users: their seats, and whether each got through.
-fn gather_users<C: Ledger, M: Ledger, O: Ledger, A: Ledger, R: Threads>(
-    rt: &R,
-    alloc: Global,
-    threads: Vec<JoinHandle<UserEnd<C, M, O, A>>>,
-) -> Result<(Vec<UserSeat<C, M, O, A>>, Vec<bool>), BankFault>
+/// Starts the threads of the terminals, and then those of the users.
+fn start_all<
+    's,
+    'e: 's,
+    C: Ledger + Send + Sync + 's,
+    M: Ledger + Send + Sync + 's,
+    O: Ledger + Send + Sync + 's,
+    A: Ledger + Send + Sync + 's,
+    L: Line + Drop + Send + 's,
+    G: Gate + Drop + Send + Sync + 's,
+    R: Threads + Wait + Sync + 's,
+>(
+    scope: &'s Scope<'s, &'e ()>,
+    rt: &'s R,
+    set: &'s LinkSet<C, M, O, A>,
+    seats: Seats<C, M, O, A, L>,
+    orders: &'s Orders<G>,
+    crew: &mut Crew<C, M, O, A>,
+) -> Result<(), BankFault>
     ensures { IfErr result EndsEarly }
 {
-    let mut seats = Vec::new(alloc);
-    let mut got_through = Vec::new(alloc);
-    for thread in threads {
-        seats.reserve(1)?;
-        got_through.reserve(1)?;
-        let end = thread.join(rt);
-        seats.push_reserved(end.seat);
-        got_through.push_reserved(end.got_through);
+    let Seats {
+        users,
+        jobs,
+        terminals,
+        lines,
+    } = seats;
+    match start_terminals(scope, rt, set, terminals, lines, orders, crew) {
+        Ok(()) => start_users(scope, rt, set, users, jobs, orders, crew),
+        Err(fault) => Err(fault),
     }
-    Ok((seats, got_through))
 }
 
-/// Waits for these terminals: their seats, behind the idle ones, and their reports.
-fn gather_terminals<C: Ledger, M: Ledger, O: Ledger, A: Ledger, R: Threads>(
-    rt: &R,
-    alloc: Global,
-    idle: Vec<TermSeat<C, M, O, A>>,
-    threads: Vec<JoinHandle<TermEnd<C, M, O, A>>>,
-) -> Result<
-    (
-        Vec<TermSeat<C, M, O, A>>,
-        Vec<Result<TermReport, TermFault>>,
-    ),
-    BankFault,
->
+/// Starts a thread for each terminal that has a line. The seats of the others are idle.
+fn start_terminals<
+    's,
+    'e: 's,
+    C: Ledger + Send + Sync + 's,
+    M: Ledger + Send + Sync + 's,
+    O: Ledger + Send + Sync + 's,
+    A: Ledger + Send + Sync + 's,
+    L: Line + Drop + Send + 's,
+    G: Gate + Drop + Send + Sync + 's,
+    R: Threads + Wait + Sync + 's,
+>(
+    scope: &'s Scope<'s, &'e ()>,
+    rt: &'s R,
+    set: &'s LinkSet<C, M, O, A>,
+    seats: Vec<TermSeat<C, M, O, A>>,
+    lines: Vec<L>,
+    orders: &'s Orders<G>,
+    crew: &mut Crew<C, M, O, A>,
+) -> Result<(), BankFault>
     ensures { IfErr result EndsEarly }
 {
-    let mut seats = idle;
-    let mut reports = Vec::new(alloc);
-    for thread in threads {
-        seats.reserve(1)?;
-        reports.reserve(1)?;
-        let end = thread.join(rt);
-        seats.push_reserved(end.seat);
-        reports.push_reserved(end.report);
+    let mut lines = lines.into_iter();
+    for seat in seats {
+        let started = match lines.next() {
+            Some(line) => start_shift(
+                scope,
+                TermShift {
+                    rt,
+                    set,
+                    seat,
+                    line,
+                    orders,
+                },
+                &mut crew.terminals,
+            ),
+            None => crew.leave_idle(seat),
+        };
+        started?;
     }
-    Ok((seats, reports))
+    Ok(())
+}
+
+/// Starts a thread for each user. One that has no job makes no call.
+fn start_users<
+    's,
+    'e: 's,
+    C: Ledger + Send + Sync + 's,
+    M: Ledger + Send + Sync + 's,
+    O: Ledger + Send + Sync + 's,
+    A: Ledger + Send + Sync + 's,
+    G: Gate + Drop + Send + Sync + 's,
+    R: Threads + Wait + Sync + 's,
+>(
+    scope: &'s Scope<'s, &'e ()>,
+    rt: &'s R,
+    set: &'s LinkSet<C, M, O, A>,
+    seats: Vec<UserSeat<C, M, O, A>>,
+    jobs: Vec<Job>,
+    orders: &'s Orders<G>,
+    crew: &mut Crew<C, M, O, A>,
+) -> Result<(), BankFault>
+    ensures { IfErr result EndsEarly }
+{
+    let mut jobs = jobs.into_iter();
+    for seat in seats {
+        let job = jobs.next().unwrap_or(Job::Take { times: 0 });
+        let shift = UserShift {
+            rt,
+            set,
+            seat,
+            job,
+            orders,
+        };
+        start_shift(scope, shift, &mut crew.users)?;
+    }
+    Ok(())
 }

@@ -1,5 +1,6 @@
 //! What a terminal's thread does.
 
+use super::crew::{Ended, Shift, TermEnd};
 use super::orders::{Lent, Orders};
 use super::plan::Plan;
 use line_ring::Line;
@@ -8,16 +9,10 @@ use set_shared::{LinkSet, TermSeat};
 use std::sync::Wait;
 use std::sync::ledger::Ledger;
 
-/// A terminal's seat, when its thread has ended, and what its turns counted, or why they ended early.
+/// A terminal's seat at its set, and the line over which it runs.
 #[derive(Drop)]
-pub(crate) struct TermEnd<C: Ledger, M: Ledger, O: Ledger, A: Ledger> {
-    pub(crate) seat: TermSeat<C, M, O, A>,
-    pub(crate) report: Result<TermReport, TermFault>,
-}
-
-/// The terminal of a seat's link is told to come up in an emergency, and takes all its turns over this line. After a
-/// fault its seat comes back too.
-pub(crate) fn run_terminal<
+pub(crate) struct TermShift<
+    'a,
     C: Ledger,
     M: Ledger,
     O: Ledger,
@@ -25,24 +20,40 @@ pub(crate) fn run_terminal<
     L: Line + Drop,
     G: Gate,
     R: Wait,
->(
-    rt: &R,
-    set: &LinkSet<C, M, O, A>,
-    seat: TermSeat<C, M, O, A>,
-    line: L,
-    orders: &Orders<G>,
-) -> TermEnd<C, M, O, A> {
-    let link = seat.link();
-    let door = SeatDoor::new(rt, set, orders.set, seat, &orders.gate);
-    let gate = Lent { gate: &orders.gate };
-    let mut terminal = Terminal::new(door, line, gate, orders.set, link, orders.plan.timers);
-    terminal.command(Command::Emergency);
-    terminal.command(Command::Start);
-    let report = all_turns(&mut terminal, link, &orders.plan);
-    let (door, _line, _gate) = terminal.into_parts();
-    TermEnd {
-        seat: door.into_seat(),
-        report,
+> {
+    pub(crate) rt: &'a R,
+    pub(crate) set: &'a LinkSet<C, M, O, A>,
+    pub(crate) seat: TermSeat<C, M, O, A>,
+    pub(crate) line: L,
+    pub(crate) orders: &'a Orders<G>,
+}
+
+impl<'a, C: Ledger, M: Ledger, O: Ledger, A: Ledger, L: Line + Drop, G: Gate, R: Wait> Shift<
+    TermSeat<C, M, O, A>,
+    Result<TermReport, TermFault>,
+> for TermShift<'a, C, M, O, A, L, G, R> {
+    /// The terminal of the seat's link is told to come up in an emergency, and takes all its turns over the line. After
+    /// a fault its seat comes back too.
+    fn work(self) -> TermEnd<C, M, O, A> {
+        let TermShift {
+            rt,
+            set,
+            seat,
+            line,
+            orders,
+        } = self;
+        let link = seat.link();
+        let door = SeatDoor::new(rt, set, orders.set, seat, &orders.gate);
+        let gate = Lent { gate: &orders.gate };
+        let mut terminal = Terminal::new(door, line, gate, orders.set, link, orders.plan.timers);
+        terminal.command(Command::Emergency);
+        terminal.command(Command::Start);
+        let report = all_turns(&mut terminal, link, &orders.plan);
+        let (door, _line, _gate) = terminal.into_parts();
+        Ended {
+            seat: door.into_seat(),
+            told: report,
+        }
     }
 }
 

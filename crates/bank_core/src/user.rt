@@ -1,5 +1,6 @@
 //! What a user's thread does.
 
+use super::crew::{Ended, Shift, UserEnd};
 use super::orders::Orders;
 use super::plan::Job;
 use link_term::Gate;
@@ -8,27 +9,38 @@ use set_shared::{LinkSet, UserSeat};
 use std::sync::Wait;
 use std::sync::ledger::Ledger;
 
-/// A user's seat, when its thread has ended, and whether the user got through.
+/// A user's seat at its set, and the job that is to be done there.
 #[derive(Drop)]
-pub(crate) struct UserEnd<C: Ledger, M: Ledger, O: Ledger, A: Ledger> {
+pub(crate) struct UserShift<'a, C: Ledger, M: Ledger, O: Ledger, A: Ledger, G: Gate, R: Wait> {
+    pub(crate) rt: &'a R,
+    pub(crate) set: &'a LinkSet<C, M, O, A>,
     pub(crate) seat: UserSeat<C, M, O, A>,
-    pub(crate) got_through: bool,
+    pub(crate) job: Job,
+    pub(crate) orders: &'a Orders<G>,
 }
 
-/// A user does its job. It ends at the first fault of the set, or at a number that was accepted and isn't found.
-pub(crate) fn run_user<C: Ledger, M: Ledger, O: Ledger, A: Ledger, G: Gate, R: Wait>(
-    rt: &R,
-    set: &LinkSet<C, M, O, A>,
-    seat: UserSeat<C, M, O, A>,
-    job: Job,
-    orders: &Orders<G>,
-) -> UserEnd<C, M, O, A> {
-    let mut seat = seat;
-    let got_through = match job {
-        Job::Offer { bodies } => offer_all(rt, set, &mut seat, bodies, orders),
-        Job::Take { times } => take_often(rt, set, &mut seat, times, orders),
-    };
-    UserEnd { seat, got_through }
+impl<'a, C: Ledger, M: Ledger, O: Ledger, A: Ledger, G: Gate, R: Wait> Shift<
+    UserSeat<C, M, O, A>,
+    bool,
+> for UserShift<'a, C, M, O, A, G, R> {
+    /// The user does its job. It ends at the first fault of the set, or at a number that was accepted and isn't found.
+    fn work(self) -> UserEnd<C, M, O, A> {
+        let UserShift {
+            rt,
+            set,
+            mut seat,
+            job,
+            orders,
+        } = self;
+        let got_through = match job {
+            Job::Offer { bodies } => offer_all(rt, set, &mut seat, bodies, orders),
+            Job::Take { times } => take_often(rt, set, &mut seat, times, orders),
+        };
+        Ended {
+            seat,
+            told: got_through,
+        }
+    }
 }
 
 /// Offers all of these bodies, and finds each one that was accepted.

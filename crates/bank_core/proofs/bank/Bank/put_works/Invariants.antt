@@ -1,6 +1,6 @@
 use Rattle.std.proofs.Common.{◌≡◌, ◌≤◌, map, length}
 use Rattle.std.specs.Vec.{vec_len, vec_capacity}
-use Rattle.bank_core.proofs.bank.Bank.works.Given as goal
+use Rattle.bank_core.proofs.bank.Bank.put_works.Given as goal
 
 abbrev pub invariant-loop-config : goal.invariant-loop-config
 invariant-loop-config g l = (map (λ work. work.config) l.works.items ≡ l.yielded)
