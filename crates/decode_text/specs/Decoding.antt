@@ -37,7 +37,8 @@ numbers_text kind h =
     ++ (codes " fsn=" ++ (decimal h.fsn ++ (codes " fib=" ++ decimal (bit h.fib))))))))
 
 abbrev pub checks_text : ℕ → Check → List ℕ
-checks_text indicator check = codes " li=" ++ (decimal indicator ++ (codes " check=" ++ check_word check))
+checks_text indicator check =
+    codes " li=" ++ (decimal indicator ++ (codes " check=" ++ check_word check))
 
 abbrev pub head_text : List ℕ → Header → ℕ → Check → List ℕ
 head_text kind h indicator check = numbers_text kind h ++ checks_text indicator check
@@ -69,7 +70,8 @@ label_text sio a b c d =
 -- the link that an order speaks of, and what it carries (Q.704 15.4 to 15.6)
 abbrev pub about : List ℕ → ℕ → List ℕ → ℕ → List ℕ
 about name link field number =
-    name ++ (codes " link " ++ (decimal link ++ (codes " " ++ (field ++ (codes "=" ++ decimal number)))))
+    name ++ (codes " link " ++ (decimal link
+    ++ (codes " " ++ (field ++ (codes "=" ++ decimal number)))))
 
 abbrev pub about_no_number : List ℕ → ℕ → List ℕ
 about_no_number name link = name ++ (codes " link " ++ decimal link)
@@ -87,7 +89,8 @@ order_text order = codes " " ++ (order_words order ++ codes "\n")
 
 -- any other message is one of the stream that its SLS is, and has this behind its label
 abbrev pub data_text : ℕ → List ℕ → List ℕ
-data_text stream more = codes " stream=" ++ (decimal stream ++ (codes " data=" ++ (hex_text more ++ codes "\n")))
+data_text stream more =
+    codes " stream=" ++ (decimal stream ++ (codes " data=" ++ (hex_text more ++ codes "\n")))
 
 abbrev pub content_text : Option Order → ℕ → List ℕ → List ℕ
 content_text (Some order) stream more = order_text order
@@ -110,8 +113,10 @@ body_text [] = short_text []
 
 abbrev pub unit_text : Check → ℕ → SignalUnit → List ℕ
 unit_text check indicator (Fisu head) = head_text (codes "fisu") head indicator check ++ codes "\n"
-unit_text check indicator (Lssu head status) = head_text (codes "lssu") head indicator check ++ status_text status
-unit_text check indicator (Msu head body) = head_text (codes "msu") head indicator check ++ body_text body.items
+unit_text check indicator (Lssu head status) =
+    head_text (codes "lssu") head indicator check ++ status_text status
+unit_text check indicator (Msu head body) =
+    head_text (codes "msu") head indicator check ++ body_text body.items
 
 -- all octets but the last two, which may be the check octets of these
 abbrev pub front_of : List ℕ → List ℕ
@@ -119,7 +124,8 @@ front_of octets = take (length octets - 2) octets
 
 -- at most 276 octets, and then their check octets (Q.703 4.2)
 abbrev pub is_sealed : List ℕ → Bool
-is_sealed octets = nat_le (length (front_of octets)) 276 && bytes_eq octets (sealed_text (front_of octets))
+is_sealed octets =
+    nat_le (length (front_of octets)) 276 && bytes_eq octets (sealed_text (front_of octets))
 
 -- The unit of the octets before the last two, where those are their check octets; else the unit of all octets; else the
 -- unit of those before the last two, which are wrong then. Only at length indicator 63 can both be units.
@@ -131,7 +137,9 @@ octets_text None checked (Some whole) indicator = unit_text Absent indicator who
 octets_text None checked None indicator = codes "no unit\n"
 
 abbrev pub line_text : List ℕ → List ℕ
-line_text octets = octets_text (unit_of (front_of octets)) (is_sealed octets) (unit_of octets) (indicator_in octets)
+line_text octets =
+    octets_text (unit_of (front_of octets)) (is_sealed octets) (unit_of octets)
+    (indicator_in octets)
 
 -- a line that isn't hexadecimal digits, two an octet, can't be read
 abbrev pub decoded : ℕ → Option (List ℕ) → LineOutcome (Unit {0}) UnreadableUnit

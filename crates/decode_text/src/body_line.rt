@@ -1,7 +1,7 @@
 //! What is said of a message.
 ghost use Rattle.std.specs.Prelude.{◌≡◌, ◌++◌, IfOk, codes, decimal};
 ghost use Rattle.figures.specs.Figures.{hex_text};
-ghost use Rattle.decode_text.specs.Decoding.{about as about_in, about_no_number, body_text, data_text, label_text, order_text, order_words, short_text};
+ghost use Rattle.decode_text.specs.Decoding.{about, about_no_number, body_text, data_text, label_text, order_text, order_words, short_text};
 
 use super::unit_line::write_both;
 use figures::push_hex;
@@ -61,24 +61,24 @@ pub fn write_order_words(alloc: Global, order: Order) -> Result<Vec<u8>, AllocEr
     ensures { IfOk result (λ text. text.items ≡ order_words order) }
 {
     match order {
-        Order::Coo { link, number } => about(alloc, "COO", link, "fsn", number),
-        Order::Coa { link, number } => about(alloc, "COA", link, "fsn", number),
-        Order::Cbd { link, code } => about(alloc, "CBD", link, "code", code),
-        Order::Cba { link, code } => about(alloc, "CBA", link, "code", code),
+        Order::Coo { link, number } => write_about(alloc, "COO", link, "fsn", number),
+        Order::Coa { link, number } => write_about(alloc, "COA", link, "fsn", number),
+        Order::Cbd { link, code } => write_about(alloc, "CBD", link, "code", code),
+        Order::Cba { link, code } => write_about(alloc, "CBA", link, "code", code),
         Order::Eco { link } => about_link(alloc, "ECO", link),
         Order::Eca { link } => about_link(alloc, "ECA", link),
     }
 }
 
 /// An order that carries this field.
-fn about(
+fn write_about(
     alloc: Global,
     name: &str,
     link: u8,
     field: &str,
     number: u8,
 ) -> Result<Vec<u8>, AllocError>
-    ensures { IfOk result (λ text. text.items ≡ about_in name.now link field.now number) }
+    ensures { IfOk result (λ text. text.items ≡ about name.now link field.now number) }
 {
     Ok(format!(in alloc; "{name} link {link} {field}={number}")?.into_bytes())
 }

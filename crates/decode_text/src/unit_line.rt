@@ -1,7 +1,7 @@
 //! The line of a unit.
 ghost use Rattle.std.specs.Prelude.{◌≡◌, ◌++◌, IfOk, codes, decimal};
 ghost use Rattle.std.specs.Str.{bytes_eq};
-ghost use Rattle.decode_text.specs.Decoding.{check_word, indicator_in, head_text, numbers_text, checks_text, status_word, status_text, unit_text, front_of as front_in, is_sealed as is_sealed_in, line_text};
+ghost use Rattle.decode_text.specs.Decoding.{check_word, indicator_in, head_text, numbers_text, checks_text, status_word, status_text, unit_text, front_of, is_sealed, line_text};
 
 use super::body_line::write_body;
 use figures::bit_of;
@@ -26,7 +26,11 @@ pub(crate) fn write_line(alloc: Global, octets: &[u8]) -> Result<Vec<u8>, AllocE
     ensures { IfOk result (λ line. line.items ≡ line_text octets.now) }
 {
     let indicator = indicator_of(octets);
-    match (read(front_of(octets)), is_sealed(octets), read(octets)) {
+    match (
+        read(cut_check_octets(octets)),
+        has_right_check_octets(octets),
+        read(octets),
+    ) {
         (Ok(unit), true, _) => write_unit(alloc, Check::Right, indicator, &unit),
         (_, _, Ok(unit)) => write_unit(alloc, Check::Absent, indicator, &unit),
         (Ok(unit), false, Err(_)) => write_unit(alloc, Check::Wrong, indicator, &unit),
@@ -35,17 +39,17 @@ pub(crate) fn write_line(alloc: Global, octets: &[u8]) -> Result<Vec<u8>, AllocE
 }
 
 /// All octets but the last two.
-fn front_of(octets: &[u8]) -> &[u8]
-    ensures { result.now ≡ front_in octets.now }
+fn cut_check_octets(octets: &[u8]) -> &[u8]
+    ensures { result.now ≡ front_of octets.now }
 {
     &octets[..octets.len().saturating_sub(2)]
 }
 
 /// Whether the last two octets are the check octets of those before.
-fn is_sealed(octets: &[u8]) -> bool
-    ensures { result ≡ is_sealed_in octets.now }
+fn has_right_check_octets(octets: &[u8]) -> bool
+    ensures { result ≡ is_sealed octets.now }
 {
-    let front = front_of(octets);
+    let front = cut_check_octets(octets);
     front.len() <= LONGEST && is_same(octets, seal(front).as_slice())
 }
 
