@@ -27,10 +27,12 @@ pub record IsLine (bits : List Bool) (lines : List ℕ) (line : MarkedLine) : Ty
 -- the marks of the bits print this first, and maybe more
 abbrev pub Begins : List Bool → List ℕ → Type 0
 Begins bits printed =
-    (marks : List Mark) → AreMarks [] bits marks → (more : List ℕ) × (marks_text marks ≡ printed ++ more)
+    (marks : List Mark) → AreMarks [] bits marks
+    → (more : List ℕ) × (marks_text marks ≡ printed ++ more)
 
 -- the line had these bits more, and what their marks print was added
-pub record Feeds (old : MarkedLine) (bits : List Bool) (before after : List ℕ) (new : MarkedLine) : Type 0 where
+pub record Feeds (old : MarkedLine) (bits : List Bool) (before after : List ℕ)
+    (new : MarkedLine) : Type 0 where
   pub printed : List ℕ
   pub added : after ≡ before ++ printed
   pub goes_on : (past : List Bool) (lines : List ℕ) → length past + length bits < 2 ^ 64
@@ -41,12 +43,13 @@ pub record Breaks (old : MarkedLine) (bits : List Bool) (before after : List ℕ
   pub printed : List ℕ
   pub added : after ≡ before ++ printed
   pub begins : (past : List Bool) (lines : List ℕ) → length past + length bits < 2 ^ 64
-      → IsLine past lines old → (left : List Bool) → Begins (past ++ (bits ++ left)) (lines ++ printed)
+      → IsLine past lines old → (left : List Bool)
+      → Begins (past ++ (bits ++ left)) (lines ++ printed)
 
 -- the first of these bits were fed, and the line of their mark was added, if they gave one: what is done with the
 -- others completes what is done with all
-pub record FeedsFirst (old : MarkedLine) (bits : List Bool) (before : List ℕ) (rest : List Bool) (middle : List ℕ)
-    (new : MarkedLine) : Type 0 where
+pub record FeedsFirst (old : MarkedLine) (bits : List Bool) (before : List ℕ) (rest : List Bool)
+    (middle : List ℕ) (new : MarkedLine) : Type 0 where
   pub feeds : (after : List ℕ) (last : MarkedLine) → Feeds new rest middle after last
       → Feeds old bits before after last
   pub breaks : (after : List ℕ) → Breaks new rest middle after → Breaks old bits before after
@@ -65,15 +68,18 @@ pub record Decodes (old : Digits) (text before after : List ℕ) (new : Digits) 
   pub added : after ≡ before ++ octets
   pub few : length octets ≤ length text
   pub goes_on : (past : List ℕ) → length past + length text ≤ 2 ^ 24 → HasDigits past old
-      → HasDigits (past ++ text) new × (paired (values_of (past ++ text)) ≡ paired (values_of past) ++ octets)
+      → HasDigits (past ++ text) new
+      × (paired (values_of (past ++ text)) ≡ paired (values_of past) ++ octets)
 
 -- the input's octets are these up to the fault; where memory was wanted, they begin so
 abbrev pub HaltsIn : Stop UnreadableOctet → List ℕ → List ℕ → Type 0
-HaltsIn (Input fault) input octets = (octets_in input ≡ octets) × (fault_place input ≡ Some fault.place)
+HaltsIn (Input fault) input octets =
+    (octets_in input ≡ octets) × (fault_place input ≡ Some fault.place)
 HaltsIn Memory input octets = (more : List ℕ) × (octets_in input ≡ octets ++ more)
 
 -- among these it stopped, whatever follows, and the octets before were added
-pub record Halts (stop : Stop UnreadableOctet) (old : Digits) (text before after : List ℕ) : Type 0 where
+pub record Halts (stop : Stop UnreadableOctet) (old : Digits)
+    (text before after : List ℕ) : Type 0 where
   pub octets : List ℕ
   pub added : after ≡ before ++ octets
   pub few : length octets ≤ length text
@@ -86,14 +92,16 @@ pub record HasRead (past lines : List ℕ) (reader : UnitsReader) : Type 0 where
   pub line : IsLine (line_bits (paired (values_of past))) lines reader.line
 
 -- these octets were read, and what they print was added; an input has at most 2^24 octets
-pub record Reads (old : UnitsReader) (octets before after : List ℕ) (new : UnitsReader) : Type 0 where
+pub record Reads (old : UnitsReader) (octets before after : List ℕ)
+    (new : UnitsReader) : Type 0 where
   pub printed : List ℕ
   pub added : after ≡ before ++ printed
   pub goes_on : (past lines : List ℕ) → length past + length octets ≤ 2 ^ 24
       → HasRead past lines old → HasRead (past ++ octets) (lines ++ printed) new
 
 -- these octets ended the input with a fault, whatever follows
-pub record Stops (stop : Stop UnreadableOctet) (old : UnitsReader) (octets before after : List ℕ) : Type 0 where
+pub record Stops (stop : Stop UnreadableOctet) (old : UnitsReader)
+    (octets before after : List ℕ) : Type 0 where
   pub printed : List ℕ
   pub added : after ≡ before ++ printed
   pub ends : (past lines : List ℕ) → length past + length octets ≤ 2 ^ 24

@@ -62,13 +62,15 @@ line_head kind h =
 abbrev pub unit_text : SignalUnit → List ℕ
 unit_text (Fisu head) = line_head (codes "good fisu") head ++ codes "\n"
 unit_text (Lssu head status) =
-    line_head (codes "good lssu") head ++ (codes " status=" ++ (decimal (status_number status) ++ codes "\n"))
+    line_head (codes "good lssu") head
+    ++ (codes " status=" ++ (decimal (status_number status) ++ codes "\n"))
 unit_text (Msu head body) =
     line_head (codes "good msu") head ++ (codes " body=" ++ (hex_text body.items ++ codes "\n"))
 
 -- the number of what is wrong with octets that are no unit: 1 too short, 2 too long, 3 another length indicator
 abbrev pub unit_fault : List ℕ → ℕ
-unit_fault octets = if nat_lt (length octets) 3 then 1 else (if nat_lt 276 (length octets) then 2 else 3)
+unit_fault octets =
+    if nat_lt (length octets) 3 then 1 else (if nat_lt 276 (length octets) then 2 else 3)
 
 abbrev pub good_text : Option SignalUnit → List ℕ → List ℕ
 good_text (Some unit) octets = unit_text unit
@@ -113,8 +115,10 @@ counts_text c =
 
 -- a fault leaves out the last line
 abbrev pub with_end : Option ℕ → List Mark → Printed UnreadableOctet
-with_end None marks = record { printed = marks_text marks ++ counts_text (counts_of marks); fault = None }
-with_end (Some place) marks = record { printed = marks_text marks; fault = Some (record { place = place }) }
+with_end None marks =
+    record { printed = marks_text marks ++ counts_text (counts_of marks); fault = None }
+with_end (Some place) marks =
+    record { printed = marks_text marks; fault = Some (record { place = place }) }
 
 -- THE TEXT: the lines of the marks that the octets' bits give, each octet's lowest bit first, and the last line or the
 -- fault
@@ -125,4 +129,6 @@ pub record IsUnitsText (input : List ℕ) (played : Printed UnreadableOctet) : T
 
 -- there is one at most
 abbrev pub InputHasOneText : Type 0
-InputHasOneText = (input : List ℕ) (a b : Printed UnreadableOctet) → IsUnitsText input a → IsUnitsText input b → a ≡ b
+InputHasOneText =
+    (input : List ℕ) (a b : Printed UnreadableOctet) → IsUnitsText input a → IsUnitsText input b
+    → a ≡ b

@@ -1,6 +1,6 @@
 //! The characters of an input, and the octets whose digits they are.
 ghost use Rattle.std.specs.Prelude.{◌≡◌, [], ◌∷◌, MatchResult};
-ghost use Rattle.units_text.specs.UnitsText.{is_blank as is_blank_in};
+ghost use Rattle.units_text.specs.UnitsText.{is_blank};
 ghost use Rattle.units_text.specs.UnitsReading.{HasDigits, Decodes, Halts};
 
 use super::digit::{Digit, digit_of};
@@ -57,7 +57,7 @@ impl Digits {
         let place = self.place;
         self.place = place.saturating_add(1);
         let Some(digit) = digit_of(c) else {
-            if is_blank(c) {
+            if is_skipped(c) {
                 return Ok(());
             }
             return Err(Stop::Input(UnreadableOctet { place }));
@@ -75,8 +75,8 @@ impl Digits {
 }
 
 /// Whether the character is skipped.
-fn is_blank(c: u8) -> bool
-    ensures { result ≡ is_blank_in c }
+fn is_skipped(c: u8) -> bool
+    ensures { result ≡ is_blank c }
 {
     matches!(c, b' ' | b'\t' | b'\r' | b'\n')
 }

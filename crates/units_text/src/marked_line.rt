@@ -56,9 +56,11 @@ impl MarkedLine {
     #[inline(always)]
     fn feed_first(&mut self, left: &mut Octets<'_>, out: &mut Vec<u8>) -> Result<bool, AllocError>
         ensures feeds { MatchResult result
-            (λ marked. FeedsFirst self.old (left_in left.old) out.old.items (left_in left.new) out.new.items self.new)
+            (λ marked. FeedsFirst self.old (left_in left.old)
+            out.old.items (left_in left.new) out.new.items self.new)
             (λ error. Breaks self.old (left_in left.old) out.old.items out.new.items) }
-        ensures fewer { IfOk result (λ marked. marked ≡ true → length (left_in left.new) < length (left_in left.old)) }
+        ensures fewer { IfOk result (λ marked. marked ≡ true
+            → length (left_in left.new) < length (left_in left.old)) }
         ensures all { IfOk result (λ marked. marked ≡ false → left_in left.new ≡ []) }
     {
         let Some(kind) = self.deframer.feed_octets(left) else {
@@ -80,7 +82,8 @@ fn add_line(
     out: &mut Vec<u8>,
 ) -> Result<(), AllocError>
     ensures { out.new.items
-        ≡ out.old.items ++ (if is_ok result then mark_text (marked kind (unit_of deframer.now)) else []) }
+        ≡ out.old.items
+        ++ (if is_ok result then mark_text (marked kind (unit_of deframer.now)) else []) }
 {
     text.clear();
     match push_mark(kind, deframer.unit(), text) {
@@ -91,7 +94,8 @@ fn add_line(
 
 /// One mark more. An input of the program has too few for a count to end at its type's last number.
 fn counted(counts: MarkCounts, kind: MarkKind) -> MarkCounts
-    ensures { (marks : List Mark) (octets : List ℕ) → length marks + 1 < 2 ^ 64 → counts ≡ counts_of marks
+    ensures { (marks : List Mark) (octets : List ℕ) → length marks + 1 < 2 ^ 64
+        → counts ≡ counts_of marks
         → result ≡ counts_of (marks ++ marked kind octets ∷ []) }
 {
     let mut counts = counts;

@@ -30,7 +30,8 @@ pub(crate) fn push_mark(kind: MarkKind, octets: &[u8], text: &mut Vec<u8>) -> Re
 
 /// Adds the line of octets that check: their unit, or what is wrong with them.
 fn push_good(octets: &[u8], text: &mut Vec<u8>) -> Result<(), AllocError>
-    ensures { OnOk result (text.new.items ≡ text.old.items ++ good_text (unit_of octets.now) octets.now) }
+    ensures { OnOk result (text.new.items
+        ≡ text.old.items ++ good_text (unit_of octets.now) octets.now) }
 {
     match read(octets) {
         Ok(unit) => push_unit(&unit, text),
@@ -40,7 +41,8 @@ fn push_good(octets: &[u8], text: &mut Vec<u8>) -> Result<(), AllocError>
 
 /// Adds the line of octets that check and are no unit, by the number of what is wrong with them.
 fn push_fault(number: u8, text: &mut Vec<u8>) -> Result<(), AllocError>
-    ensures { OnOk result (text.new.items ≡ text.old.items ++ (codes "good fault=" ++ (decimal number ++ codes "\n"))) }
+    ensures { OnOk result (text.new.items
+        ≡ text.old.items ++ (codes "good fault=" ++ (decimal number ++ codes "\n"))) }
 {
     text.extend_from_slice(b"good fault=")?;
     push_number(number, text)?;

@@ -7,13 +7,13 @@ use Rattle.units_text.proofs.digits.Digits.take.Goals as goal
 next : (old new : ℕ) → new ≡ min (old + 1) 18446744073709551615 → old + 1 < 2 ^ 64 → new ≡ old + 1
 next old new e fits = omega (arith, e, fits)
 
-pub returns-then-is_blank : goal.returns-then-is_blank
-returns-then-is_blank c =
-    decodes_blank c.args.self.now _ c.args.c c.args.octets.now.items (sym c.in_default.ensures) (sym c.is_blank.ensures ∙ c.if-is_blank.true) refl
+pub returns-then-is_skipped : goal.returns-then-is_skipped
+returns-then-is_skipped c =
+    decodes_blank c.args.self.now _ c.args.c c.args.octets.now.items (sym c.in_default.ensures) (sym c.is_skipped.ensures ∙ c.if-is_skipped.true) refl
     (next c.args.self.now.place c.saturating_add-self.result c.saturating_add-self.ensures)
 
 pub returns-in_default : goal.returns-in_default
-returns-in_default c = halts_bad c.args.self.now c.args.c c.args.octets.now.items (sym c.is_blank.ensures ∙ c.if-is_blank.false) (sym c.in_default.ensures)
+returns-in_default c = halts_bad c.args.self.now c.args.c c.args.octets.now.items (sym c.is_skipped.ensures ∙ c.if-is_skipped.false) (sym c.in_default.ensures)
 
 pub returns-in_default-high : goal.returns-in_default-high
 returns-in_default-high c =
