@@ -44,11 +44,13 @@ octets_of (c ∷ d ∷ cs) = octet_before (hex_value c) (hex_value d) (octets_of
 
 -- a number below a bound
 abbrev pub number_below : ℕ → List ℕ → Option ℕ
-number_below bound word = option_and_then (λ n. if nat_lt n bound then Some n else None) (number_of word)
+number_below bound word =
+    option_and_then (λ n. if nat_lt n bound then Some n else None) (number_of word)
 
 -- one octet, in two digits
 abbrev pub octet_of : List ℕ → Option ℕ
-octet_of (c ∷ d ∷ []) = option_and_then (λ high. option_map (λ low. 16 * high + low) (hex_value d)) (hex_value c)
+octet_of (c ∷ d ∷ []) =
+    option_and_then (λ high. option_map (λ low. 16 * high + low) (hex_value d)) (hex_value c)
 octet_of (c ∷ d ∷ e ∷ more) = None
 octet_of (c ∷ []) = None
 octet_of [] = None

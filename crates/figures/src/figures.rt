@@ -34,7 +34,8 @@ fn value_of(word: &[u8]) -> Option<u64>
 
 /// The value with one decimal digit more behind it, if it's below 2^64.
 fn with_digit(value: u64, c: u8) -> Option<u64>
-    ensures { MatchOption result (NoDigitFits value c) (λ next. (is_digit c ≡ true) × (next ≡ 10 * value + (c - 48))) }
+    ensures { MatchOption result (NoDigitFits value c)
+        (λ next. (is_digit c ≡ true) × (next ≡ 10 * value + (c - 48))) }
 {
     if c < b'0' || c > b'9' {
         return None;
@@ -78,7 +79,8 @@ pub fn read_octet(word: &[u8]) -> Option<u8>
 
 /// The octets of hexadecimal digits, two each.
 pub fn read_octets(alloc: Global, word: &[u8]) -> Result<Option<Vec<u8>>, AllocError>
-    ensures { IfOk result (λ found. option_map (λ octets. octets.items) found ≡ octets_of word.now) }
+    ensures { IfOk result (λ found. option_map (λ octets. octets.items) found
+        ≡ octets_of word.now) }
 {
     if word.len() % 2 == 1 {
         return Ok(None);
