@@ -83,7 +83,8 @@ surplus words = unwrap_or (odd_in (first_word words)) Surplus
 
 -- a word is missing: the place is right behind the line
 abbrev pub missing : Kind → ℕ → Mistake → Option Blame
-missing kind size short = if may_miss kind then None else Some (record { column = size; mistake = short })
+missing kind size short =
+    if may_miss kind then None else Some (record { column = size; mistake = short })
 
 abbrev pub or_else : Option Mistake → ℕ → List ℕ → Option Blame → Option Blame
 or_else (Some mistake) size words rest = Some (blame_of size words mistake)
@@ -95,12 +96,14 @@ misread short size [] None = None
 misread short size [] (Some words) = Some (blame_of size words (surplus words))
 misread short size (kind ∷ kinds) None = missing kind size short
 misread short size (kind ∷ kinds) (Some words) =
-    or_else (mistake_in kind (first_word words)) size words (misread short size kinds (other_words words))
+    or_else (mistake_in kind (first_word words)) size words
+    (misread short size kinds (other_words words))
 
 -- THE WORD AT FAULT, if any
 
 abbrev pub wrong_name : List ℕ → Mistake
-wrong_name name = unwrap_or (odd_in name) (if bytes_eq name (codes "set") then SecondSet else UnknownWord)
+wrong_name name =
+    unwrap_or (odd_in name) (if bytes_eq name (codes "set") then SecondSet else UnknownWord)
 
 abbrev pub name_blamed : Mistake → Option Blame
 name_blamed mistake = Some (record { column = 0; mistake = mistake })
@@ -112,7 +115,8 @@ blamed_as (Some form) name size words = misread (wants form) size (kinds_of form
 
 -- of a line after the first
 abbrev pub blamed_step : List ℕ → Option Blame
-blamed_step text = blamed_as (form_of (first_word text)) (first_word text) (length text) (other_words text)
+blamed_step text =
+    blamed_as (form_of (first_word text)) (first_word text) (length text) (other_words text)
 
 abbrev pub not_set : List ℕ → Mistake
 not_set name = unwrap_or (odd_in name) NotSet

@@ -21,7 +21,8 @@ words_from (suc place) words = words_from place (behind words)
 abbrev pub why_not : ℕ → Step → ℕ × Mistake
 why_not links (Together link) = (1, (if nat_lt link links then NotSettled else NoSuchLink))
 why_not links (Arrive end link) = (2, (if nat_lt link links then NothingUnderWay else NoSuchLink))
-why_not links (Lose end link place) = if nat_lt link links then (3, NoUnitThere) else (2, NoSuchLink)
+why_not links (Lose end link place) =
+    if nat_lt link links then (3, NoUnitThere) else (2, NoSuchLink)
 why_not links (Act end event) = (2, NoSuchLink)
 why_not links (Emit end link) = (2, NoSuchLink)
 why_not links (Inject end link unit) = (2, NoSuchLink)

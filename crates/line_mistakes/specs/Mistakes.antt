@@ -64,7 +64,8 @@ odd_in word =
 
 -- a word NAME=VALUE with another name, or with another value
 abbrev pub wrong_value : List ℕ → Mistake → Mistake → List ℕ → Mistake
-wrong_value name other_name other_value word = if is_some (value_in name word) then other_value else other_name
+wrong_value name other_name other_value word =
+    if is_some (value_in name word) then other_value else other_name
 
 abbrev pub wrong_sio : List ℕ → Mistake
 wrong_sio word =
@@ -77,12 +78,14 @@ is_hex c = is_some (hex_value c)
 -- digits, one too many; or this, where they are octets
 abbrev pub wrong_digits : List ℕ → Mistake → Mistake
 wrong_digits word other =
-    if list_all is_hex word then (if length word % 2 == 1 then OddDigits else other) else NotHexadecimal
+    if list_all is_hex word then (if length word % 2 == 1 then OddDigits else other)
+    else NotHexadecimal
 
 -- a unit of 3 to 276 octets (Q.703 2.2, 2.3) is at fault in its length indicator
 abbrev pub wrong_length : List ℕ → Mistake
 wrong_length word =
-    if nat_lt (length word) 6 then UnitShort else (if nat_lt 552 (length word) then UnitLong else UnitLength)
+    if nat_lt (length word) 6 then UnitShort
+    else (if nat_lt 552 (length word) then UnitLong else UnitLength)
 
 abbrev pub wrong_word : Kind → List ℕ → Mistake
 wrong_word Links word = wrong_value (codes "links=") LinksName LinksRange word

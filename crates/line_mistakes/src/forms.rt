@@ -1,6 +1,6 @@
 //! The forms of a script's lines: which words each wants.
 ghost use Rattle.std.specs.Prelude.{◌≡◌};
-ghost use Rattle.line_mistakes.specs.Blaming.{form_of as form_in, kinds_of as kinds_in, is_on_link as is_on_link_in, wants as wants_in, may_miss as may_miss_in, opening_kinds};
+ghost use Rattle.line_mistakes.specs.Blaming.{form_of, kinds_of, is_on_link, wants, may_miss, opening_kinds};
 
 use super::mistake::Mistake;
 use super::words::Kind;
@@ -26,8 +26,8 @@ pub enum Form {
 }
 
 /// The form of the lines that begin with this word, if there is one.
-pub(crate) fn form_of(name: &[u8]) -> Option<Form>
-    ensures { result ≡ form_in name.now }
+pub(crate) fn find_form(name: &[u8]) -> Option<Form>
+    ensures { result ≡ form_of name.now }
 {
     if is_word(name, b"together") {
         Some(Form::Together)
@@ -41,7 +41,7 @@ pub(crate) fn form_of(name: &[u8]) -> Option<Form>
         Some(Form::Lose)
     } else if is_word(name, b"hear") {
         Some(Form::Hear)
-    } else if is_on_link(name) {
+    } else if wants_end_and_link(name) {
         Some(Form::OnLink)
     } else {
         None
@@ -49,8 +49,8 @@ pub(crate) fn form_of(name: &[u8]) -> Option<Form>
 }
 
 /// Whether lines with this word want an end and a link, and nothing else.
-fn is_on_link(name: &[u8]) -> bool
-    ensures { result ≡ is_on_link_in name.now }
+fn wants_end_and_link(name: &[u8]) -> bool
+    ensures { result ≡ is_on_link name.now }
 {
     is_word(name, b"emit")
         || is_word(name, b"arrive")
@@ -62,8 +62,8 @@ fn is_on_link(name: &[u8]) -> bool
 }
 
 /// What each word behind the first has to be.
-pub(crate) fn kinds_of(form: Form) -> &'static [Kind]
-    ensures { result.now ≡ kinds_in form }
+pub(crate) fn kinds_of_form(form: Form) -> &'static [Kind]
+    ensures { result.now ≡ kinds_of form }
 {
     match form {
         Form::Together => &[Kind::Link],
@@ -77,8 +77,8 @@ pub(crate) fn kinds_of(form: Form) -> &'static [Kind]
 }
 
 /// The mistake of a line in which a word is missing.
-pub(crate) fn wants(form: Form) -> Mistake
-    ensures { result ≡ wants_in form }
+pub(crate) fn mistake_if_short(form: Form) -> Mistake
+    ensures { result ≡ wants form }
 {
     match form {
         Form::Together => Mistake::TogetherWants,
@@ -92,8 +92,8 @@ pub(crate) fn wants(form: Form) -> Mistake
 }
 
 /// Whether a line may end before a word of this kind: `offer` does before its octets, where the body is empty.
-pub(crate) fn may_miss(kind: Kind) -> bool
-    ensures { result ≡ may_miss_in kind }
+pub(crate) fn may_end_before(kind: Kind) -> bool
+    ensures { result ≡ may_miss kind }
 {
     match kind {
         Kind::Octets => true,

@@ -1,6 +1,6 @@
 //! Why a step can't be done.
 ghost use Rattle.std.specs.Prelude.{◌≡◌};
-ghost use Rattle.line_mistakes.specs.Impossible.{blamed_impossible, why_not as why_not_in, words_from as words_from_in, behind as behind_in};
+ghost use Rattle.line_mistakes.specs.Impossible.{blamed_impossible, why_not, words_from, behind};
 
 use super::lines::Blame;
 use super::mistake::Mistake;
@@ -13,16 +13,16 @@ use world_steps::Step;
 pub fn blame_impossible(links: u8, step: &Step, text: &[u8]) -> Blame
     ensures { result ≡ blamed_impossible links step.now text.now }
 {
-    let (place, mistake) = why_not(links, step);
+    let (place, mistake) = find_reason(links, step);
     Blame {
-        column: text.len().saturating_sub(words_from(place, text).len()),
+        column: text.len().saturating_sub(skip_words(place, text).len()),
         mistake,
     }
 }
 
 /// Why this step can't be done with so many links, and which word of its line says so, from 0.
-fn why_not(links: u8, step: &Step) -> (u8, Mistake)
-    ensures { result ≡ why_not_in links step.now }
+fn find_reason(links: u8, step: &Step) -> (u8, Mistake)
+    ensures { result ≡ why_not links step.now }
 {
     match step {
         Step::Together { link } if *link < links => (1, Mistake::NotSettled),
@@ -38,20 +38,20 @@ fn why_not(links: u8, step: &Step) -> (u8, Mistake)
 }
 
 /// The words from this one on, from 0; none where there are fewer.
-fn words_from(place: u8, text: &[u8]) -> &[u8]
-    ensures { result.now ≡ words_from_in place text.now }
+fn skip_words(place: u8, text: &[u8]) -> &[u8]
+    ensures { result.now ≡ words_from place text.now }
 {
     let mut words = text;
     for passed in 0..place {
         let _ = passed;
-        words = behind(words);
+        words = skip_word(words);
     }
     words
 }
 
 /// The words behind the first; none where there is no other.
-fn behind(words: &[u8]) -> &[u8]
-    ensures { result.now ≡ behind_in words.now }
+fn skip_word(words: &[u8]) -> &[u8]
+    ensures { result.now ≡ behind words.now }
 {
     match cut(words) {
         (_, Some(others)) => others,

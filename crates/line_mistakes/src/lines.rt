@@ -1,11 +1,11 @@
 //! Which word of a line is at fault.
 ghost use Rattle.std.specs.Prelude.{◌≡◌, ◌≤◌, IfOk, OnSome, length};
 ghost use Rattle.std.specs.Option.{option_copied, ForSome};
-ghost use Rattle.line_mistakes.specs.Blaming.{blame_of, blamed_opening, blamed_step, misread as misread_in, missing as missing_in, surplus as surplus_in, not_set as not_set_in, wrong_name as wrong_name_in};
+ghost use Rattle.line_mistakes.specs.Blaming.{blame_of, blamed_opening, blamed_step, misread, missing, surplus, not_set, wrong_name};
 
-use super::forms::{form_of, kinds_of, kinds_of_opening, may_miss, wants};
+use super::forms::{find_form, kinds_of_form, kinds_of_opening, may_end_before, mistake_if_short};
 use super::mistake::Mistake;
-use super::words::{Kind, mistake_in, odd};
+use super::words::{Kind, judge_word, odd};
 use play_script::{cut, is_word};
 use std::alloc::{AllocError, Global};
 
@@ -27,10 +27,10 @@ pub fn blame_opening(alloc: Global, text: &[u8]) -> Result<Option<Blame>, AllocE
     if !is_word(name, b"set") {
         return Ok(Some(Blame {
             column: 0,
-            mistake: not_set(name),
+            mistake: judge_opening_word(name),
         }));
     }
-    misread(
+    blame_words(
         alloc,
         text.len(),
         Mistake::OpeningShort,
@@ -45,18 +45,24 @@ pub fn blame_step(alloc: Global, text: &[u8]) -> Result<Option<Blame>, AllocErro
     ensures { IfOk result (λ blame. blame ≡ blamed_step text.now) }
 {
     let (name, words) = cut(text);
-    match form_of(name) {
-        Some(form) => misread(alloc, text.len(), wants(form), kinds_of(form), words),
+    match find_form(name) {
+        Some(form) => blame_words(
+            alloc,
+            text.len(),
+            mistake_if_short(form),
+            kinds_of_form(form),
+            words,
+        ),
         None => Ok(Some(Blame {
             column: 0,
-            mistake: wrong_name(name),
+            mistake: judge_first_word(name),
         })),
     }
 }
 
 /// What is wrong with a first word that isn't `set`, where that is wanted.
-fn not_set(name: &[u8]) -> Mistake
-    ensures { result ≡ not_set_in name.now }
+fn judge_opening_word(name: &[u8]) -> Mistake
+    ensures { result ≡ not_set name.now }
 {
     match odd(name) {
         Some(mistake) => mistake,
@@ -65,8 +71,8 @@ fn not_set(name: &[u8]) -> Mistake
 }
 
 /// What is wrong with a first word that no line after the first has.
-fn wrong_name(name: &[u8]) -> Mistake
-    ensures { result ≡ wrong_name_in name.now }
+fn judge_first_word(name: &[u8]) -> Mistake
+    ensures { result ≡ wrong_name name.now }
 {
     match odd(name) {
         Some(mistake) => mistake,
@@ -76,37 +82,38 @@ fn wrong_name(name: &[u8]) -> Mistake
 }
 
 /// What is wrong with the words behind the first of a line of this size, which have to be of these kinds.
-fn misread(
+fn blame_words(
     alloc: Global,
     size: usize,
     short: Mistake,
     kinds: &[Kind],
     words: Option<&[u8]>,
 ) -> Result<Option<Blame>, AllocError>
-    ensures { IfOk result (λ blame. blame ≡ misread_in short size kinds.now (option_copied words.entry)) }
+    ensures { IfOk result (λ blame. blame
+        ≡ misread short size kinds.now (option_copied words.entry)) }
 {
     let mut left = words;
     for kind in kinds {
         let Some(words) = left else {
-            return Ok(missing(*kind, size, short));
+            return Ok(blame_missing(*kind, size, short));
         };
         let (word, others) = cut(words);
-        if let Some(mistake) = mistake_in(alloc, *kind, word)? {
+        if let Some(mistake) = judge_word(alloc, *kind, word)? {
             return Ok(Some(blame_at(size, words, mistake)));
         }
         left = others;
     }
     match left {
-        Some(words) => Ok(Some(blame_at(size, words, surplus(words)))),
+        Some(words) => Ok(Some(blame_at(size, words, judge_surplus(words)))),
         None => Ok(None),
     }
 }
 
 /// What is wrong where the line ends before a word of this kind.
-fn missing(kind: Kind, size: usize, short: Mistake) -> Option<Blame>
-    ensures { result ≡ missing_in kind size short }
+fn blame_missing(kind: Kind, size: usize, short: Mistake) -> Option<Blame>
+    ensures { result ≡ missing kind size short }
 {
-    if may_miss(kind) {
+    if may_end_before(kind) {
         None
     } else {
         Some(Blame {
@@ -117,8 +124,8 @@ fn missing(kind: Kind, size: usize, short: Mistake) -> Option<Blame>
 }
 
 /// What is wrong with words that no kind is left for.
-fn surplus(words: &[u8]) -> Mistake
-    ensures { result ≡ surplus_in words.now }
+fn judge_surplus(words: &[u8]) -> Mistake
+    ensures { result ≡ surplus words.now }
 {
     let (word, _) = cut(words);
     match odd(word) {

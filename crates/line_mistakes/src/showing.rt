@@ -1,9 +1,9 @@
 //! A line, shown with a caret under the word at fault.
 ghost use Rattle.std.specs.Prelude.{◌≡◌, ◌≤◌, ◌<◌, ◌++◌, ◌∷◌, [], ◌-◌, IfOk, codes, decimal, replicate, string_bytes, take, drop, map, length};
-ghost use Rattle.line_mistakes.specs.Showing.{explanation, front_mark, back_mark, shown as shown_part, plain as plain_octet, shown_line, caret_line};
+ghost use Rattle.line_mistakes.specs.Showing.{explanation, front_mark, back_mark, plain, shown_line, caret_line};
 
 use super::lines::Blame;
-use super::words::is_plain;
+use super::words::is_printable;
 use std::alloc::{AllocError, Global};
 
 /// The most columns that stand before the caret.
@@ -29,7 +29,7 @@ fn line_shown(alloc: Global, column: usize, text: &[u8]) -> Result<String, Alloc
 {
     let behind = from(column.saturating_sub(BEFORE), text);
     let front = mark_before(column);
-    let part = shown(alloc, cut(behind))?;
+    let part = show_octets(alloc, cut(behind))?;
     let back = mark_behind(behind);
     format!(in alloc; "{front}{part}{back}")
 }
@@ -64,22 +64,22 @@ fn cut(text: &[u8]) -> &[u8]
 }
 
 /// Octets as they are shown.
-fn shown(alloc: Global, octets: &[u8]) -> Result<String, AllocError>
-    ensures { IfOk result (λ part. string_bytes part ≡ map plain_octet octets.now) }
+fn show_octets(alloc: Global, octets: &[u8]) -> Result<String, AllocError>
+    ensures { IfOk result (λ part. string_bytes part ≡ map plain octets.now) }
 {
     let mut part = String::new(alloc);
     for octet in octets {
-        part.push(plain(*octet) as char)?;
+        part.push(show_octet(*octet) as char)?;
     }
     Ok(part)
 }
 
 /// The character that an octet is shown as: itself if it's a printable one of ASCII, else a dot.
-fn plain(octet: u8) -> u8
-    ensures shown { result ≡ plain_octet octet }
+fn show_octet(octet: u8) -> u8
+    ensures shown { result ≡ plain octet }
     ensures ascii { result < 128 }
 {
-    if is_plain(octet) { octet } else { b'.' }
+    if is_printable(octet) { octet } else { b'.' }
 }
 
 /// A caret under this column of the line that is shown around it.

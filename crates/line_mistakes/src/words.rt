@@ -1,6 +1,6 @@
 //! What a word of a line has to be, and what is wrong with one that isn't.
 ghost use Rattle.std.specs.Prelude.{◌≡◌, IfOk, codes};
-ghost use Rattle.line_mistakes.specs.Mistakes.{mistake_in as mistake_of, is_kind as is_of_kind, wrong as wrong_in, odd_in, wrong_word as wrong_word_in, wrong_value, wrong_digits, wrong_sio as wrong_sio_in, wrong_length as wrong_length_in, has_links, is_point_code, is_orders_sio, is_met, is_plain as is_plain_octet, is_hex, is_cr};
+ghost use Rattle.line_mistakes.specs.Mistakes.{mistake_in, is_kind, wrong, odd_in, wrong_word, wrong_value, wrong_digits, wrong_sio, wrong_length, has_links, is_point_code, is_orders_sio, is_met, is_plain, is_hex, is_cr};
 ghost use Rattle.std.specs.List.{list_any, list_all};
 
 use super::mistake::Mistake;
@@ -38,23 +38,23 @@ pub enum Kind {
 }
 
 /// What is wrong with a word that has to be of this kind, if anything; it fails only where memory is wanted.
-pub(crate) fn mistake_in(
+pub(crate) fn judge_word(
     alloc: Global,
     kind: Kind,
     word: &[u8],
 ) -> Result<Option<Mistake>, AllocError>
-    ensures { IfOk result (λ mistake. mistake ≡ mistake_of kind word.now) }
+    ensures { IfOk result (λ mistake. mistake ≡ mistake_in kind word.now) }
 {
-    if is_kind(alloc, kind, word)? {
+    if is_of_kind(alloc, kind, word)? {
         Ok(None)
     } else {
-        Ok(Some(wrong(kind, word)))
+        Ok(Some(judge_misfit(kind, word)))
     }
 }
 
 /// Whether a word is of this kind.
-fn is_kind(alloc: Global, kind: Kind, word: &[u8]) -> Result<bool, AllocError>
-    ensures { IfOk result (λ is. is ≡ is_of_kind kind word.now) }
+fn is_of_kind(alloc: Global, kind: Kind, word: &[u8]) -> Result<bool, AllocError>
+    ensures { IfOk result (λ is. is ≡ is_kind kind word.now) }
 {
     match kind {
         Kind::Links => Ok(are_links(read_links(word))),
@@ -111,35 +111,35 @@ fn is_management(sio: Option<u8>) -> bool
 }
 
 /// What is wrong with a word that isn't of this kind.
-fn wrong(kind: Kind, word: &[u8]) -> Mistake
-    ensures { result ≡ wrong_in kind word.now }
+fn judge_misfit(kind: Kind, word: &[u8]) -> Mistake
+    ensures { result ≡ wrong kind word.now }
 {
     match odd(word) {
         Some(mistake) => mistake,
-        None => wrong_word(kind, word),
+        None => judge_plain_word(kind, word),
     }
 }
 
 /// What is wrong with a word of octets that words have, which isn't of this kind.
-fn wrong_word(kind: Kind, word: &[u8]) -> Mistake
-    ensures { result ≡ wrong_word_in kind word.now }
+fn judge_plain_word(kind: Kind, word: &[u8]) -> Mistake
+    ensures { result ≡ wrong_word kind word.now }
 {
     match kind {
-        Kind::Links => wrong_behind(b"links=", word, Mistake::LinksName, Mistake::LinksRange),
-        Kind::Method => wrong_behind(
+        Kind::Links => judge_value(b"links=", word, Mistake::LinksName, Mistake::LinksRange),
+        Kind::Method => judge_value(
             b"method=cyclic:",
             word,
             Mistake::MethodName,
             Mistake::MethodLimits,
         ),
-        Kind::CodeA => wrong_behind(b"a=", word, Mistake::CodeAName, Mistake::CodeRange),
-        Kind::CodeB => wrong_behind(b"b=", word, Mistake::CodeBName, Mistake::CodeRange),
-        Kind::Sio => wrong_sio(word),
+        Kind::CodeA => judge_value(b"a=", word, Mistake::CodeAName, Mistake::CodeRange),
+        Kind::CodeB => judge_value(b"b=", word, Mistake::CodeBName, Mistake::CodeRange),
+        Kind::Sio => judge_sio(word),
         Kind::End => Mistake::End,
         Kind::Link => Mistake::Link,
         Kind::Number => Mistake::Number,
-        Kind::Octets => wrong_octets(word, Mistake::OddDigits),
-        Kind::Unit => wrong_unit(word),
+        Kind::Octets => judge_octets(word, Mistake::OddDigits),
+        Kind::Unit => judge_unit(word),
     }
 }
 
@@ -167,20 +167,20 @@ fn has_cr(word: &[u8]) -> bool
 
 /// Whether it's printable characters of ASCII alone.
 fn are_plain(word: &[u8]) -> bool
-    ensures { result ≡ list_all is_plain_octet word.now }
+    ensures { result ≡ list_all is_plain word.now }
 {
-    word.iter().all(|c| is_plain(*c))
+    word.iter().all(|c| is_printable(*c))
 }
 
 /// Whether it's a printable character of ASCII.
-pub(crate) fn is_plain(octet: u8) -> bool
-    ensures { result ≡ is_plain_octet octet }
+pub(crate) fn is_printable(octet: u8) -> bool
+    ensures { result ≡ is_plain octet }
 {
     octet >= 32 && octet <= 126
 }
 
 /// What is wrong with a word NAME=VALUE: another name, or another value.
-fn wrong_behind(name: &[u8], word: &[u8], other_name: Mistake, other_value: Mistake) -> Mistake
+fn judge_value(name: &[u8], word: &[u8], other_name: Mistake, other_value: Mistake) -> Mistake
     ensures { result ≡ wrong_value name.now other_name other_value word.now }
 {
     if value_in_word(name, word).is_some() {
@@ -191,18 +191,18 @@ fn wrong_behind(name: &[u8], word: &[u8], other_name: Mistake, other_value: Mist
 }
 
 /// What is wrong with the word of the SIO.
-fn wrong_sio(word: &[u8]) -> Mistake
-    ensures { result ≡ wrong_sio_in word.now }
+fn judge_sio(word: &[u8]) -> Mistake
+    ensures { result ≡ wrong_sio word.now }
 {
     if read_sio(word).is_some() {
         Mistake::SioIndicator
     } else {
-        wrong_behind(b"sio=", word, Mistake::SioName, Mistake::SioDigits)
+        judge_value(b"sio=", word, Mistake::SioName, Mistake::SioDigits)
     }
 }
 
 /// What is wrong with octets: their digits, or this.
-fn wrong_octets(word: &[u8], other: Mistake) -> Mistake
+fn judge_octets(word: &[u8], other: Mistake) -> Mistake
     ensures { result ≡ wrong_digits word.now other }
 {
     if !are_digits(word) {
@@ -215,15 +215,15 @@ fn wrong_octets(word: &[u8], other: Mistake) -> Mistake
 }
 
 /// What is wrong with the octets of a unit (Q.703 2.2, 2.3).
-fn wrong_unit(word: &[u8]) -> Mistake
-    ensures { result ≡ wrong_digits word.now (wrong_length_in word.now) }
+fn judge_unit(word: &[u8]) -> Mistake
+    ensures { result ≡ wrong_digits word.now (wrong_length word.now) }
 {
-    wrong_octets(word, wrong_length(word))
+    judge_octets(word, judge_length(word))
 }
 
 /// What is wrong with a unit whose digits are octets.
-fn wrong_length(word: &[u8]) -> Mistake
-    ensures { result ≡ wrong_length_in word.now }
+fn judge_length(word: &[u8]) -> Mistake
+    ensures { result ≡ wrong_length word.now }
 {
     if word.len() < 6 {
         Mistake::UnitShort

@@ -1,6 +1,6 @@
 use Rattle.std.proofs.Common.{◌≡◌, take, map, string_bytes}
 use Rattle.line_mistakes.specs.Showing.{plain}
-use Rattle.line_mistakes.proofs.showing.shown.Given as goal
+use Rattle.line_mistakes.proofs.showing.show_octets.Given as goal
 
 -- so many octets are shown
 abbrev pub invariant-loop-octet : goal.invariant-loop-octet

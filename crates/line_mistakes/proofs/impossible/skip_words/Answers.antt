@@ -1,9 +1,9 @@
 use Rattle.std.proofs.Common.{◌≡◌, ◌∙◌, ap, ◌-◌, ◌+◌, suc, sym, ℕ, arith}
 use Rattle.line_mistakes.specs.Impossible.{words_from}
-use Rattle.line_mistakes.proofs.impossible.words_from.Goals as goal
+use Rattle.line_mistakes.proofs.impossible.skip_words.Goals as goal
 
 pub loop-passed-preserved : goal.loop-passed-preserved
 loop-passed-preserved c =
     let k = c.args.place - (c.loop-passed.passed + 1) in
     let one_more : c.args.place - c.loop-passed.passed ≡ suc k = omega arith in
-    c.loop-passed.invariant ∙ ap (λ (n : ℕ). words_from n c.loop-passed.words.now) one_more ∙ ap (λ w. words_from k w) (sym c.behind-words.ensures)
+    c.loop-passed.invariant ∙ ap (λ (n : ℕ). words_from n c.loop-passed.words.now) one_more ∙ ap (λ w. words_from k w) (sym c.skip_word-words.ensures)

@@ -1,7 +1,7 @@
 use Rattle.std.proofs.Common.{◌≡◌, drop}
 use Rattle.std.specs.Option.{option_copied}
 use Rattle.line_mistakes.specs.Blaming.{misread}
-use Rattle.line_mistakes.proofs.lines.misread.Given as goal
+use Rattle.line_mistakes.proofs.lines.blame_words.Given as goal
 
 -- the words that are left say what is wrong
 abbrev pub invariant-loop-kind : goal.invariant-loop-kind

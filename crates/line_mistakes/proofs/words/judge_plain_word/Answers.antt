@@ -1,0 +1,4 @@
+use Rattle.line_mistakes.proofs.words.judge_plain_word.Goals as goal
+
+pub returns-in-Method : goal.returns-in-Method
+returns-in-Method c = rw c.in-Method.is c.judge_value-in-Method.ensures
