@@ -22,7 +22,8 @@ behind printed p = record { printed = printed ++ p.printed; fault = p.fault }
 
 -- what was printed is the beginning of the text
 abbrev pub IsBegun : {F : Type 0} → (Printed F → Type 0) → List ℕ → Type 0
-IsBegun {F} IsIt printed = (text : Printed F) → IsIt text → (more : List ℕ) × (text.printed ≡ printed ++ more)
+IsBegun {F} IsIt printed =
+    (text : Printed F) → IsIt text → (more : List ℕ) × (text.printed ≡ printed ++ more)
 
 -- the text ends with this fault, and all of it was printed; where memory was wanted, it was begun
 abbrev pub StopsIn : {F : Type 0} → Stop F → (Printed F → Type 0) → List ℕ → Type 0
@@ -91,8 +92,8 @@ abbrev pub IsWhole : {F : Type 0} → (Printed F → Type 0) → List ℕ → Ty
 IsWhole IsIt printed = IsIt (record { printed = printed; fault = None })
 
 -- nothing is left to read, and what the text prints then was added
-pub record Ends {F : Type 0} (IsText : Texts F) (result : Result (Unit {0}) (Stop F)) (HadRead : Progress)
-    (before after : List ℕ) : Type 0 where
+pub record Ends {F : Type 0} (IsText : Texts F) (result : Result (Unit {0}) (Stop F))
+    (HadRead : Progress) (before after : List ℕ) : Type 0 where
   pub printed : List ℕ
   pub added : after ≡ before ++ printed
   pub ends : (past lines : List ℕ) → length past ≤ 2 ^ 24 → HadRead past lines
@@ -105,7 +106,8 @@ pub record Ends {F : Type 0} (IsText : Texts F) (result : Result (Unit {0}) (Sto
 -- The same onto what was written, where that is known.
 
 -- octets were written: all of them, or, after a failure, a prefix of them
-pub record Writes (result : Result (Unit {0}) DeviceFault) (octets : List ℕ) (old new : Option (List ℕ)) : Type 0 where
+pub record Writes (result : Result (Unit {0}) DeviceFault) (octets : List ℕ)
+    (old new : Option (List ℕ)) : Type 0 where
   pub written : List ℕ
   pub more : List ℕ
   pub split : octets ≡ written ++ more
@@ -123,8 +125,8 @@ pub record Passes {F : Type 0} (IsText : Texts F) (HadRead : Progress) (octets :
       → (left : List ℕ) → IsBegun (IsText (past ++ (octets ++ left))) (lines ++ printed)
 
 -- among these octets the text ended with a fault, after what was written
-pub record Breaks {F : Type 0} (IsText : Texts F) (fault : Fault F) (HadRead : Progress) (octets : List ℕ)
-    (before after : Option (List ℕ)) : Type 0 where
+pub record Breaks {F : Type 0} (IsText : Texts F) (fault : Fault F) (HadRead : Progress)
+    (octets : List ℕ) (before after : Option (List ℕ)) : Type 0 where
   pub printed : List ℕ
   pub added : Appends before after printed
   pub ends : (past lines : List ℕ) → length past + length octets ≤ 2 ^ 24 → HadRead past lines
@@ -138,13 +140,14 @@ PassesOrBreaks IsText result HadRead octets before after HasRead =
     (λ fault. Breaks IsText fault HadRead octets before after)
 
 -- the text was printed to its end, or a fault ended it
-abbrev pub IsEnd : {F : Type 0} → Result (Unit {0}) (Fault F) → (Printed F → Type 0) → List ℕ → Type 0
+abbrev pub IsEnd : {F : Type 0} → Result (Unit {0}) (Fault F) → (Printed F → Type 0) → List ℕ
+    → Type 0
 IsEnd result IsIt printed =
     MatchResult result (λ done. IsWhole IsIt printed) (λ fault. EndsIn fault IsIt printed)
 
 -- nothing is left to read, and what the text prints then was written
-pub record Closes {F : Type 0} (IsText : Texts F) (result : Result (Unit {0}) (Fault F)) (HadRead : Progress)
-    (before after : Option (List ℕ)) : Type 0 where
+pub record Closes {F : Type 0} (IsText : Texts F) (result : Result (Unit {0}) (Fault F))
+    (HadRead : Progress) (before after : Option (List ℕ)) : Type 0 where
   pub printed : List ℕ
   pub added : Appends before after printed
   pub ends : (past lines : List ℕ) → length past ≤ 2 ^ 24 → HadRead past lines
@@ -169,6 +172,7 @@ abbrev pub HasFailed : Bool → List ℕ → Type 0
 HasFailed failed input = (failed ≡ true) ⊎ (2 ^ 24 ≤ length input)
 
 -- which devices have failed, and the input that was there
-abbrev pub FailsByDevices : {F : Type 0} → Result (Unit {0}) (Fault F) → Bool → Bool → List ℕ → Type 0
+abbrev pub FailsByDevices : {F : Type 0} → Result (Unit {0}) (Fault F) → Bool → Bool → List ℕ
+    → Type 0
 FailsByDevices result reader_failed writer_failed input =
     IfErr result (λ fault. IsDevices fault (HasFailed reader_failed input) (writer_failed ≡ true))

@@ -1,7 +1,7 @@
 //! Why a text ended before its end.
 
 ghost use Rattle.std.specs.Prelude.{◌≡◌};
-ghost use Rattle.printing.specs.Printing.{fault_of as fault_in};
+ghost use Rattle.printing.specs.Printing.{fault_of};
 
 use std::fmt::Display;
 use thiserror::Error;
@@ -35,8 +35,8 @@ pub enum Fault<T> {
 }
 
 /// What a printer that reads no more makes of the whole.
-pub(crate) fn fault_of<T>(stop: Stop<T>) -> Fault<T>
-    ensures { result ≡ fault_in stop }
+pub(crate) fn into_fault<T>(stop: Stop<T>) -> Fault<T>
+    ensures { result ≡ fault_of stop }
 {
     match stop {
         Stop::Input(fault) => Fault::Input(fault),

@@ -3,7 +3,7 @@ ghost use Rattle.std.specs.Prelude.{◌≡◌, ◌+◌, ◌<◌, ◌≤◌, ◌^
 ghost use Rattle.printing.specs.Printing.{Writes, answer_of, PassesOrBreaks, Closes, Prints, IsDevices, FailsByDevices};
 
 use super::device::{DeviceFault, Sink, Source};
-use super::fault::{Fault, Stop, fault_of};
+use super::fault::{Fault, Stop, into_fault};
 use super::printer::Printer;
 use std::alloc::Global;
 
@@ -75,7 +75,8 @@ fn end<P: Printer + Drop, W: Sink>(
     printer: P,
     sink: &mut W,
 ) -> Result<(), Fault<P::Fault>>
-    ensures closes { Closes P.is_text result (P.has_read printer) (W.written sink.old) (W.written sink.new) }
+    ensures closes { Closes P.is_text result (P.has_read printer)
+        (W.written sink.old) (W.written sink.new) }
     ensures failed { IfErr result (λ fault. IsDevices fault ⊥ (W.has_failed sink.new ≡ true)) }
 {
     let mut out = Vec::new(alloc);
@@ -109,6 +110,6 @@ fn answered<T: Drop>(
     match (read, written) {
         (_, Err(_)) => Err(Fault::Write),
         (Ok(()), Ok(())) => Ok(()),
-        (Err(stop), Ok(())) => Err(fault_of(stop)),
+        (Err(stop), Ok(())) => Err(into_fault(stop)),
     }
 }
