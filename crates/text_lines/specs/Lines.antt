@@ -10,7 +10,8 @@ onto_first octet (line ∷ lines) = (octet ∷ line) ∷ lines
 
 abbrev pub lines_of : List ℕ → List (List ℕ)
 lines_of [] = []
-lines_of (octet ∷ octets) = if octet == 10 then [] ∷ lines_of octets else onto_first octet (lines_of octets)
+lines_of (octet ∷ octets) =
+    if octet == 10 then [] ∷ lines_of octets else onto_first octet (lines_of octets)
 
 -- an empty line, or one that begins with # (35)
 abbrev pub is_remark : List ℕ → Bool

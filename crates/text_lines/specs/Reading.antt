@@ -31,27 +31,33 @@ Tells (Input fault) outcome = outcome ≡ stops fault
 Tells Memory outcome = Unit {0}
 
 -- a line prints this and leaves that
-pub record Does {S F : Type 0} (outcome : LineOutcome S F) (before after : List ℕ) (new : S) : Type 0 where
+pub record Does {S F : Type 0} (outcome : LineOutcome S F) (before after : List ℕ)
+    (new : S) : Type 0 where
   pub printed : List ℕ
   pub added : after ≡ before ++ printed
   pub outcome_is : outcome ≡ prints printed new
 
 -- a line was carried out, and what it prints was added; or it tells a fault, and nothing was added
-abbrev pub IsDone : {S F : Type 0} → Result (Unit {0}) (Stop F) → LineOutcome S F → List ℕ → List ℕ → S → Type 0
+abbrev pub IsDone : {S F : Type 0} → Result (Unit {0}) (Stop F) → LineOutcome S F → List ℕ → List ℕ
+    → S → Type 0
 IsDone result outcome before after new =
-    MatchResult result (λ done. Does outcome before after new) (λ stop. Tells stop outcome × (after ≡ before))
+    MatchResult result (λ done. Does outcome before after new)
+    (λ stop. Tells stop outcome × (after ≡ before))
 
 -- this was added, or memory was wanted, and nothing was
 abbrev pub Adds : {F : Type 0} → Result (Unit {0}) (Stop F) → List ℕ → List ℕ → List ℕ → Type 0
 Adds result printed before after =
-    MatchResult result (λ done. after ≡ before ++ printed) (λ stop. (stop ≡ Memory) × (after ≡ before))
+    MatchResult result (λ done. after ≡ before ++ printed)
+    (λ stop. (stop ≡ Memory) × (after ≡ before))
 
 -- The text from a reading on.
 
 -- so much was read of an input, and printed
-pub record HasPrinted {S F : Type 0} (rules : Rules S F) (past lines : List ℕ) (r : Reading S) : Type 0 where
+pub record HasPrinted {S F : Type 0} (rules : Rules S F) (past lines : List ℕ)
+    (r : Reading S) : Type 0 where
   pub counted : r.line ≤ 1 + length past
-  pub goes_on : (left : List ℕ) → lines_text rules (past ++ left) ≡ behind lines (text_from rules r left)
+  pub goes_on : (left : List ℕ)
+      → lines_text rules (past ++ left) ≡ behind lines (text_from rules r left)
 
 -- the fault is that of what is printed from here on; want of memory leaves its beginning
 abbrev pub Faults : {F : Type 0} → Stop F → Printed F → List ℕ → Type 0
@@ -59,8 +65,8 @@ Faults (Input fault) text printed = text ≡ record { printed = printed; fault =
 Faults Memory text printed = (more : List ℕ) × (text.printed ≡ printed ++ more)
 
 -- these octets were read, and what they print was added; the number of a line stands in 64 bits
-pub record Advances {S F : Type 0} (rules : Rules S F) (old : Reading S) (octets before after : List ℕ)
-    (new : Reading S) : Type 0 where
+pub record Advances {S F : Type 0} (rules : Rules S F) (old : Reading S)
+    (octets before after : List ℕ) (new : Reading S) : Type 0 where
   pub printed : List ℕ
   pub added : after ≡ before ++ printed
   pub counted : new.line ≤ old.line + length octets
@@ -82,8 +88,8 @@ AdvancesOrHalts rules result old octets before after new =
     (λ stop. Halts rules stop old octets before after)
 
 -- the text was read to its end, and what it prints then was added
-pub record Finishes {S F : Type 0} (rules : Rules S F) (result : Result (Unit {0}) (Stop F)) (old : Reading S)
-    (before after : List ℕ) : Type 0 where
+pub record Finishes {S F : Type 0} (rules : Rules S F) (result : Result (Unit {0}) (Stop F))
+    (old : Reading S) (before after : List ℕ) : Type 0 where
   pub printed : List ℕ
   pub added : after ≡ before ++ printed
   pub ends : MatchResult result

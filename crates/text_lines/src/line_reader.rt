@@ -1,6 +1,6 @@
 //! Lines under way: the line that is being read, and what those before it left.
 ghost use Rattle.std.specs.Prelude.{◌≡◌, ◌≤◌, length};
-ghost use Rattle.text_lines.specs.Lines.{is_remark as is_remark_in, read_line};
+ghost use Rattle.text_lines.specs.Lines.{is_remark, read_line};
 ghost use Rattle.text_lines.specs.Reading.{Finishes, IsReading, IsDone};
 
 use super::line_text::LineText;
@@ -51,7 +51,8 @@ impl<L: LineText> LineReader<L> {
 
     /// Reads one octet.
     fn take(&mut self, octet: u8, out: &mut Vec<u8>) -> Result<(), Stop<L::Fault>>
-        ensures { AdvancesOrHalts L.rules result self.old (octet ∷ []) out.old.items out.new.items self.new }
+        ensures { AdvancesOrHalts L.rules result self.old (octet ∷ [])
+            out.old.items out.new.items self.new }
     {
         if octet == b'\n' {
             self.end_line(out)
@@ -62,7 +63,8 @@ impl<L: LineText> LineReader<L> {
 
     /// Reads the LF that ends a line.
     fn end_line(&mut self, out: &mut Vec<u8>) -> Result<(), Stop<L::Fault>>
-        ensures { AdvancesOrHalts L.rules result self.old (10 ∷ []) out.old.items out.new.items self.new }
+        ensures { AdvancesOrHalts L.rules result self.old (10 ∷ [])
+            out.old.items out.new.items self.new }
     {
         match end_line(self.alloc, &mut self.state, self.line, &self.text, out) {
             Ok(()) => {
@@ -77,7 +79,8 @@ impl<L: LineText> LineReader<L> {
     /// Reads an octet that ends no line.
     fn add(&mut self, octet: u8, out: &mut Vec<u8>) -> Result<(), Stop<L::Fault>>
         requires { octet ≢ 10 }
-        ensures { AdvancesOrHalts L.rules result self.old (octet ∷ []) out.old.items out.new.items self.new }
+        ensures { AdvancesOrHalts L.rules result self.old (octet ∷ [])
+            out.old.items out.new.items self.new }
     {
         let _ = out;
         if self.text.len() >= LONGEST_LINE {
@@ -91,7 +94,8 @@ impl<L: LineText> LineReader<L> {
 
     /// Reads these octets.
     fn read_all(&mut self, octets: &[u8], out: &mut Vec<u8>) -> Result<(), Stop<L::Fault>>
-        ensures { AdvancesOrHalts L.rules result self.old octets.now out.old.items out.new.items self.new }
+        ensures { AdvancesOrHalts L.rules result self.old octets.now
+            out.old.items out.new.items self.new }
     {
         for octet in octets {
             match self.take(*octet, out) {
@@ -111,8 +115,8 @@ impl<L: LineText> LineReader<L> {
 }
 
 /// Whether the line is empty or begins with `#`.
-fn is_remark(text: &[u8]) -> bool
-    ensures { result ≡ is_remark_in text.now }
+fn is_passed_over(text: &[u8]) -> bool
+    ensures { result ≡ is_remark text.now }
 {
     match text {
         [] => true,
@@ -129,9 +133,10 @@ fn end_line<L: LineText>(
     out: &mut Vec<u8>,
 ) -> Result<(), Stop<L::Fault>>
     requires { length text.now ≤ 4096 }
-    ensures { IsDone result (read_line L.rules line state.old text.now) out.old.items out.new.items state.new }
+    ensures { IsDone result (read_line L.rules line state.old text.now)
+        out.old.items out.new.items state.new }
 {
-    if is_remark(text) {
+    if is_passed_over(text) {
         return Ok(());
     }
     state.line(alloc, line, text, out)

@@ -27,7 +27,8 @@ pub trait LineText {
         out: &mut Vec<u8>,
     ) -> Result<(), Stop<Self::Fault>>
         requires { length text.now ≤ 4096 }
-        ensures { IsDone result (rules.on_line number self.old text.now) out.old.items out.new.items self.new };
+        ensures { IsDone result (rules.on_line number self.old text.now)
+            out.old.items out.new.items self.new };
 
     /// Appends what is printed behind the last line.
     fn end(&self, alloc: Global, out: &mut Vec<u8>) -> Result<(), Stop<Self::Fault>>

@@ -20,7 +20,8 @@ pub fn print_lines<L: LineText + Drop, S: Source, W: Sink>(
 ) -> Result<(), Fault<L::Fault>>
     requires { lines ≡ L.rules.start }
     ensures text { IfSome (S.left source.old)
-        (λ input. Prints result (IsLinesText L.rules input) (W.written sink.old) (W.written sink.new)) }
+        (λ input. Prints result (IsLinesText L.rules input)
+        (W.written sink.old) (W.written sink.new)) }
     ensures bounded { IfSome (S.left source.old) (λ input. OnOk result (length input ≤ 2 ^ 24)) }
     ensures devices { IfSome (S.left source.old)
         (FailsByDevices result (S.has_failed source.new) (W.has_failed sink.new)) }
