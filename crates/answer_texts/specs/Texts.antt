@@ -25,7 +25,8 @@ fate_text (Acked link) = codes "found acked " ++ (decimal link ++ codes "\n")
 fate_text (Held link) = codes "found held " ++ (decimal link ++ codes "\n")
 fate_text Parked = codes "found parked\n"
 fate_text (Back code) = codes "found back " ++ (decimal code ++ codes "\n")
-fate_text (Discarded cause) = codes "found discarded " ++ (decimal (cause_number cause) ++ codes "\n")
+fate_text (Discarded cause) =
+    codes "found discarded " ++ (decimal (cause_number cause) ++ codes "\n")
 
 abbrev pub took_text : Took → List ℕ
 took_text Nothing = codes "nothing"
@@ -78,8 +79,8 @@ link_counts end c =
 
 abbrev pub other_counts : Counts → List ℕ
 other_counts c =
-    codes " held=" ++ (decimal c.held ++ (codes " parked=" ++ (decimal c.parked ++ (codes " back=" ++ (decimal c.back
-    ++ (codes " discarded=" ++ (decimal c.discarded ++ codes "\n")))))))
+    codes " held=" ++ (decimal c.held ++ (codes " parked=" ++ (decimal c.parked
+    ++ (codes " back=" ++ (decimal c.back ++ (codes " discarded=" ++ (decimal c.discarded ++ codes "\n")))))))
 
 -- THE TEXT of how an end stands
 unfoldable pub end_text : End → Counts → List ℕ

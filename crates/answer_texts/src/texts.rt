@@ -71,7 +71,8 @@ fn write_fate(alloc: Global, fate: Fate) -> Result<Vec<u8>, AllocError>
 
 /// The text of a message that was taken.
 fn write_taken(alloc: Global, body: &[u8]) -> Result<Vec<u8>, AllocError>
-    ensures { IfOk result (λ text. text.items ≡ codes "taken " ++ (hex_text body.now ++ codes "\n")) }
+    ensures { IfOk result (λ text. text.items
+        ≡ codes "taken " ++ (hex_text body.now ++ codes "\n")) }
 {
     let mut text = Vec::from_slice(alloc, b"taken ")?;
     push_hex(&mut text, body)?;
