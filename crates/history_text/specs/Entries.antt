@@ -109,4 +109,5 @@ EntriesFit (entry ∷ entries) = EntryFits entry × EntriesFit entries
 
 -- and so for lists: one text for a history, and no other has it
 abbrev pub OneHistory : Type 0
-OneHistory = (a b : List Entry) → EntriesFit a → EntriesFit b → entries_text a ≡ entries_text b → a ≡ b
+OneHistory =
+    (a b : List Entry) → EntriesFit a → EntriesFit b → entries_text a ≡ entries_text b → a ≡ b

@@ -117,12 +117,15 @@ refusal_in n =
 
 abbrev pub taken_in : List ℕ → Option Answer
 taken_in w =
-    option_and_then (λ octets. if nat_le (length octets) 273 then Some (Taken (record { items = octets })) else None)
+    option_and_then
+    (λ octets. if nat_le (length octets) 273 then Some (Taken (record { items = octets })) else None)
     (octets_of w)
 
 -- the last two octets are the check octets
 abbrev pub sent_in : List ℕ → Option Answer
-sent_in w = option_and_then (λ octets. option_map Sent (unit_of (take (length octets - 2) octets))) (octets_of w)
+sent_in w =
+    option_and_then (λ octets. option_map Sent (unit_of (take (length octets - 2) octets)))
+    (octets_of w)
 
 abbrev pub took_in : List ℕ → Option Took
 took_in w =
@@ -160,7 +163,8 @@ abbrev pub answer_in : List ℕ → List ℕ → Option Answer
 answer_in name words =
     if bytes_eq name (codes "accepted") then option_map Accepted (number_of (word words))
     else (if bytes_eq name (codes "taken") then taken_in (word words)
-    else (if bytes_eq name (codes "found") then option_map Found (fate_in (word words) (word (others words)))
+    else (if bytes_eq name (codes "found")
+    then option_map Found (fate_in (word words) (word (others words)))
     else (if bytes_eq name (codes "sent") then sent_in (word words)
     else (if bytes_eq name (codes "heard") then heard_in words
     else (if bytes_eq name (codes "done") then Some Done
@@ -185,9 +189,11 @@ abbrev pub entry_in : List ℕ → Option Entry
 entry_in line =
     option_and_then (λ who. option_and_then (λ event. option_map (λ answer.
     record { who = who; event = event; answer = answer })
-    (told_in (told line))) (asked_in (others (others line)))) (actor_in (word line) (word (others line)))
+    (told_in (told line))) (asked_in (others (others line))))
+    (actor_in (word line) (word (others line)))
 
 -- THE ENTRY whose text a line is, with its LF; an entry has one text
 abbrev pub entry_of : List ℕ → Option Entry
 entry_of line =
-    option_and_then (λ entry. if bytes_eq (entry_text entry) line then Some entry else None) (entry_in line)
+    option_and_then (λ entry. if bytes_eq (entry_text entry) line then Some entry else None)
+    (entry_in line)

@@ -1,6 +1,6 @@
 //! An entry from its text.
 ghost use Rattle.std.specs.Prelude.{◌≡◌, IfOk, IfSome, Some};
-ghost use Rattle.set_events.specs.declared.history.Entry.{Entry as HistoryEntry};
+ghost use Rattle.set_events.specs.declared.history.Entry.{Entry};
 ghost use Rattle.history_text.specs.Entries.{entry_text, EntryFits, OneEntry, OneHistory};
 ghost use Rattle.history_text.specs.Reading.{entry_in, entry_of};
 
@@ -20,7 +20,8 @@ pub fn read_entry(alloc: Global, line: &[u8]) -> Result<Option<Entry>, AllocErro
     ensures found { IfOk result (λ found. IfSome found (λ entry. entry_text entry ≡ line.now)) }
     ensures is { IfOk result (λ found. found ≡ entry_of line.now) }
     ensures only { IfOk result (λ found.
-        (entry : HistoryEntry) → EntryFits entry → entry_text entry ≡ line.now → found ≡ Some entry) }
+        (entry : Entry) → EntryFits entry → entry_text entry ≡ line.now
+        → found ≡ Some entry) }
 {
     one_text();
     let Some(entry) = read_words(alloc, line)? else {

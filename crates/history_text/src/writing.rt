@@ -88,7 +88,8 @@ fn write_offer(alloc: Global, body: &[u8]) -> Result<Vec<u8>, AllocError>
 
 /// A unit that was heard, without its check octets.
 fn write_heard(alloc: Global, link: u8, unit: &Unit) -> Result<Vec<u8>, AllocError>
-    ensures { IfOk result (λ line. line.items ≡ numbered (codes "hear ") link ++ (hex_text (text unit.now) ++ codes " ")) }
+    ensures { IfOk result (λ line. line.items
+        ≡ numbered (codes "hear ") link ++ (hex_text (text unit.now) ++ codes " ")) }
 {
     let mut line = write_numbered(alloc, "hear ", link as u64)?;
     push_hex(&mut line, write(unit).as_slice())?;
