@@ -57,4 +57,5 @@ abbrev pub IsReadBack : Type 0
 IsReadBack = (s : Settings) → SettingsFit s → settings_in (settings_text s) ≡ Some s
 
 abbrev pub OneLine : Type 0
-OneLine = (a b : Settings) → SettingsFit a → SettingsFit b → settings_text a ≡ settings_text b → a ≡ b
+OneLine =
+    (a b : Settings) → SettingsFit a → SettingsFit b → settings_text a ≡ settings_text b → a ≡ b

@@ -27,8 +27,10 @@ opened told line = option_map (λ s. record told { settings = Some s }) (setting
 -- each further one is an entry
 abbrev pub entered : ℕ → Told → List ℕ → Option Told
 entered n told line =
-    option_map (λ entry. record told { entries = told.entries ++ entry ∷ []; lines = told.lines ++ n ∷ [] })
-    (entry_of (line ++ 10 ∷ []))
+    option_map (λ entry. record told {
+      entries = told.entries ++ entry ∷ [];
+      lines = told.lines ++ n ∷ [];
+    }) (entry_of (line ++ 10 ∷ []))
 
 abbrev pub told_by : ℕ → Option Settings → Told → List ℕ → Option Told
 told_by n None told line = opened told line
@@ -55,7 +57,8 @@ goes_on n (Some told) next = next told
 -- the lines from this number on
 abbrev pub told_from : ℕ → Told → List (List ℕ) → Telling
 told_from n told [] = told_in_all n told.settings told
-told_from n told (line ∷ lines) = goes_on n (with_line n told line) (λ next. told_from (suc n) next lines)
+told_from n told (line ∷ lines) =
+    goes_on n (with_line n told line) (λ next. told_from (suc n) next lines)
 
 -- THE HISTORY that a text tells: its lines are counted from 1
 abbrev pub history_in : List ℕ → Telling

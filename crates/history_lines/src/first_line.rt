@@ -16,7 +16,8 @@ pub fn write_history(
     config: &SetConfig,
     entries: Reader<'_>,
 ) -> Result<Vec<u8>, AllocError>
-    ensures { IfOk result (λ text. text.items ≡ history_text (settings_of config.now) entries.entry) }
+    ensures { IfOk result (λ text. text.items
+        ≡ history_text (settings_of config.now) entries.entry) }
 {
     let mut text = write_config(alloc, config)?;
     text.push(b'\n')?;

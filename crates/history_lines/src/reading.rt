@@ -43,7 +43,8 @@ pub fn read_history(alloc: Global, input: &[u8]) -> Result<History, Stop<Unreada
 
 /// What is told when the lines have ended, before this one.
 fn whole(told: Told, number: u64) -> Result<History, Stop<UnreadableEntry>>
-    ensures { MatchResult result (λ history. told_in_all number told.settings told ≡ telling_of history)
+    ensures { MatchResult result
+        (λ history. told_in_all number told.settings told ≡ telling_of history)
         (λ stop. Stops stop (told_in_all number told.settings told)) }
 {
     let Told {

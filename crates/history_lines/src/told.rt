@@ -1,6 +1,6 @@
 //! What the lines so far tell.
 ghost use Rattle.std.specs.Prelude.{◌≡◌, ◌++◌, ◌∷◌, [], IfOk, MatchResult, Some, None};
-ghost use Rattle.text_lines.specs.Lines.{is_remark as is_remark_in};
+ghost use Rattle.text_lines.specs.Lines.{is_remark};
 ghost use Rattle.set_model.specs.State.{settings_of};
 ghost use Rattle.std.specs.Option.{option_map};
 ghost use Rattle.history_text.specs.Reading.{entry_of};
@@ -61,7 +61,7 @@ impl Told {
     ) -> Result<(), Stop<UnreadableEntry>>
         ensures { IsRead result number (with_line number self.old line.now) self.new }
     {
-        if is_remark(line) {
+        if is_passed_over(line) {
             return Ok(());
         }
         match self.config {
@@ -109,8 +109,8 @@ impl Told {
 }
 
 /// Whether the line is empty or begins with `#`.
-fn is_remark(line: &[u8]) -> bool
-    ensures { result ≡ is_remark_in line.now }
+fn is_passed_over(line: &[u8]) -> bool
+    ensures { result ≡ is_remark line.now }
 {
     match line {
         [] => true,
