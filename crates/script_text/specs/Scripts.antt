@@ -28,12 +28,27 @@ ScriptOutcome = LineOutcome (Option World) ScriptFault
 
 -- what each end is opened with: its own point code is the far end's for the other
 abbrev pub settings_at : Values → End → Settings
-settings_at v A = record { set = 0; links = v.links; method = v.method; sio = v.sio; dpc = v.code_b; opc = v.code_a }
-settings_at v B = record { set = 0; links = v.links; method = v.method; sio = v.sio; dpc = v.code_a; opc = v.code_b }
+settings_at v A = record {
+  set = 0;
+  links = v.links;
+  method = v.method;
+  sio = v.sio;
+  dpc = v.code_b;
+  opc = v.code_a;
+}
+settings_at v B = record {
+  set = 0;
+  links = v.links;
+  method = v.method;
+  sio = v.sio;
+  dpc = v.code_a;
+  opc = v.code_b;
+}
 
 -- a set that nothing was asked of
 abbrev pub opened_set : Settings → LinkSet
-opened_set settings = record { opening = opened_with settings; state = opened_with settings; history = [] }
+opened_set settings =
+    record { opening = opened_with settings; state = opened_with settings; history = [] }
 
 -- two ends that nothing was asked of
 abbrev pub opened_world : Values → World
@@ -59,7 +74,12 @@ read_script t n None text = opened t n (first_line text)
 read_script t n (Some w) text = asked t n w (step_of text)
 
 abbrev pub script_rules : Told → Rules (Option World) ScriptFault
-script_rules t = record { start = None; on_line = read_script t; at_the_end = t.at_the_end; unreadable = Text }
+script_rules t = record {
+  start = None;
+  on_line = read_script t;
+  at_the_end = t.at_the_end;
+  unreadable = Text;
+}
 
 -- THE TEXT: lines of at most 4,096 octets, counted from 1; a remark tells nothing (text_lines, specs/Lines.antt)
 abbrev pub IsScriptText : Told → List ℕ → Printed ScriptFault → Type 0

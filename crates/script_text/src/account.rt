@@ -25,7 +25,8 @@ pub trait Account {
 
     /// Tells of the world that the first line makes.
     fn tell_opening(alloc: Global, world: &World, out: &mut Vec<u8>) -> Result<(), AllocError>
-        ensures { MatchResult result (λ done. out.new.items ≡ out.old.items ++ told.opening world.now)
+        ensures { MatchResult result
+            (λ done. out.new.items ≡ out.old.items ++ told.opening world.now)
             (λ want. out.new.items ≡ out.old.items) };
 
     /// Tells of the step on the line of this number: with the note of the world before it, what it showed, and the world
@@ -40,11 +41,13 @@ pub trait Account {
         out: &mut Vec<u8>,
     ) -> Result<(), AllocError>
         ensures { (before : World) → is_note before step.now note → MatchResult result
-            (λ done. out.new.items ≡ out.old.items ++ told.step number before step.now shown.now world.now)
+            (λ done. out.new.items
+            ≡ out.old.items ++ told.step number before step.now shown.now world.now)
             (λ want. out.new.items ≡ out.old.items) };
 
     /// Tells of the world behind the last line, if a line has made one.
     fn tell_end(alloc: Global, world: &Option<World>, out: &mut Vec<u8>) -> Result<(), AllocError>
-        ensures { MatchResult result (λ done. out.new.items ≡ out.old.items ++ told.at_the_end world.now)
+        ensures { MatchResult result
+            (λ done. out.new.items ≡ out.old.items ++ told.at_the_end world.now)
             (λ want. out.new.items ≡ out.old.items) };
 }

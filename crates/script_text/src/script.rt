@@ -5,7 +5,7 @@ ghost use Rattle.pair_model.specs.World.{World as ModelWorld, carried_out, shows
 ghost use Rattle.printing.specs.declared.fault.Stop.TheVariants.{Memory};
 ghost use Rattle.text_lines.specs.Lines.{prints};
 ghost use Rattle.text_lines.specs.Reading.{IsDone, Tells};
-ghost use Rattle.script_text.specs.Scripts.{Told, asked, opened as opened_in, outcome_of, read_script};
+ghost use Rattle.script_text.specs.Scripts.{Told, asked, opened, outcome_of, read_script};
 
 use super::account::Account;
 use super::fault::ScriptFault;
@@ -101,19 +101,21 @@ fn open<A: Account>(
     text: &[u8],
     out: &mut Vec<u8>,
 ) -> Result<(), Stop<ScriptFault>>
-    ensures { IsDone result (opened_in A.told number (first_line text.now)) out.old.items out.new.items world.new }
+    ensures { IsDone result (opened A.told number (first_line text.now))
+        out.old.items out.new.items world.new }
 {
-    let made = opened(alloc, number, text)?;
+    let made = make_world(alloc, number, text)?;
     let told = A::tell_opening(alloc, &made, out);
     *world = Some(made);
     or_memory(told)
 }
 
 /// The world that the first line asks for.
-fn opened(alloc: Global, number: u64, text: &[u8]) -> Result<World, Stop<ScriptFault>>
+fn make_world(alloc: Global, number: u64, text: &[u8]) -> Result<World, Stop<ScriptFault>>
     ensures { MatchResult result
-        (λ world. (t : Told) → opened_in t number (first_line text.now) ≡ prints (t.opening world) (Some world))
-        (λ stop. (t : Told) → Tells stop (opened_in t number (first_line text.now))) }
+        (λ world. (t : Told)
+        → opened t number (first_line text.now) ≡ prints (t.opening world) (Some world))
+        (λ stop. (t : Told) → Tells stop (opened t number (first_line text.now))) }
 {
     let Some(opening) = read_opening(text) else {
         return Err(Stop::Input(ScriptFault::Text { line: number }));
@@ -134,7 +136,8 @@ fn carry_out<A: Account>(
     out: &mut Vec<u8>,
 ) -> Result<(), Stop<ScriptFault>>
     requires { IsSome world.old }
-    ensures { IsDone result (read_script A.told number world.old text.now) out.old.items out.new.items world.new }
+    ensures { IsDone result (read_script A.told number world.old text.now)
+        out.old.items out.new.items world.new }
 {
     let step = asked_step(alloc, number, text)?;
     let Some(old) = world.take() else {
@@ -163,7 +166,8 @@ fn asked_step(alloc: Global, number: u64, text: &[u8]) -> Result<Step, Stop<Scri
 /// to prove, so nothing but the step owns it here.
 fn stepped(world: World, step: &Step, number: u64) -> Result<(World, Shown), Stop<ScriptFault>>
     ensures { MatchResult result (λ after. carried_out world step.now ≡ shows after.1 after.0)
-        (λ stop. (t : Told) → Tells stop (outcome_of t number world step.now (carried_out world step.now))) }
+        (λ stop. (t : Told)
+        → Tells stop (outcome_of t number world step.now (carried_out world step.now))) }
 {
     match world.step(step) {
         Ok(after) => Ok(after),
