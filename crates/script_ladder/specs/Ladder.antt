@@ -87,7 +87,9 @@ marks link way (unit ∷ units) = mark link way unit ++ marks link way units
 
 -- no more than five of a line, since four fill the place
 abbrev pub marks_on : World → ℕ → List ℕ
-marks_on w link = marks link (codes ">") (take 5 (line_to w B link)) ++ marks link (codes "<") (take 5 (line_to w A link))
+marks_on w link =
+    marks link (codes ">") (take 5 (line_to w B link))
+    ++ marks link (codes "<") (take 5 (line_to w A link))
 
 -- of the links below this number
 abbrev pub marks_below : World → ℕ → List ℕ
@@ -216,7 +218,8 @@ done_words (UpEvent link) = codes "done"
 -- THE ROWS OF A LINE: what happened first, with the line's number
 
 abbrev pub sent_row : List ℕ → List ℕ → End → ℕ → Shown → Option SignalUnit → List ℕ
-sent_row number u end link shown (Some unit) = row_at end number u (going end link) (unit_words unit)
+sent_row number u end link shown (Some unit) =
+    row_at end number u (going end link) (unit_words unit)
 sent_row number u end link shown None = row_at end number u [] (plain shown)
 
 abbrev pub arrived_row : List ℕ → List ℕ → End → ℕ → Option Report → List ℕ → List ℕ
@@ -281,7 +284,8 @@ order_in (Some (Msu head body)) = order_of body.items
 
 abbrev pub settled_words : World → End → Took → Option ℕ → List ℕ
 settled_words w end OrderTaken (Some link) =
-    if is_settled link (at_end w end).state then link_words (codes " ") link (codes " settled") else []
+    if is_settled link (at_end w end).state then link_words (codes " ") link (codes " settled")
+    else []
 settled_words w end OrderTaken None = []
 settled_words w end Nothing link = []
 settled_words w end Message link = []
@@ -303,23 +307,28 @@ change name old new =
 abbrev pub changes : Counts → Counts → List ℕ
 changes old new =
     change (codes " held") old.held new.held ++ (change (codes " parked") old.parked new.parked
-    ++ (change (codes " back") old.back new.back ++ change (codes " discarded") old.discarded new.discarded))
+    ++ (change (codes " back") old.back new.back
+    ++ change (codes " discarded") old.discarded new.discarded))
 
 abbrev pub change_rows : List ℕ → World → Counts → Counts → List ℕ
 change_rows u after a b =
     further A u (changes a (counts_at after A)) ++ further B u (changes b (counts_at after B))
 
-abbrev pub effect_rows : List ℕ → World → End → Option SignalUnit → Option Report → Counts → Counts → List ℕ
-effect_rows u after end unit report a b = heard_rows u after end unit report ++ change_rows u after a b
+abbrev pub effect_rows : List ℕ → World → End → Option SignalUnit → Option Report → Counts → Counts
+    → List ℕ
+effect_rows u after end unit report a b =
+    heard_rows u after end unit report ++ change_rows u after a b
 
 abbrev pub rows_with : List ℕ → List ℕ → World → Step → Shown → World → List ℕ
 rows_with u number before step shown after =
     first_row number u before step shown
-    ++ effect_rows u after (end_of step) (affected before step) (report_in shown) (counts_at before A) (counts_at before B)
+    ++ effect_rows u after (end_of step) (affected before step) (report_in shown)
+    (counts_at before A) (counts_at before B)
 
 -- a name of its own, so that who speaks of it doesn't compute it
 unfoldable pub step_rows : ℕ → World → Step → Shown → World → List ℕ
-step_rows n before step shown after = rows_with (under_way after) (decimal n) before step shown after
+step_rows n before step shown after =
+    rows_with (under_way after) (decimal n) before step shown after
 
 unfoldable pub heading : List ℕ
 heading = row_text (codes "line") (codes "end a") [] (codes "under way") [] (codes "end b")

@@ -1,6 +1,6 @@
 //! What an end's words are for what a step asked and showed.
 ghost use Rattle.std.specs.Prelude.{◌≡◌, IfOk, codes, if◌then◌else◌};
-ghost use Rattle.script_ladder.specs.Ladder.{done_words, is_done as is_done_in, link_words, plain, report_in as report_in_shown, without_end};
+ghost use Rattle.script_ladder.specs.Ladder.{done_words, is_done, link_words, plain, report_in, without_end};
 
 use answer_texts::write_shown;
 use set_events::{Answer, Event, Report};
@@ -24,15 +24,15 @@ fn cut_end(text: &mut Vec<u8>)
 }
 
 /// Whether it was answered that it's done.
-fn is_done(shown: &Shown) -> bool
-    ensures { result ≡ is_done_in shown.now }
+fn was_done(shown: &Shown) -> bool
+    ensures { result ≡ is_done shown.now }
 {
     matches!(shown, Shown::Answered(Answer::Done))
 }
 
 /// What a heard unit did, if one was heard.
-pub(crate) fn report_in(shown: &Shown) -> Option<Report>
-    ensures { result ≡ report_in_shown shown.now }
+pub(crate) fn find_report(shown: &Shown) -> Option<Report>
+    ensures { result ≡ report_in shown.now }
 {
     match shown {
         Shown::Answered(Answer::Heard { report }) => Some(*report),
@@ -47,9 +47,9 @@ pub(crate) fn write_event(
     shown: &Shown,
 ) -> Result<Vec<u8>, AllocError>
     ensures { IfOk result (λ words. words.items
-        ≡ (if is_done_in shown.now then done_words event.now else plain shown.now)) }
+        ≡ (if is_done shown.now then done_words event.now else plain shown.now)) }
 {
-    if is_done(shown) {
+    if was_done(shown) {
         write_done(alloc, event)
     } else {
         write_plain(alloc, shown)

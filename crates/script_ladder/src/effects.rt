@@ -1,11 +1,11 @@
 //! What a line made happen besides: what a heard unit did, and which messages stand aside.
 ghost use Rattle.std.specs.Prelude.{◌≡◌, IfOk};
 ghost use Rattle.answer_texts.specs.Texts.{took_text, fault_code};
-ghost use Rattle.script_ladder.specs.Ladder.{change, changed_over as changed_over_by, changes, further, heard_rows, is_plain as is_plain_in, report_words, settled_words, trouble_words};
+ghost use Rattle.script_ladder.specs.Ladder.{change, changed_over, changes, further, heard_rows, is_plain, report_words, settled_words, trouble_words};
 
 use super::cells::write_link;
 use super::rows::{join, write_further};
-use super::units::order_in;
+use super::units::find_order;
 use figures::bit_of;
 use l2_units::Unit;
 use l3_orders::Order;
@@ -22,12 +22,19 @@ pub(crate) fn write_heard(
     unit: &Option<Unit>,
     report: Option<Report>,
 ) -> Result<Vec<u8>, AllocError>
-    ensures { IfOk result (λ rows. rows.items ≡ heard_rows under_way.now world.now end unit.now report) }
+    ensures { IfOk result (λ rows. rows.items
+        ≡ heard_rows under_way.now world.now end unit.now report) }
 {
     let Some(report) = report else {
         return Ok(Vec::new(alloc));
     };
-    let settled = write_settled(alloc, world, end, report.took, changed_over(order_in(unit)))?;
+    let settled = write_settled(
+        alloc,
+        world,
+        end,
+        report.took,
+        find_changed_link(find_order(unit)),
+    )?;
     let first = write_further(alloc, end, under_way, &write_report(alloc, report)?)?;
     let trouble = write_further(alloc, end, under_way, &write_trouble(alloc, report)?)?;
     join(
@@ -68,8 +75,8 @@ fn code_of(report: Report) -> u8
 }
 
 /// Whether no retransmission is asked for or begun, and no fault is shown.
-fn is_plain(report: Report) -> bool
-    ensures { result ≡ is_plain_in report }
+fn is_without_trouble(report: Report) -> bool
+    ensures { result ≡ is_plain report }
 {
     !report.asked && !report.resend && code_of(report) == 0
 }
@@ -78,7 +85,7 @@ fn is_plain(report: Report) -> bool
 fn write_trouble(alloc: Global, report: Report) -> Result<Vec<u8>, AllocError>
     ensures { IfOk result (λ words. words.items ≡ trouble_words report) }
 {
-    if is_plain(report) {
+    if is_without_trouble(report) {
         return Ok(Vec::new(alloc));
     }
     let asked = bit_of(report.asked);
@@ -88,8 +95,8 @@ fn write_trouble(alloc: Global, report: Report) -> Result<Vec<u8>, AllocError>
 }
 
 /// The link whose changeover the order is about, if any.
-fn changed_over(order: Option<Order>) -> Option<u8>
-    ensures { result ≡ changed_over_by order }
+fn find_changed_link(order: Option<Order>) -> Option<u8>
+    ensures { result ≡ changed_over order }
 {
     match order {
         Some(Order::Coo { link, .. }) => Some(link),

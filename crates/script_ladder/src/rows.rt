@@ -1,7 +1,7 @@
 //! The rows of the chart.
 ghost use Rattle.std.specs.Prelude.{◌≡◌, ◌++◌, IfOk, decimal, replicate, take};
 ghost use Rattle.script_ladder.specs.Ladder.{at_right, dashed, further, last_cell, padded, row_at, row_text, side_a, side_b, trailed};
-ghost use Rattle.script_ladder.specs.Ladder.{arriving as arriving_in, forged as forged_in, going as going_in, losing as losing_in};
+ghost use Rattle.script_ladder.specs.Ladder.{arriving, forged, going, losing};
 
 use std::alloc::{AllocError, Global};
 use world_steps::End;
@@ -52,7 +52,8 @@ pub(crate) fn write_row(
     at_b: &[u8],
     b: &[u8],
 ) -> Result<Vec<u8>, AllocError>
-    ensures { IfOk result (λ row. row.items ≡ row_text number.now a.now at_a.now under_way.now at_b.now b.now) }
+    ensures { IfOk result (λ row. row.items
+        ≡ row_text number.now a.now at_a.now under_way.now at_b.now b.now) }
 {
     let middle = join(
         pad(alloc, under_way, UNDER_WAY)?,
@@ -119,7 +120,8 @@ pub(crate) fn write_row_at(
     arrow: &[u8],
     words: &[u8],
 ) -> Result<Vec<u8>, AllocError>
-    ensures { IfOk result (λ row. row.items ≡ row_at end number.now under_way.now arrow.now words.now) }
+    ensures { IfOk result (λ row. row.items
+        ≡ row_at end number.now under_way.now arrow.now words.now) }
 {
     match end {
         End::A => write_row(alloc, number, words, arrow, under_way, &[], &[]),
@@ -178,8 +180,8 @@ fn tip_last(alloc: Global, link: u8, tip: &[u8]) -> Result<Vec<u8>, AllocError>
 }
 
 /// A unit goes out from the end.
-pub(crate) fn going(alloc: Global, end: End, link: u8) -> Result<Vec<u8>, AllocError>
-    ensures { IfOk result (λ arrow. arrow.items ≡ going_in end link) }
+pub(crate) fn draw_going(alloc: Global, end: End, link: u8) -> Result<Vec<u8>, AllocError>
+    ensures { IfOk result (λ arrow. arrow.items ≡ going end link) }
 {
     match end {
         End::A => tip_last(alloc, link, b"-->"),
@@ -188,8 +190,8 @@ pub(crate) fn going(alloc: Global, end: End, link: u8) -> Result<Vec<u8>, AllocE
 }
 
 /// A unit arrives at the end.
-pub(crate) fn arriving(alloc: Global, end: End, link: u8) -> Result<Vec<u8>, AllocError>
-    ensures { IfOk result (λ arrow. arrow.items ≡ arriving_in end link) }
+pub(crate) fn draw_arriving(alloc: Global, end: End, link: u8) -> Result<Vec<u8>, AllocError>
+    ensures { IfOk result (λ arrow. arrow.items ≡ arriving end link) }
 {
     match end {
         End::A => tip_first(alloc, b"<--", link),
@@ -198,8 +200,8 @@ pub(crate) fn arriving(alloc: Global, end: End, link: u8) -> Result<Vec<u8>, All
 }
 
 /// A unit is lost on its way to the end.
-pub(crate) fn losing(alloc: Global, end: End, link: u8) -> Result<Vec<u8>, AllocError>
-    ensures { IfOk result (λ arrow. arrow.items ≡ losing_in end link) }
+pub(crate) fn draw_losing(alloc: Global, end: End, link: u8) -> Result<Vec<u8>, AllocError>
+    ensures { IfOk result (λ arrow. arrow.items ≡ losing end link) }
 {
     match end {
         End::A => tip_first(alloc, b"x--", link),
@@ -208,8 +210,8 @@ pub(crate) fn losing(alloc: Global, end: End, link: u8) -> Result<Vec<u8>, Alloc
 }
 
 /// A unit that nobody sent arrives at the end.
-pub(crate) fn forged(alloc: Global, end: End, link: u8) -> Result<Vec<u8>, AllocError>
-    ensures { IfOk result (λ arrow. arrow.items ≡ forged_in end link) }
+pub(crate) fn draw_forged(alloc: Global, end: End, link: u8) -> Result<Vec<u8>, AllocError>
+    ensures { IfOk result (λ arrow. arrow.items ≡ forged end link) }
 {
     match end {
         End::A => tip_first(alloc, b"<..", link),

@@ -2,14 +2,16 @@
 ghost use Rattle.std.specs.Prelude.{◌≡◌, ◌≤◌, ◌^◌, [], codes, length, slice_get, IfOk, IfSome, OnOk};
 ghost use Rattle.printing.specs.Printing.{Prints, FailsByDevices};
 ghost use Rattle.pair_model.specs.World.{World as ModelWorld};
-ghost use Rattle.script_ladder.specs.Ladder.{IsLadder, affected as affected_by, arrived_row, change_rows, effect_rows, end_of as end_of_step, first_row, forged_row};
-ghost use Rattle.script_ladder.specs.Ladder.{heading, link_words, report_in as report_in_shown, row_text, rows_with, sent_row, sent_in as sent_in_shown, step_rows, unit_words};
+ghost use Rattle.script_ladder.specs.Ladder.{IsLadder, affected, arrived_row, change_rows, effect_rows, end_of, first_row, forged_row};
+ghost use Rattle.script_ladder.specs.Ladder.{heading, link_words, report_in, row_text, rows_with, sent_row, sent_in, step_rows, unit_words};
 ghost use Rattle.script_ladder.specs.Notes.{IsBefore};
 
-use super::cells::{report_in, write_event, write_link, write_plain};
+use super::cells::{find_report, write_event, write_link, write_plain};
 use super::effects::{write_changes, write_heard};
-use super::rows::{arriving, forged, going, join, losing, write_row, write_row_at};
-use super::under_way::under_way;
+use super::rows::{
+    draw_arriving, draw_forged, draw_going, draw_losing, join, write_row, write_row_at,
+};
+use super::under_way::write_under_way;
 use super::units::{write_any, write_unit};
 use l2_units::{Unit, copy_of_unit};
 use pair_world::{End, World};
@@ -45,7 +47,7 @@ impl Account for Chart {
 
     fn note(world: &World, step: &Step) -> Before {
         Before {
-            unit: affected(world, step),
+            unit: find_affected(world, step),
             a: world.counts(End::A),
             b: world.counts(End::B),
         }
@@ -103,8 +105,8 @@ fn write_heading(alloc: Global) -> Result<Vec<u8>, AllocError>
 }
 
 /// The unit that a step is about, in the world before it.
-fn affected(world: &World, step: &Step) -> Option<Unit>
-    ensures { result ≡ affected_by world.now step.now }
+fn find_affected(world: &World, step: &Step) -> Option<Unit>
+    ensures { result ≡ affected world.now step.now }
 {
     match step {
         Step::Arrive { end, link } => unit_at(world.line(*end, *link), 0),
@@ -140,7 +142,7 @@ fn write_step(
     let number = format!(in alloc; "{number}")?.into_bytes();
     write_rows(
         alloc,
-        &under_way(alloc, world)?,
+        &write_under_way(alloc, world)?,
         &number,
         note,
         step,
@@ -168,8 +170,8 @@ fn write_rows(
         alloc,
         under_way,
         note,
-        end_of(step),
-        report_in(shown),
+        find_end(step),
+        find_report(shown),
         world,
     )?;
     join(first, &effects)
@@ -198,7 +200,8 @@ fn write_both_changes(
     note: &Before,
     world: &World,
 ) -> Result<Vec<u8>, AllocError>
-    ensures { IfOk result (λ rows. rows.items ≡ change_rows under_way.now world.now note.now.a note.now.b) }
+    ensures { IfOk result (λ rows. rows.items
+        ≡ change_rows under_way.now world.now note.now.a note.now.b) }
 {
     let at_a = write_changes(alloc, End::A, under_way, note.a, world.counts(End::A))?;
     join(
@@ -208,8 +211,8 @@ fn write_both_changes(
 }
 
 /// The end that a step is about.
-fn end_of(step: &Step) -> End
-    ensures { result ≡ end_of_step step.now }
+fn find_end(step: &Step) -> End
+    ensures { result ≡ end_of step.now }
 {
     match step {
         Step::Act { end, .. } => *end,
@@ -230,8 +233,9 @@ fn write_first(
     step: &Step,
     shown: &Shown,
 ) -> Result<Vec<u8>, AllocError>
-    ensures { (before : ModelWorld) → unit.now ≡ affected_by before step.now
-        → IfOk result (λ row. row.items ≡ first_row number.now under_way.now before step.now shown.now) }
+    ensures { (before : ModelWorld) → unit.now ≡ affected before step.now
+        → IfOk result (λ row. row.items
+        ≡ first_row number.now under_way.now before step.now shown.now) }
 {
     match step {
         Step::Act { end, event } => {
@@ -252,7 +256,7 @@ fn write_first(
                 under_way,
                 *end,
                 *link,
-                report_in(shown),
+                find_report(shown),
                 &write_any(alloc, unit)?,
             )
         }
@@ -262,7 +266,7 @@ fn write_first(
                 *end,
                 number,
                 under_way,
-                &losing(alloc, *end, *link)?,
+                &draw_losing(alloc, *end, *link)?,
                 &write_any(alloc, unit)?,
             )
         }
@@ -275,7 +279,8 @@ fn write_first(
 
 /// A link that comes up at both ends.
 fn write_up(alloc: Global, number: &[u8], under_way: &[u8], link: u8) -> Result<Vec<u8>, AllocError>
-    ensures { IfOk result (λ row. row.items ≡ row_text number.now (link_words [] link (codes " up")) [] under_way.now
+    ensures { IfOk result (λ row. row.items
+        ≡ row_text number.now (link_words [] link (codes " up")) [] under_way.now
         [] (link_words [] link (codes " up"))) }
 {
     let words = write_link(alloc, "", link, " up")?;
@@ -292,7 +297,7 @@ fn write_sent(
     shown: &Shown,
 ) -> Result<Vec<u8>, AllocError>
     ensures { IfOk result (λ row. row.items
-        ≡ sent_row number.now under_way.now end link shown.now (sent_in_shown shown.now)) }
+        ≡ sent_row number.now under_way.now end link shown.now (sent_in shown.now)) }
 {
     match shown {
         Shown::Answered(Answer::Sent { unit }) => {
@@ -301,7 +306,7 @@ fn write_sent(
                 end,
                 number,
                 under_way,
-                &going(alloc, end, link)?,
+                &draw_going(alloc, end, link)?,
                 &write_unit(alloc, unit)?,
             )
         }
@@ -326,11 +331,12 @@ fn write_arrived(
     report: Option<Report>,
     words: &[u8],
 ) -> Result<Vec<u8>, AllocError>
-    ensures { IfOk result (λ row. row.items ≡ arrived_row number.now under_way.now end link report words.now) }
+    ensures { IfOk result (λ row. row.items
+        ≡ arrived_row number.now under_way.now end link report words.now) }
 {
     let arrow = match report {
-        Some(_) => arriving(alloc, end, link)?,
-        None => losing(alloc, end, link)?,
+        Some(_) => draw_arriving(alloc, end, link)?,
+        None => draw_losing(alloc, end, link)?,
     };
     write_row_at(alloc, end, number, under_way, &arrow, words)
 }
@@ -346,9 +352,10 @@ fn write_forged(
     unit: &Unit,
 ) -> Result<Vec<u8>, AllocError>
     ensures { IfOk result (λ row. row.items
-        ≡ forged_row number.now under_way.now end link shown.now (report_in_shown shown.now) (unit_words unit.now)) }
+        ≡ forged_row number.now under_way.now end link shown.now (report_in shown.now)
+        (unit_words unit.now)) }
 {
-    let words = match report_in(shown) {
+    let words = match find_report(shown) {
         Some(_) => write_unit(alloc, unit)?,
         None => write_plain(alloc, shown)?,
     };
@@ -357,7 +364,7 @@ fn write_forged(
         end,
         number,
         under_way,
-        &forged(alloc, end, link)?,
+        &draw_forged(alloc, end, link)?,
         &words,
     )
 }

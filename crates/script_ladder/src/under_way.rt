@@ -1,6 +1,6 @@
 //! What is under way between the ends.
 ghost use Rattle.std.specs.Prelude.{◌≡◌, IfOk, take};
-ghost use Rattle.script_ladder.specs.Ladder.{fitted, marks, marks_below, marks_on, mark, under_way as under_way_in};
+ghost use Rattle.script_ladder.specs.Ladder.{fitted, marks, marks_below, marks_on, mark, under_way};
 
 use l2_units::Unit;
 use pair_world::{End, World};
@@ -14,8 +14,8 @@ const MOST: usize = 5;
 
 /// What is under way on all links, in both ways.
 #[tactic(auto, unfolding(crate::specs::Ladder::under_way))]
-pub(crate) fn under_way(alloc: Global, world: &World) -> Result<Vec<u8>, AllocError>
-    ensures { IfOk result (λ text. text.items ≡ under_way_in world.now) }
+pub(crate) fn write_under_way(alloc: Global, world: &World) -> Result<Vec<u8>, AllocError>
+    ensures { IfOk result (λ text. text.items ≡ under_way world.now) }
 {
     fit(write_all(alloc, world)?)
 }

@@ -1,7 +1,7 @@
 //! A unit in the words of the trade.
 ghost use Rattle.std.specs.Prelude.{◌≡◌, ◌++◌, IfOk};
 ghost use Rattle.l3_orders.specs.Grammar.{order_of};
-ghost use Rattle.script_ladder.specs.Ladder.{message_words, numbers_of, order_in as order_in_unit, stream_words, unit_words, words_of};
+ghost use Rattle.script_ladder.specs.Ladder.{message_words, numbers_of, order_in, stream_words, unit_words, words_of};
 
 use decode_text::write_order_words;
 use l2_units::{Header, Unit};
@@ -66,8 +66,8 @@ fn write_stream(alloc: Global, octet: Option<u8>) -> Result<Vec<u8>, AllocError>
 }
 
 /// The order that a unit carries, if any.
-pub(crate) fn order_in(unit: &Option<Unit>) -> Option<Order>
-    ensures { result ≡ order_in_unit unit.now }
+pub(crate) fn find_order(unit: &Option<Unit>) -> Option<Order>
+    ensures { result ≡ order_in unit.now }
 {
     match unit {
         Some(Unit::Msu { body, .. }) => match read_order(body.as_slice()) {

@@ -8,5 +8,5 @@ returns c before is =
     IfOk-weaker c.join.result _ _
     (λ rows both. both ∙ ap₂ (λ (x y : List ℕ). x ++ y) (c.in_ok-first.ensures before is.unit_is)
     (c.deref.ensures.value ∙ (c.in_ok-effects.ensures
-    ∙ rw (is.unit_is, is.a_is, is.b_is, c.end_of.ensures, c.report_in.ensures) refl)))
+    ∙ rw (is.unit_is, is.a_is, is.b_is, c.find_end.ensures, c.find_report.ensures) refl)))
     c.join.ensures
