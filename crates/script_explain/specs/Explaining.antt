@@ -82,5 +82,6 @@ fault_alone (Err Write) = Err Write
 
 -- The code beside the definition: a fault with its explanation, or want of memory.
 abbrev pub IsExplanation : Stop Explained → Option ℕ → List ℕ → ScriptFault → Type 0
-IsExplanation (Input e) links text fault = e ≡ record { fault = fault; told = said links text fault }
+IsExplanation (Input e) links text fault =
+    e ≡ record { fault = fault; told = said links text fault }
 IsExplanation Memory links text fault = Unit {0}

@@ -2,7 +2,7 @@
 ghost use Rattle.std.specs.Prelude.{◌≡◌, IfOk, MatchResult, string_bytes};
 ghost use Rattle.std.specs.Option.{option_map};
 ghost use Rattle.printing.specs.declared.fault.Stop.TheVariants.{Input, Memory};
-ghost use Rattle.script_explain.specs.Explaining.{said as said_of, undone as undone_in, unread as unread_in, IsExplanation};
+ghost use Rattle.script_explain.specs.Explaining.{said, undone, unread, IsExplanation};
 ghost use Rattle.line_mistakes.specs.Showing.{explanation};
 
 use super::fault::ExplainedFault;
@@ -88,24 +88,24 @@ fn explained(
 ) -> Stop<ExplainedFault>
     ensures { IsExplanation result links text.now fault }
 {
-    match said(alloc, links, text, fault) {
+    match explain_fault(alloc, links, text, fault) {
         Ok(told) => Stop::Input(ExplainedFault { fault, told }),
         Err(_) => Stop::Memory,
     }
 }
 
 /// The lines that explain a fault on this line.
-fn said(
+fn explain_fault(
     alloc: Global,
     links: Option<u8>,
     text: &[u8],
     fault: ScriptFault,
 ) -> Result<Option<String>, AllocError>
-    ensures { IfOk result (λ told. option_map string_bytes told ≡ said_of links text.now fault) }
+    ensures { IfOk result (λ told. option_map string_bytes told ≡ said links text.now fault) }
 {
     match fault {
-        ScriptFault::Text { line } => shown(alloc, line, unread(alloc, links, text)?, text),
-        ScriptFault::Step { line } => shown(alloc, line, undone(alloc, links, text)?, text),
+        ScriptFault::Text { line } => shown(alloc, line, blame_unread(alloc, links, text)?, text),
+        ScriptFault::Step { line } => shown(alloc, line, blame_undone(alloc, links, text)?, text),
         ScriptFault::Exhausted => Ok(None),
     }
 }
@@ -117,7 +117,8 @@ fn shown(
     blame: Option<Blame>,
     text: &[u8],
 ) -> Result<Option<String>, AllocError>
-    ensures { IfOk result (λ told. option_map string_bytes told ≡ option_map (λ b. explanation line b text.now) blame) }
+    ensures { IfOk result (λ told. option_map string_bytes told
+        ≡ option_map (λ b. explanation line b text.now) blame) }
 {
     match blame {
         Some(blame) => Ok(Some(explain(alloc, line, blame, text)?)),
@@ -126,8 +127,8 @@ fn shown(
 }
 
 /// The word at fault of a line that can't be read.
-fn unread(alloc: Global, links: Option<u8>, text: &[u8]) -> Result<Option<Blame>, AllocError>
-    ensures { IfOk result (λ blame. blame ≡ unread_in links text.now) }
+fn blame_unread(alloc: Global, links: Option<u8>, text: &[u8]) -> Result<Option<Blame>, AllocError>
+    ensures { IfOk result (λ blame. blame ≡ unread links text.now) }
 {
     match links {
         Some(_) => blame_step(alloc, text),
@@ -136,8 +137,8 @@ fn unread(alloc: Global, links: Option<u8>, text: &[u8]) -> Result<Option<Blame>
 }
 
 /// The word at fault of a line whose step can't be done.
-fn undone(alloc: Global, links: Option<u8>, text: &[u8]) -> Result<Option<Blame>, AllocError>
-    ensures { IfOk result (λ blame. blame ≡ undone_in links text.now) }
+fn blame_undone(alloc: Global, links: Option<u8>, text: &[u8]) -> Result<Option<Blame>, AllocError>
+    ensures { IfOk result (λ blame. blame ≡ undone links text.now) }
 {
     let Some(links) = links else {
         return Ok(None);

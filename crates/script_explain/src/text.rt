@@ -22,9 +22,11 @@ pub fn tell_explained<A: Account, S: Source, W: Sink>(
     sink: &mut W,
 ) -> Result<(), Fault<ExplainedFault>>
     ensures text { IfSome (S.left source.old)
-        (λ input. Prints result (IsExplainedText A.told input) (W.written sink.old) (W.written sink.new)) }
+        (λ input. Prints result (IsExplainedText A.told input)
+        (W.written sink.old) (W.written sink.new)) }
     ensures same { IfSome (S.left source.old)
-        (λ input. Prints (fault_alone result) (IsScriptText A.told input) (W.written sink.old) (W.written sink.new)) }
+        (λ input. Prints (fault_alone result) (IsScriptText A.told input)
+        (W.written sink.old) (W.written sink.new)) }
     ensures bounded { IfSome (S.left source.old) (λ input. OnOk result (length input ≤ 2 ^ 24)) }
     ensures devices { IfSome (S.left source.old)
         (FailsByDevices result (S.has_failed source.new) (W.has_failed sink.new)) }
