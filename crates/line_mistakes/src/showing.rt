@@ -1,6 +1,6 @@
 //! A line, shown with a caret under the word at fault.
 ghost use Rattle.std.specs.Prelude.{◌≡◌, ◌≤◌, ◌<◌, ◌++◌, ◌∷◌, [], ◌-◌, IfOk, codes, decimal, replicate, string_bytes, take, drop, map, length};
-ghost use Rattle.line_mistakes.specs.Showing.{explanation, front_mark, back_mark, plain, shown_line, caret_line};
+ghost use Rattle.line_mistakes.specs.Showing.{explanation, front_mark, back_mark, shown, plain, shown_line, caret_line};
 
 use super::lines::Blame;
 use super::words::is_printable;
