@@ -6,7 +6,8 @@ ghost use Rattle.paced_banks.specs.Opening.{AreConfigs, AreEndsOf, method_of};
 
 use super::opening::{configs_of, lines_of, method_of, offers_of, takes_of};
 use super::pace::{PaceGate, pace_gates};
-use bank_core::{Bank, BankFault, Plan, Running, SetEnd};
+use bank_core::{Bank, BankFault, Job, Plan, Running, SetEnd};
+use line_ring::RingLine;
 use link_term::Timers;
 use std::alloc::Global;
 use std::sync::Wait;
@@ -93,15 +94,109 @@ pub fn run_through<R: Threads + Wait + Copy + Send + Sync + 'static>(
     ensures early { IfErr result EndsEarly }
 {
     let lines = lines_of(alloc, traffic.sets, traffic.links)?;
-    let offers = offers_of(alloc, traffic.sets, traffic.users, traffic.messages)?;
-    let takes = takes_of(alloc, traffic.sets, TAKES)?;
-    let near_bank = bank_of(alloc, traffic, 2, 1, traffic.users)?;
-    let far_bank = bank_of(alloc, traffic, 1, 2, 1)?;
-    let near_plan = plan_of(traffic, traffic.fail);
-    let far_plan = plan_of(traffic, None);
-    let near = near_bank.start(rt, lines.near, offers, near_gate, near_plan)?;
-    match far_bank.start(rt, lines.far, takes, far_gate, far_plan) {
-        Ok(far) => joined(rt, near, far),
+    let near = near_side(alloc, traffic, lines.near, near_gate)?;
+    let far = far_side(alloc, traffic, lines.far, far_gate)?;
+    run_sides(rt, near, far)
+}
+
+/// A bank, and what it's started with.
+#[derive(Drop)]
+struct Side {
+    bank: Bank,
+    lines: Vec<Vec<RingLine>>,
+    jobs: Vec<Vec<Job>>,
+    gate: PaceGate,
+    plan: Plan,
+}
+
+impl Side {
+    /// Starts the bank.
+    fn start<R: Threads + Wait + Copy + Send + Sync + 'static>(
+        self,
+        rt: &R,
+    ) -> Result<Running, BankFault>
+        ensures running { IfOk result (λ running. running ≡ self.bank.configs) }
+        ensures early { IfErr result EndsEarly }
+    {
+        self.bank
+            .start(rt, self.lines, self.jobs, self.gate, self.plan)
+    }
+}
+
+/// The ends a of all sets, over these lines.
+fn near_side(
+    alloc: Global,
+    traffic: &Traffic,
+    lines: Vec<Vec<RingLine>>,
+    gate: PaceGate,
+) -> Result<Side, BankFault>
+    ensures configs { IfOk result (λ side. AreConfigs traffic.now.sets traffic.now.links 2 1
+        (method_of traffic.now.cyclic) side.bank.configs) }
+    ensures early { IfErr result EndsEarly }
+{
+    let jobs = offers_of(alloc, traffic.sets, traffic.users, traffic.messages)?;
+    let bank = bank_of(alloc, traffic, 2, 1, traffic.users)?;
+    let plan = plan_of(traffic, traffic.fail);
+    Ok(Side {
+        bank,
+        lines,
+        jobs,
+        gate,
+        plan,
+    })
+}
+
+/// The ends b of all sets, over these lines.
+fn far_side(
+    alloc: Global,
+    traffic: &Traffic,
+    lines: Vec<Vec<RingLine>>,
+    gate: PaceGate,
+) -> Result<Side, BankFault>
+    ensures configs { IfOk result (λ side. AreConfigs traffic.now.sets traffic.now.links 1 2
+        (method_of traffic.now.cyclic) side.bank.configs) }
+    ensures early { IfErr result EndsEarly }
+{
+    let jobs = takes_of(alloc, traffic.sets, TAKES)?;
+    let bank = bank_of(alloc, traffic, 1, 2, 1)?;
+    let plan = plan_of(traffic, None);
+    Ok(Side {
+        bank,
+        lines,
+        jobs,
+        gate,
+        plan,
+    })
+}
+
+/// Runs both banks, and waits for them.
+fn run_sides<R: Threads + Wait + Copy + Send + Sync + 'static>(
+    rt: &R,
+    near: Side,
+    far: Side,
+) -> Result<TrafficEnds, BankFault>
+    ensures near { IfOk result (λ ends. AreEnds near.bank.configs ends.near.items) }
+    ensures far { IfOk result (λ ends. AreEnds far.bank.configs ends.far.items) }
+    ensures early { IfErr result EndsEarly }
+{
+    match near.start(rt) {
+        Ok(running) => run_beside(rt, running, far),
+        Err(fault) => Err(fault),
+    }
+}
+
+/// Runs the bank of the ends b beside that of the ends a, and waits for both.
+fn run_beside<R: Threads + Wait + Copy + Send + Sync + 'static>(
+    rt: &R,
+    near: Running,
+    far: Side,
+) -> Result<TrafficEnds, BankFault>
+    ensures near { IfOk result (λ ends. AreEnds near ends.near.items) }
+    ensures far { IfOk result (λ ends. AreEnds far.bank.configs ends.far.items) }
+    ensures early { IfErr result EndsEarly }
+{
+    match far.start(rt) {
+        Ok(running) => joined(rt, near, running),
         Err(fault) => {
             let _ = near.join(rt);
             Err(fault)
