@@ -52,9 +52,7 @@ fn comes_up(alloc: Global) -> bool {
 
 /// The set was told so often that the link is up, and that it's down; its history is legal.
 fn is_legal_with(alloc: Global, door: &CoreDoor, up: usize, down: usize) -> bool {
-    ups(door.core.history()) == up
-        && downs(door.core.history()) == down
-        && is_legal(alloc, door)
+    ups(door.core.history()) == up && downs(door.core.history()) == down && is_legal(alloc, door)
 }
 
 #[test]
