@@ -26,7 +26,8 @@ file_head = four 2712847316 ++ (two 2 ++ (two 4 ++ (four 0 ++ (four 0 ++ (four 2
 -- there were; and the octets
 abbrev pub record_of : ℕ → List ℕ → List ℕ
 record_of n octets =
-    four (n / 1000) ++ (four (n % 1000 * 1000) ++ (four (length octets) ++ (four (length octets) ++ octets)))
+    four (n / 1000) ++ (four (n % 1000 * 1000)
+    ++ (four (length octets) ++ (four (length octets) ++ octets)))
 
 -- a sent unit has a record, without its check octets
 abbrev pub answer_record : ℕ → Answer → List ℕ
@@ -49,7 +50,11 @@ at_the_end None = file_head
 at_the_end (Some w) = []
 
 abbrev pub capture_told : Told
-capture_told = record { opening = λ w. file_head; step = λ n before step shown w. shown_record n shown; at_the_end = at_the_end }
+capture_told = record {
+  opening = λ w. file_head;
+  step = λ n before step shown w. shown_record n shown;
+  at_the_end = at_the_end;
+}
 
 -- THE FILE (script_text, specs/Scripts.antt)
 abbrev pub IsCapture : List ℕ → Printed ScriptFault → Type 0

@@ -1,7 +1,7 @@
 //! The parts of a pcap file.
 ghost use Rattle.std.specs.Prelude.{◌≡◌, IfOk};
 ghost use Rattle.l2_units.specs.Grammar.{text};
-ghost use Rattle.script_capture.specs.Capture.{file_head as file_head_in, four as four_in, record_of, two as two_in};
+ghost use Rattle.script_capture.specs.Capture.{four, record_of};
 
 use l2_units::{Unit, write};
 use std::alloc::{AllocError, Global};
@@ -13,8 +13,8 @@ pub(crate) const FILE_HEAD: [u8; 24] = [
 ];
 
 /// The low 32 bits of a number, the low octet first.
-fn four(number: u64) -> [u8; 4]
-    ensures { result ≡ four_in number }
+fn split_in_four(number: u64) -> [u8; 4]
+    ensures { result ≡ four number }
 {
     [
         (number % 256) as u8,
@@ -29,9 +29,9 @@ pub(crate) fn write_record(alloc: Global, number: u64, unit: &Unit) -> Result<Ve
     ensures { IfOk result (λ made. made.items ≡ record_of number (text unit.now)) }
 {
     let octets = write(unit);
-    let length = four(octets.len() as u64);
-    let mut record = Vec::from_slice(alloc, &four(number / 1_000))?;
-    record.extend_from_slice(&four(number % 1_000 * 1_000))?;
+    let length = split_in_four(octets.len() as u64);
+    let mut record = Vec::from_slice(alloc, &split_in_four(number / 1_000))?;
+    record.extend_from_slice(&split_in_four(number % 1_000 * 1_000))?;
     record.extend_from_slice(&length)?;
     record.extend_from_slice(&length)?;
     record.extend_from_slice(octets.as_slice())?;
