@@ -19,7 +19,11 @@ at_the_end end (Some w) = set_text (at_end w end)
 
 -- what is told of a script: nothing of its lines
 abbrev pub history_told : End → Told
-history_told end = record { opening = λ w. []; step = λ n before step shown w. []; at_the_end = at_the_end end }
+history_told end = record {
+  opening = λ w. [];
+  step = λ n before step shown w. [];
+  at_the_end = at_the_end end;
+}
 
 -- THE TEXT (script_text, specs/Scripts.antt)
 abbrev pub IsHistoryText : End → List ℕ → Printed ScriptFault → Type 0
