@@ -18,7 +18,11 @@ at_the_end (Some w) = ends_text w
 
 -- what is told of a script: nothing of the line that makes the world, and what each further one showed
 abbrev pub play_told : Told
-play_told = record { opening = λ w. []; step = λ n before step shown w. shown_text shown; at_the_end = at_the_end }
+play_told = record {
+  opening = λ w. [];
+  step = λ n before step shown w. shown_text shown;
+  at_the_end = at_the_end;
+}
 
 -- THE TEXT (script_text, specs/Scripts.antt)
 abbrev pub IsPlayText : List ℕ → Printed ScriptFault → Type 0

@@ -37,7 +37,8 @@ pub fn play_explained<S: Source, W: Sink>(
     sink: &mut W,
 ) -> Result<(), Fault<ExplainedFault>>
     ensures text { IfSome (S.left source.old)
-        (λ input. Prints result (IsExplainedPlayText input) (W.written sink.old) (W.written sink.new)) }
+        (λ input. Prints result (IsExplainedPlayText input)
+        (W.written sink.old) (W.written sink.new)) }
     ensures bounded { IfSome (S.left source.old) (λ input. OnOk result (length input ≤ 2 ^ 24)) }
     ensures devices { IfSome (S.left source.old)
         (FailsByDevices result (S.has_failed source.new) (W.has_failed sink.new)) }
