@@ -17,10 +17,12 @@ use Rattle.audit_text.specs.declared.fault.AuditFault.TheVariants.{Text, Exhaust
 abbrev pub books_text : ℕ → Books → List ℕ
 books_text calls books =
     codes " calls=" ++ (decimal calls ++ (codes " accepted=" ++ (decimal books.messages
-    ++ (codes " octets=" ++ (decimal books.octets ++ (codes " acked=" ++ (decimal books.acknowledged ++ codes "\n")))))))
+    ++ (codes " octets=" ++ (decimal books.octets
+    ++ (codes " acked=" ++ (decimal books.acknowledged ++ codes "\n")))))))
 
 abbrev pub legal_text : State → List Entry → List ℕ
-legal_text opening entries = codes "legal=yes" ++ books_text (length entries) (books_of opening entries)
+legal_text opening entries =
+    codes "legal=yes" ++ books_text (length entries) (books_of opening entries)
 
 abbrev pub wrong_text : ℕ → List ℕ
 wrong_text line = codes "legal=no line=" ++ (decimal line ++ codes "\n")
@@ -34,12 +36,14 @@ fails fault = record { printed = []; fault = Some fault }
 
 -- YES exactly where the entries are a legal history of a set that opened so; NO with the line of the first that isn't
 -- the step's answer. No history has more than 2^48 entries.
-pub data IsAudited (opening : State) (entries : List Entry) (lines : List ℕ) (text : Printed AuditFault) : Type 0 where
-  legal : length entries ≤ longest_history → IsLegal opening entries → text ≡ says (legal_text opening entries)
-      → IsAudited opening entries lines text
+pub data IsAudited (opening : State) (entries : List Entry) (lines : List ℕ)
+    (text : Printed AuditFault) : Type 0 where
+  legal : length entries ≤ longest_history → IsLegal opening entries
+      → text ≡ says (legal_text opening entries) → IsAudited opening entries lines text
   wrong : (place : ℕ) → length entries ≤ longest_history → IsFirstWrong opening entries place
       → text ≡ says (wrong_text (get_or lines place 0)) → IsAudited opening entries lines text
-  full : longest_history < length entries → text ≡ fails Exhausted → IsAudited opening entries lines text
+  full : longest_history < length entries → text ≡ fails Exhausted
+      → IsAudited opening entries lines text
 
 abbrev pub IsAuditOf : Telling → Printed AuditFault → Type 0
 IsAuditOf (unreadable n) text = text ≡ fails (Text n)
@@ -51,7 +55,8 @@ IsAuditText input text = IsAuditOf (history_in input) text
 
 -- THE LAW: an input has one text
 abbrev pub OneAuditText : Type 0
-OneAuditText = (input : List ℕ) (a b : Printed AuditFault) → IsAuditText input a → IsAuditText input b → a ≡ b
+OneAuditText =
+    (input : List ℕ) (a b : Printed AuditFault) → IsAuditText input a → IsAuditText input b → a ≡ b
 
 -- The auditor beside the definition.
 
@@ -67,6 +72,8 @@ pub record Says (IsIt : Printed AuditFault → Type 0) (before after : List ℕ)
   pub said : IsIt (says printed)
 
 -- it was, or a fault is told, and nothing was
-abbrev pub IsSaid : Result (Unit {0}) (Stop AuditFault) → (Printed AuditFault → Type 0) → List ℕ → List ℕ → Type 0
+abbrev pub IsSaid : Result (Unit {0}) (Stop AuditFault) → (Printed AuditFault → Type 0)
+    → List ℕ → List ℕ → Type 0
 IsSaid result IsIt before after =
-    MatchResult result (λ done. Says IsIt before after) (λ stop. Faults stop IsIt × (after ≡ before))
+    MatchResult result (λ done. Says IsIt before after)
+    (λ stop. Faults stop IsIt × (after ≡ before))

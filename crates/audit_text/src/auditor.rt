@@ -39,7 +39,8 @@ impl Auditor {
 
     /// Keeps these octets.
     fn keep(&mut self, octets: &[u8]) -> Result<(), Stop<AuditFault>>
-        ensures { MatchResult result (λ done. self.new ≡ self.old ++ octets.now) (λ stop. stop ≡ Stop.Memory) }
+        ensures { MatchResult result (λ done. self.new ≡ self.old ++ octets.now)
+            (λ stop. stop ≡ Stop.Memory) }
     {
         match self.input.extend_from_slice(octets) {
             Ok(()) => Ok(()),

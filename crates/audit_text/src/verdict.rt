@@ -5,7 +5,7 @@ ghost use Rattle.set_model.specs.History.{IsLegal, longest_history};
 ghost use Rattle.audit_text.specs.Auditing.{IsAuditText, IsAudited, Faults, says, books_text, legal_text, wrong_text};
 
 use super::fault::AuditFault;
-use history_audit::{books_of, first_wrong};
+use history_audit::{add_up_books, first_wrong};
 use history_lines::read_history;
 use printing::Stop;
 use set_core::SetFault;
@@ -31,7 +31,8 @@ fn audited(
     entries: &[Entry],
     lines: &[u64],
 ) -> Result<Vec<u8>, Stop<AuditFault>>
-    ensures { MatchResult result (λ text. IsAudited (new_state config.now) entries.now lines.now (says text.items))
+    ensures { MatchResult result
+        (λ text. IsAudited (new_state config.now) entries.now lines.now (says text.items))
         (λ stop. Faults stop (IsAudited (new_state config.now) entries.now lines.now)) }
 {
     match first_wrong(alloc, config, entries) {
@@ -46,10 +47,11 @@ fn audited(
 fn legal(alloc: Global, config: &SetConfig, entries: &[Entry]) -> Result<Vec<u8>, Stop<AuditFault>>
     requires legal { IsLegal (new_state config.now) entries.now }
     requires few { length entries.now ≤ longest_history }
-    ensures { MatchResult result (λ text. text.items ≡ legal_text (new_state config.now) entries.now)
+    ensures { MatchResult result
+        (λ text. text.items ≡ legal_text (new_state config.now) entries.now)
         (λ stop. stop ≡ Stop.Memory) }
 {
-    match books_of(alloc, config, entries) {
+    match add_up_books(alloc, config, entries) {
         Ok(books) => told(write_legal(alloc, entries.len() as u64, &books)),
         Err(_) => Err(Stop::Memory),
     }

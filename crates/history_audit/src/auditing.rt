@@ -1,7 +1,7 @@
 //! Where a list of entries leaves the history of a set.
 ghost use Rattle.std.specs.Prelude.{◌≡◌, ◌<◌, ◌≤◌, ◌↔◌, [], length, IfOk, IfErr, OnOk, MatchOption};
 ghost use Rattle.set_model.specs.State.{new_state};
-ghost use Rattle.set_model.specs.History.{IsLegal, books_of as books_in, longest_history, new_set};
+ghost use Rattle.set_model.specs.History.{IsLegal, books_of, longest_history, new_set};
 ghost use Rattle.history_audit.specs.FirstWrong.{IsFirstWrong};
 
 use set_core::{SetCore, SetFault, audit};
@@ -54,10 +54,10 @@ fn halved(alloc: Global, config: &SetConfig, entries: &[Entry]) -> Result<usize,
 /// What a legal history adds up to: it's asked of a set anew.
 ///
 /// Fault: 1 [`SetFault::NoMemory`], only where memory was refused.
-pub fn books_of(alloc: Global, config: &SetConfig, entries: &[Entry]) -> Result<Books, SetFault>
+pub fn add_up_books(alloc: Global, config: &SetConfig, entries: &[Entry]) -> Result<Books, SetFault>
     requires legal { IsLegal (new_state config.now) entries.now }
     requires few { length entries.now ≤ longest_history }
-    ensures books { IfOk result (λ books. books ≡ books_in (new_state config.now) entries.now) }
+    ensures books { IfOk result (λ books. books ≡ books_of (new_state config.now) entries.now) }
     ensures fault { IfErr result (λ fault. fault ≡ SetFault.NoMemory) }
 {
     let mut set = SetCore::new(alloc, config)?;

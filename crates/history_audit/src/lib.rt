@@ -7,4 +7,4 @@
 
 mod auditing;
 
-pub use auditing::{books_of, first_wrong};
+pub use auditing::{add_up_books, first_wrong};

@@ -1,6 +1,6 @@
 use Rattle.std.proofs.Common.{ap, ap₂, ◌∙◌}
-use Rattle.set_model.specs.History.{LinkSet, books_of as books_in}
-use Rattle.history_audit.proofs.auditing.books_of.Goals as goal
+use Rattle.set_model.specs.History.{LinkSet, books_of}
+use Rattle.history_audit.proofs.auditing.add_up_books.Goals as goal
 
 pub repeat-requires-clause-legal : goal.repeat-requires-clause-legal
 repeat-requires-clause-legal c = rw c.in_ok-set.ensures.ok c.requires.legal
@@ -8,4 +8,4 @@ repeat-requires-clause-legal c = rw c.in_ok-set.ensures.ok c.requires.legal
 pub returns-clause-books : goal.returns-clause-books
 returns-clause-books c =
     let opening = c.repeat.ensures.opening ∙ ap (λ (s : LinkSet). s.opening) c.in_ok-set.ensures.ok in
-    c.books.ensures.value ∙ ap₂ books_in opening c.in_ok-repeat.ensures.history
+    c.books.ensures.value ∙ ap₂ books_of opening c.in_ok-repeat.ensures.history
