@@ -27,7 +27,8 @@ without_subcommands = record { top = program_itself; subs = [] }
 -- five subcommands, which take no words, one that takes a flag, and one that takes an end, either of which is its END,
 -- and one that takes options
 abbrev pub explain_rule : Rule
-explain_rule = record (new_rule (codes "END")) { long = Some (codes "explain"); action = Some SetTrue }
+explain_rule =
+    record (new_rule (codes "END")) { long = Some (codes "explain"); action = Some SetTrue }
 
 abbrev pub play_shape : Shape
 play_shape = record (new_shape (codes "play")) { rules = explain_rule ∷ [] }
@@ -38,11 +39,13 @@ units_and_play =
 
 abbrev pub with_units : App
 with_units =
-    with_subcommand (with_subcommand units_and_play (new_shape (codes "decode"))) (new_shape (codes "capture"))
+    with_subcommand (with_subcommand units_and_play (new_shape (codes "decode")))
+    (new_shape (codes "capture"))
 
 abbrev pub without_history : App
 without_history =
-    with_subcommand (with_subcommand with_units (new_shape (codes "ladder"))) (new_shape (codes "audit"))
+    with_subcommand (with_subcommand with_units (new_shape (codes "ladder")))
+    (new_shape (codes "audit"))
 
 abbrev pub end_rule : Rule
 end_rule = record (new_rule (codes "END")) { required = true }
@@ -99,7 +102,8 @@ pub record IsWord (asked : Words) (name : List ℕ) (end : Option (List ℕ)) : 
 -- what the library finds in words asks for this: a subcommand of this name, what it has for END, and its options
 abbrev pub IsFound : Words → Option (Text × List Row) → Type 0
 IsFound asked None = ⊥
-IsFound asked (Some found) = IsWord asked found.0 (first_of (codes "END") found.1) × HasOptions asked found.1
+IsFound asked (Some found) =
+    IsWord asked found.0 (first_of (codes "END") found.1) × HasOptions asked found.1
 
 -- a run, but for the link that is to fail, which isn't below the links
 abbrev pub IsLinkless : Option (Text × List Row) → Type 0

@@ -74,7 +74,8 @@ pub record IsRun (run : RunWords) (rows : List Row) : Type 0 where
 
 -- each number is in its range, but the link that is to fail isn't below the links
 abbrev pub LacksLink : List Row → Type 0
-LacksLink rows = (run : RunWords) × (link : ℕ) × AreValues run rows × (run.fail ≡ Some link) × (run.links ≤ link)
+LacksLink rows =
+    (run : RunWords) × (link : ℕ) × AreValues run rows × (run.fail ≡ Some link) × (run.links ≤ link)
 
 -- why these options ask for no run
 abbrev pub IsUnasked : Unasked → List Row → Type 0

@@ -27,7 +27,8 @@ pub(crate) fn run_of(found: &ArgMatches<'_>) -> Result<RunWords, Unasked>
 fn with_link(run: RunWords) -> Result<RunWords, Unasked>
     ensures { MatchResult result
         (λ same. (same ≡ run) × IfSome run.fail (λ link. link < run.links))
-        (λ why. (why ≡ Unasked.Link) × IfSome run.fail (λ link. run.links ≤ link) × (run.fail ≢ None)) }
+        (λ why. (why ≡ Unasked.Link)
+        × IfSome run.fail (λ link. run.links ≤ link) × (run.fail ≢ None)) }
 {
     match run.fail {
         Some(link) if link >= run.links => Err(Unasked::Link),
@@ -84,7 +85,8 @@ fn value_of<'a>(found: &ArgMatches<'a>, name: &str) -> Option<&'a str>
 fn number_in(found: &ArgMatches<'_>, name: &str, least: u64, most: u64, usual: u64) -> Option<u64>
     requires usual { (least ≤ usual) × (usual ≤ most) }
     ensures number { MatchOption result
-        ((n : ℕ) → IsNumber least most usual n (first_of name.now (rows_of (found_of found.now))) → ⊥)
+        ((n : ℕ) → IsNumber least most usual n (first_of name.now (rows_of (found_of found.now)))
+        → ⊥)
         (λ n. IsNumber least most usual n (first_of name.now (rows_of (found_of found.now)))) }
     ensures within { IfSome result (λ n. (least ≤ n) × (n ≤ most)) }
 {
@@ -109,7 +111,8 @@ fn within(word: &str, least: u64, most: u64) -> Option<u64>
 
 /// The link behind `--fail`.
 fn fail_in(word: Option<&str>) -> Option<Option<u8>>
-    ensures { MatchOption result ((fail : Option ℕ) → IsFail fail (option_map (λ s. s.now) word.entry) → ⊥)
+    ensures { MatchOption result ((fail : Option ℕ)
+        → IsFail fail (option_map (λ s. s.now) word.entry) → ⊥)
         (λ fail. IsFail fail (option_map (λ s. s.now) word.entry)) }
 {
     match word {
@@ -123,7 +126,8 @@ fn fail_in(word: Option<&str>) -> Option<Option<u8>>
 
 /// Whether the method behind `--method` is the cyclic one.
 fn method_in(word: Option<&str>) -> Option<bool>
-    ensures { MatchOption result ((cyclic : Bool) → IsMethod cyclic (option_map (λ s. s.now) word.entry) → ⊥)
+    ensures { MatchOption result ((cyclic : Bool)
+        → IsMethod cyclic (option_map (λ s. s.now) word.entry) → ⊥)
         (λ cyclic. IsMethod cyclic (option_map (λ s. s.now) word.entry)) }
 {
     match word {
@@ -183,7 +187,8 @@ fn bare_command<'a>(alloc: Global) -> Command<'a>
 /// The command with the options that tell how much runs.
 fn with_sizes<'a>(alloc: Global, command: Command<'a>) -> Result<Command<'a>, AllocError>
     requires local { (out-Command command).has_globals ≡ false }
-    ensures shape { IfOk result (λ more. shape_of more ≡ with_rules (shape_of command.entry) size_rules) }
+    ensures shape { IfOk result (λ more. shape_of more
+        ≡ with_rules (shape_of command.entry) size_rules) }
     ensures local { IfOk result (λ more. (out-Command more).has_globals ≡ false) }
 {
     let sets = option(alloc, "sets", "N", "Sets, 1 to 16 [1]");
@@ -205,7 +210,8 @@ fn with_sizes<'a>(alloc: Global, command: Command<'a>) -> Result<Command<'a>, Al
 fn with_option<'a>(command: Command<'a>, option: Arg<'a>) -> Result<Command<'a>, AllocError>
     requires local { (out-Command command).has_globals ≡ false }
     requires option { option.global ≡ false }
-    ensures shape { IfOk result (λ more. shape_of more ≡ with_rules (shape_of command.entry) (rule_of option.entry ∷ [])) }
+    ensures shape { IfOk result (λ more. shape_of more
+        ≡ with_rules (shape_of command.entry) (rule_of option.entry ∷ [])) }
     ensures local { IfOk result (λ more. (out-Command more).has_globals ≡ false) }
 {
     command.arg(option)
