@@ -35,7 +35,8 @@ totals_text totals =
     ++ (codes " legal=" ++ (yes_or_no totals.legal ++ codes "\n")))))
 
 abbrev pub end_text : ℕ → List ℕ → SetTotals → List ℕ
-end_text set end totals = codes "set=" ++ (decimal set ++ (codes " end=" ++ (end ++ totals_text totals)))
+end_text set end totals =
+    codes "set=" ++ (decimal set ++ (codes " end=" ++ (end ++ totals_text totals)))
 
 abbrev pub set_text : ℕ → SetTotals → SetTotals → List ℕ
 set_text set a b = end_text set (codes "a") a ++ end_text set (codes "b") b
@@ -91,7 +92,8 @@ came_up link (entry ∷ entries) =
 abbrev pub taken_on : ℕ → List Entry → ℕ
 taken_on link [] = 0
 taken_on link (entry ∷ entries) =
-    (if is_heard link entry.event && took_message entry.answer then 1 else 0) + taken_on link entries
+    (if is_heard link entry.event && took_message entry.answer then 1 else 0)
+    + taken_on link entries
 
 -- what the terminal of a link of this end counted, and what the other end accepted of what it sent
 abbrev pub link_end : ℕ → SetEnd → SetEnd → TermReport → LinkEnd
@@ -106,8 +108,9 @@ link_end link own other report = record {
 
 abbrev pub counted_text : LinkEnd → List ℕ
 counted_text l =
-    codes " sent=" ++ (decimal l.sent ++ (codes " good=" ++ (decimal l.good ++ (codes " bad=" ++ (decimal l.bad
-    ++ (codes " cause=" ++ (decimal l.cause ++ (codes " delivered=" ++ (decimal l.delivered ++ codes "\n")))))))))
+    codes " sent=" ++ (decimal l.sent ++ (codes " good=" ++ (decimal l.good
+    ++ (codes " bad=" ++ (decimal l.bad ++ (codes " cause=" ++ (decimal l.cause
+    ++ (codes " delivered=" ++ (decimal l.delivered ++ codes "\n")))))))))
 
 abbrev pub link_text : ℕ → ℕ → List ℕ → LinkEnd → List ℕ
 link_text set link end l =
@@ -116,10 +119,12 @@ link_text set link end l =
 
 -- a terminal that failed has no line
 abbrev pub report_text : ℕ → ℕ → List ℕ → SetEnd → SetEnd → Result TermReport TermFault → List ℕ
-report_text set link end own other (Ok report) = link_text set link end (link_end link own other report)
+report_text set link end own other (Ok report) =
+    link_text set link end (link_end link own other report)
 report_text set link end own other (Err fault) = []
 
-abbrev pub both_text : ℕ → ℕ → SetEnd → SetEnd → Result TermReport TermFault → Result TermReport TermFault → List ℕ
+abbrev pub both_text : ℕ → ℕ → SetEnd → SetEnd → Result TermReport TermFault
+    → Result TermReport TermFault → List ℕ
 both_text set link a b x y =
     report_text set link (codes "a") a b x ++ report_text set link (codes "b") b a y
 
@@ -141,4 +146,5 @@ links_text set (a ∷ near) (b ∷ far) =
 -- THE TEXT
 abbrev pub run_text : Bool → List SetEnd → List SetEnd → List ℕ
 run_text per_link near far =
-    all_text (map end_totals near) (map end_totals far) ++ (if per_link then links_text 0 near far else [])
+    all_text (map end_totals near) (map end_totals far)
+    ++ (if per_link then links_text 0 near far else [])

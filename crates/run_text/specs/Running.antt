@@ -51,9 +51,11 @@ pub record WritesText (IsText : List ℕ → Type 0) (result : Result (Unit {0})
   pub ends : MatchResult result (λ done. IsText printed) (CutsOff IsText printed)
 
 -- this text was written
-abbrev pub WritesEnds : List ℕ → Result (Unit {0}) (Fault RunFault) → Option (List ℕ) → Option (List ℕ) → Type 0
+abbrev pub WritesEnds : List ℕ → Result (Unit {0}) (Fault RunFault) → Option (List ℕ)
+    → Option (List ℕ) → Type 0
 WritesEnds text result old new = WritesText (λ printed. printed ≡ text) result old new
 
 -- THE RUN: what was written is the text of what the threads came to
-abbrev pub Runs : Traffic → Bool → Result (Unit {0}) (Fault RunFault) → Option (List ℕ) → Option (List ℕ) → Type 0
+abbrev pub Runs : Traffic → Bool → Result (Unit {0}) (Fault RunFault) → Option (List ℕ)
+    → Option (List ℕ) → Type 0
 Runs traffic per_link result old new = WritesText (IsRunText traffic per_link) result old new

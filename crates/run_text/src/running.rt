@@ -68,7 +68,8 @@ fn write_ends<W: Sink>(
 ) -> Result<(), Fault<RunFault>>
     requires ends { All IsAnEnd near.now × All IsAnEnd far.now }
     requires few { (length near.now ≤ 16) × (length far.now ≤ 16) }
-    ensures text { WritesEnds (run_text per_link near.now far.now) result (W.written sink.old) (W.written sink.new) }
+    ensures text { WritesEnds (run_text per_link near.now far.now) result
+        (W.written sink.old) (W.written sink.new) }
     ensures failed { IfErr result (λ fault. fault ≡ Fault.Write → W.has_failed sink.new ≡ true) }
 {
     match text_of(alloc, near, far, per_link) {

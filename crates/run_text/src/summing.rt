@@ -2,7 +2,7 @@
 ghost use Rattle.std.specs.Prelude.{◌≡◌, ◌<◌, ◌^◌, All, IfOk, IsOk, IsTrue, map, true};
 ghost use Rattle.bank_core.specs.Totals.{IsInRange};
 ghost use Rattle.set_model.specs.Rows.{total_of};
-ghost use Rattle.run_text.specs.RunText.{end_totals as totals_in};
+ghost use Rattle.run_text.specs.RunText.{end_totals};
 ghost use Rattle.run_text.specs.Running.{GotThrough, IsAnEnd};
 
 use bank_core::{SetEnd, SetTotals};
@@ -14,22 +14,22 @@ use std::alloc::{AllocError, Global};
 /// What each of these sets came to. Each history is audited, in as much memory as a set of such a history takes.
 pub(crate) fn totals_of_ends(alloc: Global, ends: &[SetEnd]) -> Result<Vec<SetTotals>, AllocError>
     requires ends { All IsAnEnd ends.now }
-    ensures totals { IfOk result (λ totals. totals.items ≡ map totals_in ends.now) }
+    ensures totals { IfOk result (λ totals. totals.items ≡ map end_totals ends.now) }
     ensures small { IfOk result (λ totals. All IsInRange totals.items) }
 {
     let mut totals = Vec::new(alloc);
     for end in ends {
         totals.reserve(1)?;
-        let of_end = end_totals(alloc, end)?;
+        let of_end = add_up_end(alloc, end)?;
         totals.push_reserved(of_end);
     }
     Ok(totals)
 }
 
 /// What a set came to at this end. Its history is legal, as the audit tells anew.
-fn end_totals(alloc: Global, end: &SetEnd) -> Result<SetTotals, AllocError>
+fn add_up_end(alloc: Global, end: &SetEnd) -> Result<SetTotals, AllocError>
     requires end { IsAnEnd end.now }
-    ensures totals { IfOk result (λ totals. totals ≡ totals_in end.now) }
+    ensures totals { IfOk result (λ totals. totals ≡ end_totals end.now) }
     ensures small { IfOk result IsInRange }
 {
     let closed = &end.closed;

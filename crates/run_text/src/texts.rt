@@ -1,9 +1,9 @@
 //! The lines of a run.
 ghost use Rattle.std.specs.Prelude.{◌≡◌, ◌++◌, ◌≤◌, IfOk, All, codes, length};
 ghost use Rattle.bank_core.specs.Totals.{IsInRange};
-ghost use Rattle.run_text.specs.RunText.{all_text, counted_text, end_text, link_text, links_text, report_text, set_links_text, set_text, sets_text, total_text, yes_or_no as word_of};
+ghost use Rattle.run_text.specs.RunText.{all_text, counted_text, end_text, link_text, links_text, report_text, set_links_text, set_text, sets_text, total_text, yes_or_no};
 
-use super::counting::link_end;
+use super::counting::count_link_end;
 use super::link::LinkEnd;
 use bank_core::{SetEnd, SetTotals, totals};
 use link_term::{TermFault, TermReport};
@@ -40,7 +40,7 @@ fn write_total(
     let sum = totals(&all);
     let accepted = sum.accepted;
     let placed = sum.placed;
-    let legal = yes_or_no(sum.legal);
+    let legal = word_for(sum.legal);
     Ok(format!(in alloc; "total accepted={accepted} placed={placed} legal={legal}\n")?.into_bytes())
 }
 
@@ -79,15 +79,15 @@ fn write_end(alloc: Global, set: u64, end: &str, of_end: &SetTotals) -> Result<V
 {
     let accepted = of_end.accepted;
     let placed = of_end.placed;
-    let legal = yes_or_no(of_end.legal);
+    let legal = word_for(of_end.legal);
     Ok(format!(in alloc;
         "set={set} end={end} accepted={accepted} placed={placed} legal={legal}\n"
     )?.into_bytes())
 }
 
 /// The word for a truth.
-fn yes_or_no(fact: bool) -> &'static str
-    ensures { result.now ≡ word_of fact }
+fn word_for(fact: bool) -> &'static str
+    ensures { result.now ≡ yes_or_no fact }
 {
     if fact { "yes" } else { "no" }
 }
@@ -147,10 +147,17 @@ fn write_report(
     other: &SetEnd,
     report: &Result<TermReport, TermFault>,
 ) -> Result<Vec<u8>, AllocError>
-    ensures { IfOk result (λ text. text.items ≡ report_text set link end.now own.now other.now report.now) }
+    ensures { IfOk result (λ text. text.items
+        ≡ report_text set link end.now own.now other.now report.now) }
 {
     match report {
-        Ok(report) => write_link(alloc, set, link, end, &link_end(link, own, other, report)),
+        Ok(report) => write_link(
+            alloc,
+            set,
+            link,
+            end,
+            &count_link_end(link, own, other, report),
+        ),
         Err(_) => Ok(Vec::new(alloc)),
     }
 }
@@ -165,7 +172,7 @@ fn write_link(
 ) -> Result<Vec<u8>, AllocError>
     ensures { IfOk result (λ text. text.items ≡ link_text set link end.now of_link.now) }
 {
-    let up = yes_or_no(of_link.up);
+    let up = word_for(of_link.up);
     let mut text = format!(in alloc; "set={set} link={link} end={end} up={up}")?.into_bytes();
     let counted = write_counted(alloc, of_link)?;
     text.extend_from_slice(&counted)?;

@@ -4,7 +4,7 @@ use Rattle.run_text.specs.Running.{IsAnEnd}
 use Rattle.run_text.proofs.summing.totals_of_ends.Goals as goal
 
 -- src/summing.rt
-pub end_totals-requires : goal.end_totals-requires
-end_totals-requires c = record {
+pub add_up_end-requires : goal.add_up_end-requires
+add_up_end-requires c = record {
   end = subst IsAnEnd (sym c.end-item.is) (All-get_or IsAnEnd c.args.ends.now c.loop-end.end-index c.end-item.result c.loop-end-test.true c.requires.ends);
 }

@@ -2,7 +2,7 @@ use Rattle.std.proofs.Common.{arith, ap, ap₂, sym, subst, ℕ, Bool, length}
 use Rattle.set_model.specs.State.{new_state}
 use Rattle.set_model.specs.History.{IsLegal}
 use Rattle.run_text.proofs.Placing.{end_facts, not_exhausted}
-use Rattle.run_text.proofs.summing.end_totals.Goals as goal
+use Rattle.run_text.proofs.summing.add_up_end.Goals as goal
 
 -- src/summing.rt
 pub placed-requires : goal.placed-requires

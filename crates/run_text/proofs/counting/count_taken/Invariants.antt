@@ -1,6 +1,6 @@
 use Rattle.std.proofs.Common.{◌≡◌, ◌+◌, ◌≤◌, length}
 use Rattle.run_text.specs.RunText.{taken_on}
-use Rattle.run_text.proofs.counting.taken_on.Given as goal
+use Rattle.run_text.proofs.counting.count_taken.Given as goal
 
 abbrev pub invariant-loop-told : goal.invariant-loop-told
 invariant-loop-told l = (taken_on l.link l.fn.history ≡ l.count + taken_on l.link l.left)
