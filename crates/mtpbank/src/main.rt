@@ -76,7 +76,8 @@ fn said(rt: &HostRuntime, error: &clap::Error) -> io::Result<ExitCode>
 
 /// 2 for wrong words, 0 for what was asked to be shown.
 fn status_of(error: &clap::Error) -> ExitCode
-    ensures wrong { kind_of error.now ≢ DisplayHelp → kind_of error.now ≢ DisplayVersion → exit_status result ≡ 2 }
+    ensures wrong { kind_of error.now ≢ DisplayHelp → kind_of error.now ≢ DisplayVersion
+        → exit_status result ≡ 2 }
     ensures shown { kind_of error.now ≡ DisplayHelp → exit_status result ≡ 0 }
 {
     ExitCode::from(error.exit_code() as u8)

@@ -1,7 +1,6 @@
 //! What the subcommands do, over any source and sink.
 ghost use Rattle.std.specs.Prelude.{◌≡◌, ◌≤◌, ◌^◌, length, IfSome, OnOk};
 ghost use Rattle.printing.specs.Printing.{Prints, FailsByDevices};
-ghost use Rattle.mtpbank.specs.declared.running.TextFault.TheVariants.{Audit as AuditedFault, Decode as DecodeFault, Explained as ExplainedPlayFault, Play as PlayFault, Units as UnitsFault};
 ghost use Rattle.mtpbank.specs.Running.{IsTextOf, ReadsInput, with_fault};
 
 use audit_text::{AuditFault, audit};
@@ -66,7 +65,7 @@ pub fn run<S: Source, W: Sink>(
 
 /// What `units` answered, with a fault of any text.
 fn of_units(ran: Result<(), Fault<UnreadableOctet>>) -> Result<(), Fault<TextFault>>
-    ensures { result ≡ with_fault UnitsFault ran }
+    ensures { result ≡ with_fault TextFault.Units ran }
 {
     match ran {
         Ok(()) => Ok(()),
@@ -79,7 +78,7 @@ fn of_units(ran: Result<(), Fault<UnreadableOctet>>) -> Result<(), Fault<TextFau
 
 /// What `play` answered, with a fault of any text.
 fn of_play(ran: Result<(), Fault<ScriptFault>>) -> Result<(), Fault<TextFault>>
-    ensures { result ≡ with_fault PlayFault ran }
+    ensures { result ≡ with_fault TextFault.Play ran }
 {
     match ran {
         Ok(()) => Ok(()),
@@ -92,7 +91,7 @@ fn of_play(ran: Result<(), Fault<ScriptFault>>) -> Result<(), Fault<TextFault>>
 
 /// What `play --explain` answered, with a fault of any text.
 fn of_explained(ran: Result<(), Fault<ExplainedFault>>) -> Result<(), Fault<TextFault>>
-    ensures { result ≡ with_fault ExplainedPlayFault ran }
+    ensures { result ≡ with_fault TextFault.Explained ran }
 {
     match ran {
         Ok(()) => Ok(()),
@@ -105,7 +104,7 @@ fn of_explained(ran: Result<(), Fault<ExplainedFault>>) -> Result<(), Fault<Text
 
 /// What `decode` answered, with a fault of any text.
 fn of_decode(ran: Result<(), Fault<UnreadableUnit>>) -> Result<(), Fault<TextFault>>
-    ensures { result ≡ with_fault DecodeFault ran }
+    ensures { result ≡ with_fault TextFault.Decode ran }
 {
     match ran {
         Ok(()) => Ok(()),
@@ -118,7 +117,7 @@ fn of_decode(ran: Result<(), Fault<UnreadableUnit>>) -> Result<(), Fault<TextFau
 
 /// What `audit` answered, with a fault of any text.
 fn of_audit(ran: Result<(), Fault<AuditFault>>) -> Result<(), Fault<TextFault>>
-    ensures { result ≡ with_fault AuditedFault ran }
+    ensures { result ≡ with_fault TextFault.Audit ran }
 {
     match ran {
         Ok(()) => Ok(()),
