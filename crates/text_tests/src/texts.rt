@@ -1,7 +1,7 @@
 //! Scripts with what they print, and devices that fail.
 //!
 //! The expected lines are worked out by hand from Q.703 2 to 5 and the script's rules.
-ghost use Rattle.std.specs.Prelude.{◌≡◌, ◌≤◌, ◌<◌, Some};
+ghost use Rattle.std.specs.Prelude.{◌≡◌, ◌≤◌, ◌<◌, ◌^◌, Some};
 
 use super::holds;
 use play_text::{ScriptFault, play};
