@@ -86,6 +86,14 @@ fed_on past all mid rest a b mark first more = record {
       ∙ sym (append_assoc first.taken more.taken rest);
   stands = rw (append_assoc past first.taken more.taken) at more.stands;
   marks = marks-append past first.taken more.taken [] (option_to_list mark) first.marks more.marks;
+  last = λ some. record {
+    front = first.taken ++ (more.last some).front;
+    bit = (more.last some).bit;
+    split =
+        ap (λ (bits : List Bool). first.taken ++ bits) (more.last some).split
+        ∙ sym (append_assoc first.taken (more.last some).front ((more.last some).bit ∷ []));
+    none = marks-append past first.taken (more.last some).front [] [] first.marks (more.last some).none;
+  };
 }
 
 -- others stand behind them
@@ -96,6 +104,7 @@ fed_front past all rest others new mark fed = record {
   split = ap (λ (bits : List Bool). bits ++ others) fed.split ∙ append_assoc fed.taken rest others;
   stands = fed.stands;
   marks = fed.marks;
+  last = fed.last;
 }
 
 pub fed_first : (past all first rest others : List Bool) (a b : Deframer) (mark : Option Mark) → FeedsUpTo past all (first ++ others) a None
@@ -117,6 +126,7 @@ bit_fed past left bits new mark some stands is = record {
   split = next_bit left bits some;
   stands = stands;
   marks = (mark, [], is, refl, sym (append-nil (option_to_list mark)));
+  last = λ _. record { front = []; bit = bits % 2 == 1; split = refl; none = refl };
 }
 
 -- no kind, no mark

@@ -1,5 +1,5 @@
 -- What a deframer keeps of the bits fed
-use Rattle.std.specs.Prelude.{◌≡◌, ℕ, ◌+◌, ◌*◌, ◌%◌, ◌^◌, ◌<◌, ◌≤◌, Bool, true, false, List, [], ◌∷◌, ◌++◌, length, take, All, Option, Some, None}
+use Rattle.std.specs.Prelude.{◌≡◌, ◌≢◌, ℕ, ◌+◌, ◌*◌, ◌%◌, ◌^◌, ◌<◌, ◌≤◌, Bool, true, false, List, [], ◌∷◌, ◌++◌, length, take, All, Option, Some, None}
 use Rattle.l2_bits.specs.declared.content.Content.{Content}
 use Rattle.l2_bits.specs.declared.deframing.Deframer.{Deframer}
 use Rattle.l2_bits.specs.declared.rest.Rest.{Rest}
@@ -98,9 +98,17 @@ pub record Runs (past bits : List Bool) (deframer : Deframer) : Type 0 where
   pub stands : StandsFor (past ++ bits) deframer
   pub marks : AreMarks past bits []
 
+-- no mark ends before the last of these bits
+pub record NoneBeforeLast (past taken : List Bool) : Type 0 where
+  pub front : List Bool
+  pub bit : Bool
+  pub split : taken ≡ front ++ bit ∷ []
+  pub none : AreMarks past front []
+
 -- the first of these bits were taken, with the last of which this mark ends, if any, and none before
 pub record FeedsUpTo (past bits rest : List Bool) (deframer : Deframer) (mark : Option Mark) : Type 0 where
   pub taken : List Bool
   pub split : bits ≡ taken ++ rest
   pub stands : StandsFor (past ++ taken) deframer
   pub marks : AreMarks past taken (option_to_list mark)
+  pub last : mark ≢ None → NoneBeforeLast past taken

@@ -1,4 +1,4 @@
-use Rattle.std.proofs.Common.{◌<◌, ◌≤◌, arith}
+use Rattle.std.proofs.Common.{◌<◌, ◌≤◌, refl, arith}
 use Rattle.std.specs.Int.{trailing_zeros, w64}
 use Rattle.l2_bits.specs.LineBits.{bits_of}
 use Rattle.l2_bits.specs.Deframing.{NoneAfterFive}
@@ -21,4 +21,5 @@ returns-clause-takes c = λ past is.
       split = c.take-bits.ensures.split;
       stands = on.stands;
       marks = on.marks;
+      last = λ some. absurd (some refl);
     }
