@@ -1,15 +1,14 @@
 -- Why words are refused.
 use Rattle.std.proofs.Common.{◌≡◌, ◌≢◌, true, ℕ, List}
-use Rattle.clap.specs.Words.{takes}
+use Rattle.clap.specs.Words.{subcommand_of, takes}
 use Rattle.clap.specs.declared.error.kind.ErrorKind.{ErrorKind}
 use Rattle.clap.specs.declared.error.kind.ErrorKind.TheVariants.{OutOfMemory}
-use Rattle.command_line.specs.declared.words.Words.{Words}
 use Rattle.command_line.specs.declared.words.WordsFault.{WordsFault}
 use Rattle.command_line.specs.declared.words.WordsFault.TheVariants.{NoMemory, Words as WrongWords, Link}
-use Rattle.command_line.specs.CommandLine.{program, AreWrong, IsAsked, IsKind, Refuses}
+use Rattle.command_line.specs.CommandLine.{program, AreWrong, AsksForNothing, IsKind, Refuses}
 
 -- they name no subcommand
-pub unnamed : (fault : WordsFault) (words : List (List ℕ)) (kind : ErrorKind) → IsKind kind fault → ((asked : Words) → IsAsked asked words → ⊥) → Refuses fault words
+pub unnamed : (fault : WordsFault) (words : List (List ℕ)) (kind : ErrorKind) → IsKind kind fault → AsksForNothing (subcommand_of program words) → Refuses fault words
 unnamed NoMemory words kind is none = tt
 unnamed (WrongWords error) words kind is none = λ taken. none
 unnamed Link words kind is none = absurd is

@@ -10,7 +10,7 @@ use Rattle.command_line.specs.declared.words.Words.TheVariants.{Units, Play, Pla
 use Rattle.command_line.specs.declared.run_words.RunWords.{RunWords}
 use Rattle.command_line.specs.declared.run_words.Unasked.{Unasked}
 use Rattle.command_line.specs.declared.run_words.Unasked.TheVariants.{Value, Link}
-use Rattle.command_line.specs.RunOptions.{IsRun, IsUnasked}
+use Rattle.command_line.specs.RunOptions.{AreValues, IsRun, IsUnasked, LacksLink}
 use Rattle.command_line.specs.CommandLine.{HasOptions, IsNotFound, IsWord, name_of}
 
 pub found_is : {Z : Type 0} (found : Option (Box SubCommand Z)) (name : Text) (rows : List Row)
@@ -54,7 +54,13 @@ module _ (name : Text) (rows : List Row) (is_run : name ≡ codes "run") where
   no_word HistoryOfB none is = let bad : 104 ≡ 114 = letter HistoryOfB name _ is_run is.0 in omega (arith, bad)
   no_word (Run run) none is = none run is.1
 
+  in_range : ((run : RunWords) → AreValues run rows → ⊥) → LacksLink rows → ⊥
+  in_range no_values (run, link, values, is, past) = no_values run values
+
   -- options that ask for no run
   pub no_run : (why : Unasked) → IsUnasked why rows → IsNotFound why (Some (name, rows))
-  no_run (Value said) none = λ asked is. no_word asked none is
+  no_run (Value said) no_values = record {
+    none = λ asked is. no_word asked (λ run it. no_values run it.values) is;
+    no_link = λ linkless. in_range no_values linkless.1;
+  }
   no_run Link lacks = (is_run, lacks)

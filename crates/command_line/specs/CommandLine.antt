@@ -110,9 +110,14 @@ abbrev pub IsLinkless : Option (Text × List Row) → Type 0
 IsLinkless None = ⊥
 IsLinkless (Some found) = (found.0 ≡ codes "run") × LacksLink found.1
 
+-- it asks for nothing, nor for a run but for its link
+pub record AsksForNothing (found : Option (Text × List Row)) : Type 0 where
+  pub none : (asked : Words) → IsFound asked found → ⊥
+  pub no_link : IsLinkless found → ⊥
+
 -- why what the library finds asks for nothing
 abbrev pub IsNotFound : Unasked → Option (Text × List Row) → Type 0
-IsNotFound (Value said) found = (asked : Words) → IsFound asked found → ⊥
+IsNotFound (Value said) found = AsksForNothing found
 IsNotFound NoLink found = IsLinkless found
 
 abbrev pub IsAsked : Words → List (List ℕ) → Type 0
@@ -120,8 +125,7 @@ IsAsked asked words = IsFound asked (subcommand_of program words)
 
 -- where the library takes the words, they ask for nothing
 abbrev pub IsRefused : List (List ℕ) → Type 0
-IsRefused words =
-    takes program words ≡ true → (asked : Words) → IsAsked asked words → ⊥
+IsRefused words = takes program words ≡ true → AsksForNothing (subcommand_of program words)
 
 -- wrong words are those; want of memory says nothing of them; a link that isn't there is told as such
 abbrev pub Refuses : WordsFault → List (List ℕ) → Type 0

@@ -79,5 +79,5 @@ LacksLink rows =
 
 -- why these options ask for no run
 abbrev pub IsUnasked : Unasked → List Row → Type 0
-IsUnasked (Value said) rows = (run : RunWords) → IsRun run rows → ⊥
+IsUnasked (Value said) rows = (run : RunWords) → AreValues run rows → ⊥
 IsUnasked Link rows = LacksLink rows

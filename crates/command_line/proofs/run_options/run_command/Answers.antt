@@ -1,4 +1,4 @@
-use Rattle.std.proofs.Common.{◌≡◌, ◌∙◌, ap, ap₂, codes, List, [], ◌∷◌}
+use Rattle.std.proofs.Common.{◌∙◌, ap, ap₂, codes, [], ◌∷◌}
 use Rattle.std.proofs.lemmas.Result.{IfOk-weaker}
 use Rattle.clap.specs.Words.{Rule, Shape}
 use Rattle.clap.specs.Simple.{new_shape}

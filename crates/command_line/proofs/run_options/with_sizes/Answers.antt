@@ -1,4 +1,4 @@
-use Rattle.std.proofs.Common.{◌≡◌, ◌∙◌, ap, codes, List, [], ◌∷◌}
+use Rattle.std.proofs.Common.{◌∙◌, ap, codes, [], ◌∷◌}
 use Rattle.std.proofs.lemmas.Result.{IfOk-weaker}
 use Rattle.clap.specs.Words.{Rule, shape_of}
 use Rattle.command_line.specs.RunOptions.{option_rule, with_rules}

@@ -26,4 +26,7 @@ returns-in-None c =
     let f = found_of c.in-Some.found.now in
     let is = found_is (out-ArgMatches c.args.matches.now).subcommand c.in-Some.name.now (rows_of f) c.in-Some.ensures.name c.in-Some.ensures.rows in
     let end = c.get_str.ensures ∙ first_value-rows f (codes "END") in
-    rw (is, sym end) (λ asked found. c.in-None.ensures asked found.0)
+    rw is (record {
+      none = λ asked found. c.in-None.ensures asked (rw end found.0);
+      no_link = λ linkless. c.in_default-name.not-run linkless.0;
+    })
