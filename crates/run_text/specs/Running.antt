@@ -20,15 +20,19 @@ pub record GotThrough (end : SetEnd) : Type 0 where
   pub users : All (λ (got_through : Bool). got_through ≡ true) end.users.items
   pub terminals : All IsOk end.reports.items
 
+-- what is printed of these ends: something only where each user got through, and no terminal failed
+pub record IsTextOfEnds (per_link : Bool) (near far : List SetEnd) (text : List ℕ) : Type 0 where
+  pub near_got_through : All GotThrough near
+  pub far_got_through : All GotThrough far
+  pub text_is : text ≡ run_text per_link near far
+
 -- what this traffic came to at its ends, and what is printed of it
 pub record IsRunText (traffic : Traffic) (per_link : Bool) (text : List ℕ) : Type 0 where
   pub near : List SetEnd
   pub far : List SetEnd
   pub near_are : AreEndsOf traffic.sets traffic.links 2 1 (method_of traffic.cyclic) near
   pub far_are : AreEndsOf traffic.sets traffic.links 1 2 (method_of traffic.cyclic) far
-  pub near_got_through : All GotThrough near
-  pub far_got_through : All GotThrough far
-  pub text_is : text ≡ run_text per_link near far
+  pub of_ends : IsTextOfEnds per_link near far text
 
 -- a fault that isn't the sink's: nothing was written
 abbrev pub IsCut : Fault RunFault → Type 0
@@ -50,10 +54,15 @@ pub record WritesText (IsText : List ℕ → Type 0) (result : Result (Unit {0})
   pub added : Appends old new printed
   pub ends : MatchResult result (λ done. IsText printed) (CutsOff IsText printed)
 
--- this text was written
-abbrev pub WritesEnds : List ℕ → Result (Unit {0}) (Fault RunFault) → Option (List ℕ)
+-- these octets were written
+abbrev pub WritesAll : List ℕ → Result (Unit {0}) (Fault RunFault) → Option (List ℕ)
     → Option (List ℕ) → Type 0
-WritesEnds text result old new = WritesText (λ printed. printed ≡ text) result old new
+WritesAll octets result old new = WritesText (λ printed. printed ≡ octets) result old new
+
+-- what was written is the text of these ends
+abbrev pub WritesEnds : Bool → List SetEnd → List SetEnd → Result (Unit {0}) (Fault RunFault) → Option (List ℕ)
+    → Option (List ℕ) → Type 0
+WritesEnds per_link near far result old new = WritesText (IsTextOfEnds per_link near far) result old new
 
 -- THE RUN: what was written is the text of what the threads came to
 abbrev pub Runs : Traffic → Bool → Result (Unit {0}) (Fault RunFault) → Option (List ℕ)

@@ -8,7 +8,8 @@
 //! [`run`] does all of it. What the threads do is nobody's to say, so the text isn't a function of the traffic: it's one of
 //! the ends that the banks hand out (`specs/RunText.antt`), and those are what the contract of [`run_through`] says
 //! (`specs/Running.antt`): each history is legal for the configuration that the traffic asks for. So `legal=yes` is
-//! promised; that each message stands in one place and is counted once is promised of any legal history.
+//! promised; that each message stands in one place and is counted once is promised of any legal history. [`write_ends`] says of
+//! the ends that it's given that something is written of them only where each user got through and no terminal failed.
 #![tactic(auto)]
 
 mod counting;
@@ -19,4 +20,4 @@ mod summing;
 mod texts;
 
 pub use fault::RunFault;
-pub use running::run;
+pub use running::{run, write_ends};

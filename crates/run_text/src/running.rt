@@ -2,7 +2,7 @@
 ghost use Rattle.std.specs.Prelude.{◌≡◌, ◌≤◌, All, IfErr, IfOk, length, true};
 ghost use Rattle.bank_core.specs.Faults.{EndsEarly};
 ghost use Rattle.run_text.specs.RunText.{run_text};
-ghost use Rattle.run_text.specs.Running.{IsAnEnd, IsCut, Runs, WritesEnds};
+ghost use Rattle.run_text.specs.Running.{IsAnEnd, IsCut, Runs, WritesAll, WritesEnds};
 
 use super::fault::RunFault;
 use super::summing::{all_got_through, totals_of_ends};
@@ -40,9 +40,6 @@ pub fn run<R: Threads + Wait + Copy + Send + Sync + 'static, W: Sink, F: FnOnce(
         Ok(ends) => ends,
         Err(fault) => return Err(fault_of(fault)),
     };
-    if !all_got_through(&ends.near) || !all_got_through(&ends.far) {
-        return Err(Fault::Memory);
-    }
     write_ends(alloc, &ends.near, &ends.far, per_link, sink)
 }
 
@@ -58,8 +55,11 @@ fn fault_of(fault: BankFault) -> Fault<RunFault>
     }
 }
 
-/// Writes what these ends came to.
-fn write_ends<W: Sink>(
+/// Writes what these ends came to, at most 16 of each bank; with `per_link` behind that what each link came to.
+///
+/// Faults: [`Fault::Memory`] where memory was wanted here, a user didn't get through, or a terminal failed. Nothing is
+/// written then. [`Fault::Write`] where the sink fails; what was written is a beginning of the text.
+pub fn write_ends<W: Sink>(
     alloc: Global,
     near: &[SetEnd],
     far: &[SetEnd],
@@ -68,10 +68,12 @@ fn write_ends<W: Sink>(
 ) -> Result<(), Fault<RunFault>>
     requires ends { All IsAnEnd near.now × All IsAnEnd far.now }
     requires few { (length near.now ≤ 16) × (length far.now ≤ 16) }
-    ensures text { WritesEnds (run_text per_link near.now far.now) result
-        (W.written sink.old) (W.written sink.new) }
+    ensures text { WritesEnds per_link near.now far.now result (W.written sink.old) (W.written sink.new) }
     ensures failed { IfErr result (λ fault. fault ≡ Fault.Write → W.has_failed sink.new ≡ true) }
 {
+    if !all_got_through(near) || !all_got_through(far) {
+        return Err(Fault::Memory);
+    }
     match text_of(alloc, near, far, per_link) {
         Ok(text) => write_all(sink, &text),
         Err(_) => Err(Fault::Memory),
@@ -102,7 +104,7 @@ fn text_of(
 
 /// Writes all these octets.
 fn write_all<W: Sink>(sink: &mut W, octets: &[u8]) -> Result<(), Fault<RunFault>>
-    ensures writes { WritesEnds octets.now result (W.written sink.old) (W.written sink.new) }
+    ensures writes { WritesAll octets.now result (W.written sink.old) (W.written sink.new) }
     ensures failed { IfErr result (λ fault. fault ≡ Fault.Write → W.has_failed sink.new ≡ true) }
 {
     let mut written: usize = 0;

@@ -1,7 +1,6 @@
-use Rattle.std.proofs.Common.{refl, arith, ◌∙◌, ap, ap₂, sym, subst, All, length}
+use Rattle.std.proofs.Common.{refl, arith, ◌∙◌, ap, sym, subst, All, length}
 use Rattle.paced_banks.specs.Opening.{method_of}
-use Rattle.run_text.specs.RunText.{run_text}
-use Rattle.run_text.specs.Running.{GotThrough, IsAnEnd, IsRunText}
+use Rattle.run_text.specs.Running.{IsAnEnd, IsRunText, IsTextOfEnds}
 use Rattle.run_text.proofs.Ends.{ends_of, wider}
 use Rattle.run_text.proofs.running.run.Goals as goal
 
@@ -12,7 +11,7 @@ write_ends-requires-clause-ends g c =
     let method = method_of traffic.cyclic in
     let near = ends_of traffic.sets traffic.links 2 1 method c.in-Ok.ends.near.items c.in-Ok.ensures.near in
     let far = ends_of traffic.sets traffic.links 1 2 method c.in-Ok.ends.far.items c.in-Ok.ensures.far in
-    (subst (All IsAnEnd) (sym c.deref-2.ensures.value) near.0, subst (All IsAnEnd) (sym c.deref-3.ensures.value) far.0)
+    (subst (All IsAnEnd) (sym c.deref.ensures.value) near.0, subst (All IsAnEnd) (sym c.deref-2.ensures.value) far.0)
 
 pub write_ends-requires-clause-few : goal.write_ends-requires-clause-few
 write_ends-requires-clause-few g c =
@@ -20,8 +19,8 @@ write_ends-requires-clause-few g c =
     let method = method_of traffic.cyclic in
     let near = ends_of traffic.sets traffic.links 2 1 method c.in-Ok.ends.near.items c.in-Ok.ensures.near in
     let far = ends_of traffic.sets traffic.links 1 2 method c.in-Ok.ends.far.items c.in-Ok.ensures.far in (
-      omega (arith, ap length c.deref-2.ensures.value, near.1, traffic.few_sets.1),
-      omega (arith, ap length c.deref-3.ensures.value, far.1, traffic.few_sets.1),
+      omega (arith, ap length c.deref.ensures.value, near.1, traffic.few_sets.1),
+      omega (arith, ap length c.deref-2.ensures.value, far.1, traffic.few_sets.1),
     )
 
 pub returns-clause-text : goal.returns-clause-text
@@ -32,7 +31,6 @@ returns-clause-text g c =
       far = c.in-Ok.ends.far.items;
       near_are = c.in-Ok.ensures.near;
       far_are = c.in-Ok.ensures.far;
-      near_got_through = subst (All GotThrough) c.deref.ensures.value (c.if-not-all_got_through.ensures refl);
-      far_got_through = subst (All GotThrough) c.deref-else-not-all_got_through.ensures.value (c.if-not-all_got_through-2.ensures refl);
-      text_is = is ∙ ap₂ (run_text c.args.per_link) c.deref-2.ensures.value c.deref-3.ensures.value;
+      of_ends = subst (λ near. IsTextOfEnds c.args.per_link near c.in-Ok.ends.far.items text) c.deref.ensures.value
+          (subst (λ far. IsTextOfEnds c.args.per_link c.deref.result.now far text) c.deref-2.ensures.value is);
     }) c.write_ends.result _ _ c.write_ends.ensures.text
