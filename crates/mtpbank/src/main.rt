@@ -8,7 +8,7 @@
 //! banks in threads, and prints what they came to.
 #![tactic(auto)]
 
-ghost use Rattle.std.specs.Prelude.{◌≡◌, ◌≢◌, IsOk, IsErr, IfOk};
+ghost use Rattle.std.specs.Prelude.{◌≡◌, ◌≢◌, IsOk, IsErr};
 ghost use Rattle.std.specs.Process.{exit_status};
 ghost use Rattle.clap.specs.Values.{kind_of};
 ghost use Rattle.mtpbank.specs.Running.{ReadsInput};
@@ -38,7 +38,7 @@ const FAULT: u8 = 1;
 /// The status of wrong words.
 const WRONG: u8 = 2;
 
-fn main(rt: HostRuntime) -> io::Result<ExitCode> {
+fn main(rt: HostRuntime) -> ExitCode {
     match asked(&rt) {
         Ok(Words::Run(words)) => {
             let shows = rt.stderr().is_terminal();
@@ -64,13 +64,13 @@ fn asked(rt: &HostRuntime) -> Result<Words, WordsFault> {
 }
 
 /// Says what is wrong with the words, on standard error and with status 2, or what they ask to be shown.
-fn said(rt: &HostRuntime, error: &clap::Error) -> io::Result<ExitCode>
+fn said(rt: &HostRuntime, error: &clap::Error) -> ExitCode
     ensures wrong { kind_of error.now ≢ DisplayHelp → kind_of error.now ≢ DisplayVersion
-        → IfOk result (λ code. exit_status code ≡ 2) }
+        → exit_status result ≡ 2 }
 {
     match error.print(rt) {
         Err(_) if !error.use_stderr() => told(rt, "fault write"),
-        _ => Ok(status_of(error)),
+        _ => status_of(error),
     }
 }
 
@@ -84,15 +84,16 @@ fn status_of(error: &clap::Error) -> ExitCode
 }
 
 /// Tells on standard error, with status 2, that the link that is to fail isn't one of the links.
-fn linkless(rt: &HostRuntime) -> io::Result<ExitCode>
-    ensures { IfOk result (λ code. exit_status code ≡ 2) }
+fn linkless(rt: &HostRuntime) -> ExitCode
+    ensures { exit_status result ≡ 2 }
 {
-    rt.eprintln("fault link")?;
-    Ok(ExitCode::from(WRONG))
+    // where nobody hears it, the status still tells it
+    let _ = rt.eprintln("fault link");
+    ExitCode::from(WRONG)
 }
 
 /// Does what the words ask for, with standard input and output.
-fn done(rt: &HostRuntime, words: Words) -> io::Result<ExitCode>
+fn done(rt: &HostRuntime, words: Words) -> ExitCode
     requires reads { ReadsInput words }
 {
     let mut source = Reader::new(rt.reader());
@@ -155,20 +156,20 @@ fn traffic_of(words: &RunWords) -> Traffic
 }
 
 /// Ends with status 0, or with 1 and the fault in a line on standard error.
-fn ended<T: Display + Drop>(rt: &HostRuntime, ran: Result<(), Fault<T>>) -> io::Result<ExitCode>
-    ensures done { IsOk ran → IfOk result (λ code. exit_status code ≡ 0) }
-    ensures fault { IsErr ran → IfOk result (λ code. exit_status code ≡ 1) }
+fn ended<T: Display + Drop>(rt: &HostRuntime, ran: Result<(), Fault<T>>) -> ExitCode
+    ensures done { IsOk ran → exit_status result ≡ 0 }
+    ensures fault { IsErr ran → exit_status result ≡ 1 }
 {
     match ran {
-        Ok(()) => Ok(ExitCode::SUCCESS),
+        Ok(()) => ExitCode::SUCCESS,
         Err(fault) => told(rt, fault),
     }
 }
 
 /// Tells a fault in one line on standard error, and ends with status 1.
-fn told<D: Display + Drop>(rt: &HostRuntime, fault: D) -> io::Result<ExitCode>
-    ensures { IfOk result (λ code. exit_status code ≡ 1) }
+fn told<D: Display + Drop>(rt: &HostRuntime, fault: D) -> ExitCode
+    ensures { exit_status result ≡ 1 }
 {
-    rt.eprintln(fault)?;
-    Ok(ExitCode::from(FAULT))
+    let _ = rt.eprintln(fault);
+    ExitCode::from(FAULT)
 }
