@@ -67,9 +67,10 @@ def free_memory():
         return 1024 * int(re.search(r"MemAvailable:\s+(\d+)", file.read())[1])
 
 
-def sandbox(name, uses, room, top=TOP):
+def sandbox(name, uses, room, top=TOP, kept=""):
     """Makes a tree of its own in room for work on one crate, as rt lets only one work in a crate and those below it at a time:
-    the sources of the crate and of those below it, and what was built of these. Returns the crate's folder there."""
+    the sources of the crate and of those below it, what was built of these, and what a check of the crate left in the folder
+    kept, to begin with. Returns the crate's folder there."""
     for it in [*below(name, uses), name]:
         to = f"{room}/crates/{it}"
         os.makedirs(to)
@@ -80,10 +81,12 @@ def sandbox(name, uses, room, top=TOP):
         if os.path.isdir(built):
             # links to the files: rt replaces them and never writes into them
             shutil.copytree(built, f"{to}/out/rlib", copy_function=os.link)
+    if os.path.isdir(f"{kept}/out/incremental"):
+        shutil.copytree(f"{kept}/out/incremental", f"{room}/crates/{name}/out/incremental", copy_function=os.link)
     shutil.copy(f"{top}/HANDLES", f"{room}/HANDLES")
-    kept = {*below(name, uses), name}
+    there = {*below(name, uses), name}
     with open(f"{top}/crates.txt", encoding="utf-8") as file, open(f"{room}/crates.txt", "w", encoding="utf-8") as to:
-        to.writelines(line for line in file if line.partition("#")[0].split(":")[0].split()[:1] and line.split(":")[0].split()[0] in kept)
+        to.writelines(line for line in file if line.partition("#")[0].split(":")[0].split()[:1] and line.split(":")[0].split()[0] in there)
     return f"{room}/crates/{name}"
 
 
@@ -137,7 +140,7 @@ def library(name, uses, jobs, room, top=TOP):
     """Proves and builds the crate's library in a tree of its own; returns nothing, or what the run printed where it failed."""
     if is_fresh(name, uses, f"{top}/crates/{name}/out/rlib/stamp", top):
         return ""
-    folder = sandbox(name, uses, f"{room}/{name}", top)
+    folder = sandbox(name, uses, f"{room}/{name}", top, f"{top}/crates/{name}")
     how = {"cwd": folder, "stdin": subprocess.DEVNULL, "stdout": subprocess.PIPE, "stderr": subprocess.STDOUT}
     ran = subprocess.run(["rt", "lib", "--jobs", str(jobs)], text=True, errors="replace", **how)
     if ran.returncode:
