@@ -51,8 +51,8 @@ and answered is printed, an entry a line, in the order in which it was:
   user 0 ..           what the script offers, takes and looks for at this end
   terminal L ..       what happens to link L there: next is a unit that is sent, hear one that arrives
 `mtpbank audit --help` says how each line is written. A script without a line prints nothing.
-A fault ends the script: one line on standard error, with status 1, and no history is printed. The faults are those of
-`mtpbank play`:
+A fault ends the script: one line on standard error, with status 1, and no history is printed, of which `mtpbank audit`
+behind a pipe says `fault line 1 text`. The faults are those of `mtpbank play`:
   fault line N text, fault line N step, fault exhausted
   fault read, fault write, fault memory";
 
@@ -76,13 +76,15 @@ pub(crate) const AUDIT_HELP: &str = "\
 Standard input is a history of one link set. Lines that are empty or begin with # are passed over; the first other
 line is the one that opens a script (`mtpbank play --help`), with a the set's own point code and b the far end's. Each
 further line is an entry: who asked, what, an arrow, and what was answered, in lower case with one space between two words:
-  user N ..           user N, 0 to 63, who offers, takes or looks for messages
-  terminal L ..       the terminal of link L, 0 to 15
+  user N ..           user N, 0 to 63
+  terminal L ..       the terminal of link L, 0 to 15; who asks what isn't looked at beyond these numbers
   .. offer HEX, .. take, .. find N                   as in a script; offer without HEX is the empty body
   .. next L           the next unit to send on link L
   .. hear L HEX       a unit that was heard on link L, without check octets
-  .. up L, down L, blind L, noanswer L, restore L, backtimeout L
-  .. -> ANSWER        as `mtpbank play` prints it; the octets that were sent stand with their check octets
+  .. up L             link L comes up at this end, which is answered done
+  .. down L, blind L, noanswer L, restore L, backtimeout L
+  .. -> ANSWER        as `mtpbank play` prints it; the octets that were sent stand with their check octets. Where these
+                      are wrong, or a number stands in it that no set answers, the line can't be read
 The set is replayed from its opening. It prints one line:
   legal=yes calls=N accepted=M octets=O acked=A      every entry is what such a set answers then: there are N, which
                       accepted M messages with O octets in all, of which A are acknowledged
@@ -122,8 +124,8 @@ number of the script's line, what happens at end a, what is under way, and what 
   --1--x, x--1--      a unit is lost on its way to that end, by lose or because the link isn't up there
   --1..>, <..1--      a unit that nobody sent is heard (hear)
   1>0 1>1 0<f         in the middle, the units that are under way then, each with its link: to end b with FSN 0 and FSN
-                      1 on link 1, the oldest first, and to end a a fill-in unit (f) on link 0; s is a status unit, and a
-                      plus stands where there are more
+                      1 on link 1, the oldest first, and to end a a fill-in unit (f) on link 0; a plus stands where there
+                      are more
   link 1 up, left, settled    so it is at that end
   took T, acked K     what the unit did: T as in `mtpbank play`, K messages are acknowledged; behind it in a row of its
                       own asked=0|1 resend=0|1 fault=F, where one isn't 0
@@ -160,9 +162,10 @@ A fault ends the input: one line on standard error, with status 1; what was prin
   fault write, fault memory";
 
 pub(crate) const RUN_PAGE: &str = "\
-Two banks run, a set of each for every number: the users of ends a offer, those
-of ends b take, and each link is a pair of rings between two terminals. Printed
-is what was accepted, where it stands, and that each history is legal:
+Two banks run: one has the ends a of all sets, the other the ends b. The users
+of ends a offer, those of ends b take, and each link is a pair of rings between
+two terminals. Printed is what was accepted, where it stands, and that each
+history is legal:
   mtpbank run --fail 0
 `mtpbank run --help` says what each line tells, and each fault.";
 
@@ -187,8 +190,13 @@ With --per-link, behind those, for each link K of each set and both its ends:
   set=I link=K end=a up=yes|no sent=S good=G bad=B cause=C delivered=D
                     whether it ever came up there, the units that its terminal
                     sent, the good and bad ones that it heard, the cause of
-                    its last failure, 1 to 9, or 0 (9 is --fail), and how many
-                    messages that this end sent on it the other end accepted
+                    its last failure, or 0, and how many messages that this end
+                    sent on it the other end accepted
+The causes: 1 too many damaged units, 2 abnormal BSNs, 3 abnormal FIBs, 4 the
+other end wasn't ready in time (T1), 5 it was busy too long (T6), 6 an
+acknowledgement stayed out too long (T7), 7 it told a status that ends the
+service, 8 alignment wasn't possible, 9 told to stop (--fail). By the cyclic
+method 127 unacknowledged messages force a cycle, or 8,000 octets of them.
 Who gets on and when is the threads' affair, so what is sent on a link differs
 from run to run. With few turns messages are left unsent. A run of more than
 two seconds tells how far it is on standard error, where that is a terminal. A
@@ -221,8 +229,9 @@ bits as they are sent. Spaces, tabs, CR and LF are skipped. Each line of the out
   good msu bsn=B bib=0|1 fsn=F fib=0|1 body=HEX      so too; the body is SIO and SIF
   good fault=N      right check bits, but no unit: 1 too short, 2 too long, 3 a wrong length indicator
   bad               a damaged unit: anything else between two flags
-  sixteen           sixteen octets counted without a good unit, where alignment is lost
-and the last one counts them. `echo 7edff705f8beaf1f | ./mtpbank units` shows a FISU between two flags.
+  sixteen           sixteen octets counted without a good unit, where alignment is lost: by seven ones in a row, or
+                    more octets than a unit has; nothing is marked bad from there to the next good unit
+and the last one counts them. `echo 7edff705f8beaf1f | mtpbank units` shows a FISU between two flags.
 A fault ends the input: one line on standard error, with status 1; what was printed before it stays.
   fault octet P     the character at P, counted from 0, is neither a digit nor skipped, or the input ends
                     there with a digit left over
@@ -237,8 +246,9 @@ with 1 to 16 links, numbered from 0; the method basic, or cyclic:N1:N2 (so many 
 127, or octets of them, 1 to 34671, force a cycle); the point codes of the ends, 0 to 16383; and the SIO of the
 set's own orders, in hexadecimal, with service indicator 0. No link is up at first. Each line after that asks
 for one thing (E is an end, a or b, L a link, HEX octets of two hexadecimal digits each):
-  together L          link L, settled at both ends as at first, comes up; nothing is under way on it then
-  offer E HEX         a user of end E offers a message: SIO and SIF, the label first
+  together L          link L comes up, which is settled at both ends: not up there, and no changeover of it is open;
+                      nothing is under way on it then
+  offer E HEX         a user of end E offers a message: SIO and SIF, the label first; without HEX the empty body
   take E              a user of end E takes the oldest message that was heard
   find E N            a user of end E asks where message N stands
   emit E L            end E sends its next unit on link L; it is under way to the other end then
@@ -257,7 +267,8 @@ Each of these lines prints one:
   accepted N          the message has number N; messages and orders of an end are counted together, from 0
   taken HEX           the message that was taken
   found waiting L, found unacked L, found acked L       to be sent, sent, acknowledged on link L
-  found held L        link L was left and isn't settled; the message waits for that
+  found held L        offered when link L was left, and waits until that is settled; what was sent on L or waited
+                      for it stays unacked or waiting there until then
   found parked        no link can take it until one comes up
   found back C        its stream is on its way home; the message waits for the answer with code C, which is 16
                       times the home and the link that the stream comes from
@@ -266,15 +277,15 @@ Each of these lines prints one:
   heard acked=K took=T asked=0|1 resend=0|1 fault=F     what the unit did: K messages are acknowledged;
                       T is nothing, message (new, for users), order, or ignored (an order without effect);
                       asked=1, the end asks for retransmission; resend=1, it is asked for it; F is 2 for
-                      abnormal BSNs, 3 for abnormal FIBs, else 0
+                      abnormal BSNs, 3 for abnormal FIBs, else 0 (the link stays up until down or blind)
   lost                the unit is lost, by lose or because the link isn't up where it arrives
   done                the link has failed, or settled without an answer; or streams were asked back, or go home
                       without an answer
   refused C           1 under 5 octets, 2 over 273, 3 service indicator 0, 4 the stream has 1,024 unsent
-                      messages, 5 the link isn't up, 8 no such message, 9 nothing to take or to do: for
-                      noanswer the link wasn't left or has settled, for restore no stream of link L runs on
-                      another link that is up, but for those whose code is still in use, and for backtimeout
-                      no code of link L is in use
+                      messages, 5 the link isn't up, 8 no such message, 9 nothing to take or to do: for hear
+                      the unit tells a status (LSSU), for noanswer the link wasn't left or has settled, for
+                      restore no stream of link L runs on another link that is up, but for those whose code is
+                      still in use, and for backtimeout no code of link L is in use
 The last two lines count the users' messages of each end by where they stand.
 
 The high digit of a message's fifth octet is its stream, whose home is link stream modulo the number of links;
