@@ -19,7 +19,8 @@ const PATIENCE: u32 = 1_000_000;
 /// Who waits for whom.
 #[derive(Clone, Copy, Debug, PartialEq, Eq)]
 enum Meeting {
-    /// Set 0 in its first step, under its lock, for a step of set 1 that was answered.
+    /// Set 0 in its first step, under its lock, for a step of set 1 that was answered, and set 1 in its third step for the
+    /// second step of set 0.
     Sets,
     /// Link 0 in its first turn for a step of link 1, and link 1 in its next turn for the second turn of link 0.
     Links,
@@ -161,12 +162,16 @@ impl Gate for MeetingGate {
         let of_set = self.seen.set(set);
         count(&of_set.link(link).steps);
         let steps = count(&of_set.steps);
-        if self.meeting == Meeting::Sets && set == 0 && steps == 0 {
-            // the second step of a set begins when the first was answered
-            self.seen.wait_for(&self.seen.second.steps, 2);
-            if read(&of_set.steps) != 1 {
-                count(&self.seen.missed);
+        match (self.meeting, set, steps) {
+            (Meeting::Sets, 0, 0) => {
+                // the second step of a set begins when the first was answered
+                self.seen.wait_for(&self.seen.second.steps, 2);
+                if read(&of_set.steps) != 1 {
+                    count(&self.seen.missed);
+                }
             }
+            (Meeting::Sets, 1, 2) => self.seen.wait_for(&self.seen.first.steps, 2),
+            _ => {}
         }
     }
 
@@ -209,7 +214,7 @@ fn all_meet<R: Threads + Wait + Copy + Send + Sync + 'static>(
 
 #[test]
 fn sets_run_at_the_same_time(rt: HostRuntime) -> Result<(), Fail> {
-    all_meet(&rt, rt.alloc(), Meeting::Sets, 1)
+    all_meet(&rt, rt.alloc(), Meeting::Sets, 2)
 }
 
 #[test]

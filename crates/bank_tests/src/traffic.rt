@@ -87,6 +87,41 @@ fn heard_all(end: &SetEnd, messages: u16) -> Result<bool, Fail> {
     Ok(next_heard.numbers == [messages; 4])
 }
 
+/// The link on which a unit was heard, and what it brought, if this entry is one.
+fn took(told: &Told<'_>) -> Option<(u8, Took)> {
+    match (told.asked(), told.answer()) {
+        (Asked::Heard { link, .. }, Answer::Heard { report }) => Some((link, report.took)),
+        _ => None,
+    }
+}
+
+/// Messages were heard at this end on the link, then an order, and then messages again: so it was left in the midst of them.
+fn was_left_in_the_midst(end: &SetEnd, link: u8) -> bool {
+    let mut left = end.closed.history.reader();
+    let mut has_begun = false;
+    let mut is_left = false;
+    for _entry in 0..left.len() {
+        let Some(told) = left.next() else {
+            return false;
+        };
+        match took(&told) {
+            Some((_, Took::Message)) if is_left => return true,
+            Some((on, Took::Message)) => has_begun = has_begun || on == link,
+            Some((_, Took::Order)) => is_left = has_begun,
+            _ => {}
+        }
+    }
+    false
+}
+
+/// The terminal of this link ended with the cause of one that was told to stop.
+fn was_told_to_stop(end: &SetEnd, link: u8) -> bool {
+    match end.reports.get(usize::from(link)) {
+        Some(Ok(report)) => report.cause == 9,
+        _ => false,
+    }
+}
+
 /// A legal history, with so many messages accepted, each in one place.
 fn is_sound(alloc: Global, end: &SetEnd, messages: u64) -> Result<(), Fail> {
     match audit_history(alloc, &end.closed.config, end.closed.history.reader()) {
@@ -96,8 +131,9 @@ fn is_sound(alloc: Global, end: &SetEnd, messages: u64) -> Result<(), Fail> {
     holds(end.closed.books.messages == messages && placed(end) == messages)
 }
 
-/// So many sets of two links, and four users at end a with a hundred messages each. Whether all are acknowledged, and the far
-/// end has them; whatever came through is in order, and stands in one place.
+/// So many sets of two links, and four users at end a with a hundred messages each. Whether all are acknowledged, the far end
+/// has them, and the link that is to fail was left in the midst of them; whatever came through is in order, and stands in one
+/// place.
 fn goes_through<R: Threads + Wait + Copy + Send + Sync + 'static>(
     rt: &R,
     alloc: Global,
@@ -132,6 +168,10 @@ fn goes_through<R: Threads + Wait + Copy + Send + Sync + 'static>(
         is_sound(alloc, end, 0)?;
         let heard = heard_all(end, 100)?;
         all = all && heard;
+    }
+    if let Some(link) = fail {
+        all = all && ends.near.iter().all(|end| was_told_to_stop(end, link));
+        all = all && ends.far.iter().all(|end| was_left_in_the_midst(end, link));
     }
     Ok(all)
 }
