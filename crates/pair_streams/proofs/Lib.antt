@@ -8,7 +8,9 @@ pub mod Filtered
 pub mod Flowing
 pub mod Flows
 pub mod Given
+pub mod Handing
 pub mod Hearing
+pub mod Inbox
 pub mod Known
 pub mod Mixed
 pub mod Moving

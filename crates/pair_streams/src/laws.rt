@@ -1,4 +1,5 @@
 //! The laws of streams, over definitions alone.
+ghost use Rattle.pair_streams.specs.Handed.{EveryHistoryHandsOutInOrder, EveryHonestRunHandsOutAll, EverySoundRunHandsOutInOrder, EveryQuietRunHandsOutAPart};
 ghost use Rattle.pair_streams.specs.Streams.{EverySoundRunKeepsStreams, EveryQuietRunKeepsOrder};
 
 /// In every sound run, after every step of it, for each of the 16 streams and in both directions: what the far
@@ -15,4 +16,28 @@ pub fn every_sound_run_keeps_streams()
 /// for a changeback, each message that they didn't get was discarded here in an emergency (Q.704 5.6).
 pub fn every_quiet_run_keeps_order()
     ensures { EveryQuietRunKeepsOrder }
+{}
+
+/// Of every set and every legal history: what users took, and then what the inbox holds, is what it held at first and then the
+/// bodies of the heard units that are answered as messages, in order.
+pub fn every_history_hands_out_in_order()
+    ensures { EveryHistoryHandsOutInOrder }
+{}
+
+/// In every honest run, after every step of it, for each stream and at both ends: what users took, and then what the inbox
+/// holds, are the bodies of what was got.
+pub fn every_honest_run_hands_out_all()
+    ensures { EveryHonestRunHandsOutAll }
+{}
+
+/// In every sound run, after every step of it, for each of the 16 streams and in both directions: the bodies that the far end's
+/// users took are the first of those that were offered here: none is missing among them, doubled, changed or out of order.
+pub fn every_sound_run_hands_out_in_order()
+    ensures { EverySoundRunHandsOutInOrder }
+{}
+
+/// In every quiet run, after every step of it, for each of the 16 streams and in both directions: the bodies that the far end's
+/// users took are those of some of the messages that were offered here, in their order.
+pub fn every_quiet_run_hands_out_a_part()
+    ensures { EveryQuietRunHandsOutAPart }
 {}
