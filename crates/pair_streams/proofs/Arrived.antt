@@ -9,10 +9,10 @@ use Rattle.pair_model.specs.Run.{Message, messages, Stage, begun, passed, OnShow
 use Rattle.pair_model.specs.World.{World, Outcome, shows, impossible, exhausted, carried_out}
 use Rattle.pair_changeover.specs.Pending.{pending, aside, kept_back, acked_on, accepted_on}
 use Rattle.pair_changeover.proofs.Table.{joined}
-use Rattle.pair_streams.specs.Arrived.{AreDone, IsIdle, HoldsAtEnd, AllGot, AllArrived}
-use Rattle.pair_streams.specs.Streams.{those_of, StreamsArrive}
+use Rattle.pair_streams.specs.Arrived.{AreDone, IsIdle, HoldsAtEnd, AllGot, AllArrived, AllToldOf, AllAccounted}
+use Rattle.pair_streams.specs.Streams.{those_of, StreamsArrive, PartsArrive}
 use Rattle.pair_streams.proofs.Filtered.{those_joined, none_dropped}
-use Rattle.pair_streams.proofs.Runs.{every_sound_run}
+use Rattle.pair_streams.proofs.Runs.{every_sound_run, every_quiet_run}
 
 -- none of the users' messages stands in such a place
 none_of : (stream : ℕ) (all some : Fate → Bool) → ((fate : Fate) → some fate ≡ true → all fate ≡ true) → (rows : List Row) → length (standing all (users rows)) ≡ 0 → those_of stream (messages (standing some rows)) ≡ []
@@ -78,15 +78,26 @@ all_got g idle arrive stream low =
       both.1.all (none_pending stream g.world.b.state g.world.a.state idle.at_b) (none_aside stream g.world.b.state g.world.a.state idle.at_b) (none_kept stream g.world.b.state g.world.a.state idle.at_b),
     )
 
-module _ (w : World) (idle : IsIdle w) where
-  on_shows : (outcome : Outcome) (step : Step) (g : Stage) (steps : List Step) → ((later : Stage) → HoldsAlong StreamsArrive later steps → HoldsAtEnd (λ h. h.world ≡ w → AllGot h) later steps) → OnShows outcome (λ shown new. HoldsAlong StreamsArrive (passed g step shown new) steps) → OnShows outcome (λ shown new. HoldsAtEnd (λ h. h.world ≡ w → AllGot h) (passed g step shown new) steps)
+all_told_of : (g : Stage) → IsIdle g.world → PartsArrive g → AllToldOf g
+all_told_of g idle arrive = (
+  λ stream low. (arrive stream low).0.all (none_pending stream g.world.a.state g.world.b.state idle.at_a) (none_aside stream g.world.a.state g.world.b.state idle.at_a) (none_kept stream g.world.a.state g.world.b.state idle.at_a),
+  λ stream low. (arrive stream low).1.all (none_pending stream g.world.b.state g.world.a.state idle.at_b) (none_aside stream g.world.b.state g.world.a.state idle.at_b) (none_kept stream g.world.b.state g.world.a.state idle.at_b),
+)
+
+-- where a run ends in this world, what holds all along it
+module _ (Arrive Say : Stage → Type 0) (says : (g : Stage) → IsIdle g.world → Arrive g → Say g) (w : World) (idle : IsIdle w) where
+  on_shows : (outcome : Outcome) (step : Step) (g : Stage) (steps : List Step) → ((later : Stage) → HoldsAlong Arrive later steps → HoldsAtEnd (λ h. h.world ≡ w → Say h) later steps) → OnShows outcome (λ shown new. HoldsAlong Arrive (passed g step shown new) steps) → OnShows outcome (λ shown new. HoldsAtEnd (λ h. h.world ≡ w → Say h) (passed g step shown new) steps)
   on_shows (shows shown new) step g steps next along = next (passed g step shown new) along
   on_shows impossible step g steps next along = tt
   on_shows exhausted step g steps next along = tt
 
-  at_end : (g : Stage) (steps : List Step) → HoldsAlong StreamsArrive g steps → HoldsAtEnd (λ h. h.world ≡ w → AllGot h) g steps
-  at_end g [] arrive = λ same. all_got g (subst IsIdle (sym same) idle) arrive
+  at_end : (g : Stage) (steps : List Step) → HoldsAlong Arrive g steps → HoldsAtEnd (λ h. h.world ≡ w → Say h) g steps
+  at_end g [] arrive = λ same. says g (subst IsIdle (sym same) idle) arrive
   at_end g (step ∷ steps) along = on_shows (carried_out g.world step) step g steps (λ later rest. at_end later steps rest) along.1
 
+module _ (w : World) (idle : IsIdle w) where
   pub all_arrived : AllArrived w
-  all_arrived a b steps asked sound = at_end (begun a b) steps (every_sound_run a b steps asked sound)
+  all_arrived a b steps asked sound = at_end StreamsArrive AllGot all_got w idle (begun a b) steps (every_sound_run a b steps asked sound)
+
+  pub all_accounted : AllAccounted w
+  all_accounted a b steps asked quiet = at_end PartsArrive AllToldOf all_told_of w idle (begun a b) steps (every_quiet_run a b steps asked quiet)

@@ -1,12 +1,17 @@
 -- WHEN ALL HAS ARRIVED: what an operator can read off a world.
-use Rattle.std.specs.Prelude.{◌≡◌, ◌<◌, ℕ, List, [], ◌∷◌}
+use Rattle.std.specs.Prelude.{◌≡◌, ◌<◌, ℕ, List, [], ◌∷◌, ◌⊎◌, Some}
 use Rattle.set_events.specs.declared.answer.Counts.{Counts}
+use Rattle.set_events.specs.declared.answer.DiscardCause.TheVariants.{Emergency}
+use Rattle.set_events.specs.declared.answer.Fate.TheVariants.{Discarded}
 use Rattle.set_events.specs.declared.config.SetConfig.{SetConfig}
+use Rattle.set_model.specs.Rows.{place}
+use Rattle.set_model.specs.State.{State}
 use Rattle.world_steps.specs.declared.step.End.TheVariants.{A, B}
 use Rattle.world_steps.specs.declared.step.Step.{Step}
-use Rattle.pair_model.specs.Promises.{IsAskedStep, AreSteps, IsSoundRun}
-use Rattle.pair_model.specs.Run.{Stage, begun, passed, OnShows}
+use Rattle.pair_model.specs.Promises.{IsAskedStep, AreSteps, IsSoundRun, IsQuietRun}
+use Rattle.pair_model.specs.Run.{Message, Past, Stage, begun, passed, OnShows}
 use Rattle.pair_model.specs.World.{World, counts_at, carried_out}
+use Rattle.pair_streams.specs.Streams.{IsIn}
 
 -- every message of an end's users is acknowledged, or was discarded
 pub record AreDone (counts : Counts) : Type 0 where
@@ -35,3 +40,18 @@ abbrev pub AllArrived : World → Type 0
 AllArrived w =
     (a b : SetConfig) (steps : List Step) → AreSteps IsAskedStep steps → IsSoundRun a b steps
     → HoldsAtEnd (λ g. g.world ≡ w → AllGot g) (begun a b) steps
+
+-- each message that was offered at an end was got at the other, or discarded in an emergency
+abbrev pub IsToldOf : Past → Past → State → Type 0
+IsToldOf near far s =
+    (stream : ℕ) → stream < 16 → (message : Message) → IsIn message (near.offered stream)
+    → IsIn message (far.got stream) ⊎ (place message.number s.rows ≡ Some (Discarded Emergency))
+
+abbrev pub AllToldOf : Stage → Type 0
+AllToldOf g = IsToldOf g.a g.b g.world.a.state × IsToldOf g.b g.a g.world.b.state
+
+-- whichever quiet run led to this world
+abbrev pub AllAccounted : World → Type 0
+AllAccounted w =
+    (a b : SetConfig) (steps : List Step) → AreSteps IsAskedStep steps → IsQuietRun a b steps
+    → HoldsAtEnd (λ g. g.world ≡ w → AllToldOf g) (begun a b) steps
