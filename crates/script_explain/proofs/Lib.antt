@@ -1,1 +1,2 @@
+mod Reasons
 mod Same
