@@ -11,7 +11,7 @@ use Rattle.set_model.specs.Rows.{Row, standing, is_unacked, is_on, unack, wait, 
 use Rattle.set_model.specs.State.{LinkState, State, Settings, opened_with, target}
 use Rattle.set_model.specs.Changeover.{fate_on, reached_by, is_reasonable, settled}
 use Rattle.set_model.specs.Step.{step, Gains}
-use Rattle.set_model.specs.Sound.{IsSettings, IsSound, AreTogether, BeginsNone, IsAsked, AreFew, IsManaged}
+use Rattle.set_model.specs.Sound.{IsSettings, IsSound, AreTogether, BeginsNone, IsAsked, AreAtMost, AreFew, IsManaged}
 
 -- THE ROWS.
 
@@ -68,9 +68,11 @@ abbrev pub AStepGains : Type 0
 AStepGains =
     (s : State) (event : Event) → IsManaged s.settings → Gains s event (step s event).answer (step s event).state
 
--- LAW: an event sends at most one message, and accepts at most one body
+-- LAW: an event sends at most one message on each link, and accepts at most one body there
 abbrev pub AStepCounts : Type 0
-AStepCounts = (s : State) (event : Event) (events : ℕ) → AreFew events s → AreFew (events + 1) (step s event).state
+AStepCounts =
+    (s : State) (event : Event) (most : ℕ → ℕ) → AreAtMost most s
+    → AreAtMost (λ number. most number + 1) (step s event).state
 
 -- LAW: every step keeps what holds of every set's state
 abbrev pub EveryStepKeepsASetSound : Type 0

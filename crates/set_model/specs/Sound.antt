@@ -163,11 +163,16 @@ abbrev pub IsAsked : Event → Type 0
 IsAsked (Offer body) = stream_of body < 16
 IsAsked _ = Unit {0}
 
--- THE WHOLE NUMBERS: an event sends at most one message, and accepts at most one body.
-pub record AreFewOn (events number : ℕ) (link : LinkState) (rows : List Row) : Type 0 where
-  pub sent : link.acked + length (unack number rows) ≤ events
-  pub accepted : link.accepted ≤ events
+-- THE WHOLE NUMBERS of a link's life: what was sent on it, and the bodies that it accepted. An event adds at most one to each.
+pub record AreFewOn (most number : ℕ) (link : LinkState) (rows : List Row) : Type 0 where
+  pub sent : link.acked + length (unack number rows) ≤ most
+  pub accepted : link.accepted ≤ most
+
+-- those of each link are at most this
+abbrev pub AreAtMost : (ℕ → ℕ) → State → Type 0
+AreAtMost most s =
+    (number : ℕ) (link : LinkState) → slice_get s.links number ≡ Some link
+    → AreFewOn (most number) number link s.rows
 
 abbrev pub AreFew : ℕ → State → Type 0
-AreFew events s =
-    (number : ℕ) (link : LinkState) → slice_get s.links number ≡ Some link → AreFewOn events number link s.rows
+AreFew events s = AreAtMost (λ number. events) s

@@ -1,5 +1,5 @@
-use Rattle.set_model.proofs.Ranging.{step_few}
+use Rattle.set_model.proofs.Ranging.{step_at_most}
 use Rattle.set_model.proofs.laws.a_step_counts.Goals as goal
 
 pub returns : goal.returns
-returns c s event events few = step_few s event events few
+returns c s event most few = step_at_most s event most few
