@@ -5,13 +5,15 @@ use Rattle.set_events.specs.declared.answer.Fate.TheVariants.{Waiting, Unacked, 
 use Rattle.set_model.specs.Rows.{Row, is_unacked, is_waiting, is_held, is_parked, stands_back, is_users, waits, was_sent, was_held, standing, users, counts_of, unack, wait, held, stream_of}
 use Rattle.set_model.specs.State.{State}
 use Rattle.world_steps.specs.declared.step.Step.{Step}
-use Rattle.pair_model.specs.Run.{Message, messages, Stage, begun, passed, OnShows, HoldsAlong}
+use Rattle.pair_model.specs.Run.{Message, messages, bodies, Stage, begun, passed, OnShows, HoldsAlong}
 use Rattle.pair_model.specs.World.{World, Outcome, shows, impossible, exhausted, carried_out}
 use Rattle.pair_changeover.specs.Pending.{pending, aside, kept_back, acked_on, accepted_on}
 use Rattle.pair_changeover.proofs.Table.{joined}
-use Rattle.pair_streams.specs.Arrived.{AreDone, IsIdle, HoldsAtEnd, AllGot, AllArrived, AllToldOf, AllAccounted}
+use Rattle.pair_streams.specs.Arrived.{AreDone, IsIdle, HoldsAtEnd, AllGot, AllArrived, AllHanded, AllTaken, AllToldOf, AllAccounted}
+use Rattle.pair_streams.specs.Handed.{UsersTakeAll}
 use Rattle.pair_streams.specs.Streams.{those_of, StreamsArrive, PartsArrive}
 use Rattle.pair_streams.proofs.Filtered.{those_joined, none_dropped}
+use Rattle.pair_streams.proofs.Handing.{sound_says}
 use Rattle.pair_streams.proofs.Runs.{every_sound_run, every_quiet_run}
 
 -- none of the users' messages stands in such a place
@@ -78,6 +80,16 @@ all_got g idle arrive stream low =
       both.1.all (none_pending stream g.world.b.state g.world.a.state idle.at_b) (none_aside stream g.world.b.state g.world.a.state idle.at_b) (none_kept stream g.world.b.state g.world.a.state idle.at_b),
     )
 
+-- what was got is what was taken, and what waits
+HasPassed : Stage → Type 0
+HasPassed g = UsersTakeAll g × StreamsArrive g
+
+all_handed : (g : Stage) → IsIdle g.world → HasPassed g → AllHanded g
+unfolding HasPassed
+all_handed g idle both stream low =
+    let got = all_got g idle both.1 stream low in
+    ((both.0 stream).0 ∙ ap bodies got.1, (both.0 stream).1 ∙ ap bodies got.0)
+
 all_told_of : (g : Stage) → IsIdle g.world → PartsArrive g → AllToldOf g
 all_told_of g idle arrive = (
   λ stream low. (arrive stream low).0.all (none_pending stream g.world.a.state g.world.b.state idle.at_a) (none_aside stream g.world.a.state g.world.b.state idle.at_a) (none_kept stream g.world.a.state g.world.b.state idle.at_a),
@@ -101,3 +113,7 @@ module _ (w : World) (idle : IsIdle w) where
 
   pub all_accounted : AllAccounted w
   all_accounted a b steps asked quiet = at_end PartsArrive AllToldOf all_told_of w idle (begun a b) steps (every_quiet_run a b steps asked quiet)
+
+  pub all_taken : AllTaken w
+  unfolding HasPassed
+  all_taken a b steps asked sound = at_end HasPassed AllHanded all_handed w idle (begun a b) steps (sound_says HasPassed (λ g all arrive. (all, arrive)) a b steps asked sound)

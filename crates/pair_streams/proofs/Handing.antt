@@ -26,7 +26,7 @@ use Rattle.world_steps.specs.declared.step.Step.{Step}
 use Rattle.world_steps.specs.declared.step.Step.TheVariants.{Act, Emit, Arrive, Lose, Together, Inject}
 use Rattle.pair_model.specs.World.{Outcome, shows, impossible, exhausted, at_end, with_end, line_to, with_line, actor_of, answer_to, after, is_full, has_link, has_actor, acts, with_sent, sends_on, emits, reaches, front_arrives, arrives, loses, risen, is_settled_at_both, rises, has_own_step, done_by, carried_out}
 use Rattle.pair_model.specs.Run.{Message, Past, Stage, bodies, begun, body_in, added_at, past_asked, past_sent, past_risen, past_heard, past_arrived, with_past, passed, OnShows, HoldsAlong}
-use Rattle.pair_model.specs.Promises.{IsHonestStep, IsSoundStep, IsQuietStep, AreSteps, LinksKeep}
+use Rattle.pair_model.specs.Promises.{IsAskedStep, IsHonestStep, IsSoundStep, IsQuietStep, IsSoundRun, AreSteps, LinksKeep}
 use Rattle.pair_model.proofs.Runs.{is_honest, every_honest_run}
 use Rattle.pair_streams.specs.Handed.{handed_by, delivered_by, handed_in, bodies_of, taken_of, UsersTakeAll, UsersTakeFirst, UsersTakePart, EveryHonestRunHandsOutAll, EverySoundRunHandsOutInOrder, EveryQuietRunHandsOutAPart}
 use Rattle.pair_streams.specs.Streams.{IsPart, StreamsArrive, PartsArrive}
@@ -361,9 +361,14 @@ quiet_honest (Lose end k place ∷ steps) quiet = (tt, quiet_honest steps quiet.
 quiet_honest (Together k ∷ steps) quiet = (tt, quiet_honest steps quiet.1)
 quiet_honest (Inject end k unit ∷ steps) quiet = absurd quiet.0
 
+-- what is said of a stage of a sound run
+module _ (Say : Stage → Type 0) (says : (g : Stage) → UsersTakeAll g → StreamsArrive g → Say g) where
+  pub sound_says : (a b : SetConfig) (steps : List Step) → AreSteps IsAskedStep steps → IsSoundRun a b steps → HoldsAlong Say (begun a b) steps
+  sound_says a b steps asked sound =
+      both_along StreamsArrive Say says (begun a b) steps (every_honest_run_hands_out a b steps asked (record { links = sound.links; one_method = sound.one_method; steps = sound_honest steps sound.steps })) (every_sound_run a b steps asked sound)
+
 pub every_sound_run_hands_out : EverySoundRunHandsOutInOrder
-every_sound_run_hands_out a b steps asked sound =
-    both_along StreamsArrive UsersTakeFirst take_first (begun a b) steps (every_honest_run_hands_out a b steps asked (record { links = sound.links; one_method = sound.one_method; steps = sound_honest steps sound.steps })) (every_sound_run a b steps asked sound)
+every_sound_run_hands_out = sound_says UsersTakeFirst take_first
 
 pub every_quiet_run_hands_out : EveryQuietRunHandsOutAPart
 every_quiet_run_hands_out a b steps asked quiet =

@@ -1,16 +1,18 @@
 -- WHEN ALL HAS ARRIVED: what an operator can read off a world.
-use Rattle.std.specs.Prelude.{◌≡◌, ◌<◌, ℕ, List, [], ◌∷◌, ◌⊎◌, Some}
+use Rattle.std.specs.Prelude.{◌≡◌, ◌<◌, ℕ, List, [], ◌∷◌, ◌++◌, ◌⊎◌, Some}
 use Rattle.set_events.specs.declared.answer.Counts.{Counts}
 use Rattle.set_events.specs.declared.answer.DiscardCause.TheVariants.{Emergency}
 use Rattle.set_events.specs.declared.answer.Fate.TheVariants.{Discarded}
 use Rattle.set_events.specs.declared.config.SetConfig.{SetConfig}
+use Rattle.set_model.specs.History.{LinkSet}
 use Rattle.set_model.specs.Rows.{place}
 use Rattle.set_model.specs.State.{State}
 use Rattle.world_steps.specs.declared.step.End.TheVariants.{A, B}
 use Rattle.world_steps.specs.declared.step.Step.{Step}
 use Rattle.pair_model.specs.Promises.{IsAskedStep, AreSteps, IsSoundRun, IsQuietRun}
-use Rattle.pair_model.specs.Run.{Message, Past, Stage, begun, passed, OnShows}
+use Rattle.pair_model.specs.Run.{Message, Past, Stage, begun, bodies, passed, OnShows}
 use Rattle.pair_model.specs.World.{World, counts_at, carried_out}
+use Rattle.pair_streams.specs.Handed.{bodies_of, taken_of}
 use Rattle.pair_streams.specs.Streams.{IsIn}
 
 -- every message of an end's users is acknowledged, or was discarded
@@ -40,6 +42,20 @@ abbrev pub AllArrived : World → Type 0
 AllArrived w =
     (a b : SetConfig) (steps : List Step) → AreSteps IsAskedStep steps → IsSoundRun a b steps
     → HoldsAtEnd (λ g. g.world ≡ w → AllGot g) (begun a b) steps
+
+-- the bodies that the users of an end took of a stream, and then those that wait in its inbox for them, are all that the
+-- other's users offered, in order: so once Take is refused for want of any, they took them all
+abbrev pub HandsOutAll : ℕ → Past → LinkSet → Type 0
+HandsOutAll stream far set = taken_of stream set ++ bodies_of stream set.state.inbox ≡ bodies (far.offered stream)
+
+abbrev pub AllHanded : Stage → Type 0
+AllHanded g = (stream : ℕ) → stream < 16 → HandsOutAll stream g.b g.world.a × HandsOutAll stream g.a g.world.b
+
+-- whichever sound run led to this world
+abbrev pub AllTaken : World → Type 0
+AllTaken w =
+    (a b : SetConfig) (steps : List Step) → AreSteps IsAskedStep steps → IsSoundRun a b steps
+    → HoldsAtEnd (λ g. g.world ≡ w → AllHanded g) (begun a b) steps
 
 -- each message that was offered at an end was got at the other, or discarded in an emergency
 abbrev pub IsToldOf : Past → Past → State → Type 0

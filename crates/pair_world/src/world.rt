@@ -50,7 +50,7 @@ impl World {
     ghost use Rattle.pair_model.specs.Promises.{IsHonestRun, IsQuietRun, IsSoundRun, KeepsLinks};
     ghost use Rattle.pair_changeover.specs.Diverted.{ChangesOver};
     ghost use Rattle.pair_streams.specs.Streams.{PartsArrive, StreamsArrive};
-    ghost use Rattle.pair_streams.specs.Arrived.{IsIdle, AllArrived, AllAccounted};
+    ghost use Rattle.pair_streams.specs.Arrived.{IsIdle, AllArrived, AllTaken, AllAccounted};
     ghost use Rattle.pair_world.specs.Carried.{IsBegun, FailsToBegin, IsCarriedOut, IsStepped, AreCarriedOut, IsPlayed, IsTakenFrom};
 
     /// The world of these configurations: no messages, no link up, nothing under way.
@@ -151,11 +151,13 @@ impl World {
     /// end.
     ///
     /// Whichever sound run led to such a world, the users of each end got all that the other's users offered, in the
-    /// order of each stream (`AllArrived`; Q.704 5.1.1). Whichever quiet run did, they got each message, or it was discarded
-    /// in an emergency (`AllAccounted`; Q.704 5.6).
+    /// order of each stream (`AllArrived`; Q.704 5.1.1); and what they took, and then what waits in the inbox for them, is that,
+    /// octet by octet (`AllTaken`). Whichever quiet run did, they got each message, or it was discarded in an emergency
+    /// (`AllAccounted`; Q.704 5.6).
     pub fn is_idle(&self) -> bool
         ensures value { IsTrue result ↔ IsIdle self.now }
         ensures arrived { IsTrue result → AllArrived self.now }
+        ensures taken { IsTrue result → AllTaken self.now }
         ensures accounted { IsTrue result → AllAccounted self.now }
     {
         are_done(self.counts(End::A)) && are_done(self.counts(End::B))
