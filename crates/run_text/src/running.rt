@@ -1,5 +1,5 @@
 //! A run, from its traffic to what is written.
-ghost use Rattle.std.specs.Prelude.{◌≡◌, ◌≤◌, All, IfErr, IfOk, length, true};
+ghost use Rattle.std.specs.Prelude.{◌≡◌, ◌≤◌, ◌⊎◌, All, IfErr, IfOk, length, true};
 ghost use Rattle.bank_core.specs.Faults.{EndsEarly};
 ghost use Rattle.run_text.specs.RunText.{run_text};
 ghost use Rattle.run_text.specs.Running.{IsAnEnd, IsCut, Runs, WritesAll, WritesEnds};
@@ -69,6 +69,7 @@ pub fn write_ends<W: Sink>(
     requires ends { All IsAnEnd near.now × All IsAnEnd far.now }
     requires few { (length near.now ≤ 16) × (length far.now ≤ 16) }
     ensures text { WritesEnds per_link near.now far.now result (W.written sink.old) (W.written sink.new) }
+    ensures fault { IfErr result (λ fault. (fault ≡ Fault.Memory) ⊎ (fault ≡ Fault.Write)) }
     ensures failed { IfErr result (λ fault. fault ≡ Fault.Write → W.has_failed sink.new ≡ true) }
 {
     if !all_got_through(near) || !all_got_through(far) {
@@ -105,7 +106,8 @@ fn text_of(
 /// Writes all these octets.
 fn write_all<W: Sink>(sink: &mut W, octets: &[u8]) -> Result<(), Fault<RunFault>>
     ensures writes { WritesAll octets.now result (W.written sink.old) (W.written sink.new) }
-    ensures failed { IfErr result (λ fault. fault ≡ Fault.Write → W.has_failed sink.new ≡ true) }
+    ensures fault { IfErr result (λ fault. fault ≡ Fault.Write) }
+    ensures failed { IfErr result (λ fault. W.has_failed sink.new ≡ true) }
 {
     let mut written: usize = 0;
     while written < octets.len() {
