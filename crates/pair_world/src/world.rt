@@ -1,12 +1,12 @@
 //! Two ends, and the units under way between them.
-ghost use Rattle.std.specs.Prelude.{◌≡◌, ◌<◌, ◌↔◌, IfErr, IfOk, IsTrue};
+ghost use Rattle.std.specs.Prelude.{◌≡◌, ◌<◌, ◌↔◌, IfErr, IfOk, IsErr, IsTrue, MatchResult, Ok};
 ghost use Rattle.set_model.specs.History.{IsActor, new_set};
 ghost use Rattle.set_model.specs.State.{link_count};
 ghost use Rattle.set_step.specs.declared.fault.SetFault.TheVariants.{NoMemory};
 ghost use Rattle.pair_model.specs.World.{actor_of, has_own_step};
 ghost use Rattle.pair_model.specs.Promises.{AreSteps, IsAskedStep};
 ghost use Rattle.set_model.specs.Rows.{stream_of};
-ghost use Rattle.pair_world.specs.Carried.{Applies};
+ghost use Rattle.pair_world.specs.Carried.{Applies, PlayFaultOf};
 ghost use Rattle.pair_streams.specs.Arrived.{AreDone};
 
 use super::fault::PlayFault;
@@ -81,6 +81,16 @@ impl World {
     {
         let shown = self.carry_out(step)?;
         Ok((self, shown))
+    }
+
+    /// Carries out a step in place, and tells what it shows. After a fault the world isn't to be used again.
+    ///
+    /// Faults: as of [`World::step`].
+    #[tactic(auto, unfolding(pair_model::specs::World::carried_out))]
+    pub fn carry_out(&mut self, step: &Step) -> Result<Shown, PlayFault>
+        ensures { IsCarriedOut result (carried_out self.old step.now) self.new }
+    {
+        self.dispatch(step)
     }
 
     /// The world of these configurations after these steps, one after another.
@@ -176,14 +186,6 @@ impl World {
         Ok(())
     }
 
-    /// Carries out a step, and tells what it shows; after a fault the world isn't to be used again.
-    #[tactic(auto, unfolding(pair_model::specs::World::carried_out))]
-    fn carry_out(&mut self, step: &Step) -> Result<Shown, PlayFault>
-        ensures { IsCarriedOut result (carried_out self.old step.now) self.new }
-    {
-        self.dispatch(step)
-    }
-
     /// Carries out a step, case by case.
     fn dispatch(&mut self, step: &Step) -> Result<Shown, PlayFault>
         ensures { IsCarriedOut result (done_by self.old step.now) self.new }
@@ -194,13 +196,7 @@ impl World {
             Step::Arrive { end, link } => self.arrive(*end, *link),
             Step::Lose { end, link, place } => self.lose(*end, *link, *place),
             Step::Together { link } => self.raise(*link),
-            Step::Inject { end, link, unit } => {
-                let event = Event::Heard {
-                    link: *link,
-                    unit: copy_of_unit(unit),
-                };
-                self.act(*end, &event)
-            }
+            Step::Inject { end, link, unit } => self.inject(*end, *link, unit),
         }
     }
 
@@ -235,8 +231,8 @@ impl World {
             return Err(PlayFault::Impossible { place: 0 });
         };
         match end {
-            End::A => Ok(Shown::Answered(apply(&mut *self.a, who, event)?)),
-            End::B => Ok(Shown::Answered(apply(&mut *self.b, who, event)?)),
+            End::A => shown_of(apply(&mut *self.a, who, event)),
+            End::B => shown_of(apply(&mut *self.b, who, event)),
         }
     }
 
@@ -284,9 +280,11 @@ impl World {
     fn emit(&mut self, end: End, link: u8) -> Result<Shown, PlayFault>
         ensures { IsCarriedOut result (emits self.old end link) self.new }
     {
-        let shown = self.act(end, &Event::Next { link })?;
-        self.join(end, link, &shown)?;
-        Ok(shown)
+        let shown = self.act(end, &Event::Next { link });
+        if let Ok(shown) = &shown {
+            self.join(end, link, shown)?;
+        }
+        shown
     }
 
     /// A unit that an end sent on the link joins the link's line to the other end.
@@ -304,6 +302,17 @@ impl World {
             End::B => self.to_a.join(link, unit)?,
         }
         Ok(())
+    }
+
+    /// A unit is heard on the link at the end, though it was under way on no line.
+    fn inject(&mut self, end: End, link: u8, unit: &Unit) -> Result<Shown, PlayFault>
+        ensures { IsCarriedOut result (acts self.old end (Event.Heard link unit.now)) self.new }
+    {
+        let event = Event::Heard {
+            link,
+            unit: copy_of_unit(unit),
+        };
+        self.act(end, &event)
     }
 
     /// The front of the link's line to the end arrives: it's heard where the link is up there, else lost.
@@ -431,6 +440,17 @@ fn new_end(alloc: Global, config: &SetConfig) -> Result<SetCore, PlayFault>
     ensures err { IfErr result (λ fault. fault ≡ PlayFault.NoMemory) }
 {
     Ok(SetCore::new(alloc, config)?)
+}
+
+/// What is shown of an answer. A value that is handed on by value is copied, so nothing but its case changes here.
+fn shown_of(answer: Result<Answer, SetFault>) -> Result<Shown, PlayFault>
+    ensures { MatchResult answer (λ a. result ≡ Ok (Shown.Answered a))
+        (λ fault. IfErr result (PlayFaultOf fault) × IsErr result) }
+{
+    match answer {
+        Ok(answer) => Ok(Shown::Answered(answer)),
+        Err(fault) => Err(PlayFault::from(fault)),
+    }
 }
 
 /// One event at a set, by its actor.

@@ -1,8 +1,8 @@
 //! A step, from the octets of its line.
-ghost use Rattle.std.specs.Prelude.{◌≡◌, ◌<◌, IfOk, length, position};
+ghost use Rattle.std.specs.Prelude.{◌≡◌, ◌<◌, false, IfOk, Some, codes, length, position};
 ghost use Rattle.std.specs.Option.{option_map, option_copied, ForSome};
 ghost use Rattle.std.specs.Str.{bytes_eq};
-ghost use Rattle.play_script.specs.Script.{is_space, first_word, other_words, end_of, link_of, some_octets, step_of, step_at, together, offer, body_of, take_message, find, lose, hear, unit_of, on_link, link_event};
+ghost use Rattle.play_script.specs.Script.{is_space, first_word, other_words, end_of, link_of, some_octets, step_of, step_at, step_with, together, offer, body_of, take_message, find, lose, hear, unit_of, on_link, link_event};
 
 use figures::{read_number, read_octets};
 use l2_units::{Unit, read};
@@ -114,17 +114,24 @@ fn read_step_at(
     if is_word(name, b"take") {
         return Ok(read_take(end, words));
     }
-    let Some(words) = words else {
-        return Ok(None);
-    };
+    match words {
+        Some(words) if is_word(name, b"hear") => read_hear(alloc, end, words),
+        Some(words) => Ok(read_plain_step(name, end, words)),
+        None => Ok(None),
+    }
+}
+
+/// The step of a name, but for `hear`, at an end behind which these words stand. It takes no memory.
+fn read_plain_step(name: &[u8], end: End, words: &[u8]) -> Option<Step>
+    requires { bytes_eq name.now (codes "hear") ≡ false }
+    ensures { result ≡ step_with name.now end (Some words.now) }
+{
     if is_word(name, b"find") {
-        Ok(read_find(end, words))
+        read_find(end, words)
     } else if is_word(name, b"lose") {
-        Ok(read_lose(end, words))
-    } else if is_word(name, b"hear") {
-        read_hear(alloc, end, words)
+        read_lose(end, words)
     } else {
-        Ok(read_on_link(name, end, words))
+        read_on_link(name, end, words)
     }
 }
 
@@ -226,6 +233,13 @@ fn read_on_link(name: &[u8], end: End, words: &[u8]) -> Option<Step>
     if is_word(name, b"arrive") {
         return Some(Step::Arrive { end, link });
     }
+    read_event_on_link(name, end, link)
+}
+
+/// An event that a word tells of a link.
+fn read_event_on_link(name: &[u8], end: End, link: u8) -> Option<Step>
+    ensures { result ≡ option_map (Step.Act end) (link_event name.now link) }
+{
     let event = read_link_event(name, link)?;
     Some(Step::Act { end, event })
 }

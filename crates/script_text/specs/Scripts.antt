@@ -1,5 +1,5 @@
 -- A SCRIPT OF TWO ENDS: from the octets that are read to what is told of it and the fault that it ends with.
-use Rattle.std.specs.Prelude.{◌≡◌, ℕ, List, [], Option, Some, None}
+use Rattle.std.specs.Prelude.{ℕ, List, [], Option, Some, None}
 use Rattle.script_text.specs.declared.fault.ScriptFault.{ScriptFault}
 use Rattle.script_text.specs.declared.fault.ScriptFault.TheVariants.{Text, Step, Exhausted}
 use Rattle.set_model.specs.State.{Settings, opened_with}

@@ -1,11 +1,13 @@
 //! A script under way, and what a line of it does.
-ghost use Rattle.std.specs.Prelude.{◌≡◌, Some, Err, IsOk, IsSome, MatchResult};
-ghost use Rattle.play_script.specs.Script.{first_line, step_of};
-ghost use Rattle.pair_model.specs.World.{World as ModelWorld, carried_out, shows};
+ghost use Rattle.std.specs.Prelude.{◌≡◌, ◌≢◌, Some, Err, IsOk, IsSome, MatchResult};
+ghost use Rattle.play_script.specs.Script.{first_line};
+ghost use Rattle.pair_model.specs.World.{World as ModelWorld, Outcome, carried_out};
+ghost use Rattle.pair_world.specs.Carried.{Fails};
 ghost use Rattle.printing.specs.declared.fault.Stop.TheVariants.{Memory};
 ghost use Rattle.text_lines.specs.Lines.{prints};
 ghost use Rattle.text_lines.specs.Reading.{IsDone, Tells};
-ghost use Rattle.script_text.specs.Scripts.{Told, asked, opened, outcome_of, read_script};
+ghost use Rattle.script_text.specs.Scripts.{Told, opened, outcome_of, read_script};
+ghost use Rattle.world_steps.specs.declared.step.Step.{Step as ModelStep};
 
 use super::account::Account;
 use super::fault::ScriptFault;
@@ -15,7 +17,7 @@ use printing::Stop;
 use std::alloc::{AllocError, Global};
 use std::marker::{Model, PhantomData};
 use text_lines::LineText;
-use world_steps::{Shown, Step};
+use world_steps::Step;
 
 /// A script under way.
 #[derive(Drop)]
@@ -127,7 +129,8 @@ fn make_world(alloc: Global, number: u64, text: &[u8]) -> Result<World, Stop<Scr
     }
 }
 
-/// A line after the first asks for a step, which is carried out.
+/// A line after the first asks for a step, which is carried out. The step is looked at where it was read, since it's copied each
+/// time that it's handed on.
 fn carry_out<A: Account>(
     alloc: Global,
     world: &mut Option<World>,
@@ -139,42 +142,48 @@ fn carry_out<A: Account>(
     ensures { IsDone result (read_script A.told number world.old text.now)
         out.old.items out.new.items world.new }
 {
-    let step = asked_step(alloc, number, text)?;
-    let Some(old) = world.take() else {
+    let Some(world) = world.as_mut() else {
         unreachable!();
     };
-    let note = A::note(&old, &step);
-    let (new, shown) = stepped(old, &step, number)?;
-    let told = A::tell_step(alloc, number, note, &step, &shown, &new, out);
-    *world = Some(new);
-    or_memory(told)
-}
-
-/// The step that a line after the first asks for.
-fn asked_step(alloc: Global, number: u64, text: &[u8]) -> Result<Step, Stop<ScriptFault>>
-    ensures { MatchResult result (λ step. step_of text.now ≡ Some step)
-        (λ stop. (t : Told) (w : ModelWorld) → Tells stop (asked t number w (step_of text.now))) }
-{
-    match read_step(alloc, text) {
-        Ok(Some(step)) => Ok(step),
+    let asked = read_step(alloc, text);
+    match &asked {
+        Ok(Some(step)) => carry_out_step::<A>(alloc, world, number, step, out),
         Ok(None) => Err(Stop::Input(ScriptFault::Text { line: number })),
         Err(_) => Err(Stop::Memory),
     }
 }
 
-/// The world after the step of this line, and what that shows. A world that is let go on each of many ways out is dear
-/// to prove, so nothing but the step owns it here.
-fn stepped(world: World, step: &Step, number: u64) -> Result<(World, Shown), Stop<ScriptFault>>
-    ensures { MatchResult result (λ after. carried_out world step.now ≡ shows after.1 after.0)
-        (λ stop. (t : Told)
-        → Tells stop (outcome_of t number world step.now (carried_out world step.now))) }
+/// The step of this line is carried out, and what it shows is told.
+fn carry_out_step<A: Account>(
+    alloc: Global,
+    world: &mut World,
+    number: u64,
+    step: &Step,
+    out: &mut Vec<u8>,
+) -> Result<(), Stop<ScriptFault>>
+    ensures { IsDone result
+        (outcome_of A.told number world.old step.now (carried_out world.old step.now))
+        out.old.items out.new.items (Some world.new) }
 {
-    match world.step(step) {
-        Ok(after) => Ok(after),
-        Err(PlayFault::NoMemory) => Err(Stop::Memory),
-        Err(PlayFault::Impossible { .. }) => Err(Stop::Input(ScriptFault::Step { line: number })),
-        Err(PlayFault::Exhausted) => Err(Stop::Input(ScriptFault::Exhausted)),
-        Err(PlayFault::Links) => unreachable!(),
+    let note = A::note(world, step);
+    let shown = world.carry_out(step);
+    match &shown {
+        Ok(shown) => or_memory(A::tell_step(alloc, number, note, step, shown, world, out)),
+        Err(fault) => Err(stop_of(*fault, number)),
+    }
+}
+
+/// Why a step that fails so stops the script at this line.
+fn stop_of(fault: PlayFault, number: u64) -> Stop<ScriptFault>
+    requires { fault ≢ PlayFault.Links }
+    ensures { (t : Told) (w : ModelWorld) (step : ModelStep) (outcome : Outcome) → Fails fault outcome
+        → Tells result (outcome_of t number w step outcome) }
+{
+    match fault {
+        PlayFault::NoMemory => Stop::Memory,
+        PlayFault::Impossible { .. } => Stop::Input(ScriptFault::Step { line: number }),
+        PlayFault::Exhausted => Stop::Input(ScriptFault::Exhausted),
+        PlayFault::Links => unreachable!(),
     }
 }
 

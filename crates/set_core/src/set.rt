@@ -87,10 +87,14 @@ impl SetCore {
             return Err(SetFault::Exhausted);
         }
         self.history.reserve(event)?;
-        let answer = self.core.apply(event)?;
-        self.tally.count(who, event, &answer);
-        self.history.push(who, event, &answer);
-        Ok(answer)
+        // an answer is copied each time that it's handed on, so it's looked at where it is
+        let answered = self.core.apply(event);
+        let Ok(answer) = &answered else {
+            return answered;
+        };
+        self.tally.count(who, event, answer);
+        self.history.push(who, event, answer);
+        answered
     }
 
     /// The configuration that the set was opened with, from which [`crate::audit`] replays its history.
