@@ -15,6 +15,8 @@ mod runs;
 #[cfg(test)]
 mod texts;
 #[cfg(test)]
+mod units;
+#[cfg(test)]
 mod words;
 
 /// So it is. It stands in the place of `assert!`, whose text of what isn't so costs the prover a multiple.

@@ -44,8 +44,8 @@ impl Source for Text<'_> {
 
 /// What is written, in memory.
 #[derive(Drop)]
-struct Page {
-    octets: Vec<u8>,
+pub(crate) struct Page {
+    pub(crate) octets: Vec<u8>,
     /// How many octets a write takes at most.
     piece: usize,
     /// How many writes succeed.
@@ -191,7 +191,7 @@ fn a_writer_fails_at_each_call(rt: HostRuntime) -> Result<(), Fail> {
 }
 
 /// Reads digits in pieces of this many octets, and writes so too.
-fn seen_of(
+pub(crate) fn seen_of(
     alloc: Global,
     digits: &[u8],
     piece: usize,

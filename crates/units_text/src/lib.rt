@@ -18,8 +18,6 @@ mod digit;
 mod digits;
 mod fault;
 mod marked_line;
-#[cfg(test)]
-mod tests;
 mod text;
 mod unit_lines;
 mod units_reading;

@@ -1,34 +1,12 @@
 //! Lines of digits and what `units` prints for them, worked out by hand and by an independent encoder.
-use super::fault::UnreadableOctet;
-use super::units_reading::UnitsReader;
-use printing::{Printer, Stop};
+ghost use Rattle.std.specs.Prelude.{◌<◌};
+
+use super::holds;
+use super::texts::seen_of;
+use printing::Fault;
 use std::alloc::Global;
 use std::test::Fail;
-
-/// So it is. It stands in the place of `assert!`, whose text of what isn't so costs the prover a multiple.
-fn holds(fact: bool) -> Result<(), Fail> {
-    if fact {
-        Ok(())
-    } else {
-        Err(Fail::from("it isn't so"))
-    }
-}
-
-/// Prints of the input, handed in by pieces of so many octets; the fault that it ends with.
-fn read_by(
-    alloc: Global,
-    input: &[u8],
-    piece: usize,
-    out: &mut Vec<u8>,
-) -> Option<Stop<UnreadableOctet>> {
-    let mut reader = UnitsReader::new(alloc);
-    for octets in input.chunks(piece.max(1)) {
-        if let Err(fault) = reader.read(octets, out) {
-            return Some(fault);
-        }
-    }
-    reader.end(out).err()
-}
+use units_text::UnreadableOctet;
 
 /// The input prints these lines, by pieces of so many octets, and ends with a fault at this place, or well.
 fn prints_by(
@@ -37,14 +15,15 @@ fn prints_by(
     piece: usize,
     lines: &[u8],
     unreadable: Option<u64>,
-) -> bool {
-    let mut printed = Vec::new(alloc);
-    let ended = match read_by(alloc, input, piece, &mut printed) {
-        None => unreadable.is_none(),
-        Some(Stop::Input(octet)) => unreadable == Some(octet.place),
-        Some(Stop::Memory) => false,
+) -> bool
+    requires { 0 < piece }
+{
+    let (page, ended) = seen_of(alloc, input, piece, 1000);
+    let wanted = match unreadable {
+        None => Ok(()),
+        Some(place) => Err(Fault::Input(UnreadableOctet { place })),
     };
-    ended && printed.as_slice() == lines
+    page.octets.as_slice() == lines && ended == wanted
 }
 
 /// The same, whole and in smaller pieces.
@@ -142,12 +121,12 @@ fn a_refused_growth_prints_a_beginning(rt: HostRuntime) -> Result<(), Fail> {
     holds(prints_a_beginning(rt.alloc(), input, lines))
 }
 
-/// The input prints these lines; or memory is wanted, and it prints a beginning of them.
+/// The input prints these lines; or memory is wanted, by it or by the page, and it prints a beginning of them.
 fn prints_a_beginning(alloc: Global, input: &[u8], lines: &[u8]) -> bool {
-    let mut printed = Vec::new(alloc);
-    match read_by(alloc, input, 4, &mut printed) {
-        None => printed.as_slice() == lines,
-        Some(Stop::Memory) => lines.starts_with(&printed),
-        Some(Stop::Input(_)) => false,
+    let (page, ended) = seen_of(alloc, input, 4, 1000);
+    match ended {
+        Ok(()) => page.octets.as_slice() == lines,
+        Err(Fault::Memory | Fault::Write) => lines.starts_with(&page.octets),
+        Err(_) => false,
     }
 }
