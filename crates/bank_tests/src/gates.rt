@@ -13,20 +13,33 @@ use std::test::Fail;
 use std::thread;
 use std::thread::Threads;
 
-/// How often a thread yields to the others before it gives up.
-const PATIENCE: u32 = 1_000_000;
+/// How often a thread yields to the others before it gives up: some ten seconds at least, since the processor of whom it waits
+/// for may be taken away for as long as a second.
+const PATIENCE: u32 = 100_000_000;
+
+/// How many turns a terminal may be ahead of another, where they keep beside one another.
+const LEAD: u64 = 64;
+
+/// By this turn of its terminals a link is up: proving takes 4,096 octet times.
+const UP: u64 = 5_400;
+
+/// The turn in which terminals wait for the users of their set.
+const OFFERED: u64 = 5_500;
 
 /// Who waits for whom.
 #[derive(Clone, Copy, Debug, PartialEq, Eq)]
-enum Meeting {
+pub(crate) enum Meeting {
     /// Set 0 in its first step, under its lock, for a step of set 1 that was answered, and set 1 in its third step for the
     /// second step of set 0.
     Sets,
     /// Link 0 in its first turn for a step of link 1, and link 1 in its next turn for the second turn of link 0.
     Links,
-    /// Link 0 in its first turn for the first call of user 0, and user 0 in its second call for the second turn of
+    /// Link 0 in its first turn for the first call of the user, and the user in its second call for the second turn of
     /// link 0.
     Users,
+    /// The users of a set for both its links to be up, and a little later its links for so many calls of its users. The
+    /// ends of a link, and the links of a set, wait for each other all along.
+    Offers { calls: u64 },
 }
 
 /// What a link's terminal did.
@@ -34,6 +47,8 @@ enum Meeting {
 struct LinkSeen {
     turns: AtomicU64,
     steps: AtomicU64,
+    /// The turns of the terminal at the other end, in a bank of its own.
+    far_turns: AtomicU64,
 }
 
 /// What the threads of a set did.
@@ -60,6 +75,7 @@ fn no_link() -> LinkSeen {
     LinkSeen {
         turns: AtomicU64::new(0),
         steps: AtomicU64::new(0),
+        far_turns: AtomicU64::new(0),
     }
 }
 
@@ -101,6 +117,11 @@ impl Seen {
         if set == 0 { &self.first } else { &self.second }
     }
 
+    /// Waits until whoever counts these turns isn't too far behind one who has had so many.
+    fn wait_beside(&self, turns: u64, other: &AtomicU64) {
+        self.wait_for(other, turns.saturating_add(1).saturating_sub(LEAD));
+    }
+
     /// Waits until so many are counted. Once somebody has given up, nobody waits any more.
     fn wait_for(&self, counter: &AtomicU64, least: u64) {
         for _time in 0..PATIENCE {
@@ -119,15 +140,36 @@ impl Seen {
 
 /// The gate of a meeting, which all threads share.
 #[derive(Drop)]
-struct MeetingGate {
+pub(crate) struct MeetingGate {
     meeting: Meeting,
+    is_near: bool,
     seen: Arc<Seen, Global>,
+}
+
+impl MeetingGate {
+    /// The gate of a meeting at which nobody has come by yet.
+    pub(crate) fn new(alloc: Global, meeting: Meeting) -> Result<MeetingGate, AllocError> {
+        Ok(MeetingGate {
+            meeting,
+            is_near: true,
+            seen: Arc::new(alloc, Seen::nothing())?,
+        })
+    }
+
+    /// The gate of the bank at the other ends of the links.
+    pub(crate) fn far(&self) -> Result<MeetingGate, AllocError> {
+        Ok(MeetingGate {
+            is_near: false,
+            ..self.clone()?
+        })
+    }
 }
 
 impl Clone for MeetingGate {
     fn clone(&self) -> Result<MeetingGate, AllocError> {
         Ok(MeetingGate {
             meeting: self.meeting,
+            is_near: self.is_near,
             seen: Arc::try_clone(&self.seen)?,
         })
     }
@@ -137,7 +179,16 @@ impl Gate for MeetingGate {
     fn outside(&self, set: u16, link: u8) {
         let of_set = self.seen.set(set);
         let own = of_set.link(link);
+        if !self.is_near {
+            self.seen.wait_beside(count(&own.far_turns), &own.turns);
+            return;
+        }
         let turns = count(&own.turns);
+        if let Meeting::Offers { .. } = self.meeting {
+            let beside = of_set.link(if link == 0 { 1 } else { 0 });
+            self.seen.wait_beside(turns, &own.far_turns);
+            self.seen.wait_beside(turns, &beside.turns);
+        }
         match (self.meeting, link) {
             (Meeting::Links, 0) => {
                 if turns == 0 {
@@ -154,11 +205,19 @@ impl Gate for MeetingGate {
                     self.seen.wait_for(&of_set.calls, 1);
                 }
             }
+            (Meeting::Offers { calls }, _) => {
+                if turns == OFFERED {
+                    self.seen.wait_for(&of_set.calls, calls);
+                }
+            }
             _ => {}
         }
     }
 
     fn inside(&self, set: u16, link: u8) {
+        if !self.is_near {
+            return;
+        }
         let of_set = self.seen.set(set);
         count(&of_set.link(link).steps);
         let steps = count(&of_set.steps);
@@ -175,10 +234,18 @@ impl Gate for MeetingGate {
         }
     }
 
-    fn user(&self, set: u16, user: u16) {
+    fn user(&self, set: u16, _user: u16) {
+        if !self.is_near {
+            return;
+        }
         let of_set = self.seen.set(set);
-        if user == 0 && count(&of_set.calls) == 1 && self.meeting == Meeting::Users {
-            self.seen.wait_for(&of_set.first.turns, 2);
+        match (self.meeting, count(&of_set.calls)) {
+            (Meeting::Users, 1) => self.seen.wait_for(&of_set.first.turns, 2),
+            (Meeting::Offers { .. }, _) => {
+                self.seen.wait_for(&of_set.first.turns, UP);
+                self.seen.wait_for(&of_set.second.turns, UP);
+            }
+            _ => {}
         }
     }
 }
@@ -190,11 +257,8 @@ fn all_meet<R: Threads + Wait + Copy + Send + Sync + 'static>(
     meeting: Meeting,
     least: u64,
 ) -> Result<(), Fail> {
-    let seen = Arc::new(alloc, Seen::nothing())?;
-    let gate = MeetingGate {
-        meeting,
-        seen: Arc::try_clone(&seen)?,
-    };
+    let gate = MeetingGate::new(alloc, meeting)?;
+    let seen = Arc::try_clone(&gate.seen)?;
     let configs = configs_of(alloc, 2, 2, Method::Basic, 2, 1)?;
     let ends = ends_of(
         rt,
