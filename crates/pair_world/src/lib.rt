@@ -8,10 +8,10 @@
 //! ```
 //!
 //! A [`World`] carries out one [`Step`] after another: [`World::step`] gives the world after a step and what it
-//! shows ([`Shown`]), or why it can't be done ([`PlayFault`]); [`World::play`] takes a list of steps, and promises
-//! what holds all along a sound run. A unit that an end emits joins the line of its link to the other end, from
-//! which it arrives in its order or is lost; nothing else happens to it, but that the lines of a link are empty
-//! when it comes up at both ends (`link_lines` keeps them).
+//! shows ([`Shown`]), or why it can't be done ([`PlayFault`]), and [`World::carry_out`] does so in place;
+//! [`World::play`] takes a list of steps, and promises what holds all along a sound run. A unit that an end emits
+//! joins the line of its link to the other end, from which it arrives in its order or is lost; nothing else happens
+//! to it, but that the lines of a link are empty when it comes up at both ends (`link_lines` keeps them).
 //!
 //! This crate knows no script and no text (`play_script`, `play_text`), and decides nothing of its own: each
 //! end is a set (`set_core`). The step of the world, case by case, is `specs/World.antt` of `pair_model`.
