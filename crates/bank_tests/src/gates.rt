@@ -13,8 +13,7 @@ use std::test::Fail;
 use std::thread;
 use std::thread::Threads;
 
-/// How often a thread yields to the others before it gives up: some ten seconds at least, since the processor of whom it waits
-/// for may be taken away for as long as a second.
+/// How often a thread yields to the others before it gives up: some ten seconds at least, for whom it waits for may come late.
 const PATIENCE: u32 = 100_000_000;
 
 /// How many turns a terminal may be ahead of another, where they keep beside one another.
