@@ -1,5 +1,5 @@
 -- Steps of the world.
-use Rattle.std.proofs.Common.{◌≡◌, ◌∙◌, ap, sym, ℕ, true, List, [], ◌∷◌, Some, slice_get, Result, Ok, Err, IfOk, OnErr}
+use Rattle.std.proofs.Common.{◌≡◌, ◌∙◌, ap, sym, ℕ, true, List, [], ◌∷◌, Some, slice_get, Result, Ok, Err, OnOk, OnErr}
 use Rattle.l2_units.specs.declared.unit.Unit.{Unit as SignalUnit}
 use Rattle.link_lines.specs.Lines.{without}
 use Rattle.set_events.specs.declared.event.Event.{Event}
@@ -15,12 +15,12 @@ use Rattle.pair_model.specs.World.{World, has_link, with_line, line_to, reaches,
 use Rattle.pair_world.specs.Carried.{LeavesTo}
 
 -- An event changes no number of links.
-pub kept_by : (result : Result Answer SetFault) (old new : LinkSet) (who : Actor) (event : Event)
-    → IfOk result (λ answer. IsStep old who event answer new) → OnErr result (new ≡ old)
+pub kept_by : (result : Result (Unit {0}) SetFault) (old new : LinkSet) (who : Actor) (event : Event) (answer : Answer)
+    → OnOk result (IsStep old who event answer new) → OnErr result (new ≡ old)
     → link_count new.state ≡ link_count old.state
-kept_by (Ok answer) old new who event s e =
+kept_by (Ok done) old new who event answer s e =
     ap (λ (t : State). link_count t) s.state_is ∙ link_count_stays old.state event
-kept_by (Err fault) old new who event s e = ap (λ (t : LinkSet). link_count t.state) e
+kept_by (Err fault) old new who event answer s e = ap (λ (t : LinkSet). link_count t.state) e
 
 -- A unit that was taken out of the front of its line has arrived.
 

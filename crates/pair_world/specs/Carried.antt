@@ -12,6 +12,7 @@ use Rattle.pair_world.specs.declared.fault.PlayFault.{PlayFault}
 use Rattle.pair_world.specs.declared.fault.PlayFault.TheVariants.{NoMemory, Impossible, Exhausted, Links}
 use Rattle.world_steps.specs.declared.step.End.{End}
 use Rattle.world_steps.specs.declared.step.Shown.{Shown}
+use Rattle.world_steps.specs.declared.step.Shown.TheVariants.{Answered, Up, Lost}
 use Rattle.world_steps.specs.declared.step.Step.{Step}
 use Rattle.pair_model.specs.Run.{Played, leads_to, stops_at, is_full_at, played_from, begun}
 use Rattle.pair_model.specs.World.{World, Outcome, world_of, shows, impossible, exhausted, is_full, answer_to, after, line_to, with_line}
@@ -45,9 +46,10 @@ Fails (Impossible place) outcome = (place ≡ 0) × (outcome ≡ impossible)
 Fails Exhausted outcome = outcome ≡ exhausted
 Fails Links outcome = ⊥
 
-abbrev pub IsCarriedOut : Result Shown PlayFault → Outcome → World → Type 0
-IsCarriedOut result outcome new =
-    MatchResult result (λ shown. outcome ≡ shows shown new) (λ fault. Fails fault outcome)
+-- what is shown then, and the world
+abbrev pub IsCarriedOut : Result (Unit {0}) PlayFault → Outcome → Shown → World → Type 0
+IsCarriedOut result outcome shown new =
+    MatchResult result (λ done. outcome ≡ shows shown new) (λ fault. Fails fault outcome)
 
 -- the step's world, and what it shows
 abbrev pub IsStepped : Result (World × Shown) PlayFault → Outcome → Type 0
@@ -96,14 +98,19 @@ abbrev pub FailsAt : SetFault → LinkSet → Type 0
 FailsAt SetNoMemory set = Unit {0}
 FailsAt SetExhausted set = is_full set ≡ true
 
-pub record IsAnswered (old : LinkSet) (event : Event) (answer : Answer) (new : LinkSet) : Type 0 where
+pub record IsAnswered (old : LinkSet) (event : Event) (shown : Shown) (new : LinkSet) : Type 0 where
   pub room : is_full old ≡ false
-  pub answer_is : answer ≡ answer_to old event
+  pub shown_is : shown ≡ Answered (answer_to old event)
   pub set_is : new ≡ after old event
 
-abbrev pub Applies : Result Answer SetFault → LinkSet → Event → LinkSet → Type 0
-Applies result old event new =
-    MatchResult result (λ answer. IsAnswered old event answer new) (λ fault. FailsAt fault old)
+abbrev pub Applies : Result (Unit {0}) SetFault → LinkSet → Event → Shown → LinkSet → Type 0
+Applies result old event shown new =
+    MatchResult result (λ done. IsAnswered old event shown new) (λ fault. FailsAt fault old)
+
+abbrev pub IsAnAnswer : Shown → Type 0
+IsAnAnswer (Answered answer) = Unit {0}
+IsAnAnswer Up = ⊥
+IsAnAnswer Lost = ⊥
 
 -- a unit that is taken out of the line to an end on a link
 pub record LeavesTo (old : World) (end : End) (link place : ℕ) (unit : SignalUnit) (new : World) : Type 0 where

@@ -6,7 +6,7 @@ ghost use Rattle.set_step.specs.declared.fault.SetFault.TheVariants.{NoMemory};
 ghost use Rattle.pair_model.specs.World.{actor_of, has_own_step};
 ghost use Rattle.pair_model.specs.Promises.{AreSteps, IsAskedStep};
 ghost use Rattle.set_model.specs.Rows.{stream_of};
-ghost use Rattle.pair_world.specs.Carried.{Applies, PlayFaultOf};
+ghost use Rattle.pair_world.specs.Carried.{Applies, IsAnAnswer};
 ghost use Rattle.pair_streams.specs.Arrived.{AreDone};
 
 use super::fault::PlayFault;
@@ -79,18 +79,20 @@ impl World {
     pub fn step(mut self, step: &Step) -> Result<(World, Shown), PlayFault>
         ensures { IsStepped result (carried_out self step.now) }
     {
-        let shown = self.carry_out(step)?;
+        let mut shown = Shown::Answered(Answer::Done);
+        self.carry_out(step, &mut shown)?;
         Ok((self, shown))
     }
 
-    /// Carries out a step in place, and tells what it shows. After a fault the world isn't to be used again.
+    /// Carries out a step in place, and puts what it shows into `shown`, whatever stood there: what is shown has room for a
+    /// unit, and what is handed on by value is copied each time. After a fault neither is to be used again.
     ///
     /// Faults: as of [`World::step`].
     #[tactic(auto, unfolding(pair_model::specs::World::carried_out))]
-    pub fn carry_out(&mut self, step: &Step) -> Result<Shown, PlayFault>
-        ensures { IsCarriedOut result (carried_out self.old step.now) self.new }
+    pub fn carry_out(&mut self, step: &Step, shown: &mut Shown) -> Result<(), PlayFault>
+        ensures { IsCarriedOut result (carried_out self.old step.now) shown.new self.new }
     {
-        self.dispatch(step)
+        self.dispatch(step, shown)
     }
 
     /// The world of these configurations after these steps, one after another.
@@ -177,9 +179,10 @@ impl World {
     fn carry_out_all(&mut self, steps: &[Step]) -> Result<(), PlayFault>
         ensures { AreCarriedOut result (played_from 0 self.old steps.now) self.new }
     {
+        let mut shown = Shown::Answered(Answer::Done);
         for (place, step) in steps.iter().enumerate() {
-            match self.carry_out(step) {
-                Ok(_) => (),
+            match self.carry_out(step, &mut shown) {
+                Ok(()) => (),
                 Err(fault) => return Err(fault.at(place as u64)),
             }
         }
@@ -187,16 +190,16 @@ impl World {
     }
 
     /// Carries out a step, case by case.
-    fn dispatch(&mut self, step: &Step) -> Result<Shown, PlayFault>
-        ensures { IsCarriedOut result (done_by self.old step.now) self.new }
+    fn dispatch(&mut self, step: &Step, shown: &mut Shown) -> Result<(), PlayFault>
+        ensures { IsCarriedOut result (done_by self.old step.now) shown.new self.new }
     {
         match step {
-            Step::Act { end, event } => self.ask(*end, event),
-            Step::Emit { end, link } => self.emit(*end, *link),
-            Step::Arrive { end, link } => self.arrive(*end, *link),
-            Step::Lose { end, link, place } => self.lose(*end, *link, *place),
-            Step::Together { link } => self.raise(*link),
-            Step::Inject { end, link, unit } => self.inject(*end, *link, unit),
+            Step::Act { end, event } => self.ask(*end, event, shown),
+            Step::Emit { end, link } => self.emit(*end, *link, shown),
+            Step::Arrive { end, link } => self.arrive(*end, *link, shown),
+            Step::Lose { end, link, place } => self.lose(*end, *link, *place, shown),
+            Step::Together { link } => self.raise(*link, shown),
+            Step::Inject { end, link, unit } => self.inject(*end, *link, unit, shown),
         }
     }
 
@@ -212,18 +215,18 @@ impl World {
     }
 
     /// One event at an end, if it has no step of its own.
-    fn ask(&mut self, end: End, event: &Event) -> Result<Shown, PlayFault>
-        ensures { IsCarriedOut result (asks self.old end event.now) self.new }
+    fn ask(&mut self, end: End, event: &Event, shown: &mut Shown) -> Result<(), PlayFault>
+        ensures { IsCarriedOut result (asks self.old end event.now) shown.new self.new }
     {
         if takes_own_step(event) {
             return Err(PlayFault::Impossible { place: 0 });
         }
-        self.act(end, event)
+        self.act(end, event, shown)
     }
 
     /// One event at an end.
-    fn act(&mut self, end: End, event: &Event) -> Result<Shown, PlayFault>
-        ensures acts { IsCarriedOut result (acts self.old end event.now) self.new }
+    fn act(&mut self, end: End, event: &Event, shown: &mut Shown) -> Result<(), PlayFault>
+        ensures acts { IsCarriedOut result (acts self.old end event.now) shown.new self.new }
         ensures known { OnOk result (has_actor self.old (actor_of event.now) ≡ true) }
         ensures links { link_count self.new.a.state ≡ link_count self.old.a.state }
     {
@@ -231,9 +234,10 @@ impl World {
             return Err(PlayFault::Impossible { place: 0 });
         };
         match end {
-            End::A => shown_of(apply(&mut *self.a, who, event)),
-            End::B => shown_of(apply(&mut *self.b, who, event)),
+            End::A => apply(&mut *self.a, who, event, shown)?,
+            End::B => apply(&mut *self.b, who, event, shown)?,
         }
+        Ok(())
     }
 
     /// Who makes this event; `None`: the terminal of a link that the world hasn't.
@@ -277,14 +281,11 @@ impl World {
     }
 
     /// The end sends its next unit on the link, which joins the link's line to the other end.
-    fn emit(&mut self, end: End, link: u8) -> Result<Shown, PlayFault>
-        ensures { IsCarriedOut result (emits self.old end link) self.new }
+    fn emit(&mut self, end: End, link: u8, shown: &mut Shown) -> Result<(), PlayFault>
+        ensures { IsCarriedOut result (emits self.old end link) shown.new self.new }
     {
-        let shown = self.act(end, &Event::Next { link });
-        if let Ok(shown) = &shown {
-            self.join(end, link, shown)?;
-        }
-        shown
+        self.act(end, &Event::Next { link }, shown)?;
+        self.join(end, link, shown)
     }
 
     /// A unit that an end sent on the link joins the link's line to the other end.
@@ -305,19 +306,25 @@ impl World {
     }
 
     /// A unit is heard on the link at the end, though it was under way on no line.
-    fn inject(&mut self, end: End, link: u8, unit: &Unit) -> Result<Shown, PlayFault>
-        ensures { IsCarriedOut result (acts self.old end (Event.Heard link unit.now)) self.new }
+    fn inject(
+        &mut self,
+        end: End,
+        link: u8,
+        unit: &Unit,
+        shown: &mut Shown,
+    ) -> Result<(), PlayFault>
+        ensures { IsCarriedOut result (acts self.old end (Event.Heard link unit.now)) shown.new self.new }
     {
         let event = Event::Heard {
             link,
             unit: copy_of_unit(unit),
         };
-        self.act(end, &event)
+        self.act(end, &event, shown)
     }
 
     /// The front of the link's line to the end arrives: it's heard where the link is up there, else lost.
-    fn arrive(&mut self, end: End, link: u8) -> Result<Shown, PlayFault>
-        ensures { IsCarriedOut result (arrives self.old end link) self.new }
+    fn arrive(&mut self, end: End, link: u8, shown: &mut Shown) -> Result<(), PlayFault>
+        ensures { IsCarriedOut result (arrives self.old end link) shown.new self.new }
     {
         if !self.holds_link(link) {
             return Err(PlayFault::Impossible { place: 0 });
@@ -326,20 +333,24 @@ impl World {
             return Err(PlayFault::Impossible { place: 0 });
         };
         if !self.is_link_up(end, link) {
-            return Ok(Shown::Lost);
+            *shown = Shown::Lost;
+            return Ok(());
         }
-        self.act(end, &Event::Heard { link, unit })
+        self.act(end, &Event::Heard { link, unit }, shown)
     }
 
     /// The unit at this place of the link's line to the end is lost.
-    fn lose(&mut self, end: End, link: u8, place: u64) -> Result<Shown, PlayFault>
-        ensures { IsCarriedOut result (loses self.old end link place) self.new }
+    fn lose(&mut self, end: End, link: u8, place: u64, shown: &mut Shown) -> Result<(), PlayFault>
+        ensures { IsCarriedOut result (loses self.old end link place) shown.new self.new }
     {
         if !self.holds_link(link) {
             return Err(PlayFault::Impossible { place: 0 });
         }
         match self.take_out(end, link, place) {
-            Some(_) => Ok(Shown::Lost),
+            Some(_) => {
+                *shown = Shown::Lost;
+                Ok(())
+            }
             None => Err(PlayFault::Impossible { place: 0 }),
         }
     }
@@ -366,17 +377,20 @@ impl World {
     }
 
     /// The link comes up at both ends, and nothing is under way on it.
-    fn raise(&mut self, link: u8) -> Result<Shown, PlayFault>
-        ensures { IsCarriedOut result (rises self.old link) self.new }
+    fn raise(&mut self, link: u8, shown: &mut Shown) -> Result<(), PlayFault>
+        ensures { IsCarriedOut result (rises self.old link) shown.new self.new }
     {
         if !self.holds_link(link) || !self.a.is_settled(link) || !self.b.is_settled(link) {
             return Err(PlayFault::Impossible { place: 0 });
         }
-        apply(&mut *self.a, Actor::Terminal(link), &Event::Up { link })?;
-        apply(&mut *self.b, Actor::Terminal(link), &Event::Up { link })?;
+        let who = Actor::Terminal(link);
+        let up = Event::Up { link };
+        apply(&mut *self.a, who, &up, shown)?;
+        apply(&mut *self.b, who, &up, shown)?;
         self.to_a.clear(link);
         self.to_b.clear(link);
-        Ok(Shown::Up)
+        *shown = Shown::Up;
+        Ok(())
     }
 }
 
@@ -442,23 +456,33 @@ fn new_end(alloc: Global, config: &SetConfig) -> Result<SetCore, PlayFault>
     Ok(SetCore::new(alloc, config)?)
 }
 
-/// What is shown of an answer. A value that is handed on by value is copied, so nothing but its case changes here.
-fn shown_of(answer: Result<Answer, SetFault>) -> Result<Shown, PlayFault>
-    ensures { MatchResult answer (λ a. result ≡ Ok (Shown.Answered a))
-        (λ fault. IfErr result (PlayFaultOf fault) × IsErr result) }
-{
-    match answer {
-        Ok(answer) => Ok(Shown::Answered(answer)),
-        Err(fault) => Err(PlayFault::from(fault)),
-    }
-}
-
-/// One event at a set, by its actor.
-fn apply(set: &mut SetCore, who: Actor, event: &Event) -> Result<Answer, SetFault>
+/// One event at a set, by its actor: its answer is shown.
+fn apply(set: &mut SetCore, who: Actor, event: &Event, shown: &mut Shown) -> Result<(), SetFault>
     requires in_range { IsActor who }
     requires who { who ≡ actor_of event.now }
-    ensures applies { Applies result set.old event.now set.new }
+    ensures applies { Applies result set.old event.now shown.new set.new }
     ensures links { link_count set.new.state ≡ link_count set.old.state }
 {
-    set.apply(who, event)
+    make_answered(shown);
+    let Shown::Answered(answer) = shown else {
+        unreachable!();
+    };
+    set.apply_into(who, event, answer)
+}
+
+/// An answer is shown from now on, where none was. As a function of its own it costs only where none was.
+#[inline(never)]
+fn show_done(shown: &mut Shown)
+    ensures { shown.new ≡ Shown.Answered Answer.Done }
+{
+    *shown = Shown::Answered(Answer::Done);
+}
+
+/// Some answer is shown from now on.
+fn make_answered(shown: &mut Shown)
+    ensures { IsAnAnswer shown.new }
+{
+    if !matches!(shown, Shown::Answered(_)) {
+        show_done(shown);
+    }
 }

@@ -14,10 +14,11 @@ use super::fault::ScriptFault;
 use pair_world::{End, PlayFault, World};
 use play_script::{read_opening, read_step};
 use printing::Stop;
+use set_events::Answer;
 use std::alloc::{AllocError, Global};
 use std::marker::{Model, PhantomData};
 use text_lines::LineText;
-use world_steps::Step;
+use world_steps::{Shown, Step};
 
 /// A script under way.
 #[derive(Drop)]
@@ -166,10 +167,10 @@ fn carry_out_step<A: Account>(
         out.old.items out.new.items (Some world.new) }
 {
     let note = A::note(world, step);
-    let shown = world.carry_out(step);
-    match &shown {
-        Ok(shown) => or_memory(A::tell_step(alloc, number, note, step, shown, world, out)),
-        Err(fault) => Err(stop_of(*fault, number)),
+    let mut shown = Shown::Answered(Answer::Done);
+    match world.carry_out(step, &mut shown) {
+        Ok(()) => or_memory(A::tell_step(alloc, number, note, step, &shown, world, out)),
+        Err(fault) => Err(stop_of(fault, number)),
     }
 }
 

@@ -5,7 +5,7 @@ ghost use Rattle.set_model.specs.History.{IsActor, IsLegal, longest_history};
 ghost use Rattle.set_step.specs.Agreement.{Agrees};
 
 use super::set::LONGEST_HISTORY;
-use set_events::{Actor, Entry, SetConfig};
+use set_events::{Actor, Answer, Entry, SetConfig};
 use set_history::Reader;
 use set_step::{Core, SetFault};
 use std::alloc::Global;
@@ -37,11 +37,12 @@ fn replay(core: &mut Core, config: &SetConfig, entries: &[Entry]) -> Result<bool
         (λ is_legal. IsTrue is_legal ↔ IsLegal (new_state config.now) entries.now) }
     ensures fault { IfErr result (λ fault. fault ≡ SetFault.NoMemory) }
 {
+    let mut answer = Answer::Done;
     for entry in entries {
         if !is_actor(entry.who) {
             return Ok(false);
         }
-        let answer = core.apply(&entry.event)?;
+        core.apply(&entry.event, &mut answer)?;
         if !answer.same(&entry.answer) {
             return Ok(false);
         }
@@ -84,11 +85,12 @@ fn replay_history(
     ensures fault { IfErr result (λ fault. fault ≡ SetFault.NoMemory) }
 {
     let mut left = entries;
+    let mut answer = Answer::Done;
     while let Some(told) = left.next() {
         if !is_actor(told.who()) {
             return Ok(false);
         }
-        let answer = core.apply(&told.event(alloc)?)?;
+        core.apply(&told.event(alloc)?, &mut answer)?;
         if !answer.same(&told.answer()) {
             return Ok(false);
         }

@@ -16,7 +16,7 @@ pub(crate) const LONGEST_HISTORY: usize = 0x1_0000_0000_0000;
 /// Readers: [`SetCore::place_of`], [`SetCore::counts`], [`SetCore::books`], [`SetCore::acknowledged`],
 /// [`SetCore::history`], [`SetCore::config`], [`SetCore::links`], [`SetCore::is_up`], [`SetCore::is_settled`],
 /// [`SetCore::unacked_at`].
-/// The one input: [`SetCore::apply`].
+/// The one input: [`SetCore::apply`], or [`SetCore::apply_into`], which puts the answer where the caller has room for it.
 ///
 /// What it holds is what the history leads to from the opening. Of every value it holds that the history
 /// is legal, that what is kept ([`SetCore::kept`]) agrees with what it leads to, and that the tally is the
@@ -43,7 +43,7 @@ impl Model for SetCore {
 }
 
 impl SetCore {
-    ghost use Rattle.std.specs.Prelude.{◌≡◌, ◌<◌, ◌≤◌, ◌^◌, ◌↔◌, ◌+◌, IfOk, IfErr, OnErr, length, sum};
+    ghost use Rattle.std.specs.Prelude.{◌≡◌, ◌<◌, ◌≤◌, ◌^◌, ◌↔◌, ◌+◌, IfOk, IfErr, OnOk, OnErr, length, sum};
     ghost use Rattle.set_model.specs.State.{new_state, link_count, is_up as is_up_in, is_settled as is_settled_in, unacked_in};
     ghost use Rattle.set_model.specs.Sound.{IsSound};
     ghost use Rattle.set_model.specs.Rows.{place, counts_of, total_of};
@@ -83,18 +83,38 @@ impl SetCore {
             ↔ (longest_history ≤ length self.old.history) }
         ensures err { OnErr result (self.new ≡ self.old) }
     {
+        let mut answer = Answer::Done;
+        self.apply_into(who, event, &mut answer)?;
+        Ok(answer)
+    }
+
+    /// [`SetCore::apply`] with the answer put into `answer`, whatever stood there: an answer has room for a unit, and one that
+    /// is handed on by value is copied each time.
+    ///
+    /// Faults: as of [`SetCore::apply`]; of what stands in `answer` then nothing is said.
+    pub fn apply_into(
+        &mut self,
+        who: Actor,
+        event: &Event,
+        answer: &mut Answer,
+    ) -> Result<(), SetFault>
+        requires { IsActor who }
+        ensures ok { OnOk result (IsStep self.old who event.now answer.new self.new) }
+        ensures gains { OnOk result
+            (BooksGain (books_in self.old) who event.now answer.new (books_in self.new)) }
+        ensures bounded { OnOk result (AreBounded (books_in self.new)) }
+        ensures exhausted { (result ≡ Err SetFault.Exhausted)
+            ↔ (longest_history ≤ length self.old.history) }
+        ensures err { OnErr result (self.new ≡ self.old) }
+    {
         if self.history.len() >= LONGEST_HISTORY {
             return Err(SetFault::Exhausted);
         }
         self.history.reserve(event)?;
-        // an answer is copied each time that it's handed on, so it's looked at where it is
-        let answered = self.core.apply(event);
-        let Ok(answer) = &answered else {
-            return answered;
-        };
+        self.core.apply(event, answer)?;
         self.tally.count(who, event, answer);
         self.history.push(who, event, answer);
-        answered
+        Ok(())
     }
 
     /// The configuration that the set was opened with, from which [`crate::audit`] replays its history.

@@ -1,5 +1,5 @@
 -- What is answered to an event, once it's known which one it is. Stated here once, since it's the same of each.
-use Rattle.std.proofs.Common.{◌≡◌, true, false, IfOk, IsOk, Result, subst, sym}
+use Rattle.std.proofs.Common.{◌≡◌, true, false, OnOk, IsOk, Result, subst, sym}
 use Rattle.set_events.specs.declared.answer.Answer.{Answer}
 use Rattle.set_events.specs.declared.event.Event.{Event}
 use Rattle.l3_orders.specs.declared.order.Order.{Order}
@@ -16,11 +16,11 @@ use Rattle.set_step.specs.declared.parts.Parts.{Parts}
 pub answers_it : (old new : Parts) (answer : Answer) (event known : Event) → event ≡ known → Answers old new answer (λ s. stepped s known) → Answers old new answer (λ s. stepped s event)
 answers_it old new answer event known is told = subst (λ (e : Event). Answers old new answer (λ s. stepped s e)) (sym is) told
 
-pub may_answer_it : (old new : Parts) (result : Result Answer SetFault) (event known : Event) → event ≡ known → IfOk result (λ answer. Answers old new answer (λ s. stepped s known)) → IfOk result (λ answer. Answers old new answer (λ s. stepped s event))
-may_answer_it old new result event known is told = subst (λ (e : Event). IfOk result (λ answer. Answers old new answer (λ s. stepped s e))) (sym is) told
+pub may_answer_it : (old new : Parts) (answer : Answer) (result : Result (Unit {0}) SetFault) (event known : Event) → event ≡ known → OnOk result (Answers old new answer (λ s. stepped s known)) → OnOk result (Answers old new answer (λ s. stepped s event))
+may_answer_it old new answer result event known is told = subst (λ (e : Event). OnOk result (Answers old new answer (λ s. stepped s e))) (sym is) told
 
 -- an event that may want memory is no other
-pub may_want : (result : Result Answer SetFault) (event known : Event) → event ≡ known → wants_none known ≡ false → wants_none event ≡ true → IsOk result
+pub may_want : (result : Result (Unit {0}) SetFault) (event known : Event) → event ≡ known → wants_none known ≡ false → wants_none event ≡ true → IsOk result
 may_want result event known is wants none = cc
 
 -- what becomes of an order, so too

@@ -1,6 +1,6 @@
 -- A set of which nothing was asked, and what holds after each event.
 use Rattle.std.proofs.Common.{refl, arith, ◌≡◌, ◌∙◌, ap, sym, subst, ℕ, zero, suc, ◌^◌, ◌+◌, ◌%◌, List, [], map, slice_get, Some, Bool, cond}
-use Rattle.std.specs.Prelude.{replicate, slice_index_or, Result, Ok, Err, IfOk, OnErr}
+use Rattle.std.specs.Prelude.{replicate, slice_index_or, Result, Ok, Err, OnOk, OnErr}
 use Rattle.std.proofs.lemmas.List.{length-replicate}
 use Rattle.std.proofs.lemmas.Option.{same_Some}
 use Rattle.std.proofs.lemmas.Bool.{le-ltb}
@@ -125,9 +125,9 @@ answers_for old new event answer asked ok s a =
       agrees = record { stands = gives.stands; sound = subst (λ o. IsSound o.state) (step_is s event) (step_sound s event asked a.sound) };
     })
 
-pub holds_after : (old new : Parts) (event : Event) (result : Result Answer SetFault) → IsAsked event → IfOk result (λ answer. Answers old new answer (λ s. stepped s event)) → OnErr result (kept_of new ≡ kept_of old) → Holds (kept_of old) → Holds (kept_of new)
-holds_after old new event (Ok answer) asked ok err h = ((step h.0 event).state, (answers_for old new event answer asked ok h.0 h.1).agrees)
-holds_after old new event (Err fault) asked ok err h = (h.0, subst (λ k. Agrees k h.0) (sym err) h.1)
+pub holds_after : (old new : Parts) (event : Event) (answer : Answer) (result : Result (Unit {0}) SetFault) → IsAsked event → OnOk result (Answers old new answer (λ s. stepped s event)) → OnErr result (kept_of new ≡ kept_of old) → Holds (kept_of old) → Holds (kept_of new)
+holds_after old new event answer (Ok done) asked ok err h = ((step h.0 event).state, (answers_for old new event answer asked ok h.0 h.1).agrees)
+holds_after old new event answer (Err fault) asked ok err h = (h.0, subst (λ k. Agrees k h.0) (sym err) h.1)
 
 -- whole numbers of a set are far from the end of their range
 pub counted_of : (parts : Parts) → HoldsFew (2 ^ 48) (kept_of parts) → AreCounted (2 ^ 60) parts.links.items
@@ -137,9 +137,9 @@ counted_of parts h number link there =
     let accepted = few.accepted in
     record { acked = omega (arith, sent); accepted = omega (arith, accepted) }
 
-pub if_ok : (old new : Parts) (event : Event) (result : Result Answer SetFault) → IsAsked event → IfOk result (λ answer. Answers old new answer (λ s. stepped s event)) → IfOk result (λ answer. (s : State) → Agrees (kept_of old) s → AnswersFor (step s event) answer (kept_of new))
-if_ok old new event (Ok answer) asked ok = answers_for old new event answer asked ok
-if_ok old new event (Err fault) asked ok = ok
+pub on_ok : (old new : Parts) (event : Event) (answer : Answer) (result : Result (Unit {0}) SetFault) → IsAsked event → OnOk result (Answers old new answer (λ s. stepped s event)) → OnOk result ((s : State) → Agrees (kept_of old) s → AnswersFor (step s event) answer (kept_of new))
+on_ok old new event answer (Ok done) asked ok = answers_for old new event answer asked ok
+on_ok old new event answer (Err fault) asked ok = ok
 
 -- what is kept at first: links that stand for new ones, queues with nothing, and nothing else
 pub new_is : (config : SetConfig) (parts : Parts) → parts.config ≡ config → map link_of parts.links.items ≡ replicate config.links (new_link config.method) → parts.queues.lists.links ≡ replicate config.links new_lists → parts.queues.lists.parked ≡ [] → parts.queues.lists.back ≡ replicate 256 nothing → parts.queues.messages ≡ [] → parts.bodies.items ≡ [] → parts.routes ≡ new_routing config.links → parts.inbox.items ≡ [] → kept_of parts ≡ new_kept config

@@ -28,52 +28,58 @@ const MOST_LINKS: usize = 16;
 
 /// Streams whose home this link is are to come back to it: a declaration on every other link that is up,
 /// the lowest-numbered first, where streams of this home run and its code is free.
-pub(crate) fn restore(parts: &mut Parts, number: u8) -> Result<Answer, SetFault>
+pub(crate) fn restore(parts: &mut Parts, number: u8, answer: &mut Answer) -> Result<(), SetFault>
     requires holds { Holds (kept_of parts.old) }
-    ensures ok { IfOk result (λ answer. Answers parts.old parts.new answer
+    ensures ok { OnOk result (Answers parts.old parts.new answer.new
         (λ s. in_service number s (λ link. comes_back number s))) }
     ensures err { OnErr result (kept_of parts.new ≡ kept_of parts.old) }
     ensures fault { IfErr result (λ fault. fault ≡ SetFault.NoMemory) }
 {
     if let Some(why) = out_of_service(&parts.links, number) {
-        return Ok(Answer::Refused { why });
+        *answer = Answer::Refused { why };
+        return Ok(());
     }
     if !has_alternative(parts, number) {
-        return Ok(Answer::Refused {
+        *answer = Answer::Refused {
             why: Refusal::Nothing,
-        });
+        };
+        return Ok(());
     }
     let spaces = order_spaces(&parts.links)?;
     make_room_declared(parts)?;
     declare_all(parts, number, spaces);
-    Ok(Answer::Done)
+    *answer = Answer::Done;
+    Ok(())
 }
 
 /// No acknowledgement came: what stands back for this link waits for it, code by code, and all its codes
 /// are free (own).
-pub(crate) fn time_out(parts: &mut Parts, number: u8) -> Result<Answer, SetFault>
+pub(crate) fn time_out(parts: &mut Parts, number: u8, answer: &mut Answer) -> Result<(), SetFault>
     requires holds { Holds (kept_of parts.old) }
-    ensures ok { IfOk result (λ answer. Answers parts.old parts.new answer
+    ensures ok { OnOk result (Answers parts.old parts.new answer.new
         (λ s. on_link number s (λ link. runs_out number s))) }
     ensures err { OnErr result (kept_of parts.new ≡ kept_of parts.old) }
     ensures fault { IfErr result (λ fault. fault ≡ SetFault.NoMemory) }
 {
     if usize::from(number) >= parts.links.len() {
-        return Ok(Answer::Refused {
+        *answer = Answer::Refused {
             why: Refusal::NoSuchLink,
-        });
+        };
+        return Ok(());
     }
     if !has_code_in_use(parts, number) {
-        return Ok(Answer::Refused {
+        *answer = Answer::Refused {
             why: Refusal::Nothing,
-        });
+        };
+        return Ok(());
     }
     let back = parts.queues.back_count(number);
     parts
         .queues
         .reserve_at(Fate::Waiting { link: number }, back)?;
     release_all(parts, number);
-    Ok(Answer::Done)
+    *answer = Answer::Done;
+    Ok(())
 }
 
 /// Whether streams can come back from some link.

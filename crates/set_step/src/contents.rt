@@ -39,7 +39,7 @@ impl Model for Core {
 }
 
 impl Core {
-    ghost use Rattle.std.specs.Prelude.{◌≡◌, ◌<◌, ◌^◌, true, length, IsOk, IfOk, IfErr, OnErr};
+    ghost use Rattle.std.specs.Prelude.{◌≡◌, ◌<◌, ◌^◌, true, length, IsOk, IfOk, IfErr, OnOk, OnErr};
     ghost use Rattle.set_model.specs.Rows.{place, counts_of, total_of, users};
     ghost use Rattle.set_model.specs.State.{State, new_state, link_count, is_up as is_up_in, is_settled as is_settled_in, unacked_in};
     ghost use Rattle.set_model.specs.History.{longest_history};
@@ -69,21 +69,21 @@ impl Core {
         })
     }
 
-    /// What the set answers to this event: of whatever state it agreed with, the answer is that of the
-    /// step, and it agrees with the state that the step leads to.
+    /// What the set answers to this event is put into `answer`, whatever stood there: of whatever state it agreed
+    /// with, the answer is that of the step, and it agrees with the state that the step leads to.
     ///
     /// Refusals are answers. Fault: 1 [`SetFault::NoMemory`], only where memory was refused, which `Take`,
     /// `Find`, `Next` and a heard unit without a body never want; what is kept is then as it was.
-    pub fn apply(&mut self, event: &Event) -> Result<Answer, SetFault>
+    pub fn apply(&mut self, event: &Event, answer: &mut Answer) -> Result<(), SetFault>
         requires { HoldsFew longest_history self.old }
-        ensures ok { IfOk result (λ answer.
-            (s : State) → Agrees self.old s → AnswersFor (step s event.now) answer self.new) }
+        ensures ok { OnOk result
+            ((s : State) → Agrees self.old s → AnswersFor (step s event.now) answer.new self.new) }
         ensures err { OnErr result (self.new ≡ self.old) }
         ensures fault { IfErr result (λ fault. fault ≡ SetFault.NoMemory) }
         ensures none { wants_none event.now ≡ true → IsOk result }
     {
         is_asked(event);
-        carry_out(&mut self.parts, event)
+        carry_out(&mut self.parts, event, answer)
     }
 
     /// A law: there is a state that it agrees with.

@@ -30,30 +30,38 @@ use std::alloc::AllocError;
 /// An LSSU is refused, since the error control has nothing to do with it.
 ///
 /// All memory that the body may want is taken first, so a fault leaves everything as it was.
-pub(crate) fn hear(parts: &mut Parts, number: u8, unit: &Unit) -> Result<Answer, SetFault>
+pub(crate) fn hear(
+    parts: &mut Parts,
+    number: u8,
+    unit: &Unit,
+    answer: &mut Answer,
+) -> Result<(), SetFault>
     requires holds { Holds (kept_of parts.old) }
     requires counted { AreCounted (2 ^ 60) parts.old.links.items }
-    ensures ok { IfOk result (λ answer. Answers parts.old parts.new answer (λ s. in_service number s
+    ensures ok { OnOk result (Answers parts.old parts.new answer.new (λ s. in_service number s
         (heard unit.now number s))) }
     ensures err { OnErr result (kept_of parts.new ≡ kept_of parts.old) }
     ensures fault { IfErr result (λ fault. fault ≡ SetFault.NoMemory) }
     ensures none { is_msu unit.now ≡ false → IsOk result }
 {
     if let Some(why) = out_of_service(&parts.links, number) {
-        return Ok(Answer::Refused { why });
+        *answer = Answer::Refused { why };
+        return Ok(());
     }
     if let Unit::Lssu { .. } = unit {
-        return Ok(Answer::Refused {
+        *answer = Answer::Refused {
             why: Refusal::Nothing,
-        });
+        };
+        return Ok(());
     }
     let order = order_in(unit);
     let space = make_space(parts, unit, order)?;
     let part = control_hears(parts, number, unit);
     let took = take_in(parts, part.accept, unit, order, space);
-    Ok(Answer::Heard {
+    *answer = Answer::Heard {
         report: report_on(part, took),
-    })
+    };
+    Ok(())
 }
 
 /// Takes the memory that the unit's body may want: in the inbox, or for an order that answers it and

@@ -31,16 +31,17 @@ pub(crate) fn out_of_service(links: &[Link], number: u8) -> Option<Refusal>
 }
 
 /// The next unit to send.
-pub(crate) fn send_next(parts: &mut Parts, number: u8) -> Answer
+pub(crate) fn send_next(parts: &mut Parts, number: u8, answer: &mut Answer)
     requires { Holds (kept_of parts.old) }
-    ensures { Answers parts.old parts.new result (λ s. in_service number s (next number s)) }
+    ensures { Answers parts.old parts.new answer.new (λ s. in_service number s (next number s)) }
 {
     if let Some(why) = out_of_service(&parts.links, number) {
-        return Answer::Refused { why };
+        *answer = Answer::Refused { why };
+        return;
     }
-    Answer::Sent {
+    *answer = Answer::Sent {
         unit: unit_of(parts, number),
-    }
+    };
 }
 
 /// The next unit of a link that is in service.

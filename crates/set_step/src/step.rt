@@ -1,5 +1,5 @@
 //! What an event does to a set. Each function is a case of the set's step.
-ghost use Rattle.std.specs.Prelude.{◌≡◌, ◌<◌, ◌≤◌, ◌^◌, length, slice_get, Some, true, IsOk, IfOk, IfErr, OnErr};
+ghost use Rattle.std.specs.Prelude.{◌≡◌, ◌<◌, ◌≤◌, ◌^◌, length, slice_get, Some, true, IsOk, IfErr, OnOk, OnErr};
 ghost use Rattle.std.specs.Vec.{vec_len, vec_capacity};
 ghost use Rattle.l3_orders.specs.Grammar.{IsOrder};
 ghost use Rattle.set_queues.specs.Buffers.{IsKnown, IsQueued, room_at};
@@ -32,28 +32,42 @@ use set_events::{Answer, Body, Event, Fate, Refusal};
 use set_model::{Phase, Reached};
 use set_queues::Queues;
 
-/// The answer to an event; on a fault nothing has changed.
-pub(crate) fn carry_out(parts: &mut Parts, event: &Event) -> Result<Answer, SetFault>
+/// What is answered to an event is put into `answer`: an answer has room for a unit, and one that is handed on by value is
+/// copied each time. On a fault nothing of the parts has changed.
+pub(crate) fn carry_out(
+    parts: &mut Parts,
+    event: &Event,
+    answer: &mut Answer,
+) -> Result<(), SetFault>
     requires holds { Holds (kept_of parts.old) }
     requires counted { AreCounted (2 ^ 60) parts.old.links.items }
-    ensures ok { IfOk result
-        (λ answer. Answers parts.old parts.new answer (λ s. stepped s event.now)) }
+    ensures ok { OnOk result
+        (Answers parts.old parts.new answer.new (λ s. stepped s event.now)) }
     ensures err { OnErr result (kept_of parts.new ≡ kept_of parts.old) }
     ensures fault { IfErr result (λ fault. fault ≡ SetFault.NoMemory) }
     ensures none { wants_none event.now ≡ true → IsOk result }
 {
     match event {
-        Event::Offer { body } => offer(parts, body),
-        Event::Take => Ok(take(parts)),
-        Event::Find { number } => Ok(find(parts, *number)),
-        Event::Next { link } => Ok(send_next(parts, *link)),
-        Event::Heard { link, unit } => hear(parts, *link, unit),
-        Event::Up { link } => bring_up(parts, *link),
-        Event::Down { link } => take_down(parts, *link, false),
-        Event::DownBlind { link } => take_down(parts, *link, true),
-        Event::NoAnswer { link } => give_up(parts, *link),
-        Event::Restore { link } => restore(parts, *link),
-        Event::BackTimeout { link } => time_out(parts, *link),
+        Event::Offer { body } => offer(parts, body, answer),
+        Event::Take => {
+            take(parts, answer);
+            Ok(())
+        }
+        Event::Find { number } => {
+            find(parts, *number, answer);
+            Ok(())
+        }
+        Event::Next { link } => {
+            send_next(parts, *link, answer);
+            Ok(())
+        }
+        Event::Heard { link, unit } => hear(parts, *link, unit, answer),
+        Event::Up { link } => bring_up(parts, *link, answer),
+        Event::Down { link } => take_down(parts, *link, false, answer),
+        Event::DownBlind { link } => take_down(parts, *link, true, answer),
+        Event::NoAnswer { link } => give_up(parts, *link, answer),
+        Event::Restore { link } => restore(parts, *link, answer),
+        Event::BackTimeout { link } => time_out(parts, *link, answer),
     }
 }
 
@@ -64,21 +78,23 @@ const SHORTEST_OFFER: usize = 5;
 const STREAM_LIMIT: u64 = 1024;
 
 /// A message is offered: refused, or the last of its queue from now on.
-fn offer(parts: &mut Parts, body: &Body) -> Result<Answer, SetFault>
+fn offer(parts: &mut Parts, body: &Body, answer: &mut Answer) -> Result<(), SetFault>
     requires holds { Holds (kept_of parts.old) }
-    ensures ok { IfOk result (λ answer. Answers parts.old parts.new answer (λ s. offered
+    ensures ok { OnOk result (Answers parts.old parts.new answer.new (λ s. offered
         (offer_refusal s.rows body.now) s body.now)) }
     ensures err { OnErr result (kept_of parts.new ≡ kept_of parts.old) }
     ensures fault { IfErr result (λ fault. fault ≡ SetFault.NoMemory) }
 {
     if let Some(why) = refusal_of(&parts.queues, body) {
-        return Ok(Answer::Refused { why });
+        *answer = Answer::Refused { why };
+        return Ok(());
     }
     let copy = body.try_copy()?;
     let fate = fate_of_new(parts, stream_of_body(body));
     make_room(parts, fate)?;
     let number = accept(parts, copy, fate);
-    Ok(Answer::Accepted { number })
+    *answer = Answer::Accepted { number };
+    Ok(())
 }
 
 /// The offered message is the last of its queue from now on: its number.
@@ -120,46 +136,47 @@ fn refusal_of(queues: &Queues, body: &Body) -> Option<Refusal>
 }
 
 /// The oldest message of the inbox is taken.
-fn take(parts: &mut Parts) -> Answer
-    ensures { Answers parts.old parts.new result (λ s. taken s.inbox s) }
+fn take(parts: &mut Parts, answer: &mut Answer)
+    ensures { Answers parts.old parts.new answer.new (λ s. taken s.inbox s) }
 {
-    match parts.inbox.pop_front() {
+    *answer = match parts.inbox.pop_front() {
         Some(body) => Answer::Taken { body },
         None => Answer::Refused {
             why: Refusal::Nothing,
         },
-    }
+    };
 }
 
 /// A message is looked for by its number.
-fn find(parts: &Parts, number: u64) -> Answer
-    ensures { Answers parts.now parts.now result (λ s. found (place number s.rows) s) }
+fn find(parts: &Parts, number: u64, answer: &mut Answer)
+    ensures { Answers parts.now parts.now answer.new (λ s. found (place number s.rows) s) }
 {
-    match parts.queues.fate_of(number) {
+    *answer = match parts.queues.fate_of(number) {
         Some(fate) => Answer::Found { fate },
         None => Answer::Refused {
             why: Refusal::UnknownNumber,
         },
-    }
+    };
 }
 
 /// No answer came from the far end: a link that was left settles, and what was sent on it or waited
 /// is discarded (own).
-fn give_up(parts: &mut Parts, number: u8) -> Result<Answer, SetFault>
+fn give_up(parts: &mut Parts, number: u8, answer: &mut Answer) -> Result<(), SetFault>
     requires holds { Holds (kept_of parts.old) }
     requires counted { AreCounted (2 ^ 60) parts.old.links.items }
-    ensures ok { IfOk result
-        (λ answer. Answers parts.old parts.new answer
+    ensures ok { OnOk result (Answers parts.old parts.new answer.new
         (λ s. on_link number s (λ link. gives_up number s link link.phase))) }
     ensures err { OnErr result (kept_of parts.new ≡ kept_of parts.old) }
     ensures fault { IfErr result (λ fault. fault ≡ SetFault.NoMemory) }
 {
     if let Some(why) = out_of_waiting(&parts.links, number) {
-        return Ok(Answer::Refused { why });
+        *answer = Answer::Refused { why };
+        return Ok(());
     }
     make_room_beside(parts, number, 0)?;
     settle(parts, number, Reached::Unanswered);
-    Ok(Answer::Done)
+    *answer = Answer::Done;
+    Ok(())
 }
 
 /// Why no answer is waited for on this link, if none is.
@@ -175,21 +192,28 @@ fn out_of_waiting(links: &[Link], number: u8) -> Option<Refusal>
 
 /// The link is left, and an order tells the far end: a changeover order with the FSN last accepted,
 /// or blind an emergency changeover order without it.
-fn take_down(parts: &mut Parts, number: u8, blind: bool) -> Result<Answer, SetFault>
+fn take_down(
+    parts: &mut Parts,
+    number: u8,
+    blind: bool,
+    answer: &mut Answer,
+) -> Result<(), SetFault>
     requires holds { Holds (kept_of parts.old) }
     requires counted { AreCounted (2 ^ 60) parts.old.links.items }
-    ensures ok { IfOk result (λ answer. Answers parts.old parts.new answer (λ s. in_service number s
+    ensures ok { OnOk result (Answers parts.old parts.new answer.new (λ s. in_service number s
         (falls blind number s))) }
     ensures err { OnErr result (kept_of parts.new ≡ kept_of parts.old) }
     ensures fault { IfErr result (λ fault. fault ≡ SetFault.NoMemory) }
 {
     if let Some(why) = out_of_service(&parts.links, number) {
-        return Ok(Answer::Refused { why });
+        *answer = Answer::Refused { why };
+        return Ok(());
     }
     let space = order_space(&parts.links)?;
     make_room_beside(parts, number, 1)?;
     fall(parts, number, blind, space);
-    Ok(Answer::Done)
+    *answer = Answer::Done;
+    Ok(())
 }
 
 /// The link is left, and an order tells the far end.
@@ -228,20 +252,21 @@ fn order_on_leaving(link: &Link, number: u8, blind: bool) -> Order
 /// was parked waits for it.
 ///
 /// Room in its queue is taken first, so a fault leaves everything as it was.
-fn bring_up(parts: &mut Parts, number: u8) -> Result<Answer, SetFault>
+fn bring_up(parts: &mut Parts, number: u8, answer: &mut Answer) -> Result<(), SetFault>
     requires holds { Holds (kept_of parts.old) }
-    ensures ok { IfOk result
-        (λ answer. Answers parts.old parts.new answer
+    ensures ok { OnOk result (Answers parts.old parts.new answer.new
         (λ s. on_link number s (λ link. rises number s link.phase))) }
     ensures err { OnErr result (kept_of parts.new ≡ kept_of parts.old) }
     ensures fault { IfErr result (λ fault. fault ≡ SetFault.NoMemory) }
 {
     if let Some(why) = out_of_rising(&parts.links, number) {
-        return Ok(Answer::Refused { why });
+        *answer = Answer::Refused { why };
+        return Ok(());
     }
     make_room_parked(parts, number)?;
     rise(parts, number);
-    Ok(Answer::Done)
+    *answer = Answer::Done;
+    Ok(())
 }
 
 /// The settled link is in service from now on.

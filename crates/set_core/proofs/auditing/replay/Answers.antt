@@ -16,11 +16,11 @@ loop-entry-preserved c =
     let opening = new_state c.args.config.now in
     let x = c.entry-item.result in
     let next = replay_next opening entries c.loop-entry.core i x c.loop-entry.invariant c.loop-entry-test.true c.entry-item.is in
-    let told = c.in_ok-answer.ensures.ok (after opening (take i entries)) next.agrees in
+    let told = c.in_ok-apply.ensures.ok (after opening (take i entries)) next.agrees in
     let actor = c.is_actor.ensures.0 c.if-not-is_actor.false in
     let same = c.same.ensures.0 c.if-not-same.false in
     replay_taken opening entries c.apply.new.self i x c.loop-entry-test.true c.entry-item.is
-    (replay_more opening entries c.loop-entry.core i (take i entries) (drop (i + 1) entries) x next c.apply.new.self c.in_ok-answer.answer told actor same)
+    (replay_more opening entries c.loop-entry.core i (take i entries) (drop (i + 1) entries) x next c.apply.new.self c.apply.new.answer told actor same)
 
 pub apply-requires : goal.apply-requires
 apply-requires c =
@@ -44,8 +44,8 @@ returns-then-not-same-clause-legal c =
     let opening = new_state c.args.config.now in
     let x = c.entry-item.result in
     let next = replay_next opening entries c.loop-entry.core i x c.loop-entry.invariant c.loop-entry-test.true c.entry-item.is in
-    let told = c.in_ok-answer.ensures.ok (after opening (take i entries)) next.agrees in
-    (λ no. cc, λ legal. let same = c.same.ensures.1 (replay_answer opening entries c.loop-entry.core i (take i entries) (drop (i + 1) entries) x next c.apply.new.self c.in_ok-answer.answer told legal) in let differs = c.if-not-same.true in cc)
+    let told = c.in_ok-apply.ensures.ok (after opening (take i entries)) next.agrees in
+    (λ no. cc, λ legal. let same = c.same.ensures.1 (replay_answer opening entries c.loop-entry.core i (take i entries) (drop (i + 1) entries) x next c.apply.new.self c.apply.new.answer told legal) in let differs = c.if-not-same.true in cc)
 
 pub returns-clause-legal : goal.returns-clause-legal
 returns-clause-legal c =

@@ -15,10 +15,10 @@ loop-told-preserved c =
     let opening = new_state c.args.config.now in
     let l = c.loop-told.invariant in
     let s = after opening l.0 in
-    let answers = subst (λ (event : Event). AnswersFor (step s event) c.in_ok-answer.answer c.apply.new.self) c.in_ok-event.ensures (c.in_ok-answer.ensures.ok s l.1.agrees) in
+    let answers = subst (λ (event : Event). AnswersFor (step s event) c.apply.new.answer c.apply.new.self) c.in_ok-event.ensures (c.in_ok-apply.ensures.ok s l.1.agrees) in
     let actor = subst IsActor c.who.ensures (c.is_actor.ensures.0 c.if-not-is_actor.false) in
     let same = c.same.ensures.0 c.if-not-same.false ∙ c.answer.ensures in
-    reading_on opening c.args.entries c.loop-told.core c.loop-told.left c.next.new.self c.in-Some.told l c.in-Some.ensures c.apply.new.self c.in_ok-answer.answer answers actor same
+    reading_on opening c.args.entries c.loop-told.core c.loop-told.left c.next.new.self c.in-Some.told l c.in-Some.ensures c.apply.new.self c.apply.new.answer answers actor same
 
 pub apply-requires : goal.apply-requires
 apply-requires c =
@@ -34,10 +34,10 @@ returns-then-not-same-clause-legal c =
     let s = after opening l.0 in
     let x = c.in-Some.told in
     let now = reading_now opening entries c.loop-told.core c.loop-told.left c.next.new.self x l c.in-Some.ensures in
-    let answers = subst (λ (event : Event). AnswersFor (step s event) c.in_ok-answer.answer c.apply.new.self) c.in_ok-event.ensures (c.in_ok-answer.ensures.ok s l.1.agrees) in (
+    let answers = subst (λ (event : Event). AnswersFor (step s event) c.apply.new.answer c.apply.new.self) c.in_ok-event.ensures (c.in_ok-apply.ensures.ok s l.1.agrees) in (
       λ no. cc,
       λ legal.
-          let right = replay_answer opening entries c.loop-told.core (length l.0) l.0 c.next.new.self x now c.apply.new.self c.in_ok-answer.answer answers legal in
+          let right = replay_answer opening entries c.loop-told.core (length l.0) l.0 c.next.new.self x now c.apply.new.self c.apply.new.answer answers legal in
           let same = c.same.ensures.1 (right ∙ sym c.answer.ensures) in
           let differs = c.if-not-same.true in cc,
     )

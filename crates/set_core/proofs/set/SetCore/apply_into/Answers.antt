@@ -8,11 +8,11 @@ use Rattle.set_step.specs.Answering.{AnswersFor}
 use Rattle.set_core.specs.Keeping.{IsKept}
 use Rattle.set_core.proofs.Calls.{any_few}
 use Rattle.set_core.proofs.Keeping.{messages_few, few_more, kept_more, gained, is_step, bounded}
-use Rattle.set_core.proofs.set.SetCore.apply.Goals as goal
-use Rattle.set_core.proofs.set.SetCore.apply.Goals.{After-push}
+use Rattle.set_core.proofs.set.SetCore.apply_into.Goals as goal
+use Rattle.set_core.proofs.set.SetCore.apply_into.Goals.{After-push}
 
 abbrev entry : After-push → Entry
-entry c = record { who = c.args.who; event = c.args.event.now; answer = c.in-Ok.answer }
+entry c = record { who = c.args.who; event = c.args.event.now; answer = c.apply.new.answer }
 
 abbrev opening : After-push → State
 opening c = new_state c.self.inside.config
@@ -22,18 +22,18 @@ grown : (c : After-push) → c.push.new.self.items ≡ c.self.inside.history.ite
 grown c = c.push.ensures ∙ ap (λ (xs : List Entry). xs ++ entry c ∷ []) c.reserve.ensures.same
 
 -- what is kept agreed with the state after the history, and is answered for
-told : (c : After-push) → AnswersFor (step (after (opening c) c.self.inside.history.items) (entry c).event) (entry c).answer c.apply-answered.new.self
-told c = (rw c.in-Ok.is at c.apply-answered.ensures.ok) (after (opening c) c.self.inside.history.items) c.self.invariant.agrees
+told : (c : After-push) → AnswersFor (step (after (opening c) c.self.inside.history.items) (entry c).event) (entry c).answer c.apply.new.self
+told c = c.in_ok-apply.ensures.ok (after (opening c) c.self.inside.history.items) c.self.invariant.agrees
 
-kept : (c : After-push) → IsKept (opening c) c.apply-answered.new.self c.count.new.self c.push.new.self.items
+kept : (c : After-push) → IsKept (opening c) c.apply.new.self c.count.new.self c.push.new.self.items
 kept c =
     let k = c.self.invariant in
     let room : length c.self.inside.history.items < 2 ^ 48 = omega (arith, c.if-len-ge-LONGEST_HISTORY.false, c.len.ensures.value) in
-    rw (grown c) (kept_more (opening c) c.self.inside.core c.apply-answered.new.self c.self.inside.history.items (entry c) c.requires k.agrees (told c) c.self.inside.tally c.count.new.self k room
+    rw (grown c) (kept_more (opening c) c.self.inside.core c.apply.new.self c.self.inside.history.items (entry c) c.requires k.agrees (told c) c.self.inside.tally c.count.new.self k room
     (record { user_calls = c.count.ensures.user_calls; term_calls = c.count.ensures.term_calls; messages = c.count.ensures.messages; octets = c.count.ensures.octets }))
 
-pub apply-answered-requires : goal.apply-answered-requires
-apply-answered-requires c =
+pub apply-requires : goal.apply-requires
+apply-requires c =
     let k = c.self.invariant in
     let s = after (new_state c.self.inside.config) c.self.inside.history.items in
     (s, k.agrees, few_more (length c.self.inside.history.items) (2 ^ 48) s k.short k.few)
@@ -57,7 +57,7 @@ pub count-requires-clause-body : goal.count-requires-clause-body
 count-requires-clause-body c =
     let k = c.self.invariant in
     let s = after (new_state c.self.inside.config) c.self.inside.history.items in
-    let told = (rw c.in-Ok.is at c.apply-answered.ensures.ok) s k.agrees in
+    let told = c.in_ok-apply.ensures.ok s k.agrees in
     rw told.answer_is (step_gains s c.args.event.now k.agrees.sound.managed).octets
 
 pub invariant_of-self-2 : goal.invariant_of-self-2
@@ -65,17 +65,17 @@ invariant_of-self-2 c = kept c
 
 pub returns-clause-ok : goal.returns-clause-ok
 returns-clause-ok c =
-    rw (c.in-Ok.is, ← c.self.view_is, grown c) (is_step (opening c) c.self.inside.core c.apply-answered.new.self c.self.inside.history.items (entry c) c.requires c.self.invariant.agrees (told c))
+    rw (← c.self.view_is, grown c) (is_step (opening c) c.self.inside.core c.apply.new.self c.self.inside.history.items (entry c) c.requires c.self.invariant.agrees (told c))
 
 pub returns-clause-gains : goal.returns-clause-gains
 returns-clause-gains c =
-    rw (c.in-Ok.is, ← c.self.view_is, grown c) (gained (opening c) c.self.inside.core c.apply-answered.new.self c.self.inside.history.items (entry c) c.requires c.self.invariant.agrees (told c))
+    rw (← c.self.view_is, grown c) (gained (opening c) c.self.inside.core c.apply.new.self c.self.inside.history.items (entry c) c.requires c.self.invariant.agrees (told c))
 
 pub returns-clause-bounded : goal.returns-clause-bounded
-returns-clause-bounded c = rw c.in-Ok.is (bounded (opening c) c.apply-answered.new.self c.count.new.self c.push.new.self.items (kept c))
+returns-clause-bounded c = (bounded (opening c) c.apply.new.self c.count.new.self c.push.new.self.items (kept c))
 
 pub invariant_of-self : goal.invariant_of-self
 invariant_of-self c = rw (c.reserve.ensures.same) c.self.invariant
 
-pub invariant_of-self-in_default : goal.invariant_of-self-in_default
-invariant_of-self-in_default c = rw (c.reserve.ensures.same) (rw (rw c.in_default.is at c.apply-answered.ensures.err) c.self.invariant)
+pub invariant_of-self-in_err-apply : goal.invariant_of-self-in_err-apply
+invariant_of-self-in_err-apply c = rw (c.reserve.ensures.same) (rw c.in_err-apply.ensures.err c.self.invariant)
