@@ -1,12 +1,16 @@
--- Lines under way, octet by octet.
-use Rattle.std.proofs.Common.{refl, arith, ◌≡◌, ◌≢◌, ◌∙◌, ap, sym, ◌<◌, ◌≤◌, [], ◌∷◌, length, ℕ, suc, ◌+◌, ◌^◌, true, false, nat_lt, ◌==◌, List, ◌++◌, Some, None, Result, Ok, Err, append_assoc, append-nil, add-one, length-append}
+-- Lines under way, read piece by piece.
+use Rattle.std.proofs.Common.{refl, arith, ◌≡◌, ◌∙◌, ap, sym, ◌<◌, ◌≤◌, [], ◌∷◌, length, ℕ, zero, suc, ◌+◌, ◌-◌, ◌^◌, true, false, nat_lt, ◌==◌, List, ◌++◌, Some, None, Result, Ok, Err, append_assoc, append-nil, add-one, length-append, take, drop, get_or, position, subst}
+use Rattle.std.proofs.lemmas.Grind.{common_steps}
+use Rattle.std.proofs.lemmas.List.Quantifiers.{position-Some}
+use Rattle.std.proofs.lemmas.List.Sums.{fails_before_first}
+use Rattle.std.specs.List.{position_or_len}
 use Rattle.std.proofs.lemmas.Bool.Decides.{nat_tests}
 use Rattle.printing.proofs.PrintLemmas.{begun_of_end}
 use Rattle.printing.specs.declared.fault.Stop.{Stop}
 use Rattle.printing.specs.declared.fault.Stop.TheVariants.{Input, Memory}
 use Rattle.printing.specs.Printing.{Printed, behind, IsBegun, StopsIn, ReadsOrStops, Ends}
 use Rattle.text_lines.specs.Lines.{Rules, LineOutcome, prints, goes_on, lines_of, onto_first, text_of_lines, read_line, lines_text, IsLinesText}
-use Rattle.text_lines.specs.Reading.{Reading, IsOpen, text_from, Tells, Does, Adds, Faults, Advances, Halts, AdvancesOrHalts, Finishes, HasPrinted}
+use Rattle.text_lines.specs.Reading.{Reading, is_lf, IsOpen, text_from, Tells, Does, Adds, Faults, Advances, Halts, AdvancesOrHalts, Finishes, HasPrinted}
 
 -- Lines.
 
@@ -42,9 +46,37 @@ line_begins c (d ∷ ds) left o =
     let other : (c == 10) ≡ false = grind (arith, nat_tests, o.0) in
     rw other (begins_more c (d ∷ ds) (lines_of ((d ∷ ds) ++ left)) (line_begins d ds left o.1))
 
-pub open_push : (text : List ℕ) (c : ℕ) → IsOpen text → c ≢ 10 → IsOpen (text ++ c ∷ [])
-open_push [] c o h = (h, tt)
-open_push (x ∷ xs) c o h = (o.0, open_push xs c o.1 h)
+pub open_more : (text more : List ℕ) → IsOpen text → IsOpen more → IsOpen (text ++ more)
+open_more [] more o h = h
+open_more (c ∷ cs) more o h = (o.0, open_more cs more o.1 h)
+
+-- a line that was begun, and goes on with these octets
+line_goes_on : (text octets left whole : List ℕ) → whole ≡ text ++ octets → IsOpen whole → lines_of (text ++ ((octets ++ 10 ∷ []) ++ left)) ≡ whole ∷ lines_of left
+line_goes_on text octets left whole e o =
+    ap lines_of (ap (λ (x : List ℕ). text ++ x) (append_assoc octets (10 ∷ []) left) ∙ sym (append_assoc text octets (10 ∷ left)) ∙ ap (λ (x : List ℕ). x ++ 10 ∷ left) (sym e)) ∙ line_ends whole left o
+
+-- Where a line ends.
+
+-- up to here no octet ends a line, and this one does
+open_within : (xs : List ℕ) (k : ℕ) → k ≤ length xs → ((i : ℕ) → i < k → is_lf (get_or xs i 0) ≡ false) → IsOpen (take k xs)
+open_within xs zero h f = tt
+open_within [] (suc k) h f = absurd (omega arith)
+open_within (c ∷ cs) (suc k) h f = (grind (arith, nat_tests, f 0 (omega arith)), open_within cs k (omega arith) (λ i lt. f (suc i) (omega arith)))
+
+pub open_before : (xs : List ℕ) (k : ℕ) → Some k ≡ position is_lf xs → IsOpen (take k xs)
+open_before xs k e = let at = position-Some is_lf xs k 0 (sym e) in open_within xs k (omega (arith, at.0)) at.2
+
+pub cut_at : (xs : List ℕ) (k : ℕ) → Some k ≡ position is_lf xs → (take k xs ++ 10 ∷ []) ++ take (length xs - (k + 1)) (drop (k + 1) xs) ≡ xs
+cut_at xs k e =
+    let at = position-Some is_lf xs k 0 (sym e) in
+    let lf : get_or xs k 0 ≡ 10 = grind (arith, nat_tests, at.1) in
+    grind (arith, common_steps, lf, at.0)
+
+pub all_open : (xs : List ℕ) → None ≡ position is_lf xs → IsOpen xs
+all_open xs e =
+    let long : length xs ≤ position_or_len is_lf xs = grind (arith, common_steps) in
+    let whole : xs ≡ take (length xs) xs = grind (arith, common_steps) in
+    rw whole (open_within xs (length xs) (omega arith) (λ i lt. fails_before_first is_lf xs i 0 (omega (arith, long, lt))))
 
 -- Whether a line is under way.
 
@@ -57,27 +89,27 @@ something_read [] n e h = absurd (grind (arith, nat_tests, e, h))
 something_read (c ∷ cs) n e h = omega arith
 
 module _ {S F : Type 0} (rules : Rules S F) where
-  -- One octet.
+  -- Octets of one line.
 
-  -- it goes onto the line
-  pub adds_octet : (old : Reading S) (c : ℕ) (before : List ℕ) (new : Reading S) → new.line ≡ old.line → new.state ≡ old.state → new.text ≡ old.text ++ c ∷ [] → Advances rules old (c ∷ []) before before new
-  adds_octet old c before new e f g = record {
+  -- they go onto it
+  pub adds_octets : (old : Reading S) (octets before : List ℕ) (new : Reading S) → new.line ≡ old.line → new.state ≡ old.state → new.text ≡ old.text ++ octets → Advances rules old octets before before new
+  adds_octets old octets before new e f g = record {
     printed = [];
     added = sym (append-nil before);
     counted = omega (arith, e);
-    goes_on = λ room left. rw (e, f, g) (ap (λ (octets : List ℕ). text_of_lines rules old.line old.state (lines_of octets)) (sym (append_assoc old.text (c ∷ []) left)));
+    goes_on = λ room left. rw (e, f, g) (ap (λ (octets : List ℕ). text_of_lines rules old.line old.state (lines_of octets)) (sym (append_assoc old.text octets left)));
   }
 
-  -- it ends the line
-  pub ends_a_line : (old : Reading S) (before after : List ℕ) (state : S) (new : Reading S) → IsOpen old.text → Does (read_line rules old.line old.state old.text) before after state → new.line ≤ old.line + 1 → (old.line + 1 < 2 ^ 64 → new.line ≡ old.line + 1) → new.text ≡ [] → new.state ≡ state → Advances rules old (10 ∷ []) before after new
-  ends_a_line old before after state new o l few e f g = record {
+  -- they are the last of it, and its LF follows
+  pub ends_a_line : (old : Reading S) (octets whole before after : List ℕ) (state : S) (new : Reading S) → whole ≡ old.text ++ octets → IsOpen whole → Does (read_line rules old.line old.state whole) before after state → new.line ≤ old.line + 1 → (old.line + 1 < 2 ^ 64 → new.line ≡ old.line + 1) → new.text ≡ [] → new.state ≡ state → Advances rules old (octets ++ 10 ∷ []) before after new
+  ends_a_line old octets whole before after state new w o l few e f g = record {
     printed = l.printed;
     added = l.added;
-    counted = omega (arith, few);
+    counted = omega (arith, few, length-append octets (10 ∷ []));
     goes_on = λ room left.
-        ap (λ (lines : List (List ℕ)). text_of_lines rules old.line old.state lines) (line_ends old.text left o)
+        ap (λ (lines : List (List ℕ)). text_of_lines rules old.line old.state lines) (line_goes_on old.text octets left whole w o)
         ∙ ap (λ (outcome : LineOutcome S F). goes_on outcome (λ next. text_of_lines rules (suc old.line) next (lines_of left))) l.outcome_is
-        ∙ rw (e room, f, g, add-one) refl;
+        ∙ rw (e (omega (arith, room, length-append octets (10 ∷ []))), f, g, add-one) refl;
   }
 
   -- a fault of the line that it ends
@@ -85,12 +117,12 @@ module _ {S F : Type 0} (rules : Rules S F) where
   told (Input fault) outcome next e = ap (λ (o : LineOutcome S F). goes_on o next) e
   told Memory outcome next e = ((goes_on outcome next).printed, refl)
 
-  pub halts_line : (stop : Stop F) (old : Reading S) (before after : List ℕ) → IsOpen old.text → Tells stop (read_line rules old.line old.state old.text) → after ≡ before → Halts rules stop old (10 ∷ []) before after
-  halts_line stop old before after o t e = record {
+  pub halts_line : (stop : Stop F) (old : Reading S) (octets whole before after : List ℕ) → whole ≡ old.text ++ octets → IsOpen whole → Tells stop (read_line rules old.line old.state whole) → after ≡ before → Halts rules stop old (octets ++ 10 ∷ []) before after
+  halts_line stop old octets whole before after w o t e = record {
     printed = [];
     added = e ∙ sym (append-nil before);
     ends = λ room left.
-        rw (line_ends old.text left o) (told stop (read_line rules old.line old.state old.text) (λ next. text_of_lines rules (suc old.line) next (lines_of left)) t);
+        rw (line_goes_on old.text octets left whole w o) (told stop (read_line rules old.line old.state whole) (λ next. text_of_lines rules (suc old.line) next (lines_of left)) t);
   }
 
   -- the line is too long
@@ -99,13 +131,13 @@ module _ {S F : Type 0} (rules : Rules S F) where
       let long : nat_lt 4096 (length (text ++ b.more)) ≡ true = grind (arith, nat_tests, length-append text b.more) in
       rw (b.lines_are, long) refl
 
-  pub halts_long : (old : Reading S) (c : ℕ) (before : List ℕ) → IsOpen old.text → c ≢ 10 → 4096 ≤ length old.text → Halts rules (Input (rules.unreadable old.line)) old (c ∷ []) before before
-  halts_long old c before o h long = record {
+  pub halts_long : (old : Reading S) (octets before : List ℕ) → IsOpen old.text → IsOpen octets → 4096 < length old.text + length octets → Halts rules (Input (rules.unreadable old.line)) old octets before before
+  halts_long old octets before o h long = record {
     printed = [];
     added = sym (append-nil before);
     ends = λ room left.
-        too_long old.line old.state (old.text ++ c ∷ []) _ (omega (arith, long, length-append old.text (c ∷ [])))
-        (begins_at (old.text ++ c ∷ []) left (open_push old.text c o h) (omega (arith, long, length-append old.text (c ∷ []))) (append_assoc old.text (c ∷ []) left));
+        too_long old.line old.state (old.text ++ octets) _ (omega (arith, long, length-append old.text octets))
+        (begins_at (old.text ++ octets) left (open_more old.text octets o h) (omega (arith, long, length-append old.text octets)) (append_assoc old.text octets left));
   }
     where
       begins_at : (text left : List ℕ) {whole : List ℕ} → IsOpen text → 0 < length text → text ++ left ≡ whole → Begins text (lines_of whole)
@@ -144,14 +176,51 @@ module _ {S F : Type 0} (rules : Rules S F) where
         ∙ behind_twice f.printed g.printed (text_from rules c left);
   }
 
-  pub halts_more : (stop : Stop F) (a b : Reading S) (xs ys zs p q r : List ℕ) → Advances rules a xs p q b → Halts rules stop b ys q r → Halts rules stop a ((xs ++ ys) ++ zs) p r
-  halts_more stop a b xs ys zs p q r f g = record {
+  pub halts_more : (stop : Stop F) (a b : Reading S) (xs ys p q r : List ℕ) → Advances rules a xs p q b → Halts rules stop b ys q r → Halts rules stop a (xs ++ ys) p r
+  halts_more stop a b xs ys p q r f g = record {
     printed = f.printed ++ g.printed;
     added = g.added ∙ ap (λ (x : List ℕ). x ++ g.printed) f.added ∙ append_assoc p f.printed g.printed;
     ends = λ room left.
-        rw (append_assoc (xs ++ ys) zs left, append_assoc xs ys (zs ++ left), f.goes_on (omega (arith, room, length-append (xs ++ ys) zs, length-append xs ys)) (ys ++ (zs ++ left)))
-        (faults_behind stop (text_from rules b (ys ++ (zs ++ left))) f.printed g.printed (g.ends (omega (arith, room, f.counted, length-append (xs ++ ys) zs, length-append xs ys)) (zs ++ left)));
+        rw (append_assoc xs ys left, f.goes_on (omega (arith, room, length-append xs ys)) (ys ++ left))
+        (faults_behind stop (text_from rules b (ys ++ left)) f.printed g.printed (g.ends (omega (arith, room, f.counted, length-append xs ys)) left));
   }
+
+  -- what stands behind the fault changes nothing
+  pub halts_before : (stop : Stop F) (a : Reading S) (xs ys p q : List ℕ) → Halts rules stop a xs p q → Halts rules stop a (xs ++ ys) p q
+  halts_before stop a xs ys p q f = record {
+    printed = f.printed;
+    added = f.added;
+    ends = λ room left. rw (append_assoc xs ys left) (f.ends (omega (arith, room, length-append xs ys)) (ys ++ left));
+  }
+
+  pub goes_further : (result : Result (Unit {0}) (Stop F)) (a b c : Reading S) (xs ys p q r : List ℕ) → Advances rules a xs p q b → AdvancesOrHalts rules result b ys q r c → AdvancesOrHalts rules result a (xs ++ ys) p r c
+  goes_further (Ok done) a b c xs ys p q r f g = advances_more a b c xs ys p q r f g
+  goes_further (Err stop) a b c xs ys p q r f g = halts_more stop a b xs ys p q r f g
+
+  -- the octets that were read, and those that are left
+  pub record ReadUpTo (old : Reading S) (octets before after : List ℕ) (new : Reading S) (left : List ℕ) : Type 0 where
+    pub read : List ℕ
+    pub octets_are : read ++ left ≡ octets
+    pub advances : Advances rules old read before after new
+
+  pub begins_to_read : (old : Reading S) (octets before : List ℕ) → ReadUpTo old octets before before old octets
+  begins_to_read old octets before = record { read = []; octets_are = refl; advances = advances_none old before }
+
+  pub reads_on : (a b c : Reading S) (octets p q r ys left whole : List ℕ) → ys ++ left ≡ whole → ReadUpTo a octets p q b whole → Advances rules b ys q r c → ReadUpTo a octets p r c left
+  reads_on a b c octets p q r ys left whole e f g = record {
+    read = f.read ++ ys;
+    octets_are = append_assoc f.read ys left ∙ ap (λ (x : List ℕ). f.read ++ x) e ∙ f.octets_are;
+    advances = advances_more a b c f.read ys p q r f.advances g;
+  }
+
+  pub stops_in : (stop : Stop F) (a b : Reading S) (octets p q r ys left whole : List ℕ) → ys ++ left ≡ whole → ReadUpTo a octets p q b whole → Halts rules stop b ys q r → Halts rules stop a octets p r
+  stops_in stop a b octets p q r ys left whole e f g =
+      subst (λ (x : List ℕ). Halts rules stop a x p r) (ap (λ (x : List ℕ). f.read ++ x) e ∙ f.octets_are)
+      (halts_more stop a b f.read (ys ++ left) p q r f.advances (halts_before stop b ys left q r g))
+
+  pub reads_last : (result : Result (Unit {0}) (Stop F)) (a b c : Reading S) (octets p q r left : List ℕ) → ReadUpTo a octets p q b left → AdvancesOrHalts rules result b left q r c → AdvancesOrHalts rules result a octets p r c
+  reads_last result a b c octets p q r left f g =
+      subst (λ (x : List ℕ). AdvancesOrHalts rules result a x p r c) f.octets_are (goes_further result a b c f.read left p q r f.advances g)
 
   -- The end of the input.
 

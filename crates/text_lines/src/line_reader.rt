@@ -1,7 +1,8 @@
 //! Lines under way: the line that is being read, and what those before it left.
-ghost use Rattle.std.specs.Prelude.{◌≡◌, ◌≤◌, length};
+ghost use Rattle.std.specs.Prelude.{◌≡◌, ◌≤◌, ◌<◌, length, position};
+ghost use Rattle.std.specs.Option.{ForSome};
 ghost use Rattle.text_lines.specs.Lines.{is_remark, read_line};
-ghost use Rattle.text_lines.specs.Reading.{Finishes, IsReading, IsDone};
+ghost use Rattle.text_lines.specs.Reading.{Finishes, IsReading, IsDone, is_lf};
 
 use super::line_text::LineText;
 use printing::{Printer, Stop};
@@ -34,8 +35,8 @@ impl<L> Model for LineReader<L> {
 }
 
 impl<L: LineText> LineReader<L> {
-    ghost use Rattle.std.specs.Prelude.{◌≡◌, ◌≢◌, [], ◌∷◌};
-    ghost use Rattle.text_lines.specs.Reading.{AdvancesOrHalts, Finishes};
+    ghost use Rattle.std.specs.Prelude.{◌≡◌, [], ◌∷◌, ◌++◌};
+    ghost use Rattle.text_lines.specs.Reading.{IsOpen, AdvancesOrHalts, Finishes};
 
     /// Before the first octet.
     pub(crate) fn new(alloc: Global, state: L) -> LineReader<L>
@@ -49,19 +50,57 @@ impl<L: LineText> LineReader<L> {
         }
     }
 
-    /// Reads one octet.
-    fn take(&mut self, octet: u8, out: &mut Vec<u8>) -> Result<(), Stop<L::Fault>>
-        ensures { AdvancesOrHalts L.rules result self.old (octet ∷ [])
+    /// Reads these octets.
+    fn read_all(&mut self, octets: &[u8], out: &mut Vec<u8>) -> Result<(), Stop<L::Fault>>
+        ensures { AdvancesOrHalts L.rules result self.old octets.now
             out.old.items out.new.items self.new }
     {
-        if octet == b'\n' {
-            self.end_line(out)
-        } else {
-            self.add(octet, out)
+        let mut left = octets;
+        while let Some(place) = end_in(left) {
+            match self.read_line(&left[..place], out) {
+                Ok(()) => (),
+                Err(stop) => return Err(stop),
+            }
+            left = &left[place + 1..];
+        }
+        self.keep(left, out)
+    }
+
+    /// Reads what is left of a line, and the LF behind it.
+    fn read_line(&mut self, octets: &[u8], out: &mut Vec<u8>) -> Result<(), Stop<L::Fault>>
+        requires { IsOpen octets.now }
+        ensures { AdvancesOrHalts L.rules result self.old (octets.now ++ 10 ∷ [])
+            out.old.items out.new.items self.new }
+    {
+        if self.text.is_empty() {
+            return self.read_at_once(octets, out);
+        }
+        match self.keep(octets, out) {
+            Ok(()) => self.end_line(out),
+            Err(stop) => Err(stop),
         }
     }
 
-    /// Reads the LF that ends a line.
+    /// Reads a line of which nothing was kept, and its LF; its octets are copied nowhere.
+    fn read_at_once(&mut self, octets: &[u8], out: &mut Vec<u8>) -> Result<(), Stop<L::Fault>>
+        requires begins { self.old.text ≡ [] }
+        requires open { IsOpen octets.now }
+        ensures { AdvancesOrHalts L.rules result self.old (octets.now ++ 10 ∷ [])
+            out.old.items out.new.items self.new }
+    {
+        if octets.len() > LONGEST_LINE {
+            return Err(Stop::Input(L::unreadable(self.line)));
+        }
+        match end_line(self.alloc, &mut self.state, self.line, octets, out) {
+            Ok(()) => {
+                self.line = self.line.saturating_add(1);
+                Ok(())
+            }
+            Err(stop) => Err(stop),
+        }
+    }
+
+    /// Reads the LF that ends a line of which octets were kept.
     fn end_line(&mut self, out: &mut Vec<u8>) -> Result<(), Stop<L::Fault>>
         ensures { AdvancesOrHalts L.rules result self.old (10 ∷ [])
             out.old.items out.new.items self.new }
@@ -76,33 +115,19 @@ impl<L: LineText> LineReader<L> {
         }
     }
 
-    /// Reads an octet that ends no line.
-    fn add(&mut self, octet: u8, out: &mut Vec<u8>) -> Result<(), Stop<L::Fault>>
-        requires { octet ≢ 10 }
-        ensures { AdvancesOrHalts L.rules result self.old (octet ∷ [])
-            out.old.items out.new.items self.new }
-    {
-        let _ = out;
-        if self.text.len() >= LONGEST_LINE {
-            return Err(Stop::Input(L::unreadable(self.line)));
-        }
-        let Ok(()) = self.text.push(octet) else {
-            return Err(Stop::Memory);
-        };
-        Ok(())
-    }
-
-    /// Reads these octets.
-    fn read_all(&mut self, octets: &[u8], out: &mut Vec<u8>) -> Result<(), Stop<L::Fault>>
+    /// Reads octets that end no line.
+    fn keep(&mut self, octets: &[u8], out: &mut Vec<u8>) -> Result<(), Stop<L::Fault>>
+        requires { IsOpen octets.now }
         ensures { AdvancesOrHalts L.rules result self.old octets.now
             out.old.items out.new.items self.new }
     {
-        for octet in octets {
-            match self.take(*octet, out) {
-                Ok(()) => (),
-                Err(stop) => return Err(stop),
-            }
+        let _ = out;
+        if octets.len() > LONGEST_LINE - self.text.len() {
+            return Err(Stop::Input(L::unreadable(self.line)));
         }
+        let Ok(()) = self.text.extend_from_slice(octets) else {
+            return Err(Stop::Memory);
+        };
         Ok(())
     }
 
@@ -112,6 +137,14 @@ impl<L: LineText> LineReader<L> {
     {
         finished(self.alloc, &mut self.state, self.line, &self.text, out)
     }
+}
+
+/// The place of the first LF.
+fn end_in(octets: &[u8]) -> Option<usize>
+    ensures place { result ≡ position is_lf octets.now }
+    ensures within { ForSome result (λ place. place < length octets.now) }
+{
+    octets.iter().position(|c| *c == b'\n')
 }
 
 /// Whether the line is empty or begins with `#`.

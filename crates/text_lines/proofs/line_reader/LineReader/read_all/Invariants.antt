@@ -1,6 +1,9 @@
-use Rattle.std.proofs.Common.{take}
-use Rattle.text_lines.specs.Reading.{Advances}
+use Rattle.std.proofs.Common.{length}
+use Rattle.text_lines.proofs.LineLemmas.{ReadUpTo}
 use Rattle.text_lines.proofs.line_reader.LineReader.read_all.Given as goal
 
-abbrev pub invariant-loop-octet : goal.invariant-loop-octet
-invariant-loop-octet g l = Advances g.L.LineText.rules l.initial.self (take l.octet-index l.octets) l.initial.out.items l.out.items l.self
+abbrev pub invariant-loop-place : goal.invariant-loop-place
+invariant-loop-place g l = ReadUpTo g.L.LineText.rules l.initial.self l.octets l.initial.out.items l.out.items l.self l.left
+
+abbrev pub decreases-loop-place : goal.decreases-loop-place
+decreases-loop-place g l = length l.left
