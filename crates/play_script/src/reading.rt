@@ -31,10 +31,28 @@ pub fn read_step(alloc: Global, text: &[u8]) -> Result<Option<Step>, AllocError>
 }
 
 /// Whether the word is this text.
+#[inline(always)]
 pub fn is_word(word: &[u8], text: &[u8]) -> bool
     ensures { result ≡ bytes_eq word.now text.now }
 {
-    word == text
+    if word.len() != text.len() {
+        return false;
+    }
+    are_alike(word, text)
+}
+
+/// Whether words of one length are alike; most differ early, so that a call of `==` would be the longer way.
+#[inline(always)]
+fn are_alike(word: &[u8], text: &[u8]) -> bool
+    requires { length word.now ≡ length text.now }
+    ensures { result ≡ bytes_eq word.now text.now }
+{
+    for place in 0..text.len() {
+        if word[place] != text[place] {
+            return false;
+        }
+    }
+    true
 }
 
 /// The first word, and the words after it, if there are any.
