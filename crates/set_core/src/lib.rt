@@ -1,7 +1,8 @@
 //! One set of links with its history: all that was asked of it and answered.
 //!
 //! A [`SetCore`] is what a set keeps (`set_step`) and a history, packed (`set_history`). [`SetCore::apply`] is the one call
-//! that changes it: an event of an actor in, an answer back, and one entry at the end of the history.
+//! that changes it: an event of an actor in, an answer back, and one entry at the end of the history ([`SetCore::apply_into`] is
+//! the same with the answer put into a place that the caller lends).
 //!
 //! ```text
 //! opening --entry 0--> state --entry 1--> state -- .. --entry n-1--> what the set holds
