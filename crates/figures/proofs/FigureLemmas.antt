@@ -1,7 +1,10 @@
 -- Steps of the readers of numbers and hexadecimal.
-use Rattle.std.proofs.Common.{refl, arith, ◌≡◌, ◌∙◌, ap, sym, ◌<◌, ◌≤◌, [], ◌∷◌, length, ℕ, ◌+◌, ◌-◌, ◌*◌, ◌%◌, ◌^◌, Bool, true, false, nat_lt, List, ◌++◌, Option, Some, None, append_assoc, drop, drop-cons, add-one, suc, slice_index_or, inl, inr, append-nil}
+use Rattle.std.proofs.Common.{refl, arith, ◌≡◌, ◌∙◌, ap, sym, ◌<◌, ◌≤◌, [], ◌∷◌, length, ℕ, ◌+◌, ◌-◌, ◌*◌, ◌%◌, ◌^◌, Bool, true, false, nat_lt, List, ◌++◌, Option, Some, None, append_assoc, drop, drop-cons, add-one, suc, slice_index_or, inl, inr, append-nil, ◌/◌, set, zero}
 use Rattle.std.proofs.lemmas.Grind.{common_steps}
 use Rattle.std.proofs.lemmas.Bool.Decides.{nat_tests}
+use Rattle.std.proofs.lemmas.Fmt.{decimal_step, decimal_digit}
+use Rattle.std.proofs.lemmas.List.{drop-set}
+use Rattle.std.specs.Fmt.{decimal}
 use Rattle.std.specs.Option.{option_map, option_and_then}
 use Rattle.figures.specs.Figures.{digits_behind, below_2_64, is_digit, hex_value, octet_of, octets_of, octet_before, NoDigitFits}
 
@@ -95,3 +98,26 @@ octet_begin word = go (octets_of word)
     go : (x : Option (List ℕ)) → x ≡ option_map (λ more. [] ++ more) x
     go None = refl
     go (Some octets) = refl
+
+-- one decimal digit more
+pub digit_before : (left place value : ℕ) (digits : List ℕ) → 10 ≤ left → left < 2 ^ 64 → left < 10 ^ (place + 1) → place < length digits
+    → decimal left ++ drop (place + 1) digits ≡ decimal value
+    → decimal (left / 10) ++ drop (place - 1 + 1) (set digits place (48 + left % 10)) ≡ decimal value
+digit_before left zero value digits more fits room within before = absurd (omega (arith, room))
+digit_before left (suc place) value digits more fits room within before =
+    let e : suc place - 1 + 1 ≡ suc place = omega arith in
+    rw (e, drop-set digits (suc place) (48 + left % 10) within) (rw (decimal_step left more fits, append_assoc) at before)
+
+-- the first decimal digit
+pub first_digit : (left place value : ℕ) (digits : List ℕ) → left < 10 → place < length digits
+    → decimal left ++ drop (place + 1) digits ≡ decimal value → drop place (set digits place (48 + left)) ≡ decimal value
+first_digit left place value digits small within before =
+    rw (drop-set digits place (48 + left) within) (rw (decimal_digit left small) at before)
+
+-- a digit less wants a place less
+pub place_fewer : (left place : ℕ) → 10 ≤ left → left < 10 ^ (place + 1) → left / 10 < 10 ^ (place - 1 + 1)
+place_fewer left zero more room = absurd (omega (arith, room))
+place_fewer left (suc place) more room =
+    let e : suc place - 1 + 1 ≡ suc place = omega arith in
+    let whole : left < 10 ^ suc (suc place) = rw (add-one) at room in
+    rw e (omega (arith, whole))

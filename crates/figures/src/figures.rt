@@ -1,5 +1,5 @@
 //! Numbers and hexadecimal, as the script writes them.
-ghost use Rattle.std.specs.Prelude.{◌≡◌, [], ◌∷◌, ◌++◌, ◌<◌, ◌+◌, ◌-◌, ◌*◌, IfOk, OnOk, MatchOption, true};
+ghost use Rattle.std.specs.Prelude.{◌≡◌, [], ◌∷◌, ◌++◌, ◌<◌, ◌≤◌, ◌+◌, ◌-◌, ◌*◌, drop, decimal, IfOk, MatchOption, MatchResult, true};
 ghost use Rattle.std.specs.Option.{option_and_then, option_map};
 ghost use Rattle.figures.specs.Figures.{number_of, hex_value, octet_of, octets_of, digits_behind, below_2_64, hex_text, hex_digit, is_digit, NoDigitFits, bit};
 
@@ -108,14 +108,49 @@ fn digit_of(value: u8) -> u8
 }
 
 /// Writes octets at the end, two digits each, in lower case.
+///
+/// Where memory is wanted the text stays as it was.
 pub fn push_hex(text: &mut Vec<u8>, octets: &[u8]) -> Result<(), AllocError>
-    ensures { OnOk result (text.new.items ≡ text.old.items ++ hex_text octets.now) }
+    ensures { MatchResult result
+        (λ done. text.new.items ≡ text.old.items ++ hex_text octets.now)
+        (λ want. text.new.items ≡ text.old.items) }
 {
+    // with room for all of them a digit costs no test and no call
+    text.reserve(2 * octets.len())?;
     for octet in octets {
-        text.push(digit_of(*octet / 16))?;
-        text.push(digit_of(*octet % 16))?;
+        text.push_reserved(digit_of(*octet / 16));
+        text.push_reserved(digit_of(*octet % 16));
     }
     Ok(())
+}
+
+/// Writes a number at the end, in decimal.
+///
+/// Where memory is wanted the text stays as it was.
+pub fn push_number(text: &mut Vec<u8>, value: u64) -> Result<(), AllocError>
+    ensures { MatchResult result
+        (λ done. text.new.items ≡ text.old.items ++ decimal value)
+        (λ want. text.new.items ≡ text.old.items) }
+{
+    let mut digits = [0; 20];
+    let start = write_digits(value, &mut digits);
+    text.extend_from_slice(&digits[start..])
+}
+
+/// Writes the decimal digits of a number so that they end where the places end, and answers where they start.
+fn write_digits(value: u64, digits: &mut [u8; 20]) -> usize
+    ensures within { result ≤ 20 }
+    ensures written { drop result digits.new ≡ decimal value }
+{
+    let mut place = 19;
+    let mut left = value;
+    while left >= 10 {
+        digits[place] = b'0' + (left % 10) as u8;
+        left /= 10;
+        place -= 1;
+    }
+    digits[place] = b'0' + left as u8;
+    place
 }
 
 /// 1 for yes and 0 for no.
