@@ -1,5 +1,5 @@
 -- THE PRINTED TEXTS: what a step of the world shows, and how an end stands, each ended by LF.
-use Rattle.std.specs.Prelude.{ℕ, List, ◌++◌, Option, Some, None, codes, decimal}
+use Rattle.std.specs.Prelude.{◌≡◌, ℕ, List, ◌++◌, length, take, Option, Some, None, Result, MatchResult, codes, decimal}
 use Rattle.l2_bits.specs.SealedText.{sealed_text}
 use Rattle.l2_units.specs.Grammar.{text}
 use Rattle.set_events.specs.Numbers.{refusal_number, ControlFault, fault_number, cause_number}
@@ -17,6 +17,10 @@ use Rattle.world_steps.specs.declared.step.End.TheVariants.{A, B}
 use Rattle.world_steps.specs.declared.step.Shown.{Shown}
 use Rattle.world_steps.specs.declared.step.Shown.TheVariants.{Up, Lost, Answered}
 use Rattle.figures.specs.Figures.{hex_text, bit}
+
+-- a text was appended; where memory was wanted, what stood before still stands at the front
+abbrev pub Appends : {E : Type 0} → Result (Unit {0}) E → List ℕ → List ℕ → List ℕ → Type 0
+Appends result old text new = MatchResult result (λ done. new ≡ old ++ text) (λ want. take (length old) new ≡ old)
 
 abbrev pub fate_text : Fate → List ℕ
 fate_text (Waiting link) = codes "found waiting " ++ (decimal link ++ codes "\n")

@@ -2,7 +2,7 @@
 //!
 //! | what | its text |
 //! |---|---|
-//! | [`world_steps::Shown`], what a step showed: an answer of a set, an up, a loss | [`write_shown`] |
+//! | [`world_steps::Shown`], what a step showed: an answer of a set, an up, a loss | [`write_shown`], [`push_shown`] |
 //! | [`set_events::Counts`] of an end | [`write_end`] |
 //!
 //! Each text is a line, ended by LF, and fails only where memory is wanted. Numbers are decimal, octets are
@@ -12,4 +12,4 @@
 
 mod texts;
 
-pub use texts::{write_end, write_shown};
+pub use texts::{push_shown, write_end, write_shown};

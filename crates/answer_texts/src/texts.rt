@@ -1,13 +1,12 @@
 //! The printed texts.
-ghost use Rattle.std.specs.Prelude.{◌≡◌, ◌++◌, ◌+◌, ◌<◌, ◌^◌, IfOk, codes, decimal};
-ghost use Rattle.l2_units.specs.Grammar.{text};
+ghost use Rattle.std.specs.Prelude.{◌≡◌, ◌++◌, ◌+◌, ◌<◌, ◌^◌, IfOk, MatchResult, codes, decimal};
 ghost use Rattle.set_model.specs.Rows.{total_of};
 ghost use Rattle.figures.specs.Figures.{hex_text};
-ghost use Rattle.answer_texts.specs.Texts.{fate_text, took_text, fault_code, report_text, answer_text, shown_line, shown_text, end_name, end_text, link_counts, other_counts, sent_line};
+ghost use Rattle.answer_texts.specs.Texts.{Appends, fate_text, took_text, fault_code, report_text, answer_text, shown_line, shown_text, end_name, end_text, link_counts, other_counts};
 
-use figures::{bit_of, push_hex};
+use figures::{bit_of, push_hex, push_number};
 use l2_bits::seal;
-use l2_units::{Unit, write};
+use l2_units::write;
 use set_events::{Answer, ControlFault, Counts, Fate, Report, Took};
 use std::alloc::{AllocError, Global};
 use world_steps::{End, Shown};
@@ -16,93 +15,120 @@ use world_steps::{End, Shown};
 pub fn write_shown(alloc: Global, shown: &Shown) -> Result<Vec<u8>, AllocError>
     ensures { IfOk result (λ text. text.items ≡ shown_text shown.now) }
 {
-    write_shown_line(alloc, shown)
+    let mut text = Vec::new(alloc);
+    push_shown(&mut text, shown)?;
+    Ok(text)
 }
 
-/// The line of what was shown, case by case.
-fn write_shown_line(alloc: Global, shown: &Shown) -> Result<Vec<u8>, AllocError>
-    ensures { IfOk result (λ text. text.items ≡ shown_line shown.now) }
+/// Appends the text of what a step shows.
+///
+/// Where memory is wanted `out` holds what it held before.
+pub fn push_shown(out: &mut Vec<u8>, shown: &Shown) -> Result<(), AllocError>
+    ensures { MatchResult result
+        (λ done. out.new.items ≡ out.old.items ++ shown_text shown.now)
+        (λ want. out.new.items ≡ out.old.items) }
 {
-    match shown {
-        Shown::Up => Vec::from_slice(alloc, b"up\n"),
-        Shown::Lost => Vec::from_slice(alloc, b"lost\n"),
-        Shown::Answered(answer) => write_answer(alloc, answer),
-    }
-}
-
-/// The text of an answer.
-fn write_answer(alloc: Global, answer: &Answer) -> Result<Vec<u8>, AllocError>
-    ensures { IfOk result (λ text. text.items ≡ answer_text answer.now) }
-{
-    match answer {
-        Answer::Accepted { number } => write_number(alloc, "accepted ", *number),
-        Answer::Taken { body } => write_taken(alloc, body.as_slice()),
-        Answer::Found { fate } => write_fate(alloc, *fate),
-        Answer::Sent { unit } => write_sent(alloc, unit),
-        Answer::Heard { report } => write_report(alloc, report),
-        Answer::Done => Vec::from_slice(alloc, b"done\n"),
-        Answer::Refused { why } => write_number(alloc, "refused ", why.number() as u64),
-    }
-}
-
-/// Some words and a number behind them.
-fn write_number(alloc: Global, words: &str, number: u64) -> Result<Vec<u8>, AllocError>
-    ensures { IfOk result (λ text. text.items ≡ words.now ++ (decimal number ++ codes "\n")) }
-{
-    Ok(format!(in alloc; "{words}{number}\n")?.into_bytes())
-}
-
-/// The text of where a message stands.
-fn write_fate(alloc: Global, fate: Fate) -> Result<Vec<u8>, AllocError>
-    ensures { IfOk result (λ text. text.items ≡ fate_text fate) }
-{
-    match fate {
-        Fate::Waiting { link } => write_number(alloc, "found waiting ", link as u64),
-        Fate::Unacked { link } => write_number(alloc, "found unacked ", link as u64),
-        Fate::Acked { link } => write_number(alloc, "found acked ", link as u64),
-        Fate::Held { link } => write_number(alloc, "found held ", link as u64),
-        Fate::Parked => Vec::from_slice(alloc, b"found parked\n"),
-        Fate::Back { code } => write_number(alloc, "found back ", code as u64),
-        Fate::Discarded { cause } => {
-            write_number(alloc, "found discarded ", cause.number() as u64)
+    let kept = out.len();
+    match push_line(out, shown) {
+        Ok(()) => Ok(()),
+        Err(want) => {
+            // the pieces that had room
+            out.truncate(kept);
+            Err(want)
         }
     }
 }
 
-/// The text of a message that was taken.
-fn write_taken(alloc: Global, body: &[u8]) -> Result<Vec<u8>, AllocError>
-    ensures { IfOk result (λ text. text.items
-        ≡ codes "taken " ++ (hex_text body.now ++ codes "\n")) }
+/// Appends the line of what was shown, case by case.
+fn push_line(out: &mut Vec<u8>, shown: &Shown) -> Result<(), AllocError>
+    ensures { Appends result out.old.items (shown_line shown.now) out.new.items }
 {
-    let mut text = Vec::from_slice(alloc, b"taken ")?;
-    push_hex(&mut text, body)?;
-    text.push(b'\n')?;
-    Ok(text)
+    match shown {
+        Shown::Up => push_piece(out, b"up\n"),
+        Shown::Lost => push_piece(out, b"lost\n"),
+        Shown::Answered(answer) => push_answer(out, answer),
+    }
 }
 
-/// The text of a sent unit, with its check octets.
-fn write_sent(alloc: Global, unit: &Unit) -> Result<Vec<u8>, AllocError>
-    ensures { IfOk result (λ line. line.items ≡ sent_line (text unit.now)) }
+/// Appends the text of an answer.
+fn push_answer(out: &mut Vec<u8>, answer: &Answer) -> Result<(), AllocError>
+    ensures { Appends result out.old.items (answer_text answer.now) out.new.items }
 {
-    let mut text = Vec::from_slice(alloc, b"sent ")?;
-    push_hex(&mut text, seal(write(unit).as_slice()).as_slice())?;
-    text.push(b'\n')?;
-    Ok(text)
+    match answer {
+        Answer::Accepted { number } => push_number_line(out, b"accepted ", *number),
+        Answer::Taken { body } => push_hex_line(out, b"taken ", body.as_slice()),
+        Answer::Found { fate } => push_fate(out, *fate),
+        Answer::Sent { unit } => push_hex_line(
+            out,
+            b"sent ",
+            seal(write(unit).as_slice()).as_slice(),
+        ),
+        Answer::Heard { report } => push_report(out, report),
+        Answer::Done => push_piece(out, b"done\n"),
+        Answer::Refused { why } => push_number_line(out, b"refused ", why.number() as u64),
+    }
 }
 
-/// The text of what a heard unit did.
-fn write_report(alloc: Global, report: &Report) -> Result<Vec<u8>, AllocError>
-    ensures { IfOk result (λ text. text.items ≡ report_text report.now) }
+/// Appends the text of where a message stands.
+fn push_fate(out: &mut Vec<u8>, fate: Fate) -> Result<(), AllocError>
+    ensures { Appends result out.old.items (fate_text fate) out.new.items }
 {
-    let acked = report.acked;
-    let took = took_word(report.took);
-    let asked = bit_of(report.asked);
-    let resend = bit_of(report.resend);
-    let fault = code_of(report.fault);
-    let text = format!(in alloc;
-        "heard acked={acked} took={took} asked={asked} resend={resend} fault={fault}\n"
-    )?;
-    Ok(text.into_bytes())
+    match fate {
+        Fate::Waiting { link } => push_number_line(out, b"found waiting ", link as u64),
+        Fate::Unacked { link } => push_number_line(out, b"found unacked ", link as u64),
+        Fate::Acked { link } => push_number_line(out, b"found acked ", link as u64),
+        Fate::Held { link } => push_number_line(out, b"found held ", link as u64),
+        Fate::Parked => push_piece(out, b"found parked\n"),
+        Fate::Back { code } => push_number_line(out, b"found back ", code as u64),
+        Fate::Discarded { cause } => {
+            push_number_line(out, b"found discarded ", cause.number() as u64)
+        }
+    }
+}
+
+/// Appends the text of what a heard unit did.
+fn push_report(out: &mut Vec<u8>, report: &Report) -> Result<(), AllocError>
+    ensures { Appends result out.old.items (report_text report.now) out.new.items }
+{
+    push_field(out, b"heard acked=", report.acked as u64)?;
+    push_piece(out, b" took=")?;
+    push_piece(out, took_word(report.took).as_bytes())?;
+    push_field(out, b" asked=", bit_of(report.asked) as u64)?;
+    push_field(out, b" resend=", bit_of(report.resend) as u64)?;
+    push_number_line(out, b" fault=", code_of(report.fault) as u64)
+}
+
+/// Appends some words and a number behind them, and ends the line.
+fn push_number_line(out: &mut Vec<u8>, words: &[u8], number: u64) -> Result<(), AllocError>
+    ensures { Appends result out.old.items (words.now ++ (decimal number ++ codes "\n")) out.new.items }
+{
+    push_field(out, words, number)?;
+    push_piece(out, b"\n")
+}
+
+/// Appends some words and octets behind them, two digits each, and ends the line.
+fn push_hex_line(out: &mut Vec<u8>, words: &[u8], octets: &[u8]) -> Result<(), AllocError>
+    ensures { Appends result out.old.items (words.now ++ (hex_text octets.now ++ codes "\n")) out.new.items }
+{
+    push_piece(out, words)?;
+    push_hex(out, octets)?;
+    push_piece(out, b"\n")
+}
+
+/// Appends some words and a number behind them.
+fn push_field(out: &mut Vec<u8>, words: &[u8], number: u64) -> Result<(), AllocError>
+    ensures { Appends result out.old.items (words.now ++ decimal number) out.new.items }
+{
+    push_piece(out, words)?;
+    push_number(out, number)
+}
+
+/// Appends some words.
+#[inline(always)]
+fn push_piece(out: &mut Vec<u8>, words: &[u8]) -> Result<(), AllocError>
+    ensures { Appends result out.old.items words.now out.new.items }
+{
+    out.extend_from_slice(words)
 }
 
 /// The word for what became of a body.
