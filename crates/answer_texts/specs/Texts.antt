@@ -42,11 +42,15 @@ abbrev pub fault_code : Option ControlFault → ℕ
 fault_code None = 0
 fault_code (Some fault) = fault_number fault
 
+-- what a heard unit asked for, and its fault
+abbrev pub flags_text : Report → List ℕ
+flags_text r =
+    codes " asked=" ++ (decimal (bit r.asked) ++ (codes " resend=" ++ (decimal (bit r.resend)
+    ++ (codes " fault=" ++ (decimal (fault_code r.fault) ++ codes "\n")))))
+
 abbrev pub report_text : Report → List ℕ
 report_text r =
-    codes "heard acked=" ++ (decimal r.acked ++ (codes " took=" ++ (took_text r.took
-    ++ (codes " asked=" ++ (decimal (bit r.asked) ++ (codes " resend=" ++ (decimal (bit r.resend)
-    ++ (codes " fault=" ++ (decimal (fault_code r.fault) ++ codes "\n")))))))))
+    codes "heard acked=" ++ (decimal r.acked ++ (codes " took=" ++ (took_text r.took ++ flags_text r)))
 
 -- a sent unit is printed with its check octets
 abbrev pub sent_line : List ℕ → List ℕ

@@ -1,12 +1,13 @@
 //! The printed texts.
 ghost use Rattle.std.specs.Prelude.{◌≡◌, ◌++◌, ◌+◌, ◌<◌, ◌^◌, IfOk, MatchResult, codes, decimal};
+ghost use Rattle.l2_units.specs.Grammar.{text};
 ghost use Rattle.set_model.specs.Rows.{total_of};
 ghost use Rattle.figures.specs.Figures.{hex_text};
-ghost use Rattle.answer_texts.specs.Texts.{Appends, fate_text, took_text, fault_code, report_text, answer_text, shown_line, shown_text, end_name, end_text, link_counts, other_counts};
+ghost use Rattle.answer_texts.specs.Texts.{Appends, fate_text, took_text, fault_code, flags_text, report_text, sent_line, answer_text, shown_line, shown_text, end_name, end_text, link_counts, other_counts};
 
-use figures::{bit_of, push_hex, push_number};
+use figures::{bit_of, decimal_digit, push_hex, push_number};
 use l2_bits::seal;
-use l2_units::write;
+use l2_units::{Unit, write};
 use set_events::{Answer, ControlFault, Counts, Fate, Report, Took};
 use std::alloc::{AllocError, Global};
 use world_steps::{End, Shown};
@@ -58,11 +59,7 @@ fn push_answer(out: &mut Vec<u8>, answer: &Answer) -> Result<(), AllocError>
         Answer::Accepted { number } => push_number_line(out, b"accepted ", *number),
         Answer::Taken { body } => push_hex_line(out, b"taken ", body.as_slice()),
         Answer::Found { fate } => push_fate(out, *fate),
-        Answer::Sent { unit } => push_hex_line(
-            out,
-            b"sent ",
-            seal(write(unit).as_slice()).as_slice(),
-        ),
+        Answer::Sent { unit } => push_sent(out, unit),
         Answer::Heard { report } => push_report(out, report),
         Answer::Done => push_piece(out, b"done\n"),
         Answer::Refused { why } => push_number_line(out, b"refused ", why.number() as u64),
@@ -86,16 +83,34 @@ fn push_fate(out: &mut Vec<u8>, fate: Fate) -> Result<(), AllocError>
     }
 }
 
+/// Appends the text of a sent unit, with its check octets.
+// on its own: whoever has the unit's octets in its frame fills them each time, whatever it's called for
+#[inline(never)]
+fn push_sent(out: &mut Vec<u8>, unit: &Unit) -> Result<(), AllocError>
+    ensures { Appends result out.old.items (sent_line (text unit.now)) out.new.items }
+{
+    push_hex_line(out, b"sent ", seal(write(unit).as_slice()).as_slice())
+}
+
 /// Appends the text of what a heard unit did.
 fn push_report(out: &mut Vec<u8>, report: &Report) -> Result<(), AllocError>
     ensures { Appends result out.old.items (report_text report.now) out.new.items }
 {
     push_field(out, b"heard acked=", report.acked as u64)?;
-    push_piece(out, b" took=")?;
-    push_piece(out, took_word(report.took).as_bytes())?;
-    push_field(out, b" asked=", bit_of(report.asked) as u64)?;
-    push_field(out, b" resend=", bit_of(report.resend) as u64)?;
-    push_number_line(out, b" fault=", code_of(report.fault) as u64)
+    push_piece(out, took_field(report.took).as_bytes())?;
+    push_flags(out, report)
+}
+
+/// Appends what a heard unit asked for, and its fault, and ends the line.
+fn push_flags(out: &mut Vec<u8>, report: &Report) -> Result<(), AllocError>
+    ensures { Appends result out.old.items (flags_text report.now) out.new.items }
+{
+    // each is one digit, so one piece has them all
+    let mut flags = *b" asked=0 resend=0 fault=0\n";
+    flags[7] = decimal_digit(bit_of(report.asked));
+    flags[16] = decimal_digit(bit_of(report.resend));
+    flags[24] = decimal_digit(code_of(report.fault));
+    push_piece(out, &flags)
 }
 
 /// Appends some words and a number behind them, and ends the line.
@@ -131,15 +146,15 @@ fn push_piece(out: &mut Vec<u8>, words: &[u8]) -> Result<(), AllocError>
     out.extend_from_slice(words)
 }
 
-/// The word for what became of a body.
-fn took_word(took: Took) -> &'static str
-    ensures { result.now ≡ took_text took }
+/// The words for what became of a body.
+fn took_field(took: Took) -> &'static str
+    ensures { result.now ≡ codes " took=" ++ took_text took }
 {
     match took {
-        Took::Nothing => "nothing",
-        Took::Message => "message",
-        Took::Order => "order",
-        Took::Ignored => "ignored",
+        Took::Nothing => " took=nothing",
+        Took::Message => " took=message",
+        Took::Order => " took=order",
+        Took::Ignored => " took=ignored",
     }
 }
 

@@ -132,9 +132,22 @@ pub fn push_number(text: &mut Vec<u8>, value: u64) -> Result<(), AllocError>
         (λ done. text.new.items ≡ text.old.items ++ decimal value)
         (λ want. text.new.items ≡ text.old.items) }
 {
+    if value <= 9 {
+        text.reserve(1)?;
+        text.push_reserved(decimal_digit(value as u8));
+        return Ok(());
+    }
     let mut digits = [0; 20];
     let start = write_digits(value, &mut digits);
     text.extend_from_slice(&digits[start..])
+}
+
+/// The decimal digit of a value below 10.
+pub fn decimal_digit(value: u8) -> u8
+    requires { value < 10 }
+    ensures { result ∷ [] ≡ decimal value }
+{
+    b'0' + value
 }
 
 /// Writes the decimal digits of a number so that they end where the places end, and answers where they start.

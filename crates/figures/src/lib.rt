@@ -3,6 +3,7 @@
 //! | text | is read by | is written by |
 //! |---|---|---|
 //! | a decimal number below 2^64, without leading zeros | [`read_number`] | [`push_number`] |
+//! | a value below 10, as one decimal digit | | [`decimal_digit`] |
 //! | an octet: two hexadecimal digits, high one first | [`read_octet`], of either case | [`push_hex`], in lower case |
 //! | octets: two digits each, nothing between them | [`read_octets`] | [`push_hex`], in lower case |
 //! | yes or no, as 1 or 0 | | [`bit_of`] |
@@ -12,4 +13,6 @@
 
 mod figures;
 
-pub use figures::{bit_of, push_hex, push_number, read_number, read_octet, read_octets};
+pub use figures::{
+    bit_of, decimal_digit, push_hex, push_number, read_number, read_octet, read_octets,
+};
