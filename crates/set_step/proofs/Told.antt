@@ -1,6 +1,8 @@
 -- What a heard unit brings, as the step has it; and that hearing takes no room.
 use Rattle.std.proofs.Common.{refl, arith, ◌≡◌, ◌∙◌, ap, sym, subst, ◌≤◌, ◌<◌, ◌+◌, ◌*◌, ◌++◌, [], ◌∷◌, List, ℕ, zero, suc, Bool, true, false, ◌==◌, length, map, Option, Some, None, slice_set}
-use Rattle.std.proofs.lemmas.List.{length-map, map-append}
+use Rattle.std.specs.Prelude.{if◌then◌else◌}
+use Rattle.std.proofs.lemmas.List.{length-map}
+use Rattle.std.proofs.lemmas.Option.{same_Some}
 use Rattle.arrayvec.specs.declared.array_vec.ArrayVec.{ArrayVec}
 use Rattle.l2_signals.specs.declared.status.Status.{Status}
 use Rattle.l2_units.specs.declared.unit.Header.{Header}
@@ -10,7 +12,6 @@ use Rattle.l2_units.specs.Grammar.{head_of as header_in}
 use Rattle.l2_window.specs.declared.control.HeardPart.{HeardPart}
 use Rattle.l3_orders.specs.declared.order.Order.{Order}
 use Rattle.l3_orders.specs.declared.order.Order.TheVariants.{Coo, Coa, Cbd, Cba, Eco, Eca}
-use Rattle.l3_orders.specs.Grammar.{order_of}
 use Rattle.set_events.specs.declared.answer.Fate.TheVariants.{Waiting, Held}
 use Rattle.set_events.specs.declared.answer.Answer.TheVariants.{Heard as HeardBack}
 use Rattle.set_events.specs.declared.answer.Report.{Report}
@@ -33,13 +34,13 @@ use Rattle.set_model.proofs.Walk.{IsAt}
 use Rattle.set_step.specs.declared.link.Link.{Link}
 use Rattle.set_step.specs.declared.parts.Parts.{Parts}
 use Rattle.set_step.specs.Agreement.{Kept, StandsFor}
-use Rattle.set_step.specs.Hearing.{IsSpacious, IsSpaciousFor, KeepsSpace, order_brought}
-use Rattle.set_step.specs.Parts.{Gives, Obeys, bodies_in, kept_of, link_of as link_kept}
+use Rattle.set_step.specs.Hearing.{HasPlace, IsSpacious, IsSpaciousFor, KeepsSpace, order_brought, message_brought}
+use Rattle.set_step.specs.Parts.{Gives, Obeys, kept_of, link_of as link_kept}
 use Rattle.set_step.specs.Room.{HasRoom, IsReady, target_beside}
 use Rattle.set_step.proofs.Targets.{same_ups, same_target}
 
 -- THE INBOX
-pub inbox_for : (k : Kept) (s : State) (inbox : List (List ℕ)) → StandsFor k s → StandsFor (record k { inbox = inbox }) (record s { inbox = inbox })
+inbox_for : (k : Kept) (s : State) (inbox : List (List ℕ)) → StandsFor k s → StandsFor (record k { inbox = inbox }) (record s { inbox = inbox })
 inbox_for k s inbox f = record {
   settings = f.settings;
   stands = f.stands;
@@ -52,35 +53,52 @@ inbox_for k s inbox f = record {
   inbox = refl;
 }
 
-pub delivered : (k : Kept) (s : State) (old new : List (ArrayVec ℕ 273 (Unit {0}))) (body copy : ArrayVec ℕ 273 (Unit {0})) → StandsFor k s → k.inbox ≡ bodies_in old → new ≡ old ++ copy ∷ [] → copy ≡ body → StandsFor (record k { inbox = bodies_in new }) (record s { inbox = s.inbox ++ body.items ∷ [] })
-delivered k s old new body copy f was is same =
-    let more : bodies_in new ≡ s.inbox ++ body.items ∷ [] =
-    ap bodies_in is ∙ map-append (λ (b : ArrayVec ℕ 273 (Unit {0})). b.items) old (copy ∷ [])
-    ∙ ap (λ (xs : List (List ℕ)). xs ++ copy.items ∷ []) (sym was ∙ f.inbox)
-    ∙ ap (λ (b : ArrayVec ℕ 273 (Unit {0})). s.inbox ++ b.items ∷ []) same in
-    subst (λ (i : List (List ℕ)). StandsFor (record k { inbox = i }) (record s { inbox = s.inbox ++ body.items ∷ [] })) (sym more) (inbox_for k s (s.inbox ++ body.items ∷ []) f)
+pub delivered : (k : Kept) (s : State) (inbox : List (List ℕ)) (message : List ℕ) → StandsFor k s → inbox ≡ k.inbox ++ message ∷ [] → StandsFor (record k { inbox = inbox }) (record s { inbox = s.inbox ++ message ∷ [] })
+delivered k s inbox message f is = subst (λ (i : List (List ℕ)). StandsFor (record k { inbox = i }) (record s { inbox = s.inbox ++ message ∷ [] })) (sym (is ∙ ap (λ (i : List (List ℕ)). i ++ message ∷ []) f.inbox)) (inbox_for k s (s.inbox ++ message ∷ []) f)
 
-pub message_taken : (parts : Parts) (s : State) (accept : Bool) (unit : SignalUnit) (head : Header) (body : ArrayVec ℕ 273 (Unit {0})) → unit ≡ Msu head body → accept ≡ true → (service_indicator body.items == 0) ≡ false → StandsFor (kept_of parts) (record s { inbox = s.inbox ++ body.items ∷ [] }) → Obeys (takes (brought accept unit) s) Message parts
-message_taken parts s accept unit head body e g h stands = rw (e, g) (rw h (record { took_is = refl; stands = stands }))
+-- WHAT A UNIT BRINGS
+module _ (parts : Parts) (s : State) where
+  -- it's one of the management if it has a body that isn't for users
+  no_message : (head : Header) (body : ArrayVec ℕ 273 (Unit {0})) → message_brought (Msu head body) ≡ None → (service_indicator body.items == 0) ≡ true
+  no_message head body none = go (service_indicator body.items == 0) none
+    where
+      go : (management : Bool) → (if management then None else Some body.items) ≡ None → management ≡ true
+      go true e = refl
+      go false e = absurd cc
 
--- WHAT ELSE A UNIT BRINGS
-pub nothing_brought : (parts : Parts) (s : State) (accept : Bool) (unit : SignalUnit) → ((head : Header) (body : ArrayVec ℕ 273 (Unit {0})) → unit ≡ Msu head body → ⊥) → StandsFor (kept_of parts) s → Obeys (takes (brought accept unit) s) Nothing parts
-nothing_brought parts s accept (Fisu head) other stands = record { took_is = refl; stands = stands }
-nothing_brought parts s accept (Lssu head status) other stands = record { took_is = refl; stands = stands }
-nothing_brought parts s accept (Msu head body) other stands = absurd (other head body refl)
+  a_message : (head : Header) (body : ArrayVec ℕ 273 (Unit {0})) (message : List ℕ) → message_brought (Msu head body) ≡ Some message → ((service_indicator body.items == 0) ≡ false) × (body.items ≡ message)
+  a_message head body message some = go (service_indicator body.items == 0) some
+    where
+      go : (management : Bool) → (if management then None else Some body.items) ≡ Some message → (management ≡ false) × (body.items ≡ message)
+      go true e = absurd cc
+      go false e = (refl, same_Some body.items message e)
 
-pub not_accepted : (parts : Parts) (s : State) (accept : Bool) (unit : SignalUnit) (head : Header) (body : ArrayVec ℕ 273 (Unit {0})) → unit ≡ Msu head body → accept ≡ false → StandsFor (kept_of parts) s → Obeys (takes (brought accept unit) s) Nothing parts
-not_accepted parts s accept unit head body e g stands = rw (e, g) (record { took_is = refl; stands = stands })
+  pub message_taken : (unit : SignalUnit) (message : List ℕ) → message_brought unit ≡ Some message → StandsFor (kept_of parts) (record s { inbox = s.inbox ++ message ∷ [] }) → Obeys (takes (brought true unit) s) Message parts
+  message_taken (Fisu head) message e stands = absurd cc
+  message_taken (Lssu head status) message e stands = absurd cc
+  message_taken (Msu head body) message e stands =
+      let is = a_message head body message e in
+      rw is.0 (record { took_is = refl; stands = rw is.1 stands })
 
-pub order_taken : (parts : Parts) (s : State) (accept : Bool) (unit : SignalUnit) (head : Header) (body : ArrayVec ℕ 273 (Unit {0})) (order : Order) (took : Took) → unit ≡ Msu head body → accept ≡ true → (service_indicator body.items == 0) ≡ true → order_brought unit ≡ Some order → Obeys (order_obeyed order s) took parts → Obeys (takes (brought accept unit) s) took parts
-order_taken parts s accept unit head body order took e g h is obeyed =
-    let same : order_of body.items ≡ Some order = ap order_brought (sym e) ∙ is in
-    rw (e, g) (rw (h, same) obeyed)
+  pub nothing_brought : (accept : Bool) (unit : SignalUnit) → is_msu unit ≡ false → StandsFor (kept_of parts) s → Obeys (takes (brought accept unit) s) Nothing parts
+  nothing_brought accept (Fisu head) other stands = record { took_is = refl; stands = stands }
+  nothing_brought accept (Lssu head status) other stands = record { took_is = refl; stands = stands }
+  nothing_brought accept (Msu head body) other stands = absurd cc
 
-pub no_order_taken : (parts : Parts) (s : State) (accept : Bool) (unit : SignalUnit) (head : Header) (body : ArrayVec ℕ 273 (Unit {0})) → unit ≡ Msu head body → accept ≡ true → (service_indicator body.items == 0) ≡ true → order_brought unit ≡ None → StandsFor (kept_of parts) s → Obeys (takes (brought accept unit) s) Ignored parts
-no_order_taken parts s accept unit head body e g h is stands =
-    let same : order_of body.items ≡ None = ap order_brought (sym e) ∙ is in
-    rw (e, g) (rw (h, same) (record { took_is = refl; stands = stands }))
+  pub not_accepted : (unit : SignalUnit) → StandsFor (kept_of parts) s → Obeys (takes (brought false unit) s) Nothing parts
+  not_accepted (Fisu head) stands = record { took_is = refl; stands = stands }
+  not_accepted (Lssu head status) stands = record { took_is = refl; stands = stands }
+  not_accepted (Msu head body) stands = record { took_is = refl; stands = stands }
+
+  pub order_taken : (unit : SignalUnit) (order : Order) (took : Took) → is_msu unit ≡ true → message_brought unit ≡ None → order_brought unit ≡ Some order → Obeys (order_obeyed order s) took parts → Obeys (takes (brought true unit) s) took parts
+  order_taken (Fisu head) order took msu none is obeyed = absurd cc
+  order_taken (Lssu head status) order took msu none is obeyed = absurd cc
+  order_taken (Msu head body) order took msu none is obeyed = rw (no_message head body none, is) obeyed
+
+  pub no_order_taken : (unit : SignalUnit) → is_msu unit ≡ true → message_brought unit ≡ None → order_brought unit ≡ None → StandsFor (kept_of parts) s → Obeys (takes (brought true unit) s) Ignored parts
+  no_order_taken (Fisu head) msu none is stands = absurd cc
+  no_order_taken (Lssu head status) msu none is stands = absurd cc
+  no_order_taken (Msu head body) msu none is stands = rw (no_message head body none, is) (record { took_is = refl; stands = stands })
 
 -- THE REPORT
 module _ (n : ℕ) (s : State) (link : LinkState) (unit : SignalUnit) where
@@ -133,6 +151,10 @@ ready_still n orders old new k r = record {
       let there = had.1 in
       (omega (arith, w, here, back), omega (arith, h, there, back));
 }
+
+pub place_still : (message : Option (List ℕ)) (old new : Parts) → new.inbox ≡ old.inbox → HasPlace message old → HasPlace message new
+place_still None old new same p = tt
+place_still (Some message) old new same p = rw same p
 
 pub spacious_still : (order : Option Order) (old new : Parts) → KeepsSpace old new → IsSpacious order old → IsSpacious order new
 spacious_still None old new k p = tt

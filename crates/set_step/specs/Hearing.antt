@@ -1,5 +1,6 @@
 -- What a heard unit brings, and the space that it may want.
-use Rattle.std.specs.Prelude.{◌≡◌, ℕ, ◌<◌, ◌≤◌, Bool, is_some, Option, Some, None, length, map}
+use Rattle.std.specs.Prelude.{◌≡◌, ℕ, ◌==◌, ◌<◌, ◌≤◌, Bool, if◌then◌else◌, is_some, Option, Some, None, List, length, map}
+use Rattle.std.specs.VecDeque.{deque_len, deque_capacity}
 use Rattle.l2_units.specs.declared.unit.Unit.{Unit as SignalUnit}
 use Rattle.l2_units.specs.declared.unit.Unit.TheVariants.{Fisu, Lssu, Msu}
 use Rattle.l3_orders.specs.declared.order.Order.{Order}
@@ -9,6 +10,7 @@ use Rattle.set_events.specs.declared.answer.Fate.TheVariants.{Back}
 use Rattle.set_queues.specs.Buffers.{KeepsRoom, queue_at}
 use Rattle.set_route.specs.Routing.{home_of}
 use Rattle.set_queues.specs.Settling.{on}
+use Rattle.set_model.specs.Rows.{service_indicator}
 use Rattle.set_step.specs.declared.parts.Parts.{Parts}
 use Rattle.set_step.specs.Room.{HasRoom, IsReady, order_fate, back_at, home_room}
 
@@ -20,6 +22,17 @@ order_brought (Msu head body) = order_of body.items
 
 abbrev pub has_order : SignalUnit → Bool
 has_order unit = is_some (order_brought unit)
+
+-- the body that a unit brings for users, if it brings one
+abbrev pub message_brought : SignalUnit → Option (List ℕ)
+message_brought (Fisu head) = None
+message_brought (Lssu head status) = None
+message_brought (Msu head body) = if service_indicator body.items == 0 then None else Some body.items
+
+-- there is a place in the inbox for it
+abbrev pub HasPlace : Option (List ℕ) → Parts → Type 0
+HasPlace None parts = Unit {0}
+HasPlace (Some body) parts = deque_len parts.inbox < deque_capacity parts.inbox
 
 -- there is room for what an order moves, and for the one that answers it
 abbrev pub IsSpaciousFor : Order → Parts → Type 0

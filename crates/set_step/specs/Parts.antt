@@ -1,6 +1,5 @@
 -- THE PARTS OF A SET as contracts see them.
 use Rattle.std.specs.Prelude.{◌≡◌, ℕ, false, ◌<◌, ◌≤◌, List, length, map, Some, slice_get}
-use Rattle.arrayvec.specs.declared.array_vec.ArrayVec.{ArrayVec}
 use Rattle.set_model.specs.declared.reached.Reached.{Reached}
 use Rattle.set_model.specs.declared.reached.Reached.TheVariants.{Upto, Unknown, Unanswered}
 use Rattle.set_model.specs.State.{LinkState, State, settings_of, has_phase_up}
@@ -24,10 +23,6 @@ link_of link = record {
   control = link.control;
 }
 
--- the octets of the bodies in the inbox
-abbrev pub bodies_in : List (ArrayVec ℕ 273 (Unit {0})) → List (List ℕ)
-bodies_in inbox = map (λ body. body.items) inbox
-
 abbrev pub kept_of : Parts → Kept
 kept_of parts = record {
   settings = settings_of parts.config;
@@ -36,7 +31,7 @@ kept_of parts = record {
   bodies = parts.bodies.items;
   links = map link_of parts.links.items;
   routing = parts.routes;
-  inbox = bodies_in parts.inbox.items;
+  inbox = parts.inbox.items;
 }
 
 -- one link for each queue and each place of the routing, and 16 at most

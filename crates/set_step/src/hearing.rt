@@ -1,6 +1,5 @@
 //! What a heard unit does to a set.
 ghost use Rattle.std.specs.Prelude.{◌≡◌, ◌<◌, ◌≤◌, ◌^◌, true, false, is_some, length, Some, IsOk, IfOk, IfSome, IfErr, OnErr, OnOk};
-ghost use Rattle.std.specs.VecDeque.{deque_len, deque_capacity};
 ghost use Rattle.std.specs.Vec.{vec_len, vec_capacity};
 ghost use Rattle.l2_units.specs.Grammar.{head_of as header_of};
 ghost use Rattle.l3_orders.specs.Grammar.{IsOrder};
@@ -10,16 +9,16 @@ ghost use Rattle.set_model.specs.Rows.{service_indicator};
 ghost use Rattle.set_model.specs.State.{State, window_of};
 ghost use Rattle.set_model.specs.Step.{in_service, heard, is_msu, brought, takes, after_control, report_of};
 ghost use Rattle.set_step.specs.Agreement.{Agrees, Holds};
-ghost use Rattle.set_step.specs.Hearing.{IsSpacious, IsSpaciousFor, KeepsSpace, order_brought, has_order};
+ghost use Rattle.set_step.specs.Hearing.{HasPlace, IsSpacious, IsSpaciousFor, KeepsSpace, order_brought, has_order, message_brought};
 ghost use Rattle.set_step.specs.Parts.{Answers, AreCounted, IsWhole, OfStates, BecomesAt, Obeys, kept_of};
 ghost use Rattle.set_step.specs.Room.{IsReady, SameButRoom, back_at, home_room};
 
 use super::changeover::{obey, order_space};
 use super::fault::SetFault;
+use super::inbox::HeardBody;
 use super::parts::{Parts, fate_of, make_room, make_room_beside, target_of};
 use super::sending::out_of_service;
-use arrayvec::ArrayVec;
-use l2_units::{LONGEST_BODY, Unit, header_in};
+use l2_units::{Unit, header_in};
 use l2_window::HeardPart;
 use l3_orders::{Order, read_order};
 use set_events::{Answer, Fate, Refusal, Report, Took};
@@ -64,26 +63,53 @@ pub(crate) fn hear(
     Ok(())
 }
 
-/// Takes the memory that the unit's body may want: in the inbox, or for an order that answers it and
-/// for the messages that it may move. A fill-in unit wants none.
-fn make_space(parts: &mut Parts, unit: &Unit, order: Option<Order>) -> Result<Vec<u8>, SetFault>
+/// The memory that a heard body may want.
+#[derive(Drop)]
+struct Space {
+    /// The body itself, if it's a message for users.
+    message: Option<HeardBody>,
+    /// For the order that answers it, if it's one.
+    answer: Vec<u8>,
+}
+
+/// Takes the memory that the unit's body may want: for a message in the inbox, or for an order that answers it
+/// and for the messages that it may move. A fill-in unit wants none.
+fn make_space(parts: &mut Parts, unit: &Unit, order: Option<Order>) -> Result<Space, SetFault>
     requires whole { IsWhole parts.old }
     requires order { order ≡ order_brought unit.now }
-    ensures space { IfOk result
-        (λ space. has_order unit.now ≡ true → (vec_len space ≡ 0) × (7 ≤ vec_capacity space)) }
-    ensures inbox { OnOk result
-        (is_msu unit.now ≡ true → deque_len parts.new.inbox < deque_capacity parts.new.inbox) }
+    ensures message { IfOk result (λ space. space.message ≡ message_brought unit.now) }
+    ensures answer { IfOk result (λ space. has_order unit.now ≡ true → (vec_len space.answer ≡ 0)
+        × (7 ≤ vec_capacity space.answer)) }
+    ensures inbox { OnOk result (HasPlace (message_brought unit.now) parts.new) }
     ensures room { OnOk result (IsSpacious (order_brought unit.now) parts.new) }
     ensures same { kept_of parts.new ≡ kept_of parts.old }
     ensures links { parts.new.links ≡ parts.old.links }
     ensures fault { IfErr result (λ fault. fault ≡ SetFault.NoMemory) }
     ensures none { is_msu unit.now ≡ false → IsOk result }
 {
-    if !has_message(unit) {
-        return Ok(Vec::new(*parts.links.allocator()));
+    let message = make_message_space(parts, unit)?;
+    let answer = make_order_space(parts, order)?;
+    Ok(Space { message, answer })
+}
+
+/// Takes a place in the inbox for the message that the unit brings users, if it brings one, and memory for its body.
+fn make_message_space(parts: &mut Parts, unit: &Unit) -> Result<Option<HeardBody>, SetFault>
+    ensures message { IfOk result (λ message. message ≡ message_brought unit.now) }
+    ensures inbox { OnOk result (HasPlace (message_brought unit.now) parts.new) }
+    ensures same { kept_of parts.new ≡ kept_of parts.old }
+    ensures parts { parts.new ≡ record parts.old { inbox = parts.new.inbox } }
+    ensures fault { IfErr result (λ fault. fault ≡ SetFault.NoMemory) }
+    ensures none { is_msu unit.now ≡ false → IsOk result }
+{
+    let Unit::Msu { body, .. } = unit else {
+        return Ok(None);
+    };
+    if indicator_of(body.as_slice()) == 0 {
+        return Ok(None);
     }
     parts.inbox.reserve(1)?;
-    make_order_space(parts, order)
+    let message = HeardBody::new(*parts.links.allocator(), body)?;
+    Ok(Some(message))
 }
 
 /// Takes the memory that the order may want, if there is one: for its answer, and for the messages that it moves.
@@ -94,6 +120,7 @@ fn make_order_space(parts: &mut Parts, order: Option<Order>) -> Result<Vec<u8>, 
     ensures room { OnOk result (IsSpacious order parts.new) }
     ensures same { SameButRoom parts.old parts.new }
     ensures fault { IfErr result (λ fault. fault ≡ SetFault.NoMemory) }
+    ensures none { is_some order ≡ false → IsOk result }
 {
     let Some(order) = order else {
         return Ok(Vec::new(*parts.links.allocator()));
@@ -200,40 +227,35 @@ fn has_message(unit: &Unit) -> bool
 }
 
 /// Where the unit's body goes, if it's accepted: to the users' inbox, or if it's the management's, to
-/// the rules of changeover. `order` is what it stands for there, and `space` holds the order that may
-/// answer it.
-fn take_in(
-    parts: &mut Parts,
-    accept: bool,
-    unit: &Unit,
-    order: Option<Order>,
-    space: Vec<u8>,
-) -> Took
+/// the rules of changeover. `order` is what it stands for there, and `space` has the memory that it wants.
+fn take_in(parts: &mut Parts, accept: bool, unit: &Unit, order: Option<Order>, space: Space) -> Took
     requires order { order ≡ order_brought unit.now }
     requires fits { IfSome order IsOrder }
     requires holds { Holds (kept_of parts.old) }
     requires counted { AreCounted (2 ^ 61) parts.old.links.items }
-    requires space { has_order unit.now ≡ true → (vec_len space ≡ 0) × (7 ≤ vec_capacity space) }
-    requires inbox { is_msu unit.now ≡ true
-        → deque_len parts.old.inbox < deque_capacity parts.old.inbox }
+    requires message { space.message ≡ message_brought unit.now }
+    requires answer { has_order unit.now ≡ true → (vec_len space.answer ≡ 0)
+        × (7 ≤ vec_capacity space.answer) }
+    requires inbox { HasPlace (message_brought unit.now) parts.old }
     requires room { IsSpacious (order_brought unit.now) parts.old }
     ensures { (s : State) → Agrees (kept_of parts.old) s
         → Obeys (takes (brought accept unit.now) s) result parts.new }
 {
-    let Unit::Msu { body, .. } = unit else {
-        return Took::Nothing;
-    };
     if !accept {
         return Took::Nothing;
     }
-    if indicator_of(body.as_slice()) == 0 {
-        return match order {
-            Some(order) => obey(parts, order, space),
-            None => Took::Ignored,
-        };
+    if !has_message(unit) {
+        return Took::Nothing;
     }
-    parts.inbox.push_back_reserved(copy_of(body));
-    Took::Message
+    let Space { message, answer } = space;
+    if let Some(message) = message {
+        parts.inbox.push_back_reserved(message);
+        return Took::Message;
+    }
+    match order {
+        Some(order) => obey(parts, order, answer),
+        None => Took::Ignored,
+    }
 }
 
 /// The service indicator of a body, 0 where there is none.
@@ -243,16 +265,6 @@ fn indicator_of(body: &[u8]) -> u8
     match body.first() {
         Some(sio) => *sio % 16,
         None => 0,
-    }
-}
-
-/// An equal body. It takes no memory.
-fn copy_of(body: &ArrayVec<u8, LONGEST_BODY>) -> ArrayVec<u8, LONGEST_BODY>
-    ensures { result ≡ body.now }
-{
-    match body.clone() {
-        Ok(copy) => copy,
-        Err(_) => unreachable!(),
     }
 }
 

@@ -15,8 +15,8 @@
 //! An event costs what it moves, however many messages there ever were (`tools/set-bench`).
 //!
 //! The files: `parts` what a set holds; `link` and `control` one link; `sending` and `hearing` what a link's
-//! terminal asks and tells; `changeover` how a link is left and orders are obeyed; `settling` what becomes
-//! of its messages; `step` the case of each event; `contents` the whole.
+//! terminal asks and tells; `inbox` what was heard for users; `changeover` how a link is left and orders are
+//! obeyed; `settling` what becomes of its messages; `step` the case of each event; `contents` the whole.
 //!
 //! This crate reads no clock, waits for nothing, takes no lock and does no IO. A call that may want memory
 //! takes it before it changes anything.
@@ -28,6 +28,7 @@ mod contents;
 mod control;
 mod fault;
 mod hearing;
+mod inbox;
 mod link;
 mod parts;
 mod sending;

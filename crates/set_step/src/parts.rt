@@ -12,18 +12,14 @@ ghost use Rattle.set_step.specs.Agreement.{StandsFor, kind_of};
 ghost use Rattle.set_step.specs.Parts.{IsWhole, Becomes, link_of, kept_of};
 ghost use Rattle.set_step.specs.Room.{HasRoom, IsReady, SameButRoom, target_beside};
 
+use super::inbox::Inbox;
 use super::link::Link;
 use arrayvec::ArrayVec;
-use l2_units::LONGEST_BODY;
 use set_events::{Body, Fate, SetConfig};
 use set_model::Phase;
 use set_queues::{Kind, Message, Queues};
 use set_route::{Place, Routes};
 use std::alloc::AllocError;
-use std::collections::VecDeque;
-
-/// The messages heard for users, oldest first.
-pub(crate) type Inbox = VecDeque<ArrayVec<u8, LONGEST_BODY>>;
 
 /// What a set keeps.
 #[derive(Drop)]

@@ -140,7 +140,7 @@ fn take(parts: &mut Parts, answer: &mut Answer)
     ensures { Answers parts.old parts.new answer.new (λ s. taken s.inbox s) }
 {
     *answer = match parts.inbox.pop_front() {
-        Some(body) => Answer::Taken { body },
+        Some(heard) => Answer::Taken { body: heard.body() },
         None => Answer::Refused {
             why: Refusal::Nothing,
         },

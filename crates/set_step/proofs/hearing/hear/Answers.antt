@@ -10,11 +10,11 @@ use Rattle.set_model.specs.State.{State, window_of}
 use Rattle.set_model.specs.Step.{Outcome, heard as heard_of, after_control, is_msu}
 use Rattle.set_step.specs.declared.parts.Parts.{Parts}
 use Rattle.set_step.specs.Agreement.{StandsFor, Agrees}
-use Rattle.set_step.specs.Hearing.{order_brought}
+use Rattle.set_step.specs.Hearing.{order_brought, message_brought}
 use Rattle.set_step.specs.Parts.{Gives, AreCounted, kept_of}
 use Rattle.set_step.specs.Refusing.{service_refusal}
 use Rattle.set_step.proofs.Admitting.{IsHere, IsIn, serves, unserved, is_in, served}
-use Rattle.set_step.proofs.Told.{heard_gives, heard_controls, heard_sound, spacious_still}
+use Rattle.set_step.proofs.Told.{heard_gives, heard_controls, heard_sound, place_still, spacious_still}
 use Rattle.set_step.proofs.hearing.hear.Goals as goal
 
 -- the state after the control heard, which the parts agree with
@@ -38,8 +38,9 @@ take_in-took-requires c =
         agrees_then mid c.control_hears-part.new.parts s n c.args.unit.now c.control_hears-part.result now i (c.control_hears-part.ensures.part s i.link i.there now.stands) (c.control_hears-part.ensures.stands s i.link i.there now.stands),
       );
       counted = c.control_hears-part.ensures.counted;
-      space = c.in_ok-space.ensures.space;
-      inbox = λ has. rw (c.control_hears-part.ensures.keeps.inbox) (c.in_ok-space.ensures.inbox has);
+      message = c.in_ok-space.ensures.message;
+      answer = c.in_ok-space.ensures.answer;
+      inbox = place_still (message_brought c.args.unit.now) mid c.control_hears-part.new.parts c.control_hears-part.ensures.keeps.inbox c.in_ok-space.ensures.inbox;
       room = spacious_still (order_brought c.args.unit.now) mid c.control_hears-part.new.parts c.control_hears-part.ensures.keeps c.in_ok-space.ensures.room;
     }
 
