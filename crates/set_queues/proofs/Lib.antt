@@ -4,6 +4,7 @@ pub mod Passing
 pub mod Settling
 pub mod Soundness
 pub mod Standing
+pub mod Storing
 pub mod Tallies
 pub mod Updates
 pub mod Weighing

@@ -1,4 +1,5 @@
 pub mod Backs
+pub mod Bodies
 pub mod Buffers
 pub mod Counted
 pub mod Counts

@@ -4,7 +4,7 @@
 //! [`Queues`] has of each of 1 to 16 links a window (`l2_window`) and the messages that are held for
 //! it, the parked messages, of each of 256 changeback codes those that wait for its acknowledgement, and
 //! of every number ever given out its [`Message`]: where it stands, whose it is, and the octets of its
-//! body. Bodies don't stand here. A fate that isn't final names a queue:
+//! body. The bodies themselves are [`Bodies`], which knows nothing of queues. A fate that isn't final names a queue:
 //!
 //! ```text
 //!          add (Waiting, Held, Parked, Back)
@@ -34,7 +34,7 @@
 //! four calls that reserve take memory: a call that adds or moves needs its room reserved before. Each
 //! call costs the same however many messages there ever were; discarding, diverting and settling are
 //! linear in what moves. A number takes 8 octets, and 8 more while it stands in a queue; a queue of a
-//! code takes none for messages until one stands in it.
+//! code takes none for messages until one stands in it. A body takes 8 octets and its own.
 //!
 //! This crate decides nothing: which messages are sent, acknowledged or moved, and when, is the
 //! caller's to know. It reads no clock, does no IO and takes no lock.
@@ -42,10 +42,11 @@
 //! The files: `message` what is kept of one; `messages` all of them with their counts (`tally`,
 //! `counting`); `buffers` the queues; `backs` what waits for the changebacks of one home; `moving` a
 //! whole queue, or the first of one, that goes elsewhere; `weight` the octets of unacknowledged bodies;
-//! `queues` the whole.
+//! `queues` the whole; `bodies` the bodies.
 #![tactic(auto)]
 
 mod backs;
+mod bodies;
 mod buffers;
 mod counting;
 mod laws;
@@ -56,6 +57,7 @@ mod queues;
 mod tally;
 mod weight;
 
+pub use bodies::Bodies;
 pub use laws::{each_number_stands_once, fates_move_with_their_numbers, settling_moves_the_queues};
 pub use message::{Kind, Message};
 pub use queues::Queues;

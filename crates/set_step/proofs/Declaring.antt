@@ -2,11 +2,11 @@
 use Rattle.std.proofs.Common.{refl, arith, ◌≡◌, ◌∙◌, ap, sym, subst, ◌≤◌, ◌<◌, ◌+◌, ◌-◌, ◌==◌, ℕ, zero, suc, true, false, Bool, length, cond, if◌then◌else◌}
 use Rattle.std.proofs.lemmas.Bool.{ne_eqb}
 use Rattle.std.proofs.lemmas.List.{length-map}
-use Rattle.std.specs.Vec.{vec_len, vec_capacity}
 use Rattle.set_events.specs.declared.answer.Answer.{Answer}
 use Rattle.set_events.specs.declared.answer.Answer.TheVariants.{Refused, Done}
 use Rattle.set_events.specs.declared.answer.Refusal.TheVariants.{Nothing}
 use Rattle.set_events.specs.declared.answer.Fate.TheVariants.{Waiting}
+use Rattle.set_queues.specs.Bodies.{CanHold}
 use Rattle.set_queues.specs.Buffers.{TakesRoom, room_at}
 use Rattle.set_route.specs.Routing.{Routing, asked}
 use Rattle.set_model.specs.declared.phase.Phase.TheVariants.{Up}
@@ -33,17 +33,24 @@ becomes_next home n old now new before next s f =
     subst (λ (t : State). StandsFor (kept_of new) t) (ap (λ (a : ℕ). declared_if home a (declared_from home 0 n s)) here ∙ sym (declared_next home 0 n s) ∙ ap (λ (k : ℕ). declared_from home 0 k s) more) (next (declared_from home 0 n s) (before s f))
 
 -- ROOM on the links that are left, once one was taken
-pub room_after : (n : ℕ) (old new : Parts) → HasRoomFrom n old → new.links ≡ old.links → TakesRoom (Waiting n) 1 old.queues.rooms new.queues.rooms → old.queues.room ≤ new.queues.room + 1 → vec_len new.bodies ≡ vec_len old.bodies + 1 → vec_capacity new.bodies ≡ vec_capacity old.bodies
+pub room_after : (n : ℕ) (old new : Parts) → HasRoomFrom n old → new.links ≡ old.links → TakesRoom (Waiting n) 1 old.queues.rooms new.queues.rooms → old.queues.room ≤ new.queues.room + 1 → ((more : ℕ) → CanHold (more + 1) old.bodies → CanHold more new.bodies) → n < 16
     → HasRoomFrom (n + 1) new
-room_after n old new r links takes message body bodies = record {
+room_after n old new r links takes message body low = record {
   message = let m = r.message in omega (arith, m, message);
-  body = let b = r.body in omega (arith, b, body, bodies);
+  body = body (16 - (n + 1)) (subst (λ (more : ℕ). CanHold more old.bodies) (let same : 16 - n ≡ 16 - (n + 1) + 1 = omega (arith, low) in same) r.body);
   each = λ link far low.
       let same : length new.links.items ≡ length old.links.items = ap (λ ls. length ls.items) links in
       let had = r.each link (omega (arith, far)) (omega (arith, low, same)) in
       let away : (n == link) ≡ false = ne_eqb n link (λ e. omega (arith, e, far)) in
       let kept : room_at (Waiting link) old.queues.rooms ≤ room_at (Waiting link) new.queues.rooms + cond false 1 0 = subst (λ (b : Bool). room_at (Waiting link) old.queues.rooms ≤ room_at (Waiting link) new.queues.rooms + cond b 1 0) away (takes (Waiting link)) in
       omega (arith, had, kept);
+}
+
+pub room_beyond : (n : ℕ) (parts : Parts) → HasRoomFrom n parts → HasRoomFrom (n + 1) parts
+room_beyond n parts r = record {
+  message = let m = r.message in omega (arith, m);
+  body = let b = r.body in (omega (arith, b.0), omega (arith, b.1));
+  each = λ link far low. r.each link (omega (arith, far)) low;
 }
 
 -- WHETHER ANY LINK IS SUCH, of so many

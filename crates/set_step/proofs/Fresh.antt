@@ -18,7 +18,6 @@ use Rattle.set_model.specs.Step.{step, stepped}
 use Rattle.set_model.proofs.Lists.{map_at}
 use Rattle.set_model.proofs.Soundness.{opened_sound, step_sound}
 use Rattle.set_model.proofs.Stepping.{step_is}
-use Rattle.set_step.specs.declared.fault.SetFault.{SetFault}
 use Rattle.set_step.specs.declared.parts.Parts.{Parts}
 use Rattle.set_step.specs.Agreement.{Kept, Agrees, Holds, HoldsFew, Stands, rows_at}
 use Rattle.set_step.specs.Answering.{AnswersFor}
@@ -125,9 +124,8 @@ answers_for old new event answer asked ok s a =
       agrees = record { stands = gives.stands; sound = subst (λ o. IsSound o.state) (step_is s event) (step_sound s event asked a.sound) };
     })
 
-pub holds_after : (old new : Parts) (event : Event) (answer : Answer) (result : Result (Unit {0}) SetFault) → IsAsked event → OnOk result (Answers old new answer (λ s. stepped s event)) → OnErr result (kept_of new ≡ kept_of old) → Holds (kept_of old) → Holds (kept_of new)
-holds_after old new event answer (Ok done) asked ok err h = ((step h.0 event).state, (answers_for old new event answer asked ok h.0 h.1).agrees)
-holds_after old new event answer (Err fault) asked ok err h = (h.0, subst (λ k. Agrees k h.0) (sym err) h.1)
+pub holds_after : (old new : Parts) (event : Event) (answer : Answer) → IsAsked event → Answers old new answer (λ s. stepped s event) → Holds (kept_of old) → Holds (kept_of new)
+holds_after old new event answer asked answers h = ((step h.0 event).state, (answers_for old new event answer asked answers h.0 h.1).agrees)
 
 -- whole numbers of a set are far from the end of their range
 pub counted_of : (parts : Parts) → HoldsFew (2 ^ 48) (kept_of parts) → AreCounted (2 ^ 60) parts.links.items
@@ -136,10 +134,6 @@ counted_of parts h number link there =
     let sent = few.sent in
     let accepted = few.accepted in
     record { acked = omega (arith, sent); accepted = omega (arith, accepted) }
-
-pub on_ok : (old new : Parts) (event : Event) (answer : Answer) (result : Result (Unit {0}) SetFault) → IsAsked event → OnOk result (Answers old new answer (λ s. stepped s event)) → OnOk result ((s : State) → Agrees (kept_of old) s → AnswersFor (step s event) answer (kept_of new))
-on_ok old new event answer (Ok done) asked ok = answers_for old new event answer asked ok
-on_ok old new event answer (Err fault) asked ok = ok
 
 -- what is kept at first: links that stand for new ones, queues with nothing, and nothing else
 pub new_is : (config : SetConfig) (parts : Parts) → parts.config ≡ config → map link_of parts.links.items ≡ replicate config.links (new_link config.method) → parts.queues.lists.links ≡ replicate config.links new_lists → parts.queues.lists.parked ≡ [] → parts.queues.lists.back ≡ replicate 256 nothing → parts.queues.messages ≡ [] → parts.bodies.items ≡ [] → parts.routes ≡ new_routing config.links → parts.inbox.items ≡ [] → kept_of parts ≡ new_kept config

@@ -126,7 +126,7 @@ here_room parts n orders phase h down r =
 pub has_room_left : (n : ℕ) (old new : Parts) → IsReady n 1 old → TakesTurns (back_count n old.queues.lists) old.queues new.queues → new.bodies ≡ old.bodies → target (map link_of new.links.items) ≡ target_beside n old.links.items → HasRoom (fate_on (target (map link_of new.links.items))) new
 has_room_left n old new r turns bodies same = rw same (record {
   message = rw (turns.room) (let m = r.message in omega (arith, m));
-  body = rw bodies (let b = r.body in omega (arith, b));
+  body = rw bodies r.body;
   place = let p = r.place in let taken = turns.rooms (fate_on (target_beside n old.links.items)) in omega (arith, p, taken);
 })
 

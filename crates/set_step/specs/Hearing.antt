@@ -1,5 +1,5 @@
 -- What a heard unit brings, and the space that it may want.
-use Rattle.std.specs.Prelude.{◌≡◌, ℕ, ◌==◌, ◌<◌, ◌≤◌, Bool, if◌then◌else◌, is_some, Option, Some, None, List, length, map}
+use Rattle.std.specs.Prelude.{◌≡◌, ℕ, ◌==◌, ◌<◌, ◌≤◌, if◌then◌else◌, Option, Some, None, List, length, map}
 use Rattle.std.specs.VecDeque.{deque_len, deque_capacity}
 use Rattle.l2_units.specs.declared.unit.Unit.{Unit as SignalUnit}
 use Rattle.l2_units.specs.declared.unit.Unit.TheVariants.{Fisu, Lssu, Msu}
@@ -19,9 +19,6 @@ abbrev pub order_brought : SignalUnit → Option Order
 order_brought (Fisu head) = None
 order_brought (Lssu head status) = None
 order_brought (Msu head body) = order_of body.items
-
-abbrev pub has_order : SignalUnit → Bool
-has_order unit = is_some (order_brought unit)
 
 -- the body that a unit brings for users, if it brings one
 abbrev pub message_brought : SignalUnit → Option (List ℕ)

@@ -1,8 +1,8 @@
 -- ROOM that an event takes before it changes anything.
 use Rattle.std.specs.Prelude.{◌≡◌, ℕ, ◌+◌, ◌*◌, ◌<◌, ◌≤◌, false, List, length, map, Option, slice_set}
-use Rattle.std.specs.Vec.{vec_len, vec_capacity}
 use Rattle.set_events.specs.declared.answer.Fate.{Fate}
 use Rattle.set_queues.specs.Backs.{back_count}
+use Rattle.set_queues.specs.Bodies.{CanHold}
 use Rattle.set_events.specs.declared.answer.Fate.TheVariants.{Waiting, Back}
 use Rattle.set_queues.specs.Buffers.{HaveRoom, queue_at, room_at}
 use Rattle.set_queues.specs.Settling.{on}
@@ -37,13 +37,13 @@ CanTurnBack number parts =
 -- for one new message there
 pub record HasRoom (fate : Fate) (parts : Parts) : Type 0 where
   pub message : 0 < parts.queues.room
-  pub body : vec_len parts.bodies < vec_capacity parts.bodies
+  pub body : CanHold 1 parts.bodies
   pub place : 0 < room_at fate parts.queues.rooms
 
 -- for all that stand on the link where they go once it's out of service, and for so many orders
 pub record IsReady (number orders : ℕ) (parts : Parts) : Type 0 where
   pub message : orders ≤ parts.queues.room
-  pub body : vec_len parts.bodies + orders ≤ vec_capacity parts.bodies
+  pub body : CanHold orders parts.bodies
   pub place : length (on number parts.queues.lists) + orders + 2 * back_count number parts.queues.lists
       ≤ room_at (fate_on (target_beside number parts.links.items)) parts.queues.rooms
   pub each : CanTurnBack number parts

@@ -1,8 +1,8 @@
 //! Changeback: streams come back to a link, and their messages with them (Q.704 6).
-ghost use Rattle.std.specs.Prelude.{◌≡◌, ◌≢◌, ◌+◌, ◌*◌, ◌<◌, ◌≤◌, ℕ, All, true, length, Some, IfOk, IfErr, OnErr, OnOk};
-ghost use Rattle.std.specs.Vec.{vec_len, vec_capacity};
+ghost use Rattle.std.specs.Prelude.{◌≡◌, ◌≢◌, ◌+◌, ◌*◌, ◌<◌, ◌≤◌, ℕ, true, length, Some, OnErr, OnOk};
 ghost use Rattle.set_queues.specs.Buffers.{TakesRoom, room_at};
 ghost use Rattle.set_queues.specs.Backs.{back_count};
+ghost use Rattle.set_queues.specs.Bodies.{CanHold};
 ghost use Rattle.set_route.specs.Routing.{code_of, home_of, is_free, can_ask};
 ghost use Rattle.set_model.specs.Changeover.{released, released_from, acknowledged_back, can_declare, declared, declared_if, declared_from, some_declare, some_in_use};
 ghost use Rattle.set_model.specs.State.{State, link_count};
@@ -12,9 +12,7 @@ ghost use Rattle.set_step.specs.Declaring.{HasRoomFrom};
 ghost use Rattle.set_step.specs.Parts.{Answers, Becomes, IsWhole, Obeys, kept_of};
 ghost use Rattle.set_step.specs.Room.{HasRoom, SameButRoom, back_at, home_room};
 
-use super::changeover::{body_of, order_space};
-use super::fault::SetFault;
-use super::link::Link;
+use super::changeover::body_of;
 use super::parts::{Parts, phase_of, stand_last};
 use super::sending::out_of_service;
 use l3_orders::Order;
@@ -28,12 +26,11 @@ const MOST_LINKS: usize = 16;
 
 /// Streams whose home this link is are to come back to it: a declaration on every other link that is up,
 /// the lowest-numbered first, where streams of this home run and its code is free.
-pub(crate) fn restore(parts: &mut Parts, number: u8, answer: &mut Answer) -> Result<(), SetFault>
+pub(crate) fn restore(parts: &mut Parts, number: u8, answer: &mut Answer) -> Result<(), AllocError>
     requires holds { Holds (kept_of parts.old) }
     ensures ok { OnOk result (Answers parts.old parts.new answer.new
         (λ s. in_service number s (λ link. comes_back number s))) }
     ensures err { OnErr result (kept_of parts.new ≡ kept_of parts.old) }
-    ensures fault { IfErr result (λ fault. fault ≡ SetFault.NoMemory) }
 {
     if let Some(why) = out_of_service(&parts.links, number) {
         *answer = Answer::Refused { why };
@@ -45,21 +42,19 @@ pub(crate) fn restore(parts: &mut Parts, number: u8, answer: &mut Answer) -> Res
         };
         return Ok(());
     }
-    let spaces = order_spaces(&parts.links)?;
     make_room_declared(parts)?;
-    declare_all(parts, number, spaces);
+    declare_all(parts, number);
     *answer = Answer::Done;
     Ok(())
 }
 
 /// No acknowledgement came: what stands back for this link waits for it, code by code, and all its codes
 /// are free (own).
-pub(crate) fn time_out(parts: &mut Parts, number: u8, answer: &mut Answer) -> Result<(), SetFault>
+pub(crate) fn time_out(parts: &mut Parts, number: u8, answer: &mut Answer) -> Result<(), AllocError>
     requires holds { Holds (kept_of parts.old) }
     ensures ok { OnOk result (Answers parts.old parts.new answer.new
         (λ s. on_link number s (λ link. runs_out number s))) }
     ensures err { OnErr result (kept_of parts.new ≡ kept_of parts.old) }
-    ensures fault { IfErr result (λ fault. fault ≡ SetFault.NoMemory) }
 {
     if usize::from(number) >= parts.links.len() {
         *answer = Answer::Refused {
@@ -110,19 +105,6 @@ fn may_declare(parts: &Parts, home: u8, alternative: u8) -> bool
         && parts.routes.can_ask(home, alternative)
 }
 
-/// Space for as many orders as a set has links at most.
-fn order_spaces(links: &Vec<Link>) -> Result<Vec<Vec<u8>>, AllocError>
-    ensures spaces { IfOk result
-        (λ spaces. All (λ space. (vec_len space ≡ 0) × (7 ≤ vec_capacity space)) spaces.items) }
-    ensures count { IfOk result (λ spaces. length spaces.items ≡ 16) }
-{
-    let mut spaces = Vec::new(*links.allocator());
-    for _number in 0..MOST_LINKS {
-        spaces.push(order_space(links)?)?;
-    }
-    Ok(spaces)
-}
-
 /// Takes room for a declaration on each link. Nothing else changes, also where memory is refused.
 fn make_room_declared(parts: &mut Parts) -> Result<(), AllocError>
     requires whole { IsWhole parts.old }
@@ -135,62 +117,48 @@ fn make_room_declared(parts: &mut Parts) -> Result<(), AllocError>
 }
 
 /// A declaration goes out on each link from which streams of this home can come back, the lowest-numbered
-/// first. `spaces` hold them.
-fn declare_all(parts: &mut Parts, home: u8, spaces: Vec<Vec<u8>>)
+/// first.
+fn declare_all(parts: &mut Parts, home: u8)
     requires whole { IsWhole parts.old }
     requires home { home < length parts.old.links.items }
     requires room { HasRoomFrom 0 parts.old }
-    requires spaces { All (λ space. (vec_len space ≡ 0) × (7 ≤ vec_capacity space)) spaces.items }
-    requires count { length spaces.items ≡ 16 }
     ensures stands { Becomes parts.old parts.new
         (declared_from home 0 (length parts.old.links.items)) }
 {
-    let mut spaces = spaces;
     for alternative in 0..parts.links.len() as u8 {
-        declare_if_due(parts, home, alternative, &mut spaces);
+        declare_if_due(parts, home, alternative);
     }
 }
 
-/// A declaration goes out on that link, if streams of this home can come back from it. One of `spaces` holds it.
-fn declare_if_due(parts: &mut Parts, home: u8, alternative: u8, spaces: &mut Vec<Vec<u8>>)
+/// A declaration goes out on that link, if streams of this home can come back from it.
+fn declare_if_due(parts: &mut Parts, home: u8, alternative: u8)
     requires whole { IsWhole parts.old }
     requires home { home < length parts.old.links.items }
     requires alternative { alternative < length parts.old.links.items }
     requires room { HasRoomFrom alternative parts.old }
-    requires spaces { All
-        (λ space. (vec_len space ≡ 0) × (7 ≤ vec_capacity space)) spaces.old.items }
-    requires count { 16 ≤ alternative + length spaces.old.items }
     ensures stands { Becomes parts.old parts.new (declared_if home alternative) }
     ensures room { HasRoomFrom (alternative + 1) parts.new }
-    ensures spaces { All
-        (λ space. (vec_len space ≡ 0) × (7 ≤ vec_capacity space)) spaces.new.items }
-    ensures count { 16 ≤ alternative + 1 + length spaces.new.items }
     ensures links { parts.new.links ≡ parts.old.links }
     ensures whole { IsWhole parts.new }
 {
-    if !may_declare(parts, home, alternative) {
-        return;
-    }
-    match spaces.pop() {
-        Some(space) => declare(parts, home, alternative, space),
-        None => unreachable!(),
+    if may_declare(parts, home, alternative) {
+        declare(parts, home, alternative);
     }
 }
 
-/// A declaration goes out on that link: its streams of this home are on their way back. `space` holds it.
-fn declare(parts: &mut Parts, home: u8, alternative: u8, space: Vec<u8>)
+/// A declaration goes out on that link: its streams of this home are on their way back.
+fn declare(parts: &mut Parts, home: u8, alternative: u8)
     requires whole { IsWhole parts.old }
     requires home { home < length parts.old.links.items }
     requires alternative { alternative < length parts.old.links.items }
     requires asks { can_ask home alternative parts.old.routes ≡ true }
-    requires space { (vec_len space ≡ 0) × (7 ≤ vec_capacity space) }
     requires room { HasRoom (Fate.Waiting alternative) parts.old }
     ensures stands { Becomes parts.old parts.new (declared home alternative) }
     ensures rooms { TakesRoom (Fate.Waiting alternative) 1 parts.old.queues.rooms
         parts.new.queues.rooms }
     ensures message { parts.old.queues.room ≤ parts.new.queues.room + 1 }
-    ensures body { vec_len parts.new.bodies ≡ vec_len parts.old.bodies + 1 }
-    ensures bodies { vec_capacity parts.new.bodies ≡ vec_capacity parts.old.bodies }
+    ensures body { (more : ℕ) → CanHold (more + 1) parts.old.bodies
+        → CanHold more parts.new.bodies }
     ensures links { parts.new.links ≡ parts.old.links }
     ensures whole { IsWhole parts.new }
 {
@@ -198,9 +166,8 @@ fn declare(parts: &mut Parts, home: u8, alternative: u8, space: Vec<u8>)
         link: home,
         code: changeback_code(home, alternative),
     };
-    let config = parts.config;
-    let body = body_of(&declaration, config.sio, config.dpc, config.opc, space);
-    stand_last(parts, body, Fate::Waiting { link: alternative });
+    let body = body_of(&declaration, &parts.config);
+    stand_last(parts, body.as_slice(), Fate::Waiting { link: alternative });
     parts.routes.ask(home, alternative);
 }
 

@@ -1,7 +1,6 @@
 //! Changeover: a link is left, orders tell the far end, and the link settles (Q.704 5). Orders of changeback are
 //! carried out here too (Q.704 6).
-ghost use Rattle.std.specs.Prelude.{◌≡◌, ◌<◌, ◌≤◌, ◌^◌, ◌%◌, ℕ, false, length, slice_get, slice_set, Some, IfOk};
-ghost use Rattle.std.specs.Vec.{vec_len, vec_capacity};
+ghost use Rattle.std.specs.Prelude.{◌≡◌, ◌<◌, ◌≤◌, ◌^◌, ◌%◌, ℕ, false, length, slice_get, slice_set, Some};
 ghost use Rattle.l3_orders.specs.Grammar.{IsOrder, text};
 ghost use Rattle.set_queues.specs.Backs.{back_count};
 ghost use Rattle.set_queues.specs.Buffers.{TakesRoom};
@@ -20,28 +19,16 @@ use super::link::Link;
 use super::parts::{Parts, fate_of, phase_of, stand_last, target_of};
 use super::settling::settle;
 use super::turning::turn_back;
+use arrayvec::ArrayVec;
+use l2_units::LONGEST_BODY;
 use l3_orders::{Order, write_order};
-use set_events::{Body, Took};
+use set_events::{SetConfig, Took};
 use set_model::{Phase, Reached};
-use std::alloc::AllocError;
 
-/// The longest order has so many octets.
-const LONGEST_ORDER: usize = 7;
-
-/// Space for an order, with the allocator of this list.
-pub(crate) fn order_space(links: &Vec<Link>) -> Result<Vec<u8>, AllocError>
-    ensures { IfOk result (λ space. (vec_len space ≡ 0) × (7 ≤ vec_capacity space)) }
-{
-    let mut space = Vec::new(*links.allocator());
-    space.reserve(LONGEST_ORDER)?;
-    Ok(space)
-}
-
-/// An order stands last, for the target. `space` holds it.
-pub(crate) fn queue(parts: &mut Parts, order: Order, space: Vec<u8>)
+/// An order stands last, for the target.
+pub(crate) fn queue(parts: &mut Parts, order: Order)
     requires whole { IsWhole parts.old }
     requires order { IsOrder order }
-    requires space { (vec_len space ≡ 0) × (7 ≤ vec_capacity space) }
     requires room { HasRoom (order_fate parts.old) parts.old }
     ensures stands { Becomes parts.old parts.new (queued order) }
     ensures rooms { TakesRoom (order_fate parts.old) 1 parts.old.queues.rooms
@@ -53,26 +40,17 @@ pub(crate) fn queue(parts: &mut Parts, order: Order, space: Vec<u8>)
     ensures whole { IsWhole parts.new }
 {
     let fate = fate_of(target_of(&parts.links));
-    let config = parts.config;
-    let body = body_of(&order, config.sio, config.dpc, config.opc, space);
-    stand_last(parts, body, fate);
+    let body = body_of(&order, &parts.config);
+    stand_last(parts, body.as_slice(), fate);
 }
 
-/// The octets of an order, in this space.
-pub(crate) fn body_of(order: &Order, sio: u8, dpc: u16, opc: u16, space: Vec<u8>) -> Body
-    requires order { IsOrder order.now }
-    requires management { sio % 16 ≡ 0 }
-    requires dpc { dpc < 2 ^ 14 }
-    requires opc { opc < 2 ^ 14 }
-    requires space { (vec_len space ≡ 0) × (7 ≤ vec_capacity space) }
-    ensures text { result ≡ text order.now sio dpc opc }
-    ensures fits { length result ≤ 273 }
+/// The octets of an order.
+pub(crate) fn body_of(order: &Order, config: &SetConfig) -> ArrayVec<u8, LONGEST_BODY>
+    requires { IsOrder order.now }
+    ensures text { result.items ≡ text order.now config.now.sio config.now.dpc config.now.opc }
+    ensures fits { length result.items ≤ 273 }
 {
-    let mut space = space;
-    for octet in write_order(order, sio, dpc, opc).as_slice() {
-        space.push_reserved(*octet);
-    }
-    Body::from_vec(space)
+    write_order(order, config.sio, config.dpc, config.opc)
 }
 
 /// The link is left: out of service, its messages stay on it until it settles (Q.704 5.3). What stood back for it
@@ -111,23 +89,22 @@ fn take_out(parts: &mut Parts, number: u8, blind: bool)
     parts.routes.divert(number);
 }
 
-/// An order is carried out (Q.704 5.4, 5.6). `space` holds the order that answers it.
-pub(crate) fn obey(parts: &mut Parts, order: Order, space: Vec<u8>) -> Took
+/// An order is carried out (Q.704 5.4, 5.6).
+pub(crate) fn obey(parts: &mut Parts, order: Order) -> Took
     requires holds { Holds (kept_of parts.old) }
     requires counted { AreCounted (2 ^ 61) parts.old.links.items }
     requires order { IsOrder order }
-    requires space { (vec_len space ≡ 0) × (7 ≤ vec_capacity space) }
     requires room { IsSpaciousFor order parts.old }
     ensures stands { (s : State) → Agrees (kept_of parts.old) s
         → Obeys (order_obeyed order s) result parts.new }
 {
     match order {
-        Order::Coo { link, number } => change_over(parts, link, Reached::Upto { number }, space),
-        Order::Eco { link } => change_over(parts, link, Reached::Unknown, space),
+        Order::Coo { link, number } => change_over(parts, link, Reached::Upto { number }),
+        Order::Eco { link } => change_over(parts, link, Reached::Unknown),
         Order::Coa { link, number } => answer(parts, link, Reached::Upto { number }),
         Order::Eca { link } => answer(parts, link, Reached::Unknown),
         Order::Cbd { link, code } => {
-            queue(parts, Order::Cba { link, code }, space);
+            queue(parts, Order::Cba { link, code });
             Took::Order
         }
         Order::Cba { code, .. } => acknowledge_back(parts, code),
@@ -136,12 +113,11 @@ pub(crate) fn obey(parts: &mut Parts, order: Order, space: Vec<u8>) -> Took
 
 /// A changeover order: a link that is up is left and answered for; a link that was left settles, with
 /// no answer (own); for one that settled already the answer of its last life goes out again (own).
-fn change_over(parts: &mut Parts, number: u8, reached: Reached, space: Vec<u8>) -> Took
+fn change_over(parts: &mut Parts, number: u8, reached: Reached) -> Took
     requires holds { Holds (kept_of parts.old) }
     requires counted { AreCounted (2 ^ 61) parts.old.links.items }
     requires reached { IsReach reached }
     requires number { number < 16 }
-    requires space { (vec_len space ≡ 0) × (7 ≤ vec_capacity space) }
     requires room { number < length parts.old.links.items → IsReady number 1 parts.old }
     ensures stands { (s : State) → Agrees (kept_of parts.old) s
         → Obeys (at_link number s
@@ -150,22 +126,21 @@ fn change_over(parts: &mut Parts, number: u8, reached: Reached, space: Vec<u8>) 
 {
     match phase_of(&parts.links, number) {
         None => return Took::Ignored,
-        Some(Phase::Up) => answer_and_settle(parts, number, reached, space),
+        Some(Phase::Up) => answer_and_settle(parts, number, reached),
         Some(Phase::Down) => settle(parts, number, reached),
-        Some(Phase::Settled) => reply_again(parts, number, space),
+        Some(Phase::Settled) => reply_again(parts, number),
     }
     Took::Order
 }
 
 /// A link that is up is left; the far end's order is acknowledged, and the link settles.
-fn answer_and_settle(parts: &mut Parts, number: u8, reached: Reached, space: Vec<u8>)
+fn answer_and_settle(parts: &mut Parts, number: u8, reached: Reached)
     requires holds { Holds (kept_of parts.old) }
     requires counted { AreCounted (2 ^ 61) parts.old.links.items }
     requires reached { IsReach reached }
     requires number { number < 16 }
     requires known { number < length parts.old.links.items }
     requires up { AtLink number parts.old.links.items (λ link. link.phase ≡ Up) }
-    requires space { (vec_len space ≡ 0) × (7 ≤ vec_capacity space) }
     requires room { IsReady number 1 parts.old }
     ensures stands { (s : State) (link : LinkState) → slice_get s.links number ≡ Some link
         → link.phase ≡ Up
@@ -178,24 +153,23 @@ fn answer_and_settle(parts: &mut Parts, number: u8, reached: Reached, space: Vec
         number: parts.links[usize::from(number)].last_accepted(),
     };
     leave(parts, number, false);
-    queue(parts, order, space);
+    queue(parts, order);
     settle(parts, number, reached);
 }
 
 /// A link that settled is answered for again, as its last life would have been (own).
-fn reply_again(parts: &mut Parts, number: u8, space: Vec<u8>)
+fn reply_again(parts: &mut Parts, number: u8)
     requires whole { IsWhole parts.old }
     requires counted { AreCounted (2 ^ 61) parts.old.links.items }
     requires number { number < 16 }
     requires known { number < length parts.old.links.items }
     requires out { AtLink number parts.old.links.items IsOut }
-    requires space { (vec_len space ≡ 0) × (7 ≤ vec_capacity space) }
     requires room { IsReady number 1 parts.old }
     ensures stands { BecomesAt number parts.old parts.new
         (λ link s. queued (reply_of number link) s) }
 {
     let order = reply(&parts.links[usize::from(number)], number);
-    queue(parts, order, space);
+    queue(parts, order);
 }
 
 /// The answer of a link that settled, as its last life would have given it (own).

@@ -9,7 +9,7 @@ use super::parts::Parts;
 use super::step::{carry_out, is_asked};
 use set_events::{Answer, Counts, Event, Fate, SetConfig};
 use set_model::{Numbered, Phase};
-use set_queues::Queues;
+use set_queues::{Bodies, Queues};
 use set_route::Routes;
 use std::alloc::{AllocError, Global};
 use std::collections::VecDeque;
@@ -62,7 +62,7 @@ impl Core {
                 config: *config,
                 links,
                 queues,
-                bodies: Vec::new(alloc),
+                bodies: Bodies::new(alloc),
                 routes: Routes::new(config.links),
                 inbox: VecDeque::new(alloc),
             },
@@ -83,7 +83,7 @@ impl Core {
         ensures none { wants_none event.now ≡ true → IsOk result }
     {
         is_asked(event);
-        carry_out(&mut self.parts, event, answer)
+        Ok(carry_out(&mut self.parts, event, answer)?)
     }
 
     /// A law: there is a state that it agrees with.

@@ -1,6 +1,5 @@
 //! What a heard unit does to a set.
-ghost use Rattle.std.specs.Prelude.{◌≡◌, ◌<◌, ◌≤◌, ◌^◌, true, false, is_some, length, Some, IsOk, IfOk, IfSome, IfErr, OnErr, OnOk};
-ghost use Rattle.std.specs.Vec.{vec_len, vec_capacity};
+ghost use Rattle.std.specs.Prelude.{◌≡◌, ◌<◌, ◌≤◌, ◌^◌, false, length, Some, IsOk, IfOk, IfSome, OnErr, OnOk};
 ghost use Rattle.l2_units.specs.Grammar.{head_of as header_of};
 ghost use Rattle.l3_orders.specs.Grammar.{IsOrder};
 ghost use Rattle.set_route.specs.Routing.{home_of};
@@ -9,12 +8,11 @@ ghost use Rattle.set_model.specs.Rows.{service_indicator};
 ghost use Rattle.set_model.specs.State.{State, window_of};
 ghost use Rattle.set_model.specs.Step.{in_service, heard, is_msu, brought, takes, after_control, report_of};
 ghost use Rattle.set_step.specs.Agreement.{Agrees, Holds};
-ghost use Rattle.set_step.specs.Hearing.{HasPlace, IsSpacious, IsSpaciousFor, KeepsSpace, order_brought, has_order, message_brought};
+ghost use Rattle.set_step.specs.Hearing.{HasPlace, IsSpacious, IsSpaciousFor, KeepsSpace, order_brought, message_brought};
 ghost use Rattle.set_step.specs.Parts.{Answers, AreCounted, IsWhole, OfStates, BecomesAt, Obeys, kept_of};
 ghost use Rattle.set_step.specs.Room.{IsReady, SameButRoom, back_at, home_room};
 
-use super::changeover::{obey, order_space};
-use super::fault::SetFault;
+use super::changeover::obey;
 use super::inbox::HeardBody;
 use super::parts::{Parts, fate_of, make_room, make_room_beside, target_of};
 use super::sending::out_of_service;
@@ -34,13 +32,12 @@ pub(crate) fn hear(
     number: u8,
     unit: &Unit,
     answer: &mut Answer,
-) -> Result<(), SetFault>
+) -> Result<(), AllocError>
     requires holds { Holds (kept_of parts.old) }
     requires counted { AreCounted (2 ^ 60) parts.old.links.items }
     ensures ok { OnOk result (Answers parts.old parts.new answer.new (λ s. in_service number s
         (heard unit.now number s))) }
     ensures err { OnErr result (kept_of parts.new ≡ kept_of parts.old) }
-    ensures fault { IfErr result (λ fault. fault ≡ SetFault.NoMemory) }
     ensures none { is_msu unit.now ≡ false → IsOk result }
 {
     if let Some(why) = out_of_service(&parts.links, number) {
@@ -54,51 +51,44 @@ pub(crate) fn hear(
         return Ok(());
     }
     let order = order_in(unit);
-    let space = make_space(parts, unit, order)?;
+    let message = make_space(parts, unit, order)?;
     let part = control_hears(parts, number, unit);
-    let took = take_in(parts, part.accept, unit, order, space);
+    let took = take_in(parts, part.accept, unit, order, message);
     *answer = Answer::Heard {
         report: report_on(part, took),
     };
     Ok(())
 }
 
-/// The memory that a heard body may want.
-#[derive(Drop)]
-struct Space {
-    /// The body itself, if it's a message for users.
-    message: Option<HeardBody>,
-    /// For the order that answers it, if it's one.
-    answer: Vec<u8>,
-}
-
-/// Takes the memory that the unit's body may want: for a message in the inbox, or for an order that answers it
-/// and for the messages that it may move. A fill-in unit wants none.
-fn make_space(parts: &mut Parts, unit: &Unit, order: Option<Order>) -> Result<Space, SetFault>
+/// Takes the memory that the unit's body may want: for a message in the inbox, which is the result, or for an order
+/// that answers it and for the messages that it may move. A fill-in unit wants none.
+fn make_space(
+    parts: &mut Parts,
+    unit: &Unit,
+    order: Option<Order>,
+) -> Result<Option<HeardBody>, AllocError>
     requires whole { IsWhole parts.old }
     requires order { order ≡ order_brought unit.now }
-    ensures message { IfOk result (λ space. space.message ≡ message_brought unit.now) }
-    ensures answer { IfOk result (λ space. has_order unit.now ≡ true → (vec_len space.answer ≡ 0)
-        × (7 ≤ vec_capacity space.answer)) }
+    ensures message { IfOk result (λ message. message ≡ message_brought unit.now) }
     ensures inbox { OnOk result (HasPlace (message_brought unit.now) parts.new) }
     ensures room { OnOk result (IsSpacious (order_brought unit.now) parts.new) }
     ensures same { kept_of parts.new ≡ kept_of parts.old }
     ensures links { parts.new.links ≡ parts.old.links }
-    ensures fault { IfErr result (λ fault. fault ≡ SetFault.NoMemory) }
     ensures none { is_msu unit.now ≡ false → IsOk result }
 {
     let message = make_message_space(parts, unit)?;
-    let answer = make_order_space(parts, order)?;
-    Ok(Space { message, answer })
+    if let Some(order) = order {
+        make_room_for(parts, &order)?;
+    }
+    Ok(message)
 }
 
 /// Takes a place in the inbox for the message that the unit brings users, if it brings one, and memory for its body.
-fn make_message_space(parts: &mut Parts, unit: &Unit) -> Result<Option<HeardBody>, SetFault>
+fn make_message_space(parts: &mut Parts, unit: &Unit) -> Result<Option<HeardBody>, AllocError>
     ensures message { IfOk result (λ message. message ≡ message_brought unit.now) }
     ensures inbox { OnOk result (HasPlace (message_brought unit.now) parts.new) }
     ensures same { kept_of parts.new ≡ kept_of parts.old }
     ensures parts { parts.new ≡ record parts.old { inbox = parts.new.inbox } }
-    ensures fault { IfErr result (λ fault. fault ≡ SetFault.NoMemory) }
     ensures none { is_msu unit.now ≡ false → IsOk result }
 {
     let Unit::Msu { body, .. } = unit else {
@@ -110,24 +100,6 @@ fn make_message_space(parts: &mut Parts, unit: &Unit) -> Result<Option<HeardBody
     parts.inbox.reserve(1)?;
     let message = HeardBody::new(*parts.links.allocator(), body)?;
     Ok(Some(message))
-}
-
-/// Takes the memory that the order may want, if there is one: for its answer, and for the messages that it moves.
-fn make_order_space(parts: &mut Parts, order: Option<Order>) -> Result<Vec<u8>, SetFault>
-    requires whole { IsWhole parts.old }
-    ensures space { IfOk result
-        (λ space. is_some order ≡ true → (vec_len space ≡ 0) × (7 ≤ vec_capacity space)) }
-    ensures room { OnOk result (IsSpacious order parts.new) }
-    ensures same { SameButRoom parts.old parts.new }
-    ensures fault { IfErr result (λ fault. fault ≡ SetFault.NoMemory) }
-    ensures none { is_some order ≡ false → IsOk result }
-{
-    let Some(order) = order else {
-        return Ok(Vec::new(*parts.links.allocator()));
-    };
-    let space = order_space(&parts.links)?;
-    make_room_for(parts, &order)?;
-    Ok(space)
 }
 
 /// Takes room for what an order moves, and for the one that answers it. Nothing else changes, also where
@@ -227,15 +199,19 @@ fn has_message(unit: &Unit) -> bool
 }
 
 /// Where the unit's body goes, if it's accepted: to the users' inbox, or if it's the management's, to
-/// the rules of changeover. `order` is what it stands for there, and `space` has the memory that it wants.
-fn take_in(parts: &mut Parts, accept: bool, unit: &Unit, order: Option<Order>, space: Space) -> Took
+/// the rules of changeover. `message` is the body that the inbox keeps, and `order` is what it stands for in the rules.
+fn take_in(
+    parts: &mut Parts,
+    accept: bool,
+    unit: &Unit,
+    order: Option<Order>,
+    message: Option<HeardBody>,
+) -> Took
     requires order { order ≡ order_brought unit.now }
     requires fits { IfSome order IsOrder }
     requires holds { Holds (kept_of parts.old) }
     requires counted { AreCounted (2 ^ 61) parts.old.links.items }
-    requires message { space.message ≡ message_brought unit.now }
-    requires answer { has_order unit.now ≡ true → (vec_len space.answer ≡ 0)
-        × (7 ≤ vec_capacity space.answer) }
+    requires message { message ≡ message_brought unit.now }
     requires inbox { HasPlace (message_brought unit.now) parts.old }
     requires room { IsSpacious (order_brought unit.now) parts.old }
     ensures { (s : State) → Agrees (kept_of parts.old) s
@@ -247,13 +223,12 @@ fn take_in(parts: &mut Parts, accept: bool, unit: &Unit, order: Option<Order>, s
     if !has_message(unit) {
         return Took::Nothing;
     }
-    let Space { message, answer } = space;
     if let Some(message) = message {
         parts.inbox.push_back_reserved(message);
         return Took::Message;
     }
     match order {
-        Some(order) => obey(parts, order, answer),
+        Some(order) => obey(parts, order),
         None => Took::Ignored,
     }
 }

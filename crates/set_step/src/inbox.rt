@@ -1,6 +1,7 @@
 //! The messages heard for users.
 ghost use Rattle.std.specs.Prelude.{◌≡◌, IfOk};
 
+use super::sending::copy_of;
 use arrayvec::ArrayVec;
 use l2_units::LONGEST_BODY;
 use std::alloc::{AllocError, Global};
@@ -43,10 +44,6 @@ impl HeardBody {
     pub(crate) fn body(&self) -> ArrayVec<u8, LONGEST_BODY>
         ensures { result.items ≡ self.now }
     {
-        let mut body = ArrayVec::new();
-        match body.try_extend_from_slice(&self.octets) {
-            Ok(()) => body,
-            Err(_) => unreachable!(),
-        }
+        copy_of(&self.octets)
     }
 }

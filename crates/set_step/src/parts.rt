@@ -1,8 +1,8 @@
 //! What a set keeps, and what is common to all events: the target, room, and a new message.
-ghost use Rattle.std.specs.Prelude.{◌≡◌, ◌+◌, ◌*◌, ◌<◌, ◌≤◌, ◌++◌, [], ◌∷◌, map, length, IfSome, OnOk, slice_get, true, false};
+ghost use Rattle.std.specs.Prelude.{◌≡◌, ◌+◌, ◌*◌, ◌<◌, ◌≤◌, ◌++◌, ℕ, [], ◌∷◌, map, length, IfSome, OnOk, slice_get, true, false};
 ghost use Rattle.std.specs.Option.{option_map};
-ghost use Rattle.std.specs.Vec.{vec_len, vec_capacity};
 ghost use Rattle.set_queues.specs.Buffers.{IsKnown, IsQueued, TakesRoom, queue_at, room_at, with_queue};
+ghost use Rattle.set_queues.specs.Bodies.{CanHold};
 ghost use Rattle.set_queues.specs.Kind.{is_kind};
 ghost use Rattle.set_model.specs.Rows.{appended, stream_of};
 ghost use Rattle.set_route.specs.Routing.{place_of};
@@ -15,9 +15,9 @@ ghost use Rattle.set_step.specs.Room.{HasRoom, IsReady, SameButRoom, target_besi
 use super::inbox::Inbox;
 use super::link::Link;
 use arrayvec::ArrayVec;
-use set_events::{Body, Fate, SetConfig};
+use set_events::{Fate, SetConfig};
 use set_model::Phase;
-use set_queues::{Kind, Message, Queues};
+use set_queues::{Bodies, Kind, Message, Queues};
 use set_route::{Place, Routes};
 use std::alloc::AllocError;
 
@@ -31,7 +31,7 @@ pub struct Parts {
     /// Where its messages stand.
     pub(crate) queues: Queues,
     /// The bodies of its messages, by their numbers.
-    pub(crate) bodies: Vec<Body>,
+    pub(crate) bodies: Bodies,
     /// Where its streams run.
     pub(crate) routes: Routes,
     /// The messages heard for users.
@@ -151,18 +151,18 @@ pub(crate) fn make_room_parked(parts: &mut Parts, number: u8) -> Result<(), Allo
 }
 
 /// A new message stands last where its fate tells: its number.
-pub(crate) fn stand_last(parts: &mut Parts, body: Body, fate: Fate) -> u64
-    requires fits { length body ≤ 273 }
+pub(crate) fn stand_last(parts: &mut Parts, body: &[u8], fate: Fate) -> u64
+    requires fits { length body.now ≤ 273 }
     requires known { IsKnown fate parts.old.queues.lists }
     requires queued { IsQueued fate }
     requires room { HasRoom fate parts.old }
     ensures number { result ≡ length parts.old.queues.messages }
     ensures stands { Becomes parts.old parts.new
-        (λ s. record s { rows = appended s.rows body fate }) }
+        (λ s. record s { rows = appended s.rows body.now fate }) }
     ensures rooms { TakesRoom fate 1 parts.old.queues.rooms parts.new.queues.rooms }
     ensures message { parts.old.queues.room ≤ parts.new.queues.room + 1 }
-    ensures body { vec_len parts.new.bodies ≡ vec_len parts.old.bodies + 1 }
-    ensures bodies { vec_capacity parts.new.bodies ≡ vec_capacity parts.old.bodies }
+    ensures body { (more : ℕ) → CanHold (more + 1) parts.old.bodies
+        → CanHold more parts.new.bodies }
     ensures lists { parts.new.queues.lists ≡ with_queue fate (queue_at fate parts.old.queues.lists
         ++ length parts.old.queues.messages ∷ []) parts.old.queues.lists }
     ensures links { parts.new.links ≡ parts.old.links }
@@ -170,19 +170,19 @@ pub(crate) fn stand_last(parts: &mut Parts, body: Body, fate: Fate) -> u64
 {
     let message = Message {
         fate,
-        kind: kind_of_body(&body),
+        kind: kind_of_body(body),
         octets: body.len() as u16,
     };
-    parts.bodies.push_reserved(body);
+    parts.bodies.add(body);
     parts.queues.add(message)
 }
 
 /// Whose a body is.
-fn kind_of_body(body: &Body) -> Kind
+fn kind_of_body(body: &[u8]) -> Kind
     ensures value { result ≡ kind_of body.now }
     ensures known { is_kind result ≡ true }
 {
-    match body.octets().first() {
+    match body.first() {
         Some(sio) if *sio % 16 != 0 => Kind::User {
             stream: stream_of_body(body),
         },
@@ -191,11 +191,11 @@ fn kind_of_body(body: &Body) -> Kind
 }
 
 /// The stream of a body: the high four bits of its fifth octet, 0 where there is none.
-pub(crate) fn stream_of_body(body: &Body) -> u8
+pub(crate) fn stream_of_body(body: &[u8]) -> u8
     ensures value { result ≡ stream_of body.now }
     ensures few { result < 16 }
 {
-    match body.octets().get(4) {
+    match body.get(4) {
         Some(octet) => *octet / 16,
         None => 0,
     }

@@ -16,7 +16,7 @@ use super::parts::Parts;
 use arrayvec::ArrayVec;
 use l2_units::{Header, LONGEST_BODY, Unit};
 use l2_window::Choice;
-use set_events::{Answer, Body, Fate, Refusal};
+use set_events::{Answer, Fate, Refusal};
 use set_model::Phase;
 
 /// Why an event of this link that needs it in service is refused, if it is.
@@ -111,7 +111,7 @@ fn body_at(parts: &Parts, fate: Fate, place: usize) -> ArrayVec<u8, LONGEST_BODY
         → slice_get (rows_at fate s.rows) place ≡ Some row → result.items ≡ row.body }
 {
     match parts.queues.number_at(fate, place) {
-        Some(message) => copy_of(&parts.bodies[message as usize]),
+        Some(message) => copy_of(parts.bodies.body(message)),
         None => unreachable!(),
     }
 }
@@ -133,12 +133,12 @@ fn send_first(parts: &mut Parts, number: u8)
 }
 
 /// A unit's body of these octets.
-fn copy_of(body: &Body) -> ArrayVec<u8, LONGEST_BODY>
+pub(crate) fn copy_of(body: &[u8]) -> ArrayVec<u8, LONGEST_BODY>
     requires { length body.now ≤ 273 }
     ensures { result.items ≡ body.now }
 {
     let mut copy = ArrayVec::new();
-    match copy.try_extend_from_slice(body.octets()) {
+    match copy.try_extend_from_slice(body) {
         Ok(()) => copy,
         Err(_) => unreachable!(),
     }

@@ -1,6 +1,5 @@
 //! What an event does to a set. Each function is a case of the set's step.
-ghost use Rattle.std.specs.Prelude.{◌≡◌, ◌<◌, ◌≤◌, ◌^◌, length, slice_get, Some, true, IsOk, IfErr, OnOk, OnErr};
-ghost use Rattle.std.specs.Vec.{vec_len, vec_capacity};
+ghost use Rattle.std.specs.Prelude.{◌≡◌, ◌<◌, ◌≤◌, ◌^◌, length, slice_get, Some, true, IsOk, OnOk, OnErr};
 ghost use Rattle.l3_orders.specs.Grammar.{IsOrder};
 ghost use Rattle.set_queues.specs.Buffers.{IsKnown, IsQueued, room_at};
 ghost use Rattle.set_queues.specs.Messages.{unsent_of};
@@ -17,12 +16,12 @@ ghost use Rattle.set_step.specs.Refusing.{refusal_by, rising_refusal, waiting_re
 ghost use Rattle.set_step.specs.Room.{HasRoom, IsReady};
 
 use super::changeback::{restore, time_out};
-use super::changeover::{leave, order_space, queue};
-use super::fault::SetFault;
+use super::changeover::{leave, queue};
 use super::hearing::hear;
 use super::link::Link;
 use super::parts::{
-    Parts, fate_of_new, make_room, make_room_beside, make_room_parked, stand_last, stream_of_body,
+    Parts, fate_of_new, make_room, make_room_beside, make_room_parked, phase_of, stand_last,
+    stream_of_body,
 };
 use super::sending::{out_of_service, send_next};
 use super::settling::settle;
@@ -31,6 +30,7 @@ use l3_orders::Order;
 use set_events::{Answer, Body, Event, Fate, Refusal};
 use set_model::{Phase, Reached};
 use set_queues::Queues;
+use std::alloc::AllocError;
 
 /// What is answered to an event is put into `answer`: an answer has room for a unit, and one that is handed on by value is
 /// copied each time. On a fault nothing of the parts has changed.
@@ -38,13 +38,12 @@ pub(crate) fn carry_out(
     parts: &mut Parts,
     event: &Event,
     answer: &mut Answer,
-) -> Result<(), SetFault>
+) -> Result<(), AllocError>
     requires holds { Holds (kept_of parts.old) }
     requires counted { AreCounted (2 ^ 60) parts.old.links.items }
     ensures ok { OnOk result
         (Answers parts.old parts.new answer.new (λ s. stepped s event.now)) }
     ensures err { OnErr result (kept_of parts.new ≡ kept_of parts.old) }
-    ensures fault { IfErr result (λ fault. fault ≡ SetFault.NoMemory) }
     ensures none { wants_none event.now ≡ true → IsOk result }
 {
     match event {
@@ -78,38 +77,36 @@ const SHORTEST_OFFER: usize = 5;
 const STREAM_LIMIT: u64 = 1024;
 
 /// A message is offered: refused, or the last of its queue from now on.
-fn offer(parts: &mut Parts, body: &Body, answer: &mut Answer) -> Result<(), SetFault>
+fn offer(parts: &mut Parts, body: &Body, answer: &mut Answer) -> Result<(), AllocError>
     requires holds { Holds (kept_of parts.old) }
     ensures ok { OnOk result (Answers parts.old parts.new answer.new (λ s. offered
         (offer_refusal s.rows body.now) s body.now)) }
     ensures err { OnErr result (kept_of parts.new ≡ kept_of parts.old) }
-    ensures fault { IfErr result (λ fault. fault ≡ SetFault.NoMemory) }
 {
     if let Some(why) = refusal_of(&parts.queues, body) {
         *answer = Answer::Refused { why };
         return Ok(());
     }
-    let copy = body.try_copy()?;
-    let fate = fate_of_new(parts, stream_of_body(body));
+    let fate = fate_of_new(parts, stream_of_body(body.octets()));
     make_room(parts, fate)?;
-    let number = accept(parts, copy, fate);
+    let number = accept(parts, body.octets(), fate);
     *answer = Answer::Accepted { number };
     Ok(())
 }
 
 /// The offered message is the last of its queue from now on: its number.
-fn accept(parts: &mut Parts, body: Body, fate: Fate) -> u64
-    requires fits { length body ≤ 273 }
+fn accept(parts: &mut Parts, body: &[u8], fate: Fate) -> u64
+    requires fits { length body.now ≤ 273 }
     requires known { IsKnown fate parts.old.queues.lists }
     requires queued { IsQueued fate }
     requires room { HasRoom fate parts.old }
     ensures number { result ≡ length parts.old.queues.messages }
     ensures stands { Becomes parts.old parts.new (λ s. record s {
-      rows = appended s.rows body fate;
-      routing = accepted (stream_of body) s.routing;
+      rows = appended s.rows body.now fate;
+      routing = accepted (stream_of body.now) s.routing;
     }) }
 {
-    let stream = stream_of_body(&body);
+    let stream = stream_of_body(body);
     let number = stand_last(parts, body, fate);
     parts.routes.accept(stream);
     number
@@ -129,7 +126,7 @@ fn refusal_of(queues: &Queues, body: &Body) -> Option<Refusal>
     if octets[0] % 16 == 0 {
         return Some(Refusal::Reserved);
     }
-    if queues.unsent(stream_of_body(body)) >= STREAM_LIMIT {
+    if queues.unsent(stream_of_body(octets)) >= STREAM_LIMIT {
         return Some(Refusal::StreamFull);
     }
     None
@@ -161,13 +158,12 @@ fn find(parts: &Parts, number: u64, answer: &mut Answer)
 
 /// No answer came from the far end: a link that was left settles, and what was sent on it or waited
 /// is discarded (own).
-fn give_up(parts: &mut Parts, number: u8, answer: &mut Answer) -> Result<(), SetFault>
+fn give_up(parts: &mut Parts, number: u8, answer: &mut Answer) -> Result<(), AllocError>
     requires holds { Holds (kept_of parts.old) }
     requires counted { AreCounted (2 ^ 60) parts.old.links.items }
     ensures ok { OnOk result (Answers parts.old parts.new answer.new
         (λ s. on_link number s (λ link. gives_up number s link link.phase))) }
     ensures err { OnErr result (kept_of parts.new ≡ kept_of parts.old) }
-    ensures fault { IfErr result (λ fault. fault ≡ SetFault.NoMemory) }
 {
     if let Some(why) = out_of_waiting(&parts.links, number) {
         *answer = Answer::Refused { why };
@@ -183,7 +179,7 @@ fn give_up(parts: &mut Parts, number: u8, answer: &mut Answer) -> Result<(), Set
 fn out_of_waiting(links: &[Link], number: u8) -> Option<Refusal>
     ensures { result ≡ waiting_refusal (slice_get links.now number) }
 {
-    match links.get(usize::from(number)).map(|link| link.phase) {
+    match phase_of(links, number) {
         None => Some(Refusal::NoSuchLink),
         Some(Phase::Down) => None,
         Some(Phase::Up | Phase::Settled) => Some(Refusal::Nothing),
@@ -197,39 +193,36 @@ fn take_down(
     number: u8,
     blind: bool,
     answer: &mut Answer,
-) -> Result<(), SetFault>
+) -> Result<(), AllocError>
     requires holds { Holds (kept_of parts.old) }
     requires counted { AreCounted (2 ^ 60) parts.old.links.items }
     ensures ok { OnOk result (Answers parts.old parts.new answer.new (λ s. in_service number s
         (falls blind number s))) }
     ensures err { OnErr result (kept_of parts.new ≡ kept_of parts.old) }
-    ensures fault { IfErr result (λ fault. fault ≡ SetFault.NoMemory) }
 {
     if let Some(why) = out_of_service(&parts.links, number) {
         *answer = Answer::Refused { why };
         return Ok(());
     }
-    let space = order_space(&parts.links)?;
     make_room_beside(parts, number, 1)?;
-    fall(parts, number, blind, space);
+    fall(parts, number, blind);
     *answer = Answer::Done;
     Ok(())
 }
 
 /// The link is left, and an order tells the far end.
-fn fall(parts: &mut Parts, number: u8, blind: bool, space: Vec<u8>)
+fn fall(parts: &mut Parts, number: u8, blind: bool)
     requires holds { Holds (kept_of parts.old) }
     requires counted { AreCounted (2 ^ 60) parts.old.links.items }
     requires known { number < length parts.old.links.items }
     requires up { AtLink number parts.old.links.items (λ link. link.phase ≡ Up) }
-    requires space { (vec_len space ≡ 0) × (7 ≤ vec_capacity space) }
     requires room { IsReady number 1 parts.old }
     ensures stands { AgreedBecomes number parts.old parts.new (λ link s.
         queued (leaving_order blind number link) (left_by blind number link s)) }
 {
     let order = order_on_leaving(&parts.links[usize::from(number)], number, blind);
     leave(parts, number, blind);
-    queue(parts, order, space);
+    queue(parts, order);
 }
 
 /// The order with which a link is left.
@@ -252,12 +245,11 @@ fn order_on_leaving(link: &Link, number: u8, blind: bool) -> Order
 /// was parked waits for it.
 ///
 /// Room in its queue is taken first, so a fault leaves everything as it was.
-fn bring_up(parts: &mut Parts, number: u8, answer: &mut Answer) -> Result<(), SetFault>
+fn bring_up(parts: &mut Parts, number: u8, answer: &mut Answer) -> Result<(), AllocError>
     requires holds { Holds (kept_of parts.old) }
     ensures ok { OnOk result (Answers parts.old parts.new answer.new
         (λ s. on_link number s (λ link. rises number s link.phase))) }
     ensures err { OnErr result (kept_of parts.new ≡ kept_of parts.old) }
-    ensures fault { IfErr result (λ fault. fault ≡ SetFault.NoMemory) }
 {
     if let Some(why) = out_of_rising(&parts.links, number) {
         *answer = Answer::Refused { why };
@@ -291,7 +283,7 @@ fn rise(parts: &mut Parts, number: u8)
 fn out_of_rising(links: &[Link], number: u8) -> Option<Refusal>
     ensures { result ≡ rising_refusal (slice_get links.now number) }
 {
-    match links.get(usize::from(number)).map(|link| link.phase) {
+    match phase_of(links, number) {
         None => Some(Refusal::NoSuchLink),
         Some(Phase::Up) => Some(Refusal::NotDown),
         Some(Phase::Down) => Some(Refusal::Unsettled),
@@ -304,6 +296,6 @@ pub(crate) fn is_asked(event: &Event)
     ensures { IsAsked event.now }
 {
     if let Event::Offer { body } = event {
-        stream_of_body(body);
+        stream_of_body(body.octets());
     }
 }

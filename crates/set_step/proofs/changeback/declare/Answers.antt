@@ -19,11 +19,8 @@ changeback_code-requires-clause-home c = omega (arith, c.requires.home, c.requir
 pub changeback_code-requires-clause-alternative : goal.changeback_code-requires-clause-alternative
 changeback_code-requires-clause-alternative c = omega (arith, c.requires.alternative, c.requires.whole.few)
 
-pub body_of-body-requires-clause-space : goal.body_of-body-requires-clause-space
-body_of-body-requires-clause-space c = c.requires.space
-
 pub stand_last-requires-clause-fits : goal.stand_last-requires-clause-fits
-stand_last-requires-clause-fits c = c.body_of-body.ensures.fits
+stand_last-requires-clause-fits c = rw c.as_slice.ensures.value c.body_of-body.ensures.fits
 
 pub stand_last-requires-clause-known : goal.stand_last-requires-clause-known
 stand_last-requires-clause-known c = omega (arith, c.requires.alternative, c.requires.whole.as_many)
@@ -42,9 +39,6 @@ returns-clause-message c = c.stand_last.ensures.message
 
 pub returns-clause-body : goal.returns-clause-body
 returns-clause-body c = c.stand_last.ensures.body
-
-pub returns-clause-bodies : goal.returns-clause-bodies
-returns-clause-bodies c = c.stand_last.ensures.bodies
 
 pub returns-clause-links : goal.returns-clause-links
 returns-clause-links c = c.stand_last.ensures.links

@@ -8,8 +8,6 @@ loop-alternative-init c = record {
   whole = c.requires.whole;
   links = refl;
   room = c.requires.room;
-  spaces = c.requires.spaces;
-  count = let count = c.requires.count in omega (arith, count);
 }
 
 pub declare_if_due-requires-clause-whole : goal.declare_if_due-requires-clause-whole
@@ -18,20 +16,12 @@ declare_if_due-requires-clause-whole c = c.loop-alternative.invariant.whole
 pub declare_if_due-requires-clause-room : goal.declare_if_due-requires-clause-room
 declare_if_due-requires-clause-room c = c.loop-alternative.invariant.room
 
-pub declare_if_due-requires-clause-spaces : goal.declare_if_due-requires-clause-spaces
-declare_if_due-requires-clause-spaces c = c.loop-alternative.invariant.spaces
-
-pub declare_if_due-requires-clause-count : goal.declare_if_due-requires-clause-count
-declare_if_due-requires-clause-count c = c.loop-alternative.invariant.count
-
 pub loop-alternative-preserved : goal.loop-alternative-preserved
 loop-alternative-preserved c = record {
   stands = becomes_next c.args.home c.loop-alternative.alternative c.args.parts.now c.loop-alternative.parts c.declare_if_due.new.parts c.loop-alternative.invariant.stands c.declare_if_due.ensures.stands;
   whole = c.declare_if_due.ensures.whole;
   links = c.declare_if_due.ensures.links ∙ c.loop-alternative.invariant.links;
   room = c.declare_if_due.ensures.room;
-  spaces = c.declare_if_due.ensures.spaces;
-  count = c.declare_if_due.ensures.count;
 }
 
 pub returns : goal.returns

@@ -1,6 +1,4 @@
-use Rattle.std.proofs.Common.{◌≡◌, ◌+◌, ◌≤◌, length}
-use Rattle.std.specs.Prelude.{All}
-use Rattle.std.specs.Vec.{vec_len, vec_capacity}
+use Rattle.std.proofs.Common.{◌≡◌}
 use Rattle.set_model.specs.Changeover.{declared_from}
 use Rattle.set_step.specs.Declaring.{HasRoomFrom}
 use Rattle.set_step.specs.Parts.{Becomes, IsWhole}
@@ -12,6 +10,4 @@ invariant-loop-alternative l = record {
   whole : IsWhole l.parts;
   links : l.parts.links ≡ l.fn.parts.links;
   room : HasRoomFrom l.alternative l.parts;
-  spaces : All (λ space. (vec_len space ≡ 0) × (7 ≤ vec_capacity space)) l.spaces.items;
-  count : 16 ≤ l.alternative + length l.spaces.items;
 }

@@ -1,27 +1,12 @@
 use Rattle.std.proofs.Common.{arith, refl}
-use Rattle.set_step.proofs.Declaring.{room_after}
+use Rattle.set_step.proofs.Declaring.{room_after, room_beyond}
 use Rattle.set_step.proofs.changeback.declare_if_due.Goals as goal
-
-pub returns-clause-room : goal.returns-clause-room
-returns-clause-room c = room_after c.args.alternative c.args.parts.now c.declare.new.parts c.requires.room c.declare.ensures.links c.declare.ensures.rooms c.declare.ensures.message c.declare.ensures.body c.declare.ensures.bodies
 
 pub may_declare-requires-clause-home : goal.may_declare-requires-clause-home
 may_declare-requires-clause-home c = omega (arith, c.requires.home, c.requires.whole.few)
 
 pub may_declare-requires-clause-alternative : goal.may_declare-requires-clause-alternative
 may_declare-requires-clause-alternative c = omega (arith, c.requires.alternative, c.requires.whole.few)
-
-pub returns-then-not-may_declare-clause-spaces : goal.returns-then-not-may_declare-clause-spaces
-returns-then-not-may_declare-clause-spaces c = c.requires.spaces
-
-pub returns-then-not-may_declare-clause-count : goal.returns-then-not-may_declare-clause-count
-returns-then-not-may_declare-clause-count c = omega (arith, c.requires.count)
-
-pub returns-then-not-may_declare-clause-links : goal.returns-then-not-may_declare-clause-links
-returns-then-not-may_declare-clause-links c = refl
-
-pub returns-then-not-may_declare-clause-whole : goal.returns-then-not-may_declare-clause-whole
-returns-then-not-may_declare-clause-whole c = c.requires.whole
 
 pub declare-requires-clause-whole : goal.declare-requires-clause-whole
 declare-requires-clause-whole c = c.requires.whole
@@ -33,10 +18,22 @@ pub declare-requires-clause-alternative : goal.declare-requires-clause-alternati
 declare-requires-clause-alternative c = c.requires.alternative
 
 pub declare-requires-clause-asks : goal.declare-requires-clause-asks
-declare-requires-clause-asks c = c.may_declare.ensures.asks c.if-not-may_declare.false
+declare-requires-clause-asks c = c.may_declare.ensures.asks c.if-may_declare.true
 
-pub returns-clause-links : goal.returns-clause-links
-returns-clause-links c = c.declare.ensures.links
+pub returns-then-may_declare-clause-room : goal.returns-then-may_declare-clause-room
+returns-then-may_declare-clause-room c = room_after c.args.alternative c.args.parts.now c.declare.new.parts c.requires.room c.declare.ensures.links c.declare.ensures.rooms c.declare.ensures.message c.declare.ensures.body (omega (arith, c.requires.alternative, c.requires.whole.few))
 
-pub returns-clause-whole : goal.returns-clause-whole
-returns-clause-whole c = c.declare.ensures.whole
+pub returns-then-may_declare-clause-links : goal.returns-then-may_declare-clause-links
+returns-then-may_declare-clause-links c = c.declare.ensures.links
+
+pub returns-then-may_declare-clause-whole : goal.returns-then-may_declare-clause-whole
+returns-then-may_declare-clause-whole c = c.declare.ensures.whole
+
+pub returns-else-may_declare-clause-room : goal.returns-else-may_declare-clause-room
+returns-else-may_declare-clause-room c = room_beyond c.args.alternative c.args.parts.now c.requires.room
+
+pub returns-else-may_declare-clause-links : goal.returns-else-may_declare-clause-links
+returns-else-may_declare-clause-links c = refl
+
+pub returns-else-may_declare-clause-whole : goal.returns-else-may_declare-clause-whole
+returns-else-may_declare-clause-whole c = c.requires.whole

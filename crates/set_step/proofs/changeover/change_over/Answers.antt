@@ -67,9 +67,6 @@ answer_and_settle-requires-clause-reached c = c.requires.reached
 pub answer_and_settle-requires-clause-number : goal.answer_and_settle-requires-clause-number
 answer_and_settle-requires-clause-number c = c.requires.number
 
-pub answer_and_settle-requires-clause-space : goal.answer_and_settle-requires-clause-space
-answer_and_settle-requires-clause-space c = c.requires.space
-
 pub settle-requires-clause-whole : goal.settle-requires-clause-whole
 settle-requires-clause-whole c = whole_of c.args.parts.now c.requires.holds
 
@@ -93,6 +90,3 @@ reply_again-requires-clause-number c = c.requires.number
 
 pub reply_again-requires-clause-out : goal.reply_again-requires-clause-out
 reply_again-requires-clause-out c = out_at c.args.parts.now.links.items c.args.number Settled (phase_in c.args.parts.now.links.items c.deref.result.now c.args.number Settled c.phase_of.result c.deref.ensures.value c.phase_of.ensures (c.in-Some-Settled.is ∙ ap Some c.in-Some-Settled.field-0-is)) refl
-
-pub reply_again-requires-clause-space : goal.reply_again-requires-clause-space
-reply_again-requires-clause-space c = c.requires.space

@@ -19,9 +19,6 @@ change_over-requires-clause-reached c = (subst IsOrder c.in-Coo.is c.requires.or
 pub change_over-requires-clause-number : goal.change_over-requires-clause-number
 change_over-requires-clause-number c = (subst IsOrder c.in-Coo.is c.requires.order).0
 
-pub change_over-requires-clause-space : goal.change_over-requires-clause-space
-change_over-requires-clause-space c = c.requires.space
-
 pub change_over-requires-clause-room : goal.change_over-requires-clause-room
 change_over-requires-clause-room c = subst (λ (o : Order). IsSpaciousFor o c.args.parts.now) c.in-Coo.is c.requires.room
 
@@ -36,9 +33,6 @@ change_over-requires-in-Eco-clause-reached c = tt
 
 pub change_over-requires-in-Eco-clause-number : goal.change_over-requires-in-Eco-clause-number
 change_over-requires-in-Eco-clause-number c = subst IsOrder c.in-Eco.is c.requires.order
-
-pub change_over-requires-in-Eco-clause-space : goal.change_over-requires-in-Eco-clause-space
-change_over-requires-in-Eco-clause-space c = c.requires.space
 
 pub change_over-requires-in-Eco-clause-room : goal.change_over-requires-in-Eco-clause-room
 change_over-requires-in-Eco-clause-room c = subst (λ (o : Order). IsSpaciousFor o c.args.parts.now) c.in-Eco.is c.requires.room
@@ -69,9 +63,6 @@ answer-requires-in-Eca-clause-room c = subst (λ (o : Order). IsSpaciousFor o c.
 
 pub queue-requires-clause-order : goal.queue-requires-clause-order
 queue-requires-clause-order c = subst IsOrder c.in-Cbd.is c.requires.order
-
-pub queue-requires-clause-space : goal.queue-requires-clause-space
-queue-requires-clause-space c = c.requires.space
 
 pub queue-requires-clause-room : goal.queue-requires-clause-room
 queue-requires-clause-room c = subst (λ (o : Order). IsSpaciousFor o c.args.parts.now) c.in-Cbd.is c.requires.room

@@ -24,14 +24,8 @@ returns-clause-whole c = record {
   few = rw (c.stand_last.ensures.links) c.requires.whole.few;
 }
 
-pub body_of-body-requires-clause-order : goal.body_of-body-requires-clause-order
-body_of-body-requires-clause-order c = c.requires.order
-
-pub body_of-body-requires-clause-space : goal.body_of-body-requires-clause-space
-body_of-body-requires-clause-space c = c.requires.space
-
 pub stand_last-requires-clause-fits : goal.stand_last-requires-clause-fits
-stand_last-requires-clause-fits c = c.body_of-body.ensures.fits
+stand_last-requires-clause-fits c = rw c.as_slice.ensures.value c.body_of-body.ensures.fits
 
 pub stand_last-requires-clause-queued : goal.stand_last-requires-clause-queued
 stand_last-requires-clause-queued c = c.fate_of-fate.ensures.queued

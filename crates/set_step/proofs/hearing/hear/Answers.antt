@@ -27,9 +27,9 @@ take_in-took-requires c =
     let n = c.args.number in
     let mid = c.make_space.new.parts in
     let s = c.requires.holds.0 in
-    let now = subst (λ k. Agrees k s) (sym c.in_ok-space.ensures.same) c.requires.holds.1 in
+    let now = subst (λ k. Agrees k s) (sym c.in_ok-message.ensures.same) c.requires.holds.1 in
     let h = serves c.args.parts.now.links.items n (ap (λ links. service_refusal (slice_get links n)) (sym c.deref.ensures.value) ∙ sym c.out_of_service.ensures ∙ c.in_default.is) in
-    let i = is_in mid s n Up now (subst (λ links. IsHere links n Up) (sym (ap (λ ls. ls.items) c.in_ok-space.ensures.links)) h) in
+    let i = is_in mid s n Up now (subst (λ links. IsHere links n Up) (sym (ap (λ ls. ls.items) c.in_ok-message.ensures.links)) h) in
     record {
       order = c.order_in-order.ensures.value;
       fits = c.order_in-order.ensures.fits;
@@ -38,10 +38,9 @@ take_in-took-requires c =
         agrees_then mid c.control_hears-part.new.parts s n c.args.unit.now c.control_hears-part.result now i (c.control_hears-part.ensures.part s i.link i.there now.stands) (c.control_hears-part.ensures.stands s i.link i.there now.stands),
       );
       counted = c.control_hears-part.ensures.counted;
-      message = c.in_ok-space.ensures.message;
-      answer = c.in_ok-space.ensures.answer;
-      inbox = place_still (message_brought c.args.unit.now) mid c.control_hears-part.new.parts c.control_hears-part.ensures.keeps.inbox c.in_ok-space.ensures.inbox;
-      room = spacious_still (order_brought c.args.unit.now) mid c.control_hears-part.new.parts c.control_hears-part.ensures.keeps c.in_ok-space.ensures.room;
+      message = c.in_ok-message.ensures.message;
+      inbox = place_still (message_brought c.args.unit.now) mid c.control_hears-part.new.parts c.control_hears-part.ensures.keeps.inbox c.in_ok-message.ensures.inbox;
+      room = spacious_still (order_brought c.args.unit.now) mid c.control_hears-part.new.parts c.control_hears-part.ensures.keeps c.in_ok-message.ensures.room;
     }
 
 pub returns : goal.returns
@@ -50,16 +49,15 @@ returns c = record {
       let n = c.args.number in
       let unit = c.args.unit.now in
       let mid = c.make_space.new.parts in
-      let now = subst (λ k. Agrees k s) (sym c.in_ok-space.ensures.same) a in
+      let now = subst (λ k. Agrees k s) (sym c.in_ok-message.ensures.same) a in
       let h = serves c.args.parts.now.links.items n (ap (λ links. service_refusal (slice_get links n)) (sym c.deref.ensures.value) ∙ sym c.out_of_service.ensures ∙ c.in_default.is) in
-      let i = is_in mid s n Up now (subst (λ links. IsHere links n Up) (sym (ap (λ ls. ls.items) c.in_ok-space.ensures.links)) h) in
+      let i = is_in mid s n Up now (subst (λ links. IsHere links n Up) (sym (ap (λ ls. ls.items) c.in_ok-message.ensures.links)) h) in
       let told = c.control_hears-part.ensures.part s i.link i.there now.stands in
       let after = agrees_then mid c.control_hears-part.new.parts s n unit c.control_hears-part.result now i told (c.control_hears-part.ensures.stands s i.link i.there now.stands) in
       let gives = heard_gives n s i.link unit c.control_hears-part.result c.take_in-took.result c.report_on.result c.take_in-took.new.parts told c.report_on.ensures (c.take_in-took.ensures _ after) in
       served s n (heard_of unit n s) (HeardBack c.report_on.result) c.take_in-took.new.parts i
       (subst (λ (o : Outcome). Gives o (HeardBack c.report_on.result) c.take_in-took.new.parts) (sym (heard_controls n s i.link unit (λ head status e. c.in_default-unit.not-Lssu head status e))) gives);
   err = tt;
-  fault = tt;
   none = λ e. refl;
 }
 
@@ -78,9 +76,9 @@ pub control_hears-part-requires : goal.control_hears-part-requires
 control_hears-part-requires c =
     let n = c.args.number in
     let h = serves c.args.parts.now.links.items n (ap (λ links. service_refusal (slice_get links n)) (sym c.deref.ensures.value) ∙ sym c.out_of_service.ensures ∙ c.in_default.is) in
-    let same = ap (λ ls. ls.items) c.in_ok-space.ensures.links in
+    let same = ap (λ ls. ls.items) c.in_ok-message.ensures.links in
     record {
-      holds = (c.requires.holds.0, subst (λ k. Agrees k c.requires.holds.0) (sym c.in_ok-space.ensures.same) c.requires.holds.1);
+      holds = (c.requires.holds.0, subst (λ k. Agrees k c.requires.holds.0) (sym c.in_ok-message.ensures.same) c.requires.holds.1);
       counted = subst (AreCounted 1152921504606846976) (sym same) c.requires.counted;
       known = (subst (λ links. IsHere links n Up) (sym same) h).known;
     }
@@ -88,17 +86,11 @@ control_hears-part-requires c =
 pub returns-in-Some-clause-err : goal.returns-in-Some-clause-err
 returns-in-Some-clause-err c = tt
 
-pub returns-in-Some-clause-fault : goal.returns-in-Some-clause-fault
-returns-in-Some-clause-fault c = tt
-
 pub returns-in-Some-clause-none : goal.returns-in-Some-clause-none
 returns-in-Some-clause-none c = λ none. refl
 
 pub returns-in-Lssu-clause-err : goal.returns-in-Lssu-clause-err
 returns-in-Lssu-clause-err c = tt
-
-pub returns-in-Lssu-clause-fault : goal.returns-in-Lssu-clause-fault
-returns-in-Lssu-clause-fault c = tt
 
 pub returns-in-Lssu-clause-none : goal.returns-in-Lssu-clause-none
 returns-in-Lssu-clause-none c = λ none. refl

@@ -43,7 +43,7 @@ returns-clause-room c = on_ok c.reserve_all.result (λ enough.
     let kept : c.reserve_all.new.self.room ≡ c.reserve-2.new.self.room = c.reserve_all.ensures.same.2 ∙ c.in_ok-reserve_each.ensures.same.2 in
     record {
       message = omega (arith, message, kept);
-      body = c.in_ok-reserve.ensures.ok;
+      body = c.in_ok-reserve.ensures.room;
       place = omega (arith, more, back, room, there, on_same, back_same);
       each = each_stays (length c.args.parts.now.links.items) c.back_count-back.result (back_count n c.reserve_all.new.self.lists) c.reserve_each.new.self.rooms c.reserve_all.new.self.rooms (back_same ∙ sym back) c.reserve_all.ensures.kept
           (subst (λ (k : ℕ). HaveRoom k c.back_count-back.result c.reserve_each.new.self.rooms) many c.in_ok-reserve_each.ensures.room);

@@ -8,9 +8,6 @@ returns-in-Offer-clause-ok c = may_answer_it c.args.parts.now c.offer.new.parts 
 pub returns-in-Offer-clause-err : goal.returns-in-Offer-clause-err
 returns-in-Offer-clause-err c = c.offer.ensures.err
 
-pub returns-in-Offer-clause-fault : goal.returns-in-Offer-clause-fault
-returns-in-Offer-clause-fault c = c.offer.ensures.fault
-
 pub returns-in-Offer-clause-none : goal.returns-in-Offer-clause-none
 returns-in-Offer-clause-none c = may_want c.offer.result c.args.event.now _ c.in-Offer.is refl
 
@@ -19,9 +16,6 @@ returns-in-Take-clause-ok c = answers_it c.args.parts.now c.take.new.parts c.tak
 
 pub returns-in-Take-clause-err : goal.returns-in-Take-clause-err
 returns-in-Take-clause-err c = tt
-
-pub returns-in-Take-clause-fault : goal.returns-in-Take-clause-fault
-returns-in-Take-clause-fault c = tt
 
 pub returns-in-Take-clause-none : goal.returns-in-Take-clause-none
 returns-in-Take-clause-none c = λ none. refl
@@ -32,9 +26,6 @@ returns-in-Find-clause-ok c = answers_it c.args.parts.now c.args.parts.now c.fin
 pub returns-in-Find-clause-err : goal.returns-in-Find-clause-err
 returns-in-Find-clause-err c = tt
 
-pub returns-in-Find-clause-fault : goal.returns-in-Find-clause-fault
-returns-in-Find-clause-fault c = tt
-
 pub returns-in-Find-clause-none : goal.returns-in-Find-clause-none
 returns-in-Find-clause-none c = λ none. refl
 
@@ -43,9 +34,6 @@ returns-in-Next-clause-ok c = answers_it c.args.parts.now c.send_next.new.parts 
 
 pub returns-in-Next-clause-err : goal.returns-in-Next-clause-err
 returns-in-Next-clause-err c = tt
-
-pub returns-in-Next-clause-fault : goal.returns-in-Next-clause-fault
-returns-in-Next-clause-fault c = tt
 
 pub returns-in-Next-clause-none : goal.returns-in-Next-clause-none
 returns-in-Next-clause-none c = λ none. refl
@@ -56,17 +44,11 @@ returns-in-Heard-clause-ok c = may_answer_it c.args.parts.now c.hear.new.parts c
 pub returns-in-Heard-clause-err : goal.returns-in-Heard-clause-err
 returns-in-Heard-clause-err c = c.hear.ensures.err
 
-pub returns-in-Heard-clause-fault : goal.returns-in-Heard-clause-fault
-returns-in-Heard-clause-fault c = c.hear.ensures.fault
-
 pub returns-in-Up-clause-ok : goal.returns-in-Up-clause-ok
 returns-in-Up-clause-ok c = may_answer_it c.args.parts.now c.bring_up.new.parts c.bring_up.new.answer c.bring_up.result c.args.event.now _ c.in-Up.is c.bring_up.ensures.ok
 
 pub returns-in-Up-clause-err : goal.returns-in-Up-clause-err
 returns-in-Up-clause-err c = c.bring_up.ensures.err
-
-pub returns-in-Up-clause-fault : goal.returns-in-Up-clause-fault
-returns-in-Up-clause-fault c = c.bring_up.ensures.fault
 
 pub returns-in-Up-clause-none : goal.returns-in-Up-clause-none
 returns-in-Up-clause-none c = may_want c.bring_up.result c.args.event.now _ c.in-Up.is refl
@@ -77,9 +59,6 @@ returns-in-Down-clause-ok c = may_answer_it c.args.parts.now c.take_down.new.par
 pub returns-in-Down-clause-err : goal.returns-in-Down-clause-err
 returns-in-Down-clause-err c = c.take_down.ensures.err
 
-pub returns-in-Down-clause-fault : goal.returns-in-Down-clause-fault
-returns-in-Down-clause-fault c = c.take_down.ensures.fault
-
 pub returns-in-Down-clause-none : goal.returns-in-Down-clause-none
 returns-in-Down-clause-none c = may_want c.take_down.result c.args.event.now _ c.in-Down.is refl
 
@@ -88,9 +67,6 @@ returns-in-DownBlind-clause-ok c = may_answer_it c.args.parts.now c.take_down-in
 
 pub returns-in-DownBlind-clause-err : goal.returns-in-DownBlind-clause-err
 returns-in-DownBlind-clause-err c = c.take_down-in-DownBlind.ensures.err
-
-pub returns-in-DownBlind-clause-fault : goal.returns-in-DownBlind-clause-fault
-returns-in-DownBlind-clause-fault c = c.take_down-in-DownBlind.ensures.fault
 
 pub returns-in-DownBlind-clause-none : goal.returns-in-DownBlind-clause-none
 returns-in-DownBlind-clause-none c = may_want c.take_down-in-DownBlind.result c.args.event.now _ c.in-DownBlind.is refl
@@ -101,9 +77,6 @@ returns-in-NoAnswer-clause-ok c = may_answer_it c.args.parts.now c.give_up.new.p
 pub returns-in-NoAnswer-clause-err : goal.returns-in-NoAnswer-clause-err
 returns-in-NoAnswer-clause-err c = c.give_up.ensures.err
 
-pub returns-in-NoAnswer-clause-fault : goal.returns-in-NoAnswer-clause-fault
-returns-in-NoAnswer-clause-fault c = c.give_up.ensures.fault
-
 pub returns-in-NoAnswer-clause-none : goal.returns-in-NoAnswer-clause-none
 returns-in-NoAnswer-clause-none c = may_want c.give_up.result c.args.event.now _ c.in-NoAnswer.is refl
 
@@ -113,9 +86,6 @@ returns-in-Restore-clause-ok c = may_answer_it c.args.parts.now c.restore.new.pa
 pub returns-in-Restore-clause-err : goal.returns-in-Restore-clause-err
 returns-in-Restore-clause-err c = c.restore.ensures.err
 
-pub returns-in-Restore-clause-fault : goal.returns-in-Restore-clause-fault
-returns-in-Restore-clause-fault c = c.restore.ensures.fault
-
 pub returns-in-Restore-clause-none : goal.returns-in-Restore-clause-none
 returns-in-Restore-clause-none c = may_want c.restore.result c.args.event.now _ c.in-Restore.is refl
 
@@ -124,9 +94,6 @@ returns-in-BackTimeout-clause-ok c = may_answer_it c.args.parts.now c.time_out.n
 
 pub returns-in-BackTimeout-clause-err : goal.returns-in-BackTimeout-clause-err
 returns-in-BackTimeout-clause-err c = c.time_out.ensures.err
-
-pub returns-in-BackTimeout-clause-fault : goal.returns-in-BackTimeout-clause-fault
-returns-in-BackTimeout-clause-fault c = c.time_out.ensures.fault
 
 pub returns-in-BackTimeout-clause-none : goal.returns-in-BackTimeout-clause-none
 returns-in-BackTimeout-clause-none c = may_want c.time_out.result c.args.event.now _ c.in-BackTimeout.is refl

@@ -34,9 +34,6 @@ returns-clause-ok c = λ s a.
 pub returns-in-Some-clause-err : goal.returns-in-Some-clause-err
 returns-in-Some-clause-err c = tt
 
-pub returns-in-Some-clause-fault : goal.returns-in-Some-clause-fault
-returns-in-Some-clause-fault c = tt
-
 pub make_room_beside-requires-clause-whole : goal.make_room_beside-requires-clause-whole
 make_room_beside-requires-clause-whole c = whole_of c.args.parts.now c.requires.holds
 
@@ -45,9 +42,6 @@ settle-requires-clause-reached c = tt
 
 pub returns-clause-err : goal.returns-clause-err
 returns-clause-err c = tt
-
-pub returns-clause-fault : goal.returns-clause-fault
-returns-clause-fault c = tt
 
 pub settle-requires-clause-whole : goal.settle-requires-clause-whole
 settle-requires-clause-whole c = whole_still c.args.parts.now c.make_room_beside.new.parts c.make_room_beside.ensures.same (whole_of c.args.parts.now c.requires.holds)

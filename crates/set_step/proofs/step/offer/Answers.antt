@@ -30,9 +30,9 @@ returns-in-Some-clause-ok c = λ s a.
     refused_so : (parts : Parts) (s : State) (body : List ℕ) (why : SetRefusal) → Agrees (kept_of parts) s → offer_refusal s.rows body ≡ Some why → Gives (offered (offer_refusal s.rows body) s body) (Refused why) parts
     refused_so parts s body why a e = subst (λ (o : Option SetRefusal). Gives (offered o s body) (Refused why) parts) (sym e) (record { answer_is = refl; stands = a.stands })
 
-accepted_so : (parts : Parts) (s : State) (body copy : List ℕ) (fate : Fate) (number : ℕ) → offer_refusal s.rows body ≡ None → copy ≡ body → fate ≡ fate_at (place_of (stream_of body) s.routing) s → number ≡ length s.rows
-    → StandsFor (kept_of parts) (record s { rows = appended s.rows copy fate; routing = accepted (stream_of copy) s.routing }) → Gives (offered (offer_refusal s.rows body) s body) (Accepted number) parts
-accepted_so parts s body copy fate number none same there is stands =
+accepted_so : (parts : Parts) (s : State) (body read : List ℕ) (fate : Fate) (number : ℕ) → offer_refusal s.rows body ≡ None → read ≡ body → fate ≡ fate_at (place_of (stream_of body) s.routing) s → number ≡ length s.rows
+    → StandsFor (kept_of parts) (record s { rows = appended s.rows read fate; routing = accepted (stream_of read) s.routing }) → Gives (offered (offer_refusal s.rows body) s body) (Accepted number) parts
+accepted_so parts s body read fate number none same there is stands =
     subst (λ (o : Option SetRefusal). Gives (offered o s body) (Accepted number) parts) (sym none) (record {
       answer_is = ap Accepted is;
       stands = subst (λ (f : Fate). StandsFor (kept_of parts) (record s { rows = appended s.rows body f; routing = accepted (stream_of body) s.routing })) there
@@ -44,18 +44,15 @@ returns-clause-ok c = λ s a.
     let body = c.args.body.now in
     let same = c.in_ok-make_room.ensures.same in
     let now = agrees_same c.args.parts.now c.make_room.new.parts s same a in
-    accepted_so c.accept-number.new.parts s body c.in_ok-copy.copy c.fate_of_new-fate.result c.accept-number.result
+    accepted_so c.accept-number.new.parts s body c.octets-2.result.now c.fate_of_new-fate.result c.accept-number.result
     (sym (same_refusal (kept_of c.args.parts.now) s body a.stands) ∙ sym c.refusal_of.ensures ∙ c.in_default.is)
-    c.in_ok-copy.ensures
-    (c.fate_of_new-fate.ensures.value s a.stands ∙ ap (λ stream. fate_at (place_of stream s.routing) s) c.stream_of_body.ensures.value)
+    c.octets-2.ensures
+    (c.fate_of_new-fate.ensures.value s a.stands ∙ ap (λ stream. fate_at (place_of stream s.routing) s) (c.stream_of_body.ensures.value ∙ ap stream_of c.octets.ensures))
     (c.accept-number.ensures.number ∙ now.stands.stands.count)
     (c.accept-number.ensures.stands s now.stands)
 
 pub returns-in-Some-clause-err : goal.returns-in-Some-clause-err
 returns-in-Some-clause-err c = tt
-
-pub returns-in-Some-clause-fault : goal.returns-in-Some-clause-fault
-returns-in-Some-clause-fault c = tt
 
 pub fate_of_new-fate-requires-clause-stream : goal.fate_of_new-fate-requires-clause-stream
 fate_of_new-fate-requires-clause-stream c = c.stream_of_body.ensures.few
@@ -77,6 +74,3 @@ accept-number-requires-clause-room c = c.in_ok-make_room.ensures.room
 
 pub returns-clause-err : goal.returns-clause-err
 returns-clause-err c = tt
-
-pub returns-clause-fault : goal.returns-clause-fault
-returns-clause-fault c = tt

@@ -37,23 +37,14 @@ returns-clause-ok c = λ s a.
 pub returns-in-Some-clause-err : goal.returns-in-Some-clause-err
 returns-in-Some-clause-err c = tt
 
-pub returns-in-Some-clause-fault : goal.returns-in-Some-clause-fault
-returns-in-Some-clause-fault c = tt
-
 pub make_room_beside-requires-clause-whole : goal.make_room_beside-requires-clause-whole
 make_room_beside-requires-clause-whole c = whole_of c.args.parts.now c.requires.holds
 
 pub fall-requires-clause-counted : goal.fall-requires-clause-counted
 fall-requires-clause-counted c = rw c.make_room_beside.ensures.same.links c.requires.counted
 
-pub fall-requires-clause-space : goal.fall-requires-clause-space
-fall-requires-clause-space c = c.in_ok-space.ensures
-
 pub fall-requires-clause-room : goal.fall-requires-clause-room
 fall-requires-clause-room c = c.in_ok-make_room_beside.ensures.room
 
 pub returns-clause-err : goal.returns-clause-err
 returns-clause-err c = tt
-
-pub returns-clause-fault : goal.returns-clause-fault
-returns-clause-fault c = tt

@@ -1,0 +1,23 @@
+-- THE BODIES of a set's messages by their numbers, one behind another.
+use Rattle.std.specs.Prelude.{◌≡◌, ◌≤◌, ◌*◌, ℕ, List, [], ◌∷◌, length}
+use Rattle.std.specs.List.{between}
+
+-- each body stands from where the one before it ends to where it ends itself
+abbrev pub bodies_in : ℕ → List ℕ → List ℕ → List (List ℕ)
+bodies_in start [] octets = []
+bodies_in start (end ∷ ends) octets = between start end octets ∷ bodies_in end ends octets
+
+-- none ends before it starts, and the last one ends where the octets do
+abbrev pub AreAll : ℕ → List ℕ → List ℕ → Type 0
+AreAll start [] octets = length octets ≡ start
+AreAll start (end ∷ ends) octets = (start ≤ end) × AreAll end ends octets
+
+-- what contracts see: the bodies, and how many more, and octets of them, want no memory
+pub record BodiesState : Type 0 where
+  pub items : List (List ℕ)
+  pub places : ℕ
+  pub octets : ℕ
+
+-- there is room for so many more, of at most 273 octets each (Q.703 2.3.8)
+abbrev pub CanHold : ℕ → BodiesState → Type 0
+CanHold more bodies = (more ≤ bodies.places) × (273 * more ≤ bodies.octets)

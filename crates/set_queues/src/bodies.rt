@@ -1,0 +1,96 @@
+//! The bodies of the messages.
+ghost use Rattle.std.specs.Prelude.{◌≡◌, ◌-◌, ◌<◌, length, slice_get, Some};
+
+use l2_units::LONGEST_BODY;
+use std::alloc::{AllocError, Global};
+use std::marker::Model;
+
+/// The bodies of a set's messages by their numbers 0, 1, .., one behind another.
+///
+/// Contracts see the list, and the room that is left. A body takes 8 octets of memory and its own, and each call
+/// costs the same however many bodies there are.
+#[derive(Drop)]
+pub struct Bodies {
+    /// Where each ends.
+    ends: Vec<usize>,
+    /// The octets of all.
+    octets: Vec<u8>,
+}
+
+impl Model for Bodies {
+    ghost use Rattle.std.specs.Prelude.{◌-◌, vec_len, vec_capacity};
+    ghost use Rattle.set_queues.specs.Bodies.{BodiesState, bodies_in, AreAll};
+
+    ghost Value = { BodiesState };
+
+    ghost view = { λ b. record {
+      items = bodies_in 0 b.ends.items b.octets.items;
+      places = vec_capacity b.ends - vec_len b.ends;
+      octets = vec_capacity b.octets - vec_len b.octets;
+    } };
+
+    ghost invariant = { λ b. AreAll 0 b.ends.items b.octets.items };
+}
+
+impl Bodies {
+    ghost use Rattle.std.specs.Prelude.{◌≡◌, ◌+◌, ◌<◌, ◌≤◌, ◌++◌, ℕ, [], ◌∷◌, length, slice_get, Some, OnOk};
+    ghost use Rattle.set_queues.specs.Bodies.{CanHold};
+
+    /// No bodies, and no room.
+    pub fn new(alloc: Global) -> Bodies
+        ensures { result.items ≡ [] }
+    {
+        Bodies {
+            ends: Vec::new(alloc),
+            octets: Vec::new(alloc),
+        }
+    }
+
+    /// Makes room for so many more bodies, which then want no memory; it fails only where memory is wanted. The
+    /// bodies stay either way.
+    pub fn reserve(&mut self, bodies: usize) -> Result<(), AllocError>
+        ensures room { OnOk result (CanHold bodies self.new) }
+        ensures same { self.new.items ≡ self.old.items }
+    {
+        let Some(octets) = bodies.checked_mul(LONGEST_BODY) else {
+            return Err(AllocError);
+        };
+        self.ends.reserve(bodies)?;
+        self.octets.reserve(octets)
+    }
+
+    /// The body of the next message: these octets. There is room for it, so it takes no memory.
+    pub fn add(&mut self, body: &[u8])
+        requires room { CanHold 1 self.old }
+        requires fits { length body.now ≤ 273 }
+        ensures items { self.new.items ≡ self.old.items ++ body.now ∷ [] }
+        ensures room { (more : ℕ) → CanHold (more + 1) self.old → CanHold more self.new }
+    {
+        match self.octets.extend_from_slice(body) {
+            Ok(()) => self.ends.push_reserved(self.octets.len()),
+            Err(_) => unreachable!(),
+        }
+    }
+
+    /// The body of the message of this number.
+    pub fn body(&self, number: u64) -> &[u8]
+        requires { number < length self.now.items }
+        ensures { slice_get self.now.items number ≡ Some result.now }
+    {
+        let place = number as usize;
+        let start = start_of(&self.ends, place);
+        &self.octets[start..self.ends[place]]
+    }
+}
+
+/// Where the body at this place starts: where the one before it ends.
+fn start_of(ends: &[usize], place: usize) -> usize
+    requires { place < length ends.now }
+    ensures first { place ≡ 0 → result ≡ 0 }
+    ensures next { 0 < place → slice_get ends.now (place - 1) ≡ Some result }
+{
+    if place == 0 {
+        return 0;
+    }
+    ends[place - 1]
+}
