@@ -1,6 +1,6 @@
 -- A set of which nothing was asked, and what holds after each event.
 use Rattle.std.proofs.Common.{refl, arith, ◌≡◌, ◌∙◌, ap, sym, subst, ℕ, zero, suc, ◌^◌, ◌+◌, ◌%◌, List, [], map, slice_get, Some, Bool, cond}
-use Rattle.std.specs.Prelude.{replicate, slice_index_or, Result, Ok, Err, OnOk, OnErr}
+use Rattle.std.specs.Prelude.{replicate, slice_index_or}
 use Rattle.std.proofs.lemmas.List.{length-replicate}
 use Rattle.std.proofs.lemmas.Option.{same_Some}
 use Rattle.std.proofs.lemmas.Bool.{le-ltb}

@@ -6,6 +6,8 @@
 #[cfg(test)]
 mod bench;
 #[cfg(test)]
+mod bodies;
+#[cfg(test)]
 mod changeback;
 #[cfg(test)]
 mod changeover;
