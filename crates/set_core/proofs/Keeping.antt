@@ -18,7 +18,7 @@ use Rattle.set_model.specs.Step.{Gains, step, messages_in, octets_of}
 use Rattle.set_model.proofs.Gaining.{step_gains, AcceptsNone, accepts_none, offer_acknowledges_none, take_acknowledges_none, find_acknowledges_none}
 use Rattle.set_model.proofs.Ranging.{step_few}
 use Rattle.set_model.proofs.Soundness.{opened_few}
-use Rattle.set_step.specs.Agreement.{Kept, Agrees}
+use Rattle.set_moves.specs.Agreement.{Kept, Agrees}
 use Rattle.set_step.specs.Answering.{AnswersFor}
 use Rattle.set_core.specs.Gaining.{BooksGain, IsOwn, GainsNoOther, AreBounded, users_after, terminals_after}
 use Rattle.set_model.specs.History.{IsActor, IsStep, IsLegal, after, books_of, is_user, is_terminal, calls_from, messages_of, octets_in_all}

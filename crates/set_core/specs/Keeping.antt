@@ -7,7 +7,7 @@ use Rattle.set_model.specs.State.{State}
 use Rattle.set_model.specs.Sound.{AreFew}
 use Rattle.set_model.specs.Rows.{counts_of, total_of}
 use Rattle.set_model.specs.History.{LinkSet, IsLegal, after, is_user, is_terminal, calls_from, messages_of, octets_in_all, longest_history}
-use Rattle.set_step.specs.Agreement.{Kept, Agrees}
+use Rattle.set_moves.specs.Agreement.{Kept, Agrees}
 
 -- what the set held when it was opened, all that was asked and answered since, and what it holds after that
 abbrev pub with_history : State → List Entry → LinkSet

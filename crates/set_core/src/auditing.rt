@@ -2,7 +2,7 @@
 ghost use Rattle.std.specs.Prelude.{◌≡◌, ◌<◌, ◌≤◌, ◌↔◌, length, IfOk, IfErr, IsTrue};
 ghost use Rattle.set_model.specs.State.{new_state};
 ghost use Rattle.set_model.specs.History.{IsActor, IsLegal, longest_history};
-ghost use Rattle.set_step.specs.Agreement.{Agrees};
+ghost use Rattle.set_moves.specs.Agreement.{Agrees};
 
 use super::set::LONGEST_HISTORY;
 use set_events::{Actor, Answer, Entry, SetConfig};

@@ -48,7 +48,7 @@ impl SetCore {
     ghost use Rattle.set_model.specs.Sound.{IsSound};
     ghost use Rattle.set_model.specs.Rows.{place, counts_of, total_of};
     ghost use Rattle.set_core.specs.Gaining.{BooksGain, AreBounded};
-    ghost use Rattle.set_step.specs.Agreement.{Agrees};
+    ghost use Rattle.set_moves.specs.Agreement.{Agrees};
     ghost use Rattle.set_model.specs.History.{new_set, IsStep, IsActor, IsLegal, after, books_in, messages_of, longest_history};
 
     /// A set as this configuration has it: no messages, no link up, no history.

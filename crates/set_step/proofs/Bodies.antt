@@ -14,7 +14,7 @@ use Rattle.std.proofs.lemmas.List.{length-map}
 use Rattle.set_model.proofs.Lists.{present}
 use Rattle.set_model.proofs.Filters.{fit_filter}
 use Rattle.set_model.proofs.Lookups.{row_in_filter, row_at_number}
-use Rattle.set_step.specs.Agreement.{Kept, Label, Stands, Agrees, rows_at, label_in, label_of}
+use Rattle.set_moves.specs.Agreement.{Kept, Label, Stands, Agrees, rows_at, label_in, label_of}
 
 -- A row of a queue is the one that its number finds, and its body is fit.
 pub record IsOfQueue (rows : List Row) (row : Row) : Type 0 where

@@ -2,15 +2,10 @@
 use Rattle.std.proofs.Common.{◌≡◌, true, false, OnOk, IsOk, Result, subst, sym}
 use Rattle.set_events.specs.declared.answer.Answer.{Answer}
 use Rattle.set_events.specs.declared.event.Event.{Event}
-use Rattle.l3_orders.specs.declared.order.Order.{Order}
-use Rattle.set_events.specs.declared.answer.Took.{Took}
-use Rattle.set_model.specs.Changeover.{order_obeyed}
-use Rattle.set_model.specs.State.{State}
 use Rattle.set_model.specs.Step.{stepped}
 use Rattle.set_step.specs.Faults.{wants_none}
-use Rattle.set_step.specs.Agreement.{Agrees}
-use Rattle.set_step.specs.Parts.{Answers, Obeys, kept_of}
-use Rattle.set_step.specs.declared.parts.Parts.{Parts}
+use Rattle.set_moves.specs.Parts.{Answers}
+use Rattle.set_moves.specs.declared.parts.Parts.{Parts}
 
 pub answers_it : (old new : Parts) (answer : Answer) (event known : Event) → event ≡ known → Answers old new answer (λ s. stepped s known) → Answers old new answer (λ s. stepped s event)
 answers_it old new answer event known is told = subst (λ (e : Event). Answers old new answer (λ s. stepped s e)) (sym is) told
@@ -21,7 +16,3 @@ may_answer_it old new answer result event known is told = subst (λ (e : Event).
 -- an event that may want memory is no other
 pub may_want : {E : Type 0} (result : Result (Unit {0}) E) (event known : Event) → event ≡ known → wants_none known ≡ false → wants_none event ≡ true → IsOk result
 may_want result event known is wants none = cc
-
--- what becomes of an order, so too
-pub obeys_it : (old new : Parts) (took : Took) (order known : Order) → order ≡ known → ((s : State) → Agrees (kept_of old) s → Obeys (order_obeyed known s) took new) → (s : State) → Agrees (kept_of old) s → Obeys (order_obeyed order s) took new
-obeys_it old new took order known is told = subst (λ (o : Order). (s : State) → Agrees (kept_of old) s → Obeys (order_obeyed o s) took new) (sym is) told

@@ -11,7 +11,7 @@ use Rattle.set_queues.specs.Messages.{octets_of}
 use Rattle.set_model.specs.Rows.{octets_in, unack}
 use Rattle.set_model.specs.Control.{Control, Basic, Cyclic, choice_of, head_of, control_after, part_of, control_heard}
 use Rattle.set_model.specs.State.{LinkState, State, window_of}
-use Rattle.set_step.specs.Agreement.{Kept, StandsFor, Agrees}
+use Rattle.set_moves.specs.Agreement.{Kept, StandsFor, Agrees}
 use Rattle.set_step.proofs.Bodies.{weight_is}
 
 -- The room of a window is no affair of the control's.

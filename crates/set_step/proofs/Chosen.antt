@@ -12,9 +12,9 @@ use Rattle.set_model.specs.Control.{head_of}
 use Rattle.set_model.specs.Rows.{Row, unack, wait}
 use Rattle.set_model.specs.State.{LinkState, State, window_of}
 use Rattle.set_model.specs.Step.{next as next_of, sends, unit_of}
-use Rattle.set_step.specs.declared.parts.Parts.{Parts}
-use Rattle.set_step.specs.Agreement.{StandsFor}
-use Rattle.set_step.specs.Parts.{Gives, kept_of}
+use Rattle.set_moves.specs.declared.parts.Parts.{Parts}
+use Rattle.set_moves.specs.Agreement.{StandsFor}
+use Rattle.set_moves.specs.Parts.{Gives, kept_of}
 use Rattle.set_step.specs.Sending.{choice_in, goes_on}
 
 module _ (n : ℕ) (link : LinkState) (s : State) (parts : Parts) (head : Header) where

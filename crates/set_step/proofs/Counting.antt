@@ -13,7 +13,7 @@ use Rattle.set_queues.specs.Messages.{unsent_of}
 use Rattle.set_model.specs.Rows.{Row, row_of, unsent, is_unsent, stream_of, service_indicator, IsNumbered}
 use Rattle.set_model.proofs.Finding.{with_number}
 use Rattle.set_model.proofs.Lookups.{at_most_one, row_is_first}
-use Rattle.set_step.specs.Agreement.{Label, Stands, kind_of, label_in, label_of}
+use Rattle.set_moves.specs.Agreement.{Label, Stands, kind_of, label_in, label_of}
 
 -- so many of the numbers below n
 abbrev below : (ℕ → Bool) → ℕ → ℕ

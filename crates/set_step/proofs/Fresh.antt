@@ -18,10 +18,10 @@ use Rattle.set_model.specs.Step.{step, stepped}
 use Rattle.set_model.proofs.Lists.{map_at}
 use Rattle.set_model.proofs.Soundness.{opened_sound, step_sound}
 use Rattle.set_model.proofs.Stepping.{step_is}
-use Rattle.set_step.specs.declared.parts.Parts.{Parts}
-use Rattle.set_step.specs.Agreement.{Kept, Agrees, Holds, HoldsFew, Stands, rows_at}
+use Rattle.set_moves.specs.declared.parts.Parts.{Parts}
+use Rattle.set_moves.specs.Agreement.{Kept, Agrees, Holds, HoldsFew, Stands, rows_at}
 use Rattle.set_step.specs.Answering.{AnswersFor}
-use Rattle.set_step.specs.Parts.{Answers, AreCounted, kept_of, link_of}
+use Rattle.set_moves.specs.Parts.{Answers, AreCounted, kept_of, link_of}
 
 -- NO MESSAGE
 

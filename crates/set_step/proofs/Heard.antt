@@ -14,9 +14,9 @@ use Rattle.set_model.specs.Control.{Control, Basic, Cyclic, part_of, control_hea
 use Rattle.set_model.specs.Rows.{is_unacked, turned}
 use Rattle.set_model.specs.State.{LinkState, State, window_of, with_link}
 use Rattle.set_model.specs.Step.{after_control, one_if, is_msu}
-use Rattle.set_step.specs.Agreement.{Kept, StandsFor}
-use Rattle.set_step.proofs.Becoming.{Becoming, becomes, link_then}
-use Rattle.set_step.proofs.States.{acked_for}
+use Rattle.set_moves.specs.Agreement.{Kept, StandsFor}
+use Rattle.set_moves.proofs.Becoming.{Becoming, becomes, link_then}
+use Rattle.set_moves.proofs.States.{acked_for}
 use Rattle.set_step.proofs.Choosing.{part_is, heard_is}
 
 -- So many are acknowledged as the BSN reaches, or none.

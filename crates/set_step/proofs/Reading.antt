@@ -16,7 +16,7 @@ use Rattle.set_model.specs.State.{State, LinkState, unacked_of, unacked_in}
 use Rattle.set_model.specs.declared.numbered.Numbered.{Numbered}
 use Rattle.set_model.proofs.Lists.{map_at}
 use Rattle.set_model.proofs.Lookups.{row_at_number}
-use Rattle.set_step.specs.Agreement.{Kept, StandsFor, Stands, kind_of}
+use Rattle.set_moves.specs.Agreement.{Kept, StandsFor, Stands, kind_of}
 use Rattle.set_step.proofs.Counting.{counted}
 
 -- THE USERS' MESSAGES of one place

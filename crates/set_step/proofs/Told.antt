@@ -31,13 +31,13 @@ use Rattle.set_model.specs.State.{LinkState, State, target, window_of}
 use Rattle.set_model.specs.Step.{heard as heard_of, controls, hears, takes, brought, after_control, report_of, is_msu}
 use Rattle.set_model.proofs.SoundLink.{hears_sound}
 use Rattle.set_model.proofs.Walk.{IsAt}
-use Rattle.set_step.specs.declared.link.Link.{Link}
-use Rattle.set_step.specs.declared.parts.Parts.{Parts}
-use Rattle.set_step.specs.Agreement.{Kept, StandsFor}
-use Rattle.set_step.specs.Hearing.{HasPlace, IsSpacious, IsSpaciousFor, KeepsSpace, order_brought, message_brought}
-use Rattle.set_step.specs.Parts.{Gives, Obeys, kept_of, link_of as link_kept}
-use Rattle.set_step.specs.Room.{HasRoom, IsReady, target_beside}
-use Rattle.set_step.proofs.Targets.{same_ups, same_target}
+use Rattle.set_moves.specs.declared.link.Link.{Link}
+use Rattle.set_moves.specs.declared.parts.Parts.{Parts}
+use Rattle.set_moves.specs.Agreement.{Kept, StandsFor}
+use Rattle.set_step.specs.Hearing.{HasPlace, IsSpacious, KeepsSpace, order_brought, message_brought}
+use Rattle.set_moves.specs.Parts.{Gives, Obeys, kept_of, link_of as link_kept}
+use Rattle.set_moves.specs.Room.{HasRoom, IsReady, IsSpaciousFor, target_beside}
+use Rattle.set_moves.proofs.Targets.{same_ups, same_target}
 
 -- THE INBOX
 inbox_for : (k : Kept) (s : State) (inbox : List (List ℕ)) → StandsFor k s → StandsFor (record k { inbox = inbox }) (record s { inbox = inbox })

@@ -2,7 +2,7 @@
 use Rattle.std.specs.Prelude.{◌≡◌}
 use Rattle.set_events.specs.declared.answer.Answer.{Answer}
 use Rattle.set_model.specs.Step.{Outcome}
-use Rattle.set_step.specs.Agreement.{Kept, Agrees}
+use Rattle.set_moves.specs.Agreement.{Kept, Agrees}
 
 -- the answer is this outcome's, and what is kept agrees with its state
 pub record AnswersFor (outcome : Outcome) (answer : Answer) (k : Kept) : Type 0 where

@@ -4,15 +4,13 @@ use Rattle.std.specs.VecDeque.{deque_len, deque_capacity}
 use Rattle.l2_units.specs.declared.unit.Unit.{Unit as SignalUnit}
 use Rattle.l2_units.specs.declared.unit.Unit.TheVariants.{Fisu, Lssu, Msu}
 use Rattle.l3_orders.specs.declared.order.Order.{Order}
-use Rattle.l3_orders.specs.declared.order.Order.TheVariants.{Coo, Coa, Cbd, Cba, Eco, Eca}
 use Rattle.l3_orders.specs.Grammar.{order_of}
 use Rattle.set_events.specs.declared.answer.Fate.TheVariants.{Back}
 use Rattle.set_queues.specs.Buffers.{KeepsRoom, queue_at}
-use Rattle.set_route.specs.Routing.{home_of}
 use Rattle.set_queues.specs.Settling.{on}
 use Rattle.set_model.specs.Rows.{service_indicator}
-use Rattle.set_step.specs.declared.parts.Parts.{Parts}
-use Rattle.set_step.specs.Room.{HasRoom, IsReady, order_fate, back_at, home_room}
+use Rattle.set_moves.specs.declared.parts.Parts.{Parts}
+use Rattle.set_moves.specs.Room.{IsSpaciousFor}
 
 -- the order that a unit brings, if it brings one
 abbrev pub order_brought : SignalUnit → Option Order
@@ -31,16 +29,7 @@ abbrev pub HasPlace : Option (List ℕ) → Parts → Type 0
 HasPlace None parts = Unit {0}
 HasPlace (Some body) parts = deque_len parts.inbox < deque_capacity parts.inbox
 
--- there is room for what an order moves, and for the one that answers it
-abbrev pub IsSpaciousFor : Order → Parts → Type 0
-IsSpaciousFor (Cbd link code) parts = HasRoom (order_fate parts) parts
-IsSpaciousFor (Cba link code) parts =
-    home_of code < length parts.links.items → length (back_at code parts) ≤ home_room code parts
-IsSpaciousFor (Coo link number) parts = link < length parts.links.items → IsReady link 1 parts
-IsSpaciousFor (Coa link number) parts = link < length parts.links.items → IsReady link 1 parts
-IsSpaciousFor (Eco link) parts = link < length parts.links.items → IsReady link 1 parts
-IsSpaciousFor (Eca link) parts = link < length parts.links.items → IsReady link 1 parts
-
+-- there is room for what it moves, and for the order that answers it
 abbrev pub IsSpacious : Option Order → Parts → Type 0
 IsSpacious None parts = Unit {0}
 IsSpacious (Some order) parts = IsSpaciousFor order parts

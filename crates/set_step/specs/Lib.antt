@@ -1,11 +1,4 @@
-pub mod Agreement
 pub mod Answering
-pub mod Controls
-pub mod Declaring
 pub mod Faults
 pub mod Hearing
-pub mod Parts
-pub mod Refusing
-pub mod Room
 pub mod Sending
-pub mod Turning

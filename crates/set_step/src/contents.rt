@@ -1,14 +1,13 @@
 //! What a set keeps, as one event after another changes it.
 ghost use Rattle.std.specs.Prelude.{◌≡◌, IfOk, map, replicate};
 ghost use Rattle.set_model.specs.State.{new_link};
-ghost use Rattle.set_step.specs.Parts.{link_of};
+ghost use Rattle.set_moves.specs.Parts.{link_of};
 
 use super::fault::SetFault;
-use super::link::Link;
-use super::parts::Parts;
 use super::step::{carry_out, is_asked};
 use set_events::{Answer, Counts, Event, Fate, SetConfig};
 use set_model::{Numbered, Phase};
+use set_moves::{Link, Parts};
 use set_queues::{Bodies, Queues};
 use set_route::Routes;
 use std::alloc::{AllocError, Global};
@@ -27,11 +26,11 @@ pub struct Core {
 }
 
 impl Model for Core {
-    ghost use Rattle.set_step.specs.Agreement.{Kept, Holds};
+    ghost use Rattle.set_moves.specs.Agreement.{Kept, Holds};
 
     ghost Value = { Kept };
 
-    ghost use Rattle.set_step.specs.Parts.{kept_of};
+    ghost use Rattle.set_moves.specs.Parts.{kept_of};
 
     ghost view = { λ c. kept_of c.parts };
 
@@ -44,7 +43,7 @@ impl Core {
     ghost use Rattle.set_model.specs.State.{State, new_state, link_count, is_up as is_up_in, is_settled as is_settled_in, unacked_in};
     ghost use Rattle.set_model.specs.History.{longest_history};
     ghost use Rattle.set_model.specs.Step.{step};
-    ghost use Rattle.set_step.specs.Agreement.{Agrees, StandsFor, Holds, HoldsFew};
+    ghost use Rattle.set_moves.specs.Agreement.{Agrees, StandsFor, Holds, HoldsFew};
     ghost use Rattle.set_step.specs.Answering.{AnswersFor};
     ghost use Rattle.set_step.specs.Faults.{wants_none};
 

@@ -7,19 +7,18 @@ ghost use Rattle.set_model.specs.Control.{part_of};
 ghost use Rattle.set_model.specs.Rows.{service_indicator};
 ghost use Rattle.set_model.specs.State.{State, window_of};
 ghost use Rattle.set_model.specs.Step.{in_service, heard, is_msu, brought, takes, after_control, report_of};
-ghost use Rattle.set_step.specs.Agreement.{Agrees, Holds};
-ghost use Rattle.set_step.specs.Hearing.{HasPlace, IsSpacious, IsSpaciousFor, KeepsSpace, order_brought, message_brought};
-ghost use Rattle.set_step.specs.Parts.{Answers, AreCounted, IsWhole, OfStates, BecomesAt, Obeys, kept_of};
-ghost use Rattle.set_step.specs.Room.{IsReady, SameButRoom, back_at, home_room};
+ghost use Rattle.set_moves.specs.Agreement.{Agrees, Holds};
+ghost use Rattle.set_step.specs.Hearing.{HasPlace, IsSpacious, KeepsSpace, order_brought, message_brought};
+ghost use Rattle.set_moves.specs.Parts.{Answers, AreCounted, IsWhole, OfStates, BecomesAt, Obeys, kept_of};
+ghost use Rattle.set_moves.specs.Room.{IsReady, IsSpaciousFor, SameButRoom, back_at, home_room};
 
-use super::changeover::obey;
-use super::inbox::HeardBody;
-use super::parts::{Parts, fate_of, make_room, make_room_beside, target_of};
-use super::sending::out_of_service;
 use l2_units::{Unit, header_in};
 use l2_window::HeardPart;
 use l3_orders::{Order, read_order};
 use set_events::{Answer, Fate, Refusal, Report, Took};
+use set_moves::{
+    HeardBody, Parts, fate_of, make_room, make_room_beside, obey, out_of_service, target_of,
+};
 use set_route::home_of_code;
 use std::alloc::AllocError;
 

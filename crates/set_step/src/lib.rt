@@ -3,7 +3,7 @@
 //! What a set keeps, [`Core`], is queues of numbers and a fate for each (`set_queues`), the bodies by their
 //! numbers, its links, where its streams run, and the messages heard for users. It isn't a function of
 //! the state of the model (`set_model`), nor the other way round: it agrees with a state
-//! (`specs/Agreement.antt`), and [`Core::apply`] says of every state that it agreed with that it agrees with what
+//! (`crates/set_moves/specs/Agreement.antt`), and [`Core::apply`] says of every state that it agreed with that it agrees with what
 //! the model's step makes of it, and answers as that step does.
 //!
 //! ```text
@@ -14,27 +14,18 @@
 //!
 //! An event costs what it moves, however many messages there ever were (`tools/set-bench`).
 //!
-//! The files: `parts` what a set holds; `link` and `control` one link; `sending` and `hearing` what a link's
-//! terminal asks and tells; `inbox` what was heard for users; `changeover` how a link is left and orders are
-//! obeyed; `settling` what becomes of its messages; `step` the case of each event; `contents` the whole.
+//! What is kept, and the moves of changeover and changeback, stand in `set_moves`. The files: `sending` and `hearing` what a
+//! link's terminal asks and tells; `step` the case of each event; `contents` the whole.
 //!
 //! This crate reads no clock, waits for nothing, takes no lock and does no IO. A call that may want memory
 //! takes it before it changes anything.
 #![tactic(auto)]
 
-mod changeback;
-mod changeover;
 mod contents;
-mod control;
 mod fault;
 mod hearing;
-mod inbox;
-mod link;
-mod parts;
 mod sending;
-mod settling;
 mod step;
-mod turning;
 
 pub use contents::Core;
 pub use fault::SetFault;

@@ -6,29 +6,15 @@ ghost use Rattle.set_model.specs.Rows.{Row, IsInOrder, is_waiting, turned};
 ghost use Rattle.set_model.specs.Control.{head_of};
 ghost use Rattle.set_model.specs.State.{State, LinkState, window_of};
 ghost use Rattle.set_model.specs.Step.{next, in_service};
-ghost use Rattle.set_step.specs.Agreement.{Agrees, Holds, StandsFor, rows_at};
-ghost use Rattle.set_step.specs.Parts.{Answers, AnswersAt, OfAgreed, AgreedBecomes, kept_of};
-ghost use Rattle.set_step.specs.Refusing.{service_refusal};
+ghost use Rattle.set_moves.specs.Agreement.{Agrees, Holds, StandsFor, rows_at};
+ghost use Rattle.set_moves.specs.Parts.{Answers, AnswersAt, OfAgreed, AgreedBecomes, kept_of};
 ghost use Rattle.set_step.specs.Sending.{IsThere, choice_in, goes_on};
 
-use super::link::Link;
-use super::parts::Parts;
 use arrayvec::ArrayVec;
 use l2_units::{Header, LONGEST_BODY, Unit};
 use l2_window::Choice;
-use set_events::{Answer, Fate, Refusal};
-use set_model::Phase;
-
-/// Why an event of this link that needs it in service is refused, if it is.
-pub(crate) fn out_of_service(links: &[Link], number: u8) -> Option<Refusal>
-    ensures { result ≡ service_refusal (slice_get links.now number) }
-{
-    match links.get(usize::from(number)) {
-        None => Some(Refusal::NoSuchLink),
-        Some(link) if link.phase != Phase::Up => Some(Refusal::NotUp),
-        Some(_) => None,
-    }
-}
+use set_events::{Answer, Fate};
+use set_moves::{Parts, copy_of, out_of_service};
 
 /// The next unit to send.
 pub(crate) fn send_next(parts: &mut Parts, number: u8, answer: &mut Answer)
@@ -128,18 +114,6 @@ fn send_first(parts: &mut Parts, number: u8)
 {
     match parts.queues.send(number) {
         Ok(_) => (),
-        Err(_) => unreachable!(),
-    }
-}
-
-/// A unit's body of these octets.
-pub(crate) fn copy_of(body: &[u8]) -> ArrayVec<u8, LONGEST_BODY>
-    requires { length body.now ≤ 273 }
-    ensures { result.items ≡ body.now }
-{
-    let mut copy = ArrayVec::new();
-    match copy.try_extend_from_slice(body) {
-        Ok(()) => copy,
         Err(_) => unreachable!(),
     }
 }

@@ -9,26 +9,22 @@ ghost use Rattle.set_model.specs.Sound.{IsAsked};
 ghost use Rattle.set_model.specs.Step.{offer_refusal, offered, on_link, in_service, rises, falls, gives_up, taken, found, stepped};
 ghost use Rattle.set_model.specs.Rows.{appended, place, stream_of};
 ghost use Rattle.set_model.specs.declared.phase.Phase.TheVariants.{Up, Settled};
-ghost use Rattle.set_step.specs.Agreement.{Holds};
+ghost use Rattle.set_moves.specs.Agreement.{Holds};
 ghost use Rattle.set_step.specs.Faults.{wants_none};
-ghost use Rattle.set_step.specs.Parts.{Answers, AreCounted, Becomes, BecomesAt, AgreedBecomes, AtLink, link_of, kept_of};
-ghost use Rattle.set_step.specs.Refusing.{refusal_by, rising_refusal, waiting_refusal};
-ghost use Rattle.set_step.specs.Room.{HasRoom, IsReady};
+ghost use Rattle.set_moves.specs.Parts.{Answers, AreCounted, Becomes, BecomesAt, AgreedBecomes, AtLink, link_of, kept_of};
+ghost use Rattle.set_moves.specs.Refusing.{refusal_by, rising_refusal, waiting_refusal};
+ghost use Rattle.set_moves.specs.Room.{HasRoom, IsReady};
 
-use super::changeback::{restore, time_out};
-use super::changeover::{leave, queue};
 use super::hearing::hear;
-use super::link::Link;
-use super::parts::{
-    Parts, fate_of_new, make_room, make_room_beside, make_room_parked, phase_of, stand_last,
-    stream_of_body,
-};
-use super::sending::{out_of_service, send_next};
-use super::settling::settle;
+use super::sending::send_next;
 use l2_units::LONGEST_BODY;
 use l3_orders::Order;
 use set_events::{Answer, Body, Event, Fate, Refusal};
 use set_model::{Phase, Reached};
+use set_moves::{
+    Link, Parts, fate_of_new, leave, make_room, make_room_beside, make_room_parked, out_of_service,
+    phase_of, queue, restore, settle, stand_last, stream_of_body, time_out,
+};
 use set_queues::Queues;
 use std::alloc::AllocError;
 

@@ -9,13 +9,13 @@ use Rattle.set_queues.specs.Sending.{acknowledged as acked_lists, reach}
 use Rattle.set_model.specs.Control.{Control}
 use Rattle.set_model.specs.State.{LinkState, window_of}
 use Rattle.set_model.specs.Step.{is_msu}
-use Rattle.set_step.specs.declared.link.Link.{Link}
-use Rattle.set_step.specs.Parts.{IsCounted, link_of, kept_of}
+use Rattle.set_moves.specs.declared.link.Link.{Link}
+use Rattle.set_moves.specs.Parts.{IsCounted, link_of, kept_of}
 use Rattle.set_step.proofs.Choosing.{window_is}
 use Rattle.set_step.proofs.Heard.{some_heard, none_heard, low_part, part_told, heard_told, reach_told, heard_link, counts, one_byte, one_low}
-use Rattle.set_step.proofs.Links.{found, link_set, set_view, stands_for}
-use Rattle.set_step.proofs.Less.{NoLonger, acked_less, on_less}
-use Rattle.set_step.proofs.Rooms.{counted_set, wider, whole_of}
+use Rattle.set_moves.proofs.Links.{found, link_set, set_view, stands_for}
+use Rattle.set_moves.proofs.Less.{NoLonger, acked_less, on_less}
+use Rattle.set_moves.proofs.Rooms.{counted_set, wider, whole_of}
 use Rattle.set_step.proofs.hearing.control_hears.Goals as goal
 
 pub overflow_add-link : goal.overflow_add-link

@@ -8,12 +8,12 @@ use Rattle.set_model.specs.declared.phase.Phase.TheVariants.{Up}
 use Rattle.set_model.specs.Control.{part_of}
 use Rattle.set_model.specs.State.{State, window_of}
 use Rattle.set_model.specs.Step.{Outcome, heard as heard_of, after_control, is_msu}
-use Rattle.set_step.specs.declared.parts.Parts.{Parts}
-use Rattle.set_step.specs.Agreement.{StandsFor, Agrees}
+use Rattle.set_moves.specs.declared.parts.Parts.{Parts}
+use Rattle.set_moves.specs.Agreement.{StandsFor, Agrees}
 use Rattle.set_step.specs.Hearing.{order_brought, message_brought}
-use Rattle.set_step.specs.Parts.{Gives, AreCounted, kept_of}
-use Rattle.set_step.specs.Refusing.{service_refusal}
-use Rattle.set_step.proofs.Admitting.{IsHere, IsIn, serves, unserved, is_in, served}
+use Rattle.set_moves.specs.Parts.{Gives, AreCounted, kept_of}
+use Rattle.set_moves.specs.Refusing.{service_refusal}
+use Rattle.set_moves.proofs.Admitting.{IsHere, IsIn, serves, unserved, is_in, served}
 use Rattle.set_step.proofs.Told.{heard_gives, heard_controls, heard_sound, place_still, spacious_still}
 use Rattle.set_step.proofs.hearing.hear.Goals as goal
 

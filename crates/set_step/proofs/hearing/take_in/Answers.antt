@@ -1,5 +1,5 @@
 use Rattle.std.proofs.Common.{◌∙◌, sym}
-use Rattle.set_step.specs.Parts.{kept_of}
+use Rattle.set_moves.specs.Parts.{kept_of}
 use Rattle.set_step.proofs.Told.{delivered, message_taken, nothing_brought, not_accepted, order_taken, no_order_taken}
 use Rattle.set_step.proofs.hearing.take_in.Goals as goal
 

@@ -5,8 +5,8 @@ use Rattle.set_queues.proofs.Standing.{none_past}
 use Rattle.set_queues.specs.Buffers.{queue_at}
 use Rattle.set_model.specs.Rows.{Row}
 use Rattle.set_model.specs.State.{State}
-use Rattle.set_step.specs.Agreement.{Kept, Agrees, rows_at}
-use Rattle.set_step.specs.Parts.{kept_of}
+use Rattle.set_moves.specs.Agreement.{Kept, Agrees, rows_at}
+use Rattle.set_moves.specs.Parts.{kept_of}
 use Rattle.set_step.proofs.Bodies.{stands_at}
 use Rattle.set_step.proofs.sending.body_at.Goals as goal
 

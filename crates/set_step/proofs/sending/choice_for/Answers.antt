@@ -1,10 +1,10 @@
-use Rattle.set_step.proofs.Rooms.{whole_of}
+use Rattle.set_moves.proofs.Rooms.{whole_of}
 use Rattle.std.proofs.Common.{◌∙◌, ap, arith}
 use Rattle.set_model.specs.State.{LinkState, window_of}
 use Rattle.set_model.specs.Rows.{octets_in, unack}
-use Rattle.set_step.specs.Parts.{kept_of}
+use Rattle.set_moves.specs.Parts.{kept_of}
 use Rattle.set_step.proofs.Choosing.{window_is, choice_is, weighs}
-use Rattle.set_step.proofs.Links.{stands_for}
+use Rattle.set_moves.proofs.Links.{stands_for}
 use Rattle.set_step.proofs.sending.choice_for.Goals as goal
 
 pub returns-clause-chosen : goal.returns-clause-chosen

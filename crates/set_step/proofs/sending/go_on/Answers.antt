@@ -1,13 +1,13 @@
-use Rattle.set_step.proofs.Rooms.{whole_of}
+use Rattle.set_moves.proofs.Rooms.{whole_of}
 use Rattle.std.proofs.Common.{refl, ◌∙◌, ap, sym, slice_get, arith}
 use Rattle.set_model.specs.Control.{control_after}
 use Rattle.set_model.specs.Rows.{octets_in, unack}
 use Rattle.set_model.specs.State.{LinkState, window_of}
 use Rattle.set_model.proofs.Lists.{map_at}
-use Rattle.set_step.specs.Parts.{link_of, kept_of}
-use Rattle.set_step.proofs.Becoming.{link_then}
+use Rattle.set_moves.specs.Parts.{link_of, kept_of}
+use Rattle.set_moves.proofs.Becoming.{link_then}
 use Rattle.set_step.proofs.Choosing.{window_is, choice_is, after_is, head_is, weighs}
-use Rattle.set_step.proofs.Links.{found, link_set, stands_for}
+use Rattle.set_moves.proofs.Links.{found, link_set, stands_for}
 use Rattle.set_step.proofs.sending.go_on.Goals as goal
 
 pub send-requires : goal.send-requires

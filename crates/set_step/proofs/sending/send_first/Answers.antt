@@ -1,8 +1,8 @@
 use Rattle.std.proofs.Common.{refl, arith, ◌≡◌, ◌≢◌, ap, ◌<◌, List, ℕ, [], length, true, false}
 use Rattle.set_events.specs.declared.answer.Fate.TheVariants.{Waiting}
 use Rattle.set_queues.specs.Buffers.{queue_at}
-use Rattle.set_step.specs.Parts.{kept_of}
-use Rattle.set_step.proofs.Becoming.{sent_then}
+use Rattle.set_moves.specs.Parts.{kept_of}
+use Rattle.set_moves.proofs.Becoming.{sent_then}
 use Rattle.set_step.proofs.sending.send_first.Goals as goal
 
 some : (xs : List ℕ) → 0 < length xs → xs ≢ []

@@ -1,7 +1,7 @@
 use Rattle.std.proofs.Common.{◌∙◌, ap, sym, slice_get}
 use Rattle.set_model.specs.Step.{next as next_of}
-use Rattle.set_step.specs.Refusing.{service_refusal}
-use Rattle.set_step.proofs.Admitting.{serves, unserved, is_in, served}
+use Rattle.set_moves.specs.Refusing.{service_refusal}
+use Rattle.set_moves.proofs.Admitting.{serves, unserved, is_in, served}
 use Rattle.set_step.proofs.sending.send_next.Goals as goal
 
 pub returns-in-Some : goal.returns-in-Some

@@ -1,4 +1,4 @@
-use Rattle.set_step.proofs.Rooms.{whole_of}
+use Rattle.set_moves.proofs.Rooms.{whole_of}
 use Rattle.std.proofs.Common.{◌≡◌, subst, arith}
 use Rattle.l2_window.specs.Control.{fsn_of}
 use Rattle.l2_window.specs.declared.control.Choice.TheVariants.{First}
@@ -7,9 +7,9 @@ use Rattle.set_model.specs.Control.{head_of, control_after}
 use Rattle.set_model.specs.Rows.{octets_in, unack}
 use Rattle.set_model.specs.State.{window_of}
 use Rattle.set_model.proofs.Lists.{within, get_set_same}
-use Rattle.set_step.specs.Agreement.{StandsFor}
+use Rattle.set_moves.specs.Agreement.{StandsFor}
 use Rattle.set_step.specs.Sending.{goes_on, IsThere}
-use Rattle.set_step.specs.Parts.{kept_of}
+use Rattle.set_moves.specs.Parts.{kept_of}
 use Rattle.set_step.proofs.Bodies.{row_there}
 use Rattle.set_step.proofs.Chosen.{again_given, first_given, fill_given}
 use Rattle.set_step.proofs.sending.unit_of.Goals as goal

@@ -1,10 +1,10 @@
 use Rattle.std.proofs.Common.{arith, ◌≡◌, ◌<◌, ◌∙◌, ap, sym, slice_get, ℕ}
 use Rattle.set_model.specs.declared.phase.Phase.TheVariants.{Settled}
 use Rattle.set_model.proofs.Lists.{same_at}
-use Rattle.set_step.specs.declared.link.Link.{Link}
-use Rattle.set_step.specs.Refusing.{rising_refusal}
-use Rattle.set_step.proofs.Admitting.{can_rise, unraised, is_in, here_same, agrees_same, risen_done}
-use Rattle.set_step.proofs.Rooms.{whole_of}
+use Rattle.set_moves.specs.declared.link.Link.{Link}
+use Rattle.set_moves.specs.Refusing.{rising_refusal}
+use Rattle.set_moves.proofs.Admitting.{can_rise, unraised, is_in, here_same, agrees_same, risen_done}
+use Rattle.set_moves.proofs.Rooms.{whole_of}
 use Rattle.set_step.proofs.step.bring_up.Goals as goal
 
 pub returns-in-Some-clause-ok : goal.returns-in-Some-clause-ok

@@ -4,9 +4,9 @@ use Rattle.set_events.specs.declared.answer.Fate.{Fate}
 use Rattle.set_events.specs.declared.answer.Refusal.TheVariants.{UnknownNumber}
 use Rattle.set_model.specs.State.{State}
 use Rattle.set_model.specs.Step.{found}
-use Rattle.set_step.specs.declared.parts.Parts.{Parts}
-use Rattle.set_step.specs.Agreement.{StandsFor}
-use Rattle.set_step.specs.Parts.{Gives, kept_of}
+use Rattle.set_moves.specs.declared.parts.Parts.{Parts}
+use Rattle.set_moves.specs.Agreement.{StandsFor}
+use Rattle.set_moves.specs.Parts.{Gives, kept_of}
 use Rattle.set_step.proofs.step.find.Goals as goal
 
 it_is : (parts : Parts) (s : State) (there : Option Fate) (fate : Fate) → there ≡ Some fate → StandsFor (kept_of parts) s → Gives (found there s) (Found fate) parts

@@ -1,10 +1,10 @@
-use Rattle.set_step.specs.declared.link.Link.{Link}
-use Rattle.set_step.proofs.Leaving.{out_at}
+use Rattle.set_moves.specs.declared.link.Link.{Link}
+use Rattle.set_moves.proofs.Leaving.{out_at}
 use Rattle.std.proofs.Common.{refl, ◌∙◌, ap, sym, slice_get, arith, List}
 use Rattle.set_model.specs.declared.phase.Phase.TheVariants.{Down}
-use Rattle.set_step.specs.Refusing.{waiting_refusal}
-use Rattle.set_step.proofs.Admitting.{can_wait, unwaited, is_in, here_same, agrees_same, given_done}
-use Rattle.set_step.proofs.Rooms.{here_room, whole_of, whole_still}
+use Rattle.set_moves.specs.Refusing.{waiting_refusal}
+use Rattle.set_moves.proofs.Admitting.{can_wait, unwaited, is_in, here_same, agrees_same, given_done}
+use Rattle.set_moves.proofs.Rooms.{here_room, whole_of, whole_still}
 use Rattle.set_step.proofs.step.give_up.Goals as goal
 
 pub returns-in-Some-clause-ok : goal.returns-in-Some-clause-ok

@@ -7,13 +7,13 @@ use Rattle.set_route.specs.Routing.{place_of, accepted}
 use Rattle.set_model.specs.Rows.{appended, stream_of}
 use Rattle.set_model.specs.State.{State, fate_at}
 use Rattle.set_model.specs.Step.{offered, offer_refusal}
-use Rattle.set_step.specs.declared.parts.Parts.{Parts}
-use Rattle.set_step.specs.Agreement.{Kept, StandsFor, Agrees}
-use Rattle.set_step.specs.Refusing.{refusal_by}
-use Rattle.set_step.specs.Parts.{Gives, kept_of}
-use Rattle.set_step.proofs.Admitting.{agrees_same}
+use Rattle.set_moves.specs.declared.parts.Parts.{Parts}
+use Rattle.set_moves.specs.Agreement.{Kept, StandsFor, Agrees}
+use Rattle.set_moves.specs.Refusing.{refusal_by}
+use Rattle.set_moves.specs.Parts.{Gives, kept_of}
+use Rattle.set_moves.proofs.Admitting.{agrees_same}
 use Rattle.set_step.proofs.Counting.{unsent_is}
-use Rattle.set_step.proofs.Rooms.{whole_of}
+use Rattle.set_moves.proofs.Rooms.{whole_of}
 use Rattle.set_step.proofs.step.offer.Goals as goal
 
 pub fate_of_new-fate-requires-clause-whole : goal.fate_of_new-fate-requires-clause-whole

@@ -11,11 +11,11 @@ use Rattle.set_model.specs.State.{Settings}
 use Rattle.set_model.specs.Step.{risen_link}
 use Rattle.set_model.proofs.Lists.{map_at, map_set, present}
 use Rattle.set_model.proofs.Settling.{settled_empty}
-use Rattle.set_step.specs.declared.parts.Parts.{Parts}
-use Rattle.set_step.specs.Agreement.{Holds}
-use Rattle.set_step.specs.Parts.{AtLink, link_of, kept_of}
-use Rattle.set_step.proofs.Becoming.{risen_then}
-use Rattle.set_step.proofs.Rooms.{whole_of}
+use Rattle.set_moves.specs.declared.parts.Parts.{Parts}
+use Rattle.set_moves.specs.Agreement.{Holds}
+use Rattle.set_moves.specs.Parts.{AtLink, link_of, kept_of}
+use Rattle.set_moves.proofs.Becoming.{risen_then}
+use Rattle.set_moves.proofs.Rooms.{whole_of}
 use Rattle.set_step.proofs.step.rise.Goals as goal
 
 -- nothing stands on a link that settled

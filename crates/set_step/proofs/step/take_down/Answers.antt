@@ -1,10 +1,10 @@
-use Rattle.set_step.proofs.Rooms.{whole_of}
+use Rattle.set_moves.proofs.Rooms.{whole_of}
 use Rattle.std.proofs.Common.{◌∙◌, ap, sym, slice_get}
 use Rattle.set_model.specs.Step.{falls}
 use Rattle.set_model.specs.declared.phase.Phase.TheVariants.{Up}
-use Rattle.set_step.specs.Refusing.{service_refusal}
-use Rattle.set_step.proofs.Admitting.{serves, unserved, is_in, here_same, agrees_same, fallen_done}
-use Rattle.set_step.proofs.Leaving.{up_at}
+use Rattle.set_moves.specs.Refusing.{service_refusal}
+use Rattle.set_moves.proofs.Admitting.{serves, unserved, is_in, here_same, agrees_same, fallen_done}
+use Rattle.set_moves.proofs.Leaving.{up_at}
 use Rattle.set_step.proofs.step.take_down.Goals as goal
 
 pub returns-in-Some-clause-ok : goal.returns-in-Some-clause-ok

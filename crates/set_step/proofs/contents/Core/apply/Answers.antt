@@ -1,5 +1,5 @@
 use Rattle.std.proofs.Common.{subst, sym}
-use Rattle.set_step.specs.Agreement.{Agrees}
+use Rattle.set_moves.specs.Agreement.{Agrees}
 use Rattle.set_step.proofs.Fresh.{answers_for, holds_after, counted_of}
 use Rattle.set_step.proofs.contents.Core.apply.Goals as goal
 

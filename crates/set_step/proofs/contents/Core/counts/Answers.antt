@@ -3,8 +3,8 @@ use Rattle.set_model.specs.Rows.{is_users, users, total_of}
 use Rattle.set_model.proofs.Counting.{total_is}
 use Rattle.set_model.proofs.Filters.{fewer_filter}
 use Rattle.set_model.specs.State.{State}
-use Rattle.set_step.specs.Agreement.{StandsFor}
-use Rattle.set_step.specs.Parts.{kept_of}
+use Rattle.set_moves.specs.Agreement.{StandsFor}
+use Rattle.set_moves.specs.Parts.{kept_of}
 use Rattle.set_step.proofs.Reading.{counts_are}
 use Rattle.set_step.proofs.contents.Core.counts.Goals as goal
 use Rattle.set_step.proofs.contents.Core.counts.Goals.{After-counts}

@@ -1,5 +1,5 @@
 use Rattle.std.proofs.Common.{refl, rules}
-use Rattle.set_step.proofs.Links.{read_none, read_some, state_none, state_some}
+use Rattle.set_moves.proofs.Links.{read_none, read_some, state_none, state_some}
 use Rattle.set_step.proofs.contents.Core.is_up.Goals as goal
 
 pub returns-in-Some : goal.returns-in-Some

@@ -1,5 +1,5 @@
 use Rattle.std.proofs.Common.{◌∙◌}
-use Rattle.set_step.proofs.Links.{length_links}
+use Rattle.set_moves.proofs.Links.{length_links}
 use Rattle.set_step.proofs.contents.Core.links.Goals as goal
 
 pub returns : goal.returns

@@ -1,8 +1,8 @@
 use Rattle.std.proofs.Common.{refl, sym, subst}
 use Rattle.set_model.specs.State.{new_state}
-use Rattle.set_step.specs.declared.parts.Parts.{Parts}
-use Rattle.set_step.specs.Agreement.{Agrees}
-use Rattle.set_step.specs.Parts.{kept_of}
+use Rattle.set_moves.specs.declared.parts.Parts.{Parts}
+use Rattle.set_moves.specs.Agreement.{Agrees}
+use Rattle.set_moves.specs.Parts.{kept_of}
 use Rattle.set_step.proofs.Fresh.{new_is, new_agrees}
 use Rattle.set_step.proofs.contents.Core.new.Goals as goal
 use Rattle.set_step.proofs.contents.Core.new.Goals.{After-new-4}

@@ -1,0 +1,120 @@
+-- What is kept after a call stands for what became of the state.
+use Rattle.std.proofs.Common.{refl, arith, ◌≡◌, ◌∙◌, ap, sym, subst, ◌≤◌, ◌<◌, [], ◌∷◌, ◌++◌, List, ℕ, false, length, take, Option, Some, None, ◌==◌, slice_get, slice_set}
+use Rattle.set_events.specs.declared.answer.Fate.{Fate}
+use Rattle.set_events.specs.declared.answer.Fate.TheVariants.{Unacked, Waiting, Acked, Parked, Discarded}
+use Rattle.set_events.specs.declared.answer.DiscardCause.{DiscardCause}
+use Rattle.set_events.specs.declared.answer.DiscardCause.TheVariants.{Unreasonable}
+use Rattle.set_queues.specs.declared.message.Message.{Message}
+use Rattle.set_queues.specs.Buffers.{Lists, queue_at, with_queue, with_last, IsKnown, IsQueued}
+use Rattle.set_queues.specs.Messages.{restood}
+use Rattle.set_queues.specs.Sending.{first_sent, acknowledged as acked_lists, reach}
+use Rattle.set_queues.specs.Queues.{passed}
+use Rattle.set_queues.specs.Settling.{on as on_lists, settled as settled_lists}
+use Rattle.set_queues.proofs.Passing.{links_stay, queued_stands}
+use Rattle.set_queues.proofs.Settling.{IsAside}
+use Rattle.set_route.specs.Routing.{Routing, settled as streams_settled}
+use Rattle.set_model.specs.declared.reached.Reached.{Reached}
+use Rattle.set_model.specs.declared.reached.Reached.TheVariants.{Upto, Unknown, Unanswered}
+use Rattle.set_model.specs.Rows.{Row, appended, changed, turned, is_unacked, is_waiting, is_on, is_parked, moved, all_with, IsInOrder}
+use Rattle.set_model.specs.Changeover.{judged, discarded, acknowledged_by, acknowledged, moved_over, settled_link, fate_on}
+use Rattle.set_model.specs.State.{State, LinkState, target, with_link}
+use Rattle.set_model.proofs.Events.{Kept as RowsKept, moved_to, moved_aside}
+use Rattle.set_model.proofs.Lists.{set_same}
+use Rattle.set_moves.specs.Agreement.{Kept, StandsFor, Agrees}
+use Rattle.set_moves.specs.Parts.{IsReach}
+use Rattle.set_moves.proofs.Standing.{message_of}
+use Rattle.set_moves.proofs.States.{kept_is, link_for, sent_for, appended_for, acked_for, sent_up_for, waiting_up_for, settled_for, risen_for}
+use Rattle.set_moves.proofs.Reaching.{reach_is, is_reached, is_unreached}
+
+-- new keeps this, and all else as old
+pub record Becoming (old new : Kept) (lists : Lists) (messages : List Message) (bodies : List (List ℕ)) (links : List LinkState) (routing : Routing) : Type 0 where
+  pub settings_same : new.settings ≡ old.settings
+  pub lists_are : new.lists ≡ lists
+  pub messages_are : new.messages ≡ messages
+  pub bodies_are : new.bodies ≡ bodies
+  pub links_are : new.links ≡ links
+  pub routing_is : new.routing ≡ routing
+  pub inbox_same : new.inbox ≡ old.inbox
+
+module _ (old new : Kept) (lists : Lists) (messages : List Message) (bodies : List (List ℕ)) (links : List LinkState) (routing : Routing) (s : State) where
+  pub becomes : Becoming old new lists messages bodies links routing → StandsFor (record old { lists = lists; messages = messages; bodies = bodies; links = links; routing = routing }) s → StandsFor new s
+  becomes b f = subst (λ k. StandsFor k s) (ap (λ settings. record { settings = settings; lists = lists; messages = messages; bodies = bodies; links = links; routing = routing; inbox = old.inbox }) (sym b.settings_same) ∙ kept_is new lists messages bodies links routing old.inbox b.lists_are b.messages_are b.bodies_are b.links_are b.routing_is b.inbox_same) f
+
+-- A NEW MESSAGE
+pub appended_then : (old new : Kept) (s : State) (body : List ℕ) (fate : Fate) (message : Message) → StandsFor old s → IsQueued fate → IsKnown fate old.lists → message ≡ message_of body fate
+    → Becoming old new (with_queue fate (queue_at fate old.lists ++ length old.messages ∷ []) old.lists) (old.messages ++ message ∷ []) (old.bodies ++ body ∷ []) old.links old.routing → StandsFor new (record s { rows = appended s.rows body fate })
+appended_then old new s body fate message f queued known is b =
+    becomes old new _ _ _ _ _ (record s { rows = appended s.rows body fate }) b
+    (subst (λ (m : Message). StandsFor (record old { lists = with_queue fate (queue_at fate old.lists ++ length old.messages ∷ []) old.lists; messages = old.messages ++ m ∷ []; bodies = old.bodies ++ body ∷ [] }) (record s { rows = appended s.rows body fate })) (sym is)
+    (appended_for old s body fate f (queued_stands fate queued) known))
+
+-- MESSAGES THAT ARE GIVEN UP
+still : (n : ℕ) (q : Lists) → n < length q.links → n < length (with_queue (Unacked n) [] q).links
+still n q low = let many = links_stay (Unacked n) [] q in omega (arith, many, low)
+
+-- the rows where what was sent is given up
+abbrev pub discarded_sent : DiscardCause → ℕ → State → List Row
+discarded_sent cause n s = changed (is_unacked n) (Discarded cause) s.rows
+
+pub sent_up_then : (old new : Kept) (s : State) (n : ℕ) (cause : DiscardCause) → StandsFor old s → n < length old.lists.links
+    → Becoming old new (with_queue (Unacked n) [] old.lists) (restood (queue_at (Unacked n) old.lists) (Discarded cause) old.messages) old.bodies old.links old.routing
+    → StandsFor new (record s { rows = discarded_sent cause n s })
+sent_up_then old new s n cause f known b = becomes old new _ _ _ _ _ _ b (sent_up_for old s n cause f known)
+
+pub discarded_then : (old mid new : Kept) (s : State) (n : ℕ) (cause : DiscardCause) → StandsFor old s → n < length old.lists.links
+    → Becoming old mid (with_queue (Unacked n) [] old.lists) (restood (queue_at (Unacked n) old.lists) (Discarded cause) old.messages) old.bodies old.links old.routing
+    → Becoming mid new (with_queue (Waiting n) [] mid.lists) (restood (queue_at (Waiting n) mid.lists) (Discarded cause) mid.messages) mid.bodies mid.links mid.routing
+    → StandsFor new (discarded cause n s)
+discarded_then old mid new s n cause f known a b =
+    let inner : n < length mid.lists.links = subst (λ (q : Lists). n < length q.links) (sym a.lists_are) (still n old.lists known) in
+    let first = sent_up_then old mid s n cause f known a in
+    becomes mid new _ _ _ _ _ _ b (waiting_up_for mid (record s { rows = discarded_sent cause n s }) n cause first inner)
+
+-- WHAT REACHED THE FAR END
+pub is_low : (reached : Reached) (fsn : ℕ) → reached ≡ Upto fsn → IsReach reached → fsn < 128
+is_low (Upto number) fsn e low = let same : number ≡ fsn = cc in omega (arith, same, low)
+is_low Unknown fsn e low = absurd (cc)
+is_low Unanswered fsn e low = absurd (cc)
+
+module _ (old new : Kept) (s : State) (n fsn : ℕ) (link : LinkState) (reached : Reached) (is : reached ≡ Upto fsn) (f : StandsFor old s) (there : slice_get s.links n ≡ Some link) where
+  pub reached_then : IsReach reached → reach n fsn old.lists ≤ length (queue_at (Unacked n) old.lists)
+      → Becoming old new (acked_lists n fsn old.lists) (restood (take (reach n fsn old.lists) (queue_at (Unacked n) old.lists)) (Acked n) old.messages) old.bodies (slice_set s.links n (acknowledged (reach n fsn old.lists) link)) old.routing
+      → StandsFor new (judged reached n link s)
+  reached_then low h b =
+      let done : StandsFor new (acknowledged_by (reach n fsn old.lists) n link s) = becomes old new _ _ _ _ _ _ b (acked_for old s n fsn link (acknowledged (reach n fsn old.lists) link) f there (is_low reached fsn is low) refl) in
+      subst (λ (r : Reached). StandsFor new (judged r n link s)) (sym is) (rw (is_reached old s n fsn link f there h) (subst (λ (count : ℕ). StandsFor new (acknowledged_by count n link s)) (reach_is old s n fsn link f there) done))
+
+  pub unreached_then : (reach n fsn old.lists ≤ length (queue_at (Unacked n) old.lists) → ⊥) → StandsFor new (discarded Unreasonable n s) → StandsFor new (judged reached n link s)
+  unreached_then h done = subst (λ (r : Reached). StandsFor new (judged r n link s)) (sym is) (rw (is_unreached old s n fsn link f there h) done)
+
+-- WHAT STANDS ON A LINK IS MOVED
+moved_rows : (n : ℕ) (t : Option ℕ) (s : State) → ((k : ℕ) → t ≡ Some k → (n == k) ≡ false) → RowsKept s.rows (moved (is_on n) (all_with (fate_on t)) s.rows)
+moved_rows n None s apart = (moved_aside n s.rows).left_is.kept
+moved_rows n (Some t) s apart = (moved_to n t s.rows (apart t refl)).left_is.kept
+
+pub moved_then : (old new : Kept) (s : State) (n : ℕ) (link : LinkState) → Agrees old s → slice_get s.links n ≡ Some link → IsAside n (fate_on (target s.links)) old.lists → ((k : ℕ) → target s.links ≡ Some k → (n == k) ≡ false)
+    → Becoming old new (settled_lists n (fate_on (target s.links)) old.lists) (restood (on_lists n old.lists) (fate_on (target s.links)) old.messages) old.bodies (slice_set s.links n (settled_link link)) (streams_settled n (target s.links) s.routing)
+    → StandsFor new (moved_over n link s)
+moved_then old new s n link a there aside apart b =
+    let one = a.sound.links n link there in
+    becomes old new _ _ _ _ _ _ b (settled_for old s n (target s.links) link (settled_link link) (streams_settled n (target s.links) s.routing) a.stands one.in_order one.held_last there refl aside apart (moved_rows n (target s.links) s apart))
+
+-- A LINK'S CONTROL GOES ON
+pub link_then : (old new : Kept) (s : State) (n : ℕ) (link link' : LinkState) → StandsFor old s → slice_get s.links n ≡ Some link → link'.acked ≡ link.acked → Becoming old new old.lists old.messages old.bodies (slice_set s.links n link') s.routing
+    → StandsFor new (with_link n link' s)
+link_then old new s n link link' f there e b = becomes old new _ _ _ _ _ _ b (link_for old s n link link' s.routing f there e)
+
+-- A FIRST SENDING
+pub sent_then : (old new : Kept) (s : State) (n message : ℕ) (link : LinkState) → StandsFor old s → IsInOrder n s.rows → slice_get s.links n ≡ Some link → slice_get (queue_at (Waiting n) old.lists) 0 ≡ Some message
+    → Becoming old new (first_sent n message old.lists) (restood (message ∷ []) (Unacked n) old.messages) old.bodies s.links old.routing
+    → StandsFor new (record s { rows = turned (is_waiting n) (Unacked n) 1 s.rows })
+sent_then old new s n message link f order there first b =
+    let same : slice_set s.links n link ≡ s.links = set_same s.links n link there in
+    becomes old new _ _ _ _ _ _ b (subst (λ links. StandsFor (record old { lists = first_sent n message old.lists; messages = restood (message ∷ []) (Unacked n) old.messages; links = links }) (record s { rows = turned (is_waiting n) (Unacked n) 1 s.rows; links = links })) same
+    (sent_for old s n message link link f order there refl first))
+
+-- A LINK COMES UP
+pub risen_then : (old new : Kept) (s : State) (n : ℕ) (link link' : LinkState) (routing : Routing) → StandsFor old s → slice_get s.links n ≡ Some link → link'.acked ≡ 0
+    → Becoming old new (passed Parked (Waiting n) (with_last n 127 old.lists)) (restood (queue_at Parked old.lists) (Waiting n) old.messages) old.bodies (slice_set s.links n link') routing
+    → StandsFor new (record s { rows = moved is_parked (all_with (Waiting n)) s.rows; links = slice_set s.links n link'; routing = routing })
+risen_then old new s n link link' routing f there e b = becomes old new _ _ _ _ _ _ b (risen_for old s n link link' routing f there e)

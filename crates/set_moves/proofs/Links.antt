@@ -1,0 +1,52 @@
+-- One link of the list changes, and what the list stands for with it.
+use Rattle.std.proofs.Common.{refl, arith, ◌≡◌, ◌∙◌, ap, sym, ◌<◌, ◌≤◌, ℕ, Option, None, Bor, List, map, length, slice_get, slice_set, slice_index_or, Some}
+use Rattle.std.proofs.lemmas.Option.{same_Some, slice_get_read, slice_get_past}
+use Rattle.std.specs.Slice.{IsItemAt}
+use Rattle.set_moves.specs.declared.link.Link.{Link}
+use Rattle.set_moves.specs.Parts.{link_of, kept_of}
+use Rattle.std.proofs.lemmas.List.{length-map}
+use Rattle.set_moves.specs.declared.parts.Parts.{Parts}
+use Rattle.set_moves.specs.Agreement.{Kept, StandsFor}
+use Rattle.set_model.specs.State.{LinkState, State, link_count}
+use Rattle.set_moves.proofs.Admitting.{none_map}
+use Rattle.set_model.proofs.Lists.{here, map_at, map_set, map_set_same}
+
+-- the link that an index of this number read
+module _ (links : List Link) (n i : ℕ) (x : Link) (is : i ≡ n) (known : n < length links) (read : x ≡ slice_index_or links i x) where
+  pub found : slice_get links n ≡ Some x
+  found = here links i n x is known read
+
+  pub stands_for : (ls : List LinkState) (link : LinkState) → map link_of links ≡ ls → slice_get ls n ≡ Some link → link_of x ≡ link
+  stands_for ls link all there = same_Some (link_of x) link (sym (map_at link_of links n x found) ∙ ap (λ xs. slice_get xs n) all ∙ there)
+
+  -- it changes
+  pub link_set : (y : Link) (ls : List LinkState) (link link' : LinkState) → map link_of links ≡ ls → slice_get ls n ≡ Some link → (link_of x ≡ link → link_of y ≡ link') → map link_of (slice_set links i y) ≡ slice_set ls n link'
+  link_set y ls link link' all there e =
+      ap (λ k. map link_of (slice_set links k y)) is ∙ map_set link_of links n y ∙ ap (λ xs. slice_set xs n (link_of y)) all ∙ ap (slice_set ls n) (e (stands_for ls link all there))
+
+  -- and nothing that this tells of it
+  pub set_view : {Y : Type 0} (f : Link → Y) (y : Link) → f y ≡ f x → map f (slice_set links i y) ≡ map f links
+  set_view f y e = ap (λ k. map f (slice_set links k y)) is ∙ map_set_same f links n x y found e
+
+-- how many there are
+pub length_links : (value : Kept) (s : State) (parts : Parts) (n : ℕ) → n ≡ length parts.links.items → kept_of parts ≡ value → StandsFor value s → n ≡ link_count s
+length_links value s parts n e v st = e ∙ sym (length-map parts.links.items link_of) ∙ ap (λ (k : Kept). length k.links) v ∙ ap length st.links
+
+-- what `get` finds there
+pub read_none : (links : List Link) (n i : ℕ) (r : Option (Bor Link)) → IsItemAt links i r → i ≡ n → r ≡ None → slice_get links n ≡ None
+read_none links n i None h e f = let past : length links ≤ i = h.3 in slice_get_past links n (omega (arith, past, e))
+read_none links n i (Some x) h e f = absurd (cc)
+
+pub read_some : (links : List Link) (n i : ℕ) (r : Option (Bor Link)) (x : Bor Link) → IsItemAt links i r → i ≡ n → r ≡ Some x → slice_get links n ≡ Some x.now
+read_some links n i None x h e f = absurd (cc)
+read_some links n i (Some y) x h e f =
+    let low : i < length links = h.3.0 in
+    let is : y.now ≡ slice_index_or links i y.now = h.1 in
+    ap (slice_get links) (sym e) ∙ slice_get_read links (length links) i y.now refl low is ∙ ap (λ (z : Bor Link). Some z.now) (same_Some y x f)
+
+-- and what the state has there
+pub state_none : (parts : Parts) (s : State) (n : ℕ) → StandsFor (kept_of parts) s → slice_get parts.links.items n ≡ None → slice_get s.links n ≡ None
+state_none parts s n st e = sym (ap (λ (ls : List LinkState). slice_get ls n) st.links) ∙ none_map parts.links.items n e
+
+pub state_some : (parts : Parts) (s : State) (n : ℕ) (link : Link) → StandsFor (kept_of parts) s → slice_get parts.links.items n ≡ Some link → slice_get s.links n ≡ Some (link_of link)
+state_some parts s n link st e = sym (ap (λ (ls : List LinkState). slice_get ls n) st.links) ∙ map_at link_of parts.links.items n link e

@@ -1,0 +1,203 @@
+-- THE OLDEST that stands back for a link is the first of the rows that do; and where it goes.
+use Rattle.std.proofs.Common.{refl, arith, ◌≡◌, ◌∙◌, ap, sym, subst, ◌/◌, ◌≤◌, ◌<◌, [], ◌∷◌, length, ℕ, zero, suc, Bool, true, false, ◌==◌, ◌⊎◌, inl, inr, List, Some, None}
+use Rattle.std.specs.Prelude.{slice_get, filter}
+use Rattle.std.specs.Option.{option_map}
+use Rattle.std.proofs.lemmas.Bool.{eq-eqb, eqb-true, ne_eqb, not-true}
+use Rattle.std.proofs.lemmas.Option.{same_Some}
+use Rattle.set_events.specs.declared.answer.Fate.{Fate}
+use Rattle.set_events.specs.declared.answer.Fate.TheVariants.{Waiting, Unacked, Acked, Held, Parked, Back, Discarded}
+use Rattle.set_queues.specs.declared.message.Kind.TheVariants.{User}
+use Rattle.set_queues.specs.declared.message.Message.{Message}
+use Rattle.set_queues.specs.Backs.{IsOldest}
+use Rattle.set_queues.specs.Buffers.{Lists, queue_at}
+use Rattle.set_route.specs.declared.place.Place.TheVariants.{On}
+use Rattle.set_route.specs.Routing.{home_of, place_of}
+use Rattle.set_model.specs.Rows.{Row, standing, is_back, is_back_to, is_users, numbers, service_indicator, stream_of, Each}
+use Rattle.set_model.specs.Sound.{AreAbove, IsAscending}
+use Rattle.set_model.specs.State.{State, fate_at, is_up, link_count}
+use Rattle.set_model.proofs.Filters.{filter_comm, filter_within}
+use Rattle.set_model.proofs.Finding.{with_number}
+use Rattle.set_model.proofs.Lookups.{Found, found_by_number, at_most_one, row_is_first}
+use Rattle.set_moves.specs.Agreement.{Kept, Stands, StandsFor, label_in, label_of, kind_of}
+use Rattle.set_moves.specs.Turning.{IsTurning, IsTurningRow}
+
+-- LISTS
+
+pub head_of : {X : Type 0} (xs : List X) (x : X) → slice_get xs 0 ≡ Some x → (rest : List X) × (xs ≡ x ∷ rest)
+head_of [] x e = absurd cc
+head_of (y ∷ xs) x e = (xs, ap (λ z. z ∷ xs) (same_Some y x e))
+
+single : (xs : List Row) (x : Row) → slice_get xs 0 ≡ Some x → length xs ≤ 1 → xs ≡ x ∷ []
+single [] x e l = absurd cc
+single (y ∷ []) x e l = ap (λ z. z ∷ []) (same_Some y x e)
+single (y ∷ z ∷ xs) x e l = absurd (omega (arith, l))
+
+pub passes : (p : Row → Bool) (xs rest : List Row) (x : Row) → filter p xs ≡ x ∷ rest → p x ≡ true
+passes p [] rest x e = absurd cc
+passes p (z ∷ xs) rest x e = go (p z) refl (passes p xs rest x)
+  where
+    go : (b : Bool) → p z ≡ b → (filter p xs ≡ x ∷ rest → p x ≡ true) → p x ≡ true
+    go true h later =
+        let f : z ∷ filter p xs ≡ x ∷ rest = rw h at e in
+        let same : z ≡ x = cc in
+        sym (ap p same) ∙ h
+    go false h later = later (rw h at e)
+
+each_found : (P : Row → Type 0) (p : Row → Bool) (xs : List Row) (i : ℕ) (x : Row) → Each P xs → slice_get (filter p xs) i ≡ Some x → P x
+each_found P p [] i x a e = absurd cc
+each_found P p (z ∷ xs) i x a e = go (p z) refl i e (λ j f. each_found P p xs j x a.1 f)
+  where
+    go : (b : Bool) → p z ≡ b → (i : ℕ) → slice_get (filter p (z ∷ xs)) i ≡ Some x → ((j : ℕ) → slice_get (filter p xs) j ≡ Some x → P x) → P x
+    go true h zero e later = let f : Some z ≡ Some x = rw h at e in subst P (same_Some z x f) a.0
+    go true h (suc j) e later = later j (rw h at e)
+    go false h j e later = later j (rw h at e)
+
+none_above : (k m : ℕ) (xs : List Row) → k ≤ m → AreAbove m (numbers xs) → with_number k xs ≡ []
+none_above k m [] low a = refl
+none_above k m (x ∷ xs) low a = let above = a.0 in rw (ne_eqb x.number k (λ e. omega (arith, e, low, above))) (none_above k m xs low a.1)
+
+-- FATES
+
+back_is : (c : ℕ) (f : Fate) → is_back c f ≡ true → f ≡ Back c
+back_is c (Back d) e = ap Back (eqb-true d c e)
+back_is c (Waiting l) e = absurd cc
+back_is c (Unacked l) e = absurd cc
+back_is c (Acked l) e = absurd cc
+back_is c (Held l) e = absurd cc
+back_is c Parked e = absurd cc
+back_is c (Discarded cause) e = absurd cc
+
+pub back_of : (home : ℕ) (f : Fate) → is_back_to home f ≡ true → (c : ℕ) × (f ≡ Back c) × (home_of c ≡ home)
+back_of home (Back d) e = (d, refl, eqb-true (home_of d) home e)
+back_of home (Waiting l) e = absurd cc
+back_of home (Unacked l) e = absurd cc
+back_of home (Acked l) e = absurd cc
+back_of home (Held l) e = absurd cc
+back_of home Parked e = absurd cc
+back_of home (Discarded cause) e = absurd cc
+
+-- what waits for a code of the home waits for the home
+pub back_home : (home c : ℕ) → home_of c ≡ home → (f : Fate) → is_back c f ≡ true → is_back_to home f ≡ true
+back_home home c of f e = ap (is_back_to home) (back_is c f e) ∙ eq-eqb (home_of c) home of
+
+-- THE OLDEST that stands back for the home is the first of the rows that do.
+pub record IsFirst (home code number : ℕ) (rows : List Row) : Type 0 where
+  pub row : Row
+  pub number_is : row.number ≡ number
+  pub fate_is : row.fate ≡ Back code
+  pub one : with_number row.number rows ≡ row ∷ []
+  pub below : row.number < length rows
+  pub after : List Row
+  pub of_code : standing (is_back code) rows ≡ row ∷ after
+  pub rest : List Row
+  pub first : standing (is_back_to home) rows ≡ row ∷ rest
+
+module _ (home code : ℕ) (q : Lists) (ms : List Message) (rows : List Row) (s : Stands q ms rows) (o : IsOldest home code q) (order : IsAscending (numbers (standing (is_back_to home) rows))) where
+  found : Found (λ (row : Row). is_back code row.fate) rows 0 o.number
+  found = found_by_number (λ (row : Row). is_back code row.fate) rows 0 o.number s.numbered (sym (ap (λ (ns : List ℕ). slice_get ns 0) (s.queues (Back code))) ∙ o.first)
+
+  abbrev x : Row
+  x = found.row
+
+  code_rows : (rest : List Row) × (standing (is_back code) rows ≡ x ∷ rest)
+  code_rows = head_of (standing (is_back code) rows) x found.there
+
+  fate_of : x.fate ≡ Back code
+  fate_of = back_is code x.fate (passes (λ (row : Row). is_back code row.fate) rows code_rows.0 x code_rows.1)
+
+  only : with_number o.number rows ≡ x ∷ []
+  only = single (with_number o.number rows) x (sym (row_is_first o.number rows) ∙ found.row_is) (at_most_one o.number rows s.numbered)
+
+  home_is : is_back_to home x.fate ≡ true
+  home_is = ap (is_back_to home) fate_of ∙ eq-eqb (home_of code) home o.of_home
+
+  in_home : with_number o.number (standing (is_back_to home) rows) ≡ x ∷ []
+  in_home = filter_comm (λ (row : Row). row.number == o.number) (λ (row : Row). is_back_to home row.fate) rows ∙ ap (standing (is_back_to home)) only ∙ rw home_is refl
+
+  -- none that stands before it has a lower number
+  least : (y : Row) (rest : List Row) → standing (is_back_to home) rows ≡ y ∷ rest → o.number ≤ y.number
+  least y rest e =
+      let b = back_of home y.fate (passes (λ (row : Row). is_back_to home row.fate) rows rest y e) in
+      let own : is_back b.0 y.fate ≡ true = ap (is_back b.0) b.1 ∙ eq-eqb b.0 b.0 refl in
+      let there : standing (is_back b.0) rows ≡ standing (is_back b.0) (y ∷ rest) = sym (filter_within (λ (row : Row). is_back b.0 row.fate) (λ (row : Row). is_back_to home row.fate) (λ r f. back_home home b.0 b.2 r.fate f) rows) ∙ ap (standing (is_back b.0)) e in
+      let heads : standing (is_back b.0) (y ∷ rest) ≡ y ∷ standing (is_back b.0) rest = rw own refl in
+      o.least b.0 y.number b.2 (ap (λ (ns : List ℕ). slice_get ns 0) (s.queues (Back b.0) ∙ ap numbers (there ∙ heads)))
+
+  head_is : (xs : List Row) → standing (is_back_to home) rows ≡ xs → (rest : List Row) × (xs ≡ x ∷ rest)
+  head_is [] e = let none : [] ≡ x ∷ [] = sym (ap (with_number o.number) e) ∙ in_home in absurd cc
+  head_is (y ∷ rest) e = go (y.number == o.number) refl
+    where
+      mine : with_number o.number (y ∷ rest) ≡ x ∷ []
+      mine = sym (ap (with_number o.number) e) ∙ in_home
+
+      above : AreAbove y.number (numbers rest)
+      above = (subst (λ (ys : List Row). IsAscending (numbers ys)) e order).0
+
+      go : (b : Bool) → (y.number == o.number) ≡ b → (more : List Row) × (y ∷ rest ≡ x ∷ more)
+      go true h = let f : y ∷ with_number o.number rest ≡ x ∷ [] = rw h at mine in let same : y ≡ x = cc in (rest, ap (λ (z : Row). z ∷ rest) same)
+      go false h =
+          let f : with_number o.number rest ≡ x ∷ [] = rw h at mine in
+          let no : [] ≡ x ∷ [] = sym (none_above o.number y.number rest (least y rest e) above) ∙ f in
+          absurd cc
+
+  pub first_of : IsFirst home code o.number rows
+  first_of =
+      let h = head_is (standing (is_back_to home) rows) refl in
+      record {
+        row = x;
+        number_is = found.number_is;
+        fate_is = fate_of;
+        one = subst (λ (n : ℕ). with_number n rows ≡ x ∷ []) (sym found.number_is) only;
+        below = let low = found.below in let same = found.number_is in omega (arith, low, same);
+        after = code_rows.0;
+        of_code = code_rows.1;
+        rest = h.0;
+        first = h.1;
+      }
+
+-- WHERE THE OLDEST GOES: its stream runs on a link
+pub record IsWay (k : Kept) (s : State) (code first : ℕ) : Type 0 where
+  pub row : Row
+  pub there : slice_get (standing (is_back code) s.rows) 0 ≡ Some row
+  pub few : stream_of row.body < 16
+  pub via : ℕ
+  pub place_is : place_of (stream_of row.body) s.routing ≡ On via
+  pub low : via < link_count s
+  pub kind_is : (m : Message) → slice_get k.messages first ≡ Some m → m.kind ≡ User (stream_of row.body)
+  pub found : slice_get k.messages first ≡ None → ⊥
+
+pub way : (home code first : ℕ) (k : Kept) (s : State) → StandsFor k s → IsTurning home s → code / 16 ≡ home → slice_get (queue_at (Back code) k.lists) 0 ≡ Some first → IsWay k s code first
+way home code first k s f t of e =
+    let there = found_by_number (λ (row : Row). is_back code row.fate) s.rows 0 first f.stands.numbered (sym (ap (λ (ns : List ℕ). slice_get ns 0) (f.stands.queues (Back code))) ∙ e) in
+    let h = head_of (standing (is_back code) s.rows) there.row there.there in
+    let back = passes (λ (row : Row). is_back code row.fate) s.rows h.0 there.row h.1 in
+    let own = each_found (IsTurningRow home s) (λ (row : Row). is_back code row.fate) s.rows 0 there.row t.each there.there in
+    let turns = own (back_home home code of there.row.fate back) in
+    let label : option_map label_in (slice_get k.messages first) ≡ Some (label_of there.row.body) = f.stands.labels first ∙ ap (option_map label_of) there.body_is in
+    record {
+      row = there.row;
+      there = there.there;
+      few = turns.1;
+      via = turns.2;
+      place_is = turns.3;
+      low = turns.4;
+      kind_is = λ m at. ap (λ l. l.kind) (same_Some (label_in m) (label_of there.row.body) (sym (ap (option_map label_in) at) ∙ label)) ∙ users_kind there.row turns.0;
+      found = λ none. let no : None ≡ Some (label_of there.row.body) = sym (ap (option_map label_in) none) ∙ label in cc;
+    }
+  where
+    users_kind : (row : Row) → is_users row ≡ true → kind_of row.body ≡ User (stream_of row.body)
+    users_kind row u = rw (not-true (service_indicator row.body == 0) u) refl
+
+-- it waits for a link, or is held for it
+abbrev pub IsOnLink : ℕ → Fate → Type 0
+IsOnLink links to = (via : ℕ) × (via < links) × ((to ≡ Waiting via) ⊎ (to ≡ Held via))
+
+pub on_way : (links via : ℕ) (to : Fate) (s : State) → link_count s ≡ links → via < link_count s → to ≡ fate_at (On via) s → IsOnLink links to
+on_way links via to s many low e = (via, omega (arith, many, low), go (is_up via s) refl)
+  where
+    go : (b : Bool) → is_up via s ≡ b → (to ≡ Waiting via) ⊎ (to ≡ Held via)
+    go true h = inl (e ∙ rw h refl)
+    go false h = inr (e ∙ rw h refl)
+
+pub same_user : (a b : ℕ) → User a ≡ User b → a ≡ b
+same_user a b e = cc

@@ -1,0 +1,158 @@
+-- Room that was taken, as orders and moved messages need it.
+use Rattle.std.proofs.Common.{refl, arith, ◌≡◌, ◌≢◌, ◌∙◌, ap, sym, subst, ◌≤◌, ◌<◌, ◌+◌, ◌++◌, ℕ, Bool, false, List, map, length, Option, Some, None, slice_get, slice_set, ◌⊎◌, inl, inr, Vec, Global}
+use Rattle.std.specs.Prelude.{IfSome}
+use Rattle.std.proofs.lemmas.Bool.{ne_eqb}
+use Rattle.std.proofs.lemmas.List.{length-map}
+use Rattle.set_events.specs.declared.answer.Fate.{Fate}
+use Rattle.set_events.specs.declared.answer.Fate.TheVariants.{Waiting, Unacked, Held}
+use Rattle.set_queues.specs.Buffers.{Lists, Rooms, IsKnown, IsQueued, TakesRoom, same_fate, queue_at, with_queue, room_at}
+use Rattle.set_queues.specs.Backs.{back_count}
+use Rattle.set_queues.specs.Settling.{on}
+use Rattle.set_queues.proofs.Passing.{queue_other, queued_stands}
+use Rattle.set_queues.proofs.Settling.{room_left}
+use Rattle.set_route.specs.Routing.{Routing}
+use Rattle.set_route.specs.Target.{target_of}
+use Rattle.set_model.specs.declared.phase.Phase.{Phase}
+use Rattle.set_model.specs.Changeover.{fate_on}
+use Rattle.set_model.specs.State.{target, has_phase_up}
+use Rattle.set_model.proofs.Lists.{map_at, map_set, set_same, present, same_at, at_set, length_set}
+use Rattle.set_moves.specs.declared.link.Link.{Link}
+use Rattle.set_moves.specs.declared.parts.Parts.{Parts}
+use Rattle.set_moves.specs.Agreement.{Holds, Kept}
+use Rattle.set_moves.specs.Parts.{IsWhole, IsCounted, AreCounted, AtLink, IsOut, link_of, kept_of}
+use Rattle.set_moves.specs.Room.{HasRoom, IsReady, SameButRoom, target_beside}
+use Rattle.set_moves.specs.Turning.{TakesTurns}
+use Rattle.set_moves.proofs.Admitting.{IsHere}
+use Rattle.set_moves.proofs.Targets.{ups}
+
+ups_of : List Link → List Bool
+ups_of links = map (λ (link : Link). has_phase_up link.phase) links
+
+-- THE TARGET beside a link that is out, and once it's left
+pub beside_out : (links : List Link) (n : ℕ) → n < length links → AtLink n links IsOut → target_beside n links ≡ target (map link_of links)
+unfolding ups_of
+beside_out links n known out =
+    let x = present links n known in
+    let here : slice_get (ups_of links) n ≡ Some false = map_at (λ (link : Link). has_phase_up link.phase) links n x.0 x.1 ∙ ap (λ (b : Bool). Some b) (out x.0 x.1) in
+    ap target_of (set_same (ups_of links) n false here ∙ sym (ups links))
+
+pub beside_left : (links new : List Link) (n : ℕ) (link : Link) → new ≡ slice_set links n link → has_phase_up link.phase ≡ false → target (map link_of new) ≡ target_beside n links
+unfolding ups_of
+beside_left links new n link e out =
+    ap target_of (ups new ∙ ap ups_of e ∙ map_set (λ (l : Link). has_phase_up l.phase) links n link ∙ ap (slice_set (ups_of links) n) out)
+
+-- ROOM for an order, and then for all that stand on the link
+pub has_room : (n : ℕ) (parts : Parts) (fate : Fate) → IsReady n 1 parts → fate ≡ fate_on (target_beside n parts.links.items) → HasRoom fate parts
+has_room n parts fate r e = rw e (record {
+  message = let m = r.message in omega (arith, m);
+  body = let b = r.body in omega (arith, b);
+  place = let p = r.place in omega (arith, p);
+})
+
+queued_on : (o : Option ℕ) → IsQueued (fate_on o)
+queued_on None = tt
+queued_on (Some t) = tt
+
+pub room_then_all : (o : Option ℕ) (on on' : List ℕ) (old new : Rooms) → length on + 1 ≤ room_at (fate_on o) old → on' ≡ on → TakesRoom (fate_on o) 1 old new → length on' ≤ room_at (fate_on o) new
+room_then_all o on on' old new h e t =
+    let low = room_left (fate_on o) 1 old new (queued_on o) t in
+    let same : length on' ≡ length on = ap length e in
+    omega (arith, h, low, same)
+
+pub fewer : (on orders room : ℕ) → on + orders ≤ room → on ≤ room
+fewer on orders room h = omega (arith, h)
+
+-- what stands on a link that is out isn't touched by what waits for the target
+off_waiting : (o : Option ℕ) (n : ℕ) → ((t : ℕ) → o ≡ Some t → n ≢ t) → same_fate (fate_on o) (Waiting n) ≡ false
+off_waiting None n apart = refl
+off_waiting (Some t) n apart = ne_eqb t n (λ e. apart t refl (sym e))
+
+off_unacked : (o : Option ℕ) (n : ℕ) → same_fate (fate_on o) (Unacked n) ≡ false
+off_unacked None n = refl
+off_unacked (Some t) n = refl
+
+off_held : (o : Option ℕ) (n : ℕ) → same_fate (fate_on o) (Held n) ≡ false
+off_held None n = refl
+off_held (Some t) n = refl
+
+pub on_same : (o : Option ℕ) (n : ℕ) (xs : List ℕ) (q new : Lists) → IsKnown (fate_on o) q → ((t : ℕ) → o ≡ Some t → n ≢ t) → new ≡ with_queue (fate_on o) xs q → on n new ≡ on n q
+on_same o n xs q new known apart e =
+    let s = queued_stands (fate_on o) (queued_on o) in
+    ap (on n) e
+    ∙ ap (λ (ns : List ℕ). (ns ++ queue_at (Waiting n) (with_queue (fate_on o) xs q)) ++ queue_at (Held n) (with_queue (fate_on o) xs q)) (queue_other (fate_on o) (Unacked n) xs q s known (off_unacked o n))
+    ∙ ap (λ (ns : List ℕ). (queue_at (Unacked n) q ++ ns) ++ queue_at (Held n) (with_queue (fate_on o) xs q)) (queue_other (fate_on o) (Waiting n) xs q s known (off_waiting o n apart))
+    ∙ ap (λ (ns : List ℕ). (queue_at (Unacked n) q ++ queue_at (Waiting n) q) ++ ns) (queue_other (fate_on o) (Held n) xs q s known (off_held o n))
+
+-- THE WHOLE NUMBERS of a list in which one link changed otherwise
+pub counted_set : (bound : ℕ) (links new : List Link) (n : ℕ) (link : Link) → AreCounted bound links → new ≡ slice_set links n link → IsCounted bound link → AreCounted bound new
+counted_set bound links new n link all e one m other there = go (at_set links n m link other (sym (ap (λ ls. slice_get ls m) e) ∙ there))
+  where
+    go : ((m ≡ n) × (other ≡ link)) ⊎ ((m ≢ n) × (slice_get links m ≡ Some other)) → IsCounted bound other
+    go (inl same) = rw same.1 one
+    go (inr apart) = all m other apart.1
+
+-- A SET IS WHOLE that stands for a state.
+pub whole_of : (parts : Parts) → Holds (kept_of parts) → IsWhole parts
+whole_of parts h =
+    let s = h.0 in
+    let a = h.1 in
+    let links : length s.links ≡ length parts.links.items = sym (ap length a.stands.links) ∙ length-map parts.links.items link_of in
+    record {
+      as_many = a.stands.as_many ∙ links;
+      routed = ap (λ (r : Routing). r.links) a.stands.routing ∙ a.sound.routed ∙ sym a.sound.count ∙ links;
+      few = let most = a.sound.routing.at_most_16 in let routed = a.sound.routed in let count = a.sound.count in omega (arith, most, routed, count, links);
+    }
+
+-- the target's queue is one of the set's
+pub known_target : (o : Option ℕ) (q : Lists) (links read : List Link) → read ≡ links → length q.links ≡ length links → IfSome o (λ to. to < length read) → IsKnown (fate_on o) q
+known_target None q links read e many below = tt
+known_target (Some t) q links read e many below = let same : length read ≡ length links = ap length e in omega (arith, many, below, same)
+
+-- a link of this phase isn't up
+pub is_out : (links : List Link) (n : ℕ) (link : Link) (phase : Phase) → slice_get links n ≡ Some link → link.phase ≡ phase → has_phase_up phase ≡ false → AtLink n links IsOut
+is_out links n link phase there is down other at = ap (λ (l : Link). has_phase_up l.phase) (same_at links n link other there at) ∙ ap has_phase_up is ∙ down
+
+-- of a link in a phase in which it isn't up
+pub here_out : (links : List Link) (n : ℕ) (phase : Phase) → IsHere links n phase → has_phase_up phase ≡ false → AtLink n links IsOut
+here_out links n phase h down = is_out links n h.link phase h.there h.phase_is down
+
+pub here_room : (parts : Parts) (n orders : ℕ) (phase : Phase) → IsHere parts.links.items n phase → has_phase_up phase ≡ false → IsReady n orders parts → length (on n parts.queues.lists) ≤ room_at (fate_on (target (map link_of parts.links.items))) parts.queues.rooms
+here_room parts n orders phase h down r =
+    let same = beside_out parts.links.items n h.known (here_out parts.links.items n phase h down) in
+    let enough = r.place in
+    subst (λ (t : Option ℕ). length (on n parts.queues.lists) ≤ room_at (fate_on t) parts.queues.rooms) same (omega (arith, enough))
+
+-- room for an order once the link is left, and what stood back for it turned
+pub has_room_left : (n : ℕ) (old new : Parts) → IsReady n 1 old → TakesTurns (back_count n old.queues.lists) old.queues new.queues → new.bodies ≡ old.bodies → target (map link_of new.links.items) ≡ target_beside n old.links.items → HasRoom (fate_on (target (map link_of new.links.items))) new
+has_room_left n old new r turns bodies same = rw same (record {
+  message = rw (turns.room) (let m = r.message in omega (arith, m));
+  body = rw bodies r.body;
+  place = let p = r.place in let taken = turns.rooms (fate_on (target_beside n old.links.items)) in omega (arith, p, taken);
+})
+
+pub still_low : (n : ℕ) (links new : List Link) (link : Link) → new ≡ slice_set links n link → n < length links → n < length new
+still_low n links new link e low = let many : length new ≡ length links = ap length e ∙ length_set links n link in omega (arith, many, low)
+
+-- room for all that stand on a link, once it's left and the order stands
+pub room_after : (n : ℕ) (old left new : Parts) → n < length old.queues.lists.links → IsReady n 1 old → TakesTurns (back_count n old.queues.lists) old.queues left.queues → target (map link_of left.links.items) ≡ target_beside n old.links.items → target (map link_of new.links.items) ≡ target (map link_of left.links.items)
+    → on n new.queues.lists ≡ on n left.queues.lists → TakesRoom (fate_on (target (map link_of left.links.items))) 1 left.queues.rooms new.queues.rooms
+    → length (on n new.queues.lists) ≤ room_at (fate_on (target (map link_of new.links.items))) new.queues.rooms
+room_after n old left new low r turns beside same elsewhere takes =
+    let to = target_beside n old.links.items in
+    let more : length (on n left.queues.lists) ≤ length (on n old.queues.lists) + back_count n old.queues.lists = turns.on_link n low in
+    let taken : room_at (fate_on to) old.queues.rooms ≤ room_at (fate_on to) left.queues.rooms + back_count n old.queues.lists = turns.rooms (fate_on to) in
+    let enough = r.place in
+    subst (λ (o : Option ℕ). length (on n new.queues.lists) ≤ room_at (fate_on o) new.queues.rooms) (sym (same ∙ beside))
+    (room_then_all to (on n left.queues.lists) (on n new.queues.lists) left.queues.rooms new.queues.rooms (omega (arith, more, taken, enough)) elsewhere
+    (subst (λ (o : Option ℕ). TakesRoom (fate_on o) 1 left.queues.rooms new.queues.rooms) beside takes))
+
+pub wider : (bound more : ℕ) (links : List Link) → bound ≤ more → AreCounted bound links → AreCounted more links
+wider bound more links h all n link there = let k = all n link there in record { acked = let low = k.acked in omega (arith, h, low); accepted = let low = k.accepted in omega (arith, h, low) }
+
+-- what is whole stays so where room alone changes
+pub whole_still : (old new : Parts) → SameButRoom old new → IsWhole old → IsWhole new
+whole_still old new same whole = record {
+  as_many = ap (λ (k : Kept). length k.lists.links) same.kept ∙ whole.as_many ∙ ap (λ (ls : Vec Link Global). length ls.items) (sym same.links);
+  routed = ap (λ (k : Kept). k.routing.links) same.kept ∙ whole.routed ∙ ap (λ (ls : Vec Link Global). length ls.items) (sym same.links);
+  few = omega (arith, whole.few, ap (λ (ls : Vec Link Global). length ls.items) same.links);
+}

@@ -1,0 +1,207 @@
+-- THE QUEUES, how many stand back, and the room, when the first of a code goes to a link.
+use Rattle.std.proofs.Common.{refl, arith, ◌≡◌, ◌∙◌, ap, sym, subst, ◌+◌, ◌*◌, ◌≤◌, ◌<◌, [], ◌∷◌, ◌++◌, length, ℕ, zero, suc, Bool, true, false, ◌==◌, ◌⊎◌, inl, inr, List, Some, None, cond, take, drop}
+use Rattle.std.specs.Prelude.{slice_get}
+use Rattle.std.proofs.lemmas.Bool.{cases_eq, cases_lt, eq-eqb, eqb-true, ne_eqb}
+use Rattle.std.proofs.lemmas.List.{length-append, get_or_past}
+use Rattle.set_events.specs.declared.answer.Fate.{Fate}
+use Rattle.set_events.specs.declared.answer.Fate.TheVariants.{Waiting, Unacked, Held, Back}
+use Rattle.set_queues.specs.Backs.{passed_first, back_from, IsOldest}
+use Rattle.set_queues.specs.Buffers.{Lists, Rooms, same_fate, queue_at, with_queue, room_at, IsKnown, IsQueued, TakesRoom}
+use Rattle.set_queues.specs.Queues.{QueuesState}
+use Rattle.set_queues.specs.Settling.{on as on_lists}
+use Rattle.set_queues.proofs.CodeQueues.{back_none}
+use Rattle.set_queues.proofs.Passing.{queue_set, known_on, size_stays, links_stay, queued_stands}
+use Rattle.set_moves.specs.Turning.{TakesTurns}
+use Rattle.set_moves.proofs.Oldest.{head_of, IsOnLink}
+
+-- a queue that holds something is one of a code
+pub known_code : (code k : ℕ) (q : Lists) → slice_get (queue_at (Back code) q) 0 ≡ Some k → code < length q.back
+known_code code k q e = go (cases_lt code (length q.back))
+  where
+    go : (code < length q.back) ⊎ (length q.back ≤ code) → code < length q.back
+    go (inl b) = b
+    go (inr b) = let none : slice_get (queue_at (Back code) q) 0 ≡ None = ap (λ (ns : List ℕ). slice_get ns 0) (get_or_past q.back code [] b) in absurd (let no : Some k ≡ None = sym e ∙ none in cc)
+
+-- THE QUEUES when the first of a code's goes to another
+pub record Goes (code number : ℕ) (to : Fate) (q : Lists) : Type 0 where
+  pub first : slice_get (queue_at (Back code) q) 0 ≡ Some number
+  pub known : IsKnown to q
+  pub queued : IsQueued to
+  pub apart : same_fate to (Back code) ≡ false
+
+module _ (code number : ℕ) (to : Fate) (q : Lists) (g : Goes code number to q) where
+  pub taken : take 1 (queue_at (Back code) q) ≡ number ∷ []
+  taken = let h = head_of (queue_at (Back code) q) number g.first in ap (take 1) h.1
+
+  pub queue_then : (f : Fate) → queue_at f (passed_first (Back code) to q) ≡ cond (same_fate (Back code) f) (drop 1 (queue_at (Back code) q)) (cond (same_fate to f) (queue_at to q ++ number ∷ []) (queue_at f q))
+  queue_then f =
+      let mid : Lists = with_queue to (queue_at to q ++ take 1 (queue_at (Back code) q)) q in
+      queue_set (Back code) f (drop 1 (queue_at (Back code) q)) mid refl (known_on (Back code) q mid (size_stays to (queue_at to q ++ take 1 (queue_at (Back code) q)) q) (known_code code number q g.first))
+      ∙ ap (λ (xs : List ℕ). cond (same_fate (Back code) f) (drop 1 (queue_at (Back code) q)) xs) (queue_set to f (queue_at to q ++ take 1 (queue_at (Back code) q)) q (queued_stands to g.queued) g.known)
+      ∙ ap (λ (xs : List ℕ). cond (same_fate (Back code) f) (drop 1 (queue_at (Back code) q)) (cond (same_fate to f) (queue_at to q ++ xs) (queue_at f q))) taken
+
+  -- HOW MANY WAIT for the codes of a home: one less
+  pub code_then : length (queue_at (Back code) (passed_first (Back code) to q)) + 1 ≡ length (queue_at (Back code) q)
+  code_then =
+      let h = head_of (queue_at (Back code) q) number g.first in
+      let own : queue_at (Back code) (passed_first (Back code) to q) ≡ drop 1 (queue_at (Back code) q) = queue_then (Back code) ∙ rw (eq-eqb code code refl) refl in
+      let less : length (queue_at (Back code) (passed_first (Back code) to q)) ≡ length h.0 = ap length (own ∙ ap (drop 1) h.1) in
+      let many : length (queue_at (Back code) q) ≡ suc (length h.0) = ap length h.1 in
+      omega (arith, less, many)
+
+  pub other_then : (c : ℕ) → (code ≡ c → ⊥) → same_fate to (Back c) ≡ false → queue_at (Back c) (passed_first (Back code) to q) ≡ queue_at (Back c) q
+  other_then c ne off = queue_then (Back c) ∙ rw (ne_eqb code c ne, off) refl
+
+back_suc : (code n : ℕ) (q : Lists) → back_from code (suc n) q ≡ back_from code n q + length (queue_at (Back (code + n)) q)
+unfolding back_from
+back_suc code n q = refl
+
+module _ (code : ℕ) (q q' : Lists) (others : (c : ℕ) → (code ≡ c → ⊥) → queue_at (Back c) q' ≡ queue_at (Back c) q) where
+  back_same : (from n : ℕ) → from + n ≤ code → back_from from n q' ≡ back_from from n q
+  back_same from zero low = back_none from q' ∙ sym (back_none from q)
+  back_same from (suc n) low =
+      let before = back_same from n (omega (arith, low)) in
+      let same = ap length (others (from + n) (λ e. omega (arith, e, low))) in
+      let old = back_suc from n q in
+      let new = back_suc from n q' in
+      omega (arith, before, same, old, new)
+
+  pub back_less : length (queue_at (Back code) q') + 1 ≡ length (queue_at (Back code) q) → (from n : ℕ) → from ≤ code → code < from + n → back_from from n q' + 1 ≡ back_from from n q
+  back_less less from zero low high = absurd (omega (arith, low, high))
+  back_less less from (suc n) low high = go (cases_eq code (from + n)) (back_less less from n low)
+    where
+      old : back_from from (suc n) q ≡ back_from from n q + length (queue_at (Back (from + n)) q)
+      old = back_suc from n q
+
+      new : back_from from (suc n) q' ≡ back_from from n q' + length (queue_at (Back (from + n)) q')
+      new = back_suc from n q'
+
+      go : (code ≡ from + n) ⊎ (code ≡ from + n → ⊥) → (code < from + n → back_from from n q' + 1 ≡ back_from from n q) → back_from from (suc n) q' + 1 ≡ back_from from (suc n) q
+      go (inl e) later =
+          let before = back_same from n (omega (arith, e)) in
+          let own : length (queue_at (Back (from + n)) q') + 1 ≡ length (queue_at (Back (from + n)) q) = subst (λ (c : ℕ). length (queue_at (Back c) q') + 1 ≡ length (queue_at (Back c) q)) e less in
+          omega (arith, before, own, old, new)
+      go (inr ne) later =
+          let before = later (omega (arith, high, ne)) in
+          let same = ap length (others (from + n) ne) in
+          omega (arith, before, same, old, new)
+
+-- TO A LINK: it waits for it, or is held for it
+pub either : (P : Fate → Type 0) (to : Fate) (via : ℕ) → (to ≡ Waiting via) ⊎ (to ≡ Held via) → P (Waiting via) → P (Held via) → P to
+either P to via (inl e) w h = subst P (sym e) w
+either P to via (inr e) w h = subst P (sym e) h
+
+pub goes_to : (home code links : ℕ) (to : Fate) (q : Lists) (o : IsOldest home code q) → IsOnLink links to → length q.links ≡ links → Goes code o.number to q
+goes_to home code links to q o on many =
+    let low = on.1 in
+    let known : on.0 < length q.links = omega (arith, low, many) in
+    record {
+      first = o.first;
+      known = either (λ f. IsKnown f q) to on.0 on.2 known known;
+      queued = either IsQueued to on.0 on.2 tt tt;
+      apart = either (λ f. same_fate f (Back code) ≡ false) to on.0 on.2 refl refl;
+    }
+
+pub fewer_back : (home code links : ℕ) (to : Fate) (q q' : Lists) → IsOldest home code q → IsOnLink links to → length q.links ≡ links → q' ≡ passed_first (Back code) to q → back_from (16 * home) 16 q' + 1 ≡ back_from (16 * home) 16 q
+fewer_back home code links to q q' o on many e =
+    let g = goes_to home code links to q o on many in
+    let of = o.of_home in
+    subst (λ (z : Lists). back_from (16 * home) 16 z + 1 ≡ back_from (16 * home) 16 q) (sym e)
+    (back_less code q (passed_first (Back code) to q) (λ c ne. other_then code o.number to q g c ne (either (λ f. same_fate f (Back c) ≡ false) to on.0 on.2 refl refl)) (code_then code o.number to q g) (16 * home) 16 (omega (arith, of)) (omega (arith, of)))
+
+-- ROOM
+pub turns_none : (q : QueuesState) → TakesTurns 0 q q
+turns_none q = record { room = refl; rooms = λ f. omega arith; on_link = λ n low. omega arith }
+
+pub turns_then : (a b : ℕ) (old mid new : QueuesState) → length mid.lists.links ≡ length old.lists.links → TakesTurns a old mid → TakesTurns b mid new → TakesTurns (a + b) old new
+turns_then a b old mid new many t u = record {
+  room = u.room ∙ t.room;
+  rooms = λ f. let one = t.rooms f in let two = u.rooms f in omega (arith, one, two);
+  on_link = λ n low. let one = t.on_link n low in let two = u.on_link n (omega (arith, low, many)) in omega (arith, one, two);
+}
+
+pub turns_within : (a b : ℕ) (old new : QueuesState) → a ≤ b → TakesTurns a old new → TakesTurns b old new
+turns_within a b old new most t = record {
+  room = t.room;
+  rooms = λ f. let one = t.rooms f in omega (arith, one, most);
+  on_link = λ n low. let one = t.on_link n low in omega (arith, one, most);
+}
+
+taken_one : (to fate : Fate) (old new : Rooms) → TakesRoom to 1 old new → room_at fate old ≤ room_at fate new + 1
+taken_one to fate old new t = go (same_fate to fate) refl
+  where
+    go : (b : Bool) → same_fate to fate ≡ b → room_at fate old ≤ room_at fate new + 1
+    go true e = let h : room_at fate old ≤ room_at fate new + 1 = rw e at (t fate) in h
+    go false e = let h : room_at fate old ≤ room_at fate new + 0 = rw e at (t fate) in omega (arith, h)
+
+three : (a b c a' b' c' : List ℕ) → length a' ≡ length a → length b' + length c' ≤ length b + length c + 1 → length (a' ++ b' ++ c') ≤ length (a ++ b ++ c) + 1
+three a b c a' b' c' e h =
+    let old = length-append (a ++ b) c in
+    let old' = length-append a b in
+    let new = length-append (a' ++ b') c' in
+    let new' = length-append a' b' in
+    omega (arith, e, h, old, old', new, new')
+
+one_more : (via m number : ℕ) (at own : List ℕ) → (via ≡ m → at ≡ own) → length (cond (via == m) (at ++ number ∷ []) own) ≤ length own + 1
+one_more via m number at own same = go (via == m) refl
+  where
+    go : (b : Bool) → (via == m) ≡ b → length (cond (via == m) (at ++ number ∷ []) own) ≤ length own + 1
+    go true e =
+        let more = length-append at (number ∷ []) in
+        let equal = ap length (same (eqb-true via m e)) in
+        rw e (omega (arith, more, equal))
+    go false e = rw e (omega arith)
+
+on_then : (code number : ℕ) (to : Fate) (q : Lists) → Goes code number to q → (via : ℕ) → (to ≡ Waiting via) ⊎ (to ≡ Held via) → (m : ℕ) → length (on_lists m (passed_first (Back code) to q)) ≤ length (on_lists m q) + 1
+on_then code number to q g via (inl e) m = subst (λ (f : Fate). Goes code number f q → length (on_lists m (passed_first (Back code) f q)) ≤ length (on_lists m q) + 1) (sym e) waits g
+  where
+    waits : Goes code number (Waiting via) q → length (on_lists m (passed_first (Back code) (Waiting via) q)) ≤ length (on_lists m q) + 1
+    waits g =
+        let new : Lists = passed_first (Back code) (Waiting via) q in
+        let sent : queue_at (Unacked m) new ≡ queue_at (Unacked m) q = queue_then code number (Waiting via) q g (Unacked m) in
+        let wait : queue_at (Waiting m) new ≡ cond (via == m) (queue_at (Waiting via) q ++ number ∷ []) (queue_at (Waiting m) q) = queue_then code number (Waiting via) q g (Waiting m) in
+        let held : queue_at (Held m) new ≡ queue_at (Held m) q = queue_then code number (Waiting via) q g (Held m) in
+        let most = one_more via m number (queue_at (Waiting via) q) (queue_at (Waiting m) q) (λ s. ap (λ (i : ℕ). queue_at (Waiting i) q) s) in
+        let w = ap length wait in
+        let h = ap length held in
+        three (queue_at (Unacked m) q) (queue_at (Waiting m) q) (queue_at (Held m) q) (queue_at (Unacked m) new) (queue_at (Waiting m) new) (queue_at (Held m) new) (ap length sent) (omega (arith, most, w, h))
+on_then code number to q g via (inr e) m = subst (λ (f : Fate). Goes code number f q → length (on_lists m (passed_first (Back code) f q)) ≤ length (on_lists m q) + 1) (sym e) holds g
+  where
+    holds : Goes code number (Held via) q → length (on_lists m (passed_first (Back code) (Held via) q)) ≤ length (on_lists m q) + 1
+    holds g =
+        let new : Lists = passed_first (Back code) (Held via) q in
+        let sent : queue_at (Unacked m) new ≡ queue_at (Unacked m) q = queue_then code number (Held via) q g (Unacked m) in
+        let wait : queue_at (Waiting m) new ≡ queue_at (Waiting m) q = queue_then code number (Held via) q g (Waiting m) in
+        let held : queue_at (Held m) new ≡ cond (via == m) (queue_at (Held via) q ++ number ∷ []) (queue_at (Held m) q) = queue_then code number (Held via) q g (Held m) in
+        let most = one_more via m number (queue_at (Held via) q) (queue_at (Held m) q) (λ s. ap (λ (i : ℕ). queue_at (Held i) q) s) in
+        let w = ap length wait in
+        let h = ap length held in
+        three (queue_at (Unacked m) q) (queue_at (Waiting m) q) (queue_at (Held m) q) (queue_at (Unacked m) new) (queue_at (Waiting m) new) (queue_at (Held m) new) (ap length sent) (omega (arith, most, w, h))
+
+pub turns_one : (home code links : ℕ) (to : Fate) (old new : QueuesState) → IsOldest home code old.lists → IsOnLink links to → length old.lists.links ≡ links → new.lists ≡ passed_first (Back code) to old.lists → TakesRoom to 1 old.rooms new.rooms → new.room ≡ old.room → TakesTurns 1 old new
+turns_one home code links to old new o on many e rooms room = record {
+  room = room;
+  rooms = λ f. taken_one to f old.rooms new.rooms rooms;
+  on_link = λ n low. subst (λ (z : Lists). length (on_lists n z) ≤ length (on_lists n old.lists) + 1) (sym e) (on_then code o.number to old.lists (goes_to home code links to old.lists o on many) on.0 on.2 n);
+}
+
+pub links_then : (from to : Fate) (q q' : Lists) → q' ≡ passed_first from to q → length q'.links ≡ length q.links
+links_then from to q q' e = ap (λ (z : Lists). length z.links) e ∙ links_stay from (drop 1 (queue_at from q)) (with_queue to (queue_at to q ++ take 1 (queue_at from q)) q) ∙ links_stay to (queue_at to q ++ take 1 (queue_at from q)) q
+
+back_some : (code : ℕ) (q : Lists) → 1 ≤ length (queue_at (Back code) q) → (from n : ℕ) → from ≤ code → code < from + n → 1 ≤ back_from from n q
+back_some code q some from zero low high = absurd (omega (arith, low, high))
+back_some code q some from (suc n) low high = go (cases_eq code (from + n)) (back_some code q some from n low)
+  where
+    all : back_from from (suc n) q ≡ back_from from n q + length (queue_at (Back (from + n)) q)
+    all = back_suc from n q
+
+    go : (code ≡ from + n) ⊎ (code ≡ from + n → ⊥) → (code < from + n → 1 ≤ back_from from n q) → 1 ≤ back_from from (suc n) q
+    go (inl e) later = let own = subst (λ (c : ℕ). 1 ≤ length (queue_at (Back c) q)) e some in omega (arith, own, all)
+    go (inr ne) later = let before = later (omega (arith, high, ne)) in omega (arith, before, all)
+
+pub some_back : (home code : ℕ) (q : Lists) → IsOldest home code q → 1 ≤ back_from (16 * home) 16 q
+some_back home code q o =
+    let h = head_of (queue_at (Back code) q) o.number o.first in
+    let many : length (queue_at (Back code) q) ≡ suc (length h.0) = ap length h.1 in
+    let of = o.of_home in
+    back_some code q (omega (arith, many)) (16 * home) 16 (omega (arith, of)) (omega (arith, of))

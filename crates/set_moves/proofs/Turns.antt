@@ -1,0 +1,174 @@
+-- WHAT STANDS BACK FOR A LINK turns back: the oldest, once.
+use Rattle.std.proofs.Common.{refl, arith, ◌≡◌, ◌∙◌, ap, sym, subst, [], ◌∷◌, ◌++◌, length, ℕ, suc, Bool, true, false, ◌⊎◌, inl, inr, List, Some, cond, take, drop}
+use Rattle.std.specs.Prelude.{slice_get}
+use Rattle.std.proofs.lemmas.Bool.{cases_Bool, eq-eqb}
+use Rattle.std.proofs.lemmas.List.{append-nil, map-append}
+use Rattle.set_events.specs.declared.answer.Fate.{Fate}
+use Rattle.set_events.specs.declared.answer.Fate.TheVariants.{Waiting, Unacked, Acked, Held, Parked, Back, Discarded}
+use Rattle.set_queues.specs.Backs.{passed_first, IsOldest}
+use Rattle.set_queues.specs.Buffers.{Lists, is_standing, same_fate, queue_at, with_queue, last_at}
+use Rattle.set_queues.specs.Messages.{restood}
+use Rattle.set_queues.proofs.Passing.{queued_stands}
+use Rattle.set_queues.proofs.Standing.{length-restood, same_is}
+use Rattle.set_route.specs.declared.place.Place.{Place}
+use Rattle.set_route.specs.declared.place.Place.TheVariants.{On, Changing, Nowhere}
+use Rattle.set_route.specs.Routing.{home_of, place_of}
+use Rattle.set_model.specs.Rows.{Row, standing, is_waiting, is_unacked, is_held, is_parked, is_back, is_back_to, numbers, with_fate, moved, stream_of}
+use Rattle.set_model.specs.Sound.{IsAscending}
+use Rattle.set_model.specs.State.{State, fate_at}
+use Rattle.set_moves.specs.Agreement.{Kept, Stands, StandsFor, rows_at}
+use Rattle.set_moves.specs.Turning.{IsTurning, IsTurningRow, TurnedOn, TurnedSoFar}
+use Rattle.set_moves.proofs.Becoming.{Becoming, becomes}
+use Rattle.set_moves.proofs.RowsAt.{waits_there, sent_there, held_there, parked_there, back_there}
+use Rattle.set_moves.proofs.Shifting.{shifted, shifted_messages, shifted_goes, shifted_beside, shifted_off, shifted_in, shifted_out, shifted_each, moved_same, moved_as}
+use Rattle.set_moves.proofs.Standing.{restands, final, none}
+use Rattle.set_moves.proofs.States.{changes, last_stays}
+use Rattle.set_moves.proofs.Oldest.{IsFirst, IsOnLink, first_of}
+use Rattle.set_moves.proofs.TurnedQueues.{Goes, either, goes_to, taken, queue_then, links_then}
+
+-- where a fate that isn't final is looked for
+record Tested (f : Fate) : Type 0 where
+  test : Fate → Bool
+  rows_are : (rows : List Row) → rows_at f rows ≡ standing test rows
+  same : (g : Fate) → test g ≡ same_fate g f
+
+tested : (f : Fate) → is_standing f ≡ true → Tested f
+tested (Waiting l) e = record { test = is_waiting l; rows_are = λ rows. refl; same = waits_there l }
+tested (Unacked l) e = record { test = is_unacked l; rows_are = λ rows. refl; same = sent_there l }
+tested (Held l) e = record { test = is_held l; rows_are = λ rows. refl; same = held_there l }
+tested Parked e = record { test = is_parked; rows_are = λ rows. refl; same = parked_there }
+tested (Back c) e = record { test = is_back c; rows_are = λ rows. refl; same = back_there c }
+tested (Acked l) e = absurd cc
+tested (Discarded cause) e = absurd cc
+
+-- ONE TURNS BACK
+module _ (home code : ℕ) (to : Fate) (k : Kept) (s : State) (f : StandsFor k s) (o : IsOldest home code k.lists) (on : IsOnLink (length k.lists.links) to) (x : IsFirst home code o.number s.rows) where
+  abbrev row : Row
+  row = x.row
+
+  abbrev after : List Row
+  after = shifted to row s.rows
+
+  abbrev then : Lists
+  then = passed_first (Back code) to k.lists
+
+  goes : Goes code o.number to k.lists
+  goes = goes_to home code (length k.lists.links) to k.lists o on refl
+
+  number : o.number ≡ row.number
+  number = sym x.number_is
+
+  back_to : same_fate (Back code) to ≡ false
+  back_to = either (λ f. same_fate (Back code) f ≡ false) to on.0 on.2 refl refl
+
+  is_standing_to : is_standing to ≡ true
+  is_standing_to = queued_stands to goes.queued
+
+  queues : (g : Fate) → queue_at g then ≡ numbers (rows_at g after)
+  queues g = queue_then code o.number to k.lists goes g ∙ go (cases_Bool (is_standing g))
+    where
+      -- where it stood
+      left : (t : Tested g) → same_fate (Back code) g ≡ true → Back code ≡ g → drop 1 (queue_at (Back code) k.lists) ≡ numbers (rows_at g after)
+      left t e same = subst (λ (h : Fate). drop 1 (queue_at (Back code) k.lists) ≡ numbers (rows_at h after)) same
+          (ap (drop 1) (f.stands.queues (Back code) ∙ ap numbers x.of_code)
+          ∙ sym (ap numbers (shifted_off to row s.rows x.one (is_back code) x.after x.of_code ∙ ap (λ (ys : List Row). x.after ++ ys) (shifted_out to row s.rows x.one (is_back code) (back_there code to ∙ goes.apart)) ∙ append-nil x.after)))
+
+      beside : (t : Tested g) → same_fate (Back code) g ≡ false → rows_at g after ≡ rows_at g s.rows ++ standing t.test (with_fate to row ∷ [])
+      beside t e =
+          t.rows_are after
+          ∙ shifted_beside to row s.rows x.one t.test (t.same row.fate ∙ ap (λ (h : Fate). same_fate h g) x.fate_is ∙ e)
+          ∙ ap (λ (ys : List Row). ys ++ standing t.test (with_fate to row ∷ [])) (sym (t.rows_are s.rows))
+
+      -- where it comes
+      come : (t : Tested g) → same_fate (Back code) g ≡ false → same_fate to g ≡ true → to ≡ g → queue_at to k.lists ++ o.number ∷ [] ≡ numbers (rows_at g after)
+      come t e d same =
+          ap (λ (xs : List ℕ). xs ++ o.number ∷ []) (f.stands.queues to)
+          ∙ ap (λ (h : Fate). numbers (rows_at h s.rows) ++ o.number ∷ []) same
+          ∙ ap (λ (n : ℕ). numbers (rows_at g s.rows) ++ n ∷ []) number
+          ∙ sym (ap numbers (beside t e ∙ ap (λ (ys : List Row). rows_at g s.rows ++ ys) (shifted_in to row s.rows x.one t.test (t.same to ∙ d))) ∙ map-append (λ (r : Row). r.number) (rows_at g s.rows) (with_fate to row ∷ []))
+
+      still : (t : Tested g) → same_fate (Back code) g ≡ false → same_fate to g ≡ false → queue_at g k.lists ≡ numbers (rows_at g after)
+      still t e d =
+          f.stands.queues g
+          ∙ sym (ap numbers (beside t e ∙ ap (λ (ys : List Row). rows_at g s.rows ++ ys) (shifted_out to row s.rows x.one t.test (t.same to ∙ d)) ∙ append-nil (rows_at g s.rows)))
+
+      by : (t : Tested g) → is_standing g ≡ true → (same_fate (Back code) g ≡ true) ⊎ (same_fate (Back code) g ≡ false) → (same_fate to g ≡ true) ⊎ (same_fate to g ≡ false)
+          → cond (same_fate (Back code) g) (drop 1 (queue_at (Back code) k.lists)) (cond (same_fate to g) (queue_at to k.lists ++ o.number ∷ []) (queue_at g k.lists)) ≡ numbers (rows_at g after)
+      by t u (inl e) d = rw e (left t e (same_is (Back code) g u e))
+      by t u (inr e) (inl d) = rw (e, d) (come t e d (same_is to g u d))
+      by t u (inr e) (inr d) = rw (e, d) (still t e d)
+
+      go : (is_standing g ≡ true) ⊎ (is_standing g ≡ false) → cond (same_fate (Back code) g) (drop 1 (queue_at (Back code) k.lists)) (cond (same_fate to g) (queue_at to k.lists ++ o.number ∷ []) (queue_at g k.lists)) ≡ numbers (rows_at g after)
+      go (inl u) = by (tested g u) u (cases_Bool (same_fate (Back code) g)) (cases_Bool (same_fate to g))
+      go (inr u) = sym (queue_then code o.number to k.lists goes g) ∙ final g u then ∙ sym (none g u after)
+
+  pub stands_then : Stands then (restood (take 1 (queue_at (Back code) k.lists)) to k.messages) after
+  stands_then =
+      let low = x.below in
+      let many = f.stands.count in
+      let ns : row.number ∷ [] ≡ take 1 (queue_at (Back code) k.lists) = ap (λ (n : ℕ). n ∷ []) (sym number) ∙ sym (taken code o.number to k.lists goes) in
+      subst (λ (xs : List ℕ). Stands then (restood xs to k.messages) after) ns
+      (restands k.lists then k.messages s.rows after (row.number ∷ []) to f.stands (shifted_messages to row s.rows x.one f.stands.numbered) (omega (arith, low, many), tt) queues (λ n. shifted_goes to row s.rows x.one n))
+
+  last_then : (n : ℕ) → last_at n then ≡ last_at n k.lists
+  last_then n = last_stays (Back code) (drop 1 (queue_at (Back code) k.lists)) (with_queue to (queue_at to k.lists ++ take 1 (queue_at (Back code) k.lists)) k.lists) n ∙ last_stays to (queue_at to k.lists ++ take 1 (queue_at (Back code) k.lists)) k.lists n
+
+  pub stands_for : StandsFor (record k { lists = then; messages = restood (take 1 (queue_at (Back code) k.lists)) to k.messages; links = s.links; routing = s.routing }) (record s { rows = after })
+  stands_for =
+      changes k s then (restood (take 1 (queue_at (Back code) k.lists)) to k.messages) after s.links s.routing f (record {
+        stands = stands_then;
+        bodies = (shifted_messages to row s.rows x.one f.stands.numbered).bodies;
+        as_many_messages = length-restood (take 1 (queue_at (Back code) k.lists)) to k.messages;
+        as_many_queues = links_then (Back code) to k.lists then refl;
+        as_many_links = refl;
+        fsns = λ n link there. last_then n ∙ f.fsns n link there;
+      })
+
+  abbrev fate : Row → Fate
+  fate r = fate_at (place_of (stream_of r.body) s.routing) s
+
+  abbrev next : State
+  next = record s { rows = after }
+
+  same_way : (p : Place) → fate_at p next ≡ fate_at p s
+  same_way (On link) = refl
+  same_way (Changing home code via) = refl
+  same_way Nowhere = refl
+
+  pub turned_on : IsTurning home s → to ≡ fate row → TurnedOn home 1 s next
+  turned_on t way =
+      let off : is_back_to home to ≡ false = either (λ f. is_back_to home f ≡ false) to on.0 on.2 refl refl in
+      let on_back : is_back_to home row.fate ≡ true = ap (is_back_to home) x.fate_is ∙ eq-eqb (home_of code) home o.of_home in
+      let rest_is : standing (is_back_to home) after ≡ x.rest = shifted_off to row s.rows x.one (is_back_to home) x.rest x.first ∙ ap (λ (ys : List Row). x.rest ++ ys) (shifted_out to row s.rows x.one (is_back_to home) off) ∙ append-nil x.rest in
+      let moved_is : moved (is_back_to home) fate after ≡ moved (is_back_to home) fate s.rows =
+      subst (λ (g : Fate). moved (is_back_to home) fate (shifted g row s.rows) ≡ moved (is_back_to home) fate s.rows) (sym way)
+      (moved_same (is_back_to home) fate row x.rest s.rows x.one x.first on_back (ap (is_back_to home) (sym way) ∙ off)) in
+      record {
+        turning = record {
+          each = shifted_each to row s.rows x.one (IsTurningRow home s) t.each (λ e. absurd (let no : true ≡ false = sym e ∙ off in cc));
+          order = subst (λ (ys : List Row). IsAscending (numbers ys)) (sym rest_is) (subst (λ (ys : List Row). IsAscending (numbers ys)) x.first t.order).1;
+        };
+        same = ap (λ (rows : List Row). record s { rows = rows }) (moved_as (is_back_to home) (λ r. fate_at (place_of (stream_of r.body) s.routing) next) fate (λ r. same_way (place_of (stream_of r.body) s.routing)) after ∙ moved_is);
+        fewer = let now = ap length rest_is in let before : length (standing (is_back_to home) s.rows) ≡ suc (length x.rest) = ap length x.first in omega (arith, now, before);
+      }
+
+pub turned_first : (home code links : ℕ) (to : Fate) (old new : Kept) (s : State) → StandsFor old s → IsTurning home s → IsOldest home code old.lists → IsOnLink links to → length old.lists.links ≡ links
+    → ((row : Row) → slice_get (standing (is_back code) s.rows) 0 ≡ Some row → to ≡ fate_at (place_of (stream_of row.body) s.routing) s)
+    → Becoming old new (passed_first (Back code) to old.lists) (restood (take 1 (queue_at (Back code) old.lists)) to old.messages) old.bodies old.links old.routing
+    → TurnedSoFar home 1 s new
+turned_first home code links to old new s f t o on many way b =
+    let low = on.1 in
+    let here : IsOnLink (length old.lists.links) to = (on.0, omega (arith, low, many), on.2) in
+    let x = first_of home code old.lists old.messages s.rows f.stands o t.order in (
+      next home code to old s f o here x,
+      becomes old new _ _ _ _ _ (next home code to old s f o here x) (record {
+        settings_same = b.settings_same;
+        lists_are = b.lists_are;
+        messages_are = b.messages_are;
+        bodies_are = b.bodies_are;
+        links_are = b.links_are ∙ f.links;
+        routing_is = b.routing_is ∙ f.routing;
+        inbox_same = b.inbox_same;
+      }) (stands_for home code to old s f o here x),
+      turned_on home code to old s f o here x t (way x.row (ap (λ (ys : List Row). slice_get ys 0) x.of_code)),
+    )

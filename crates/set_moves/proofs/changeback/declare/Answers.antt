@@ -1,0 +1,44 @@
+use Rattle.std.proofs.Common.{◌∙◌, ap, sym, length, ◌++◌, [], ◌∷◌, arith}
+use Rattle.set_events.specs.declared.answer.Fate.TheVariants.{Waiting}
+use Rattle.set_queues.specs.Buffers.{Lists, queue_at}
+use Rattle.set_queues.proofs.Passing.{links_stay}
+use Rattle.set_route.specs.Routing.{Routing}
+use Rattle.set_moves.proofs.Declaring.{asked_links}
+use Rattle.set_moves.proofs.changeback.declare.Goals as goal
+
+pub returns-clause-whole : goal.returns-clause-whole
+returns-clause-whole c = record {
+  as_many = ap (λ (q : Lists). length q.links) c.stand_last.ensures.lists ∙ links_stay (Waiting c.args.alternative) (queue_at (Waiting c.args.alternative) c.args.parts.now.queues.lists ++ length c.args.parts.now.queues.messages ∷ []) c.args.parts.now.queues.lists ∙ c.requires.whole.as_many ∙ sym (ap (λ ls. length ls.items) c.stand_last.ensures.links);
+  routed = asked_links c.ask.result c.args.home c.args.alternative c.stand_last.new.parts.routes c.ask.new.self c.ask.ensures.change ∙ ap (λ (r : Routing). r.links) c.stand_last.ensures.routes ∙ c.requires.whole.routed ∙ sym (ap (λ ls. length ls.items) c.stand_last.ensures.links);
+  few = rw (c.stand_last.ensures.links) c.requires.whole.few;
+}
+
+pub changeback_code-requires-clause-home : goal.changeback_code-requires-clause-home
+changeback_code-requires-clause-home c = omega (arith, c.requires.home, c.requires.whole.few)
+
+pub changeback_code-requires-clause-alternative : goal.changeback_code-requires-clause-alternative
+changeback_code-requires-clause-alternative c = omega (arith, c.requires.alternative, c.requires.whole.few)
+
+pub stand_last-requires-clause-fits : goal.stand_last-requires-clause-fits
+stand_last-requires-clause-fits c = rw c.as_slice.ensures.value c.body_of-body.ensures.fits
+
+pub stand_last-requires-clause-known : goal.stand_last-requires-clause-known
+stand_last-requires-clause-known c = omega (arith, c.requires.alternative, c.requires.whole.as_many)
+
+pub stand_last-requires-clause-queued : goal.stand_last-requires-clause-queued
+stand_last-requires-clause-queued c = tt
+
+pub stand_last-requires-clause-room : goal.stand_last-requires-clause-room
+stand_last-requires-clause-room c = c.requires.room
+
+pub returns-clause-rooms : goal.returns-clause-rooms
+returns-clause-rooms c = c.stand_last.ensures.rooms
+
+pub returns-clause-message : goal.returns-clause-message
+returns-clause-message c = c.stand_last.ensures.message
+
+pub returns-clause-body : goal.returns-clause-body
+returns-clause-body c = c.stand_last.ensures.body
+
+pub returns-clause-links : goal.returns-clause-links
+returns-clause-links c = c.stand_last.ensures.links

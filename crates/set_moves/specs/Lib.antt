@@ -1,0 +1,7 @@
+pub mod Agreement
+pub mod Controls
+pub mod Declaring
+pub mod Parts
+pub mod Refusing
+pub mod Room
+pub mod Turning

@@ -1,0 +1,99 @@
+-- THE PARTS OF A SET as contracts see them.
+use Rattle.std.specs.Prelude.{◌≡◌, ℕ, false, ◌<◌, ◌≤◌, List, length, map, Some, slice_get}
+use Rattle.set_model.specs.declared.reached.Reached.{Reached}
+use Rattle.set_model.specs.declared.reached.Reached.TheVariants.{Upto, Unknown, Unanswered}
+use Rattle.set_model.specs.State.{LinkState, State, settings_of, has_phase_up}
+use Rattle.set_model.specs.Step.{Outcome}
+use Rattle.set_events.specs.declared.answer.Answer.{Answer}
+use Rattle.set_events.specs.declared.answer.Took.{Took}
+use Rattle.set_model.specs.Changeover.{Obeyed}
+use Rattle.set_moves.specs.declared.link.Link.{Link}
+use Rattle.set_moves.specs.declared.parts.Parts.{Parts}
+use Rattle.set_moves.specs.Agreement.{Kept, StandsFor, Agrees}
+use Rattle.l2_window.specs.Window.{fsn_count}
+use Rattle.set_route.specs.Routing.{most_links}
+
+-- what the kept link stands for
+abbrev pub link_of : Link → LinkState
+link_of link = record {
+  phase = link.phase;
+  blind = link.blind;
+  acked = link.acked;
+  accepted = link.accepted;
+  control = link.control;
+}
+
+abbrev pub kept_of : Parts → Kept
+kept_of parts = record {
+  settings = settings_of parts.config;
+  lists = parts.queues.lists;
+  messages = parts.queues.messages;
+  bodies = parts.bodies.items;
+  links = map link_of parts.links.items;
+  routing = parts.routes;
+  inbox = parts.inbox.items;
+}
+
+-- one link for each queue and each place of the routing, and 16 at most
+pub record IsWhole (parts : Parts) : Type 0 where
+  pub as_many : length parts.queues.lists.links ≡ length parts.links.items
+  pub routed : parts.routes.links ≡ length parts.links.items
+  pub few : length parts.links.items ≤ most_links
+
+-- a fact of the link of this number, if there is one
+abbrev pub AtLink : ℕ → List Link → (Link → Type 0) → Type 0
+AtLink number links fact = (link : Link) → slice_get links number ≡ Some link → fact link
+
+abbrev pub IsOut : Link → Type 0
+IsOut link = has_phase_up link.phase ≡ false
+
+-- the whole numbers are far from the end of their range
+pub record IsCounted (bound : ℕ) (link : Link) : Type 0 where
+  pub acked : link.acked < bound
+  pub accepted : link.accepted < bound
+
+abbrev pub AreCounted : ℕ → List Link → Type 0
+AreCounted bound links = (number : ℕ) → AtLink number links (IsCounted bound)
+
+-- an FSN has 7 bits
+abbrev pub IsReach : Reached → Type 0
+IsReach (Upto number) = number < fsn_count
+IsReach Unknown = Unit {0}
+IsReach Unanswered = Unit {0}
+
+-- WHATEVER STATE the old parts stand for, the new ones stand for what becomes of it,
+abbrev pub Becomes : Parts → Parts → (State → State) → Type 0
+Becomes old new change = (s : State) → StandsFor (kept_of old) s → StandsFor (kept_of new) (change s)
+
+-- of a state that has this link
+abbrev pub OfStates : ℕ → Parts → (LinkState → State → Type 0) → Type 0
+OfStates number parts fact =
+    (s : State) (link : LinkState) → slice_get s.links number ≡ Some link → StandsFor (kept_of parts) s → fact link s
+
+abbrev pub BecomesAt : ℕ → Parts → Parts → (LinkState → State → State) → Type 0
+BecomesAt number old new change = OfStates number old (λ link s. StandsFor (kept_of new) (change link s))
+
+-- or of one that the old parts agree with, and that has this link
+abbrev pub OfAgreed : ℕ → Parts → (LinkState → State → Type 0) → Type 0
+OfAgreed number parts fact =
+    (s : State) (link : LinkState) → slice_get s.links number ≡ Some link → Agrees (kept_of parts) s → fact link s
+
+abbrev pub AgreedBecomes : ℕ → Parts → Parts → (LinkState → State → State) → Type 0
+AgreedBecomes number old new change = OfAgreed number old (λ link s. StandsFor (kept_of new) (change link s))
+
+-- what is answered to a state, and kept then, are this outcome
+pub record Gives (outcome : Outcome) (answer : Answer) (parts : Parts) : Type 0 where
+  pub answer_is : answer ≡ outcome.answer
+  pub stands : StandsFor (kept_of parts) outcome.state
+
+-- whatever state the old parts agree with
+abbrev pub Answers : Parts → Parts → Answer → (State → Outcome) → Type 0
+Answers old new answer outcome = (s : State) → Agrees (kept_of old) s → Gives (outcome s) answer new
+
+abbrev pub AnswersAt : ℕ → Parts → Parts → Answer → (LinkState → State → Outcome) → Type 0
+AnswersAt number old new answer outcome = OfAgreed number old (λ link s. Gives (outcome link s) answer new)
+
+-- what became of an order, and is kept then, are this
+pub record Obeys (obeyed : Obeyed) (took : Took) (parts : Parts) : Type 0 where
+  pub took_is : took ≡ obeyed.took
+  pub stands : StandsFor (kept_of parts) obeyed.state

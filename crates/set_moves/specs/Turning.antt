@@ -1,0 +1,43 @@
+-- WHAT STOOD BACK FOR A LINK THAT IS LEFT turns back.
+use Rattle.std.specs.Prelude.{◌≡◌, ◌≤◌, ◌<◌, ◌+◌, ℕ, true, length}
+use Rattle.set_events.specs.declared.answer.Fate.{Fate}
+use Rattle.set_queues.specs.Buffers.{room_at}
+use Rattle.set_queues.specs.Queues.{QueuesState}
+use Rattle.set_queues.specs.Settling.{on}
+use Rattle.set_route.specs.declared.place.Place.TheVariants.{On}
+use Rattle.set_route.specs.Routing.{place_of}
+use Rattle.set_model.specs.Rows.{Row, is_users, is_back_to, standing, stream_of, numbers, Each}
+use Rattle.set_model.specs.Changeover.{turned_back}
+use Rattle.set_model.specs.Sound.{IsAscending}
+use Rattle.set_model.specs.State.{State, link_count}
+use Rattle.set_moves.specs.Agreement.{Kept, StandsFor}
+
+-- what stands back for the link is a user's, and its stream runs on a link of the set
+abbrev pub IsTurningRow : ℕ → State → Row → Type 0
+IsTurningRow number s row =
+    is_back_to number row.fate ≡ true → (is_users row ≡ true) × (stream_of row.body < 16)
+    × (via : ℕ) × (place_of (stream_of row.body) s.routing ≡ On via) × (via < link_count s)
+
+-- all of it does, and stands in the order of its numbers
+pub record IsTurning (number : ℕ) (s : State) : Type 0 where
+  pub each : Each (IsTurningRow number s) s.rows
+  pub order : IsAscending (numbers (standing (is_back_to number) s.rows))
+
+abbrev pub CanTurn : ℕ → Kept → Type 0
+CanTurn number k = (s : State) × StandsFor k s × IsTurning number s
+
+-- so many turned back: what is left to turn makes the same of the state
+pub record TurnedOn (number count : ℕ) (s t : State) : Type 0 where
+  pub turning : IsTurning number t
+  pub same : turned_back number t ≡ turned_back number s
+  pub fewer : length (standing (is_back_to number) t.rows) + count ≡ length (standing (is_back_to number) s.rows)
+
+abbrev pub TurnedSoFar : ℕ → ℕ → State → Kept → Type 0
+TurnedSoFar number count s k = (t : State) × StandsFor k t × TurnedOn number count s t
+
+-- so many turns take so much room of each queue, and put at most so many on a link
+pub record TakesTurns (count : ℕ) (old new : QueuesState) : Type 0 where
+  pub room : new.room ≡ old.room
+  pub rooms : (fate : Fate) → room_at fate old.rooms ≤ room_at fate new.rooms + count
+  pub on_link : (number : ℕ) → number < length old.lists.links
+      → length (on number new.lists) ≤ length (on number old.lists) + count

@@ -1,0 +1,244 @@
+//! Changeback: streams come back to a link, and their messages with them (Q.704 6).
+ghost use Rattle.std.specs.Prelude.{◌≡◌, ◌≢◌, ◌+◌, ◌*◌, ◌<◌, ◌≤◌, ℕ, true, length, Some, OnErr, OnOk};
+ghost use Rattle.set_queues.specs.Buffers.{TakesRoom, room_at};
+ghost use Rattle.set_queues.specs.Backs.{back_count};
+ghost use Rattle.set_queues.specs.Bodies.{CanHold};
+ghost use Rattle.set_route.specs.Routing.{code_of, home_of, is_free, can_ask};
+ghost use Rattle.set_model.specs.Changeover.{released, released_from, acknowledged_back, can_declare, declared, declared_if, declared_from, some_declare, some_in_use};
+ghost use Rattle.set_model.specs.State.{State, link_count};
+ghost use Rattle.set_model.specs.Step.{on_link, in_service, comes_back, runs_out};
+ghost use Rattle.set_moves.specs.Agreement.{Agrees, Holds, StandsFor};
+ghost use Rattle.set_moves.specs.Declaring.{HasRoomFrom};
+ghost use Rattle.set_moves.specs.Parts.{Answers, Becomes, IsWhole, Obeys, kept_of};
+ghost use Rattle.set_moves.specs.Room.{HasRoom, SameButRoom, back_at, home_room};
+
+use super::changeover::body_of;
+use super::parts::{Parts, out_of_service, phase_of, stand_last};
+use l3_orders::Order;
+use set_events::{Answer, Fate, Refusal, Took};
+use set_model::Phase;
+use set_route::{Code, changeback_code, home_of_code};
+use std::alloc::AllocError;
+
+/// A set has at most so many links, and a home so many codes.
+const MOST_LINKS: usize = 16;
+
+/// Streams whose home this link is are to come back to it: a declaration on every other link that is up,
+/// the lowest-numbered first, where streams of this home run and its code is free.
+pub fn restore(parts: &mut Parts, number: u8, answer: &mut Answer) -> Result<(), AllocError>
+    requires holds { Holds (kept_of parts.old) }
+    ensures ok { OnOk result (Answers parts.old parts.new answer.new
+        (λ s. in_service number s (λ link. comes_back number s))) }
+    ensures err { OnErr result (kept_of parts.new ≡ kept_of parts.old) }
+{
+    if let Some(why) = out_of_service(&parts.links, number) {
+        *answer = Answer::Refused { why };
+        return Ok(());
+    }
+    if !has_alternative(parts, number) {
+        *answer = Answer::Refused {
+            why: Refusal::Nothing,
+        };
+        return Ok(());
+    }
+    make_room_declared(parts)?;
+    declare_all(parts, number);
+    *answer = Answer::Done;
+    Ok(())
+}
+
+/// No acknowledgement came: what stands back for this link waits for it, code by code, and all its codes
+/// are free (own).
+pub fn time_out(parts: &mut Parts, number: u8, answer: &mut Answer) -> Result<(), AllocError>
+    requires holds { Holds (kept_of parts.old) }
+    ensures ok { OnOk result (Answers parts.old parts.new answer.new
+        (λ s. on_link number s (λ link. runs_out number s))) }
+    ensures err { OnErr result (kept_of parts.new ≡ kept_of parts.old) }
+{
+    if usize::from(number) >= parts.links.len() {
+        *answer = Answer::Refused {
+            why: Refusal::NoSuchLink,
+        };
+        return Ok(());
+    }
+    if !has_code_in_use(parts, number) {
+        *answer = Answer::Refused {
+            why: Refusal::Nothing,
+        };
+        return Ok(());
+    }
+    let back = parts.queues.back_count(number);
+    parts
+        .queues
+        .reserve_at(Fate::Waiting { link: number }, back)?;
+    release_all(parts, number);
+    *answer = Answer::Done;
+    Ok(())
+}
+
+/// Whether streams can come back from some link.
+fn has_alternative(parts: &Parts, number: u8) -> bool
+    requires holds { Holds (kept_of parts.now) }
+    requires known { number < length parts.now.links.items }
+    ensures { (s : State) → Agrees (kept_of parts.now) s
+        → result ≡ some_declare number 0 (link_count s) s }
+{
+    for alternative in 0..parts.links.len() as u8 {
+        if may_declare(parts, number, alternative) {
+            return true;
+        }
+    }
+    false
+}
+
+/// Whether streams of this home can come back from that link.
+fn may_declare(parts: &Parts, home: u8, alternative: u8) -> bool
+    requires home { home < 16 }
+    requires alternative { alternative < 16 }
+    ensures value { (s : State) → StandsFor (kept_of parts.now) s
+        → result ≡ can_declare home alternative s }
+    ensures asks { result ≡ true → can_ask home alternative parts.now.routes ≡ true }
+{
+    alternative != home
+        && phase_of(&parts.links, alternative) == Some(Phase::Up)
+        && parts.routes.can_ask(home, alternative)
+}
+
+/// Takes room for a declaration on each link. Nothing else changes, also where memory is refused.
+fn make_room_declared(parts: &mut Parts) -> Result<(), AllocError>
+    requires whole { IsWhole parts.old }
+    ensures room { OnOk result (HasRoomFrom 0 parts.new) }
+    ensures same { SameButRoom parts.old parts.new }
+{
+    parts.bodies.reserve(MOST_LINKS)?;
+    parts.queues.reserve(MOST_LINKS)?;
+    parts.queues.reserve_each(1)
+}
+
+/// A declaration goes out on each link from which streams of this home can come back, the lowest-numbered
+/// first.
+fn declare_all(parts: &mut Parts, home: u8)
+    requires whole { IsWhole parts.old }
+    requires home { home < length parts.old.links.items }
+    requires room { HasRoomFrom 0 parts.old }
+    ensures stands { Becomes parts.old parts.new
+        (declared_from home 0 (length parts.old.links.items)) }
+{
+    for alternative in 0..parts.links.len() as u8 {
+        declare_if_due(parts, home, alternative);
+    }
+}
+
+/// A declaration goes out on that link, if streams of this home can come back from it.
+fn declare_if_due(parts: &mut Parts, home: u8, alternative: u8)
+    requires whole { IsWhole parts.old }
+    requires home { home < length parts.old.links.items }
+    requires alternative { alternative < length parts.old.links.items }
+    requires room { HasRoomFrom alternative parts.old }
+    ensures stands { Becomes parts.old parts.new (declared_if home alternative) }
+    ensures room { HasRoomFrom (alternative + 1) parts.new }
+    ensures links { parts.new.links ≡ parts.old.links }
+    ensures whole { IsWhole parts.new }
+{
+    if may_declare(parts, home, alternative) {
+        declare(parts, home, alternative);
+    }
+}
+
+/// A declaration goes out on that link: its streams of this home are on their way back.
+fn declare(parts: &mut Parts, home: u8, alternative: u8)
+    requires whole { IsWhole parts.old }
+    requires home { home < length parts.old.links.items }
+    requires alternative { alternative < length parts.old.links.items }
+    requires asks { can_ask home alternative parts.old.routes ≡ true }
+    requires room { HasRoom (Fate.Waiting alternative) parts.old }
+    ensures stands { Becomes parts.old parts.new (declared home alternative) }
+    ensures rooms { TakesRoom (Fate.Waiting alternative) 1 parts.old.queues.rooms
+        parts.new.queues.rooms }
+    ensures message { parts.old.queues.room ≤ parts.new.queues.room + 1 }
+    ensures body { (more : ℕ) → CanHold (more + 1) parts.old.bodies
+        → CanHold more parts.new.bodies }
+    ensures links { parts.new.links ≡ parts.old.links }
+    ensures whole { IsWhole parts.new }
+{
+    let declaration = Order::Cbd {
+        link: home,
+        code: changeback_code(home, alternative),
+    };
+    let body = body_of(&declaration, &parts.config);
+    stand_last(parts, body.as_slice(), Fate::Waiting { link: alternative });
+    parts.routes.ask(home, alternative);
+}
+
+/// Whether a code of this home is open or spent.
+fn has_code_in_use(parts: &Parts, home: u8) -> bool
+    requires { home < 16 }
+    ensures { (s : State) → StandsFor (kept_of parts.now) s
+        → result ≡ some_in_use (16 * home) 16 s }
+{
+    for alternative in 0..16u8 {
+        if !is_unused(parts.routes.code(changeback_code(home, alternative))) {
+            return true;
+        }
+    }
+    false
+}
+
+/// What stands back for this link waits for it, the lowest code first, and all its codes are free.
+fn release_all(parts: &mut Parts, home: u8)
+    requires whole { IsWhole parts.old }
+    requires known { home < length parts.old.links.items }
+    requires room { back_count home parts.old.queues.lists ≤ room_at (Fate.Waiting home)
+        parts.old.queues.rooms }
+    ensures stands { Becomes parts.old parts.new (released_from (16 * home) 16) }
+{
+    for alternative in 0..16u8 {
+        release(parts, changeback_code(home, alternative));
+    }
+}
+
+/// What waits for the code's acknowledgement waits for its home from now on, and its streams run there;
+/// the code is free.
+fn release(parts: &mut Parts, code: u8)
+    requires whole { IsWhole parts.old }
+    requires known { home_of code < length parts.old.links.items }
+    requires room { length (back_at code parts.old) ≤ home_room code parts.old }
+    ensures stands { Becomes parts.old parts.new (released code) }
+    ensures rooms { home_room code parts.old ≤ home_room code parts.new + length
+        (back_at code parts.old) }
+    ensures others { (other : ℕ) → other ≢ code
+        → back_at other parts.new ≡ back_at other parts.old }
+    ensures links { parts.new.links ≡ parts.old.links }
+    ensures whole { IsWhole parts.new }
+{
+    let home = home_of_code(code);
+    parts.queues.is_sound();
+    parts
+        .queues
+        .divert(Fate::Back { code }, Fate::Waiting { link: home });
+    parts.routes.give_back(code);
+}
+
+/// An acknowledgement of a changeback brings home what stood back by its code; of a code in no use it's
+/// ignored (Q.704 6.3).
+pub(crate) fn acknowledge_back(parts: &mut Parts, code: u8) -> Took
+    requires holds { Holds (kept_of parts.old) }
+    requires room { home_of code < length parts.old.links.items
+        → length (back_at code parts.old) ≤ home_room code parts.old }
+    ensures stands { (s : State) → Agrees (kept_of parts.old) s
+        → Obeys (acknowledged_back code (code_of code s.routing) s) result parts.new }
+{
+    parts.routes.is_sound();
+    if is_unused(parts.routes.code(code)) {
+        return Took::Ignored;
+    }
+    release(parts, code);
+    Took::Order
+}
+
+/// Whether a code is in no use.
+fn is_unused(code: Code) -> bool
+    ensures { result ≡ is_free code }
+{
+    matches!(code, Code::Free)
+}

@@ -1,0 +1,208 @@
+//! Changeover: a link is left, orders tell the far end, and the link settles (Q.704 5). Orders of changeback are
+//! carried out here too (Q.704 6).
+ghost use Rattle.std.specs.Prelude.{◌≡◌, ◌<◌, ◌≤◌, ◌^◌, ◌%◌, ℕ, false, length, slice_get, slice_set, Some};
+ghost use Rattle.l3_orders.specs.Grammar.{IsOrder, text};
+ghost use Rattle.set_queues.specs.Backs.{back_count};
+ghost use Rattle.set_queues.specs.Buffers.{TakesRoom};
+ghost use Rattle.set_queues.specs.Settling.{on};
+ghost use Rattle.set_model.specs.Changeover.{queued, out_of_service, left_by, settled, left_link, order_obeyed, changed_over, answered, reply_of, at_link};
+ghost use Rattle.set_model.specs.State.{State, LinkState, last_accepted};
+ghost use Rattle.set_model.specs.declared.phase.Phase.TheVariants.{Up, Down};
+ghost use Rattle.set_moves.specs.Agreement.{StandsFor, Agrees, Holds};
+ghost use Rattle.set_moves.specs.Parts.{IsWhole, AreCounted, AtLink, IsOut, IsReach, Becomes, BecomesAt, AgreedBecomes, Obeys, link_of, kept_of};
+ghost use Rattle.set_moves.specs.Room.{HasRoom, IsReady, IsSpaciousFor, CanTurnBack, order_fate};
+ghost use Rattle.set_moves.specs.Turning.{TakesTurns};
+
+use super::changeback::acknowledge_back;
+use super::link::Link;
+use super::parts::{Parts, fate_of, phase_of, stand_last, target_of};
+use super::settling::settle;
+use super::turning::turn_back;
+use arrayvec::ArrayVec;
+use l2_units::LONGEST_BODY;
+use l3_orders::{Order, write_order};
+use set_events::{SetConfig, Took};
+use set_model::{Phase, Reached};
+
+/// An order stands last, for the target.
+pub fn queue(parts: &mut Parts, order: Order)
+    requires whole { IsWhole parts.old }
+    requires order { IsOrder order }
+    requires room { HasRoom (order_fate parts.old) parts.old }
+    ensures stands { Becomes parts.old parts.new (queued order) }
+    ensures rooms { TakesRoom (order_fate parts.old) 1 parts.old.queues.rooms
+        parts.new.queues.rooms }
+    ensures elsewhere { (number : ℕ) → number < length parts.old.links.items
+        → AtLink number parts.old.links.items IsOut
+        → on number parts.new.queues.lists ≡ on number parts.old.queues.lists }
+    ensures links { parts.new.links ≡ parts.old.links }
+    ensures whole { IsWhole parts.new }
+{
+    let fate = fate_of(target_of(&parts.links));
+    let body = body_of(&order, &parts.config);
+    stand_last(parts, body.as_slice(), fate);
+}
+
+/// The octets of an order.
+pub(crate) fn body_of(order: &Order, config: &SetConfig) -> ArrayVec<u8, LONGEST_BODY>
+    requires { IsOrder order.now }
+    ensures text { result.items ≡ text order.now config.now.sio config.now.dpc config.now.opc }
+    ensures fits { length result.items ≤ 273 }
+{
+    write_order(order, config.sio, config.dpc, config.opc)
+}
+
+/// The link is left: out of service, its messages stay on it until it settles (Q.704 5.3). What stood back for it
+/// goes where its streams run.
+pub fn leave(parts: &mut Parts, number: u8, blind: bool)
+    requires holds { Holds (kept_of parts.old) }
+    requires known { number < length parts.old.links.items }
+    requires up { AtLink number parts.old.links.items (λ link. link.phase ≡ Up) }
+    requires room { CanTurnBack number parts.old }
+    ensures stands { AgreedBecomes number parts.old parts.new (left_by blind number) }
+    ensures links { AtLink number parts.old.links.items (λ link. parts.new.links.items
+        ≡ slice_set parts.old.links.items number (record link { phase = Down; blind = blind })) }
+    ensures turns { TakesTurns (back_count number parts.old.queues.lists) parts.old.queues
+        parts.new.queues }
+    ensures bodies { parts.new.bodies ≡ parts.old.bodies }
+    ensures whole { IsWhole parts.new }
+{
+    take_out(parts, number, blind);
+    turn_back(parts, number);
+}
+
+/// The link is out of service, and streams on their way back to it run where they came from.
+fn take_out(parts: &mut Parts, number: u8, blind: bool)
+    requires whole { IsWhole parts.old }
+    requires known { number < length parts.old.links.items }
+    ensures stands { BecomesAt number parts.old parts.new (out_of_service blind number) }
+    ensures links { AtLink number parts.old.links.items (λ link. parts.new.links.items
+        ≡ slice_set parts.old.links.items number (record link { phase = Down; blind = blind })) }
+    ensures queues { parts.new.queues ≡ parts.old.queues }
+    ensures bodies { parts.new.bodies ≡ parts.old.bodies }
+    ensures whole { IsWhole parts.new }
+{
+    let link = &mut parts.links[usize::from(number)];
+    link.phase = Phase::Down;
+    link.blind = blind;
+    parts.routes.divert(number);
+}
+
+/// An order is carried out (Q.704 5.4, 5.6).
+pub fn obey(parts: &mut Parts, order: Order) -> Took
+    requires holds { Holds (kept_of parts.old) }
+    requires counted { AreCounted (2 ^ 61) parts.old.links.items }
+    requires order { IsOrder order }
+    requires room { IsSpaciousFor order parts.old }
+    ensures stands { (s : State) → Agrees (kept_of parts.old) s
+        → Obeys (order_obeyed order s) result parts.new }
+{
+    match order {
+        Order::Coo { link, number } => change_over(parts, link, Reached::Upto { number }),
+        Order::Eco { link } => change_over(parts, link, Reached::Unknown),
+        Order::Coa { link, number } => answer(parts, link, Reached::Upto { number }),
+        Order::Eca { link } => answer(parts, link, Reached::Unknown),
+        Order::Cbd { link, code } => {
+            queue(parts, Order::Cba { link, code });
+            Took::Order
+        }
+        Order::Cba { code, .. } => acknowledge_back(parts, code),
+    }
+}
+
+/// A changeover order: a link that is up is left and answered for; a link that was left settles, with
+/// no answer (own); for one that settled already the answer of its last life goes out again (own).
+fn change_over(parts: &mut Parts, number: u8, reached: Reached) -> Took
+    requires holds { Holds (kept_of parts.old) }
+    requires counted { AreCounted (2 ^ 61) parts.old.links.items }
+    requires reached { IsReach reached }
+    requires number { number < 16 }
+    requires room { number < length parts.old.links.items → IsReady number 1 parts.old }
+    ensures stands { (s : State) → Agrees (kept_of parts.old) s
+        → Obeys (at_link number s
+        (λ link. changed_over reached number link link.phase s) (slice_get s.links number)) result
+        parts.new }
+{
+    match phase_of(&parts.links, number) {
+        None => return Took::Ignored,
+        Some(Phase::Up) => answer_and_settle(parts, number, reached),
+        Some(Phase::Down) => settle(parts, number, reached),
+        Some(Phase::Settled) => reply_again(parts, number),
+    }
+    Took::Order
+}
+
+/// A link that is up is left; the far end's order is acknowledged, and the link settles.
+fn answer_and_settle(parts: &mut Parts, number: u8, reached: Reached)
+    requires holds { Holds (kept_of parts.old) }
+    requires counted { AreCounted (2 ^ 61) parts.old.links.items }
+    requires reached { IsReach reached }
+    requires number { number < 16 }
+    requires known { number < length parts.old.links.items }
+    requires up { AtLink number parts.old.links.items (λ link. link.phase ≡ Up) }
+    requires room { IsReady number 1 parts.old }
+    ensures stands { (s : State) (link : LinkState) → slice_get s.links number ≡ Some link
+        → link.phase ≡ Up
+        → Agrees (kept_of parts.old) s
+        → StandsFor (kept_of parts.new) (settled reached number (left_link false link)
+        (queued (Order.Coa number (last_accepted link)) (left_by false number link s))) }
+{
+    let order = Order::Coa {
+        link: number,
+        number: parts.links[usize::from(number)].last_accepted(),
+    };
+    leave(parts, number, false);
+    queue(parts, order);
+    settle(parts, number, reached);
+}
+
+/// A link that settled is answered for again, as its last life would have been (own).
+fn reply_again(parts: &mut Parts, number: u8)
+    requires whole { IsWhole parts.old }
+    requires counted { AreCounted (2 ^ 61) parts.old.links.items }
+    requires number { number < 16 }
+    requires known { number < length parts.old.links.items }
+    requires out { AtLink number parts.old.links.items IsOut }
+    requires room { IsReady number 1 parts.old }
+    ensures stands { BecomesAt number parts.old parts.new
+        (λ link s. queued (reply_of number link) s) }
+{
+    let order = reply(&parts.links[usize::from(number)], number);
+    queue(parts, order);
+}
+
+/// The answer of a link that settled, as its last life would have given it (own).
+fn reply(link: &Link, number: u8) -> Order
+    requires number { number < 16 }
+    requires counted { link.now.accepted < 2 ^ 62 }
+    ensures order { result ≡ reply_of number (link_of link.now) }
+    ensures fits { IsOrder result }
+{
+    if link.blind {
+        return Order::Eca { link: number };
+    }
+    Order::Coa {
+        link: number,
+        number: link.last_accepted(),
+    }
+}
+
+/// An acknowledgement settles a link that waits for one (Q.704 5.4.3, 5.6.3).
+fn answer(parts: &mut Parts, number: u8, reached: Reached) -> Took
+    requires holds { Holds (kept_of parts.old) }
+    requires counted { AreCounted (2 ^ 61) parts.old.links.items }
+    requires reached { IsReach reached }
+    requires room { number < length parts.old.links.items → IsReady number 1 parts.old }
+    ensures stands { (s : State) → Agrees (kept_of parts.old) s → Obeys (at_link number s (λ link.
+        answered reached number link link.phase s) (slice_get s.links number)) result parts.new }
+{
+    match phase_of(&parts.links, number) {
+        Some(Phase::Down) => {
+            settle(parts, number, reached);
+            Took::Order
+        }
+        Some(Phase::Up) => Took::Ignored,
+        Some(Phase::Settled) => Took::Ignored,
+        None => Took::Ignored,
+    }
+}

@@ -1,0 +1,57 @@
+//! The messages heard for users.
+ghost use Rattle.std.specs.Prelude.{◌≡◌, ◌≤◌, length, IfOk};
+
+use arrayvec::ArrayVec;
+use l2_units::LONGEST_BODY;
+use std::alloc::{AllocError, Global};
+use std::collections::VecDeque;
+use std::marker::Model;
+
+/// The messages heard for users, oldest first.
+pub type Inbox = VecDeque<HeardBody>;
+
+/// The body of a heard message, in as much memory as it has octets: a unit has room for the longest.
+#[derive(Drop)]
+pub struct HeardBody {
+    octets: Vec<u8>,
+}
+
+impl Model for HeardBody {
+    ghost use Rattle.std.specs.Prelude.{List, ℕ, ◌≤◌, length};
+
+    ghost Value = { List ℕ };
+
+    ghost view = { λ b. b.octets.items };
+
+    ghost invariant = { λ b. length b.octets.items ≤ 273 };
+}
+
+impl HeardBody {
+    /// The body of a unit.
+    pub fn new(alloc: Global, body: &ArrayVec<u8, LONGEST_BODY>) -> Result<HeardBody, AllocError>
+        ensures { IfOk result (λ heard. heard ≡ body.now.items) }
+    {
+        Ok(HeardBody {
+            octets: Vec::from_slice(alloc, body.as_slice())?,
+        })
+    }
+
+    /// The body as a unit has it. It takes no memory.
+    pub fn body(&self) -> ArrayVec<u8, LONGEST_BODY>
+        ensures { result.items ≡ self.now }
+    {
+        copy_of(&self.octets)
+    }
+}
+
+/// A unit's body of these octets.
+pub fn copy_of(body: &[u8]) -> ArrayVec<u8, LONGEST_BODY>
+    requires { length body.now ≤ 273 }
+    ensures { result.items ≡ body.now }
+{
+    let mut copy = ArrayVec::new();
+    match copy.try_extend_from_slice(body) {
+        Ok(()) => copy,
+        Err(_) => unreachable!(),
+    }
+}

@@ -1,0 +1,60 @@
+//! What a set keeps of one of its links beside the queues of its messages.
+ghost use Rattle.std.specs.Prelude.{◌≡◌, ◌<◌, ◌^◌, false};
+ghost use Rattle.set_moves.specs.Parts.{link_of};
+ghost use Rattle.set_model.specs.Control.{start_of};
+ghost use Rattle.set_model.specs.State.{new_link, last_accepted};
+
+use super::control::Control;
+use set_events::Method;
+use set_model::Phase;
+
+/// A link in its present life, or its last one.
+#[derive(Drop)]
+pub struct Link {
+    /// Where it stands in its life.
+    pub phase: Phase,
+    /// The last life ended as an emergency: the FSN last accepted wasn't known.
+    pub blind: bool,
+    /// How many of its messages were acknowledged since its last Up.
+    pub acked: u64,
+    /// How many of the far end's bodies were accepted since its last Up.
+    pub accepted: u64,
+    /// Its error control.
+    pub control: Control,
+}
+
+impl Link {
+    /// A link that never was up.
+    pub fn new(method: Method) -> Link
+        ensures { link_of result ≡ new_link method }
+    {
+        Link {
+            phase: Phase::Settled,
+            blind: false,
+            acked: 0,
+            accepted: 0,
+            control: Control::new(method),
+        }
+    }
+
+    /// The link is in service from now on; its error control starts anew.
+    pub fn rise(&mut self, method: Method)
+        ensures { self.new
+            ≡ record { phase = Phase.Up; blind = false; acked = 0; accepted = 0; control = start_of method } }
+    {
+        self.phase = Phase::Up;
+        self.blind = false;
+        self.acked = 0;
+        self.accepted = 0;
+        self.control = Control::new(method);
+    }
+
+    /// The FSN last accepted in its present life, or its last one; 127 if it had none.
+    pub fn last_accepted(&self) -> u8
+        requires { self.now.accepted < 2 ^ 63 }
+        ensures value { result ≡ last_accepted (link_of self.now) }
+        ensures few { result < 128 }
+    {
+        ((self.accepted + 127) % 128) as u8
+    }
+}

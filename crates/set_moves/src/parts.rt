@@ -1,0 +1,230 @@
+//! What a set keeps, and what is common to all events: the target, room, and a new message.
+ghost use Rattle.std.specs.Prelude.{◌≡◌, ◌+◌, ◌*◌, ◌<◌, ◌≤◌, ◌++◌, ℕ, [], ◌∷◌, map, length, IfSome, OnOk, slice_get, true, false};
+ghost use Rattle.std.specs.Option.{option_map};
+ghost use Rattle.set_queues.specs.Buffers.{IsKnown, IsQueued, TakesRoom, queue_at, room_at, with_queue};
+ghost use Rattle.set_queues.specs.Bodies.{CanHold};
+ghost use Rattle.set_queues.specs.Kind.{is_kind};
+ghost use Rattle.set_model.specs.Rows.{appended, stream_of};
+ghost use Rattle.set_route.specs.Routing.{place_of};
+ghost use Rattle.set_model.specs.State.{State, fate_at, target, has_phase_up};
+ghost use Rattle.set_model.specs.Changeover.{fate_on};
+ghost use Rattle.set_moves.specs.Agreement.{StandsFor, kind_of};
+ghost use Rattle.set_moves.specs.Parts.{IsWhole, Becomes, link_of, kept_of};
+ghost use Rattle.set_moves.specs.Refusing.{service_refusal};
+ghost use Rattle.set_moves.specs.Room.{HasRoom, IsReady, SameButRoom, target_beside};
+
+use super::inbox::Inbox;
+use super::link::Link;
+use arrayvec::ArrayVec;
+use set_events::{Fate, Refusal, SetConfig};
+use set_model::Phase;
+use set_queues::{Bodies, Kind, Message, Queues};
+use set_route::{Place, Routes};
+use std::alloc::AllocError;
+
+/// What a set keeps.
+#[derive(Drop)]
+pub struct Parts {
+    /// What it was opened with.
+    pub config: SetConfig,
+    /// Its links, by their numbers.
+    pub links: Vec<Link>,
+    /// Where its messages stand.
+    pub queues: Queues,
+    /// The bodies of its messages, by their numbers.
+    pub bodies: Bodies,
+    /// Where its streams run.
+    pub routes: Routes,
+    /// The messages heard for users.
+    pub inbox: Inbox,
+}
+
+/// The lowest-numbered link that is up, if any (own).
+pub fn target_of(links: &[Link]) -> Option<u8>
+    requires { length links.now ≤ 16 }
+    ensures value { result ≡ target (map link_of links.now) }
+    ensures below { IfSome result (λ to. to < length links.now) }
+{
+    set_route::target(up_links(links).as_slice())
+}
+
+/// The lowest-numbered link that is up beside this one: the target once this one is out of service.
+fn other_target(links: &[Link], number: u8) -> Option<u8>
+    requires few { length links.now ≤ 16 }
+    requires known { number < length links.now }
+    ensures value { result ≡ target_beside number links.now }
+    ensures below { IfSome result (λ to. to < length links.now) }
+{
+    let mut up = up_links(links);
+    up.as_mut_slice()[usize::from(number)] = false;
+    set_route::target(up.as_slice())
+}
+
+/// Which links are up.
+fn up_links(links: &[Link]) -> ArrayVec<bool, 16>
+    requires { length links.now ≤ 16 }
+    ensures { result.items ≡ map (λ link. has_phase_up link.phase) links.now }
+{
+    let mut up = ArrayVec::new();
+    for link in links {
+        up.push(link.phase == Phase::Up);
+    }
+    up
+}
+
+/// Where the link of this number stands in its life, if there is one.
+pub fn phase_of(links: &[Link], number: u8) -> Option<Phase>
+    ensures { result ≡ option_map (λ link. link.phase) (slice_get links.now number) }
+{
+    match links.get(usize::from(number)) {
+        Some(link) => Some(link.phase),
+        None => None,
+    }
+}
+
+/// Why an event of this link that needs it in service is refused, if it is.
+pub fn out_of_service(links: &[Link], number: u8) -> Option<Refusal>
+    ensures { result ≡ service_refusal (slice_get links.now number) }
+{
+    match links.get(usize::from(number)) {
+        None => Some(Refusal::NoSuchLink),
+        Some(link) if link.phase != Phase::Up => Some(Refusal::NotUp),
+        Some(_) => None,
+    }
+}
+
+/// Where a message goes that is moved.
+pub fn fate_of(target: Option<u8>) -> Fate
+    ensures value { result ≡ fate_on target }
+    ensures queued { IsQueued result }
+{
+    match target {
+        Some(link) => Fate::Waiting { link },
+        None => Fate::Parked,
+    }
+}
+
+/// Takes room for one more message there. Nothing else changes, also where memory is refused.
+pub fn make_room(parts: &mut Parts, fate: Fate) -> Result<(), AllocError>
+    requires known { IsKnown fate parts.old.queues.lists }
+    requires queued { IsQueued fate }
+    ensures room { OnOk result (HasRoom fate parts.new) }
+    ensures same { SameButRoom parts.old parts.new }
+{
+    parts.bodies.reserve(1)?;
+    parts.queues.reserve(1)?;
+    parts.queues.reserve_at(fate, 1)
+}
+
+/// Takes room for all that stand on the link where they go once it's out of service, and for so many
+/// orders; and wherever what stands back for the link may turn. Nothing else changes, also where memory is
+/// refused.
+pub fn make_room_beside(parts: &mut Parts, number: u8, orders: usize) -> Result<(), AllocError>
+    requires whole { IsWhole parts.old }
+    requires known { number < length parts.old.links.items }
+    ensures room { OnOk result (IsReady number orders parts.new) }
+    ensures same { SameButRoom parts.old parts.new }
+{
+    let fate = fate_of(other_target(&parts.links, number));
+    let back = parts.queues.back_count(number);
+    let Some(more) = with_turns(orders, back) else {
+        return Err(AllocError);
+    };
+    parts.bodies.reserve(orders)?;
+    parts.queues.reserve(orders)?;
+    parts.queues.reserve_each(back)?;
+    parts.queues.reserve_all(fate, number, more)
+}
+
+/// So many orders, and twice what stands back, if that can be counted: what turns may go through two queues.
+fn with_turns(orders: usize, back: usize) -> Option<usize>
+    ensures { IfSome result (λ more. more ≡ orders + 2 * back) }
+{
+    let twice = back.checked_add(back)?;
+    twice.checked_add(orders)
+}
+
+/// Takes room in the link's queue for all that is parked. Nothing else changes, also where memory is
+/// refused.
+pub fn make_room_parked(parts: &mut Parts, number: u8) -> Result<(), AllocError>
+    requires known { IsKnown (Fate.Waiting number) parts.old.queues.lists }
+    ensures room { OnOk result (length parts.new.queues.lists.parked
+        ≤ room_at (Fate.Waiting number) parts.new.queues.rooms) }
+    ensures same { SameButRoom parts.old parts.new }
+{
+    let parked = parts.queues.count_at(Fate::Parked);
+    parts
+        .queues
+        .reserve_at(Fate::Waiting { link: number }, parked)
+}
+
+/// A new message stands last where its fate tells: its number.
+pub fn stand_last(parts: &mut Parts, body: &[u8], fate: Fate) -> u64
+    requires fits { length body.now ≤ 273 }
+    requires known { IsKnown fate parts.old.queues.lists }
+    requires queued { IsQueued fate }
+    requires room { HasRoom fate parts.old }
+    ensures number { result ≡ length parts.old.queues.messages }
+    ensures stands { Becomes parts.old parts.new
+        (λ s. record s { rows = appended s.rows body.now fate }) }
+    ensures rooms { TakesRoom fate 1 parts.old.queues.rooms parts.new.queues.rooms }
+    ensures message { parts.old.queues.room ≤ parts.new.queues.room + 1 }
+    ensures body { (more : ℕ) → CanHold (more + 1) parts.old.bodies
+        → CanHold more parts.new.bodies }
+    ensures lists { parts.new.queues.lists ≡ with_queue fate (queue_at fate parts.old.queues.lists
+        ++ length parts.old.queues.messages ∷ []) parts.old.queues.lists }
+    ensures links { parts.new.links ≡ parts.old.links }
+    ensures routes { parts.new.routes ≡ parts.old.routes }
+{
+    let message = Message {
+        fate,
+        kind: kind_of_body(body),
+        octets: body.len() as u16,
+    };
+    parts.bodies.add(body);
+    parts.queues.add(message)
+}
+
+/// Whose a body is.
+fn kind_of_body(body: &[u8]) -> Kind
+    ensures value { result ≡ kind_of body.now }
+    ensures known { is_kind result ≡ true }
+{
+    match body.first() {
+        Some(sio) if *sio % 16 != 0 => Kind::User {
+            stream: stream_of_body(body),
+        },
+        _ => Kind::Order,
+    }
+}
+
+/// The stream of a body: the high four bits of its fifth octet, 0 where there is none.
+pub fn stream_of_body(body: &[u8]) -> u8
+    ensures value { result ≡ stream_of body.now }
+    ensures few { result < 16 }
+{
+    match body.get(4) {
+        Some(octet) => *octet / 16,
+        None => 0,
+    }
+}
+
+/// Where a new message of this stream stands.
+pub fn fate_of_new(parts: &Parts, stream: u8) -> Fate
+    requires whole { IsWhole parts.now }
+    requires stream { stream < 16 }
+    ensures value { (s : State) → StandsFor (kept_of parts.now) s
+        → result ≡ fate_at (place_of stream s.routing) s }
+    ensures known { IsKnown result parts.now.queues.lists }
+    ensures queued { IsQueued result }
+{
+    parts.queues.is_sound();
+    match parts.routes.place(stream) {
+        Place::On { link } if phase_of(&parts.links, link) == Some(Phase::Up) => {
+            Fate::Waiting { link }
+        }
+        Place::On { link } => Fate::Held { link },
+        Place::Changing { code, .. } => Fate::Back { code },
+        Place::Nowhere => Fate::Parked,
+    }
+}

@@ -1,0 +1,88 @@
+//! How a link settles (Q.704 5.5): what reached the far end is acknowledged, the rest is moved.
+ghost use Rattle.std.specs.Prelude.{◌≡◌, ◌<◌, ◌≤◌, ◌^◌, length, map, slice_get, Some};
+ghost use Rattle.set_queues.specs.Buffers.{KeepsRoom, room_at};
+ghost use Rattle.set_queues.specs.Settling.{on};
+ghost use Rattle.set_model.specs.Changeover.{settled, judged, discarded, moved_over, fate_on};
+ghost use Rattle.set_model.specs.State.{State, LinkState, target};
+ghost use Rattle.set_moves.specs.Agreement.{StandsFor, Agrees};
+ghost use Rattle.set_moves.specs.Parts.{IsWhole, AreCounted, AtLink, IsOut, IsReach, Becomes, BecomesAt, AgreedBecomes, link_of, kept_of};
+ghost use Rattle.set_model.specs.declared.phase.Phase.TheVariants.{Down};
+
+use super::parts::{Parts, target_of};
+use set_events::{DiscardCause, Fate};
+use set_model::{Phase, Reached};
+
+/// The link settles: what reached the far end is acknowledged, and what stands on it is moved.
+///
+/// Conditions: a link of the set that isn't up, and room for all that stand on it where they go.
+pub fn settle(parts: &mut Parts, number: u8, reached: Reached)
+    requires whole { IsWhole parts.old }
+    requires counted { AreCounted (2 ^ 61) parts.old.links.items }
+    requires reached { IsReach reached }
+    requires known { number < length parts.old.links.items }
+    requires out { AtLink number parts.old.links.items IsOut }
+    requires room { length (on number parts.old.queues.lists) ≤ room_at (fate_on
+        (target (map link_of parts.old.links.items))) parts.old.queues.rooms }
+    ensures stands { (s : State) (link : LinkState) → slice_get s.links number ≡ Some link
+        → link.phase ≡ Down → Agrees (kept_of parts.old) s
+        → StandsFor (kept_of parts.new) (settled reached number link s) }
+{
+    judge(parts, number, reached);
+    move_all(parts, number);
+}
+
+/// What reached the far end is acknowledged, or what might be doubled is discarded (own).
+fn judge(parts: &mut Parts, number: u8, reached: Reached)
+    requires whole { IsWhole parts.old }
+    requires counted { AreCounted (2 ^ 61) parts.old.links.items }
+    requires reached { IsReach reached }
+    requires known { number < length parts.old.links.items }
+    ensures stands { BecomesAt number parts.old parts.new (judged reached number) }
+    ensures fewer { length (on number parts.new.queues.lists) ≤ length
+        (on number parts.old.queues.lists) }
+    ensures rooms { KeepsRoom parts.old.queues.rooms parts.new.queues.rooms }
+    ensures phases { map (λ link. link.phase) parts.new.links.items ≡ map
+        (λ link. link.phase) parts.old.links.items }
+    ensures whole { IsWhole parts.new }
+{
+    match reached {
+        Reached::Upto { number: fsn } => match parts.queues.acknowledge(number, fsn) {
+            Ok(acked) => parts.links[usize::from(number)].acked += u64::from(acked),
+            Err(_) => discard(parts, number, DiscardCause::Unreasonable),
+        },
+        Reached::Unknown => parts
+            .queues
+            .discard(Fate::Unacked { link: number }, DiscardCause::Emergency),
+        Reached::Unanswered => discard(parts, number, DiscardCause::NoAnswer),
+    }
+}
+
+/// What was sent on the link, or waits for it, is discarded.
+fn discard(parts: &mut Parts, number: u8, cause: DiscardCause)
+    requires whole { IsWhole parts.old }
+    requires known { number < length parts.old.links.items }
+    ensures stands { Becomes parts.old parts.new (discarded cause number) }
+    ensures fewer { length (on number parts.new.queues.lists) ≤ length
+        (on number parts.old.queues.lists) }
+    ensures rooms { KeepsRoom parts.old.queues.rooms parts.new.queues.rooms }
+    ensures links { parts.new.links ≡ parts.old.links }
+    ensures whole { IsWhole parts.new }
+{
+    parts.queues.discard(Fate::Unacked { link: number }, cause);
+    parts.queues.discard(Fate::Waiting { link: number }, cause);
+}
+
+/// What stands on the link is moved to the target, or parked, and so are its streams.
+fn move_all(parts: &mut Parts, number: u8)
+    requires whole { IsWhole parts.old }
+    requires known { number < length parts.old.links.items }
+    requires out { AtLink number parts.old.links.items IsOut }
+    requires room { length (on number parts.old.queues.lists) ≤ room_at (fate_on
+        (target (map link_of parts.old.links.items))) parts.old.queues.rooms }
+    ensures stands { AgreedBecomes number parts.old parts.new (moved_over number) }
+{
+    let target = target_of(&parts.links);
+    parts.queues.settle(number, target);
+    parts.links[usize::from(number)].phase = Phase::Settled;
+    parts.routes.settle(number, target);
+}

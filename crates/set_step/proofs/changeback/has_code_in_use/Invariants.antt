@@ -1,9 +1,0 @@
-use Rattle.std.proofs.Common.{◌≡◌, ◌*◌, false}
-use Rattle.set_model.specs.Changeover.{some_in_use}
-use Rattle.set_model.specs.State.{State}
-use Rattle.set_step.specs.Agreement.{StandsFor}
-use Rattle.set_step.specs.Parts.{kept_of}
-use Rattle.set_step.proofs.changeback.has_code_in_use.Given as goal
-
-abbrev pub invariant-loop-alternative : goal.invariant-loop-alternative
-invariant-loop-alternative l = (s : State) → StandsFor (kept_of l.parts) s → some_in_use (16 * l.home) l.alternative s ≡ false

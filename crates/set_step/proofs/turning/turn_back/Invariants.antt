@@ -1,5 +1,0 @@
-use Rattle.set_step.proofs.TurnsAll.{Turning}
-use Rattle.set_step.proofs.turning.turn_back.Given as goal
-
-abbrev pub invariant-loop : goal.invariant-loop
-invariant-loop l = Turning l.number l.counter l.initial.parts l.parts
