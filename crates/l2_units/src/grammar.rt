@@ -3,6 +3,7 @@ ghost use Rattle.std.specs.Prelude.{◌≡◌, ◌↔◌, IsTrue};
 ghost use Rattle.l2_units.specs.Grammar.{IsUnit, IsTheTextOf, head_of};
 ghost use Rattle.l2_units.specs.declared.unit.Unit.{Unit as SignalUnit};
 
+use super::reading::body_of;
 use super::unit::{Header, Unit};
 
 /// The header that a unit of any kind has.
@@ -39,9 +40,16 @@ pub fn same_unit(unit: &Unit, other: &Unit) -> bool
 pub fn copy_of_unit(unit: &Unit) -> Unit
     ensures { result ≡ unit.now }
 {
-    match unit.clone() {
-        Ok(copy) => copy,
-        Err(_) => unreachable!(),
+    match unit {
+        Unit::Fisu { head } => Unit::Fisu { head: *head },
+        Unit::Lssu { head, status } => Unit::Lssu {
+            head: *head,
+            status: *status,
+        },
+        Unit::Msu { head, body } => Unit::Msu {
+            head: *head,
+            body: body_of(body.as_slice()),
+        },
     }
 }
 

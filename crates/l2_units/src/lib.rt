@@ -24,6 +24,6 @@ mod unit;
 mod writing;
 
 pub use grammar::{copy_of_unit, header_in, one_text, same_unit};
-pub use reading::{UnitFault, read};
+pub use reading::{UnitFault, body_of, read};
 pub use unit::{Header, LONGEST_BODY, LONGEST_UNIT, SHORTEST_BODY, Unit};
 pub use writing::write;

@@ -81,8 +81,8 @@ fn header_of(backward: u8, forward: u8) -> Header
     }
 }
 
-/// A body of these octets.
-fn body_of(octets: &[u8]) -> ArrayVec<u8, 273>
+/// The body of a message that has these octets, at most 273.
+pub fn body_of(octets: &[u8]) -> ArrayVec<u8, 273>
     requires { length octets.now ≤ 273 }
     ensures { result.items ≡ octets.now }
 {

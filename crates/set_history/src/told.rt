@@ -5,8 +5,7 @@ ghost use Rattle.set_history.specs.Told.{told_unit, told_event, told_answer};
 
 use super::asked::{Asked, asked_of};
 use super::record::{KeptAnswer, KeptEvent, KeptUnit, Record};
-use arrayvec::ArrayVec;
-use l2_units::{LONGEST_BODY, Unit};
+use l2_units::{Unit, body_of};
 use set_events::{Actor, Answer, Body, Entry, Event};
 use std::alloc::{AllocError, Global};
 use std::marker::Model;
@@ -188,17 +187,5 @@ fn is_event(kept: &KeptEvent, octets: &[u8], event: &Event) -> bool
         (KeptEvent::Restore { link: a }, Event::Restore { link: b }) => *a == *b,
         (KeptEvent::BackTimeout { link: a }, Event::BackTimeout { link: b }) => *a == *b,
         _ => false,
-    }
-}
-
-/// A body of these octets.
-fn body_of(octets: &[u8]) -> ArrayVec<u8, LONGEST_BODY>
-    requires { length octets.now ≤ 273 }
-    ensures { result.items ≡ octets.now }
-{
-    let mut body = ArrayVec::new();
-    match body.try_extend_from_slice(octets) {
-        Ok(()) => body,
-        Err(_) => unreachable!(),
     }
 }

@@ -2,7 +2,7 @@
 ghost use Rattle.std.specs.Prelude.{◌≡◌, ◌≤◌, length, IfOk};
 
 use arrayvec::ArrayVec;
-use l2_units::LONGEST_BODY;
+use l2_units::{LONGEST_BODY, body_of};
 use std::alloc::{AllocError, Global};
 use std::collections::VecDeque;
 use std::marker::Model;
@@ -40,18 +40,6 @@ impl HeardBody {
     pub fn body(&self) -> ArrayVec<u8, LONGEST_BODY>
         ensures { result.items ≡ self.now }
     {
-        copy_of(&self.octets)
-    }
-}
-
-/// A unit's body of these octets.
-pub fn copy_of(body: &[u8]) -> ArrayVec<u8, LONGEST_BODY>
-    requires { length body.now ≤ 273 }
-    ensures { result.items ≡ body.now }
-{
-    let mut copy = ArrayVec::new();
-    match copy.try_extend_from_slice(body) {
-        Ok(()) => copy,
-        Err(_) => unreachable!(),
+        body_of(&self.octets)
     }
 }

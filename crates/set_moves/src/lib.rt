@@ -34,7 +34,7 @@ mod turning;
 pub use changeback::{restore, time_out};
 pub use changeover::{leave, obey, queue};
 pub use control::Control;
-pub use inbox::{HeardBody, Inbox, copy_of};
+pub use inbox::{HeardBody, Inbox};
 pub use link::Link;
 pub use parts::{
     Parts, fate_of, fate_of_new, make_room, make_room_beside, make_room_parked, out_of_service,

@@ -31,8 +31,8 @@
 //! Readers: [`Queues::links`], [`Queues::len`], [`Queues::message`], [`Queues::fate_of`], [`Queues::counts`],
 //! [`Queues::unsent`], [`Queues::octets`], [`Queues::window`], [`Queues::count_at`],
 //! [`Queues::number_at`], [`Queues::back_count`], [`Queues::oldest_back`]. Only [`Queues::new`] and the
-//! four calls that reserve take memory: a call that adds or moves needs its room reserved before. Each
-//! call costs the same however many messages there ever were; discarding, diverting and settling are
+//! calls that reserve take memory, here and in [`Bodies`]: a call that adds or moves needs its room reserved
+//! before. Each call costs the same however many messages there ever were; discarding, diverting and settling are
 //! linear in what moves. A number takes 8 octets, and 8 more while it stands in a queue; a queue of a
 //! code takes none for messages until one stands in it. A body takes 8 octets and its own.
 //!

@@ -11,10 +11,10 @@ ghost use Rattle.set_moves.specs.Parts.{Answers, AnswersAt, OfAgreed, AgreedBeco
 ghost use Rattle.set_step.specs.Sending.{IsThere, choice_in, goes_on};
 
 use arrayvec::ArrayVec;
-use l2_units::{Header, LONGEST_BODY, Unit};
+use l2_units::{Header, LONGEST_BODY, Unit, body_of};
 use l2_window::Choice;
 use set_events::{Answer, Fate};
-use set_moves::{Parts, copy_of, out_of_service};
+use set_moves::{Parts, out_of_service};
 
 /// The next unit to send.
 pub(crate) fn send_next(parts: &mut Parts, number: u8, answer: &mut Answer)
@@ -97,7 +97,7 @@ fn body_at(parts: &Parts, fate: Fate, place: usize) -> ArrayVec<u8, LONGEST_BODY
         → slice_get (rows_at fate s.rows) place ≡ Some row → result.items ≡ row.body }
 {
     match parts.queues.number_at(fate, place) {
-        Some(message) => copy_of(parts.bodies.body(message)),
+        Some(message) => body_of(parts.bodies.body(message)),
         None => unreachable!(),
     }
 }

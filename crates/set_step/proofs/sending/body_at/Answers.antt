@@ -27,8 +27,8 @@ fits k s a f i message body e is =
     let at = stands_at k s a f i message e in
     subst (λ (b : List ℕ). length b ≤ 273) (sym (read k s a f i message body e at.row at.there is)) at.fit
 
-pub copy_of-requires : goal.copy_of-requires
-copy_of-requires c = fits (kept_of c.args.parts.now) c.requires.holds.0 c.requires.holds.1 c.args.fate c.args.place c.in-Some.message c.body.result.now (sym c.number_at.ensures ∙ c.in-Some.is) c.body.ensures
+pub body_of-requires : goal.body_of-requires
+body_of-requires c = fits (kept_of c.args.parts.now) c.requires.holds.0 c.requires.holds.1 c.args.fate c.args.place c.in-Some.message c.body.result.now (sym c.number_at.ensures ∙ c.in-Some.is) c.body.ensures
 
 pub returns : goal.returns
-returns c = λ s row a there. c.copy_of.ensures ∙ read (kept_of c.args.parts.now) s a c.args.fate c.args.place c.in-Some.message c.body.result.now (sym c.number_at.ensures ∙ c.in-Some.is) row there c.body.ensures
+returns c = λ s row a there. c.body_of.ensures ∙ read (kept_of c.args.parts.now) s a c.args.fate c.args.place c.in-Some.message c.body.result.now (sym c.number_at.ensures ∙ c.in-Some.is) row there c.body.ensures
