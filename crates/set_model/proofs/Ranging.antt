@@ -19,7 +19,7 @@ use Rattle.set_model.specs.State.{LinkState, State, target, is_up, fate_at, wind
 use Rattle.set_model.specs.Control.{Control, Basic, Cyclic, Choice, again, first, fill, choice_of, is_processed, acked_by, part_of}
 use Rattle.set_model.specs.Changeover.{fate_on, left_link, out_of_service, turned_back, settled_link, acknowledged as acknowledged_link}
 use Rattle.set_model.specs.Step.{rows_sent, one_if, is_msu, risen_link, step}
-use Rattle.set_model.specs.Sound.{AreFewOn, AreAtMost, AreFew}
+use Rattle.set_model.specs.Sound.{WholeNumbers, one_more, AreFewOn, AreAtMost, AreFew}
 use Rattle.set_model.proofs.Events.{appended_out}
 use Rattle.set_model.proofs.Filters.{filter_comm, fewer_filter, fated_none}
 use Rattle.set_model.proofs.InPlace.{turned_left, fewer_turned, fewer_changed}
@@ -86,14 +86,14 @@ module _ (n : ℕ) (link : LinkState) (rows : List Row) (head : Header) where
       go false e = rw e (omega arith)
 
 -- A LINK THAT CHANGES, and the others.
-few_set : (k : ℕ → ℕ) (n : ℕ) (link : LinkState) (s : State) (rows : List Row) → AreFewOn (k n) n link rows → ((m : ℕ) → length (unack m rows) ≤ length (unack m s.rows)) → AreAtMost k s → AreAtMost k (record s { links = slice_set s.links n link; rows = rows })
+few_set : (k : ℕ → WholeNumbers) (n : ℕ) (link : LinkState) (s : State) (rows : List Row) → AreFewOn (k n) n link rows → ((m : ℕ) → length (unack m rows) ≤ length (unack m s.rows)) → AreAtMost k s → AreAtMost k (record s { links = slice_set s.links n link; rows = rows })
 few_set k n link s rows one fewer few m other there = go (at_set s.links n m link other there)
   where
     go : ((m ≡ n) × (other ≡ link)) ⊎ ((m ≢ n) × (slice_get s.links m ≡ Some other)) → AreFewOn (k m) m other rows
     go (inl p) = rw (p.0, p.1) one
     go (inr p) = let f = few m other p.1 in let sent = f.sent in let less = fewer m in record { sent = omega (arith, sent, less); accepted = f.accepted }
 
-few_rows : (k : ℕ → ℕ) (s : State) (rows : List Row) → ((m : ℕ) → length (unack m rows) ≤ length (unack m s.rows)) → AreAtMost k s → AreAtMost k (record s { rows = rows })
+few_rows : (k : ℕ → WholeNumbers) (s : State) (rows : List Row) → ((m : ℕ) → length (unack m rows) ≤ length (unack m s.rows)) → AreAtMost k s → AreAtMost k (record s { rows = rows })
 few_rows k s rows fewer few m link there = let f = few m link there in let sent = f.sent in let less = fewer m in record { sent = omega (arith, sent, less); accepted = f.accepted }
 
 same_appended : (m : ℕ) (rows : List Row) (body : List ℕ) (fate : Fate) → is_unacked m fate ≡ false → length (unack m (appended rows body fate)) ≤ length (unack m rows)
@@ -111,7 +111,7 @@ offered_out m (On l) s = go (is_up l s) refl
 few_back : (n m : ℕ) (s : State) → length (unack m (turned_back n s).rows) ≤ length (unack m s.rows)
 few_back n m s = few_moved_by (is_back_to n) (λ row. fate_at (place_of (stream_of row.body) s.routing) s) m s.rows (λ row. offered_out m (place_of (stream_of row.body) s.routing) s)
 
-small : (Known : ℕ → Type 0) (May : Type 0) → KeptBy Known May (λ s t. (k : ℕ → ℕ) → AreAtMost k s → AreAtMost k t)
+small : (Known : ℕ → Type 0) (May : Type 0) → KeptBy Known May (λ s t. (k : ℕ → WholeNumbers) → AreAtMost k s → AreAtMost k t)
 small Known May = record {
   same = λ s k few. few;
   after = λ a b c p q k few. q k (p k few);
@@ -149,23 +149,23 @@ few_sent (again i) m n rows = omega arith
 few_sent first m n rows = few_turned (is_waiting n) (is_unacked m) (Unacked n) 1 rows
 few_sent fill m n rows = omega arith
 
-wider : (k : ℕ → ℕ) (s : State) → AreAtMost k s → AreAtMost (λ n. k n + 1) s
+wider : (k : ℕ → WholeNumbers) (s : State) → AreAtMost k s → AreAtMost (λ n. one_more (k n)) s
 wider k s few m link there = let f = few m link there in let a = f.sent in let b = f.accepted in record { sent = omega (arith, a); accepted = omega (arith, b) }
 
 -- a link that changes, where each has one unacknowledged message more at most
-few_more : (k : ℕ → ℕ) (n : ℕ) (link : LinkState) (s : State) (rows : List Row) → AreFewOn (k n + 1) n link rows → ((m : ℕ) → length (unack m rows) ≤ length (unack m s.rows) + 1) → AreAtMost k s → (m : ℕ) (other : LinkState) → slice_get (slice_set s.links n link) m ≡ Some other → AreFewOn (k m + 1) m other rows
+few_more : (k : ℕ → WholeNumbers) (n : ℕ) (link : LinkState) (s : State) (rows : List Row) → AreFewOn (one_more (k n)) n link rows → ((m : ℕ) → length (unack m rows) ≤ length (unack m s.rows) + 1) → AreAtMost k s → (m : ℕ) (other : LinkState) → slice_get (slice_set s.links n link) m ≡ Some other → AreFewOn (one_more (k m)) m other rows
 few_more k n link s rows one more few m other there = go (at_set s.links n m link other there)
   where
-    go : ((m ≡ n) × (other ≡ link)) ⊎ ((m ≢ n) × (slice_get s.links m ≡ Some other)) → AreFewOn (k m + 1) m other rows
+    go : ((m ≡ n) × (other ≡ link)) ⊎ ((m ≢ n) × (slice_get s.links m ≡ Some other)) → AreFewOn (one_more (k m)) m other rows
     go (inl p) = rw (p.0, p.1) one
     go (inr p) = let f = few m other p.1 in let sent = f.sent in let accepted = f.accepted in let most = more m in record { sent = omega (arith, sent, most); accepted = omega (arith, accepted) }
 
-pub step_at_most : (s : State) (event : Event) (k : ℕ → ℕ) → AreAtMost k s → AreAtMost (λ n. k n + 1) (step s event).state
-step_at_most s event k few = step_walks s (λ t u. (j : ℕ → ℕ) → AreAtMost j t → AreAtMost j u) (AreAtMost (λ n. k n + 1)) event (record {
+pub step_at_most : (s : State) (event : Event) (k : ℕ → WholeNumbers) → AreAtMost k s → AreAtMost (λ n. one_more (k n)) (step s event).state
+step_at_most s event k few = step_walks s (λ t u. (j : ℕ → WholeNumbers) → AreAtMost j t → AreAtMost j u) (AreAtMost (λ n. one_more (k n))) event (record {
   small = small _ _;
   unmoved = wider k s few;
-  rests = λ t u p q. q (λ n. k n + 1) p;
-  offers = λ body e none. few_rows (λ n. k n + 1) s _ (λ m. same_appended m s.rows body _ (offered_out m (place_of (stream_of body) s.routing) s)) (wider k s few);
+  rests = λ t u p q. q (λ n. one_more (k n)) p;
+  offers = λ body e none. few_rows (λ n. one_more (k n)) s _ (λ m. same_appended m s.rows body _ (offered_out m (place_of (stream_of body) s.routing) s)) (wider k s few);
   takes = λ body rest e there. wider k s few;
   sends = λ n link e at.
       let f = few n link at.there in
@@ -193,4 +193,4 @@ step_at_most s event k few = step_walks s (λ t u. (j : ℕ → ℕ) → AreAtMo
 })
 
 pub step_few : (s : State) (event : Event) (events : ℕ) → AreFew events s → AreFew (events + 1) (step s event).state
-step_few s event events few = step_at_most s event (λ n. events) few
+step_few s event events few = step_at_most s event (λ n. record { sent = events; accepted = events }) few

@@ -11,7 +11,7 @@ use Rattle.set_model.specs.Rows.{Row, standing, is_unacked, is_on, unack, wait, 
 use Rattle.set_model.specs.State.{LinkState, State, Settings, opened_with, target}
 use Rattle.set_model.specs.Changeover.{fate_on, reached_by, is_reasonable, settled}
 use Rattle.set_model.specs.Step.{step, Gains}
-use Rattle.set_model.specs.Sound.{IsSettings, IsSound, AreTogether, BeginsNone, IsAsked, AreAtMost, AreFew, IsManaged}
+use Rattle.set_model.specs.Sound.{IsSettings, IsSound, AreTogether, BeginsNone, IsAsked, WholeNumbers, one_more, AreAtMost, AreFew, IsManaged}
 
 -- THE ROWS.
 
@@ -71,8 +71,8 @@ AStepGains =
 -- LAW: an event sends at most one message on each link, and accepts at most one body there
 abbrev pub AStepCounts : Type 0
 AStepCounts =
-    (s : State) (event : Event) (most : ℕ → ℕ) → AreAtMost most s
-    → AreAtMost (λ number. most number + 1) (step s event).state
+    (s : State) (event : Event) (most : ℕ → WholeNumbers) → AreAtMost most s
+    → AreAtMost (λ number. one_more (most number)) (step s event).state
 
 -- LAW: every step keeps what holds of every set's state
 abbrev pub EveryStepKeepsASetSound : Type 0

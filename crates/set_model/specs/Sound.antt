@@ -163,16 +163,24 @@ abbrev pub IsAsked : Event → Type 0
 IsAsked (Offer body) = stream_of body < 16
 IsAsked _ = Unit {0}
 
--- THE WHOLE NUMBERS of a link's life: what was sent on it, and the bodies that it accepted. An event adds at most one to each.
-pub record AreFewOn (most number : ℕ) (link : LinkState) (rows : List Row) : Type 0 where
-  pub sent : link.acked + length (unack number rows) ≤ most
-  pub accepted : link.accepted ≤ most
+-- THE WHOLE NUMBERS of a link's life: the messages that were sent on it, and the bodies that it accepted
+pub record WholeNumbers : Type 0 where
+  pub sent : ℕ
+  pub accepted : ℕ
+
+-- one more of each
+abbrev pub one_more : WholeNumbers → WholeNumbers
+one_more most = record { sent = most.sent + 1; accepted = most.accepted + 1 }
+
+pub record AreFewOn (most : WholeNumbers) (number : ℕ) (link : LinkState) (rows : List Row) : Type 0 where
+  pub sent : link.acked + length (unack number rows) ≤ most.sent
+  pub accepted : link.accepted ≤ most.accepted
 
 -- those of each link are at most this
-abbrev pub AreAtMost : (ℕ → ℕ) → State → Type 0
+abbrev pub AreAtMost : (ℕ → WholeNumbers) → State → Type 0
 AreAtMost most s =
     (number : ℕ) (link : LinkState) → slice_get s.links number ≡ Some link
     → AreFewOn (most number) number link s.rows
 
 abbrev pub AreFew : ℕ → State → Type 0
-AreFew events s = AreAtMost (λ number. events) s
+AreFew events s = AreAtMost (λ number. record { sent = events; accepted = events }) s

@@ -49,8 +49,8 @@ pub fn a_step_gains()
     ensures { AStepGains }
 {}
 
-/// An event sends at most one message on each link, and accepts at most one body there: so the whole numbers of
-/// a link's life are at most the set's events.
+/// An event sends at most one message on each link, and accepts at most one body there, so each whole number of a
+/// link's life is at most the number of the set's events.
 pub fn a_step_counts()
     ensures { AStepCounts }
 {}
