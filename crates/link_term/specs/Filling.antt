@@ -1,7 +1,6 @@
 -- WHAT IS SENT NEXT, as its calls tell it.
 use Rattle.std.specs.Prelude.{◌≡◌, Bool, true, false, List, ◌∷◌, [], ◌++◌, Option, Some, None, Result, MatchResult}
 use Rattle.l2_units.specs.declared.unit.Unit.{Unit as SignalUnit}
-use Rattle.l2_units.specs.Grammar.{head_of}
 use Rattle.set_events.specs.declared.event.Event.{Event}
 use Rattle.set_events.specs.declared.history.Entry.{Entry}
 use Rattle.set_step.specs.declared.fault.SetFault.{SetFault}
@@ -10,10 +9,6 @@ use Rattle.term_model.specs.OctetOut.{Appends}
 use Rattle.term_model.specs.Talk.{Talk, ask, and_then}
 use Rattle.term_model.specs.Terminal.{Terminal}
 use Rattle.link_term.specs.Talking.{Gains, Breaks}
-
--- the unit that was chosen, and the terminal once its header is the last one
-abbrev pub as_sent : SignalUnit → Terminal → Filled
-as_sent unit t = record { unit = Some unit; after = record t { last = Some (head_of unit) } }
 
 -- in service: Up first, where it was refused
 abbrev pub served : Bool → Terminal → Talk Filled
@@ -43,4 +38,11 @@ abbrev pub Fills : Talk Filled → Result Bool SetFault → List Entry → List 
     → List SetFault → List SetFault → Terminal → Type 0
 Fills talk result made made' faults faults' after = MatchResult result
     (λ sent. FillsBits talk sent made made' after × (faults' ≡ faults))
+    (λ fault. Breaks talk made made' × (faults' ≡ faults ++ fault ∷ []))
+
+-- a choice that is made where a unit is wanted: one was chosen, and appended
+abbrev pub Sends : Talk Filled → Result (Unit {0}) SetFault → List Entry → List Entry
+    → List SetFault → List SetFault → Terminal → Type 0
+Sends talk result made made' faults faults' after = MatchResult result
+    (λ done. FillsBits talk true made made' after × (faults' ≡ faults))
     (λ fault. Breaks talk made made' × (faults' ≡ faults ++ fault ∷ []))

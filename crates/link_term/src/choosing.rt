@@ -1,10 +1,11 @@
 //! What a terminal sends next (Q.703 11.2, 12.1).
-ghost use Rattle.std.specs.Prelude.{◌≡◌, ◌==◌, nat_lt, true, length, Some, None, IfOk};
-ghost use Rattle.l2_units.specs.declared.unit.Unit.TheVariants.{Fisu as FisuUnit, Lssu as LssuUnit};
-ghost use Rattle.link_term.specs.Filling.{as_sent, next_asked, message_counted, served, Fills};
-ghost use Rattle.link_term.specs.Talking.{Talks, TalksTo};
-ghost use Rattle.term_model.specs.Choosing.{chosen, counts_sent, filled, sent_by, serves, sends, up_first};
-ghost use Rattle.term_model.specs.Terminal.{last_head, start_head};
+ghost use Rattle.std.specs.Prelude.{◌≡◌, ◌<◌, ◌==◌, List, nat_lt, true, length, Some, None, IfOk};
+ghost use Rattle.l2_units.specs.declared.unit.Unit.TheVariants.{Fisu as FisuUnit};
+ghost use Rattle.link_term.specs.Filling.{next_asked, message_counted, served, Fills, FillsBits, Sends};
+ghost use Rattle.link_term.specs.Talking.{Talks};
+ghost use Rattle.set_events.specs.declared.history.Entry.{Entry};
+ghost use Rattle.term_model.specs.Choosing.{chosen, counts_sent, filled, sends, sends_fisu, sends_status, sent_by, serves, up_first};
+ghost use Rattle.term_model.specs.Terminal.{start_head};
 
 use super::door::Door;
 use super::machines::{ask_up, input_flow};
@@ -26,45 +27,62 @@ pub(crate) fn fill<D: Door>(inside: &mut Inside, door: &mut D) -> Result<bool, S
     if !inside.is_short() {
         return Ok(false);
     }
-    let unit = choose(inside, door)?;
-    inside.append(&unit);
+    choose(inside, door)?;
     Ok(true)
 }
 
-/// The unit to send, by where the link stands (Q.703 7.2, 12.1).
-fn choose<D: Door>(inside: &mut Inside, door: &mut D) -> Result<Unit, SetFault>
-    requires { D.number door.old ≡ inside.old.link }
-    ensures talks { TalksTo (chosen inside.old.state inside.old) result (D.made door.old)
-        (D.made door.new) (D.faults door.old) (D.faults door.new)
-        (λ unit. as_sent unit inside.new) }
+/// A unit is chosen, by where the link stands (Q.703 7.2, 12.1), and appended.
+fn choose<D: Door>(inside: &mut Inside, door: &mut D) -> Result<(), SetFault>
+    requires at { D.number door.old ≡ inside.old.link }
+    requires short { length inside.old.bits < 8 }
+    ensures sends { Sends (chosen inside.old.state inside.old) result (D.made door.old)
+        (D.made door.new) (D.faults door.old) (D.faults door.new) inside.new }
     ensures at { D.number door.new ≡ inside.new.link }
-    ensures bits { IfOk result (λ unit. inside.new.bits ≡ inside.old.bits) }
 {
     match inside.state_now() {
-        State::OutOfService => Ok(status_unit(inside, Status::OutOfService)),
-        State::Aligning => Ok(status_unit(inside, inside.status())),
-        State::Ready => Ok(start_fisu()),
-        State::InService { paused } => serve(inside, door, paused),
+        State::OutOfService => send_status(inside, Status::OutOfService),
+        State::Aligning => {
+            let status = inside.status();
+            send_status(inside, status);
+        }
+        State::Ready => send_own(inside, &start_fisu()),
+        State::InService { paused } => return serve(inside, door, paused),
     }
+    Ok(())
 }
 
-/// An LSSU of this status, with the header of the last unit before (own).
-fn status_unit(inside: &Inside, status: Status) -> Unit
-    ensures { result ≡ LssuUnit (last_head inside.now) status }
+/// A unit that the set wasn't asked for is appended.
+fn send_own(inside: &mut Inside, unit: &Unit)
+    requires { length inside.old.bits < 8 }
+    ensures sends { (made : List Entry) → FillsBits (sends unit.now inside.old) true made made inside.new }
+    ensures link { inside.new.link ≡ inside.old.link }
 {
-    Unit::Lssu {
+    inside.append(unit);
+}
+
+/// An LSSU of this status is appended, with the header of the last unit before (own).
+fn send_status(inside: &mut Inside, status: Status)
+    requires { length inside.old.bits < 8 }
+    ensures sends { (made : List Entry) → FillsBits (sends_status status inside.old) true made made inside.new }
+    ensures link { inside.new.link ≡ inside.old.link }
+{
+    let unit = Unit::Lssu {
         head: inside.last_head(),
         status,
-    }
+    };
+    send_own(inside, &unit);
 }
 
-/// A FISU with the header of the last unit before (own).
-fn fisu(inside: &Inside) -> Unit
-    ensures { result ≡ FisuUnit (last_head inside.now) }
+/// A FISU is appended, with the header of the last unit before (own).
+fn send_fisu(inside: &mut Inside)
+    requires { length inside.old.bits < 8 }
+    ensures sends { (made : List Entry) → FillsBits (sends_fisu inside.old) true made made inside.new }
+    ensures link { inside.new.link ≡ inside.old.link }
 {
-    Unit::Fisu {
+    let unit = Unit::Fisu {
         head: inside.last_head(),
-    }
+    };
+    send_own(inside, &unit);
 }
 
 /// The FISU of a link on which nothing was sent or accepted (Q.703 12.1).
@@ -88,13 +106,13 @@ fn first_header() -> Header
     }
 }
 
-/// The unit to send in service; while the set refuses Up it's asked again before each.
-fn serve<D: Door>(inside: &mut Inside, door: &mut D, paused: bool) -> Result<Unit, SetFault>
-    requires { D.number door.old ≡ inside.old.link }
-    ensures talks { TalksTo (served paused inside.old) result (D.made door.old) (D.made door.new)
-        (D.faults door.old) (D.faults door.new) (λ unit. as_sent unit inside.new) }
+/// What is sent in service; while the set refuses Up it's asked again before each unit.
+fn serve<D: Door>(inside: &mut Inside, door: &mut D, paused: bool) -> Result<(), SetFault>
+    requires at { D.number door.old ≡ inside.old.link }
+    requires short { length inside.old.bits < 8 }
+    ensures sends { Sends (served paused inside.old) result (D.made door.old) (D.made door.new)
+        (D.faults door.old) (D.faults door.new) inside.new }
     ensures at { D.number door.new ≡ inside.new.link }
-    ensures bits { IfOk result (λ unit. inside.new.bits ≡ inside.old.bits) }
 {
     ask_up_first(inside, door)?;
     serve_up(inside, door, paused)
@@ -116,72 +134,79 @@ fn ask_up_first<D: Door>(inside: &mut Inside, door: &mut D) -> Result<(), SetFau
 
 /// The start FISU while the set refuses Up; else SIB where it's due (Q.703 9.3); else a FISU in a processor outage of the
 /// far end (8.2, own); else what the set's error control gives (5, 6).
-fn serve_up<D: Door>(inside: &mut Inside, door: &mut D, paused: bool) -> Result<Unit, SetFault>
-    requires { D.number door.old ≡ inside.old.link }
-    ensures talks { TalksTo (serves paused inside.old) result (D.made door.old) (D.made door.new)
-        (D.faults door.old) (D.faults door.new) (λ unit. as_sent unit inside.new) }
+fn serve_up<D: Door>(inside: &mut Inside, door: &mut D, paused: bool) -> Result<(), SetFault>
+    requires at { D.number door.old ≡ inside.old.link }
+    requires short { length inside.old.bits < 8 }
+    ensures sends { Sends (serves paused inside.old) result (D.made door.old) (D.made door.new)
+        (D.faults door.old) (D.faults door.new) inside.new }
     ensures at { D.number door.new ≡ inside.new.link }
-    ensures bits { IfOk result (λ unit. inside.new.bits ≡ inside.old.bits) }
 {
     if !inside.is_up() {
-        return Ok(start_fisu());
+        send_own(inside, &start_fisu());
+        return Ok(());
     }
     if inside.is_b_due() {
         inside.drop_b();
-        return Ok(status_unit(inside, Status::Busy));
+        send_status(inside, Status::Busy);
+        return Ok(());
     }
     if paused {
-        return Ok(fisu(inside));
+        send_fisu(inside);
+        return Ok(());
     }
     ask_next(inside, door)
 }
 
 /// The set is asked for the next unit.
-fn ask_next<D: Door>(inside: &mut Inside, door: &mut D) -> Result<Unit, SetFault>
-    requires { D.number door.old ≡ inside.old.link }
-    ensures talks { TalksTo (next_asked inside.old) result (D.made door.old) (D.made door.new)
-        (D.faults door.old) (D.faults door.new) (λ unit. as_sent unit inside.new) }
+fn ask_next<D: Door>(inside: &mut Inside, door: &mut D) -> Result<(), SetFault>
+    requires at { D.number door.old ≡ inside.old.link }
+    requires short { length inside.old.bits < 8 }
+    ensures sends { Sends (next_asked inside.old) result (D.made door.old) (D.made door.new)
+        (D.faults door.old) (D.faults door.new) inside.new }
     ensures at { D.number door.new ≡ inside.new.link }
-    ensures bits { IfOk result (λ unit. inside.new.bits ≡ inside.old.bits) }
 {
     let link = inside.link();
-    let answer = door.step(&Event::Next { link })?;
-    send(inside, door, answer)
+    // an answer has room for a unit, so it's looked at where it is
+    match &door.step(&Event::Next { link }) {
+        Ok(answer) => send(inside, door, answer),
+        Err(fault) => Err(*fault),
+    }
 }
 
 /// What the set answers to Next: a unit; that the link isn't up there, so that it's stopped here, and SIOS goes out; or
 /// anything else, as if paused (own).
 #[tactic(auto, using(crate::proofs::Links::quiet_link, crate::proofs::Links::quiet_bits))]
-fn send<D: Door>(inside: &mut Inside, door: &mut D, answer: Answer) -> Result<Unit, SetFault>
-    requires { D.number door.old ≡ inside.old.link }
-    ensures talks { TalksTo (sent_by answer inside.old) result (D.made door.old) (D.made door.new)
-        (D.faults door.old) (D.faults door.new) (λ unit. as_sent unit inside.new) }
+fn send<D: Door>(inside: &mut Inside, door: &mut D, answer: &Answer) -> Result<(), SetFault>
+    requires at { D.number door.old ≡ inside.old.link }
+    requires short { length inside.old.bits < 8 }
+    ensures sends { Sends (sent_by answer.now inside.old) result (D.made door.old) (D.made door.new)
+        (D.faults door.old) (D.faults door.new) inside.new }
     ensures at { D.number door.new ≡ inside.new.link }
-    ensures bits { IfOk result (λ unit. inside.new.bits ≡ inside.old.bits) }
 {
     match answer {
-        Answer::Sent { unit } => send_unit(inside, door, unit),
+        Answer::Sent { unit } => return send_given(inside, door, unit),
         Answer::Refused {
             why: Refusal::NotUp,
         } => {
             inside.stop_quietly();
-            Ok(status_unit(inside, Status::OutOfService))
+            send_status(inside, Status::OutOfService);
         }
-        _ => Ok(fisu(inside)),
+        _ => send_fisu(inside),
     }
+    Ok(())
 }
 
 /// A unit that the set gives, as it's sent (Q.703 5.2, 9.3).
-fn send_unit<D: Door>(inside: &mut Inside, door: &mut D, unit: Unit) -> Result<Unit, SetFault>
-    requires { D.number door.old ≡ inside.old.link }
-    ensures talks { TalksTo (message_counted unit inside.old) result (D.made door.old)
-        (D.made door.new) (D.faults door.old) (D.faults door.new)
-        (λ sent. as_sent sent inside.new) }
+fn send_given<D: Door>(inside: &mut Inside, door: &mut D, unit: &Unit) -> Result<(), SetFault>
+    requires at { D.number door.old ≡ inside.old.link }
+    requires short { length inside.old.bits < 8 }
+    ensures sends { Sends (message_counted unit.now inside.old) result (D.made door.old)
+        (D.made door.new) (D.faults door.old) (D.faults door.new) inside.new }
     ensures at { D.number door.new ≡ inside.new.link }
-    ensures bits { IfOk result (λ sent. inside.new.bits ≡ inside.old.bits) }
 {
-    count_sent(inside, door, &unit)?;
-    Ok(inside.hold_back(unit))
+    count_sent(inside, door, unit)?;
+    inside.append_given(unit);
+    Ok(())
 }
 
 /// T7 runs from the first message on that isn't acknowledged (Q.703 9.3).

@@ -22,7 +22,7 @@ use l2_bits::MarkKind;
 use l2_flow::FlowIn;
 use l2_signals::{Cause, ControlFault, Status};
 use l2_state::StateIn;
-use l2_units::{Unit, header_in, read};
+use l2_units::{Unit, copy_of_unit, header_in, read};
 use set_events::{Answer, Event, Refusal, Report};
 use set_shared::SetFault;
 use term_core::{Inside, Verdict};
@@ -41,7 +41,7 @@ pub(crate) fn mark<D: Door>(
     ensures at { D.number door.new ≡ inside.new.link }
 {
     match kind {
-        MarkKind::Good => match read(octets) {
+        MarkKind::Good => match &read(octets) {
             Ok(unit) => readable(inside, door, unit),
             Err(_) => damaged(inside, door),
         },
@@ -60,9 +60,9 @@ fn damaged<D: Door>(inside: &mut Inside, door: &mut D) -> Result<(), SetFault>
 }
 
 /// A mark that brings this unit is no error, and the unit is heard.
-fn readable<D: Door>(inside: &mut Inside, door: &mut D, unit: Unit) -> Result<(), SetFault>
+fn readable<D: Door>(inside: &mut Inside, door: &mut D, unit: &Unit) -> Result<(), SetFault>
     requires { D.number door.old ≡ inside.old.link }
-    ensures talks { Talks (brings (Some unit) inside.old) result (D.made door.old) (D.made door.new)
+    ensures talks { Talks (brings (Some unit.now) inside.old) result (D.made door.old) (D.made door.new)
         (D.faults door.old) (D.faults door.new) inside.new }
     ensures at { D.number door.new ≡ inside.new.link }
 {
@@ -87,14 +87,14 @@ fn judge<D: Door>(inside: &mut Inside, door: &mut D, error: bool) -> Result<(), 
 
 /// A unit that is readable: a proving that was aborted may begin anew before the machines hear it (Q.703 7.3), and the
 /// set hears it where the link is up there after that.
-fn hear<D: Door>(inside: &mut Inside, door: &mut D, unit: Unit) -> Result<(), SetFault>
+fn hear<D: Door>(inside: &mut Inside, door: &mut D, unit: &Unit) -> Result<(), SetFault>
     requires { D.number door.old ≡ inside.old.link }
-    ensures talks { Talks (heard (Some unit) inside.old) result (D.made door.old) (D.made door.new)
+    ensures talks { Talks (heard (Some unit.now) inside.old) result (D.made door.old) (D.made door.new)
         (D.faults door.old) (D.faults door.new) inside.new }
     ensures at { D.number door.new ≡ inside.new.link }
 {
     input_align(inside, door, AlignIn::Good)?;
-    tell_machines(inside, door, &unit)?;
+    tell_machines(inside, door, unit)?;
     tell_set(inside, door, unit)
 }
 
@@ -138,9 +138,9 @@ fn tell_flow<D: Door>(inside: &mut Inside, door: &mut D, status: Status) -> Resu
 }
 
 /// The set hears a unit of any kind, where the link is up there (Q.703 5, 6).
-fn tell_set<D: Door>(inside: &mut Inside, door: &mut D, unit: Unit) -> Result<(), SetFault>
+fn tell_set<D: Door>(inside: &mut Inside, door: &mut D, unit: &Unit) -> Result<(), SetFault>
     requires { D.number door.old ≡ inside.old.link }
-    ensures talks { Talks (set_hears unit inside.old) result (D.made door.old) (D.made door.new)
+    ensures talks { Talks (set_hears unit.now inside.old) result (D.made door.old) (D.made door.new)
         (D.faults door.old) (D.faults door.new) inside.new }
     ensures at { D.number door.new ≡ inside.new.link }
 {
@@ -151,16 +151,20 @@ fn tell_set<D: Door>(inside: &mut Inside, door: &mut D, unit: Unit) -> Result<()
 }
 
 /// The set hears a unit, and its answer is obeyed.
-fn tell_heard<D: Door>(inside: &mut Inside, door: &mut D, unit: Unit) -> Result<(), SetFault>
+fn tell_heard<D: Door>(inside: &mut Inside, door: &mut D, unit: &Unit) -> Result<(), SetFault>
     requires { D.number door.old ≡ inside.old.link }
-    ensures talks { Talks (told_heard unit inside.old) result (D.made door.old) (D.made door.new)
+    ensures talks { Talks (told_heard unit.now inside.old) result (D.made door.old) (D.made door.new)
         (D.faults door.old) (D.faults door.new) inside.new }
     ensures at { D.number door.new ≡ inside.new.link }
 {
-    let link = inside.link();
-    let bsn = header_in(&unit).bsn;
-    let answer = door.step(&Event::Heard { link, unit })?;
-    report(inside, door, &answer, bsn)
+    let event = Event::Heard {
+        link: inside.link(),
+        unit: copy_of_unit(unit),
+    };
+    match &door.step(&event) {
+        Ok(answer) => report(inside, door, answer, header_in(unit).bsn),
+        Err(fault) => Err(*fault),
+    }
 }
 
 /// What the set answers to a unit with this BSN: its report; that the link isn't up there, so that it's stopped here;

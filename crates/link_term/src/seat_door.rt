@@ -80,15 +80,12 @@ impl<'a, C: Ledger, M: Ledger, O: Ledger, A: Ledger, R: Wait, G: Gate> Door
         let link = self.seat.link();
         let (set, gate) = (self.number, self.gate);
         let inside = || gate.inside(set, link);
-        match self
+        let answered = self
             .set
-            .term_step_held(self.rt, &mut self.seat, event, inside)
-        {
-            Ok(answer) => Ok(answer),
-            Err(fault) => {
-                self.faults.note(fault);
-                Err(fault)
-            }
+            .term_step_held(self.rt, &mut self.seat, event, inside);
+        if let Err(fault) = &answered {
+            self.faults.note(*fault);
         }
+        answered
     }
 }

@@ -4,11 +4,11 @@ ghost use Rattle.std.specs.Prelude.{◌≡◌, ◌<◌, false, length, nat_lt, t
 ghost use Rattle.l2_bits.specs.LineBits.{number_of};
 ghost use Rattle.l2_units.specs.Grammar.{head_of};
 ghost use Rattle.term_model.specs.Terminal.{last_head as head_before, start_head};
-ghost use Rattle.term_model.specs.Choosing.{held_back, raised_top, withheld};
+ghost use Rattle.term_model.specs.Choosing.{held_back, raised_top, with_head, withheld};
 ghost use Rattle.term_model.specs.OctetOut.{Appends};
 
 use crate::inside::Inside;
-use l2_units::{Header, Unit, header_in, write};
+use l2_units::{Header, Unit, copy_of_unit, header_in, write};
 
 impl Inside {
     /// A SIB that was due was chosen to be sent.
@@ -39,29 +39,6 @@ impl Inside {
         }
     }
 
-    /// The unit as it's sent: while this end is busy it acknowledges nothing new (Q.703 9.3).
-    pub fn hold_back(&self, unit: Unit) -> Unit
-        ensures { result ≡ held_back self.now unit }
-    {
-        if !self.flow.is_busy() {
-            return unit;
-        }
-        let last = self.last_head();
-        match unit {
-            Unit::Fisu { head } => Unit::Fisu {
-                head: hold_bsn(last, head),
-            },
-            Unit::Lssu { head, status } => Unit::Lssu {
-                head: hold_bsn(last, head),
-                status,
-            },
-            Unit::Msu { head, body } => Unit::Msu {
-                head: hold_bsn(last, head),
-                body,
-            },
-        }
-    }
-
     /// Whether fewer than eight bits are left to send, so that a unit is to be chosen.
     #[inline(always)]
     pub fn is_short(&self) -> bool
@@ -79,6 +56,23 @@ impl Inside {
     {
         self.bits.append(write(unit).as_slice());
         self.last = Some(header_in(unit));
+    }
+
+    /// Appends a unit that the set gives, as it's sent: while this end is busy it acknowledges nothing new (Q.703 9.3).
+    /// Fewer than eight bits may be left.
+    pub fn append_given(&mut self, unit: &Unit)
+        requires { length self.old.bits < 8 }
+        ensures on_line { Appends (Some (held_back self.old unit.now)) self.old.bits self.new.bits }
+        ensures next { self.new ≡ record self.old {
+          bits = self.new.bits;
+          last = Some (head_of (held_back self.old unit.now));
+        } }
+    {
+        if !self.flow.is_busy() {
+            return self.append(unit);
+        }
+        let held = with_acknowledgement(self.last_head(), unit);
+        self.append(&held);
     }
 
     /// The next eight bits, the first the lowest (Q.703 2.4); where fewer are left, these.
@@ -107,6 +101,25 @@ fn first_header() -> Header
         bib: true,
         fsn: 127,
         fib: true,
+    }
+}
+
+/// A unit with the acknowledgement of another header.
+fn with_acknowledgement(last: Header, unit: &Unit) -> Unit
+    ensures { result ≡ with_head (withheld last (head_of unit.now)) unit.now }
+{
+    match copy_of_unit(unit) {
+        Unit::Fisu { head } => Unit::Fisu {
+            head: hold_bsn(last, head),
+        },
+        Unit::Lssu { head, status } => Unit::Lssu {
+            head: hold_bsn(last, head),
+            status,
+        },
+        Unit::Msu { head, body } => Unit::Msu {
+            head: hold_bsn(last, head),
+            body,
+        },
     }
 }
 

@@ -72,6 +72,9 @@ fn goes_out(inside: &mut Inside, octets: &[u8]) -> bool {
     inside.is_short()
 }
 
+/// The most octets that are left to send.
+const LONGEST_LEFT: u16 = 336;
+
 fn append(inside: &mut Inside, unit: &Unit) {
     if inside.is_short() {
         inside.append(unit);
@@ -316,6 +319,18 @@ fn fisu(bsn: u8, bib: bool, fsn: u8, fib: bool) -> Unit
     }
 }
 
+/// A unit that the set gives is sent, once all that is left is out: the header with which it goes out.
+fn goes_out_with(inside: &mut Inside, unit: &Unit) -> Header {
+    for _octet in 0..LONGEST_LEFT {
+        if inside.is_short() {
+            inside.append_given(unit);
+            return inside.last_head();
+        }
+        inside.drop_octet();
+    }
+    inside.last_head()
+}
+
 /// A B is due from the moment that this end is busy until it was sent.
 fn tells_that_it_is_busy(inside: &mut Inside) -> bool {
     let before = inside.is_b_due();
@@ -328,13 +343,12 @@ fn tells_that_it_is_busy(inside: &mut Inside) -> bool {
 #[test]
 fn this_end_is_busy(_rt: HostRuntime) -> Result<(), Fail> {
     let mut inside = serving();
-    let flag = goes_out(&mut inside, &[0x7E]);
-    append(&mut inside, &fisu(5, true, 11, false));
-    let open = header_in(&inside.hold_back(fisu(9, false, 12, true))).bsn == 9;
+    let open = goes_out_with(&mut inside, &fisu(5, true, 11, false));
     let told = tells_that_it_is_busy(&mut inside);
     // BSN and BIB stay those of the unit that was sent last.
-    let held = inside.hold_back(fisu(9, false, 12, true)) == fisu(5, true, 12, true);
-    holds(flag && open && told && held)
+    let held = goes_out_with(&mut inside, &fisu(9, false, 12, true));
+    let as_given = open == header_in(&fisu(5, true, 11, false));
+    holds(as_given && told && held == header_in(&fisu(5, true, 12, true)))
 }
 
 /// So many error marks, none of which trips a monitor.
