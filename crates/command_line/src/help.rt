@@ -175,10 +175,11 @@ user and each terminal. Standard input isn't read. Each user of end a offers
 its messages one after the other, and looks where each stands as soon as it was
 accepted; the user of end b asks for a message 1,000 times. Each link is a pair
 of rings between its two terminals, which take T turns each: an octet is sent
-and, if there is one, an octet is heard. Neither is more than 64 turns ahead of
-the other. With --fail the terminal of that link at end a, in each set, is told
-to stop after half of its turns. When all threads have ended each set is closed
-and audited, and these lines are printed, the sets from 0:
+and, if there is one, an octet is heard. A terminal that is 64 turns ahead of
+the other waits for it a while. Links come up by emergency proving. With --fail
+the terminal of that link at end a, in each set, is told to stop after half of
+its turns. When all threads have ended each set is closed and audited, and
+these lines are printed, the sets from 0:
   set=I end=a accepted=X placed=Y legal=yes
                     so many messages were accepted from users at end a of set
                     I, so many stand in some place, and the history is one
@@ -275,7 +276,8 @@ Each of these lines prints one:
   found discarded C   given up: 1 an emergency, 2 the other end told an FSN that can't be, 3 no answer
   sent HEX            the unit that was sent; its last two octets are the check octets
   heard acked=K took=T asked=0|1 resend=0|1 fault=F     what the unit did: K messages are acknowledged;
-                      T is nothing, message (new, for users), order, or ignored (an order without effect);
+                      T is nothing, message (new, for users), order, or ignored (an order without effect, or another
+                      message of the management, which users don't get);
                       asked=1, the end asks for retransmission; resend=1, it is asked for it; F is 2 for
                       abnormal BSNs, 3 for abnormal FIBs, else 0 (the link stays up until down or blind)
   lost                the unit is lost, by lose or because the link isn't up where it arrives
@@ -292,9 +294,10 @@ The high digit of a message's fifth octet is its stream, whose home is link stre
 where that link wasn't up or has failed, the stream runs on another one. A changeover of link 1 is `down a 1`,
 after which an order waits on the lowest link that is up; `emit a 0` and `arrive b 0`, where b leaves link 1 too;
 `emit b 0` and `arrive a 0`, which carry b's answer. Link 1 is settled then, and what b hasn't accepted waits at
-a for link 0, in order. When link 1 comes up again, its streams that have had messages stay on link 0, until
-`restore a 1` asks them back: an order waits on link 0 behind all that waits there, and what is offered then is found
-back. When b's answer has come, it waits for link 1, in order.
+a for link 0, in order. Where no link is up the order is parked, and goes out on the first that comes up; if that
+is link 1 itself, after noanswer, b leaves it again. When link 1 comes up again, its streams that have had
+messages stay on link 0, until `restore a 1` asks them back: an order waits on link 0 behind all that waits there,
+and what is offered then is found back. When b's answer has come, it waits for link 1, in order.
 
 A fault ends the script: one line on standard error, with status 1; what was printed before it stays.
   fault line N text   line N, from 1 and with remarks, can't be read: a word that isn't known, too few or too many
