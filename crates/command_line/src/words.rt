@@ -308,7 +308,9 @@ fn history_command<'a>(alloc: Global) -> Result<Command<'a>, AllocError>
     ensures shape { IfOk result (λ command. shape_of command ≡ history_shape) }
     ensures local { IfOk result (λ command. (out-Command command).has_globals ≡ false) }
 {
-    let end = Arg::new(alloc, "END").required(true);
+    let end = Arg::new(alloc, "END")
+        .required(true)
+        .help("Whose history: a or b");
     Command::new(alloc, "history")
         .about("Prints what an end of a script, a or b, was asked and answered")
         .after_help(HISTORY_PAGE)

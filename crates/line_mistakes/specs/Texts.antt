@@ -33,7 +33,7 @@ mistake_text OnLinkWants = codes "this word wants an end, a or b, and a link beh
 mistake_text LoseWants = codes "lose wants an end, a or b, a link, and the place of a unit"
 mistake_text HearWants = codes "hear wants an end, a or b, a link, and the octets of a unit"
 mistake_text End = codes "an end is a or b"
-mistake_text Link = codes "a link is a number, in decimal without leading zeros"
+mistake_text Link = codes "a link is a number below 2^64, in decimal without leading zeros"
 mistake_text Number = codes "a number is below 2^64, in decimal without leading zeros"
 mistake_text OddDigits = codes "octets have two hexadecimal digits each, and one digit is left over"
 mistake_text NotHexadecimal =
@@ -41,7 +41,7 @@ mistake_text NotHexadecimal =
 mistake_text UnitShort = codes "a unit has 3 octets at least"
 mistake_text UnitLong = codes "a unit has 276 octets at most"
 mistake_text UnitLength =
-    codes "the length indicator, the unit's third octet, isn't that of what follows"
+    codes "the length indicator, the unit's third octet, isn't that of what follows, without check octets"
 mistake_text NoSuchLink = codes "the set has no link of this number; its links are counted from 0"
 mistake_text NotSettled =
     codes "a link comes up where it's settled at both ends, and this one isn't"

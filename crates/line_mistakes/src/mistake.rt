@@ -120,7 +120,7 @@ impl Mistake {
             Mistake::LoseWants => "lose wants an end, a or b, a link, and the place of a unit",
             Mistake::HearWants => "hear wants an end, a or b, a link, and the octets of a unit",
             Mistake::End => "an end is a or b",
-            Mistake::Link => "a link is a number, in decimal without leading zeros",
+            Mistake::Link => "a link is a number below 2^64, in decimal without leading zeros",
             Mistake::Number => "a number is below 2^64, in decimal without leading zeros",
             Mistake::OddDigits =>
                 "octets have two hexadecimal digits each, and one digit is left over",
@@ -129,7 +129,7 @@ impl Mistake {
             Mistake::UnitShort => "a unit has 3 octets at least",
             Mistake::UnitLong => "a unit has 276 octets at most",
             Mistake::UnitLength =>
-                "the length indicator, the unit's third octet, isn't that of what follows",
+                "the length indicator, the unit's third octet, isn't that of what follows, without check octets",
             Mistake::NoSuchLink =>
                 "the set has no link of this number; its links are counted from 0",
             Mistake::NotSettled =>
