@@ -5,7 +5,7 @@ ghost use Rattle.l2_units.specs.declared.unit.Unit.{Unit as SignalUnit};
 ghost use Rattle.l2_units.specs.Grammar.{StandsFor, header_text, unit_of};
 ghost use Rattle.l2_units.specs.Fault.{number_of};
 
-use super::unit::{Header, Unit};
+use super::unit::{Header, LONGEST_BODY, Unit};
 use arrayvec::ArrayVec;
 use l2_signals::Status;
 use thiserror::Error;
@@ -49,7 +49,7 @@ pub fn read(octets: &[u8]) -> Result<Unit, UnitFault>
     let [backward, forward, third, rest @ ..] = octets else {
         return Err(UnitFault::Short);
     };
-    if rest.len() > 273 {
+    if rest.len() > LONGEST_BODY {
         return Err(UnitFault::Long);
     }
     if (*third % 64) as usize != rest.len().min(63) {
@@ -82,7 +82,7 @@ fn header_of(backward: u8, forward: u8) -> Header
 }
 
 /// The body of a message that has these octets, at most 273.
-pub fn body_of(octets: &[u8]) -> ArrayVec<u8, 273>
+pub fn body_of(octets: &[u8]) -> ArrayVec<u8, LONGEST_BODY>
     requires { length octets.now ≤ 273 }
     ensures { result.items ≡ octets.now }
 {

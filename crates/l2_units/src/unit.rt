@@ -44,6 +44,6 @@ pub enum Unit {
     /// Message signal unit: SIO and SIF, 3 to 273 octets. LI 3 to 63.
     Msu {
         head: Header,
-        body: ArrayVec<u8, 273>,
+        body: ArrayVec<u8, LONGEST_BODY>,
     },
 }

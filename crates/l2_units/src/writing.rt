@@ -2,7 +2,7 @@
 ghost use Rattle.std.specs.Prelude.{◌≡◌, ◌+◌, ◌*◌, ◌≤◌, ◌<◌, ◌^◌, ◌++◌, if◌then◌else◌, length};
 ghost use Rattle.l2_units.specs.Grammar.{text, octets_with, sequence_octet as octet_of};
 
-use super::unit::{Header, Unit};
+use super::unit::{Header, LONGEST_UNIT, Unit};
 use arrayvec::ArrayVec;
 
 /// The octets of a unit, without check octets: its one text with spare bits 0. An LSSU is sent
@@ -10,7 +10,7 @@ use arrayvec::ArrayVec;
 ///
 /// A unit whose body has fewer than 3 octets is written as it stands, though no octets are read
 /// back as such a unit.
-pub fn write(unit: &Unit) -> ArrayVec<u8, 276>
+pub fn write(unit: &Unit) -> ArrayVec<u8, LONGEST_UNIT>
     ensures { result.items ≡ text unit.now }
 {
     match unit {
@@ -21,7 +21,7 @@ pub fn write(unit: &Unit) -> ArrayVec<u8, 276>
 }
 
 /// The octets of a header, a length indicator and a body, with spare bits 0.
-fn with_body(head: &Header, body: &[u8]) -> ArrayVec<u8, 276>
+fn with_body(head: &Header, body: &[u8]) -> ArrayVec<u8, LONGEST_UNIT>
     requires { length body.now ≤ 273 }
     ensures { result.items ≡ octets_with 0 head.now body.now }
 {
