@@ -45,8 +45,8 @@ impl Model for Align {
     } };
 }
 
-// Q.703 7.4: a normal proving period, 2^16 octet times.
-const NORMAL_PROVING: u32 = 65_536;
+/// A normal proving period, 2^16 octet times: the longer of the two for which T4 runs (Q.703 7.4).
+pub const NORMAL_PROVING: u32 = 65_536;
 
 // Q.703 7.4: an emergency proving period, 2^12 octet times.
 const EMERGENCY_PROVING: u32 = 4_096;

@@ -73,5 +73,5 @@ mod align;
 pub mod laws;
 mod signals;
 
-pub use align::{Align, State};
+pub use align::{Align, NORMAL_PROVING, State};
 pub use signals::{AlignIn, AlignOut, End, Monitor};

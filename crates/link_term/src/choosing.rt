@@ -12,10 +12,10 @@ use super::machines::{ask_up, input_flow};
 use l2_flow::FlowIn;
 use l2_signals::Status;
 use l2_state::State;
-use l2_units::{Header, Unit};
+use l2_units::Unit;
 use set_events::{Answer, Event, Refusal};
 use set_shared::SetFault;
-use term_core::Inside;
+use term_core::{Inside, first_header};
 
 /// Where fewer than eight bits are left to send, a unit is chosen and appended; says whether one was.
 pub(crate) fn fill<D: Door>(inside: &mut Inside, door: &mut D) -> Result<bool, SetFault>
@@ -91,18 +91,6 @@ fn start_fisu() -> Unit
 {
     Unit::Fisu {
         head: first_header(),
-    }
-}
-
-/// BSN 127, BIB 1, FSN 127, FIB 1.
-fn first_header() -> Header
-    ensures { result ≡ start_head }
-{
-    Header {
-        bsn: 127,
-        bib: true,
-        fsn: 127,
-        fib: true,
     }
 }
 

@@ -34,16 +34,6 @@ pub(crate) fn obey<D: Door>(inside: &mut Inside, door: &mut D) -> Result<(), Set
     obey_given(inside, door, commands)
 }
 
-/// No command waits.
-const NONE: Commands = Commands {
-    emergency: false,
-    start: false,
-    busy: false,
-    ease: false,
-    blind: false,
-    stop: false,
-};
-
 /// The commands that were given are obeyed: in most turns there is none.
 #[tactic(auto, using(crate::proofs::Rows::none_given))]
 fn obey_given<D: Door>(
@@ -56,7 +46,7 @@ fn obey_given<D: Door>(
         (D.made door.new) (D.faults door.old) (D.faults door.new) inside.new }
     ensures at { D.number door.new ≡ inside.new.link }
 {
-    if commands == NONE {
+    if commands == Commands::NONE {
         return Ok(());
     }
     obey_each(inside, door, commands, &ORDER)

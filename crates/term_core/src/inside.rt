@@ -81,15 +81,6 @@ const NO_CLOCKS: Clocks = Clocks {
     t7: None,
 };
 
-const NO_COMMANDS: Commands = Commands {
-    emergency: false,
-    start: false,
-    busy: false,
-    ease: false,
-    blind: false,
-    stop: false,
-};
-
 impl Inside {
     /// A terminal of this link of its set, which is out of service, with timers of these lengths, in octet times. One
     /// flag is left to send.
@@ -106,7 +97,7 @@ impl Inside {
             suerm: None,
             clocks: NO_CLOCKS,
             status: Status::OutOfAlignment,
-            commands: NO_COMMANDS,
+            commands: Commands::NONE,
             bits: BitsLeft::flag_bits(),
             last: None,
             b_due: false,
@@ -195,7 +186,7 @@ impl Inside {
         ensures taken { self.new ≡ record self.old { commands = no_commands } }
     {
         let commands = self.commands;
-        self.commands = NO_COMMANDS;
+        self.commands = Commands::NONE;
         commands
     }
 

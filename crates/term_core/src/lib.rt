@@ -26,7 +26,8 @@
 //! - What the set said: `rise`, `fall`, `stop_quietly`.
 //! - What is sent: `drop_b`, `raise_top`, `append`, `append_given`, `drop_octet`.
 //!
-//! [`judging_is_the_models`] and [`no_end_no_talk`] are laws about definitions.
+//! [`first_header`] is that of a link on which nothing was sent yet. [`judging_is_the_models`] and [`no_end_no_talk`] are
+//! laws about definitions.
 #![tactic(auto)]
 
 mod bits_left;
@@ -41,3 +42,4 @@ mod stuffing;
 pub use clocks::{Timer, no_end_no_talk};
 pub use inside::Inside;
 pub use monitors::{Verdict, judging_is_the_models};
+pub use sending::first_header;

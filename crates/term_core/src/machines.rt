@@ -18,15 +18,12 @@ ghost use Rattle.term_model.specs.Machines.{
 };
 
 use crate::inside::Inside;
-use l2_align::{AlignIn, End, Monitor};
+use l2_align::{AlignIn, End, Monitor, NORMAL_PROVING};
 use l2_flow::FlowIn;
 use l2_monitors::{Aerm, Suerm};
 use l2_signals::{Cause, Status, TimerOrder};
 use l2_state::{StateIn, Switch, Told};
 use set_events::Answer;
-
-/// The longest time that T4 runs, a normal proving period; it's always started for one of two lengths (Q.703 7.4).
-const NORMAL_PROVING: u32 = 65_536;
 
 impl Inside {
     /// An input of initial alignment control: what it makes of the terminal, and how alignment ends, if it does, which

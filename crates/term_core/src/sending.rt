@@ -92,8 +92,8 @@ impl Inside {
     }
 }
 
-/// BSN 127, BIB 1, FSN 127, FIB 1: no message was sent or accepted yet.
-fn first_header() -> Header
+/// BSN 127, BIB 1, FSN 127, FIB 1: no message was sent or accepted yet (Q.703 12.1).
+pub fn first_header() -> Header
     ensures { result ≡ start_head }
 {
     Header {

@@ -33,3 +33,15 @@ pub struct Commands {
     /// Stop was commanded.
     pub stop: bool,
 }
+
+impl Commands {
+    /// No command waits.
+    pub const NONE: Commands = Commands {
+        emergency: false,
+        start: false,
+        busy: false,
+        ease: false,
+        blind: false,
+        stop: false,
+    };
+}
