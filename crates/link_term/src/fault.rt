@@ -24,11 +24,7 @@ impl TermFault {
     pub fn number(self) -> u8
         ensures { result ≡ fault_number self }
     {
-        match self {
-            TermFault::NoMemory => 1,
-            TermFault::Failed => 2,
-            TermFault::Exhausted => 3,
-        }
+        self as u8
     }
 }
 

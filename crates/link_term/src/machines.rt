@@ -51,7 +51,7 @@ fn ask_down<D: Door>(inside: &mut Inside, door: &mut D, cause: Cause) -> Result<
     ensures bits { IfOk result (λ done. inside.new.bits ≡ inside.old.bits) }
 {
     let event = down_event(inside);
-    let _ = door.step(&event)?;
+    door.step(&event)?;
     inside.fall(cause);
     Ok(())
 }

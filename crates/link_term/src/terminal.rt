@@ -91,10 +91,8 @@ impl<D: Door, L: Line, G: Gate> Terminal<D, L, G> {
         ensures fails { OnErr result (self.new.failed ≡ true) }
         ensures goes_on { OnOk result (self.new.failed ≡ false) }
     {
-        match self.take_turn() {
-            Ok(_turned) => Ok(()),
-            Err(fault) => Err(fault),
-        }
+        self.take_turn()?;
+        Ok(())
     }
 
     /// So many turns, one after another, at most 2^32: what they counted, and why the link failed last.
@@ -127,10 +125,7 @@ impl<D: Door, L: Line, G: Gate> Terminal<D, L, G> {
         }
         let mut report = NO_TURNS;
         for _turn in 0..turns {
-            match self.take_turn() {
-                Ok(turned) => report = and_one(report, turned),
-                Err(fault) => return Err(fault),
-            }
+            report = and_one(report, self.take_turn()?);
         }
         Ok(TermReport {
             cause: last_cause(&self.inside),
