@@ -61,14 +61,11 @@ impl Bank {
         if configs.is_empty() || configs.len() > MOST_SETS {
             return Err(BankFault::Sets);
         }
-        match Vec::from_slice(alloc, configs) {
-            Ok(configs) => Ok(Bank {
-                configs,
-                users,
-                alloc,
-            }),
-            Err(_) => Err(BankFault::NoMemory),
-        }
+        Ok(Bank {
+            configs: Vec::from_slice(alloc, configs)?,
+            users,
+            alloc,
+        })
     }
 
     /// Starts a thread for each set, which opens the set, runs its terminals and users in threads of their own, gathers

@@ -30,13 +30,7 @@ impl BankFault {
     pub fn number(self) -> u8
         ensures { result ≡ fault_number self }
     {
-        match self {
-            BankFault::NoMemory => 1,
-            BankFault::Users => 2,
-            BankFault::Sets => 3,
-            BankFault::NoThread => 4,
-            BankFault::Unclosed => 5,
-        }
+        self as u8
     }
 }
 
