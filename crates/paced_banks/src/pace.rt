@@ -3,7 +3,7 @@
 use link_term::Gate;
 use std::alloc::{AllocError, Global};
 use std::sync::Arc;
-use std::sync::atomic::{AtomicU64, Ordering};
+use std::sync::atomic::{AtomicBool, AtomicU64, Ordering};
 use std::thread;
 
 /// How many turns a terminal may be ahead of the one at the other end.
@@ -19,8 +19,8 @@ struct LinkTurns {
     near: AtomicU64,
     /// How many turns the terminal at end b has begun.
     far: AtomicU64,
-    /// 1: an end waited in vain, so that neither waits any more.
-    apart: AtomicU64,
+    /// Whether an end waited in vain, so that neither waits any more.
+    apart: AtomicBool,
 }
 
 /// The gate of one of two banks: a terminal that is 64 turns ahead of the one at the other end of its link yields to
@@ -43,7 +43,7 @@ pub fn pace_gates(alloc: Global, sets: u16, links: u8) -> Result<(PaceGate, Pace
             turns.push_reserved(LinkTurns {
                 near: AtomicU64::new(0),
                 far: AtomicU64::new(0),
-                apart: AtomicU64::new(0),
+                apart: AtomicBool::new(false),
             });
         }
     }
@@ -99,16 +99,16 @@ impl Gate for PaceGate {
 }
 
 /// One turn more begins, once the other end isn't too far behind.
-fn keep_pace(own: &AtomicU64, other: &AtomicU64, apart: &AtomicU64) {
+fn keep_pace(own: &AtomicU64, other: &AtomicU64, apart: &AtomicBool) {
     let begun = own.fetch_add(1, Ordering::SeqCst);
     for _time in 0..PATIENCE {
         if begun < other.load(Ordering::SeqCst).saturating_add(LEAD) {
             return;
         }
-        if apart.load(Ordering::SeqCst) > 0 {
+        if apart.load(Ordering::SeqCst) {
             return;
         }
         thread::yield_now();
     }
-    apart.store(1, Ordering::SeqCst);
+    apart.store(true, Ordering::SeqCst);
 }
