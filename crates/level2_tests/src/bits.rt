@@ -5,13 +5,13 @@ use l2_bits::*;
 use std::test::Fail;
 
 #[test]
-fn public_check_value(_rt: HostRuntime) -> Result<(), Fail> {
+fn the_check_of_123456789_is_the_published_one(_rt: HostRuntime) -> Result<(), Fail> {
     // The value that catalogues of checksums give for CRC-16/X.25, which has these parameters.
     holds(check_of(b"123456789") == 0x906E)
 }
 
 #[test]
-fn fill_in_unit_and_status_unit(_rt: HostRuntime) -> Result<(), Fail> {
+fn fill_in_and_status_units_are_sealed(_rt: HostRuntime) -> Result<(), Fail> {
     let fill_in = seal(&[0xFF, 0xFF, 0x00]).as_slice() == [0xFF, 0xFF, 0x00, 0xFF, 0xFF].as_slice();
     let sealed = seal(&[0xFF, 0xFF, 0x01, 0x00]);
     let status = sealed.as_slice() == [0xFF, 0xFF, 0x01, 0x00, 0x27, 0xE6].as_slice();
@@ -19,7 +19,7 @@ fn fill_in_unit_and_status_unit(_rt: HostRuntime) -> Result<(), Fail> {
 }
 
 #[test]
-fn longest_message_and_no_octets(_rt: HostRuntime) -> Result<(), Fail> {
+fn the_longest_message_and_no_octets_are_sealed(_rt: HostRuntime) -> Result<(), Fail> {
     // A message with 273 octets of body, SIO, label and 268 zeros, whose CRC-16/X.25 is 0xD49F.
     let mut longest = [0; 276];
     longest[..8].copy_from_slice(&[0xFF, 0x80, 0x3F, 0x85, 0x01, 0x80, 0x00, 0x30]);
@@ -39,7 +39,7 @@ fn are_bits(bits: &[bool], digits: &[u8]) -> bool {
 }
 
 #[test]
-fn fill_in_unit_on_the_line(_rt: HostRuntime) -> Result<(), Fail> {
+fn zeros_are_inserted_in_a_fill_in_unit(_rt: HostRuntime) -> Result<(), Fail> {
     let mut line = ArrayVec::new();
     stuff_into(&[0xFF, 0xFF, 0x00, 0xFF, 0xFF], &mut line);
     holds(are_bits(&line, b"1111101111101111101000000001111101111101111101"))
@@ -67,7 +67,7 @@ fn is_good(mark: &Option<Mark>, octets: &[u8]) -> bool {
 }
 
 #[test]
-fn longest_message_between_flags(_rt: HostRuntime) -> Result<(), Fail> {
+fn the_longest_message_comes_back_from_the_line(_rt: HostRuntime) -> Result<(), Fail> {
     // All ones, so that the most zeros are inserted.
     let octets = [0xFF; 276];
     let mut line = ArrayVec::new();

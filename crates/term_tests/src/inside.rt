@@ -3,13 +3,12 @@
 ghost use Rattle.std.specs.Prelude.{◌<◌};
 
 use super::core_door::holds;
-use arrayvec::ArrayVec;
 use l2_align::{AlignIn, End};
 use l2_bits::{Deframer, Mark};
 use l2_flow::FlowIn;
 use l2_signals::{Cause, Status};
 use l2_state::{State, StateIn, Told};
-use l2_units::{Header, Unit, header_in, write};
+use l2_units::{Header, Unit, body_of, header_in, write};
 use set_events::{Answer, Refusal};
 use std::test::Fail;
 use term_core::{Inside, Timer, Verdict};
@@ -140,11 +139,9 @@ fn put_all(inside: &mut Inside, deframer: &mut Deframer, text: &[u8]) -> u64 {
 fn the_longest_message_comes_back(_rt: HostRuntime) -> Result<(), Fail> {
     // All ones, so that the most zeros are inserted.
     let mut inside = opened();
-    let mut body = ArrayVec::new();
-    let _ = body.try_extend_from_slice(&[0xFF; 273]);
     let message = Unit::Msu {
         head: inside.last_head(),
-        body,
+        body: body_of(&[0xFF; 273]),
     };
     let text = write(&message);
     let mut deframer = Deframer::new();
@@ -169,21 +166,13 @@ fn commands_wait_once_each(_rt: HostRuntime) -> Result<(), Fail> {
     inside.command(Command::Stop);
     inside.command(Command::Start);
     inside.command(Command::Start);
-    let none = Commands {
-        emergency: false,
-        start: false,
-        busy: false,
-        ease: false,
-        blind: false,
-        stop: false,
-    };
     let both = Commands {
         start: true,
         stop: true,
-        ..none
+        ..Commands::NONE
     };
     let first = inside.take_commands() == both;
-    let second = inside.take_commands() == none;
+    let second = inside.take_commands() == Commands::NONE;
     holds(first && second)
 }
 
