@@ -15,7 +15,7 @@ ghost use Rattle.set_moves.specs.Turning.{TakesTurns};
 
 use super::changeback::acknowledge_back;
 use super::link::Link;
-use super::parts::{Parts, fate_of, phase_of, stand_last, target_of};
+use super::parts::{Parts, phase_of, stand_last, target_of};
 use super::settling::settle;
 use super::turning::turn_back;
 use arrayvec::ArrayVec;
@@ -23,6 +23,7 @@ use l2_units::LONGEST_BODY;
 use l3_orders::{Order, write_order};
 use set_events::{SetConfig, Took};
 use set_model::{Phase, Reached};
+use set_queues::fate_on;
 
 /// An order stands last, for the target.
 pub fn queue(parts: &mut Parts, order: Order)
@@ -38,7 +39,7 @@ pub fn queue(parts: &mut Parts, order: Order)
     ensures links { parts.new.links ≡ parts.old.links }
     ensures whole { IsWhole parts.new }
 {
-    let fate = fate_of(target_of(&parts.links));
+    let fate = fate_on(target_of(&parts.links));
     let body = body_of(&order, &parts.config);
     stand_last(parts, body.as_slice(), fate);
 }

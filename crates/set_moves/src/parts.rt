@@ -7,7 +7,6 @@ ghost use Rattle.set_queues.specs.Kind.{is_kind};
 ghost use Rattle.set_model.specs.Rows.{appended, stream_of};
 ghost use Rattle.set_route.specs.Routing.{place_of};
 ghost use Rattle.set_model.specs.State.{State, fate_at, target, has_phase_up};
-ghost use Rattle.set_model.specs.Changeover.{fate_on};
 ghost use Rattle.set_moves.specs.Agreement.{StandsFor, kind_of};
 ghost use Rattle.set_moves.specs.Parts.{IsWhole, Becomes, link_of, kept_of};
 ghost use Rattle.set_moves.specs.Refusing.{service_refusal};
@@ -18,7 +17,7 @@ use super::link::Link;
 use arrayvec::ArrayVec;
 use set_events::{Fate, Refusal, SetConfig};
 use set_model::Phase;
-use set_queues::{Bodies, Kind, Message, Queues};
+use set_queues::{Bodies, Kind, Message, Queues, fate_on};
 use set_route::{Place, Routes};
 use std::alloc::AllocError;
 
@@ -93,17 +92,6 @@ pub fn out_of_service(links: &[Link], number: u8) -> Option<Refusal>
     }
 }
 
-/// Where a message goes that is moved.
-pub fn fate_of(target: Option<u8>) -> Fate
-    ensures value { result ≡ fate_on target }
-    ensures queued { IsQueued result }
-{
-    match target {
-        Some(link) => Fate::Waiting { link },
-        None => Fate::Parked,
-    }
-}
-
 /// Takes room for one more message there. Nothing else changes, also where memory is refused.
 pub fn make_room(parts: &mut Parts, fate: Fate) -> Result<(), AllocError>
     requires known { IsKnown fate parts.old.queues.lists }
@@ -125,7 +113,7 @@ pub fn make_room_beside(parts: &mut Parts, number: u8, orders: usize) -> Result<
     ensures room { OnOk result (IsReady number orders parts.new) }
     ensures same { SameButRoom parts.old parts.new }
 {
-    let fate = fate_of(other_target(&parts.links, number));
+    let fate = fate_on(other_target(&parts.links, number));
     let back = parts.queues.back_count(number);
     let Some(more) = with_turns(orders, back) else {
         return Err(AllocError);

@@ -60,4 +60,4 @@ mod weight;
 pub use bodies::Bodies;
 pub use laws::{each_number_stands_once, fates_move_with_their_numbers, settling_moves_the_queues};
 pub use message::{Kind, Message};
-pub use queues::Queues;
+pub use queues::{Queues, fate_on};

@@ -1,5 +1,6 @@
 //! Where every message of a set stands, with what the counts need.
 ghost use Rattle.std.specs.Prelude.{◌≡◌, ◌+◌, IfSome};
+ghost use Rattle.set_queues.specs.Buffers.{IsQueued};
 ghost use Rattle.set_queues.specs.Settling.{fate_on};
 
 use super::backs::{count_back, oldest_back};
@@ -411,7 +412,7 @@ impl Queues {
             (on link self.old.lists)) self.old.rooms self.new.rooms }
         ensures room { self.new.room ≡ self.old.room }
     {
-        let to = fate_of_target(target);
+        let to = fate_on(target);
         self.divert(Fate::Unacked { link }, to);
         self.divert(Fate::Waiting { link }, to);
         self.divert(Fate::Held { link }, to);
@@ -439,9 +440,10 @@ fn sum_of(a: usize, b: usize, c: usize, d: usize) -> Option<usize>
     a.checked_add(b)?.checked_add(c)?.checked_add(d)
 }
 
-/// Where a message goes that leaves a link that settles.
-fn fate_of_target(target: Option<u8>) -> Fate
-    ensures { result ≡ fate_on target }
+/// Where a message goes that is moved: it waits for the target, or is parked where there is none.
+pub fn fate_on(target: Option<u8>) -> Fate
+    ensures value { result ≡ fate_on target }
+    ensures queued { IsQueued result }
 {
     match target {
         Some(link) => Fate::Waiting { link },

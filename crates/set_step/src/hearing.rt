@@ -17,8 +17,9 @@ use l2_window::HeardPart;
 use l3_orders::{Order, read_order};
 use set_events::{Answer, Fate, Refusal, Report, Took};
 use set_moves::{
-    HeardBody, Parts, fate_of, make_room, make_room_beside, obey, out_of_service, target_of,
+    HeardBody, Parts, make_room, make_room_beside, obey, out_of_service, target_of,
 };
+use set_queues::fate_on;
 use set_route::home_of_code;
 use std::alloc::AllocError;
 
@@ -110,7 +111,7 @@ fn make_room_for(parts: &mut Parts, order: &Order) -> Result<(), AllocError>
 {
     match *order {
         Order::Cbd { .. } => {
-            let fate = fate_of(target_of(&parts.links));
+            let fate = fate_on(target_of(&parts.links));
             make_room(parts, fate)
         }
         Order::Cba { code, .. } => make_room_back(parts, code),

@@ -12,14 +12,14 @@ pub returns-clause-elsewhere : goal.returns-clause-elsewhere
 returns-clause-elsewhere c = λ number known out.
     let links = c.args.parts.now.links.items in
     let is = c.target_of.ensures.value ∙ ap (λ ls. target (map link_of ls)) c.deref.ensures.value in
-    on_same c.target_of.result number (queue_at c.fate_of-fate.result c.args.parts.now.queues.lists ++ length c.args.parts.now.queues.messages ∷ []) c.args.parts.now.queues.lists c.stand_last.new.parts.queues.lists
+    on_same c.target_of.result number (queue_at c.fate_on-fate.result c.args.parts.now.queues.lists ++ length c.args.parts.now.queues.messages ∷ []) c.args.parts.now.queues.lists c.stand_last.new.parts.queues.lists
     (known_target c.target_of.result c.args.parts.now.queues.lists links c.deref.result.now c.deref.ensures.value c.requires.whole.as_many c.target_of.ensures.below)
     (λ t e. out_of links number known out t (sym is ∙ e))
-    (c.stand_last.ensures.lists ∙ ap (λ fate. with_queue fate (queue_at c.fate_of-fate.result c.args.parts.now.queues.lists ++ length c.args.parts.now.queues.messages ∷ []) c.args.parts.now.queues.lists) c.fate_of-fate.ensures.value)
+    (c.stand_last.ensures.lists ∙ ap (λ fate. with_queue fate (queue_at c.fate_on-fate.result c.args.parts.now.queues.lists ++ length c.args.parts.now.queues.messages ∷ []) c.args.parts.now.queues.lists) c.fate_on-fate.ensures.value)
 
 pub returns-clause-whole : goal.returns-clause-whole
 returns-clause-whole c = record {
-  as_many = ap (λ (q : Lists). length q.links) c.stand_last.ensures.lists ∙ links_stay c.fate_of-fate.result (queue_at c.fate_of-fate.result c.args.parts.now.queues.lists ++ length c.args.parts.now.queues.messages ∷ []) c.args.parts.now.queues.lists ∙ c.requires.whole.as_many ∙ sym (ap (λ ls. length ls.items) c.stand_last.ensures.links);
+  as_many = ap (λ (q : Lists). length q.links) c.stand_last.ensures.lists ∙ links_stay c.fate_on-fate.result (queue_at c.fate_on-fate.result c.args.parts.now.queues.lists ++ length c.args.parts.now.queues.messages ∷ []) c.args.parts.now.queues.lists ∙ c.requires.whole.as_many ∙ sym (ap (λ ls. length ls.items) c.stand_last.ensures.links);
   routed = ap (λ (r : Routing). r.links) c.stand_last.ensures.routes ∙ c.requires.whole.routed ∙ sym (ap (λ ls. length ls.items) c.stand_last.ensures.links);
   few = rw (c.stand_last.ensures.links) c.requires.whole.few;
 }
@@ -28,7 +28,7 @@ pub stand_last-requires-clause-fits : goal.stand_last-requires-clause-fits
 stand_last-requires-clause-fits c = rw c.as_slice.ensures.value c.body_of-body.ensures.fits
 
 pub stand_last-requires-clause-queued : goal.stand_last-requires-clause-queued
-stand_last-requires-clause-queued c = c.fate_of-fate.ensures.queued
+stand_last-requires-clause-queued c = c.fate_on-fate.ensures.queued
 
 pub returns-clause-links : goal.returns-clause-links
 returns-clause-links c = c.stand_last.ensures.links

@@ -33,9 +33,9 @@ returns-clause-room c = on_ok c.reserve_all.result (λ enough.
     let after : c.reserve_all.new.self.lists ≡ q = c.reserve_all.ensures.same.0 ∙ before in
     let more : c.in-Some.more ≡ c.args.orders + 2 * c.back_count-back.result = some_of (λ (m : ℕ). m ≡ c.args.orders + 2 * c.back_count-back.result) c.with_turns.result c.in-Some.more c.with_turns.ensures c.in-Some.is in
     let back : c.back_count-back.result ≡ back_count n q = c.back_count-back.ensures.value in
-    let fate : c.fate_of-fate.result ≡ fate_on (target_beside n c.args.parts.now.links.items) = c.fate_of-fate.ensures.value ∙ ap fate_on (c.other_target.ensures.value ∙ ap (target_beside n) c.deref.ensures.value) in
-    let room : length (on n c.reserve_each.new.self.lists) + c.in-Some.more ≤ room_at c.fate_of-fate.result c.reserve_all.new.self.rooms = enough in
-    let there : room_at c.fate_of-fate.result c.reserve_all.new.self.rooms ≡ room_at (fate_on (target_beside n c.args.parts.now.links.items)) c.reserve_all.new.self.rooms = ap (λ (f : Fate). room_at f c.reserve_all.new.self.rooms) fate in
+    let fate : c.fate_on-fate.result ≡ fate_on (target_beside n c.args.parts.now.links.items) = c.fate_on-fate.ensures.value ∙ ap fate_on (c.other_target.ensures.value ∙ ap (target_beside n) c.deref.ensures.value) in
+    let room : length (on n c.reserve_each.new.self.lists) + c.in-Some.more ≤ room_at c.fate_on-fate.result c.reserve_all.new.self.rooms = enough in
+    let there : room_at c.fate_on-fate.result c.reserve_all.new.self.rooms ≡ room_at (fate_on (target_beside n c.args.parts.now.links.items)) c.reserve_all.new.self.rooms = ap (λ (f : Fate). room_at f c.reserve_all.new.self.rooms) fate in
     let on_same : length (on n c.reserve_all.new.self.lists) ≡ length (on n c.reserve_each.new.self.lists) = ap (λ (l : Lists). length (on n l)) (after ∙ sym before) in
     let back_same : back_count n c.reserve_all.new.self.lists ≡ back_count n q = ap (back_count n) after in
     let many : length c.reserve_each.new.self.lists.links ≡ length c.args.parts.now.links.items = ap (λ (l : Lists). length l.links) before ∙ c.requires.whole.as_many in
@@ -62,7 +62,7 @@ pub returns-in_default-clause-same : goal.returns-in_default-clause-same
 returns-in_default-clause-same c = record { kept = refl; links = refl; inbox = refl }
 
 pub reserve_all-requires-clause-queued : goal.reserve_all-requires-clause-queued
-reserve_all-requires-clause-queued c = c.fate_of-fate.ensures.queued
+reserve_all-requires-clause-queued c = c.fate_on-fate.ensures.queued
 
 pub reserve_all-requires-clause-link : goal.reserve_all-requires-clause-link
 reserve_all-requires-clause-link c = omega (arith, c.requires.known, c.requires.whole.as_many, ap (λ (q : Lists). length q.links) c.reserve_each.ensures.same.0, ap (λ (q : Lists). length q.links) c.reserve-2.ensures.same.0)
