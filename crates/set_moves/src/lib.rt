@@ -38,6 +38,6 @@ pub use inbox::{HeardBody, Inbox};
 pub use link::Link;
 pub use parts::{
     Parts, fate_of_new, make_room, make_room_beside, make_room_parked, out_of_service, phase_of,
-    stand_last, stream_of_body, target_of,
+    service_indicator, stand_last, stream_of_body, target_of,
 };
 pub use settling::settle;

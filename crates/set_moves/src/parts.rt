@@ -4,7 +4,7 @@ ghost use Rattle.std.specs.Option.{option_map};
 ghost use Rattle.set_queues.specs.Buffers.{IsKnown, IsQueued, TakesRoom, queue_at, room_at, with_queue};
 ghost use Rattle.set_queues.specs.Bodies.{CanHold};
 ghost use Rattle.set_queues.specs.Kind.{is_kind};
-ghost use Rattle.set_model.specs.Rows.{appended, stream_of};
+ghost use Rattle.set_model.specs.Rows.{appended, service_indicator, stream_of};
 ghost use Rattle.set_route.specs.Routing.{place_of};
 ghost use Rattle.set_model.specs.State.{State, fate_at, target, has_phase_up};
 ghost use Rattle.set_moves.specs.Agreement.{StandsFor, kind_of};
@@ -178,11 +178,21 @@ fn kind_of_body(body: &[u8]) -> Kind
     ensures value { result ≡ kind_of body.now }
     ensures known { is_kind result ≡ true }
 {
+    if service_indicator(body) == 0 {
+        return Kind::Order;
+    }
+    Kind::User {
+        stream: stream_of_body(body),
+    }
+}
+
+/// The service indicator of a body: the low four bits of its SIO (Q.704 14.2.1), 0 where there is none.
+pub fn service_indicator(body: &[u8]) -> u8
+    ensures { result ≡ service_indicator body.now }
+{
     match body.first() {
-        Some(sio) if *sio % 16 != 0 => Kind::User {
-            stream: stream_of_body(body),
-        },
-        _ => Kind::Order,
+        Some(sio) => *sio % 16,
+        None => 0,
     }
 }
 

@@ -4,7 +4,6 @@ ghost use Rattle.l2_units.specs.Grammar.{head_of as header_of};
 ghost use Rattle.l3_orders.specs.Grammar.{IsOrder};
 ghost use Rattle.set_route.specs.Routing.{home_of};
 ghost use Rattle.set_model.specs.Control.{part_of};
-ghost use Rattle.set_model.specs.Rows.{service_indicator};
 ghost use Rattle.set_model.specs.State.{State, window_of};
 ghost use Rattle.set_model.specs.Step.{in_service, heard, is_msu, brought, takes, after_control, report_of};
 ghost use Rattle.set_moves.specs.Agreement.{Agrees, Holds};
@@ -17,7 +16,8 @@ use l2_window::HeardPart;
 use l3_orders::{Order, read_order};
 use set_events::{Answer, Fate, Refusal, Report, Took};
 use set_moves::{
-    HeardBody, Parts, make_room, make_room_beside, obey, out_of_service, target_of,
+    HeardBody, Parts, make_room, make_room_beside, obey, out_of_service, service_indicator,
+    target_of,
 };
 use set_queues::fate_on;
 use set_route::home_of_code;
@@ -94,7 +94,7 @@ fn make_message_space(parts: &mut Parts, unit: &Unit) -> Result<Option<HeardBody
     let Unit::Msu { body, .. } = unit else {
         return Ok(None);
     };
-    if indicator_of(body.as_slice()) == 0 {
+    if service_indicator(body.as_slice()) == 0 {
         return Ok(None);
     }
     parts.inbox.reserve(1)?;
@@ -230,16 +230,6 @@ fn take_in(
     match order {
         Some(order) => obey(parts, order),
         None => Took::Ignored,
-    }
-}
-
-/// The service indicator of a body, 0 where there is none.
-fn indicator_of(body: &[u8]) -> u8
-    ensures { result ≡ service_indicator body.now }
-{
-    match body.first() {
-        Some(sio) => *sio % 16,
-        None => 0,
     }
 }
 

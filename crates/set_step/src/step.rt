@@ -23,7 +23,7 @@ use set_events::{Answer, Body, Event, Fate, Refusal};
 use set_model::{Phase, Reached};
 use set_moves::{
     Link, Parts, fate_of_new, leave, make_room, make_room_beside, make_room_parked, out_of_service,
-    phase_of, queue, restore, settle, stand_last, stream_of_body, time_out,
+    phase_of, queue, restore, service_indicator, settle, stand_last, stream_of_body, time_out,
 };
 use set_queues::Queues;
 use std::alloc::AllocError;
@@ -119,7 +119,7 @@ fn refusal_of(queues: &Queues, body: &Body) -> Option<Refusal>
     if octets.len() > LONGEST_BODY {
         return Some(Refusal::TooLong);
     }
-    if octets[0] % 16 == 0 {
+    if service_indicator(octets) == 0 {
         return Some(Refusal::Reserved);
     }
     if queues.unsent(stream_of_body(octets)) >= STREAM_LIMIT {
