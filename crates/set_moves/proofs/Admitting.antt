@@ -166,23 +166,21 @@ module _ (parts : Parts) (s : State) (a : Agrees (kept_of parts) s) (n : ℕ) wh
   no_change : Obeys (ignored s) Ignored parts
   no_change = record { took_is = refl; stands = a.stands }
 
-  -- with no such link
-  pub obeyed_nowhere : (f : LinkState → Obeyed) (told : Option Phase) → told ≡ option_map (λ (l : Link). l.phase) (slice_get parts.links.items n) → told ≡ None → Obeys (at_link n s f (slice_get s.links n)) Ignored parts
-  obeyed_nowhere f told is e = go (slice_get parts.links.items n) refl (sym is ∙ e)
+  -- an acknowledgement for which the link doesn't wait, or with no such link
+  pub unanswered : (reached : Reached) (told : Option Phase) → told ≡ option_map (λ (l : Link). l.phase) (slice_get parts.links.items n) → (told ≡ Some Down → ⊥) → Obeys (at_link n s (λ link. answered reached n link link.phase s) (slice_get s.links n)) Ignored parts
+  unanswered reached told is other = go (slice_get parts.links.items n) refl
     where
-      go : (o : Option Link) → slice_get parts.links.items n ≡ o → option_map (λ (l : Link). l.phase) o ≡ None → Obeys (at_link n s f (slice_get s.links n)) Ignored parts
-      go None h g = rw (absent parts s a n NoSuchLink h) no_change
-      go (Some link) h g = absurd (cc)
+      ignores : (link : LinkState) (now : Phase) → (now ≡ Down → ⊥) → Obeys (answered reached n link now s) Ignored parts
+      ignores link Up f = no_change
+      ignores link Down f = absurd (f refl)
+      ignores link Settled f = no_change
 
-  pub unanswered : (reached : Reached) (phase : Phase) → IsHere parts.links.items n phase → (phase ≡ Down → ⊥) → Obeys (at_link n s (λ link. answered reached n link link.phase s) (slice_get s.links n)) Ignored parts
-  unanswered reached phase h other =
-      let i = is_in parts s n phase a h in
-      obeyed_at s n (λ link. answered reached n link link.phase s) Ignored parts i.link i.there (go i.link i.link.phase i.phase_is)
-    where
-      go : (link : LinkState) (now : Phase) → now ≡ phase → Obeys (answered reached n link now s) Ignored parts
-      go link Up e = no_change
-      go link Down e = absurd (other (sym e))
-      go link Settled e = no_change
+      go : (o : Option Link) → slice_get parts.links.items n ≡ o → Obeys (at_link n s (λ link. answered reached n link link.phase s) (slice_get s.links n)) Ignored parts
+      go None e = rw (absent parts s a n NoSuchLink e) no_change
+      go (Some link) e =
+          let i = is_in parts s n link.phase a (is_here parts.links.items n link.phase link e refl) in
+          obeyed_at s n (λ link. answered reached n link link.phase s) Ignored parts i.link i.there
+          (ignores i.link i.link.phase (λ f. other (is ∙ ap (option_map (λ (l : Link). l.phase)) e ∙ ap Some (sym i.phase_is ∙ f))))
 
 -- The same, of links that were read.
 pub phase_in : (links read : List Link) (n : ℕ) (phase : Phase) (told : Option Phase) → read ≡ links → told ≡ option_map (λ (l : Link). l.phase) (slice_get read n) → told ≡ Some phase → IsHere links n phase

@@ -197,13 +197,9 @@ fn answer(parts: &mut Parts, number: u8, reached: Reached) -> Took
     ensures stands { (s : State) → Agrees (kept_of parts.old) s → Obeys (at_link number s (λ link.
         answered reached number link link.phase s) (slice_get s.links number)) result parts.new }
 {
-    match phase_of(&parts.links, number) {
-        Some(Phase::Down) => {
-            settle(parts, number, reached);
-            Took::Order
-        }
-        Some(Phase::Up) => Took::Ignored,
-        Some(Phase::Settled) => Took::Ignored,
-        None => Took::Ignored,
+    if phase_of(&parts.links, number) != Some(Phase::Down) {
+        return Took::Ignored;
     }
+    settle(parts, number, reached);
+    Took::Order
 }
