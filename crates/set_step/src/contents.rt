@@ -5,9 +5,10 @@ ghost use Rattle.set_moves.specs.Parts.{link_of};
 
 use super::fault::SetFault;
 use super::step::{carry_out, is_asked};
+use l2_window::number_after;
 use set_events::{Answer, Counts, Event, Fate, SetConfig};
 use set_model::{Numbered, Phase};
-use set_moves::{Link, Parts};
+use set_moves::{Link, Parts, phase_of};
 use set_queues::{Bodies, Queues};
 use set_route::Routes;
 use std::alloc::{AllocError, Global};
@@ -103,20 +104,14 @@ impl Core {
     pub fn is_up(&self, link: u8) -> bool
         ensures { (s : State) → StandsFor self.now s → result ≡ is_up_in link s }
     {
-        match self.parts.links.get(usize::from(link)) {
-            Some(link) => link.phase == Phase::Up,
-            None => false,
-        }
+        phase_of(&self.parts.links, link) == Some(Phase::Up)
     }
 
     /// Whether this link of the set is settled, as one is that never was up.
     pub fn is_settled(&self, link: u8) -> bool
         ensures { (s : State) → StandsFor self.now s → result ≡ is_settled_in link s }
     {
-        match self.parts.links.get(usize::from(link)) {
-            Some(link) => link.phase == Phase::Settled,
-            None => false,
-        }
+        phase_of(&self.parts.links, link) == Some(Phase::Settled)
     }
 
     /// Where the message of this number stands; none has it: `None`.
@@ -145,15 +140,10 @@ impl Core {
             return None;
         }
         let sent = Fate::Unacked { link };
-        let Some(number) = self.parts.queues.number_at(sent, usize::from(place)) else {
-            return None;
-        };
+        let number = self.parts.queues.number_at(sent, usize::from(place))?;
         let last = self.parts.queues.window(link).last();
-        let fsn = (u16::from(last) + 1 + u16::from(place)) % 128;
-        Some(Numbered {
-            number,
-            fsn: fsn as u8,
-        })
+        let fsn = number_after(last, usize::from(place) + 1);
+        Some(Numbered { number, fsn })
     }
 }
 
