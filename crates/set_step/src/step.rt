@@ -292,6 +292,7 @@ pub(crate) fn is_asked(event: &Event)
     ensures { IsAsked event.now }
 {
     if let Event::Offer { body } = event {
+        // a stream is below 16
         stream_of_body(body.octets());
     }
 }
