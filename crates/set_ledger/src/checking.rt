@@ -1,7 +1,7 @@
 //! Whether all seats of a set are there, and whether their receipts are its history.
 ghost use Rattle.std.specs.Prelude.{◌≡◌, ◌∷◌, ◌↔◌, IsTrue, All, filter};
 ghost use Rattle.set_events.specs.declared.event.Actor.TheVariants.{User, Terminal};
-ghost use Rattle.set_ledger.specs.Ending.{is_actor, has_seat, are_seats, is_by, IsFaithful};
+ghost use Rattle.set_ledger.specs.Ending.{has_seat, are_seats, is_by, IsFaithful};
 
 use super::seat::{Seat, TermSeat, UserSeat};
 use set_events::Actor;
@@ -50,7 +50,7 @@ fn has_seat_of<C: Ledger, M: Ledger, O: Ledger, A: Ledger, S: Seat<C, M, O, A>>(
     ensures { result ≡ has_seat S.state who seats.now }
 {
     for seat in seats {
-        if is_same_actor(who, seat.actor()) {
+        if who.same(seat.actor()) {
             return true;
         }
     }
@@ -79,7 +79,7 @@ fn is_faithful(history: Reader<'_>, who: Actor, receipts: Reader<'_>) -> bool
     let mut left = history;
     let mut own = receipts;
     while let Some(entry) = left.next() {
-        if is_same_actor(who, entry.who()) && !is_next(&mut own, &entry) {
+        if who.same(entry.who()) && !is_next(&mut own, &entry) {
             return false;
         }
     }
@@ -94,16 +94,5 @@ fn is_next(receipts: &mut Reader<'_>, entry: &Told<'_>) -> bool
     match receipts.next() {
         Some(receipt) => receipt.same(entry),
         None => false,
-    }
-}
-
-/// Whether both are the same user or the same terminal.
-fn is_same_actor(who: Actor, other: Actor) -> bool
-    ensures { result ≡ is_actor who other }
-{
-    match (who, other) {
-        (Actor::User(number), Actor::User(another)) => another == number,
-        (Actor::Terminal(link), Actor::Terminal(another)) => another == link,
-        _ => false,
     }
 }
