@@ -15,7 +15,7 @@ use std::sync::ledger::{Book, Ledger, Share};
 use thiserror::Error;
 
 /// The most users of a set.
-const MOST_USERS: u16 = 64;
+pub const MOST_USERS: u16 = 64;
 
 /// A set with the books of its ledgers. Contracts see how many users and links have a seat, and the set.
 ///

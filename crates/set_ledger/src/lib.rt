@@ -28,7 +28,7 @@ mod seat;
 mod share;
 
 pub use ending::{Back, Closed, EndFault};
-pub use held::{CreateFault, Held, Opened};
+pub use held::{CreateFault, Held, MOST_USERS, Opened};
 pub use seat::{Seat, TermSeat, UserSeat, step_in};
 pub use set_core::{SetCore, SetFault};
 pub use share::{Blanks, SeatShare};
