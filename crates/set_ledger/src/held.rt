@@ -112,17 +112,8 @@ impl<C: Ledger, M: Ledger, O: Ledger, A: Ledger> Held<C, M, O, A> {
         if users == 0 || users > MOST_USERS {
             return Err(CreateFault::Users);
         }
-        match room_for(alloc, config, users) {
-            Ok((core, user_seats, term_seats)) => Ok(with_seats(
-                core,
-                users,
-                config.links,
-                blanks,
-                user_seats,
-                term_seats,
-            )),
-            Err(fault) => Err(CreateFault::from(fault)),
-        }
+        let (core, user_seats, term_seats) = room_for(alloc, config, users)?;
+        Ok(with_seats(core, users, config.links, blanks, user_seats, term_seats))
     }
 
     /// The set.

@@ -3,17 +3,17 @@ use Rattle.set_model.specs.History.{LinkSet}
 use Rattle.set_ledger.proofs.Closing.{in_range, few_users}
 use Rattle.set_ledger.proofs.held.Held.open.Goals as goal
 
-pub returns-in-Ok-clause-held : goal.returns-in-Ok-clause-held
-returns-in-Ok-clause-held g c = c.with_seats.ensures.held ∙ ap (λ (set : LinkSet). record { users = c.args.users; links = c.args.config.now.links; set = set }) c.in-Ok.ensures.core
+pub returns-clause-held : goal.returns-clause-held
+returns-clause-held g c = c.with_seats.ensures.held ∙ ap (λ (set : LinkSet). record { users = c.args.users; links = c.args.config.now.links; set = set }) c.in_ok-core.ensures.core
 
-pub returns-in-Ok-clause-range : goal.returns-in-Ok-clause-range
-returns-in-Ok-clause-range g c = ((λ e. absurd cc), (λ outside. absurd (in_range c.args.users c.if-users-eq0.false c.if-users-gt-MOST_USERS.false outside)))
+pub returns-clause-range : goal.returns-clause-range
+returns-clause-range g c = ((λ e. absurd cc), (λ outside. absurd (in_range c.args.users c.if-users-eq0.false c.if-users-gt-MOST_USERS.false outside)))
 
-pub returns-in-Err-clause-range : goal.returns-in-Err-clause-range
-returns-in-Err-clause-range g c = ((λ e. absurd (let is = c.from.ensures in cc)), (λ outside. absurd (in_range c.args.users c.if-users-eq0.false c.if-users-gt-MOST_USERS.false outside)))
+pub returns-in_err-core-clause-range : goal.returns-in_err-core-clause-range
+returns-in_err-core-clause-range g c = ((λ e. let told = c.from_residual.ensures.1 in let is = (rw e at told) in absurd cc), (λ outside. absurd (in_range c.args.users c.if-users-eq0.false c.if-users-gt-MOST_USERS.false outside)))
 
 pub with_seats-requires-clause-new : goal.with_seats-requires-clause-new
-with_seats-requires-clause-new g c = rw c.in-Ok.ensures.core (search rules)
+with_seats-requires-clause-new g c = rw c.in_ok-core.ensures.core (search rules)
 
 pub with_seats-requires-clause-calls : goal.with_seats-requires-clause-calls
 with_seats-requires-clause-calls g c = c.requires.calls (few_users c.args.users c.if-users-eq0.false c.if-users-gt-MOST_USERS.false)
