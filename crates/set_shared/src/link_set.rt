@@ -109,7 +109,8 @@ impl<C: Ledger, M: Ledger, O: Ledger, A: Ledger> LinkSet<C, M, O, A> {
         ensures receipt { IfOk result (λ answer. Receives seat.old (Offer octets.now) answer seat.new) }
         ensures err { OnErr result (seat.new ≡ seat.old) }
     {
-        let _ = seat.number();
+        // a user's number is below 64
+        seat.number();
         let body = Body::from_slice(self.alloc, octets)?;
         step_in(&mut *self.held.lock(rt), seat, &Event::Offer { body })
     }
@@ -121,7 +122,8 @@ impl<C: Ledger, M: Ledger, O: Ledger, A: Ledger> LinkSet<C, M, O, A> {
         ensures receipt { IfOk result (λ answer. Receives seat.old Take answer seat.new) }
         ensures err { OnErr result (seat.new ≡ seat.old) }
     {
-        let _ = seat.number();
+        // a user's number is below 64
+        seat.number();
         step_in(&mut *self.held.lock(rt), seat, &Event::Take)
     }
 
@@ -137,7 +139,8 @@ impl<C: Ledger, M: Ledger, O: Ledger, A: Ledger> LinkSet<C, M, O, A> {
         ensures receipt { IfOk result (λ answer. Receives seat.old (Find number) answer seat.new) }
         ensures err { OnErr result (seat.new ≡ seat.old) }
     {
-        let _ = seat.number();
+        // a user's number is below 64
+        seat.number();
         step_in(&mut *self.held.lock(rt), seat, &Event::Find { number })
     }
 
@@ -197,11 +200,9 @@ impl<C: Ledger, M: Ledger, O: Ledger, A: Ledger> LinkSet<C, M, O, A> {
             → AreFaithful held.set.history users.items terminals.items → ⊥)) }
     {
         let held = self.held.into_inner();
-        let _ = held.users();
-        let _ = held.links();
-        match held.end(users, terminals) {
-            Ok(closed) => Ok(closed),
-            Err(fault) => Err(fault),
-        }
+        // it has as many seats as this set tells
+        held.users();
+        held.links();
+        held.end(users, terminals)
     }
 }
