@@ -47,7 +47,7 @@ impl Line {
     }
 
     /// Takes the unit at this place out of the line, if there is one.
-    pub(crate) fn taken_out(&mut self, place: u64) -> Option<Unit>
+    pub(crate) fn take_out(&mut self, place: u64) -> Option<Unit>
         ensures { IsTakenFrom result self.old place self.new }
     {
         if place < self.units.len() as u64 {

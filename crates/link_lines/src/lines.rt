@@ -59,11 +59,11 @@ impl Lines {
     /// Takes the unit at this place, from 0, out of the line of this link, if there is one.
     ///
     /// Condition: there is such a link.
-    pub fn taken_out(&mut self, link: u8, place: u64) -> Option<Unit>
+    pub fn take_out(&mut self, link: u8, place: u64) -> Option<Unit>
         requires { link < length self.old }
         ensures { IsTakenOut result link place self.old self.new }
     {
-        self.lines[link as usize].taken_out(place)
+        self.lines[link as usize].take_out(place)
     }
 
     /// Nothing is under way on this link any more.

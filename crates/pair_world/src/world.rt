@@ -361,8 +361,8 @@ impl World {
         ensures { IsTakenFrom result self.old end link place self.new }
     {
         match end {
-            End::A => self.to_a.taken_out(link, place),
-            End::B => self.to_b.taken_out(link, place),
+            End::A => self.to_a.take_out(link, place),
+            End::B => self.to_b.take_out(link, place),
         }
     }
 

@@ -45,13 +45,13 @@ fn the_lines_of_two_links(rt: HostRuntime) -> Result<(), Fail> {
     let between = is_joined(&mut lines, 1, 5);
     let newest = is_joined(&mut lines, 1, 6);
     let joined = other_link && oldest && between && newest;
-    let second = fsn_of(lines.taken_out(1, 1));
-    let third = fsn_of(lines.taken_out(1, 2));
-    let first = fsn_of(lines.taken_out(1, 0));
+    let second = fsn_of(lines.take_out(1, 1));
+    let third = fsn_of(lines.take_out(1, 2));
+    let first = fsn_of(lines.take_out(1, 0));
     lines.clear(1);
-    let cleared = lines.taken_out(1, 0).is_none();
-    let other = fsn_of(lines.taken_out(0, 0));
-    let last = lines.taken_out(0, 0).is_none();
+    let cleared = lines.take_out(1, 0).is_none();
+    let other = fsn_of(lines.take_out(0, 0));
+    let last = lines.take_out(0, 0).is_none();
     let left = cleared && last && other == Some(3);
     holds(joined && left && [second, third, first] == [Some(5), None, Some(4)])
 }
