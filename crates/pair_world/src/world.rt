@@ -5,7 +5,6 @@ ghost use Rattle.set_model.specs.State.{link_count};
 ghost use Rattle.set_step.specs.declared.fault.SetFault.TheVariants.{NoMemory};
 ghost use Rattle.pair_model.specs.World.{actor_of, has_own_step};
 ghost use Rattle.pair_model.specs.Promises.{AreSteps, IsAskedStep};
-ghost use Rattle.set_model.specs.Rows.{stream_of};
 ghost use Rattle.pair_world.specs.Carried.{Applies, IsAnAnswer};
 ghost use Rattle.pair_streams.specs.Arrived.{AreDone};
 
@@ -13,7 +12,8 @@ use super::fault::PlayFault;
 use l2_units::{Unit, copy_of_unit};
 use link_lines::Lines;
 use set_core::{SetCore, SetFault};
-use set_events::{Actor, Answer, Body, Counts, Event, SetConfig};
+use set_events::{Actor, Answer, Counts, Event, SetConfig};
+use set_step::is_asked;
 use std::alloc::Global;
 use std::marker::Model;
 use world_steps::{End, Shown, Step};
@@ -416,26 +416,11 @@ fn takes_own_step(event: &Event) -> bool
 }
 
 /// A law: the octets of a label tell one of 16 streams.
-fn is_asked(step: &Step)
+fn is_asked_step(step: &Step)
     ensures { IsAskedStep step.now }
 {
-    if let Step::Act {
-        event: Event::Offer { body },
-        ..
-    } = step
-    {
-        stream_of_body(body);
-    }
-}
-
-/// The stream of a body: the high four bits of its fifth octet, 0 where there is none.
-fn stream_of_body(body: &Body) -> u8
-    ensures value { result ≡ stream_of body.now }
-    ensures few { result < 16 }
-{
-    match body.octets().get(4) {
-        Some(octet) => *octet / 16,
-        None => 0,
+    if let Step::Act { event, .. } = step {
+        is_asked(event);
     }
 }
 
@@ -444,7 +429,7 @@ fn are_asked(steps: &[Step])
     ensures { AreSteps IsAskedStep steps.now }
 {
     for step in steps {
-        is_asked(step);
+        is_asked_step(step);
     }
 }
 

@@ -30,3 +30,4 @@ mod step;
 pub use contents::Core;
 pub use fault::SetFault;
 pub use set_model::Numbered;
+pub use step::is_asked;

@@ -288,7 +288,7 @@ fn out_of_rising(links: &[Link], number: u8) -> Option<Refusal>
 }
 
 /// A law: the octets of a label tell one of 16 streams.
-pub(crate) fn is_asked(event: &Event)
+pub fn is_asked(event: &Event)
     ensures { IsAsked event.now }
 {
     if let Event::Offer { body } = event {
