@@ -98,17 +98,44 @@ fn actors_differ_by_their_kind() -> Result<(), Fail> {
 
 #[test]
 fn refusals_have_the_numbers_that_are_printed() -> Result<(), Fail> {
-    holds(
-        Refusal::TooShort.number() == 1
-            && Refusal::Unsettled.number() == 7
-            && Refusal::Nothing.number() == 9
-            && Refusal::NoSuchLink.number() == 10
-            && DiscardCause::Emergency.number() == 1
-            && DiscardCause::Unreasonable.number() == 2
-            && DiscardCause::NoAnswer.number() == 3
-            && ControlFault::Bsn.number() == 2
-            && ConfigFault::Cyclic.number() == 4,
-    )
+    let of_offers = [
+        Refusal::TooShort.number(),
+        Refusal::TooLong.number(),
+        Refusal::Reserved.number(),
+        Refusal::StreamFull.number(),
+    ];
+    let of_links = [
+        Refusal::NotUp.number(),
+        Refusal::NotDown.number(),
+        Refusal::Unsettled.number(),
+    ];
+    let of_others = [
+        Refusal::UnknownNumber.number(),
+        Refusal::Nothing.number(),
+        Refusal::NoSuchLink.number(),
+    ];
+    holds(of_offers == [1, 2, 3, 4] && of_links == [5, 6, 7] && of_others == [8, 9, 10])
+}
+
+#[test]
+fn causes_have_the_numbers_that_are_printed() -> Result<(), Fail> {
+    let causes = [
+        DiscardCause::Emergency.number(),
+        DiscardCause::Unreasonable.number(),
+        DiscardCause::NoAnswer.number(),
+    ];
+    holds(causes == [1, 2, 3] && ControlFault::Bsn.number() == 2)
+}
+
+#[test]
+fn faults_of_a_configuration_have_the_numbers_that_are_printed() -> Result<(), Fail> {
+    let faults = [
+        ConfigFault::Links.number(),
+        ConfigFault::PointCode.number(),
+        ConfigFault::Sio.number(),
+        ConfigFault::Cyclic.number(),
+    ];
+    holds(faults == [1, 2, 3, 4])
 }
 
 #[test]

@@ -38,7 +38,7 @@ fn is_joined(lines: &mut Lines, link: u8, fsn: u8) -> bool
 }
 
 #[test]
-fn the_lines_of_two_links(rt: HostRuntime) -> Result<(), Fail> {
+fn a_unit_is_taken_from_its_place_on_its_own_link(rt: HostRuntime) -> Result<(), Fail> {
     let mut lines = Lines::new(rt.alloc(), 2)?;
     let other_link = is_joined(&mut lines, 0, 3);
     let oldest = is_joined(&mut lines, 1, 4);

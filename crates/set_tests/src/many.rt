@@ -12,9 +12,7 @@ const STREAM: u8 = 3;
 
 /// A body of a message of this stream.
 fn body_of(stream: u8) -> ArrayVec<u8, LONGEST_BODY> {
-    let mut body = ArrayVec::new();
-    let _ = body.try_extend_from_slice(&message_of(stream));
-    body
+    l2_units::body_of(&message_of(stream))
 }
 
 /// The link sends a message of this stream under this FSN, and acknowledges nothing.

@@ -132,7 +132,7 @@ fn are_of_one_message(books: &Books) -> bool {
         && books.term_calls[0] == 4
 }
 
-/// Whether a set by this method could have these entries as its history. No answer: they weren't audited.
+/// Whether a set of [`config`] could have these entries as its history. No answer: they weren't audited.
 fn is_legal(alloc: Global, entries: &[Entry]) -> Option<bool> {
     match audit(alloc, &config()?, entries) {
         Ok(is_legal) => Some(is_legal),
