@@ -56,10 +56,6 @@ total_few : (n : ℕ) (xs : List ℕ) → ((m : ℕ) → occurs m xs ≤ 1) → 
 total_few zero xs h = omega arith
 total_few (suc n) xs h = omega (arith, total_few n xs h, h n)
 
-total_none : (n : ℕ) → total n [] ≡ 0
-total_none zero = refl
-total_none (suc n) = omega (arith, total_none n)
-
 total_cons : (n x : ℕ) (xs : List ℕ) → total n (x ∷ xs) ≡ total n (x ∷ []) + total n xs
 total_cons zero x xs = omega arith
 total_cons (suc n) x xs = omega (arith, total_cons n x xs)

@@ -6,27 +6,12 @@ use Rattle.std.proofs.lemmas.Bool.{eqb-true, eq-eqb, ne_eqb, cases_eq}
 use Rattle.std.proofs.lemmas.Option.{slice_get_within}
 use Rattle.set_events.specs.declared.answer.Fate.{Fate}
 use Rattle.set_events.specs.declared.answer.Fate.TheVariants.{Waiting, Unacked, Acked, Held, Parked, Back, Discarded}
-use Rattle.set_events.specs.declared.answer.DiscardCause.{DiscardCause}
-use Rattle.set_events.specs.declared.answer.DiscardCause.TheVariants.{Emergency, Unreasonable, NoAnswer}
 use Rattle.set_queues.specs.declared.message.Message.{Message}
 use Rattle.set_queues.specs.Counts.{one_if}
 use Rattle.set_queues.specs.Messages.{with_fate, restood_one, restood, fate_at}
-use Rattle.set_queues.specs.Buffers.{Lists, is_standing, same_fate, same_cause, queue_at}
+use Rattle.set_queues.specs.Buffers.{Lists, is_standing, same_fate, queue_at}
 use Rattle.set_queues.specs.Queues.{occurs, has_fate, stands, AreTied, AreGiven}
 use Rattle.set_queues.proofs.Updates.{length-updated, updated_same, updated_other}
-
--- fates
-
-same_cause_is : (c d : DiscardCause) → same_cause c d ≡ true → c ≡ d
-same_cause_is Emergency Emergency e = refl
-same_cause_is Emergency Unreasonable e = absurd (cc)
-same_cause_is Emergency NoAnswer e = absurd (cc)
-same_cause_is Unreasonable Emergency e = absurd (cc)
-same_cause_is Unreasonable Unreasonable e = refl
-same_cause_is Unreasonable NoAnswer e = absurd (cc)
-same_cause_is NoAnswer Emergency e = absurd (cc)
-same_cause_is NoAnswer Unreasonable e = absurd (cc)
-same_cause_is NoAnswer NoAnswer e = refl
 
 -- of a fate that isn't final
 pub same_is : (f g : Fate) → is_standing g ≡ true → same_fate f g ≡ true → f ≡ g

@@ -32,11 +32,6 @@ module _ {X : Type 0} where
   pub updated_there : (f : X → X) (xs : List X) (n : ℕ) (x : X) → slice_get xs n ≡ Some x → slice_get (updated n f xs) n ≡ Some (f x)
   updated_there f xs n x e = updated_same f xs n ∙ ap (option_map f) e
 
-  set_is_updated : (xs : List X) (n : ℕ) (x : X) → slice_set xs n x ≡ updated n (λ (y : X). x) xs
-  set_is_updated [] n x = refl
-  set_is_updated (y ∷ xs) zero x = refl
-  set_is_updated (y ∷ xs) (suc n) x = ap (λ (zs : List X). y ∷ zs) (set_is_updated xs n x)
-
 module _ {X Y : Type 0} where
   -- a changed element is seen as a changed view
   pub map_set_updated : (v : X → Y) (f : Y → Y) (xs : List X) (n : ℕ) (x y : X) → slice_get xs n ≡ Some x → v y ≡ f (v x) → map v (slice_set xs n y) ≡ updated n f (map v xs)
