@@ -100,7 +100,8 @@ pub enum Refusal {
     /// 8: no message has this number.
     UnknownNumber,
     /// 9: there is nothing to take, or nothing to do: a link status signal unit was heard while the
-    /// link is up.
+    /// link is up, the link waits for no answer (it wasn't left, or has settled), no stream can be
+    /// asked back to it, or no changeback code of it is in use.
     Nothing,
     /// 10: the set has no such link.
     NoSuchLink,
