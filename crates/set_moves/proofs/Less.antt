@@ -4,7 +4,7 @@ use Rattle.std.proofs.lemmas.Bool.{eqb-true}
 use Rattle.std.proofs.lemmas.List.{length-drop}
 use Rattle.set_events.specs.declared.answer.Fate.{Fate}
 use Rattle.set_events.specs.declared.answer.Fate.TheVariants.{Waiting, Unacked, Acked, Held, Parked, Back, Discarded}
-use Rattle.set_queues.specs.Buffers.{Lists, Rooms, KeepsRoom, is_standing, same_fate, queue_at, with_queue, IsKnown}
+use Rattle.set_queues.specs.Buffers.{Lists, is_standing, same_fate, queue_at, with_queue, IsKnown}
 use Rattle.set_queues.specs.Sending.{acknowledged, reach}
 use Rattle.set_queues.specs.Settling.{on}
 use Rattle.set_queues.proofs.Passing.{queue_set}
@@ -45,6 +45,3 @@ less_then a b c p r f = let x = p f in let y = r f in omega (arith, x, y)
 -- so does what stands on a link
 pub on_less : (n : ℕ) (q q' : Lists) → NoLonger q q' → length (on n q') ≤ length (on n q)
 on_less n q q' less = let u = less (Unacked n) in let w = less (Waiting n) in let h = less (Held n) in omega (arith, u, w, h, on_length n q, on_length n q')
-
-pub room_then : (a b c : Rooms) → KeepsRoom a b → KeepsRoom b c → KeepsRoom a c
-room_then a b c p r f = let x = p f in let y = r f in omega (arith, x, y)

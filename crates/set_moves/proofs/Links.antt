@@ -8,7 +8,6 @@ use Rattle.std.proofs.lemmas.List.{length-map}
 use Rattle.set_moves.specs.declared.parts.Parts.{Parts}
 use Rattle.set_moves.specs.Agreement.{Kept, StandsFor}
 use Rattle.set_model.specs.State.{LinkState, State, link_count}
-use Rattle.set_moves.proofs.Admitting.{none_map}
 use Rattle.set_model.proofs.Lists.{here, map_at, map_set, map_set_same}
 
 -- the link that an index of this number read
@@ -43,10 +42,3 @@ read_some links n i (Some y) x h e f =
     let low : i < length links = h.3.0 in
     let is : y.now ≡ slice_index_or links i y.now = h.1 in
     ap (slice_get links) (sym e) ∙ slice_get_read links (length links) i y.now refl low is ∙ ap (λ (z : Bor Link). Some z.now) (same_Some y x f)
-
--- and what the state has there
-pub state_none : (parts : Parts) (s : State) (n : ℕ) → StandsFor (kept_of parts) s → slice_get parts.links.items n ≡ None → slice_get s.links n ≡ None
-state_none parts s n st e = sym (ap (λ (ls : List LinkState). slice_get ls n) st.links) ∙ none_map parts.links.items n e
-
-pub state_some : (parts : Parts) (s : State) (n : ℕ) (link : Link) → StandsFor (kept_of parts) s → slice_get parts.links.items n ≡ Some link → slice_get s.links n ≡ Some (link_of link)
-state_some parts s n link st e = sym (ap (λ (ls : List LinkState). slice_get ls n) st.links) ∙ map_at link_of parts.links.items n link e

@@ -1,17 +1,15 @@
 -- CODES ARE GIVEN BACK one after another.
-use Rattle.std.proofs.Common.{refl, arith, ◌≡◌, ◌∙◌, ap, sym, subst, ◌<◌, ◌≤◌, ℕ, zero, suc, ◌+◌, ◌*◌, Bool, true, false, length, slice_get, None}
-use Rattle.std.proofs.lemmas.Option.{slice_get_past}
-use Rattle.std.proofs.lemmas.List.{length-map}
+use Rattle.std.proofs.Common.{refl, arith, ◌≡◌, ◌∙◌, ap, sym, subst, ◌<◌, ℕ, zero, suc, ◌+◌, ◌*◌, Bool, true, false, length}
 use Rattle.set_events.specs.declared.answer.Answer.TheVariants.{Refused, Done}
-use Rattle.set_events.specs.declared.answer.Refusal.TheVariants.{Nothing, NoSuchLink}
+use Rattle.set_events.specs.declared.answer.Refusal.TheVariants.{Nothing}
 use Rattle.set_route.specs.Routing.{code_for, code_of, is_free}
 use Rattle.set_model.specs.Changeover.{released, released_from, some_in_use}
-use Rattle.set_model.specs.State.{LinkState, State}
-use Rattle.set_model.specs.Step.{Outcome, on_link, runs_out}
+use Rattle.set_model.specs.State.{State}
+use Rattle.set_model.specs.Step.{on_link, runs_out}
 use Rattle.set_model.proofs.Lists.{present}
 use Rattle.set_moves.specs.declared.parts.Parts.{Parts}
 use Rattle.set_moves.specs.Agreement.{StandsFor, Agrees}
-use Rattle.set_moves.specs.Parts.{Gives, kept_of, link_of}
+use Rattle.set_moves.specs.Parts.{Gives, kept_of}
 use Rattle.set_moves.proofs.Admitting.{is_in, on_it}
 
 -- one more
@@ -54,14 +52,8 @@ at_first n = omega arith
 first_of : (n : ℕ) (s : State) (b : Bool) → some_in_use (16 * n) 16 s ≡ b → some_in_use (code_for n 0) 16 s ≡ b
 first_of n s b e = ap (λ (k : ℕ). some_in_use k 16 s) (at_first n) ∙ e
 
--- what is answered where no link, or no code in use, is there
+-- what is answered where no code is in use
 module _ (parts : Parts) (s : State) (a : Agrees (kept_of parts) s) (n : ℕ) where
-  pub none_such : (outcome : LinkState → Outcome) → length parts.links.items ≤ n → Gives (on_link n s outcome) (Refused NoSuchLink) parts
-  none_such outcome past =
-      let many : length s.links ≡ length parts.links.items = sym (ap length a.stands.links) ∙ length-map parts.links.items link_of in
-      let none : slice_get s.links n ≡ None = slice_get_past s.links n (omega (arith, many, past)) in
-      rw none (record { answer_is = refl; stands = a.stands })
-
   pub none_used : n < length parts.links.items → some_in_use (16 * n) 16 s ≡ false → Gives (on_link n s (λ link. runs_out n s)) (Refused Nothing) parts
   none_used known e =
       let x = present parts.links.items n known in

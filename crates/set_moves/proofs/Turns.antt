@@ -8,7 +8,6 @@ use Rattle.set_events.specs.declared.answer.Fate.TheVariants.{Waiting, Unacked, 
 use Rattle.set_queues.specs.Backs.{passed_first, IsOldest}
 use Rattle.set_queues.specs.Buffers.{Lists, is_standing, same_fate, queue_at, with_queue, last_at}
 use Rattle.set_queues.specs.Messages.{restood}
-use Rattle.set_queues.proofs.Passing.{queued_stands}
 use Rattle.set_queues.proofs.Standing.{length-restood, same_is}
 use Rattle.set_route.specs.declared.place.Place.{Place}
 use Rattle.set_route.specs.declared.place.Place.TheVariants.{On, Changing, Nowhere}
@@ -60,9 +59,6 @@ module _ (home code : ℕ) (to : Fate) (k : Kept) (s : State) (f : StandsFor k s
 
   back_to : same_fate (Back code) to ≡ false
   back_to = either (λ f. same_fate (Back code) f ≡ false) to on.0 on.2 refl refl
-
-  is_standing_to : is_standing to ≡ true
-  is_standing_to = queued_stands to goes.queued
 
   queues : (g : Fate) → queue_at g then ≡ numbers (rows_at g after)
   queues g = queue_then code o.number to k.lists goes g ∙ go (cases_Bool (is_standing g))

@@ -16,7 +16,7 @@ use Rattle.set_moves.specs.declared.parts.Parts.{Parts}
 use Rattle.set_moves.specs.Parts.{IsWhole, kept_of}
 use Rattle.set_moves.specs.Turning.{IsTurning, CanTurn, TurnedSoFar, TakesTurns}
 use Rattle.set_moves.proofs.Oldest.{passes, back_of, back_home}
-use Rattle.set_moves.proofs.TurnedQueues.{turns_none, turns_then, turns_within, some_back}
+use Rattle.set_moves.proofs.TurnedQueues.{turns_then, some_back}
 
 -- SO MANY TURNED BACK
 pub none_turned : (home : ℕ) (s : State) (k : Kept) → StandsFor k s → IsTurning home s → TurnedSoFar home 0 s k
@@ -74,16 +74,6 @@ pub record Turning (home i : ℕ) (old now : Parts) : Type 0 where
   pub turns : TakesTurns i old.queues now.queues
   pub fewer : back_from (16 * home) 16 now.queues.lists + i ≡ back_from (16 * home) 16 old.queues.lists
 
-pub turning_none : (home : ℕ) (old : Parts) → IsWhole old → Turning home 0 old old
-turning_none home old whole = record {
-  whole = whole;
-  links = refl;
-  bodies = refl;
-  so_far = λ s f t. none_turned home s (kept_of old) f t;
-  turns = turns_none old.queues;
-  fewer = omega arith;
-}
-
 module _ (home i : ℕ) (old now : Parts) (g : Turning home i old now) where
   pub can_turn : CanTurn home (kept_of old) → CanTurn home (kept_of now)
   can_turn can = let so = g.so_far can.0 can.1 can.2 in (so.0, so.1, so.2.turning)
@@ -120,9 +110,6 @@ module _ (home i : ℕ) (old now : Parts) (g : Turning home i old now) where
   turned_each many s f t =
       let so = g.so_far s f t in
       all_turned home i s (kept_of now) so (all_left home i s (kept_of now) so (sym f.stands.count ∙ many))
-
-  pub turns_all : TakesTurns (back_from (16 * home) 16 old.queues.lists) old.queues now.queues
-  turns_all = let sum = g.fewer in turns_within i (back_from (16 * home) 16 old.queues.lists) old.queues now.queues (omega (arith, sum)) g.turns
 
 pub none_back : (home : ℕ) (q : Lists) (o : Option ℕ) → o ≡ None → IsOldestOf home o q → NoneBack home q
 none_back home q o e h = subst (λ (z : Option ℕ). IsOldestOf home z q) e h
