@@ -24,21 +24,3 @@ stand_last-requires-clause-fits c = rw c.as_slice.ensures.value c.body_of-body.e
 
 pub stand_last-requires-clause-known : goal.stand_last-requires-clause-known
 stand_last-requires-clause-known c = omega (arith, c.requires.alternative, c.requires.whole.as_many)
-
-pub stand_last-requires-clause-queued : goal.stand_last-requires-clause-queued
-stand_last-requires-clause-queued c = tt
-
-pub stand_last-requires-clause-room : goal.stand_last-requires-clause-room
-stand_last-requires-clause-room c = c.requires.room
-
-pub returns-clause-rooms : goal.returns-clause-rooms
-returns-clause-rooms c = c.stand_last.ensures.rooms
-
-pub returns-clause-message : goal.returns-clause-message
-returns-clause-message c = c.stand_last.ensures.message
-
-pub returns-clause-body : goal.returns-clause-body
-returns-clause-body c = c.stand_last.ensures.body
-
-pub returns-clause-links : goal.returns-clause-links
-returns-clause-links c = c.stand_last.ensures.links

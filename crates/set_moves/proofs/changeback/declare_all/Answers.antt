@@ -10,12 +10,6 @@ loop-alternative-init c = record {
   room = c.requires.room;
 }
 
-pub declare_if_due-requires-clause-whole : goal.declare_if_due-requires-clause-whole
-declare_if_due-requires-clause-whole c = c.loop-alternative.invariant.whole
-
-pub declare_if_due-requires-clause-room : goal.declare_if_due-requires-clause-room
-declare_if_due-requires-clause-room c = c.loop-alternative.invariant.room
-
 pub loop-alternative-preserved : goal.loop-alternative-preserved
 loop-alternative-preserved c = record {
   stands = becomes_next c.args.home c.loop-alternative.alternative c.args.parts.now c.loop-alternative.parts c.declare_if_due.new.parts c.loop-alternative.invariant.stands c.declare_if_due.ensures.stands;

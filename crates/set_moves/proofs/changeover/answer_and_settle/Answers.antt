@@ -23,9 +23,6 @@ settle-requires-clause-known c =
     let same = ap (λ ls. length ls.items) c.queue.ensures.links in
     omega (arith, low, same)
 
-pub leave-requires-clause-room : goal.leave-requires-clause-room
-leave-requires-clause-room c = c.requires.room.each
-
 pub queue-requires-clause-room : goal.queue-requires-clause-room
 queue-requires-clause-room c =
     let left_by = c.leave.ensures.links c.index.result.now (found c.args.parts.now.links.items c.args.number c.from.result c.index.result.now c.from.ensures c.requires.known c.index.ensures) in

@@ -7,12 +7,6 @@ use Rattle.set_moves.specs.Room.{IsSpaciousFor}
 use Rattle.set_moves.proofs.Obeying.{obeys_it}
 use Rattle.set_moves.proofs.changeover.obey.Goals as goal
 
-pub change_over-requires-clause-holds : goal.change_over-requires-clause-holds
-change_over-requires-clause-holds c = c.requires.holds
-
-pub change_over-requires-clause-counted : goal.change_over-requires-clause-counted
-change_over-requires-clause-counted c = c.requires.counted
-
 pub change_over-requires-clause-reached : goal.change_over-requires-clause-reached
 change_over-requires-clause-reached c = (subst IsOrder c.in-Coo.is c.requires.order).1
 
@@ -22,41 +16,17 @@ change_over-requires-clause-number c = (subst IsOrder c.in-Coo.is c.requires.ord
 pub change_over-requires-clause-room : goal.change_over-requires-clause-room
 change_over-requires-clause-room c = subst (λ (o : Order). IsSpaciousFor o c.args.parts.now) c.in-Coo.is c.requires.room
 
-pub change_over-requires-in-Eco-clause-holds : goal.change_over-requires-in-Eco-clause-holds
-change_over-requires-in-Eco-clause-holds c = c.requires.holds
-
-pub change_over-requires-in-Eco-clause-counted : goal.change_over-requires-in-Eco-clause-counted
-change_over-requires-in-Eco-clause-counted c = c.requires.counted
-
-pub change_over-requires-in-Eco-clause-reached : goal.change_over-requires-in-Eco-clause-reached
-change_over-requires-in-Eco-clause-reached c = tt
-
 pub change_over-requires-in-Eco-clause-number : goal.change_over-requires-in-Eco-clause-number
 change_over-requires-in-Eco-clause-number c = subst IsOrder c.in-Eco.is c.requires.order
 
 pub change_over-requires-in-Eco-clause-room : goal.change_over-requires-in-Eco-clause-room
 change_over-requires-in-Eco-clause-room c = subst (λ (o : Order). IsSpaciousFor o c.args.parts.now) c.in-Eco.is c.requires.room
 
-pub answer-requires-clause-holds : goal.answer-requires-clause-holds
-answer-requires-clause-holds c = c.requires.holds
-
-pub answer-requires-clause-counted : goal.answer-requires-clause-counted
-answer-requires-clause-counted c = c.requires.counted
-
 pub answer-requires-clause-reached : goal.answer-requires-clause-reached
 answer-requires-clause-reached c = (subst IsOrder c.in-Coa.is c.requires.order).1
 
 pub answer-requires-clause-room : goal.answer-requires-clause-room
 answer-requires-clause-room c = subst (λ (o : Order). IsSpaciousFor o c.args.parts.now) c.in-Coa.is c.requires.room
-
-pub answer-requires-in-Eca-clause-holds : goal.answer-requires-in-Eca-clause-holds
-answer-requires-in-Eca-clause-holds c = c.requires.holds
-
-pub answer-requires-in-Eca-clause-counted : goal.answer-requires-in-Eca-clause-counted
-answer-requires-in-Eca-clause-counted c = c.requires.counted
-
-pub answer-requires-in-Eca-clause-reached : goal.answer-requires-in-Eca-clause-reached
-answer-requires-in-Eca-clause-reached c = tt
 
 pub answer-requires-in-Eca-clause-room : goal.answer-requires-in-Eca-clause-room
 answer-requires-in-Eca-clause-room c = subst (λ (o : Order). IsSpaciousFor o c.args.parts.now) c.in-Eca.is c.requires.room
@@ -66,9 +36,6 @@ queue-requires-clause-order c = subst IsOrder c.in-Cbd.is c.requires.order
 
 pub queue-requires-clause-room : goal.queue-requires-clause-room
 queue-requires-clause-room c = subst (λ (o : Order). IsSpaciousFor o c.args.parts.now) c.in-Cbd.is c.requires.room
-
-pub acknowledge_back-requires-clause-holds : goal.acknowledge_back-requires-clause-holds
-acknowledge_back-requires-clause-holds c = c.requires.holds
 
 pub acknowledge_back-requires-clause-room : goal.acknowledge_back-requires-clause-room
 acknowledge_back-requires-clause-room c = subst (λ (o : Order). IsSpaciousFor o c.args.parts.now) c.in-Cba.is c.requires.room

@@ -26,9 +26,3 @@ returns-clause-whole c = record {
 
 pub stand_last-requires-clause-fits : goal.stand_last-requires-clause-fits
 stand_last-requires-clause-fits c = rw c.as_slice.ensures.value c.body_of-body.ensures.fits
-
-pub stand_last-requires-clause-queued : goal.stand_last-requires-clause-queued
-stand_last-requires-clause-queued c = c.fate_on-fate.ensures.queued
-
-pub returns-clause-links : goal.returns-clause-links
-returns-clause-links c = c.stand_last.ensures.links

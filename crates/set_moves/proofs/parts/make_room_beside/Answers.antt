@@ -55,14 +55,8 @@ other_target-requires-clause-few c = rw c.deref.ensures.value c.requires.whole.f
 pub other_target-requires-clause-known : goal.other_target-requires-clause-known
 other_target-requires-clause-known c = rw c.deref.ensures.value c.requires.known
 
-pub returns-in_default-clause-room : goal.returns-in_default-clause-room
-returns-in_default-clause-room c = tt
-
 pub returns-in_default-clause-same : goal.returns-in_default-clause-same
 returns-in_default-clause-same c = record { kept = refl; links = refl; inbox = refl }
-
-pub reserve_all-requires-clause-queued : goal.reserve_all-requires-clause-queued
-reserve_all-requires-clause-queued c = c.fate_on-fate.ensures.queued
 
 pub reserve_all-requires-clause-link : goal.reserve_all-requires-clause-link
 reserve_all-requires-clause-link c = omega (arith, c.requires.known, c.requires.whole.as_many, ap (λ (q : Lists). length q.links) c.reserve_each.ensures.same.0, ap (λ (q : Lists). length q.links) c.reserve-2.ensures.same.0)

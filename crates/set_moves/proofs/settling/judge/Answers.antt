@@ -86,38 +86,8 @@ acknowledge-requires-clause-fsn c = rw c.in-Upto.is at c.requires.reached
 pub index_mut-requires : goal.index_mut-requires
 index_mut-requires c = omega (arith, c.from-in-Ok.ensures, c.requires.known, c.args.parts.now.links.ok.0)
 
-pub discard-requires-clause-known : goal.discard-requires-clause-known
-discard-requires-clause-known c = c.requires.known
-
-pub discard-requires-in-Unknown-clause-standing : goal.discard-requires-in-Unknown-clause-standing
-discard-requires-in-Unknown-clause-standing c = refl
-
 pub discard-requires-in-Unknown-clause-known : goal.discard-requires-in-Unknown-clause-known
 discard-requires-in-Unknown-clause-known c = omega (arith, c.requires.known, c.requires.whole.as_many)
 
-pub discard-requires-in-Unanswered-clause-whole : goal.discard-requires-in-Unanswered-clause-whole
-discard-requires-in-Unanswered-clause-whole c = c.requires.whole
-
-pub discard-requires-in-Unanswered-clause-known : goal.discard-requires-in-Unanswered-clause-known
-discard-requires-in-Unanswered-clause-known c = c.requires.known
-
-pub returns-in-Err-clause-whole : goal.returns-in-Err-clause-whole
-returns-in-Err-clause-whole c = c.discard.ensures.whole
-
-pub returns-in-Unknown-clause-rooms : goal.returns-in-Unknown-clause-rooms
-returns-in-Unknown-clause-rooms c = c.discard-in-Unknown.ensures.rooms
-
-pub returns-in-Unknown-clause-phases : goal.returns-in-Unknown-clause-phases
-returns-in-Unknown-clause-phases c = refl
-
-pub returns-in-Unanswered-clause-fewer : goal.returns-in-Unanswered-clause-fewer
-returns-in-Unanswered-clause-fewer c = c.discard-in-Unanswered.ensures.fewer
-
-pub returns-in-Unanswered-clause-rooms : goal.returns-in-Unanswered-clause-rooms
-returns-in-Unanswered-clause-rooms c = c.discard-in-Unanswered.ensures.rooms
-
 pub returns-in-Unanswered-clause-phases : goal.returns-in-Unanswered-clause-phases
 returns-in-Unanswered-clause-phases c = rw c.discard-in-Unanswered.ensures.links refl
-
-pub returns-in-Unanswered-clause-whole : goal.returns-in-Unanswered-clause-whole
-returns-in-Unanswered-clause-whole c = c.discard-in-Unanswered.ensures.whole

@@ -18,26 +18,5 @@ pub returns-clause-stands : goal.returns-clause-stands
 returns-clause-stands c =
     turned_each c.args.number c.loop.counter c.args.parts.now c.loop.parts c.loop.invariant (omega (arith, c.len-end.ensures.value, c.loop.auto.counter-end, c.loop-test.false))
 
-pub turn_first-requires-clause-whole : goal.turn_first-requires-clause-whole
-turn_first-requires-clause-whole c = c.loop.invariant.whole
-
 pub turn_first-requires-clause-oldest : goal.turn_first-requires-clause-oldest
 turn_first-requires-clause-oldest c = rw c.in-Some.is at c.oldest_back.ensures
-
-pub returns-in-None-clause-links : goal.returns-in-None-clause-links
-returns-in-None-clause-links c = c.loop.invariant.links
-
-pub returns-in-None-clause-bodies : goal.returns-in-None-clause-bodies
-returns-in-None-clause-bodies c = c.loop.invariant.bodies
-
-pub returns-in-None-clause-whole : goal.returns-in-None-clause-whole
-returns-in-None-clause-whole c = c.loop.invariant.whole
-
-pub returns-clause-links : goal.returns-clause-links
-returns-clause-links c = c.loop.invariant.links
-
-pub returns-clause-bodies : goal.returns-clause-bodies
-returns-clause-bodies c = c.loop.invariant.bodies
-
-pub returns-clause-whole : goal.returns-clause-whole
-returns-clause-whole c = c.loop.invariant.whole
