@@ -83,14 +83,8 @@ control_hears-part-requires c =
       known = (subst (λ links. IsHere links n Up) (sym same) h).known;
     }
 
-pub returns-in-Some-clause-err : goal.returns-in-Some-clause-err
-returns-in-Some-clause-err c = tt
-
 pub returns-in-Some-clause-none : goal.returns-in-Some-clause-none
 returns-in-Some-clause-none c = λ none. refl
-
-pub returns-in-Lssu-clause-err : goal.returns-in-Lssu-clause-err
-returns-in-Lssu-clause-err c = tt
 
 pub returns-in-Lssu-clause-none : goal.returns-in-Lssu-clause-none
 returns-in-Lssu-clause-none c = λ none. refl

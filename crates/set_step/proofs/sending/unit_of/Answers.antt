@@ -39,56 +39,20 @@ returns-in-Fill c = λ s link there a.
     (subst (λ choice. c.go_on-head-in-Fill.result ≡ head_of link.control (fsn_of choice (window_of n link s.rows))) c.in-Fill.is (c.go_on-head-in-Fill.ensures.head s link there a))
     (subst (λ choice. StandsFor (kept_of c.go_on-head-in-Fill.new.parts) (goes_on n choice link s)) c.in-Fill.is (c.go_on-head-in-Fill.ensures.stands s link there a))
 
-pub choice_for-choice-requires-clause-holds : goal.choice_for-choice-requires-clause-holds
-choice_for-choice-requires-clause-holds c = c.requires.holds
-
-pub choice_for-choice-requires-clause-known : goal.choice_for-choice-requires-clause-known
-choice_for-choice-requires-clause-known c = c.requires.known
-
-pub body_at-body-requires-clause-holds : goal.body_at-body-requires-clause-holds
-body_at-body-requires-clause-holds c = c.requires.holds
-
 pub body_at-body-requires-clause-known : goal.body_at-body-requires-clause-known
 body_at-body-requires-clause-known c = let as_many = (whole_of c.args.parts.now c.requires.holds).as_many in let known = c.requires.known in omega (arith, as_many, known)
 
 pub body_at-body-requires-clause-place : goal.body_at-body-requires-clause-place
 body_at-body-requires-clause-place c = rw c.in-Again.is at c.choice_for-choice.ensures.there
 
-pub go_on-head-requires-clause-holds : goal.go_on-head-requires-clause-holds
-go_on-head-requires-clause-holds c = c.requires.holds
-
-pub go_on-head-requires-clause-known : goal.go_on-head-requires-clause-known
-go_on-head-requires-clause-known c = c.requires.known
-
 pub go_on-head-requires-clause-chosen : goal.go_on-head-requires-clause-chosen
 go_on-head-requires-clause-chosen c = rw c.in-Again.is at c.choice_for-choice.ensures.chosen
-
-pub body_at-body-requires-in-First-clause-holds : goal.body_at-body-requires-in-First-clause-holds
-body_at-body-requires-in-First-clause-holds c = c.requires.holds
 
 pub body_at-body-requires-in-First-clause-known : goal.body_at-body-requires-in-First-clause-known
 body_at-body-requires-in-First-clause-known c = let as_many = (whole_of c.args.parts.now c.requires.holds).as_many in let known = c.requires.known in omega (arith, as_many, known)
 
 pub body_at-body-requires-in-First-clause-place : goal.body_at-body-requires-in-First-clause-place
 body_at-body-requires-in-First-clause-place c = let there : IsThere First c.args.number c.args.parts.now.queues.lists = rw c.in-First.is at c.choice_for-choice.ensures.there in there.0
-
-pub go_on-head-requires-in-First-clause-holds : goal.go_on-head-requires-in-First-clause-holds
-go_on-head-requires-in-First-clause-holds c = c.requires.holds
-
-pub go_on-head-requires-in-First-clause-known : goal.go_on-head-requires-in-First-clause-known
-go_on-head-requires-in-First-clause-known c = c.requires.known
-
-pub go_on-head-requires-in-First-clause-chosen : goal.go_on-head-requires-in-First-clause-chosen
-go_on-head-requires-in-First-clause-chosen c = c.choice_for-choice.ensures.chosen
-
-pub go_on-head-requires-in-Fill-clause-holds : goal.go_on-head-requires-in-Fill-clause-holds
-go_on-head-requires-in-Fill-clause-holds c = c.requires.holds
-
-pub go_on-head-requires-in-Fill-clause-known : goal.go_on-head-requires-in-Fill-clause-known
-go_on-head-requires-in-Fill-clause-known c = c.requires.known
-
-pub go_on-head-requires-in-Fill-clause-chosen : goal.go_on-head-requires-in-Fill-clause-chosen
-go_on-head-requires-in-Fill-clause-chosen c = c.choice_for-choice.ensures.chosen
 
 pub send_first-requires-clause-known : goal.send_first-requires-clause-known
 send_first-requires-clause-known c = rw c.go_on-head-in-First.ensures.queues (let as_many = (whole_of c.args.parts.now c.requires.holds).as_many in let known = c.requires.known in omega (arith, as_many, known))

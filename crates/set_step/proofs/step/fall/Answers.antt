@@ -9,9 +9,6 @@ use Rattle.set_step.proofs.step.fall.Goals as goal
 pub order_on_leaving-order-requires-clause-counted : goal.order_on_leaving-order-requires-clause-counted
 order_on_leaving-order-requires-clause-counted c = let few = (c.requires.counted c.args.number _ (found c.args.parts.now.links.items c.args.number c.from.result c.index.result.now c.from.ensures c.requires.known c.index.ensures)).accepted in omega (arith, few)
 
-pub leave-requires-clause-room : goal.leave-requires-clause-room
-leave-requires-clause-room c = c.requires.room.each
-
 pub queue-requires-clause-room : goal.queue-requires-clause-room
 queue-requires-clause-room c =
     let left = c.leave.ensures.links c.index.result.now (found c.args.parts.now.links.items c.args.number c.from.result c.index.result.now c.from.ensures c.requires.known c.index.ensures) in

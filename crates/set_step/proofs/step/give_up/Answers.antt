@@ -31,17 +31,8 @@ returns-clause-ok c = λ s a.
     let i = is_in c.make_room_beside.new.parts s c.args.number Down now (here_same c.args.parts.now c.make_room_beside.new.parts c.args.number Down same h) in
     given_done s c.args.number c.settle.new.parts i (c.settle.ensures.stands s i.link i.there i.phase_is now)
 
-pub returns-in-Some-clause-err : goal.returns-in-Some-clause-err
-returns-in-Some-clause-err c = tt
-
 pub make_room_beside-requires-clause-whole : goal.make_room_beside-requires-clause-whole
 make_room_beside-requires-clause-whole c = whole_of c.args.parts.now c.requires.holds
-
-pub settle-requires-clause-reached : goal.settle-requires-clause-reached
-settle-requires-clause-reached c = tt
-
-pub returns-clause-err : goal.returns-clause-err
-returns-clause-err c = tt
 
 pub settle-requires-clause-whole : goal.settle-requires-clause-whole
 settle-requires-clause-whole c = whole_still c.args.parts.now c.make_room_beside.new.parts c.make_room_beside.ensures.same (whole_of c.args.parts.now c.requires.holds)

@@ -51,26 +51,5 @@ returns-clause-ok c = λ s a.
     (c.accept-number.ensures.number ∙ now.stands.stands.count)
     (c.accept-number.ensures.stands s now.stands)
 
-pub returns-in-Some-clause-err : goal.returns-in-Some-clause-err
-returns-in-Some-clause-err c = tt
-
-pub fate_of_new-fate-requires-clause-stream : goal.fate_of_new-fate-requires-clause-stream
-fate_of_new-fate-requires-clause-stream c = c.stream_of_body.ensures.few
-
-pub make_room-requires-clause-known : goal.make_room-requires-clause-known
-make_room-requires-clause-known c = c.fate_of_new-fate.ensures.known
-
-pub make_room-requires-clause-queued : goal.make_room-requires-clause-queued
-make_room-requires-clause-queued c = c.fate_of_new-fate.ensures.queued
-
 pub accept-number-requires-clause-known : goal.accept-number-requires-clause-known
 accept-number-requires-clause-known c = rw (ap (λ (k : Kept). k.lists) c.make_room.ensures.same.kept) c.fate_of_new-fate.ensures.known
-
-pub accept-number-requires-clause-queued : goal.accept-number-requires-clause-queued
-accept-number-requires-clause-queued c = c.fate_of_new-fate.ensures.queued
-
-pub accept-number-requires-clause-room : goal.accept-number-requires-clause-room
-accept-number-requires-clause-room c = c.in_ok-make_room.ensures.room
-
-pub returns-clause-err : goal.returns-clause-err
-returns-clause-err c = tt

@@ -65,17 +65,5 @@ returns c = record {
 pub reset-requires-clause-known : goal.reset-requires-clause-known
 reset-requires-clause-known c = let as_many = (whole_of c.args.parts.now c.requires.holds).as_many in let known = c.requires.known in omega (arith, as_many, known)
 
-pub divert-requires-clause-standing : goal.divert-requires-clause-standing
-divert-requires-clause-standing c = refl
-
-pub divert-requires-clause-known : goal.divert-requires-clause-known
-divert-requires-clause-known c = tt
-
-pub divert-requires-clause-queued : goal.divert-requires-clause-queued
-divert-requires-clause-queued c = tt
-
-pub divert-requires-clause-apart : goal.divert-requires-clause-apart
-divert-requires-clause-apart c = refl
-
 pub index_mut-requires : goal.index_mut-requires
 index_mut-requires c = omega (arith, c.from.ensures, c.requires.known, c.args.parts.now.links.ok.0)

@@ -34,17 +34,8 @@ returns-clause-ok c = λ s a.
     let i = is_in c.make_room_beside.new.parts s c.args.number Up now (here_same c.args.parts.now c.make_room_beside.new.parts c.args.number Up same h) in
     fallen_done c.args.blind s c.args.number c.fall.new.parts i (c.fall.ensures.stands s i.link i.there now)
 
-pub returns-in-Some-clause-err : goal.returns-in-Some-clause-err
-returns-in-Some-clause-err c = tt
-
 pub make_room_beside-requires-clause-whole : goal.make_room_beside-requires-clause-whole
 make_room_beside-requires-clause-whole c = whole_of c.args.parts.now c.requires.holds
 
 pub fall-requires-clause-counted : goal.fall-requires-clause-counted
 fall-requires-clause-counted c = rw c.make_room_beside.ensures.same.links c.requires.counted
-
-pub fall-requires-clause-room : goal.fall-requires-clause-room
-fall-requires-clause-room c = c.in_ok-make_room_beside.ensures.room
-
-pub returns-clause-err : goal.returns-clause-err
-returns-clause-err c = tt
