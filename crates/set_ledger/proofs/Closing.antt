@@ -1,7 +1,7 @@
 -- What is needed where a set comes to its end.
-use Rattle.std.proofs.Common.{refl, arith, ◌≡◌, ◌∙◌, ap, sym, subst, ◌≤◌, ◌<◌, ◌⊎◌, inl, inr, ◌↔◌, IsTrue, nat_eq, ◌==◌, Bool, true, false, [], ◌∷◌, ◌++◌, length, drop, ℕ, List, ◌+◌, sum_by}
+use Rattle.std.proofs.Common.{refl, arith, ◌≡◌, ◌∙◌, ap, sym, subst, ◌≤◌, ◌<◌, ◌⊎◌, inl, inr, ◌↔◌, IsTrue, ◌==◌, Bool, true, false, [], ◌∷◌, ◌++◌, length, ℕ, List, ◌+◌, sum_by}
 use Rattle.std.proofs.lemmas.Bool.Decides.{nat_tests}
-use Rattle.std.proofs.lemmas.List.{drop_all, length-drop, length-append}
+use Rattle.std.proofs.lemmas.List.{length-append}
 use Rattle.std.proofs.lemmas.List.Sums.{sum_by-append, sum_by-cons}
 use Rattle.std.specs.Prelude.{if◌then◌else◌}
 use Rattle.set_events.specs.declared.answer.Counts.{Counts}
@@ -15,22 +15,6 @@ use Rattle.set_ledger.specs.declared.share.SeatShare.{SeatShare}
 use Rattle.set_ledger.specs.Seats.{SeatState, Returns}
 use Rattle.set_ledger.specs.Ending.{are_seats, is_complete, AreFaithful, IsClosed, IsMerged}
 use Rattle.set_ledger.specs.Totals.{AreTotals}
-
--- nothing is left to be found, so all receipts were found if none of them is left
-pub both_end : (next : ℕ) (receipts found rest : List Entry) → next ≤ length receipts → (receipts ≡ found ↔ drop next receipts ≡ rest) → rest ≡ [] → (IsTrue (nat_eq next (length receipts)) ↔ receipts ≡ found)
-both_end next receipts found rest few way none = (all_found, none_left)
-  where
-    all_found : IsTrue (nat_eq next (length receipts)) → receipts ≡ found
-    all_found t =
-        let same : next ≡ length receipts = grind (arith, nat_tests, t) in
-        way.1 (drop_all next receipts (omega (arith, same)) ∙ sym none)
-
-    none_left : receipts ≡ found → IsTrue (nat_eq next (length receipts))
-    none_left e =
-        let gone : length (drop next receipts) ≡ 0 = ap length (way.0 e ∙ none) in
-        let left = length-drop next receipts in
-        let same : next ≡ length receipts = omega (arith, few, gone, left) in
-        grind (arith, nat_tests, same)
 
 -- a complete set of seats has as many as there are users and links
 as_many : (b rest : Bool) → (if b then rest else false) ≡ true → b ≡ true
