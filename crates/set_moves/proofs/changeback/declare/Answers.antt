@@ -1,4 +1,4 @@
-use Rattle.std.proofs.Common.{◌∙◌, ap, sym, length, ◌++◌, [], ◌∷◌, arith}
+use Rattle.std.proofs.Common.{◌∙◌, ap, sym, length, ◌++◌, [], ◌∷◌}
 use Rattle.set_events.specs.declared.answer.Fate.TheVariants.{Waiting}
 use Rattle.set_queues.specs.Buffers.{Lists, queue_at}
 use Rattle.set_queues.proofs.Passing.{links_stay}
@@ -12,15 +12,3 @@ returns-clause-whole c = record {
   routed = asked_links c.ask.result c.args.home c.args.alternative c.stand_last.new.parts.routes c.ask.new.self c.ask.ensures.change ∙ ap (λ (r : Routing). r.links) c.stand_last.ensures.routes ∙ c.requires.whole.routed ∙ sym (ap (λ ls. length ls.items) c.stand_last.ensures.links);
   few = rw (c.stand_last.ensures.links) c.requires.whole.few;
 }
-
-pub changeback_code-requires-clause-home : goal.changeback_code-requires-clause-home
-changeback_code-requires-clause-home c = omega (arith, c.requires.home, c.requires.whole.few)
-
-pub changeback_code-requires-clause-alternative : goal.changeback_code-requires-clause-alternative
-changeback_code-requires-clause-alternative c = omega (arith, c.requires.alternative, c.requires.whole.few)
-
-pub stand_last-requires-clause-fits : goal.stand_last-requires-clause-fits
-stand_last-requires-clause-fits c = rw c.as_slice.ensures.value c.body_of-body.ensures.fits
-
-pub stand_last-requires-clause-known : goal.stand_last-requires-clause-known
-stand_last-requires-clause-known c = omega (arith, c.requires.alternative, c.requires.whole.as_many)

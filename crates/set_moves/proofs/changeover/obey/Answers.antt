@@ -1,44 +1,8 @@
 use Rattle.set_moves.proofs.Rooms.{whole_of}
-use Rattle.std.proofs.Common.{refl, subst}
-use Rattle.l3_orders.specs.Grammar.{IsOrder}
-use Rattle.l3_orders.specs.declared.order.Order.{Order}
+use Rattle.std.proofs.Common.{refl}
 use Rattle.set_events.specs.declared.answer.Took.TheVariants.{Order as TookOrder}
-use Rattle.set_moves.specs.Room.{IsSpaciousFor}
 use Rattle.set_moves.proofs.Obeying.{obeys_it}
 use Rattle.set_moves.proofs.changeover.obey.Goals as goal
-
-pub change_over-requires-clause-reached : goal.change_over-requires-clause-reached
-change_over-requires-clause-reached c = (subst IsOrder c.in-Coo.is c.requires.order).1
-
-pub change_over-requires-clause-number : goal.change_over-requires-clause-number
-change_over-requires-clause-number c = (subst IsOrder c.in-Coo.is c.requires.order).0
-
-pub change_over-requires-clause-room : goal.change_over-requires-clause-room
-change_over-requires-clause-room c = subst (λ (o : Order). IsSpaciousFor o c.args.parts.now) c.in-Coo.is c.requires.room
-
-pub change_over-requires-in-Eco-clause-number : goal.change_over-requires-in-Eco-clause-number
-change_over-requires-in-Eco-clause-number c = subst IsOrder c.in-Eco.is c.requires.order
-
-pub change_over-requires-in-Eco-clause-room : goal.change_over-requires-in-Eco-clause-room
-change_over-requires-in-Eco-clause-room c = subst (λ (o : Order). IsSpaciousFor o c.args.parts.now) c.in-Eco.is c.requires.room
-
-pub answer-requires-clause-reached : goal.answer-requires-clause-reached
-answer-requires-clause-reached c = (subst IsOrder c.in-Coa.is c.requires.order).1
-
-pub answer-requires-clause-room : goal.answer-requires-clause-room
-answer-requires-clause-room c = subst (λ (o : Order). IsSpaciousFor o c.args.parts.now) c.in-Coa.is c.requires.room
-
-pub answer-requires-in-Eca-clause-room : goal.answer-requires-in-Eca-clause-room
-answer-requires-in-Eca-clause-room c = subst (λ (o : Order). IsSpaciousFor o c.args.parts.now) c.in-Eca.is c.requires.room
-
-pub queue-requires-clause-order : goal.queue-requires-clause-order
-queue-requires-clause-order c = subst IsOrder c.in-Cbd.is c.requires.order
-
-pub queue-requires-clause-room : goal.queue-requires-clause-room
-queue-requires-clause-room c = subst (λ (o : Order). IsSpaciousFor o c.args.parts.now) c.in-Cbd.is c.requires.room
-
-pub acknowledge_back-requires-clause-room : goal.acknowledge_back-requires-clause-room
-acknowledge_back-requires-clause-room c = subst (λ (o : Order). IsSpaciousFor o c.args.parts.now) c.in-Cba.is c.requires.room
 
 pub returns-in-Coo : goal.returns-in-Coo
 returns-in-Coo c = record { stands = obeys_it c.args.parts.now c.change_over.new.parts c.change_over.result c.args.order _ c.in-Coo.is c.change_over.ensures.stands }

@@ -23,6 +23,3 @@ returns-clause-whole c = record {
   routed = ap (λ (r : Routing). r.links) c.stand_last.ensures.routes ∙ c.requires.whole.routed ∙ sym (ap (λ ls. length ls.items) c.stand_last.ensures.links);
   few = rw (c.stand_last.ensures.links) c.requires.whole.few;
 }
-
-pub stand_last-requires-clause-fits : goal.stand_last-requires-clause-fits
-stand_last-requires-clause-fits c = rw c.as_slice.ensures.value c.body_of-body.ensures.fits

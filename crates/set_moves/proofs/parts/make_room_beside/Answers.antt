@@ -1,4 +1,4 @@
-use Rattle.std.proofs.Common.{arith, ◌≡◌, ◌≤◌, ◌+◌, ◌*◌, ◌∙◌, ap, sym, subst, ℕ, length, Option, Some, Result, Ok, Err, refl}
+use Rattle.std.proofs.Common.{arith, ◌≡◌, ◌≤◌, ◌+◌, ◌*◌, ◌∙◌, ap, sym, subst, ℕ, length, Option, Some, Result, Ok, Err}
 use Rattle.std.specs.Prelude.{IfSome, OnOk}
 use Rattle.set_events.specs.declared.answer.Fate.{Fate}
 use Rattle.set_queues.specs.Backs.{back_count}
@@ -48,15 +48,6 @@ returns-clause-room c = on_ok c.reserve_all.result (λ enough.
       each = each_stays (length c.args.parts.now.links.items) c.back_count-back.result (back_count n c.reserve_all.new.self.lists) c.reserve_each.new.self.rooms c.reserve_all.new.self.rooms (back_same ∙ sym back) c.reserve_all.ensures.kept
           (subst (λ (k : ℕ). HaveRoom k c.back_count-back.result c.reserve_each.new.self.rooms) many c.in_ok-reserve_each.ensures.room);
     }) c.reserve_all.ensures.room
-
-pub other_target-requires-clause-few : goal.other_target-requires-clause-few
-other_target-requires-clause-few c = rw c.deref.ensures.value c.requires.whole.few
-
-pub other_target-requires-clause-known : goal.other_target-requires-clause-known
-other_target-requires-clause-known c = rw c.deref.ensures.value c.requires.known
-
-pub returns-in_default-clause-same : goal.returns-in_default-clause-same
-returns-in_default-clause-same c = record { kept = refl; links = refl; inbox = refl }
 
 pub reserve_all-requires-clause-link : goal.reserve_all-requires-clause-link
 reserve_all-requires-clause-link c = omega (arith, c.requires.known, c.requires.whole.as_many, ap (λ (q : Lists). length q.links) c.reserve_each.ensures.same.0, ap (λ (q : Lists). length q.links) c.reserve-2.ensures.same.0)

@@ -76,18 +76,3 @@ returns-in-Unknown-clause-whole c = record {
   routed = c.requires.whole.routed;
   few = c.requires.whole.few;
 }
-
-pub acknowledge-requires-clause-known : goal.acknowledge-requires-clause-known
-acknowledge-requires-clause-known c = omega (arith, c.requires.known, c.requires.whole.as_many)
-
-pub acknowledge-requires-clause-fsn : goal.acknowledge-requires-clause-fsn
-acknowledge-requires-clause-fsn c = rw c.in-Upto.is at c.requires.reached
-
-pub index_mut-requires : goal.index_mut-requires
-index_mut-requires c = omega (arith, c.from-in-Ok.ensures, c.requires.known, c.args.parts.now.links.ok.0)
-
-pub discard-requires-in-Unknown-clause-known : goal.discard-requires-in-Unknown-clause-known
-discard-requires-in-Unknown-clause-known c = omega (arith, c.requires.known, c.requires.whole.as_many)
-
-pub returns-in-Unanswered-clause-phases : goal.returns-in-Unanswered-clause-phases
-returns-in-Unanswered-clause-phases c = rw c.discard-in-Unanswered.ensures.links refl

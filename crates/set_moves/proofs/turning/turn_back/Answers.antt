@@ -17,6 +17,3 @@ loop-preserved c =
 pub returns-clause-stands : goal.returns-clause-stands
 returns-clause-stands c =
     turned_each c.args.number c.loop.counter c.args.parts.now c.loop.parts c.loop.invariant (omega (arith, c.len-end.ensures.value, c.loop.auto.counter-end, c.loop-test.false))
-
-pub turn_first-requires-clause-oldest : goal.turn_first-requires-clause-oldest
-turn_first-requires-clause-oldest c = rw c.in-Some.is at c.oldest_back.ensures
