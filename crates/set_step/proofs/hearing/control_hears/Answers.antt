@@ -151,9 +151,6 @@ returns-else-part-gt0-clause-keeps c = record {
   backs = λ code. refl;
 }
 
-pub index_mut-link-requires : goal.index_mut-link-requires
-index_mut-link-requires c = omega (arith, c.from.ensures, c.requires.known, c.args.parts.now.links.ok.0)
-
 pub window-window-requires : goal.window-window-requires
 window-window-requires c = let as_many = (whole_of c.args.parts.now c.requires.holds).as_many in let known = c.requires.known in omega (arith, as_many, known)
 

@@ -82,9 +82,3 @@ control_hears-part-requires c =
       counted = subst (AreCounted 1152921504606846976) (sym same) c.requires.counted;
       known = (subst (λ links. IsHere links n Up) (sym same) h).known;
     }
-
-pub returns-in-Some-clause-none : goal.returns-in-Some-clause-none
-returns-in-Some-clause-none c = λ none. refl
-
-pub returns-in-Lssu-clause-none : goal.returns-in-Lssu-clause-none
-returns-in-Lssu-clause-none c = λ none. refl

@@ -16,9 +16,6 @@ returns-clause-chosen c = λ s link there a.
     let control = ap (λ (l : LinkState). l.control) (stands_for c.args.parts.now.links.items n c.from.result x c.from.ensures c.requires.known c.index.ensures s.links link a.stands.links there) in
     c.choice.ensures.value ∙ choice_is c.window-window.result.now (window_of n link s.rows) is c.octets-octets.result (octets_in (unack n s.rows)) x.control link.control (weighs k s n c.octets-octets.result a c.octets-octets.ensures) control
 
-pub index-requires : goal.index-requires
-index-requires c = omega (arith, c.from.ensures, c.requires.known, c.args.parts.now.links.ok.0)
-
 pub window-window-requires : goal.window-window-requires
 window-window-requires c = let as_many = (whole_of c.args.parts.now c.requires.holds).as_many in let known = c.requires.known in omega (arith, as_many, known)
 

@@ -48,9 +48,6 @@ returns-clause-stands c = λ s link there a.
       inbox_same = refl;
     })
 
-pub index_mut-requires : goal.index_mut-requires
-index_mut-requires c = omega (arith, c.from.ensures, c.requires.known, c.args.parts.now.links.ok.0)
-
 pub window-window-requires : goal.window-window-requires
 window-window-requires c = let as_many = (whole_of c.args.parts.now c.requires.holds).as_many in let known = c.requires.known in omega (arith, as_many, known)
 

@@ -42,12 +42,6 @@ returns-in-Fill c = λ s link there a.
 pub body_at-body-requires-clause-known : goal.body_at-body-requires-clause-known
 body_at-body-requires-clause-known c = let as_many = (whole_of c.args.parts.now c.requires.holds).as_many in let known = c.requires.known in omega (arith, as_many, known)
 
-pub body_at-body-requires-clause-place : goal.body_at-body-requires-clause-place
-body_at-body-requires-clause-place c = rw c.in-Again.is at c.choice_for-choice.ensures.there
-
-pub go_on-head-requires-clause-chosen : goal.go_on-head-requires-clause-chosen
-go_on-head-requires-clause-chosen c = rw c.in-Again.is at c.choice_for-choice.ensures.chosen
-
 pub body_at-body-requires-in-First-clause-known : goal.body_at-body-requires-in-First-clause-known
 body_at-body-requires-in-First-clause-known c = let as_many = (whole_of c.args.parts.now c.requires.holds).as_many in let known = c.requires.known in omega (arith, as_many, known)
 

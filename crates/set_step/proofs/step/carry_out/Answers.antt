@@ -11,20 +11,11 @@ returns-in-Offer-clause-none c = may_want c.offer.result c.args.event.now _ c.in
 pub returns-in-Take-clause-ok : goal.returns-in-Take-clause-ok
 returns-in-Take-clause-ok c = answers_it c.args.parts.now c.take.new.parts c.take.new.answer c.args.event.now _ c.in-Take.is c.take.ensures
 
-pub returns-in-Take-clause-none : goal.returns-in-Take-clause-none
-returns-in-Take-clause-none c = λ none. refl
-
 pub returns-in-Find-clause-ok : goal.returns-in-Find-clause-ok
 returns-in-Find-clause-ok c = answers_it c.args.parts.now c.args.parts.now c.find.new.answer c.args.event.now _ c.in-Find.is c.find.ensures
 
-pub returns-in-Find-clause-none : goal.returns-in-Find-clause-none
-returns-in-Find-clause-none c = λ none. refl
-
 pub returns-in-Next-clause-ok : goal.returns-in-Next-clause-ok
 returns-in-Next-clause-ok c = answers_it c.args.parts.now c.send_next.new.parts c.send_next.new.answer c.args.event.now _ c.in-Next.is c.send_next.ensures
-
-pub returns-in-Next-clause-none : goal.returns-in-Next-clause-none
-returns-in-Next-clause-none c = λ none. refl
 
 pub returns-in-Heard-clause-ok : goal.returns-in-Heard-clause-ok
 returns-in-Heard-clause-ok c = may_answer_it c.args.parts.now c.hear.new.parts c.hear.new.answer c.hear.result c.args.event.now _ c.in-Heard.is c.hear.ensures.ok

@@ -64,6 +64,3 @@ returns c = record {
 
 pub reset-requires-clause-known : goal.reset-requires-clause-known
 reset-requires-clause-known c = let as_many = (whole_of c.args.parts.now c.requires.holds).as_many in let known = c.requires.known in omega (arith, as_many, known)
-
-pub index_mut-requires : goal.index_mut-requires
-index_mut-requires c = omega (arith, c.from.ensures, c.requires.known, c.args.parts.now.links.ok.0)

@@ -36,6 +36,3 @@ returns-clause-ok c = λ s a.
 
 pub make_room_beside-requires-clause-whole : goal.make_room_beside-requires-clause-whole
 make_room_beside-requires-clause-whole c = whole_of c.args.parts.now c.requires.holds
-
-pub fall-requires-clause-counted : goal.fall-requires-clause-counted
-fall-requires-clause-counted c = rw c.make_room_beside.ensures.same.links c.requires.counted
