@@ -1,7 +1,8 @@
 -- What an event of a link does where the link is there, and as the event needs it.
-use Rattle.std.proofs.Common.{refl, ◌≡◌, ◌∙◌, ap, sym, subst, ◌<◌, ◌≤◌, ℕ, zero, suc, List, [], ◌∷◌, map, length, slice_get, Option, Some, None, Bool, true, false, if◌then◌else◌}
+use Rattle.std.proofs.Common.{arith, refl, ◌≡◌, ◌∙◌, ap, sym, subst, ◌<◌, ◌≤◌, ℕ, zero, suc, List, [], ◌∷◌, map, length, slice_get, Option, Some, None, Bool, true, false, if◌then◌else◌}
 use Rattle.std.specs.Option.{option_map}
 use Rattle.std.proofs.lemmas.Option.{same_Some, slice_get_past}
+use Rattle.std.proofs.lemmas.Bool.Decides.{nat_tests}
 use Rattle.set_events.specs.declared.answer.Answer.{Answer}
 use Rattle.set_events.specs.declared.answer.Answer.TheVariants.{Refused, Done}
 use Rattle.set_events.specs.declared.answer.Refusal.{Refusal as SetRefusal}
@@ -34,44 +35,22 @@ is_here : (links : List Link) (n : ℕ) (phase : Phase) (link : Link) → slice_
 is_here links n phase link e p = record { link = link; there = e; phase_is = p; known = within links n link e }
 
 up_phase : (phase : Phase) → has_phase_up phase ≡ true → phase ≡ Up
-up_phase Up e = refl
-up_phase Down e = absurd (cc)
-up_phase Settled e = absurd (cc)
+up_phase phase e = grind arith
 
 pub serves : (links : List Link) (n : ℕ) → service_refusal (slice_get links n) ≡ None → IsHere links n Up
-serves links n none = go (slice_get links n) refl none
-  where
-    up : (link : Link) (b : Bool) → has_phase_up link.phase ≡ b → (if has_phase_up link.phase then None else Some NotUp) ≡ None → has_phase_up link.phase ≡ true
-    up link true e f = e
-    up link false e f = absurd (let g : Some NotUp ≡ None = rw (sym (ap (λ b. if b then None else Some NotUp) e)) f in cc)
-
-    go : (o : Option Link) → slice_get links n ≡ o → service_refusal o ≡ None → IsHere links n Up
-    go None e f = absurd (cc)
-    go (Some link) e f = is_here links n Up link e (up_phase link.phase (up link (has_phase_up link.phase) refl f))
+serves links n none = grind (arith, nat_tests, is_here, up_phase)
 
 settled_phase : (phase : Phase) → refusal_in phase (Some NotDown) (Some Unsettled) None ≡ None → phase ≡ Settled
-settled_phase Up e = absurd (cc)
-settled_phase Down e = absurd (cc)
-settled_phase Settled e = refl
+settled_phase phase e = grind arith
 
 pub can_rise : (links : List Link) (n : ℕ) → rising_refusal (slice_get links n) ≡ None → IsHere links n Settled
-can_rise links n none = go (slice_get links n) refl none
-  where
-    go : (o : Option Link) → slice_get links n ≡ o → rising_refusal o ≡ None → IsHere links n Settled
-    go None e f = absurd (cc)
-    go (Some link) e f = is_here links n Settled link e (settled_phase link.phase f)
+can_rise links n none = grind (arith, nat_tests, is_here, settled_phase)
 
 down_phase : (phase : Phase) → refusal_in phase (Some Nothing) None (Some Nothing) ≡ None → phase ≡ Down
-down_phase Up e = absurd (cc)
-down_phase Down e = refl
-down_phase Settled e = absurd (cc)
+down_phase phase e = grind arith
 
 pub can_wait : (links : List Link) (n : ℕ) → waiting_refusal (slice_get links n) ≡ None → IsHere links n Down
-can_wait links n none = go (slice_get links n) refl none
-  where
-    go : (o : Option Link) → slice_get links n ≡ o → waiting_refusal o ≡ None → IsHere links n Down
-    go None e f = absurd (cc)
-    go (Some link) e f = is_here links n Down link e (down_phase link.phase f)
+can_wait links n none = grind (arith, nat_tests, is_here, down_phase)
 
 -- The same of the state that the links stand for.
 pub record IsIn (s : State) (n : ℕ) (phase : Phase) : Type 0 where
@@ -127,9 +106,7 @@ module _ (parts : Parts) (s : State) (a : Agrees (kept_of parts) s) (n : ℕ) (w
       go (Some link) e f = refuses (in_service n s outcome) (down (link_of link) (has_phase_up link.phase) refl f (here link e))
 
   risen_not : (phase : Phase) → refusal_in phase (Some NotDown) (Some Unsettled) None ≡ Some why → rises n s phase ≡ record { answer = Refused why; state = s }
-  risen_not Up f = ap (λ w. record { answer = Refused w; state = s }) (same_Some NotDown why f)
-  risen_not Down f = ap (λ w. record { answer = Refused w; state = s }) (same_Some Unsettled why f)
-  risen_not Settled f = absurd (cc)
+  risen_not phase f = grind arith
 
   pub unraised : rising_refusal (slice_get parts.links.items n) ≡ Some why → Gives (on_link n s (λ link. rises n s link.phase)) (Refused why) parts
   unraised is = go (slice_get parts.links.items n) refl is
@@ -139,9 +116,7 @@ module _ (parts : Parts) (s : State) (a : Agrees (kept_of parts) s) (n : ℕ) (w
       go (Some link) e f = refuses _ (rw (here link e) (risen_not link.phase f))
 
   given_not : (link : LinkState) (phase : Phase) → refusal_in phase (Some Nothing) None (Some Nothing) ≡ Some why → gives_up n s link phase ≡ record { answer = Refused why; state = s }
-  given_not link Up f = ap (λ w. record { answer = Refused w; state = s }) (same_Some Nothing why f)
-  given_not link Down f = absurd (cc)
-  given_not link Settled f = ap (λ w. record { answer = Refused w; state = s }) (same_Some Nothing why f)
+  given_not link phase f = grind arith
 
   pub unwaited : waiting_refusal (slice_get parts.links.items n) ≡ Some why → Gives (on_link n s (λ link. gives_up n s link link.phase)) (Refused why) parts
   unwaited is = go (slice_get parts.links.items n) refl is
@@ -152,11 +127,7 @@ module _ (parts : Parts) (s : State) (a : Agrees (kept_of parts) s) (n : ℕ) (w
 
 -- A link by its phase.
 pub phase_here : (links : List Link) (n : ℕ) (phase : Phase) (told : Option Phase) → told ≡ option_map (λ (l : Link). l.phase) (slice_get links n) → told ≡ Some phase → IsHere links n phase
-phase_here links n phase told is e = go (slice_get links n) refl (sym is ∙ e)
-  where
-    go : (o : Option Link) → slice_get links n ≡ o → option_map (λ (l : Link). l.phase) o ≡ Some phase → IsHere links n phase
-    go None f g = absurd (cc)
-    go (Some link) f g = is_here links n phase link f (same_Some link.phase phase g)
+phase_here links n phase told is e = grind (arith, nat_tests, is_here, same_Some)
 
 -- What becomes of an order at a link.
 pub obeyed_at : (s : State) (n : ℕ) (f : LinkState → Obeyed) (took : Took) (parts : Parts) (link : LinkState) → slice_get s.links n ≡ Some link → Obeys (f link) took parts → Obeys (at_link n s f (slice_get s.links n)) took parts

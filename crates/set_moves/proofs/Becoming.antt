@@ -14,7 +14,7 @@ use Rattle.set_queues.proofs.Passing.{links_stay, queued_stands}
 use Rattle.set_queues.proofs.Settling.{IsAside}
 use Rattle.set_route.specs.Routing.{Routing, settled as streams_settled}
 use Rattle.set_model.specs.declared.reached.Reached.{Reached}
-use Rattle.set_model.specs.declared.reached.Reached.TheVariants.{Upto, Unknown, Unanswered}
+use Rattle.set_model.specs.declared.reached.Reached.TheVariants.{Upto}
 use Rattle.set_model.specs.Rows.{Row, appended, changed, turned, is_unacked, is_waiting, is_on, is_parked, moved, all_with, IsInOrder}
 use Rattle.set_model.specs.Changeover.{judged, discarded, acknowledged_by, acknowledged, moved_over, settled_link, fate_on}
 use Rattle.set_model.specs.State.{State, LinkState, target, with_link}
@@ -72,9 +72,7 @@ discarded_then old mid new s n cause f known a b =
 
 -- WHAT REACHED THE FAR END
 pub is_low : (reached : Reached) (fsn : ℕ) → reached ≡ Upto fsn → IsReach reached → fsn < 128
-is_low (Upto number) fsn e low = let same : number ≡ fsn = cc in omega (arith, same, low)
-is_low Unknown fsn e low = absurd (cc)
-is_low Unanswered fsn e low = absurd (cc)
+is_low reached fsn e low = grind arith
 
 module _ (old new : Kept) (s : State) (n fsn : ℕ) (link : LinkState) (reached : Reached) (is : reached ≡ Upto fsn) (f : StandsFor old s) (there : slice_get s.links n ≡ Some link) where
   pub reached_then : IsReach reached → reach n fsn old.lists ≤ length (queue_at (Unacked n) old.lists)

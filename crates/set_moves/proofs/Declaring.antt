@@ -55,8 +55,7 @@ room_beyond n parts r = record {
 
 -- WHETHER ANY LINK IS SUCH, of so many
 pub some_here : (home first n : ℕ) (s : State) → can_declare home first s ≡ true → 0 < n → some_declare home first n s ≡ true
-some_here home first zero s e h = absurd (omega (arith, h))
-some_here home first (suc n) s e h = rw e refl
+some_here home first n s e h = grind arith
 
 pub some_next : (home first n : ℕ) (s : State) → can_declare home first s ≡ false → some_declare home first (suc n) s ≡ some_declare home (suc first) n s
 some_next home first n s e = rw e refl
@@ -84,8 +83,7 @@ pub count_is : (parts : Parts) (s : State) → StandsFor (kept_of parts) s → l
 count_is parts s f = sym (ap length f.links) ∙ length-map parts.links.items link_of
 
 pub asked_links : (b : Bool) (home alternative : ℕ) (r now : Routing) → now ≡ (if b then asked home alternative r else r) → now.links ≡ r.links
-asked_links true home alternative r now e = ap (λ (x : Routing). x.links) e
-asked_links false home alternative r now e = ap (λ (x : Routing). x.links) e
+asked_links b home alternative r now e = grind arith
 
 pub all_declared : (home n links : ℕ) (old now : Parts) → n ≡ links → Becomes old now (declared_from home 0 n) → Becomes old now (declared_from home 0 links)
 all_declared home n links old now e f = subst (λ (k : ℕ). Becomes old now (declared_from home 0 k)) e f

@@ -1,8 +1,7 @@
 -- A LINK THAT IS LEFT: what stood back for it can turn.
-use Rattle.std.proofs.Common.{refl, ◌≡◌, ◌∙◌, ap, sym, subst, ◌<◌, ℕ, Bool, true, false, List, length, slice_get, slice_set, Option, None, Some}
+use Rattle.std.proofs.Common.{arith, refl, ◌≡◌, ◌∙◌, ap, sym, subst, ◌<◌, ℕ, Bool, true, false, List, length, slice_get, slice_set, Option, None, Some}
 use Rattle.std.specs.Option.{option_map}
 use Rattle.set_events.specs.declared.answer.Fate.{Fate}
-use Rattle.set_events.specs.declared.answer.Fate.TheVariants.{Waiting, Unacked, Acked, Held, Parked, Back, Discarded}
 use Rattle.set_route.specs.Routing.{Routing}
 use Rattle.set_model.specs.declared.phase.Phase.TheVariants.{Up, Down}
 use Rattle.set_model.specs.Changeover.{Obeyed, out_of_service, at_link}
@@ -26,13 +25,7 @@ use Rattle.set_moves.proofs.Admitting.{IsHere, is_in, none_map}
 
 -- a message that stands back is a user's
 users_of : (n : ℕ) (r : Routing) (x : Row) (f : Fate) → is_back_to n f ≡ true → IsBackOf r x f → (is_users x ≡ true) × (stream_of x.body < 16)
-users_of n r x (Back c) e b = (b.0, b.1)
-users_of n r x (Waiting l) e b = absurd cc
-users_of n r x (Unacked l) e b = absurd cc
-users_of n r x (Acked l) e b = absurd cc
-users_of n r x (Held l) e b = absurd cc
-users_of n r x Parked e b = absurd cc
-users_of n r x (Discarded cause) e b = absurd cc
+users_of n r x f e b = grind arith
 
 pub here_up : (parts : Parts) (n : ℕ) → n < length parts.links.items → AtLink n parts.links.items (λ link. link.phase ≡ Up) → IsHere parts.links.items n Up
 here_up parts n known up = let x = present parts.links.items n known in record { link = x.0; there = x.1; phase_is = up x.0 x.1; known = known }
@@ -71,8 +64,7 @@ out_at links n phase h e link there = ap (λ (l : Link). has_phase_up l.phase) (
 
 -- where there is no such link an order about it is ignored
 no_phase : (o : Option Link) → option_map (λ (l : Link). l.phase) o ≡ None → o ≡ None
-no_phase None e = refl
-no_phase (Some link) e = absurd cc
+no_phase o e = grind arith
 
 pub none_there : (parts : Parts) (read : List Link) (n : ℕ) (told : Option Phase) (s : State) (obeyed : LinkState → Obeyed) → read ≡ parts.links.items → told ≡ option_map (λ (l : Link). l.phase) (slice_get read n) → told ≡ None → Agrees (kept_of parts) s → Obeys (at_link n s obeyed (slice_get s.links n)) Ignored parts
 none_there parts read n told s obeyed same is none a =

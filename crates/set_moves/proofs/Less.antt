@@ -1,7 +1,8 @@
 -- Queues that got no longer.
-use Rattle.std.proofs.Common.{refl, arith, ◌≡◌, ◌∙◌, ap, subst, sym, ◌≤◌, ◌<◌, ℕ, Bool, true, false, List, [], length, drop, cond}
+use Rattle.std.proofs.Common.{refl, arith, ◌≡◌, ◌∙◌, ap, subst, sym, ◌≤◌, ◌<◌, ℕ, Bool, true, List, [], length, drop, cond}
 use Rattle.std.proofs.lemmas.Bool.{eqb-true}
 use Rattle.std.proofs.lemmas.List.{length-drop}
+use Rattle.std.proofs.lemmas.Bool.Decides.{nat_tests}
 use Rattle.set_events.specs.declared.answer.Fate.{Fate}
 use Rattle.set_events.specs.declared.answer.Fate.TheVariants.{Waiting, Unacked, Acked, Held, Parked, Back, Discarded}
 use Rattle.set_queues.specs.Buffers.{Lists, is_standing, same_fate, queue_at, with_queue, IsKnown}
@@ -15,15 +16,13 @@ abbrev pub NoLonger : Lists → Lists → Type 0
 NoLonger q q' = (f : Fate) → length (queue_at f q') ≤ length (queue_at f q)
 
 shorter : (b : Bool) (xs ys : List ℕ) → length xs ≤ length ys → length (cond b xs ys) ≤ length ys
-shorter true xs ys h = h
-shorter false xs ys h = omega arith
+shorter b xs ys h = grind arith
 
 pub cleared_less : (g : Fate) (q : Lists) → is_standing g ≡ true → IsKnown g q → NoLonger q (with_queue g [] q)
 cleared_less g q s h f = subst (λ (xs : List ℕ). length xs ≤ length (queue_at f q)) (sym (queue_set g f [] q s h)) (shorter (same_fate g f) [] (queue_at f q) (omega arith))
 
 dropped : (b : Bool) (k : ℕ) (xs ys : List ℕ) → (b ≡ true → xs ≡ ys) → length (cond b (drop k xs) ys) ≤ length ys
-dropped true k xs ys same = subst (λ (zs : List ℕ). length (drop k xs) ≤ length zs) (same refl) (omega (arith, length-drop k xs))
-dropped false k xs ys same = omega arith
+dropped b k xs ys same = grind (arith, nat_tests, length-drop)
 
 pub acked_less : (l fsn : ℕ) (q : Lists) → l < length q.links → NoLonger q (acknowledged l fsn q)
 acked_less l fsn q h f =

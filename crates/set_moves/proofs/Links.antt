@@ -1,10 +1,11 @@
 -- One link of the list changes, and what the list stands for with it.
-use Rattle.std.proofs.Common.{refl, arith, ◌≡◌, ◌∙◌, ap, sym, ◌<◌, ◌≤◌, ℕ, Option, None, Bor, List, map, length, slice_get, slice_set, slice_index_or, Some}
+use Rattle.std.proofs.Common.{arith, ◌≡◌, ◌∙◌, ap, sym, ◌<◌, ℕ, Option, None, Bor, List, map, length, slice_get, slice_set, slice_index_or, Some}
 use Rattle.std.proofs.lemmas.Option.{same_Some, slice_get_read, slice_get_past}
 use Rattle.std.specs.Slice.{IsItemAt}
 use Rattle.set_moves.specs.declared.link.Link.{Link}
 use Rattle.set_moves.specs.Parts.{link_of, kept_of}
 use Rattle.std.proofs.lemmas.List.{length-map}
+use Rattle.std.proofs.lemmas.Bool.Decides.{nat_tests}
 use Rattle.set_moves.specs.declared.parts.Parts.{Parts}
 use Rattle.set_moves.specs.Agreement.{Kept, StandsFor}
 use Rattle.set_model.specs.State.{LinkState, State, link_count}
@@ -30,15 +31,3 @@ module _ (links : List Link) (n i : ℕ) (x : Link) (is : i ≡ n) (known : n < 
 -- how many there are
 pub length_links : (value : Kept) (s : State) (parts : Parts) (n : ℕ) → n ≡ length parts.links.items → kept_of parts ≡ value → StandsFor value s → n ≡ link_count s
 length_links value s parts n e v st = e ∙ sym (length-map parts.links.items link_of) ∙ ap (λ (k : Kept). length k.links) v ∙ ap length st.links
-
--- what `get` finds there
-pub read_none : (links : List Link) (n i : ℕ) (r : Option (Bor Link)) → IsItemAt links i r → i ≡ n → r ≡ None → slice_get links n ≡ None
-read_none links n i None h e f = let past : length links ≤ i = h.3 in slice_get_past links n (omega (arith, past, e))
-read_none links n i (Some x) h e f = absurd (cc)
-
-pub read_some : (links : List Link) (n i : ℕ) (r : Option (Bor Link)) (x : Bor Link) → IsItemAt links i r → i ≡ n → r ≡ Some x → slice_get links n ≡ Some x.now
-read_some links n i None x h e f = absurd (cc)
-read_some links n i (Some y) x h e f =
-    let low : i < length links = h.3.0 in
-    let is : y.now ≡ slice_index_or links i y.now = h.1 in
-    ap (slice_get links) (sym e) ∙ slice_get_read links (length links) i y.now refl low is ∙ ap (λ (z : Bor Link). Some z.now) (same_Some y x f)

@@ -14,11 +14,7 @@ use Rattle.set_model.proofs.Lookups.{at_most_one, row_is_first, place_moved}
 -- a number occurs as often as rows have it
 occurs_rows : (n : ℕ) (rows : List Row) → occurs n (numbers rows) ≡ length (with_number n rows)
 occurs_rows n [] = refl
-occurs_rows n (x ∷ rows) = go (x.number == n) refl (occurs_rows n rows)
-  where
-    go : (b : Bool) → (x.number == n) ≡ b → occurs n (numbers rows) ≡ length (with_number n rows) → occurs n (numbers (x ∷ rows)) ≡ length (with_number n (x ∷ rows))
-    go true h e = rw h (omega (arith, e))
-    go false h e = rw h (omega (arith, e))
+occurs_rows n (x ∷ rows) = grind (arith, occurs_rows n rows)
 
 -- as often among those that a test picks as the row of the number is picked
 occurs_picked : (p : Row → Bool) (n : ℕ) (rows : List Row) → occurs n (numbers (filter p rows)) ≡ length (filter p (with_number n rows))
@@ -27,11 +23,7 @@ occurs_picked p n rows = occurs_rows n (filter p rows) ∙ ap length (filter_com
 -- no more often in a part than in the rows
 fewer_rows : (p : Row → Bool) (rows : List Row) → length (filter p rows) ≤ length rows
 fewer_rows p [] = omega arith
-fewer_rows p (x ∷ rows) = go (p x) refl (fewer_rows p rows)
-  where
-    go : (b : Bool) → p x ≡ b → length (filter p rows) ≤ length rows → length (filter p (x ∷ rows)) ≤ length (x ∷ rows)
-    go true h e = rw h (omega (arith, e))
-    go false h e = rw h (omega (arith, e))
+fewer_rows p (x ∷ rows) = grind (arith, fewer_rows p rows)
 
 none_picked : (p : Row → Bool) (k n : ℕ) (rows : List Row) → length (with_number n rows) ≡ 0 → occurs n (take k (numbers (filter p rows))) ≡ 0
 none_picked p k n rows e = omega (arith, e, occurs-split n k (numbers (filter p rows)), occurs_picked p n rows, fewer_rows p (with_number n rows))
@@ -71,21 +63,14 @@ module _ (test : Fate → Bool) (to : Fate) where
 
   -- all of them, in their places
   changed_row : (x : Row) (rows : List Row) (n : ℕ) (b : Bool) → test x.fate ≡ b → (x.number == n) ≡ true → row_of n (changed test to (x ∷ rows)) ≡ Some (cond b (with_fate to x) x)
-  changed_row x rows n true h e = rw (h, e) refl
-  changed_row x rows n false h e = rw (h, e) refl
+  changed_row x rows n b h e = grind arith
 
   changed_past : (x : Row) (rows : List Row) (n : ℕ) (b : Bool) → test x.fate ≡ b → (x.number == n) ≡ false → row_of n (changed test to (x ∷ rows)) ≡ row_of n (changed test to rows)
-  changed_past x rows n true h e = rw (h, e) refl
-  changed_past x rows n false h e = rw (h, e) refl
+  changed_past x rows n b h e = grind arith
 
   place_changed : (n : ℕ) (rows : List Row) → place n (changed test to rows) ≡ option_map (λ (row : Row). cond (test row.fate) to row.fate) (row_of n rows)
   place_changed n [] = refl
-  place_changed n (x ∷ rows) = go (x.number == n) (test x.fate) refl refl (place_changed n rows)
-    where
-      go : (c b : Bool) → (x.number == n) ≡ c → test x.fate ≡ b → place n (changed test to rows) ≡ option_map (λ (row : Row). cond (test row.fate) to row.fate) (row_of n rows) → place n (changed test to (x ∷ rows)) ≡ option_map (λ (row : Row). cond (test row.fate) to row.fate) (row_of n (x ∷ rows))
-      go true true e h rest = ap (option_map (λ (row : Row). row.fate)) (changed_row x rows n true h e) ∙ rw (e, h) refl
-      go true false e h rest = ap (option_map (λ (row : Row). row.fate)) (changed_row x rows n false h e) ∙ rw (e, h) refl
-      go false b e h rest = ap (option_map (λ (row : Row). row.fate)) (changed_past x rows n b h e) ∙ rest ∙ rw e refl
+  place_changed n (x ∷ rows) = grind (arith, place_changed n rows)
 
   -- a place that is told by the row of the number alone
   told : (n : ℕ) (rows new : List Row) → IsNumbered rows → place n new ≡ option_map (λ (row : Row). cond (test row.fate) to row.fate) (row_of n rows) → GoesTo (numbers (standing test rows)) to n rows new

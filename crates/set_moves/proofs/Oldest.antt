@@ -2,10 +2,10 @@
 use Rattle.std.proofs.Common.{refl, arith, ◌≡◌, ◌∙◌, ap, sym, subst, ◌/◌, ◌≤◌, ◌<◌, [], ◌∷◌, length, ℕ, zero, suc, Bool, true, false, ◌==◌, ◌⊎◌, inl, inr, List, Some, None}
 use Rattle.std.specs.Prelude.{slice_get, filter}
 use Rattle.std.specs.Option.{option_map}
-use Rattle.std.proofs.lemmas.Bool.{eq-eqb, eqb-true, ne_eqb, not-true}
+use Rattle.std.proofs.lemmas.Bool.{eq-eqb, ne_eqb, not-true}
 use Rattle.std.proofs.lemmas.Option.{same_Some}
 use Rattle.set_events.specs.declared.answer.Fate.{Fate}
-use Rattle.set_events.specs.declared.answer.Fate.TheVariants.{Waiting, Unacked, Acked, Held, Parked, Back, Discarded}
+use Rattle.set_events.specs.declared.answer.Fate.TheVariants.{Waiting, Held, Back}
 use Rattle.set_queues.specs.declared.message.Kind.TheVariants.{User}
 use Rattle.set_queues.specs.declared.message.Message.{Message}
 use Rattle.set_queues.specs.Backs.{IsOldest}
@@ -34,14 +34,7 @@ single (y ∷ z ∷ xs) x e l = absurd (omega (arith, l))
 
 pub passes : (p : Row → Bool) (xs rest : List Row) (x : Row) → filter p xs ≡ x ∷ rest → p x ≡ true
 passes p [] rest x e = absurd cc
-passes p (z ∷ xs) rest x e = go (p z) refl (passes p xs rest x)
-  where
-    go : (b : Bool) → p z ≡ b → (filter p xs ≡ x ∷ rest → p x ≡ true) → p x ≡ true
-    go true h later =
-        let f : z ∷ filter p xs ≡ x ∷ rest = rw h at e in
-        let same : z ≡ x = cc in
-        sym (ap p same) ∙ h
-    go false h later = later (rw h at e)
+passes p (z ∷ xs) rest x e = grind (arith, passes p xs rest x)
 
 each_found : (P : Row → Type 0) (p : Row → Bool) (xs : List Row) (i : ℕ) (x : Row) → Each P xs → slice_get (filter p xs) i ≡ Some x → P x
 each_found P p [] i x a e = absurd cc
@@ -59,22 +52,10 @@ none_above k m (x ∷ xs) low a = let above = a.0 in rw (ne_eqb x.number k (λ e
 -- FATES
 
 back_is : (c : ℕ) (f : Fate) → is_back c f ≡ true → f ≡ Back c
-back_is c (Back d) e = ap Back (eqb-true d c e)
-back_is c (Waiting l) e = absurd cc
-back_is c (Unacked l) e = absurd cc
-back_is c (Acked l) e = absurd cc
-back_is c (Held l) e = absurd cc
-back_is c Parked e = absurd cc
-back_is c (Discarded cause) e = absurd cc
+back_is c f e = grind arith
 
 pub back_of : (home : ℕ) (f : Fate) → is_back_to home f ≡ true → (c : ℕ) × (f ≡ Back c) × (home_of c ≡ home)
-back_of home (Back d) e = (d, refl, eqb-true (home_of d) home e)
-back_of home (Waiting l) e = absurd cc
-back_of home (Unacked l) e = absurd cc
-back_of home (Acked l) e = absurd cc
-back_of home (Held l) e = absurd cc
-back_of home Parked e = absurd cc
-back_of home (Discarded cause) e = absurd cc
+back_of home f e = grind arith
 
 -- what waits for a code of the home waits for the home
 pub back_home : (home c : ℕ) → home_of c ≡ home → (f : Fate) → is_back c f ≡ true → is_back_to home f ≡ true

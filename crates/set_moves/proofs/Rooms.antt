@@ -1,8 +1,8 @@
 -- Room that was taken, as orders and moved messages need it.
-use Rattle.std.proofs.Common.{refl, arith, ◌≡◌, ◌≢◌, ◌∙◌, ap, sym, subst, ◌≤◌, ◌<◌, ◌+◌, ◌++◌, ℕ, Bool, false, List, map, length, Option, Some, None, slice_get, slice_set, ◌⊎◌, inl, inr, Vec, Global}
+use Rattle.std.proofs.Common.{arith, ◌≡◌, ◌≢◌, ◌∙◌, ap, sym, subst, ◌≤◌, ◌<◌, ◌+◌, ◌++◌, ℕ, Bool, false, List, map, length, Option, Some, slice_get, slice_set, Vec, Global}
 use Rattle.std.specs.Prelude.{IfSome}
-use Rattle.std.proofs.lemmas.Bool.{ne_eqb}
 use Rattle.std.proofs.lemmas.List.{length-map}
+use Rattle.std.proofs.lemmas.Bool.Decides.{nat_tests}
 use Rattle.set_events.specs.declared.answer.Fate.{Fate}
 use Rattle.set_events.specs.declared.answer.Fate.TheVariants.{Waiting, Unacked, Held}
 use Rattle.set_queues.specs.Buffers.{Lists, Rooms, IsKnown, IsQueued, TakesRoom, same_fate, queue_at, with_queue, room_at}
@@ -50,8 +50,7 @@ has_room n parts fate r e = rw e (record {
 })
 
 queued_on : (o : Option ℕ) → IsQueued (fate_on o)
-queued_on None = tt
-queued_on (Some t) = tt
+queued_on o = grind arith
 
 pub room_then_all : (o : Option ℕ) (on on' : List ℕ) (old new : Rooms) → length on + 1 ≤ room_at (fate_on o) old → on' ≡ on → TakesRoom (fate_on o) 1 old new → length on' ≤ room_at (fate_on o) new
 room_then_all o on on' old new h e t =
@@ -64,16 +63,13 @@ fewer on orders room h = omega (arith, h)
 
 -- what stands on a link that is out isn't touched by what waits for the target
 off_waiting : (o : Option ℕ) (n : ℕ) → ((t : ℕ) → o ≡ Some t → n ≢ t) → same_fate (fate_on o) (Waiting n) ≡ false
-off_waiting None n apart = refl
-off_waiting (Some t) n apart = ne_eqb t n (λ e. apart t refl (sym e))
+off_waiting o n apart = grind arith
 
 off_unacked : (o : Option ℕ) (n : ℕ) → same_fate (fate_on o) (Unacked n) ≡ false
-off_unacked None n = refl
-off_unacked (Some t) n = refl
+off_unacked o n = grind arith
 
 off_held : (o : Option ℕ) (n : ℕ) → same_fate (fate_on o) (Held n) ≡ false
-off_held None n = refl
-off_held (Some t) n = refl
+off_held o n = grind arith
 
 pub on_same : (o : Option ℕ) (n : ℕ) (xs : List ℕ) (q new : Lists) → IsKnown (fate_on o) q → ((t : ℕ) → o ≡ Some t → n ≢ t) → new ≡ with_queue (fate_on o) xs q → on n new ≡ on n q
 on_same o n xs q new known apart e =
@@ -85,11 +81,7 @@ on_same o n xs q new known apart e =
 
 -- THE WHOLE NUMBERS of a list in which one link changed otherwise
 pub counted_set : (bound : ℕ) (links new : List Link) (n : ℕ) (link : Link) → AreCounted bound links → new ≡ slice_set links n link → IsCounted bound link → AreCounted bound new
-counted_set bound links new n link all e one m other there = go (at_set links n m link other (sym (ap (λ ls. slice_get ls m) e) ∙ there))
-  where
-    go : ((m ≡ n) × (other ≡ link)) ⊎ ((m ≢ n) × (slice_get links m ≡ Some other)) → IsCounted bound other
-    go (inl same) = rw same.1 one
-    go (inr apart) = all m other apart.1
+counted_set bound links new n link all e one m other there = grind (arith, nat_tests, at_set)
 
 -- A SET IS WHOLE that stands for a state.
 pub whole_of : (parts : Parts) → Holds (kept_of parts) → IsWhole parts
@@ -105,8 +97,7 @@ whole_of parts h =
 
 -- the target's queue is one of the set's
 pub known_target : (o : Option ℕ) (q : Lists) (links read : List Link) → read ≡ links → length q.links ≡ length links → IfSome o (λ to. to < length read) → IsKnown (fate_on o) q
-known_target None q links read e many below = tt
-known_target (Some t) q links read e many below = let same : length read ≡ length links = ap length e in omega (arith, many, below, same)
+known_target o q links read e many below = grind arith
 
 -- a link of this phase isn't up
 pub is_out : (links : List Link) (n : ℕ) (link : Link) (phase : Phase) → slice_get links n ≡ Some link → link.phase ≡ phase → has_phase_up phase ≡ false → AtLink n links IsOut

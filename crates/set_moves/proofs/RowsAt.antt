@@ -1,7 +1,6 @@
 -- THE ROWS OF EACH FATE after each change: the numbers of one queue after another.
-use Rattle.std.proofs.Common.{refl, ◌≡◌, ◌∙◌, ap, subst, [], ◌∷◌, length, ℕ, ◌==◌, Bool, true, false, List, ◌++◌, take, drop, cond}
+use Rattle.std.proofs.Common.{arith, refl, ◌≡◌, ◌∙◌, ap, [], ◌∷◌, length, ℕ, ◌==◌, Bool, true, false, List, ◌++◌, take, drop, cond}
 use Rattle.std.specs.List.{drop-map}
-use Rattle.std.proofs.lemmas.Bool.{eqb-true}
 use Rattle.std.proofs.lemmas.List.{map-append, take-map}
 use Rattle.set_events.specs.declared.answer.Fate.{Fate}
 use Rattle.set_events.specs.declared.answer.Fate.TheVariants.{Waiting, Unacked, Acked, Held, Parked, Back, Discarded}
@@ -32,11 +31,7 @@ numbers-take n rows = sym_of (take-map (λ (row : Row). row.number) n rows)
 
 -- of one link, and of the others
 by_link : (l n : ℕ) (P : Bool → ℕ → Type 0) → P true l → ((l == n) ≡ false → P false n) → P (l == n) n
-by_link l n P t f = go (l == n) refl
-  where
-    go : (b : Bool) → (l == n) ≡ b → P b n
-    go true e = subst (λ (m : ℕ). P true m) (eqb-true l n e) t
-    go false e = f e
+by_link l n P t f = grind arith
 
 -- A NEW MESSAGE stands last in the queue of its fate.
 one_more : (test : Fate → Bool) (rows : List Row) (body : List ℕ) (fate : Fate) (b : Bool) → test fate ≡ b → numbers (standing test (appended rows body fate)) ≡ cond b (numbers (standing test rows) ++ length rows ∷ []) (numbers (standing test rows))
@@ -44,89 +39,29 @@ one_more test rows body fate true e = ap numbers (appended_in rows body fate tes
 one_more test rows body fate false e = ap numbers (appended_out rows body fate test e)
 
 pub waits_there : (l : ℕ) (fate : Fate) → is_waiting l fate ≡ same_fate fate (Waiting l)
-waits_there l (Waiting k) = refl
-waits_there l (Unacked k) = refl
-waits_there l (Acked k) = refl
-waits_there l (Held k) = refl
-waits_there l Parked = refl
-waits_there l (Back c) = refl
-waits_there l (Discarded c) = refl
+waits_there l fate = grind arith
 
 pub sent_there : (l : ℕ) (fate : Fate) → is_unacked l fate ≡ same_fate fate (Unacked l)
-sent_there l (Waiting k) = refl
-sent_there l (Unacked k) = refl
-sent_there l (Acked k) = refl
-sent_there l (Held k) = refl
-sent_there l Parked = refl
-sent_there l (Back c) = refl
-sent_there l (Discarded c) = refl
+sent_there l fate = grind arith
 
 pub held_there : (l : ℕ) (fate : Fate) → is_held l fate ≡ same_fate fate (Held l)
-held_there l (Waiting k) = refl
-held_there l (Unacked k) = refl
-held_there l (Acked k) = refl
-held_there l (Held k) = refl
-held_there l Parked = refl
-held_there l (Back c) = refl
-held_there l (Discarded c) = refl
+held_there l fate = grind arith
 
 pub parked_there : (fate : Fate) → is_parked fate ≡ same_fate fate Parked
-parked_there (Waiting k) = refl
-parked_there (Unacked k) = refl
-parked_there (Acked k) = refl
-parked_there (Held k) = refl
-parked_there Parked = refl
-parked_there (Back c) = refl
-parked_there (Discarded c) = refl
+parked_there fate = grind arith
 
 pub back_there : (c : ℕ) (fate : Fate) → is_back c fate ≡ same_fate fate (Back c)
-back_there c (Waiting k) = refl
-back_there c (Unacked k) = refl
-back_there c (Acked k) = refl
-back_there c (Held k) = refl
-back_there c Parked = refl
-back_there c (Back k) = refl
-back_there c (Discarded d) = refl
+back_there c fate = grind arith
 
 -- what is on a link, or parked, doesn't stand back
 on_not_code : (c l : ℕ) (f : Fate) → is_on l f ≡ true → is_back c f ≡ false
-on_not_code c l (Back k) e = absurd (cc)
-on_not_code c l (Waiting k) e = refl
-on_not_code c l (Unacked k) e = refl
-on_not_code c l (Acked k) e = refl
-on_not_code c l (Held k) e = refl
-on_not_code c l Parked e = refl
-on_not_code c l (Discarded d) e = refl
+on_not_code c l f e = grind arith
 
 parked_not_code : (c : ℕ) (f : Fate) → is_parked f ≡ true → is_back c f ≡ false
-parked_not_code c Parked e = refl
-parked_not_code c (Back k) e = absurd (cc)
-parked_not_code c (Waiting k) e = absurd (cc)
-parked_not_code c (Unacked k) e = absurd (cc)
-parked_not_code c (Acked k) e = absurd (cc)
-parked_not_code c (Held k) e = absurd (cc)
-parked_not_code c (Discarded d) e = absurd (cc)
+parked_not_code c f e = grind arith
 
 pub none_final : (fate to : Fate) → is_standing fate ≡ true → is_standing to ≡ false → same_fate fate to ≡ false
-none_final fate (Waiting l) s t = absurd (cc)
-none_final fate (Unacked l) s t = absurd (cc)
-none_final fate (Held l) s t = absurd (cc)
-none_final fate Parked s t = absurd (cc)
-none_final fate (Back c) s t = absurd (cc)
-none_final (Waiting l) (Acked k) s t = refl
-none_final (Unacked l) (Acked k) s t = refl
-none_final (Held l) (Acked k) s t = refl
-none_final Parked (Acked k) s t = refl
-none_final (Back c) (Acked k) s t = refl
-none_final (Acked l) (Acked k) s t = absurd (cc)
-none_final (Discarded c) (Acked k) s t = absurd (cc)
-none_final (Waiting l) (Discarded k) s t = refl
-none_final (Unacked l) (Discarded k) s t = refl
-none_final (Held l) (Discarded k) s t = refl
-none_final Parked (Discarded k) s t = refl
-none_final (Back c) (Discarded k) s t = refl
-none_final (Acked l) (Discarded k) s t = absurd (cc)
-none_final (Discarded c) (Discarded k) s t = absurd (cc)
+none_final fate to s t = grind arith
 
 pub appended_at : (rows : List Row) (body : List ℕ) (fate : Fate) → is_standing fate ≡ true → (f : Fate) → numbers (rows_at f (appended rows body fate)) ≡ cond (same_fate fate f) (numbers (rows_at f rows) ++ length rows ∷ []) (numbers (rows_at f rows))
 appended_at rows body fate s (Waiting l) = one_more (is_waiting l) rows body fate (same_fate fate (Waiting l)) (waits_there l fate)
@@ -269,13 +204,7 @@ aside_at l rows (Discarded c) = refl
 
 -- WHAT STOOD BACK WAITS FOR ITS HOME.
 code_apart : (c d : ℕ) → (c == d) ≡ false → (f : Fate) → is_back c f ≡ true → is_back d f ≡ false
-code_apart c d away (Back k) e = let same : k ≡ c = eqb-true k c e in rw same away
-code_apart c d away (Waiting k) e = absurd (cc)
-code_apart c d away (Unacked k) e = absurd (cc)
-code_apart c d away (Acked k) e = absurd (cc)
-code_apart c d away (Held k) e = absurd (cc)
-code_apart c d away Parked e = absurd (cc)
-code_apart c d away (Discarded k) e = absurd (cc)
+code_apart c d away f e = grind arith
 
 pub released_at : (c l : ℕ) (rows : List Row) (f : Fate) → numbers (rows_at f (moved (is_back c) (all_with (Waiting l)) rows)) ≡ cond (same_fate (Back c) f) [] (cond (same_fate (Waiting l) f) (numbers (wait l rows) ++ numbers (standing (is_back c) rows)) (numbers (rows_at f rows)))
 released_at c l rows (Waiting n) =

@@ -1,14 +1,14 @@
 -- ONE ROW leaves its place and stands at the end, with another fate.
-use Rattle.std.proofs.Common.{refl, arith, ◌≡◌, ◌∙◌, ap, sym, subst, ◌≤◌, [], ◌∷◌, ◌++◌, length, ℕ, suc, Bool, true, false, not, ◌==◌, ◌⊎◌, inl, inr, List, map, Some, cond}
+use Rattle.std.proofs.Common.{refl, arith, ◌≡◌, ◌∙◌, ap, sym, ◌≤◌, [], ◌∷◌, ◌++◌, length, ℕ, suc, Bool, true, false, not, ◌==◌, ◌⊎◌, List, map, Some, cond}
 use Rattle.std.specs.Prelude.{slice_get, filter}
-use Rattle.std.specs.Option.{option_map}
-use Rattle.std.proofs.lemmas.Bool.{cases_eq, eq-eqb, ne_eqb, eqb-true, not_from_true, not_from_false}
+use Rattle.std.proofs.lemmas.Bool.{cases_eq, eq-eqb, eqb-true, not_from_true, not_from_false}
 use Rattle.std.proofs.lemmas.List.{append-nil, append_assoc, length-append}
 use Rattle.std.proofs.lemmas.List.Elements.{filter-append}
 use Rattle.std.proofs.lemmas.List.Filters.{length-filter_both}
+use Rattle.std.proofs.lemmas.Bool.Decides.{nat_tests}
 use Rattle.set_events.specs.declared.answer.Fate.{Fate}
 use Rattle.set_queues.proofs.Standing.{occurs_here, occurs_not}
-use Rattle.set_model.specs.Rows.{Row, standing, with_fate, fated, moved, row_of, place, body_at, IsNumbered, Each}
+use Rattle.set_model.specs.Rows.{Row, standing, with_fate, fated, moved, row_of, body_at, IsNumbered, Each}
 use Rattle.set_model.specs.Laws.{SameMessages}
 use Rattle.set_model.proofs.Filters.{filter_comm, filter_within, filter_apart}
 use Rattle.set_model.proofs.Finding.{with_number, same_numbers}
@@ -26,27 +26,18 @@ shifted to x rows = without x.number rows ++ with_fate to x ∷ []
 -- A filter that drops nothing
 pub none_dropped : (p : Row → Bool) (xs : List Row) → filter p xs ≡ [] → filter (λ x. not (p x)) xs ≡ xs
 none_dropped p [] e = refl
-none_dropped p (x ∷ xs) e = go (p x) refl (none_dropped p xs)
-  where
-    go : (b : Bool) → p x ≡ b → (filter p xs ≡ [] → filter (λ x. not (p x)) xs ≡ xs) → filter (λ x. not (p x)) (x ∷ xs) ≡ x ∷ xs
-    go true h later = let no : x ∷ filter p xs ≡ [] = rw h at e in absurd cc
-    go false h later = rw h (ap (λ (ys : List Row). x ∷ ys) (later (rw h at e)))
+none_dropped p (x ∷ xs) e = grind (arith, none_dropped p xs)
 
 pub each_filter : (P : Row → Type 0) (p : Row → Bool) (xs : List Row) → Each P xs → Each P (filter p xs)
 each_filter P p [] a = tt
-each_filter P p (x ∷ xs) a = go (p x) refl (each_filter P p xs a.1)
-  where
-    go : (b : Bool) → p x ≡ b → Each P (filter p xs) → Each P (filter p (x ∷ xs))
-    go true h e = rw h (a.0, e)
-    go false h e = rw h e
+each_filter P p (x ∷ xs) a = grind (arith, each_filter P p xs a.1)
 
 empty : (xs : List Row) → length xs ≡ 0 → xs ≡ []
 empty [] e = refl
 empty (x ∷ xs) e = absurd (omega (arith, e))
 
 one_stands : (test : Fate → Bool) (y : Row) (b : Bool) → test y.fate ≡ b → standing test (y ∷ []) ≡ cond b (y ∷ []) []
-one_stands test y true h = rw h refl
-one_stands test y false h = rw h refl
+one_stands test y b h = grind arith
 
 module _ (to : Fate) (x : Row) (rows : List Row) (one : with_number x.number rows ≡ x ∷ []) where
   abbrev k : ℕ
@@ -60,26 +51,10 @@ module _ (to : Fate) (x : Row) (rows : List Row) (one : with_number x.number row
 
   -- BY NUMBER
   with_own : with_number k new ≡ y ∷ []
-  with_own =
-      filter-append (λ (row : Row). row.number == k) (without k rows) (y ∷ [])
-      ∙ ap (λ (ys : List Row). ys ++ with_number k (y ∷ [])) (filter_apart (λ (row : Row). row.number == k) (λ (row : Row). not (row.number == k)) (λ r e. not_from_true (r.number == k) e) rows)
-      ∙ own (k == k) (eq-eqb k k refl)
-    where
-      own : (b : Bool) → b ≡ true → with_number k (y ∷ []) ≡ y ∷ []
-      own b e = rw (eq-eqb k k refl) refl
+  with_own = grind (arith, nat_tests, filter-append, k, without, y, with_number, filter_apart, not_from_true, eq-eqb)
 
   with_other : (n : ℕ) → (k ≡ n → ⊥) → with_number n new ≡ with_number n rows
-  with_other n ne =
-      filter-append (λ (row : Row). row.number == n) (without k rows) (y ∷ [])
-      ∙ ap (λ (ys : List Row). ys ++ with_number n (y ∷ [])) (filter_within (λ (row : Row). row.number == n) (λ (row : Row). not (row.number == k)) apart rows)
-      ∙ ap (λ (ys : List Row). with_number n rows ++ ys) none
-      ∙ append-nil (with_number n rows)
-    where
-      apart : (r : Row) → (r.number == n) ≡ true → not (r.number == k) ≡ true
-      apart r e = let same : r.number ≡ n = eqb-true r.number n e in not_from_false (r.number == k) (ne_eqb r.number k (λ f. ne (sym f ∙ same)))
-
-      none : with_number n (y ∷ []) ≡ []
-      none = rw (ne_eqb k n ne) refl
+  with_other n ne = grind (arith, nat_tests, filter-append, without, k, y, with_number, filter_within, append-nil, eqb-true)
 
   count : length new ≡ length rows
   count =
@@ -105,25 +80,13 @@ module _ (to : Fate) (x : Row) (rows : List Row) (one : with_number x.number row
   }
     where
       body : (n : ℕ) → (k ≡ n) ⊎ (k ≡ n → ⊥) → body_at n new ≡ body_at n rows
-      body n (inl e) = subst (λ (i : ℕ). body_at i new ≡ body_at i rows) e (ap (option_map (λ (r : Row). r.body)) row_own ∙ sym (ap (option_map (λ (r : Row). r.body)) row_old))
-      body n (inr ne) = ap (option_map (λ (r : Row). r.body)) (row_other n ne)
+      body n h1 = grind (arith, nat_tests, new, row_own, row_old, row_other)
 
       many : (n : ℕ) → (k ≡ n) ⊎ (k ≡ n → ⊥) → length (with_number n new) ≡ length (with_number n rows)
-      many n (inl e) = subst (λ (i : ℕ). length (with_number i new) ≡ length (with_number i rows)) e (ap length with_own ∙ sym (ap length one))
-      many n (inr ne) = ap length (with_other n ne)
+      many n h1 = grind (arith, nat_tests, with_number, new, with_own, with_other)
 
   pub shifted_goes : (n : ℕ) → GoesTo (k ∷ []) to n rows new
-  shifted_goes n = go (cases_eq k n)
-    where
-      go : (k ≡ n) ⊎ (k ≡ n → ⊥) → GoesTo (k ∷ []) to n rows new
-      go (inl e) = record {
-        stays = λ z. absurd (let h = occurs_here k n e in omega (arith, z, h));
-        goes = λ z. subst (λ (i : ℕ). place i new ≡ Some to) e (ap (option_map (λ (r : Row). r.fate)) row_own);
-      }
-      go (inr ne) = record {
-        stays = λ z. ap (option_map (λ (r : Row). r.fate)) (row_other n ne);
-        goes = λ z. absurd (let h = occurs_not k n ne in omega (arith, z, h));
-      }
+  shifted_goes n = grind (arith, nat_tests, cases_eq, k, GoesTo, new, occurs_here, row_own, row_other, occurs_not)
 
   -- BY FATE
   standing_parts : (test : Fate → Bool) → standing test new ≡ without k (standing test rows) ++ standing test (y ∷ [])
@@ -194,8 +157,4 @@ module _ (test : Fate → Bool) (fate : Row → Fate) (x : Row) (rest rows : Lis
 
 -- a move as other functions tell the fates
 pub moved_as : (test : Fate → Bool) (fate other : Row → Fate) → ((x : Row) → fate x ≡ other x) → (rows : List Row) → moved test fate rows ≡ moved test other rows
-moved_as test fate other same rows = ap (λ (ys : List Row). standing (λ f. not (test f)) rows ++ ys) (all (standing test rows))
-  where
-    all : (xs : List Row) → map (fated fate) xs ≡ map (fated other) xs
-    all [] = refl
-    all (x ∷ xs) = rw (same x, all xs) refl
+moved_as test fate other same rows = grind arith

@@ -6,6 +6,7 @@ use Rattle.std.proofs.lemmas.Bool.{cases_Bool, cases_eq, eq-eqb, ne_eqb, le-ltb}
 use Rattle.std.proofs.lemmas.List.{length-append, map-append}
 use Rattle.std.proofs.lemmas.List.Folds.{find-append}
 use Rattle.std.proofs.lemmas.Option.{slice_get_past, slice_get_cases}
+use Rattle.std.proofs.lemmas.Bool.Decides.{nat_tests}
 use Rattle.set_events.specs.declared.answer.Fate.{Fate}
 use Rattle.set_events.specs.declared.answer.Fate.TheVariants.{Waiting, Unacked, Acked, Held, Parked, Back, Discarded}
 use Rattle.set_events.specs.declared.answer.DiscardCause.{DiscardCause}
@@ -46,15 +47,10 @@ given_of p q ms rows s = given_rows (filter p rows) ms (λ i row e. let below = 
 
 -- A message that comes to stand elsewhere keeps its label.
 label_with : (to : Fate) (o : Option Message) → option_map label_in (option_map (message_with to) o) ≡ option_map label_in o
-label_with to None = refl
-label_with to (Some m) = refl
+label_with to o = grind arith
 
 label_one : (n k : ℕ) (to : Fate) (ms : List Message) → option_map label_in (slice_get (restood_one k to ms) n) ≡ option_map label_in (slice_get ms n)
-label_one n k to ms = go (cases_eq k n)
-  where
-    go : (k ≡ n) ⊎ (k ≡ n → ⊥) → option_map label_in (slice_get (restood_one k to ms) n) ≡ option_map label_in (slice_get ms n)
-    go (inl e) = subst (λ (i : ℕ). option_map label_in (slice_get (restood_one i to ms) n) ≡ option_map label_in (slice_get ms n)) (sym e) (ap (option_map label_in) (updated_same (message_with to) ms n) ∙ label_with to (slice_get ms n))
-    go (inr ne) = ap (option_map label_in) (updated_other (message_with to) ms k n ne)
+label_one n k to ms = grind (arith, nat_tests, cases_eq, updated_same, label_with, updated_other)
 
 pub labels_stay : (n : ℕ) (ns : List ℕ) (to : Fate) (ms : List Message) → option_map label_in (slice_get (restood ns to ms) n) ≡ option_map label_in (slice_get ms n)
 labels_stay n [] to ms = refl
@@ -88,11 +84,7 @@ get_last [] x = refl
 get_last (y ∷ xs) x = get_last xs x
 
 get_past : {X : Type 0} (xs : List X) (x : X) (n : ℕ) → length xs ≤ n → (length xs ≡ n → ⊥) → slice_get (xs ++ x ∷ []) n ≡ None
-get_past xs x n far not_last = slice_get_past (xs ++ x ∷ []) n (go (cases_eq (length xs) n))
-  where
-    go : (length xs ≡ n) ⊎ (length xs ≡ n → ⊥) → length (xs ++ x ∷ []) ≤ n
-    go (inl e) = absurd (not_last e)
-    go (inr ne) = let more = length-append xs (x ∷ []) in let apart : length xs < n = omega (arith, far, ne) in omega (arith, more, apart)
+get_past xs x n far not_last = grind (arith, nat_tests, slice_get_past, cases_eq, length-append)
 
 found_appended : (n : ℕ) (rows : List Row) (body : List ℕ) (fate : Fate) → row_of n (appended rows body fate) ≡ option_or (row_of n rows) (cond (length rows == n) (Some (new_row (length rows) body fate)) None)
 found_appended n rows body fate = find-append (λ (r : Row). r.number == n) rows (new_row (length rows) body fate ∷ [])
@@ -152,23 +144,13 @@ appended_stands q ms rows body fate s standing known = record {
 }
   where
     queue : (f : Fate) → (same_fate fate f ≡ true) ⊎ (same_fate fate f ≡ false) → (is_standing f ≡ true) ⊎ (is_standing f ≡ false) → queue_at f (with_queue fate (queue_at fate q ++ length ms ∷ []) q) ≡ numbers (rows_at f (appended rows body fate))
-    queue f (inl e) (inl t) =
-        let same : fate ≡ f = same_is fate f t e in
-        let more : queue_at fate q ++ length ms ∷ [] ≡ numbers (rows_at f rows) ++ length rows ∷ [] = subst (λ (g : Fate). queue_at g q ++ length ms ∷ [] ≡ numbers (rows_at f rows) ++ length rows ∷ []) (sym same) (ap (λ (xs : List ℕ). xs ++ length ms ∷ []) (s.queues f) ∙ ap (λ (k : ℕ). numbers (rows_at f rows) ++ k ∷ []) s.count) in
-        let moved_on : cond (same_fate fate f) (queue_at fate q ++ length ms ∷ []) (queue_at f q) ≡ cond (same_fate fate f) (numbers (rows_at f rows) ++ length rows ∷ []) (numbers (rows_at f rows)) = rw e more in
-        queue_set fate f (queue_at fate q ++ length ms ∷ []) q standing known ∙ moved_on ∙ sym (appended_at rows body fate standing f)
-    queue f (inl e) (inr t) = absurd (let no : same_fate fate f ≡ false = none_final fate f standing t in let clash : true ≡ false = sym e ∙ no in cc)
-    queue f (inr e) t =
-        let kept : cond (same_fate fate f) (queue_at fate q ++ length ms ∷ []) (queue_at f q) ≡ cond (same_fate fate f) (numbers (rows_at f rows) ++ length rows ∷ []) (numbers (rows_at f rows)) = rw e (s.queues f) in
-        queue_set fate f (queue_at fate q ++ length ms ∷ []) q standing known ∙ kept ∙ sym (appended_at rows body fate standing f)
+    queue f h1 t = grind (arith, nat_tests, fate, same_is, queue_set, appended_at, none_final)
 
     fate_is : (n : ℕ) → IsOld n ms (ms ++ message_of body fate ∷ []) rows (appended rows body fate) ⊎ IsNewest n (ms ++ message_of body fate ∷ []) (message_of body fate) (appended rows body fate) (new_row (length rows) body fate) → fate_at n (ms ++ message_of body fate ∷ []) ≡ place n (appended rows body fate)
-    fate_is n (inl old) = ap (option_map (λ (m : Message). m.fate)) old.0 ∙ s.fates n ∙ sym (ap (option_map (λ (r : Row). r.fate)) old.1)
-    fate_is n (inr new) = ap (option_map (λ (m : Message). m.fate)) new.0 ∙ sym (ap (option_map (λ (r : Row). r.fate)) new.1)
+    fate_is n h1 = grind arith
 
     label_is : (n : ℕ) → IsOld n ms (ms ++ message_of body fate ∷ []) rows (appended rows body fate) ⊎ IsNewest n (ms ++ message_of body fate ∷ []) (message_of body fate) (appended rows body fate) (new_row (length rows) body fate) → option_map label_in (slice_get (ms ++ message_of body fate ∷ []) n) ≡ option_map label_of (body_at n (appended rows body fate))
-    label_is n (inl old) = ap (option_map label_in) old.0 ∙ s.labels n ∙ sym (ap (λ (o : Option Row). option_map label_of (option_map (λ (r : Row). r.body) o)) old.1)
-    label_is n (inr new) = ap (option_map label_in) new.0 ∙ sym (ap (λ (o : Option Row). option_map label_of (option_map (λ (r : Row). r.body) o)) new.1)
+    label_is n h1 = grind arith
 
 -- A FIRST SENDING
 pub sent_stands : (l message : ℕ) (q : Lists) (ms : List Message) (rows : List Row) → Stands q ms rows → IsInOrder l rows → l < length q.links → slice_get (queue_at (Waiting l) q) 0 ≡ Some message
@@ -235,22 +217,10 @@ waiting_up_stands l cause q ms rows s known =
 
 -- A final fate has no queue.
 pub final : (f : Fate) → is_standing f ≡ false → (g : Lists) → queue_at f g ≡ []
-final (Waiting k) e g = absurd (cc)
-final (Unacked k) e g = absurd (cc)
-final (Held k) e g = absurd (cc)
-final Parked e g = absurd (cc)
-final (Back c) e g = absurd (cc)
-final (Acked k) e g = refl
-final (Discarded c) e g = refl
+final f e g = grind arith
 
 pub none : (f : Fate) → is_standing f ≡ false → (rs : List Row) → numbers (rows_at f rs) ≡ []
-none (Waiting k) e g = absurd (cc)
-none (Unacked k) e g = absurd (cc)
-none (Held k) e g = absurd (cc)
-none Parked e g = absurd (cc)
-none (Back c) e g = absurd (cc)
-none (Acked k) e g = refl
-none (Discarded c) e g = refl
+none f e g = grind arith
 
 -- ALL OF A PLACE WAIT FOR A LINK: what was parked, or stood back by a code
 module _ (from : Fate) (test : Fate → Bool) (l : ℕ) (q : Lists) (ms : List Message) (rows : List Row) where

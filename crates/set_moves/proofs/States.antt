@@ -1,8 +1,8 @@
 -- WHAT IS KEPT STANDS FOR THE STATE, before and after each small change.
-use Rattle.std.proofs.Common.{refl, arith, ◌≡◌, ◌≢◌, ◌∙◌, ap, sym, subst, ◌<◌, [], ◌∷◌, length, ℕ, zero, suc, ◌+◌, ◌-◌, ◌%◌, ◌==◌, true, false, List, ◌++◌, Option, Some, take, drop, ◌⊎◌, inl, inr}
+use Rattle.std.proofs.Common.{refl, arith, ◌≡◌, ◌≢◌, ◌∙◌, ap, sym, subst, ◌<◌, [], ◌∷◌, length, ℕ, zero, suc, ◌+◌, ◌-◌, ◌%◌, ◌==◌, true, false, List, ◌++◌, Option, Some, take, drop, ◌⊎◌}
 use Rattle.std.specs.Prelude.{slice_get, slice_set}
-use Rattle.std.specs.Option.{option_map}
 use Rattle.std.proofs.lemmas.List.{length-append}
+use Rattle.std.proofs.lemmas.Bool.Decides.{nat_tests}
 use Rattle.set_events.specs.declared.answer.Fate.{Fate}
 use Rattle.set_events.specs.declared.answer.Fate.TheVariants.{Waiting, Unacked, Acked, Held, Parked, Back, Discarded}
 use Rattle.set_events.specs.declared.answer.DiscardCause.{DiscardCause}
@@ -91,11 +91,7 @@ changes k s lists messages rows links routing f c = record {
 -- the FSNs of links of which one changed
 fsns_set : (s : State) (lists : Lists) (n : ℕ) (link' : LinkState) → ((m : ℕ) (link : LinkState) → n ≢ m → slice_get s.links m ≡ Some link → last_at m lists ≡ (link.acked + 127) % 128) → last_at n lists ≡ (link'.acked + 127) % 128
     → (m : ℕ) (link : LinkState) → slice_get (slice_set s.links n link') m ≡ Some link → last_at m lists ≡ (link.acked + 127) % 128
-fsns_set s lists n link' others own m link there = go (at_set s.links n m link' link there)
-  where
-    go : ((m ≡ n) × (link ≡ link')) ⊎ ((m ≢ n) × (slice_get s.links m ≡ Some link)) → last_at m lists ≡ (link.acked + 127) % 128
-    go (inl same) = rw (same.0, same.1) own
-    go (inr other) = others m link (λ e. other.0 (sym e)) other.1
+fsns_set s lists n link' others own m link there = grind (arith, nat_tests, at_set)
 
 -- A LINK CHANGES, but for what was acknowledged on it.
 pub link_for : (k : Kept) (s : State) (n : ℕ) (link link' : LinkState) (routing : Routing) → StandsFor k s → slice_get s.links n ≡ Some link → link'.acked ≡ link.acked
@@ -125,8 +121,7 @@ appended_for k s body fate f standing known = record {
 }
   where
     body_is : (n : ℕ) → IsOld n k.bodies (k.bodies ++ body ∷ []) s.rows (appended s.rows body fate) ⊎ IsNewest n (k.bodies ++ body ∷ []) body (appended s.rows body fate) (new_row (length s.rows) body fate) → slice_get (k.bodies ++ body ∷ []) n ≡ body_at n (appended s.rows body fate)
-    body_is n (inl old) = old.0 ∙ f.bodies n ∙ sym (ap (option_map (λ (r : Row). r.body)) old.1)
-    body_is n (inr new) = new.0 ∙ sym (ap (option_map (λ (r : Row). r.body)) new.1)
+    body_is n h1 = grind arith
 
 -- A FIRST SENDING, under a control that goes on.
 pub sent_for : (k : Kept) (s : State) (n message : ℕ) (link link' : LinkState) → StandsFor k s → IsInOrder n s.rows → slice_get s.links n ≡ Some link → link'.acked ≡ link.acked → slice_get (queue_at (Waiting n) k.lists) 0 ≡ Some message

@@ -1,5 +1,5 @@
 -- The link that messages are moved to.
-use Rattle.std.proofs.Common.{refl, ◌≡◌, ◌≢◌, ◌∙◌, ap, sym, subst, [], ◌∷◌, List, map, ℕ, true, false, slice_get, Some, None, Option, length, ◌<◌, arith, ◌==◌}
+use Rattle.std.proofs.Common.{refl, ◌≡◌, ◌≢◌, ◌∙◌, ap, sym, subst, [], ◌∷◌, List, map, ℕ, true, false, slice_get, Some, Option, length, ◌<◌, arith, ◌==◌}
 use Rattle.std.specs.Prelude.{IfSome}
 use Rattle.std.proofs.lemmas.Bool.{ne_eqb}
 use Rattle.set_moves.specs.declared.link.Link.{Link}
@@ -42,16 +42,13 @@ out_of links n known out t is =
     up_target (map link_of links) n t (link_of x.0) (map_at link_of links n x.0 x.1) (out x.0 x.1) is
 
 pub apart_some : (o : Option ℕ) (n : ℕ) → ((t : ℕ) → o ≡ Some t → n ≢ t) → IfSome o (λ to. to ≢ n)
-apart_some None n apart = tt
-apart_some (Some t) n apart = λ e. apart t refl (sym e)
+apart_some o n apart = grind arith
 
 same_there : (o : Option ℕ) → fate_on o ≡ fate_there o
-same_there None = refl
-same_there (Some t) = refl
+same_there o = grind arith
 
 known_there : (o : Option ℕ) (q : Lists) (count : ℕ) → length q.links ≡ count → IfSome o (λ to. to < count) → IsKnown (fate_there o) q
-known_there None q count e low = tt
-known_there (Some t) q count e low = omega (arith, e, low)
+known_there o q count e low = grind arith
 
 -- where the messages of a link go that is out of service
 pub aside_for : (o : Option ℕ) (n : ℕ) (q : Lists) (count : ℕ) → length q.links ≡ count → n < count → IfSome o (λ to. to < count) → ((t : ℕ) → o ≡ Some t → n ≢ t) → IsAside n (fate_on o) q

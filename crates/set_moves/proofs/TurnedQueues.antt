@@ -1,8 +1,9 @@
 -- THE QUEUES, how many stand back, and the room, when the first of a code goes to a link.
-use Rattle.std.proofs.Common.{refl, arith, ◌≡◌, ◌∙◌, ap, sym, subst, ◌+◌, ◌*◌, ◌≤◌, ◌<◌, [], ◌∷◌, ◌++◌, length, ℕ, zero, suc, Bool, true, false, ◌==◌, ◌⊎◌, inl, inr, List, Some, None, cond, take, drop}
+use Rattle.std.proofs.Common.{refl, arith, ◌≡◌, ◌∙◌, ap, sym, subst, ◌+◌, ◌*◌, ◌≤◌, ◌<◌, [], ◌∷◌, ◌++◌, length, ℕ, zero, suc, false, ◌==◌, ◌⊎◌, inl, inr, List, Some, cond, take, drop}
 use Rattle.std.specs.Prelude.{slice_get}
 use Rattle.std.proofs.lemmas.Bool.{cases_eq, cases_lt, eq-eqb, eqb-true, ne_eqb}
 use Rattle.std.proofs.lemmas.List.{length-append, get_or_past}
+use Rattle.std.proofs.lemmas.Bool.Decides.{nat_tests}
 use Rattle.set_events.specs.declared.answer.Fate.{Fate}
 use Rattle.set_events.specs.declared.answer.Fate.TheVariants.{Waiting, Unacked, Held, Back}
 use Rattle.set_queues.specs.Backs.{passed_first, back_from, IsOldest}
@@ -16,11 +17,7 @@ use Rattle.set_moves.proofs.Oldest.{head_of, IsOnLink}
 
 -- a queue that holds something is one of a code
 pub known_code : (code k : ℕ) (q : Lists) → slice_get (queue_at (Back code) q) 0 ≡ Some k → code < length q.back
-known_code code k q e = go (cases_lt code (length q.back))
-  where
-    go : (code < length q.back) ⊎ (length q.back ≤ code) → code < length q.back
-    go (inl b) = b
-    go (inr b) = let none : slice_get (queue_at (Back code) q) 0 ≡ None = ap (λ (ns : List ℕ). slice_get ns 0) (get_or_past q.back code [] b) in absurd (let no : Some k ≡ None = sym e ∙ none in cc)
+known_code code k q e = grind (arith, nat_tests, cases_lt, get_or_past)
 
 -- THE QUEUES when the first of a code's goes to another
 pub record Goes (code number : ℕ) (to : Fate) (q : Lists) : Type 0 where
@@ -68,28 +65,11 @@ module _ (code : ℕ) (q q' : Lists) (others : (c : ℕ) → (code ≡ c → ⊥
 
   pub back_less : length (queue_at (Back code) q') + 1 ≡ length (queue_at (Back code) q) → (from n : ℕ) → from ≤ code → code < from + n → back_from from n q' + 1 ≡ back_from from n q
   back_less less from zero low high = absurd (omega (arith, low, high))
-  back_less less from (suc n) low high = go (cases_eq code (from + n)) (back_less less from n low)
-    where
-      old : back_from from (suc n) q ≡ back_from from n q + length (queue_at (Back (from + n)) q)
-      old = back_suc from n q
-
-      new : back_from from (suc n) q' ≡ back_from from n q' + length (queue_at (Back (from + n)) q')
-      new = back_suc from n q'
-
-      go : (code ≡ from + n) ⊎ (code ≡ from + n → ⊥) → (code < from + n → back_from from n q' + 1 ≡ back_from from n q) → back_from from (suc n) q' + 1 ≡ back_from from (suc n) q
-      go (inl e) later =
-          let before = back_same from n (omega (arith, e)) in
-          let own : length (queue_at (Back (from + n)) q') + 1 ≡ length (queue_at (Back (from + n)) q) = subst (λ (c : ℕ). length (queue_at (Back c) q') + 1 ≡ length (queue_at (Back c) q)) e less in
-          omega (arith, before, own, old, new)
-      go (inr ne) later =
-          let before = later (omega (arith, high, ne)) in
-          let same = ap length (others (from + n) ne) in
-          omega (arith, before, same, old, new)
+  back_less less from (suc n) low high = grind (arith, nat_tests, cases_eq, back_suc, back_same, back_less less from n low)
 
 -- TO A LINK: it waits for it, or is held for it
 pub either : (P : Fate → Type 0) (to : Fate) (via : ℕ) → (to ≡ Waiting via) ⊎ (to ≡ Held via) → P (Waiting via) → P (Held via) → P to
-either P to via (inl e) w h = subst P (sym e) w
-either P to via (inr e) w h = subst P (sym e) h
+either P to via h3 w h = grind arith
 
 pub goes_to : (home code links : ℕ) (to : Fate) (q : Lists) (o : IsOldest home code q) → IsOnLink links to → length q.links ≡ links → Goes code o.number to q
 goes_to home code links to q o on many =
@@ -128,11 +108,7 @@ turns_within a b old new most t = record {
 }
 
 taken_one : (to fate : Fate) (old new : Rooms) → TakesRoom to 1 old new → room_at fate old ≤ room_at fate new + 1
-taken_one to fate old new t = go (same_fate to fate) refl
-  where
-    go : (b : Bool) → same_fate to fate ≡ b → room_at fate old ≤ room_at fate new + 1
-    go true e = let h : room_at fate old ≤ room_at fate new + 1 = rw e at (t fate) in h
-    go false e = let h : room_at fate old ≤ room_at fate new + 0 = rw e at (t fate) in omega (arith, h)
+taken_one to fate old new t = grind arith
 
 three : (a b c a' b' c' : List ℕ) → length a' ≡ length a → length b' + length c' ≤ length b + length c + 1 → length (a' ++ b' ++ c') ≤ length (a ++ b ++ c) + 1
 three a b c a' b' c' e h =
@@ -143,14 +119,7 @@ three a b c a' b' c' e h =
     omega (arith, e, h, old, old', new, new')
 
 one_more : (via m number : ℕ) (at own : List ℕ) → (via ≡ m → at ≡ own) → length (cond (via == m) (at ++ number ∷ []) own) ≤ length own + 1
-one_more via m number at own same = go (via == m) refl
-  where
-    go : (b : Bool) → (via == m) ≡ b → length (cond (via == m) (at ++ number ∷ []) own) ≤ length own + 1
-    go true e =
-        let more = length-append at (number ∷ []) in
-        let equal = ap length (same (eqb-true via m e)) in
-        rw e (omega (arith, more, equal))
-    go false e = rw e (omega arith)
+one_more via m number at own same = grind (arith, nat_tests, length-append, eqb-true)
 
 on_then : (code number : ℕ) (to : Fate) (q : Lists) → Goes code number to q → (via : ℕ) → (to ≡ Waiting via) ⊎ (to ≡ Held via) → (m : ℕ) → length (on_lists m (passed_first (Back code) to q)) ≤ length (on_lists m q) + 1
 on_then code number to q g via (inl e) m = subst (λ (f : Fate). Goes code number f q → length (on_lists m (passed_first (Back code) f q)) ≤ length (on_lists m q) + 1) (sym e) waits g
@@ -190,14 +159,7 @@ links_then from to q q' e = ap (λ (z : Lists). length z.links) e ∙ links_stay
 
 back_some : (code : ℕ) (q : Lists) → 1 ≤ length (queue_at (Back code) q) → (from n : ℕ) → from ≤ code → code < from + n → 1 ≤ back_from from n q
 back_some code q some from zero low high = absurd (omega (arith, low, high))
-back_some code q some from (suc n) low high = go (cases_eq code (from + n)) (back_some code q some from n low)
-  where
-    all : back_from from (suc n) q ≡ back_from from n q + length (queue_at (Back (from + n)) q)
-    all = back_suc from n q
-
-    go : (code ≡ from + n) ⊎ (code ≡ from + n → ⊥) → (code < from + n → 1 ≤ back_from from n q) → 1 ≤ back_from from (suc n) q
-    go (inl e) later = let own = subst (λ (c : ℕ). 1 ≤ length (queue_at (Back c) q)) e some in omega (arith, own, all)
-    go (inr ne) later = let before = later (omega (arith, high, ne)) in omega (arith, before, all)
+back_some code q some from (suc n) low high = grind (arith, nat_tests, cases_eq, back_suc, back_some code q some from n low)
 
 pub some_back : (home code : ℕ) (q : Lists) → IsOldest home code q → 1 ≤ back_from (16 * home) 16 q
 some_back home code q o =

@@ -10,7 +10,6 @@ use Rattle.set_queues.specs.Buffers.{Lists, is_standing, same_fate, queue_at, wi
 use Rattle.set_queues.specs.Messages.{restood}
 use Rattle.set_queues.proofs.Standing.{length-restood, same_is}
 use Rattle.set_route.specs.declared.place.Place.{Place}
-use Rattle.set_route.specs.declared.place.Place.TheVariants.{On, Changing, Nowhere}
 use Rattle.set_route.specs.Routing.{home_of, place_of}
 use Rattle.set_model.specs.Rows.{Row, standing, is_waiting, is_unacked, is_held, is_parked, is_back, is_back_to, numbers, with_fate, moved, stream_of}
 use Rattle.set_model.specs.Sound.{IsAscending}
@@ -127,9 +126,7 @@ module _ (home code : ℕ) (to : Fate) (k : Kept) (s : State) (f : StandsFor k s
   next = record s { rows = after }
 
   same_way : (p : Place) → fate_at p next ≡ fate_at p s
-  same_way (On link) = refl
-  same_way (Changing home code via) = refl
-  same_way Nowhere = refl
+  same_way p = grind arith
 
   pub turned_on : IsTurning home s → to ≡ fate row → TurnedOn home 1 s next
   turned_on t way =
