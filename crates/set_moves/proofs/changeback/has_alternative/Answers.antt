@@ -1,10 +1,6 @@
-use Rattle.set_moves.proofs.Rooms.{whole_of}
 use Rattle.std.proofs.Common.{arith, ◌∙◌, sym}
-use Rattle.set_moves.proofs.Declaring.{first_none, none_next, found_here, none_of_all, count_is}
+use Rattle.set_moves.proofs.Declaring.{none_next, found_here, none_of_all, count_is}
 use Rattle.set_moves.proofs.changeback.has_alternative.Goals as goal
-
-pub loop-alternative-init : goal.loop-alternative-init
-loop-alternative-init c = λ s f. first_none c.args.number s
 
 pub loop-alternative-preserved : goal.loop-alternative-preserved
 loop-alternative-preserved c = λ s f. none_next c.args.number c.loop-alternative.alternative s (sym (c.may_declare.ensures.value s f) ∙ c.if-may_declare.false) (c.loop-alternative.invariant s f)
@@ -23,6 +19,3 @@ returns c = λ s a.
     let many = c.len-alternative-end.ensures in
     let count = count_is c.args.parts.now s a.stands in
     sym (none_of_all c.args.number c.loop-alternative.alternative s (omega (arith, past, most, many, count)) (c.loop-alternative.invariant s a.stands))
-
-pub may_declare-requires-clause-home : goal.may_declare-requires-clause-home
-may_declare-requires-clause-home c = let few = (whole_of c.args.parts.now c.requires.holds).few in omega (arith, c.requires.known, few)

@@ -1,21 +1,10 @@
-use Rattle.std.proofs.Common.{arith, ◌∙◌, ap, sym, length, subst, ℕ}
+use Rattle.std.proofs.Common.{sym, length, subst, ℕ}
 use Rattle.set_model.specs.Changeover.{out_of_service}
 use Rattle.set_queues.specs.Backs.{back_count}
 use Rattle.set_queues.specs.Queues.{QueuesState}
 use Rattle.set_queues.specs.Buffers.{HaveRoom}
-use Rattle.set_moves.specs.Turning.{TakesTurns}
-use Rattle.set_moves.proofs.Rooms.{whole_of}
 use Rattle.set_moves.proofs.Leaving.{here_up, can_turn, turning_of, as_long}
 use Rattle.set_moves.proofs.changeover.leave.Goals as goal
-
-pub take_out-requires-clause-whole : goal.take_out-requires-clause-whole
-take_out-requires-clause-whole c = whole_of c.args.parts.now c.requires.holds
-
-pub turn_back-requires-clause-known : goal.turn_back-requires-clause-known
-turn_back-requires-clause-known c =
-    let many = as_long c.args.parts.now c.take_out.new.parts c.args.number c.args.blind c.requires.known c.take_out.ensures.links in
-    let low = c.requires.known in
-    omega (arith, many, low)
 
 pub turn_back-requires-clause-turning : goal.turn_back-requires-clause-turning
 turn_back-requires-clause-turning c = can_turn c.args.blind c.args.number c.args.parts.now c.take_out.new.parts (here_up c.args.parts.now c.args.number c.requires.known c.requires.up) c.requires.holds c.take_out.ensures.stands
@@ -30,9 +19,3 @@ pub returns-clause-stands : goal.returns-clause-stands
 returns-clause-stands c = λ s link there a.
     let mid = out_of_service c.args.blind c.args.number link s in
     c.turn_back.ensures.stands mid (c.take_out.ensures.stands s link there a.stands) (turning_of c.args.blind c.args.number c.args.parts.now link s (here_up c.args.parts.now c.args.number c.requires.known c.requires.up) there a)
-
-pub returns-clause-links : goal.returns-clause-links
-returns-clause-links c = λ link there. ap (λ ls. ls.items) c.turn_back.ensures.links ∙ c.take_out.ensures.links link there
-
-pub returns-clause-turns : goal.returns-clause-turns
-returns-clause-turns c = subst (λ (q : QueuesState). TakesTurns (back_count c.args.number q.lists) q c.turn_back.new.parts.queues) c.take_out.ensures.queues c.turn_back.ensures.turns

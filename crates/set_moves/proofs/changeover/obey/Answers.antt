@@ -1,4 +1,3 @@
-use Rattle.set_moves.proofs.Rooms.{whole_of}
 use Rattle.std.proofs.Common.{refl}
 use Rattle.set_events.specs.declared.answer.Took.TheVariants.{Order as TookOrder}
 use Rattle.set_moves.proofs.Obeying.{obeys_it}
@@ -21,6 +20,3 @@ returns-in-Cbd c = record { stands = obeys_it c.args.parts.now c.queue.new.parts
 
 pub returns-in-Cba : goal.returns-in-Cba
 returns-in-Cba c = record { stands = obeys_it c.args.parts.now c.acknowledge_back.new.parts c.acknowledge_back.result c.args.order _ c.in-Cba.is c.acknowledge_back.ensures.stands }
-
-pub queue-requires-clause-whole : goal.queue-requires-clause-whole
-queue-requires-clause-whole c = whole_of c.args.parts.now c.requires.holds

@@ -48,6 +48,3 @@ returns-clause-room c = on_ok c.reserve_all.result (λ enough.
       each = each_stays (length c.args.parts.now.links.items) c.back_count-back.result (back_count n c.reserve_all.new.self.lists) c.reserve_each.new.self.rooms c.reserve_all.new.self.rooms (back_same ∙ sym back) c.reserve_all.ensures.kept
           (subst (λ (k : ℕ). HaveRoom k c.back_count-back.result c.reserve_each.new.self.rooms) many c.in_ok-reserve_each.ensures.room);
     }) c.reserve_all.ensures.room
-
-pub reserve_all-requires-clause-link : goal.reserve_all-requires-clause-link
-reserve_all-requires-clause-link c = omega (arith, c.requires.known, c.requires.whole.as_many, ap (λ (q : Lists). length q.links) c.reserve_each.ensures.same.0, ap (λ (q : Lists). length q.links) c.reserve-2.ensures.same.0)
