@@ -46,13 +46,6 @@ room_after n old new r links takes message body low = record {
       omega (arith, had, kept);
 }
 
-pub room_beyond : (n : ℕ) (parts : Parts) → HasRoomFrom n parts → HasRoomFrom (n + 1) parts
-room_beyond n parts r = record {
-  message = let m = r.message in omega (arith, m);
-  body = let b = r.body in (omega (arith, b.0), omega (arith, b.1));
-  each = λ link far low. r.each link (omega (arith, far)) low;
-}
-
 -- WHETHER ANY LINK IS SUCH, of so many
 pub some_here : (home first n : ℕ) (s : State) → can_declare home first s ≡ true → 0 < n → some_declare home first n s ≡ true
 some_here home first n s e h = grind arith
@@ -72,9 +65,6 @@ none_next home n s e far m h =
 pub found_here : (home n : ℕ) (s : State) → n < link_count s → can_declare home n s ≡ true → NoneSoFar home n s → some_declare home 0 (link_count s) s ≡ true
 found_here home n s low e far =
     far (link_count s - n) (omega (arith, low)) ∙ some_here home n (link_count s - n) s e (omega (arith, low))
-
-pub first_none : (home : ℕ) (s : State) → NoneSoFar home 0 s
-first_none home s m e = let same : link_count s ≡ m = omega (arith, e) in ap (λ (n : ℕ). some_declare home 0 n s) same
 
 pub none_of_all : (home n : ℕ) (s : State) → n ≡ link_count s → NoneSoFar home n s → some_declare home 0 (link_count s) s ≡ false
 none_of_all home n s e far = far 0 (omega (arith, e))

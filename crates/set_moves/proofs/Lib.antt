@@ -8,7 +8,6 @@ pub mod Links
 pub mod Obeying
 pub mod Occurring
 pub mod Oldest
-pub mod Possible
 pub mod Reaching
 pub mod Releasing
 pub mod Rooms

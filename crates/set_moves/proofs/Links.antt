@@ -1,11 +1,9 @@
 -- One link of the list changes, and what the list stands for with it.
-use Rattle.std.proofs.Common.{arith, ◌≡◌, ◌∙◌, ap, sym, ◌<◌, ℕ, Option, None, Bor, List, map, length, slice_get, slice_set, slice_index_or, Some}
-use Rattle.std.proofs.lemmas.Option.{same_Some, slice_get_read, slice_get_past}
-use Rattle.std.specs.Slice.{IsItemAt}
+use Rattle.std.proofs.Common.{◌≡◌, ◌∙◌, ap, sym, ◌<◌, ℕ, List, map, length, slice_get, slice_set, slice_index_or, Some}
+use Rattle.std.proofs.lemmas.Option.{same_Some}
 use Rattle.set_moves.specs.declared.link.Link.{Link}
 use Rattle.set_moves.specs.Parts.{link_of, kept_of}
 use Rattle.std.proofs.lemmas.List.{length-map}
-use Rattle.std.proofs.lemmas.Bool.Decides.{nat_tests}
 use Rattle.set_moves.specs.declared.parts.Parts.{Parts}
 use Rattle.set_moves.specs.Agreement.{Kept, StandsFor}
 use Rattle.set_model.specs.State.{LinkState, State, link_count}

@@ -6,7 +6,7 @@ use Rattle.set_events.specs.declared.answer.Fate.{Fate}
 use Rattle.set_queues.specs.Counts.{one_if}
 use Rattle.set_queues.specs.Queues.{occurs}
 use Rattle.set_queues.proofs.Standing.{occurs-split}
-use Rattle.set_model.specs.Rows.{Row, standing, numbers, with_fate, turned, changed, moved, all_with, row_of, place, IsNumbered}
+use Rattle.set_model.specs.Rows.{Row, standing, numbers, turned, changed, moved, all_with, row_of, place, IsNumbered}
 use Rattle.set_model.proofs.Filters.{filter_comm}
 use Rattle.set_model.proofs.Finding.{with_number}
 use Rattle.set_model.proofs.Lookups.{at_most_one, row_is_first, place_moved}
@@ -62,12 +62,6 @@ module _ (test : Fate → Bool) (to : Fate) where
   turned_goes n k rows numbered = goes_first n k rows (at_most_one n rows numbered)
 
   -- all of them, in their places
-  changed_row : (x : Row) (rows : List Row) (n : ℕ) (b : Bool) → test x.fate ≡ b → (x.number == n) ≡ true → row_of n (changed test to (x ∷ rows)) ≡ Some (cond b (with_fate to x) x)
-  changed_row x rows n b h e = grind arith
-
-  changed_past : (x : Row) (rows : List Row) (n : ℕ) (b : Bool) → test x.fate ≡ b → (x.number == n) ≡ false → row_of n (changed test to (x ∷ rows)) ≡ row_of n (changed test to rows)
-  changed_past x rows n b h e = grind arith
-
   place_changed : (n : ℕ) (rows : List Row) → place n (changed test to rows) ≡ option_map (λ (row : Row). cond (test row.fate) to row.fate) (row_of n rows)
   place_changed n [] = refl
   place_changed n (x ∷ rows) = grind (arith, place_changed n rows)

@@ -90,21 +90,11 @@ fewer_back home code links to q q' o on many e =
     (back_less code q (passed_first (Back code) to q) (λ c ne. other_then code o.number to q g c ne (either (λ f. same_fate f (Back c) ≡ false) to on.0 on.2 refl refl)) (code_then code o.number to q g) (16 * home) 16 (omega (arith, of)) (omega (arith, of)))
 
 -- ROOM
-pub turns_none : (q : QueuesState) → TakesTurns 0 q q
-turns_none q = record { room = refl; rooms = λ f. omega arith; on_link = λ n low. omega arith }
-
 pub turns_then : (a b : ℕ) (old mid new : QueuesState) → length mid.lists.links ≡ length old.lists.links → TakesTurns a old mid → TakesTurns b mid new → TakesTurns (a + b) old new
 turns_then a b old mid new many t u = record {
   room = u.room ∙ t.room;
   rooms = λ f. let one = t.rooms f in let two = u.rooms f in omega (arith, one, two);
   on_link = λ n low. let one = t.on_link n low in let two = u.on_link n (omega (arith, low, many)) in omega (arith, one, two);
-}
-
-pub turns_within : (a b : ℕ) (old new : QueuesState) → a ≤ b → TakesTurns a old new → TakesTurns b old new
-turns_within a b old new most t = record {
-  room = t.room;
-  rooms = λ f. let one = t.rooms f in omega (arith, one, most);
-  on_link = λ n low. let one = t.on_link n low in omega (arith, one, most);
 }
 
 taken_one : (to fate : Fate) (old new : Rooms) → TakesRoom to 1 old new → room_at fate old ≤ room_at fate new + 1
