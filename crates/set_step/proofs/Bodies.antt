@@ -1,5 +1,5 @@
 -- The bodies that the queues name, and their octets.
-use Rattle.std.proofs.Common.{refl, arith, ◌≡◌, ◌∙◌, ap, sym, subst, ◌≤◌, ◌<◌, [], ◌∷◌, List, ℕ, zero, suc, Bool, length, Option, Some, None}
+use Rattle.std.proofs.Common.{refl, arith, ◌≡◌, ◌∙◌, ap, sym, subst, ◌≤◌, ◌<◌, [], ◌∷◌, List, ℕ, zero, suc, Bool, length, Option, Some}
 use Rattle.std.specs.Prelude.{slice_get, filter}
 use Rattle.std.specs.Option.{option_map}
 use Rattle.std.proofs.lemmas.Option.{slice_get_within}
@@ -14,7 +14,7 @@ use Rattle.std.proofs.lemmas.List.{length-map}
 use Rattle.set_model.proofs.Lists.{present}
 use Rattle.set_model.proofs.Filters.{fit_filter}
 use Rattle.set_model.proofs.Lookups.{row_in_filter, row_at_number}
-use Rattle.set_moves.specs.Agreement.{Kept, Label, Stands, Agrees, rows_at, label_in, label_of}
+use Rattle.set_moves.specs.Agreement.{Kept, Stands, Agrees, rows_at, label_in, label_of}
 
 -- A row of a queue is the one that its number finds, and its body is fit.
 pub record IsOfQueue (rows : List Row) (row : Row) : Type 0 where
@@ -56,8 +56,7 @@ module _ (k : Kept) (s : State) (a : Agrees k s) where
 
 -- OCTETS
 kept_octets : (o : Option Message) (body : List ℕ) → option_map label_in o ≡ Some (label_of body) → octets_kept o ≡ length body
-kept_octets None body e = absurd (cc)
-kept_octets (Some m) body e = let same : label_in m ≡ label_of body = cc in ap (λ (l : Label). l.octets) same
+kept_octets o body e = grind arith
 
 sum_of : (xs : List Row) (ms : List Message) → ((i : ℕ) (row : Row) → slice_get xs i ≡ Some row → octets_at row.number ms ≡ length row.body) → octets_of (numbers xs) ms ≡ octets_in xs
 sum_of [] ms h = refl

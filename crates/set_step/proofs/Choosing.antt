@@ -1,44 +1,33 @@
 -- What the control chooses by the window that is kept, and by the one that the rows give.
-use Rattle.std.proofs.Common.{refl, ◌≡◌, ◌∙◌, ap, ℕ, Bool, List, Some, slice_get}
+use Rattle.std.proofs.Common.{arith, ◌≡◌, ◌∙◌, ap, ℕ, Bool, List, Some, slice_get}
 use Rattle.l2_units.specs.declared.unit.Header.{Header}
 use Rattle.l2_window.specs.Window.{WindowState}
 use Rattle.l2_window.specs.Control.{fsn_of}
 use Rattle.l2_window.specs.declared.control.Choice.{Choice}
-use Rattle.l2_window.specs.declared.control.Choice.TheVariants.{Again, First, Fill}
 use Rattle.set_events.specs.declared.answer.Fate.TheVariants.{Waiting, Unacked}
 use Rattle.set_queues.specs.Buffers.{queue_at, last_at}
 use Rattle.set_queues.specs.Messages.{octets_of}
 use Rattle.set_model.specs.Rows.{octets_in, unack}
-use Rattle.set_model.specs.Control.{Control, Basic, Cyclic, choice_of, head_of, control_after, part_of, control_heard}
+use Rattle.set_model.specs.Control.{Control, choice_of, head_of, control_after, part_of, control_heard}
 use Rattle.set_model.specs.State.{LinkState, State, window_of}
 use Rattle.set_moves.specs.Agreement.{Kept, StandsFor, Agrees}
 use Rattle.set_step.proofs.Bodies.{weight_is}
 
 -- The room of a window is no affair of the control's.
 pub choice_roomless : (o r : ℕ) (c : Control) (w : WindowState) → choice_of o c (record w { room = r }) ≡ choice_of o c w
-choice_roomless o r (Basic s) w = refl
-choice_roomless o r (Cyclic s) w = refl
+choice_roomless o r c w = grind arith
 
 pub after_roomless : (o r : ℕ) (choice : Choice) (c : Control) (w : WindowState) → control_after choice o c (record w { room = r }) ≡ control_after choice o c w
-after_roomless o r (Again p) (Basic s) w = refl
-after_roomless o r First (Basic s) w = refl
-after_roomless o r Fill (Basic s) w = refl
-after_roomless o r (Again p) (Cyclic s) w = refl
-after_roomless o r First (Cyclic s) w = refl
-after_roomless o r Fill (Cyclic s) w = refl
+after_roomless o r choice c w = grind arith
 
 pub fsn_roomless : (r : ℕ) (choice : Choice) (w : WindowState) → fsn_of choice (record w { room = r }) ≡ fsn_of choice w
-fsn_roomless r (Again p) w = refl
-fsn_roomless r First w = refl
-fsn_roomless r Fill w = refl
+fsn_roomless r choice w = grind arith
 
 pub part_roomless : (r : ℕ) (c : Control) (w : WindowState) (head : Header) (msu : Bool) → part_of c (record w { room = r }) head msu ≡ part_of c w head msu
-part_roomless r (Basic s) w head msu = refl
-part_roomless r (Cyclic s) w head msu = refl
+part_roomless r c w head msu = grind arith
 
 pub heard_roomless : (r : ℕ) (c : Control) (w : WindowState) (head : Header) (msu : Bool) → control_heard c (record w { room = r }) head msu ≡ control_heard c w head msu
-heard_roomless r (Basic s) w head msu = refl
-heard_roomless r (Cyclic s) w head msu = refl
+heard_roomless r c w head msu = grind arith
 
 -- The window that is kept is the rows' but for its room.
 pub window_is : (k : Kept) (s : State) (n : ℕ) (link : LinkState) (w : WindowState) → StandsFor k s → slice_get s.links n ≡ Some link → w.last ≡ last_at n k.lists → w.unacked ≡ queue_at (Unacked n) k.lists → w.unsent ≡ queue_at (Waiting n) k.lists

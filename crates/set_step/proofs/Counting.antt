@@ -4,7 +4,6 @@ use Rattle.std.specs.Prelude.{slice_get, filter}
 use Rattle.std.specs.Option.{option_map}
 use Rattle.std.proofs.lemmas.Bool.{eqb-true, eq-eqb, ne_eqb, ltb-true}
 use Rattle.set_events.specs.declared.answer.Fate.{Fate}
-use Rattle.set_events.specs.declared.answer.Fate.TheVariants.{Waiting, Unacked, Acked, Held, Parked, Back, Discarded}
 use Rattle.set_queues.specs.declared.message.Message.{Message}
 use Rattle.set_queues.specs.Buffers.{Lists}
 use Rattle.set_queues.specs.Counts.{one_if, is_unsent as unsent_there}
@@ -60,11 +59,7 @@ picked (Some b) = b
 
 by_places : (p : Message → Bool) (ms : List Message) → length (filter p ms) ≡ below (λ i. picked (option_map p (slice_get ms i))) (length ms)
 by_places p [] = refl
-by_places p (m ∷ ms) = go (p m) refl (by_places p ms)
-  where
-    go : (b : Bool) → p m ≡ b → length (filter p ms) ≡ below (λ i. picked (option_map p (slice_get ms i))) (length ms) → length (filter p (m ∷ ms)) ≡ one_if (p m) + below (λ i. picked (option_map p (slice_get ms i))) (length ms)
-    go true e rest = rw e (omega (arith, rest))
-    go false e rest = rw e (omega (arith, rest))
+by_places p (m ∷ ms) = grind (arith, by_places p ms)
 
 -- of rows by their numbers
 abbrev Distinct : List Row → Type 0
@@ -74,11 +69,7 @@ abbrev AreLow : ℕ → List Row → Type 0
 AreLow n rows = (i : ℕ) (row : Row) → slice_get rows i ≡ Some row → row.number < n
 
 fewer_with : (n : ℕ) (x : Row) (rows : List Row) → length (with_number n rows) ≤ length (with_number n (x ∷ rows))
-fewer_with n x rows = go (x.number == n) refl
-  where
-    go : (b : Bool) → (x.number == n) ≡ b → length (with_number n rows) ≤ length (with_number n (x ∷ rows))
-    go true e = rw e (omega arith)
-    go false e = rw e (omega arith)
+fewer_with n x rows = grind arith
 
 none_with : (x : Row) (rows : List Row) → length (with_number x.number (x ∷ rows)) ≤ 1 → length (with_number x.number rows) ≡ 0
 none_with x rows one = let two : suc (length (with_number x.number rows)) ≤ 1 = rw (eq-eqb x.number x.number refl) at one in omega (arith, two)
@@ -91,8 +82,7 @@ no_row n rows e = row_is_first n rows ∙ empty (with_number n rows) e
     empty (x ∷ xs) e = absurd (omega (arith, e))
 
 pick : (r : Row → Bool) (x : Row) (c : Bool) (o : Option Row) → picked (option_map r (cond c (Some x) o)) ≡ cond c (r x) (picked (option_map r o))
-pick r x true o = refl
-pick r x false o = refl
+pick r x c o = grind arith
 
 by_numbers : (r : Row → Bool) (n : ℕ) (rows : List Row) → AreLow n rows → Distinct rows → length (filter r rows) ≡ below (λ i. picked (option_map r (row_of i rows))) n
 by_numbers r n [] low apart = sym (none_below n)
@@ -132,13 +122,7 @@ as_many p r ms rows count numbered same =
 -- by label and fate, as a message has them and its row
 module _ (f : Label → Fate → Bool) where
   by_label : (o : Option Message) (d : Option Row) → option_map (λ (m : Message). m.fate) o ≡ option_map (λ (r : Row). r.fate) d → option_map label_in o ≡ option_map label_of (option_map (λ (r : Row). r.body) d) → option_map (λ (m : Message). f (label_in m) m.fate) o ≡ option_map (λ (r : Row). f (label_of r.body) r.fate) d
-  by_label None None e g = refl
-  by_label None (Some row) e g = absurd (cc)
-  by_label (Some m) None e g = absurd (cc)
-  by_label (Some m) (Some row) e g =
-      let fate : m.fate ≡ row.fate = cc in
-      let label : label_in m ≡ label_of row.body = cc in
-      ap Some (ap (λ (l : Label). f l m.fate) label ∙ ap (f (label_of row.body)) fate)
+  by_label o d e g = grind arith
 
   pub counted : (q : Lists) (ms : List Message) (rows : List Row) → Stands q ms rows → length (filter (λ (m : Message). f (label_in m) m.fate) ms) ≡ length (filter (λ (r : Row). f (label_of r.body) r.fate) rows)
   counted q ms rows s = as_many (λ (m : Message). f (label_in m) m.fate) (λ (r : Row). f (label_of r.body) r.fate) ms rows s.count s.numbered (λ n. by_label (slice_get ms n) (row_of n rows) (s.fates n) (s.labels n))
@@ -146,27 +130,13 @@ module _ (f : Label → Fate → Bool) where
 -- THE UNSENT MESSAGES of a stream
 same_filter : (p r : Row → Bool) → ((row : Row) → p row ≡ r row) → (rows : List Row) → length (filter p rows) ≡ length (filter r rows)
 same_filter p r e [] = refl
-same_filter p r e (x ∷ rows) = go (p x) (r x) refl refl (same_filter p r e rows) (e x)
-  where
-    go : (b c : Bool) → p x ≡ b → r x ≡ c → length (filter p rows) ≡ length (filter r rows) → p x ≡ r x → length (filter p (x ∷ rows)) ≡ length (filter r (x ∷ rows))
-    go true true h k rest same = rw (h, k) (omega (arith, rest))
-    go false false h k rest same = rw (h, k) rest
-    go true false h k rest same = absurd (let clash : true ≡ false = sym h ∙ same ∙ k in cc)
-    go false true h k rest same = absurd (let clash : false ≡ true = sym h ∙ same ∙ k in cc)
+same_filter p r e (x ∷ rows) = grind (arith, same_filter p r e rows)
 
 of_stream : (b c : Bool) (stream : ℕ) (body : List ℕ) (u : Bool) → (service_indicator body == 0) ≡ b → (stream_of body == stream) ≡ c → (is_of stream (kind_of body) && u) ≡ (not (service_indicator body == 0) && ((stream_of body == stream) && u))
-of_stream true c stream body u e g = rw e refl
-of_stream false true stream body u e g = rw (e, g) refl
-of_stream false false stream body u e g = rw (e, g) refl
+of_stream b c stream body u e g = grind arith
 
 same_unsent : (fate : Fate) → unsent_there fate ≡ is_unsent fate
-same_unsent (Waiting l) = refl
-same_unsent (Unacked l) = refl
-same_unsent (Acked l) = refl
-same_unsent (Held l) = refl
-same_unsent Parked = refl
-same_unsent (Back c) = refl
-same_unsent (Discarded c) = refl
+same_unsent fate = grind arith
 
 pub unsent_is : (stream : ℕ) (q : Lists) (ms : List Message) (rows : List Row) → Stands q ms rows → unsent_of stream ms ≡ length (unsent stream rows)
 unsent_is stream q ms rows s =

@@ -65,13 +65,7 @@ empty n (Acked l) = refl
 empty n (Discarded c) = refl
 
 none_stands : (fate : Fate) → numbers (rows_at fate []) ≡ []
-none_stands (Waiting l) = refl
-none_stands (Unacked l) = refl
-none_stands (Held l) = refl
-none_stands Parked = refl
-none_stands (Back c) = refl
-none_stands (Acked l) = refl
-none_stands (Discarded c) = refl
+none_stands fate = grind arith
 
 -- what is kept of a set of which nothing was asked
 abbrev pub new_kept : SetConfig → Kept
@@ -137,7 +131,4 @@ counted_of parts h number link there =
 
 -- what is kept at first: links that stand for new ones, queues with nothing, and nothing else
 pub new_is : (config : SetConfig) (parts : Parts) → parts.config ≡ config → map link_of parts.links.items ≡ replicate config.links (new_link config.method) → parts.queues.lists.links ≡ replicate config.links new_lists → parts.queues.lists.parked ≡ [] → parts.queues.lists.back ≡ replicate 256 nothing → parts.queues.messages ≡ [] → parts.bodies.items ≡ [] → parts.routes ≡ new_routing config.links → parts.inbox.items ≡ [] → kept_of parts ≡ new_kept config
-new_is config parts c links queues parked back messages bodies routes inbox = rw (c, links, lists, messages, bodies, routes, inbox) refl
-  where
-    lists : parts.queues.lists ≡ no_lists config.links
-    lists = ap (λ (links : List LinkLists). record { links = links; parked = parts.queues.lists.parked; back = parts.queues.lists.back }) queues ∙ ap (λ (ns : List ℕ). record { links = replicate config.links new_lists; parked = ns; back = parts.queues.lists.back }) parked ∙ ap (λ (bs : List (List ℕ)). record { links = replicate config.links new_lists; parked = nothing; back = bs }) back
+new_is config parts c links queues parked back messages bodies routes inbox = grind arith

@@ -1,5 +1,6 @@
 -- What a heard unit acknowledges, as the queues and as the rows tell it.
-use Rattle.std.proofs.Common.{refl, arith, ◌≡◌, ◌∙◌, ap, sym, subst, ◌≤◌, ◌<◌, ◌+◌, ◌-◌, ◌%◌, ℕ, Bool, true, false, take, slice_get, slice_set, Some}
+use Rattle.std.proofs.Common.{refl, arith, ◌≡◌, ◌∙◌, ap, sym, subst, ◌≤◌, ◌<◌, ◌+◌, ◌-◌, ◌%◌, ℕ, Bool, take, slice_get, slice_set, Some}
+use Rattle.std.proofs.lemmas.Bool.Decides.{nat_tests}
 use mir.Val.{bool_byte}
 use Rattle.l2_units.specs.declared.unit.Header.{Header}
 use Rattle.l2_units.specs.declared.unit.Unit.{Unit as SignalUnit}
@@ -10,7 +11,7 @@ use Rattle.set_events.specs.declared.answer.Fate.TheVariants.{Unacked, Acked}
 use Rattle.set_queues.specs.Buffers.{queue_at, last_at}
 use Rattle.set_queues.specs.Messages.{restood}
 use Rattle.set_queues.specs.Sending.{acknowledged as acked_lists, reach}
-use Rattle.set_model.specs.Control.{Control, Basic, Cyclic, part_of, control_heard}
+use Rattle.set_model.specs.Control.{Control, part_of, control_heard}
 use Rattle.set_model.specs.Rows.{is_unacked, turned}
 use Rattle.set_model.specs.State.{LinkState, State, window_of, with_link}
 use Rattle.set_model.specs.Step.{after_control, one_if, is_msu}
@@ -21,12 +22,10 @@ use Rattle.set_step.proofs.Choosing.{part_is, heard_is}
 
 -- So many are acknowledged as the BSN reaches, or none.
 reached_or_none : (b : Bool) (w : WindowState) (head : Header) → 0 < acked_where b w head → acked_where b w head ≡ (head.bsn + 128 - w.last) % 128
-reached_or_none true w head h = refl
-reached_or_none false w head h = absurd (omega (arith, h))
+reached_or_none b w head h = grind arith
 
 pub part_reaches : (c : Control) (w : WindowState) (head : Header) (msu : Bool) → 0 < (part_of c w head msu).acked → (part_of c w head msu).acked ≡ (head.bsn + 128 - w.last) % 128
-part_reaches (Basic s) w head msu h = reached_or_none _ w head h
-part_reaches (Cyclic s) w head msu h = reached_or_none _ w head h
+part_reaches c w head msu h = grind (arith, nat_tests, reached_or_none)
 
 -- the link as the control leaves it
 abbrev pub heard_link : HeardPart → Header → SignalUnit → ℕ → State → LinkState → LinkState
@@ -51,15 +50,10 @@ module _ (old new : Kept) (s : State) (n : ℕ) (link : LinkState) (f : StandsFo
 
 -- What the control says and does, told of the kept window and of the rows'.
 below : (b : Bool) (w : WindowState) (head : Header) → acked_where b w head < 128
-below true w head = omega arith
-below false w head = omega arith
+below b w head = grind arith
 
 pub low_part : (c : Control) (w : WindowState) (head : Header) (msu : Bool) (part : HeardPart) → part ≡ part_of c w head msu → part.acked < 128
-low_part c w head msu part e = subst (λ (p : HeardPart). p.acked < 128) (sym e) (go c)
-  where
-    go : (d : Control) → (part_of d w head msu).acked < 128
-    go (Basic s) = below _ w head
-    go (Cyclic s) = below _ w head
+low_part c w head msu part e = grind (arith, nat_tests)
 
 module _ (w v : WindowState) (is : w ≡ record v { room = w.room }) (c d : Control) (same : c ≡ d) (head head' : Header) (heads : head ≡ head') (msu msu' : Bool) (kinds : msu ≡ msu') where
   pub part_told : (part : HeardPart) → part ≡ part_of c w head msu → part ≡ part_of d v head' msu'
@@ -76,12 +70,10 @@ module _ (w v : WindowState) (is : w ≡ record v { room = w.room }) (c d : Cont
       ∙ ap (λ (h : Header). (h.bsn + 128 - last_at n k.lists) % 128) heads
 
 pub one_byte : (b : Bool) → bool_byte b ≡ one_if b
-one_byte true = refl
-one_byte false = refl
+one_byte b = grind arith
 
 pub one_low : (b : Bool) → one_if b ≤ 1
-one_low true = omega arith
-one_low false = omega arith
+one_low b = grind arith
 
 -- the link with what was counted
 pub counts : (x link : LinkState) (part : HeardPart) (head : Header) (unit : SignalUnit) (n : ℕ) (s : State) (acked accepted : ℕ) (control : Control) → x ≡ link → acked ≡ part.acked → accepted ≡ one_if part.accept → control ≡ control_heard link.control (window_of n link s.rows) head (is_msu unit)

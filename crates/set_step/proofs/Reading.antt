@@ -1,8 +1,9 @@
 -- What is read of a set: how many messages stand in each place, and the unacknowledged ones of a link.
-use Rattle.std.proofs.Common.{refl, arith, ◌≡◌, ◌∙◌, ap, sym, ℕ, zero, suc, ◌+◌, ◌%◌, ◌<◌, ◌≤◌, ◌==◌, ◌&&◌, Bool, true, false, List, [], ◌∷◌, length, slice_get, Option, Some, None}
+use Rattle.std.proofs.Common.{refl, arith, ◌≡◌, ◌∙◌, ap, sym, ℕ, zero, suc, ◌+◌, ◌%◌, ◌<◌, ◌≤◌, ◌&&◌, Bool, List, [], ◌∷◌, length, slice_get, Option, Some, None}
 use Rattle.std.specs.Prelude.{filter}
 use Rattle.std.specs.Option.{option_map}
 use Rattle.std.proofs.lemmas.Option.{slice_get_past}
+use Rattle.std.proofs.lemmas.Bool.Decides.{nat_tests}
 use Rattle.set_events.specs.declared.answer.DiscardCause.{DiscardCause}
 use Rattle.set_events.specs.declared.answer.Fate.{Fate}
 use Rattle.set_events.specs.declared.answer.Fate.TheVariants.{Waiting, Unacked, Acked, Held, Parked, Back, Discarded}
@@ -11,7 +12,7 @@ use Rattle.set_queues.specs.Buffers.{Lists, queue_at, last_at}
 use Rattle.set_queues.specs.Counts.{waits, was_sent, was_acked, was_held, is_parked, stands_back, was_discarded}
 use Rattle.set_queues.specs.Kind.{is_users}
 use Rattle.set_queues.specs.Messages.{count_of, counts_of}
-use Rattle.set_model.specs.Rows.{Row, service_indicator, standing, users, numbers, unack, counts_of as counts_in, waits as waits_in, was_sent as was_sent_in, was_acked as was_acked_in, was_held as was_held_in, is_parked as is_parked_in, stands_back as stands_back_in, was_discarded as was_discarded_in}
+use Rattle.set_model.specs.Rows.{Row, standing, users, numbers, unack, counts_of as counts_in, waits as waits_in, was_sent as was_sent_in, was_acked as was_acked_in, was_held as was_held_in, is_parked as is_parked_in, stands_back as stands_back_in, was_discarded as was_discarded_in}
 use Rattle.set_model.specs.State.{State, LinkState, unacked_of, unacked_in}
 use Rattle.set_model.specs.declared.numbered.Numbered.{Numbered}
 use Rattle.set_model.proofs.Lists.{map_at}
@@ -22,25 +23,14 @@ use Rattle.set_step.proofs.Counting.{counted}
 -- THE USERS' MESSAGES of one place
 two_filters : (test like : Fate → Bool) → ((fate : Fate) → test fate ≡ like fate) → (rows : List Row) → length (filter (λ (r : Row). is_users (kind_of r.body) && test r.fate) rows) ≡ length (standing like (users rows))
 two_filters test like same [] = refl
-two_filters test like same (x ∷ rows) = go (service_indicator x.body == 0) refl (test x.fate) refl (same x.fate) (two_filters test like same rows)
-  where
-    go : (b : Bool) → (service_indicator x.body == 0) ≡ b → (t : Bool) → test x.fate ≡ t → test x.fate ≡ like x.fate → length (filter (λ (r : Row). is_users (kind_of r.body) && test r.fate) rows) ≡ length (standing like (users rows)) → length (filter (λ (r : Row). is_users (kind_of r.body) && test r.fate) (x ∷ rows)) ≡ length (standing like (users (x ∷ rows)))
-    go true e t h s rest = rw e rest
-    go false e true h s rest = let l : like x.fate ≡ true = sym s ∙ h in rw (e, h, l) (omega (arith, rest))
-    go false e false h s rest = let l : like x.fate ≡ false = sym s ∙ h in rw (e, h, l) rest
+two_filters test like same (x ∷ rows) = grind (arith, two_filters test like same rows)
 
 in_place : (test like : Fate → Bool) → ((fate : Fate) → test fate ≡ like fate) → (q : Lists) (ms : List Message) (rows : List Row) → Stands q ms rows → count_of test ms ≡ length (standing like (users rows))
 in_place test like same q ms rows s = counted (λ l fate. is_users l.kind && test fate) q ms rows s ∙ two_filters test like same rows
 
 -- tests that agree on each kind of fate agree
 same_test : (test like : Fate → Bool) → ((l : ℕ) → test (Waiting l) ≡ like (Waiting l)) → ((l : ℕ) → test (Unacked l) ≡ like (Unacked l)) → ((l : ℕ) → test (Acked l) ≡ like (Acked l)) → ((l : ℕ) → test (Held l) ≡ like (Held l)) → test Parked ≡ like Parked → ((c : ℕ) → test (Back c) ≡ like (Back c)) → ((c : DiscardCause) → test (Discarded c) ≡ like (Discarded c)) → (fate : Fate) → test fate ≡ like fate
-same_test test like w u a h p b d (Waiting l) = w l
-same_test test like w u a h p b d (Unacked l) = u l
-same_test test like w u a h p b d (Acked l) = a l
-same_test test like w u a h p b d (Held l) = h l
-same_test test like w u a h p b d Parked = p
-same_test test like w u a h p b d (Back c) = b c
-same_test test like w u a h p b d (Discarded c) = d c
+same_test test like w u a h p b d fate = grind arith
 
 pub counts_are : (q : Lists) (ms : List Message) (rows : List Row) → Stands q ms rows → counts_of ms ≡ counts_in rows
 counts_are q ms rows s =
@@ -58,11 +48,7 @@ abbrev numbered : ℕ → ℕ → Numbered
 numbered number fsn = record { number = number; fsn = fsn }
 
 none_at : (rows : List Row) (place : ℕ) → slice_get (numbers rows) place ≡ None → slice_get rows place ≡ None
-none_at rows place none = go (slice_get rows place) refl
-  where
-    go : (o : Option Row) → slice_get rows place ≡ o → slice_get rows place ≡ None
-    go None e = e
-    go (Some row) e = absurd (let f = sym (map_at (λ (r : Row). r.number) rows place row e) ∙ none in cc)
+none_at rows place none = grind (arith, nat_tests, map_at)
 
 -- it's found under its number
 unacked_one : (k : Kept) (s : State) (n place number : ℕ) (link : LinkState) → StandsFor k s → slice_get s.links n ≡ Some link → slice_get (queue_at (Unacked n) k.lists) place ≡ Some number → unacked_in s n place ≡ Some (numbered number ((last_at n k.lists + 1 + place) % 128))

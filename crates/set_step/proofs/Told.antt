@@ -1,13 +1,12 @@
 -- What a heard unit brings, as the step has it; and that hearing takes no room.
 use Rattle.std.proofs.Common.{refl, arith, ◌≡◌, ◌∙◌, ap, sym, subst, ◌≤◌, ◌<◌, ◌+◌, ◌*◌, ◌++◌, [], ◌∷◌, List, ℕ, zero, suc, Bool, true, false, ◌==◌, length, map, Option, Some, None, slice_set}
-use Rattle.std.specs.Prelude.{if◌then◌else◌}
 use Rattle.std.proofs.lemmas.List.{length-map}
-use Rattle.std.proofs.lemmas.Option.{same_Some}
+use Rattle.std.proofs.lemmas.Bool.Decides.{nat_tests}
 use Rattle.arrayvec.specs.declared.array_vec.ArrayVec.{ArrayVec}
 use Rattle.l2_signals.specs.declared.status.Status.{Status}
 use Rattle.l2_units.specs.declared.unit.Header.{Header}
 use Rattle.l2_units.specs.declared.unit.Unit.{Unit as SignalUnit}
-use Rattle.l2_units.specs.declared.unit.Unit.TheVariants.{Fisu, Lssu, Msu}
+use Rattle.l2_units.specs.declared.unit.Unit.TheVariants.{Lssu, Msu}
 use Rattle.l2_units.specs.Grammar.{head_of as header_in}
 use Rattle.l2_window.specs.declared.control.HeardPart.{HeardPart}
 use Rattle.l3_orders.specs.declared.order.Order.{Order}
@@ -60,45 +59,22 @@ delivered k s inbox message f is = subst (λ (i : List (List ℕ)). StandsFor (r
 module _ (parts : Parts) (s : State) where
   -- it's one of the management if it has a body that isn't for users
   no_message : (head : Header) (body : ArrayVec ℕ 273 (Unit {0})) → message_brought (Msu head body) ≡ None → (service_indicator body.items == 0) ≡ true
-  no_message head body none = go (service_indicator body.items == 0) none
-    where
-      go : (management : Bool) → (if management then None else Some body.items) ≡ None → management ≡ true
-      go true e = refl
-      go false e = absurd cc
-
-  a_message : (head : Header) (body : ArrayVec ℕ 273 (Unit {0})) (message : List ℕ) → message_brought (Msu head body) ≡ Some message → ((service_indicator body.items == 0) ≡ false) × (body.items ≡ message)
-  a_message head body message some = go (service_indicator body.items == 0) some
-    where
-      go : (management : Bool) → (if management then None else Some body.items) ≡ Some message → (management ≡ false) × (body.items ≡ message)
-      go true e = absurd cc
-      go false e = (refl, same_Some body.items message e)
+  no_message head body none = grind arith
 
   pub message_taken : (unit : SignalUnit) (message : List ℕ) → message_brought unit ≡ Some message → StandsFor (kept_of parts) (record s { inbox = s.inbox ++ message ∷ [] }) → Obeys (takes (brought true unit) s) Message parts
-  message_taken (Fisu head) message e stands = absurd cc
-  message_taken (Lssu head status) message e stands = absurd cc
-  message_taken (Msu head body) message e stands =
-      let is = a_message head body message e in
-      rw is.0 (record { took_is = refl; stands = rw is.1 stands })
+  message_taken unit message e stands = grind arith
 
   pub nothing_brought : (accept : Bool) (unit : SignalUnit) → is_msu unit ≡ false → StandsFor (kept_of parts) s → Obeys (takes (brought accept unit) s) Nothing parts
-  nothing_brought accept (Fisu head) other stands = record { took_is = refl; stands = stands }
-  nothing_brought accept (Lssu head status) other stands = record { took_is = refl; stands = stands }
-  nothing_brought accept (Msu head body) other stands = absurd cc
+  nothing_brought accept unit other stands = grind arith
 
   pub not_accepted : (unit : SignalUnit) → StandsFor (kept_of parts) s → Obeys (takes (brought false unit) s) Nothing parts
-  not_accepted (Fisu head) stands = record { took_is = refl; stands = stands }
-  not_accepted (Lssu head status) stands = record { took_is = refl; stands = stands }
-  not_accepted (Msu head body) stands = record { took_is = refl; stands = stands }
+  not_accepted unit stands = grind arith
 
   pub order_taken : (unit : SignalUnit) (order : Order) (took : Took) → is_msu unit ≡ true → message_brought unit ≡ None → order_brought unit ≡ Some order → Obeys (order_obeyed order s) took parts → Obeys (takes (brought true unit) s) took parts
-  order_taken (Fisu head) order took msu none is obeyed = absurd cc
-  order_taken (Lssu head status) order took msu none is obeyed = absurd cc
-  order_taken (Msu head body) order took msu none is obeyed = rw (no_message head body none, is) obeyed
+  order_taken unit order took msu none is obeyed = grind (arith, nat_tests)
 
   pub no_order_taken : (unit : SignalUnit) → is_msu unit ≡ true → message_brought unit ≡ None → order_brought unit ≡ None → StandsFor (kept_of parts) s → Obeys (takes (brought true unit) s) Ignored parts
-  no_order_taken (Fisu head) msu none is stands = absurd cc
-  no_order_taken (Lssu head status) msu none is stands = absurd cc
-  no_order_taken (Msu head body) msu none is stands = rw (no_message head body none, is) (record { took_is = refl; stands = stands })
+  no_order_taken unit msu none is stands = grind arith
 
 -- THE REPORT
 module _ (n : ℕ) (s : State) (link : LinkState) (unit : SignalUnit) where
@@ -107,12 +83,7 @@ module _ (n : ℕ) (s : State) (link : LinkState) (unit : SignalUnit) where
   heard_gives part took report parts e is o = subst (λ (p : HeardPart). Gives (hears p (header_in unit) unit n s link) (HeardBack report) parts) e (record { answer_is = ap HeardBack (is ∙ ap (report_of part) o.took_is); stands = o.stands })
 
   pub heard_controls : ((head : Header) (status : Status) → unit ≡ Lssu head status → ⊥) → heard_of unit n s link ≡ controls unit n s link
-  heard_controls other = go unit other
-    where
-      go : (u : SignalUnit) → ((head : Header) (status : Status) → u ≡ Lssu head status → ⊥) → heard_of u n s link ≡ controls u n s link
-      go (Fisu head) o = refl
-      go (Lssu head status) o = absurd (o head status refl)
-      go (Msu head body) o = refl
+  heard_controls other = grind arith
 
   pub heard_sound : (part : HeardPart) → part ≡ part_of link.control (window_of n link s.rows) (header_in unit) (is_msu unit) → IsAt n link Up s → IsSound s → IsSound (after_control part (header_in unit) unit n s link)
   heard_sound part e at t = subst (λ (p : HeardPart). IsSound (after_control p (header_in unit) unit n s link)) (sym e) (hears_sound n link s at t unit)
@@ -153,8 +124,7 @@ ready_still n orders old new k r = record {
 }
 
 pub place_still : (message : Option (List ℕ)) (old new : Parts) → new.inbox ≡ old.inbox → HasPlace message old → HasPlace message new
-place_still None old new same p = tt
-place_still (Some message) old new same p = rw same p
+place_still message old new same p = grind arith
 
 pub spacious_still : (order : Option Order) (old new : Parts) → KeepsSpace old new → IsSpacious order old → IsSpacious order new
 spacious_still None old new k p = tt
