@@ -1,7 +1,7 @@
 -- WHAT STANDS BACK, as streams move.
-use Rattle.std.proofs.Common.{refl, ◌≡◌, subst, ◌<◌, ℕ, List}
+use Rattle.std.proofs.Common.{arith, ◌≡◌, subst, ◌<◌, ℕ, List}
 use Rattle.set_events.specs.declared.answer.Fate.{Fate}
-use Rattle.set_events.specs.declared.answer.Fate.TheVariants.{Waiting, Unacked, Acked, Held, Parked, Back, Discarded}
+use Rattle.set_events.specs.declared.answer.Fate.TheVariants.{Back}
 use Rattle.set_route.specs.declared.place.Place.TheVariants.{Changing}
 use Rattle.set_route.specs.declared.place.Code.TheVariants.{Asked}
 use Rattle.set_route.specs.Routing.{Routing, IsRouting, IsCoded, home_of, code_of, place_of}
@@ -22,13 +22,7 @@ StaysBack Of old new =
 
 module _ (Of : ℕ → Type 0) (old new : Routing) (stays : StaysBack Of old new) where
   pub stood : (x : Row) (f : Fate) → ((code : ℕ) → f ≡ Back code → Of code) → IsBackOf old x f → IsBackOf new x f
-  stood x (Back c) of b = let then = stays _ b.1 c b.2 (of c refl) b.3 in (b.0, b.1, then.0, then.1)
-  stood x (Waiting l) of b = tt
-  stood x (Unacked l) of b = tt
-  stood x (Acked l) of b = tt
-  stood x (Held l) of b = tt
-  stood x Parked of b = tt
-  stood x (Discarded cause) of b = tt
+  stood x f of b = grind arith
 
   pub backs_kept : ((code : ℕ) → Of code) → (rows : List Row) → AreBack old rows → AreBack new rows
   backs_kept all rows b = each_so (λ row. IsBackOf old row row.fate) (λ row. IsBackOf new row row.fate) (λ x p. stood x x.fate (λ code e. all code) p) rows b

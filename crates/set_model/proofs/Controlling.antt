@@ -8,44 +8,23 @@ use Rattle.l2_pcr.specs.Pcr as cyclic
 use Rattle.l2_units.specs.declared.unit.Header.{Header}
 use Rattle.l2_window.specs.Window.{WindowState}
 use Rattle.set_events.specs.declared.config.Method.{Method}
-use Rattle.set_events.specs.declared.config.Method.TheVariants.{Basic as BasicMethod, Cyclic as CyclicMethod}
-use Rattle.set_model.specs.Control.{Control, Basic, Cyclic, Choice, again, first, fill, accepted_of, choice_of, control_after, is_processed, is_accepted, acked_by, part_of, window_heard, control_heard}
+use Rattle.set_model.specs.Control.{Control, Basic, Cyclic, Choice, again, first, fill, accepted_of, choice_of, control_after, is_accepted, acked_by, part_of, window_heard, control_heard}
 use Rattle.set_model.specs.Step.{one_if}
 use Rattle.set_model.specs.Sound.{IsOf, IsInRange}
 
 -- SENDING.
 pub accepted_after : (choice : Choice) (o : ℕ) (control : Control) (w : WindowState) → accepted_of (control_after choice o control w) ≡ accepted_of control
-accepted_after (again place) o (Basic s) w = refl
-accepted_after first o (Basic s) w = refl
-accepted_after fill o (Basic s) w = refl
-accepted_after (again place) o (Cyclic s) w = refl
-accepted_after first o (Cyclic s) w = refl
-accepted_after fill o (Cyclic s) w = refl
+accepted_after choice o control w = grind arith
 
 pub method_after : (m : Method) (choice : Choice) (o : ℕ) (control : Control) (w : WindowState) → IsOf m control → IsOf m (control_after choice o control w)
-method_after BasicMethod (again place) o (Basic s) w is = tt
-method_after BasicMethod first o (Basic s) w is = tt
-method_after BasicMethod fill o (Basic s) w is = tt
-method_after BasicMethod choice o (Cyclic s) w is = absurd is
-method_after (CyclicMethod n1 n2) choice o (Basic s) w is = absurd is
-method_after (CyclicMethod n1 n2) (again place) o (Cyclic s) w is = is
-method_after (CyclicMethod n1 n2) first o (Cyclic s) w is = is
-method_after (CyclicMethod n1 n2) fill o (Cyclic s) w is = is
+method_after m choice o control w is = grind arith
 
 -- a first sending is chosen only where something waits, and fewer than 127 are unacknowledged
 both_tests : (x y z : Bool) (p : ℕ) → (if x then again p else (if y && z then first else fill)) ≡ first → (y ≡ true) × (z ≡ true)
-both_tests true y z p e = absurd cc
-both_tests false true true p e = (refl, refl)
-both_tests false true false p e = absurd cc
-both_tests false false z p e = absurd cc
+both_tests x y z p e = grind arith
 
 both_cyclic : (x y z v : Bool) (p q : ℕ) → (if x then again p else (if y && z then first else (if v then again q else fill))) ≡ first → (y ≡ true) × (z ≡ true)
-both_cyclic true y z v p q e = absurd cc
-both_cyclic false true true v p q e = (refl, refl)
-both_cyclic false true false true p q e = absurd cc
-both_cyclic false true false false p q e = absurd cc
-both_cyclic false false z true p q e = absurd cc
-both_cyclic false false z false p q e = absurd cc
+both_cyclic x y z v p q e = grind arith
 
 pub first_chosen : (o : ℕ) (control : Control) (w : WindowState) → choice_of o control w ≡ first → (0 < length w.unsent) × (length w.unacked < 127)
 first_chosen o (Basic s) w e =
@@ -57,17 +36,10 @@ first_chosen o (Cyclic s) w e =
 
 -- what is sent again from the cursor is an unacknowledged message
 again_at : (x y z : Bool) (p place : ℕ) → (if x then again p else (if y && z then first else fill)) ≡ again place → (x ≡ true) × (place ≡ p)
-again_at true y z p place e = (refl, cc)
-again_at false true true p place e = absurd cc
-again_at false true false p place e = absurd cc
-again_at false false z p place e = absurd cc
+again_at x y z p place e = grind arith
 
 round_in : (n place : ℕ) → cyclic.round n place ≢ 0 → cyclic.round n place < n
-round_in n place d = go (nat_lt place n) refl
-  where
-    go : (b : Bool) → nat_lt place n ≡ b → cyclic.round n place < n
-    go true e = let low : place < n = ltb-true place n e in rw e low
-    go false e = absurd (d (rw e refl))
+round_in n place d = grind arith
 
 pub range_after : (choice : Choice) (o : ℕ) (control : Control) (w : WindowState) (count : ℕ) → choice_of o control w ≡ choice → length w.unacked ≤ count → (choice ≡ first → count ≡ length w.unacked + 1) → IsInRange control (length w.unacked) → IsInRange (control_after choice o control w) count
 range_after (again place) o (Basic s) w count e more one r =
@@ -82,30 +54,20 @@ range_after fill o (Cyclic s) w count e more one r = λ d. let low = r d in omeg
 
 -- HEARING.
 pub method_heard : (m : Method) (control : Control) (w : WindowState) (head : Header) (msu : Bool) → IsOf m control → IsOf m (control_heard control w head msu)
-method_heard BasicMethod (Basic s) w head msu is = tt
-method_heard BasicMethod (Cyclic s) w head msu is = absurd is
-method_heard (CyclicMethod n1 n2) (Basic s) w head msu is = absurd is
-method_heard (CyclicMethod n1 n2) (Cyclic s) w head msu is = is
+method_heard m control w head msu is = grind arith
 
 pub part_acked : (control : Control) (w : WindowState) (head : Header) (msu : Bool) → (part_of control w head msu).acked ≡ acked_by control w head
-part_acked (Basic s) w head msu = refl
-part_acked (Cyclic s) w head msu = refl
+part_acked control w head msu = grind arith
 
 pub part_accept : (control : Control) (w : WindowState) (head : Header) (msu : Bool) → (part_of control w head msu).accept ≡ is_accepted control w head msu
-part_accept (Basic s) w head msu = refl
-part_accept (Cyclic s) w head msu = refl
+part_accept control w head msu = grind arith
 
 and_right : (x y : Bool) → (x && y) ≡ true → y ≡ true
-and_right true y e = e
-and_right false y e = absurd cc
+and_right x y e = grind arith
 
 -- the number last acknowledged
 pub last_heard : (control : Control) (w : WindowState) (head : Header) (acked : ℕ) → w.last ≡ (acked + 127) % 128 → (window_heard control w head).last ≡ (acked + acked_by control w head + 127) % 128
-last_heard control w head acked e = go (is_processed control w head) refl
-  where
-    go : (b : Bool) → is_processed control w head ≡ b → (window_heard control w head).last ≡ (acked + acked_by control w head + 127) % 128
-    go true f = let low : head.bsn < 128 = head.bsn_in_range in rw f (omega (arith, e))
-    go false f = rw f (omega (arith, e))
+last_heard control w head acked e = grind arith
 
 -- the FSN last accepted
 pub accepted_heard : (control : Control) (w : WindowState) (head : Header) (msu : Bool) (n : ℕ) → accepted_of control ≡ (n + 127) % 128 → accepted_of (control_heard control w head msu) ≡ (n + one_if (is_accepted control w head msu) + 127) % 128
@@ -122,7 +84,7 @@ accepted_heard (Cyclic s) w head msu n e = go (cyclic.is_accepted s w head msu) 
     go : (b : Bool) → cyclic.is_accepted s w head msu ≡ b → (if cyclic.is_accepted s w head msu then head.fsn else s.accepted) ≡ (n + one_if (cyclic.is_accepted s w head msu) + 127) % 128
     go true f =
         let next : (head.fsn == (s.accepted + 1) % 128) ≡ true = and_right msu (head.fsn == (s.accepted + 1) % 128) (and_right (not (cyclic.has_abnormal_bsn w head)) (msu && (head.fsn == (s.accepted + 1) % 128)) f) in
-        let same : head.fsn ≡ (s.accepted + 1) % 128 = grind (arith, nat_tests) in
+        let same : head.fsn ≡ (s.accepted + 1) % 128 = grind arith in
         rw f (omega (arith, e, same))
     go false f = rw f (omega (arith, e))
 

@@ -60,15 +60,7 @@ total_moved test fate rows = total_is (moved test fate rows) ∙ moved_count tes
 
 -- a new message counts one if it's of a user
 pub total_appended : (rows : List Row) (body : List ℕ) (fate : Fate) → total_of (counts_of (appended rows body fate)) ≡ total_of (counts_of rows) + (cond (service_indicator body == 0) 0 1)
-total_appended rows body fate =
-    total_is (appended rows body fate)
-    ∙ ap length (filter-append is_users rows (new_row (length rows) body fate ∷ []))
-    ∙ length-append (users rows) (users (new_row (length rows) body fate ∷ []))
-    ∙ go (service_indicator body == 0) refl
-  where
-    go : (b : Bool) → (service_indicator body == 0) ≡ b → length (users rows) + length (users (new_row (length rows) body fate ∷ [])) ≡ total_of (counts_of rows) + cond (service_indicator body == 0) 0 1
-    go true h = rw h (omega (arith, total_is rows))
-    go false h = rw h (omega (arith, total_is rows))
+total_appended rows body fate = grind (arith, filter-append, length-append)
 
 -- THE ACKNOWLEDGED ONES.
 users_standing : (test : Fate → Bool) (rows : List Row) → standing test (users rows) ≡ users (standing test rows)

@@ -1,5 +1,5 @@
 -- Filters of rows, and of rows with other fates.
-use Rattle.std.proofs.Common.{refl, arith, ◌≡◌, ◌∙◌, ap, sym, [], ◌∷◌, length, ◌+◌, ◌≤◌, Bool, true, false, not, List, ◌++◌, map}
+use Rattle.std.proofs.Common.{refl, arith, ◌≡◌, ap, [], ◌∷◌, length, ◌+◌, ◌≤◌, Bool, true, false, not, List, ◌++◌, map}
 use Rattle.std.specs.Prelude.{filter}
 use Rattle.std.proofs.lemmas.List.Filters.{length-filter_both}
 use Rattle.set_events.specs.declared.answer.Fate.{Fate}
@@ -8,52 +8,26 @@ use Rattle.set_model.specs.Rows.{Row, standing, fated, AreFit}
 -- One filter after another.
 pub filter_comm : (p q : Row → Bool) (xs : List Row) → filter p (filter q xs) ≡ filter q (filter p xs)
 filter_comm p q [] = refl
-filter_comm p q (x ∷ xs) = go (p x) (q x) refl refl (filter_comm p q xs)
-  where
-    go : (a b : Bool) → p x ≡ a → q x ≡ b → filter p (filter q xs) ≡ filter q (filter p xs) → filter p (filter q (x ∷ xs)) ≡ filter q (filter p (x ∷ xs))
-    go true true h k e = rw (k, h, k) (ap (λ (ys : List Row). x ∷ ys) e)
-    go true false h k e = rw (k, h, k) e
-    go false true h k e = rw (k, h) e
-    go false false h k e = rw (k, h) e
+filter_comm p q (x ∷ xs) = grind (arith, filter_comm p q xs)
 
 -- what the first test keeps passes the second
 pub filter_within : (p q : Row → Bool) → ((x : Row) → p x ≡ true → q x ≡ true) → (xs : List Row) → filter p (filter q xs) ≡ filter p xs
 filter_within p q w [] = refl
-filter_within p q w (x ∷ xs) = go (p x) (q x) refl refl (filter_within p q w xs)
-  where
-    go : (a b : Bool) → p x ≡ a → q x ≡ b → filter p (filter q xs) ≡ filter p xs → filter p (filter q (x ∷ xs)) ≡ filter p (x ∷ xs)
-    go true true h k e = rw (k, h) (ap (λ (ys : List Row). x ∷ ys) e)
-    go true false h k e = let no : true ≡ false = sym (w x h) ∙ k in absurd cc
-    go false true h k e = rw (k, h) e
-    go false false h k e = rw (k, h) e
+filter_within p q w (x ∷ xs) = grind (arith, filter_within p q w xs)
 
 -- nothing passes both
 pub filter_apart : (p q : Row → Bool) → ((x : Row) → p x ≡ true → q x ≡ false) → (xs : List Row) → filter p (filter q xs) ≡ []
 filter_apart p q w [] = refl
-filter_apart p q w (x ∷ xs) = go (p x) (q x) refl refl (filter_apart p q w xs)
-  where
-    go : (a b : Bool) → p x ≡ a → q x ≡ b → filter p (filter q xs) ≡ [] → filter p (filter q (x ∷ xs)) ≡ []
-    go true true h k e = let no : true ≡ false = sym k ∙ w x h in absurd cc
-    go true false h k e = rw k e
-    go false true h k e = rw (k, h) e
-    go false false h k e = rw k e
+filter_apart p q w (x ∷ xs) = grind (arith, filter_apart p q w xs)
 
 pub fewer_filter : (p : Row → Bool) (rows : List Row) → length (filter p rows) ≤ length rows
 fewer_filter p [] = omega arith
-fewer_filter p (x ∷ rows) = go (p x) refl (fewer_filter p rows)
-  where
-    go : (b : Bool) → p x ≡ b → length (filter p rows) ≤ length rows → length (filter p (x ∷ rows)) ≤ length (x ∷ rows)
-    go true h f = rw h (omega (arith, f))
-    go false h f = rw h (omega (arith, f))
+fewer_filter p (x ∷ rows) = grind (arith, fewer_filter p rows)
 
 -- Rows that all got their fates.
 pub filter_fated : (p : Row → Bool) (fate : Row → Fate) → ((x : Row) → p (fated fate x) ≡ p x) → (xs : List Row) → filter p (map (fated fate) xs) ≡ map (fated fate) (filter p xs)
 filter_fated p fate same [] = refl
-filter_fated p fate same (x ∷ xs) = go (p x) refl (filter_fated p fate same xs)
-  where
-    go : (b : Bool) → p x ≡ b → filter p (map (fated fate) xs) ≡ map (fated fate) (filter p xs) → filter p (map (fated fate) (x ∷ xs)) ≡ map (fated fate) (filter p (x ∷ xs))
-    go true h e = rw (same x, h) (ap (λ (ys : List Row). fated fate x ∷ ys) e)
-    go false h e = rw (same x, h) e
+filter_fated p fate same (x ∷ xs) = grind (arith, filter_fated p fate same xs)
 
 pub fated_all : (test : Fate → Bool) (fate : Row → Fate) → ((x : Row) → test (fate x) ≡ true) → (xs : List Row) → standing test (map (fated fate) xs) ≡ map (fated fate) xs
 fated_all test fate h [] = refl
@@ -76,11 +50,7 @@ fit_append (x ∷ xs) ys a b = (a.0, fit_append xs ys a.1 b)
 
 pub fit_filter : (p : Row → Bool) (xs : List Row) → AreFit xs → AreFit (filter p xs)
 fit_filter p [] a = a
-fit_filter p (x ∷ xs) a = go (p x) refl (fit_filter p xs a.1)
-  where
-    go : (b : Bool) → p x ≡ b → AreFit (filter p xs) → AreFit (filter p (x ∷ xs))
-    go true h e = rw h (a.0, e)
-    go false h e = rw h e
+fit_filter p (x ∷ xs) a = grind (arith, fit_filter p xs a.1)
 
 pub fit_fated : (fate : Row → Fate) (xs : List Row) → AreFit xs → AreFit (map (fated fate) xs)
 fit_fated fate [] a = a

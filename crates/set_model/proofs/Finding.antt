@@ -1,5 +1,5 @@
 -- Rows that are looked up, where each number stands in one row.
-use Rattle.std.proofs.Common.{refl, arith, ◌≡◌, ◌∙◌, ap, sym, ◌<◌, ◌≤◌, [], ◌∷◌, length, ℕ, ◌+◌, ◌⊎◌, inl, inr, Bool, true, false, nat_lt, ◌==◌, List, Some, None, cond}
+use Rattle.std.proofs.Common.{refl, arith, ◌≡◌, ◌∙◌, ap, sym, ◌<◌, ◌≤◌, [], ◌∷◌, length, ℕ, ◌+◌, ◌⊎◌, inl, inr, Bool, true, false, nat_lt, ◌==◌, List, None, cond}
 use Rattle.std.specs.Prelude.{slice_get, filter, find}
 use Rattle.std.proofs.lemmas.Bool.{lt-ltb, le-ltb, eq-eqb, ne_eqb, cases_order}
 use Rattle.std.proofs.lemmas.List.{length-append, length_push}
@@ -15,20 +15,12 @@ with_number number rows = filter (λ row. row.number == number) rows
 -- the first row that stands where the test tells
 pub first_is : (test : Fate → Bool) (rows : List Row) → slice_get (standing test rows) 0 ≡ find (λ row. test row.fate) rows
 first_is test [] = refl
-first_is test (x ∷ rows) = go (test x.fate) refl (first_is test rows)
-  where
-    go : (b : Bool) → test x.fate ≡ b → slice_get (standing test rows) 0 ≡ find (λ row. test row.fate) rows → slice_get (standing test (x ∷ rows)) 0 ≡ find (λ row. test row.fate) (x ∷ rows)
-    go true h e = rw h refl
-    go false h e = rw h e
+first_is test (x ∷ rows) = grind (arith, first_is test rows)
 
 -- a number below the length is found
 pub not_found : (number : ℕ) (rows : List Row) → row_of number rows ≡ None → with_number number rows ≡ []
 not_found number [] e = refl
-not_found number (x ∷ rows) e = go (x.number == number) refl (not_found number rows)
-  where
-    go : (b : Bool) → (x.number == number) ≡ b → (row_of number rows ≡ None → with_number number rows ≡ []) → with_number number (x ∷ rows) ≡ []
-    go true h later = let f : Some x ≡ None = rw h at e in absurd cc
-    go false h later = rw h (later (rw h at e))
+not_found number (x ∷ rows) e = grind (arith, not_found number rows)
 
 pub is_found : (number : ℕ) (rows : List Row) → IsNumbered rows → number < length rows → row_of number rows ≡ None → ⊥
 is_found number rows numbered below e =

@@ -1,5 +1,5 @@
 -- WHAT AN EVENT LEAVES ALONE, and how it moves the window of its own link.
-use Rattle.std.proofs.Common.{refl, ◌≡◌, ◌∙◌, ap, sym, subst, ℕ, zero, suc, ◌+◌, ◌%◌, ◌==◌, Bool, true, false, List, [], ◌∷◌, ◌++◌, length, map, take, drop, slice_get, slice_set, Option, Some, None, append_assoc, inl}
+use Rattle.std.proofs.Common.{arith, refl, ◌≡◌, ◌∙◌, ap, sym, subst, ℕ, zero, suc, ◌+◌, ◌%◌, ◌==◌, Bool, true, false, List, [], ◌∷◌, ◌++◌, map, take, drop, slice_get, slice_set, Option, Some, None, append_assoc, inl}
 use Rattle.std.proofs.lemmas.Bool.{eqb-true}
 use Rattle.std.proofs.lemmas.List.{append-nil}
 use Rattle.l2_units.specs.declared.unit.Header.{Header}
@@ -13,7 +13,7 @@ use Rattle.set_events.specs.declared.answer.Fate.{Fate}
 use Rattle.set_events.specs.declared.answer.Fate.TheVariants.{Waiting, Unacked, Acked, Parked}
 use Rattle.set_events.specs.declared.event.Event.{Event}
 use Rattle.set_route.specs.declared.place.Place.{Place}
-use Rattle.set_route.specs.declared.place.Place.TheVariants.{On, Changing, Nowhere}
+use Rattle.set_route.specs.declared.place.Place.TheVariants.{On}
 use Rattle.set_route.specs.Routing.{Routing, place_of, home_of}
 use Rattle.set_model.specs.declared.phase.Phase.TheVariants.{Up, Down}
 use Rattle.set_model.specs.Rows.{Row, standing, is_on, is_waiting, is_unacked, is_held, is_back_to, unack, wait, held, on, numbers, octets_in, service_indicator, stream_of, turned, appended, fated, with_fate, IsInOrder}
@@ -26,7 +26,6 @@ use Rattle.set_model.specs.Frame.{BringsAbout, Concerns, LeavesAlone, window_aft
 use Rattle.set_model.proofs.Controlling.{part_acked, last_heard}
 use Rattle.set_model.proofs.Events.{Untouched, untouched_self, sent, acknowledged, sent_given_up, waiting_given_up, moved_to, moved_aside, unparked, released as released_rows, appended_in, appended_out, appended_untouched, numbers_joined}
 use Rattle.set_model.proofs.Filters.{fated_none}
-use Rattle.set_model.proofs.Finding.{new_row}
 use Rattle.set_model.proofs.Lists.{get_set_same, get_set_other, same_at, within}
 use Rattle.set_model.proofs.Moving.{moved_same, moved_more}
 use Rattle.set_model.proofs.Places.{false_true, itself, apart, not_on_unacked, not_on_waiting, not_on_held, back_not_on, home_back}
@@ -69,23 +68,7 @@ alone_set n m link s t d links u = alone_by n s t (ap (λ (ls : List LinkState).
 
 -- a new message that waits for a link that is up
 alone_waits : (n : ℕ) (body : List ℕ) (s : State) (routing : Routing) (to : ℕ) → is_up to s ≡ true → LeavesAlone n s (record s { rows = appended s.rows body (Waiting to); routing = routing })
-alone_waits n body s routing to up = go (to == n) refl
-  where
-    go : (b : Bool) → (to == n) ≡ b → LeavesAlone n s (record s { rows = appended s.rows body (Waiting to); routing = routing })
-    go false d = alone_by n s (record s { rows = appended s.rows body (Waiting to); routing = routing }) refl (appended_untouched s.rows body (Waiting to) n d)
-    go true d =
-        let same : to ≡ n = eqb-true to n d in
-        let is : is_up n s ≡ true = ap (λ (k : ℕ). is_up k s) (sym same) ∙ up in
-        record {
-          link_same = refl;
-          unack_same = appended_out s.rows body (Waiting to) (is_unacked n) refl;
-          more = new_row (length s.rows) body (Waiting to) ∷ [];
-          wait_more = appended_in s.rows body (Waiting to) (is_waiting n) d;
-          none_more = λ f. false_true (is_up n s) f is;
-          later = [];
-          held_later = appended_out s.rows body (Waiting to) (is_held n) refl ∙ sym (append-nil (held n s.rows));
-          none_later = λ f. refl;
-        }
+alone_waits n body s routing to up = grind (arith, alone_by, appended_untouched, appended_out, appended_in, append-nil)
 
 -- or for the target, or is parked where there is none
 alone_new : (n : ℕ) (body : List ℕ) (s : State) (to : Option ℕ) → target s.links ≡ to → LeavesAlone n s (record s { rows = appended s.rows body (fate_on to) })
@@ -164,16 +147,7 @@ sent_alone n m first rows d = (sent m rows).others n d
 sent_alone n m fill rows d = untouched_self n rows
 
 offer_off : (n : ℕ) (place : Place) (s : State) → (place ≡ On n → ⊥) → is_on n (fate_at place s) ≡ false
-offer_off n Nowhere s free = refl
-offer_off n (Changing to code via) s free = refl
-offer_off n (On l) s free = go (is_up l s) refl
-  where
-    d : (l == n) ≡ false
-    d = apart l n (λ same. free (ap On same))
-
-    go : (b : Bool) → is_up l s ≡ b → is_on n (fate_at (On l) s) ≡ false
-    go true e = rw e d
-    go false e = rw e d
+offer_off n place s free = grind arith
 
 pub leaves_alone : (n : ℕ) (s : State) (event : Event) → (Concerns event n s → ⊥) → LeavesAlone n s (step s event).state
 leaves_alone n s event free = step_walks s (LeavesAlone n) (LeavesAlone n s) event (record {

@@ -1,28 +1,24 @@
 -- What a step brings: each accepted message stands in one place more, and what is acknowledged stays so.
 use Rattle.std.proofs.Common.{refl, arith, ◌≡◌, ◌∙◌, ap, sym, ◌≤◌, length, ℕ, ◌+◌, ◌%◌, ◌==◌, nat_lt, nat_le, Bool, true, false, List, [], ◌∷◌, slice_get, Option, Some, None, if◌then◌else◌, cond}
-use Rattle.std.proofs.lemmas.Bool.Decides.{nat_tests}
 use Rattle.l2_units.specs.declared.unit.Unit.{Unit as SignalUnit}
-use Rattle.l2_units.specs.declared.unit.Unit.TheVariants.{Fisu, Lssu, Msu}
 use Rattle.set_route.specs.declared.place.Place.{Place}
-use Rattle.set_route.specs.declared.place.Place.TheVariants.{On, Changing, Nowhere}
 use Rattle.set_route.specs.Routing.{place_of, code_for, home_of}
 use Rattle.l3_orders.specs.declared.order.Order.{Order}
 use Rattle.l3_orders.specs.declared.order.Order.TheVariants.{Cbd}
 use Rattle.l3_orders.specs.Grammar.{text}
 use Rattle.set_events.specs.declared.answer.Answer.{Answer}
 use Rattle.set_events.specs.declared.answer.Fate.{Fate}
-use Rattle.set_events.specs.declared.answer.Fate.TheVariants.{Waiting, Held}
+use Rattle.set_events.specs.declared.answer.Fate.TheVariants.{Waiting}
 use Rattle.set_events.specs.declared.answer.Refusal.{Refusal as SetRefusal}
-use Rattle.set_events.specs.declared.answer.Refusal.TheVariants.{TooShort, TooLong, Reserved, StreamFull, NotUp}
+use Rattle.set_events.specs.declared.answer.Refusal.TheVariants.{TooShort, TooLong, Reserved, StreamFull}
 use Rattle.set_events.specs.declared.event.Event.{Event}
 use Rattle.set_events.specs.declared.event.Event.TheVariants.{Offer, Take, Find, Next, Heard, Up as UpEvent, Down as DownEvent, DownBlind, NoAnswer, Restore, BackTimeout}
 use Rattle.set_model.specs.declared.phase.Phase.{Phase}
-use Rattle.set_model.specs.declared.phase.Phase.TheVariants.{Up, Down, Settled}
 use Rattle.set_model.specs.Rows.{Row, is_on, is_back_to, was_acked, moved, all_with, appended, service_indicator, counts_of, total_of, place, unsent, stream_of}
-use Rattle.set_model.specs.State.{LinkState, State, link_count, is_up, has_phase_up, fate_at, target}
+use Rattle.set_model.specs.State.{LinkState, State, fate_at, target}
 use Rattle.set_model.specs.Control.{Choice, again, first, fill}
-use Rattle.set_model.specs.Changeover.{fate_on, out_of_service, turned_back, some_declare, some_in_use}
-use Rattle.set_model.specs.Step.{Outcome, refused, offer_refusal, offered, taken, found, with_known, in_service, next, rows_sent, heard, rises, falls, gives_up, comes_back, runs_out, step, messages_in, octets_of, Gains}
+use Rattle.set_model.specs.Changeover.{fate_on, out_of_service, turned_back, some_in_use}
+use Rattle.set_model.specs.Step.{Outcome, offer_refusal, offered, taken, found, with_known, in_service, next, rows_sent, heard, rises, falls, gives_up, comes_back, runs_out, step, messages_in, octets_of, Gains}
 use Rattle.set_model.specs.Sound.{IsManaged}
 use Rattle.set_model.proofs.Counting.{total_appended, acked_appended, acked_appended_open, total_moved, acked_moved}
 use Rattle.set_model.proofs.Events.{Kept, sent, acknowledged, sent_given_up, waiting_given_up, unparked, moved_kept, released as released_rows}
@@ -44,8 +40,7 @@ counted_kept : (rows new : List Row) → Kept rows new → Counted rows new
 counted_kept rows new k = record { total = k.total; acked = k.acked }
 
 open_fate : (to : Option ℕ) → was_acked (fate_on to) ≡ false
-open_fate None = refl
-open_fate (Some link) = refl
+open_fate to = grind arith
 
 counted_moved : (n : ℕ) (to : Option ℕ) (rows : List Row) → Counted rows (moved (is_on n) (all_with (fate_on to)) rows)
 counted_moved n to rows =
@@ -56,19 +51,13 @@ counted_moved n to rows =
 counted_order : (order : Order) (fate : Fate) (s : State) → IsManaged s.settings → Counted s.rows (appended s.rows (text order s.settings.sio s.settings.dpc s.settings.opc) fate)
 counted_order order fate s management =
     let body = text order s.settings.sio s.settings.dpc s.settings.opc in
-    let own : (s.settings.sio % 16 == 0) ≡ true = grind (arith, nat_tests) in
+    let own : (s.settings.sio % 16 == 0) ≡ true = grind arith in
     let one = total_appended s.rows body fate ∙ ap (λ (b : Bool). total_of (counts_of s.rows) + cond b 0 1) own in
     record { total = omega (arith, one); acked = acked_appended s.rows body fate }
 
 -- where a message goes whose stream runs there, it isn't acknowledged
 fate_open : (p : Place) (s : State) → was_acked (fate_at p s) ≡ false
-fate_open (On link) s = go (is_up link s)
-  where
-    go : (b : Bool) → was_acked (if b then Waiting link else Held link) ≡ false
-    go true = refl
-    go false = refl
-fate_open (Changing to code via) s = refl
-fate_open Nowhere s = refl
+fate_open p s = grind arith
 
 counted_back : (n : ℕ) (s : State) → Counted s.rows (turned_back n s).rows
 counted_back n s = counted_kept _ _ (moved_kept (is_back_to n) (λ row. fate_at (place_of (stream_of row.body) s.routing) s) s.rows (λ row. fate_open (place_of (stream_of row.body) s.routing) s) (λ f e. back_not_acked f (home_back n f e)))
@@ -119,48 +108,28 @@ AcceptsNone event answer = (messages_in answer ≡ 0) × (octets_of event answer
 
 module _ (s : State) (event : Event) where
   known_none : (n : ℕ) (f : LinkState → Outcome) → ((link : LinkState) → AcceptsNone event (f link).answer) → AcceptsNone event (with_known (slice_get s.links n) s f).answer
-  known_none n f all = go (slice_get s.links n)
-    where
-      go : (o : Option LinkState) → AcceptsNone event (with_known o s f).answer
-      go None = (refl, refl)
-      go (Some link) = all link
+  known_none n f all = grind arith
 
   service_none : (n : ℕ) (f : LinkState → Outcome) → ((link : LinkState) → AcceptsNone event (f link).answer) → AcceptsNone event (in_service n s f).answer
-  service_none n f all = known_none n (λ link. if has_phase_up link.phase then f link else refused s NotUp) (λ link. go link (has_phase_up link.phase))
-    where
-      go : (link : LinkState) (b : Bool) → AcceptsNone event (if b then f link else refused s NotUp).answer
-      go link true = all link
-      go link false = (refl, refl)
+  service_none n f all = grind arith
 
   take_none : (inbox : List (List ℕ)) → AcceptsNone event (taken inbox s).answer
-  take_none [] = (refl, refl)
-  take_none (body ∷ rest) = (refl, refl)
+  take_none inbox = grind arith
 
   find_none : (fate : Option Fate) → AcceptsNone event (found fate s).answer
-  find_none None = (refl, refl)
-  find_none (Some fate) = (refl, refl)
+  find_none fate = grind arith
 
   heard_none : (unit : SignalUnit) (n : ℕ) (link : LinkState) → AcceptsNone event (heard unit n s link).answer
-  heard_none (Fisu head) n link = (refl, refl)
-  heard_none (Lssu head status) n link = (refl, refl)
-  heard_none (Msu head body) n link = (refl, refl)
+  heard_none unit n link = grind arith
 
   rise_none : (n : ℕ) (phase : Phase) → AcceptsNone event (rises n s phase).answer
-  rise_none n Up = (refl, refl)
-  rise_none n Down = (refl, refl)
-  rise_none n Settled = (refl, refl)
+  rise_none n phase = grind arith
 
   give_none : (n : ℕ) (link : LinkState) (phase : Phase) → AcceptsNone event (gives_up n s link phase).answer
-  give_none n link Up = (refl, refl)
-  give_none n link Down = (refl, refl)
-  give_none n link Settled = (refl, refl)
+  give_none n link phase = grind arith
 
   back_none : (n : ℕ) → AcceptsNone event (comes_back n s).answer
-  back_none n = go (some_declare n 0 (link_count s) s) refl
-    where
-      go : (b : Bool) → some_declare n 0 (link_count s) s ≡ b → AcceptsNone event (comes_back n s).answer
-      go true e = rw e (refl, refl)
-      go false e = rw e (refl, refl)
+  back_none n = grind arith
 
   timeout_none : (n : ℕ) → AcceptsNone event (runs_out n s).answer
   timeout_none n = go (some_in_use (code_for n 0) 16 s) refl
@@ -185,17 +154,14 @@ accepts_none s (NoAnswer n) e = known_none s (NoAnswer n) n (λ link. gives_up n
 
 -- AN OFFER.
 pub fits_offer : (a b c d : Bool) → (if a then Some TooShort else (if b then Some TooLong else (if c then Some Reserved else (if d then Some StreamFull else None)))) ≡ None → (b ≡ false) × (c ≡ false)
-fits_offer true b c d e = absurd cc
-fits_offer false true c d e = absurd cc
-fits_offer false false true d e = absurd cc
-fits_offer false false false d e = (refl, refl)
+fits_offer a b c d e = grind arith
 
 -- an offered body that isn't refused has at most 273 octets, and is a user's
 pub offer_fits : (rows : List Row) (body : List ℕ) → offer_refusal rows body ≡ None → (length body ≤ 273) × ((service_indicator body == 0) ≡ false)
 offer_fits rows body e =
     let fits = fits_offer (nat_lt (length body) 5) (nat_lt 273 (length body)) (service_indicator body == 0) (nat_le 1024 (length (unsent (stream_of body) rows))) e in
     let long : nat_lt 273 (length body) ≡ false = fits.0 in
-    (grind (arith, nat_tests, long), fits.1)
+    (grind arith, fits.1)
 
 offer_gains : (s : State) (body : List ℕ) (o : Option SetRefusal) → offer_refusal s.rows body ≡ o → Gains s (Offer body) (offered o s body).answer (offered o s body).state
 offer_gains s body (Some why) e = record { messages = omega arith; acknowledged = omega arith; octets = omega arith }

@@ -15,19 +15,11 @@ module _ (test : Fate → Bool) (fate : Fate) (P : List Row → List Row → Typ
   pub where_turned : (n : ℕ) (rows : List Row) → P rows (turned test fate n rows)
   where_turned zero rows = all_stay rows
   where_turned (suc n) [] = none
-  where_turned (suc n) (x ∷ rows) = go (test x.fate) refl (where_turned n rows) (where_turned (suc n) rows)
-    where
-      go : (b : Bool) → test x.fate ≡ b → P rows (turned test fate n rows) → P rows (turned test fate (suc n) rows) → P (x ∷ rows) (turned test fate (suc n) (x ∷ rows))
-      go true h p q = rw h (turns x rows (turned test fate n rows) h p)
-      go false h p q = rw h (stays x rows (turned test fate (suc n) rows) q)
+  where_turned (suc n) (x ∷ rows) = grind (arith, where_turned n rows, where_turned (suc n) rows)
 
   pub where_changed : (rows : List Row) → P rows (changed test fate rows)
   where_changed [] = none
-  where_changed (x ∷ rows) = go (test x.fate) refl (where_changed rows)
-    where
-      go : (b : Bool) → test x.fate ≡ b → P rows (changed test fate rows) → P (x ∷ rows) (changed test fate (x ∷ rows))
-      go true h p = rw h (turns x rows (changed test fate rows) h p)
-      go false h p = rw h (stays x rows (changed test fate rows) p)
+  where_changed (x ∷ rows) = grind (arith, where_changed rows)
 
 -- THE MESSAGES.
 pub record InPlace (test : Fate → Bool) (xs ys : List Row) : Type 0 where
@@ -41,20 +33,14 @@ pub record InPlace (test : Fate → Bool) (xs ys : List Row) : Type 0 where
   pub acked : ((f : Fate) → test f ≡ true → was_acked f ≡ false) → length (standing was_acked (users xs)) ≤ length (standing was_acked (users ys))
 
 longer : (b c : Bool) (x y : Row) (xs ys : List Row) → c ≡ b → length ys ≡ length xs → length (cond c (y ∷ ys) ys) ≡ length (cond b (x ∷ xs) xs)
-longer true c x y xs ys e h = rw e (ap suc h)
-longer false c x y xs ys e h = rw e h
+longer b c x y xs ys e h = grind arith
 
 same_body : (b c : Bool) (x y : Row) (r s : Option Row) → c ≡ b → y.body ≡ x.body → option_map (λ (w : Row). w.body) s ≡ option_map (λ (w : Row). w.body) r → option_map (λ (w : Row). w.body) (cond c (Some y) s) ≡ option_map (λ (w : Row). w.body) (cond b (Some x) r)
-same_body true c x y r s e f h = rw e (ap Some f)
-same_body false c x y r s e f h = rw e h
+same_body b c x y r s e f h = grind arith
 
 -- acknowledged messages of users, where those behind are no fewer
 no_fewer : (u a b : Bool) (x y : Row) (xs ys : List Row) → (a ≡ true → b ≡ true) → is_users x ≡ u → is_users y ≡ u → was_acked x.fate ≡ a → was_acked y.fate ≡ b → length (standing was_acked (users xs)) ≤ length (standing was_acked (users ys)) → length (standing was_acked (users (x ∷ xs))) ≤ length (standing was_acked (users (y ∷ ys)))
-no_fewer false a b x y xs ys w ux uy ax by h = rw (ux, uy) h
-no_fewer true true true x y xs ys w ux uy ax by h = rw (ux, uy, ax, by) (omega (arith, h))
-no_fewer true true false x y xs ys w ux uy ax by h = absurd (let no : false ≡ true = w refl in cc)
-no_fewer true false true x y xs ys w ux uy ax by h = rw (ux, uy, ax, by) (omega (arith, h))
-no_fewer true false false x y xs ys w ux uy ax by h = rw (ux, uy, ax, by) h
+no_fewer u a b x y xs ys w ux uy ax by h = grind arith
 
 module _ (test : Fate → Bool) (fate : Fate) where
   none_there : InPlace test [] []
@@ -109,12 +95,10 @@ module _ (test other : Fate → Bool) (fate : Fate) (none : other fate ≡ false
   Fewer xs ys = length (standing other ys) ≤ length (standing other xs)
 
   one_stays : (b : Bool) (x : Row) (xs ys : List Row) → length ys ≤ length xs → length (cond b (x ∷ ys) ys) ≤ length (cond b (x ∷ xs) xs)
-  one_stays true x xs ys p = omega (arith, p)
-  one_stays false x xs ys p = p
+  one_stays b x xs ys p = grind arith
 
   one_turns : (b : Bool) (x : Row) (xs ys : List Row) → length ys ≤ length xs → length ys ≤ length (cond b (x ∷ xs) xs)
-  one_turns true x xs ys p = omega (arith, p)
-  one_turns false x xs ys p = p
+  one_turns b x xs ys p = grind arith
 
   fewer_stays : (x : Row) (xs ys : List Row) → Fewer xs ys → Fewer (x ∷ xs) (x ∷ ys)
   fewer_stays x xs ys p = one_stays (other x.fate) x (standing other xs) (standing other ys) p
@@ -137,12 +121,10 @@ module _ (n : ℕ) (test : Fate → Bool) (fate : Fate) (u : is_unacked n fate �
     pub held_last : IsHeldLast n xs → IsHeldLast n ys
 
   none_before : (b : Bool) (x : Row) (xs ys : List Row) → (xs ≡ [] → ys ≡ []) → cond b (x ∷ xs) xs ≡ [] → cond b (x ∷ ys) ys ≡ []
-  none_before true x xs ys f e = absurd cc
-  none_before false x xs ys f e = f e
+  none_before b x xs ys f e = grind arith
 
   none_behind : (b : Bool) (x : Row) (xs : List Row) → cond b (x ∷ xs) xs ≡ [] → xs ≡ []
-  none_behind true x xs e = absurd cc
-  none_behind false x xs e = e
+  none_behind b x xs e = grind arith
 
   nothing : Ordered [] []
   nothing = record { unack_none = λ e. e; wait_none = λ e. e; in_order = λ o. o; held_last = λ o. o }
@@ -173,41 +155,21 @@ module _ (n : ℕ) (test : Fate → Bool) (fate : Fate) (u : is_unacked n fate �
 pub turned_left : (test : Fate → Bool) (fate : Fate) → test fate ≡ false → (n : ℕ) (rows : List Row) → standing test (turned test fate n rows) ≡ drop n (standing test rows)
 turned_left test fate o zero rows = refl
 turned_left test fate o (suc n) [] = refl
-turned_left test fate o (suc n) (x ∷ rows) = go (test x.fate) refl (turned_left test fate o n rows) (turned_left test fate o (suc n) rows)
-  where
-    go : (b : Bool) → test x.fate ≡ b → standing test (turned test fate n rows) ≡ drop n (standing test rows) → standing test (turned test fate (suc n) rows) ≡ drop (suc n) (standing test rows)
-        → standing test (turned test fate (suc n) (x ∷ rows)) ≡ drop (suc n) (standing test (x ∷ rows))
-    go true h p q = rw (h, o) p
-    go false h p q = rw (h, h) q
+turned_left test fate o (suc n) (x ∷ rows) = grind (arith, turned_left test fate o n rows, turned_left test fate o (suc n) rows)
 
 -- a place that takes in where they turn and where they come
 pub turned_within : (test other : Fate → Bool) (fate : Fate) → other fate ≡ true → ((f : Fate) → test f ≡ true → other f ≡ true) → (n : ℕ) (rows : List Row) → standing other (turned test fate n rows) ≡ turned test fate n (standing other rows)
 turned_within test other fate o w zero rows = refl
 turned_within test other fate o w (suc n) [] = refl
-turned_within test other fate o w (suc n) (x ∷ rows) = go (test x.fate) (other x.fate) refl refl (turned_within test other fate o w n rows) (turned_within test other fate o w (suc n) rows)
-  where
-    go : (a b : Bool) → test x.fate ≡ a → other x.fate ≡ b → standing other (turned test fate n rows) ≡ turned test fate n (standing other rows) → standing other (turned test fate (suc n) rows) ≡ turned test fate (suc n) (standing other rows)
-        → standing other (turned test fate (suc n) (x ∷ rows)) ≡ turned test fate (suc n) (standing other (x ∷ rows))
-    go true true h k p q = rw (h, o, k, h) (ap (λ (xs : List Row). with_fate fate x ∷ xs) p)
-    go true false h k p q = false_true (other x.fate) k (w x.fate h)
-    go false true h k p q = rw (h, k, h) (ap (λ (xs : List Row). x ∷ xs) q)
-    go false false h k p q = rw (h, k) q
+turned_within test other fate o w (suc n) (x ∷ rows) = grind (arith, turned_within test other fate o w n rows, turned_within test other fate o w (suc n) rows)
 
 -- nothing turns where no row stands
 pub turned_nothing : (test : Fate → Bool) (fate : Fate) (n : ℕ) (rows : List Row) → standing test rows ≡ [] → turned test fate n rows ≡ rows
 turned_nothing test fate zero rows e = refl
 turned_nothing test fate (suc n) [] e = refl
-turned_nothing test fate (suc n) (x ∷ rows) e = go (test x.fate) refl (turned_nothing test fate (suc n) rows)
-  where
-    go : (b : Bool) → test x.fate ≡ b → (standing test rows ≡ [] → turned test fate (suc n) rows ≡ rows) → turned test fate (suc n) (x ∷ rows) ≡ x ∷ rows
-    go true h p = let no : x ∷ standing test rows ≡ [] = rw h at e in absurd cc
-    go false h p = rw h (ap (λ (xs : List Row). x ∷ xs) (p (rw h at e)))
+turned_nothing test fate (suc n) (x ∷ rows) e = grind (arith, turned_nothing test fate (suc n) rows)
 
 -- all that changed left their place
 pub changed_left : (test : Fate → Bool) (fate : Fate) → test fate ≡ false → (rows : List Row) → standing test (changed test fate rows) ≡ []
 changed_left test fate o [] = refl
-changed_left test fate o (x ∷ rows) = go (test x.fate) refl (changed_left test fate o rows)
-  where
-    go : (b : Bool) → test x.fate ≡ b → standing test (changed test fate rows) ≡ [] → standing test (changed test fate (x ∷ rows)) ≡ []
-    go true h p = rw (h, o) p
-    go false h p = rw (h, h) p
+changed_left test fate o (x ∷ rows) = grind (arith, changed_left test fate o rows)

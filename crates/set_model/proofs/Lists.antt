@@ -48,11 +48,7 @@ at_set [] n m x y there = absurd cc
 at_set (z ∷ xs) zero zero x y there = inl (refl, sym (same_Some x y there))
 at_set (z ∷ xs) zero (suc m) x y there = inr ((λ same. absurd (omega (arith, same))), there)
 at_set (z ∷ xs) (suc n) zero x y there = inr ((λ same. absurd (omega (arith, same))), there)
-at_set (z ∷ xs) (suc n) (suc m) x y there = go (at_set xs n m x y there)
-  where
-    go : ((m ≡ n) × (y ≡ x)) ⊎ ((m ≢ n) × (slice_get xs m ≡ Some y)) → ((suc m ≡ suc n) × (y ≡ x)) ⊎ ((suc m ≢ suc n) × (slice_get xs m ≡ Some y))
-    go (inl p) = inl (ap suc p.0, p.1)
-    go (inr p) = inr ((λ same. p.0 (omega (arith, same))), p.1)
+at_set (z ∷ xs) (suc n) (suc m) x y there = grind (arith, at_set xs n m x y there)
 
 -- only what is in the list is found
 pub within : {X : Type 0} (xs : List X) (n : ℕ) (x : X) → slice_get xs n ≡ Some x → n < length xs

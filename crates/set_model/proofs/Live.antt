@@ -1,12 +1,11 @@
 -- THE STREAMS' MESSAGES: they stay in the order of their numbers, and together.
-use Rattle.std.proofs.Common.{refl, arith, ◌≡◌, ◌∙◌, ap, sym, subst, ◌<◌, ℕ, suc, Bool, true, false, not, ◌&&◌, ◌||◌, ◌==◌, List, [], ◌∷◌, ◌++◌, length, map, slice_get, Some, cond}
+use Rattle.std.proofs.Common.{refl, arith, ◌≡◌, ◌∙◌, ap, sym, subst, ◌<◌, ℕ, suc, Bool, true, false, not, ◌&&◌, ◌==◌, List, [], ◌∷◌, ◌++◌, length, map, slice_get, Some, cond}
 use Rattle.std.specs.Prelude.{filter}
 use Rattle.std.proofs.lemmas.List.{append-nil, map-append}
 use Rattle.std.proofs.lemmas.List.Elements.{filter-append}
 use Rattle.set_events.specs.declared.answer.Fate.{Fate}
-use Rattle.set_events.specs.declared.answer.Fate.TheVariants.{Waiting, Unacked, Acked, Held, Parked, Back, Discarded}
+use Rattle.set_events.specs.declared.answer.Fate.TheVariants.{Unacked}
 use Rattle.set_route.specs.declared.place.Place.{Place}
-use Rattle.set_route.specs.declared.place.Place.TheVariants.{On, Changing, Nowhere}
 use Rattle.set_model.specs.Rows.{Row, standing, is_waiting, is_users, stream_of, numbers, turned, changed, moved, all_with, appended, with_fate, fated, IsNumbered}
 use Rattle.set_model.specs.Sound.{is_unfinished, stands_at, is_live, live, is_astray, astray, AreAbove, IsAscending, IsSoundStream}
 use Rattle.set_model.proofs.Filters.{filter_within}
@@ -16,49 +15,39 @@ use Rattle.set_model.proofs.Lookups.{found_by_number}
 use Rattle.set_model.proofs.Places.{false_true, contra}
 
 and_false : (u v : Bool) → (u && (v && false)) ≡ false
-and_false true true = refl
-and_false true false = refl
-and_false false v = refl
+and_false u v = grind arith
 
 -- a row that isn't live isn't astray
 dead : (a b : Bool) → a ≡ false → (a && b) ≡ false
 dead a b e = rw e refl
 
 alive_not : (b : Bool) → (b && false) ≡ false
-alive_not true = refl
-alive_not false = refl
+alive_not b = grind arith
 
 alive_of : (a b : Bool) → (a && b) ≡ true → a ≡ true
-alive_of true b e = refl
-alive_of false b e = absurd cc
+alive_of a b e = grind arith
 
 none_behind : (b : Bool) (x : Row) (xs : List Row) → cond b (x ∷ xs) xs ≡ [] → xs ≡ []
-none_behind true x xs e = absurd cc
-none_behind false x xs e = e
+none_behind b x xs e = grind arith
 
 none_here : (b : Bool) (x : Row) (xs : List Row) → cond b (x ∷ xs) xs ≡ [] → b ≡ false
-none_here true x xs e = absurd cc
-none_here false x xs e = refl
+none_here b x xs e = grind arith
 
 none_before : (b : Bool) (x : Row) (xs ys : List Row) → (xs ≡ [] → ys ≡ []) → cond b (x ∷ xs) xs ≡ [] → cond b (x ∷ ys) ys ≡ []
-none_before true x xs ys f e = absurd cc
-none_before false x xs ys f e = f e
+none_before b x xs ys f e = grind arith
 
 above_if : (b : Bool) (k : ℕ) (x : Row) (xs ys : List Row) → (AreAbove k (numbers xs) → AreAbove k (numbers ys)) → AreAbove k (numbers (cond b (x ∷ xs) xs)) → AreAbove k (numbers (cond b (x ∷ ys) ys))
-above_if true k x xs ys f a = (a.0, f a.1)
-above_if false k x xs ys f a = f a
+above_if b k x xs ys f a = grind arith
 
 above_behind : (b : Bool) (k : ℕ) (x : Row) (xs : List Row) → AreAbove k (numbers (cond b (x ∷ xs) xs)) → AreAbove k (numbers xs)
-above_behind true k x xs a = a.1
-above_behind false k x xs a = a
+above_behind b k x xs a = grind arith
 
 ascends_if : (b : Bool) (x : Row) (xs ys : List Row) → ((k : ℕ) → AreAbove k (numbers xs) → AreAbove k (numbers ys)) → (IsAscending (numbers xs) → IsAscending (numbers ys)) → IsAscending (numbers (cond b (x ∷ xs) xs)) → IsAscending (numbers (cond b (x ∷ ys) ys))
 ascends_if true x xs ys f g a = (f x.number a.0, g a.1)
 ascends_if false x xs ys f g a = g a
 
 ascends_behind : (b : Bool) (x : Row) (xs : List Row) → IsAscending (numbers (cond b (x ∷ xs) xs)) → IsAscending (numbers xs)
-ascends_behind true x xs a = a.1
-ascends_behind false x xs a = a
+ascends_behind b x xs a = grind arith
 
 -- ROWS THAT ARE FINISHED in their places.
 module _ (stream : ℕ) (place : Place) (test : Fate → Bool) (fate : Fate) (done : is_unfinished fate ≡ false) where
@@ -113,19 +102,10 @@ same_stream stream place place' used xs ys same away t = record {
 
 -- A FIRST SENDING: the row stays live, and where it is.
 waits_unfinished : (n : ℕ) (f : Fate) → is_waiting n f ≡ true → is_unfinished f ≡ true
-waits_unfinished n (Waiting m) e = refl
-waits_unfinished n _ e = absurd cc
+waits_unfinished n f e = grind arith
 
 same_stand : (place : Place) (n : ℕ) (f : Fate) → is_waiting n f ≡ true → stands_at place (Unacked n) ≡ stands_at place f
-same_stand (On l) n (Waiting m) e = let same : m ≡ n = grind arith in ap (λ (k : ℕ). k == l) (sym same)
-same_stand (Changing to code via) n (Waiting m) e = let same : m ≡ n = grind arith in ap (λ (k : ℕ). (k == via) || false) (sym same)
-same_stand Nowhere n (Waiting m) e = refl
-same_stand place n (Unacked m) e = absurd cc
-same_stand place n (Acked m) e = absurd cc
-same_stand place n (Held m) e = absurd cc
-same_stand place n Parked e = absurd cc
-same_stand place n (Back c) e = absurd cc
-same_stand place n (Discarded cause) e = absurd cc
+same_stand place n f e = grind arith
 
 module _ (stream : ℕ) (place : Place) (n : ℕ) where
   record Same (xs ys : List Row) : Type 0 where
@@ -133,8 +113,7 @@ module _ (stream : ℕ) (place : Place) (n : ℕ) where
     pub away : astray stream place xs ≡ [] → astray stream place ys ≡ []
 
   numbers_if : (b : Bool) (x : Row) (xs ys : List Row) → numbers ys ≡ numbers xs → numbers (cond b (x ∷ ys) ys) ≡ numbers (cond b (x ∷ xs) xs)
-  numbers_if true x xs ys e = ap (λ (ns : List ℕ). x.number ∷ ns) e
-  numbers_if false x xs ys e = e
+  numbers_if b x xs ys e = grind arith
 
   one_sent : (x y : Row) (xs ys : List Row) → y.number ≡ x.number → is_live stream y ≡ is_live stream x → is_astray stream place y ≡ is_astray stream place x → Same xs ys → Same (x ∷ xs) (y ∷ ys)
   one_sent x y xs ys number alive there p = record {
@@ -143,12 +122,10 @@ module _ (stream : ℕ) (place : Place) (n : ℕ) where
   }
     where
       renamed : (b : Bool) → numbers (cond b (y ∷ live stream ys) (live stream ys)) ≡ numbers (cond b (x ∷ live stream ys) (live stream ys))
-      renamed true = ap (λ (k : ℕ). k ∷ numbers (live stream ys)) number
-      renamed false = refl
+      renamed b = grind arith
 
       emptied : (b : Bool) → cond b (x ∷ astray stream place xs) (astray stream place xs) ≡ [] → cond b (y ∷ astray stream place ys) (astray stream place ys) ≡ []
-      emptied true e = absurd cc
-      emptied false e = p.away e
+      emptied b e = grind arith
 
   sends_one : (x : Row) (xs ys : List Row) → is_waiting n x.fate ≡ true → Same xs ys → Same (x ∷ xs) (with_fate (Unacked n) x ∷ ys)
   sends_one x xs ys w p =

@@ -1,5 +1,5 @@
 -- What is found under a number, before and after a change.
-use Rattle.std.proofs.Common.{refl, arith, ◌≡◌, ◌∙◌, ap, sym, ◌<◌, ◌≤◌, [], ◌∷◌, length, ℕ, zero, suc, Bool, true, false, nat_lt, ◌==◌, List, Option, Some, None, cond}
+use Rattle.std.proofs.Common.{refl, arith, ◌≡◌, ◌∙◌, ap, sym, ◌<◌, ◌≤◌, [], ◌∷◌, length, ℕ, zero, suc, Bool, true, false, nat_lt, ◌==◌, List, Option, Some, cond}
 use Rattle.std.specs.Prelude.{slice_get, filter}
 use Rattle.std.specs.Option.{option_map}
 use Rattle.std.proofs.lemmas.Bool.{eq-eqb, ltb-true}
@@ -14,29 +14,17 @@ moved_row test fate row = cond (test row.fate) (fated fate row) row
 
 -- a number has one row at most
 pub at_most_one : (number : ℕ) (rows : List Row) → IsNumbered rows → length (with_number number rows) ≤ 1
-at_most_one number rows numbered = go (nat_lt number (length rows)) refl
-  where
-    go : (b : Bool) → nat_lt number (length rows) ≡ b → length (with_number number rows) ≤ 1
-    go true h = let e : length (with_number number rows) ≡ 1 = rw h at (numbered number) in omega (arith, e)
-    go false h = let e : length (with_number number rows) ≡ 0 = rw h at (numbered number) in omega (arith, e)
+at_most_one number rows numbered = grind arith
 
 -- the row of a number is the first of its rows
 pub row_is_first : (number : ℕ) (rows : List Row) → row_of number rows ≡ slice_get (with_number number rows) 0
 row_is_first number [] = refl
-row_is_first number (x ∷ rows) = go (x.number == number) refl (row_is_first number rows)
-  where
-    go : (b : Bool) → (x.number == number) ≡ b → row_of number rows ≡ slice_get (with_number number rows) 0 → row_of number (x ∷ rows) ≡ slice_get (with_number number (x ∷ rows)) 0
-    go true h e = rw h refl
-    go false h e = rw h e
+row_is_first number (x ∷ rows) = grind (arith, row_is_first number rows)
 
 -- A MOVE: the row of a number is the one that it was, with the fate if it moved.
 module _ (test : Fate → Bool) (fate : Row → Fate) where
   one_moved : (x : Row) → moved test fate (x ∷ []) ≡ moved_row test fate x ∷ []
-  one_moved x = go (test x.fate) refl
-    where
-      go : (b : Bool) → test x.fate ≡ b → moved test fate (x ∷ []) ≡ moved_row test fate x ∷ []
-      go true h = rw h refl
-      go false h = rw h refl
+  one_moved x = grind arith
 
   few_moved : (rows : List Row) → length rows ≤ 1 → slice_get (moved test fate rows) 0 ≡ option_map (moved_row test fate) (slice_get rows 0)
   few_moved [] l = refl
@@ -51,20 +39,16 @@ module _ (test : Fate → Bool) (fate : Row → Fate) where
       ∙ ap (option_map (moved_row test fate)) (sym (row_is_first number rows))
 
   same_fate : (b : Bool) (x : Row) → (cond b (fated fate x) x).fate ≡ cond b (fate x) x.fate
-  same_fate true x = refl
-  same_fate false x = refl
+  same_fate b x = grind arith
 
   same_body : (b : Bool) (x : Row) → (cond b (fated fate x) x).body ≡ x.body
-  same_body true x = refl
-  same_body false x = refl
+  same_body b x = grind arith
 
   place_then : (row : Option Row) → option_map (λ r. r.fate) (option_map (moved_row test fate) row) ≡ option_map (λ r. cond (test r.fate) (fate r) r.fate) row
-  place_then None = refl
-  place_then (Some x) = ap Some (same_fate (test x.fate) x)
+  place_then row = grind arith
 
   body_then : (row : Option Row) → option_map (λ r. r.body) (option_map (moved_row test fate) row) ≡ option_map (λ r. r.body) row
-  body_then None = refl
-  body_then (Some x) = ap Some (same_body (test x.fate) x)
+  body_then row = grind arith
 
   pub place_moved : (number : ℕ) (rows : List Row) → IsNumbered rows → place number (moved test fate rows) ≡ option_map (λ r. cond (test r.fate) (fate r) r.fate) (row_of number rows)
   place_moved number rows numbered = ap (option_map (λ r. r.fate)) (row_moved number rows numbered) ∙ place_then (row_of number rows)

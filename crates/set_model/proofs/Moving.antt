@@ -79,11 +79,7 @@ module _ (test other : Fate → Bool) (fate : Row → Fate) (rows : List Row) wh
 -- where no row moves
 none_move : (test : Fate → Bool) (xs : List Row) → standing test xs ≡ [] → standing (λ f. not (test f)) xs ≡ xs
 none_move test [] e = refl
-none_move test (x ∷ xs) e = go (test x.fate) refl (none_move test xs)
-  where
-    go : (b : Bool) → test x.fate ≡ b → (standing test xs ≡ [] → standing (λ f. not (test f)) xs ≡ xs) → standing (λ f. not (test f)) (x ∷ xs) ≡ x ∷ xs
-    go true h later = let no : x ∷ standing test xs ≡ [] = rw h at e in absurd cc
-    go false h later = rw h (ap (λ (ys : List Row). x ∷ ys) (later (rw h at e)))
+none_move test (x ∷ xs) e = grind (arith, none_move test xs)
 
 pub moved_nothing : (test : Fate → Bool) (fate : Row → Fate) (rows : List Row) → standing test rows ≡ [] → moved test fate rows ≡ rows
 moved_nothing test fate rows e =

@@ -1,23 +1,18 @@
 -- A link's messages stay in order: what was sent stands before what waits, and that before what is held.
-use Rattle.std.proofs.Common.{refl, ◌≡◌, ◌∙◌, ap, sym, [], ◌∷◌, length, ℕ, Bool, true, false, not, ◌==◌, List, ◌++◌, map, take, cond}
+use Rattle.std.proofs.Common.{arith, refl, ◌≡◌, ◌∙◌, ap, [], ◌∷◌, length, ℕ, Bool, true, false, not, ◌==◌, List, ◌++◌, map, take, cond}
 use Rattle.std.specs.Prelude.{filter}
 use Rattle.std.proofs.lemmas.List.Elements.{filter-append}
 use Rattle.set_events.specs.declared.answer.Fate.{Fate}
-use Rattle.set_events.specs.declared.answer.Fate.TheVariants.{Waiting, Unacked, Acked, Held, Parked, Back, Discarded}
+use Rattle.set_events.specs.declared.answer.Fate.TheVariants.{Unacked}
 use Rattle.set_model.specs.Rows.{Row, standing, is_waiting, is_unacked, is_held, is_on, unack, wait, held, on, turned, moved, appended, with_fate, fated, IsInOrder, IsHeldLast}
 use Rattle.set_model.proofs.Filters.{filter_comm, fated_none}
 use Rattle.set_model.proofs.InPlace.{turned_nothing}
 use Rattle.set_model.proofs.Finding.{new_row}
-use Rattle.set_model.proofs.Places.{false_true, waiting_not_unacked}
 
 -- where nothing was sent on the link
 pub order_none : (n : ℕ) (rows : List Row) → unack n rows ≡ [] → IsInOrder n rows
 order_none n [] e = tt
-order_none n (x ∷ rows) e = go (is_unacked n x.fate) refl (order_none n rows)
-  where
-    go : (b : Bool) → is_unacked n x.fate ≡ b → (unack n rows ≡ [] → IsInOrder n rows) → IsInOrder n (x ∷ rows)
-    go true h later = let no : x ∷ unack n rows ≡ [] = rw h at e in absurd cc
-    go false h later = let f : unack n rows ≡ [] = rw h at e in (λ w. f, later f)
+order_none n (x ∷ rows) e = grind (arith, order_none n rows)
 
 pub order_append : (n : ℕ) (xs ys : List Row) → IsInOrder n xs → unack n ys ≡ [] → IsInOrder n (xs ++ ys)
 order_append n [] ys o e = order_none n ys e
@@ -29,11 +24,7 @@ order_append n (x ∷ xs) ys o e = (
 -- where some rows leave
 pub order_filter : (n : ℕ) (keep : Row → Bool) (rows : List Row) → IsInOrder n rows → IsInOrder n (filter keep rows)
 order_filter n keep [] o = tt
-order_filter n keep (x ∷ rows) o = go (keep x) refl (order_filter n keep rows o.1)
-  where
-    go : (b : Bool) → keep x ≡ b → IsInOrder n (filter keep rows) → IsInOrder n (filter keep (x ∷ rows))
-    go true h p = rw h (λ w. filter_comm (λ (row : Row). is_unacked n row.fate) keep rows ∙ ap (filter keep) (o.0 w), p)
-    go false h p = rw h p
+order_filter n keep (x ∷ rows) o = grind (arith, filter_comm, order_filter n keep rows o.1)
 
 pub order_appended : (n : ℕ) (rows : List Row) (body : List ℕ) (fate : Fate) → is_unacked n fate ≡ false → IsInOrder n rows → IsInOrder n (appended rows body fate)
 order_appended n rows body fate u o = order_append n rows (new_row (length rows) body fate ∷ []) o (rw u refl)
@@ -45,50 +36,17 @@ order_moved n test fate rows u o =
 -- THE FIRST MESSAGE THAT WAITS IS SENT.
 pub order_sent : (l : ℕ) (rows : List Row) → IsInOrder l rows → IsInOrder l (turned (is_waiting l) (Unacked l) 1 rows)
 order_sent l [] o = tt
-order_sent l (x ∷ rows) o = go (is_waiting l x.fate) refl (order_sent l rows o.1)
-  where
-    go : (b : Bool) → is_waiting l x.fate ≡ b → IsInOrder l (turned (is_waiting l) (Unacked l) 1 rows) → IsInOrder l (turned (is_waiting l) (Unacked l) 1 (x ∷ rows))
-    go true h p = rw h (λ e. absurd cc, o.1)
-    go false h p = rw h (λ e. false_true (is_waiting l x.fate) h e, p)
+order_sent l (x ∷ rows) o = grind (arith, order_sent l rows o.1)
 
 -- it is then the last one that was sent
 pub sent_joined : (l : ℕ) (rows : List Row) → (l == l) ≡ true → IsInOrder l rows → unack l (turned (is_waiting l) (Unacked l) 1 rows) ≡ unack l rows ++ map (with_fate (Unacked l)) (take 1 (wait l rows))
 sent_joined l [] s o = refl
-sent_joined l (x ∷ rows) s o = go (is_waiting l x.fate) (is_unacked l x.fate) refl refl (sent_joined l rows s o.1)
-  where
-    go : (a b : Bool) → is_waiting l x.fate ≡ a → is_unacked l x.fate ≡ b → unack l (turned (is_waiting l) (Unacked l) 1 rows) ≡ unack l rows ++ map (with_fate (Unacked l)) (take 1 (wait l rows))
-        → unack l (turned (is_waiting l) (Unacked l) 1 (x ∷ rows)) ≡ unack l (x ∷ rows) ++ map (with_fate (Unacked l)) (take 1 (wait l (x ∷ rows)))
-    go true true h k p = false_true (is_unacked l x.fate) (waiting_not_unacked l l x.fate h) k
-    go true false h k p = rw (h, s, k, o.0 h) refl
-    go false true h k p = rw (h, k) (ap (λ (zs : List Row). x ∷ zs) p)
-    go false false h k p = rw (h, k) p
+sent_joined l (x ∷ rows) s o = grind (arith, sent_joined l rows s o.1)
 
 -- WHAT IS ON A LINK, IN ORDER: first what was sent, then what waits, then what is held.
 on_step : (l : ℕ) (f : Fate) (x : Row) (all u w h : List Row) → (is_waiting l f ≡ true → u ≡ []) → (is_held l f ≡ true → (u ≡ []) × (w ≡ [])) → all ≡ u ++ w ++ h
     → cond (is_on l f) (x ∷ all) all ≡ cond (is_unacked l f) (x ∷ u) u ++ cond (is_waiting l f) (x ∷ w) w ++ cond (is_held l f) (x ∷ h) h
-on_step l (Waiting m) x all u w h a b p = go (m == l) refl
-  where
-    go : (b : Bool) → (m == l) ≡ b → cond (m == l) (x ∷ all) all ≡ u ++ cond (m == l) (x ∷ w) w ++ h
-    go true e =
-        let none = a e in
-        rw e (ap (λ (z : List Row). x ∷ z) (p ∙ ap (λ (z : List Row). z ++ w ++ h) none) ∙ ap (λ (z : List Row). z ++ (x ∷ w) ++ h) (sym none))
-    go false e = rw e p
-on_step l (Unacked m) x all u w h a b p = go (m == l) refl
-  where
-    go : (b : Bool) → (m == l) ≡ b → cond (m == l) (x ∷ all) all ≡ cond (m == l) (x ∷ u) u ++ w ++ h
-    go true e = rw e (ap (λ (z : List Row). x ∷ z) p)
-    go false e = rw e p
-on_step l (Held m) x all u w h a b p = go (m == l) refl
-  where
-    go : (c : Bool) → (m == l) ≡ c → cond (m == l) (x ∷ all) all ≡ u ++ w ++ cond (m == l) (x ∷ h) h
-    go true e =
-        let none = b e in
-        rw e (ap (λ (z : List Row). x ∷ z) (p ∙ ap (λ (z : List Row). z ++ w ++ h) none.0 ∙ ap (λ (z : List Row). z ++ h) none.1) ∙ sym (ap (λ (z : List Row). z ++ w ++ (x ∷ h)) none.0 ∙ ap (λ (z : List Row). z ++ (x ∷ h)) none.1))
-    go false e = rw e p
-on_step l (Acked m) x all u w h a b p = p
-on_step l Parked x all u w h a b p = p
-on_step l (Back c) x all u w h a b p = p
-on_step l (Discarded cause) x all u w h a b p = p
+on_step l f x all u w h a b p = grind arith
 
 pub on_in_order : (l : ℕ) (rows : List Row) → IsInOrder l rows → IsHeldLast l rows → on l rows ≡ unack l rows ++ wait l rows ++ held l rows
 on_in_order l [] o h = refl
@@ -97,11 +55,7 @@ on_in_order l (x ∷ rows) o h = on_step l x.fate x (on l rows) (unack l rows) (
 -- WHAT IS HELD STAYS LAST.
 pub last_none : (n : ℕ) (rows : List Row) → held n rows ≡ [] → IsHeldLast n rows
 last_none n [] e = tt
-last_none n (x ∷ rows) e = go (is_held n x.fate) refl (last_none n rows)
-  where
-    go : (b : Bool) → is_held n x.fate ≡ b → (held n rows ≡ [] → IsHeldLast n rows) → IsHeldLast n (x ∷ rows)
-    go true h later = let no : x ∷ held n rows ≡ [] = rw h at e in absurd cc
-    go false h later = (λ w. false_true (is_held n x.fate) h w, later (rw h at e))
+last_none n (x ∷ rows) e = grind (arith, last_none n rows)
 
 pub last_append : (n : ℕ) (xs ys : List Row) → IsHeldLast n xs → unack n ys ≡ [] → wait n ys ≡ [] → IsHeldLast n ys → IsHeldLast n (xs ++ ys)
 last_append n [] ys a u w b = b
@@ -115,17 +69,7 @@ last_append n (x ∷ xs) ys a u w b = (
 
 pub last_filter : (n : ℕ) (keep : Row → Bool) (rows : List Row) → IsHeldLast n rows → IsHeldLast n (filter keep rows)
 last_filter n keep [] a = tt
-last_filter n keep (x ∷ rows) a = go (keep x) refl (last_filter n keep rows a.1)
-  where
-    go : (b : Bool) → keep x ≡ b → IsHeldLast n (filter keep rows) → IsHeldLast n (filter keep (x ∷ rows))
-    go true h p = rw h (
-      λ w. (
-        filter_comm (λ (row : Row). is_unacked n row.fate) keep rows ∙ ap (filter keep) (a.0 w).0,
-        filter_comm (λ (row : Row). is_waiting n row.fate) keep rows ∙ ap (filter keep) (a.0 w).1,
-      ),
-      p,
-    )
-    go false h p = rw h p
+last_filter n keep (x ∷ rows) a = grind (arith, filter_comm, last_filter n keep rows a.1)
 
 last_fated : (n : ℕ) (fate : Row → Fate) (rows : List Row) → ((row : Row) → is_unacked n (fate row) ≡ false) → ((row : Row) → is_waiting n (fate row) ≡ false) → IsHeldLast n (map (fated fate) rows)
 last_fated n fate [] u w = tt
@@ -158,12 +102,4 @@ last_sent l (x ∷ rows) a = go (is_waiting l x.fate) refl (last_sent l rows a.1
 -- where nothing was sent on the link and nothing waits for it
 pub last_alone : (n : ℕ) (rows : List Row) → unack n rows ≡ [] → wait n rows ≡ [] → IsHeldLast n rows
 last_alone n [] u w = tt
-last_alone n (x ∷ rows) u w = go (is_unacked n x.fate) (is_waiting n x.fate) refl refl (last_alone n rows)
-  where
-    go : (a b : Bool) → is_unacked n x.fate ≡ a → is_waiting n x.fate ≡ b → (unack n rows ≡ [] → wait n rows ≡ [] → IsHeldLast n rows) → IsHeldLast n (x ∷ rows)
-    go true b h k later = let no : x ∷ unack n rows ≡ [] = rw h at u in absurd cc
-    go false true h k later = let no : x ∷ wait n rows ≡ [] = rw k at w in absurd cc
-    go false false h k later =
-        let e : unack n rows ≡ [] = rw h at u in
-        let f : wait n rows ≡ [] = rw k at w in
-        (λ g. (e, f), later e f)
+last_alone n (x ∷ rows) u w = grind (arith, last_alone n rows)

@@ -1,8 +1,7 @@
 -- Fates and links: what stands in one place stands in no other.
-use Rattle.std.proofs.Common.{refl, ◌≡◌, ◌≢◌, ◌∙◌, sym, ℕ, Bool, true, false, ◌==◌}
+use Rattle.std.proofs.Common.{arith, refl, ◌≡◌, ◌≢◌, ◌∙◌, sym, ℕ, Bool, true, false, ◌==◌}
 use Rattle.std.proofs.lemmas.Bool.{eq-eqb, ne_eqb, eqb-true, eqb-false}
 use Rattle.set_events.specs.declared.answer.Fate.{Fate}
-use Rattle.set_events.specs.declared.answer.Fate.TheVariants.{Waiting, Unacked, Acked, Held, Parked, Back}
 use Rattle.set_model.specs.Rows.{is_waiting, is_unacked, is_held, is_on, is_parked, is_back, is_back_to, stands_back, was_acked}
 
 pub false_true : {P : Type 0} (b : Bool) → b ≡ false → b ≡ true → P
@@ -10,8 +9,7 @@ false_true b f t = let no : true ≡ false = sym t ∙ f in absurd cc
 
 -- the other way round
 pub contra : (a b : Bool) → (a ≡ true → b ≡ false) → b ≡ true → a ≡ false
-contra true b h e = false_true b (h refl) e
-contra false b h e = refl
+contra a b h e = grind arith
 
 pub apart : (l n : ℕ) → l ≢ n → (l == n) ≡ false
 apart l n d = ne_eqb l n d
@@ -27,97 +25,71 @@ other_link l m n d e = let same : m ≡ n = eqb-true m n e in ne_eqb m l (λ f. 
 
 -- Kinds of places.
 pub waiting_not_unacked : (l n : ℕ) (f : Fate) → is_waiting n f ≡ true → is_unacked l f ≡ false
-waiting_not_unacked l n (Waiting m) e = refl
-waiting_not_unacked l n _ e = absurd cc
+waiting_not_unacked l n f e = grind arith
 
 pub unacked_not_waiting : (l n : ℕ) (f : Fate) → is_unacked n f ≡ true → is_waiting l f ≡ false
-unacked_not_waiting l n (Unacked m) e = refl
-unacked_not_waiting l n _ e = absurd cc
+unacked_not_waiting l n f e = grind arith
 
 pub waiting_not_held : (l n : ℕ) (f : Fate) → is_waiting n f ≡ true → is_held l f ≡ false
-waiting_not_held l n (Waiting m) e = refl
-waiting_not_held l n _ e = absurd cc
+waiting_not_held l n f e = grind arith
 
 pub unacked_not_held : (l n : ℕ) (f : Fate) → is_unacked n f ≡ true → is_held l f ≡ false
-unacked_not_held l n (Unacked m) e = refl
-unacked_not_held l n _ e = absurd cc
+unacked_not_held l n f e = grind arith
 
 pub on_not_parked : (n : ℕ) (f : Fate) → is_on n f ≡ true → is_parked f ≡ false
-on_not_parked n (Waiting m) e = refl
-on_not_parked n (Unacked m) e = refl
-on_not_parked n (Held m) e = refl
-on_not_parked n _ e = absurd cc
+on_not_parked n f e = grind arith
 
 pub parked_not_on : (l : ℕ) (f : Fate) → is_parked f ≡ true → is_on l f ≡ false
-parked_not_on l Parked e = refl
-parked_not_on l _ e = absurd cc
+parked_not_on l f e = grind arith
 
 pub on_not_acked : (l : ℕ) (f : Fate) → is_on l f ≡ true → was_acked f ≡ false
-on_not_acked l (Acked m) e = absurd cc
-on_not_acked l _ e = refl
+on_not_acked l f e = grind arith
 
 pub parked_not_acked : (f : Fate) → is_parked f ≡ true → was_acked f ≡ false
-parked_not_acked Parked e = refl
-parked_not_acked _ e = absurd cc
+parked_not_acked f e = grind arith
 
 -- What stands in one of the three places of a link is on it.
 pub waiting_on : (l : ℕ) (f : Fate) → is_waiting l f ≡ true → is_on l f ≡ true
-waiting_on l (Waiting m) e = e
-waiting_on l _ e = absurd cc
+waiting_on l f e = grind arith
 
 pub unacked_on : (l : ℕ) (f : Fate) → is_unacked l f ≡ true → is_on l f ≡ true
-unacked_on l (Unacked m) e = e
-unacked_on l _ e = absurd cc
+unacked_on l f e = grind arith
 
 pub held_on : (l : ℕ) (f : Fate) → is_held l f ≡ true → is_on l f ≡ true
-held_on l (Held m) e = e
-held_on l _ e = absurd cc
+held_on l f e = grind arith
 
 -- What is on one link isn't on another.
 pub on_other : (l n : ℕ) → (l == n) ≡ false → (f : Fate) → is_on n f ≡ true → is_on l f ≡ false
-on_other l n d (Waiting m) e = other_link l m n d e
-on_other l n d (Unacked m) e = other_link l m n d e
-on_other l n d (Held m) e = other_link l m n d e
-on_other l n d _ e = absurd cc
+on_other l n d f e = grind arith
 
 pub not_on_waiting : (l : ℕ) (f : Fate) → is_on l f ≡ false → is_waiting l f ≡ false
-not_on_waiting l (Waiting m) e = e
-not_on_waiting l _ e = refl
+not_on_waiting l f e = grind arith
 
 pub not_on_unacked : (l : ℕ) (f : Fate) → is_on l f ≡ false → is_unacked l f ≡ false
-not_on_unacked l (Unacked m) e = e
-not_on_unacked l _ e = refl
+not_on_unacked l f e = grind arith
 
 pub not_on_held : (l : ℕ) (f : Fate) → is_on l f ≡ false → is_held l f ≡ false
-not_on_held l (Held m) e = e
-not_on_held l _ e = refl
+not_on_held l f e = grind arith
 
 -- What stands back is on no link, nor parked.
 pub back_not_on : (l : ℕ) (f : Fate) → stands_back f ≡ true → is_on l f ≡ false
-back_not_on l (Back c) e = refl
-back_not_on l _ e = absurd cc
+back_not_on l f e = grind arith
 
 pub back_not_parked : (f : Fate) → stands_back f ≡ true → is_parked f ≡ false
-back_not_parked (Back c) e = refl
-back_not_parked _ e = absurd cc
+back_not_parked f e = grind arith
 
 pub back_not_acked : (f : Fate) → stands_back f ≡ true → was_acked f ≡ false
-back_not_acked (Back c) e = refl
-back_not_acked _ e = absurd cc
+back_not_acked f e = grind arith
 
 pub on_not_back : (l : ℕ) (f : Fate) → is_on l f ≡ true → stands_back f ≡ false
-on_not_back l (Back c) e = absurd cc
-on_not_back l _ e = refl
+on_not_back l f e = grind arith
 
 pub parked_not_back : (f : Fate) → is_parked f ≡ true → stands_back f ≡ false
-parked_not_back Parked e = refl
-parked_not_back _ e = absurd cc
+parked_not_back f e = grind arith
 
 -- by a code, or by the home of one
 pub code_back : (c : ℕ) (f : Fate) → is_back c f ≡ true → stands_back f ≡ true
-code_back c (Back d) e = refl
-code_back c _ e = absurd cc
+code_back c f e = grind arith
 
 pub home_back : (n : ℕ) (f : Fate) → is_back_to n f ≡ true → stands_back f ≡ true
-home_back n (Back d) e = refl
-home_back n _ e = absurd cc
+home_back n f e = grind arith

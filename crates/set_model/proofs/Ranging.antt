@@ -1,9 +1,7 @@
 -- The whole numbers of the links stay in range: an event sends at most one message, and accepts at most one body.
-use Rattle.std.proofs.Common.{refl, arith, ◌≡◌, ◌≢◌, ◌∙◌, ap, ◌≤◌, ℕ, zero, suc, ◌+◌, Bool, true, false, not, ◌&&◌, List, [], ◌∷◌, ◌++◌, length, map, slice_get, slice_set, Option, Some, None, ◌⊎◌, inl, inr}
+use Rattle.std.proofs.Common.{refl, arith, ◌≡◌, ◌≢◌, ◌∙◌, ap, ◌≤◌, ℕ, zero, suc, ◌+◌, Bool, true, false, not, ◌&&◌, List, [], ◌∷◌, ◌++◌, length, map, slice_get, slice_set, Option, Some, ◌⊎◌, inl, inr}
 use Rattle.std.proofs.lemmas.List.{append-nil, length-map, length-drop}
 use Rattle.std.proofs.lemmas.List.Elements.{filter-append}
-use Rattle.std.proofs.lemmas.Bool.Decides.{nat_tests}
-use Rattle.l2_basic.specs.Basic as basic
 use Rattle.l2_units.specs.declared.unit.Header.{Header}
 use Rattle.l2_units.specs.Grammar.{head_of as header_in}
 use Rattle.l2_window.specs.Window.{WindowState, distance_to}
@@ -12,11 +10,10 @@ use Rattle.set_events.specs.declared.answer.Fate.{Fate}
 use Rattle.set_events.specs.declared.answer.Fate.TheVariants.{Waiting, Unacked, Acked, Discarded}
 use Rattle.set_events.specs.declared.event.Event.{Event}
 use Rattle.set_route.specs.declared.place.Place.{Place}
-use Rattle.set_route.specs.declared.place.Place.TheVariants.{On, Changing, Nowhere}
 use Rattle.set_route.specs.Routing.{place_of, home_of}
 use Rattle.set_model.specs.Rows.{Row, standing, unack, is_unacked, is_waiting, is_parked, is_on, is_back, is_back_to, turned, fated, moved, all_with, appended, octets_in, stream_of}
-use Rattle.set_model.specs.State.{LinkState, State, target, is_up, fate_at, window_of}
-use Rattle.set_model.specs.Control.{Control, Basic, Cyclic, Choice, again, first, fill, choice_of, is_processed, acked_by, part_of}
+use Rattle.set_model.specs.State.{LinkState, State, target, fate_at, window_of}
+use Rattle.set_model.specs.Control.{Control, Choice, again, first, fill, choice_of, is_processed, acked_by, part_of}
 use Rattle.set_model.specs.Changeover.{fate_on, left_link, out_of_service, turned_back, settled_link, acknowledged as acknowledged_link}
 use Rattle.set_model.specs.Step.{rows_sent, one_if, is_msu, risen_link, step}
 use Rattle.set_model.specs.Sound.{WholeNumbers, one_more, AreFewOn, AreAtMost, AreFew}
@@ -30,16 +27,7 @@ use Rattle.set_model.proofs.Walk.{KeptBy, step_walks}
 few_turned : (test other : Fate → Bool) (fate : Fate) (n : ℕ) (rows : List Row) → length (standing other (turned test fate n rows)) ≤ length (standing other rows) + n
 few_turned test other fate zero rows = omega arith
 few_turned test other fate (suc n) [] = omega arith
-few_turned test other fate (suc n) (x ∷ rows) = go (test x.fate) (other x.fate) (other fate) refl refl refl (few_turned test other fate n rows) (few_turned test other fate (suc n) rows)
-  where
-    go : (a b c : Bool) → test x.fate ≡ a → other x.fate ≡ b → other fate ≡ c → length (standing other (turned test fate n rows)) ≤ length (standing other rows) + n → length (standing other (turned test fate (suc n) rows)) ≤ length (standing other rows) + suc n
-        → length (standing other (turned test fate (suc n) (x ∷ rows))) ≤ length (standing other (x ∷ rows)) + suc n
-    go true true true h k o p q = rw (h, k, o) (omega (arith, p))
-    go true true false h k o p q = rw (h, k, o) (omega (arith, p))
-    go true false true h k o p q = rw (h, k, o) (omega (arith, p))
-    go true false false h k o p q = rw (h, k, o) (omega (arith, p))
-    go false true c h k o p q = rw (h, k) (omega (arith, q))
-    go false false c h k o p q = rw (h, k) (omega (arith, q))
+few_turned test other fate (suc n) (x ∷ rows) = grind (arith, few_turned test other fate n rows, few_turned test other fate (suc n) rows)
 
 -- a move makes no unacknowledged ones
 few_moved_by : (test : Fate → Bool) (fate : Row → Fate) (m : ℕ) (rows : List Row) → ((row : Row) → is_unacked m (fate row) ≡ false) → length (unack m (moved test fate rows)) ≤ length (unack m rows)
@@ -55,16 +43,13 @@ few_moved : (test : Fate → Bool) (to : Fate) (m : ℕ) (rows : List Row) → i
 few_moved test to m rows none = few_moved_by test (all_with to) m rows (λ row. none)
 
 pub not_sent : (m : ℕ) (to : Option ℕ) → is_unacked m (fate_on to) ≡ false
-not_sent m None = refl
-not_sent m (Some to) = refl
+not_sent m to = grind arith
 
 and_left : (x y : Bool) → (x && y) ≡ true → x ≡ true
-and_left true y e = refl
-and_left false y e = absurd cc
+and_left x y e = grind arith
 
 pub part_acked : (control : Control) (w : WindowState) (head : Header) (msu : Bool) → (part_of control w head msu).acked ≡ acked_by control w head
-part_acked (Basic s) w head msu = refl
-part_acked (Cyclic s) w head msu = refl
+part_acked control w head msu = grind arith
 
 -- A processed unit acknowledges no more than there are.
 module _ (n : ℕ) (link : LinkState) (rows : List Row) (head : Header) where
@@ -75,15 +60,10 @@ module _ (n : ℕ) (link : LinkState) (rows : List Row) (head : Header) where
   sent_length = length-map (unack n rows) (λ (row : Row). row.number)
 
   normal : (state : Control) → is_processed state window head ≡ true → distance_to window head.bsn ≤ length window.unacked
-  normal (Basic state) e = let f = and_left (not (basic.has_abnormal_bsn window head)) (not (basic.has_abnormal_fib state window head)) e in grind (arith, nat_tests, f)
-  normal (Cyclic state) e = grind (arith, nat_tests, e)
+  normal state e = grind arith
 
   pub acked_few : (msu : Bool) → (part_of link.control window head msu).acked ≤ length (unack n rows)
-  acked_few msu = rw (part_acked link.control window head msu) (go (is_processed link.control window head) refl)
-    where
-      go : (b : Bool) → is_processed link.control window head ≡ b → acked_by link.control window head ≤ length (unack n rows)
-      go true e = let d = normal link.control e in rw e (omega (arith, d, sent_length))
-      go false e = rw e (omega arith)
+  acked_few msu = grind (arith, part_acked, sent_length)
 
 -- A LINK THAT CHANGES, and the others.
 few_set : (k : ℕ → WholeNumbers) (n : ℕ) (link : LinkState) (s : State) (rows : List Row) → AreFewOn (k n) n link rows → ((m : ℕ) → length (unack m rows) ≤ length (unack m s.rows)) → AreAtMost k s → AreAtMost k (record s { links = slice_set s.links n link; rows = rows })
@@ -100,13 +80,7 @@ same_appended : (m : ℕ) (rows : List Row) (body : List ℕ) (fate : Fate) → 
 same_appended m rows body fate none = let same = ap length (appended_out rows body fate (is_unacked m) none) in omega (arith, same)
 
 pub offered_out : (m : ℕ) (place : Place) (s : State) → is_unacked m (fate_at place s) ≡ false
-offered_out m Nowhere s = refl
-offered_out m (Changing to code via) s = refl
-offered_out m (On l) s = go (is_up l s) refl
-  where
-    go : (b : Bool) → is_up l s ≡ b → is_unacked m (fate_at (On l) s) ≡ false
-    go true e = rw e refl
-    go false e = rw e refl
+offered_out m place s = grind arith
 
 few_back : (n m : ℕ) (s : State) → length (unack m (turned_back n s).rows) ≤ length (unack m s.rows)
 few_back n m s = few_moved_by (is_back_to n) (λ row. fate_at (place_of (stream_of row.body) s.routing) s) m s.rows (λ row. offered_out m (place_of (stream_of row.body) s.routing) s)
@@ -141,8 +115,7 @@ small Known May = record {
 }
 
 one_low : (b : Bool) → one_if b ≤ 1
-one_low true = omega arith
-one_low false = omega arith
+one_low b = grind arith
 
 few_sent : (choice : Choice) (m n : ℕ) (rows : List Row) → length (unack m (rows_sent choice n rows)) ≤ length (unack m rows) + 1
 few_sent (again i) m n rows = omega arith

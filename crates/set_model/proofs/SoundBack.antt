@@ -1,5 +1,5 @@
 -- WHAT HOLDS OF EVERY STATE is kept when a link is left, and by a changeback.
-use Rattle.std.proofs.Common.{refl, arith, ◌≡◌, ◌≢◌, ◌∙◌, ap, sym, subst, ◌<◌, ℕ, ◌+◌, ◌*◌, ◌%◌, ◌==◌, Bool, true, false, not, ◌&&◌, List, [], ◌++◌, slice_get, Option, None, Some, if◌then◌else◌, map}
+use Rattle.std.proofs.Common.{refl, arith, ◌≡◌, ◌≢◌, ◌∙◌, ap, sym, subst, ◌<◌, ℕ, ◌+◌, ◌*◌, ◌%◌, ◌==◌, Bool, true, false, not, ◌&&◌, List, [], ◌++◌, slice_get, Some, if◌then◌else◌, map}
 use Rattle.std.proofs.lemmas.Bool.{eqb-true}
 use Rattle.std.proofs.lemmas.List.{length-set, append-nil}
 use Rattle.l3_orders.specs.declared.order.Order.TheVariants.{Cbd}
@@ -9,7 +9,7 @@ use Rattle.set_events.specs.declared.answer.Fate.TheVariants.{Waiting, Unacked, 
 use Rattle.set_route.specs.declared.place.Place.{Place}
 use Rattle.set_route.specs.declared.place.Place.TheVariants.{On, Changing, Nowhere}
 use Rattle.set_route.specs.declared.place.Code.{Code}
-use Rattle.set_route.specs.declared.place.Code.TheVariants.{Free, Asked, Spent}
+use Rattle.set_route.specs.declared.place.Code.TheVariants.{Free, Asked}
 use Rattle.set_route.specs.Routing.{Routing, IsRouting, code_for, home_of, code_of, place_of, place_left, code_left, runs_on, can_ask, asked, place_back, given_back}
 use Rattle.set_route.proofs.Alone.{alone, codes_alone}
 use Rattle.set_route.proofs.Places.{left_sound, asked_sound, back_sound}
@@ -40,45 +40,21 @@ in_use_below r sound code e =
     omega (arith, home, few)
 
 up_link : (n : ℕ) (s : State) → is_up n s ≡ true → (link : LinkState) × (slice_get s.links n ≡ Some link) × (has_phase_up link.phase ≡ true)
-up_link n s e = go (slice_get s.links n) refl
-  where
-    go : (o : Option LinkState) → slice_get s.links n ≡ o → (link : LinkState) × (slice_get s.links n ≡ Some link) × (has_phase_up link.phase ≡ true)
-    go None f = let no : true ≡ false = sym e ∙ ap link_is_up f in absurd cc
-    go (Some link) f = (link, f, ap link_is_up (sym f) ∙ e)
+up_link n s e = grind arith
 
 -- where a message goes whose stream runs on a link: to wait for it if it's up, else to be held for it
 module _ (s : State) where
   on_either : (other : Fate → Bool) (via : ℕ) → other (Waiting via) ≡ false → other (Held via) ≡ false → other (fate_at (On via) s) ≡ false
-  on_either other via a b = go (is_up via s) refl
-    where
-      go : (c : Bool) → is_up via s ≡ c → other (fate_at (On via) s) ≡ false
-      go true e = rw e a
-      go false e = rw e b
+  on_either other via a b = grind arith
 
   pub up_not_held : (k : ℕ) → is_up k s ≡ true → (p : Place) → is_held k (fate_at p s) ≡ false
-  up_not_held k up Nowhere = refl
-  up_not_held k up (Changing to code via) = refl
-  up_not_held k up (On l) = go (is_up l s) refl
-    where
-      go : (c : Bool) → is_up l s ≡ c → is_held k (fate_at (On l) s) ≡ false
-      go true e = rw e refl
-      go false e = rw e (apart l k (λ same. false_true (is_up l s) e (ap (λ (j : ℕ). is_up j s) same ∙ up)))
+  up_not_held k up p = grind arith
 
   pub down_not_waiting : (k : ℕ) → is_up k s ≡ false → (p : Place) → is_waiting k (fate_at p s) ≡ false
-  down_not_waiting k down Nowhere = refl
-  down_not_waiting k down (Changing to code via) = refl
-  down_not_waiting k down (On l) = go (is_up l s) refl
-    where
-      go : (c : Bool) → is_up l s ≡ c → is_waiting k (fate_at (On l) s) ≡ false
-      go true e = rw e (apart l k (λ same. false_true (is_up k s) down (ap (λ (j : ℕ). is_up j s) (sym same) ∙ e)))
-      go false e = rw e refl
+  down_not_waiting k down p = grind arith
 
   not_back_of : (r : Routing) (x : Row) (via : ℕ) → IsBackOf r x (fate_at (On via) s)
-  not_back_of r x via = go (is_up via s) refl
-    where
-      go : (c : Bool) → is_up via s ≡ c → IsBackOf r x (fate_at (On via) s)
-      go true e = rw e tt
-      go false e = rw e tt
+  not_back_of r x via = grind arith
 
 -- A LINK IS LEFT, and what stood back for it turns back.
 module _ (blind : Bool) (n : ℕ) (link : LinkState) (s : State) (at : IsAt n link Up s) (t : IsSound s) where
@@ -168,23 +144,11 @@ module _ (blind : Bool) (n : ℕ) (link : LinkState) (s : State) (at : IsAt n li
       go false e = rw e (placed_set s.links n link (left_link blind link) (On via) at.there refl p)
 
   left_runs : (place : Place) → place ≢ Nowhere → place_left n place ≢ Nowhere
-  left_runs Nowhere d e = d refl
-  left_runs (On l) d e = absurd cc
-  left_runs (Changing to code via) d e = go (to == n) refl e
-    where
-      go : (b : Bool) → (to == n) ≡ b → place_left n (Changing to code via) ≡ Nowhere → ⊥
-      go true f e = let no : On via ≡ Nowhere = rw f at e in cc
-      go false f e = let no : Changing to code via ≡ Nowhere = rw f at e in cc
+  left_runs place d e = grind arith
 
   -- an open code that stays open has another home
   still_open : (code : ℕ) (c : Code) → code_left n code c ≡ Asked → (c ≡ Asked) × ((home_of code == n) ≡ false)
-  still_open code Free e = absurd cc
-  still_open code Spent e = absurd cc
-  still_open code Asked e = go (home_of code == n) refl
-    where
-      go : (b : Bool) → (home_of code == n) ≡ b → (Asked ≡ Asked) × ((home_of code == n) ≡ false)
-      go true f = let no : Spent ≡ Asked = rw f at e in absurd cc
-      go false f = (refl, f)
+  still_open code c e = grind arith
 
   left_homes : (code : ℕ) → code_of code mid.routing ≡ Asked → is_up (home_of code) mid ≡ true
   left_homes code e =
@@ -227,12 +191,10 @@ module _ (blind : Bool) (n : ℕ) (link : LinkState) (s : State) (at : IsAt n li
 
 -- A DECLARATION.
 and_right : (a b : Bool) → (a && b) ≡ true → b ≡ true
-and_right true b e = e
-and_right false b e = absurd cc
+and_right a b e = grind arith
 
 and_left : (a b : Bool) → (a && b) ≡ true → a ≡ true
-and_left true b e = refl
-and_left false b e = absurd cc
+and_left a b e = grind arith
 
 -- the link that it goes out on is up
 pub alternative_up : (home alternative : ℕ) (s : State) → can_declare home alternative s ≡ true → is_up alternative s ≡ true
@@ -263,12 +225,10 @@ module _ (home alternative : ℕ) (s : State) (up : is_up home s ≡ true) (may 
   alternative_below = below alternative (ap link_is_up there.1 ∙ there.2)
 
   place_asked : (away : Bool) (place : Place) → IsPlaced s.links place → IsPlaced s.links (if away then Changing home (code_for home alternative) alternative else place)
-  place_asked true place p = (there.0, there.1, up_unsettled there.0.phase there.2)
-  place_asked false place p = p
+  place_asked away place p = grind arith
 
   asked_runs : (away : Bool) (place : Place) → place ≢ Nowhere → (if away then Changing home (code_for home alternative) alternative else place) ≢ Nowhere
-  asked_runs true place d e = absurd cc
-  asked_runs false place d e = d e
+  asked_runs away place d e = grind arith
 
   asked_homes : (code : ℕ) → code_of code runs ≡ Asked → is_up (home_of code) s ≡ true
   asked_homes code e = go (code == code_for home alternative) refl
@@ -388,13 +348,7 @@ module _ (code : ℕ) (s : State) (t : IsSound s) where
       go false f = rw f p
 
   back_runs : (place : Place) → place ≢ Nowhere → place_back code place ≢ Nowhere
-  back_runs Nowhere d e = d refl
-  back_runs (On l) d e = absurd cc
-  back_runs (Changing to c via) d e = go (c == code) refl e
-    where
-      go : (b : Bool) → (c == code) ≡ b → place_back code (Changing to c via) ≡ Nowhere → ⊥
-      go true f e = let no : On to ≡ Nowhere = rw f at e in cc
-      go false f e = let no : Changing to c via ≡ Nowhere = rw f at e in cc
+  back_runs place d e = grind arith
 
   back_homes : (c : ℕ) → code_of c (given_back code s.routing) ≡ Asked → is_up (home_of c) s ≡ true
   back_homes c e = go (c == code) refl

@@ -14,7 +14,7 @@ use Rattle.set_route.specs.declared.place.Place.{Place}
 use Rattle.set_route.specs.declared.place.Place.TheVariants.{On, Changing, Nowhere}
 use Rattle.set_route.specs.Routing.{home_of}
 use Rattle.set_model.specs.declared.phase.Phase.{Phase}
-use Rattle.set_model.specs.declared.phase.Phase.TheVariants.{Up, Down, Settled}
+use Rattle.set_model.specs.declared.phase.Phase.TheVariants.{Up, Down}
 use Rattle.set_model.specs.Rows.{Row, is_waiting, is_unacked, is_on, unack, wait, held, back, parked, numbers, octets_in, turned, changed, with_fate, stands_back, AreFit, IsNumbered, IsInOrder, IsHeldLast}
 use Rattle.set_model.specs.Control.{Choice, again, first, fill, choice_of, control_after, part_of, control_heard, acked_by}
 use Rattle.set_model.specs.State.{LinkState, State, link_is_up, has_phase_up, has_phase_settled, window_of}
@@ -31,9 +31,7 @@ use Rattle.set_model.proofs.Walk.{IsAt}
 
 -- PHASES.
 pub up_unsettled : (phase : Phase) → has_phase_up phase ≡ true → has_phase_settled phase ≡ false
-up_unsettled Up e = refl
-up_unsettled Down e = absurd cc
-up_unsettled Settled e = absurd cc
+up_unsettled phase e = grind arith
 
 -- A LINK THAT AN EVENT LEAVES ALONE.
 pub link_untouched : (m : Method) (n : ℕ) (link : LinkState) (rows new : List Row) → Untouched n rows new → IsSoundLink m n link rows → IsSoundLink m n link new

@@ -4,7 +4,6 @@ use Rattle.std.proofs.lemmas.Bool.{eqb-true}
 use Rattle.std.proofs.lemmas.List.{length-set}
 use Rattle.set_events.specs.declared.answer.Fate.TheVariants.{Waiting}
 use Rattle.set_events.specs.declared.config.Method.{Method}
-use Rattle.set_events.specs.declared.config.Method.TheVariants.{Basic as BasicMethod, Cyclic as CyclicMethod}
 use Rattle.set_route.specs.declared.place.Place.{Place}
 use Rattle.set_route.specs.declared.place.Place.TheVariants.{On, Changing, Nowhere}
 use Rattle.set_route.specs.Routing.{place_of, has_messages, home_of, raised, settled, place_raised, place_settled, place_on, via_settled}
@@ -31,25 +30,16 @@ use Rattle.set_model.proofs.Standing.{each_moved}
 
 -- A LINK COMES UP.
 pub start_counted : (m : Method) → accepted_of (start_of m) ≡ 127
-start_counted BasicMethod = refl
-start_counted (CyclicMethod n1 n2) = refl
+start_counted m = grind arith
 
 pub start_method : (m : Method) → IsOf m (start_of m)
-start_method BasicMethod = tt
-start_method (CyclicMethod n1 n2) = (refl, refl)
+start_method m = grind arith
 
 pub start_range : (m : Method) (count : ℕ) → IsInRange (start_of m) count
-start_range BasicMethod count = omega arith
-start_range (CyclicMethod n1 n2) count = λ d. absurd (d refl)
+start_range m count = grind arith
 
 raised_runs : (n home : ℕ) (used : Bool) (place : Place) → place_raised n home used place ≢ Nowhere
-raised_runs n home used Nowhere e = absurd cc
-raised_runs n home used (Changing to code via) e = absurd cc
-raised_runs n home used (On l) e = go ((home == n) && not used) refl
-  where
-    go : (b : Bool) → ((home == n) && not used) ≡ b → ⊥
-    go true f = let no : On n ≡ Nowhere = rw f at e in cc
-    go false f = let no : On l ≡ Nowhere = rw f at e in cc
+raised_runs n home used place e = grind arith
 
 module _ (n : ℕ) (link : LinkState) (s : State) (at : IsAt n link Settled s) (t : IsSound s) where
   abbrev new : List Row
@@ -214,27 +204,14 @@ module _ (n : ℕ) (link : LinkState) (s : State) (at : IsAt n link Down s) (t :
 
   -- while a link is up there is a target
   runs_left : (to : Option ℕ) → (to ≡ None → ⊥) → (place : Place) → place ≢ Nowhere → place_settled n to place ≢ Nowhere
-  runs_left to some Nowhere d e = d refl
-  runs_left to some (Changing home code via) d e = absurd cc
-  runs_left to some (On l) d e = go (l == n) refl to some e
-    where
-      go : (b : Bool) → (l == n) ≡ b → (o : Option ℕ) → (o ≡ None → ⊥) → place_settled n o (On l) ≡ Nowhere → ⊥
-      go true f None some e = some refl
-      go true f (Some r) some e = let no : On r ≡ Nowhere = rw f at e in cc
-      go false f o some e = let no : On l ≡ Nowhere = rw f at e in cc
+  runs_left to some place d e = grind arith
 
   parked_left : (to : Option ℕ) → (to ≡ None → ⊥) → target s.links ≡ to → parked (off_to to) ≡ parked s.rows
   parked_left None some e = absurd (some refl)
   parked_left (Some to) some e = (moved_to n to s.rows (not_target to e)).parked_same
 
   below_links : (to : Option ℕ) → target s.links ≡ to → IfSome to (λ r. r < s.routing.links)
-  below_links None e = tt
-  below_links (Some r) e =
-      let up = target_up s.links r e in
-      let low = within s.links r up.0 up.1 in
-      let links = t.count in
-      let routed = t.routed in
-      omega (arith, low, links, routed)
+  below_links to e = grind (arith, target_up, within)
 
   left_backs : (to : Option ℕ) → AreBack (settled n to s.routing) (off_to to)
   left_backs to =
@@ -246,8 +223,7 @@ module _ (n : ℕ) (link : LinkState) (s : State) (at : IsAt n link Down s) (t :
       there (Some r) x = tt
 
   target_not_back : (to : Option ℕ) → stands_back (fate_on to) ≡ false
-  target_not_back None = refl
-  target_not_back (Some r) = refl
+  target_not_back to = grind arith
 
   pub moves_off_sound : IsSound (moved_over n link s)
   moves_off_sound =

@@ -3,7 +3,6 @@ use Rattle.std.proofs.Common.{refl, arith, ◌≡◌, ◌∙◌, ap, sym, subst,
 use Rattle.std.proofs.lemmas.Bool.{eqb-true}
 use Rattle.std.proofs.lemmas.List.{map-append}
 use Rattle.l3_orders.specs.declared.order.Order.{Order}
-use Rattle.l3_orders.specs.declared.order.Order.TheVariants.{Coo, Coa, Cbd, Cba, Eco, Eca}
 use Rattle.l3_orders.specs.Grammar.{text}
 use Rattle.set_events.specs.declared.answer.Fate.{Fate}
 use Rattle.set_events.specs.declared.answer.Fate.TheVariants.{Waiting, Unacked, Acked, Held, Parked, Back, Discarded}
@@ -12,11 +11,11 @@ use Rattle.set_route.specs.declared.place.Place.TheVariants.{On, Changing, Nowhe
 use Rattle.set_route.specs.Routing.{Routing, accepted, place_of}
 use Rattle.set_route.proofs.Alone.{alone}
 use Rattle.set_route.proofs.Places.{accepted_sound}
-use Rattle.set_model.specs.Rows.{Row, is_unacked, is_held, is_on, is_parked, stands_back, stream_of, service_indicator, back, parked, numbers, appended}
-use Rattle.set_model.specs.State.{LinkState, State, is_up, link_is_up, has_phase_up, has_phase_settled, fate_at, target}
+use Rattle.set_model.specs.Rows.{Row, is_unacked, is_held, is_on, stands_back, stream_of, service_indicator, back, parked, numbers, appended}
+use Rattle.set_model.specs.State.{LinkState, State, has_phase_up, has_phase_settled, fate_at, target}
 use Rattle.set_model.specs.Changeover.{fate_on, queued}
 use Rattle.set_model.specs.Step.{offer_refusal, offered}
-use Rattle.set_model.specs.Sound.{IsSoundLink, IsPlaced, IsAscending, IsBackOf, AreBack, IsSound}
+use Rattle.set_model.specs.Sound.{IsSoundLink, IsAscending, IsBackOf, AreBack, IsSound}
 use Rattle.set_model.proofs.Backs.{coded_at, backs_kept}
 use Rattle.set_model.proofs.Events.{appended_in, appended_out, appended_untouched}
 use Rattle.set_model.proofs.Finding.{new_row, numbered_appended, fit_appended}
@@ -95,47 +94,25 @@ module _ (s : State) (body : List ℕ) (t : IsSound s) where
           }
 
   pub none_parked : (fate : Fate) → IsOpen fate s.links → (k : ℕ) (other : LinkState) → slice_get s.links k ≡ Some other → has_phase_up other.phase ≡ true → parked (appended s.rows body fate) ≡ []
-  none_parked Parked fits k other there rising = false_true (has_phase_up other.phase) (fits k other there) rising
-  none_parked (Waiting n) fits k other there rising = appended_out s.rows body (Waiting n) is_parked refl ∙ t.none_aside k other there rising
-  none_parked (Held n) fits k other there rising = appended_out s.rows body (Held n) is_parked refl ∙ t.none_aside k other there rising
-  none_parked (Back c) fits k other there rising = appended_out s.rows body (Back c) is_parked refl ∙ t.none_aside k other there rising
-  none_parked (Unacked n) fits k other there rising = absurd fits
-  none_parked (Acked n) fits k other there rising = absurd fits
-  none_parked (Discarded cause) fits k other there rising = absurd fits
+  none_parked fate fits k other there rising = grind (arith, appended_out)
 
 -- AN ORDER goes to the target, and is of no stream.
 open_target : (s : State) (to : Option ℕ) → target s.links ≡ to → IsOpen (fate_on to) s.links
-open_target s (Some to) e = target_up s.links to e
-open_target s None e = λ n link there. none_up s.links n link e there
+open_target s to e = grind (arith, target_up, none_up)
 
 pub order_fits : (order : Order) (s : State) → length (text order s.settings.sio s.settings.dpc s.settings.opc) ≤ 273
-order_fits (Coo n fsn) s = omega arith
-order_fits (Coa n fsn) s = omega arith
-order_fits (Cbd n code) s = omega arith
-order_fits (Cba n code) s = omega arith
-order_fits (Eco n) s = omega arith
-order_fits (Eca n) s = omega arith
+order_fits order s = grind arith
 
 -- a message that doesn't stand back
 module _ (routing : Routing) (rows : List Row) (body : List ℕ) (fate : Fate) (elsewhere : stands_back fate ≡ false) where
   pub backs_appended : AreBack routing rows → AreBack routing (appended rows body fate)
-  backs_appended b = each_appended (λ row. IsBackOf routing row row.fate) rows body fate (is fate elsewhere) b
-    where
-      is : (f : Fate) → stands_back f ≡ false → IsBackOf routing (new_row (length rows) body fate) f
-      is (Back c) e = absurd cc
-      is (Waiting l) e = tt
-      is (Unacked l) e = tt
-      is (Acked l) e = tt
-      is (Held l) e = tt
-      is Parked e = tt
-      is (Discarded cause) e = tt
+  backs_appended b = grind (arith, each_appended)
 
   pub back_appended : IsAscending (numbers (back rows)) → IsAscending (numbers (back (appended rows body fate)))
   back_appended a = subst (λ (xs : List Row). IsAscending (numbers xs)) (sym (appended_out rows body fate stands_back elsewhere)) a
 
 target_elsewhere : (to : Option ℕ) → stands_back (fate_on to) ≡ false
-target_elsewhere None = refl
-target_elsewhere (Some to) = refl
+target_elsewhere to = grind arith
 
 pub queues : (order : Order) (s : State) → IsSound s → IsSound (queued order s)
 queues order s t =
@@ -160,20 +137,7 @@ queues order s t =
 
 -- AN OFFER goes where its stream runs.
 open_offer : (s : State) → IsSound s → (stream : ℕ) → stream < 16 → (place : Place) → place_of stream s.routing ≡ place → IsOpen (fate_at place s) s.links
-open_offer s t stream low Nowhere e = λ n link there. go n link there (has_phase_up link.phase) refl
-  where
-    go : (n : ℕ) (link : LinkState) → slice_get s.links n ≡ Some link → (b : Bool) → has_phase_up link.phase ≡ b → has_phase_up link.phase ≡ false
-    go n link there true u = absurd (t.all_run n link there u stream low e)
-    go n link there false u = u
-open_offer s t stream low (Changing to code via) e = tt
-open_offer s t stream low (On l) e = go (is_up l s) refl
-  where
-    p : IsPlaced s.links (On l)
-    p = subst (IsPlaced s.links) e (t.placed stream low)
-
-    go : (b : Bool) → is_up l s ≡ b → IsOpen (fate_at (On l) s) s.links
-    go true u = rw u (p.0, p.1, sym (ap link_is_up p.1) ∙ u)
-    go false u = rw u (p.0, p.1, sym (ap link_is_up p.1) ∙ u, p.2)
+open_offer s t stream low place e = grind arith
 
 user_of : (b : Bool) → b ≡ false → not b ≡ true
 user_of b e = rw e refl
@@ -193,11 +157,7 @@ module _ (s : State) (body : List ℕ) (t : IsSound s) (low : stream_of body < 1
   one_back (Changing to code via) e =
       let coded = coded_at s.routing stream t.routing to code via e in
       (user_of (service_indicator body == 0) users, low, via, same_place stream low ∙ e ∙ ap (λ (k : ℕ). Changing k code via) (sym coded.0))
-  one_back (On l) e = go (is_up l s) refl
-    where
-      go : (b : Bool) → is_up l s ≡ b → IsBackOf runs (new_row (length s.rows) body (fate_at (On l) s)) (fate_at (On l) s)
-      go true f = rw f tt
-      go false f = rw f tt
+  one_back (On l) e = grind arith
 
   offer_backs : AreBack runs (appended s.rows body (fate_at (place_of stream s.routing) s))
   offer_backs = each_appended (λ row. IsBackOf runs row row.fate) s.rows body (fate_at (place_of stream s.routing) s) (one_back (place_of stream s.routing) refl)

@@ -1,5 +1,5 @@
 -- FACTS OF EACH ROW, and what changes of rows do to them.
-use Rattle.std.proofs.Common.{refl, ◌≡◌, ℕ, Bool, true, false, not, List, [], ◌∷◌, ◌++◌, length, map}
+use Rattle.std.proofs.Common.{arith, refl, ◌≡◌, ℕ, Bool, true, false, not, List, [], ◌∷◌, ◌++◌, length, map}
 use Rattle.std.specs.Prelude.{filter}
 use Rattle.set_events.specs.declared.answer.Fate.{Fate}
 use Rattle.set_model.specs.Rows.{Row, standing, numbers, with_fate, fated, turned, changed, moved, appended, Each}
@@ -39,19 +39,11 @@ module _ (test : Fate → Bool) (fate : Fate) (P : Row → Type 0) (holds : (x :
 module _ (test : Fate → Bool) (fate : Row → Fate) where
   pub each_left : (P Q : Row → Type 0) → ((x : Row) → test x.fate ≡ false → P x → Q x) → (rows : List Row) → Each P rows → Each Q (standing (λ f. not (test f)) rows)
   each_left P Q so [] e = tt
-  each_left P Q so (x ∷ rows) e = go (test x.fate) refl (each_left P Q so rows e.1)
-    where
-      go : (b : Bool) → test x.fate ≡ b → Each Q (standing (λ f. not (test f)) rows) → Each Q (standing (λ f. not (test f)) (x ∷ rows))
-      go true h p = rw h p
-      go false h p = rw h (so x h e.0, p)
+  each_left P Q so (x ∷ rows) e = grind (arith, each_left P Q so rows e.1)
 
   pub each_gone : (P Q : Row → Type 0) → ((x : Row) → test x.fate ≡ true → P x → Q (fated fate x)) → (rows : List Row) → Each P rows → Each Q (map (fated fate) (standing test rows))
   each_gone P Q so [] e = tt
-  each_gone P Q so (x ∷ rows) e = go (test x.fate) refl (each_gone P Q so rows e.1)
-    where
-      go : (b : Bool) → test x.fate ≡ b → Each Q (map (fated fate) (standing test rows)) → Each Q (map (fated fate) (standing test (x ∷ rows)))
-      go true h p = rw h (so x h e.0, p)
-      go false h p = rw h p
+  each_gone P Q so (x ∷ rows) e = grind (arith, each_gone P Q so rows e.1)
 
   pub each_moved : (P Q : Row → Type 0) → ((x : Row) → test x.fate ≡ false → P x → Q x) → ((x : Row) → test x.fate ≡ true → P x → Q (fated fate x)) → (rows : List Row) → Each P rows → Each Q (moved test fate rows)
   each_moved P Q stay go rows e = each_append Q (standing (λ f. not (test f)) rows) (map (fated fate) (standing test rows)) (each_left P Q stay rows e) (each_gone P Q go rows e)
@@ -59,29 +51,17 @@ module _ (test : Fate → Bool) (fate : Row → Fate) where
   -- none that goes comes to stand there
   pub gone_none : (P : Row → Type 0) (other : Fate → Bool) → ((x : Row) → test x.fate ≡ true → P x → other (fate x) ≡ false) → (rows : List Row) → Each P rows → standing other (map (fated fate) (standing test rows)) ≡ []
   gone_none P other so [] e = refl
-  gone_none P other so (x ∷ rows) e = go (test x.fate) refl (gone_none P other so rows e.1)
-    where
-      go : (b : Bool) → test x.fate ≡ b → standing other (map (fated fate) (standing test rows)) ≡ [] → standing other (map (fated fate) (standing test (x ∷ rows))) ≡ []
-      go true h p = rw (h, so x h e.0) p
-      go false h p = rw h p
+  gone_none P other so (x ∷ rows) e = grind (arith, gone_none P other so rows e.1)
 
 -- none stands there, since what does is so
 pub none_standing : (P : Row → Type 0) (test : Fate → Bool) → ((x : Row) → test x.fate ≡ true → P x → ⊥) → (rows : List Row) → Each P rows → standing test rows ≡ []
 none_standing P test never [] e = refl
-none_standing P test never (x ∷ rows) e = go (test x.fate) refl (none_standing P test never rows e.1)
-  where
-    go : (b : Bool) → test x.fate ≡ b → standing test rows ≡ [] → standing test (x ∷ rows) ≡ []
-    go true h p = absurd (never x h e.0)
-    go false h p = rw h p
+none_standing P test never (x ∷ rows) e = grind (arith, none_standing P test never rows e.1)
 
 -- NUMBERS IN ORDER.
 above_filter : (k : ℕ) (p : Row → Bool) (rows : List Row) → AreAbove k (numbers rows) → AreAbove k (numbers (filter p rows))
 above_filter k p [] a = tt
-above_filter k p (x ∷ rows) a = go (p x) refl (above_filter k p rows a.1)
-  where
-    go : (b : Bool) → p x ≡ b → AreAbove k (numbers (filter p rows)) → AreAbove k (numbers (filter p (x ∷ rows)))
-    go true h e = rw h (a.0, e)
-    go false h e = rw h e
+above_filter k p (x ∷ rows) a = grind (arith, above_filter k p rows a.1)
 
 pub ascends_filter : (p : Row → Bool) (rows : List Row) → IsAscending (numbers rows) → IsAscending (numbers (filter p rows))
 ascends_filter p [] a = tt

@@ -1,5 +1,5 @@
 -- The laws of the list of rows.
-use Rattle.std.proofs.Common.{refl, arith, ◌≡◌, ◌∙◌, ap, sym, ◌<◌, [], ◌∷◌, length, ℕ, ◌-◌, Bool, true, false, not, ◌==◌, List, ◌++◌, Option, Some, None, map}
+use Rattle.std.proofs.Common.{refl, arith, ◌≡◌, ◌∙◌, ap, ◌<◌, [], ◌∷◌, length, ℕ, ◌-◌, Bool, true, not, ◌==◌, List, ◌++◌, Some, map}
 use Rattle.std.specs.Option.{option_map}
 use Rattle.std.proofs.lemmas.Bool.{eq-eqb, le-ltb}
 use Rattle.std.proofs.lemmas.List.{drop_at}
@@ -16,26 +16,14 @@ use Rattle.set_model.proofs.Events.{numbers_fated}
 -- a row that is found stays found when another comes behind it
 found_first : (number : ℕ) (rows more : List Row) (x : Row) → row_of number rows ≡ Some x → row_of number (rows ++ more) ≡ Some x
 found_first number [] more x e = absurd cc
-found_first number (y ∷ rows) more x e = go (y.number == number) refl (found_first number rows more x)
-  where
-    go : (b : Bool) → (y.number == number) ≡ b → (row_of number rows ≡ Some x → row_of number (rows ++ more) ≡ Some x) → row_of number (y ∷ (rows ++ more)) ≡ Some x
-    go true h later = let f : Some y ≡ Some x = rw h at e in rw h f
-    go false h later = let f : row_of number rows ≡ Some x = rw h at e in rw h (later f)
+found_first number (y ∷ rows) more x e = grind (arith, found_first number rows more x)
 
 found_after : (number : ℕ) (rows more : List Row) → with_number number rows ≡ [] → row_of number (rows ++ more) ≡ row_of number more
 found_after number [] more e = refl
-found_after number (y ∷ rows) more e = go (y.number == number) refl (found_after number rows more)
-  where
-    go : (b : Bool) → (y.number == number) ≡ b → (with_number number rows ≡ [] → row_of number (rows ++ more) ≡ row_of number more) → row_of number (y ∷ (rows ++ more)) ≡ row_of number more
-    go true h later = let no : y ∷ with_number number rows ≡ [] = rw h at e in absurd cc
-    go false h later = rw h (later (rw h at e))
+found_after number (y ∷ rows) more e = grind (arith, found_after number rows more)
 
 pub row_stays : (number : ℕ) (rows : List Row) (body : List ℕ) (fate : Fate) → IsNumbered rows → number < length rows → row_of number (appended rows body fate) ≡ row_of number rows
-row_stays number rows body fate numbered below = go (row_of number rows) refl
-  where
-    go : (r : Option Row) → row_of number rows ≡ r → row_of number (appended rows body fate) ≡ row_of number rows
-    go None e = absurd (is_found number rows numbered below e)
-    go (Some x) e = found_first number rows (new_row (length rows) body fate ∷ []) x e ∙ sym e
+row_stays number rows body fate numbered below = grind (arith, is_found, found_first)
 
 no_rows : (xs : List Row) → length xs ≡ 0 → xs ≡ []
 no_rows [] e = refl

@@ -1,11 +1,10 @@
 -- WHILE NO CHANGEBACK IS UNDER WAY the messages of each stream stay together, where it runs.
-use Rattle.std.proofs.Common.{refl, arith, ◌≡◌, ◌∙◌, ap, sym, ◌<◌, ℕ, ◌%◌, ◌==◌, Bool, true, false, not, ◌&&◌, ◌||◌, List, length, Option, None, Some}
-use Rattle.std.proofs.lemmas.Bool.Decides.{nat_tests}
+use Rattle.std.proofs.Common.{refl, arith, ◌≡◌, ◌∙◌, ap, sym, ◌<◌, ℕ, ◌%◌, ◌==◌, Bool, true, false, not, ◌&&◌, ◌||◌, List, length, Option, None}
 use Rattle.std.proofs.lemmas.Bool.{eqb-true}
 use Rattle.l3_orders.specs.declared.order.Order.{Order}
 use Rattle.l3_orders.specs.Grammar.{text}
 use Rattle.set_events.specs.declared.answer.Fate.{Fate}
-use Rattle.set_events.specs.declared.answer.Fate.TheVariants.{Waiting, Unacked, Acked, Held, Parked, Discarded}
+use Rattle.set_events.specs.declared.answer.Fate.TheVariants.{Waiting, Acked, Discarded}
 use Rattle.set_events.specs.declared.event.Event.{Event}
 use Rattle.set_route.specs.declared.place.Place.{Place}
 use Rattle.set_route.specs.declared.place.Place.TheVariants.{On, Changing, Nowhere}
@@ -13,7 +12,7 @@ use Rattle.set_route.specs.Routing.{NoneOpen, place_of, has_messages, place_rais
 use Rattle.set_route.proofs.Alone.{alone}
 use Rattle.set_route.proofs.Quiet.{never_changing}
 use Rattle.set_model.specs.Rows.{Row, is_waiting, is_unacked, is_on, is_parked, is_users, stream_of, moved, all_with}
-use Rattle.set_model.specs.State.{State, is_up, fate_at, target}
+use Rattle.set_model.specs.State.{State, fate_at, target}
 use Rattle.set_model.specs.Changeover.{fate_on, queued}
 use Rattle.set_model.specs.Control.{Choice, again, first, fill}
 use Rattle.set_model.specs.Step.{offered, rows_sent, step}
@@ -31,7 +30,7 @@ never s t none k to code via e = never_changing k to code via s.routing t.routin
 -- AN ORDER is of no stream.
 no_users : (order : Order) (s : State) (fate : Fate) (stream : ℕ) → IsManaged s.settings → is_live stream (new_row (length s.rows) (text order s.settings.sio s.settings.dpc s.settings.opc) fate) ≡ false
 no_users order s fate stream m =
-    let own : (s.settings.sio % 16 == 0) ≡ true = grind (arith, nat_tests) in
+    let own : (s.settings.sio % 16 == 0) ≡ true = grind arith in
     rw own refl
 
 pub queues : (order : Order) (s : State) → IsSound s → AreTogether s → AreTogether (queued order s)
@@ -41,22 +40,13 @@ queues order s t r stream low =
 
 -- AN OFFER goes where its stream runs.
 stands_offer : (place : Place) (s : State) → ((to code via : ℕ) → place ≡ Changing to code via → ⊥) → stands_at place (fate_at place s) ≡ true
-stands_offer Nowhere s away = refl
-stands_offer (Changing to code via) s away = absurd (away to code via refl)
-stands_offer (On l) s away = go (is_up l s) refl
-  where
-    go : (b : Bool) → is_up l s ≡ b → stands_at (On l) (fate_at (On l) s) ≡ true
-    go true e = rw e (itself l)
-    go false e = rw e (itself l)
+stands_offer place s away = grind arith
 
 of_stream : (a b c : Bool) → (a && (b && c)) ≡ true → b ≡ true
-of_stream true true c e = refl
-of_stream true false c e = absurd cc
-of_stream false b c e = absurd cc
+of_stream a b c e = grind arith
 
 or_right : (a b : Bool) → (a || b) ≡ false → b ≡ false
-or_right true b e = absurd cc
-or_right false b e = e
+or_right a b e = grind arith
 
 offers : (s : State) (body : List ℕ) → IsSound s → NoneOpen s.routing → AreTogether s → AreTogether (offered None s body).state
 offers s body t none r k few =
@@ -72,13 +62,10 @@ offers s body t none r k few =
 
 -- A LINK COMES UP.
 parked_unfinished : (f : Fate) → is_parked f ≡ true → is_unfinished f ≡ true
-parked_unfinished Parked e = refl
-parked_unfinished _ e = absurd cc
+parked_unfinished f e = grind arith
 
 not_used : (a used : Bool) → (a && not used) ≡ true → used ≡ false
-not_used true true e = absurd cc
-not_used true false e = refl
-not_used false used e = absurd cc
+not_used a used e = grind arith
 
 module _ (n : ℕ) (rows : List Row) where
   abbrev risen : List Row
@@ -98,18 +85,13 @@ module _ (n : ℕ) (rows : List Row) where
 
 -- A LINK IS LEFT BY ITS MESSAGES.
 on_unfinished : (n : ℕ) (f : Fate) → is_on n f ≡ true → is_unfinished f ≡ true
-on_unfinished n (Waiting m) e = refl
-on_unfinished n (Unacked m) e = refl
-on_unfinished n (Held m) e = refl
-on_unfinished n _ e = absurd cc
+on_unfinished n f e = grind arith
 
 target_unfinished : (to : Option ℕ) → is_unfinished (fate_on to) ≡ true
-target_unfinished None = refl
-target_unfinished (Some to) = refl
+target_unfinished to = grind arith
 
 target_stands : (to : Option ℕ) → stands_at (place_on to) (fate_on to) ≡ true
-target_stands None = refl
-target_stands (Some to) = itself to
+target_stands to = grind arith
 
 module _ (n : ℕ) (to : Option ℕ) (rows : List Row) where
   abbrev off : List Row

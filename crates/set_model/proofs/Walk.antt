@@ -1,6 +1,5 @@
 -- THE WALK over the cases of the step, once: what each small change keeps, every event keeps.
-use Rattle.std.proofs.Common.{refl, arith, ◌≡◌, ◌∙◌, ap, subst, ◌<◌, ◌≤◌, length, ℕ, zero, suc, ◌+◌, ◌==◌, Bool, true, false, ◌⊎◌, List, [], ◌∷◌, ◌++◌, slice_get, Option, Some, None, if◌then◌else◌, inl, inr}
-use Rattle.std.proofs.lemmas.Bool.Decides.{nat_tests}
+use Rattle.std.proofs.Common.{refl, arith, ◌≡◌, ◌∙◌, ap, subst, ◌<◌, ◌≤◌, length, ℕ, zero, suc, ◌+◌, ◌==◌, Bool, true, false, ◌⊎◌, List, [], ◌∷◌, ◌++◌, slice_get, Option, Some, None, inl, inr}
 use Rattle.l2_units.specs.declared.unit.Unit.{Unit as SignalUnit}
 use Rattle.l2_units.specs.declared.unit.Unit.TheVariants.{Fisu, Lssu, Msu}
 use Rattle.l2_units.specs.Grammar.{head_of as header_in}
@@ -12,21 +11,19 @@ use Rattle.set_events.specs.declared.answer.DiscardCause.TheVariants.{Emergency,
 use Rattle.set_events.specs.declared.answer.Fate.{Fate}
 use Rattle.set_events.specs.declared.answer.Fate.TheVariants.{Discarded}
 use Rattle.set_events.specs.declared.answer.Refusal.{Refusal as SetRefusal}
-use Rattle.set_events.specs.declared.answer.Refusal.TheVariants.{NotUp}
 use Rattle.set_events.specs.declared.event.Event.{Event}
 use Rattle.set_events.specs.declared.event.Event.TheVariants.{Offer, Take, Find, Next, Heard, Up as UpEvent, Down as DownEvent, DownBlind, NoAnswer, Restore, BackTimeout}
 use Rattle.set_route.specs.declared.place.Code.{Code}
-use Rattle.set_route.specs.declared.place.Code.TheVariants.{Free, Asked, Spent}
 use Rattle.set_route.specs.Routing.{code_for, home_of, code_of}
 use Rattle.set_model.specs.declared.phase.Phase.{Phase}
 use Rattle.set_model.specs.declared.phase.Phase.TheVariants.{Up, Down, Settled}
 use Rattle.set_model.specs.declared.reached.Reached.{Reached}
 use Rattle.set_model.specs.declared.reached.Reached.TheVariants.{Upto, Unknown, Unanswered}
 use Rattle.set_model.specs.Rows.{unack, is_unacked, is_waiting, changed, place, service_indicator}
-use Rattle.set_model.specs.State.{LinkState, State, link_count, link_is_up, is_up, has_phase_up, window_of, last_accepted}
+use Rattle.set_model.specs.State.{LinkState, State, is_up, has_phase_up, window_of, last_accepted}
 use Rattle.set_model.specs.Control.{part_of}
-use Rattle.set_model.specs.Changeover.{Obeyed, queued, left_by, left_link, leaving_order, is_reasonable, reached_by, acknowledged_by, acknowledged, moved_over, settled, reply_of, changed_over, answered, at_link, can_declare, declared, declared_from, some_declare, released, released_from, some_in_use, acknowledged_back, order_obeyed, obeyed}
-use Rattle.set_model.specs.Step.{Outcome, refused, offer_refusal, offered, taken, found, with_known, in_service, next, is_msu, brought, takes, after_control, controls, heard, rises, gives_up, comes_back, runs_out, step}
+use Rattle.set_model.specs.Changeover.{Obeyed, queued, left_by, left_link, leaving_order, is_reasonable, reached_by, acknowledged_by, acknowledged, moved_over, settled, reply_of, changed_over, answered, at_link, can_declare, declared, declared_from, released, released_from, some_in_use, acknowledged_back, order_obeyed, obeyed}
+use Rattle.set_model.specs.Step.{Outcome, offer_refusal, offered, taken, found, with_known, in_service, next, is_msu, brought, takes, after_control, controls, heard, rises, gives_up, comes_back, runs_out, step}
 use Rattle.set_model.specs.Frame.{BringsAbout, BringsBackTo, Concerns}
 use Rattle.set_model.specs.Sound.{BeginsNone}
 use Rattle.set_model.proofs.Lists.{within, get_set_same}
@@ -73,7 +70,7 @@ module _ (Known : ℕ → Type 0) (May : Type 0) (R : State → State → Type 0
       go : (b : Bool) → is_reasonable fsn n link s.rows ≡ b → R s (settled (Upto fsn) n link s)
       go true e =
           let count = reached_by fsn n link s.rows in
-          let few : count ≤ length (unack n s.rows) = grind (arith, nat_tests, e) in
+          let few : count ≤ length (unack n s.rows) = grind arith in
           rw e (off n (acknowledged count link) s (acknowledged_by count n link s) known (k.acknowledges count n link s known at few) (record { there = get_set_same s.links n (acknowledged count link) (within s.links n link at.there); phase_is = at.phase_is }))
       go false e = rw e (off n link s _ known (given_up Unreasonable n link s known at) (record { there = at.there; phase_is = at.phase_is }))
 
@@ -88,19 +85,14 @@ module _ (Known : ℕ → Type 0) (May : Type 0) (R : State → State → Type 0
   over_walks reached n link Settled s known at = k.queues (reply_of n link) s
 
   answer_walks : (reached : Reached) (n : ℕ) (link : LinkState) (phase : Phase) (s : State) → Known n → IsAt n link phase s → R s (answered reached n link phase s).state
-  answer_walks reached n link Up s known at = k.same s
-  answer_walks reached n link Down s known at = settle_walks reached n link s known at
-  answer_walks reached n link Settled s known at = k.same s
+  answer_walks reached n link phase s known at = grind (arith, settle_walks)
 
   at_walks : (n : ℕ) (s : State) (f : LinkState → Obeyed) → ((link : LinkState) → slice_get s.links n ≡ Some link → R s (f link).state) → (there : Option LinkState) → slice_get s.links n ≡ there → R s (at_link n s f there).state
-  at_walks n s f all None e = k.same s
-  at_walks n s f all (Some link) e = all link e
+  at_walks n s f all there e = grind arith
 
   -- changeback
   back_walks : (code : ℕ) (c : Code) (s : State) → Known (home_of code) → R s (acknowledged_back code c s).state
-  back_walks code Free s known = k.same s
-  back_walks code Asked s known = k.releases code s known
-  back_walks code Spent s known = k.releases code s known
+  back_walks code c s known = grind arith
 
   pub declare_walks : May → (home alternative n : ℕ) (s : State) → is_up home s ≡ true → R s (declared_from home alternative n s)
   declare_walks may home alternative zero s up = k.same s
@@ -149,10 +141,7 @@ pub record WalkedBy (s : State) (event : Event) (R : State → State → Type 0)
   pub rises : (n : ℕ) (link : LinkState) → event ≡ UpEvent n → IsAt n link Settled s → S (rises n s Settled).state
 
 pub brought_by : (accept : Bool) (unit : SignalUnit) (b : List ℕ) → brought accept unit ≡ Some b → (o : Order) → order_of b ≡ Some o → (n : ℕ) → link_of o ≡ n → BringsAbout n unit
-brought_by accept (Fisu head) b e o f n g = absurd cc
-brought_by accept (Lssu head status) b e o f n g = absurd cc
-brought_by true (Msu head body) b e o f n g = let same : body.items ≡ b = cc in (o, ap order_of same ∙ f, g)
-brought_by false (Msu head body) b e o f n g = absurd cc
+brought_by accept unit b e o f n g = grind arith
 
 brought_back : (accept : Bool) (unit : SignalUnit) (b : List ℕ) → brought accept unit ≡ Some b → (link code : ℕ) → order_of b ≡ Some (Cba link code) → BringsBackTo (home_of code) unit
 brought_back accept (Fisu head) b e link code f = absurd cc
@@ -161,40 +150,26 @@ brought_back true (Msu head body) b e link code f = let same : body.items ≡ b 
 brought_back false (Msu head body) b e link code f = absurd cc
 
 brought_either : (accept : Bool) (unit : SignalUnit) (b : List ℕ) → brought accept unit ≡ Some b → (o : Order) → order_of b ≡ Some o → (n : ℕ) → Touches o n → BringsAbout n unit ⊎ BringsBackTo n unit
-brought_either accept unit b e o f n (inl g) = inl (brought_by accept unit b e o f n g)
-brought_either accept unit b e o f n (inr p) = inr (subst (λ (m : ℕ). BringsBackTo m unit) p.3 (brought_back accept unit b e p.0 p.1 (f ∙ ap Some p.2)))
+brought_either accept unit b e o f n touches = grind arith
 
 is_up_phase : (phase : Phase) → has_phase_up phase ≡ true → phase ≡ Up
-is_up_phase Up e = refl
-is_up_phase Down e = absurd cc
-is_up_phase Settled e = absurd cc
+is_up_phase phase e = grind arith
 
 module _ (s : State) (R : State → State → Type 0) (S : State → Type 0) where
   on_walks : (n : ℕ) (f : LinkState → Outcome) → S s → ((link : LinkState) → slice_get s.links n ≡ Some link → S (f link).state) → S (with_known (slice_get s.links n) s f).state
-  on_walks n f unmoved all = go (slice_get s.links n) refl
-    where
-      go : (o : Option LinkState) → slice_get s.links n ≡ o → S (with_known o s f).state
-      go None e = unmoved
-      go (Some link) e = all link e
+  on_walks n f unmoved all = grind arith
 
   in_walks : (n : ℕ) (f : LinkState → Outcome) → S s → ((link : LinkState) → IsAt n link Up s → S (f link).state) → S (in_service n s f).state
-  in_walks n f unmoved all = on_walks n (λ link. if has_phase_up link.phase then f link else refused s NotUp) unmoved (λ link there. go link there (has_phase_up link.phase) refl)
-    where
-      go : (link : LinkState) → slice_get s.links n ≡ Some link → (b : Bool) → has_phase_up link.phase ≡ b → S (if b then f link else refused s NotUp).state
-      go link there true e = all link (record { there = there; phase_is = is_up_phase link.phase e })
-      go link there false e = unmoved
+  in_walks n f unmoved all = grind arith
 
   offer_walks : (body : List ℕ) → WalkedBy s (Offer body) R S → (o : Option SetRefusal) → offer_refusal s.rows body ≡ o → S (offered o s body).state
-  offer_walks body w None e = w.offers body refl e
-  offer_walks body w (Some why) e = w.unmoved
+  offer_walks body w o e = grind arith
 
   take_walks : WalkedBy s Take R S → (inbox : List (List ℕ)) → s.inbox ≡ inbox → S (taken inbox s).state
-  take_walks w [] e = w.unmoved
-  take_walks w (body ∷ rest) e = w.takes body rest refl e
+  take_walks w inbox e = grind arith
 
   find_walks : S s → (fate : Option Fate) → S (found fate s).state
-  find_walks unmoved None = unmoved
-  find_walks unmoved (Some fate) = unmoved
+  find_walks unmoved fate = grind arith
 
   hear_walks : (n : ℕ) (unit : SignalUnit) (link : LinkState) → WalkedBy s (Heard n unit) R S → IsAt n link Up s → S (controls unit n s link).state
   hear_walks n unit link w at =
@@ -204,14 +179,10 @@ module _ (s : State) (R : State → State → Type 0) (S : State → Type 0) whe
       (takes_walks (λ m. Concerns (Heard n unit) m s) (BeginsNone (Heard n unit) → ⊥) R w.small (brought part.accept unit) mid (λ b e o f m g. inr (brought_either part.accept unit b e o f m g)))
 
   heard_walks : (n : ℕ) (unit : SignalUnit) (link : LinkState) → WalkedBy s (Heard n unit) R S → IsAt n link Up s → S (heard unit n s link).state
-  heard_walks n (Fisu head) link w at = hear_walks n (Fisu head) link w at
-  heard_walks n (Lssu head status) link w at = w.unmoved
-  heard_walks n (Msu head body) link w at = hear_walks n (Msu head body) link w at
+  heard_walks n unit link w at = grind (arith, hear_walks)
 
   rise_walks : (n : ℕ) (link : LinkState) (phase : Phase) → WalkedBy s (UpEvent n) R S → IsAt n link phase s → S (rises n s phase).state
-  rise_walks n link Up w at = w.unmoved
-  rise_walks n link Down w at = w.unmoved
-  rise_walks n link Settled w at = w.rises n link refl at
+  rise_walks n link phase w at = grind arith
 
   give_walks : (n : ℕ) (link : LinkState) (phase : Phase) → WalkedBy s (NoAnswer n) R S → IsAt n link phase s → S (gives_up n s link phase).state
   give_walks n link Up w at = w.unmoved
@@ -224,14 +195,7 @@ module _ (s : State) (R : State → State → Type 0) (S : State → Type 0) whe
       w.rests s (queued (leaving_order blind n link) left) w.unmoved (w.small.after s left (queued (leaving_order blind n link) left) (w.small.leaves blind n link s known at) (w.small.queues (leaving_order blind n link) left))
 
   restore_walks : (n : ℕ) (link : LinkState) → WalkedBy s (Restore n) R S → IsAt n link Up s → S (comes_back n s).state
-  restore_walks n link w at = go (some_declare n 0 (link_count s) s) refl
-    where
-      up : is_up n s ≡ true
-      up = ap link_is_up at.there ∙ ap has_phase_up at.phase_is
-
-      go : (b : Bool) → some_declare n 0 (link_count s) s ≡ b → S (comes_back n s).state
-      go true e = rw e (w.rests s _ w.unmoved (declare_walks (λ m. Concerns (Restore n) m s) (BeginsNone (Restore n) → ⊥) R w.small (λ none. none) n 0 (link_count s) s up))
-      go false e = rw e w.unmoved
+  restore_walks n link w at = grind (arith, declare_walks)
 
   timeout_walks : (n : ℕ) → WalkedBy s (BackTimeout n) R S → S (runs_out n s).state
   timeout_walks n w = go (some_in_use (code_for n 0) 16 s) refl
