@@ -19,14 +19,6 @@ pub numbers_fated : (fate : Row → Fate) (xs : List Row) → numbers (map (fate
 numbers_fated fate [] = refl
 numbers_fated fate (x ∷ xs) = ap (λ (ns : List ℕ). x.number ∷ ns) (numbers_fated fate xs)
 
-pub octets_fated : (fate : Row → Fate) (xs : List Row) → octets_in (map (fated fate) xs) ≡ octets_in xs
-octets_fated fate [] = refl
-octets_fated fate (x ∷ xs) = ap (λ (n : ℕ). length x.body + n) (octets_fated fate xs)
-
-pub octets-append : (xs ys : List Row) → octets_in (xs ++ ys) ≡ octets_in xs + octets_in ys
-octets-append [] ys = omega arith
-octets-append (x ∷ xs) ys = omega (arith, octets-append xs ys)
-
 pub numbers_joined : (fate : Row → Fate) (xs ys : List Row) → numbers (xs ++ map (fated fate) ys) ≡ numbers xs ++ numbers ys
 numbers_joined fate xs ys = map-append (λ (row : Row). row.number) xs (map (fated fate) ys) ∙ ap (λ (ns : List ℕ). numbers xs ++ ns) (numbers_fated fate ys)
 
@@ -70,16 +62,6 @@ pub record Untouched (n : ℕ) (rows new : List Row) : Type 0 where
 
 pub untouched_self : (n : ℕ) (rows : List Row) → Untouched n rows rows
 untouched_self n rows = record { unack_same = refl; wait_same = refl; held_same = refl; on_same = refl; order_kept = λ o. o; last_kept = λ o. o }
-
-pub untouched_then : (n : ℕ) (rows mid new : List Row) → Untouched n rows mid → Untouched n mid new → Untouched n rows new
-untouched_then n rows mid new a b = record {
-  unack_same = b.unack_same ∙ a.unack_same;
-  wait_same = b.wait_same ∙ a.wait_same;
-  held_same = b.held_same ∙ a.held_same;
-  on_same = b.on_same ∙ a.on_same;
-  order_kept = λ o. b.order_kept (a.order_kept o);
-  last_kept = λ o. b.last_kept (a.last_kept o);
-}
 
 module _ (n : ℕ) (test : Fate → Bool) (rows : List Row) (w : (f : Fate) → test f ≡ true → is_on n f ≡ false) where
   module _ (fate : Fate) (o : is_on n fate ≡ false) where
@@ -370,9 +352,3 @@ unparked l rows =
       last_kept = λ e. last_none l (moved is_parked to rows) (h ∙ e);
       others = λ n d. moved_untouched n is_parked rows (parked_not_on n) to (λ x. d);
     }
-
--- the octets of the acknowledged messages and of those that are left
-pub octets_split : (n : ℕ) (xs : List Row) → octets_in (take n xs) + octets_in (drop n xs) ≡ octets_in xs
-octets_split zero xs = omega arith
-octets_split (suc n) [] = refl
-octets_split (suc n) (x ∷ xs) = omega (arith, octets_split n xs)

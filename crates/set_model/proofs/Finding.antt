@@ -12,11 +12,6 @@ use Rattle.set_model.specs.Rows.{Row, standing, appended, row_of, IsNumbered, Ar
 abbrev pub with_number : ℕ → List Row → List Row
 with_number number rows = filter (λ row. row.number == number) rows
 
--- the first row that stands where the test tells
-pub first_is : (test : Fate → Bool) (rows : List Row) → slice_get (standing test rows) 0 ≡ find (λ row. test row.fate) rows
-first_is test [] = refl
-first_is test (x ∷ rows) = grind (arith, first_is test rows)
-
 -- a number below the length is found
 pub not_found : (number : ℕ) (rows : List Row) → row_of number rows ≡ None → with_number number rows ≡ []
 not_found number [] e = refl

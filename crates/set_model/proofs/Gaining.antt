@@ -106,51 +106,9 @@ step_counted s event other = step_walks s CountedFrom (CountedFrom s) event (rec
 abbrev pub AcceptsNone : Event → Answer → Type 0
 AcceptsNone event answer = (messages_in answer ≡ 0) × (octets_of event answer ≡ 0)
 
-module _ (s : State) (event : Event) where
-  known_none : (n : ℕ) (f : LinkState → Outcome) → ((link : LinkState) → AcceptsNone event (f link).answer) → AcceptsNone event (with_known (slice_get s.links n) s f).answer
-  known_none n f all = grind arith
-
-  service_none : (n : ℕ) (f : LinkState → Outcome) → ((link : LinkState) → AcceptsNone event (f link).answer) → AcceptsNone event (in_service n s f).answer
-  service_none n f all = grind arith
-
-  take_none : (inbox : List (List ℕ)) → AcceptsNone event (taken inbox s).answer
-  take_none inbox = grind arith
-
-  find_none : (fate : Option Fate) → AcceptsNone event (found fate s).answer
-  find_none fate = grind arith
-
-  heard_none : (unit : SignalUnit) (n : ℕ) (link : LinkState) → AcceptsNone event (heard unit n s link).answer
-  heard_none unit n link = grind arith
-
-  rise_none : (n : ℕ) (phase : Phase) → AcceptsNone event (rises n s phase).answer
-  rise_none n phase = grind arith
-
-  give_none : (n : ℕ) (link : LinkState) (phase : Phase) → AcceptsNone event (gives_up n s link phase).answer
-  give_none n link phase = grind arith
-
-  back_none : (n : ℕ) → AcceptsNone event (comes_back n s).answer
-  back_none n = grind arith
-
-  timeout_none : (n : ℕ) → AcceptsNone event (runs_out n s).answer
-  timeout_none n = go (some_in_use (code_for n 0) 16 s) refl
-    where
-      go : (b : Bool) → some_in_use (code_for n 0) 16 s ≡ b → AcceptsNone event (runs_out n s).answer
-      go true e = rw e (refl, refl)
-      go false e = rw e (refl, refl)
-
 pub accepts_none : (s : State) (event : Event) → is_offer event ≡ false → AcceptsNone event (step s event).answer
 unfolding step
-accepts_none s (Offer body) e = absurd cc
-accepts_none s Take e = take_none s Take s.inbox
-accepts_none s (Find number) e = find_none s (Find number) (place number s.rows)
-accepts_none s (Next n) e = service_none s (Next n) n (next n s) (λ link. (refl, refl))
-accepts_none s (Heard n unit) e = service_none s (Heard n unit) n (heard unit n s) (λ link. heard_none s (Heard n unit) unit n link)
-accepts_none s (UpEvent n) e = known_none s (UpEvent n) n (λ link. rises n s link.phase) (λ link. rise_none s (UpEvent n) n link.phase)
-accepts_none s (DownEvent n) e = service_none s (DownEvent n) n (falls false n s) (λ link. (refl, refl))
-accepts_none s (DownBlind n) e = service_none s (DownBlind n) n (falls true n s) (λ link. (refl, refl))
-accepts_none s (Restore n) e = service_none s (Restore n) n (λ link. comes_back n s) (λ link. back_none s (Restore n) n)
-accepts_none s (BackTimeout n) e = known_none s (BackTimeout n) n (λ link. runs_out n s) (λ link. timeout_none s (BackTimeout n) n)
-accepts_none s (NoAnswer n) e = known_none s (NoAnswer n) n (λ link. gives_up n s link link.phase) (λ link. give_none s (NoAnswer n) n link link.phase)
+accepts_none s event e = grind arith
 
 -- AN OFFER.
 pub fits_offer : (a b c d : Bool) → (if a then Some TooShort else (if b then Some TooLong else (if c then Some Reserved else (if d then Some StreamFull else None)))) ≡ None → (b ≡ false) × (c ≡ false)
@@ -183,41 +141,17 @@ other_gains s event other m =
 pub step_gains : (s : State) (event : Event) → IsManaged s.settings → Gains s event (step s event).answer (step s event).state
 unfolding step
 step_gains s (Offer body) m = offer_gains s body (offer_refusal s.rows body) refl
-step_gains s Take m = other_gains s Take refl m
-step_gains s (Find number) m = other_gains s (Find number) refl m
-step_gains s (Next n) m = other_gains s (Next n) refl m
-step_gains s (Heard n unit) m = other_gains s (Heard n unit) refl m
-step_gains s (UpEvent n) m = other_gains s (UpEvent n) refl m
-step_gains s (DownEvent n) m = other_gains s (DownEvent n) refl m
-step_gains s (DownBlind n) m = other_gains s (DownBlind n) refl m
-step_gains s (NoAnswer n) m = other_gains s (NoAnswer n) refl m
-step_gains s (Restore n) m = other_gains s (Restore n) refl m
-step_gains s (BackTimeout n) m = other_gains s (BackTimeout n) refl m
+step_gains s event m = other_gains s event refl m
 
 -- WHAT USERS ASK acknowledges nothing.
-abbrev AcknowledgesNone : State → State → Type 0
-AcknowledgesNone s t = (counts_of t.rows).acked ≡ (counts_of s.rows).acked
-
 pub offer_acknowledges_none : (s : State) (body : List ℕ) → (counts_of (step s (Offer body)).state.rows).acked ≡ (counts_of s.rows).acked
 unfolding step
-offer_acknowledges_none s body = go (offer_refusal s.rows body)
-  where
-    go : (o : Option SetRefusal) → AcknowledgesNone s (offered o s body).state
-    go (Some why) = refl
-    go None = acked_appended_open s.rows body _ (fate_open (place_of (stream_of body) s.routing) s)
+offer_acknowledges_none s body = grind (arith, acked_appended_open, fate_open)
 
 pub take_acknowledges_none : (s : State) → (counts_of (step s Take).state.rows).acked ≡ (counts_of s.rows).acked
 unfolding step
-take_acknowledges_none s = go s.inbox
-  where
-    go : (inbox : List (List ℕ)) → AcknowledgesNone s (taken inbox s).state
-    go [] = refl
-    go (body ∷ rest) = refl
+take_acknowledges_none s = grind arith
 
 pub find_acknowledges_none : (s : State) (number : ℕ) → (counts_of (step s (Find number)).state.rows).acked ≡ (counts_of s.rows).acked
 unfolding step
-find_acknowledges_none s number = go (place number s.rows)
-  where
-    go : (fate : Option Fate) → AcknowledgesNone s (found fate s).state
-    go None = refl
-    go (Some fate) = refl
+find_acknowledges_none s number = grind arith

@@ -35,13 +35,6 @@ set_twice [] n x y = refl
 set_twice (z ∷ xs) zero x y = refl
 set_twice (z ∷ xs) (suc n) x y = ap (λ rest. z ∷ rest) (set_twice xs n x y)
 
-pub set_apart : {X : Type 0} (xs : List X) (n m : ℕ) (x y : X) → n ≢ m → slice_set (slice_set xs n x) m y ≡ slice_set (slice_set xs m y) n x
-set_apart [] n m x y other = refl
-set_apart (z ∷ xs) zero zero x y other = absurd (other refl)
-set_apart (z ∷ xs) zero (suc m) x y other = refl
-set_apart (z ∷ xs) (suc n) zero x y other = refl
-set_apart (z ∷ xs) (suc n) (suc m) x y other = ap (λ rest. z ∷ rest) (set_apart xs n m x y (λ same. other (ap suc same)))
-
 -- where one place is set, each place holds what was set or what it held
 pub at_set : {X : Type 0} (xs : List X) (n m : ℕ) (x y : X) → slice_get (slice_set xs n x) m ≡ Some y → ((m ≡ n) × (y ≡ x)) ⊎ ((m ≢ n) × (slice_get xs m ≡ Some y))
 at_set [] n m x y there = absurd cc

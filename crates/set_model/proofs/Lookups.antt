@@ -41,9 +41,6 @@ module _ (test : Fate → Bool) (fate : Row → Fate) where
   same_fate : (b : Bool) (x : Row) → (cond b (fated fate x) x).fate ≡ cond b (fate x) x.fate
   same_fate b x = grind arith
 
-  same_body : (b : Bool) (x : Row) → (cond b (fated fate x) x).body ≡ x.body
-  same_body b x = grind arith
-
   place_then : (row : Option Row) → option_map (λ r. r.fate) (option_map (moved_row test fate) row) ≡ option_map (λ r. cond (test r.fate) (fate r) r.fate) row
   place_then row = grind arith
 

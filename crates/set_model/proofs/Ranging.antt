@@ -59,9 +59,6 @@ module _ (n : ℕ) (link : LinkState) (rows : List Row) (head : Header) where
   sent_length : length window.unacked ≡ length (unack n rows)
   sent_length = length-map (unack n rows) (λ (row : Row). row.number)
 
-  normal : (state : Control) → is_processed state window head ≡ true → distance_to window head.bsn ≤ length window.unacked
-  normal state e = grind arith
-
   pub acked_few : (msu : Bool) → (part_of link.control window head msu).acked ≤ length (unack n rows)
   acked_few msu = grind (arith, part_acked, sent_length)
 

@@ -143,17 +143,8 @@ pub record WalkedBy (s : State) (event : Event) (R : State → State → Type 0)
 pub brought_by : (accept : Bool) (unit : SignalUnit) (b : List ℕ) → brought accept unit ≡ Some b → (o : Order) → order_of b ≡ Some o → (n : ℕ) → link_of o ≡ n → BringsAbout n unit
 brought_by accept unit b e o f n g = grind arith
 
-brought_back : (accept : Bool) (unit : SignalUnit) (b : List ℕ) → brought accept unit ≡ Some b → (link code : ℕ) → order_of b ≡ Some (Cba link code) → BringsBackTo (home_of code) unit
-brought_back accept (Fisu head) b e link code f = absurd cc
-brought_back accept (Lssu head status) b e link code f = absurd cc
-brought_back true (Msu head body) b e link code f = let same : body.items ≡ b = cc in (link, code, ap order_of same ∙ f, refl)
-brought_back false (Msu head body) b e link code f = absurd cc
-
 brought_either : (accept : Bool) (unit : SignalUnit) (b : List ℕ) → brought accept unit ≡ Some b → (o : Order) → order_of b ≡ Some o → (n : ℕ) → Touches o n → BringsAbout n unit ⊎ BringsBackTo n unit
 brought_either accept unit b e o f n touches = grind arith
-
-is_up_phase : (phase : Phase) → has_phase_up phase ≡ true → phase ≡ Up
-is_up_phase phase e = grind arith
 
 module _ (s : State) (R : State → State → Type 0) (S : State → Type 0) where
   on_walks : (n : ℕ) (f : LinkState → Outcome) → S s → ((link : LinkState) → slice_get s.links n ≡ Some link → S (f link).state) → S (with_known (slice_get s.links n) s f).state
