@@ -1,8 +1,8 @@
 -- What waits for the acknowledgements of changebacks: the first of a queue, and how many wait for a home's codes.
-use Rattle.std.proofs.Common.{refl, arith, ◌≡◌, ◌∙◌, ap, sym, ◌+◌, ◌≤◌, ◌<◌, [], ◌∷◌, ◌++◌, length, ℕ, zero, suc, true, false, ◌⊎◌, inl, inr, List, Option, Some, None, take, add-one}
+use Rattle.std.proofs.Common.{refl, arith, ◌≡◌, ◌∙◌, ap, sym, ◌+◌, ◌≤◌, ◌<◌, [], ◌∷◌, ◌++◌, length, ℕ, zero, suc, inl, inr, List, Option, Some, None, take, add-one}
 use Rattle.std.specs.Prelude.{slice_get}
 use Rattle.std.specs.Option.{option_map}
-use Rattle.std.proofs.lemmas.Bool.{cases_lt, cases_Bool}
+use Rattle.std.proofs.lemmas.Bool.{cases_lt}
 use Rattle.std.proofs.lemmas.List.{length-append}
 use Rattle.std.proofs.lemmas.Option.{slice_get_past}
 use Rattle.set_events.specs.declared.answer.Fate.{Fate}
@@ -13,13 +13,12 @@ use Rattle.set_queues.specs.Messages.{fate_at}
 use Rattle.set_queues.specs.Buffers.{Lists, queue_at}
 use Rattle.set_queues.specs.Queues.{occurs, has_fate, AreTied}
 use Rattle.set_queues.specs.Backs.{back_from}
-use Rattle.set_queues.proofs.Standing.{occurs-append, occurs_here, occurs_not, has_of}
+use Rattle.set_queues.proofs.Standing.{occurs-append, occurs_here, occurs_not}
 
 -- the first of a list
 
 pub first_taken : (xs : List ℕ) (n : ℕ) → slice_get xs 0 ≡ Some n → take 1 xs ≡ n ∷ []
-first_taken [] n e = absurd (cc)
-first_taken (x ∷ xs) n e = let f : x ≡ n = cc in ap (λ (y : ℕ). y ∷ []) f
+first_taken xs n e = grind arith
 
 pub none_first : (xs : List ℕ) → slice_get xs 0 ≡ None → xs ≡ []
 none_first [] e = refl
@@ -62,11 +61,7 @@ total_cons (suc n) x xs = omega (arith, total_cons n x xs)
 
 total_one : (n x : ℕ) → x < n → 1 ≤ total n (x ∷ [])
 total_one zero x h = absurd (omega arith)
-total_one (suc n) x h = go (cases_lt x n) (total_one n x)
-  where
-    go : (x < n) ⊎ (n ≤ x) → (x < n → 1 ≤ total n (x ∷ [])) → 1 ≤ total n (x ∷ []) + occurs n (x ∷ [])
-    go (inl b) before = omega (arith, before b)
-    go (inr b) before = omega (arith, occurs_here x n (omega (arith, b, h)))
+total_one (suc n) x h = grind (arith, total_one n x)
 
 total_all : (n : ℕ) (xs : List ℕ) → ((m : ℕ) → n ≤ m → occurs m xs ≡ 0) → length xs ≤ total n xs
 total_all n [] h = omega arith
@@ -106,11 +101,7 @@ hits_before code (suc n) d fate e h =
 
 hits_few : (code n : ℕ) (fate : Option Fate) → hits code n fate ≤ 1
 hits_few code zero fate = omega arith
-hits_few code (suc n) fate = go (cases_Bool (has_fate (Back (code + n)) fate)) (hits_few code n fate)
-  where
-    go : (has_fate (Back (code + n)) fate ≡ true) ⊎ (has_fate (Back (code + n)) fate ≡ false) → hits code n fate ≤ 1 → hits code n fate + one_if (has_fate (Back (code + n)) fate) ≤ 1
-    go (inl e) few = omega (arith, ap one_if e, hits_before code n (code + n) fate (has_of (Back (code + n)) (Back (code + n)) fate refl e) (omega arith))
-    go (inr e) few = omega (arith, ap one_if e, few)
+hits_few code (suc n) fate = grind (arith, hits_before, hits_few code n fate)
 
 hits_none : (code n : ℕ) (fate : Option Fate) → fate ≡ None → hits code n fate ≡ 0
 hits_none code zero fate e = refl

@@ -1,5 +1,5 @@
 -- The queues of one link change: what that is for the lists and the rooms of a set.
-use Rattle.std.proofs.Common.{refl, arith, ◌≡◌, ◌∙◌, ap, subst, ◌+◌, ◌≤◌, ◌<◌, length, map, ℕ, Bool, true, false, ◌==◌, [], List, Some, cond, get_or, ◌⊎◌, inl, inr, Result, Ok, Err, IfOk, OnOk}
+use Rattle.std.proofs.Common.{refl, arith, ◌≡◌, ◌∙◌, ap, subst, ◌+◌, ◌≤◌, ◌<◌, length, map, ℕ, Bool, true, false, ◌==◌, [], List, Some, cond, get_or, ◌⊎◌, inl, inr, Result, IfOk, OnOk}
 use Rattle.std.specs.Prelude.{slice_get, slice_set, vec_len}
 use Rattle.std.specs.Option.{option_map}
 use Rattle.std.proofs.lemmas.Bool.{eqb-true, eqb-false, eq-eqb, cases_lt}
@@ -7,7 +7,7 @@ use Rattle.std.proofs.lemmas.List.{length-map}
 use Rattle.std.proofs.lemmas.Option.{slice_get-map, slice_get_read, slice_get_within, get_or_from_slice_get}
 use Rattle.l2_window.specs.Queue.{QueueState}
 use Rattle.set_events.specs.declared.answer.Fate.{Fate}
-use Rattle.set_events.specs.declared.answer.Fate.TheVariants.{Waiting, Unacked, Acked, Held, Parked, Back, Discarded}
+use Rattle.set_events.specs.declared.answer.Fate.TheVariants.{Waiting, Held, Back}
 use Rattle.set_queues.specs.declared.buffers.Link.{Link}
 use Rattle.set_queues.specs.Messages.{updated}
 use Rattle.set_queues.specs.Buffers.{LinkLists, Lists, LinkRooms, Rooms, BuffersState, room_at, room_in, same_fate, list_in, number_in, KeepsRoom, TakesRoom, HaveRoom}
@@ -36,17 +36,10 @@ room_on room rs l k x y d false t e h = omega (arith, room_other room rs l k y (
 
 -- so much less room at most for what waits, and for what is held
 pub rooms_changed : (r : Rooms) (l : ℕ) (x y : LinkRooms) (du dh : ℕ) → slice_get r.links l ≡ Some x → x.unsent ≤ y.unsent + du → x.held ≤ y.held + dh → (fate : Fate) → room_at fate r ≤ room_at fate (record r { links = updated l (λ (z : LinkRooms). y) r.links }) + cond (same_fate (Waiting l) fate) du 0 + cond (same_fate (Held l) fate) dh 0
-rooms_changed r l x y du dh e u h (Waiting k) = omega (arith, room_on (λ (z : LinkRooms). z.unsent) r.links l k x y du (l == k) refl e u)
-rooms_changed r l x y du dh e u h (Held k) = omega (arith, room_on (λ (z : LinkRooms). z.held) r.links l k x y dh (l == k) refl e h)
-rooms_changed r l x y du dh e u h Parked = omega arith
-rooms_changed r l x y du dh e u h (Back c) = omega arith
-rooms_changed r l x y du dh e u h (Unacked k) = omega arith
-rooms_changed r l x y du dh e u h (Acked k) = omega arith
-rooms_changed r l x y du dh e u h (Discarded cause) = omega arith
+rooms_changed r l x y du dh e u h fate = grind (arith, room_on)
 
 nothing : (b : Bool) → ◌≡◌ {A = ℕ} (cond b 0 0) 0
-nothing true = refl
-nothing false = refl
+nothing b = grind arith
 
 there_too : (xs : List Link) (l : ℕ) (x : Link) → slice_get xs l ≡ Some x → slice_get (map rooms_of xs) l ≡ Some (rooms_of x)
 there_too xs l x e = slice_get-map rooms_of xs l ∙ ap (option_map rooms_of) e
@@ -114,8 +107,7 @@ same_links fields l x y e same rooms = rw (map_set_same lists_of fields.links.it
 
 -- a fact of what is returned where it's Ok
 pub on_ok_of : {T E Q : Type 0} {P : T → Type 0} (r : Result T E) → ((x : T) → P x → Q) → IfOk r P → OnOk r Q
-on_ok_of (Ok x) f p = f x p
-on_ok_of (Err e) f p = tt
+on_ok_of r f p = grind arith
 
 -- one of its lists, as the set's lists have it
 pub list_there : (list : LinkLists → List ℕ) (xs : List Link) (l : ℕ) (x : Link) → slice_get xs l ≡ Some x → list_in list (slice_get (map lists_of xs) l) ≡ list (lists_of x)
@@ -164,20 +156,13 @@ pub room_back : (xs : List QueueState) (c : ℕ) (x y : QueueState) → slice_ge
 room_back xs c x y e = room_read xs c c x y e ∙ ap (λ (b : Bool). cond b y.room (get_or (map room_of xs) c 0)) (eq-eqb c c refl)
 
 room_less : (xs : List QueueState) (c k : ℕ) (x y : QueueState) (d : ℕ) (b : Bool) → (c == k) ≡ b → slice_get xs c ≡ Some x → x.room ≤ y.room + d → get_or (map room_of xs) k 0 ≤ cond b y.room (get_or (map room_of xs) k 0) + cond b d 0
-room_less xs c k x y d true t e h = omega (arith, h, room_there xs c x e, ap (λ (i : ℕ). get_or (map room_of xs) i 0) (eqb-true c k t))
-room_less xs c k x y d false t e h = omega arith
+room_less xs c k x y d b t e h = grind (arith, room_there)
 
 abbrev pub back_rooms : List LinkRooms → ℕ → List QueueState → Rooms
 back_rooms links parked xs = record { links = links; parked = parked; back = map room_of xs }
 
 pub takes_back : (links : List LinkRooms) (parked : ℕ) (xs : List QueueState) (c : ℕ) (x y : QueueState) (d : ℕ) → slice_get xs c ≡ Some x → x.room ≤ y.room + d → TakesRoom (Back c) d (back_rooms links parked xs) (back_rooms links parked (slice_set xs c y))
-takes_back links parked xs c x y d e h (Back k) = omega (arith, room_read xs c k x y e, room_less xs c k x y d (c == k) refl e h)
-takes_back links parked xs c x y d e h (Waiting k) = omega arith
-takes_back links parked xs c x y d e h (Held k) = omega arith
-takes_back links parked xs c x y d e h Parked = omega arith
-takes_back links parked xs c x y d e h (Unacked k) = omega arith
-takes_back links parked xs c x y d e h (Acked k) = omega arith
-takes_back links parked xs c x y d e h (Discarded cause) = omega arith
+takes_back links parked xs c x y d e h h9 = grind (arith, room_read, room_less)
 
 pub keeps_back : (links : List LinkRooms) (parked : ℕ) (xs : List QueueState) (c : ℕ) (x y : QueueState) → slice_get xs c ≡ Some x → x.room ≤ y.room → KeepsRoom (back_rooms links parked xs) (back_rooms links parked (slice_set xs c y))
 keeps_back links parked xs c x y e h fate = omega (arith, takes_back links parked xs c x y 0 e (omega (arith, h)) fate, nothing (same_fate (Back c) fate))

@@ -1,5 +1,5 @@
 -- A queue is replaced by another list.
-use Rattle.std.proofs.Common.{refl, arith, ◌≡◌, ◌∙◌, ap, subst, ◌<◌, [], ◌∷◌, ◌++◌, length, ℕ, zero, suc, Bool, true, false, ◌==◌, List, Option, Some, None, cond}
+use Rattle.std.proofs.Common.{refl, arith, ◌≡◌, ◌∙◌, ap, subst, ◌<◌, [], ◌∷◌, ◌++◌, length, ℕ, zero, suc, Bool, true, false, ◌==◌, List, Option, Some, cond}
 use Rattle.std.specs.Prelude.{slice_get}
 use Rattle.std.specs.Option.{option_map}
 use Rattle.std.proofs.lemmas.Bool.{eqb-true, eqb-false}
@@ -25,26 +25,19 @@ list_set list f numbers ls l k true t h e =
 list_set list f numbers ls l k false t h e = ap (list_in list) (updated_other f ls l k (eqb-false l k t))
 
 pub list_kept : {Y : Type 0} (get : Option LinkLists → Y) (f : LinkLists → LinkLists) (ls : List LinkLists) (l k : ℕ) → ((o : Option LinkLists) → get (option_map f o) ≡ get o) → (b : Bool) → (l == k) ≡ b → get (slice_get (updated l f ls) k) ≡ get (slice_get ls k)
-list_kept get f ls l k e true t =
-    let same : l ≡ k = eqb-true l k t in
-    subst (λ (i : ℕ). get (slice_get (updated l f ls) i) ≡ get (slice_get ls i)) same (ap get (updated_same f ls l) ∙ e (slice_get ls l))
-list_kept get f ls l k e false t = ap get (updated_other f ls l k (eqb-false l k t))
+list_kept get f ls l k e b t = grind (arith, updated_same, updated_other)
 
 pub kept_unsent : (f : LinkLists → LinkLists) → ((x : LinkLists) → (f x).unsent ≡ x.unsent) → (o : Option LinkLists) → list_in (λ (z : LinkLists). z.unsent) (option_map f o) ≡ list_in (λ (z : LinkLists). z.unsent) o
-kept_unsent f e None = refl
-kept_unsent f e (Some x) = e x
+kept_unsent f e o = grind arith
 
 pub kept_unacked : (f : LinkLists → LinkLists) → ((x : LinkLists) → (f x).unacked ≡ x.unacked) → (o : Option LinkLists) → list_in (λ (z : LinkLists). z.unacked) (option_map f o) ≡ list_in (λ (z : LinkLists). z.unacked) o
-kept_unacked f e None = refl
-kept_unacked f e (Some x) = e x
+kept_unacked f e o = grind arith
 
 pub kept_held : (f : LinkLists → LinkLists) → ((x : LinkLists) → (f x).held ≡ x.held) → (o : Option LinkLists) → list_in (λ (z : LinkLists). z.held) (option_map f o) ≡ list_in (λ (z : LinkLists). z.held) o
-kept_held f e None = refl
-kept_held f e (Some x) = e x
+kept_held f e o = grind arith
 
 pub kept_last : (f : LinkLists → LinkLists) → ((x : LinkLists) → (f x).last ≡ x.last) → (o : Option LinkLists) → number_in (option_map f o) ≡ number_in o
-kept_last f e None = refl
-kept_last f e (Some x) = e x
+kept_last f e o = grind arith
 
 pub queue_set : (g f : Fate) (numbers : List ℕ) (q : Lists) → is_standing g ≡ true → IsKnown g q → queue_at f (with_queue g numbers q) ≡ cond (same_fate g f) numbers (queue_at f q)
 queue_set (Waiting l) (Waiting k) ns q s h = list_set (λ (z : LinkLists). z.unsent) (λ (z : LinkLists). record z { unsent = ns }) ns q.links l k (l == k) refl h (λ x. refl)
@@ -87,22 +80,10 @@ queue_set (Discarded c) f ns q s h = absurd (cc)
 
 -- the links stay as many
 pub links_stay : (g : Fate) (numbers : List ℕ) (q : Lists) → length (with_queue g numbers q).links ≡ length q.links
-links_stay (Waiting l) ns q = length-updated (λ (z : LinkLists). record z { unsent = ns }) q.links l
-links_stay (Unacked l) ns q = length-updated (λ (z : LinkLists). record z { unacked = ns }) q.links l
-links_stay (Held l) ns q = length-updated (λ (z : LinkLists). record z { held = ns }) q.links l
-links_stay Parked ns q = refl
-links_stay (Back c) ns q = refl
-links_stay (Acked l) ns q = refl
-links_stay (Discarded c) ns q = refl
+links_stay g ns q = grind (arith, length-updated)
 
 back_stays : (g : Fate) (numbers : List ℕ) (q : Lists) → length (with_queue g numbers q).back ≡ length q.back
-back_stays (Back c) ns q = length-updated (λ (z : List ℕ). ns) q.back c
-back_stays (Waiting l) ns q = refl
-back_stays (Unacked l) ns q = refl
-back_stays (Held l) ns q = refl
-back_stays Parked ns q = refl
-back_stays (Acked l) ns q = refl
-back_stays (Discarded c) ns q = refl
+back_stays g ns q = grind (arith, length-updated)
 
 -- as many links, and as many codes
 pub record SameSize (q q' : Lists) : Type 0 where
@@ -116,23 +97,11 @@ pub size_both : (p q r : Lists) → SameSize p q → SameSize q r → SameSize p
 size_both p q r e f = record { links = f.links ∙ e.links; back = f.back ∙ e.back }
 
 pub known_on : (f : Fate) (q q' : Lists) → SameSize q q' → IsKnown f q → IsKnown f q'
-known_on (Waiting l) q q' e h = omega (arith, e.links)
-known_on (Unacked l) q q' e h = omega (arith, e.links)
-known_on (Held l) q q' e h = omega (arith, e.links)
-known_on Parked q q' e h = tt
-known_on (Back c) q q' e h = omega (arith, e.back)
-known_on (Acked l) q q' e h = tt
-known_on (Discarded c) q q' e h = tt
+known_on f q q' e h = grind arith
 
 -- replaced twice; by itself
 pub queue_twice : (g : Fate) (xs ys : List ℕ) (q : Lists) → with_queue g xs (with_queue g ys q) ≡ with_queue g xs q
-queue_twice (Waiting l) xs ys q = ap (λ (ls : List LinkLists). record q { links = ls }) (updated_twice (λ (z : LinkLists). record z { unsent = xs }) (λ (z : LinkLists). record z { unsent = ys }) q.links l)
-queue_twice (Unacked l) xs ys q = ap (λ (ls : List LinkLists). record q { links = ls }) (updated_twice (λ (z : LinkLists). record z { unacked = xs }) (λ (z : LinkLists). record z { unacked = ys }) q.links l)
-queue_twice (Held l) xs ys q = ap (λ (ls : List LinkLists). record q { links = ls }) (updated_twice (λ (z : LinkLists). record z { held = xs }) (λ (z : LinkLists). record z { held = ys }) q.links l)
-queue_twice Parked xs ys q = refl
-queue_twice (Back c) xs ys q = ap (λ (bs : List (List ℕ)). record q { back = bs }) (updated_twice (λ (z : List ℕ). xs) (λ (z : List ℕ). ys) q.back c)
-queue_twice (Acked l) xs ys q = refl
-queue_twice (Discarded c) xs ys q = refl
+queue_twice g xs ys q = grind (arith, updated_twice)
 
 pub queue_id : (g : Fate) (q : Lists) → IsKnown g q → with_queue g (queue_at g q) q ≡ q
 queue_id (Waiting l) q h =
@@ -152,13 +121,7 @@ queue_id (Acked l) q h = refl
 queue_id (Discarded c) q h = refl
 
 pub queued_stands : (f : Fate) → IsQueued f → is_standing f ≡ true
-queued_stands (Waiting l) h = refl
-queued_stands (Held l) h = refl
-queued_stands Parked h = refl
-queued_stands (Back c) h = refl
-queued_stands (Unacked l) h = absurd h
-queued_stands (Acked l) h = absurd h
-queued_stands (Discarded c) h = absurd h
+queued_stands f h = grind arith
 
 pub queue_same : (g : Fate) (xs : List ℕ) (q : Lists) → is_standing g ≡ true → IsKnown g q → queue_at g (with_queue g xs q) ≡ xs
 queue_same g xs q s h = queue_set g g xs q s h ∙ ap (λ (b : Bool). cond b xs (queue_at g q)) (same_self g s)

@@ -1,16 +1,15 @@
 -- A link settles: what stands on it goes elsewhere, first what was sent, then what waited, then what was held.
-use Rattle.std.proofs.Common.{refl, arith, ◌≡◌, ◌≢◌, ◌∙◌, ap, sym, subst, ◌+◌, ◌≤◌, ◌<◌, [], ◌++◌, length, ℕ, Bool, true, false, List, Option, Some, None, cond, append_assoc, ◌⊎◌, inl, inr}
+use Rattle.std.proofs.Common.{refl, arith, ◌≡◌, ◌≢◌, ◌∙◌, ap, sym, subst, ◌+◌, ◌≤◌, ◌<◌, [], ◌++◌, length, ℕ, Bool, true, false, List, Option, cond, append_assoc}
 use Rattle.std.specs.Prelude.{IfSome}
-use Rattle.std.proofs.lemmas.Bool.{ne_eqb, cases_Bool}
 use Rattle.std.proofs.lemmas.List.{length-append}
 use Rattle.set_events.specs.declared.answer.Fate.{Fate}
-use Rattle.set_events.specs.declared.answer.Fate.TheVariants.{Waiting, Unacked, Acked, Held, Parked, Back, Discarded}
+use Rattle.set_events.specs.declared.answer.Fate.TheVariants.{Waiting, Unacked, Held}
 use Rattle.set_queues.specs.declared.message.Message.{Message}
 use Rattle.set_queues.specs.Messages.{restood}
 use Rattle.set_queues.specs.Buffers.{Lists, Rooms, is_standing, same_fate, queue_at, room_at, IsKnown, IsQueued, TakesRoom}
 use Rattle.set_queues.specs.Queues.{passed}
 use Rattle.set_queues.specs.Settling.{fate_on, on, Settles}
-use Rattle.set_queues.proofs.Standing.{restood-append, room_sum, same_self, same_is}
+use Rattle.set_queues.proofs.Standing.{restood-append, room_sum, same_self}
 use Rattle.set_queues.proofs.Passing.{queued_stands, known_on}
 use Rattle.set_queues.proofs.Soundness.{passed_replaces, passed_size, unqueued}
 
@@ -23,16 +22,13 @@ pub record IsAside (link : ℕ) (to : Fate) (q : Lists) : Type 0 where
   pub held : same_fate to (Held link) ≡ false
 
 apart_unsent : (target : Option ℕ) (link : ℕ) → IfSome target (λ to. to ≢ link) → same_fate (fate_on target) (Waiting link) ≡ false
-apart_unsent None link h = refl
-apart_unsent (Some t) link h = ne_eqb t link h
+apart_unsent target link h = grind arith
 
 apart_held : (target : Option ℕ) (link : ℕ) → same_fate (fate_on target) (Held link) ≡ false
-apart_held None link = refl
-apart_held (Some t) link = refl
+apart_held target link = grind arith
 
 queued_on : (target : Option ℕ) → IsQueued (fate_on target)
-queued_on None = tt
-queued_on (Some t) = tt
+queued_on target = grind arith
 
 pub aside_of : (target : Option ℕ) (link : ℕ) (to : Fate) (q : Lists) → to ≡ fate_on target → link < length q.links → IsKnown (fate_on target) q → IfSome target (λ t. t ≢ link) → IsAside link to q
 aside_of target link to q e k o a = record {
@@ -89,23 +85,10 @@ joined : (q : Lists) (from to : Fate) → is_standing from ≡ true → IsKnown 
 joined q from to s k o u n = passed_replaces q from to s k o u to (queued_stands to u) ∙ ap (λ (b : Bool). cond b [] (cond (same_fate to to) (queue_at to q ++ queue_at from q) (queue_at to q))) n ∙ ap (λ (b : Bool). cond b (queue_at to q ++ queue_at from q) (queue_at to q)) (same_self to (queued_stands to u))
 
 not_from : (to : Fate) (link : ℕ) → IsQueued to → same_fate (Unacked link) to ≡ false
-not_from (Waiting t) link u = refl
-not_from (Held t) link u = refl
-not_from Parked link u = refl
-not_from (Back t) link u = refl
-not_from (Unacked t) link u = absurd u
-not_from (Acked t) link u = absurd u
-not_from (Discarded t) link u = absurd u
+not_from to link u = grind arith
 
 flip : (f g : Fate) → is_standing f ≡ true → is_standing g ≡ true → same_fate g f ≡ false → same_fate f g ≡ false
-flip f g s t n = go (cases_Bool (same_fate f g))
-  where
-    go : (same_fate f g ≡ true) ⊎ (same_fate f g ≡ false) → same_fate f g ≡ false
-    go (inl e) =
-        let same : f ≡ g = same_is f g t e in
-        let yes : same_fate g f ≡ true = subst (λ (x : Fate). same_fate g x ≡ true) (sym same) (same_self g t) in
-        absurd (cc)
-    go (inr e) = e
+flip f g s t n = grind arith
 
 regroup : (t u w h : List ℕ) → ((t ++ u) ++ w) ++ h ≡ t ++ ((u ++ w) ++ h)
 regroup t u w h = simp append_assoc

@@ -2,7 +2,7 @@
 use Rattle.std.proofs.Common.{refl, arith, ◌≡◌, ◌∙◌, ap, sym, subst, ◌+◌, ◌≤◌, ◌<◌, [], ◌∷◌, ◌++◌, length, ℕ, zero, suc, Bool, true, false, ◌==◌, ◌⊎◌, inl, inr, List, Option, Some, None, cond, get_or, take, drop, replicate}
 use Rattle.std.specs.Prelude.{slice_get, slice_index}
 use Rattle.std.specs.Option.{option_map}
-use Rattle.std.proofs.lemmas.Bool.{cases_eq, cases_Bool}
+use Rattle.std.proofs.lemmas.Bool.{cases_eq}
 use Rattle.set_events.specs.declared.answer.Fate.{Fate}
 use Rattle.set_events.specs.declared.answer.Fate.TheVariants.{Waiting, Unacked, Acked, Held, Parked, Back, Discarded}
 use Rattle.set_queues.specs.declared.message.Message.{Message}
@@ -62,29 +62,13 @@ replaced_moves q q' from to left joined ns apart r leave join f s m = go (same_f
 
 -- no message stands in a final place's queue
 pub final_apart : (to f : Fate) → is_standing to ≡ false → is_standing f ≡ true → same_fate to f ≡ false
-final_apart to f e s = go (cases_Bool (same_fate to f))
-  where
-    go : (same_fate to f ≡ true) ⊎ (same_fate to f ≡ false) → same_fate to f ≡ false
-    go (inl t) = let here : is_standing to ≡ is_standing f = ap is_standing (same_is to f s t) in absurd (cc)
-    go (inr n) = n
+final_apart to f e s = grind arith
 
 pub final_empty : (to : Fate) (q : Lists) → is_standing to ≡ false → queue_at to q ≡ []
-final_empty (Waiting l) q e = absurd (cc)
-final_empty (Unacked l) q e = absurd (cc)
-final_empty (Held l) q e = absurd (cc)
-final_empty Parked q e = absurd (cc)
-final_empty (Back c) q e = absurd (cc)
-final_empty (Acked l) q e = refl
-final_empty (Discarded c) q e = refl
+final_empty to q e = grind arith
 
 pub unqueued : (to : Fate) (l : ℕ) → IsQueued to → same_fate to (Unacked l) ≡ false
-unqueued (Waiting k) l h = refl
-unqueued (Held k) l h = refl
-unqueued Parked l h = refl
-unqueued (Back c) l h = refl
-unqueued (Unacked k) l h = absurd h
-unqueued (Acked k) l h = absurd h
-unqueued (Discarded c) l h = absurd h
+unqueued to l h = grind arith
 
 pub sound_moved : (q q' : Lists) (ms : List Message) (ns left joined : List ℕ) (from to : Fate) → AreSound q ms → is_standing from ≡ true → same_fate to from ≡ false → SameSize q q' → AreNarrow q' → Replaces q q' from to left joined → ((m : ℕ) → occurs m left + occurs m ns ≡ occurs m (queue_at from q)) → ((m : ℕ) → occurs m joined ≡ occurs m (queue_at to q) + occurs m ns) → AreSound q' (restood ns to ms)
 sound_moved q q' ms ns left joined from to h s apart e narrow r leave join =
@@ -102,8 +86,7 @@ pub given_all : (q : Lists) (ms : List Message) (from : Fate) → AreSound q ms 
 given_all q ms from h s = given_queue q ms from h.tied s (queue_at from q) (λ m. omega arith)
 
 narrower : (b : Bool) (xs : List ℕ) → length xs ≤ 127 → length (cond b [] xs) ≤ 127
-narrower true xs h = omega arith
-narrower false xs h = h
+narrower b xs h = grind arith
 
 -- the queue that messages leave and the one that they join
 pub both_replaced : (q : Lists) (from to : Fate) (left joined : List ℕ) → is_standing from ≡ true → is_standing to ≡ true → IsKnown from q → IsKnown to q → Replaces q (with_queue from left (with_queue to joined q)) from to left joined
@@ -263,13 +246,7 @@ pub record AreEmpty (q : Lists) (n codes : ℕ) : Type 0 where
   pub back : q.back ≡ replicate codes []
 
 empty_queue : (q : Lists) (n codes : ℕ) (f : Fate) → AreEmpty q n codes → queue_at f q ≡ []
-empty_queue q n codes (Waiting l) e = rw e.links (none_in (λ (z : LinkLists). z.unsent) n l refl)
-empty_queue q n codes (Unacked l) e = rw e.links (none_in (λ (z : LinkLists). z.unacked) n l refl)
-empty_queue q n codes (Held l) e = rw e.links (none_in (λ (z : LinkLists). z.held) n l refl)
-empty_queue q n codes Parked e = e.parked
-empty_queue q n codes (Back c) e = rw e.back (none_back codes c)
-empty_queue q n codes (Acked l) e = refl
-empty_queue q n codes (Discarded c) e = refl
+empty_queue q n codes f e = grind (arith, none_in, none_back)
 
 pub sound_new : (q : Lists) (ms : List Message) (n : ℕ) → AreEmpty q n 256 → ms ≡ [] → 1 ≤ n → n ≤ 16 → AreSound q ms
 sound_new q ms n e m low high =
@@ -303,12 +280,10 @@ pub sent_unacked : (q : Lists) (l n k : ℕ) → l < length q.links → queue_at
 sent_unacked q l n k h = sent_replaces q l n h (Unacked k) refl
 
 first_leaves : (m n : ℕ) (xs : List ℕ) → slice_get xs 0 ≡ Some n → occurs m (drop 1 xs) + occurs m (n ∷ []) ≡ occurs m xs
-first_leaves m n [] e = absurd (cc)
-first_leaves m n (x ∷ xs) e = let f : x ≡ n = cc in omega (arith, ap (λ (i : ℕ). one_if (i == m)) f)
+first_leaves m n xs e = grind arith
 
 one_wider : (b : Bool) (xs ys : List ℕ) (n : ℕ) → length xs < 127 → length ys ≤ 127 → length (cond b (xs ++ n ∷ []) ys) ≤ 127
-one_wider true xs ys n h k = omega (arith, length-append xs (n ∷ []))
-one_wider false xs ys n h k = k
+one_wider b xs ys n h k = grind (arith, length-append)
 
 pub sound_sent : (q : Lists) (ms : List Message) (l n : ℕ) → AreSound q ms → l < length q.links → slice_get (queue_at (Waiting l) q) 0 ≡ Some n → length (queue_at (Unacked l) q) < 127 → AreSound (first_sent l n q) (restood (n ∷ []) (Unacked l) ms)
 sound_sent q ms l n h b e few =
@@ -343,8 +318,7 @@ pub acked_size : (q : Lists) (l fsn : ℕ) → SameSize q (acknowledged l fsn q)
 acked_size q l fsn = size_both q (with_queue (Unacked l) (drop (reach l fsn q) (queue_at (Unacked l) q)) q) (acknowledged l fsn q) (size_stays (Unacked l) (drop (reach l fsn q) (queue_at (Unacked l) q)) q) (last_size l fsn (with_queue (Unacked l) (drop (reach l fsn q) (queue_at (Unacked l) q)) q))
 
 dropped : (b : Bool) (k : ℕ) (xs ys : List ℕ) → length xs ≤ 127 → length ys ≤ 127 → length (cond b (drop k xs) ys) ≤ 127
-dropped true k xs ys h g = omega (arith, length-drop k xs)
-dropped false k xs ys h g = g
+dropped b k xs ys h g = grind (arith, length-drop)
 
 pub sound_acked : (q : Lists) (ms : List Message) (l fsn : ℕ) → AreSound q ms → l < length q.links → AreSound (acknowledged l fsn q) (restood (take (reach l fsn q) (queue_at (Unacked l) q)) (Acked l) ms)
 sound_acked q ms l fsn h b =

@@ -2,10 +2,9 @@
 use Rattle.std.proofs.Common.{refl, arith, ◌≡◌, ◌∙◌, ap, sym, subst, ◌+◌, ◌≤◌, ◌<◌, [], ◌∷◌, ◌++◌, length, ℕ, zero, suc, Bool, true, false, ◌==◌, ◌⊎◌, inl, inr, List, Option, Some, None, cond, take, drop, add-one}
 use Rattle.std.specs.Prelude.{slice_get}
 use Rattle.std.specs.Option.{option_map}
-use Rattle.std.proofs.lemmas.Bool.{eqb-true, eq-eqb, ne_eqb, cases_eq}
+use Rattle.std.proofs.lemmas.Bool.{eq-eqb, ne_eqb, cases_eq}
 use Rattle.std.proofs.lemmas.Option.{slice_get_within}
 use Rattle.set_events.specs.declared.answer.Fate.{Fate}
-use Rattle.set_events.specs.declared.answer.Fate.TheVariants.{Waiting, Unacked, Acked, Held, Parked, Back, Discarded}
 use Rattle.set_queues.specs.declared.message.Message.{Message}
 use Rattle.set_queues.specs.Counts.{one_if}
 use Rattle.set_queues.specs.Messages.{with_fate, restood_one, restood, fate_at}
@@ -15,61 +14,12 @@ use Rattle.set_queues.proofs.Updates.{length-updated, updated_same, updated_othe
 
 -- of a fate that isn't final
 pub same_is : (f g : Fate) → is_standing g ≡ true → same_fate f g ≡ true → f ≡ g
-same_is (Waiting l) (Waiting k) s e = ap Waiting (eqb-true l k e)
-same_is (Waiting l) (Unacked k) s e = absurd (cc)
-same_is (Waiting l) (Acked k) s e = absurd (cc)
-same_is (Waiting l) (Held k) s e = absurd (cc)
-same_is (Waiting l) Parked s e = absurd (cc)
-same_is (Waiting l) (Back d) s e = absurd (cc)
-same_is (Waiting l) (Discarded d) s e = absurd (cc)
-same_is (Unacked l) (Waiting k) s e = absurd (cc)
-same_is (Unacked l) (Unacked k) s e = ap Unacked (eqb-true l k e)
-same_is (Unacked l) (Acked k) s e = absurd (cc)
-same_is (Unacked l) (Held k) s e = absurd (cc)
-same_is (Unacked l) Parked s e = absurd (cc)
-same_is (Unacked l) (Back d) s e = absurd (cc)
-same_is (Unacked l) (Discarded d) s e = absurd (cc)
-same_is (Acked l) (Waiting k) s e = absurd (cc)
-same_is (Acked l) (Unacked k) s e = absurd (cc)
-same_is (Acked l) (Acked k) s e = absurd (cc)
-same_is (Acked l) (Held k) s e = absurd (cc)
-same_is (Acked l) Parked s e = absurd (cc)
-same_is (Acked l) (Back d) s e = absurd (cc)
-same_is (Acked l) (Discarded d) s e = absurd (cc)
-same_is (Held l) (Waiting k) s e = absurd (cc)
-same_is (Held l) (Unacked k) s e = absurd (cc)
-same_is (Held l) (Acked k) s e = absurd (cc)
-same_is (Held l) (Held k) s e = ap Held (eqb-true l k e)
-same_is (Held l) Parked s e = absurd (cc)
-same_is (Held l) (Back d) s e = absurd (cc)
-same_is (Held l) (Discarded d) s e = absurd (cc)
-same_is Parked (Waiting k) s e = absurd (cc)
-same_is Parked (Unacked k) s e = absurd (cc)
-same_is Parked (Acked k) s e = absurd (cc)
-same_is Parked (Held k) s e = absurd (cc)
-same_is Parked Parked s e = refl
-same_is Parked (Back d) s e = absurd (cc)
-same_is Parked (Discarded d) s e = absurd (cc)
-same_is (Back c) (Waiting k) s e = absurd (cc)
-same_is (Back c) (Unacked k) s e = absurd (cc)
-same_is (Back c) (Acked k) s e = absurd (cc)
-same_is (Back c) (Held k) s e = absurd (cc)
-same_is (Back c) Parked s e = absurd (cc)
-same_is (Back c) (Back d) s e = ap Back (eqb-true c d e)
-same_is (Back c) (Discarded d) s e = absurd (cc)
-same_is (Discarded c) (Waiting k) s e = absurd (cc)
-same_is (Discarded c) (Unacked k) s e = absurd (cc)
-same_is (Discarded c) (Acked k) s e = absurd (cc)
-same_is (Discarded c) (Held k) s e = absurd (cc)
-same_is (Discarded c) Parked s e = absurd (cc)
-same_is (Discarded c) (Back d) s e = absurd (cc)
-same_is (Discarded c) (Discarded d) s e = absurd (cc)
+same_is f g s e = grind arith
 
 -- how often a number stands in a list
 
 one_if_most : (b : Bool) → one_if b ≤ 1
-one_if_most true = omega arith
-one_if_most false = omega arith
+one_if_most b = grind arith
 
 pub occurs-append : (m : ℕ) (xs ys : List ℕ) → occurs m (xs ++ ys) ≡ occurs m xs + occurs m ys
 occurs-append m [] ys = omega arith
@@ -143,21 +93,13 @@ abbrev pub Moves : List ℕ → Fate → Fate → Lists → Lists → Type 0
 Moves ns from to q q' = (f : Fate) → is_standing f ≡ true → (m : ℕ) → occurs m (queue_at f q') + cond (same_fate from f) (occurs m ns) 0 ≡ occurs m (queue_at f q) + cond (same_fate to f) (occurs m ns) 0
 
 pub has_of : (f g : Fate) (o : Option Fate) → is_standing g ≡ true → has_fate g o ≡ true → o ≡ Some g
-has_of f g None s e = absurd (cc)
-has_of f g (Some h) s e = ap Some (same_is h g s e)
+has_of f g o s e = grind arith
 
 one_true : (b : Bool) → 0 < one_if b → b ≡ true
-one_true true h = refl
-one_true false h = absurd (omega arith)
+one_true b h = grind arith
 
 pub same_self : (f : Fate) → is_standing f ≡ true → same_fate f f ≡ true
-same_self (Waiting l) s = eq-eqb l l refl
-same_self (Unacked l) s = eq-eqb l l refl
-same_self (Held l) s = eq-eqb l l refl
-same_self Parked s = refl
-same_self (Back c) s = eq-eqb c c refl
-same_self (Acked l) s = absurd (cc)
-same_self (Discarded d) s = absurd (cc)
+same_self f s = grind arith
 
 pub moved_tie : (q q' : Lists) (ms : List Message) (ns : List ℕ) (from to : Fate) → AreTied q ms → is_standing from ≡ true → AreGiven ns ms → ((m : ℕ) → occurs m ns ≤ occurs m (queue_at from q)) → Moves ns from to q q' → AreTied q' (restood ns to ms)
 moved_tie q q' ms ns from to tie s given within moves f sf m = go (occurs m ns) refl
@@ -226,8 +168,7 @@ append-nil [] = refl
 append-nil (x ∷ xs) = ap (λ (ys : List ℕ). x ∷ ys) (append-nil xs)
 
 pub room_sum : (b : Bool) (r0 r1 r2 i k : ℕ) → r0 ≤ r1 + cond b i 0 → r1 ≤ r2 + cond b k 0 → r0 ≤ r2 + cond b (i + k) 0
-room_sum true r0 r1 r2 i k g h = omega arith
-room_sum false r0 r1 r2 i k g h = omega arith
+room_sum b r0 r1 r2 i k g h = grind arith
 
 pub whole : (xs : List ℕ) (k : ℕ) → k ≡ length xs → take k xs ≡ xs
 whole [] zero e = refl

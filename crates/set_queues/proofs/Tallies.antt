@@ -1,5 +1,5 @@
 -- The running counts of a list of messages, when one of them changes or joins.
-use Rattle.std.proofs.Common.{arith, ◌≡◌, ap, subst, ◌+◌, ◌≤◌, ◌<◌, ◌^◌, [], ◌∷◌, ◌++◌, length, ℕ, zero, suc, Bool, true, false, List, Some, cond}
+use Rattle.std.proofs.Common.{arith, ◌≡◌, ap, subst, ◌+◌, ◌≤◌, ◌<◌, ◌^◌, [], ◌∷◌, ◌++◌, length, ℕ, zero, suc, Bool, List, Some, cond}
 use Rattle.std.specs.Prelude.{filter, slice_get, slice_set}
 use Rattle.set_queues.specs.declared.message.Message.{Message}
 use Rattle.set_queues.specs.declared.tally.Tally.{Tally}
@@ -7,8 +7,7 @@ use Rattle.set_queues.specs.Counts.{one_if, waits, was_sent, was_acked, was_held
 use Rattle.set_queues.specs.Tally.{is_there, is_queued, IsTally, IsMore, IsAmong, AreFew, IsFit, AreFit}
 
 length_if : (b : Bool) (x : Message) (xs : List Message) → length (cond b (x ∷ xs) xs) ≡ one_if b + length xs
-length_if true x xs = omega arith
-length_if false x xs = omega arith
+length_if b x xs = grind arith
 
 count_cons : (p : Message → Bool) (x : Message) (xs : List Message) → length (filter p (x ∷ xs)) ≡ one_if (p x) + length (filter p xs)
 count_cons p x xs = length_if (p x) x (filter p xs)
@@ -33,8 +32,7 @@ count_in p (z ∷ xs) zero x e =
 count_in p (z ∷ xs) (suc n) x e = omega (arith, count_cons p z xs, count_in p xs n x e)
 
 one_at_most : (b : Bool) → one_if b ≤ 1
-one_at_most true = omega arith
-one_at_most false = omega arith
+one_at_most b = grind arith
 
 pub count_few : (p : Message → Bool) (xs : List Message) → length (filter p xs) ≤ length xs
 count_few p [] = omega arith

@@ -1,6 +1,5 @@
 -- Lists of which the element at one place changes.
-use Rattle.std.proofs.Common.{refl, arith, ◌≡◌, ◌∙◌, ap, sym, subst, ◌<◌, ◌+◌, ◌==◌, [], ◌∷◌, ◌++◌, length, map, replicate, ℕ, zero, suc, Bool, true, false, cond, get_or, List, Some}
-use Rattle.std.proofs.lemmas.Bool.{eqb-true, eqb-false}
+use Rattle.std.proofs.Common.{refl, arith, ◌≡◌, ◌∙◌, ap, sym, ◌<◌, ◌+◌, ◌==◌, [], ◌∷◌, ◌++◌, length, map, replicate, ℕ, zero, suc, Bool, cond, get_or, List, Some}
 use Rattle.std.proofs.lemmas.List.{map-append, replicate_more}
 use Rattle.std.specs.Prelude.{slice_get, slice_set}
 use Rattle.std.specs.Option.{option_map}
@@ -69,8 +68,7 @@ module _ {X : Type 0} where
   read_other x (y ∷ xs) (suc n) (suc k) d ne = read_other x xs n k d (λ e. ne (ap suc e))
 
   pub read_set : (x : X) (xs : List X) (n k : ℕ) (d : X) (b : Bool) → (n == k) ≡ b → n < length xs → get_or (updated n (λ (y : X). x) xs) k d ≡ cond b x (get_or xs k d)
-  read_set x xs n k d true t h = subst (λ (i : ℕ). get_or (updated n (λ (y : X). x) xs) i d ≡ x) (eqb-true n k t) (read_same x xs n d h)
-  read_set x xs n k d false t h = read_other x xs n k d (eqb-false n k t)
+  read_set x xs n k d b t h = grind (arith, read_same, read_other)
 
 module _ {X Y : Type 0} where
   -- one more that is seen alike

@@ -1,8 +1,7 @@
 -- The octets of the unacknowledged bodies.
-use Rattle.std.proofs.Common.{refl, arith, ◌≡◌, ◌∙◌, ap, sym, subst, ◌+◌, ◌*◌, ◌≤◌, ◌<◌, [], ◌∷◌, ◌++◌, length, ℕ, zero, suc, Bool, true, false, ◌==◌, ◌⊎◌, inl, inr, List, Option, Some, None, cond, take, drop}
+use Rattle.std.proofs.Common.{refl, arith, ◌≡◌, ◌∙◌, ap, ◌+◌, ◌*◌, ◌≤◌, ◌<◌, [], ◌∷◌, ◌++◌, length, ℕ, zero, suc, ◌==◌, List, Option, Some, None, cond, take, drop}
 use Rattle.std.specs.Prelude.{slice_get, slice_index}
 use Rattle.std.specs.Option.{option_map}
-use Rattle.std.proofs.lemmas.Bool.{cases_eq, eqb-true}
 use Rattle.set_events.specs.declared.answer.Fate.{Fate}
 use Rattle.set_events.specs.declared.answer.Fate.TheVariants.{Unacked}
 use Rattle.set_queues.specs.declared.message.Message.{Message}
@@ -33,15 +32,10 @@ octets_few (n ∷ ns) ms f = omega (arith, fit_octets ms n (slice_get ms n) refl
 -- a message that comes to stand elsewhere keeps its octets
 
 octets_with : (f : Fate) (o : Option Message) → octets_in (option_map (with_fate f) o) ≡ octets_in o
-octets_with f None = refl
-octets_with f (Some m) = refl
+octets_with f o = grind arith
 
 octets_one : (n k : ℕ) (f : Fate) (ms : List Message) → octets_at n (restood_one k f ms) ≡ octets_at n ms
-octets_one n k f ms = go (cases_eq k n)
-  where
-    go : (k ≡ n) ⊎ (k ≡ n → ⊥) → octets_at n (restood_one k f ms) ≡ octets_at n ms
-    go (inl e) = subst (λ (i : ℕ). octets_at i (restood_one k f ms) ≡ octets_at i ms) e (ap octets_in (updated_same (with_fate f) ms k) ∙ octets_with f (slice_get ms k))
-    go (inr ne) = ap octets_in (updated_other (with_fate f) ms k n ne)
+octets_one n k f ms = grind (arith, updated_same, updated_other)
 
 octets_after_one : (ns : List ℕ) (k : ℕ) (f : Fate) (ms : List Message) → octets_of ns (restood_one k f ms) ≡ octets_of ns ms
 octets_after_one [] k f ms = refl
@@ -54,26 +48,14 @@ octets_stay ns (k ∷ ks) f ms = octets_stay ns ks f (restood_one k f ms) ∙ oc
 -- the counted octets, when all that were sent leave; when one is sent; when the first so many leave
 
 pub weighed_cleared : (octets octets' : List ℕ) (q q' : Lists) (ms : List Message) (ks : List ℕ) (from to : Fate) → AreWeighed octets q ms → length q'.links ≡ length q.links → length q.links ≤ 16 → ((l : ℕ) → queue_at (Unacked l) q' ≡ cond (same_fate from (Unacked l)) [] (queue_at (Unacked l) q)) → ((l : ℕ) → l < 16 → slice_index octets' l ≡ cond (same_fate from (Unacked l)) 0 (slice_index octets l)) → AreWeighed octets' q' (restood ks to ms)
-weighed_cleared octets octets' q q' ms ks from to w e few queues counts l h = go (same_fate from (Unacked l)) (queues l) (counts l (omega arith))
-  where
-    go : (b : Bool) → queue_at (Unacked l) q' ≡ cond b [] (queue_at (Unacked l) q) → slice_index octets' l ≡ cond b 0 (slice_index octets l) → slice_index octets' l ≡ octets_of (queue_at (Unacked l) q') (restood ks to ms)
-    go true g i = i ∙ sym (ap (λ (ns : List ℕ). octets_of ns (restood ks to ms)) g)
-    go false g i = i ∙ w l (omega arith) ∙ sym (octets_stay (queue_at (Unacked l) q) ks to ms) ∙ sym (ap (λ (ns : List ℕ). octets_of ns (restood ks to ms)) g)
+weighed_cleared octets octets' q q' ms ks from to w e few queues counts l h = grind (arith, octets_stay)
 
 pub weighed_changed : (octets octets' : List ℕ) (q q' : Lists) (ms : List Message) (ks : List ℕ) (link now : ℕ) (ns : List ℕ) (to : Fate) → AreWeighed octets q ms → length q'.links ≡ length q.links → length q.links ≤ 16 → ((l : ℕ) → queue_at (Unacked l) q' ≡ cond (link == l) ns (queue_at (Unacked l) q)) → ((l : ℕ) → l < 16 → slice_index octets' l ≡ cond (link == l) now (slice_index octets l)) → now ≡ octets_of ns ms → AreWeighed octets' q' (restood ks to ms)
-weighed_changed octets octets' q q' ms ks link now ns to w e few queues counts is l h = go (link == l) (queues l) (counts l (omega arith))
-  where
-    go : (b : Bool) → queue_at (Unacked l) q' ≡ cond b ns (queue_at (Unacked l) q) → slice_index octets' l ≡ cond b now (slice_index octets l) → slice_index octets' l ≡ octets_of (queue_at (Unacked l) q') (restood ks to ms)
-    go true g i = i ∙ is ∙ sym (octets_stay ns ks to ms) ∙ sym (ap (λ (xs : List ℕ). octets_of xs (restood ks to ms)) g)
-    go false g i = i ∙ w l (omega arith) ∙ sym (octets_stay (queue_at (Unacked l) q) ks to ms) ∙ sym (ap (λ (xs : List ℕ). octets_of xs (restood ks to ms)) g)
+weighed_changed octets octets' q q' ms ks link now ns to w e few queues counts is l h = grind (arith, octets_stay)
 
 -- a sum or a difference at one link, as one number
 pub at_link : (f : ℕ → ℕ) (octets : List ℕ) (link l : ℕ) → cond (link == l) (f (slice_index octets l)) (slice_index octets l) ≡ cond (link == l) (f (slice_index octets link)) (slice_index octets l)
-at_link f octets link l = go (link == l) refl
-  where
-    go : (b : Bool) → (link == l) ≡ b → cond b (f (slice_index octets l)) (slice_index octets l) ≡ cond b (f (slice_index octets link)) (slice_index octets l)
-    go true e = ap (λ (i : ℕ). f (slice_index octets i)) (sym (eqb-true link l e))
-    go false e = refl
+at_link f octets link l = grind arith
 
 pub octets_more : (xs : List ℕ) (i n : ℕ) (ms : List Message) → slice_get xs i ≡ Some n → octets_of (take (i + 1) xs) ms ≡ octets_of (take i xs) ms + octets_at n ms
 octets_more xs i n ms e = omega (arith, ap (λ (ns : List ℕ). octets_of ns ms) (take_get xs i n e), octets-append (take i xs) (n ∷ []) ms)

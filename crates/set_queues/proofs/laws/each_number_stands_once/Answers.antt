@@ -1,21 +1,16 @@
-use Rattle.std.proofs.Common.{◌≡◌, ◌∙◌, ap, ◌⊎◌, inl, inr, true, false, Option}
+use Rattle.std.proofs.Common.{arith, ◌≡◌, ◌∙◌, ap, true, false, Option}
 use Rattle.std.specs.Option.{option_map}
-use Rattle.std.proofs.lemmas.Bool.{cases_Bool}
 use Rattle.std.proofs.lemmas.Option.{slice_get_past}
 use Rattle.set_events.specs.declared.answer.Fate.{Fate}
 use Rattle.set_queues.specs.declared.message.Message.{Message}
 use Rattle.set_queues.specs.Counts.{one_if}
 use Rattle.set_queues.specs.Buffers.{is_standing, same_fate}
 use Rattle.set_queues.specs.Queues.{has_fate}
-use Rattle.set_queues.proofs.Standing.{same_is, same_self}
+use Rattle.set_queues.proofs.Standing.{same_self}
 use Rattle.set_queues.proofs.laws.each_number_stands_once.Goals as goal
 
 apart : (fate other : Fate) → is_standing other ≡ true → (fate ≡ other → ⊥) → same_fate fate other ≡ false
-apart fate other s ne = go (cases_Bool (same_fate fate other))
-  where
-    go : (same_fate fate other ≡ true) ⊎ (same_fate fate other ≡ false) → same_fate fate other ≡ false
-    go (inl e) = absurd (ne (same_is fate other s e))
-    go (inr e) = e
+apart fate other s ne = grind arith
 
 pub returns : goal.returns
 returns c = λ q messages number h. record {

@@ -18,8 +18,7 @@ weigh_more-requires-clause-few c =
     omega (arith, c.self.invariant.weighed c.args.link known, octets_few (queue_at (Unacked c.args.link) c.self.inside.buffers.lists) c.self.inside.messages.messages c.self.invariant.sound.fit, few)
 
 some_there : (xs : List ℕ) (n : ℕ) → slice_get xs 0 ≡ Some n → xs ≡ [] → ⊥
-some_there [] n e h = absurd (cc)
-some_there (x ∷ xs) n e h = absurd (cc)
+some_there xs n e h = grind arith
 
 pub invariant_of-self-2 : goal.invariant_of-self-2
 invariant_of-self-2 c =
