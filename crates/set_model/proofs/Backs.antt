@@ -1,14 +1,14 @@
 -- WHAT STANDS BACK, as streams move.
-use Rattle.std.proofs.Common.{arith, ◌≡◌, subst, ◌<◌, ℕ, List}
+use Rattle.std.proofs.Common.{arith, ◌≡◌, sym, subst, ◌<◌, ℕ, List, [], ◌∷◌}
 use Rattle.set_events.specs.declared.answer.Fate.{Fate}
 use Rattle.set_events.specs.declared.answer.Fate.TheVariants.{Back}
 use Rattle.set_route.specs.declared.place.Place.TheVariants.{Changing}
 use Rattle.set_route.specs.declared.place.Code.TheVariants.{Asked}
 use Rattle.set_route.specs.Routing.{Routing, IsRouting, IsCoded, home_of, code_of, place_of}
 use Rattle.set_route.proofs.Quiet.{at_place}
-use Rattle.set_model.specs.Rows.{Row}
+use Rattle.set_model.specs.Rows.{Row, back, stands_back}
 use Rattle.set_model.specs.Sound.{IsBackOf, AreBack}
-use Rattle.set_model.proofs.Standing.{each_so}
+use Rattle.set_model.proofs.Standing.{each_so, each_filter}
 
 -- a stream on its way back goes to the home of its code, which is open
 pub coded_at : (r : Routing) (stream : ℕ) → IsRouting r → (to code via : ℕ) → place_of stream r ≡ Changing to code via → (home_of code ≡ to) × (code_of code r ≡ Asked)
@@ -26,3 +26,11 @@ module _ (Of : ℕ → Type 0) (old new : Routing) (stays : StaysBack Of old new
 
   pub backs_kept : ((code : ℕ) → Of code) → (rows : List Row) → AreBack old rows → AreBack new rows
   backs_kept all rows b = each_so (λ row. IsBackOf old row row.fate) (λ row. IsBackOf new row row.fate) (λ x p. stood x x.fate (λ code e. all code) p) rows b
+
+-- of the rows it asks only those that stand back
+pub backs_of : (r : Routing) (rows : List Row) → AreBack r (back rows) → AreBack r rows
+backs_of r [] b = tt
+backs_of r (x ∷ rows) b = grind (arith, backs_of r rows)
+
+pub backs_same : (r : Routing) (rows new : List Row) → back new ≡ back rows → AreBack r rows → AreBack r new
+backs_same r rows new same b = backs_of r new (subst (AreBack r) (sym same) (each_filter (λ row. IsBackOf r row row.fate) (λ row. stands_back row.fate) rows b))

@@ -1,5 +1,5 @@
 -- What the control's own step does to the window, the FSN last accepted, and the cursor.
-use Rattle.std.proofs.Common.{refl, arith, ◌≡◌, ◌≢◌, ◌<◌, ◌≤◌, ℕ, ◌+◌, ◌-◌, ◌%◌, ◌==◌, Bool, true, false, not, ◌&&◌, nat_lt, length, drop, if◌then◌else◌}
+use Rattle.std.proofs.Common.{refl, arith, ◌≡◌, ◌≢◌, ◌<◌, ◌≤◌, ℕ, ◌+◌, ◌%◌, ◌==◌, Bool, true, false, not, ◌&&◌, length, drop, if◌then◌else◌}
 use Rattle.std.proofs.lemmas.Bool.{ltb-true}
 use Rattle.std.proofs.lemmas.Bool.Decides.{nat_tests}
 use Rattle.std.proofs.lemmas.List.{length-drop}
@@ -19,38 +19,17 @@ accepted_after choice o control w = grind arith
 pub method_after : (m : Method) (choice : Choice) (o : ℕ) (control : Control) (w : WindowState) → IsOf m control → IsOf m (control_after choice o control w)
 method_after m choice o control w is = grind arith
 
--- a first sending is chosen only where something waits, and fewer than 127 are unacknowledged
-both_tests : (x y z : Bool) (p : ℕ) → (if x then again p else (if y && z then first else fill)) ≡ first → (y ≡ true) × (z ≡ true)
-both_tests x y z p e = grind arith
-
 both_cyclic : (x y z v : Bool) (p q : ℕ) → (if x then again p else (if y && z then first else (if v then again q else fill))) ≡ first → (y ≡ true) × (z ≡ true)
 both_cyclic x y z v p q e = grind arith
 
 pub first_chosen : (o : ℕ) (control : Control) (w : WindowState) → choice_of o control w ≡ first → (0 < length w.unsent) × (length w.unacked < 127)
-first_chosen o (Basic s) w e =
-    let t = both_tests (nat_lt s.cursor (length w.unacked)) (nat_lt 0 (length w.unsent)) (nat_lt (length w.unacked) 127) s.cursor e in
-    (ltb-true 0 (length w.unsent) t.0, ltb-true (length w.unacked) 127 t.1)
-first_chosen o (Cyclic s) w e =
-    let t = both_cyclic (cyclic.is_forced s w o) (nat_lt 0 (length w.unsent)) (nat_lt (length w.unacked) 127) (nat_lt 0 (length w.unacked)) (cyclic.cycle_place (not s.forced) s w) (cyclic.cycle_place false s w) e in
-    (ltb-true 0 (length w.unsent) t.0, ltb-true (length w.unacked) 127 t.1)
-
--- what is sent again from the cursor is an unacknowledged message
-again_at : (x y z : Bool) (p place : ℕ) → (if x then again p else (if y && z then first else fill)) ≡ again place → (x ≡ true) × (place ≡ p)
-again_at x y z p place e = grind arith
+first_chosen o control w e = grind (arith, ltb-true, both_cyclic)
 
 round_in : (n place : ℕ) → cyclic.round n place ≢ 0 → cyclic.round n place < n
 round_in n place d = grind arith
 
 pub range_after : (choice : Choice) (o : ℕ) (control : Control) (w : WindowState) (count : ℕ) → choice_of o control w ≡ choice → length w.unacked ≤ count → (choice ≡ first → count ≡ length w.unacked + 1) → IsInRange control (length w.unacked) → IsInRange (control_after choice o control w) count
-range_after (again place) o (Basic s) w count e more one r =
-    let t = again_at (nat_lt s.cursor (length w.unacked)) (nat_lt 0 (length w.unsent)) (nat_lt (length w.unacked) 127) s.cursor place e in
-    let low : s.cursor < length w.unacked = ltb-true s.cursor (length w.unacked) t.0 in
-    omega (arith, low, t.1, more)
-range_after first o (Basic s) w count e more one r = let c = one refl in omega (arith, c)
-range_after fill o (Basic s) w count e more one r = omega (arith, r, more)
-range_after (again place) o (Cyclic s) w count e more one r = λ d. let low = round_in (length w.unacked) (place + 1) d in omega (arith, low, more)
-range_after first o (Cyclic s) w count e more one r = λ d. let low = r d in omega (arith, low, more)
-range_after fill o (Cyclic s) w count e more one r = λ d. let low = r d in omega (arith, low, more)
+range_after choice o control w count e more one r = grind (arith, round_in)
 
 -- HEARING.
 pub method_heard : (m : Method) (control : Control) (w : WindowState) (head : Header) (msu : Bool) → IsOf m control → IsOf m (control_heard control w head msu)
@@ -90,16 +69,4 @@ accepted_heard (Cyclic s) w head msu n e = go (cyclic.is_accepted s w head msu) 
 
 -- the cursor, or the place in the cycle
 pub range_heard : (control : Control) (w : WindowState) (head : Header) (msu : Bool) → IsInRange control (length w.unacked) → IsInRange (control_heard control w head msu) (length (drop (acked_by control w head) w.unacked))
-range_heard (Basic s) w head msu r = go (basic.wants_retransmission s w head) refl
-  where
-    left : length (drop (acked_by (Basic s) w head) w.unacked) ≡ length w.unacked - acked_by (Basic s) w head
-    left = length-drop (acked_by (Basic s) w head) w.unacked
-
-    go : (b : Bool) → basic.wants_retransmission s w head ≡ b → (if basic.wants_retransmission s w head then 0 else s.cursor - acked_by (Basic s) w head) ≤ length (drop (acked_by (Basic s) w head) w.unacked)
-    go true e = rw e (omega arith)
-    go false e = rw e (omega (arith, r, left))
-range_heard (Cyclic s) w head msu r = go (cyclic.has_abnormal_bsn w head) refl
-  where
-    go : (b : Bool) → cyclic.has_abnormal_bsn w head ≡ b → IsInRange (control_heard (Cyclic s) w head msu) (length (drop (acked_by (Cyclic s) w head) w.unacked))
-    go true e = rw e r
-    go false e = rw e (λ d. round_in _ _ d)
+range_heard control w head msu r = grind (arith, length-drop, round_in)

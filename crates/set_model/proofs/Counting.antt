@@ -1,12 +1,11 @@
 -- Each message is counted in one place.
-use Rattle.std.proofs.Common.{refl, arith, ◌≡◌, ◌∙◌, ap, sym, ◌≤◌, [], ◌∷◌, length, ℕ, ◌+◌, Bool, true, false, ◌==◌, List, cond}
+use Rattle.std.proofs.Common.{refl, arith, ◌≡◌, ◌∙◌, sym, ◌≤◌, [], ◌∷◌, length, ℕ, ◌+◌, Bool, true, false, ◌==◌, List, cond}
 use Rattle.std.proofs.lemmas.List.{length-append}
 use Rattle.std.proofs.lemmas.List.Elements.{filter-append}
 use Rattle.set_events.specs.declared.answer.Fate.{Fate}
 use Rattle.set_events.specs.declared.answer.Fate.TheVariants.{Waiting, Unacked, Acked, Held, Parked, Back, Discarded}
 use Rattle.set_model.specs.Rows.{Row, standing, waits, was_sent, was_acked, was_held, is_parked, stands_back, was_discarded, is_users, users, service_indicator, with_fate, moved, appended, counts_of, total_of}
 use Rattle.set_model.proofs.Filters.{filter_comm}
-use Rattle.set_model.proofs.Finding.{new_row}
 use Rattle.set_model.proofs.InPlace.{InPlace}
 use Rattle.set_model.proofs.Moving.{moved_count, moved_same}
 
@@ -67,22 +66,11 @@ users_standing : (test : Fate → Bool) (rows : List Row) → standing test (use
 users_standing test rows = filter_comm (λ (row : Row). test row.fate) is_users rows
 
 pub acked_moved : (test : Fate → Bool) (fate : Row → Fate) (rows : List Row) → ((row : Row) → was_acked (fate row) ≡ false) → ((f : Fate) → test f ≡ true → was_acked f ≡ false) → (counts_of (moved test fate rows)).acked ≡ (counts_of rows).acked
-acked_moved test fate rows o w =
-    ap length (users_standing was_acked (moved test fate rows)) ∙ ap (λ (xs : List Row). length (users xs)) (moved_same test was_acked fate rows o w) ∙ sym (ap length (users_standing was_acked rows))
+acked_moved test fate rows o w = search (users_standing, moved_same)
 
 pub acked_appended : (rows : List Row) (body : List ℕ) (fate : Fate) → (counts_of rows).acked ≤ (counts_of (appended rows body fate)).acked
-acked_appended rows body fate =
-    let e = ap (λ (xs : List Row). length (standing was_acked xs)) (filter-append is_users rows (new_row (length rows) body fate ∷ []))
-    ∙ ap length (filter-append (λ (row : Row). was_acked row.fate) (users rows) (users (new_row (length rows) body fate ∷ [])))
-    ∙ length-append (standing was_acked (users rows)) (standing was_acked (users (new_row (length rows) body fate ∷ []))) in
-    omega (arith, e)
+acked_appended rows body fate = grind (arith, filter-append, length-append)
 
 -- one that is appended elsewhere is none of them
 pub acked_appended_open : (rows : List Row) (body : List ℕ) (fate : Fate) → was_acked fate ≡ false → (counts_of (appended rows body fate)).acked ≡ (counts_of rows).acked
-acked_appended_open rows body fate other =
-    let row = new_row (length rows) body fate in
-    let e = ap (λ (xs : List Row). length (standing was_acked xs)) (filter-append is_users rows (row ∷ []))
-    ∙ ap length (filter-append (λ (row : Row). was_acked row.fate) (users rows) (users (row ∷ [])))
-    ∙ length-append (standing was_acked (users rows)) (standing was_acked (users (row ∷ []))) in
-    let none : length (standing was_acked (users (row ∷ []))) ≡ 0 = ap length (users_standing was_acked (row ∷ [])) ∙ rw other refl in
-    omega (arith, e, none)
+acked_appended_open rows body fate other = grind (arith, filter-append, length-append)

@@ -1,11 +1,11 @@
 -- WHAT EACH CHANGE DOES TO EACH LINK: the lemmas that a set's step is argued by.
-use Rattle.std.proofs.Common.{refl, arith, ◌≡◌, ◌∙◌, ap, ◌≤◌, [], ◌∷◌, length, ℕ, zero, suc, ◌+◌, Bool, true, false, ◌==◌, List, ◌++◌, map, take, drop}
+use Rattle.std.proofs.Common.{refl, arith, ◌≡◌, ◌∙◌, ap, ◌≤◌, [], ◌∷◌, length, ℕ, Bool, true, false, ◌==◌, List, ◌++◌, map, take, drop}
 use Rattle.std.proofs.lemmas.List.{append-nil, map-append}
 use Rattle.std.proofs.lemmas.List.Elements.{filter-append}
 use Rattle.set_events.specs.declared.answer.Fate.{Fate}
 use Rattle.set_events.specs.declared.answer.Fate.TheVariants.{Waiting, Unacked, Acked, Parked, Discarded}
 use Rattle.set_events.specs.declared.answer.DiscardCause.{DiscardCause}
-use Rattle.set_model.specs.Rows.{Row, standing, is_waiting, is_unacked, is_held, is_on, is_parked, is_back, was_acked, unack, wait, held, on, parked, numbers, octets_in, turned, changed, moved, all_with, appended, with_fate, fated, body_at, counts_of, total_of, IsInOrder, IsHeldLast, IsNumbered, AreFit}
+use Rattle.set_model.specs.Rows.{Row, standing, is_waiting, is_unacked, is_held, is_on, is_parked, is_back, was_acked, unack, wait, held, on, parked, numbers, turned, changed, moved, all_with, appended, with_fate, fated, body_at, counts_of, total_of, IsInOrder, IsHeldLast, IsNumbered, AreFit}
 use Rattle.set_model.proofs.Places.{itself, apart_back, waiting_not_unacked, unacked_not_waiting, waiting_not_held, unacked_not_held, parked_not_on, on_not_parked, on_not_acked, parked_not_acked, waiting_on, unacked_on, held_on, on_other, not_on_waiting, not_on_unacked, not_on_held, back_not_on, back_not_parked, back_not_acked, code_back}
 use Rattle.set_model.proofs.InPlace.{InPlace, turned_there, changed_there, turned_same, changed_same, turned_ordered, changed_ordered, turned_left, turned_within, changed_left}
 use Rattle.set_model.proofs.Moving.{moved_length, moved_fit, moved_numbered, moved_gone, moved_same, moved_joined}
@@ -31,6 +31,9 @@ pub record Kept (rows new : List Row) : Type 0 where
   pub total : total_of (counts_of new) ≡ total_of (counts_of rows)
   pub acked : (counts_of rows).acked ≤ (counts_of new).acked
 
+pub kept_self : (rows : List Row) → Kept rows rows
+kept_self rows = record { fit = λ f. f; numbered = λ f. f; count = refl; bodies = λ f number. refl; total = refl; acked = omega arith }
+
 pub kept_in_place : (test : Fate → Bool) (rows new : List Row) → InPlace test rows new → ((f : Fate) → test f ≡ true → was_acked f ≡ false) → Kept rows new
 kept_in_place test rows new i w = record {
   fit = i.fit;
@@ -42,14 +45,7 @@ kept_in_place test rows new i w = record {
 }
 
 pub moved_kept : (test : Fate → Bool) (fate : Row → Fate) (rows : List Row) → ((row : Row) → was_acked (fate row) ≡ false) → ((f : Fate) → test f ≡ true → was_acked f ≡ false) → Kept rows (moved test fate rows)
-moved_kept test fate rows o w = record {
-  fit = moved_fit test fate rows;
-  numbered = moved_numbered test fate rows;
-  count = moved_length test fate rows;
-  bodies = λ numbered number. body_moved test fate number rows numbered;
-  total = total_moved test fate rows;
-  acked = omega (arith, acked_moved test fate rows o w);
-}
+moved_kept test fate rows o w = grind (arith, moved_fit, moved_numbered, moved_length, body_moved, total_moved, acked_moved)
 
 -- Nothing that link n sees changed.
 pub record Untouched (n : ℕ) (rows new : List Row) : Type 0 where
@@ -90,14 +86,7 @@ module _ (n : ℕ) (test : Fate → Bool) (rows : List Row) (w : (f : Fate) → 
         }
 
   pub moved_untouched : (fate : Row → Fate) → ((row : Row) → is_on n (fate row) ≡ false) → Untouched n rows (moved test fate rows)
-  moved_untouched fate o = record {
-    unack_same = moved_same test (is_unacked n) fate rows (λ x. not_on_unacked n (fate x) (o x)) (λ f e. not_on_unacked n f (w f e));
-    wait_same = moved_same test (is_waiting n) fate rows (λ x. not_on_waiting n (fate x) (o x)) (λ f e. not_on_waiting n f (w f e));
-    held_same = moved_same test (is_held n) fate rows (λ x. not_on_held n (fate x) (o x)) (λ f e. not_on_held n f (w f e));
-    on_same = moved_same test (is_on n) fate rows o w;
-    order_kept = order_moved n test fate rows (λ x. not_on_unacked n (fate x) (o x));
-    last_kept = last_moved n test fate rows (λ x. not_on_unacked n (fate x) (o x)) (λ x. not_on_waiting n (fate x) (o x));
-  }
+  moved_untouched fate o = search (moved_same, not_on_unacked, not_on_waiting, not_on_held, order_moved, last_moved)
 
 -- A NEW MESSAGE.
 module _ (rows : List Row) (body : List ℕ) (fate : Fate) where
@@ -110,14 +99,7 @@ module _ (rows : List Row) (body : List ℕ) (fate : Fate) where
 
   -- a link that it doesn't stand on
   pub appended_untouched : (n : ℕ) → is_on n fate ≡ false → Untouched n rows (appended rows body fate)
-  appended_untouched n o = record {
-    unack_same = appended_out (is_unacked n) (not_on_unacked n fate o);
-    wait_same = appended_out (is_waiting n) (not_on_waiting n fate o);
-    held_same = appended_out (is_held n) (not_on_held n fate o);
-    on_same = appended_out (is_on n) o;
-    order_kept = order_appended n rows body fate (not_on_unacked n fate o);
-    last_kept = last_appended n rows body fate (not_on_unacked n fate o) (not_on_waiting n fate o);
-  }
+  appended_untouched n o = search (appended_out, not_on_unacked, not_on_waiting, not_on_held, order_appended, last_appended)
 
 -- A FIRST SENDING.
 pub record Sent (l : ℕ) (rows new : List Row) : Type 0 where
@@ -236,19 +218,7 @@ pub record Left (l : ℕ) (to : Fate) (rows new : List Row) : Type 0 where
   pub others : (n : ℕ) → (l == n) ≡ false → is_on n to ≡ false → Untouched n rows new
 
 left : (l : ℕ) (to : Fate) (rows : List Row) → is_on l to ≡ false → was_acked to ≡ false → Left l to rows (moved (is_on l) (all_with to) rows)
-left l to rows o a =
-    let u = moved_gone (is_on l) (is_unacked l) (all_with to) rows (λ x. not_on_unacked l to o) (unacked_on l) in
-    let w = moved_gone (is_on l) (is_waiting l) (all_with to) rows (λ x. not_on_waiting l to o) (waiting_on l) in
-    record {
-      kept = moved_kept (is_on l) (all_with to) rows (λ x. a) (on_not_acked l);
-      unack_none = u;
-      wait_none = w;
-      held_none = moved_gone (is_on l) (is_held l) (all_with to) rows (λ x. not_on_held l to o) (held_on l);
-      on_none = moved_gone (is_on l) (is_on l) (all_with to) rows (λ x. o) (λ f e. e);
-      in_order = order_none l (moved (is_on l) (all_with to) rows) u;
-      held_last = last_alone l (moved (is_on l) (all_with to) rows) u w;
-      others = λ n d p. moved_untouched n (is_on l) rows (λ f e. on_other n l (apart_back l n d) f e) (all_with to) (λ x. p);
-    }
+left l to rows o a = search (moved_gone, not_on_unacked, unacked_on, not_on_waiting, waiting_on, moved_kept, on_not_acked, not_on_held, held_on, order_none, last_alone, moved_untouched, on_other, apart_back)
 
 -- to another link
 pub record MovedTo (l t : ℕ) (rows new : List Row) : Type 0 where
@@ -288,9 +258,7 @@ pub record MovedAside (l : ℕ) (rows new : List Row) : Type 0 where
   pub parked_numbers : numbers (parked new) ≡ numbers (parked rows) ++ numbers (on l rows)
 
 pub moved_aside : (l : ℕ) (rows : List Row) → MovedAside l rows (moved (is_on l) (all_with Parked) rows)
-moved_aside l rows =
-    let p = moved_joined (is_on l) is_parked (all_with Parked) rows (λ x. refl) (on_not_parked l) in
-    record { left_is = left l Parked rows refl refl; parked_is = p; parked_numbers = ap numbers p ∙ numbers_joined (all_with Parked) (parked rows) (on l rows) }
+moved_aside l rows = search (moved_joined, on_not_parked, left, numbers_joined)
 
 -- MESSAGES THAT STOOD BACK AND WAIT FOR THEIR HOME.
 pub record Released (c l : ℕ) (rows new : List Row) : Type 0 where

@@ -39,9 +39,7 @@ fated_none test fate h (x ∷ xs) = rw (h x) (fated_none test fate h xs)
 
 -- each row passes the test or its negation
 pub both_lengths : (test : Fate → Bool) (xs : List Row) → length (standing (λ f. not (test f)) xs) + length (standing test xs) ≡ length xs
-both_lengths test xs =
-    let e = length-filter_both (λ (row : Row). test row.fate) (λ (row : Row). not (test row.fate)) (λ row. refl) xs in
-    omega (arith, e)
+both_lengths test xs = grind (arith, length-filter_both)
 
 -- Bodies.
 pub fit_append : (xs ys : List Row) → AreFit xs → AreFit ys → AreFit (xs ++ ys)

@@ -1,12 +1,12 @@
 -- Rows that are looked up, where each number stands in one row.
 use Rattle.std.proofs.Common.{refl, arith, ◌≡◌, ◌∙◌, ap, sym, ◌<◌, ◌≤◌, [], ◌∷◌, length, ℕ, ◌+◌, ◌⊎◌, inl, inr, Bool, true, false, nat_lt, ◌==◌, List, None, cond}
-use Rattle.std.specs.Prelude.{slice_get, filter, find}
+use Rattle.std.specs.Prelude.{filter}
 use Rattle.std.proofs.lemmas.Bool.{lt-ltb, le-ltb, eq-eqb, ne_eqb, cases_order}
 use Rattle.std.proofs.lemmas.List.{length-append, length_push}
 use Rattle.std.proofs.lemmas.List.Elements.{filter-append}
 use Rattle.set_events.specs.declared.answer.Fate.{Fate}
 use Rattle.set_model.proofs.Filters.{fit_append}
-use Rattle.set_model.specs.Rows.{Row, standing, appended, row_of, IsNumbered, AreFit}
+use Rattle.set_model.specs.Rows.{Row, appended, row_of, IsNumbered, AreFit}
 
 -- the rows of a number
 abbrev pub with_number : ℕ → List Row → List Row

@@ -1,6 +1,5 @@
 -- What a step brings: each accepted message stands in one place more, and what is acknowledged stays so.
-use Rattle.std.proofs.Common.{refl, arith, ◌≡◌, ◌∙◌, ap, sym, ◌≤◌, length, ℕ, ◌+◌, ◌%◌, ◌==◌, nat_lt, nat_le, Bool, true, false, List, [], ◌∷◌, slice_get, Option, Some, None, if◌then◌else◌, cond}
-use Rattle.l2_units.specs.declared.unit.Unit.{Unit as SignalUnit}
+use Rattle.std.proofs.Common.{refl, arith, ◌≡◌, ◌∙◌, ap, sym, ◌≤◌, length, ℕ, ◌==◌, Bool, true, false, List, Option, Some, None, if◌then◌else◌}
 use Rattle.set_route.specs.declared.place.Place.{Place}
 use Rattle.set_route.specs.Routing.{place_of, code_for, home_of}
 use Rattle.l3_orders.specs.declared.order.Order.{Order}
@@ -12,17 +11,16 @@ use Rattle.set_events.specs.declared.answer.Fate.TheVariants.{Waiting}
 use Rattle.set_events.specs.declared.answer.Refusal.{Refusal as SetRefusal}
 use Rattle.set_events.specs.declared.answer.Refusal.TheVariants.{TooShort, TooLong, Reserved, StreamFull}
 use Rattle.set_events.specs.declared.event.Event.{Event}
-use Rattle.set_events.specs.declared.event.Event.TheVariants.{Offer, Take, Find, Next, Heard, Up as UpEvent, Down as DownEvent, DownBlind, NoAnswer, Restore, BackTimeout}
-use Rattle.set_model.specs.declared.phase.Phase.{Phase}
-use Rattle.set_model.specs.Rows.{Row, is_on, is_back_to, was_acked, moved, all_with, appended, service_indicator, counts_of, total_of, place, unsent, stream_of}
-use Rattle.set_model.specs.State.{LinkState, State, fate_at, target}
+use Rattle.set_events.specs.declared.event.Event.TheVariants.{Offer, Take, Find}
+use Rattle.set_model.specs.Rows.{Row, is_on, is_back_to, was_acked, moved, all_with, appended, service_indicator, counts_of, total_of, stream_of}
+use Rattle.set_model.specs.State.{State, fate_at, target}
 use Rattle.set_model.specs.Control.{Choice, again, first, fill}
-use Rattle.set_model.specs.Changeover.{fate_on, out_of_service, turned_back, some_in_use}
-use Rattle.set_model.specs.Step.{Outcome, offer_refusal, offered, taken, found, with_known, in_service, next, rows_sent, heard, rises, falls, gives_up, comes_back, runs_out, step, messages_in, octets_of, Gains}
+use Rattle.set_model.specs.Changeover.{fate_on, out_of_service, turned_back}
+use Rattle.set_model.specs.Step.{offer_refusal, offered, rows_sent, step, messages_in, octets_of, Gains}
 use Rattle.set_model.specs.Sound.{IsManaged}
 use Rattle.set_model.proofs.Counting.{total_appended, acked_appended, acked_appended_open, total_moved, acked_moved}
 use Rattle.set_model.proofs.Events.{Kept, sent, acknowledged, sent_given_up, waiting_given_up, unparked, moved_kept, released as released_rows}
-use Rattle.set_model.proofs.Places.{on_not_acked, back_not_acked, home_back}
+use Rattle.set_model.proofs.Places.{back_not_acked, home_back}
 use Rattle.set_model.proofs.Walk.{KeptBy, step_walks}
 
 -- rows that are changed, but for new messages of users
@@ -39,21 +37,12 @@ counted_then rows mid new a b = let x = a.acked in let y = b.acked in record { t
 counted_kept : (rows new : List Row) → Kept rows new → Counted rows new
 counted_kept rows new k = record { total = k.total; acked = k.acked }
 
-open_fate : (to : Option ℕ) → was_acked (fate_on to) ≡ false
-open_fate to = grind arith
-
 counted_moved : (n : ℕ) (to : Option ℕ) (rows : List Row) → Counted rows (moved (is_on n) (all_with (fate_on to)) rows)
-counted_moved n to rows =
-    let same = acked_moved (is_on n) (all_with (fate_on to)) rows (λ row. open_fate to) (on_not_acked n) in
-    record { total = total_moved (is_on n) (all_with (fate_on to)) rows; acked = omega (arith, same) }
+counted_moved n to rows = grind (arith, acked_moved, total_moved)
 
 -- an order is no user's
 counted_order : (order : Order) (fate : Fate) (s : State) → IsManaged s.settings → Counted s.rows (appended s.rows (text order s.settings.sio s.settings.dpc s.settings.opc) fate)
-counted_order order fate s management =
-    let body = text order s.settings.sio s.settings.dpc s.settings.opc in
-    let own : (s.settings.sio % 16 == 0) ≡ true = grind arith in
-    let one = total_appended s.rows body fate ∙ ap (λ (b : Bool). total_of (counts_of s.rows) + cond b 0 1) own in
-    record { total = omega (arith, one); acked = acked_appended s.rows body fate }
+counted_order order fate s management = grind (arith, total_appended, acked_appended)
 
 -- where a message goes whose stream runs there, it isn't acknowledged
 fate_open : (p : Place) (s : State) → was_acked (fate_at p s) ≡ false
@@ -110,33 +99,15 @@ pub accepts_none : (s : State) (event : Event) → is_offer event ≡ false → 
 unfolding step
 accepts_none s event e = grind arith
 
--- AN OFFER.
-pub fits_offer : (a b c d : Bool) → (if a then Some TooShort else (if b then Some TooLong else (if c then Some Reserved else (if d then Some StreamFull else None)))) ≡ None → (b ≡ false) × (c ≡ false)
-fits_offer a b c d e = grind arith
-
 -- an offered body that isn't refused has at most 273 octets, and is a user's
 pub offer_fits : (rows : List Row) (body : List ℕ) → offer_refusal rows body ≡ None → (length body ≤ 273) × ((service_indicator body == 0) ≡ false)
-offer_fits rows body e =
-    let fits = fits_offer (nat_lt (length body) 5) (nat_lt 273 (length body)) (service_indicator body == 0) (nat_le 1024 (length (unsent (stream_of body) rows))) e in
-    let long : nat_lt 273 (length body) ≡ false = fits.0 in
-    (grind arith, fits.1)
+offer_fits rows body e = grind arith
 
 offer_gains : (s : State) (body : List ℕ) (o : Option SetRefusal) → offer_refusal s.rows body ≡ o → Gains s (Offer body) (offered o s body).answer (offered o s body).state
-offer_gains s body (Some why) e = record { messages = omega arith; acknowledged = omega arith; octets = omega arith }
-offer_gains s body None e =
-    let fits = offer_fits s.rows body e in
-    record {
-      messages = total_appended s.rows body _ ∙ ap (λ (b : Bool). total_of (counts_of s.rows) + cond b 0 1) fits.1;
-      acknowledged = acked_appended s.rows body _;
-      octets = fits.0;
-    }
+offer_gains s body o e = grind (arith, total_appended, acked_appended)
 
 other_gains : (s : State) (event : Event) → is_offer event ≡ false → IsManaged s.settings → Gains s event (step s event).answer (step s event).state
-other_gains s event other m =
-    let c = step_counted s event other m in
-    let total = c.1.total in
-    let none = accepts_none s event other in
-    record { messages = omega (arith, total, none.0); acknowledged = c.1.acked; octets = omega (arith, none.1) }
+other_gains s event other m = grind (arith, step_counted, accepts_none)
 
 pub step_gains : (s : State) (event : Event) → IsManaged s.settings → Gains s event (step s event).answer (step s event).state
 unfolding step
@@ -146,7 +117,7 @@ step_gains s event m = other_gains s event refl m
 -- WHAT USERS ASK acknowledges nothing.
 pub offer_acknowledges_none : (s : State) (body : List ℕ) → (counts_of (step s (Offer body)).state.rows).acked ≡ (counts_of s.rows).acked
 unfolding step
-offer_acknowledges_none s body = grind (arith, acked_appended_open, fate_open)
+offer_acknowledges_none s body = grind (arith, acked_appended_open)
 
 pub take_acknowledges_none : (s : State) → (counts_of (step s Take).state.rows).acked ≡ (counts_of s.rows).acked
 unfolding step

@@ -130,20 +130,10 @@ module _ (n : ℕ) (test : Fate → Bool) (fate : Fate) (u : is_unacked n fate �
   nothing = record { unack_none = λ e. e; wait_none = λ e. e; in_order = λ o. o; held_last = λ o. o }
 
   stays_in : (x : Row) (xs ys : List Row) → Ordered xs ys → Ordered (x ∷ xs) (x ∷ ys)
-  stays_in x xs ys p = record {
-    unack_none = none_before (is_unacked n x.fate) x (unack n xs) (unack n ys) p.unack_none;
-    wait_none = none_before (is_waiting n x.fate) x (wait n xs) (wait n ys) p.wait_none;
-    in_order = λ o. (λ e. p.unack_none (o.0 e), p.in_order o.1);
-    held_last = λ o. (λ e. (p.unack_none (o.0 e).0, p.wait_none (o.0 e).1), p.held_last o.1);
-  }
+  stays_in x xs ys p = grind arith
 
   turns_off : (x : Row) (xs ys : List Row) → test x.fate ≡ true → Ordered xs ys → Ordered (x ∷ xs) (with_fate fate x ∷ ys)
-  turns_off x xs ys t p = record {
-    unack_none = λ e. rw u (p.unack_none (none_behind (is_unacked n x.fate) x (unack n xs) e));
-    wait_none = λ e. rw v (p.wait_none (none_behind (is_waiting n x.fate) x (wait n xs) e));
-    in_order = λ o. (λ e. false_true (is_waiting n fate) v e, p.in_order o.1);
-    held_last = λ o. (λ e. false_true (is_held n fate) h e, p.held_last o.1);
-  }
+  turns_off x xs ys t p = grind arith
 
   pub turned_ordered : (k : ℕ) (rows : List Row) → Ordered rows (turned test fate k rows)
   turned_ordered k rows = where_turned test fate Ordered nothing stays_in turns_off k rows

@@ -1,5 +1,5 @@
 -- No event changes how many links a set has.
-use Rattle.std.proofs.Common.{refl, ◌≡◌, ◌∙◌, ℕ, length}
+use Rattle.std.proofs.Common.{arith, refl, ◌≡◌, ◌∙◌, ℕ, length}
 use Rattle.std.proofs.lemmas.List.{length-set}
 use Rattle.set_events.specs.declared.event.Event.{Event}
 use Rattle.set_model.specs.State.{State}
@@ -10,19 +10,7 @@ abbrev pub SameCount : State → State → Type 0
 SameCount s t = length t.links ≡ length s.links
 
 small : (Known : ℕ → Type 0) (May : Type 0) → KeptBy Known May SameCount
-small Known May = record {
-  same = λ s. refl;
-  after = λ a b c p q. q ∙ p;
-  delivers = λ body s. refl;
-  queues = λ order s. refl;
-  leaves = λ blind n link s known at. length-set s.links n _;
-  acknowledges = λ count n link s known at few. length-set s.links n _;
-  gives_up_sent = λ cause n link s known at. refl;
-  gives_up_waiting = λ cause n link s known at. refl;
-  moves_off = λ n link s known at. length-set s.links n _;
-  declares = λ may home alternative s up can. refl;
-  releases = λ code s known. refl;
-}
+small Known May = grind (arith, length-set)
 
 pub link_count_stays : (s : State) (event : Event) → length (step s event).state.links ≡ length s.links
 link_count_stays s event = step_walks s SameCount (SameCount s) event (record {

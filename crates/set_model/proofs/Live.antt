@@ -1,6 +1,5 @@
 -- THE STREAMS' MESSAGES: they stay in the order of their numbers, and together.
 use Rattle.std.proofs.Common.{refl, arith, ◌≡◌, ◌∙◌, ap, sym, subst, ◌<◌, ℕ, suc, Bool, true, false, not, ◌&&◌, ◌==◌, List, [], ◌∷◌, ◌++◌, length, map, slice_get, Some, cond}
-use Rattle.std.specs.Prelude.{filter}
 use Rattle.std.proofs.lemmas.List.{append-nil, map-append}
 use Rattle.std.proofs.lemmas.List.Elements.{filter-append}
 use Rattle.set_events.specs.declared.answer.Fate.{Fate}
@@ -94,15 +93,7 @@ no_numbers xs [] e none = refl
 no_numbers xs (y ∷ ys) e none = absurd (let no : y.number ∷ numbers ys ≡ [] = e ∙ ap numbers none in cc)
 
 pub same_stream : (stream : ℕ) (place place' : Place) (used : Bool) (xs ys : List Row) → numbers (live stream ys) ≡ numbers (live stream xs) → astray stream place' ys ≡ [] → IsSoundStream stream place used xs → IsSoundStream stream place' used ys
-same_stream stream place place' used xs ys same away t = record {
-  in_order = subst IsAscending (sym same) t.in_order;
-  together = away;
-  unused = λ e. no_numbers (live stream xs) (live stream ys) same (t.unused e);
-}
-
--- A FIRST SENDING: the row stays live, and where it is.
-waits_unfinished : (n : ℕ) (f : Fate) → is_waiting n f ≡ true → is_unfinished f ≡ true
-waits_unfinished n f e = grind arith
+same_stream stream place place' used xs ys same away t = grind (arith, no_numbers)
 
 same_stand : (place : Place) (n : ℕ) (f : Fate) → is_waiting n f ≡ true → stands_at place (Unacked n) ≡ stands_at place f
 same_stand place n f e = grind arith
@@ -128,9 +119,7 @@ module _ (stream : ℕ) (place : Place) (n : ℕ) where
       emptied b e = grind arith
 
   sends_one : (x : Row) (xs ys : List Row) → is_waiting n x.fate ≡ true → Same xs ys → Same (x ∷ xs) (with_fate (Unacked n) x ∷ ys)
-  sends_one x xs ys w p =
-      let alive : is_live stream (with_fate (Unacked n) x) ≡ is_live stream x = ap (λ (b : Bool). is_users x && ((stream_of x.body == stream) && b)) (sym (waits_unfinished n x.fate w)) in
-      one_sent x (with_fate (Unacked n) x) xs ys refl alive (ap (λ (b : Bool). b && not (stands_at place (Unacked n))) alive ∙ ap (λ (b : Bool). is_live stream x && not b) (same_stand place n x.fate w)) p
+  sends_one x xs ys w p = grind (arith, same_stand)
 
   pub stream_sent : (used : Bool) (rows : List Row) → IsSoundStream stream place used rows → IsSoundStream stream place used (turned (is_waiting n) (Unacked n) 1 rows)
   stream_sent used rows t =
@@ -301,8 +290,4 @@ module _ (stream : ℕ) (place place' : Place) (test : Fate → Bool) (to : Fate
 
 -- a stream with no live message can run anywhere
 pub stream_empty : (stream : ℕ) (place place' : Place) (used : Bool) (rows : List Row) → live stream rows ≡ [] → IsSoundStream stream place used rows → IsSoundStream stream place' used rows
-stream_empty stream place place' used rows none t = record {
-  in_order = t.in_order;
-  together = sym (filter_within (is_astray stream place') (is_live stream) (λ x e. alive_of (is_live stream x) (not (stands_at place' x.fate)) e) rows) ∙ ap (filter (is_astray stream place')) none;
-  unused = t.unused;
-}
+stream_empty stream place place' used rows none t = grind (arith, filter_within, alive_of)

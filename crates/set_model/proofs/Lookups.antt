@@ -32,11 +32,7 @@ module _ (test : Fate → Bool) (fate : Row → Fate) where
   few_moved (x ∷ y ∷ rows) l = absurd (omega (arith, l))
 
   row_moved : (number : ℕ) (rows : List Row) → IsNumbered rows → row_of number (moved test fate rows) ≡ option_map (moved_row test fate) (row_of number rows)
-  row_moved number rows numbered =
-      row_is_first number (moved test fate rows)
-      ∙ ap (λ (ys : List Row). slice_get ys 0) (filter_moved test fate (λ (row : Row). row.number == number) (λ x. refl) rows)
-      ∙ few_moved (with_number number rows) (at_most_one number rows numbered)
-      ∙ ap (option_map (moved_row test fate)) (sym (row_is_first number rows))
+  row_moved number rows numbered = grind (arith, row_is_first, filter_moved, few_moved)
 
   same_fate : (b : Bool) (x : Row) → (cond b (fated fate x) x).fate ≡ cond b (fate x) x.fate
   same_fate b x = grind arith
@@ -90,9 +86,7 @@ found_in (x ∷ rows) j k row e n l = go (x.number == k) refl j e (λ i f m. fou
     go false h (suc i) e later = let m : length (with_number k rows) ≤ 1 = rw h at l in rw h (later i e m)
 
 pub row_in_filter : (p : Row → Bool) (rows : List Row) (i k : ℕ) (row : Row) → IsNumbered rows → slice_get (filter p rows) i ≡ Some row → row.number ≡ k → row_of k rows ≡ Some row
-row_in_filter p rows i k row numbered e n =
-    let there = in_list p rows i row e in
-    row_is_first k rows ∙ ap (λ (ys : List Row). slice_get ys 0) (found_in rows there.0 k row there.1 n (at_most_one k rows numbered))
+row_in_filter p rows i k row numbered e n = grind (arith, in_list, row_is_first, found_in)
 
 -- the number of a row in a filter is below the length
 pub number_below : (p : Row → Bool) (rows : List Row) (i : ℕ) (row : Row) → IsNumbered rows → slice_get (filter p rows) i ≡ Some row → row.number < length rows
@@ -121,15 +115,4 @@ pub record Found (p : Row → Bool) (rows : List Row) (i number : ℕ) : Type 0 
   pub below : number < length rows
 
 pub found_by_number : (p : Row → Bool) (rows : List Row) (i number : ℕ) → IsNumbered rows → slice_get (numbers (filter p rows)) i ≡ Some number → Found p rows i number
-found_by_number p rows i number numbered e =
-    let r = row_at_number (filter p rows) i number e in
-    let found = row_in_filter p rows i number r.0 numbered r.1 r.2 in
-    record {
-      row = r.0;
-      there = r.1;
-      number_is = r.2;
-      row_is = found;
-      body_is = ap (option_map (λ (row : Row). row.body)) found;
-      place_is = ap (option_map (λ (row : Row). row.fate)) found;
-      below = rw r.2 at (number_below p rows i r.0 numbered r.1);
-    }
+found_by_number p rows i number numbered e = grind (arith, row_at_number, row_in_filter, number_below)

@@ -1,5 +1,5 @@
 -- A link's messages stay in order: what was sent stands before what waits, and that before what is held.
-use Rattle.std.proofs.Common.{arith, refl, ◌≡◌, ◌∙◌, ap, [], ◌∷◌, length, ℕ, Bool, true, false, not, ◌==◌, List, ◌++◌, map, take, cond}
+use Rattle.std.proofs.Common.{arith, refl, ◌≡◌, ◌∙◌, ap, [], ◌∷◌, length, ℕ, Bool, true, false, ◌==◌, List, ◌++◌, map, take, cond}
 use Rattle.std.specs.Prelude.{filter}
 use Rattle.std.proofs.lemmas.List.Elements.{filter-append}
 use Rattle.set_events.specs.declared.answer.Fate.{Fate}
@@ -30,8 +30,7 @@ pub order_appended : (n : ℕ) (rows : List Row) (body : List ℕ) (fate : Fate)
 order_appended n rows body fate u o = order_append n rows (new_row (length rows) body fate ∷ []) o (rw u refl)
 
 pub order_moved : (n : ℕ) (test : Fate → Bool) (fate : Row → Fate) (rows : List Row) → ((row : Row) → is_unacked n (fate row) ≡ false) → IsInOrder n rows → IsInOrder n (moved test fate rows)
-order_moved n test fate rows u o =
-    order_append n (standing (λ f. not (test f)) rows) (map (fated fate) (standing test rows)) (order_filter n (λ (row : Row). not (test row.fate)) rows o) (fated_none (is_unacked n) fate u (standing test rows))
+order_moved n test fate rows u o = search (order_append, order_filter, fated_none)
 
 -- THE FIRST MESSAGE THAT WAITS IS SENT.
 pub order_sent : (l : ℕ) (rows : List Row) → IsInOrder l rows → IsInOrder l (turned (is_waiting l) (Unacked l) 1 rows)
@@ -78,15 +77,8 @@ last_fated n fate (x ∷ rows) u w = (λ h. (fated_none (is_unacked n) fate u ro
 pub last_appended : (n : ℕ) (rows : List Row) (body : List ℕ) (fate : Fate) → is_unacked n fate ≡ false → is_waiting n fate ≡ false → IsHeldLast n rows → IsHeldLast n (appended rows body fate)
 last_appended n rows body fate u w a = last_append n rows (new_row (length rows) body fate ∷ []) a (rw u refl) (rw w refl) (λ h. (refl, refl), tt)
 
--- where none is held, as on a link that is up
-pub last_appended_up : (n : ℕ) (rows : List Row) (body : List ℕ) (fate : Fate) → is_held n fate ≡ false → held n rows ≡ [] → IsHeldLast n (appended rows body fate)
-last_appended_up n rows body fate h e =
-    last_none n (appended rows body fate) (filter-append (λ (row : Row). is_held n row.fate) rows (new_row (length rows) body fate ∷ []) ∙ ap (λ (zs : List Row). zs ++ held n (new_row (length rows) body fate ∷ [])) e ∙ rw h refl)
-
 pub last_moved : (n : ℕ) (test : Fate → Bool) (fate : Row → Fate) (rows : List Row) → ((row : Row) → is_unacked n (fate row) ≡ false) → ((row : Row) → is_waiting n (fate row) ≡ false) → IsHeldLast n rows → IsHeldLast n (moved test fate rows)
-last_moved n test fate rows u w a =
-    last_append n (standing (λ f. not (test f)) rows) (map (fated fate) (standing test rows)) (last_filter n (λ (row : Row). not (test row.fate)) rows a)
-    (fated_none (is_unacked n) fate u (standing test rows)) (fated_none (is_waiting n) fate w (standing test rows)) (last_fated n fate (standing test rows) u w)
+last_moved n test fate rows u w a = search (last_append, last_filter, fated_none, last_fated)
 
 pub last_sent : (l : ℕ) (rows : List Row) → IsHeldLast l rows → IsHeldLast l (turned (is_waiting l) (Unacked l) 1 rows)
 last_sent l [] a = a

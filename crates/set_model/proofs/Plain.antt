@@ -1,6 +1,6 @@
 -- THE WALK WHERE NO CHANGEBACK IS UNDER WAY: leaving a link changes nothing but that link, and what is acknowledged by a
 -- code nothing at all.
-use Rattle.std.proofs.Common.{refl, ◌≡◌, ◌∙◌, ap, sym, subst, ◌≤◌, length, ℕ, Bool, true, List, [], ◌∷◌, ◌++◌, slice_set, None}
+use Rattle.std.proofs.Common.{arith, refl, ◌≡◌, ◌∙◌, ap, sym, subst, ◌≤◌, length, ℕ, Bool, true, List, [], ◌∷◌, ◌++◌, slice_set, None}
 use Rattle.l2_units.specs.declared.unit.Unit.{Unit as SignalUnit}
 use Rattle.l2_units.specs.Grammar.{head_of as header_in}
 use Rattle.l3_orders.specs.declared.order.Order.{Order}
@@ -12,7 +12,7 @@ use Rattle.set_events.specs.declared.event.Event.TheVariants.{Offer, Take, Next,
 use Rattle.set_route.specs.Routing.{Routing, NoneOpen, home_of}
 use Rattle.set_route.proofs.Quiet.{left_quiet, back_quiet, never_changing}
 use Rattle.set_model.specs.declared.phase.Phase.TheVariants.{Up, Down, Settled}
-use Rattle.set_model.specs.Rows.{Row, standing, is_waiting, is_unacked, is_back, is_back_to, stands_back, unack, stream_of, changed}
+use Rattle.set_model.specs.Rows.{Row, standing, is_waiting, is_unacked, stands_back, unack, stream_of, changed}
 use Rattle.set_model.specs.State.{LinkState, State, window_of}
 use Rattle.set_model.specs.Control.{part_of}
 use Rattle.set_model.specs.Changeover.{queued, left_link, left_by, acknowledged_by, moved_over, released}
@@ -54,13 +54,11 @@ abbrev pub just_left : Bool → ℕ → LinkState → State → State
 just_left blind n link s = record s { links = slice_set s.links n (left_link blind link) }
 
 pub left_straight : (blind : Bool) (n : ℕ) (link : LinkState) (s : State) → IsSound s → NoneOpen s.routing → left_by blind n link s ≡ just_left blind n link s
-left_straight blind n link s t none =
-    same_state s (moved_nothing (is_back_to n) _ s.rows (none_for s t none (is_back_to n) (home_back n))) (left_quiet n s.routing t.routing none)
+left_straight blind n link s t none = search (same_state, moved_nothing, none_for, home_back, left_quiet)
 
 -- and no acknowledgement changes anything
 pub released_straight : (code : ℕ) (s : State) → IsSound s → NoneOpen s.routing → released code s ≡ s
-released_straight code s t none =
-    same_state s (moved_nothing (is_back code) _ s.rows (none_for s t none (is_back code) (code_back code))) (back_quiet code s.routing t.routing none)
+released_straight code s t none = grind (arith, moved_nothing, none_for, code_back, back_quiet)
 
 abbrev pub Quietly : State → Type 0
 Quietly s = IsSound s × NoneOpen s.routing

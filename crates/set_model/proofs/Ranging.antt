@@ -1,19 +1,19 @@
 -- The whole numbers of the links stay in range: an event sends at most one message, and accepts at most one body.
-use Rattle.std.proofs.Common.{refl, arith, ◌≡◌, ◌≢◌, ◌∙◌, ap, ◌≤◌, ℕ, zero, suc, ◌+◌, Bool, true, false, not, ◌&&◌, List, [], ◌∷◌, ◌++◌, length, map, slice_get, slice_set, Option, Some, ◌⊎◌, inl, inr}
+use Rattle.std.proofs.Common.{refl, arith, ◌≡◌, ◌≢◌, ap, ◌≤◌, ℕ, zero, suc, ◌+◌, Bool, true, false, ◌&&◌, List, [], ◌∷◌, length, slice_get, slice_set, Option, Some, ◌⊎◌, inl, inr}
 use Rattle.std.proofs.lemmas.List.{append-nil, length-map, length-drop}
 use Rattle.std.proofs.lemmas.List.Elements.{filter-append}
 use Rattle.l2_units.specs.declared.unit.Header.{Header}
 use Rattle.l2_units.specs.Grammar.{head_of as header_in}
-use Rattle.l2_window.specs.Window.{WindowState, distance_to}
+use Rattle.l2_window.specs.Window.{WindowState}
 use Rattle.l3_orders.specs.Grammar.{text}
 use Rattle.set_events.specs.declared.answer.Fate.{Fate}
 use Rattle.set_events.specs.declared.answer.Fate.TheVariants.{Waiting, Unacked, Acked, Discarded}
 use Rattle.set_events.specs.declared.event.Event.{Event}
 use Rattle.set_route.specs.declared.place.Place.{Place}
 use Rattle.set_route.specs.Routing.{place_of, home_of}
-use Rattle.set_model.specs.Rows.{Row, standing, unack, is_unacked, is_waiting, is_parked, is_on, is_back, is_back_to, turned, fated, moved, all_with, appended, octets_in, stream_of}
+use Rattle.set_model.specs.Rows.{Row, standing, unack, is_unacked, is_waiting, is_parked, is_on, is_back, is_back_to, turned, moved, all_with, appended, octets_in, stream_of}
 use Rattle.set_model.specs.State.{LinkState, State, target, fate_at, window_of}
-use Rattle.set_model.specs.Control.{Control, Choice, again, first, fill, choice_of, is_processed, acked_by, part_of}
+use Rattle.set_model.specs.Control.{Control, Choice, again, first, fill, choice_of, acked_by, part_of}
 use Rattle.set_model.specs.Changeover.{fate_on, left_link, out_of_service, turned_back, settled_link, acknowledged as acknowledged_link}
 use Rattle.set_model.specs.Step.{rows_sent, one_if, is_msu, risen_link, step}
 use Rattle.set_model.specs.Sound.{WholeNumbers, one_more, AreFewOn, AreAtMost, AreFew}
@@ -31,13 +31,7 @@ few_turned test other fate (suc n) (x ∷ rows) = grind (arith, few_turned test 
 
 -- a move makes no unacknowledged ones
 few_moved_by : (test : Fate → Bool) (fate : Row → Fate) (m : ℕ) (rows : List Row) → ((row : Row) → is_unacked m (fate row) ≡ false) → length (unack m (moved test fate rows)) ≤ length (unack m rows)
-few_moved_by test fate m rows none =
-    let e = filter-append (λ (row : Row). is_unacked m row.fate) (standing (λ f. not (test f)) rows) (map (fated fate) (standing test rows))
-    ∙ ap (λ (xs : List Row). unack m (standing (λ f. not (test f)) rows) ++ xs) (fated_none (is_unacked m) fate none (standing test rows))
-    ∙ append-nil (unack m (standing (λ f. not (test f)) rows))
-    ∙ filter_comm (λ (row : Row). is_unacked m row.fate) (λ (row : Row). not (test row.fate)) rows in
-    let few = fewer_filter (λ (row : Row). not (test row.fate)) (unack m rows) in
-    rw e few
+few_moved_by test fate m rows none = grind (arith, filter-append, fated_none, append-nil, filter_comm, fewer_filter)
 
 few_moved : (test : Fate → Bool) (to : Fate) (m : ℕ) (rows : List Row) → is_unacked m to ≡ false → length (unack m (moved test (all_with to) rows)) ≤ length (unack m rows)
 few_moved test to m rows none = few_moved_by test (all_with to) m rows (λ row. none)

@@ -1,5 +1,5 @@
 -- A LINK THAT SETTLES: what the far end has is acknowledged, and the rest of its messages move in order (Q.704 5.5).
-use Rattle.std.proofs.Common.{refl, ◌≡◌, ◌≢◌, ◌∙◌, ap, sym, subst, ℕ, true, false, List, [], ◌++◌, drop, slice_get, Option, Some, None}
+use Rattle.std.proofs.Common.{arith, refl, ◌≡◌, ◌≢◌, ◌∙◌, ap, sym, subst, ℕ, true, List, [], ◌++◌, drop, slice_get, Option, Some, None}
 use Rattle.std.proofs.lemmas.List.{map-append}
 use Rattle.set_route.specs.Target.{target_of}
 use Rattle.set_model.specs.declared.phase.Phase.TheVariants.{Down, Settled}
@@ -11,7 +11,7 @@ use Rattle.set_model.specs.Sound.{IsSound}
 use Rattle.set_model.specs.Laws.{IsEmptyLink, MovesTheRest, DivertsTo, arrived, rest_of}
 use Rattle.set_model.proofs.Events.{acknowledged, moved_to, moved_aside}
 use Rattle.set_model.proofs.Filters.{filter_within}
-use Rattle.set_model.proofs.Lists.{map_set_same, same_at}
+use Rattle.set_model.proofs.Lists.{map_set_same}
 use Rattle.set_model.proofs.Places.{apart, unacked_on, waiting_on, held_on}
 use Rattle.set_model.proofs.Targets.{target_up}
 
@@ -47,9 +47,7 @@ module _ (fsn n : ℕ) (link : LinkState) (s : State) (there : slice_get s.links
       record { rows_are = settled_rows; sent_rest = acks.unack_is; waiting_all = acks.wait_same; held_all = acks.held_same }
 
   rest_numbers : (d : ℕ) (rows : List Row) → numbers (drop d (unack n rows) ++ wait n rows ++ held n rows) ≡ rest_of n d rows
-  rest_numbers d rows =
-      map-append (λ (row : Row). row.number) (drop d (unack n rows) ++ wait n rows) (held n rows)
-      ∙ ap (λ (ns : List ℕ). ns ++ numbers (held n rows)) (map-append (λ (row : Row). row.number) (drop d (unack n rows)) (wait n rows))
+  rest_numbers d rows = search map-append
 
   diverts_by : (d : ℕ) (rows : List Row) → IsInOrder n rows → IsHeldLast n rows → (to : Option ℕ) → ((t : ℕ) → to ≡ Some t → n ≢ t) → DivertsTo to (rest_of n d rows) rows (moved (is_on n) (all_with (fate_on to)) (arrived d n rows))
   diverts_by d rows order last (Some t) other =
@@ -66,11 +64,7 @@ module _ (fsn n : ℕ) (link : LinkState) (s : State) (there : slice_get s.links
 
   -- a link that was left is no target
   pub no_target : link.phase ≡ Down → (t : ℕ) → target s.links ≡ Some t → n ≢ t
-  no_target down t e same =
-      let up = target_up s.links t e in
-      let found : up.0 ≡ link = same_at s.links n link up.0 there (ap (slice_get s.links) same ∙ up.1) in
-      let no : true ≡ false = sym up.2 ∙ ap (λ (l : LinkState). has_phase_up l.phase) found ∙ ap has_phase_up down in
-      cc
+  no_target down t e same = grind (arith, target_up)
 
   pub diverts_the_rest : IsSound s → link.phase ≡ Down → DivertsTo (target s.links) (rest_of n count s.rows) s.rows (settled (Upto fsn) n link s).rows
   diverts_the_rest sound down =

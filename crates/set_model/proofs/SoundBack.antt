@@ -14,22 +14,22 @@ use Rattle.set_route.specs.Routing.{Routing, IsRouting, code_for, home_of, code_
 use Rattle.set_route.proofs.Alone.{alone, codes_alone}
 use Rattle.set_route.proofs.Places.{left_sound, asked_sound, back_sound}
 use Rattle.set_model.specs.declared.phase.Phase.TheVariants.{Up}
-use Rattle.set_model.specs.Rows.{Row, standing, is_waiting, is_unacked, is_held, is_on, is_back, is_back_to, stands_back, is_parked, stream_of, unack, held, on, back, parked, numbers, moved, all_with, fated, IsHeldLast}
+use Rattle.set_model.specs.Rows.{Row, standing, is_waiting, is_unacked, is_held, is_on, is_back, is_back_to, stands_back, stream_of, unack, held, on, back, parked, numbers, moved, all_with, fated, IsHeldLast}
 use Rattle.set_model.specs.State.{LinkState, State, is_up, link_is_up, has_phase_up, has_phase_settled, fate_at}
 use Rattle.set_model.specs.Changeover.{left_link, out_of_service, left_by, can_declare, declared, released}
 use Rattle.set_model.specs.Sound.{IsSoundLink, IsPlaced, IsAscending, IsBackOf, AreBack, IsSound}
-use Rattle.set_model.proofs.Backs.{coded_at, stood, backs_kept}
+use Rattle.set_model.proofs.Backs.{coded_at, backs_of, stood, backs_kept}
 use Rattle.set_model.proofs.Events.{Released, released as released_rows, untouched_self}
 use Rattle.set_model.proofs.Filters.{fated_none}
 use Rattle.set_model.proofs.Finding.{numbered_appended, fit_appended}
 use Rattle.set_model.proofs.Lists.{get_set_other, same_at, within}
 use Rattle.set_model.proofs.Moving.{moved_numbered, moved_fit, moved_same, moved_more, moved_off, moved_nothing}
 use Rattle.set_model.proofs.Order.{order_moved, last_none, last_moved}
-use Rattle.set_model.proofs.Places.{false_true, itself, apart, not_on_unacked, not_on_held, back_not_on, back_not_parked, home_back}
+use Rattle.set_model.proofs.Places.{false_true, itself, apart, not_on_unacked, not_on_held, back_not_on, home_back}
 use Rattle.set_model.proofs.Ranging.{offered_out}
-use Rattle.set_model.proofs.SoundLink.{up_unsettled, link_untouched, links_set, placed_set, up_before}
+use Rattle.set_model.proofs.SoundLink.{up_unsettled, up_same, down_sound, link_untouched, links_set, placed_set, up_before}
 use Rattle.set_model.proofs.SoundNew.{link_appended, none_parked, order_fits, backs_appended, back_appended}
-use Rattle.set_model.proofs.Standing.{each_moved, gone_none, none_standing, ascends_filter}
+use Rattle.set_model.proofs.Standing.{each_left, each_filter, gone_none, none_standing, ascends_filter}
 use Rattle.set_model.proofs.Walk.{IsAt}
 
 -- a code in use is below 256
@@ -52,9 +52,6 @@ module _ (s : State) where
 
   pub down_not_waiting : (k : ℕ) → is_up k s ≡ false → (p : Place) → is_waiting k (fate_at p s) ≡ false
   down_not_waiting k down p = grind arith
-
-  not_back_of : (r : Routing) (x : Row) (via : ℕ) → IsBackOf r x (fate_at (On via) s)
-  not_back_of r x via = grind arith
 
 -- A LINK IS LEFT, and what stood back for it turns back.
 module _ (blind : Bool) (n : ℕ) (link : LinkState) (s : State) (at : IsAt n link Up s) (t : IsSound s) where
@@ -90,7 +87,7 @@ module _ (blind : Bool) (n : ℕ) (link : LinkState) (s : State) (at : IsAt n li
   mid_links =
       let l = t.links n link at.there in
       links_set s.settings.method s.links n (left_link blind link) s.rows s.rows
-      (record { window = l.window; counted = l.counted; method = l.method; in_order = l.in_order; held_last = l.held_last; none_held = λ e. absurd cc; in_range = λ e. absurd cc; settled = λ e. absurd cc })
+      (down_sound s.settings.method n (left_link blind link) s.rows refl refl l.window l.counted l.method l.in_order l.held_last)
       (λ k d. untouched_self k s.rows) t.links
 
   off : (k : ℕ) (f : Fate) → is_back_to n f ≡ true → is_on k f ≡ false
@@ -129,10 +126,7 @@ module _ (blind : Bool) (n : ℕ) (link : LinkState) (s : State) (at : IsAt n li
       on_same e = moved_more (is_back_to n) (is_on k) fate s.rows (off k) ∙ ap (λ (xs : List Row). on k s.rows ++ xs) (gone (is_on k) (away e)) ∙ append-nil (on k s.rows)
 
   left_parked : parked new ≡ parked s.rows
-  left_parked =
-      moved_more (is_back_to n) is_parked fate s.rows (λ f e. back_not_parked f (home_back n f e))
-      ∙ ap (λ (xs : List Row). parked s.rows ++ xs) (gone is_parked (λ via p. on_either mid is_parked via refl refl))
-      ∙ append-nil (parked s.rows)
+  left_parked = grind (arith, moved_more, gone)
 
   left_placed : (place : Place) → IsPlaced s.links place → IsPlaced mid.links (place_left n place)
   left_placed Nowhere p = tt
@@ -156,8 +150,13 @@ module _ (blind : Bool) (n : ℕ) (link : LinkState) (s : State) (at : IsAt n li
       let stays = still_open code (code_of code s.routing) (sym ((codes_alone s.routing code t.routing below).left_code n) ∙ e) in
       ap link_is_up (get_set_other s.links n (home_of code) (left_link blind link) (λ same. false_true (home_of code == n) stays.1 (rw same (itself (home_of code))))) ∙ t.homes_up code stays.0
 
+  left_back : back new ≡ standing (λ f. not (is_back_to n f)) (back s.rows)
+  left_back = moved_off (is_back_to n) stands_back fate s.rows (gone stands_back (λ via p. on_either mid stands_back via refl refl))
+
   left_backs : AreBack mid.routing new
-  left_backs = each_moved (is_back_to n) fate (λ row. IsBackOf s.routing row row.fate) (λ row. IsBackOf mid.routing row row.fate) stays (λ x e b. let g = goes x e b in subst (λ (p : Place). IsBackOf mid.routing (fated fate x) (fate_at p mid)) (sym g.1) (not_back_of mid mid.routing (fated fate x) g.0)) s.rows t.backs
+  left_backs =
+      backs_of mid.routing new
+      (subst (AreBack mid.routing) (sym left_back) (each_left (is_back_to n) (λ row. IsBackOf s.routing row row.fate) (λ row. IsBackOf mid.routing row row.fate) stays (back s.rows) (each_filter (λ row. IsBackOf s.routing row row.fate) (λ row. stands_back row.fate) s.rows t.backs)))
     where
       other : (code : ℕ) → (home_of code == n) ≡ false → (via : ℕ) → place_left n (Changing (home_of code) code via) ≡ Changing (home_of code) code via
       other code e via = rw e refl
@@ -166,9 +165,7 @@ module _ (blind : Bool) (n : ℕ) (link : LinkState) (s : State) (at : IsAt n li
       stays x e b = stood (λ code. (home_of code == n) ≡ false) s.routing mid.routing (λ k few code via of f. (via, (alone s.routing k t.routing few).left_place n ∙ ap (place_left n) f ∙ other code of via)) x x.fate (λ code f. sym (ap (is_back_to n) f) ∙ e) b
 
   left_order : IsAscending (numbers (back new))
-  left_order =
-      subst (λ (xs : List Row). IsAscending (numbers xs)) (sym (moved_off (is_back_to n) stands_back fate s.rows (gone stands_back (λ via p. on_either mid stands_back via refl refl))))
-      (ascends_filter (λ (row : Row). not (is_back_to n row.fate)) (back s.rows) t.back_order)
+  left_order = rw left_back (ascends_filter (λ (row : Row). not (is_back_to n row.fate)) (back s.rows) t.back_order)
 
   pub leaves : IsSound (left_by blind n link s)
   leaves =
@@ -211,12 +208,7 @@ module _ (home alternative : ℕ) (s : State) (up : is_up home s ≡ true) (may 
   there = up_link alternative s (alternative_up home alternative s may)
 
   below : (n : ℕ) → is_up n s ≡ true → n < s.routing.links
-  below n e =
-      let l = up_link n s e in
-      let low = within s.links n l.0 l.1 in
-      let links = t.count in
-      let routed = t.routed in
-      omega (arith, low, links, routed)
+  below n e = grind (arith, within)
 
   home_below : home < s.routing.links
   home_below = below home up
@@ -310,19 +302,8 @@ module _ (code : ℕ) (s : State) (t : IsSound s) where
       at_home up e =
           let same : home ≡ k = eqb-true home k e in
           let l = t.links k other there in
-          let rising : has_phase_up other.phase ≡ true = ap link_is_up (sym there) ∙ ap (λ (j : ℕ). is_up j s) (sym same) ∙ up in
-          let unack_same : unack k gone_rows ≡ unack k s.rows = subst (λ (j : ℕ). unack j gone_rows ≡ unack j s.rows) same r.unack_same in
-          let held_same : held k gone_rows ≡ held k s.rows = subst (λ (j : ℕ). held j gone_rows ≡ held j s.rows) same r.held_same in
-          record {
-            window = rw unack_same l.window;
-            counted = l.counted;
-            method = l.method;
-            in_order = order_moved k (is_back code) (all_with (Waiting home)) s.rows (λ x. refl) l.in_order;
-            held_last = last_none k gone_rows (held_same ∙ l.none_held rising);
-            none_held = λ a. held_same ∙ l.none_held rising;
-            in_range = λ a. rw unack_same (l.in_range rising);
-            settled = λ a. false_true (has_phase_settled other.phase) (up_unsettled other.phase rising) a;
-          }
+          up_same s.settings.method k other s.rows gone_rows (ap link_is_up (sym there) ∙ ap (λ (j : ℕ). is_up j s) (sym same) ∙ up) (subst (λ (j : ℕ). unack j gone_rows ≡ unack j s.rows) same r.unack_same)
+          (subst (λ (j : ℕ). held j gone_rows ≡ held j s.rows) same r.held_same) (order_moved k (is_back code) (all_with (Waiting home)) s.rows (λ x. refl) l.in_order) l
 
       go : (b : Bool) → is_up home s ≡ b → IsSoundLink s.settings.method k other gone_rows
       go false down = subst (λ (rows : List Row). IsSoundLink s.settings.method k other rows) (sym (none_back down)) (t.links k other there)
@@ -360,8 +341,13 @@ module _ (code : ℕ) (s : State) (t : IsSound s) where
       go true f = let is_free : code_of c (given_back code s.routing) ≡ Free = is ∙ rw f refl in let no : Asked ≡ Free = sym e ∙ is_free in absurd cc
       go false f = t.homes_up c (let is_old : code_of c (given_back code s.routing) ≡ code_of c s.routing = is ∙ rw f refl in sym is_old ∙ e)
 
+  back_after : back gone_rows ≡ standing (λ f. not (is_back code f)) (back s.rows)
+  back_after = moved_off (is_back code) stands_back (all_with (Waiting home)) s.rows (fated_none stands_back (all_with (Waiting home)) (λ x. refl) (standing (is_back code) s.rows))
+
   back_backs : AreBack (given_back code s.routing) gone_rows
-  back_backs = each_moved (is_back code) (all_with (Waiting home)) (λ row. IsBackOf s.routing row row.fate) (λ row. IsBackOf (given_back code s.routing) row row.fate) stays (λ x e b. tt) s.rows t.backs
+  back_backs =
+      backs_of (given_back code s.routing) gone_rows
+      (subst (AreBack (given_back code s.routing)) (sym back_after) (each_left (is_back code) (λ row. IsBackOf s.routing row row.fate) (λ row. IsBackOf (given_back code s.routing) row row.fate) stays (back s.rows) (each_filter (λ row. IsBackOf s.routing row row.fate) (λ row. stands_back row.fate) s.rows t.backs)))
     where
       other : (c : ℕ) → (c == code) ≡ false → (via : ℕ) → place_back code (Changing (home_of c) c via) ≡ Changing (home_of c) c via
       other c e via = rw e refl
@@ -370,9 +356,7 @@ module _ (code : ℕ) (s : State) (t : IsSound s) where
       stays x e b = stood (λ c. (c == code) ≡ false) s.routing (given_back code s.routing) (λ k few c via of f. (via, (alone s.routing k t.routing few).back_place code ∙ ap (place_back code) f ∙ other c of via)) x x.fate (λ c f. sym (ap (is_back code) f) ∙ e) b
 
   back_numbers : IsAscending (numbers (back gone_rows))
-  back_numbers =
-      subst (λ (xs : List Row). IsAscending (numbers xs)) (sym (moved_off (is_back code) stands_back (all_with (Waiting home)) s.rows (fated_none stands_back (all_with (Waiting home)) (λ x. refl) (standing (is_back code) s.rows))))
-      (ascends_filter (λ (row : Row). not (is_back code row.fate)) (back s.rows) t.back_order)
+  back_numbers = rw back_after (ascends_filter (λ (row : Row). not (is_back code row.fate)) (back s.rows) t.back_order)
 
   pub releases : IsSound (released code s)
   releases = record {

@@ -15,16 +15,17 @@ use Rattle.set_route.specs.declared.place.Place.TheVariants.{On, Changing, Nowhe
 use Rattle.set_route.specs.Routing.{home_of}
 use Rattle.set_model.specs.declared.phase.Phase.{Phase}
 use Rattle.set_model.specs.declared.phase.Phase.TheVariants.{Up, Down}
-use Rattle.set_model.specs.Rows.{Row, is_waiting, is_unacked, is_on, unack, wait, held, back, parked, numbers, octets_in, turned, changed, with_fate, stands_back, AreFit, IsNumbered, IsInOrder, IsHeldLast}
-use Rattle.set_model.specs.Control.{Choice, again, first, fill, choice_of, control_after, part_of, control_heard, acked_by}
-use Rattle.set_model.specs.State.{LinkState, State, link_is_up, has_phase_up, has_phase_settled, window_of}
+use Rattle.set_model.specs.Rows.{Row, is_waiting, is_unacked, is_on, unack, wait, held, back, parked, numbers, octets_in, turned, changed, with_fate, stands_back, IsInOrder, IsHeldLast}
+use Rattle.set_model.specs.Control.{Choice, again, first, fill, choice_of, control_after, part_of, control_heard, acked_by, accepted_of}
+use Rattle.set_model.specs.State.{LinkState, State, link_is_up, has_phase_up, has_phase_settled, last_accepted, window_of}
 use Rattle.set_model.specs.Changeover.{acknowledged_by, acknowledged as acknowledged_link}
 use Rattle.set_model.specs.Step.{sends, one_if, is_msu, next, after_control}
-use Rattle.set_model.specs.Sound.{IsInRange, IsSoundLink, IsPlaced, IsAscending, IsBackOf, AreBack, IsSound}
+use Rattle.set_model.specs.Sound.{IsOf, IsInRange, IsSoundLink, IsPlaced, IsAscending, IsSound}
 use Rattle.set_model.proofs.Controlling.{accepted_after, method_after, first_chosen, range_after, method_heard, part_acked, part_accept, accepted_heard, range_heard}
-use Rattle.set_model.proofs.Events.{Untouched, untouched_self, sent, acknowledged, GivenUp}
+use Rattle.set_model.proofs.Backs.{backs_same}
+use Rattle.set_model.proofs.Events.{Kept, kept_self, Untouched, untouched_self, sent, acknowledged, GivenUp}
 use Rattle.set_model.proofs.InPlace.{turned_same, changed_same}
-use Rattle.set_model.proofs.Standing.{each_turned, each_changed}
+use Rattle.set_model.proofs.Order.{last_none}
 use Rattle.set_model.proofs.Lists.{at_set, get_set_same, get_set_other, set_same, within}
 use Rattle.set_model.proofs.Places.{false_true, itself, apart, waiting_on, unacked_on, on_not_back}
 use Rattle.set_model.proofs.Walk.{IsAt}
@@ -91,31 +92,31 @@ pub record Changes (n : ℕ) (link link' : LinkState) (s : State) (new : List Ro
   pub there : slice_get s.links n ≡ Some link
   pub one : IsSoundLink s.settings.method n link' new
   pub others : (k : ℕ) → (n == k) ≡ false → Untouched k s.rows new
-  pub numbered : IsNumbered new
-  pub fit : AreFit new
+  pub kept : Kept s.rows new
   pub parked_same : parked new ≡ parked s.rows
-  pub backs : AreBack s.routing new
   pub back_same : back new ≡ back s.rows
-  pub stays_up : has_phase_up link.phase ≡ true → has_phase_up link'.phase ≡ true
-  pub no_rise : has_phase_up link'.phase ≡ true → has_phase_up link.phase ≡ true
-  pub unsettled : has_phase_settled link'.phase ≡ false
+  pub phase_same : link'.phase ≡ link.phase
+  pub unsettled : has_phase_settled link.phase ≡ false
 
 changes : (n : ℕ) (link link' : LinkState) (s : State) (new : List Row) → IsSound s → Changes n link link' s new → IsSound (record s { links = slice_set s.links n link'; rows = new })
-changes n link link' s new t c = record {
-  managed = t.managed;
-  routing = t.routing;
-  routed = t.routed;
-  count = length-set s.links n link' ∙ t.count;
-  numbered = c.numbered;
-  fit = c.fit;
-  links = links_set s.settings.method s.links n link' s.rows new c.one c.others t.links;
-  placed = λ stream few. placed_set s.links n link link' _ c.there c.unsettled (t.placed stream few);
-  none_aside = λ k other at up. let old = up_before s.links n link link' c.there c.no_rise k other at up in c.parked_same ∙ t.none_aside k old.0 old.1 old.2;
-  all_run = λ k other at up. let old = up_before s.links n link link' c.there c.no_rise k other at up in t.all_run k old.0 old.1 old.2;
-  homes_up = λ code e. up_after s.links n link link' c.there c.stays_up (home_of code) (t.homes_up code e);
-  backs = c.backs;
-  back_order = subst (λ (rows : List Row). IsAscending (numbers rows)) (sym c.back_same) t.back_order;
-}
+changes n link link' s new t c =
+    let up = ap has_phase_up c.phase_same in
+    let before = up_before s.links n link link' c.there (λ e. sym up ∙ e) in
+    record {
+      managed = t.managed;
+      routing = t.routing;
+      routed = t.routed;
+      count = length-set s.links n link' ∙ t.count;
+      numbered = c.kept.numbered t.numbered;
+      fit = c.kept.fit t.fit;
+      links = links_set s.settings.method s.links n link' s.rows new c.one c.others t.links;
+      placed = λ stream few. placed_set s.links n link link' _ c.there (ap has_phase_settled c.phase_same ∙ c.unsettled) (t.placed stream few);
+      none_aside = λ k other at rising. let old = before k other at rising in c.parked_same ∙ t.none_aside k old.0 old.1 old.2;
+      all_run = λ k other at rising. let old = before k other at rising in t.all_run k old.0 old.1 old.2;
+      homes_up = λ code e. up_after s.links n link link' c.there (λ e. up ∙ e) (home_of code) (t.homes_up code e);
+      backs = backs_same s.routing s.rows new c.back_same t.backs;
+      back_order = subst (λ (rows : List Row). IsAscending (numbers rows)) (sym c.back_same) t.back_order;
+    }
 
 -- the same, where the link stays
 rows_change : (n : ℕ) (link : LinkState) (s : State) (new : List Row) → IsSound s → Changes n link link s new → IsSound (record s { rows = new })
@@ -123,34 +124,33 @@ rows_change n link s new t c = subst (λ (links : List LinkState). IsSound (reco
 
 -- the inbox is no part of it
 pub with_inbox : (s : State) (inbox : List (List ℕ)) → IsSound s → IsSound (record s { inbox = inbox })
-with_inbox s inbox t = record {
-  managed = t.managed;
-  routing = t.routing;
-  routed = t.routed;
-  count = t.count;
-  numbered = t.numbered;
-  fit = t.fit;
-  links = t.links;
-  placed = t.placed;
-  none_aside = t.none_aside;
-  all_run = t.all_run;
-  homes_up = t.homes_up;
-  backs = t.backs;
-  back_order = t.back_order;
+with_inbox s inbox t = assumption
+
+-- A LINK THAT ISN'T UP, nor settled: nothing is asked of it but its window, its control and its order.
+pub down_sound : (m : Method) (n : ℕ) (link : LinkState) (new : List Row) → has_phase_up link.phase ≡ false → has_phase_settled link.phase ≡ false → length (unack n new) ≤ 127 → accepted_of link.control ≡ last_accepted link → IsOf m link.control → IsInOrder n new → IsHeldLast n new → IsSoundLink m n link new
+down_sound m n link new down unsettled few counted method order last = record {
+  window = few;
+  counted = counted;
+  method = method;
+  in_order = order;
+  held_last = last;
+  none_held = λ e. false_true (has_phase_up link.phase) down e;
+  in_range = λ e. false_true (has_phase_up link.phase) down e;
+  settled = λ e. false_true (has_phase_settled link.phase) unsettled e;
 }
 
-down_not_up : (phase : Phase) → phase ≡ Down → has_phase_up phase ≡ false
-down_not_up phase e = ap has_phase_up e
-
-down_unsettled : (phase : Phase) → phase ≡ Down → has_phase_settled phase ≡ false
-down_unsettled phase e = ap has_phase_settled e
-
--- WHAT STANDS BACK sees nothing of rows that change elsewhere.
-backs_turned : (s : State) (test : Fate → Bool) (fate : Fate) (n : ℕ) → ((x : Row) → IsBackOf s.routing x fate) → AreBack s.routing s.rows → AreBack s.routing (turned test fate n s.rows)
-backs_turned s test fate n holds b = each_turned test fate (λ row. IsBackOf s.routing row row.fate) (λ x e p. holds x) n s.rows b
-
-backs_changed : (s : State) (test : Fate → Bool) (fate : Fate) → ((x : Row) → IsBackOf s.routing x fate) → AreBack s.routing s.rows → AreBack s.routing (changed test fate s.rows)
-backs_changed s test fate holds b = each_changed test fate (λ row. IsBackOf s.routing row row.fate) (λ x e p. holds x) s.rows b
+-- ONE THAT IS UP, where nothing that was sent or is held changes.
+pub up_same : (m : Method) (n : ℕ) (link : LinkState) (rows new : List Row) → has_phase_up link.phase ≡ true → unack n new ≡ unack n rows → held n new ≡ held n rows → IsInOrder n new → IsSoundLink m n link rows → IsSoundLink m n link new
+up_same m n link rows new up u h order l = record {
+  window = rw u l.window;
+  counted = l.counted;
+  method = l.method;
+  in_order = order;
+  held_last = last_none n new (h ∙ l.none_held up);
+  none_held = λ e. h ∙ l.none_held up;
+  in_range = λ e. rw u (l.in_range up);
+  settled = λ e. false_true (has_phase_settled link.phase) (up_unsettled link.phase up) e;
+}
 
 unacked_not_back : (n : ℕ) (f : Fate) → is_unacked n f ≡ true → stands_back f ≡ false
 unacked_not_back n f e = on_not_back n f (unacked_on n f e)
@@ -166,58 +166,32 @@ acknowledges count n link s at t =
     let left = length-drop count (unack n s.rows) in
     let gone = ap length a.unack_is in
     let few = l.window in
-    let not_up = down_not_up link.phase at.phase_is in
-    let not_settled = down_unsettled link.phase at.phase_is in
+    let unsettled = ap has_phase_settled at.phase_is in
     changes n link (acknowledged_link count link) s (turned (is_unacked n) (Acked n) count s.rows) t (record {
       there = at.there;
-      one = record {
-        window = omega (arith, left, gone, few);
-        counted = l.counted;
-        method = l.method;
-        in_order = a.order_kept l.in_order;
-        held_last = a.last_kept l.held_last;
-        none_held = λ e. false_true (has_phase_up link.phase) not_up e;
-        in_range = λ e. false_true (has_phase_up link.phase) not_up e;
-        settled = λ e. false_true (has_phase_settled link.phase) not_settled e;
-      };
+      one = down_sound s.settings.method n (acknowledged_link count link) _ (ap has_phase_up at.phase_is) unsettled (omega (arith, left, gone, few)) l.counted l.method (a.order_kept l.in_order) (a.last_kept l.held_last);
       others = a.others;
-      numbered = a.kept.numbered t.numbered;
-      fit = a.kept.fit t.fit;
+      kept = a.kept;
       parked_same = a.parked_same;
-      backs = backs_turned s (is_unacked n) (Acked n) count (λ x. tt) t.backs;
       back_same = turned_same (is_unacked n) stands_back (Acked n) refl (unacked_not_back n) count s.rows;
-      stays_up = λ e. e;
-      no_rise = λ e. e;
-      unsettled = not_settled;
+      phase_same = refl;
+      unsettled = unsettled;
     })
 
 pub gives_up : (test : Fate → Bool) (cause : DiscardCause) (n : ℕ) (link : LinkState) (s : State) → ((f : Fate) → test f ≡ true → is_on n f ≡ true) → GivenUp n s.rows (changed test (Discarded cause) s.rows) → length (unack n (changed test (Discarded cause) s.rows)) ≤ length (unack n s.rows) → IsAt n link Down s → IsSound s → IsSound (record s { rows = changed test (Discarded cause) s.rows })
 gives_up test cause n link s on_link g fewer at t =
     let l = t.links n link at.there in
     let few = l.window in
-    let not_up = down_not_up link.phase at.phase_is in
-    let not_settled = down_unsettled link.phase at.phase_is in
+    let unsettled = ap has_phase_settled at.phase_is in
     rows_change n link s (changed test (Discarded cause) s.rows) t (record {
       there = at.there;
-      one = record {
-        window = omega (arith, few, fewer);
-        counted = l.counted;
-        method = l.method;
-        in_order = g.order_kept l.in_order;
-        held_last = g.last_kept l.held_last;
-        none_held = λ e. false_true (has_phase_up link.phase) not_up e;
-        in_range = λ e. false_true (has_phase_up link.phase) not_up e;
-        settled = λ e. false_true (has_phase_settled link.phase) not_settled e;
-      };
+      one = down_sound s.settings.method n link _ (ap has_phase_up at.phase_is) unsettled (omega (arith, few, fewer)) l.counted l.method (g.order_kept l.in_order) (g.last_kept l.held_last);
       others = g.others;
-      numbered = g.kept.numbered t.numbered;
-      fit = g.kept.fit t.fit;
+      kept = g.kept;
       parked_same = g.parked_same;
-      backs = backs_changed s test (Discarded cause) (λ x. tt) t.backs;
       back_same = changed_same test stands_back (Discarded cause) refl (λ f e. on_not_back n f (on_link f e)) s.rows;
-      stays_up = λ e. e;
-      no_rise = λ e. e;
-      unsettled = not_settled;
+      phase_same = refl;
+      unsettled = unsettled;
     })
 
 -- SENDING.
@@ -272,13 +246,10 @@ module _ (n : ℕ) (link : LinkState) (s : State) (at : IsAt n link Up s) (t : I
     there = at.there;
     one = one_sent choice s.rows e l.in_order l.held_last refl (omega arith) (λ f. absurd (other f)) l.window;
     others = λ k d. untouched_self k s.rows;
-    numbered = t.numbered;
-    fit = t.fit;
+    kept = kept_self s.rows;
     parked_same = refl;
-    backs = t.backs;
     back_same = refl;
-    stays_up = λ e. e;
-    no_rise = λ e. up;
+    phase_same = refl;
     unsettled = not_settled;
   })
 
@@ -296,13 +267,10 @@ module _ (n : ℕ) (link : LinkState) (s : State) (at : IsAt n link Up s) (t : I
         there = at.there;
         one = one_sent first (turned (is_waiting n) (Unacked n) 1 s.rows) e (d.order_kept l.in_order) (d.last_kept l.held_last) d.held_same (omega (arith, count)) (λ f. count) (omega (arith, count, few, same_count));
         others = d.others;
-        numbered = d.kept.numbered t.numbered;
-        fit = d.kept.fit t.fit;
+        kept = d.kept;
         parked_same = d.parked_same;
-        backs = backs_turned s (is_waiting n) (Unacked n) 1 (λ x. tt) t.backs;
         back_same = turned_same (is_waiting n) stands_back (Unacked n) refl (waiting_not_back n) 1 s.rows;
-        stays_up = λ e. e;
-        no_rise = λ e. up;
+        phase_same = refl;
         unsettled = not_settled;
       })
 
@@ -350,12 +318,9 @@ module _ (n : ℕ) (link : LinkState) (s : State) (at : IsAt n link Up s) (t : I
             settled = λ e. false_true (has_phase_settled link.phase) not_settled e;
           };
           others = a.others;
-          numbered = a.kept.numbered t.numbered;
-          fit = a.kept.fit t.fit;
+          kept = a.kept;
           parked_same = a.parked_same;
-          backs = backs_turned s (is_unacked n) (Acked n) part.acked (λ x. tt) t.backs;
           back_same = turned_same (is_unacked n) stands_back (Acked n) refl (unacked_not_back n) part.acked s.rows;
-          stays_up = λ e. e;
-          no_rise = λ e. up;
+          phase_same = refl;
           unsettled = not_settled;
         })

@@ -10,13 +10,13 @@ use Rattle.set_route.specs.Routing.{place_of, has_messages, home_of, raised, set
 use Rattle.set_route.proofs.Alone.{alone}
 use Rattle.set_route.proofs.Places.{raised_sound, settled_sound}
 use Rattle.set_model.specs.declared.phase.Phase.TheVariants.{Down, Settled}
-use Rattle.set_model.specs.Rows.{Row, is_on, is_parked, stands_back, unack, on, parked, numbers, moved, all_with, IsInOrder, IsHeldLast}
+use Rattle.set_model.specs.Rows.{Row, is_on, is_parked, stands_back, unack, on, back, parked, numbers, moved, all_with, IsInOrder, IsHeldLast}
 use Rattle.set_model.specs.Control.{accepted_of, start_of}
 use Rattle.set_model.specs.State.{LinkState, State, link_is_up, has_phase_up, has_phase_settled, target}
 use Rattle.set_model.specs.Changeover.{fate_on, settled_link, moved_over}
 use Rattle.set_model.specs.Step.{risen_link, rises}
-use Rattle.set_model.specs.Sound.{IsOf, IsInRange, IsSoundLink, IsPlaced, IsAscending, IsBackOf, AreBack, IsSound}
-use Rattle.set_model.proofs.Backs.{coded_at, backs_kept}
+use Rattle.set_model.specs.Sound.{IsOf, IsInRange, IsSoundLink, IsPlaced, IsAscending, AreBack, IsSound}
+use Rattle.set_model.proofs.Backs.{coded_at, backs_kept, backs_same}
 use Rattle.set_model.proofs.Events.{MovedTo, moved_to, moved_aside, unparked}
 use Rattle.set_model.proofs.Lists.{at_set, get_set_same, get_set_other, same_at, within}
 use Rattle.set_model.proofs.Moving.{moved_numbered, moved_fit, moved_same}
@@ -25,8 +25,7 @@ use Rattle.set_model.proofs.Places.{false_true, itself, apart, on_not_back, park
 use Rattle.set_model.proofs.Settling.{none_unack, none_held}
 use Rattle.set_model.proofs.Targets.{target_up, none_up}
 use Rattle.set_model.proofs.Walk.{IsAt}
-use Rattle.set_model.proofs.SoundLink.{up_unsettled, link_untouched, links_set, placed_set, up_before, up_after}
-use Rattle.set_model.proofs.Standing.{each_moved}
+use Rattle.set_model.proofs.SoundLink.{up_unsettled, up_same, link_untouched, links_set, placed_set, up_before, up_after}
 
 -- A LINK COMES UP.
 pub start_counted : (m : Method) → accepted_of (start_of m) ≡ 127
@@ -78,10 +77,13 @@ module _ (n : ℕ) (link : LinkState) (s : State) (at : IsAt n link Settled s) (
       go true e = rw e risen_there
       go false e = rw e (placed_set s.links n link risen (On l) at.there refl p)
 
+  risen_back : back new ≡ back s.rows
+  risen_back = moved_same is_parked stands_back (all_with (Waiting n)) s.rows (λ x. refl) parked_not_back
+
   risen_backs : AreBack (raised n s.routing) new
   risen_backs =
-      let kept = backs_kept (λ code. Unit {0}) s.routing (raised n s.routing) (λ k few code via of e. (via, (alone s.routing k t.routing few).raised_place n ∙ ap (place_raised n (k % s.routing.links) (has_messages k s.routing)) e)) (λ code. tt) s.rows t.backs in
-      each_moved is_parked (all_with (Waiting n)) (λ row. IsBackOf (raised n s.routing) row row.fate) (λ row. IsBackOf (raised n s.routing) row row.fate) (λ x e b. b) (λ x e b. tt) s.rows kept
+      backs_same (raised n s.routing) s.rows new risen_back
+      (backs_kept (λ code. Unit {0}) s.routing (raised n s.routing) (λ k few code via of e. (via, (alone s.routing k t.routing few).raised_place n ∙ ap (place_raised n (k % s.routing.links) (has_messages k s.routing)) e)) (λ code. tt) s.rows t.backs)
 
   pub rises_sound : IsSound (rises n s Settled).state
   rises_sound =
@@ -102,7 +104,7 @@ module _ (n : ℕ) (link : LinkState) (s : State) (at : IsAt n link Settled s) (
         all_run = λ j other there up k few e. raised_runs n (k % s.routing.links) (has_messages k s.routing) (place_of k s.routing) (sym ((alone s.routing k t.routing few).raised_place n) ∙ e);
         homes_up = λ code e. up_after s.links n link risen at.there (λ up. refl) (home_of code) (t.homes_up code e);
         backs = risen_backs;
-        back_order = subst (λ (rows : List Row). IsAscending (numbers rows)) (sym (moved_same is_parked stands_back (all_with (Waiting n)) s.rows (λ x. refl) parked_not_back)) t.back_order;
+        back_order = subst (λ (rows : List Row). IsAscending (numbers rows)) (sym risen_back) t.back_order;
       }
 
 -- A LINK IS LEFT BY ITS MESSAGES.
@@ -115,9 +117,7 @@ module _ (n : ℕ) (link : LinkState) (s : State) (at : IsAt n link Down s) (t :
 
   -- the target is another link
   not_target : (to : ℕ) → target s.links ≡ Some to → (n == to) ≡ false
-  not_target to e =
-      let up = target_up s.links to e in
-      apart n to (λ same. let it : up.0 ≡ link = same_at s.links n link up.0 at.there (ap (slice_get s.links) same ∙ up.1) in false_true (has_phase_up link.phase) down (ap (λ (l : LinkState). has_phase_up l.phase) (sym it) ∙ up.2))
+  not_target to e = grind (arith, target_up)
 
   settled_one : (new : List Row) → unack n new ≡ [] → on n new ≡ [] → IsInOrder n new → IsHeldLast n new → IsSoundLink s.settings.method n (settled_link link) new
   settled_one new none empty order last =
@@ -151,16 +151,7 @@ module _ (n : ℕ) (link : LinkState) (s : State) (at : IsAt n link Down s) (t :
           let it : found.0 ≡ other = same_at s.links to other found.0 here found.1 in
           let up : has_phase_up other.phase ≡ true = ap (λ (l : LinkState). has_phase_up l.phase) (sym it) ∙ found.2 in
           let l = t.links to other here in
-          record {
-            window = rw m.unack_same l.window;
-            counted = l.counted;
-            method = l.method;
-            in_order = m.order_kept l.in_order;
-            held_last = m.last_kept (l.none_held up);
-            none_held = λ a. m.held_same ∙ l.none_held up;
-            in_range = λ a. rw m.unack_same (l.in_range up);
-            settled = λ a. false_true (has_phase_settled other.phase) (up_unsettled other.phase up) a;
-          }
+          up_same s.settings.method to other s.rows (off_to (Some to)) up m.unack_same m.held_same (m.order_kept l.in_order) l
 
       other_link : (b : Bool) → (to == k) ≡ b → k ≢ n → slice_get s.links k ≡ Some other → IsSoundLink s.settings.method k other (off_to (Some to))
       other_link true f d here = let same : k ≡ to = sym (eqb-true to k f) in rw same (target_link (ap (slice_get s.links) (sym same) ∙ here))
@@ -213,17 +204,16 @@ module _ (n : ℕ) (link : LinkState) (s : State) (at : IsAt n link Down s) (t :
   below_links : (to : Option ℕ) → target s.links ≡ to → IfSome to (λ r. r < s.routing.links)
   below_links to e = grind (arith, target_up, within)
 
-  left_backs : (to : Option ℕ) → AreBack (settled n to s.routing) (off_to to)
-  left_backs to =
-      let kept = backs_kept (λ code. Unit {0}) s.routing (settled n to s.routing) (λ k few code via of e. (via_settled n to via, (alone s.routing k t.routing few).settled_place n to ∙ ap (place_settled n to) e)) (λ code. tt) s.rows t.backs in
-      each_moved (is_on n) (all_with (fate_on to)) (λ row. IsBackOf (settled n to s.routing) row row.fate) (λ row. IsBackOf (settled n to s.routing) row row.fate) (λ x e b. b) (λ x e b. there to x) s.rows kept
-    where
-      there : (to : Option ℕ) (x : Row) → IsBackOf (settled n to s.routing) x (fate_on to)
-      there None x = tt
-      there (Some r) x = tt
-
   target_not_back : (to : Option ℕ) → stands_back (fate_on to) ≡ false
   target_not_back to = grind arith
+
+  back_left : (to : Option ℕ) → back (off_to to) ≡ back s.rows
+  back_left to = moved_same (is_on n) stands_back (all_with (fate_on to)) s.rows (λ x. target_not_back to) (on_not_back n)
+
+  left_backs : (to : Option ℕ) → AreBack (settled n to s.routing) (off_to to)
+  left_backs to =
+      backs_same (settled n to s.routing) s.rows (off_to to) (back_left to)
+      (backs_kept (λ code. Unit {0}) s.routing (settled n to s.routing) (λ k few code via of e. (via_settled n to via, (alone s.routing k t.routing few).settled_place n to ∙ ap (place_settled n to) e)) (λ code. tt) s.rows t.backs)
 
   pub moves_off_sound : IsSound (moved_over n link s)
   moves_off_sound =
@@ -244,5 +234,5 @@ module _ (n : ℕ) (link : LinkState) (s : State) (at : IsAt n link Down s) (t :
         all_run = λ j other at up k few e. let old = before j other at up in runs_left to (some j other at up) (place_of k s.routing) (t.all_run j old.0 old.1 old.2 k few) (sym ((alone s.routing k t.routing few).settled_place n to) ∙ e);
         homes_up = λ code e. up_after s.links n link (settled_link link) at.there (λ up. false_true (has_phase_up link.phase) down up) (home_of code) (t.homes_up code e);
         backs = left_backs to;
-        back_order = subst (λ (rows : List Row). IsAscending (numbers rows)) (sym (moved_same (is_on n) stands_back (all_with (fate_on to)) s.rows (λ x. target_not_back to) (on_not_back n))) t.back_order;
+        back_order = subst (λ (rows : List Row). IsAscending (numbers rows)) (sym (back_left to)) t.back_order;
       }

@@ -24,10 +24,9 @@ use Rattle.set_model.proofs.Lists.{same_at}
 use Rattle.set_model.proofs.Live.{ascends_end}
 use Rattle.set_model.proofs.Lookups.{found_by_number}
 use Rattle.set_model.proofs.Standing.{each_appended}
-use Rattle.set_model.proofs.Order.{order_appended, last_appended, last_appended_up}
-use Rattle.set_model.proofs.Places.{false_true}
+use Rattle.set_model.proofs.Order.{order_appended, last_appended}
 use Rattle.set_model.proofs.Targets.{target_up, none_up}
-use Rattle.set_model.proofs.SoundLink.{up_unsettled, link_untouched}
+use Rattle.set_model.proofs.SoundLink.{up_same, down_sound, link_untouched}
 
 -- A NEW MESSAGE. It waits for a link that is up, is held for one that isn't settled, is parked while none is up, or
 -- stands back.
@@ -60,18 +59,8 @@ module _ (s : State) (body : List ℕ) (t : IsSound s) where
           let it : fits.0 ≡ other = same_at s.links k other fits.0 there (ap (slice_get s.links) (sym same) ∙ fits.1) in
           let up : has_phase_up other.phase ≡ true = ap (λ (l : LinkState). has_phase_up l.phase) (sym it) ∙ fits.2 in
           let l = t.links k other there in
-          let u = appended_out s.rows body (Waiting n) (is_unacked k) refl in
-          let h = appended_out s.rows body (Waiting n) (is_held k) refl in
-          record {
-            window = rw u l.window;
-            counted = l.counted;
-            method = l.method;
-            in_order = order_appended k s.rows body (Waiting n) refl l.in_order;
-            held_last = last_appended_up k s.rows body (Waiting n) refl (l.none_held up);
-            none_held = λ a. h ∙ l.none_held up;
-            in_range = λ a. rw u (l.in_range up);
-            settled = λ a. false_true (has_phase_settled other.phase) (up_unsettled other.phase up) a;
-          }
+          up_same s.settings.method k other s.rows (appended s.rows body (Waiting n)) up (appended_out s.rows body (Waiting n) (is_unacked k) refl) (appended_out s.rows body (Waiting n) (is_held k) refl)
+          (order_appended k s.rows body (Waiting n) refl l.in_order) l
   link_appended (Held n) fits k other there = go (n == k) refl
     where
       go : (b : Bool) → (n == k) ≡ b → IsSoundLink s.settings.method k other (appended s.rows body (Held n))
@@ -81,17 +70,8 @@ module _ (s : State) (body : List ℕ) (t : IsSound s) where
           let it : fits.0 ≡ other = same_at s.links k other fits.0 there (ap (slice_get s.links) (sym same) ∙ fits.1) in
           let not_up : has_phase_up other.phase ≡ false = ap (λ (l : LinkState). has_phase_up l.phase) (sym it) ∙ fits.2 in
           let l = t.links k other there in
-          let u = appended_out s.rows body (Held n) (is_unacked k) refl in
-          record {
-            window = rw u l.window;
-            counted = l.counted;
-            method = l.method;
-            in_order = order_appended k s.rows body (Held n) refl l.in_order;
-            held_last = last_appended k s.rows body (Held n) refl refl l.held_last;
-            none_held = λ a. false_true (has_phase_up other.phase) not_up a;
-            in_range = λ a. false_true (has_phase_up other.phase) not_up a;
-            settled = λ a. false_true (has_phase_settled other.phase) (ap (λ (l : LinkState). has_phase_settled l.phase) (sym it) ∙ fits.3) a;
-          }
+          down_sound s.settings.method k other (appended s.rows body (Held n)) not_up (ap (λ (l : LinkState). has_phase_settled l.phase) (sym it) ∙ fits.3) (rw (appended_out s.rows body (Held n) (is_unacked k) refl) l.window)
+          l.counted l.method (order_appended k s.rows body (Held n) refl l.in_order) (last_appended k s.rows body (Held n) refl refl l.held_last)
 
   pub none_parked : (fate : Fate) → IsOpen fate s.links → (k : ℕ) (other : LinkState) → slice_get s.links k ≡ Some other → has_phase_up other.phase ≡ true → parked (appended s.rows body fate) ≡ []
   none_parked fate fits k other there rising = grind (arith, appended_out)
@@ -115,25 +95,7 @@ target_elsewhere : (to : Option ℕ) → stands_back (fate_on to) ≡ false
 target_elsewhere to = grind arith
 
 pub queues : (order : Order) (s : State) → IsSound s → IsSound (queued order s)
-queues order s t =
-    let body = text order s.settings.sio s.settings.dpc s.settings.opc in
-    let fate = fate_on (target s.links) in
-    let reaches : IsOpen fate s.links = open_target s (target s.links) refl in
-    record {
-      managed = t.managed;
-      routing = t.routing;
-      routed = t.routed;
-      count = t.count;
-      numbered = numbered_appended s.rows body fate t.numbered;
-      fit = fit_appended s.rows body fate t.fit (order_fits order s);
-      links = link_appended s body t fate reaches;
-      placed = t.placed;
-      none_aside = none_parked s body t fate reaches;
-      all_run = t.all_run;
-      homes_up = t.homes_up;
-      backs = backs_appended s.routing s.rows body fate (target_elsewhere (target s.links)) t.backs;
-      back_order = back_appended s.routing s.rows body fate (target_elsewhere (target s.links)) t.back_order;
-    }
+queues order s t = search (open_target, numbered_appended, fit_appended, order_fits, link_appended, none_parked, backs_appended, target_elsewhere, back_appended)
 
 -- AN OFFER goes where its stream runs.
 open_offer : (s : State) → IsSound s → (stream : ℕ) → stream < 16 → (place : Place) → place_of stream s.routing ≡ place → IsOpen (fate_at place s) s.links

@@ -1,8 +1,7 @@
 -- EVERY STEP KEEPS WHAT HOLDS OF EVERY SET'S STATE, and a new set has it.
-use Rattle.std.proofs.Common.{refl, arith, ◌≡◌, ◌∙◌, ap, sym, subst, ℕ, zero, suc, ◌%◌, Bool, true, List, [], ◌∷◌, ◌++◌, length, map, slice_get, Some, cond, replicate, slice_index_or}
+use Rattle.std.proofs.Common.{refl, arith, ◌≡◌, ◌∙◌, ap, sym, subst, ℕ, zero, suc, ◌%◌, Bool, true, List, [], ◌∷◌, length, map, slice_get, Some, cond, replicate, slice_index_or}
 use Rattle.std.proofs.lemmas.Bool.{le-ltb}
 use Rattle.std.proofs.lemmas.Option.{same_Some}
-use Rattle.set_events.specs.declared.answer.Fate.TheVariants.{Discarded}
 use Rattle.set_events.specs.declared.event.Event.{Event}
 use Rattle.set_route.specs.declared.place.Place.TheVariants.{Nowhere}
 use Rattle.set_route.specs.declared.place.Code.{Code}
@@ -10,7 +9,7 @@ use Rattle.set_route.specs.declared.place.Code.TheVariants.{Free, Asked}
 use Rattle.set_route.specs.declared.stream.Stream.{Stream}
 use Rattle.set_route.specs.Routing.{new_stream, new_routing, stream_numbers, code_of}
 use Rattle.set_route.proofs.Places.{new_sound}
-use Rattle.set_model.specs.Rows.{is_waiting, is_unacked, numbers}
+use Rattle.set_model.specs.Rows.{numbers}
 use Rattle.set_model.specs.State.{LinkState, State, Settings, new_link, opened_with, has_phase_up}
 use Rattle.set_model.specs.Step.{step}
 use Rattle.set_model.specs.Laws.{RunsStraight}
@@ -22,23 +21,11 @@ use Rattle.set_model.proofs.Walk.{KeptBy, step_walks}
 use Rattle.set_model.proofs.SoundBack.{leaves, declares, releases}
 use Rattle.set_model.proofs.SoundLink.{with_inbox, acknowledges, gives_up, sends_sound, hears_sound}
 use Rattle.set_model.proofs.SoundNew.{queues, offers}
-use Rattle.set_model.proofs.SoundMoves.{start_counted, start_method, start_range, rises_sound, moves_off_sound}
+use Rattle.set_model.proofs.SoundMoves.{rises_sound, moves_off_sound}
 
 -- THE STEP.
 pub sound_small : (Known : ℕ → Type 0) (May : Type 0) → KeptBy Known May (λ s u. IsSound s → IsSound u)
-sound_small Known May = record {
-  same = λ s t. t;
-  after = λ a b c p q t. q (p t);
-  delivers = λ body s t. with_inbox s (s.inbox ++ body ∷ []) t;
-  queues = λ order s t. queues order s t;
-  leaves = λ blind n link s known at t. leaves blind n link s at t;
-  acknowledges = λ count n link s known at few t. acknowledges count n link s at t;
-  gives_up_sent = λ cause n link s known at t. gives_up (is_unacked n) cause n link s (unacked_on n) (sent_given_up n cause s.rows) (fewer_changed (is_unacked n) (is_unacked n) (Discarded cause) refl s.rows) at t;
-  gives_up_waiting = λ cause n link s known at t. gives_up (is_waiting n) cause n link s (waiting_on n) (waiting_given_up n cause s.rows) (fewer_changed (is_waiting n) (is_unacked n) (Discarded cause) refl s.rows) at t;
-  moves_off = λ n link s known at t. moves_off_sound n link s at t;
-  declares = λ may home alternative s up can t. declares home alternative s up can t;
-  releases = λ code s known t. releases code s t;
-}
+sound_small Known May = search (with_inbox, queues, leaves, acknowledges, gives_up, unacked_on, sent_given_up, fewer_changed, waiting_on, waiting_given_up, moves_off_sound, declares, releases)
 
 pub step_sound : (s : State) (event : Event) → IsAsked event → IsSound s → IsSound (step s event).state
 step_sound s event asked t = step_walks s (λ a b. IsSound a → IsSound b) IsSound event (record {
@@ -80,16 +67,7 @@ module _ (settings : Settings) (is : IsSettings settings) where
   new_one n link there = new_there settings.links n (new_link settings.method) link there
 
   new_sound_link : (n : ℕ) → IsSoundLink settings.method n (new_link settings.method) []
-  new_sound_link n = record {
-    window = omega arith;
-    counted = start_counted settings.method;
-    method = start_method settings.method;
-    in_order = tt;
-    held_last = tt;
-    none_held = λ e. refl;
-    in_range = λ e. start_range settings.method 0;
-    settled = λ e. refl;
-  }
+  new_sound_link n = grind arith
 
   none_rises : {P : Type 0} (n : ℕ) (link : LinkState) → slice_get (replicate settings.links (new_link settings.method)) n ≡ Some link → has_phase_up link.phase ≡ true → P
   none_rises n link there rising = false_true (has_phase_up link.phase) (ap (λ (l : LinkState). has_phase_up l.phase) (new_one n link there)) rising
@@ -113,10 +91,7 @@ module _ (settings : Settings) (is : IsSettings settings) where
 
   -- no changeback is under way
   pub opened_straight : RunsStraight (opened_with settings)
-  opened_straight = record {
-    none_open = opened_free settings.links;
-    together = λ stream low. record { in_order = tt; together = refl; unused = λ e. refl };
-  }
+  opened_straight = search opened_free
 
   pub opened_few : AreFew 0 (opened_with settings)
   opened_few n link there = rw (new_one n link there) (record { sent = omega arith; accepted = omega arith })

@@ -1,10 +1,9 @@
 -- The laws of the list of rows.
-use Rattle.std.proofs.Common.{refl, arith, ◌≡◌, ◌∙◌, ap, ◌<◌, [], ◌∷◌, length, ℕ, ◌-◌, Bool, true, not, ◌==◌, List, ◌++◌, Some, map}
+use Rattle.std.proofs.Common.{refl, arith, ◌≡◌, ap, ◌<◌, [], ◌∷◌, length, ℕ, Bool, ◌==◌, List, ◌++◌, Some}
 use Rattle.std.specs.Option.{option_map}
-use Rattle.std.proofs.lemmas.Bool.{eq-eqb, le-ltb}
 use Rattle.std.proofs.lemmas.List.{drop_at}
 use Rattle.set_events.specs.declared.answer.Fate.{Fate}
-use Rattle.set_model.specs.Rows.{Row, standing, is_on, on, numbers, turned, changed, appended, fated, row_of, IsNumbered}
+use Rattle.set_model.specs.Rows.{Row, turned, changed, appended, row_of, IsNumbered}
 use Rattle.set_model.specs.Laws.{SameMessages, MessagesStay, MovesTheLinksRows}
 use Rattle.set_model.proofs.Filters.{both_lengths}
 use Rattle.set_model.proofs.InPlace.{InPlace, turned_there, changed_there}
@@ -30,10 +29,7 @@ no_rows [] e = refl
 no_rows (x ∷ xs) e = absurd (omega (arith, e))
 
 pub row_new : (rows : List Row) (body : List ℕ) (fate : Fate) → IsNumbered rows → row_of (length rows) (appended rows body fate) ≡ Some (new_row (length rows) body fate)
-row_new rows body fate numbered =
-    let none : with_number (length rows) rows ≡ [] = no_rows (with_number (length rows) rows) (rw (le-ltb (length rows) (length rows) (omega arith)) at (numbered (length rows))) in
-    let here : (length rows == length rows) ≡ true = eq-eqb (length rows) (length rows) refl in
-    found_after (length rows) rows (new_row (length rows) body fate ∷ []) none ∙ rw here refl
+row_new rows body fate numbered = grind (arith, no_rows, found_after)
 
 in_place_stays : (test : Fate → Bool) (rows new : List Row) → IsNumbered rows → InPlace test rows new → SameMessages rows new
 in_place_stays test rows new numbered i = record { count = i.count; bodies = i.bodies; numbered = same_numbers rows new i.count (λ number. i.as_many (λ (row : Row). row.number == number) (λ f x. refl)) numbered }
@@ -49,10 +45,4 @@ messages_stay test to fate rows numbered = record {
 }
 
 pub moves_rows : (link : ℕ) (fate : Row → Fate) (rows : List Row) → IsNumbered rows → MovesTheLinksRows link fate rows
-moves_rows link fate rows numbered =
-    let stay = standing (λ f. not (is_on link f)) rows in
-    let long : length stay ≡ length rows - length (on link rows) = omega (arith, both_lengths (is_on link) rows) in
-    record {
-      last = ap numbers (drop_at stay (map (fated fate) (on link rows)) (length rows - length (on link rows)) long) ∙ numbers_fated fate (on link rows);
-      places = λ number. place_moved (is_on link) fate number rows numbered;
-    }
+moves_rows link fate rows numbered = grind (arith, both_lengths, drop_at, numbers_fated, place_moved)

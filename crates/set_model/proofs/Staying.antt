@@ -1,5 +1,5 @@
 -- What no event does to a message.
-use Rattle.std.proofs.Common.{refl, arith, ◌≡◌, ◌∙◌, ◌≤◌, ◌<◌, length, ℕ, List, Bool, false}
+use Rattle.std.proofs.Common.{refl, arith, ◌≡◌, ◌≤◌, ◌<◌, length, ℕ, List, Bool, false}
 use Rattle.std.proofs.lemmas.List.{length_push}
 use Rattle.set_events.specs.declared.answer.Fate.{Fate}
 use Rattle.set_events.specs.declared.event.Event.{Event}
@@ -27,22 +27,13 @@ stays_self : (rows : List Row) → Stays rows rows
 stays_self rows = record { count = omega arith; bodies = λ numbered number below. refl; numbered = λ numbered. numbered }
 
 stays_then : (rows mid new : List Row) → Stays rows mid → Stays mid new → Stays rows new
-stays_then rows mid new a b =
-    let x = a.count in
-    let y = b.count in
-    record {
-      count = omega (arith, x, y);
-      bodies = λ numbered number below. b.bodies (a.numbered numbered) number (omega (arith, x, below)) ∙ a.bodies numbered number below;
-      numbered = λ numbered. b.numbered (a.numbered numbered);
-    }
+stays_then rows mid new a b = grind arith
 
 stays_kept : (rows new : List Row) → Kept rows new → Stays rows new
 stays_kept rows new k = let same = k.count in record { count = omega (arith, same); bodies = λ numbered number below. k.bodies numbered number; numbered = k.numbered }
 
 stays_moved : (test : Fate → Bool) (fate : Row → Fate) (rows : List Row) → Stays rows (moved test fate rows)
-stays_moved test fate rows =
-    let same = moved_length test fate rows in
-    record { count = omega (arith, same); bodies = λ numbered number below. body_moved test fate number rows numbered; numbered = moved_numbered test fate rows }
+stays_moved test fate rows = grind (arith, moved_length, body_moved, moved_numbered)
 
 stays_appended : (rows : List Row) (body : List ℕ) (fate : Fate) → Stays rows (appended rows body fate)
 stays_appended rows body fate =

@@ -1,11 +1,8 @@
 -- The sealed step is its cases.
-use Rattle.std.proofs.Common.{refl, ◌≡◌, ℕ, List, true, false}
-use Rattle.l2_units.specs.declared.unit.Unit.{Unit as SignalUnit}
+use Rattle.std.proofs.Common.{refl, ◌≡◌}
 use Rattle.set_events.specs.declared.event.Event.{Event}
-use Rattle.set_events.specs.declared.event.Event.TheVariants.{Offer, Take, Find, Next, Heard, Up as UpEvent, Down as DownEvent, DownBlind, NoAnswer, Restore, BackTimeout}
-use Rattle.set_model.specs.Rows.{place}
 use Rattle.set_model.specs.State.{State}
-use Rattle.set_model.specs.Step.{offer_refusal, offered, taken, found, on_link, in_service, next, heard, rises, falls, gives_up, comes_back, runs_out, stepped, step}
+use Rattle.set_model.specs.Step.{stepped, step}
 
 pub step_is : (s : State) (event : Event) → step s event ≡ stepped s event
 unfolding step

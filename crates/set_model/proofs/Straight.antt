@@ -29,9 +29,7 @@ never s t none k to code via e = never_changing k to code via s.routing t.routin
 
 -- AN ORDER is of no stream.
 no_users : (order : Order) (s : State) (fate : Fate) (stream : ℕ) → IsManaged s.settings → is_live stream (new_row (length s.rows) (text order s.settings.sio s.settings.dpc s.settings.opc) fate) ≡ false
-no_users order s fate stream m =
-    let own : (s.settings.sio % 16 == 0) ≡ true = grind arith in
-    rw own refl
+no_users order s fate stream m = grind arith
 
 pub queues : (order : Order) (s : State) → IsSound s → AreTogether s → AreTogether (queued order s)
 queues order s t r stream low =

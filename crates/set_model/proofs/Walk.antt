@@ -1,7 +1,6 @@
 -- THE WALK over the cases of the step, once: what each small change keeps, every event keeps.
-use Rattle.std.proofs.Common.{refl, arith, ◌≡◌, ◌∙◌, ap, subst, ◌<◌, ◌≤◌, length, ℕ, zero, suc, ◌+◌, ◌==◌, Bool, true, false, ◌⊎◌, List, [], ◌∷◌, ◌++◌, slice_get, Option, Some, None, inl, inr}
+use Rattle.std.proofs.Common.{refl, arith, ◌≡◌, subst, ◌<◌, ◌≤◌, length, ℕ, zero, suc, ◌+◌, ◌==◌, Bool, true, false, ◌⊎◌, List, [], ◌∷◌, ◌++◌, slice_get, Option, Some, None, inl, inr}
 use Rattle.l2_units.specs.declared.unit.Unit.{Unit as SignalUnit}
-use Rattle.l2_units.specs.declared.unit.Unit.TheVariants.{Fisu, Lssu, Msu}
 use Rattle.l2_units.specs.Grammar.{head_of as header_in}
 use Rattle.l3_orders.specs.declared.order.Order.{Order}
 use Rattle.l3_orders.specs.declared.order.Order.TheVariants.{Coo, Coa, Cbd, Cba, Eco, Eca}
@@ -20,7 +19,7 @@ use Rattle.set_model.specs.declared.phase.Phase.TheVariants.{Up, Down, Settled}
 use Rattle.set_model.specs.declared.reached.Reached.{Reached}
 use Rattle.set_model.specs.declared.reached.Reached.TheVariants.{Upto, Unknown, Unanswered}
 use Rattle.set_model.specs.Rows.{unack, is_unacked, is_waiting, changed, place, service_indicator}
-use Rattle.set_model.specs.State.{LinkState, State, is_up, has_phase_up, window_of, last_accepted}
+use Rattle.set_model.specs.State.{LinkState, State, is_up, window_of, last_accepted}
 use Rattle.set_model.specs.Control.{part_of}
 use Rattle.set_model.specs.Changeover.{Obeyed, queued, left_by, left_link, leaving_order, is_reasonable, reached_by, acknowledged_by, acknowledged, moved_over, settled, reply_of, changed_over, answered, at_link, can_declare, declared, declared_from, released, released_from, some_in_use, acknowledged_back, order_obeyed, obeyed}
 use Rattle.set_model.specs.Step.{Outcome, offer_refusal, offered, taken, found, with_known, in_service, next, is_msu, brought, takes, after_control, controls, heard, rises, gives_up, comes_back, runs_out, step}
