@@ -1,5 +1,5 @@
 -- What the control's own step does to the window, the FSN last accepted, and the cursor.
-use Rattle.std.proofs.Common.{refl, arith, ◌≡◌, ◌≢◌, ◌<◌, ◌≤◌, ℕ, ◌+◌, ◌%◌, ◌==◌, Bool, true, false, not, ◌&&◌, length, drop, if◌then◌else◌}
+use Rattle.std.proofs.Common.{refl, arith, ◌≡◌, ◌≢◌, ◌<◌, ◌≤◌, ℕ, ◌+◌, ◌%◌, ◌==◌, Bool, true, false, ◌&&◌, length, drop, if◌then◌else◌}
 use Rattle.std.proofs.lemmas.Bool.{ltb-true}
 use Rattle.std.proofs.lemmas.Bool.Decides.{nat_tests}
 use Rattle.std.proofs.lemmas.List.{length-drop}
@@ -19,6 +19,7 @@ accepted_after choice o control w = grind arith
 pub method_after : (m : Method) (choice : Choice) (o : ℕ) (control : Control) (w : WindowState) → IsOf m control → IsOf m (control_after choice o control w)
 method_after m choice o control w is = grind arith
 
+-- a first sending is chosen only where something waits, and fewer than 127 are unacknowledged
 both_cyclic : (x y z v : Bool) (p q : ℕ) → (if x then again p else (if y && z then first else (if v then again q else fill))) ≡ first → (y ≡ true) × (z ≡ true)
 both_cyclic x y z v p q e = grind arith
 
@@ -58,14 +59,7 @@ accepted_heard (Basic s) w head msu n e = go (basic.is_accepted s w head msu) re
         let same : head.fsn ≡ (s.accepted + 1) % 128 = grind (arith, nat_tests) in
         rw f (omega (arith, e, same))
     go false f = rw f (omega (arith, e))
-accepted_heard (Cyclic s) w head msu n e = go (cyclic.is_accepted s w head msu) refl
-  where
-    go : (b : Bool) → cyclic.is_accepted s w head msu ≡ b → (if cyclic.is_accepted s w head msu then head.fsn else s.accepted) ≡ (n + one_if (cyclic.is_accepted s w head msu) + 127) % 128
-    go true f =
-        let next : (head.fsn == (s.accepted + 1) % 128) ≡ true = and_right msu (head.fsn == (s.accepted + 1) % 128) (and_right (not (cyclic.has_abnormal_bsn w head)) (msu && (head.fsn == (s.accepted + 1) % 128)) f) in
-        let same : head.fsn ≡ (s.accepted + 1) % 128 = grind arith in
-        rw f (omega (arith, e, same))
-    go false f = rw f (omega (arith, e))
+accepted_heard (Cyclic s) w head msu n e = grind (arith, and_right)
 
 -- the cursor, or the place in the cycle
 pub range_heard : (control : Control) (w : WindowState) (head : Header) (msu : Bool) → IsInRange control (length w.unacked) → IsInRange (control_heard control w head msu) (length (drop (acked_by control w head) w.unacked))

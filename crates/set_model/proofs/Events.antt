@@ -234,22 +234,7 @@ pub record MovedTo (l t : ℕ) (rows new : List Row) : Type 0 where
   pub last_kept : held t rows ≡ [] → IsHeldLast t new
 
 pub moved_to : (l t : ℕ) (rows : List Row) → (l == t) ≡ false → MovedTo l t rows (moved (is_on l) (all_with (Waiting t)) rows)
-moved_to l t rows d =
-    let to = all_with (Waiting t) in
-    let off : (f : Fate) → is_on l f ≡ true → is_on t f ≡ false = on_other t l (apart_back l t d) in
-    let w = moved_joined (is_on l) (is_waiting t) to rows (λ x. itself t) (λ f e. not_on_waiting t f (off f e)) in
-    let h = moved_same (is_on l) (is_held t) to rows (λ x. refl) (λ f e. not_on_held t f (off f e)) in
-    record {
-      left_is = left l (Waiting t) rows (apart_back l t d) refl;
-      unack_same = moved_same (is_on l) (is_unacked t) to rows (λ x. refl) (λ f e. not_on_unacked t f (off f e));
-      wait_is = w;
-      wait_numbers = ap numbers w ∙ numbers_joined to (wait t rows) (on l rows);
-      held_same = h;
-      on_is = moved_joined (is_on l) (is_on t) to rows (λ x. itself t) off;
-      parked_same = moved_same (is_on l) is_parked to rows (λ x. refl) (on_not_parked l);
-      order_kept = order_moved t (is_on l) to rows (λ x. refl);
-      last_kept = λ e. last_none t (moved (is_on l) to rows) (h ∙ e);
-    }
+moved_to l t rows d = search (on_other, apart_back, moved_joined, itself, not_on_waiting, moved_same, not_on_held, left, not_on_unacked, numbers_joined, on_not_parked, order_moved, last_none)
 
 -- where no link is up
 pub record MovedAside (l : ℕ) (rows new : List Row) : Type 0 where
@@ -303,20 +288,4 @@ pub record Unparked (l : ℕ) (rows new : List Row) : Type 0 where
   pub others : (n : ℕ) → (l == n) ≡ false → Untouched n rows new
 
 pub unparked : (l : ℕ) (rows : List Row) → Unparked l rows (moved is_parked (all_with (Waiting l)) rows)
-unparked l rows =
-    let to = all_with (Waiting l) in
-    let off : (f : Fate) → is_parked f ≡ true → is_on l f ≡ false = parked_not_on l in
-    let w = moved_joined is_parked (is_waiting l) to rows (λ x. itself l) (λ f e. not_on_waiting l f (off f e)) in
-    let h = moved_same is_parked (is_held l) to rows (λ x. refl) (λ f e. not_on_held l f (off f e)) in
-    record {
-      kept = moved_kept is_parked to rows (λ x. refl) parked_not_acked;
-      parked_none = moved_gone is_parked is_parked to rows (λ x. refl) (λ f e. e);
-      unack_same = moved_same is_parked (is_unacked l) to rows (λ x. refl) (λ f e. not_on_unacked l f (off f e));
-      wait_is = w;
-      wait_numbers = ap numbers w ∙ numbers_joined to (wait l rows) (parked rows);
-      held_same = h;
-      on_is = moved_joined is_parked (is_on l) to rows (λ x. itself l) off;
-      order_kept = order_moved l is_parked to rows (λ x. refl);
-      last_kept = λ e. last_none l (moved is_parked to rows) (h ∙ e);
-      others = λ n d. moved_untouched n is_parked rows (parked_not_on n) to (λ x. d);
-    }
+unparked l rows = search (parked_not_on, moved_joined, itself, not_on_waiting, moved_same, not_on_held, moved_kept, parked_not_acked, moved_gone, not_on_unacked, numbers_joined, order_moved, last_none, moved_untouched)

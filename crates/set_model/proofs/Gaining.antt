@@ -1,5 +1,5 @@
 -- What a step brings: each accepted message stands in one place more, and what is acknowledged stays so.
-use Rattle.std.proofs.Common.{refl, arith, ◌≡◌, ◌∙◌, ap, sym, ◌≤◌, length, ℕ, ◌==◌, Bool, true, false, List, Option, Some, None, if◌then◌else◌}
+use Rattle.std.proofs.Common.{refl, arith, ◌≡◌, ◌∙◌, ap, sym, ◌≤◌, length, ℕ, ◌==◌, Bool, true, false, List, Option, None}
 use Rattle.set_route.specs.declared.place.Place.{Place}
 use Rattle.set_route.specs.Routing.{place_of, code_for, home_of}
 use Rattle.l3_orders.specs.declared.order.Order.{Order}
@@ -9,7 +9,6 @@ use Rattle.set_events.specs.declared.answer.Answer.{Answer}
 use Rattle.set_events.specs.declared.answer.Fate.{Fate}
 use Rattle.set_events.specs.declared.answer.Fate.TheVariants.{Waiting}
 use Rattle.set_events.specs.declared.answer.Refusal.{Refusal as SetRefusal}
-use Rattle.set_events.specs.declared.answer.Refusal.TheVariants.{TooShort, TooLong, Reserved, StreamFull}
 use Rattle.set_events.specs.declared.event.Event.{Event}
 use Rattle.set_events.specs.declared.event.Event.TheVariants.{Offer, Take, Find}
 use Rattle.set_model.specs.Rows.{Row, is_on, is_back_to, was_acked, moved, all_with, appended, service_indicator, counts_of, total_of, stream_of}
@@ -99,6 +98,7 @@ pub accepts_none : (s : State) (event : Event) → is_offer event ≡ false → 
 unfolding step
 accepts_none s event e = grind arith
 
+-- AN OFFER.
 -- an offered body that isn't refused has at most 273 octets, and is a user's
 pub offer_fits : (rows : List Row) (body : List ℕ) → offer_refusal rows body ≡ None → (length body ≤ 273) × ((service_indicator body == 0) ≡ false)
 offer_fits rows body e = grind arith

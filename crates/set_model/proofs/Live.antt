@@ -95,6 +95,7 @@ no_numbers xs (y ∷ ys) e none = absurd (let no : y.number ∷ numbers ys ≡ [
 pub same_stream : (stream : ℕ) (place place' : Place) (used : Bool) (xs ys : List Row) → numbers (live stream ys) ≡ numbers (live stream xs) → astray stream place' ys ≡ [] → IsSoundStream stream place used xs → IsSoundStream stream place' used ys
 same_stream stream place place' used xs ys same away t = grind (arith, no_numbers)
 
+-- A FIRST SENDING: the row stays live, and where it is.
 same_stand : (place : Place) (n : ℕ) (f : Fate) → is_waiting n f ≡ true → stands_at place (Unacked n) ≡ stands_at place f
 same_stand place n f e = grind arith
 

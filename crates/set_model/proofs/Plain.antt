@@ -6,7 +6,7 @@ use Rattle.l2_units.specs.Grammar.{head_of as header_in}
 use Rattle.l3_orders.specs.declared.order.Order.{Order}
 use Rattle.set_events.specs.declared.answer.DiscardCause.{DiscardCause}
 use Rattle.set_events.specs.declared.answer.Fate.{Fate}
-use Rattle.set_events.specs.declared.answer.Fate.TheVariants.{Waiting, Unacked, Acked, Held, Parked, Back, Discarded}
+use Rattle.set_events.specs.declared.answer.Fate.TheVariants.{Back, Discarded}
 use Rattle.set_events.specs.declared.event.Event.{Event}
 use Rattle.set_events.specs.declared.event.Event.TheVariants.{Offer, Take, Next, Heard, Up as UpEvent}
 use Rattle.set_route.specs.Routing.{Routing, NoneOpen, home_of}
@@ -36,12 +36,7 @@ module _ (s : State) (t : IsSound s) (none : NoneOpen s.routing) where
     where
       no : (x : Row) (f : Fate) → stands_back f ≡ true → IsBackOf s.routing x f → ⊥
       no x (Back c) e b = never_changing (stream_of x.body) (home_of c) c b.2 s.routing t.routing none b.3
-      no x (Waiting l) e b = absurd cc
-      no x (Unacked l) e b = absurd cc
-      no x (Acked l) e b = absurd cc
-      no x (Held l) e b = absurd cc
-      no x Parked e b = absurd cc
-      no x (Discarded cause) e b = absurd cc
+      no x _ e b = absurd cc
 
   none_for : (test : Fate → Bool) → ((f : Fate) → test f ≡ true → stands_back f ≡ true) → standing test s.rows ≡ []
   none_for test w = sym (filter_within (λ (row : Row). test row.fate) (λ (row : Row). stands_back row.fate) (λ x e. w x.fate e) s.rows) ∙ ap (standing test) none_back

@@ -1,16 +1,16 @@
 -- WHAT HOLDS OF EVERY STATE is kept when a link is left, and by a changeback.
-use Rattle.std.proofs.Common.{refl, arith, ◌≡◌, ◌≢◌, ◌∙◌, ap, sym, subst, ◌<◌, ℕ, ◌+◌, ◌*◌, ◌%◌, ◌==◌, Bool, true, false, not, ◌&&◌, List, [], ◌++◌, slice_get, Some, if◌then◌else◌, map}
-use Rattle.std.proofs.lemmas.Bool.{eqb-true}
+use Rattle.std.proofs.Common.{⊎_elim, refl, arith, ◌≡◌, ◌≢◌, ◌∙◌, ap, sym, subst, ◌<◌, ℕ, ◌+◌, ◌*◌, ◌%◌, ◌==◌, Bool, true, false, not, ◌&&◌, List, [], ◌++◌, slice_get, Some, if◌then◌else◌, map}
+use Rattle.std.proofs.lemmas.Bool.{eqb-true, eqb-false, and_parts, and_right as and_false, cond-true, cond-false, cond_both, cases_Bool}
 use Rattle.std.proofs.lemmas.List.{length-set, append-nil}
 use Rattle.l3_orders.specs.declared.order.Order.TheVariants.{Cbd}
 use Rattle.l3_orders.specs.Grammar.{text}
 use Rattle.set_events.specs.declared.answer.Fate.{Fate}
-use Rattle.set_events.specs.declared.answer.Fate.TheVariants.{Waiting, Unacked, Acked, Held, Parked, Back, Discarded}
+use Rattle.set_events.specs.declared.answer.Fate.TheVariants.{Waiting, Held, Back}
 use Rattle.set_route.specs.declared.place.Place.{Place}
 use Rattle.set_route.specs.declared.place.Place.TheVariants.{On, Changing, Nowhere}
 use Rattle.set_route.specs.declared.place.Code.{Code}
 use Rattle.set_route.specs.declared.place.Code.TheVariants.{Free, Asked}
-use Rattle.set_route.specs.Routing.{Routing, IsRouting, code_for, home_of, code_of, place_of, place_left, code_left, runs_on, can_ask, asked, place_back, given_back}
+use Rattle.set_route.specs.Routing.{Routing, IsRouting, code_for, home_of, code_of, place_of, place_left, code_left, runs_on, asked, place_back, given_back}
 use Rattle.set_route.proofs.Alone.{alone, codes_alone}
 use Rattle.set_route.proofs.Places.{left_sound, asked_sound, back_sound}
 use Rattle.set_model.specs.declared.phase.Phase.TheVariants.{Up}
@@ -25,7 +25,7 @@ use Rattle.set_model.proofs.Finding.{numbered_appended, fit_appended}
 use Rattle.set_model.proofs.Lists.{get_set_other, same_at, within}
 use Rattle.set_model.proofs.Moving.{moved_numbered, moved_fit, moved_same, moved_more, moved_off, moved_nothing}
 use Rattle.set_model.proofs.Order.{order_moved, last_none, last_moved}
-use Rattle.set_model.proofs.Places.{false_true, itself, apart, not_on_unacked, not_on_held, back_not_on, home_back}
+use Rattle.set_model.proofs.Places.{false_true, apart, not_on_unacked, not_on_held, back_not_on, home_back}
 use Rattle.set_model.proofs.Ranging.{offered_out}
 use Rattle.set_model.proofs.SoundLink.{up_unsettled, up_same, down_sound, link_untouched, links_set, placed_set, up_before}
 use Rattle.set_model.proofs.SoundNew.{link_appended, none_parked, order_fits, backs_appended, back_appended}
@@ -73,12 +73,7 @@ module _ (blind : Bool) (n : ℕ) (link : LinkState) (s : State) (at : IsAt n li
           let from : IsPlaced s.links (Changing (home_of c) c b.2) = subst (IsPlaced s.links) b.3 (t.placed (stream_of x.body) b.1) in
           let back : place_left n (Changing (home_of c) c b.2) ≡ On b.2 = rw e refl in
           (b.2, (alone s.routing (stream_of x.body) t.routing b.1).left_place n ∙ ap (place_left n) b.3 ∙ back, placed_set s.links n link (left_link blind link) (On b.2) at.there refl from)
-      go (Waiting l) e b = absurd cc
-      go (Unacked l) e b = absurd cc
-      go (Acked l) e b = absurd cc
-      go (Held l) e b = absurd cc
-      go Parked e b = absurd cc
-      go (Discarded cause) e b = absurd cc
+      go _ e b = absurd cc
 
   gone : (other : Fate → Bool) → ((via : ℕ) → IsPlaced mid.links (On via) → other (fate_at (On via) mid) ≡ false) → standing other (map (fated fate) (standing (is_back_to n) s.rows)) ≡ []
   gone other h = gone_none (is_back_to n) fate (λ row. IsBackOf s.routing row row.fate) other (λ x e b. let g = goes x e b in ap (λ (p : Place). other (fate_at p mid)) g.1 ∙ h g.0 g.2) s.rows t.backs
@@ -131,11 +126,9 @@ module _ (blind : Bool) (n : ℕ) (link : LinkState) (s : State) (at : IsAt n li
   left_placed : (place : Place) → IsPlaced s.links place → IsPlaced mid.links (place_left n place)
   left_placed Nowhere p = tt
   left_placed (On l) p = placed_set s.links n link (left_link blind link) (On l) at.there refl p
-  left_placed (Changing to code via) p = go (to == n) refl
-    where
-      go : (b : Bool) → (to == n) ≡ b → IsPlaced mid.links (place_left n (Changing to code via))
-      go true e = rw e (placed_set s.links n link (left_link blind link) (On via) at.there refl p)
-      go false e = rw e (placed_set s.links n link (left_link blind link) (On via) at.there refl p)
+  left_placed (Changing to code via) p =
+      let there = placed_set s.links n link (left_link blind link) (On via) at.there refl p in
+      cond_both (to == n) (On via) (Changing to code via) (IsPlaced mid.links) (λ e. there) (λ e. there)
 
   left_runs : (place : Place) → place ≢ Nowhere → place_left n place ≢ Nowhere
   left_runs place d e = grind arith
@@ -148,7 +141,7 @@ module _ (blind : Bool) (n : ℕ) (link : LinkState) (s : State) (at : IsAt n li
   left_homes code e =
       let below = in_use_below mid.routing (left_sound n s.routing t.routing) code e in
       let stays = still_open code (code_of code s.routing) (sym ((codes_alone s.routing code t.routing below).left_code n) ∙ e) in
-      ap link_is_up (get_set_other s.links n (home_of code) (left_link blind link) (λ same. false_true (home_of code == n) stays.1 (rw same (itself (home_of code))))) ∙ t.homes_up code stays.0
+      ap link_is_up (get_set_other s.links n (home_of code) (left_link blind link) (λ same. eqb-false (home_of code) n stays.1 (sym same))) ∙ t.homes_up code stays.0
 
   left_back : back new ≡ standing (λ f. not (is_back_to n f)) (back s.rows)
   left_back = moved_off (is_back_to n) stands_back fate s.rows (gone stands_back (λ via p. on_either mid stands_back via refl refl))
@@ -158,11 +151,8 @@ module _ (blind : Bool) (n : ℕ) (link : LinkState) (s : State) (at : IsAt n li
       backs_of mid.routing new
       (subst (AreBack mid.routing) (sym left_back) (each_left (is_back_to n) (λ row. IsBackOf s.routing row row.fate) (λ row. IsBackOf mid.routing row row.fate) stays (back s.rows) (each_filter (λ row. IsBackOf s.routing row row.fate) (λ row. stands_back row.fate) s.rows t.backs)))
     where
-      other : (code : ℕ) → (home_of code == n) ≡ false → (via : ℕ) → place_left n (Changing (home_of code) code via) ≡ Changing (home_of code) code via
-      other code e via = rw e refl
-
       stays : (x : Row) → is_back_to n x.fate ≡ false → IsBackOf s.routing x x.fate → IsBackOf mid.routing x x.fate
-      stays x e b = stood (λ code. (home_of code == n) ≡ false) s.routing mid.routing (λ k few code via of f. (via, (alone s.routing k t.routing few).left_place n ∙ ap (place_left n) f ∙ other code of via)) x x.fate (λ code f. sym (ap (is_back_to n) f) ∙ e) b
+      stays x e b = stood (λ code. (home_of code == n) ≡ false) s.routing mid.routing (λ k few code via of f. (via, (alone s.routing k t.routing few).left_place n ∙ ap (place_left n) f ∙ cond-false (home_of code == n) (On via) (Changing (home_of code) code via) of)) x x.fate (λ code f. sym (ap (is_back_to n) f) ∙ e) b
 
   left_order : IsAscending (numbers (back new))
   left_order = rw left_back (ascends_filter (λ (row : Row). not (is_back_to n row.fate)) (back s.rows) t.back_order)
@@ -187,15 +177,9 @@ module _ (blind : Bool) (n : ℕ) (link : LinkState) (s : State) (at : IsAt n li
       }
 
 -- A DECLARATION.
-and_right : (a b : Bool) → (a && b) ≡ true → b ≡ true
-and_right a b e = grind arith
-
-and_left : (a b : Bool) → (a && b) ≡ true → a ≡ true
-and_left a b e = grind arith
-
 -- the link that it goes out on is up
 pub alternative_up : (home alternative : ℕ) (s : State) → can_declare home alternative s ≡ true → is_up alternative s ≡ true
-alternative_up home alternative s may = and_left (is_up alternative s) (can_ask home alternative s.routing) (and_right (not (alternative == home)) (is_up alternative s && can_ask home alternative s.routing) may)
+alternative_up home alternative s may = (and_parts (is_up alternative s) _ (and_parts (not (alternative == home)) _ may).1).0
 
 module _ (home alternative : ℕ) (s : State) (up : is_up home s ≡ true) (may : can_declare home alternative s ≡ true) (t : IsSound s) where
   abbrev runs : Routing
@@ -239,17 +223,13 @@ module _ (home alternative : ℕ) (s : State) (up : is_up home s ≡ true) (may 
           let same : code ≡ 16 * home + alternative = eqb-true code (code_for home alternative) f in
           let own : home_of code ≡ home = omega (arith, same, few, alternative_below) in
           ap (λ (k : ℕ). is_up k s) own ∙ up
-      go false f = t.homes_up code (let is_old : code_of code runs ≡ code_of code s.routing = is ∙ rw f refl in sym is_old ∙ e)
+      go false f = t.homes_up code (sym (is ∙ cond-false (code == code_for home alternative) Asked (code_of code s.routing) f) ∙ e)
 
   asked_backs : AreBack runs s.rows
   asked_backs = backs_kept (λ code. Unit {0}) s.routing runs (λ k few code via of e. (via, (alone s.routing k t.routing few).asked_place home alternative ∙ still k (place_of k s.routing) code via e)) (λ code. tt) s.rows t.backs
     where
-      nowhere_else : (b : Bool) → (b && false) ≡ false
-      nowhere_else true = refl
-      nowhere_else false = refl
-
       still : (k : ℕ) (place : Place) (code via : ℕ) → place ≡ Changing (home_of code) code via → (if (k % s.routing.links == home) && runs_on alternative place then Changing home (code_for home alternative) alternative else place) ≡ Changing (home_of code) code via
-      still k place code via e = rw (e, nowhere_else (k % s.routing.links == home)) refl
+      still k place code via e = rw (e, and_false (k % s.routing.links == home) false refl) refl
 
   pub declares : IsSound (declared home alternative s)
   declares = record {
@@ -285,12 +265,7 @@ module _ (code : ℕ) (s : State) (t : IsSound s) where
           let same : c ≡ code = eqb-true c code e in
           let coded = coded_at s.routing (stream_of x.body) t.routing (home_of c) c b.2 b.3 in
           false_true (is_up home s) down (ap (λ (k : ℕ). is_up (home_of k) s) (sym same) ∙ t.homes_up c coded.1)
-      no x (Waiting l) e b = absurd cc
-      no x (Unacked l) e b = absurd cc
-      no x (Acked l) e b = absurd cc
-      no x (Held l) e b = absurd cc
-      no x Parked e b = absurd cc
-      no x (Discarded cause) e b = absurd cc
+      no x _ e b = absurd cc
 
   abbrev r : Released code home s.rows gone_rows
   r = released_rows code home s.rows
@@ -307,26 +282,15 @@ module _ (code : ℕ) (s : State) (t : IsSound s) where
 
       go : (b : Bool) → is_up home s ≡ b → IsSoundLink s.settings.method k other gone_rows
       go false down = subst (λ (rows : List Row). IsSoundLink s.settings.method k other rows) (sym (none_back down)) (t.links k other there)
-      go true up = there_or (home == k) refl
-        where
-          there_or : (b : Bool) → (home == k) ≡ b → IsSoundLink s.settings.method k other gone_rows
-          there_or true e = at_home up e
-          there_or false e = link_untouched s.settings.method k other s.rows gone_rows (r.others k e) (t.links k other there)
+      go true up = ⊎_elim (at_home up) (λ e. link_untouched s.settings.method k other s.rows gone_rows (r.others k e) (t.links k other there)) (cases_Bool (home == k))
 
   back_placed : (k : ℕ) → k < 16 → (place : Place) → place_of k s.routing ≡ place → IsPlaced s.links place → IsPlaced s.links (place_back code place)
   back_placed k few Nowhere e p = tt
   back_placed k few (On l) e p = p
-  back_placed k few (Changing to c via) e p = go (c == code) refl
-    where
-      at_home : IsPlaced s.links (On to)
-      at_home =
-          let coded = coded_at s.routing k t.routing to c via e in
-          let l = up_link to s (ap (λ (j : ℕ). is_up j s) (sym coded.0) ∙ t.homes_up c coded.1) in
-          (l.0, l.1, up_unsettled l.0.phase l.2)
-
-      go : (b : Bool) → (c == code) ≡ b → IsPlaced s.links (place_back code (Changing to c via))
-      go true f = rw f at_home
-      go false f = rw f p
+  back_placed k few (Changing to c via) e p =
+      let coded = coded_at s.routing k t.routing to c via e in
+      let l = up_link to s (ap (λ (j : ℕ). is_up j s) (sym coded.0) ∙ t.homes_up c coded.1) in
+      cond_both (c == code) (On to) (Changing to c via) (IsPlaced s.links) (λ f. (l.0, l.1, up_unsettled l.0.phase l.2)) (λ f. p)
 
   back_runs : (place : Place) → place ≢ Nowhere → place_back code place ≢ Nowhere
   back_runs place d e = grind arith
@@ -338,8 +302,8 @@ module _ (code : ℕ) (s : State) (t : IsSound s) where
       is = (codes_alone s.routing c t.routing (in_use_below (given_back code s.routing) (back_sound code s.routing t.routing) c e)).back_code code
 
       go : (b : Bool) → (c == code) ≡ b → is_up (home_of c) s ≡ true
-      go true f = let is_free : code_of c (given_back code s.routing) ≡ Free = is ∙ rw f refl in let no : Asked ≡ Free = sym e ∙ is_free in absurd cc
-      go false f = t.homes_up c (let is_old : code_of c (given_back code s.routing) ≡ code_of c s.routing = is ∙ rw f refl in sym is_old ∙ e)
+      go true f = let no : Asked ≡ Free = sym e ∙ is ∙ cond-true (c == code) Free (code_of c s.routing) f in absurd cc
+      go false f = t.homes_up c (sym (is ∙ cond-false (c == code) Free (code_of c s.routing) f) ∙ e)
 
   back_after : back gone_rows ≡ standing (λ f. not (is_back code f)) (back s.rows)
   back_after = moved_off (is_back code) stands_back (all_with (Waiting home)) s.rows (fated_none stands_back (all_with (Waiting home)) (λ x. refl) (standing (is_back code) s.rows))
@@ -349,11 +313,8 @@ module _ (code : ℕ) (s : State) (t : IsSound s) where
       backs_of (given_back code s.routing) gone_rows
       (subst (AreBack (given_back code s.routing)) (sym back_after) (each_left (is_back code) (λ row. IsBackOf s.routing row row.fate) (λ row. IsBackOf (given_back code s.routing) row row.fate) stays (back s.rows) (each_filter (λ row. IsBackOf s.routing row row.fate) (λ row. stands_back row.fate) s.rows t.backs)))
     where
-      other : (c : ℕ) → (c == code) ≡ false → (via : ℕ) → place_back code (Changing (home_of c) c via) ≡ Changing (home_of c) c via
-      other c e via = rw e refl
-
       stays : (x : Row) → is_back code x.fate ≡ false → IsBackOf s.routing x x.fate → IsBackOf (given_back code s.routing) x x.fate
-      stays x e b = stood (λ c. (c == code) ≡ false) s.routing (given_back code s.routing) (λ k few c via of f. (via, (alone s.routing k t.routing few).back_place code ∙ ap (place_back code) f ∙ other c of via)) x x.fate (λ c f. sym (ap (is_back code) f) ∙ e) b
+      stays x e b = stood (λ c. (c == code) ≡ false) s.routing (given_back code s.routing) (λ k few c via of f. (via, (alone s.routing k t.routing few).back_place code ∙ ap (place_back code) f ∙ cond-false (c == code) (On (home_of c)) (Changing (home_of c) c via) of)) x x.fate (λ c f. sym (ap (is_back code) f) ∙ e) b
 
   back_numbers : IsAscending (numbers (back gone_rows))
   back_numbers = rw back_after (ascends_filter (λ (row : Row). not (is_back code row.fate)) (back s.rows) t.back_order)

@@ -1,5 +1,6 @@
 -- WHAT HOLDS OF EVERY STATE is kept by a change of one link, with rows that change in their places.
 use Rattle.std.proofs.Common.{refl, arith, ◌≡◌, ◌≢◌, ◌∙◌, ap, sym, subst, ◌<◌, ◌≤◌, ℕ, ◌+◌, ◌%◌, ◌==◌, Bool, true, false, List, [], ◌∷◌, length, map, take, drop, slice_get, slice_set, Some, ◌⊎◌, inl, inr}
+use Rattle.std.proofs.lemmas.Bool.{eqb-false}
 use Rattle.std.proofs.lemmas.List.{length-map, length-append, length-drop, length-set}
 use Rattle.l2_units.specs.declared.unit.Header.{Header}
 use Rattle.l2_units.specs.declared.unit.Unit.{Unit as SignalUnit}
@@ -27,7 +28,7 @@ use Rattle.set_model.proofs.Events.{Kept, kept_self, Untouched, untouched_self, 
 use Rattle.set_model.proofs.InPlace.{turned_same, changed_same}
 use Rattle.set_model.proofs.Order.{last_none}
 use Rattle.set_model.proofs.Lists.{at_set, get_set_same, get_set_other, set_same, within}
-use Rattle.set_model.proofs.Places.{false_true, itself, apart, waiting_on, unacked_on, on_not_back}
+use Rattle.set_model.proofs.Places.{false_true, apart, waiting_on, unacked_on, on_not_back}
 use Rattle.set_model.proofs.Walk.{IsAt}
 
 -- PHASES.
@@ -48,13 +49,17 @@ link_untouched m n link rows new u t = record {
 }
 
 -- the link that changes, and the others
-pub links_set : (m : Method) (links : List LinkState) (n : ℕ) (link : LinkState) (rows new : List Row) → IsSoundLink m n link new → ((k : ℕ) → (n == k) ≡ false → Untouched k rows new) → ((k : ℕ) (other : LinkState) → slice_get links k ≡ Some other → IsSoundLink m k other rows)
+pub links_by : (m : Method) (links : List LinkState) (n : ℕ) (link : LinkState) (new : List Row) → IsSoundLink m n link new → ((k : ℕ) (other : LinkState) → (n == k) ≡ false → slice_get links k ≡ Some other → IsSoundLink m k other new)
     → (k : ℕ) (other : LinkState) → slice_get (slice_set links n link) k ≡ Some other → IsSoundLink m k other new
-links_set m links n link rows new one others all k other there = go (at_set links n k link other there)
+links_by m links n link new one others k other there = go (at_set links n k link other there)
   where
     go : ((k ≡ n) × (other ≡ link)) ⊎ ((k ≢ n) × (slice_get links k ≡ Some other)) → IsSoundLink m k other new
     go (inl p) = rw (p.0, p.1) one
-    go (inr p) = link_untouched m k other rows new (others k (apart n k (λ e. p.0 (sym e)))) (all k other p.1)
+    go (inr p) = others k other (apart n k (λ e. p.0 (sym e))) p.1
+
+pub links_set : (m : Method) (links : List LinkState) (n : ℕ) (link : LinkState) (rows new : List Row) → IsSoundLink m n link new → ((k : ℕ) → (n == k) ≡ false → Untouched k rows new) → ((k : ℕ) (other : LinkState) → slice_get links k ≡ Some other → IsSoundLink m k other rows)
+    → (k : ℕ) (other : LinkState) → slice_get (slice_set links n link) k ≡ Some other → IsSoundLink m k other new
+links_set m links n link rows new one others all = links_by m links n link new one (λ k other d there. link_untouched m k other rows new (others k d) (all k other there))
 
 -- a place stays one, where the link that changes isn't settled
 placed_on : (links : List LinkState) (n : ℕ) (link link' : LinkState) (l : ℕ) → slice_get links n ≡ Some link → has_phase_settled link'.phase ≡ false → IsPlaced links (On l) → IsPlaced (slice_set links n link') (On l)
@@ -62,7 +67,7 @@ placed_on links n link link' l there unsettled p = go (n == l) refl
   where
     go : (b : Bool) → (n == l) ≡ b → IsPlaced (slice_set links n link') (On l)
     go true e = let same : l ≡ n = grind arith in rw same (link', get_set_same links n link' (within links n link there), unsettled)
-    go false e = (p.0, get_set_other links n l link' (λ s. false_true (n == l) e (rw s (itself l))) ∙ p.1, p.2)
+    go false e = (p.0, get_set_other links n l link' (eqb-false n l e) ∙ p.1, p.2)
 
 pub placed_set : (links : List LinkState) (n : ℕ) (link link' : LinkState) (place : Place) → slice_get links n ≡ Some link → has_phase_settled link'.phase ≡ false → IsPlaced links place → IsPlaced (slice_set links n link') place
 placed_set links n link link' Nowhere there unsettled p = tt
@@ -85,7 +90,7 @@ up_after links n link link' there stays k up = go (n == k) refl
     go true e =
         let same : k ≡ n = grind arith in
         rw same (ap link_is_up (get_set_same links n link' (within links n link there)) ∙ stays (ap link_is_up (sym there) ∙ ap (λ (j : ℕ). link_is_up (slice_get links j)) (sym same) ∙ up))
-    go false e = ap link_is_up (get_set_other links n k link' (λ s. false_true (n == k) e (rw s (itself k)))) ∙ up
+    go false e = ap link_is_up (get_set_other links n k link' (eqb-false n k e)) ∙ up
 
 -- A CHANGE OF ONE LINK, with rows that change in their places, none of them parked.
 pub record Changes (n : ℕ) (link link' : LinkState) (s : State) (new : List Row) : Type 0 where
@@ -229,16 +234,7 @@ module _ (n : ℕ) (link : LinkState) (s : State) (at : IsAt n link Up s) (t : I
   old_range = subst (IsInRange link.control) (sym same_count) (l.in_range up)
 
   one_sent : (choice : Choice) (new : List Row) → choice_of octets link.control window ≡ choice → IsInOrder n new → IsHeldLast n new → held n new ≡ held n s.rows → length (unack n s.rows) ≤ length (unack n new) → (choice ≡ first → length (unack n new) ≡ length (unack n s.rows) + 1) → length (unack n new) ≤ 127 → IsSoundLink s.settings.method n (record link { control = control_after choice octets link.control window }) new
-  one_sent choice new e order last same more one few = record {
-    window = few;
-    counted = accepted_after choice octets link.control window ∙ l.counted;
-    method = method_after s.settings.method choice octets link.control window l.method;
-    in_order = order;
-    held_last = last;
-    none_held = λ u. same ∙ l.none_held up;
-    in_range = λ u. range_after choice octets link.control window (length (unack n new)) e (omega (arith, same_count, more)) (λ f. let k = one f in omega (arith, same_count, k)) old_range;
-    settled = λ e. false_true (has_phase_settled link.phase) not_settled e;
-  }
+  one_sent choice new e order last same more one few = grind (arith, window, accepted_after, octets, l, method_after, up, range_after, same_count, one, old_range, false_true, not_settled)
 
   -- with no message sent for the first time
   repeats : (choice : Choice) → choice_of octets link.control window ≡ choice → (choice ≡ first → ⊥) → IsSound (record s { links = slice_set s.links n (record link { control = control_after choice octets link.control window }); rows = s.rows })

@@ -1,6 +1,6 @@
 -- WHAT HOLDS OF EVERY STATE is kept when a link comes up, and when it is left by its messages.
-use Rattle.std.proofs.Common.{refl, arith, ◌≡◌, ◌≢◌, ◌∙◌, ap, sym, subst, ◌<◌, ℕ, ◌%◌, ◌==◌, Bool, true, false, not, ◌&&◌, List, [], length, slice_get, slice_set, Option, None, Some, ◌⊎◌, inl, inr, IfSome}
-use Rattle.std.proofs.lemmas.Bool.{eqb-true}
+use Rattle.std.proofs.Common.{refl, arith, ◌≡◌, ◌≢◌, ◌∙◌, ap, sym, subst, ◌<◌, ℕ, ◌%◌, ◌==◌, Bool, true, false, not, ◌&&◌, List, [], length, slice_get, slice_set, Option, None, Some, IfSome}
+use Rattle.std.proofs.lemmas.Bool.{eqb-true, eqb-false, cond_both}
 use Rattle.std.proofs.lemmas.List.{length-set}
 use Rattle.set_events.specs.declared.answer.Fate.TheVariants.{Waiting}
 use Rattle.set_events.specs.declared.config.Method.{Method}
@@ -10,22 +10,22 @@ use Rattle.set_route.specs.Routing.{place_of, has_messages, home_of, raised, set
 use Rattle.set_route.proofs.Alone.{alone}
 use Rattle.set_route.proofs.Places.{raised_sound, settled_sound}
 use Rattle.set_model.specs.declared.phase.Phase.TheVariants.{Down, Settled}
-use Rattle.set_model.specs.Rows.{Row, is_on, is_parked, stands_back, unack, on, back, parked, numbers, moved, all_with, IsInOrder, IsHeldLast}
+use Rattle.set_model.specs.Rows.{Row, is_on, is_parked, stands_back, unack, on, back, parked, numbers, moved, all_with}
 use Rattle.set_model.specs.Control.{accepted_of, start_of}
 use Rattle.set_model.specs.State.{LinkState, State, link_is_up, has_phase_up, has_phase_settled, target}
 use Rattle.set_model.specs.Changeover.{fate_on, settled_link, moved_over}
 use Rattle.set_model.specs.Step.{risen_link, rises}
 use Rattle.set_model.specs.Sound.{IsOf, IsInRange, IsSoundLink, IsPlaced, IsAscending, AreBack, IsSound}
 use Rattle.set_model.proofs.Backs.{coded_at, backs_kept, backs_same}
-use Rattle.set_model.proofs.Events.{MovedTo, moved_to, moved_aside, unparked}
-use Rattle.set_model.proofs.Lists.{at_set, get_set_same, get_set_other, same_at, within}
+use Rattle.set_model.proofs.Events.{Left, MovedTo, moved_to, moved_aside, unparked}
+use Rattle.set_model.proofs.Lists.{get_set_same, get_set_other, same_at, within}
 use Rattle.set_model.proofs.Moving.{moved_numbered, moved_fit, moved_same}
 use Rattle.set_model.proofs.Order.{order_none}
-use Rattle.set_model.proofs.Places.{false_true, itself, apart, on_not_back, parked_not_back}
+use Rattle.set_model.proofs.Places.{false_true, on_not_back, parked_not_back}
 use Rattle.set_model.proofs.Settling.{none_unack, none_held}
 use Rattle.set_model.proofs.Targets.{target_up, none_up}
 use Rattle.set_model.proofs.Walk.{IsAt}
-use Rattle.set_model.proofs.SoundLink.{up_unsettled, up_same, link_untouched, links_set, placed_set, up_before, up_after}
+use Rattle.set_model.proofs.SoundLink.{up_unsettled, up_same, link_untouched, links_by, links_set, placed_set, up_before, up_after}
 
 -- A LINK COMES UP.
 pub start_counted : (m : Method) → accepted_of (start_of m) ≡ 127
@@ -71,11 +71,7 @@ module _ (n : ℕ) (link : LinkState) (s : State) (at : IsAt n link Settled s) (
   place_risen : (home : ℕ) (used : Bool) (place : Place) → IsPlaced s.links place → IsPlaced (slice_set s.links n risen) (place_raised n home used place)
   place_risen home used Nowhere p = risen_there
   place_risen home used (Changing to code via) p = placed_set s.links n link risen (Changing to code via) at.there refl p
-  place_risen home used (On l) p = go ((home == n) && not used) refl
-    where
-      go : (b : Bool) → ((home == n) && not used) ≡ b → IsPlaced (slice_set s.links n risen) (place_raised n home used (On l))
-      go true e = rw e risen_there
-      go false e = rw e (placed_set s.links n link risen (On l) at.there refl p)
+  place_risen home used (On l) p = cond_both ((home == n) && not used) (On n) (On l) (IsPlaced (slice_set s.links n risen)) (λ e. risen_there) (λ e. placed_set s.links n link risen (On l) at.there refl p)
 
   risen_back : back new ≡ back s.rows
   risen_back = moved_same is_parked stands_back (all_with (Waiting n)) s.rows (λ x. refl) parked_not_back
@@ -119,47 +115,39 @@ module _ (n : ℕ) (link : LinkState) (s : State) (at : IsAt n link Down s) (t :
   not_target : (to : ℕ) → target s.links ≡ Some to → (n == to) ≡ false
   not_target to e = grind (arith, target_up)
 
-  settled_one : (new : List Row) → unack n new ≡ [] → on n new ≡ [] → IsInOrder n new → IsHeldLast n new → IsSoundLink s.settings.method n (settled_link link) new
-  settled_one new none empty order last =
+  settled_one : (to : Option ℕ) → Left n (fate_on to) s.rows (off_to to) → IsSoundLink s.settings.method n (settled_link link) (off_to to)
+  settled_one to m =
       let l = t.links n link at.there in
       record {
-        window = rw none (omega arith);
+        window = rw m.unack_none (omega arith);
         counted = l.counted;
         method = l.method;
-        in_order = order;
-        held_last = last;
+        in_order = m.in_order;
+        held_last = m.held_last;
         none_held = λ e. absurd cc;
         in_range = λ e. absurd cc;
-        settled = λ e. empty;
+        settled = λ e. m.on_none;
       }
 
   -- what a link sees of it
   link_left : (to : Option ℕ) → target s.links ≡ to → (k : ℕ) (other : LinkState) → slice_get (slice_set s.links n (settled_link link)) k ≡ Some other → IsSoundLink s.settings.method k other (off_to to)
-  link_left None e k other there = go (at_set s.links n k (settled_link link) other there)
-    where
-      go : ((k ≡ n) × (other ≡ settled_link link)) ⊎ ((k ≢ n) × (slice_get s.links k ≡ Some other)) → IsSoundLink s.settings.method k other (off_to None)
-      go (inl p) = let m = (moved_aside n s.rows).left_is in rw (p.0, p.1) (settled_one (off_to None) m.unack_none m.on_none m.in_order m.held_last)
-      go (inr p) = link_untouched s.settings.method k other s.rows (off_to None) ((moved_aside n s.rows).left_is.others k (apart n k (λ same. p.0 (sym same))) refl) (t.links k other p.1)
-  link_left (Some to) e k other there = go (at_set s.links n k (settled_link link) other there)
+  link_left None e =
+      let m = (moved_aside n s.rows).left_is in
+      links_set s.settings.method s.links n (settled_link link) s.rows (off_to None) (settled_one None m) (λ k d. m.others k d refl) t.links
+  link_left (Some to) e = links_by s.settings.method s.links n (settled_link link) (off_to (Some to)) (settled_one (Some to) m.left_is) (λ k other d here. go k other d here (to == k) refl)
     where
       m : MovedTo n to s.rows (off_to (Some to))
       m = moved_to n to s.rows (not_target to e)
 
-      target_link : slice_get s.links to ≡ Some other → IsSoundLink s.settings.method to other (off_to (Some to))
-      target_link here =
+      go : (k : ℕ) (other : LinkState) → (n == k) ≡ false → slice_get s.links k ≡ Some other → (b : Bool) → (to == k) ≡ b → IsSoundLink s.settings.method k other (off_to (Some to))
+      go k other d here false f = link_untouched s.settings.method k other s.rows (off_to (Some to)) (m.left_is.others k d f) (t.links k other here)
+      go k other d here true f =
+          let same : k ≡ to = sym (eqb-true to k f) in
+          let there : slice_get s.links to ≡ Some other = ap (slice_get s.links) (sym same) ∙ here in
           let found = target_up s.links to e in
-          let it : found.0 ≡ other = same_at s.links to other found.0 here found.1 in
-          let up : has_phase_up other.phase ≡ true = ap (λ (l : LinkState). has_phase_up l.phase) (sym it) ∙ found.2 in
-          let l = t.links to other here in
-          up_same s.settings.method to other s.rows (off_to (Some to)) up m.unack_same m.held_same (m.order_kept l.in_order) l
-
-      other_link : (b : Bool) → (to == k) ≡ b → k ≢ n → slice_get s.links k ≡ Some other → IsSoundLink s.settings.method k other (off_to (Some to))
-      other_link true f d here = let same : k ≡ to = sym (eqb-true to k f) in rw same (target_link (ap (slice_get s.links) (sym same) ∙ here))
-      other_link false f d here = link_untouched s.settings.method k other s.rows (off_to (Some to)) (m.left_is.others k (apart n k (λ same. d (sym same))) f) (t.links k other here)
-
-      go : ((k ≡ n) × (other ≡ settled_link link)) ⊎ ((k ≢ n) × (slice_get s.links k ≡ Some other)) → IsSoundLink s.settings.method k other (off_to (Some to))
-      go (inl p) = rw (p.0, p.1) (settled_one (off_to (Some to)) m.left_is.unack_none m.left_is.on_none m.left_is.in_order m.left_is.held_last)
-      go (inr p) = other_link (to == k) refl p.0 p.1
+          let up : has_phase_up other.phase ≡ true = ap (λ (l : LinkState). has_phase_up l.phase) (sym (same_at s.links to other found.0 there found.1)) ∙ found.2 in
+          let l = t.links to other there in
+          rw same (up_same s.settings.method to other s.rows (off_to (Some to)) up m.unack_same m.held_same (m.order_kept l.in_order) l)
 
   -- a stream on its way back has a home that is up, so there is a target
   home_up : (k : ℕ) → k < 16 → (to code via : ℕ) → place_of k s.routing ≡ Changing to code via → target s.links ≡ None → ⊥
@@ -171,27 +159,20 @@ module _ (n : ℕ) (link : LinkState) (s : State) (at : IsAt n link Down s) (t :
       no_up h None f up = let no : true ≡ false = sym up ∙ ap link_is_up f in cc
       no_up h (Some other) f up = false_true (has_phase_up other.phase) (none_up s.links h other none f) (ap link_is_up (sym f) ∙ up)
 
+  on_target : (to : Option ℕ) → target s.links ≡ to → IsPlaced (slice_set s.links n (settled_link link)) (place_on to)
+  on_target None e = tt
+  on_target (Some r) e =
+      let up = target_up s.links r e in
+      (up.0, get_set_other s.links n r (settled_link link) (eqb-false n r (not_target r e)) ∙ up.1, up_unsettled up.0.phase up.2)
+
+  on_other : (l : ℕ) → (l == n) ≡ false → IsPlaced s.links (On l) → IsPlaced (slice_set s.links n (settled_link link)) (On l)
+  on_other l d p = (p.0, get_set_other s.links n l (settled_link link) (λ same. eqb-false l n d (sym same)) ∙ p.1, p.2)
+
   place_left : (to : Option ℕ) → target s.links ≡ to → (place : Place) → ((home code via : ℕ) → place ≡ Changing home code via → to ≡ None → ⊥) → IsPlaced s.links place → IsPlaced (slice_set s.links n (settled_link link)) (place_settled n to place)
   place_left to e Nowhere some p = tt
   place_left None e (Changing home code via) some p = absurd (some home code via refl refl)
-  place_left (Some r) e (Changing home code via) some p = go (via == n) refl
-    where
-      go : (b : Bool) → (via == n) ≡ b → IsPlaced (slice_set s.links n (settled_link link)) (Changing home code (via_settled n (Some r) via))
-      go true f =
-          let up = target_up s.links r e in
-          rw f (up.0, get_set_other s.links n r (settled_link link) (λ same. false_true (n == r) (not_target r e) (rw same (itself r))) ∙ up.1, up_unsettled up.0.phase up.2)
-      go false f = rw f (p.0, get_set_other s.links n via (settled_link link) (λ same. false_true (via == n) f (rw same (itself via))) ∙ p.1, p.2)
-  place_left to e (On l) some p = go (l == n) refl
-    where
-      on_target : (o : Option ℕ) → target s.links ≡ o → IsPlaced (slice_set s.links n (settled_link link)) (place_on o)
-      on_target None f = tt
-      on_target (Some r) f =
-          let up = target_up s.links r f in
-          (up.0, get_set_other s.links n r (settled_link link) (λ same. false_true (n == r) (not_target r f) (rw same (itself r))) ∙ up.1, up_unsettled up.0.phase up.2)
-
-      go : (b : Bool) → (l == n) ≡ b → IsPlaced (slice_set s.links n (settled_link link)) (place_settled n to (On l))
-      go true f = rw f (on_target to e)
-      go false f = rw f (p.0, get_set_other s.links n l (settled_link link) (λ same. false_true (l == n) f (rw same (itself l))) ∙ p.1, p.2)
+  place_left (Some r) e (Changing home code via) some p = cond_both (via == n) r via (λ (k : ℕ). IsPlaced (slice_set s.links n (settled_link link)) (On k)) (λ f. on_target (Some r) e) (λ f. on_other via f p)
+  place_left to e (On l) some p = cond_both (l == n) (place_on to) (On l) (IsPlaced (slice_set s.links n (settled_link link))) (λ f. on_target to e) (λ f. on_other l f p)
 
   -- while a link is up there is a target
   runs_left : (to : Option ℕ) → (to ≡ None → ⊥) → (place : Place) → place ≢ Nowhere → place_settled n to place ≢ Nowhere

@@ -1,5 +1,6 @@
 -- THE WALK over the cases of the step, once: what each small change keeps, every event keeps.
 use Rattle.std.proofs.Common.{refl, arith, ◌≡◌, subst, ◌<◌, ◌≤◌, length, ℕ, zero, suc, ◌+◌, ◌==◌, Bool, true, false, ◌⊎◌, List, [], ◌∷◌, ◌++◌, slice_get, Option, Some, None, inl, inr}
+use Rattle.std.proofs.lemmas.Bool.{cond_both}
 use Rattle.l2_units.specs.declared.unit.Unit.{Unit as SignalUnit}
 use Rattle.l2_units.specs.Grammar.{head_of as header_in}
 use Rattle.l3_orders.specs.declared.order.Order.{Order}
@@ -95,11 +96,9 @@ module _ (Known : ℕ → Type 0) (May : Type 0) (R : State → State → Type 0
 
   pub declare_walks : May → (home alternative n : ℕ) (s : State) → is_up home s ≡ true → R s (declared_from home alternative n s)
   declare_walks may home alternative zero s up = k.same s
-  declare_walks may home alternative (suc n) s up = go (can_declare home alternative s) refl (λ t still. declare_walks may home (suc alternative) n t still)
-    where
-      go : (b : Bool) → can_declare home alternative s ≡ b → ((t : State) → is_up home t ≡ true → R t (declared_from home (suc alternative) n t)) → R s (declared_from home alternative (suc n) s)
-      go true e later = rw e (k.after s (declared home alternative s) _ (k.declares may home alternative s up e) (later (declared home alternative s) up))
-      go false e later = rw e (later s up)
+  declare_walks may home alternative (suc n) s up =
+      cond_both (can_declare home alternative s) (declared home alternative s) s (λ (u : State). R s (declared_from home (suc alternative) n u))
+      (λ e. k.after s (declared home alternative s) _ (k.declares may home alternative s up e) (declare_walks may home (suc alternative) n (declared home alternative s) up)) (λ e. declare_walks may home (suc alternative) n s up)
 
   pub release_walks : (code n : ℕ) (s : State) → ((j : ℕ) → j < n → Known (home_of (code + j))) → R s (released_from code n s)
   release_walks code zero s known = k.same s
@@ -122,11 +121,7 @@ module _ (Known : ℕ → Type 0) (May : Type 0) (R : State → State → Type 0
 
   pub takes_walks : (body : Option (List ℕ)) (s : State) → ((b : List ℕ) → body ≡ Some b → (o : Order) → order_of b ≡ Some o → (n : ℕ) → Touches o n → Known n) → R s (takes body s).state
   takes_walks None s known = k.same s
-  takes_walks (Some body) s known = go (service_indicator body == 0) refl
-    where
-      go : (b : Bool) → (service_indicator body == 0) ≡ b → R s (takes (Some body) s).state
-      go true e = rw e (obeyed_walks (order_of body) s (known body refl))
-      go false e = rw e (k.delivers body s)
+  takes_walks (Some body) s known = cond_both (service_indicator body == 0) _ _ (λ (o : Obeyed). R s o.state) (λ e. obeyed_walks (order_of body) s (known body refl)) (λ e. k.delivers body s)
 
 -- what the first small change of an event leads to, and what each one after it keeps
 pub record WalkedBy (s : State) (event : Event) (R : State → State → Type 0) (S : State → Type 0) : Type 0 where
@@ -188,11 +183,9 @@ module _ (s : State) (R : State → State → Type 0) (S : State → Type 0) whe
   restore_walks n link w at = grind (arith, declare_walks)
 
   timeout_walks : (n : ℕ) → WalkedBy s (BackTimeout n) R S → S (runs_out n s).state
-  timeout_walks n w = go (some_in_use (code_for n 0) 16 s) refl
-    where
-      go : (b : Bool) → some_in_use (code_for n 0) 16 s ≡ b → S (runs_out n s).state
-      go true e = rw e (w.rests s _ w.unmoved (release_walks (λ m. Concerns (BackTimeout n) m s) (BeginsNone (BackTimeout n) → ⊥) R w.small (code_for n 0) 16 s (λ j below. omega (arith, below))))
-      go false e = rw e w.unmoved
+  timeout_walks n w =
+      cond_both (some_in_use (code_for n 0) 16 s) _ _ (λ (o : Outcome). S o.state)
+      (λ e. w.rests s _ w.unmoved (release_walks (λ m. Concerns (BackTimeout n) m s) (BeginsNone (BackTimeout n) → ⊥) R w.small (code_for n 0) 16 s (λ j below. omega (arith, below)))) (λ e. w.unmoved)
 
   pub step_walks : (event : Event) → WalkedBy s event R S → S (step s event).state
   unfolding step
