@@ -38,9 +38,7 @@ pub back_more : (code n : ℕ) (q : Lists) → back_from code (n + 1) q ≡ back
 back_more code n q = rw add-one (back_suc code n q)
 
 pub back_grows : (code n k m : ℕ) (q : Lists) → n + k ≡ m → back_from code n q ≤ back_from code m q
-back_grows code n zero m q e =
-    let same : n ≡ m = omega (arith, e) in
-    omega (arith, ap (λ (i : ℕ). back_from code i q) same)
+back_grows code n zero m q e = grind arith
 back_grows code n (suc k) m q e =
     let next : suc (n + k) ≡ m = omega (arith, e) in
     omega (arith, back_grows code n k (n + k) q refl, back_suc code (n + k) q, ap (λ (i : ℕ). back_from code i q) next)

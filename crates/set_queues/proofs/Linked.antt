@@ -1,5 +1,5 @@
 -- The queues of one link change: what that is for the lists and the rooms of a set.
-use Rattle.std.proofs.Common.{refl, arith, ◌≡◌, ◌∙◌, ap, subst, ◌+◌, ◌≤◌, ◌<◌, length, map, ℕ, Bool, true, false, ◌==◌, [], List, Some, cond, get_or, ◌⊎◌, inl, inr, Result, IfOk, OnOk}
+use Rattle.std.proofs.Common.{refl, arith, ◌≡◌, ◌∙◌, ap, subst, ◌+◌, ◌≤◌, ◌<◌, length, map, ℕ, Bool, true, false, ◌==◌, [], List, Some, cond, get_or, ◌⊎◌, inl, inr}
 use Rattle.std.specs.Prelude.{slice_get, slice_set, vec_len}
 use Rattle.std.specs.Option.{option_map}
 use Rattle.std.proofs.lemmas.Bool.{eqb-true, eqb-false, eq-eqb, cases_lt}
@@ -73,27 +73,18 @@ room_held xs l x y parked back e = ap (room_at (Held l)) (rooms_set xs l x y par
 
 -- the link that an index of this number reads
 pub found : (fields : Inside) (value : BuffersState) (i l : ℕ) (x : Link) → state_of fields ≡ value → l < length value.lists.links → i ≡ l → x ≡ get_or fields.links.items i x → slice_get fields.links.items l ≡ Some x
-found fields value i l x v b n e =
-    let below : l < length (map lists_of fields.links.items) = rw (← v) at b in
-    link_there fields.links.items l x below (rw n at e)
+found fields value i l x v b n e = grind (arith, link_there)
 
 -- an index of this number is within the list
 pub within : (fields : Inside) (value : BuffersState) (i l : ℕ) → state_of fields ≡ value → l < length value.lists.links → i ≡ l → i < vec_len fields.links
-within fields value i l v b n =
-    let below : l < length (map lists_of fields.links.items) = rw (← v) at b in
-    omega (arith, below, n, length-map fields.links.items lists_of, fields.links.ok.0)
+within fields value i l v b n = grind (arith, length-map)
 
 pub within_back : (fields : Inside) (value : BuffersState) (i c : ℕ) → state_of fields ≡ value → c < length value.lists.back → i ≡ c → i < vec_len fields.back
-within_back fields value i c v b n =
-    let below : c < length (map messages_of fields.back.items) = rw (← v) at b in
-    omega (arith, below, n, length-map fields.back.items messages_of, fields.back.ok.0)
+within_back fields value i c v b n = grind (arith, length-map)
 
 -- the lists of the set when a link changes, and when a code's queue does
 abbrev pub links_in : Inside → List LinkLists → Lists
 links_in fields links = record (state_of fields).lists { links = links }
-
-abbrev pub back_in : Inside → List (List ℕ) → Lists
-back_in fields back = record (state_of fields).lists { back = back }
 
 -- a link that is set to what is seen alike changes nothing
 abbrev state_with : Inside → List LinkLists → List LinkRooms → BuffersState
@@ -104,10 +95,6 @@ state_with fields lists rooms = record {
 
 pub same_links : (fields : Inside) (l : ℕ) (x y : Link) → slice_get fields.links.items l ≡ Some x → lists_of y ≡ lists_of x → rooms_of y ≡ rooms_of x → state_with fields (map lists_of (slice_set fields.links.items l y)) (map rooms_of (slice_set fields.links.items l y)) ≡ state_of fields
 same_links fields l x y e same rooms = rw (map_set_same lists_of fields.links.items l x y e same, map_set_same rooms_of fields.links.items l x y e rooms) refl
-
--- a fact of what is returned where it's Ok
-pub on_ok_of : {T E Q : Type 0} {P : T → Type 0} (r : Result T E) → ((x : T) → P x → Q) → IfOk r P → OnOk r Q
-on_ok_of r f p = grind arith
 
 -- one of its lists, as the set's lists have it
 pub list_there : (list : LinkLists → List ℕ) (xs : List Link) (l : ℕ) (x : Link) → slice_get xs l ≡ Some x → list_in list (slice_get (map lists_of xs) l) ≡ list (lists_of x)
@@ -130,10 +117,7 @@ room_each l n old mid new each kept w still h k b = go (cases_lt k l)
 
 -- the queue that an index of this code reads
 pub back_found : (fields : Inside) (value : BuffersState) (i c : ℕ) (x : QueueState) → state_of fields ≡ value → c < length value.lists.back → i ≡ c → x ≡ get_or fields.back.items i x → slice_get fields.back.items c ≡ Some x
-back_found fields value i c x v b n e =
-    let below : c < length (map messages_of fields.back.items) = rw (← v) at b in
-    let within : c < length fields.back.items = simp length-map at below in
-    slice_get_read fields.back.items (length fields.back.items) c x refl within (rw n at e)
+back_found fields value i c x v b n e = grind (arith, length-map, slice_get_read)
 
 pub back_there : (xs : List QueueState) (c : ℕ) (x : QueueState) → slice_get xs c ≡ Some x → get_or (map messages_of xs) c [] ≡ x.messages
 back_there xs c x e = get_or_from_slice_get (map messages_of xs) c (messages_of x) [] (slice_get-map messages_of xs c ∙ ap (option_map messages_of) e)

@@ -21,32 +21,14 @@ pub record IsAside (link : ℕ) (to : Fate) (q : Lists) : Type 0 where
   pub unsent : same_fate to (Waiting link) ≡ false
   pub held : same_fate to (Held link) ≡ false
 
-apart_unsent : (target : Option ℕ) (link : ℕ) → IfSome target (λ to. to ≢ link) → same_fate (fate_on target) (Waiting link) ≡ false
-apart_unsent target link h = grind arith
-
-apart_held : (target : Option ℕ) (link : ℕ) → same_fate (fate_on target) (Held link) ≡ false
-apart_held target link = grind arith
-
 queued_on : (target : Option ℕ) → IsQueued (fate_on target)
 queued_on target = grind arith
 
 pub aside_of : (target : Option ℕ) (link : ℕ) (to : Fate) (q : Lists) → to ≡ fate_on target → link < length q.links → IsKnown (fate_on target) q → IfSome target (λ t. t ≢ link) → IsAside link to q
-aside_of target link to q e k o a = record {
-  known = k;
-  other = subst (λ (f : Fate). IsKnown f q) (sym e) o;
-  queued = subst IsQueued (sym e) (queued_on target);
-  unsent = ap (λ (f : Fate). same_fate f (Waiting link)) e ∙ apart_unsent target link a;
-  held = ap (λ (f : Fate). same_fate f (Held link)) e ∙ apart_held target link;
-}
+aside_of target link to q e k o a = grind arith
 
 pub aside_passed : (link : ℕ) (from to : Fate) (q : Lists) → IsAside link to q → IsAside link to (passed from to q)
-aside_passed link from to q a = record {
-  known = omega (arith, a.known, (passed_size q from to).links);
-  other = known_on to q (passed from to q) (passed_size q from to) a.other;
-  queued = a.queued;
-  unsent = a.unsent;
-  held = a.held;
-}
+aside_passed link from to q a = grind (arith, passed_size, known_on)
 
 untouched : (q : Lists) (from to f : Fate) → is_standing from ≡ true → IsKnown from q → IsKnown to q → IsQueued to → is_standing f ≡ true → same_fate from f ≡ false → same_fate to f ≡ false → queue_at f (passed from to q) ≡ queue_at f q
 untouched q from to f s k o u t n m = passed_replaces q from to s k o u f t ∙ ap (λ (b : Bool). cond b [] (cond (same_fate to f) (queue_at to q ++ queue_at from q) (queue_at f q))) n ∙ ap (λ (b : Bool). cond b (queue_at to q ++ queue_at from q) (queue_at f q)) m

@@ -90,9 +90,7 @@ narrower b xs h = grind arith
 
 -- the queue that messages leave and the one that they join
 pub both_replaced : (q : Lists) (from to : Fate) (left joined : List ℕ) → is_standing from ≡ true → is_standing to ≡ true → IsKnown from q → IsKnown to q → Replaces q (with_queue from left (with_queue to joined q)) from to left joined
-both_replaced q from to left joined s u k o f t =
-    queue_set from f left (with_queue to joined q) s (known_on from q (with_queue to joined q) (size_stays to joined q) k)
-    ∙ ap (λ (xs : List ℕ). cond (same_fate from f) left xs) (queue_set to f joined q u o)
+both_replaced q from to left joined s u k o f t = search (queue_set, known_on, size_stays)
 
 pub both_size : (q : Lists) (from to : Fate) (left joined : List ℕ) → SameSize q (with_queue from left (with_queue to joined q))
 both_size q from to left joined = size_both q (with_queue to joined q) (with_queue from left (with_queue to joined q)) (size_stays to joined q) (size_stays from left (with_queue to joined q))

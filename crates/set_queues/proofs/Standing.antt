@@ -1,5 +1,5 @@
 -- Messages that come to stand elsewhere, and the queues that name them.
-use Rattle.std.proofs.Common.{refl, arith, ◌≡◌, ◌∙◌, ap, sym, subst, ◌+◌, ◌≤◌, ◌<◌, [], ◌∷◌, ◌++◌, length, ℕ, zero, suc, Bool, true, false, ◌==◌, ◌⊎◌, inl, inr, List, Option, Some, None, cond, take, drop, add-one}
+use Rattle.std.proofs.Common.{refl, arith, ◌≡◌, ◌∙◌, ap, subst, ◌+◌, ◌≤◌, ◌<◌, [], ◌∷◌, ◌++◌, length, ℕ, zero, suc, Bool, true, ◌==◌, ◌⊎◌, inl, inr, List, Option, Some, None, cond, take, drop, add-one}
 use Rattle.std.specs.Prelude.{slice_get}
 use Rattle.std.specs.Option.{option_map}
 use Rattle.std.proofs.lemmas.Bool.{eq-eqb, ne_eqb, cases_eq}
@@ -17,9 +17,6 @@ pub same_is : (f g : Fate) → is_standing g ≡ true → same_fate f g ≡ true
 same_is f g s e = grind arith
 
 -- how often a number stands in a list
-
-one_if_most : (b : Bool) → one_if b ≤ 1
-one_if_most b = grind arith
 
 pub occurs-append : (m : ℕ) (xs ys : List ℕ) → occurs m (xs ++ ys) ≡ occurs m xs + occurs m ys
 occurs-append m [] ys = omega arith
@@ -102,34 +99,7 @@ pub same_self : (f : Fate) → is_standing f ≡ true → same_fate f f ≡ true
 same_self f s = grind arith
 
 pub moved_tie : (q q' : Lists) (ms : List Message) (ns : List ℕ) (from to : Fate) → AreTied q ms → is_standing from ≡ true → AreGiven ns ms → ((m : ℕ) → occurs m ns ≤ occurs m (queue_at from q)) → Moves ns from to q q' → AreTied q' (restood ns to ms)
-moved_tie q q' ms ns from to tie s given within moves f sf m = go (occurs m ns) refl
-  where
-    go : (k : ℕ) → occurs m ns ≡ k → occurs m (queue_at f q') ≡ one_if (stands f m (restood ns to ms))
-    go zero z =
-        let same : fate_at m (restood ns to ms) ≡ fate_at m ms = fate_stays m ns to ms z in
-        let e : one_if (stands f m (restood ns to ms)) ≡ one_if (stands f m ms) = ap (λ (o : Option Fate). one_if (has_fate f o)) same in
-        let w = moves f sf m in
-        still (same_fate from f) (same_fate to f) w (tie f sf m ∙ sym e)
-      where
-        still : (a b : Bool) → occurs m (queue_at f q') + cond a (occurs m ns) 0 ≡ occurs m (queue_at f q) + cond b (occurs m ns) 0 → occurs m (queue_at f q) ≡ one_if (stands f m (restood ns to ms)) → occurs m (queue_at f q') ≡ one_if (stands f m (restood ns to ms))
-        still true true w e = omega (arith, z)
-        still true false w e = omega (arith, z)
-        still false true w e = omega (arith, z)
-        still false false w e = omega (arith, z)
-    go (suc k) z =
-        let had : fate_at m ms ≡ Some from = has_of from from (fate_at m ms) s (one_true (stands from m ms) (omega (arith, within m, tie from s m))) in
-        let has : fate_at m (restood ns to ms) ≡ Some to = fate_moves m ns to ms given (omega arith) in
-        let one : occurs m ns ≡ 1 = omega (arith, within m, tie from s m, one_if_most (stands from m ms)) in
-        let e : one_if (stands f m (restood ns to ms)) ≡ one_if (same_fate to f) = ap (λ (o : Option Fate). one_if (has_fate f o)) has in
-        let d : one_if (stands f m ms) ≡ one_if (same_fate from f) = ap (λ (o : Option Fate). one_if (has_fate f o)) had in
-        let w = moves f sf m in
-        turns (same_fate from f) (same_fate to f) one w (tie f sf m ∙ d) ∙ sym e
-      where
-        turns : (a b : Bool) → occurs m ns ≡ 1 → occurs m (queue_at f q') + cond a (occurs m ns) 0 ≡ occurs m (queue_at f q) + cond b (occurs m ns) 0 → occurs m (queue_at f q) ≡ one_if a → occurs m (queue_at f q') ≡ one_if b
-        turns true true one w e = omega arith
-        turns true false one w e = omega arith
-        turns false true one w e = omega arith
-        turns false false one w e = omega arith
+moved_tie q q' ms ns from to tie s given within moves f sf m = grind (arith, fate_stays, has_of, one_true, fate_moves)
 
 -- what stands in a queue has been given out
 pub given_queue : (q : Lists) (ms : List Message) (f : Fate) → AreTied q ms → is_standing f ≡ true → (ns : List ℕ) → ((m : ℕ) → occurs m ns ≤ occurs m (queue_at f q)) → AreGiven ns ms

@@ -1,5 +1,5 @@
 -- A body is found where it was put, and a further one leaves the earlier ones.
-use Rattle.std.proofs.Common.{arith, ◌≡◌, ◌≤◌, ◌<◌, ◌+◌, ◌-◌, ◌∙◌, ap, refl, sym, subst, ℕ, zero, suc, List, [], ◌∷◌, ◌++◌, length, take, drop, Some}
+use Rattle.std.proofs.Common.{arith, ◌≡◌, ◌≤◌, ◌<◌, ◌+◌, ◌-◌, ◌∙◌, ap, refl, sym, subst, ℕ, zero, suc, List, [], ◌∷◌, ◌++◌, length, Some}
 use Rattle.std.specs.Prelude.{slice_get, slice_index_or}
 use Rattle.std.proofs.lemmas.Option.{slice_get_read}
 use Rattle.std.specs.List.{between}
@@ -17,15 +17,11 @@ starts_within start (end ∷ ends) octets all = let rest = starts_within end end
 
 -- octets behind a body leave it
 between_still : (start end : ℕ) (octets more : List ℕ) → start ≤ end → end ≤ length octets → between start end (octets ++ more) ≡ between start end octets
-between_still start end octets more low high =
-    ap (take (end - start)) (drop-append-le start octets more (omega (arith, low, high)))
-    ∙ take-append-le (end - start) (drop start octets) more (let left = length-drop start octets in omega (arith, low, high, left))
+between_still start end octets more low high = grind (arith, drop-append-le, take-append-le, length-drop)
 
 -- the last one is what was put last
 between_last : (octets body : List ℕ) → between (length octets) (length octets + length body) (octets ++ body) ≡ body
-between_last octets body =
-    ap (take (length octets + length body - length octets)) (drop_at octets body (length octets) refl)
-    ∙ take_all (length octets + length body - length octets) body (omega arith)
+between_last octets body = grind (arith, drop_at, take_all)
 
 -- A FURTHER BODY stands last
 pub bodies_more : (start : ℕ) (ends octets body : List ℕ) (end : ℕ) → end ≡ length octets + length body → AreAll start ends octets

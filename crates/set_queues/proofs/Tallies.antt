@@ -1,5 +1,5 @@
 -- The running counts of a list of messages, when one of them changes or joins.
-use Rattle.std.proofs.Common.{arith, ◌≡◌, ap, subst, ◌+◌, ◌≤◌, ◌<◌, ◌^◌, [], ◌∷◌, ◌++◌, length, ℕ, zero, suc, Bool, List, Some, cond}
+use Rattle.std.proofs.Common.{arith, ◌≡◌, subst, ◌+◌, ◌≤◌, ◌<◌, ◌^◌, [], ◌∷◌, ◌++◌, length, ℕ, zero, suc, Bool, List, Some, cond}
 use Rattle.std.specs.Prelude.{filter, slice_get, slice_set}
 use Rattle.set_queues.specs.declared.message.Message.{Message}
 use Rattle.set_queues.specs.declared.tally.Tally.{Tally}
@@ -14,9 +14,7 @@ count_cons p x xs = length_if (p x) x (filter p xs)
 
 pub count_set : (p : Message → Bool) (xs : List Message) (n : ℕ) (x y : Message) → slice_get xs n ≡ Some x → length (filter p (slice_set xs n y)) + one_if (p x) ≡ length (filter p xs) + one_if (p y)
 count_set p [] n x y e = absurd (cc)
-count_set p (z ∷ xs) zero x y e =
-    let f : z ≡ x = cc in
-    omega (arith, count_cons p y xs, count_cons p z xs, ap (λ (w : Message). one_if (p w)) f)
+count_set p (z ∷ xs) zero x y e = grind arith
 count_set p (z ∷ xs) (suc n) x y e =
     omega (arith, count_cons p z (slice_set xs n y), count_cons p z xs, count_set p xs n x y e)
 
@@ -26,9 +24,7 @@ count_push p (x ∷ xs) y = omega (arith, count_cons p x (xs ++ y ∷ []), count
 
 pub count_in : (p : Message → Bool) (xs : List Message) (n : ℕ) (x : Message) → slice_get xs n ≡ Some x → one_if (p x) ≤ length (filter p xs)
 count_in p [] n x e = absurd (cc)
-count_in p (z ∷ xs) zero x e =
-    let f : z ≡ x = cc in
-    omega (arith, count_cons p z xs, ap (λ (w : Message). one_if (p w)) f)
+count_in p (z ∷ xs) zero x e = grind arith
 count_in p (z ∷ xs) (suc n) x e = omega (arith, count_cons p z xs, count_in p xs n x e)
 
 one_at_most : (b : Bool) → one_if b ≤ 1
@@ -51,41 +47,14 @@ tally_in t xs n x h e = record {
 }
 
 pub tally_few : (t : Tally) (xs : List Message) → IsTally t xs → length xs < 2 ^ 63 → AreFew t
-tally_few t xs h few = record {
-  waiting = omega (arith, h.waiting, count_few (is_there waits) xs);
-  unacked = omega (arith, h.unacked, count_few (is_there was_sent) xs);
-  acked = omega (arith, h.acked, count_few (is_there was_acked) xs);
-  held = omega (arith, h.held, count_few (is_there was_held) xs);
-  parked = omega (arith, h.parked, count_few (is_there is_parked) xs);
-  back = omega (arith, h.back, count_few (is_there stands_back) xs);
-  discarded = omega (arith, h.discarded, count_few (is_there was_discarded) xs);
-  unsent = λ s b. omega (arith, h.unsent s b, count_few (is_queued s) xs);
-}
+tally_few t xs h few = grind (arith, count_few)
 
 -- one that left is fewer than a range's end
 pub fewer : (m : Message) (old new : Tally) → IsMore m old new → AreFew new → AreFew old
-fewer m old new i few = record {
-  waiting = omega (arith, i.waiting, few.waiting);
-  unacked = omega (arith, i.unacked, few.unacked);
-  acked = omega (arith, i.acked, few.acked);
-  held = omega (arith, i.held, few.held);
-  parked = omega (arith, i.parked, few.parked);
-  back = omega (arith, i.back, few.back);
-  discarded = omega (arith, i.discarded, few.discarded);
-  unsent = λ s b. omega (arith, i.unsent s b, few.unsent s b);
-}
+fewer m old new i few = grind arith
 
 pub tally_push : (t u : Tally) (xs : List Message) (y : Message) → IsTally t xs → IsMore y t u → IsTally u (xs ++ y ∷ [])
-tally_push t u xs y h i = record {
-  waiting = omega (arith, h.waiting, i.waiting, count_push (is_there waits) xs y);
-  unacked = omega (arith, h.unacked, i.unacked, count_push (is_there was_sent) xs y);
-  acked = omega (arith, h.acked, i.acked, count_push (is_there was_acked) xs y);
-  held = omega (arith, h.held, i.held, count_push (is_there was_held) xs y);
-  parked = omega (arith, h.parked, i.parked, count_push (is_there is_parked) xs y);
-  back = omega (arith, h.back, i.back, count_push (is_there stands_back) xs y);
-  discarded = omega (arith, h.discarded, i.discarded, count_push (is_there was_discarded) xs y);
-  unsent = λ s b. omega (arith, h.unsent s b, i.unsent s b, count_push (is_queued s) xs y);
-}
+tally_push t u xs y h i = grind (arith, count_push)
 
 pub tally_set : (t u v : Tally) (xs : List Message) (n : ℕ) (x y : Message) → IsTally t xs → slice_get xs n ≡ Some x → IsMore x u t → IsMore y u v → IsTally v (slice_set xs n y)
 tally_set t u v xs n x y h e i j = record {

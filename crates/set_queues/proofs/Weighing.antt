@@ -1,11 +1,10 @@
 -- The octets of the unacknowledged bodies.
 use Rattle.std.proofs.Common.{refl, arith, ◌≡◌, ◌∙◌, ap, ◌+◌, ◌*◌, ◌≤◌, ◌<◌, [], ◌∷◌, ◌++◌, length, ℕ, zero, suc, ◌==◌, List, Option, Some, None, cond, take, drop}
 use Rattle.std.specs.Prelude.{slice_get, slice_index}
-use Rattle.std.specs.Option.{option_map}
 use Rattle.set_events.specs.declared.answer.Fate.{Fate}
 use Rattle.set_events.specs.declared.answer.Fate.TheVariants.{Unacked}
 use Rattle.set_queues.specs.declared.message.Message.{Message}
-use Rattle.set_queues.specs.Messages.{with_fate, restood_one, restood, octets_in, octets_at, octets_of}
+use Rattle.set_queues.specs.Messages.{restood_one, restood, octets_in, octets_at, octets_of}
 use Rattle.set_queues.specs.Tally.{AreFit}
 use Rattle.set_queues.specs.Buffers.{Lists, same_fate, queue_at}
 use Rattle.set_queues.specs.Queues.{AreWeighed}
@@ -30,9 +29,6 @@ octets_few [] ms f = omega arith
 octets_few (n ∷ ns) ms f = omega (arith, fit_octets ms n (slice_get ms n) refl f, octets_few ns ms f)
 
 -- a message that comes to stand elsewhere keeps its octets
-
-octets_with : (f : Fate) (o : Option Message) → octets_in (option_map (with_fate f) o) ≡ octets_in o
-octets_with f o = grind arith
 
 octets_one : (n k : ℕ) (f : Fate) (ms : List Message) → octets_at n (restood_one k f ms) ≡ octets_at n ms
 octets_one n k f ms = grind (arith, updated_same, updated_other)

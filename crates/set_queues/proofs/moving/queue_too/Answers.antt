@@ -1,4 +1,4 @@
-use Rattle.std.proofs.Common.{arith, ◌≡◌, ◌∙◌, ap, sym, subst, [], ◌∷◌, ◌++◌, length, take, List, ℕ, Some, append_assoc}
+use Rattle.std.proofs.Common.{arith, ◌≡◌, ◌∙◌, ap, sym, subst, [], ◌∷◌, ◌++◌, take, List, ℕ, Some, append_assoc}
 use Rattle.std.specs.Prelude.{slice_get}
 use Rattle.set_queues.specs.Buffers.{queue_at, with_queue, same_fate}
 use Rattle.set_queues.proofs.Standing.{take_get, none_past, append-nil, room_sum}
@@ -6,10 +6,7 @@ use Rattle.set_queues.proofs.Passing.{queue_id, queue_more, queue_other, queued_
 use Rattle.set_queues.proofs.moving.queue_too.Goals as goal
 
 pub loop-place-init : goal.loop-place-init
-loop-place-init c = record {
-  lists = sym (ap (λ (ns : List ℕ). with_queue c.args.to ns c.args.buffers.now.lists) (append-nil (queue_at c.args.to c.args.buffers.now.lists)) ∙ queue_id c.args.to c.args.buffers.now.lists c.requires.other);
-  room = λ fate. omega arith;
-}
+loop-place-init c = grind (arith, append-nil, queue_id)
 
 pub at-requires : goal.at-requires
 at-requires c = known_on c.args.from c.args.buffers.now.lists c.loop-place.buffers.lists (subst (SameSize c.args.buffers.now.lists) (sym c.loop-place.invariant.lists) (size_stays c.args.to _ c.args.buffers.now.lists)) c.requires.known
@@ -18,9 +15,7 @@ pub push-requires-clause-known : goal.push-requires-clause-known
 push-requires-clause-known c = known_on c.args.to c.args.buffers.now.lists c.loop-place.buffers.lists (subst (SameSize c.args.buffers.now.lists) (sym c.loop-place.invariant.lists) (size_stays c.args.to _ c.args.buffers.now.lists)) c.requires.other
 
 pub unreachable-requires : goal.unreachable-requires
-unreachable-requires c =
-    let same : queue_at c.args.from c.loop-place.buffers.lists ≡ queue_at c.args.from c.args.buffers.now.lists = ap (queue_at c.args.from) c.loop-place.invariant.lists ∙ queue_other c.args.to c.args.from _ c.args.buffers.now.lists (queued_stands c.args.to c.requires.queued) c.requires.other c.requires.apart in
-    none_past (queue_at c.args.from c.loop-place.buffers.lists) c.loop-place.place (sym c.at.ensures ∙ c.in-None.is) (omega (arith, ap length same, c.len-place-end.ensures.value))
+unreachable-requires c = grind (arith, queue_other, none_past)
 
 pub loop-place-preserved : goal.loop-place-preserved
 loop-place-preserved c =

@@ -1,4 +1,4 @@
-use Rattle.std.proofs.Common.{arith, ◌≡◌, ◌∙◌, ap, sym, [], ◌∷◌, length, take, List, ℕ, Some}
+use Rattle.std.proofs.Common.{arith, ◌≡◌, ◌∙◌, ap, sym, [], ◌∷◌, take, List, ℕ, Some}
 use Rattle.std.specs.Prelude.{slice_get}
 use Rattle.set_queues.specs.Messages.{restood, restood_one}
 use Rattle.set_queues.specs.Buffers.{queue_at}
@@ -6,9 +6,7 @@ use Rattle.set_queues.proofs.Standing.{take_get, given_at, none_past, length-res
 use Rattle.set_queues.proofs.moving.restand_first.Goals as goal
 
 pub restand-requires : goal.restand-requires
-restand-requires c =
-    let got : slice_get (queue_at c.args.from c.args.buffers.now.lists) c.loop-place.place ≡ Some c.in-Some.message = sym c.at.ensures ∙ c.in-Some.is in
-    omega (arith, given_at _ _ _ _ c.requires.given got, ap length c.loop-place.invariant.messages, length-restood (take c.loop-place.place (queue_at c.args.from c.args.buffers.now.lists)) c.args.to c.args.messages.now.messages)
+restand-requires c = grind (arith, given_at, length-restood)
 
 pub unreachable-requires : goal.unreachable-requires
 unreachable-requires c = none_past (queue_at c.args.from c.args.buffers.now.lists) c.loop-place.place (sym c.at.ensures ∙ c.in-None.is) (omega (arith, c.requires.few))

@@ -1,4 +1,4 @@
-use Rattle.std.proofs.Common.{arith, refl, ◌≡◌, ◌∙◌, sym, Some}
+use Rattle.std.proofs.Common.{arith, refl, ◌∙◌, sym}
 use Rattle.std.specs.Prelude.{slice_get}
 use Rattle.set_events.specs.declared.answer.Fate.TheVariants.{Unacked}
 use Rattle.set_queues.specs.Buffers.{queue_at}
@@ -13,9 +13,4 @@ pub unreachable-requires : goal.unreachable-requires
 unreachable-requires c = none_past (queue_at (Unacked c.args.link) c.args.buffers.now.lists) c.from.result (sym c.at.ensures ∙ c.in-None.is) (omega (arith, c.requires.few, c.from.ensures))
 
 pub loop-place-preserved : goal.loop-place-preserved
-loop-place-preserved c =
-    let got : slice_get (queue_at (Unacked c.args.link) c.args.buffers.now.lists) c.loop-place.place ≡ Some c.in-Some.number = rw (← c.from.ensures) (sym c.at.ensures ∙ c.in-Some.is) in
-    record {
-      octets = omega (arith, octets_more (queue_at (Unacked c.args.link) c.args.buffers.now.lists) c.loop-place.place c.in-Some.number c.args.messages.now.messages got, c.loop-place.invariant.octets);
-      few = omega (arith, c.loop-place.invariant.few, fit_octets c.args.messages.now.messages c.in-Some.number (slice_get c.args.messages.now.messages c.in-Some.number) refl c.requires.fit);
-    }
+loop-place-preserved c = grind (arith, octets_more, fit_octets)

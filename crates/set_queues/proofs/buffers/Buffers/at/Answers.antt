@@ -1,12 +1,10 @@
-use Rattle.std.proofs.Common.{◌<◌, length}
+use Rattle.std.proofs.Common.{arith, ◌<◌, length}
 use Rattle.set_queues.specs.Buffers.{LinkLists}
 use Rattle.set_queues.proofs.Linked.{found, within, list_there, back_found, within_back, back_there}
 use Rattle.set_queues.proofs.buffers.Buffers.at.Goals as goal
 
 pub index-requires : goal.index-requires
-index-requires c =
-    let known : c.in-Waiting.link < length c.args.self.now.lists.links = rw c.in-Waiting.is at c.requires in
-    within c.self.inside _ _ _ c.self.view_is known c.from.ensures
+index-requires c = grind (arith, within)
 
 pub returns-in-Waiting : goal.returns-in-Waiting
 returns-in-Waiting c =
@@ -15,9 +13,7 @@ returns-in-Waiting c =
     rw (c.in-Waiting.is, ← c.self.view_is, list_there (λ (z : LinkLists). z.unsent) _ _ _ there) c.unsent_at.ensures
 
 pub index-requires-in-Unacked : goal.index-requires-in-Unacked
-index-requires-in-Unacked c =
-    let known : c.in-Unacked.link < length c.args.self.now.lists.links = rw c.in-Unacked.is at c.requires in
-    within c.self.inside _ _ _ c.self.view_is known c.from-in-Unacked.ensures
+index-requires-in-Unacked c = grind (arith, within)
 
 pub returns-in-Unacked : goal.returns-in-Unacked
 returns-in-Unacked c =
@@ -26,9 +22,7 @@ returns-in-Unacked c =
     rw (c.in-Unacked.is, ← c.self.view_is, list_there (λ (z : LinkLists). z.unacked) _ _ _ there) c.unacked_at.ensures
 
 pub index-requires-in-Held : goal.index-requires-in-Held
-index-requires-in-Held c =
-    let known : c.in-Held.link < length c.args.self.now.lists.links = rw c.in-Held.is at c.requires in
-    within c.self.inside _ _ _ c.self.view_is known c.from-in-Held.ensures
+index-requires-in-Held c = grind (arith, within)
 
 pub returns-in-Held : goal.returns-in-Held
 returns-in-Held c =
@@ -37,9 +31,7 @@ returns-in-Held c =
     rw (c.in-Held.is, ← c.self.view_is, list_there (λ (z : LinkLists). z.held) _ _ _ there) c.at.ensures
 
 pub index-requires-in-Back : goal.index-requires-in-Back
-index-requires-in-Back c =
-    let known : c.in-Back.code < length c.args.self.now.lists.back = rw c.in-Back.is at c.requires in
-    within_back c.self.inside _ _ _ c.self.view_is known c.from-in-Back.ensures
+index-requires-in-Back c = grind (arith, within_back)
 
 pub returns-in-Back : goal.returns-in-Back
 returns-in-Back c =

@@ -1,11 +1,11 @@
 use Rattle.std.proofs.Common.{arith, refl, ℕ, ◌++◌, [], ◌∷◌, ap, sym, map, drop, ◌∙◌}
-use Rattle.std.proofs.lemmas.Result.{IfOk-weaker, on_err_weaker}
+use Rattle.std.proofs.lemmas.Result.{IfOk-weaker}
 use Rattle.std.specs.Prelude.{slice_get}
-use Rattle.l2_window.specs.Window.{WindowState, Sends}
+use Rattle.l2_window.specs.Window.{Sends}
 use Rattle.set_queues.specs.Buffers.{LinkLists, list_in}
-use Rattle.set_queues.specs.Kept.{lists_of, rooms_of}
+use Rattle.set_queues.specs.Kept.{lists_of}
 use Rattle.set_queues.proofs.Updates.{updated_twice}
-use Rattle.set_queues.proofs.Linked.{links_in, found, within, lists_set, list_there, last_there, keeps, same_links, on_ok_of}
+use Rattle.set_queues.proofs.Linked.{links_in, found, within, lists_set, list_there, last_there, keeps, same_links}
 use Rattle.set_queues.proofs.buffers.Buffers.send.Goals as goal
 
 pub index_mut-requires : goal.index_mut-requires
@@ -46,13 +46,7 @@ returns-clause-fsn c =
     rw (← c.self.view_is, last_there _ _ _ there, list_there (λ (z : LinkLists). z.unacked) _ _ _ there) c.send.ensures.fsn
 
 pub returns-clause-room : goal.returns-clause-room
-returns-clause-room c =
-    let there = found c.self.inside _ _ _ _ c.self.view_is c.requires c.from.ensures c.index_mut.ensures.value in
-    on_ok_of {P = λ (is : ℕ × ℕ). Sends is.0 c.index_mut.result.now.window c.send.new.self} c.send.result (λ is sent. rw (c.from.ensures, ← c.self.view_is) (keeps _ _ _ _ _ _ there sent.room (omega arith))) c.send.ensures.sent
+returns-clause-room c = grind (arith, found, keeps)
 
 pub returns-clause-err : goal.returns-clause-err
-returns-clause-err c =
-    let there = found c.self.inside _ _ _ _ c.self.view_is c.requires c.from.ensures c.index_mut.ensures.value in
-    on_err_weaker c.send.result (λ same. rw (c.from.ensures) (same_links c.self.inside c.args.link c.index_mut.result.now (record { window = c.send.new.self; held = c.index_mut.result.now.held }) there
-    (ap (λ (w : WindowState). lists_of (record { window = w; held = c.index_mut.result.now.held })) same)
-    (ap (λ (w : WindowState). rooms_of (record { window = w; held = c.index_mut.result.now.held })) same) ∙ c.self.view_is)) c.send.ensures.err
+returns-clause-err c = grind (arith, found, same_links)

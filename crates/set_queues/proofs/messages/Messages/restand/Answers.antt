@@ -1,4 +1,4 @@
-use Rattle.std.proofs.Common.{rules, refl, ◌≡◌, ◌<◌, ap, sym, length, Some}
+use Rattle.std.proofs.Common.{arith, rules, refl, ◌≡◌, ◌<◌, ap, sym, length, Some}
 use Rattle.std.specs.Prelude.{slice_get}
 use Rattle.std.proofs.lemmas.Option.{slice_get_read}
 use Rattle.set_queues.specs.Messages.{octets_in, with_fate}
@@ -14,9 +14,7 @@ leave-requires-clause-among c =
     tally_in _ _ c.args.number _ c.self.invariant.tally (slice_get_read _ _ c.args.number _ refl within c.index-was.ensures)
 
 pub leave-requires-clause-known : goal.leave-requires-clause-known
-leave-requires-clause-known c =
-    let within : c.args.number < length c.self.inside.messages.items = rw (← c.self.view_is) at c.requires in
-    (c.self.invariant.fit c.args.number _ (slice_get_read _ _ c.args.number _ refl within c.index-was.ensures)).known
+leave-requires-clause-known c = grind (arith, slice_get_read)
 
 pub enter-requires-clause-few : goal.enter-requires-clause-few
 enter-requires-clause-few c = fewer _ _ _ c.leave.ensures (tally_few c.self.inside.tally c.self.inside.messages.items c.self.invariant.tally (search rules))

@@ -13,9 +13,7 @@ pub restand_first-requires-clause-given : goal.restand_first-requires-clause-giv
 restand_first-requires-clause-given c = given_all _ _ (Unacked c.args.link) c.self.invariant.sound refl
 
 pub weigh_less-requires-clause-there : goal.weigh_less-requires-clause-there
-weigh_less-requires-clause-there c =
-    let known : c.args.link < length c.self.inside.buffers.lists.links = rw (← c.self.view_is) at c.requires.known in
-    omega (arith, c.self.invariant.weighed c.args.link known, c.weigh-octets.ensures, octets-split c.in-Some.count (queue_at (Unacked c.args.link) c.self.inside.buffers.lists) c.self.inside.messages.messages)
+weigh_less-requires-clause-there c = grind (arith, octets-split)
 
 pub invariant_of-self : goal.invariant_of-self
 invariant_of-self c =

@@ -1,4 +1,4 @@
-use Rattle.std.proofs.Common.{take}
+use Rattle.std.proofs.Common.{arith, take}
 use Rattle.set_queues.specs.Buffers.{IsKnown, queue_at}
 use Rattle.set_queues.specs.Queues.{passed}
 use Rattle.set_queues.proofs.Passing.{known_on, size_stays}
@@ -11,9 +11,7 @@ pub restand_first-requires-clause-given : goal.restand_first-requires-clause-giv
 restand_first-requires-clause-given c = given_all _ _ c.args.from c.self.invariant.sound c.requires.standing
 
 pub clear-requires : goal.clear-requires
-clear-requires c =
-    let known : IsKnown c.args.from c.self.inside.buffers.lists = rw (← c.self.view_is) at c.requires.known in
-    record { known = rw c.queue_too.ensures.lists (known_on c.args.from c.self.inside.buffers.lists _ (size_stays c.args.to _ c.self.inside.buffers.lists) known) }
+clear-requires c = grind (arith, known_on, size_stays)
 
 pub invariant_of-self : goal.invariant_of-self
 invariant_of-self c =

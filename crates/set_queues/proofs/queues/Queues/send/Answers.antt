@@ -1,4 +1,4 @@
-use Rattle.std.proofs.Common.{arith, ◌≡◌, ◌∙◌, ◌<◌, ◌≤◌, ◌+◌, ◌++◌, [], ◌∷◌, length, Some, List, ℕ, inl, inr}
+use Rattle.std.proofs.Common.{arith, ◌≡◌, ◌∙◌, ◌<◌, ◌+◌, ◌++◌, [], ◌∷◌, length, Some, List, ℕ, inl, inr}
 use Rattle.std.proofs.lemmas.Bool.{cases_lt}
 use Rattle.std.specs.Prelude.{slice_index, slice_get}
 use Rattle.set_events.specs.declared.answer.Fate.TheVariants.{Unacked}
@@ -12,10 +12,7 @@ pub restand-octets-requires : goal.restand-octets-requires
 restand-octets-requires c = given_first _ _ c.args.link _ c.self.invariant.sound c.in_ok-number.ensures.sent.first
 
 pub weigh_more-requires-clause-few : goal.weigh_more-requires-clause-few
-weigh_more-requires-clause-few c =
-    let known : c.args.link < length c.self.inside.buffers.lists.links = rw (← c.self.view_is) at c.requires in
-    let few : length (queue_at (Unacked c.args.link) c.self.inside.buffers.lists) ≤ 127 = c.self.invariant.sound.narrow c.args.link in
-    omega (arith, c.self.invariant.weighed c.args.link known, octets_few (queue_at (Unacked c.args.link) c.self.inside.buffers.lists) c.self.inside.messages.messages c.self.invariant.sound.fit, few)
+weigh_more-requires-clause-few c = grind (arith, octets_few)
 
 some_there : (xs : List ℕ) (n : ℕ) → slice_get xs 0 ≡ Some n → xs ≡ [] → ⊥
 some_there xs n e h = grind arith
