@@ -1,7 +1,6 @@
 -- What the control's own step does to the window, the FSN last accepted, and the cursor.
-use Rattle.std.proofs.Common.{refl, arith, ◌≡◌, ◌≢◌, ◌<◌, ◌≤◌, ℕ, ◌+◌, ◌%◌, ◌==◌, Bool, true, false, ◌&&◌, length, drop, if◌then◌else◌}
+use Rattle.std.proofs.Common.{refl, arith, ◌≡◌, ◌≢◌, ◌<◌, ◌≤◌, ℕ, ◌+◌, ◌%◌, Bool, true, false, ◌&&◌, length, drop, if◌then◌else◌}
 use Rattle.std.proofs.lemmas.Bool.{ltb-true}
-use Rattle.std.proofs.lemmas.Bool.Decides.{nat_tests}
 use Rattle.std.proofs.lemmas.List.{length-drop}
 use Rattle.l2_basic.specs.Basic as basic
 use Rattle.l2_pcr.specs.Pcr as cyclic
@@ -54,10 +53,7 @@ pub accepted_heard : (control : Control) (w : WindowState) (head : Header) (msu 
 accepted_heard (Basic s) w head msu n e = go (basic.is_accepted s w head msu) refl
   where
     go : (b : Bool) → basic.is_accepted s w head msu ≡ b → (if basic.is_accepted s w head msu then head.fsn else s.accepted) ≡ (n + one_if (basic.is_accepted s w head msu) + 127) % 128
-    go true f =
-        let next : (head.fsn == (s.accepted + 1) % 128) ≡ true = and_right msu (basic.is_successor s head) (and_right (basic.is_current s w head) (msu && basic.is_successor s head) f) in
-        let same : head.fsn ≡ (s.accepted + 1) % 128 = grind (arith, nat_tests) in
-        rw f (omega (arith, e, same))
+    go true f = grind (arith, and_right)
     go false f = rw f (omega (arith, e))
 accepted_heard (Cyclic s) w head msu n e = grind (arith, and_right)
 

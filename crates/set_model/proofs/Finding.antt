@@ -1,7 +1,8 @@
 -- Rows that are looked up, where each number stands in one row.
-use Rattle.std.proofs.Common.{refl, arith, ◌≡◌, ◌∙◌, ap, sym, ◌<◌, ◌≤◌, [], ◌∷◌, length, ℕ, ◌+◌, ◌⊎◌, inl, inr, Bool, true, false, nat_lt, ◌==◌, List, None, cond}
+use Rattle.std.proofs.Common.{refl, arith, ◌≡◌, ◌∙◌, ap, sym, ◌<◌, ◌≤◌, [], ◌∷◌, length, ℕ, ◌+◌, ◌⊎◌, nat_lt, ◌==◌, List, None, cond}
 use Rattle.std.specs.Prelude.{filter}
-use Rattle.std.proofs.lemmas.Bool.{lt-ltb, le-ltb, eq-eqb, ne_eqb, cases_order}
+use Rattle.std.proofs.lemmas.Bool.{lt-ltb, cases_order}
+use Rattle.std.proofs.lemmas.Bool.Decides.{nat_tests}
 use Rattle.std.proofs.lemmas.List.{length-append, length_push}
 use Rattle.std.proofs.lemmas.List.Elements.{filter-append}
 use Rattle.set_events.specs.declared.answer.Fate.{Fate}
@@ -27,37 +28,12 @@ is_found number rows numbered below e =
 abbrev pub new_row : ℕ → List ℕ → Fate → Row
 new_row number body fate = record { number = number; body = body; fate = fate }
 
-one_if : Bool → ℕ
-one_if true = 1
-one_if false = 0
-
-one_row : (number : ℕ) (x : Row) (b : Bool) → (x.number == number) ≡ b → length (with_number number (x ∷ [])) ≡ one_if b
-unfolding one_if
-one_row number x true h = rw h refl
-one_row number x false h = rw h refl
-
 pub numbered_appended : (rows : List Row) (body : List ℕ) (fate : Fate) → IsNumbered rows → IsNumbered (appended rows body fate)
-unfolding one_if
 numbered_appended rows body fate numbered number =
-    let x : Row = new_row (length rows) body fate in
-    ap length (filter-append (λ (row : Row). row.number == number) rows (x ∷ [])) ∙ length-append (with_number number rows) (with_number number (x ∷ [])) ∙ go x (cases_order number (length rows))
+    ap length (filter-append (λ (row : Row). row.number == number) rows (new_row (length rows) body fate ∷ [])) ∙ length-append (with_number number rows) (with_number number (new_row (length rows) body fate ∷ [])) ∙ go (cases_order number (length rows))
   where
-    go : (x : Row) → (number ≡ length rows) ⊎ ((number < length rows) ⊎ (length rows < number)) → length (with_number number rows) + length (with_number number (new_row (length rows) body fate ∷ [])) ≡ cond (nat_lt number (length (appended rows body fate))) 1 0
-    go x (inl e) =
-        let none : length (with_number number rows) ≡ 0 = numbered number ∙ ap (λ b. cond b 1 0) (le-ltb number (length rows) (omega (arith, e))) in
-        let some : length (with_number number (new_row (length rows) body fate ∷ [])) ≡ 1 = one_row number (new_row (length rows) body fate) true (eq-eqb (length rows) number (sym e)) in
-        let below : nat_lt number (length (appended rows body fate)) ≡ true = lt-ltb number (length (appended rows body fate)) (omega (arith, e, length_push rows (new_row (length rows) body fate))) in
-        rw below (omega (arith, none, some))
-    go x (inr (inl l)) =
-        let one : length (with_number number rows) ≡ 1 = numbered number ∙ ap (λ b. cond b 1 0) (lt-ltb number (length rows) l) in
-        let none : length (with_number number (new_row (length rows) body fate ∷ [])) ≡ 0 = one_row number (new_row (length rows) body fate) false (ne_eqb (length rows) number (λ e. omega (arith, e, l))) in
-        let below : nat_lt number (length (appended rows body fate)) ≡ true = lt-ltb number (length (appended rows body fate)) (omega (arith, l, length_push rows (new_row (length rows) body fate))) in
-        rw below (omega (arith, one, none))
-    go x (inr (inr l)) =
-        let zeroth : length (with_number number rows) ≡ 0 = numbered number ∙ ap (λ b. cond b 1 0) (le-ltb number (length rows) (omega (arith, l))) in
-        let none : length (with_number number (new_row (length rows) body fate ∷ [])) ≡ 0 = one_row number (new_row (length rows) body fate) false (ne_eqb (length rows) number (λ e. omega (arith, e, l))) in
-        let above : nat_lt number (length (appended rows body fate)) ≡ false = le-ltb number (length (appended rows body fate)) (omega (arith, l, length_push rows (new_row (length rows) body fate))) in
-        rw above (omega (arith, zeroth, none))
+    go : (number ≡ length rows) ⊎ ((number < length rows) ⊎ (length rows < number)) → length (with_number number rows) + length (with_number number (new_row (length rows) body fate ∷ [])) ≡ cond (nat_lt number (length (appended rows body fate))) 1 0
+    go order = grind (arith, nat_tests, length_push)
 
 pub fit_appended : (rows : List Row) (body : List ℕ) (fate : Fate) → AreFit rows → length body ≤ 273 → AreFit (appended rows body fate)
 fit_appended rows body fate a f = fit_append rows (new_row (length rows) body fate ∷ []) a (f, tt)

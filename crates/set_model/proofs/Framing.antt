@@ -18,7 +18,7 @@ use Rattle.set_route.specs.Routing.{Routing, place_of, home_of}
 use Rattle.set_model.specs.declared.phase.Phase.TheVariants.{Up, Down}
 use Rattle.set_model.specs.Rows.{Row, standing, is_on, is_waiting, is_unacked, is_held, is_back_to, unack, wait, held, on, numbers, octets_in, service_indicator, stream_of, turned, appended, fated, with_fate, IsInOrder}
 use Rattle.set_model.specs.Control.{Choice, again, first, fill, choice_of, part_of, control_heard, window_heard, acked_by}
-use Rattle.set_model.specs.State.{LinkState, State, is_up, link_is_up, has_phase_up, fate_at, target, window_of}
+use Rattle.set_model.specs.State.{LinkState, State, is_up, link_is_up, fate_at, target, window_of}
 use Rattle.set_model.specs.Changeover.{fate_on, left_link, out_of_service, turned_back, left_by, released, acknowledged as acknowledged_link, settled_link, moved_over}
 use Rattle.set_model.specs.Step.{rows_sent, is_msu, one_if, brought, takes, after_control, step}
 use Rattle.set_model.specs.Sound.{IsSound}
@@ -96,9 +96,7 @@ alone_off : (n m : ℕ) (link : LinkState) (s : State) → (m == n) ≡ false �
 alone_off n m link s d at = go (target s.links) refl
   where
     apart_target : (to : ℕ) → target s.links ≡ Some to → (m == to) ≡ false
-    apart_target to e =
-        let up = target_up s.links to e in
-        apart m to (λ same. let it : up.0 ≡ link = same_at s.links m link up.0 at.there (ap (slice_get s.links) same ∙ up.1) in let no : true ≡ false = sym up.2 ∙ ap (λ (l : LinkState). has_phase_up l.phase) it ∙ ap has_phase_up at.phase_is in cc)
+    apart_target to e = grind (arith, target_up, apart, same_at)
 
     joins : (to : ℕ) → target s.links ≡ Some to → (b : Bool) → (to == n) ≡ b → LeavesAlone n s (moved_over m link s)
     joins to e false f = alone_set n m (settled_link link) s (moved_over m link s) d refl (rw e ((moved_to m to s.rows (apart_target to e)).left_is.others n d f))

@@ -1,9 +1,9 @@
 -- Rows that get another fate in their places: the first n where a test tells, or all.
-use Rattle.std.proofs.Common.{refl, arith, ◌≡◌, ◌∙◌, ap, ◌≤◌, [], ◌∷◌, length, ℕ, zero, suc, ◌+◌, Bool, true, false, List, drop, Option, Some, cond, ◌==◌}
+use Rattle.std.proofs.Common.{refl, arith, ◌≡◌, ◌∙◌, ap, ◌≤◌, [], ◌∷◌, length, ℕ, zero, suc, Bool, true, false, List, drop, Option, Some, cond, ◌==◌}
 use Rattle.std.specs.Prelude.{filter}
 use Rattle.std.specs.Option.{option_map}
 use Rattle.set_events.specs.declared.answer.Fate.{Fate}
-use Rattle.set_model.specs.Rows.{Row, standing, is_users, users, was_acked, is_waiting, is_unacked, is_held, unack, wait, turned, changed, numbers, octets_in, with_fate, row_of, body_at, AreFit, IsInOrder, IsHeldLast}
+use Rattle.set_model.specs.Rows.{Row, standing, is_users, users, was_acked, is_waiting, is_unacked, is_held, unack, wait, turned, changed, with_fate, row_of, body_at, AreFit, IsInOrder, IsHeldLast}
 use Rattle.set_model.proofs.Places.{false_true}
 
 -- What is kept where a row stays, and where one turns, is kept by both changes.
@@ -27,8 +27,6 @@ pub record InPlace (test : Fate → Bool) (xs ys : List Row) : Type 0 where
   pub fit : AreFit xs → AreFit ys
   pub as_many : (p : Row → Bool) → ((f : Fate) (x : Row) → p (with_fate f x) ≡ p x) → length (filter p ys) ≡ length (filter p xs)
   pub bodies : (number : ℕ) → body_at number ys ≡ body_at number xs
-  pub numbers_same : numbers ys ≡ numbers xs
-  pub octets_same : octets_in ys ≡ octets_in xs
   -- where no acknowledged one turns
   pub acked : ((f : Fate) → test f ≡ true → was_acked f ≡ false) → length (standing was_acked (users xs)) ≤ length (standing was_acked (users ys))
 
@@ -44,19 +42,16 @@ no_fewer u a b x y xs ys w ux uy ax by h = grind arith
 
 module _ (test : Fate → Bool) (fate : Fate) where
   none_there : InPlace test [] []
-  none_there = record { count = refl; fit = λ a. a; as_many = λ p same. refl; bodies = λ number. refl; numbers_same = refl; octets_same = refl; acked = λ w. omega arith }
+  none_there = record { count = refl; fit = λ a. a; as_many = λ p same. refl; bodies = λ number. refl; acked = λ w. omega arith }
 
   one_there : (x y : Row) (xs ys : List Row) → y ≡ with_fate y.fate x → (((f : Fate) → test f ≡ true → was_acked f ≡ false) → was_acked x.fate ≡ true → was_acked y.fate ≡ true) → InPlace test xs ys → InPlace test (x ∷ xs) (y ∷ ys)
   one_there x y xs ys is keeps p =
       let body : y.body ≡ x.body = ap (λ (r : Row). r.body) is in
-      let number : y.number ≡ x.number = ap (λ (r : Row). r.number) is in
       record {
         count = ap suc p.count;
         fit = λ a. (rw body a.0, p.fit a.1);
         as_many = λ q same. longer (q x) (q y) x y (filter q xs) (filter q ys) (ap q is ∙ same y.fate x) (p.as_many q same);
-        bodies = λ n. same_body (x.number == n) (y.number == n) x y (row_of n xs) (row_of n ys) (ap (λ (m : ℕ). m == n) number) body (p.bodies n);
-        numbers_same = ap (λ (n : ℕ). n ∷ numbers ys) number ∙ ap (λ (ns : List ℕ). x.number ∷ ns) p.numbers_same;
-        octets_same = ap (λ (b : List ℕ). length b + octets_in ys) body ∙ ap (λ (n : ℕ). length x.body + n) p.octets_same;
+        bodies = λ n. same_body (x.number == n) (y.number == n) x y (row_of n xs) (row_of n ys) (ap (λ (r : Row). r.number == n) is) body (p.bodies n);
         acked = λ w. no_fewer (is_users x) (was_acked x.fate) (was_acked y.fate) x y xs ys (keeps w) refl (ap is_users is) refl refl (p.acked w);
       }
 
@@ -94,17 +89,11 @@ module _ (test other : Fate → Bool) (fate : Fate) (none : other fate ≡ false
   abbrev Fewer : List Row → List Row → Type 0
   Fewer xs ys = length (standing other ys) ≤ length (standing other xs)
 
-  one_stays : (b : Bool) (x : Row) (xs ys : List Row) → length ys ≤ length xs → length (cond b (x ∷ ys) ys) ≤ length (cond b (x ∷ xs) xs)
-  one_stays b x xs ys p = grind arith
-
-  one_turns : (b : Bool) (x : Row) (xs ys : List Row) → length ys ≤ length xs → length ys ≤ length (cond b (x ∷ xs) xs)
-  one_turns b x xs ys p = grind arith
-
   fewer_stays : (x : Row) (xs ys : List Row) → Fewer xs ys → Fewer (x ∷ xs) (x ∷ ys)
-  fewer_stays x xs ys p = one_stays (other x.fate) x (standing other xs) (standing other ys) p
+  fewer_stays x xs ys p = grind arith
 
   fewer_turns : (x : Row) (xs ys : List Row) → test x.fate ≡ true → Fewer xs ys → Fewer (x ∷ xs) (with_fate fate x ∷ ys)
-  fewer_turns x xs ys t p = rw none (one_turns (other x.fate) x (standing other xs) (standing other ys) p)
+  fewer_turns x xs ys t p = grind arith
 
   pub fewer_turned : (n : ℕ) (rows : List Row) → length (standing other (turned test fate n rows)) ≤ length (standing other rows)
   fewer_turned n rows = where_turned test fate Fewer (omega arith) fewer_stays fewer_turns n rows
@@ -119,12 +108,6 @@ module _ (n : ℕ) (test : Fate → Bool) (fate : Fate) (u : is_unacked n fate �
     pub wait_none : wait n xs ≡ [] → wait n ys ≡ []
     pub in_order : IsInOrder n xs → IsInOrder n ys
     pub held_last : IsHeldLast n xs → IsHeldLast n ys
-
-  none_before : (b : Bool) (x : Row) (xs ys : List Row) → (xs ≡ [] → ys ≡ []) → cond b (x ∷ xs) xs ≡ [] → cond b (x ∷ ys) ys ≡ []
-  none_before b x xs ys f e = grind arith
-
-  none_behind : (b : Bool) (x : Row) (xs : List Row) → cond b (x ∷ xs) xs ≡ [] → xs ≡ []
-  none_behind b x xs e = grind arith
 
   nothing : Ordered [] []
   nothing = record { unack_none = λ e. e; wait_none = λ e. e; in_order = λ o. o; held_last = λ o. o }

@@ -162,13 +162,7 @@ module _ (stream : ℕ) (place : Place) (used used' : Bool) (rows : List Row) (b
             together = none_astray (ap (λ (b : Bool). is_live stream x && not b) f.0 ∙ alive_not (is_live stream x));
             unused = λ e. false_true used' e f.1;
           }
-      go false h =
-          let all : live stream (appended rows body fate) ≡ live stream rows = live_split ∙ ap (λ (b : Bool). live stream rows ++ cond b (x ∷ []) []) h ∙ append-nil (live stream rows) in
-          record {
-            in_order = subst (λ (xs : List Row). IsAscending (numbers xs)) (sym all) t.in_order;
-            together = none_astray (dead (is_live stream x) (not (stands_at place fate)) h);
-            unused = λ e. all ∙ t.unused (grows e);
-          }
+      go false h = grind (arith, live_split, x, append-nil, none_astray, dead)
 
 -- ROWS THAT MOVE: all live ones of a stream do, or none.
 module _ (stream : ℕ) (place place' : Place) (test : Fate → Bool) (to : Fate) (open_there : (f : Fate) → test f ≡ true → is_unfinished f ≡ true) (open_to : is_unfinished to ≡ true) where
@@ -205,30 +199,9 @@ module _ (stream : ℕ) (place place' : Place) (test : Fate → Bool) (to : Fate
         arrived = ap (λ (b : Bool). is_live stream (with_fate to x) && not b) there ∙ alive_not (is_live stream (with_fate to x))
 
         one : (a b : Bool) → test x.fate ≡ a → is_live stream x ≡ b → Go rows → Go (x ∷ rows)
-        one true true t l g = record {
-          kept_live = rw t g.kept_live;
-          kept_astray = rw t g.kept_astray;
-          gone_live = rw (t, alive_as x t, l) (ap (λ (ns : List ℕ). x.number ∷ ns) g.gone_live);
-          gone_astray = rw (t, arrived) g.gone_astray;
-        }
-        one true false t l g = record {
-          kept_live = rw t g.kept_live;
-          kept_astray = rw t g.kept_astray;
-          gone_live = rw (t, alive_as x t, l) g.gone_live;
-          gone_astray = rw (t, arrived) g.gone_astray;
-        }
-        one false true t l g = absurd (
-            let here : stands_at place x.fate ≡ false = contra (stands_at place x.fate) (not (test x.fate)) (λ s. rw (all_go x.fate s) refl) (rw t refl) in
-            let strays : is_astray stream place x ≡ true = rw (l, here) refl in
-            let no : true ≡ false = sym strays ∙ none_here (is_astray stream place x) x (astray stream place rows) e in
-            cc
-            )
-        one false false t l g = record {
-          kept_live = rw (t, l) g.kept_live;
-          kept_astray = rw (t, dead (is_live stream x) (not (stands_at place' x.fate)) l) g.kept_astray;
-          gone_live = rw (t, l) g.gone_live;
-          gone_astray = rw t g.gone_astray;
-        }
+        one true b t l g = grind (arith, alive_as, arrived)
+        one false true t l g = grind (arith, contra, none_here)
+        one false false t l g = grind (arith, dead)
 
     pub stream_goes : (used : Bool) (rows : List Row) → IsSoundStream stream place used rows → IsSoundStream stream place' used (moved test (all_with to) rows)
     stream_goes used rows t =
@@ -254,32 +227,7 @@ module _ (stream : ℕ) (place place' : Place) (test : Fate → Bool) (to : Fate
         not_astray = none_here (is_astray stream place x) x (astray stream place rows) e
 
         one : (a b : Bool) → test x.fate ≡ a → is_live stream x ≡ b → Stay rows → Stay (x ∷ rows)
-        one true true t l g = absurd (
-            let here : stands_at place x.fate ≡ false = contra (stands_at place x.fate) (test x.fate) (none_goes x.fate) t in
-            let strays : is_astray stream place x ≡ true = rw (l, here) refl in
-            let no : true ≡ false = sym strays ∙ not_astray in
-            cc
-            )
-        one true false t l g =
-            let gone_too : is_live stream (with_fate to x) ≡ false = alive_as x t ∙ l in
-            record {
-              kept_live = rw (t, l) g.kept_live;
-              kept_astray = rw t g.kept_astray;
-              gone_live = rw (t, gone_too) g.gone_live;
-              gone_astray = rw (t, dead (is_live stream (with_fate to x)) (not (stands_at place to)) gone_too) g.gone_astray;
-            }
-        one false true t l g = record {
-          kept_live = rw (t, l) (ap (λ (xs : List Row). x ∷ xs) g.kept_live);
-          kept_astray = rw (t, not_astray) g.kept_astray;
-          gone_live = rw t g.gone_live;
-          gone_astray = rw t g.gone_astray;
-        }
-        one false false t l g = record {
-          kept_live = rw (t, l) g.kept_live;
-          kept_astray = rw (t, not_astray) g.kept_astray;
-          gone_live = rw t g.gone_live;
-          gone_astray = rw t g.gone_astray;
-        }
+        one a b t l g = grind (arith, not_astray, alive_as, contra, dead)
 
     pub stream_remains : (used : Bool) (rows : List Row) → place' ≡ place → IsSoundStream stream place used rows → IsSoundStream stream place used (moved test (all_with to) rows)
     stream_remains used rows same t =

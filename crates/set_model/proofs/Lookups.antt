@@ -1,8 +1,9 @@
 -- What is found under a number, before and after a change.
-use Rattle.std.proofs.Common.{refl, arith, ◌≡◌, ◌∙◌, ap, sym, ◌<◌, ◌≤◌, [], ◌∷◌, length, ℕ, zero, suc, Bool, true, false, nat_lt, ◌==◌, List, Option, Some, cond}
+use Rattle.std.proofs.Common.{refl, arith, ◌≡◌, ◌∙◌, ap, ◌<◌, ◌≤◌, [], ◌∷◌, length, ℕ, zero, suc, Bool, true, false, nat_lt, List, Option, Some, cond}
+use Rattle.std.proofs.lemmas.Bool.Decides.{nat_tests}
 use Rattle.std.specs.Prelude.{slice_get, filter}
 use Rattle.std.specs.Option.{option_map}
-use Rattle.std.proofs.lemmas.Bool.{eq-eqb, ltb-true}
+use Rattle.std.proofs.lemmas.Bool.{ltb-true}
 use Rattle.set_events.specs.declared.answer.Fate.{Fate}
 use Rattle.set_model.specs.Rows.{Row, moved, fated, numbers, row_of, place, body_at, IsNumbered}
 use Rattle.set_model.proofs.Moving.{filter_moved}
@@ -56,34 +57,17 @@ in_list p (x ∷ rows) i row e = go (p x) refl i e (λ k f. in_list p rows k row
   where
     go : (b : Bool) → p x ≡ b → (i : ℕ) → slice_get (filter p (x ∷ rows)) i ≡ Some row → ((k : ℕ) → slice_get (filter p rows) k ≡ Some row → (j : ℕ) × (slice_get rows j ≡ Some row)) → (j : ℕ) × (slice_get (x ∷ rows) j ≡ Some row)
     go true h zero e later = let f : Some x ≡ Some row = rw h at e in (0, f)
-    go true h (suc k) e later = let f : slice_get (filter p rows) k ≡ Some row = rw h at e in let g = later k f in (suc g.0, g.1)
-    go false h k e later = let f : slice_get (filter p rows) k ≡ Some row = rw h at e in let g = later k f in (suc g.0, g.1)
+    go true h (suc k) e later = let g = later k (rw h at e) in (suc g.0, g.1)
+    go false h k e later = let g = later k (rw h at e) in (suc g.0, g.1)
+
+pub no_rows : (xs : List Row) → length xs ≡ 0 → xs ≡ []
+no_rows [] e = refl
+no_rows (x ∷ xs) e = absurd (omega (arith, e))
 
 found_in : (rows : List Row) (j k : ℕ) (row : Row) → slice_get rows j ≡ Some row → row.number ≡ k → length (with_number k rows) ≤ 1 → with_number k rows ≡ row ∷ []
 found_in [] j k row e n l = absurd cc
-found_in (x ∷ rows) j k row e n l = go (x.number == k) refl j e (λ i f m. found_in rows i k row f n m)
-  where
-    empty : (ys : List Row) → length (x ∷ ys) ≤ 1 → ys ≡ []
-    empty [] m = refl
-    empty (y ∷ ys) m = absurd (omega (arith, m))
-
-    go : (b : Bool) → (x.number == k) ≡ b → (j : ℕ) → slice_get (x ∷ rows) j ≡ Some row → ((i : ℕ) → slice_get rows i ≡ Some row → length (with_number k rows) ≤ 1 → with_number k rows ≡ row ∷ []) → with_number k (x ∷ rows) ≡ row ∷ []
-    go true h zero e later =
-        let same : x ≡ row = cc in
-        let m : length (x ∷ with_number k rows) ≤ 1 = rw h at l in
-        rw (h, empty (with_number k rows) m, same) refl
-    go true h (suc i) e later =
-        let m : length (x ∷ with_number k rows) ≤ 1 = rw h at l in
-        let none = empty (with_number k rows) m in
-        let one = later i e (omega (arith, m)) in
-        let no : row ∷ [] ≡ [] = sym one ∙ none in
-        absurd cc
-    go false h zero e later =
-        let same : x ≡ row = cc in
-        let t : (x.number == k) ≡ true = eq-eqb x.number k (ap (λ (r : Row). r.number) same ∙ n) in
-        let no : true ≡ false = sym t ∙ h in
-        absurd cc
-    go false h (suc i) e later = let m : length (with_number k rows) ≤ 1 = rw h at l in rw h (later i e m)
+found_in (x ∷ rows) zero k row e n l = grind (arith, nat_tests, no_rows (with_number k rows))
+found_in (x ∷ rows) (suc j) k row e n l = grind (arith, nat_tests, no_rows (with_number k rows), found_in rows j k row e n)
 
 pub row_in_filter : (p : Row → Bool) (rows : List Row) (i k : ℕ) (row : Row) → IsNumbered rows → slice_get (filter p rows) i ≡ Some row → row.number ≡ k → row_of k rows ≡ Some row
 row_in_filter p rows i k row numbered e n = grind (arith, in_list, row_is_first, found_in)

@@ -1,6 +1,6 @@
 -- Fates and links: what stands in one place stands in no other.
 use Rattle.std.proofs.Common.{arith, refl, ◌≡◌, ◌≢◌, ◌∙◌, sym, ℕ, Bool, true, false, ◌==◌}
-use Rattle.std.proofs.lemmas.Bool.{eq-eqb, ne_eqb, eqb-true, eqb-false}
+use Rattle.std.proofs.lemmas.Bool.{eq-eqb, ne_eqb, eqb-false}
 use Rattle.set_events.specs.declared.answer.Fate.{Fate}
 use Rattle.set_model.specs.Rows.{is_waiting, is_unacked, is_held, is_on, is_parked, is_back, is_back_to, stands_back, was_acked}
 
@@ -19,9 +19,6 @@ apart_back l n d = ne_eqb n l (λ e. eqb-false l n d (sym e))
 
 pub itself : (l : ℕ) → (l == l) ≡ true
 itself l = eq-eqb l l refl
-
-other_link : (l m n : ℕ) → (l == n) ≡ false → (m == n) ≡ true → (m == l) ≡ false
-other_link l m n d e = let same : m ≡ n = eqb-true m n e in ne_eqb m l (λ f. eqb-false l n d (sym f ∙ same))
 
 -- Kinds of places.
 pub waiting_not_unacked : (l n : ℕ) (f : Fate) → is_waiting n f ≡ true → is_unacked l f ≡ false

@@ -1,5 +1,5 @@
 -- The whole numbers of the links stay in range: an event sends at most one message, and accepts at most one body.
-use Rattle.std.proofs.Common.{refl, arith, ◌≡◌, ◌≢◌, ap, ◌≤◌, ℕ, zero, suc, ◌+◌, Bool, true, false, ◌&&◌, List, [], ◌∷◌, length, slice_get, slice_set, Option, Some, ◌⊎◌, inl, inr}
+use Rattle.std.proofs.Common.{refl, arith, ◌≡◌, ◌≢◌, ap, ◌≤◌, ℕ, zero, suc, ◌+◌, Bool, false, List, [], ◌∷◌, length, slice_get, slice_set, Option, Some, ◌⊎◌, inl, inr}
 use Rattle.std.proofs.lemmas.List.{append-nil, length-map, length-drop}
 use Rattle.std.proofs.lemmas.List.Elements.{filter-append}
 use Rattle.l2_units.specs.declared.unit.Header.{Header}
@@ -38,9 +38,6 @@ few_moved test to m rows none = few_moved_by test (all_with to) m rows (λ row. 
 
 pub not_sent : (m : ℕ) (to : Option ℕ) → is_unacked m (fate_on to) ≡ false
 not_sent m to = grind arith
-
-and_left : (x y : Bool) → (x && y) ≡ true → x ≡ true
-and_left x y e = grind arith
 
 pub part_acked : (control : Control) (w : WindowState) (head : Header) (msu : Bool) → (part_of control w head msu).acked ≡ acked_by control w head
 part_acked control w head msu = grind arith

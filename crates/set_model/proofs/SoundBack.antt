@@ -1,5 +1,5 @@
 -- WHAT HOLDS OF EVERY STATE is kept when a link is left, and by a changeback.
-use Rattle.std.proofs.Common.{⊎_elim, refl, arith, ◌≡◌, ◌≢◌, ◌∙◌, ap, sym, subst, ◌<◌, ℕ, ◌+◌, ◌*◌, ◌%◌, ◌==◌, Bool, true, false, not, ◌&&◌, List, [], ◌++◌, slice_get, Some, if◌then◌else◌, map}
+use Rattle.std.proofs.Common.{⊎_elim, refl, arith, ◌≡◌, ◌≢◌, ◌∙◌, ap, sym, subst, ◌<◌, ℕ, ◌%◌, ◌==◌, Bool, true, false, not, ◌&&◌, List, [], ◌++◌, slice_get, Some, if◌then◌else◌, map}
 use Rattle.std.proofs.lemmas.Bool.{eqb-true, eqb-false, and_parts, and_right as and_false, cond-true, cond-false, cond_both, cases_Bool}
 use Rattle.std.proofs.lemmas.List.{length-set, append-nil}
 use Rattle.l3_orders.specs.declared.order.Order.TheVariants.{Cbd}
@@ -113,9 +113,7 @@ module _ (blind : Bool) (n : ℕ) (link : LinkState) (s : State) (at : IsAt n li
       last false e = last_moved k (is_back_to n) fate s.rows (λ x. offered_out k _ mid) (λ x. down_not_waiting mid k (ap link_is_up there ∙ e) _) (mid_links k other there).held_last
 
       away : has_phase_settled other.phase ≡ true → (via : ℕ) → IsPlaced mid.links (On via) → is_on k (fate_at (On via) mid) ≡ false
-      away e via p =
-          let d : (via == k) ≡ false = apart via k (λ same. let it : other ≡ p.0 = same_at mid.links k p.0 other (ap (slice_get mid.links) (sym same) ∙ p.1) there in false_true (has_phase_settled p.0.phase) p.2 (ap (λ (l : LinkState). has_phase_settled l.phase) (sym it) ∙ e)) in
-          on_either mid (is_on k) via d d
+      away e via p = grind (arith, apart, same_at, mid, there, false_true, on_either)
 
       on_same : has_phase_settled other.phase ≡ true → on k new ≡ on k s.rows
       on_same e = moved_more (is_back_to n) (is_on k) fate s.rows (off k) ∙ ap (λ (xs : List Row). on k s.rows ++ xs) (gone (is_on k) (away e)) ∙ append-nil (on k s.rows)
@@ -219,10 +217,7 @@ module _ (home alternative : ℕ) (s : State) (up : is_up home s ≡ true) (may 
       is = (codes_alone s.routing code t.routing in_range).asked_code home alternative (omega (arith, few, home_below)) (omega (arith, few, alternative_below))
 
       go : (b : Bool) → (code == code_for home alternative) ≡ b → is_up (home_of code) s ≡ true
-      go true f =
-          let same : code ≡ 16 * home + alternative = eqb-true code (code_for home alternative) f in
-          let own : home_of code ≡ home = omega (arith, same, few, alternative_below) in
-          ap (λ (k : ℕ). is_up k s) own ∙ up
+      go true f = grind (arith, home, eqb-true, few, alternative_below)
       go false f = t.homes_up code (sym (is ∙ cond-false (code == code_for home alternative) Asked (code_of code s.routing) f) ∙ e)
 
   asked_backs : AreBack runs s.rows

@@ -9,7 +9,7 @@ use Rattle.set_model.proofs.Filters.{both_lengths}
 use Rattle.set_model.proofs.InPlace.{InPlace, turned_there, changed_there}
 use Rattle.set_model.proofs.Moving.{moved_length, moved_numbered}
 use Rattle.set_model.proofs.Finding.{new_row, is_found, numbered_appended, with_number, same_numbers}
-use Rattle.set_model.proofs.Lookups.{body_moved, place_moved}
+use Rattle.set_model.proofs.Lookups.{no_rows, body_moved, place_moved}
 use Rattle.set_model.proofs.Events.{numbers_fated}
 
 -- a row that is found stays found when another comes behind it
@@ -23,10 +23,6 @@ found_after number (y ∷ rows) more e = grind (arith, found_after number rows m
 
 pub row_stays : (number : ℕ) (rows : List Row) (body : List ℕ) (fate : Fate) → IsNumbered rows → number < length rows → row_of number (appended rows body fate) ≡ row_of number rows
 row_stays number rows body fate numbered below = grind (arith, is_found, found_first)
-
-no_rows : (xs : List Row) → length xs ≡ 0 → xs ≡ []
-no_rows [] e = refl
-no_rows (x ∷ xs) e = absurd (omega (arith, e))
 
 pub row_new : (rows : List Row) (body : List ℕ) (fate : Fate) → IsNumbered rows → row_of (length rows) (appended rows body fate) ≡ Some (new_row (length rows) body fate)
 row_new rows body fate numbered = grind (arith, no_rows, found_after)

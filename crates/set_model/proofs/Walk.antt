@@ -22,7 +22,7 @@ use Rattle.set_model.specs.declared.reached.Reached.TheVariants.{Upto, Unknown, 
 use Rattle.set_model.specs.Rows.{unack, is_unacked, is_waiting, changed, place, service_indicator}
 use Rattle.set_model.specs.State.{LinkState, State, is_up, window_of, last_accepted}
 use Rattle.set_model.specs.Control.{part_of}
-use Rattle.set_model.specs.Changeover.{Obeyed, queued, left_by, left_link, leaving_order, is_reasonable, reached_by, acknowledged_by, acknowledged, moved_over, settled, reply_of, changed_over, answered, at_link, can_declare, declared, declared_from, released, released_from, some_in_use, acknowledged_back, order_obeyed, obeyed}
+use Rattle.set_model.specs.Changeover.{Obeyed, queued, left_by, left_link, leaving_order, is_reasonable, acknowledged_by, moved_over, settled, reply_of, changed_over, answered, at_link, can_declare, declared, declared_from, released, released_from, some_in_use, acknowledged_back, order_obeyed, obeyed}
 use Rattle.set_model.specs.Step.{Outcome, offer_refusal, offered, taken, found, with_known, in_service, next, is_msu, brought, takes, after_control, controls, heard, rises, gives_up, comes_back, runs_out, step}
 use Rattle.set_model.specs.Frame.{BringsAbout, BringsBackTo, Concerns}
 use Rattle.set_model.specs.Sound.{BeginsNone}
@@ -68,10 +68,7 @@ module _ (Known : ℕ → Type 0) (May : Type 0) (R : State → State → Type 0
   settle_walks (Upto fsn) n link s known at = go (is_reasonable fsn n link s.rows) refl
     where
       go : (b : Bool) → is_reasonable fsn n link s.rows ≡ b → R s (settled (Upto fsn) n link s)
-      go true e =
-          let count = reached_by fsn n link s.rows in
-          let few : count ≤ length (unack n s.rows) = grind arith in
-          rw e (off n (acknowledged count link) s (acknowledged_by count n link s) known (k.acknowledges count n link s known at few) (record { there = get_set_same s.links n (acknowledged count link) (within s.links n link at.there); phase_is = at.phase_is }))
+      go true e = grind (arith, off, get_set_same, within)
       go false e = rw e (off n link s _ known (given_up Unreasonable n link s known at) (record { there = at.there; phase_is = at.phase_is }))
 
   -- orders
