@@ -55,7 +55,7 @@ accepted_heard (Basic s) w head msu n e = go (basic.is_accepted s w head msu) re
     go : (b : Bool) → basic.is_accepted s w head msu ≡ b → (if basic.is_accepted s w head msu then head.fsn else s.accepted) ≡ (n + one_if (basic.is_accepted s w head msu) + 127) % 128
     go true f = grind (arith, and_right)
     go false f = rw f (omega (arith, e))
-accepted_heard (Cyclic s) w head msu n e = grind (arith, and_right)
+accepted_heard (Cyclic s) w head msu n e = grind arith
 
 -- the cursor, or the place in the cycle
 pub range_heard : (control : Control) (w : WindowState) (head : Header) (msu : Bool) → IsInRange control (length w.unacked) → IsInRange (control_heard control w head msu) (length (drop (acked_by control w head) w.unacked))

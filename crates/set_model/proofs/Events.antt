@@ -64,26 +64,12 @@ module _ (n : ℕ) (test : Fate → Bool) (rows : List Row) (w : (f : Fate) → 
     pub turned_untouched : (k : ℕ) → Untouched n rows (turned test fate k rows)
     turned_untouched k =
         let kept = turned_ordered n test fate (not_on_unacked n fate o) (not_on_waiting n fate o) (not_on_held n fate o) k rows in
-        record {
-          unack_same = turned_same test (is_unacked n) fate (not_on_unacked n fate o) (λ f e. not_on_unacked n f (w f e)) k rows;
-          wait_same = turned_same test (is_waiting n) fate (not_on_waiting n fate o) (λ f e. not_on_waiting n f (w f e)) k rows;
-          held_same = turned_same test (is_held n) fate (not_on_held n fate o) (λ f e. not_on_held n f (w f e)) k rows;
-          on_same = turned_same test (is_on n) fate o w k rows;
-          order_kept = kept.in_order;
-          last_kept = kept.held_last;
-        }
+        search (turned_same, not_on_unacked, not_on_waiting, not_on_held)
 
     pub changed_untouched : Untouched n rows (changed test fate rows)
     changed_untouched =
         let kept = changed_ordered n test fate (not_on_unacked n fate o) (not_on_waiting n fate o) (not_on_held n fate o) rows in
-        record {
-          unack_same = changed_same test (is_unacked n) fate (not_on_unacked n fate o) (λ f e. not_on_unacked n f (w f e)) rows;
-          wait_same = changed_same test (is_waiting n) fate (not_on_waiting n fate o) (λ f e. not_on_waiting n f (w f e)) rows;
-          held_same = changed_same test (is_held n) fate (not_on_held n fate o) (λ f e. not_on_held n f (w f e)) rows;
-          on_same = changed_same test (is_on n) fate o w rows;
-          order_kept = kept.in_order;
-          last_kept = kept.held_last;
-        }
+        search (changed_same, not_on_unacked, not_on_waiting, not_on_held)
 
   pub moved_untouched : (fate : Row → Fate) → ((row : Row) → is_on n (fate row) ≡ false) → Untouched n rows (moved test fate rows)
   moved_untouched fate o = search (moved_same, not_on_unacked, not_on_waiting, not_on_held, order_moved, last_moved)
@@ -114,25 +100,12 @@ pub record Sent (l : ℕ) (rows new : List Row) : Type 0 where
   pub last_kept : IsHeldLast l rows → IsHeldLast l new
   pub others : (n : ℕ) → (l == n) ≡ false → Untouched n rows new
 
--- a row that waits on one link is on no other
-waits_apart : (l n : ℕ) → (l == n) ≡ false → (f : Fate) → is_waiting l f ≡ true → is_on n f ≡ false
-waits_apart l n d f e = on_other n l (apart_back l n d) f (waiting_on l f e)
-
-sent_apart : (l n : ℕ) → (l == n) ≡ false → (f : Fate) → is_unacked l f ≡ true → is_on n f ≡ false
-sent_apart l n d f e = on_other n l (apart_back l n d) f (unacked_on l f e)
+-- a row on one link is on no other
+apart_on : (l n : ℕ) → (l == n) ≡ false → (f : Fate) → is_on l f ≡ true → is_on n f ≡ false
+apart_on l n d f e = on_other n l (apart_back l n d) f e
 
 pub sent : (l : ℕ) (rows : List Row) → Sent l rows (turned (is_waiting l) (Unacked l) 1 rows)
-sent l rows = record {
-  kept = kept_in_place (is_waiting l) rows (turned (is_waiting l) (Unacked l) 1 rows) (turned_there (is_waiting l) (Unacked l) 1 rows) (λ f e. on_not_acked l f (waiting_on l f e));
-  wait_is = turned_left (is_waiting l) (Unacked l) refl 1 rows;
-  unack_is = sent_joined l rows (itself l);
-  held_same = turned_same (is_waiting l) (is_held l) (Unacked l) refl (waiting_not_held l l) 1 rows;
-  on_is = turned_within (is_waiting l) (is_on l) (Unacked l) (itself l) (waiting_on l) 1 rows;
-  parked_same = turned_same (is_waiting l) is_parked (Unacked l) refl (λ f e. on_not_parked l f (waiting_on l f e)) 1 rows;
-  order_kept = order_sent l rows;
-  last_kept = last_sent l rows;
-  others = λ n d. turned_untouched n (is_waiting l) rows (waits_apart l n d) (Unacked l) d 1;
-}
+sent l rows = search (kept_in_place (is_waiting l), turned_there, on_not_acked l, waiting_on, turned_left, sent_joined, itself, turned_same, waiting_not_held, turned_within, on_not_parked l, order_sent, last_sent, turned_untouched, apart_on l)
 
 -- AN ACKNOWLEDGEMENT.
 pub record Acknowledged (l count : ℕ) (rows new : List Row) : Type 0 where
@@ -148,22 +121,8 @@ pub record Acknowledged (l count : ℕ) (rows new : List Row) : Type 0 where
 
 pub acknowledged : (l count : ℕ) (rows : List Row) → Acknowledged l count rows (turned (is_unacked l) (Acked l) count rows)
 acknowledged l count rows =
-    let new = turned (is_unacked l) (Acked l) count rows in
-    let u = turned_left (is_unacked l) (Acked l) refl count rows in
-    let w = turned_same (is_unacked l) (is_waiting l) (Acked l) refl (unacked_not_waiting l l) count rows in
-    let h = turned_same (is_unacked l) (is_held l) (Acked l) refl (unacked_not_held l l) count rows in
     let ordered = turned_ordered l (is_unacked l) (Acked l) refl refl refl count rows in
-    record {
-      kept = kept_in_place (is_unacked l) rows new (turned_there (is_unacked l) (Acked l) count rows) (λ f e. on_not_acked l f (unacked_on l f e));
-      unack_is = u;
-      wait_same = w;
-      held_same = h;
-      on_is = λ o a. on_in_order l new (ordered.in_order o) (ordered.held_last a) ∙ ap (λ (xs : List Row). xs ++ wait l new ++ held l new) u ∙ ap (λ (xs : List Row). drop count (unack l rows) ++ xs ++ held l new) w ∙ ap (λ (xs : List Row). drop count (unack l rows) ++ wait l rows ++ xs) h;
-      parked_same = turned_same (is_unacked l) is_parked (Acked l) refl (λ f e. on_not_parked l f (unacked_on l f e)) count rows;
-      order_kept = ordered.in_order;
-      last_kept = ordered.held_last;
-      others = λ n d. turned_untouched n (is_unacked l) rows (sent_apart l n d) (Acked l) refl count;
-    }
+    search (kept_in_place (is_unacked l), turned_there, on_not_acked l, unacked_on, turned_left, turned_same, unacked_not_waiting, unacked_not_held, on_not_parked l, on_in_order, ordered.in_order, ordered.held_last, turned_untouched, apart_on l)
 
 -- MESSAGES THAT ARE GIVEN UP.
 pub record GivenUp (l : ℕ) (rows new : List Row) : Type 0 where
@@ -179,14 +138,7 @@ module _ (l : ℕ) (cause : DiscardCause) (rows : List Row) where
     pub given_up : GivenUp l rows (changed test (Discarded cause) rows)
     given_up =
         let ordered = changed_ordered l test (Discarded cause) refl refl refl rows in
-        record {
-          kept = kept_in_place test rows (changed test (Discarded cause) rows) (changed_there test (Discarded cause) rows) (λ f e. on_not_acked l f (on_link f e));
-          held_same = changed_same test (is_held l) (Discarded cause) refl not_held rows;
-          parked_same = changed_same test is_parked (Discarded cause) refl (λ f e. on_not_parked l f (on_link f e)) rows;
-          order_kept = ordered.in_order;
-          last_kept = ordered.held_last;
-          others = λ n d. changed_untouched n test rows (λ f e. on_other n l (apart_back l n d) f (on_link f e)) (Discarded cause) refl;
-        }
+        search (kept_in_place test, changed_there, changed_same, on_not_acked l, on_not_parked l, changed_untouched, apart_on l)
 
   pub sent_given_up : GivenUp l rows (changed (is_unacked l) (Discarded cause) rows)
   sent_given_up = given_up (is_unacked l) (unacked_on l) (unacked_not_held l l)
@@ -258,21 +210,7 @@ pub record Released (c l : ℕ) (rows new : List Row) : Type 0 where
   pub others : (n : ℕ) → (l == n) ≡ false → Untouched n rows new
 
 pub released : (c l : ℕ) (rows : List Row) → Released c l rows (moved (is_back c) (all_with (Waiting l)) rows)
-released c l rows =
-    let to = all_with (Waiting l) in
-    let off : (n : ℕ) (f : Fate) → is_back c f ≡ true → is_on n f ≡ false = λ n f e. back_not_on n f (code_back c f e) in
-    let h = moved_same (is_back c) (is_held l) to rows (λ x. refl) (λ f e. not_on_held l f (off l f e)) in
-    record {
-      kept = moved_kept (is_back c) to rows (λ x. refl) (λ f e. back_not_acked f (code_back c f e));
-      unack_same = moved_same (is_back c) (is_unacked l) to rows (λ x. refl) (λ f e. not_on_unacked l f (off l f e));
-      wait_is = moved_joined (is_back c) (is_waiting l) to rows (λ x. itself l) (λ f e. not_on_waiting l f (off l f e));
-      held_same = h;
-      on_is = moved_joined (is_back c) (is_on l) to rows (λ x. itself l) (off l);
-      parked_same = moved_same (is_back c) is_parked to rows (λ x. refl) (λ f e. back_not_parked f (code_back c f e));
-      order_kept = order_moved l (is_back c) to rows (λ x. refl);
-      last_kept = λ e. last_none l (moved (is_back c) to rows) (h ∙ e);
-      others = λ n d. moved_untouched n (is_back c) rows (off n) to (λ x. d);
-    }
+released c l rows = search (moved_kept (is_back c), moved_same, moved_joined, itself, not_on_unacked, not_on_waiting, not_on_held, back_not_on, code_back c, back_not_acked, back_not_parked, order_moved, last_none, moved_untouched)
 
 -- PARKED MESSAGES THAT FIND A LINK.
 pub record Unparked (l : ℕ) (rows new : List Row) : Type 0 where

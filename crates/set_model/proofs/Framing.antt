@@ -26,7 +26,7 @@ use Rattle.set_model.specs.Frame.{BringsAbout, Concerns, LeavesAlone, window_aft
 use Rattle.set_model.proofs.Controlling.{part_acked, last_heard}
 use Rattle.set_model.proofs.Events.{Untouched, untouched_self, sent, acknowledged, sent_given_up, waiting_given_up, moved_to, moved_aside, unparked, released as released_rows, appended_in, appended_out, appended_untouched, numbers_joined}
 use Rattle.set_model.proofs.Filters.{fated_none}
-use Rattle.set_model.proofs.Lists.{get_set_same, get_set_other, same_at, within}
+use Rattle.set_model.proofs.Lists.{get_set_same, get_set_other, within}
 use Rattle.set_model.proofs.Moving.{moved_same, moved_more}
 use Rattle.set_model.proofs.Places.{false_true, itself, apart, not_on_unacked, not_on_waiting, not_on_held, back_not_on, home_back}
 use Rattle.set_model.proofs.Ranging.{offered_out}
@@ -96,7 +96,7 @@ alone_off : (n m : ℕ) (link : LinkState) (s : State) → (m == n) ≡ false �
 alone_off n m link s d at = go (target s.links) refl
   where
     apart_target : (to : ℕ) → target s.links ≡ Some to → (m == to) ≡ false
-    apart_target to e = grind (arith, target_up, apart, same_at)
+    apart_target to e = grind (arith, target_up)
 
     joins : (to : ℕ) → target s.links ≡ Some to → (b : Bool) → (to == n) ≡ b → LeavesAlone n s (moved_over m link s)
     joins to e false f = alone_set n m (settled_link link) s (moved_over m link s) d refl (rw e ((moved_to m to s.rows (apart_target to e)).left_is.others n d f))

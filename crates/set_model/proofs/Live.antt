@@ -162,7 +162,7 @@ module _ (stream : ℕ) (place : Place) (used used' : Bool) (rows : List Row) (b
             together = none_astray (ap (λ (b : Bool). is_live stream x && not b) f.0 ∙ alive_not (is_live stream x));
             unused = λ e. false_true used' e f.1;
           }
-      go false h = grind (arith, live_split, x, append-nil, none_astray, dead)
+      go false h = grind (arith, live_split, append-nil, none_astray)
 
 -- ROWS THAT MOVE: all live ones of a stream do, or none.
 module _ (stream : ℕ) (place place' : Place) (test : Fate → Bool) (to : Fate) (open_there : (f : Fate) → test f ≡ true → is_unfinished f ≡ true) (open_to : is_unfinished to ≡ true) where
@@ -199,9 +199,9 @@ module _ (stream : ℕ) (place place' : Place) (test : Fate → Bool) (to : Fate
         arrived = ap (λ (b : Bool). is_live stream (with_fate to x) && not b) there ∙ alive_not (is_live stream (with_fate to x))
 
         one : (a b : Bool) → test x.fate ≡ a → is_live stream x ≡ b → Go rows → Go (x ∷ rows)
-        one true b t l g = grind (arith, alive_as, arrived)
-        one false true t l g = grind (arith, contra, none_here)
-        one false false t l g = grind (arith, dead)
+        one true b t l g = grind arith
+        one false true t l g = grind arith
+        one false false t l g = grind arith
 
     pub stream_goes : (used : Bool) (rows : List Row) → IsSoundStream stream place used rows → IsSoundStream stream place' used (moved test (all_with to) rows)
     stream_goes used rows t =

@@ -22,10 +22,10 @@ use Rattle.set_model.proofs.Backs.{coded_at, backs_of, stood, backs_kept}
 use Rattle.set_model.proofs.Events.{Released, released as released_rows, untouched_self}
 use Rattle.set_model.proofs.Filters.{fated_none}
 use Rattle.set_model.proofs.Finding.{numbered_appended, fit_appended}
-use Rattle.set_model.proofs.Lists.{get_set_other, same_at, within}
+use Rattle.set_model.proofs.Lists.{get_set_other, within}
 use Rattle.set_model.proofs.Moving.{moved_numbered, moved_fit, moved_same, moved_more, moved_off, moved_nothing}
 use Rattle.set_model.proofs.Order.{order_moved, last_none, last_moved}
-use Rattle.set_model.proofs.Places.{false_true, apart, not_on_unacked, not_on_held, back_not_on, home_back}
+use Rattle.set_model.proofs.Places.{false_true, not_on_unacked, not_on_held, back_not_on, home_back}
 use Rattle.set_model.proofs.Ranging.{offered_out}
 use Rattle.set_model.proofs.SoundLink.{up_unsettled, up_same, down_sound, link_untouched, links_set, placed_set, up_before}
 use Rattle.set_model.proofs.SoundNew.{link_appended, none_parked, order_fits, backs_appended, back_appended}
@@ -113,7 +113,7 @@ module _ (blind : Bool) (n : ℕ) (link : LinkState) (s : State) (at : IsAt n li
       last false e = last_moved k (is_back_to n) fate s.rows (λ x. offered_out k _ mid) (λ x. down_not_waiting mid k (ap link_is_up there ∙ e) _) (mid_links k other there).held_last
 
       away : has_phase_settled other.phase ≡ true → (via : ℕ) → IsPlaced mid.links (On via) → is_on k (fate_at (On via) mid) ≡ false
-      away e via p = grind (arith, apart, same_at, mid, there, false_true, on_either)
+      away e via p = grind arith
 
       on_same : has_phase_settled other.phase ≡ true → on k new ≡ on k s.rows
       on_same e = moved_more (is_back_to n) (is_on k) fate s.rows (off k) ∙ ap (λ (xs : List Row). on k s.rows ++ xs) (gone (is_on k) (away e)) ∙ append-nil (on k s.rows)
@@ -217,7 +217,7 @@ module _ (home alternative : ℕ) (s : State) (up : is_up home s ≡ true) (may 
       is = (codes_alone s.routing code t.routing in_range).asked_code home alternative (omega (arith, few, home_below)) (omega (arith, few, alternative_below))
 
       go : (b : Bool) → (code == code_for home alternative) ≡ b → is_up (home_of code) s ≡ true
-      go true f = grind (arith, home, eqb-true, few, alternative_below)
+      go true f = grind (arith, eqb-true, alternative_below)
       go false f = t.homes_up code (sym (is ∙ cond-false (code == code_for home alternative) Asked (code_of code s.routing) f) ∙ e)
 
   asked_backs : AreBack runs s.rows

@@ -22,7 +22,7 @@ use Rattle.set_model.specs.State.{LinkState, State, link_is_up, has_phase_up, ha
 use Rattle.set_model.specs.Changeover.{acknowledged_by, acknowledged as acknowledged_link}
 use Rattle.set_model.specs.Step.{sends, one_if, is_msu, next, after_control}
 use Rattle.set_model.specs.Sound.{IsOf, IsInRange, IsSoundLink, IsPlaced, IsAscending, IsSound}
-use Rattle.set_model.proofs.Controlling.{accepted_after, method_after, first_chosen, range_after, method_heard, part_acked, part_accept, accepted_heard, range_heard}
+use Rattle.set_model.proofs.Controlling.{first_chosen, range_after, method_heard, part_acked, part_accept, accepted_heard, range_heard}
 use Rattle.set_model.proofs.Backs.{backs_same}
 use Rattle.set_model.proofs.Events.{Kept, kept_self, Untouched, untouched_self, sent, acknowledged, GivenUp}
 use Rattle.set_model.proofs.InPlace.{turned_same, changed_same}
@@ -172,32 +172,18 @@ acknowledges count n link s at t =
     let gone = ap length a.unack_is in
     let few = l.window in
     let unsettled = ap has_phase_settled at.phase_is in
-    changes n link (acknowledged_link count link) s (turned (is_unacked n) (Acked n) count s.rows) t (record {
-      there = at.there;
-      one = down_sound s.settings.method n (acknowledged_link count link) _ (ap has_phase_up at.phase_is) unsettled (omega (arith, left, gone, few)) l.counted l.method (a.order_kept l.in_order) (a.last_kept l.held_last);
-      others = a.others;
-      kept = a.kept;
-      parked_same = a.parked_same;
-      back_same = turned_same (is_unacked n) stands_back (Acked n) refl (unacked_not_back n) count s.rows;
-      phase_same = refl;
-      unsettled = unsettled;
-    })
+    let one = down_sound s.settings.method n (acknowledged_link count link) (turned (is_unacked n) (Acked n) count s.rows) (ap has_phase_up at.phase_is) unsettled (omega (arith, left, gone, few)) l.counted l.method (a.order_kept l.in_order) (a.last_kept l.held_last) in
+    let back_same = turned_same (is_unacked n) stands_back (Acked n) refl (unacked_not_back n) count s.rows in
+    changes n link (acknowledged_link count link) s (turned (is_unacked n) (Acked n) count s.rows) t assumption
 
 pub gives_up : (test : Fate → Bool) (cause : DiscardCause) (n : ℕ) (link : LinkState) (s : State) → ((f : Fate) → test f ≡ true → is_on n f ≡ true) → GivenUp n s.rows (changed test (Discarded cause) s.rows) → length (unack n (changed test (Discarded cause) s.rows)) ≤ length (unack n s.rows) → IsAt n link Down s → IsSound s → IsSound (record s { rows = changed test (Discarded cause) s.rows })
 gives_up test cause n link s on_link g fewer at t =
     let l = t.links n link at.there in
     let few = l.window in
     let unsettled = ap has_phase_settled at.phase_is in
-    rows_change n link s (changed test (Discarded cause) s.rows) t (record {
-      there = at.there;
-      one = down_sound s.settings.method n link _ (ap has_phase_up at.phase_is) unsettled (omega (arith, few, fewer)) l.counted l.method (g.order_kept l.in_order) (g.last_kept l.held_last);
-      others = g.others;
-      kept = g.kept;
-      parked_same = g.parked_same;
-      back_same = changed_same test stands_back (Discarded cause) refl (λ f e. on_not_back n f (on_link f e)) s.rows;
-      phase_same = refl;
-      unsettled = unsettled;
-    })
+    let one = down_sound s.settings.method n link (changed test (Discarded cause) s.rows) (ap has_phase_up at.phase_is) unsettled (omega (arith, few, fewer)) l.counted l.method (g.order_kept l.in_order) (g.last_kept l.held_last) in
+    let back_same = changed_same test stands_back (Discarded cause) refl (λ f e. on_not_back n f (on_link f e)) s.rows in
+    rows_change n link s (changed test (Discarded cause) s.rows) t assumption
 
 -- SENDING.
 -- how many are unacknowledged then
@@ -234,20 +220,13 @@ module _ (n : ℕ) (link : LinkState) (s : State) (at : IsAt n link Up s) (t : I
   old_range = subst (IsInRange link.control) (sym same_count) (l.in_range up)
 
   one_sent : (choice : Choice) (new : List Row) → choice_of octets link.control window ≡ choice → IsInOrder n new → IsHeldLast n new → held n new ≡ held n s.rows → length (unack n s.rows) ≤ length (unack n new) → (choice ≡ first → length (unack n new) ≡ length (unack n s.rows) + 1) → length (unack n new) ≤ 127 → IsSoundLink s.settings.method n (record link { control = control_after choice octets link.control window }) new
-  one_sent choice new e order last same more one few = grind (arith, window, accepted_after, octets, l, method_after, up, range_after, same_count, one, old_range, false_true, not_settled)
+  one_sent choice new e order last same more one few = grind (arith, l, range_after, same_count, false_true, not_settled)
 
   -- with no message sent for the first time
   repeats : (choice : Choice) → choice_of octets link.control window ≡ choice → (choice ≡ first → ⊥) → IsSound (record s { links = slice_set s.links n (record link { control = control_after choice octets link.control window }); rows = s.rows })
-  repeats choice e other = changes n link (record link { control = control_after choice octets link.control window }) s s.rows t (record {
-    there = at.there;
-    one = one_sent choice s.rows e l.in_order l.held_last refl (omega arith) (λ f. absurd (other f)) l.window;
-    others = λ k d. untouched_self k s.rows;
-    kept = kept_self s.rows;
-    parked_same = refl;
-    back_same = refl;
-    phase_same = refl;
-    unsettled = not_settled;
-  })
+  repeats choice e other =
+      let one = one_sent choice s.rows e l.in_order l.held_last refl (omega arith) (λ f. absurd (other f)) l.window in
+      changes n link (record link { control = control_after choice octets link.control window }) s s.rows t (assumption (one, at, not_settled, kept_self s.rows, λ (k : ℕ) (d : (n == k) ≡ false). untouched_self k s.rows))
 
   sends_by : (choice : Choice) → choice_of octets link.control window ≡ choice → IsSound (sends choice n s link).state
   sends_by (again place) e = repeats (again place) e (λ f. cc)
@@ -259,16 +238,9 @@ module _ (n : ℕ) (link : LinkState) (s : State) (at : IsAt n link Up s) (t : I
       let few = chosen.1 in
       let d = sent n s.rows in
       let count = count_sent n s.rows l.in_order (omega (arith, waits, some)) in
-      changes n link (record link { control = control_after first octets link.control window }) s (turned (is_waiting n) (Unacked n) 1 s.rows) t (record {
-        there = at.there;
-        one = one_sent first (turned (is_waiting n) (Unacked n) 1 s.rows) e (d.order_kept l.in_order) (d.last_kept l.held_last) d.held_same (omega (arith, count)) (λ f. count) (omega (arith, count, few, same_count));
-        others = d.others;
-        kept = d.kept;
-        parked_same = d.parked_same;
-        back_same = turned_same (is_waiting n) stands_back (Unacked n) refl (waiting_not_back n) 1 s.rows;
-        phase_same = refl;
-        unsettled = not_settled;
-      })
+      let one = one_sent first (turned (is_waiting n) (Unacked n) 1 s.rows) e (d.order_kept l.in_order) (d.last_kept l.held_last) d.held_same (omega (arith, count)) (λ f. count) (omega (arith, count, few, same_count)) in
+      let back_same = turned_same (is_waiting n) stands_back (Unacked n) refl (waiting_not_back n) 1 s.rows in
+      changes n link (record link { control = control_after first octets link.control window }) s (turned (is_waiting n) (Unacked n) 1 s.rows) t (assumption not_settled)
 
   pub sends_sound : IsSound (next n s link).state
   sends_sound = sends_by (choice_of octets link.control window) refl
@@ -301,22 +273,15 @@ module _ (n : ℕ) (link : LinkState) (s : State) (at : IsAt n link Up s) (t : I
         let few = l.window in
         let left = length-drop part.acked (unack n s.rows) in
         let gone = ap length a.unack_is in
-        changes n link heard_link s (turned (is_unacked n) (Acked n) part.acked s.rows) t (record {
-          there = at.there;
-          one = record {
-            window = omega (arith, few, left, gone);
-            counted = accepted_heard link.control window head (is_msu unit) link.accepted l.counted ∙ ap (λ (b : Bool). (link.accepted + one_if b + 127) % 128) (sym (part_accept link.control window head (is_msu unit)));
-            method = method_heard s.settings.method link.control window head (is_msu unit) l.method;
-            in_order = a.order_kept l.in_order;
-            held_last = a.last_kept l.held_last;
-            none_held = λ u. a.held_same ∙ l.none_held up;
-            in_range = λ u. subst (IsInRange (control_heard link.control window head (is_msu unit))) left_count (range_heard link.control window head (is_msu unit) old_range);
-            settled = λ e. false_true (has_phase_settled link.phase) not_settled e;
-          };
-          others = a.others;
-          kept = a.kept;
-          parked_same = a.parked_same;
-          back_same = turned_same (is_unacked n) stands_back (Acked n) refl (unacked_not_back n) part.acked s.rows;
-          phase_same = refl;
-          unsettled = not_settled;
-        })
+        let back_same = turned_same (is_unacked n) stands_back (Acked n) refl (unacked_not_back n) part.acked s.rows in
+        let one : IsSoundLink s.settings.method n heard_link (turned (is_unacked n) (Acked n) part.acked s.rows) = record {
+          window = omega (arith, few, left, gone);
+          counted = accepted_heard link.control window head (is_msu unit) link.accepted l.counted ∙ ap (λ (b : Bool). (link.accepted + one_if b + 127) % 128) (sym (part_accept link.control window head (is_msu unit)));
+          method = method_heard s.settings.method link.control window head (is_msu unit) l.method;
+          in_order = a.order_kept l.in_order;
+          held_last = a.last_kept l.held_last;
+          none_held = λ u. a.held_same ∙ l.none_held up;
+          in_range = λ u. subst (IsInRange (control_heard link.control window head (is_msu unit))) left_count (range_heard link.control window head (is_msu unit) old_range);
+          settled = λ e. false_true (has_phase_settled link.phase) not_settled e;
+        } in
+        changes n link heard_link s (turned (is_unacked n) (Acked n) part.acked s.rows) t (assumption not_settled)

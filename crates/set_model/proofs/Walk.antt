@@ -68,7 +68,7 @@ module _ (Known : ℕ → Type 0) (May : Type 0) (R : State → State → Type 0
   settle_walks (Upto fsn) n link s known at = go (is_reasonable fsn n link s.rows) refl
     where
       go : (b : Bool) → is_reasonable fsn n link s.rows ≡ b → R s (settled (Upto fsn) n link s)
-      go true e = grind (arith, off, get_set_same, within)
+      go true e = grind (arith, get_set_same, within)
       go false e = rw e (off n link s _ known (given_up Unreasonable n link s known at) (record { there = at.there; phase_is = at.phase_is }))
 
   -- orders
