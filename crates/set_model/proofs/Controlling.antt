@@ -11,13 +11,6 @@ use Rattle.set_model.specs.Control.{Control, Basic, Cyclic, Choice, again, first
 use Rattle.set_model.specs.Step.{one_if}
 use Rattle.set_model.specs.Sound.{IsOf, IsInRange}
 
--- SENDING.
-pub accepted_after : (choice : Choice) (o : ℕ) (control : Control) (w : WindowState) → accepted_of (control_after choice o control w) ≡ accepted_of control
-accepted_after choice o control w = grind arith
-
-pub method_after : (m : Method) (choice : Choice) (o : ℕ) (control : Control) (w : WindowState) → IsOf m control → IsOf m (control_after choice o control w)
-method_after m choice o control w is = grind arith
-
 -- a first sending is chosen only where something waits, and fewer than 127 are unacknowledged
 both_cyclic : (x y z v : Bool) (p q : ℕ) → (if x then again p else (if y && z then first else (if v then again q else fill))) ≡ first → (y ≡ true) × (z ≡ true)
 both_cyclic x y z v p q e = grind arith

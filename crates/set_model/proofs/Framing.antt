@@ -1,7 +1,7 @@
 -- WHAT AN EVENT LEAVES ALONE, and how it moves the window of its own link.
-use Rattle.std.proofs.Common.{arith, refl, ◌≡◌, ◌∙◌, ap, sym, subst, ℕ, zero, suc, ◌+◌, ◌%◌, ◌==◌, Bool, true, false, List, [], ◌∷◌, ◌++◌, map, take, drop, slice_get, slice_set, Option, Some, None, append_assoc, inl}
-use Rattle.std.proofs.lemmas.Bool.{eqb-true}
-use Rattle.std.proofs.lemmas.List.{append-nil}
+use Rattle.std.proofs.Common.{arith, refl, ◌≡◌, ◌∙◌, ap, sym, subst, ℕ, ◌+◌, ◌%◌, ◌==◌, Bool, true, false, List, [], ◌++◌, map, take, drop, slice_get, slice_set, Option, Some, None, append_assoc, inl}
+use Rattle.std.proofs.lemmas.Bool.{eqb-true, eqb-false}
+use Rattle.std.proofs.lemmas.List.{append-nil, drop-map, take-map}
 use Rattle.l2_units.specs.declared.unit.Header.{Header}
 use Rattle.l2_units.specs.declared.unit.Unit.{Unit as SignalUnit}
 use Rattle.l2_units.specs.Grammar.{head_of as header_in}
@@ -28,7 +28,7 @@ use Rattle.set_model.proofs.Events.{Untouched, untouched_self, sent, acknowledge
 use Rattle.set_model.proofs.Filters.{fated_none}
 use Rattle.set_model.proofs.Lists.{get_set_same, get_set_other, within}
 use Rattle.set_model.proofs.Moving.{moved_same, moved_more}
-use Rattle.set_model.proofs.Places.{false_true, itself, apart, not_on_unacked, not_on_waiting, not_on_held, back_not_on, home_back}
+use Rattle.set_model.proofs.Places.{false_true, apart, not_on_unacked, not_on_waiting, not_on_held, back_not_on, home_back}
 use Rattle.set_model.proofs.Ranging.{offered_out}
 use Rattle.set_model.proofs.SoundBack.{up_not_held, down_not_waiting, alternative_up}
 use Rattle.set_model.proofs.Targets.{target_up}
@@ -64,7 +64,7 @@ alone_then n a b c p q = record {
 
 -- a link that changes, and rows that another doesn't see
 alone_set : (n m : ℕ) (link : LinkState) (s t : State) → (m == n) ≡ false → t.links ≡ slice_set s.links m link → Untouched n s.rows t.rows → LeavesAlone n s t
-alone_set n m link s t d links u = alone_by n s t (ap (λ (ls : List LinkState). slice_get ls n) links ∙ get_set_other s.links m n link (λ same. false_true (m == n) d (rw same (itself n)))) u
+alone_set n m link s t d links u = alone_by n s t (ap (λ (ls : List LinkState). slice_get ls n) links ∙ get_set_other s.links m n link (eqb-false m n d)) u
 
 -- a new message that waits for a link that is up
 alone_waits : (n : ℕ) (body : List ℕ) (s : State) (routing : Routing) (to : ℕ) → is_up to s ≡ true → LeavesAlone n s (record s { rows = appended s.rows body (Waiting to); routing = routing })
@@ -106,7 +106,7 @@ alone_off n m link s d at = go (target s.links) refl
         let is : is_up n s ≡ true = ap (λ (k : ℕ). link_is_up (slice_get s.links k)) same ∙ ap link_is_up up.1 ∙ up.2 in
         let moved = moved_to m to s.rows (apart_target to e) in
         record {
-          link_same = get_set_other s.links m n (settled_link link) (λ eq. false_true (m == n) d (rw eq (itself n)));
+          link_same = get_set_other s.links m n (settled_link link) (eqb-false m n d);
           unack_same = rw (e, same) moved.unack_same;
           later = [];
           held_later = rw (e, same) (moved.held_same ∙ sym (append-nil (held to s.rows)));
@@ -140,9 +140,8 @@ module _ (n : ℕ) (event : Event) (s : State) (free : Concerns event n s → �
   }
 
 sent_alone : (n m : ℕ) (choice : Choice) (rows : List Row) → (m == n) ≡ false → Untouched n rows (rows_sent choice m rows)
-sent_alone n m (again i) rows d = untouched_self n rows
 sent_alone n m first rows d = (sent m rows).others n d
-sent_alone n m fill rows d = untouched_self n rows
+sent_alone n m _ rows d = untouched_self n rows
 
 offer_off : (n : ℕ) (place : Place) (s : State) → (place ≡ On n → ⊥) → is_on n (fate_at place s) ≡ false
 offer_off n place s free = grind arith
@@ -161,14 +160,7 @@ leaves_alone n s event free = step_walks s (LeavesAlone n) (LeavesAlone n s) eve
 
 -- THE WINDOW.
 pub numbers-drop : (d : ℕ) (rows : List Row) → numbers (drop d rows) ≡ drop d (numbers rows)
-numbers-drop zero rows = refl
-numbers-drop (suc d) [] = refl
-numbers-drop (suc d) (x ∷ rows) = numbers-drop d rows
-
-numbers-take : (d : ℕ) (rows : List Row) → numbers (take d rows) ≡ take d (numbers rows)
-numbers-take zero rows = refl
-numbers-take (suc d) [] = refl
-numbers-take (suc d) (x ∷ rows) = ap (λ (ns : List ℕ). x.number ∷ ns) (numbers-take d rows)
+numbers-drop d rows = sym (drop-map (λ (row : Row). row.number) d rows)
 
 same_window : {last last' : ℕ} {unacked unacked' unsent unsent' : List ℕ} → last ≡ last' → unacked ≡ unacked' → unsent ≡ unsent' → ◌≡◌ {A = WindowState} (record { last = last; unacked = unacked; unsent = unsent; room = 0 }) (record { last = last'; unacked = unacked'; unsent = unsent'; room = 0 })
 same_window a b c = rw (a, b, c) refl
@@ -183,7 +175,7 @@ module _ (n : ℕ) (link : LinkState) (s : State) (there : slice_get s.links n �
   window_sent first order =
       let d = sent n s.rows in
       same_window refl
-      (ap numbers (d.unack_is order) ∙ numbers_joined (λ row. Unacked n) (unack n s.rows) (take 1 (wait n s.rows)) ∙ ap (λ (ns : List ℕ). numbers (unack n s.rows) ++ ns) (numbers-take 1 (wait n s.rows)))
+      (ap numbers (d.unack_is order) ∙ numbers_joined (λ row. Unacked n) (unack n s.rows) (take 1 (wait n s.rows)) ∙ ap (λ (ns : List ℕ). numbers (unack n s.rows) ++ ns) (sym (take-map (λ (row : Row). row.number) 1 (wait n s.rows))))
       (ap numbers d.wait_is ∙ numbers-drop 1 (wait n s.rows))
 
   module _ (unit : SignalUnit) where

@@ -13,7 +13,7 @@ use Rattle.set_events.specs.declared.event.Event.{Event}
 use Rattle.set_events.specs.declared.event.Event.TheVariants.{Offer, Take, Find}
 use Rattle.set_model.specs.Rows.{Row, is_on, is_back_to, was_acked, moved, all_with, appended, service_indicator, counts_of, total_of, stream_of}
 use Rattle.set_model.specs.State.{State, fate_at, target}
-use Rattle.set_model.specs.Control.{Choice, again, first, fill}
+use Rattle.set_model.specs.Control.{Choice, first}
 use Rattle.set_model.specs.Changeover.{fate_on, out_of_service, turned_back}
 use Rattle.set_model.specs.Step.{offer_refusal, offered, rows_sent, step, messages_in, octets_of, Gains}
 use Rattle.set_model.specs.Sound.{IsManaged}
@@ -51,9 +51,8 @@ counted_back : (n : ℕ) (s : State) → Counted s.rows (turned_back n s).rows
 counted_back n s = counted_kept _ _ (moved_kept (is_back_to n) (λ row. fate_at (place_of (stream_of row.body) s.routing) s) s.rows (λ row. fate_open (place_of (stream_of row.body) s.routing) s) (λ f e. back_not_acked f (home_back n f e)))
 
 counted_sent : (choice : Choice) (n : ℕ) (rows : List Row) → Counted rows (rows_sent choice n rows)
-counted_sent (again i) n rows = counted_self rows
 counted_sent first n rows = counted_kept _ _ (sent n rows).kept
-counted_sent fill n rows = counted_self rows
+counted_sent _ n rows = counted_self rows
 
 -- the settings stay, and so do the counts
 abbrev CountedFrom : State → State → Type 0

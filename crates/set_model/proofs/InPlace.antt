@@ -1,10 +1,8 @@
 -- Rows that get another fate in their places: the first n where a test tells, or all.
-use Rattle.std.proofs.Common.{refl, arith, ◌≡◌, ◌∙◌, ap, ◌≤◌, [], ◌∷◌, length, ℕ, zero, suc, Bool, true, false, List, drop, Option, Some, cond, ◌==◌}
+use Rattle.std.proofs.Common.{refl, arith, ◌≡◌, ap, ◌≤◌, [], ◌∷◌, length, ℕ, zero, suc, Bool, true, false, List, drop, cond}
 use Rattle.std.specs.Prelude.{filter}
-use Rattle.std.specs.Option.{option_map}
 use Rattle.set_events.specs.declared.answer.Fate.{Fate}
-use Rattle.set_model.specs.Rows.{Row, standing, is_users, users, was_acked, is_waiting, is_unacked, is_held, unack, wait, turned, changed, with_fate, row_of, body_at, AreFit, IsInOrder, IsHeldLast}
-use Rattle.set_model.proofs.Places.{false_true}
+use Rattle.set_model.specs.Rows.{Row, standing, users, was_acked, is_waiting, is_unacked, is_held, unack, wait, turned, changed, with_fate, body_at, AreFit, IsInOrder, IsHeldLast}
 
 -- What is kept where a row stays, and where one turns, is kept by both changes.
 module _ (test : Fate → Bool) (fate : Fate) (P : List Row → List Row → Type 0) (none : P [] []) (stays : (x : Row) (xs ys : List Row) → P xs ys → P (x ∷ xs) (x ∷ ys)) (turns : (x : Row) (xs ys : List Row) → test x.fate ≡ true → P xs ys → P (x ∷ xs) (with_fate fate x ∷ ys)) where
@@ -30,36 +28,15 @@ pub record InPlace (test : Fate → Bool) (xs ys : List Row) : Type 0 where
   -- where no acknowledged one turns
   pub acked : ((f : Fate) → test f ≡ true → was_acked f ≡ false) → length (standing was_acked (users xs)) ≤ length (standing was_acked (users ys))
 
-longer : (b c : Bool) (x y : Row) (xs ys : List Row) → c ≡ b → length ys ≡ length xs → length (cond c (y ∷ ys) ys) ≡ length (cond b (x ∷ xs) xs)
-longer b c x y xs ys e h = grind arith
-
-same_body : (b c : Bool) (x y : Row) (r s : Option Row) → c ≡ b → y.body ≡ x.body → option_map (λ (w : Row). w.body) s ≡ option_map (λ (w : Row). w.body) r → option_map (λ (w : Row). w.body) (cond c (Some y) s) ≡ option_map (λ (w : Row). w.body) (cond b (Some x) r)
-same_body b c x y r s e f h = grind arith
-
--- acknowledged messages of users, where those behind are no fewer
-no_fewer : (u a b : Bool) (x y : Row) (xs ys : List Row) → (a ≡ true → b ≡ true) → is_users x ≡ u → is_users y ≡ u → was_acked x.fate ≡ a → was_acked y.fate ≡ b → length (standing was_acked (users xs)) ≤ length (standing was_acked (users ys)) → length (standing was_acked (users (x ∷ xs))) ≤ length (standing was_acked (users (y ∷ ys)))
-no_fewer u a b x y xs ys w ux uy ax by h = grind arith
-
 module _ (test : Fate → Bool) (fate : Fate) where
   none_there : InPlace test [] []
   none_there = record { count = refl; fit = λ a. a; as_many = λ p same. refl; bodies = λ number. refl; acked = λ w. omega arith }
 
-  one_there : (x y : Row) (xs ys : List Row) → y ≡ with_fate y.fate x → (((f : Fate) → test f ≡ true → was_acked f ≡ false) → was_acked x.fate ≡ true → was_acked y.fate ≡ true) → InPlace test xs ys → InPlace test (x ∷ xs) (y ∷ ys)
-  one_there x y xs ys is keeps p =
-      let body : y.body ≡ x.body = ap (λ (r : Row). r.body) is in
-      record {
-        count = ap suc p.count;
-        fit = λ a. (rw body a.0, p.fit a.1);
-        as_many = λ q same. longer (q x) (q y) x y (filter q xs) (filter q ys) (ap q is ∙ same y.fate x) (p.as_many q same);
-        bodies = λ n. same_body (x.number == n) (y.number == n) x y (row_of n xs) (row_of n ys) (ap (λ (r : Row). r.number == n) is) body (p.bodies n);
-        acked = λ w. no_fewer (is_users x) (was_acked x.fate) (was_acked y.fate) x y xs ys (keeps w) refl (ap is_users is) refl refl (p.acked w);
-      }
-
   stays_there : (x : Row) (xs ys : List Row) → InPlace test xs ys → InPlace test (x ∷ xs) (x ∷ ys)
-  stays_there x xs ys p = one_there x x xs ys refl (λ w e. e) p
+  stays_there x xs ys p = grind arith
 
   turns_there : (x : Row) (xs ys : List Row) → test x.fate ≡ true → InPlace test xs ys → InPlace test (x ∷ xs) (with_fate fate x ∷ ys)
-  turns_there x xs ys h p = one_there x (with_fate fate x) xs ys refl (λ w e. false_true (was_acked x.fate) (w x.fate h) e) p
+  turns_there x xs ys h p = grind arith
 
   pub turned_there : (n : ℕ) (rows : List Row) → InPlace test rows (turned test fate n rows)
   turned_there n rows = where_turned test fate (InPlace test) none_there stays_there turns_there n rows

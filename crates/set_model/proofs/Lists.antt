@@ -1,6 +1,8 @@
 -- What a list holds when one place of it is set.
 use Rattle.std.proofs.Common.{refl, arith, ◌≡◌, ◌≢◌, ◌∙◌, ap, sym, ◌<◌, [], ◌∷◌, length, ℕ, zero, suc, List, map, slice_get, slice_set, slice_index_or, Some, ◌⊎◌, inl, inr}
-use Rattle.std.proofs.lemmas.Option.{same_Some, slice_get-get_or}
+use Rattle.std.proofs.lemmas.Option.{same_Some, slice_get-get_or, slice_get-map, slice_get_within}
+use Rattle.std.proofs.lemmas.List.{length-set}
+use Rattle.std.specs.Option.{option_map}
 
 pub get_set_same : {X : Type 0} (xs : List X) (n : ℕ) (x : X) → n < length xs → slice_get (slice_set xs n x) n ≡ Some x
 get_set_same [] n x few = absurd (omega (arith, few))
@@ -26,9 +28,7 @@ set_same (y ∷ xs) zero x there = ap (λ z. z ∷ xs) (sym (same_Some y x there
 set_same (y ∷ xs) (suc n) x there = ap (λ rest. y ∷ rest) (set_same xs n x there)
 
 pub length_set : {X : Type 0} (xs : List X) (n : ℕ) (x : X) → length (slice_set xs n x) ≡ length xs
-length_set [] n x = refl
-length_set (y ∷ xs) zero x = refl
-length_set (y ∷ xs) (suc n) x = ap suc (length_set xs n x)
+length_set xs n x = length-set xs n x
 
 pub set_twice : {X : Type 0} (xs : List X) (n : ℕ) (x y : X) → slice_set (slice_set xs n x) n y ≡ slice_set xs n y
 set_twice [] n x y = refl
@@ -45,9 +45,7 @@ at_set (z ∷ xs) (suc n) (suc m) x y there = grind (arith, at_set xs n m x y th
 
 -- only what is in the list is found
 pub within : {X : Type 0} (xs : List X) (n : ℕ) (x : X) → slice_get xs n ≡ Some x → n < length xs
-within [] n x there = absurd cc
-within (y ∷ xs) zero x there = omega arith
-within (y ∷ xs) (suc n) x there = let rest = within xs n x there in omega (arith, rest)
+within xs n x there = slice_get_within xs n x there
 
 -- a place that is set to something of the same image
 pub map_set_same : {X Y : Type 0} (f : X → Y) (xs : List X) (n : ℕ) (x y : X) → slice_get xs n ≡ Some x → f y ≡ f x → map f (slice_set xs n y) ≡ map f xs
@@ -69,9 +67,7 @@ at_map f (x ∷ xs) zero y there = (x, refl, same_Some (f x) y there)
 at_map f (x ∷ xs) (suc n) y there = at_map f xs n y there
 
 pub map_at : {X Y : Type 0} (f : X → Y) (xs : List X) (n : ℕ) (x : X) → slice_get xs n ≡ Some x → slice_get (map f xs) n ≡ Some (f x)
-map_at f [] n x there = absurd cc
-map_at f (y ∷ xs) zero x there = ap (λ z. Some (f z)) (same_Some y x there)
-map_at f (y ∷ xs) (suc n) x there = map_at f xs n x there
+map_at f xs n x there = slice_get-map f xs n ∙ ap (option_map f) there
 
 pub present : {X : Type 0} (xs : List X) (n : ℕ) → n < length xs → (x : X) × (slice_get xs n ≡ Some x)
 present [] n few = absurd (omega (arith, few))

@@ -13,7 +13,7 @@ use Rattle.set_route.specs.declared.place.Place.{Place}
 use Rattle.set_route.specs.Routing.{place_of, home_of}
 use Rattle.set_model.specs.Rows.{Row, standing, unack, is_unacked, is_waiting, is_parked, is_on, is_back, is_back_to, turned, moved, all_with, appended, octets_in, stream_of}
 use Rattle.set_model.specs.State.{LinkState, State, target, fate_at, window_of}
-use Rattle.set_model.specs.Control.{Control, Choice, again, first, fill, choice_of, acked_by, part_of}
+use Rattle.set_model.specs.Control.{Control, Choice, first, choice_of, acked_by, part_of}
 use Rattle.set_model.specs.Changeover.{fate_on, left_link, out_of_service, turned_back, settled_link, acknowledged as acknowledged_link}
 use Rattle.set_model.specs.Step.{rows_sent, one_if, is_msu, risen_link, step}
 use Rattle.set_model.specs.Sound.{WholeNumbers, one_more, AreFewOn, AreAtMost, AreFew}
@@ -106,9 +106,8 @@ one_low : (b : Bool) → one_if b ≤ 1
 one_low b = grind arith
 
 few_sent : (choice : Choice) (m n : ℕ) (rows : List Row) → length (unack m (rows_sent choice n rows)) ≤ length (unack m rows) + 1
-few_sent (again i) m n rows = omega arith
 few_sent first m n rows = few_turned (is_waiting n) (is_unacked m) (Unacked n) 1 rows
-few_sent fill m n rows = omega arith
+few_sent _ m n rows = omega arith
 
 wider : (k : ℕ → WholeNumbers) (s : State) → AreAtMost k s → AreAtMost (λ n. one_more (k n)) s
 wider k s few m link there = let f = few m link there in let a = f.sent in let b = f.accepted in record { sent = omega (arith, a); accepted = omega (arith, b) }

@@ -6,7 +6,7 @@ use Rattle.set_events.specs.declared.event.Event.{Event}
 use Rattle.l3_orders.specs.Grammar.{text}
 use Rattle.set_model.specs.Rows.{Row, is_on, is_back, is_back_to, moved, appended, body_at, IsNumbered}
 use Rattle.set_model.specs.State.{State, target}
-use Rattle.set_model.specs.Control.{Choice, again, first, fill}
+use Rattle.set_model.specs.Control.{Choice, first}
 use Rattle.set_model.specs.Changeover.{fate_on}
 use Rattle.set_model.specs.Step.{rows_sent, step}
 use Rattle.set_model.specs.Laws.{KeepsMessages}
@@ -45,9 +45,8 @@ stays_appended rows body fate =
     }
 
 sent_stays : (choice : Choice) (n : ℕ) (rows : List Row) → Stays rows (rows_sent choice n rows)
-sent_stays (again i) n rows = stays_self rows
 sent_stays first n rows = stays_kept _ _ (sent n rows).kept
-sent_stays fill n rows = stays_self rows
+sent_stays _ n rows = stays_self rows
 
 small : (Known : ℕ → Type 0) (May : Type 0) → KeptBy Known May (λ s t. Stays s.rows t.rows)
 small Known May = record {
