@@ -75,8 +75,7 @@ queue_set (Back c) Parked ns q s h = refl
 queue_set (Back c) (Back k) ns q s h = read_set ns q.back c k [] (c == k) refl h
 queue_set (Back c) (Acked k) ns q s h = refl
 queue_set (Back c) (Discarded d) ns q s h = refl
-queue_set (Acked l) f ns q s h = absurd (cc)
-queue_set (Discarded c) f ns q s h = absurd (cc)
+queue_set _ f ns q s h = absurd (cc)
 
 -- the links stay as many
 pub links_stay : (g : Fate) (numbers : List ℕ) (q : Lists) → length (with_queue g numbers q).links ≡ length q.links

@@ -4,7 +4,7 @@ use Rattle.std.specs.Prelude.{slice_get, slice_index}
 use Rattle.std.specs.Option.{option_map}
 use Rattle.std.proofs.lemmas.Bool.{cases_eq}
 use Rattle.set_events.specs.declared.answer.Fate.{Fate}
-use Rattle.set_events.specs.declared.answer.Fate.TheVariants.{Waiting, Unacked, Acked, Held, Parked, Back, Discarded}
+use Rattle.set_events.specs.declared.answer.Fate.TheVariants.{Waiting, Unacked, Acked, Held, Back}
 use Rattle.set_queues.specs.declared.message.Message.{Message}
 use Rattle.set_queues.specs.Counts.{one_if}
 use Rattle.set_queues.specs.Messages.{with_fate, restood_one, restood, octets_in, octets_of}
@@ -48,10 +48,7 @@ pub replaced_moves : (q q' : Lists) (from to : Fate) (left joined ns : List ℕ)
 replaced_moves q q' from to left joined ns apart r leave join f s m = go (same_fate from f) (same_fate to f) refl refl (r f s)
   where
     go : (a b : Bool) → same_fate from f ≡ a → same_fate to f ≡ b → queue_at f q' ≡ cond a left (cond b joined (queue_at f q)) → occurs m (queue_at f q') + cond a (occurs m ns) 0 ≡ occurs m (queue_at f q) + cond b (occurs m ns) 0
-    go true true e d g =
-        let here : from ≡ f = same_is from f s e in
-        let no : same_fate to f ≡ false = subst (λ (x : Fate). same_fate to x ≡ false) here apart in
-        absurd (cc)
+    go true true e d g = grind (arith, same_is)
     go true false e d g =
         let here : from ≡ f = same_is from f s e in
         omega (arith, ap (occurs m) g, leave m, ap (λ (x : Fate). occurs m (queue_at x q)) here)
@@ -184,23 +181,8 @@ added_tie q ms x tie k u f s m = go (cases_eq (length ms) m)
     here_if false = refl
 
     go : (length ms ≡ m) ⊎ (length ms ≡ m → ⊥) → occurs m (queue_at f (with_queue x.fate (queue_at x.fate q ++ length ms ∷ []) q)) ≡ one_if (stands f m (ms ++ x ∷ []))
-    go (inl e) =
-        let one : one_if (length ms == m) ≡ 1 = occurs_here (length ms) m e in
-        more (same_fate x.fate f) refl (added_queue q x.fate f (length ms) k u)
-        ∙ ap (λ (i : ℕ). i + cond (same_fate x.fate f) (one_if (length ms == m)) 0) (tie f s m ∙ was_new e)
-        ∙ ap (λ (i : ℕ). 0 + cond (same_fate x.fate f) i 0) one
-        ∙ sum_zero (cond (same_fate x.fate f) 1 0) ∙ sym (here_if (same_fate x.fate f)) ∙ sym (is_new e)
-      where
-        sum_zero : (i : ℕ) → 0 + i ≡ i
-        sum_zero i = omega arith
-    go (inr ne) =
-        more (same_fate x.fate f) refl (added_queue q x.fate f (length ms) k u)
-        ∙ ap (λ (i : ℕ). occurs m (queue_at f q) + cond (same_fate x.fate f) i 0) (occurs_not (length ms) m ne)
-        ∙ none (same_fate x.fate f) ∙ tie f s m ∙ sym (is_old ne)
-      where
-        none : (b : Bool) → occurs m (queue_at f q) + cond b 0 0 ≡ occurs m (queue_at f q)
-        none true = omega arith
-        none false = omega arith
+    go (inl e) = grind (arith, occurs_here, more, added_queue, was_new, here_if, is_new)
+    go (inr ne) = grind (arith, more, added_queue, occurs_not, is_old)
 
 added_unacked : (q : Lists) (to : Fate) (n l : ℕ) → IsKnown to q → IsQueued to → queue_at (Unacked l) (with_queue to (queue_at to q ++ n ∷ []) q) ≡ queue_at (Unacked l) q
 added_unacked q to n l k u = added_queue q to (Unacked l) n k u ∙ ap (λ (b : Bool). cond b (queue_at to q ++ n ∷ []) (queue_at (Unacked l) q)) (unqueued to l u)
@@ -298,10 +280,7 @@ pub queue_last : (f : Fate) (l fsn : ℕ) (q : Lists) → queue_at f (with_last 
 queue_last (Waiting k) l fsn q = list_kept (list_in (λ (z : LinkLists). z.unsent)) (λ (z : LinkLists). record z { last = fsn }) q.links l k (kept_unsent (λ (z : LinkLists). record z { last = fsn }) (λ x. refl)) (l == k) refl
 queue_last (Unacked k) l fsn q = list_kept (list_in (λ (z : LinkLists). z.unacked)) (λ (z : LinkLists). record z { last = fsn }) q.links l k (kept_unacked (λ (z : LinkLists). record z { last = fsn }) (λ x. refl)) (l == k) refl
 queue_last (Held k) l fsn q = list_kept (list_in (λ (z : LinkLists). z.held)) (λ (z : LinkLists). record z { last = fsn }) q.links l k (kept_held (λ (z : LinkLists). record z { last = fsn }) (λ x. refl)) (l == k) refl
-queue_last Parked l fsn q = refl
-queue_last (Back c) l fsn q = refl
-queue_last (Acked k) l fsn q = refl
-queue_last (Discarded c) l fsn q = refl
+queue_last _ l fsn q = refl
 
 acked_queue : (q : Lists) (l fsn : ℕ) (f : Fate) → l < length q.links → queue_at f (acknowledged l fsn q) ≡ cond (same_fate (Unacked l) f) (drop (reach l fsn q) (queue_at (Unacked l) q)) (queue_at f q)
 acked_queue q l fsn f h = queue_last f l fsn (with_queue (Unacked l) (drop (reach l fsn q) (queue_at (Unacked l) q)) q) ∙ queue_set (Unacked l) f (drop (reach l fsn q) (queue_at (Unacked l) q)) q refl h
