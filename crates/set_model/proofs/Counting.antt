@@ -3,7 +3,7 @@ use Rattle.std.proofs.Common.{refl, arith, ◌≡◌, ◌∙◌, sym, ◌≤◌,
 use Rattle.std.proofs.lemmas.List.{length-append}
 use Rattle.std.proofs.lemmas.List.Elements.{filter-append}
 use Rattle.set_events.specs.declared.answer.Fate.{Fate}
-use Rattle.set_events.specs.declared.answer.Fate.TheVariants.{Waiting, Unacked, Acked, Held, Parked, Back, Discarded}
+use Rattle.set_events.specs.declared.answer.Fate.TheVariants.{Waiting}
 use Rattle.set_model.specs.Rows.{Row, standing, waits, was_sent, was_acked, was_held, is_parked, stands_back, was_discarded, is_users, users, service_indicator, with_fate, moved, appended, counts_of, total_of}
 use Rattle.set_model.proofs.Filters.{filter_comm}
 use Rattle.set_model.proofs.InPlace.{InPlace}
@@ -21,12 +21,7 @@ length_if false x rows = omega arith
 one_place : (f : Fate) → one_if (waits f) + one_if (was_sent f) + one_if (was_acked f) + one_if (was_held f) + one_if (is_parked f) + one_if (stands_back f) + one_if (was_discarded f) ≡ 1
 unfolding one_if
 one_place (Waiting l) = refl
-one_place (Unacked l) = refl
-one_place (Acked l) = refl
-one_place (Held l) = refl
-one_place Parked = refl
-one_place (Back c) = refl
-one_place (Discarded cause) = refl
+one_place _ = refl
 
 pub all_counted : (rows : List Row) → length (standing waits rows) + length (standing was_sent rows) + length (standing was_acked rows) + length (standing was_held rows) + length (standing is_parked rows) + length (standing stands_back rows) + length (standing was_discarded rows) ≡ length rows
 all_counted [] = refl

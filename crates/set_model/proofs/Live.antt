@@ -11,7 +11,7 @@ use Rattle.set_model.proofs.Filters.{filter_within}
 use Rattle.set_model.proofs.Finding.{new_row}
 use Rattle.set_model.proofs.InPlace.{where_turned, where_changed}
 use Rattle.set_model.proofs.Lookups.{found_by_number}
-use Rattle.set_model.proofs.Places.{false_true, contra}
+use Rattle.set_model.proofs.Places.{false_true}
 
 and_false : (u v : Bool) → (u && (v && false)) ≡ false
 and_false u v = grind arith
@@ -28,9 +28,6 @@ alive_of a b e = grind arith
 
 none_behind : (b : Bool) (x : Row) (xs : List Row) → cond b (x ∷ xs) xs ≡ [] → xs ≡ []
 none_behind b x xs e = grind arith
-
-none_here : (b : Bool) (x : Row) (xs : List Row) → cond b (x ∷ xs) xs ≡ [] → b ≡ false
-none_here b x xs e = grind arith
 
 none_before : (b : Bool) (x : Row) (xs ys : List Row) → (xs ≡ [] → ys ≡ []) → cond b (x ∷ xs) xs ≡ [] → cond b (x ∷ ys) ys ≡ []
 none_before b x xs ys f e = grind arith
@@ -172,9 +169,6 @@ module _ (stream : ℕ) (place place' : Place) (test : Fate → Bool) (to : Fate
   abbrev gone : List Row → List Row
   gone rows = map (fated (all_with to)) (standing test rows)
 
-  alive_as : (x : Row) → test x.fate ≡ true → is_live stream (with_fate to x) ≡ is_live stream x
-  alive_as x t = ap (λ (b : Bool). is_users x && ((stream_of x.body == stream) && b)) (open_to ∙ sym (open_there x.fate t))
-
   -- what a filter sees of the two parts of a move
   module _ (rows : List Row) where
     live_parts : live stream (moved test (all_with to) rows) ≡ live stream (kept rows) ++ live stream (gone rows)
@@ -195,13 +189,9 @@ module _ (stream : ℕ) (place place' : Place) (test : Fate → Bool) (to : Fate
     go_all [] e = record { kept_live = refl; kept_astray = refl; gone_live = refl; gone_astray = refl }
     go_all (x ∷ rows) e = one (test x.fate) (is_live stream x) refl refl (go_all rows (none_behind (is_astray stream place x) x (astray stream place rows) e))
       where
-        arrived : is_astray stream place' (with_fate to x) ≡ false
-        arrived = ap (λ (b : Bool). is_live stream (with_fate to x) && not b) there ∙ alive_not (is_live stream (with_fate to x))
-
         one : (a b : Bool) → test x.fate ≡ a → is_live stream x ≡ b → Go rows → Go (x ∷ rows)
         one true b t l g = grind arith
-        one false true t l g = grind arith
-        one false false t l g = grind arith
+        one false b t l g = grind arith
 
     pub stream_goes : (used : Bool) (rows : List Row) → IsSoundStream stream place used rows → IsSoundStream stream place' used (moved test (all_with to) rows)
     stream_goes used rows t =
@@ -223,11 +213,8 @@ module _ (stream : ℕ) (place place' : Place) (test : Fate → Bool) (to : Fate
     stay_all [] e = record { kept_live = refl; kept_astray = refl; gone_live = refl; gone_astray = refl }
     stay_all (x ∷ rows) e = one (test x.fate) (is_live stream x) refl refl (stay_all rows (none_behind (is_astray stream place x) x (astray stream place rows) e))
       where
-        not_astray : is_astray stream place x ≡ false
-        not_astray = none_here (is_astray stream place x) x (astray stream place rows) e
-
         one : (a b : Bool) → test x.fate ≡ a → is_live stream x ≡ b → Stay rows → Stay (x ∷ rows)
-        one a b t l g = grind (arith, not_astray, alive_as, contra, dead)
+        one a b t l g = grind arith
 
     pub stream_remains : (used : Bool) (rows : List Row) → place' ≡ place → IsSoundStream stream place used rows → IsSoundStream stream place used (moved test (all_with to) rows)
     stream_remains used rows same t =

@@ -34,10 +34,7 @@ use Rattle.set_model.proofs.Walk.{IsAt}
 
 -- a code in use is below 256
 in_use_below : (r : Routing) → IsRouting r → (code : ℕ) → code_of code r ≡ Asked → code < 256
-in_use_below r sound code e =
-    let home : home_of code < r.links = sound.known code (λ f. let no : Asked ≡ Free = sym e ∙ f in cc) in
-    let few = sound.at_most_16 in
-    omega (arith, home, few)
+in_use_below r sound code e = grind arith
 
 up_link : (n : ℕ) (s : State) → is_up n s ≡ true → (link : LinkState) × (slice_get s.links n ≡ Some link) × (has_phase_up link.phase ≡ true)
 up_link n s e = grind arith

@@ -37,16 +37,7 @@ up_unsettled phase e = grind arith
 
 -- A LINK THAT AN EVENT LEAVES ALONE.
 pub link_untouched : (m : Method) (n : ℕ) (link : LinkState) (rows new : List Row) → Untouched n rows new → IsSoundLink m n link rows → IsSoundLink m n link new
-link_untouched m n link rows new u t = record {
-  window = rw u.unack_same t.window;
-  counted = t.counted;
-  method = t.method;
-  in_order = u.order_kept t.in_order;
-  held_last = u.last_kept t.held_last;
-  none_held = λ e. u.held_same ∙ t.none_held e;
-  in_range = λ e. rw u.unack_same (t.in_range e);
-  settled = λ e. u.on_same ∙ t.settled e;
-}
+link_untouched m n link rows new u t = grind arith
 
 -- the link that changes, and the others
 pub links_by : (m : Method) (links : List LinkState) (n : ℕ) (link : LinkState) (new : List Row) → IsSoundLink m n link new → ((k : ℕ) (other : LinkState) → (n == k) ≡ false → slice_get links k ≡ Some other → IsSoundLink m k other new)
@@ -84,13 +75,7 @@ up_before links n link link' there same k other at up = go (at_set links n k lin
 
 -- and one that was up is, where the one that changes stays so
 pub up_after : (links : List LinkState) (n : ℕ) (link link' : LinkState) → slice_get links n ≡ Some link → (has_phase_up link.phase ≡ true → has_phase_up link'.phase ≡ true) → (k : ℕ) → link_is_up (slice_get links k) ≡ true → link_is_up (slice_get (slice_set links n link') k) ≡ true
-up_after links n link link' there stays k up = go (n == k) refl
-  where
-    go : (b : Bool) → (n == k) ≡ b → link_is_up (slice_get (slice_set links n link') k) ≡ true
-    go true e =
-        let same : k ≡ n = grind arith in
-        rw same (ap link_is_up (get_set_same links n link' (within links n link there)) ∙ stays (ap link_is_up (sym there) ∙ ap (λ (j : ℕ). link_is_up (slice_get links j)) (sym same) ∙ up))
-    go false e = ap link_is_up (get_set_other links n k link' (eqb-false n k e)) ∙ up
+up_after links n link link' there stays k up = grind (arith, get_set_same, within, get_set_other, eqb-false)
 
 -- A CHANGE OF ONE LINK, with rows that change in their places, none of them parked.
 pub record Changes (n : ℕ) (link link' : LinkState) (s : State) (new : List Row) : Type 0 where
@@ -133,16 +118,7 @@ with_inbox s inbox t = assumption
 
 -- A LINK THAT ISN'T UP, nor settled: nothing is asked of it but its window, its control and its order.
 pub down_sound : (m : Method) (n : ℕ) (link : LinkState) (new : List Row) → has_phase_up link.phase ≡ false → has_phase_settled link.phase ≡ false → length (unack n new) ≤ 127 → accepted_of link.control ≡ last_accepted link → IsOf m link.control → IsInOrder n new → IsHeldLast n new → IsSoundLink m n link new
-down_sound m n link new down unsettled few counted method order last = record {
-  window = few;
-  counted = counted;
-  method = method;
-  in_order = order;
-  held_last = last;
-  none_held = λ e. false_true (has_phase_up link.phase) down e;
-  in_range = λ e. false_true (has_phase_up link.phase) down e;
-  settled = λ e. false_true (has_phase_settled link.phase) unsettled e;
-}
+down_sound m n link new down unsettled few counted method order last = grind arith
 
 -- ONE THAT IS UP, where nothing that was sent or is held changes.
 pub up_same : (m : Method) (n : ℕ) (link : LinkState) (rows new : List Row) → has_phase_up link.phase ≡ true → unack n new ≡ unack n rows → held n new ≡ held n rows → IsInOrder n new → IsSoundLink m n link rows → IsSoundLink m n link new

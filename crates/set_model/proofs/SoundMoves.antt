@@ -161,9 +161,7 @@ module _ (n : ℕ) (link : LinkState) (s : State) (at : IsAt n link Down s) (t :
 
   on_target : (to : Option ℕ) → target s.links ≡ to → IsPlaced (slice_set s.links n (settled_link link)) (place_on to)
   on_target None e = tt
-  on_target (Some r) e =
-      let up = target_up s.links r e in
-      (up.0, get_set_other s.links n r (settled_link link) (eqb-false n r (not_target r e)) ∙ up.1, up_unsettled up.0.phase up.2)
+  on_target (Some r) e = grind (arith, target_up, get_set_other, eqb-false, not_target, up_unsettled)
 
   on_other : (l : ℕ) → (l == n) ≡ false → IsPlaced s.links (On l) → IsPlaced (slice_set s.links n (settled_link link)) (On l)
   on_other l d p = (p.0, get_set_other s.links n l (settled_link link) (λ same. eqb-false l n d (sym same)) ∙ p.1, p.2)

@@ -35,9 +35,7 @@ IsOpen (Waiting number) links = (link : LinkState) × (slice_get links number �
 IsOpen (Held number) links = (link : LinkState) × (slice_get links number ≡ Some link) × (has_phase_up link.phase ≡ false) × (has_phase_settled link.phase ≡ false)
 IsOpen Parked links = (number : ℕ) (link : LinkState) → slice_get links number ≡ Some link → has_phase_up link.phase ≡ false
 IsOpen (Back code) links = Unit {0}
-IsOpen (Unacked number) links = ⊥
-IsOpen (Acked number) links = ⊥
-IsOpen (Discarded cause) links = ⊥
+IsOpen _ links = ⊥
 
 module _ (s : State) (body : List ℕ) (t : IsSound s) where
   -- a link that the message isn't put on
