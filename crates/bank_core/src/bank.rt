@@ -11,13 +11,11 @@ use super::set_thread::Work;
 use line_ring::Line;
 use link_term::Gate;
 use set_events::SetConfig;
+use set_ledger::MOST_USERS;
 use std::alloc::Global;
 use std::marker::Model;
 use std::sync::Wait;
 use std::thread::Threads;
-
-/// The most users of a set.
-const MOST_USERS: u16 = 64;
 
 /// The most sets of a bank.
 const MOST_SETS: usize = 16;
