@@ -1,8 +1,10 @@
 //! Why a text ended before its end.
 
 ghost use Rattle.std.specs.Prelude.{◌≡◌};
+ghost use Rattle.printing.specs.declared.fault.Stop.TheVariants.{Memory};
 ghost use Rattle.printing.specs.Printing.{fault_of};
 
+use std::alloc::{AllocError, AllocFailed};
 use std::fmt::Display;
 use thiserror::Error;
 
@@ -13,6 +15,22 @@ pub enum Stop<T> {
     Input(T),
     /// Memory is wanted.
     Memory,
+}
+
+impl<T> From<AllocError> for Stop<T> {
+    ghost from_gives = { λ _ stop. stop ≡ Memory };
+
+    fn from(_error: AllocError) -> Stop<T> {
+        Stop::Memory
+    }
+}
+
+impl<T, U: Drop> From<AllocFailed<U>> for Stop<T> {
+    ghost from_gives = { λ _ stop. stop ≡ Memory };
+
+    fn from(_error: AllocFailed<U>) -> Stop<T> {
+        Stop::Memory
+    }
 }
 
 /// Why a text was printed no further; each shows the line that the program prints. What was printed before it stays
