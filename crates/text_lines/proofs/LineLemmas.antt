@@ -1,5 +1,5 @@
 -- Lines under way, read piece by piece.
-use Rattle.std.proofs.Common.{refl, arith, ◌≡◌, ◌∙◌, ap, sym, ◌<◌, ◌≤◌, [], ◌∷◌, length, ℕ, zero, suc, ◌+◌, ◌-◌, ◌^◌, true, false, nat_lt, ◌==◌, List, ◌++◌, Some, None, Result, Ok, Err, append_assoc, append-nil, add-one, length-append, take, drop, get_or, position, subst}
+use Rattle.std.proofs.Common.{refl, arith, ◌≡◌, ◌∙◌, ap, sym, ◌<◌, ◌≤◌, [], ◌∷◌, length, ℕ, zero, suc, ◌+◌, ◌-◌, ◌^◌, true, false, nat_lt, ◌==◌, List, ◌++◌, Some, None, Result, Ok, Err, IsErrAnd, append_assoc, append-nil, add-one, length-append, take, drop, get_or, position, subst}
 use Rattle.std.proofs.lemmas.Grind.{common_steps}
 use Rattle.std.proofs.lemmas.List.Quantifiers.{position-Some}
 use Rattle.std.proofs.lemmas.List.Sums.{fails_before_first}
@@ -9,8 +9,8 @@ use Rattle.printing.proofs.PrintLemmas.{begun_of_end}
 use Rattle.printing.specs.declared.fault.Stop.{Stop}
 use Rattle.printing.specs.declared.fault.Stop.TheVariants.{Input, Memory}
 use Rattle.printing.specs.Printing.{Printed, behind, IsBegun, StopsIn, ReadsOrStops, Ends}
-use Rattle.text_lines.specs.Lines.{Rules, LineOutcome, prints, goes_on, lines_of, onto_first, text_of_lines, read_line, lines_text, IsLinesText}
-use Rattle.text_lines.specs.Reading.{Reading, is_lf, IsOpen, text_from, Tells, Does, Adds, Faults, Advances, Halts, AdvancesOrHalts, Finishes, HasPrinted}
+use Rattle.text_lines.specs.Lines.{is_lf, Rules, LineOutcome, prints, goes_on, lines_of, onto_first, text_of_lines, read_line, lines_text, IsLinesText}
+use Rattle.text_lines.specs.Reading.{Reading, IsOpen, text_from, Tells, Does, Adds, Faults, Advances, Halts, AdvancesOrHalts, Finishes, HasPrinted}
 
 -- Lines.
 
@@ -54,6 +54,11 @@ open_more (c ∷ cs) more o h = (o.0, open_more cs more o.1 h)
 line_goes_on : (text octets left whole : List ℕ) → whole ≡ text ++ octets → IsOpen whole → lines_of (text ++ ((octets ++ 10 ∷ []) ++ left)) ≡ whole ∷ lines_of left
 line_goes_on text octets left whole e o =
     ap lines_of (ap (λ (x : List ℕ). text ++ x) (append_assoc octets (10 ∷ []) left) ∙ sym (append_assoc text octets (10 ∷ left)) ∙ ap (λ (x : List ℕ). x ++ 10 ∷ left) (sym e)) ∙ line_ends whole left o
+
+-- a fault that `?` passes on
+pub passed_on : {A E : Type 0} (result : Result A E) (fault : E) → IsErrAnd result (λ e. e ≡ fault) → result ≡ Err fault
+passed_on (Ok done) fault is = absurd is
+passed_on (Err other) fault is = ap (λ e. Err e) is
 
 -- Where a line ends.
 

@@ -4,6 +4,10 @@ use Rattle.printing.specs.Printing.{Printed, behind}
 
 -- The lines of a text: each ends in LF (10), which the last may lack.
 
+-- the octet that ends a line
+abbrev pub is_lf : ℕ → Bool
+is_lf octet = octet == 10
+
 abbrev pub onto_first : ℕ → List (List ℕ) → List (List ℕ)
 onto_first octet [] = (octet ∷ []) ∷ []
 onto_first octet (line ∷ lines) = (octet ∷ line) ∷ lines

@@ -1,5 +1,5 @@
 -- What a reader of lines under way stands for, and what a whole line prints.
-use Rattle.std.specs.Prelude.{◌≡◌, ℕ, Bool, ◌==◌, ◌≤◌, ◌≢◌, List, [], ◌∷◌, ◌++◌, ◌+◌, ◌<◌, ◌^◌, length, Some, None, Result, MatchResult}
+use Rattle.std.specs.Prelude.{◌≡◌, ℕ, ◌≤◌, ◌≢◌, List, [], ◌∷◌, ◌++◌, ◌+◌, ◌<◌, ◌^◌, length, Some, None, Result, MatchResult}
 use Rattle.printing.specs.declared.fault.Stop.{Stop}
 use Rattle.printing.specs.declared.fault.Stop.TheVariants.{Input, Memory}
 use Rattle.printing.specs.Printing.{Printed, behind}
@@ -10,10 +10,6 @@ pub record Reading (S : Type 0) : Type 0 where
   pub line : ℕ
   pub text : List ℕ
   pub state : S
-
--- the octet that ends a line
-abbrev pub is_lf : ℕ → Bool
-is_lf octet = octet == 10
 
 -- no octet ends the line
 abbrev pub IsOpen : List ℕ → Type 0

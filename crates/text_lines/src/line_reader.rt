@@ -1,10 +1,10 @@
 //! Lines under way: the line that is being read, and what those before it left.
-ghost use Rattle.std.specs.Prelude.{◌≡◌, ◌≤◌, ◌<◌, length, position};
-ghost use Rattle.std.specs.Option.{ForSome};
-ghost use Rattle.text_lines.specs.Lines.{is_remark, read_line};
-ghost use Rattle.text_lines.specs.Reading.{Finishes, IsReading, IsDone, is_lf};
+ghost use Rattle.std.specs.Prelude.{◌≤◌, length};
+ghost use Rattle.text_lines.specs.Lines.{read_line};
+ghost use Rattle.text_lines.specs.Reading.{Finishes, IsReading, IsDone};
 
 use super::line_text::LineText;
+use super::lines::{end_of_line, is_passed_over};
 use printing::{Printer, Stop};
 use std::alloc::Global;
 use std::marker::Model;
@@ -35,7 +35,7 @@ impl<L> Model for LineReader<L> {
 }
 
 impl<L: LineText> LineReader<L> {
-    ghost use Rattle.std.specs.Prelude.{◌≡◌, [], ◌∷◌, ◌++◌};
+    ghost use Rattle.std.specs.Prelude.{◌≡◌, ℕ, List, [], ◌∷◌, ◌++◌};
     ghost use Rattle.text_lines.specs.Reading.{IsOpen, AdvancesOrHalts, Finishes};
 
     /// Before the first octet.
@@ -56,14 +56,11 @@ impl<L: LineText> LineReader<L> {
             out.old.items out.new.items self.new }
     {
         let mut left = octets;
-        while let Some(place) = end_in(left) {
-            match self.read_line(&left[..place], out) {
-                Ok(()) => (),
-                Err(stop) => return Err(stop),
-            }
+        while let Some(place) = end_of_line(left) {
+            self.read_line(&left[..place], out)?;
             left = &left[place + 1..];
         }
-        self.keep(left, out)
+        self.keep(left)
     }
 
     /// Reads what is left of a line, and the LF behind it.
@@ -75,10 +72,8 @@ impl<L: LineText> LineReader<L> {
         if self.text.is_empty() {
             return self.read_at_once(octets, out);
         }
-        match self.keep(octets, out) {
-            Ok(()) => self.end_line(out),
-            Err(stop) => Err(stop),
-        }
+        self.keep(octets)?;
+        self.end_line(out)
     }
 
     /// Reads a line of which nothing was kept, and its LF; its octets are copied nowhere.
@@ -91,13 +86,9 @@ impl<L: LineText> LineReader<L> {
         if octets.len() > LONGEST_LINE {
             return Err(Stop::Input(L::unreadable(self.line)));
         }
-        match end_line(self.alloc, &mut self.state, self.line, octets, out) {
-            Ok(()) => {
-                self.line = self.line.saturating_add(1);
-                Ok(())
-            }
-            Err(stop) => Err(stop),
-        }
+        end_line(self.alloc, &mut self.state, self.line, octets, out)?;
+        self.line = self.line.saturating_add(1);
+        Ok(())
     }
 
     /// Reads the LF that ends a line of which octets were kept.
@@ -105,29 +96,22 @@ impl<L: LineText> LineReader<L> {
         ensures { AdvancesOrHalts L.rules result self.old (10 ∷ [])
             out.old.items out.new.items self.new }
     {
-        match end_line(self.alloc, &mut self.state, self.line, &self.text, out) {
-            Ok(()) => {
-                self.text.clear();
-                self.line = self.line.saturating_add(1);
-                Ok(())
-            }
-            Err(stop) => Err(stop),
-        }
+        end_line(self.alloc, &mut self.state, self.line, &self.text, out)?;
+        self.text.clear();
+        self.line = self.line.saturating_add(1);
+        Ok(())
     }
 
-    /// Reads octets that end no line.
-    fn keep(&mut self, octets: &[u8], out: &mut Vec<u8>) -> Result<(), Stop<L::Fault>>
+    /// Reads octets that end no line: they print nothing.
+    fn keep(&mut self, octets: &[u8]) -> Result<(), Stop<L::Fault>>
         requires { IsOpen octets.now }
-        ensures { AdvancesOrHalts L.rules result self.old octets.now
-            out.old.items out.new.items self.new }
+        ensures { (out : List ℕ) → AdvancesOrHalts L.rules result self.old octets.now
+            out out self.new }
     {
-        let _ = out;
         if octets.len() > LONGEST_LINE - self.text.len() {
             return Err(Stop::Input(L::unreadable(self.line)));
         }
-        let Ok(()) = self.text.extend_from_slice(octets) else {
-            return Err(Stop::Memory);
-        };
+        self.text.extend_from_slice(octets)?;
         Ok(())
     }
 
@@ -136,24 +120,6 @@ impl<L: LineText> LineReader<L> {
         ensures { Finishes L.rules result self.old out.old.items out.new.items }
     {
         finished(self.alloc, &mut self.state, self.line, &self.text, out)
-    }
-}
-
-/// The place of the first LF.
-fn end_in(octets: &[u8]) -> Option<usize>
-    ensures place { result ≡ position is_lf octets.now }
-    ensures within { ForSome result (λ place. place < length octets.now) }
-{
-    octets.iter().position(|c| *c == b'\n')
-}
-
-/// Whether the line is empty or begins with `#`.
-fn is_passed_over(text: &[u8]) -> bool
-    ensures { result ≡ is_remark text.now }
-{
-    match text {
-        [] => true,
-        [first, ..] => *first == b'#',
     }
 }
 
@@ -190,10 +156,8 @@ fn finished<L: LineText>(
     if text.is_empty() {
         return state.end(alloc, out);
     }
-    match end_line(alloc, state, line, text, out) {
-        Ok(()) => state.end(alloc, out),
-        Err(stop) => Err(stop),
-    }
+    end_line(alloc, state, line, text, out)?;
+    state.end(alloc, out)
 }
 
 impl<L: LineText + Drop> Printer for LineReader<L> {

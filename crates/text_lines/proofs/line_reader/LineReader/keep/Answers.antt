@@ -4,11 +4,11 @@ use Rattle.text_lines.proofs.line_reader.LineReader.keep.Goals as goal
 
 pub returns-then-octets-len : goal.returns-then-octets-len
 returns-then-octets-len g c =
-    rw (← c.self.view_is, c.unreadable.ensures) (halts_long g.L.LineText.rules _ c.args.octets.now c.args.out.now.items c.self.invariant.is_open c.requires (omega (arith, c.if-octets-len.true, c.len.ensures, c.self.invariant.short)))
+    rw (← c.self.view_is, c.unreadable.ensures) (λ out. halts_long g.L.LineText.rules _ c.args.octets.now out c.self.invariant.is_open c.requires (omega (arith, c.if-octets-len.true, c.len.ensures, c.self.invariant.short)))
 
 pub invariant_of-self-2 : goal.invariant_of-self-2
 invariant_of-self-2 g c =
-    rw c.in-Ok.ensures.items (record {
+    rw c.in_ok-extend_from_slice.ensures.items (record {
       short = omega (arith, length-append c.self.inside.text.items c.args.octets.now, c.if-octets-len.false, c.len.ensures, c.self.invariant.short);
       is_open = open_more c.self.inside.text.items c.args.octets.now c.self.invariant.is_open c.requires;
     })

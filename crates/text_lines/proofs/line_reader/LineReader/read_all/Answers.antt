@@ -1,20 +1,20 @@
 use Rattle.std.proofs.Common.{sym, ◌∙◌}
-use Rattle.text_lines.proofs.LineLemmas.{open_before, cut_at, all_open, reads_on, reads_last, stops_in}
+use Rattle.text_lines.proofs.LineLemmas.{passed_on, open_before, cut_at, all_open, reads_on, reads_last, stops_in}
 use Rattle.text_lines.proofs.line_reader.LineReader.read_all.Goals as goal
 
 pub read_line-requires : goal.read_line-requires
-read_line-requires g c = open_before c.loop-place.left.now c.in-Some.place (sym c.in-Some.is ∙ c.end_in.ensures.place)
+read_line-requires g c = open_before c.loop-place.left.now c.in-Some.place (sym c.in-Some.is ∙ c.end_of_line.ensures.place)
 
-pub returns-in-Err : goal.returns-in-Err
-returns-in-Err g c =
-    stops_in g.L.LineText.rules c.in-Err.stop _ _ _ _ _ _ _ _ _ (cut_at c.loop-place.left.now c.in-Some.place (sym c.in-Some.is ∙ c.end_in.ensures.place)) c.loop-place.invariant c.in-Err.ensures
+pub returns-in_err-read_line : goal.returns-in_err-read_line
+returns-in_err-read_line g c =
+    rw (passed_on c.from_residual.result c.in_err-read_line.field-0.0 c.from_residual.ensures.1) (stops_in g.L.LineText.rules c.in_err-read_line.field-0.0 _ _ _ _ _ _ _ _ _ (cut_at c.loop-place.left.now c.in-Some.place (sym c.in-Some.is ∙ c.end_of_line.ensures.place)) c.loop-place.invariant c.in_err-read_line.ensures)
 
 pub loop-place-preserved : goal.loop-place-preserved
 loop-place-preserved g c =
-    reads_on g.L.LineText.rules _ _ _ _ _ _ _ _ _ _ (cut_at c.loop-place.left.now c.in-Some.place (sym c.in-Some.is ∙ c.end_in.ensures.place)) c.loop-place.invariant c.in-Ok.ensures
+    reads_on g.L.LineText.rules _ _ _ _ _ _ _ _ _ _ (cut_at c.loop-place.left.now c.in-Some.place (sym c.in-Some.is ∙ c.end_of_line.ensures.place)) c.loop-place.invariant c.in_ok-read_line.ensures
 
 pub keep-requires : goal.keep-requires
-keep-requires g c = all_open c.loop-place.left.now (sym c.in_default.is ∙ c.end_in.ensures.place)
+keep-requires g c = all_open c.loop-place.left.now (sym c.in_default.is ∙ c.end_of_line.ensures.place)
 
 pub returns : goal.returns
-returns g c = reads_last g.L.LineText.rules c.keep.result _ _ _ _ _ _ _ _ c.loop-place.invariant c.keep.ensures
+returns g c = reads_last g.L.LineText.rules c.keep.result _ _ _ _ _ _ _ _ c.loop-place.invariant (c.keep.ensures _)

@@ -1,5 +1,8 @@
-use Rattle.text_lines.proofs.LineLemmas.{goes_further}
+use Rattle.text_lines.proofs.LineLemmas.{passed_on, halts_before, goes_further}
 use Rattle.text_lines.proofs.line_reader.LineReader.read_line.Goals as goal
 
-pub returns-in-Ok : goal.returns-in-Ok
-returns-in-Ok g c = goes_further g.L.LineText.rules c.end_line.result _ _ _ _ _ _ _ _ c.in-Ok.ensures c.end_line.ensures
+pub returns : goal.returns
+returns g c = goes_further g.L.LineText.rules c.end_line.result _ _ _ _ _ _ _ _ (c.in_ok-keep.ensures _) c.end_line.ensures
+
+pub returns-in_err-keep : goal.returns-in_err-keep
+returns-in_err-keep g c = rw (passed_on c.from_residual.result c.in_err-keep.field-0.0 c.from_residual.ensures.1) (halts_before g.L.LineText.rules _ _ c.args.octets.now _ _ _ (c.in_err-keep.ensures _))
