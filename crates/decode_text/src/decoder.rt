@@ -46,23 +46,14 @@ impl LineText for Decoder {
         text: &[u8],
         out: &mut Vec<u8>,
     ) -> Result<(), Stop<UnreadableUnit>> {
-        let octets = match read_octets(alloc, text) {
-            Ok(Some(octets)) => octets,
-            Ok(None) => return Err(Stop::Input(UnreadableUnit { line: number })),
-            Err(_) => return Err(Stop::Memory),
+        let Some(octets) = read_octets(alloc, text)? else {
+            return Err(Stop::Input(UnreadableUnit { line: number }));
         };
-        let Ok(line) = write_line(alloc, &octets) else {
-            return Err(Stop::Memory);
-        };
-        match out.extend_from_slice(&line) {
-            Ok(()) => Ok(()),
-            Err(_) => Err(Stop::Memory),
-        }
+        out.extend_from_slice(&write_line(alloc, &octets)?)?;
+        Ok(())
     }
 
-    fn end(&self, alloc: Global, out: &mut Vec<u8>) -> Result<(), Stop<UnreadableUnit>> {
-        let _ = alloc;
-        let _ = out;
+    fn end(&self, _alloc: Global, _out: &mut Vec<u8>) -> Result<(), Stop<UnreadableUnit>> {
         Ok(())
     }
 }

@@ -1,9 +1,8 @@
 //! A script under way, and what a line of it does.
-ghost use Rattle.std.specs.Prelude.{◌≡◌, ◌≢◌, Some, Err, IsOk, IsSome, MatchResult};
+ghost use Rattle.std.specs.Prelude.{◌≡◌, ◌≢◌, Some, IsSome, MatchResult};
 ghost use Rattle.play_script.specs.Script.{first_line};
 ghost use Rattle.pair_model.specs.World.{World as ModelWorld, Outcome, carried_out};
 ghost use Rattle.pair_world.specs.Carried.{Fails};
-ghost use Rattle.printing.specs.declared.fault.Stop.TheVariants.{Memory};
 ghost use Rattle.text_lines.specs.Lines.{prints};
 ghost use Rattle.text_lines.specs.Reading.{IsDone, Tells};
 ghost use Rattle.script_text.specs.Scripts.{Told, opened, outcome_of, read_script};
@@ -15,7 +14,7 @@ use pair_world::{End, PlayFault, World};
 use play_script::{read_opening, read_step};
 use printing::Stop;
 use set_events::Answer;
-use std::alloc::{AllocError, Global};
+use std::alloc::Global;
 use std::marker::{Model, PhantomData};
 use text_lines::LineText;
 use world_steps::{Shown, Step};
@@ -89,10 +88,8 @@ impl<A: Account> LineText for Script<A> {
     }
 
     fn end(&self, alloc: Global, out: &mut Vec<u8>) -> Result<(), Stop<ScriptFault>> {
-        match A::tell_end(alloc, &self.world, out) {
-            Ok(()) => Ok(()),
-            Err(_) => Err(Stop::Memory),
-        }
+        A::tell_end(alloc, &self.world, out)?;
+        Ok(())
     }
 }
 
@@ -110,7 +107,8 @@ fn open<A: Account>(
     let made = make_world(alloc, number, text)?;
     let told = A::tell_opening(alloc, &made, out);
     *world = Some(made);
-    or_memory(told)
+    told?;
+    Ok(())
 }
 
 /// The world that the first line asks for.
@@ -169,7 +167,7 @@ fn carry_out_step<A: Account>(
     let note = A::note(world, step);
     let mut shown = Shown::Answered(Answer::Done);
     match world.carry_out(step, &mut shown) {
-        Ok(()) => or_memory(A::tell_step(alloc, number, note, step, &shown, world, out)),
+        Ok(()) => Ok(A::tell_step(alloc, number, note, step, &shown, world, out)?),
         Err(fault) => Err(stop_of(fault, number)),
     }
 }
@@ -185,15 +183,5 @@ fn stop_of(fault: PlayFault, number: u64) -> Stop<ScriptFault>
         PlayFault::Impossible { .. } => Stop::Input(ScriptFault::Step { line: number }),
         PlayFault::Exhausted => Stop::Input(ScriptFault::Exhausted),
         PlayFault::Links => unreachable!(),
-    }
-}
-
-/// Want of memory stops the script.
-fn or_memory(told: Result<(), AllocError>) -> Result<(), Stop<ScriptFault>>
-    ensures { MatchResult told (λ done. IsOk result) (λ want. result ≡ Err Memory) }
-{
-    match told {
-        Ok(()) => Ok(()),
-        Err(_) => Err(Stop::Memory),
     }
 }

@@ -39,10 +39,7 @@ impl Digits {
             (λ stop. Halts stop self.old text.now octets.old.items octets.new.items) }
     {
         for c in text {
-            match self.take(*c, octets) {
-                Ok(()) => {}
-                Err(stop) => return Err(stop),
-            }
+            self.take(*c, octets)?;
         }
         Ok(())
     }
@@ -67,10 +64,8 @@ impl Digits {
             return Ok(());
         };
         self.high = None;
-        match octets.push(16 * high.value + digit.value) {
-            Ok(()) => Ok(()),
-            Err(_) => Err(Stop::Memory),
-        }
+        octets.push(16 * high.value + digit.value)?;
+        Ok(())
     }
 }
 

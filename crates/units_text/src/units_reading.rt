@@ -49,10 +49,8 @@ impl UnitsReader {
     {
         self.octets.clear();
         let read = self.digits.read(text, &mut self.octets);
-        match self.line.feed(&self.octets, out) {
-            Ok(()) => read,
-            Err(_) => Err(Stop::Memory),
-        }
+        self.line.feed(&self.octets, out)?;
+        read
     }
 
     /// The input has ended: adds the last line, or tells the digit that is left over.
@@ -64,13 +62,8 @@ impl UnitsReader {
                 place: self.digits.place,
             }));
         }
-        let Ok(text) = counts_line(self.alloc, self.line.counts) else {
-            return Err(Stop::Memory);
-        };
-        match out.extend_from_slice(&text) {
-            Ok(()) => Ok(()),
-            Err(_) => Err(Stop::Memory),
-        }
+        out.extend_from_slice(&counts_line(self.alloc, self.line.counts)?)?;
+        Ok(())
     }
 }
 

@@ -1,7 +1,8 @@
 use Rattle.std.proofs.Common.{refl, arith, sym, ◌∙◌, ap, ◌≡◌, ◌<◌, ◌+◌, ◌^◌, ℕ, min}
 use Rattle.std.specs.Option.{option_map}
+use Rattle.printing.specs.declared.fault.Stop.TheVariants.{Memory}
 use Rattle.units_text.specs.declared.digit.Digit.{Digit}
-use Rattle.units_text.proofs.DigitLemmas.{decodes_blank, decodes_first, decodes_second, halts_for_memory, halts_bad}
+use Rattle.units_text.proofs.DigitLemmas.{passed_on, decodes_blank, decodes_first, decodes_second, halts_for_memory, halts_bad}
 use Rattle.units_text.proofs.digits.Digits.take.Goals as goal
 
 next : (old new : ℕ) → new ≡ min (old + 1) 18446744073709551615 → old + 1 < 2 ^ 64 → new ≡ old + 1
@@ -20,11 +21,13 @@ returns-in_default-high c =
     decodes_first c.args.self.now _ c.args.c c.in-Some.digit.value c.args.octets.now.items (sym c.in-Some.ensures) c.in_default-high.is refl
     (next c.args.self.now.place c.saturating_add-self.result c.saturating_add-self.ensures)
 
-pub returns-in-Ok : goal.returns-in-Ok
-returns-in-Ok c =
+pub returns : goal.returns
+returns c =
     decodes_second c.args.self.now _ c.args.c c.in-Some-high.high.value c.in-Some.digit.value c.args.octets.now.items c.push.new.self.items (sym c.in-Some.ensures)
     (ap (option_map (λ (digit : Digit). digit.value)) c.in-Some-high.is) refl
-    (next c.args.self.now.place c.saturating_add-self.result c.saturating_add-self.ensures) c.in-Ok.ensures.items
+    (next c.args.self.now.place c.saturating_add-self.result c.saturating_add-self.ensures) c.in_ok-push.ensures.items
 
-pub returns-in-Err : goal.returns-in-Err
-returns-in-Err c = halts_for_memory c.args.self.now _ c.args.octets.now.items c.push.new.self.items c.in-Err.ensures.items
+pub returns-in_err-push : goal.returns-in_err-push
+returns-in_err-push c =
+    rw (passed_on c.from_residual.result Memory c.from_residual.ensures.1)
+    (halts_for_memory c.args.self.now _ c.args.octets.now.items c.push.new.self.items c.in_err-push.ensures.items)
