@@ -1,8 +1,7 @@
 -- A line under way, bit by bit.
-use Rattle.std.proofs.Common.{refl, arith, ◌≡◌, ◌∙◌, ap, sym, ◌<◌, ◌≤◌, [], ◌∷◌, length, ℕ, ◌+◌, ◌^◌, Bool, List, ◌++◌, Option, Some, None, append_assoc, append-nil, length-append, Result, Ok, Err, OnOk, if◌then◌else◌}
+use Rattle.std.proofs.Common.{refl, arith, ◌≡◌, ◌∙◌, ap, sym, ◌<◌, ◌≤◌, [], ◌∷◌, length, ℕ, ◌+◌, ◌^◌, Bool, List, ◌++◌, Option, Some, None, append_assoc, append-nil, length-append, Result, Ok, Err, OnOk, MatchResult}
 use Rattle.std.proofs.lemmas.Grind.{flat_map-append}
 use Rattle.std.specs.Option.{option_to_list}
-use Rattle.std.specs.Result.{is_ok}
 use Rattle.l2_bits.specs.declared.marks.Mark.{Mark}
 use Rattle.l2_bits.specs.Marks.{AreMarks}
 use Rattle.l2_bits.specs.Deframing.{StandsFor, FeedsUpTo}
@@ -11,7 +10,7 @@ use Rattle.units_text.specs.declared.marked_line.MarkedLine.{MarkedLine}
 use Rattle.printing.specs.Printing.{Printed}
 use Rattle.units_text.specs.declared.fault.UnreadableOctet.{UnreadableOctet}
 use Rattle.units_text.specs.UnitsText.{IsUnitsText, mark_text, marks_text, counts_of, with_end, fault_place}
-use Rattle.units_text.specs.UnitsReading.{IsLine, Begins, Feeds, FeedsFirst, Breaks}
+use Rattle.units_text.specs.UnitsReading.{IsLine, Begins, FeedsFirst, Breaks}
 
 -- an input has one text
 pub one_text : (input : List ℕ) (a b : Printed UnreadableOctet) → IsUnitsText input a → IsUnitsText input b → a ≡ b
@@ -99,10 +98,6 @@ breaks_at old bits before after same = record {
 }
 
 -- what an appending call leaves where it succeeds
-pub added_ok : {U E : Type 0} (r : Result U E) (old new more : List ℕ) → new ≡ (if is_ok r then old ++ more else old) → OnOk r (new ≡ old ++ more)
-added_ok (Ok done) old new more is = is
-added_ok (Err error) old new more is = tt
-
-pub added_then : {U E : Type 0} (r : Result U E) (new same all : List ℕ) → same ≡ all → OnOk r (new ≡ same) → OnOk r (new ≡ all)
-added_then (Ok done) new same all is added = added ∙ is
-added_then (Err error) new same all is added = tt
+pub added_then : {U E : Type 0} (r : Result U E) (old new same all : List ℕ) → same ≡ all → MatchResult r (λ done. new ≡ same) (λ want. new ≡ old) → OnOk r (new ≡ all)
+added_then (Ok done) old new same all is added = added ∙ is
+added_then (Err error) old new same all is added = tt

@@ -4,7 +4,7 @@ ghost use Rattle.l2_bits.specs.Deframing.{marked};
 ghost use Rattle.l2_units.specs.Grammar.{unit_of};
 ghost use Rattle.units_text.specs.UnitsText.{InputHasOneText, good_text, line_head, mark_text, unit_text, counts_text};
 
-use figures::{bit_of, push_hex};
+use figures::{bit_of, push_hex, push_number};
 use l2_bits::MarkKind;
 use l2_units::{Header, Unit, read};
 use std::alloc::{AllocError, Global};
@@ -45,7 +45,7 @@ fn push_fault(number: u8, text: &mut Vec<u8>) -> Result<(), AllocError>
         ≡ text.old.items ++ (codes "good fault=" ++ (decimal number ++ codes "\n"))) }
 {
     text.extend_from_slice(b"good fault=")?;
-    push_number(number, text)?;
+    push_number(text, u64::from(number))?;
     text.extend_from_slice(b"\n")
 }
 
@@ -61,7 +61,7 @@ fn push_unit(unit: &Unit, text: &mut Vec<u8>) -> Result<(), AllocError>
         Unit::Lssu { head, status } => {
             push_head(b"good lssu", *head, text)?;
             text.extend_from_slice(b" status=")?;
-            push_number(status.number(), text)?;
+            push_number(text, u64::from(status.number()))?;
             text.extend_from_slice(b"\n")
         }
         Unit::Msu { head, body } => {
@@ -79,30 +79,13 @@ fn push_head(kind: &[u8], head: Header, text: &mut Vec<u8>) -> Result<(), AllocE
 {
     text.extend_from_slice(kind)?;
     text.extend_from_slice(b" bsn=")?;
-    push_number(head.bsn, text)?;
+    push_number(text, u64::from(head.bsn))?;
     text.extend_from_slice(b" bib=")?;
-    push_number(bit_of(head.bib), text)?;
+    push_number(text, u64::from(bit_of(head.bib)))?;
     text.extend_from_slice(b" fsn=")?;
-    push_number(head.fsn, text)?;
+    push_number(text, u64::from(head.fsn))?;
     text.extend_from_slice(b" fib=")?;
-    push_number(bit_of(head.fib), text)
-}
-
-/// Adds a number's decimal digits.
-fn push_number(number: u8, text: &mut Vec<u8>) -> Result<(), AllocError>
-    ensures { OnOk result (text.new.items ≡ text.old.items ++ decimal number) }
-{
-    if number < 10 {
-        return text.extend_from_slice(&[b'0' + number]);
-    }
-    if number < 100 {
-        return text.extend_from_slice(&[b'0' + number / 10, b'0' + number % 10]);
-    }
-    text.extend_from_slice(&[
-        b'0' + number / 100,
-        b'0' + number / 10 % 10,
-        b'0' + number % 10,
-    ])
+    push_number(text, u64::from(bit_of(head.fib)))
 }
 
 /// The last line.
