@@ -7,11 +7,8 @@ use super::body_line::write_body;
 use figures::bit_of;
 use l2_bits::seal;
 use l2_signals::Status;
-use l2_units::{Header, Unit, read};
+use l2_units::{Header, LONGEST_UNIT, Unit, read};
 use std::alloc::{AllocError, Global};
-
-/// The most octets of a unit.
-const LONGEST: usize = 276;
 
 /// Whether a unit's check octets are there, and right.
 #[derive(Clone, Copy, Debug, PartialEq, Eq)]
@@ -50,7 +47,7 @@ fn has_right_check_octets(octets: &[u8]) -> bool
     ensures { result ≡ is_sealed octets.now }
 {
     let front = cut_check_octets(octets);
-    front.len() <= LONGEST && is_same(octets, seal(front).as_slice())
+    front.len() <= LONGEST_UNIT && is_same(octets, seal(front).as_slice())
 }
 
 /// Whether these are the same octets.
