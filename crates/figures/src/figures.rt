@@ -1,7 +1,7 @@
 //! Numbers and hexadecimal, as the script writes them.
-ghost use Rattle.std.specs.Prelude.{◌≡◌, [], ◌∷◌, ◌++◌, ◌<◌, ◌≤◌, ◌+◌, ◌-◌, ◌*◌, drop, decimal, IfOk, MatchOption, MatchResult, true};
+ghost use Rattle.std.specs.Prelude.{◌≡◌, [], ◌∷◌, ◌++◌, ◌<◌, ◌≤◌, ◌+◌, ◌-◌, ◌*◌, ◌^◌, drop, decimal, IfOk, MatchOption, MatchResult, true};
 ghost use Rattle.std.specs.Option.{option_and_then, option_map};
-ghost use Rattle.figures.specs.Figures.{number_of, hex_value, octet_of, octets_of, digits_behind, below_2_64, hex_text, hex_digit, is_digit, NoDigitFits, bit};
+ghost use Rattle.figures.specs.Figures.{number_of, number_below, hex_value, octet_of, octets_of, digits_behind, below_2_64, hex_text, hex_digit, is_digit, NoDigitFits, bit};
 
 use std::alloc::{AllocError, Global};
 
@@ -16,6 +16,18 @@ pub fn read_number(word: &[u8]) -> Option<u64>
         return if rest.is_empty() { Some(0) } else { None };
     }
     value_of(word)
+}
+
+/// The decimal number below 256 of a word without leading zeros.
+pub fn read_below_256(word: &[u8]) -> Option<u8>
+    ensures { result ≡ number_below (2 ^ 8) word.now }
+{
+    let number = read_number(word)?;
+    if number < 256 {
+        Some(number as u8)
+    } else {
+        None
+    }
 }
 
 /// The value of decimal digits, if it's below 2^64.

@@ -1,5 +1,5 @@
 -- The words of an entry's text tell that entry.
-use Rattle.std.proofs.Common.{refl, arith, ◌≡◌, ◌∙◌, ap, sym, ◌<◌, ◌≤◌, [], ◌∷◌, length, ℕ, ◌+◌, ◌-◌, ◌^◌, ◌/◌, Bool, true, false, nat_le, nat_lt, nat_eq, List, ◌++◌, Option, Some, None, decimal, codes, append_assoc, append-nil, take, zero, suc, if◌then◌else◌}
+use Rattle.std.proofs.Common.{refl, arith, ◌≡◌, ◌==◌, ◌∙◌, ap, sym, ◌<◌, ◌≤◌, [], ◌∷◌, length, ℕ, ◌+◌, ◌-◌, ◌^◌, ◌/◌, Bool, true, false, nat_le, nat_lt, nat_eq, List, ◌++◌, Option, Some, None, decimal, codes, append_assoc, append-nil, take, zero, suc, if◌then◌else◌}
 use Rattle.std.proofs.lemmas.Bool.Decides.{nat_tests}
 use Rattle.std.proofs.lemmas.Grind.{common_steps}
 use Rattle.std.proofs.lemmas.List.{append_cancel_left}
@@ -32,7 +32,8 @@ use Rattle.set_events.specs.Numbers.{refusal_number}
 use Rattle.figures.specs.Figures.{number_of, number_below, octets_of, hex_text, bit}
 use Rattle.answer_texts.specs.Texts.{answer_text, fate_text, took_text, fault_code, report_text}
 use Rattle.history_text.specs.Entries.{numbered, actor_text, event_text, entry_text, AreOctets, IsOnLine, ActorFits, EventFits, FateFits, AnswerFits, EntryFits, EntriesFit, entries_text}
-use Rattle.history_text.specs.Reading.{behind, is_gap, is_arrow, word, others, value, link_in, actor_in, body_in, unit_in, link_event_in, linked_fate_in, refusal_in, took_in, yes_in, fault_in, heard_in, told, asked_in, told_in, entry_in}
+use Rattle.play_script.specs.Script.{unit_of as unit_in}
+use Rattle.history_text.specs.Reading.{behind, is_gap, is_arrow, word, others, value, link_in, actor_in, body_in, link_event_in, linked_fate_in, refusal_in, took_in, yes_in, fault_in, heard_in, told, asked_in, told_in, entry_in}
 use Rattle.history_text.proofs.WordLemmas.{passes, until_passed, behind_passed, behind_ended}
 use Rattle.history_text.proofs.FigureLemmas.{number_again, below_again, number_is_word, number_no_arrow, octets_again, octets_are_word, octets_no_arrow, first_octet}
 
@@ -88,6 +89,11 @@ UnitsHaveOneText = (unit : SignalUnit) → IsUnit unit → IsTheTextOf unit
 unit_again : UnitsHaveOneText → (unit : SignalUnit) → IsOnLine unit → unit_of (text unit) ≡ Some unit
 unit_again law unit h = stands_is (text unit) unit (law unit h.0).stands
 
+-- no unit has no octets
+unit_read : (w : List ℕ) → unit_in w ≡ option_and_then unit_of (octets_of w)
+unit_read [] = refl
+unit_read (c ∷ cs) = let some : (length (c ∷ cs) == 0) ≡ false = grind (arith, nat_tests) in rw some refl
+
 on_link : (name : List ℕ) (n : ℕ) (more : List ℕ) → n < 2 ^ 8 → option_and_then (link_event_in name) (link_in (word (decimal n ++ 32 ∷ more))) ≡ link_event_in name n
 on_link name n more h = ap (option_and_then (link_event_in name)) (link_read n 32 more h refl)
 
@@ -113,6 +119,7 @@ hear_back law link unit more h is =
     ∙ numbered_front (codes "hear ") link units)
     ∙ ap (λ (l : Option ℕ). option_and_then (λ k. option_map (Hear k) (unit_in (word (others (decimal link ++ 32 ∷ units))))) l) (link_read link 32 units h refl)
     ∙ ap (λ (l : List ℕ). option_map (Hear link) (unit_in (word l))) (number_others link 32 units (omega (arith, h)) refl)
+    ∙ ap (option_map (Hear link)) (unit_read (word units))
     ∙ ap (λ (o : Option (List ℕ)). option_map (Hear link) (option_and_then unit_of o)) (octets_read (text unit) 32 more is.1 refl)
     ∙ ap (option_map (Hear link)) (unit_again law unit is)
 

@@ -3,14 +3,13 @@
 use Rattle.std.specs.Prelude.{ℕ, Bool, ◌==◌, ◌-◌, ◌^◌, nat_le, List, [], ◌∷◌, length, take, Option, Some, None, if◌then◌else◌, codes}
 use Rattle.std.specs.Option.{option_map, option_and_then}
 use Rattle.std.specs.Str.{bytes_eq}
-use Rattle.l2_units.specs.declared.unit.Unit.{Unit as SignalUnit}
 use Rattle.l2_units.specs.Grammar.{unit_of}
 use Rattle.l2_signals.specs.declared.cause.ControlFault.{ControlFault}
 use Rattle.l2_signals.specs.declared.cause.ControlFault.TheVariants.{Bsn, Fib}
 use Rattle.set_events.specs.declared.event.Actor.{Actor}
 use Rattle.set_events.specs.declared.event.Actor.TheVariants.{User, Terminal}
 use Rattle.set_events.specs.declared.event.Event.{Event}
-use Rattle.set_events.specs.declared.event.Event.TheVariants.{Offer, Take, Find, Next, Heard as Hear, Up, Down, DownBlind, NoAnswer, Restore, BackTimeout}
+use Rattle.set_events.specs.declared.event.Event.TheVariants.{Offer, Take, Find, Next, Heard as Hear, Up}
 use Rattle.set_events.specs.declared.answer.Fate.{Fate}
 use Rattle.set_events.specs.declared.answer.Fate.TheVariants.{Waiting, Unacked, Acked, Held, Parked, Back, Discarded}
 use Rattle.set_events.specs.declared.answer.Took.{Took}
@@ -23,6 +22,7 @@ use Rattle.set_events.specs.declared.answer.Answer.{Answer}
 use Rattle.set_events.specs.declared.answer.Answer.TheVariants.{Accepted, Taken, Found, Sent, Heard, Done, Refused}
 use Rattle.set_events.specs.declared.history.Entry.{Entry}
 use Rattle.figures.specs.Figures.{number_of, number_below, octets_of}
+use Rattle.play_script.specs.Script.{link_event, unit_of as unit_in}
 use Rattle.history_text.specs.Entries.{entry_text}
 
 -- what stands before the first octet of a kind, and what stands behind it
@@ -56,9 +56,6 @@ actor_in kind number =
 abbrev pub body_in : List ℕ → Option (List ℕ)
 body_in w = if bytes_eq w (codes "->") then Some [] else octets_of w
 
-abbrev pub unit_in : List ℕ → Option SignalUnit
-unit_in w = option_and_then unit_of (octets_of w)
-
 abbrev pub hear_in : List ℕ → List ℕ → Option Event
 hear_in link unit = option_and_then (λ l. option_map (Hear l) (unit_in unit)) (link_in link)
 
@@ -66,12 +63,7 @@ abbrev pub link_event_in : List ℕ → ℕ → Option Event
 link_event_in name link =
     if bytes_eq name (codes "next") then Some (Next link)
     else (if bytes_eq name (codes "up") then Some (Up link)
-    else (if bytes_eq name (codes "down") then Some (Down link)
-    else (if bytes_eq name (codes "blind") then Some (DownBlind link)
-    else (if bytes_eq name (codes "noanswer") then Some (NoAnswer link)
-    else (if bytes_eq name (codes "restore") then Some (Restore link)
-    else (if bytes_eq name (codes "backtimeout") then Some (BackTimeout link)
-    else None))))))
+    else link_event name link)
 
 abbrev pub event_in : List ℕ → List ℕ → Option Event
 event_in name words =

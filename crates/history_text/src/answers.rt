@@ -5,10 +5,9 @@ ghost use Rattle.set_events.specs.declared.answer.Answer.TheVariants.{Accepted, 
 ghost use Rattle.figures.specs.Figures.{number_of};
 ghost use Rattle.history_text.specs.Reading.{answer_in, told_in, taken_in, sent_in, heard_in, fate_in, linked_fate_in, cause_in, refusal_in, took_in, yes_in, fault_in, link_in, word, others};
 
-use super::words::{cut, is_word, read_link, value_of};
-use arrayvec::ArrayVec;
-use figures::{read_number, read_octets};
-use l2_units::read;
+use super::words::{cut, value_of};
+use figures::{is_word, read_below_256, read_number, read_octets};
+use l2_units::{LONGEST_BODY, body_of, read};
 use set_events::{Answer, ControlFault, DiscardCause, Fate, Refusal, Report, Took};
 use std::alloc::{AllocError, Global};
 
@@ -59,14 +58,12 @@ fn read_taken(alloc: Global, word: &[u8]) -> Result<Option<Answer>, AllocError>
     let Some(octets) = read_octets(alloc, word)? else {
         return Ok(None);
     };
-    if octets.len() > 273 {
+    if octets.len() > LONGEST_BODY {
         return Ok(None);
     }
-    let mut body = ArrayVec::new();
-    match body.try_extend_from_slice(&octets) {
-        Ok(()) => Ok(Some(Answer::Taken { body })),
-        Err(_) => unreachable!(),
-    }
+    Ok(Some(Answer::Taken {
+        body: body_of(&octets),
+    }))
 }
 
 /// `found FATE`, from the words behind the name
@@ -85,7 +82,7 @@ fn read_fate(name: &[u8], number: &[u8]) -> Option<Fate>
     if is_word(name, b"parked") {
         return Some(Fate::Parked);
     }
-    let number = read_link(number)?;
+    let number = read_below_256(number)?;
     read_linked_fate(name, number)
 }
 
@@ -146,7 +143,7 @@ fn read_heard(words: &[u8]) -> Option<Answer>
     let (asked, words) = cut(words);
     let (resend, words) = cut(words);
     let (fault, _) = cut(words);
-    let acked = read_link(value_of(acked))?;
+    let acked = read_below_256(value_of(acked))?;
     let took = read_took(value_of(took))?;
     let report = Report {
         acked,

@@ -5,8 +5,9 @@ ghost use Rattle.set_events.specs.declared.event.Event.TheVariants.{Offer, Find}
 ghost use Rattle.figures.specs.Figures.{number_of};
 ghost use Rattle.history_text.specs.Reading.{actor_in, event_in, hear_in, link_event_in, asked_in, body_in, link_in};
 
-use super::words::{cut, is_word, read_body, read_link, read_unit};
-use figures::read_number;
+use super::words::{cut, read_body};
+use figures::{is_word, read_below_256, read_number};
+use play_script::{read_link_event, read_unit};
 use set_events::{Actor, Event};
 use std::alloc::{AllocError, Global};
 
@@ -22,7 +23,7 @@ pub(crate) fn read_actor(kind: &[u8], number: &[u8]) -> Option<Actor>
             None
         }
     } else if is_word(kind, b"terminal") {
-        let link = read_link(number)?;
+        let link = read_below_256(number)?;
         Some(Actor::Terminal(link))
     } else {
         None
@@ -78,7 +79,7 @@ fn read_find(word: &[u8]) -> Option<Event>
 fn read_hear(alloc: Global, link: &[u8], unit: &[u8]) -> Result<Option<Event>, AllocError>
     ensures { IfOk result (λ event. event ≡ hear_in link.now unit.now) }
 {
-    let Some(link) = read_link(link) else {
+    let Some(link) = read_below_256(link) else {
         return Ok(None);
     };
     match read_unit(alloc, unit)? {
@@ -91,29 +92,19 @@ fn read_hear(alloc: Global, link: &[u8], unit: &[u8]) -> Result<Option<Event>, A
 fn read_on_link(name: &[u8], word: &[u8]) -> Option<Event>
     ensures { result ≡ option_and_then (link_event_in name.now) (link_in word.now) }
 {
-    let link = read_link(word)?;
-    read_link_event(name, link)
+    let link = read_below_256(word)?;
+    read_event_on_link(name, link)
 }
 
 /// The event of this name on a link.
-fn read_link_event(name: &[u8], link: u8) -> Option<Event>
+fn read_event_on_link(name: &[u8], link: u8) -> Option<Event>
     ensures { result ≡ link_event_in name.now link }
 {
     if is_word(name, b"next") {
         Some(Event::Next { link })
     } else if is_word(name, b"up") {
         Some(Event::Up { link })
-    } else if is_word(name, b"down") {
-        Some(Event::Down { link })
-    } else if is_word(name, b"blind") {
-        Some(Event::DownBlind { link })
-    } else if is_word(name, b"noanswer") {
-        Some(Event::NoAnswer { link })
-    } else if is_word(name, b"restore") {
-        Some(Event::Restore { link })
-    } else if is_word(name, b"backtimeout") {
-        Some(Event::BackTimeout { link })
     } else {
-        None
+        read_link_event(name, link)
     }
 }

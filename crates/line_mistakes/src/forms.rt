@@ -4,7 +4,7 @@ ghost use Rattle.line_mistakes.specs.Blaming.{form_of, kinds_of, is_on_link, wan
 
 use super::mistake::Mistake;
 use super::words::Kind;
-use play_script::is_word;
+use figures::is_word;
 
 /// What a line after the first is, by its first word.
 #[derive(Clone, Copy, Debug, PartialEq, Eq)]

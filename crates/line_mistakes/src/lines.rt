@@ -6,7 +6,8 @@ ghost use Rattle.line_mistakes.specs.Blaming.{blame_of, blamed_opening, blamed_s
 use super::forms::{find_form, kinds_of_form, kinds_of_opening, may_end_before, mistake_if_short};
 use super::mistake::Mistake;
 use super::words::{Kind, judge_word, odd};
-use play_script::{cut, is_word};
+use figures::is_word;
+use play_script::cut;
 use std::alloc::{AllocError, Global};
 
 /// The word at fault of a line, and its mistake.

@@ -22,5 +22,7 @@ mod reading;
 mod script;
 
 pub use opening::{read_code, read_links, read_method, read_opening, read_sio, value_in_word};
-pub use reading::{cut, is_word, read_end, read_link, read_some_octets, read_step, read_unit};
+pub use reading::{
+    cut, read_end, read_link, read_link_event, read_some_octets, read_step, read_unit,
+};
 pub use script::{Opening, Values};

@@ -4,9 +4,9 @@ ghost use Rattle.std.specs.Option.{option_copied, ForSome};
 ghost use Rattle.play_script.specs.Script.{is_colon, limits_of, method_of, value_in, links_of, code_of, sio_of, six_words, values_of, fitting, first_line};
 ghost use Rattle.play_script.specs.Opened.{six_of, IsOpening, IsMadeOf};
 
-use super::reading::{cut, is_word};
+use super::reading::cut;
 use super::script::{Opening, Values};
-use figures::{read_number, read_octet};
+use figures::{is_word, read_below_256, read_number, read_octet};
 use set_events::{Method, SetConfig};
 
 /// The words of the first line.
@@ -107,12 +107,7 @@ pub fn value_in_word<'a>(name: &[u8], word: &'a [u8]) -> Option<&'a [u8]>
 pub fn read_links(word: &[u8]) -> Option<u8>
     ensures { result ≡ links_of word.now }
 {
-    let number = read_number(value_in_word(b"links=", word)?)?;
-    if number < 256 {
-        Some(number as u8)
-    } else {
-        None
-    }
+    read_below_256(value_in_word(b"links=", word)?)
 }
 
 /// `method=basic` or `method=cyclic:N1:N2`
@@ -130,13 +125,10 @@ fn read_limits(word: &[u8]) -> Option<Method>
     ensures { result ≡ limits_of word.now }
 {
     let colon = colon_in(word)?;
-    let n1 = read_number(&word[..colon])?;
+    let n1 = read_below_256(&word[..colon])?;
     let n2 = read_number(&word[colon + 1..])?;
-    if n1 < 256 && n2 < 0x1_0000_0000 {
-        Some(Method::Cyclic {
-            n1: n1 as u8,
-            n2: n2 as u32,
-        })
+    if n2 < 0x1_0000_0000 {
+        Some(Method::Cyclic { n1, n2: n2 as u32 })
     } else {
         None
     }

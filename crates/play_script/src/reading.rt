@@ -4,7 +4,7 @@ ghost use Rattle.std.specs.Option.{option_map, option_copied, ForSome};
 ghost use Rattle.std.specs.Str.{bytes_eq};
 ghost use Rattle.play_script.specs.Script.{is_space, first_word, other_words, end_of, link_of, some_octets, step_of, step_at, step_with, together, offer, body_of, take_message, find, lose, hear, unit_of, on_link, link_event};
 
-use figures::{read_number, read_octets};
+use figures::{is_word, read_number, read_octets};
 use l2_units::{Unit, read};
 use set_events::{Body, Event};
 use std::alloc::{AllocError, Global};
@@ -28,31 +28,6 @@ pub fn read_step(alloc: Global, text: &[u8]) -> Result<Option<Step>, AllocError>
         Some(end) => read_step_at(alloc, name, end, words),
         None => Ok(None),
     }
-}
-
-/// Whether the word is this text.
-#[inline(always)]
-pub fn is_word(word: &[u8], text: &[u8]) -> bool
-    ensures { result ≡ bytes_eq word.now text.now }
-{
-    if word.len() != text.len() {
-        return false;
-    }
-    are_alike(word, text)
-}
-
-/// Whether words of one length are alike; most differ early, so that a call of `==` would be the longer way.
-#[inline(always)]
-fn are_alike(word: &[u8], text: &[u8]) -> bool
-    requires { length word.now ≡ length text.now }
-    ensures { result ≡ bytes_eq word.now text.now }
-{
-    for place in 0..text.len() {
-        if word[place] != text[place] {
-            return false;
-        }
-    }
-    true
 }
 
 /// The first word, and the words after it, if there are any.
@@ -263,7 +238,7 @@ fn read_event_on_link(name: &[u8], end: End, link: u8) -> Option<Step>
 }
 
 /// What `down`, `blind`, `noanswer`, `restore` and `backtimeout` tell of a link.
-fn read_link_event(name: &[u8], link: u8) -> Option<Event>
+pub fn read_link_event(name: &[u8], link: u8) -> Option<Event>
     ensures { result ≡ link_event name.now link }
 {
     if is_word(name, b"down") {

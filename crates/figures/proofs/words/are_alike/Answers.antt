@@ -1,7 +1,7 @@
 use Rattle.std.proofs.Common.{arith, ◌≡◌, sym}
 use Rattle.std.proofs.lemmas.Grind.{common_steps}
 use Rattle.std.proofs.lemmas.Slice.Eq.{bytes_eq-Decides}
-use Rattle.play_script.proofs.reading.are_alike.Goals as goal
+use Rattle.figures.proofs.words.are_alike.Goals as goal
 
 pub returns : goal.returns
 returns c =
