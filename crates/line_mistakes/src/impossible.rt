@@ -42,8 +42,7 @@ fn skip_words(place: u8, text: &[u8]) -> &[u8]
     ensures { result.now ≡ words_from place text.now }
 {
     let mut words = text;
-    for passed in 0..place {
-        let _ = passed;
+    for _ in 0..place {
         words = skip_word(words);
     }
     words

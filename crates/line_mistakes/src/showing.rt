@@ -96,8 +96,7 @@ fn spaces(alloc: Global, count: usize) -> Result<String, AllocError>
     ensures { IfOk result (λ line. string_bytes line ≡ replicate count 32) }
 {
     let mut line = String::new(alloc);
-    for column in 0..count {
-        let _ = column;
+    for _ in 0..count {
         line.push(' ')?;
     }
     Ok(line)

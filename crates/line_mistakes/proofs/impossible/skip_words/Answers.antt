@@ -2,8 +2,8 @@ use Rattle.std.proofs.Common.{◌≡◌, ◌∙◌, ap, ◌-◌, ◌+◌, suc, s
 use Rattle.line_mistakes.specs.Impossible.{words_from}
 use Rattle.line_mistakes.proofs.impossible.skip_words.Goals as goal
 
-pub loop-passed-preserved : goal.loop-passed-preserved
-loop-passed-preserved c =
-    let k = c.args.place - (c.loop-passed.passed + 1) in
-    let one_more : c.args.place - c.loop-passed.passed ≡ suc k = omega arith in
-    c.loop-passed.invariant ∙ ap (λ (n : ℕ). words_from n c.loop-passed.words.now) one_more ∙ ap (λ w. words_from k w) (sym c.skip_word-words.ensures)
+pub loop-preserved : goal.loop-preserved
+loop-preserved c =
+    let k = c.args.place - (c.loop.counter + 1) in
+    let one_more : c.args.place - c.loop.counter ≡ suc k = omega arith in
+    c.loop.invariant ∙ ap (λ (n : ℕ). words_from n c.loop.words.now) one_more ∙ ap (λ w. words_from k w) (sym c.skip_word-words.ensures)
