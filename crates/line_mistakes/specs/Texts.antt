@@ -24,7 +24,7 @@ mistake_text NotPrintable =
     codes "words are printable characters of ASCII, and this one has another octet"
 mistake_text Surplus = codes "the line has no further word here"
 mistake_text UnknownWord = codes "no line of a script begins with this word"
-mistake_text SecondSet = codes "set is the first line alone"
+mistake_text SecondSet = codes "set is the first line of a script, and no other"
 mistake_text TogetherWants = codes "together wants a link"
 mistake_text OfferWants = codes "offer wants an end, a or b, and octets of two hexadecimal digits"
 mistake_text TakeWants = codes "take wants an end, a or b"

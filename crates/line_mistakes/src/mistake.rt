@@ -84,7 +84,7 @@ pub enum Mistake {
 }
 
 impl Mistake {
-    /// What is wanted in its place, in printable characters of ASCII, at most 80.
+    /// What is wanted in its place, in printable characters of ASCII.
     pub fn text(self) -> &'static str
         ensures { result.now ≡ mistake_text self }
     {
@@ -110,7 +110,7 @@ impl Mistake {
                 "words are printable characters of ASCII, and this one has another octet",
             Mistake::Surplus => "the line has no further word here",
             Mistake::UnknownWord => "no line of a script begins with this word",
-            Mistake::SecondSet => "set is the first line alone",
+            Mistake::SecondSet => "set is the first line of a script, and no other",
             Mistake::TogetherWants => "together wants a link",
             Mistake::OfferWants =>
                 "offer wants an end, a or b, and octets of two hexadecimal digits",
