@@ -2,8 +2,8 @@
 use Rattle.std.proofs.Common.{refl, arith, sym, ◌≡◌, ◌≢◌, ◌∙◌, ap, ap₂, ◌<◌, ◌-◌, ◌+◌, ◌==◌, [], ◌∷◌, length, ℕ, Bool, true, false, List, Some, None, drop, take, position}
 use Rattle.history_text.specs.Reading.{until, behind}
 use Rattle.history_text.proofs.WordLemmas.{found_until, slice_behind, missing_until, slice_missing}
-use Rattle.text_lines.specs.Lines.{lines_of, onto_first}
-use Rattle.history_lines.specs.Cutting.{IsCut, is_lf}
+use Rattle.text_lines.specs.Lines.{is_lf, lines_of, onto_first}
+use Rattle.history_lines.specs.Cutting.{IsCut}
 
 cut_lines : (c : ℕ) (cs : List ℕ) → lines_of (c ∷ cs) ≡ until is_lf (c ∷ cs) ∷ lines_of (behind is_lf (c ∷ cs))
 cut_lines c [] = go (c == 10) refl

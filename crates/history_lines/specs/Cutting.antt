@@ -1,9 +1,6 @@
 -- A line that is cut off a text.
-use Rattle.std.specs.Prelude.{◌≡◌, ◌<◌, ℕ, Bool, ◌==◌, List, ◌∷◌, length}
+use Rattle.std.specs.Prelude.{◌≡◌, ◌<◌, ℕ, List, ◌∷◌, length}
 use Rattle.text_lines.specs.Lines.{lines_of}
-
-abbrev pub is_lf : ℕ → Bool
-is_lf c = c == 10
 
 -- the first line of some octets, and those behind it
 pub record IsCut (octets line others : List ℕ) : Type 0 where

@@ -1,8 +1,7 @@
 //! A history from its text.
-ghost use Rattle.std.specs.Prelude.{◌≡◌, ◌<◌, ◌+◌, ◌≤◌, ◌^◌, ◌≢◌, [], length, position, MatchResult};
-ghost use Rattle.std.specs.Option.{ForSome};
+ghost use Rattle.std.specs.Prelude.{◌≡◌, ◌+◌, ◌≤◌, ◌^◌, ◌≢◌, [], length, MatchResult};
 ghost use Rattle.text_lines.specs.Lines.{lines_of};
-ghost use Rattle.history_lines.specs.Cutting.{IsCut, is_lf};
+ghost use Rattle.history_lines.specs.Cutting.{IsCut};
 ghost use Rattle.history_lines.specs.Telling.{told_from, told_in_all, history_in, nothing_told, telling_of, Stops};
 
 use super::fault::UnreadableEntry;
@@ -10,6 +9,7 @@ use super::told::Told;
 use printing::Stop;
 use set_events::{Entry, SetConfig};
 use std::alloc::Global;
+use text_lines::end_of_line;
 
 /// A history that was read: what its lines tell, legal or not.
 #[derive(Drop)]
@@ -71,12 +71,4 @@ fn cut_line(octets: &[u8]) -> (&[u8], &[u8])
         Some(place) => (&octets[..place], &octets[place + 1..]),
         None => (octets, &octets[octets.len()..]),
     }
-}
-
-/// The place of the first LF.
-fn end_of_line(octets: &[u8]) -> Option<usize>
-    ensures place { result ≡ position is_lf octets.now }
-    ensures within { ForSome result (λ place. place < length octets.now) }
-{
-    octets.iter().position(|c| *c == b'\n')
 }

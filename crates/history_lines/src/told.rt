@@ -1,6 +1,5 @@
 //! What the lines so far tell.
 ghost use Rattle.std.specs.Prelude.{◌≡◌, ◌++◌, ◌∷◌, [], IfOk, MatchResult, Some, None};
-ghost use Rattle.text_lines.specs.Lines.{is_remark};
 ghost use Rattle.set_model.specs.State.{settings_of};
 ghost use Rattle.std.specs.Option.{option_map};
 ghost use Rattle.history_text.specs.Reading.{entry_of};
@@ -14,6 +13,7 @@ use printing::Stop;
 use set_events::{Entry, SetConfig};
 use std::alloc::{AllocError, Global};
 use std::marker::Model;
+use text_lines::is_passed_over;
 
 /// What the lines so far tell: the configuration, once it's told, and the entries with the numbers of their lines.
 #[derive(Drop)]
@@ -92,29 +92,12 @@ impl Told {
     ) -> Result<(), Stop<UnreadableEntry>>
         ensures { IsRead result number (entered number self.old line.now) self.new }
     {
-        let Ok(found) = read_line(alloc, line) else {
-            return Err(Stop::Memory);
-        };
-        let Some(entry) = found else {
+        let Some(entry) = read_line(alloc, line)? else {
             return Err(Stop::Input(UnreadableEntry { line: number }));
         };
-        let (Ok(()), Ok(())) = (self.entries.reserve(1), self.lines.push(number)) else {
-            return Err(Stop::Memory);
-        };
-        match self.entries.push(entry) {
-            Ok(()) => Ok(()),
-            Err(_) => Err(Stop::Memory),
-        }
-    }
-}
-
-/// Whether the line is empty or begins with `#`.
-fn is_passed_over(line: &[u8]) -> bool
-    ensures { result ≡ is_remark line.now }
-{
-    match line {
-        [] => true,
-        [first, ..] => *first == b'#',
+        self.lines.push(number)?;
+        self.entries.push(entry)?;
+        Ok(())
     }
 }
 
