@@ -1,5 +1,5 @@
 -- What is said of a history, and that nothing else can be said of it.
-use Rattle.std.proofs.Common.{refl, arith, sym, subst, ◌≡◌, ◌∙◌, ap, ◌<◌, ◌≤◌, ◌+◌, [], ◌∷◌, length, ℕ, zero, suc, Bool, true, false, nat_lt, List, Option, None, Some, Result, Ok, Err, IfOk, MatchOption, MatchResult, take, get_or}
+use Rattle.std.proofs.Common.{refl, arith, sym, subst, ◌≡◌, ◌∙◌, ap, ◌<◌, ◌≤◌, ◌+◌, [], ◌∷◌, length, ℕ, zero, suc, Bool, true, false, nat_lt, List, Option, None, Some, Result, Ok, Err, MatchOption, MatchResult, take, get_or}
 use Rattle.std.proofs.lemmas.Bool.Decides.{nat_tests}
 use Rattle.printing.specs.Printing.{Printed}
 use Rattle.printing.specs.declared.fault.Stop.{Stop}
@@ -69,13 +69,9 @@ one_text_each input a b x y = one_of_telling (history_in input) a b x y
 abbrev Outcome : {T : Type 0} → (T → List ℕ) → Result T (Stop AuditFault) → (Printed AuditFault → Type 0) → Type 0
 Outcome items result IsIt = MatchResult result (λ text. IsIt (says (items text))) (λ stop. Faults stop IsIt)
 
-pub wrong_told : {T E : Type 0} (items : T → List ℕ) (s : State) (entries : List Entry) (lines : List ℕ) (p : ℕ) (line : Result T E) (result : Result T (Stop AuditFault))
-    → length entries ≤ longest_history → IsFirstWrong s entries p → IfOk line (λ text. items text ≡ wrong_text (get_or lines p 0))
-    → MatchResult result (λ text. line ≡ Ok text) (λ stop. stop ≡ Memory) → Outcome items result (IsAudited s entries lines)
-wrong_told items s entries lines p line (Ok text) few w is told =
-    let same : items text ≡ wrong_text (get_or lines p 0) = subst (λ r. IfOk r (λ text. items text ≡ wrong_text (get_or lines p 0))) told is in
-    wrong p few w (ap says same)
-wrong_told items s entries lines p line (Err stop) few w is told = rw told tt
+pub wrong_told : (s : State) (entries : List Entry) (lines : List ℕ) (p : ℕ) (text : List ℕ)
+    → length entries ≤ longest_history → IsFirstWrong s entries p → text ≡ wrong_text (get_or lines p 0) → IsAudited s entries lines (says text)
+wrong_told s entries lines p text few w same = wrong p few w (ap says same)
 
 pub legal_told : {T : Type 0} (items : T → List ℕ) (s : State) (entries : List Entry) (lines : List ℕ) (result : Result T (Stop AuditFault))
     → length entries ≤ longest_history → IsLegal s entries

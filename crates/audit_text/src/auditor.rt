@@ -42,10 +42,8 @@ impl Auditor {
         ensures { MatchResult result (λ done. self.new ≡ self.old ++ octets.now)
             (λ stop. stop ≡ Stop.Memory) }
     {
-        match self.input.extend_from_slice(octets) {
-            Ok(()) => Ok(()),
-            Err(_) => Err(Stop::Memory),
-        }
+        self.input.extend_from_slice(octets)?;
+        Ok(())
     }
 }
 
@@ -53,10 +51,8 @@ impl Auditor {
 fn add_verdict(alloc: Global, input: &[u8], out: &mut Vec<u8>) -> Result<(), Stop<AuditFault>>
     ensures { IsSaid result (IsAuditText input.now) out.old.items out.new.items }
 {
-    match write_verdict(alloc, input) {
-        Ok(text) => add(out, &text),
-        Err(stop) => Err(stop),
-    }
+    let text = write_verdict(alloc, input)?;
+    add(out, &text)
 }
 
 /// Appends a text.
@@ -64,10 +60,8 @@ fn add(out: &mut Vec<u8>, text: &[u8]) -> Result<(), Stop<AuditFault>>
     ensures { MatchResult result (λ done. out.new.items ≡ out.old.items ++ text.now)
         (λ stop. (stop ≡ Stop.Memory) × (out.new.items ≡ out.old.items)) }
 {
-    match out.extend_from_slice(text) {
-        Ok(()) => Ok(()),
-        Err(_) => Err(Stop::Memory),
-    }
+    out.extend_from_slice(text)?;
+    Ok(())
 }
 
 impl Printer for Auditor {
@@ -80,8 +74,7 @@ impl Printer for Auditor {
 
     ghost has_read = { λ auditor past lines. (auditor ≡ past) × (lines ≡ []) };
 
-    fn read(&mut self, octets: &[u8], out: &mut Vec<u8>) -> Result<(), Stop<AuditFault>> {
-        let _ = out;
+    fn read(&mut self, octets: &[u8], _out: &mut Vec<u8>) -> Result<(), Stop<AuditFault>> {
         self.keep(octets)
     }
 

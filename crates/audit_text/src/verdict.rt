@@ -36,7 +36,7 @@ fn audited(
         (λ stop. Faults stop (IsAudited (new_state config.now) entries.now lines.now)) }
 {
     match first_wrong(alloc, config, entries) {
-        Ok(Some(place)) => told(write_wrong(alloc, line_at(lines, place))),
+        Ok(Some(place)) => Ok(write_wrong(alloc, line_at(lines, place))?),
         Ok(None) => legal(alloc, config, entries),
         Err(SetFault::NoMemory) => Err(Stop::Memory),
         Err(SetFault::Exhausted) => Err(Stop::Input(AuditFault::Exhausted)),
@@ -52,17 +52,7 @@ fn legal(alloc: Global, config: &SetConfig, entries: &[Entry]) -> Result<Vec<u8>
         (λ stop. stop ≡ Stop.Memory) }
 {
     match add_up_books(alloc, config, entries) {
-        Ok(books) => told(write_legal(alloc, entries.len() as u64, &books)),
-        Err(_) => Err(Stop::Memory),
-    }
-}
-
-/// A line, or want of memory.
-fn told(line: Result<Vec<u8>, AllocError>) -> Result<Vec<u8>, Stop<AuditFault>>
-    ensures { MatchResult result (λ text. line ≡ Ok text) (λ stop. stop ≡ Stop.Memory) }
-{
-    match line {
-        Ok(line) => Ok(line),
+        Ok(books) => Ok(write_legal(alloc, entries.len() as u64, &books)?),
         Err(_) => Err(Stop::Memory),
     }
 }
