@@ -74,7 +74,8 @@ impl<A: Account> LineText for Explaining<A> {
     fn end(&self, alloc: Global, out: &mut Vec<u8>) -> Result<(), Stop<ExplainedFault>> {
         match self.script.end(alloc, out) {
             Ok(()) => Ok(()),
-            Err(_) => Err(Stop::Memory),
+            Err(Stop::Memory) => Err(Stop::Memory),
+            Err(Stop::Input(_)) => unreachable!(),
         }
     }
 }
@@ -90,7 +91,7 @@ fn explained(
 {
     match explain_fault(alloc, links, text, fault) {
         Ok(told) => Stop::Input(ExplainedFault { fault, told }),
-        Err(_) => Stop::Memory,
+        Err(want) => Stop::from(want),
     }
 }
 
