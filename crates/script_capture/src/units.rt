@@ -23,29 +23,21 @@ impl Account for Units {
 
     ghost is_note = { λ world step note. Unit {0} };
 
-    fn note(world: &World, step: &Step) {
-        let _ = world;
-        let _ = step;
-    }
+    fn note(_world: &World, _step: &Step) {}
 
-    fn tell_opening(alloc: Global, world: &World, out: &mut Vec<u8>) -> Result<(), AllocError> {
-        let _ = alloc;
-        let _ = world;
+    fn tell_opening(_alloc: Global, _world: &World, out: &mut Vec<u8>) -> Result<(), AllocError> {
         out.extend_from_slice(&FILE_HEAD)
     }
 
     fn tell_step(
         alloc: Global,
         number: u64,
-        note: (),
-        step: &Step,
+        _note: (),
+        _step: &Step,
         shown: &Shown,
-        world: &World,
+        _world: &World,
         out: &mut Vec<u8>,
     ) -> Result<(), AllocError> {
-        let () = note;
-        let _ = step;
-        let _ = world;
         match shown {
             Shown::Answered(Answer::Sent { unit }) => {
                 out.extend_from_slice(&write_record(alloc, number, unit)?)
@@ -54,8 +46,11 @@ impl Account for Units {
         }
     }
 
-    fn tell_end(alloc: Global, world: &Option<World>, out: &mut Vec<u8>) -> Result<(), AllocError> {
-        let _ = alloc;
+    fn tell_end(
+        _alloc: Global,
+        world: &Option<World>,
+        out: &mut Vec<u8>,
+    ) -> Result<(), AllocError> {
         match world {
             Some(_) => Ok(()),
             None => out.extend_from_slice(&FILE_HEAD),
