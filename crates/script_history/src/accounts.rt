@@ -1,5 +1,6 @@
-//! The accounts of a script in histories: a type for each end, since what is told belongs to the type.
+//! The account of a script in the history of an end, which its type names, since what is told belongs to the type.
 ghost use Rattle.std.specs.Prelude.{◌≡◌, ◌++◌, IfOk, MatchResult};
+ghost use Rattle.world_steps.specs.declared.step.End.{End};
 ghost use Rattle.script_history.specs.Histories.{set_text, at_the_end};
 
 use history_lines::write_history;
@@ -7,103 +8,79 @@ use pair_world::{End, World};
 use script_text::Account;
 use set_core::SetCore;
 use std::alloc::{AllocError, Global};
+use std::marker::PhantomData;
 use world_steps::{Shown, Step};
 
-/// The history of end a.
-pub(crate) struct HistoryOfA;
+/// An end that a type names.
+pub(crate) trait NamesEnd {
+    /// The end.
+    ghost end: { End };
 
-impl Account for HistoryOfA {
-    type Note = ();
+    /// The end.
+    fn end() -> End
+        ensures { result ≡ end };
+}
 
+/// End a.
+pub(crate) struct OfA;
+
+impl NamesEnd for OfA {
     ghost use Rattle.world_steps.specs.declared.step.End.TheVariants.{A};
-    ghost use Rattle.script_history.specs.Histories.{history_told};
 
-    ghost told = { history_told A };
+    ghost end = { A };
 
-    ghost is_note = { λ world step note. Unit {0} };
-
-    fn note(world: &World, step: &Step) {
-        let _ = world;
-        let _ = step;
-    }
-
-    fn tell_opening(alloc: Global, world: &World, out: &mut Vec<u8>) -> Result<(), AllocError> {
-        let _ = alloc;
-        let _ = world;
-        let _ = out;
-        Ok(())
-    }
-
-    fn tell_step(
-        alloc: Global,
-        number: u64,
-        note: (),
-        step: &Step,
-        shown: &Shown,
-        world: &World,
-        out: &mut Vec<u8>,
-    ) -> Result<(), AllocError> {
-        let _ = alloc;
-        let _ = number;
-        let () = note;
-        let _ = step;
-        let _ = shown;
-        let _ = world;
-        let _ = out;
-        Ok(())
-    }
-
-    fn tell_end(alloc: Global, world: &Option<World>, out: &mut Vec<u8>) -> Result<(), AllocError> {
-        add_history(alloc, End::A, world, out)
+    fn end() -> End {
+        End::A
     }
 }
 
-/// The history of end b.
-pub(crate) struct HistoryOfB;
+/// End b.
+pub(crate) struct OfB;
 
-impl Account for HistoryOfB {
+impl NamesEnd for OfB {
+    ghost use Rattle.world_steps.specs.declared.step.End.TheVariants.{B};
+
+    ghost end = { B };
+
+    fn end() -> End {
+        End::B
+    }
+}
+
+/// The history of the end that the type names.
+pub(crate) struct History<E> {
+    end: PhantomData<E>,
+}
+
+impl<E: NamesEnd> Account for History<E> {
     type Note = ();
 
-    ghost use Rattle.world_steps.specs.declared.step.End.TheVariants.{B};
     ghost use Rattle.script_history.specs.Histories.{history_told};
 
-    ghost told = { history_told B };
+    ghost told = { history_told E.end };
 
     ghost is_note = { λ world step note. Unit {0} };
 
-    fn note(world: &World, step: &Step) {
-        let _ = world;
-        let _ = step;
-    }
+    fn note(_world: &World, _step: &Step) {}
 
-    fn tell_opening(alloc: Global, world: &World, out: &mut Vec<u8>) -> Result<(), AllocError> {
-        let _ = alloc;
-        let _ = world;
-        let _ = out;
+    fn tell_opening(_alloc: Global, _world: &World, _out: &mut Vec<u8>) -> Result<(), AllocError> {
         Ok(())
     }
 
     fn tell_step(
-        alloc: Global,
-        number: u64,
-        note: (),
-        step: &Step,
-        shown: &Shown,
-        world: &World,
-        out: &mut Vec<u8>,
+        _alloc: Global,
+        _number: u64,
+        _note: (),
+        _step: &Step,
+        _shown: &Shown,
+        _world: &World,
+        _out: &mut Vec<u8>,
     ) -> Result<(), AllocError> {
-        let _ = alloc;
-        let _ = number;
-        let () = note;
-        let _ = step;
-        let _ = shown;
-        let _ = world;
-        let _ = out;
         Ok(())
     }
 
     fn tell_end(alloc: Global, world: &Option<World>, out: &mut Vec<u8>) -> Result<(), AllocError> {
-        add_history(alloc, End::B, world, out)
+        add_history(alloc, E::end(), world, out)
     }
 }
 

@@ -3,7 +3,7 @@ ghost use Rattle.std.specs.Prelude.{◌≤◌, ◌^◌, length, IfSome, OnOk};
 ghost use Rattle.printing.specs.Printing.{Prints, FailsByDevices};
 ghost use Rattle.script_history.specs.Histories.{IsHistoryText};
 
-use super::accounts::{HistoryOfA, HistoryOfB};
+use super::accounts::{History, OfA, OfB};
 use pair_world::End;
 use printing::{Fault, Sink, Source};
 use script_text::{ScriptFault, tell_script};
@@ -27,7 +27,7 @@ pub fn history<S: Source, W: Sink>(
         (FailsByDevices result (S.has_failed source.new) (W.has_failed sink.new)) }
 {
     match end {
-        End::A => tell_script::<HistoryOfA, S, W>(alloc, source, sink),
-        End::B => tell_script::<HistoryOfB, S, W>(alloc, source, sink),
+        End::A => tell_script::<History<OfA>, S, W>(alloc, source, sink),
+        End::B => tell_script::<History<OfB>, S, W>(alloc, source, sink),
     }
 }
