@@ -73,22 +73,12 @@ pub(crate) fn all_got_through(ends: &[SetEnd]) -> bool
 fn users_got_through(users: &[bool]) -> bool
     ensures { IsTrue result → All (λ got_through. got_through ≡ true) users.now }
 {
-    for got_through in users {
-        if !*got_through {
-            return false;
-        }
-    }
-    true
+    users.iter().all(|got_through| *got_through)
 }
 
 /// Whether none of the terminals with these reports failed.
 fn terminals_got_through(reports: &[Result<TermReport, TermFault>]) -> bool
     ensures { IsTrue result → All IsOk reports.now }
 {
-    for report in reports {
-        if report.is_err() {
-            return false;
-        }
-    }
-    true
+    reports.iter().all(|report| report.is_ok())
 }
