@@ -105,8 +105,8 @@ whether or not they arrive:
   time                a millisecond for each line of the script: the unit of line 12 has 0.012000 seconds
   octets              the unit's header and what it carries, without check octets; `tshark -r FILE -V` shows them
 The units of both ends and of all links stand in one list. A script without a line writes a file without a record.
-A fault ends the script: one line on standard error, with status 1; what was written before it stays, and is a capture
-of what was sent until then. The faults are those of `mtpbank play`:
+A fault ends the script: one line on standard error, with status 1; what was written before it stays, and is a capture of
+what was sent until then; where the first line is at fault nothing is written. The faults are those of `mtpbank play`:
   fault line N text, fault line N step, fault exhausted
   fault read, fault write, fault memory";
 
@@ -156,7 +156,7 @@ Behind that stands what the unit carries:
 The last two octets are check octets where they are right for those before them, or where only those before them are
 a unit. From length indicator 63 on, a unit with wrong check octets looks like a longer one without them.
 A fault ends the input: one line on standard error, with status 1; what was printed before it stays.
-  fault line N text   line N, from 1 and with those passed over, is no octets in hexadecimal, or has more than
+  fault line N text   line N, from 1 and with those passed over, isn't octets in hexadecimal, or has more than
                       4,096 characters
   fault read          standard input failed, or has more than 2^24 octets
   fault write, fault memory";
@@ -226,7 +226,8 @@ pub(crate) const UNITS_HELP: &str = "\
 Two hexadecimal digits are an octet of the line, fed lowest bit first, with its flags, inserted zeros and check
 bits as they are sent. Spaces, tabs, CR and LF are skipped. Each line of the output is a mark:
   good fisu bsn=B bib=0|1 fsn=F fib=0|1              a unit with right check bits, and what it holds
-  good lssu bsn=B bib=0|1 fsn=F fib=0|1 status=S     so too; S 0 to 5 is O, N, E, OS, PO, B
+  good lssu bsn=B bib=0|1 fsn=F fib=0|1 status=S     so too; S 0 to 5 is SIO, SIN, SIE, SIOS, SIPO, SIB; 6 and 7
+                    aren't assigned
   good msu bsn=B bib=0|1 fsn=F fib=0|1 body=HEX      so too; the body is SIO and SIF
   good fault=N      right check bits, but no unit: 1 too short, 2 too long, 3 a wrong length indicator
   bad               a damaged unit: anything else between two flags
@@ -272,7 +273,7 @@ Each of these lines prints one:
                       for it stays unacked or waiting there until then
   found parked        no link can take it until one comes up
   found back C        its stream is on its way home; the message waits for the answer with code C, which is 16
-                      times the home and the link that the stream comes from
+                      times the number of the home plus that of the link the stream comes from
   found discarded C   given up: 1 an emergency, 2 the other end told an FSN that can't be, 3 no answer
   sent HEX            the unit that was sent; its last two octets are the check octets
   heard acked=K took=T asked=0|1 resend=0|1 fault=F     what the unit did: K messages are acknowledged;
