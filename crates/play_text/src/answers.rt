@@ -20,32 +20,21 @@ impl Account for Answers {
 
     ghost is_note = { λ world step note. Unit {0} };
 
-    fn note(world: &World, step: &Step) {
-        let _ = world;
-        let _ = step;
-    }
+    fn note(_world: &World, _step: &Step) {}
 
-    fn tell_opening(alloc: Global, world: &World, out: &mut Vec<u8>) -> Result<(), AllocError> {
-        let _ = alloc;
-        let _ = world;
-        let _ = out;
+    fn tell_opening(_alloc: Global, _world: &World, _out: &mut Vec<u8>) -> Result<(), AllocError> {
         Ok(())
     }
 
     fn tell_step(
-        alloc: Global,
-        number: u64,
-        note: (),
-        step: &Step,
+        _alloc: Global,
+        _number: u64,
+        _note: (),
+        _step: &Step,
         shown: &Shown,
-        world: &World,
+        _world: &World,
         out: &mut Vec<u8>,
     ) -> Result<(), AllocError> {
-        let _ = number;
-        let () = note;
-        let _ = step;
-        let _ = world;
-        let _ = alloc;
         push_shown(out, shown)
     }
 
