@@ -159,7 +159,7 @@ fn took_field(took: Took) -> &'static str
 }
 
 /// The number of a fault, 0 for none.
-fn code_of(fault: Option<ControlFault>) -> u8
+pub fn code_of(fault: Option<ControlFault>) -> u8
     ensures { result ≡ fault_code fault }
 {
     match fault {

@@ -4,7 +4,8 @@
 //! octets -> lines (text_lines) -> octets of a unit -> unit (l2_units), check octets (l2_bits) -> label, order (l3_orders)
 //! ```
 //!
-//! [`decode`] reads a source's lines and writes one for each. `specs/Decoding.antt` is the text: which octets count as
+//! [`decode`] reads a source's lines and writes one for each. [`write_order_words`] has the words of an order, and
+//! [`write_both`] puts one text behind another. `specs/Decoding.antt` is the text: which octets count as
 //! check octets, and the line of each unit.
 //!
 //! A unit is read with or without its check octets, as `play` prints sent units and as `hear` takes them; no flags and no
@@ -20,3 +21,4 @@ mod unit_line;
 pub use body_line::write_order_words;
 pub use fault::UnreadableUnit;
 pub use text::decode;
+pub use unit_line::write_both;

@@ -93,7 +93,7 @@ fn write_unit(
 }
 
 /// A text and one behind it.
-pub(crate) fn write_both(text: Vec<u8>, more: &[u8]) -> Result<Vec<u8>, AllocError>
+pub fn write_both(text: Vec<u8>, more: &[u8]) -> Result<Vec<u8>, AllocError>
     ensures { IfOk result (λ both. both.items ≡ text.items ++ more.now) }
 {
     let mut both = text;

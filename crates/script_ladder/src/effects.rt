@@ -1,11 +1,13 @@
 //! What a line made happen besides: what a heard unit did, and which messages stand aside.
 ghost use Rattle.std.specs.Prelude.{◌≡◌, IfOk};
-ghost use Rattle.answer_texts.specs.Texts.{took_text, fault_code};
+ghost use Rattle.answer_texts.specs.Texts.{took_text};
 ghost use Rattle.script_ladder.specs.Ladder.{change, changed_over, changes, further, heard_rows, is_plain, report_words, settled_words, trouble_words};
 
 use super::cells::write_link;
-use super::rows::{join, write_further};
+use super::rows::write_further;
 use super::units::find_order;
+use answer_texts::code_of;
+use decode_text::write_both;
 use figures::bit_of;
 use l2_units::Unit;
 use l3_orders::Order;
@@ -37,9 +39,9 @@ pub(crate) fn write_heard(
     )?;
     let first = write_further(alloc, end, under_way, &write_report(alloc, report)?)?;
     let trouble = write_further(alloc, end, under_way, &write_trouble(alloc, report)?)?;
-    join(
+    write_both(
         first,
-        &join(trouble, &write_further(alloc, end, under_way, &settled)?)?,
+        &write_both(trouble, &write_further(alloc, end, under_way, &settled)?)?,
     )
 }
 
@@ -64,21 +66,11 @@ fn took_word(took: Took) -> &'static str
     }
 }
 
-/// The number of the fault that a unit shows, 0 for none.
-fn code_of(report: Report) -> u8
-    ensures { result ≡ fault_code report.fault }
-{
-    match report.fault {
-        Some(fault) => fault.number(),
-        None => 0,
-    }
-}
-
 /// Whether no retransmission is asked for or begun, and no fault is shown.
 fn is_without_trouble(report: Report) -> bool
     ensures { result ≡ is_plain report }
 {
-    !report.asked && !report.resend && code_of(report) == 0
+    !report.asked && !report.resend && code_of(report.fault) == 0
 }
 
 /// A retransmission that is asked for or begun, and a fault.
@@ -90,7 +82,7 @@ fn write_trouble(alloc: Global, report: Report) -> Result<Vec<u8>, AllocError>
     }
     let asked = bit_of(report.asked);
     let resend = bit_of(report.resend);
-    let fault = code_of(report);
+    let fault = code_of(report.fault);
     Ok(format!(in alloc; " asked={asked} resend={resend} fault={fault}")?.into_bytes())
 }
 
@@ -99,10 +91,12 @@ fn find_changed_link(order: Option<Order>) -> Option<u8>
     ensures { result ≡ changed_over order }
 {
     match order {
-        Some(Order::Coo { link, .. }) => Some(link),
-        Some(Order::Coa { link, .. }) => Some(link),
-        Some(Order::Eco { link }) => Some(link),
-        Some(Order::Eca { link }) => Some(link),
+        Some(
+            Order::Coo { link, .. }
+            | Order::Coa { link, .. }
+            | Order::Eco { link }
+            | Order::Eca { link },
+        ) => Some(link),
         _ => None,
     }
 }
@@ -139,7 +133,7 @@ pub(crate) fn write_changes(
     let parked = write_change(alloc, " parked", old.parked, new.parked)?;
     let back = write_change(alloc, " back", old.back, new.back)?;
     let discarded = write_change(alloc, " discarded", old.discarded, new.discarded)?;
-    let words = join(held, &join(parked, &join(back, &discarded)?)?)?;
+    let words = write_both(held, &write_both(parked, &write_both(back, &discarded)?)?)?;
     write_further(alloc, end, under_way, &words)
 }
 

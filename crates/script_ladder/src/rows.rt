@@ -3,6 +3,7 @@ ghost use Rattle.std.specs.Prelude.{◌≡◌, ◌++◌, IfOk, decimal, replicat
 ghost use Rattle.script_ladder.specs.Ladder.{at_right, dashed, further, last_cell, padded, row_at, row_text, side_a, side_b, trailed};
 ghost use Rattle.script_ladder.specs.Ladder.{arriving, forged, going, losing};
 
+use decode_text::write_both;
 use std::alloc::{AllocError, Global};
 use world_steps::End;
 
@@ -13,7 +14,7 @@ const CELL: usize = 30;
 const ARROW: usize = 6;
 
 /// The columns of what is under way.
-const UNDER_WAY: usize = 17;
+pub(crate) const UNDER_WAY: usize = 17;
 
 /// So many of this octet.
 fn filled(alloc: Global, octet: u8, columns: usize) -> Result<Vec<u8>, AllocError>
@@ -55,14 +56,14 @@ pub(crate) fn write_row(
     ensures { IfOk result (λ row. row.items
         ≡ row_text number.now a.now at_a.now under_way.now at_b.now b.now) }
 {
-    let middle = join(
+    let middle = write_both(
         pad(alloc, under_way, UNDER_WAY)?,
         &write_side_b(alloc, at_b, b)?,
     )?;
-    let sides = join(write_side_a(alloc, a, at_a)?, &middle)?;
-    join(
+    let sides = write_both(write_side_a(alloc, a, at_a)?, &middle)?;
+    write_both(
         number_cell(alloc, number)?,
-        &join(Vec::from_slice(alloc, b" ")?, &sides)?,
+        &write_both(Vec::from_slice(alloc, b" ")?, &sides)?,
     )
 }
 
@@ -70,11 +71,11 @@ pub(crate) fn write_row(
 fn write_side_a(alloc: Global, words: &[u8], arrow: &[u8]) -> Result<Vec<u8>, AllocError>
     ensures { IfOk result (λ side. side.items ≡ side_a words.now arrow.now) }
 {
-    let bar = join(
+    let bar = write_both(
         Vec::from_slice(alloc, b" |")?,
         &pad(alloc, arrow, ARROW + 1)?,
     )?;
-    join(pad(alloc, words, CELL)?, &bar)
+    write_both(pad(alloc, words, CELL)?, &bar)
 }
 
 /// The words that end a row.
@@ -84,8 +85,8 @@ fn write_last(alloc: Global, words: &[u8]) -> Result<Vec<u8>, AllocError>
     if words.is_empty() {
         return Vec::from_slice(alloc, b"|\n");
     }
-    let words = join(Vec::from_slice(alloc, cut(words))?, b"\n")?;
-    join(Vec::from_slice(alloc, b"| ")?, &words)
+    let words = write_both(Vec::from_slice(alloc, cut(words))?, b"\n")?;
+    write_both(Vec::from_slice(alloc, b"| ")?, &words)
 }
 
 /// As much of the words as a cell has columns for.
@@ -99,16 +100,7 @@ fn cut(words: &[u8]) -> &[u8]
 fn write_side_b(alloc: Global, arrow: &[u8], words: &[u8]) -> Result<Vec<u8>, AllocError>
     ensures { IfOk result (λ side. side.items ≡ side_b arrow.now words.now) }
 {
-    join(pad(alloc, arrow, ARROW)?, &write_last(alloc, words)?)
-}
-
-/// A text and one behind it.
-pub(crate) fn join(text: Vec<u8>, more: &[u8]) -> Result<Vec<u8>, AllocError>
-    ensures { IfOk result (λ both. both.items ≡ text.items ++ more.now) }
-{
-    let mut both = text;
-    both.extend_from_slice(more)?;
-    Ok(both)
+    write_both(pad(alloc, arrow, ARROW)?, &write_last(alloc, words)?)
 }
 
 /// A row with the words of one end, and an arrow at its side.
@@ -160,14 +152,14 @@ fn dashes_behind(alloc: Global, link: u8) -> Result<Vec<u8>, AllocError>
 {
     let number = format!(in alloc; "{link}")?.into_bytes();
     let columns = 3usize.saturating_sub(number.len());
-    join(number, &filled(alloc, b'-', columns)?)
+    write_both(number, &filled(alloc, b'-', columns)?)
 }
 
 /// An arrow whose tip comes first.
 fn tip_first(alloc: Global, tip: &[u8], link: u8) -> Result<Vec<u8>, AllocError>
     ensures { IfOk result (λ text. text.items ≡ tip.now ++ trailed (decimal link)) }
 {
-    join(Vec::from_slice(alloc, tip)?, &dashes_behind(alloc, link)?)
+    write_both(Vec::from_slice(alloc, tip)?, &dashes_behind(alloc, link)?)
 }
 
 /// An arrow whose tip comes last.

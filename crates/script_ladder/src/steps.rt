@@ -8,11 +8,10 @@ ghost use Rattle.script_ladder.specs.Notes.{IsBefore};
 
 use super::cells::{find_report, write_event, write_link, write_plain};
 use super::effects::{write_changes, write_heard};
-use super::rows::{
-    draw_arriving, draw_forged, draw_going, draw_losing, join, write_row, write_row_at,
-};
+use super::rows::{draw_arriving, draw_forged, draw_going, draw_losing, write_row, write_row_at};
 use super::under_way::write_under_way;
 use super::units::{write_any, write_unit};
+use decode_text::write_both;
 use l2_units::{Unit, copy_of_unit};
 use pair_world::{End, World};
 use printing::{Fault, Sink, Source};
@@ -53,8 +52,7 @@ impl Account for Chart {
         }
     }
 
-    fn tell_opening(alloc: Global, world: &World, out: &mut Vec<u8>) -> Result<(), AllocError> {
-        let _ = world;
+    fn tell_opening(alloc: Global, _world: &World, out: &mut Vec<u8>) -> Result<(), AllocError> {
         out.extend_from_slice(&write_heading(alloc)?)
     }
 
@@ -70,10 +68,11 @@ impl Account for Chart {
         out.extend_from_slice(&write_step(alloc, number, &note, step, shown, world)?)
     }
 
-    fn tell_end(alloc: Global, world: &Option<World>, out: &mut Vec<u8>) -> Result<(), AllocError> {
-        let _ = alloc;
-        let _ = world;
-        let _ = out;
+    fn tell_end(
+        _alloc: Global,
+        _world: &Option<World>,
+        _out: &mut Vec<u8>,
+    ) -> Result<(), AllocError> {
         Ok(())
     }
 }
@@ -174,7 +173,7 @@ fn write_rows(
         find_report(shown),
         world,
     )?;
-    join(first, &effects)
+    write_both(first, &effects)
 }
 
 /// The rows of what a step did.
@@ -190,7 +189,7 @@ fn write_effects(
         ≡ effect_rows under_way.now world.now end note.now.unit report note.now.a note.now.b) }
 {
     let heard = write_heard(alloc, under_way, world, end, &note.unit, report)?;
-    join(heard, &write_both_changes(alloc, under_way, note, world)?)
+    write_both(heard, &write_both_changes(alloc, under_way, note, world)?)
 }
 
 /// The rows of the messages that stand aside, or are discarded, at both ends.
@@ -204,7 +203,7 @@ fn write_both_changes(
         ≡ change_rows under_way.now world.now note.now.a note.now.b) }
 {
     let at_a = write_changes(alloc, End::A, under_way, note.a, world.counts(End::A))?;
-    join(
+    write_both(
         at_a,
         &write_changes(alloc, End::B, under_way, note.b, world.counts(End::B))?,
     )

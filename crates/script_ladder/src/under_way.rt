@@ -2,12 +2,10 @@
 ghost use Rattle.std.specs.Prelude.{◌≡◌, IfOk, take};
 ghost use Rattle.script_ladder.specs.Ladder.{fitted, marks, marks_below, marks_on, mark, under_way};
 
+use super::rows::UNDER_WAY;
 use l2_units::Unit;
 use pair_world::{End, World};
 use std::alloc::{AllocError, Global};
-
-/// The columns of what is under way.
-const UNDER_WAY: usize = 17;
 
 /// The most units of a line that are told: four fill the place.
 const MOST: usize = 5;

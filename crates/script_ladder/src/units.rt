@@ -70,10 +70,7 @@ pub(crate) fn find_order(unit: &Option<Unit>) -> Option<Order>
     ensures { result ≡ order_in unit.now }
 {
     match unit {
-        Some(Unit::Msu { body, .. }) => match read_order(body.as_slice()) {
-            Ok(order) => Some(order),
-            Err(_) => None,
-        },
+        Some(Unit::Msu { body, .. }) => read_order(body.as_slice()).ok(),
         _ => None,
     }
 }

@@ -5,8 +5,8 @@ use Rattle.script_ladder.proofs.steps.write_rows.Goals as goal
 -- src/steps.rt
 pub returns : goal.returns
 returns c before is =
-    IfOk-weaker c.join.result _ _
+    IfOk-weaker c.write_both.result _ _
     (λ rows both. both ∙ ap₂ (λ (x y : List ℕ). x ++ y) (c.in_ok-first.ensures before is.unit_is)
     (c.deref.ensures.value ∙ (c.in_ok-effects.ensures
     ∙ rw (is.unit_is, is.a_is, is.b_is, c.find_end.ensures, c.find_report.ensures) refl)))
-    c.join.ensures
+    c.write_both.ensures
