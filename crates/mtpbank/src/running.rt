@@ -50,78 +50,88 @@ pub fn run<S: Source, W: Sink>(
         (FailsByDevices result (S.has_failed source.new) (W.has_failed sink.new)) }
 {
     match words {
-        Words::Units => of_units(units(alloc, source, sink)),
-        Words::Play => of_play(play(alloc, source, sink)),
-        Words::PlayExplained => of_explained(play_explained(alloc, source, sink)),
-        Words::Decode => of_decode(decode(alloc, source, sink)),
-        Words::Capture => of_play(capture(alloc, source, sink)),
-        Words::Ladder => of_play(ladder(alloc, source, sink)),
-        Words::Audit => of_audit(audit(alloc, source, sink)),
-        Words::HistoryOfA => of_play(history(alloc, End::A, source, sink)),
-        Words::HistoryOfB => of_play(history(alloc, End::B, source, sink)),
+        Words::Units => of_any(units(alloc, source, sink)),
+        Words::Play => of_any(play(alloc, source, sink)),
+        Words::PlayExplained => of_any(play_explained(alloc, source, sink)),
+        Words::Decode => of_any(decode(alloc, source, sink)),
+        Words::Capture => of_any(capture(alloc, source, sink)),
+        Words::Ladder => of_any(ladder(alloc, source, sink)),
+        Words::Audit => of_any(audit(alloc, source, sink)),
+        Words::HistoryOfA => of_any(history(alloc, End::A, source, sink)),
+        Words::HistoryOfB => of_any(history(alloc, End::B, source, sink)),
         Words::Run(_) => unreachable!(),
     }
 }
 
-/// What `units` answered, with a fault of any text.
-fn of_units(ran: Result<(), Fault<UnreadableOctet>>) -> Result<(), Fault<TextFault>>
-    ensures { result ≡ with_fault TextFault.Units ran }
-{
-    match ran {
-        Ok(()) => Ok(()),
-        Err(Fault::Input(fault)) => Err(Fault::Input(TextFault::Units(fault))),
-        Err(Fault::Memory) => Err(Fault::Memory),
-        Err(Fault::Read) => Err(Fault::Read),
-        Err(Fault::Write) => Err(Fault::Write),
+/// How the input of one text can be at fault.
+trait FaultOfText {
+    ghost use Rattle.mtpbank.specs.declared.running.TextFault.{TextFault};
+
+    /// The same fault among those of all texts.
+    ghost among_all: { Self → TextFault };
+
+    /// The same fault among those of all texts.
+    fn into_any(self) -> TextFault
+        ensures { result ≡ among_all self };
+}
+
+impl FaultOfText for UnreadableOctet {
+    ghost use Rattle.mtpbank.specs.declared.running.TextFault.TheVariants.{Units};
+
+    ghost among_all = { Units };
+
+    fn into_any(self) -> TextFault {
+        TextFault::Units(self)
     }
 }
 
-/// What `play` answered, with a fault of any text.
-fn of_play(ran: Result<(), Fault<ScriptFault>>) -> Result<(), Fault<TextFault>>
-    ensures { result ≡ with_fault TextFault.Play ran }
-{
-    match ran {
-        Ok(()) => Ok(()),
-        Err(Fault::Input(fault)) => Err(Fault::Input(TextFault::Play(fault))),
-        Err(Fault::Memory) => Err(Fault::Memory),
-        Err(Fault::Read) => Err(Fault::Read),
-        Err(Fault::Write) => Err(Fault::Write),
+impl FaultOfText for ScriptFault {
+    ghost use Rattle.mtpbank.specs.declared.running.TextFault.TheVariants.{Play};
+
+    ghost among_all = { Play };
+
+    fn into_any(self) -> TextFault {
+        TextFault::Play(self)
     }
 }
 
-/// What `play --explain` answered, with a fault of any text.
-fn of_explained(ran: Result<(), Fault<ExplainedFault>>) -> Result<(), Fault<TextFault>>
-    ensures { result ≡ with_fault TextFault.Explained ran }
-{
-    match ran {
-        Ok(()) => Ok(()),
-        Err(Fault::Input(fault)) => Err(Fault::Input(TextFault::Explained(fault))),
-        Err(Fault::Memory) => Err(Fault::Memory),
-        Err(Fault::Read) => Err(Fault::Read),
-        Err(Fault::Write) => Err(Fault::Write),
+impl FaultOfText for ExplainedFault {
+    ghost use Rattle.mtpbank.specs.declared.running.TextFault.TheVariants.{Explained};
+
+    ghost among_all = { Explained };
+
+    fn into_any(self) -> TextFault {
+        TextFault::Explained(self)
     }
 }
 
-/// What `decode` answered, with a fault of any text.
-fn of_decode(ran: Result<(), Fault<UnreadableUnit>>) -> Result<(), Fault<TextFault>>
-    ensures { result ≡ with_fault TextFault.Decode ran }
-{
-    match ran {
-        Ok(()) => Ok(()),
-        Err(Fault::Input(fault)) => Err(Fault::Input(TextFault::Decode(fault))),
-        Err(Fault::Memory) => Err(Fault::Memory),
-        Err(Fault::Read) => Err(Fault::Read),
-        Err(Fault::Write) => Err(Fault::Write),
+impl FaultOfText for UnreadableUnit {
+    ghost use Rattle.mtpbank.specs.declared.running.TextFault.TheVariants.{Decode};
+
+    ghost among_all = { Decode };
+
+    fn into_any(self) -> TextFault {
+        TextFault::Decode(self)
     }
 }
 
-/// What `audit` answered, with a fault of any text.
-fn of_audit(ran: Result<(), Fault<AuditFault>>) -> Result<(), Fault<TextFault>>
-    ensures { result ≡ with_fault TextFault.Audit ran }
+impl FaultOfText for AuditFault {
+    ghost use Rattle.mtpbank.specs.declared.running.TextFault.TheVariants.{Audit};
+
+    ghost among_all = { Audit };
+
+    fn into_any(self) -> TextFault {
+        TextFault::Audit(self)
+    }
+}
+
+/// What a subcommand answered, with a fault of any text.
+fn of_any<T: FaultOfText>(ran: Result<(), Fault<T>>) -> Result<(), Fault<TextFault>>
+    ensures { result ≡ with_fault T.among_all ran }
 {
     match ran {
         Ok(()) => Ok(()),
-        Err(Fault::Input(fault)) => Err(Fault::Input(TextFault::Audit(fault))),
+        Err(Fault::Input(fault)) => Err(Fault::Input(fault.into_any())),
         Err(Fault::Memory) => Err(Fault::Memory),
         Err(Fault::Read) => Err(Fault::Read),
         Err(Fault::Write) => Err(Fault::Write),

@@ -11,28 +11,28 @@ use Rattle.mtpbank.proofs.RunLemmas.{prints_all}
 use Rattle.mtpbank.proofs.running.run.Goals as goal
 
 pub returns-in-Units-clause-text : goal.returns-in-Units-clause-text
-returns-in-Units-clause-text g c = rw (c.of_units.ensures, c.in-Units.is) (prints_all IsUnitsText UnitsFault c.units.result _ _ _ c.units.ensures.text)
+returns-in-Units-clause-text g c = rw (c.of_any.ensures, c.in-Units.is) (prints_all IsUnitsText UnitsFault c.units.result _ _ _ c.units.ensures.text)
 
 pub returns-in-Play-clause-text : goal.returns-in-Play-clause-text
-returns-in-Play-clause-text g c = rw (c.of_play.ensures, c.in-Play.is) (prints_all IsPlayText PlayFault c.play.result _ _ _ c.play.ensures.text)
+returns-in-Play-clause-text g c = rw (c.of_any-in-Play.ensures, c.in-Play.is) (prints_all IsPlayText PlayFault c.play.result _ _ _ c.play.ensures.text)
 
 pub returns-in-PlayExplained-clause-text : goal.returns-in-PlayExplained-clause-text
-returns-in-PlayExplained-clause-text g c = rw (c.of_explained.ensures, c.in-PlayExplained.is) (prints_all IsExplainedPlayText ExplainedPlayFault c.play_explained.result _ _ _ c.play_explained.ensures.text)
+returns-in-PlayExplained-clause-text g c = rw (c.of_any-in-PlayExplained.ensures, c.in-PlayExplained.is) (prints_all IsExplainedPlayText ExplainedPlayFault c.play_explained.result _ _ _ c.play_explained.ensures.text)
 
 pub returns-in-Decode-clause-text : goal.returns-in-Decode-clause-text
-returns-in-Decode-clause-text g c = rw (c.of_decode.ensures, c.in-Decode.is) (prints_all IsDecodeText DecodeFault c.decode.result _ _ _ c.decode.ensures.text)
+returns-in-Decode-clause-text g c = rw (c.of_any-in-Decode.ensures, c.in-Decode.is) (prints_all IsDecodeText DecodeFault c.decode.result _ _ _ c.decode.ensures.text)
 
 pub returns-in-Capture-clause-text : goal.returns-in-Capture-clause-text
-returns-in-Capture-clause-text g c = rw (c.of_play-in-Capture.ensures, c.in-Capture.is) (prints_all IsCapture PlayFault c.capture.result _ _ _ c.capture.ensures.text)
+returns-in-Capture-clause-text g c = rw (c.of_any-in-Capture.ensures, c.in-Capture.is) (prints_all IsCapture PlayFault c.capture.result _ _ _ c.capture.ensures.text)
 
 pub returns-in-Ladder-clause-text : goal.returns-in-Ladder-clause-text
-returns-in-Ladder-clause-text g c = rw (c.of_play-in-Ladder.ensures, c.in-Ladder.is) (prints_all IsLadder PlayFault c.ladder.result _ _ _ c.ladder.ensures.text)
+returns-in-Ladder-clause-text g c = rw (c.of_any-in-Ladder.ensures, c.in-Ladder.is) (prints_all IsLadder PlayFault c.ladder.result _ _ _ c.ladder.ensures.text)
 
 pub returns-in-Audit-clause-text : goal.returns-in-Audit-clause-text
-returns-in-Audit-clause-text g c = rw (c.of_audit.ensures, c.in-Audit.is) (prints_all IsAuditText AuditedFault c.audit.result _ _ _ c.audit.ensures.text)
+returns-in-Audit-clause-text g c = rw (c.of_any-in-Audit.ensures, c.in-Audit.is) (prints_all IsAuditText AuditedFault c.audit.result _ _ _ c.audit.ensures.text)
 
 pub returns-in-HistoryOfA-clause-text : goal.returns-in-HistoryOfA-clause-text
-returns-in-HistoryOfA-clause-text g c = rw (c.of_play-in-HistoryOfA.ensures, c.in-HistoryOfA.is) (prints_all (IsHistoryText A) PlayFault c.history.result _ _ _ c.history.ensures.text)
+returns-in-HistoryOfA-clause-text g c = rw (c.of_any-in-HistoryOfA.ensures, c.in-HistoryOfA.is) (prints_all (IsHistoryText A) PlayFault c.history.result _ _ _ c.history.ensures.text)
 
 pub returns-in-HistoryOfB-clause-text : goal.returns-in-HistoryOfB-clause-text
-returns-in-HistoryOfB-clause-text g c = rw (c.of_play-in-HistoryOfB.ensures, c.in-HistoryOfB.is) (prints_all (IsHistoryText B) PlayFault c.history-in-HistoryOfB.result _ _ _ c.history-in-HistoryOfB.ensures.text)
+returns-in-HistoryOfB-clause-text g c = rw (c.of_any-in-HistoryOfB.ensures, c.in-HistoryOfB.is) (prints_all (IsHistoryText B) PlayFault c.history-in-HistoryOfB.result _ _ _ c.history-in-HistoryOfB.ensures.text)
