@@ -117,7 +117,8 @@ pub with_inbox : (s : State) (inbox : List (List ℕ)) → IsSound s → IsSound
 with_inbox s inbox t = assumption
 
 -- A LINK THAT ISN'T UP, nor settled: nothing is asked of it but its window, its control and its order.
-pub down_sound : (m : Method) (n : ℕ) (link : LinkState) (new : List Row) → has_phase_up link.phase ≡ false → has_phase_settled link.phase ≡ false → length (unack n new) ≤ 127 → accepted_of link.control ≡ last_accepted link → IsOf m link.control → IsInOrder n new → IsHeldLast n new → IsSoundLink m n link new
+pub down_sound : (m : Method) (n : ℕ) (link : LinkState) (new : List Row) → has_phase_up link.phase ≡ false → has_phase_settled link.phase ≡ false → length (unack n new) ≤ 127 → accepted_of link.control ≡ last_accepted link
+    → IsOf m link.control → IsInOrder n new → IsHeldLast n new → IsSoundLink m n link new
 down_sound m n link new down unsettled few counted method order last = grind arith
 
 -- ONE THAT IS UP, where nothing that was sent or is held changes.
