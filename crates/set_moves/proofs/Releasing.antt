@@ -36,15 +36,6 @@ none_last code (suc n) s e f =
 pub none_more : (code n : ℕ) (s : State) → some_in_use code n s ≡ false → is_free (code_of (code + n) s.routing) ≡ true → some_in_use code (n + 1) s ≡ false
 none_more code n s e f = let same : n + 1 ≡ suc n = omega arith in ap (λ (k : ℕ). some_in_use code k s) same ∙ none_last code n s e f
 
-pub one_there : (code n i : ℕ) (s : State) → i < n → is_free (code_of (code + i) s.routing) ≡ false → some_in_use code n s ≡ true
-one_there code zero i s low f = absurd (omega (arith, low))
-one_there code (suc n) zero s low f = let same : code ≡ code + 0 = omega arith in rw (ap (λ (c : ℕ). is_free (code_of c s.routing)) same ∙ f) refl
-one_there code (suc n) (suc i) s low f = let same : suc code + i ≡ code + suc i = omega arith in go (is_free (code_of code s.routing)) refl (one_there (suc code) n i s (omega (arith, low)) (ap (λ (c : ℕ). is_free (code_of c s.routing)) same ∙ f))
-  where
-    go : (b : Bool) → is_free (code_of code s.routing) ≡ b → some_in_use (suc code) n s ≡ true → some_in_use code (suc n) s ≡ true
-    go true h later = rw h later
-    go false h later = rw h refl
-
 -- the first code of a home
 at_first : (n : ℕ) → code_for n 0 ≡ 16 * n
 at_first n = omega arith
