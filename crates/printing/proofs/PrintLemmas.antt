@@ -2,6 +2,7 @@
 use Rattle.std.proofs.Common.{refl, arith, ◌≡◌, ◌∙◌, ap, sym, ◌<◌, ◌≤◌, [], length, ℕ, ◌+◌, ◌-◌, ◌^◌, List, ◌++◌, take, drop, Option, Some, None, Result, Ok, Err, IfErr, IfSome, OnOk, OnErr, subst, length-append, append_assoc, append-nil, take-append-drop}
 use Rattle.std.proofs.lemmas.Grind.{common_steps}
 use Rattle.std.proofs.Math.Seq.{take-add}
+use Rattle.std.specs.Result.{IsErrAnd}
 use Rattle.std.specs.Io.KnownBytes.{Appends, Consumes, IsAtEnd}
 use Rattle.std.proofs.KnownBytes.{Appends-trans, Appends-nil, Consumes-trans, Consumes-nil, Consumes-whole}
 use Rattle.printing.specs.declared.device.DeviceFault.{DeviceFault}
@@ -218,3 +219,8 @@ module _ {F : Type 0} (IsText : Texts F) (Had Has : Progress) (s0 s1 s2 w0 w1 w2
       bounded : (result : Result (Unit {0}) (Fault F)) {n : ℕ} → n ≤ 2 ^ 24 → OnOk result (n ≤ 2 ^ 24)
       bounded (Ok done) h = h
       bounded (Err fault) h = tt
+
+-- a fault that `?` passes on
+pub passed_on : {A E : Type 0} (result : Result A E) (fault : E) → IsErrAnd result (λ e. e ≡ fault) → result ≡ Err fault
+passed_on (Ok done) fault is = absurd is
+passed_on (Err other) fault is = ap (λ e. Err e) is

@@ -1,5 +1,5 @@
 -- Lines under way, read piece by piece.
-use Rattle.std.proofs.Common.{refl, arith, ◌≡◌, ◌∙◌, ap, sym, ◌<◌, ◌≤◌, [], ◌∷◌, length, ℕ, zero, suc, ◌+◌, ◌-◌, ◌^◌, true, false, nat_lt, ◌==◌, List, ◌++◌, Some, None, Result, Ok, Err, IsErrAnd, append_assoc, append-nil, add-one, length-append, take, drop, get_or, position, subst}
+use Rattle.std.proofs.Common.{refl, arith, ◌≡◌, ◌∙◌, ap, sym, ◌<◌, ◌≤◌, [], ◌∷◌, length, ℕ, zero, suc, ◌+◌, ◌-◌, ◌^◌, true, false, nat_lt, ◌==◌, List, ◌++◌, Some, None, Result, Ok, Err, append_assoc, append-nil, add-one, length-append, take, drop, get_or, position, subst}
 use Rattle.std.proofs.lemmas.Grind.{common_steps}
 use Rattle.std.proofs.lemmas.List.Quantifiers.{position-Some}
 use Rattle.std.proofs.lemmas.List.Sums.{fails_before_first}
@@ -54,11 +54,6 @@ open_more (c ∷ cs) more o h = (o.0, open_more cs more o.1 h)
 line_goes_on : (text octets left whole : List ℕ) → whole ≡ text ++ octets → IsOpen whole → lines_of (text ++ ((octets ++ 10 ∷ []) ++ left)) ≡ whole ∷ lines_of left
 line_goes_on text octets left whole e o =
     ap lines_of (ap (λ (x : List ℕ). text ++ x) (append_assoc octets (10 ∷ []) left) ∙ sym (append_assoc text octets (10 ∷ left)) ∙ ap (λ (x : List ℕ). x ++ 10 ∷ left) (sym e)) ∙ line_ends whole left o
-
--- a fault that `?` passes on
-pub passed_on : {A E : Type 0} (result : Result A E) (fault : E) → IsErrAnd result (λ e. e ≡ fault) → result ≡ Err fault
-passed_on (Ok done) fault is = absurd is
-passed_on (Err other) fault is = ap (λ e. Err e) is
 
 -- Where a line ends.
 

@@ -1,5 +1,5 @@
 -- The characters of an input, one by one.
-use Rattle.std.proofs.Common.{refl, arith, ◌≡◌, ◌∙◌, ap, sym, ◌<◌, ◌≤◌, [], ◌∷◌, length, ℕ, ◌+◌, ◌*◌, ◌^◌, Bool, true, false, nat_lt, ◌||◌, List, ◌++◌, drop, drop-cons, slice_index_or, suc, Option, Some, None, Result, Ok, Err, IsErrAnd, append_assoc, append-nil, length-append}
+use Rattle.std.proofs.Common.{refl, arith, ◌≡◌, ◌∙◌, ap, sym, ◌<◌, ◌≤◌, [], ◌∷◌, length, ℕ, ◌+◌, ◌*◌, ◌^◌, Bool, true, false, nat_lt, ◌||◌, List, ◌++◌, drop, drop-cons, slice_index_or, suc, Option, Some, None, append_assoc, append-nil, length-append}
 use Rattle.std.proofs.lemmas.Grind.{flat_map-append}
 use Rattle.std.proofs.lemmas.Bool.Decides.{nat_tests}
 use Rattle.std.specs.Option.{option_to_list, option_map, is_some}
@@ -11,11 +11,6 @@ use Rattle.units_text.specs.declared.fault.UnreadableOctet.{UnreadableOctet}
 use Rattle.figures.specs.Figures.{hex_value}
 use Rattle.units_text.specs.UnitsText.{is_blank, readable, values_of, paired, left_over, octets_in}
 use Rattle.units_text.specs.UnitsReading.{Decodes, Halts, HaltsIn}
-
--- a fault that `?` passes on
-pub passed_on : {A E : Type 0} (result : Result A E) (fault : E) → IsErrAnd result (λ e. e ≡ fault) → result ≡ Err fault
-passed_on (Ok done) fault is = absurd is
-passed_on (Err other) fault is = ap (λ e. Err e) is
 
 -- Digits.
 

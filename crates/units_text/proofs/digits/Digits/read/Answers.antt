@@ -1,6 +1,7 @@
 use Rattle.std.proofs.Common.{◌≡◌, ◌+◌, [], drop, arith}
 use Rattle.std.proofs.lemmas.List.{drop_all}
-use Rattle.units_text.proofs.DigitLemmas.{passed_on, decodes_none, decodes_then, halts_then, halts_more, drop_step}
+use Rattle.printing.proofs.PrintLemmas.{passed_on}
+use Rattle.units_text.proofs.DigitLemmas.{decodes_none, decodes_then, halts_then, halts_more, drop_step}
 use Rattle.units_text.proofs.digits.Digits.read.Goals as goal
 
 pub returns-in_err-take : goal.returns-in_err-take

@@ -2,7 +2,8 @@ use Rattle.std.proofs.Common.{refl, arith, sym, ◌∙◌, ap, ◌≡◌, ◌<�
 use Rattle.std.specs.Option.{option_map}
 use Rattle.printing.specs.declared.fault.Stop.TheVariants.{Memory}
 use Rattle.units_text.specs.declared.digit.Digit.{Digit}
-use Rattle.units_text.proofs.DigitLemmas.{passed_on, decodes_blank, decodes_first, decodes_second, halts_for_memory, halts_bad}
+use Rattle.printing.proofs.PrintLemmas.{passed_on}
+use Rattle.units_text.proofs.DigitLemmas.{decodes_blank, decodes_first, decodes_second, halts_for_memory, halts_bad}
 use Rattle.units_text.proofs.digits.Digits.take.Goals as goal
 
 next : (old new : ℕ) → new ≡ min (old + 1) 18446744073709551615 → old + 1 < 2 ^ 64 → new ≡ old + 1

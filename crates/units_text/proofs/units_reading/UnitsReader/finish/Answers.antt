@@ -1,6 +1,6 @@
 use Rattle.std.proofs.Common.{refl, sym, ◌∙◌}
 use Rattle.printing.specs.declared.fault.Stop.TheVariants.{Memory}
-use Rattle.units_text.proofs.DigitLemmas.{passed_on}
+use Rattle.printing.proofs.PrintLemmas.{passed_on}
 use Rattle.units_text.proofs.ReaderLemmas.{ends_left, ends_memory}
 use Rattle.units_text.proofs.units_reading.UnitsReader.finish.Goals as goal
 

@@ -1,5 +1,5 @@
 use Rattle.printing.specs.declared.fault.Stop.TheVariants.{Memory}
-use Rattle.units_text.proofs.DigitLemmas.{passed_on}
+use Rattle.printing.proofs.PrintLemmas.{passed_on}
 use Rattle.units_text.proofs.ReaderLemmas.{read_fed, stops_broken}
 use Rattle.units_text.proofs.units_reading.UnitsReader.read_all.Goals as goal
 
