@@ -1,5 +1,5 @@
 -- WHAT IS KEPT STANDS FOR THE STATE, before and after each small change.
-use Rattle.std.proofs.Common.{refl, arith, ◌≡◌, ◌≢◌, ◌∙◌, ap, sym, subst, ◌<◌, [], ◌∷◌, length, ℕ, zero, suc, ◌+◌, ◌-◌, ◌%◌, ◌==◌, true, false, List, ◌++◌, Option, Some, take, drop, ◌⊎◌}
+use Rattle.std.proofs.Common.{refl, arith, ◌≡◌, ◌≢◌, ◌∙◌, ap, sym, ◌<◌, [], ◌∷◌, length, ℕ, zero, suc, ◌+◌, ◌-◌, ◌%◌, ◌==◌, true, false, List, ◌++◌, Option, Some, take, drop}
 use Rattle.std.specs.Prelude.{slice_get, slice_set}
 use Rattle.std.proofs.lemmas.List.{length-append}
 use Rattle.std.proofs.lemmas.Bool.Decides.{nat_tests}
@@ -13,7 +13,6 @@ use Rattle.set_queues.specs.Queues.{passed}
 use Rattle.set_queues.specs.Sending.{first_sent, acknowledged as acked_lists, reach}
 use Rattle.set_queues.specs.Settling.{on as on_lists, settled}
 use Rattle.set_queues.proofs.Updates.{updated_there, updated_other}
-use Rattle.set_queues.proofs.Standing.{length-restood}
 use Rattle.set_queues.proofs.Passing.{links_stay, list_kept, kept_last}
 use Rattle.set_queues.proofs.Settling.{IsAside}
 use Rattle.set_queues.proofs.Soundness.{passed_links, sent_links, acked_links, queue_last, last_links}
@@ -21,11 +20,10 @@ use Rattle.set_route.specs.Routing.{Routing}
 use Rattle.set_model.specs.Rows.{Row, is_waiting, is_unacked, is_on, is_parked, is_back, turned, changed, moved, all_with, appended, body_at, IsInOrder, IsHeldLast}
 use Rattle.set_model.specs.Changeover.{fate_on}
 use Rattle.set_model.specs.State.{LinkState, State}
-use Rattle.set_model.proofs.Events.{Kept as RowsKept, sent, acknowledged, sent_given_up, waiting_given_up, unparked, released}
-use Rattle.set_model.proofs.Finding.{new_row}
+use Rattle.set_model.proofs.Events.{Kept as RowsKept}
 use Rattle.set_model.proofs.Lists.{at_set, length_set, within}
 use Rattle.set_moves.specs.Agreement.{Kept, Stands, StandsFor}
-use Rattle.set_moves.proofs.Standing.{IsOld, IsNewest, fresh, message_of, appended_stands, sent_stands, acked_stands, sent_up_stands, waiting_up_stands, unparked_stands, released_stands, on_numbers, settled_stands}
+use Rattle.set_moves.proofs.Standing.{Moves, get_push, row_push, message_of, appended_stands, sent_stands, acked_stands, sent_up_stands, waiting_up_stands, unparked_stands, released_stands, on_numbers, settled_stands}
 
 -- A value that is kept so.
 pub kept_is : (k : Kept) (lists : Lists) (messages : List Message) (bodies : List (List ℕ)) (links : List LinkState) (routing : Routing) (inbox : List (List ℕ)) → k.lists ≡ lists → k.messages ≡ messages → k.bodies ≡ bodies → k.links ≡ links → k.routing ≡ routing → k.inbox ≡ inbox
@@ -37,10 +35,7 @@ pub last_stays : (f : Fate) (xs : List ℕ) (q : Lists) (n : ℕ) → last_at n 
 last_stays (Waiting l) xs q n = list_kept number_in (λ (z : LinkLists). record z { unsent = xs }) q.links l n (kept_last (λ (z : LinkLists). record z { unsent = xs }) (λ x. refl)) (l == n) refl
 last_stays (Unacked l) xs q n = list_kept number_in (λ (z : LinkLists). record z { unacked = xs }) q.links l n (kept_last (λ (z : LinkLists). record z { unacked = xs }) (λ x. refl)) (l == n) refl
 last_stays (Held l) xs q n = list_kept number_in (λ (z : LinkLists). record z { held = xs }) q.links l n (kept_last (λ (z : LinkLists). record z { held = xs }) (λ x. refl)) (l == n) refl
-last_stays Parked xs q n = refl
-last_stays (Back c) xs q n = refl
-last_stays (Acked l) xs q n = refl
-last_stays (Discarded c) xs q n = refl
+last_stays _ xs q n = refl
 
 pub last_passed : (from to : Fate) (q : Lists) (n : ℕ) → last_at n (passed from to q) ≡ last_at n q
 last_passed from to q n = last_stays from [] (with_queue to (queue_at to q ++ queue_at from q) q) n ∙ last_stays to (queue_at to q ++ queue_at from q) q n
@@ -111,7 +106,7 @@ pub appended_for : (k : Kept) (s : State) (body : List ℕ) (fate : Fate) → St
 appended_for k s body fate f standing known = record {
   settings = f.settings;
   stands = appended_stands k.lists k.messages s.rows body fate f.stands standing known;
-  bodies = λ n. body_is n (fresh n k.bodies body s.rows body fate (f.held_bodies ∙ f.stands.count) f.stands.numbered);
+  bodies = λ n. let old = f.bodies n in grind (arith, get_push k.bodies body n, row_push n s.rows body fate f.stands.numbered, f.held_bodies, f.stands.count, old);
   held_bodies = let more = length-append k.bodies (body ∷ []) in let many = length-append k.messages (message_of body fate ∷ []) in let same = f.held_bodies in omega (arith, more, many, same);
   links = f.links;
   as_many = links_stay fate (queue_at fate k.lists ++ length k.messages ∷ []) k.lists ∙ f.as_many;
@@ -119,24 +114,55 @@ appended_for k s body fate f standing known = record {
   routing = f.routing;
   inbox = f.inbox;
 }
-  where
-    body_is : (n : ℕ) → IsOld n k.bodies (k.bodies ++ body ∷ []) s.rows (appended s.rows body fate) ⊎ IsNewest n (k.bodies ++ body ∷ []) body (appended s.rows body fate) (new_row (length s.rows) body fate) → slice_get (k.bodies ++ body ∷ []) n ≡ body_at n (appended s.rows body fate)
-    body_is n h1 = grind arith
+
+-- MESSAGES COME TO STAND ELSEWHERE, and routing may change.
+module _ (k : Kept) (s : State) (f : StandsFor k s) (lists : Lists) (messages : List Message) (new : List Row) (moves : Moves lists messages s.rows new) (as_many : length lists.links ≡ length k.lists.links) (routing routing' : Routing) (way : routing ≡ routing') where
+  as_many_bodies : length k.bodies ≡ length messages
+  as_many_bodies = let now = moves.stands.count in let then = moves.same.count in let before = f.stands.count in let bodies = f.held_bodies in omega (arith, now, then, before, bodies)
+
+  -- no link changes
+  queues_for : ((n : ℕ) → last_at n lists ≡ last_at n k.lists) → StandsFor (record k { lists = lists; messages = messages; routing = routing }) (record s { rows = new; routing = routing' })
+  queues_for last = record {
+    settings = f.settings;
+    stands = moves.stands;
+    bodies = λ n. f.bodies n ∙ sym (moves.same.bodies n);
+    held_bodies = as_many_bodies;
+    links = f.links;
+    as_many = as_many ∙ f.as_many;
+    fsns = λ n link there. last n ∙ f.fsns n link there;
+    routing = way;
+    inbox = f.inbox;
+  }
+
+  -- one does
+  link_and_queues_for : (n : ℕ) (link' : LinkState) → ((m : ℕ) → n ≢ m → last_at m lists ≡ last_at m k.lists) → last_at n lists ≡ (link'.acked + 127) % 128
+      → StandsFor (record k { lists = lists; messages = messages; links = slice_set s.links n link'; routing = routing }) (record s { rows = new; links = slice_set s.links n link'; routing = routing' })
+  link_and_queues_for n link' others own = record {
+    settings = f.settings;
+    stands = moves.stands;
+    bodies = λ m. f.bodies m ∙ sym (moves.same.bodies m);
+    held_bodies = as_many_bodies;
+    links = refl;
+    as_many = as_many ∙ f.as_many ∙ sym (length_set s.links n link');
+    fsns = fsns_set s lists n link' (λ m other ne at. others m ne ∙ f.fsns m other at) own;
+    routing = way;
+    inbox = f.inbox;
+  }
+
+-- a link on which nothing more was acknowledged
+still : (k : Kept) (s : State) (n : ℕ) (link link' : LinkState) → StandsFor k s → slice_get s.links n ≡ Some link → link'.acked ≡ link.acked → last_at n k.lists ≡ (link'.acked + 127) % 128
+still k s n link link' f there e = f.fsns n link there ∙ ap (λ (a : ℕ). (a + 127) % 128) (sym e)
+
+-- there are queues of each link
+has_queues : (k : Kept) (s : State) (n : ℕ) (link : LinkState) → StandsFor k s → slice_get s.links n ≡ Some link → n < length k.lists.links
+has_queues k s n link f there = let low = within s.links n link there in let many = f.as_many in omega (arith, low, many)
 
 -- A FIRST SENDING, under a control that goes on.
 pub sent_for : (k : Kept) (s : State) (n message : ℕ) (link link' : LinkState) → StandsFor k s → IsInOrder n s.rows → slice_get s.links n ≡ Some link → link'.acked ≡ link.acked → slice_get (queue_at (Waiting n) k.lists) 0 ≡ Some message
     → StandsFor (record k { lists = first_sent n message k.lists; messages = restood (message ∷ []) (Unacked n) k.messages; links = slice_set s.links n link' }) (record s { rows = turned (is_waiting n) (Unacked n) 1 s.rows; links = slice_set s.links n link' })
 sent_for k s n message link link' f order there e first =
-    let known : n < length k.lists.links = let low = within s.links n link there in let many = f.as_many in omega (arith, low, many) in
-    subst (λ (r : Routing). StandsFor (record k { lists = first_sent n message k.lists; messages = restood (message ∷ []) (Unacked n) k.messages; links = slice_set s.links n link'; routing = r }) (record s { rows = turned (is_waiting n) (Unacked n) 1 s.rows; links = slice_set s.links n link' })) (sym f.routing)
-    (changes k s (first_sent n message k.lists) (restood (message ∷ []) (Unacked n) k.messages) (turned (is_waiting n) (Unacked n) 1 s.rows) (slice_set s.links n link') s.routing f (record {
-      stands = sent_stands n message k.lists k.messages s.rows f.stands order known first;
-      bodies = (sent n s.rows).kept.bodies f.stands.numbered;
-      as_many_messages = length-restood (message ∷ []) (Unacked n) k.messages;
-      as_many_queues = sent_links k.lists n message;
-      as_many_links = length_set s.links n link';
-      fsns = fsns_set s (first_sent n message k.lists) n link' (λ m other ne at. last_sent n message k.lists m ∙ f.fsns m other at) (last_sent n message k.lists n ∙ f.fsns n link there ∙ ap (λ (a : ℕ). (a + 127) % 128) (sym e));
-    }))
+    link_and_queues_for k s f _ _ _ (sent_stands n message k.lists k.messages s.rows f.stands order (has_queues k s n link f there) first) (sent_links k.lists n message) _ _ f.routing n link'
+    (λ m ne. last_sent n message k.lists m) (last_sent n message k.lists n ∙ still k s n link link' f there e)
 
 -- AN ACKNOWLEDGEMENT, under a link that counts it.
 reached : (acked fsn : ℕ) → fsn < 128 → (acked + (fsn + 128 - (acked + 127) % 128) % 128 + 127) % 128 ≡ fsn
@@ -147,51 +173,23 @@ pub acked_for : (k : Kept) (s : State) (n fsn : ℕ) (link link' : LinkState) �
     (record s { rows = turned (is_unacked n) (Acked n) (reach n fsn k.lists) s.rows; links = slice_set s.links n link' })
 acked_for k s n fsn link link' f there h e =
     let count : ℕ = reach n fsn k.lists in
-    let lists : Lists = acked_lists n fsn k.lists in
-    let messages : List Message = restood (take count (queue_at (Unacked n) k.lists)) (Acked n) k.messages in
-    let rows : List Row = turned (is_unacked n) (Acked n) count s.rows in
     let mid : Lists = with_queue (Unacked n) (drop count (queue_at (Unacked n) k.lists)) k.lists in
-    let known : n < length k.lists.links = let low = within s.links n link there in let many = f.as_many in omega (arith, low, many) in
+    let known = has_queues k s n link f there in
     let inner : n < length mid.links = let many = links_stay (Unacked n) (drop count (queue_at (Unacked n) k.lists)) k.lists in omega (arith, known, many) in
     let counted : (link'.acked + 127) % 128 ≡ fsn = ap (λ (a : ℕ). (a + 127) % 128) (e ∙ ap (λ (last : ℕ). link.acked + (fsn + 128 - last) % 128) (f.fsns n link there)) ∙ reached link.acked fsn h in
-    subst (λ (r : Routing). StandsFor (record k { lists = lists; messages = messages; links = slice_set s.links n link'; routing = r }) (record s { rows = rows; links = slice_set s.links n link' })) (sym f.routing)
-    (changes k s lists messages rows (slice_set s.links n link') s.routing f (record {
-      stands = acked_stands n fsn k.lists k.messages s.rows f.stands known;
-      bodies = (acknowledged n count s.rows).kept.bodies f.stands.numbered;
-      as_many_messages = length-restood (take count (queue_at (Unacked n) k.lists)) (Acked n) k.messages;
-      as_many_queues = acked_links k.lists n fsn;
-      as_many_links = length_set s.links n link';
-      fsns = fsns_set s lists n link' (λ m other ne at. last_there n fsn mid m ne ∙ last_stays (Unacked n) (drop count (queue_at (Unacked n) k.lists)) k.lists m ∙ f.fsns m other at) (last_here n fsn mid inner ∙ sym counted);
-    }))
+    link_and_queues_for k s f _ _ _ (acked_stands n fsn k.lists k.messages s.rows f.stands known) (acked_links k.lists n fsn) _ _ f.routing n link'
+    (λ m ne. last_there n fsn mid m ne ∙ last_stays (Unacked n) (drop count (queue_at (Unacked n) k.lists)) k.lists m) (last_here n fsn mid inner ∙ sym counted)
 
 -- MESSAGES THAT ARE GIVEN UP.
 pub sent_up_for : (k : Kept) (s : State) (n : ℕ) (cause : DiscardCause) → StandsFor k s → n < length k.lists.links
     → StandsFor (record k { lists = with_queue (Unacked n) [] k.lists; messages = restood (queue_at (Unacked n) k.lists) (Discarded cause) k.messages }) (record s { rows = changed (is_unacked n) (Discarded cause) s.rows })
-sent_up_for k s n cause f known = record {
-  settings = f.settings;
-  stands = sent_up_stands n cause k.lists k.messages s.rows f.stands known;
-  bodies = λ m. f.bodies m ∙ sym ((sent_given_up n cause s.rows).kept.bodies f.stands.numbered m);
-  held_bodies = f.held_bodies ∙ sym (length-restood (queue_at (Unacked n) k.lists) (Discarded cause) k.messages);
-  links = f.links;
-  as_many = links_stay (Unacked n) [] k.lists ∙ f.as_many;
-  fsns = λ m link there. last_stays (Unacked n) [] k.lists m ∙ f.fsns m link there;
-  routing = f.routing;
-  inbox = f.inbox;
-}
+sent_up_for k s n cause f known =
+    queues_for k s f _ _ _ (sent_up_stands n cause k.lists k.messages s.rows f.stands known) (links_stay (Unacked n) [] k.lists) _ _ f.routing (λ m. last_stays (Unacked n) [] k.lists m)
 
 pub waiting_up_for : (k : Kept) (s : State) (n : ℕ) (cause : DiscardCause) → StandsFor k s → n < length k.lists.links
     → StandsFor (record k { lists = with_queue (Waiting n) [] k.lists; messages = restood (queue_at (Waiting n) k.lists) (Discarded cause) k.messages }) (record s { rows = changed (is_waiting n) (Discarded cause) s.rows })
-waiting_up_for k s n cause f known = record {
-  settings = f.settings;
-  stands = waiting_up_stands n cause k.lists k.messages s.rows f.stands known;
-  bodies = λ m. f.bodies m ∙ sym ((waiting_given_up n cause s.rows).kept.bodies f.stands.numbered m);
-  held_bodies = f.held_bodies ∙ sym (length-restood (queue_at (Waiting n) k.lists) (Discarded cause) k.messages);
-  links = f.links;
-  as_many = links_stay (Waiting n) [] k.lists ∙ f.as_many;
-  fsns = λ m link there. last_stays (Waiting n) [] k.lists m ∙ f.fsns m link there;
-  routing = f.routing;
-  inbox = f.inbox;
-}
+waiting_up_for k s n cause f known =
+    queues_for k s f _ _ _ (waiting_up_stands n cause k.lists k.messages s.rows f.stands known) (links_stay (Waiting n) [] k.lists) _ _ f.routing (λ m. last_stays (Waiting n) [] k.lists m)
 
 -- A LINK SETTLES.
 pub settled_for : (k : Kept) (s : State) (n : ℕ) (target : Option ℕ) (link link' : LinkState) (routing : Routing) → StandsFor k s → IsInOrder n s.rows → IsHeldLast n s.rows → slice_get s.links n ≡ Some link → link'.acked ≡ link.acked
@@ -199,46 +197,24 @@ pub settled_for : (k : Kept) (s : State) (n : ℕ) (target : Option ℕ) (link l
     → StandsFor (record k { lists = settled n (fate_on target) k.lists; messages = restood (on_lists n k.lists) (fate_on target) k.messages; links = slice_set s.links n link'; routing = routing })
     (record s { rows = moved (is_on n) (all_with (fate_on target)) s.rows; links = slice_set s.links n link'; routing = routing })
 settled_for k s n target link link' routing f order last there e aside apart kept =
-    changes k s (settled n (fate_on target) k.lists) (restood (on_lists n k.lists) (fate_on target) k.messages) (moved (is_on n) (all_with (fate_on target)) s.rows) (slice_set s.links n link') routing f (record {
-      stands = settled_stands n k.lists k.messages s.rows f.stands (on_numbers n k.lists k.messages s.rows f.stands order last) target aside apart;
-      bodies = kept.bodies f.stands.numbered;
-      as_many_messages = length-restood (on_lists n k.lists) (fate_on target) k.messages;
-      as_many_queues = settled_links n (fate_on target) k.lists;
-      as_many_links = length_set s.links n link';
-      fsns = fsns_set s (settled n (fate_on target) k.lists) n link' (λ m other ne at. last_settled n (fate_on target) k.lists m ∙ f.fsns m other at) (last_settled n (fate_on target) k.lists n ∙ f.fsns n link there ∙ ap (λ (a : ℕ). (a + 127) % 128) (sym e));
-    })
+    let stands = settled_stands n k.lists k.messages s.rows f.stands (on_numbers n k.lists k.messages s.rows f.stands order last) target aside apart in
+    link_and_queues_for k s f _ _ _ stands (settled_links n (fate_on target) k.lists) routing routing refl n link'
+    (λ m ne. last_settled n (fate_on target) k.lists m) (last_settled n (fate_on target) k.lists n ∙ still k s n link link' f there e)
 
 -- A LINK COMES UP, and what was parked waits for it.
-reset_stands : (n : ℕ) (q : Lists) (ms : List Message) (rows : List Row) → Stands q ms rows → Stands (with_last n 127 q) ms rows
-reset_stands n q ms rows s = record { queues = λ f. queue_last f n 127 q ∙ s.queues f; fates = s.fates; labels = s.labels; count = s.count; numbered = s.numbered }
-
 pub risen_for : (k : Kept) (s : State) (n : ℕ) (link link' : LinkState) (routing : Routing) → StandsFor k s → slice_get s.links n ≡ Some link → link'.acked ≡ 0
     → StandsFor (record k { lists = passed Parked (Waiting n) (with_last n 127 k.lists); messages = restood (queue_at Parked k.lists) (Waiting n) k.messages; links = slice_set s.links n link'; routing = routing })
     (record s { rows = moved is_parked (all_with (Waiting n)) s.rows; links = slice_set s.links n link'; routing = routing })
 risen_for k s n link link' routing f there e =
     let reset : Lists = with_last n 127 k.lists in
-    let known : n < length k.lists.links = let low = within s.links n link there in let many = f.as_many in omega (arith, low, many) in
+    let known = has_queues k s n link f there in
     let inner : n < length reset.links = let many = last_links n 127 k.lists in omega (arith, known, many) in
-    changes k s (passed Parked (Waiting n) reset) (restood (queue_at Parked k.lists) (Waiting n) k.messages) (moved is_parked (all_with (Waiting n)) s.rows) (slice_set s.links n link') routing f (record {
-      stands = unparked_stands n reset k.messages s.rows (reset_stands n k.lists k.messages s.rows f.stands) inner;
-      bodies = (unparked n s.rows).kept.bodies f.stands.numbered;
-      as_many_messages = length-restood (queue_at Parked k.lists) (Waiting n) k.messages;
-      as_many_queues = passed_links reset Parked (Waiting n) ∙ last_links n 127 k.lists;
-      as_many_links = length_set s.links n link';
-      fsns = fsns_set s (passed Parked (Waiting n) reset) n link' (λ m other ne at. last_passed Parked (Waiting n) reset m ∙ last_there n 127 k.lists m ne ∙ f.fsns m other at)
-          (last_passed Parked (Waiting n) reset n ∙ last_here n 127 k.lists known ∙ sym (ap (λ (a : ℕ). (a + 127) % 128) e));
-    })
+    let stands : Stands reset k.messages s.rows = record { queues = λ g. queue_last g n 127 k.lists ∙ f.stands.queues g; fates = f.stands.fates; labels = f.stands.labels; count = f.stands.count; numbered = f.stands.numbered } in
+    link_and_queues_for k s f _ _ _ (unparked_stands n reset k.messages s.rows stands inner) (passed_links reset Parked (Waiting n) ∙ last_links n 127 k.lists) routing routing refl n link'
+    (λ m ne. last_passed Parked (Waiting n) reset m ∙ last_there n 127 k.lists m ne) (last_passed Parked (Waiting n) reset n ∙ last_here n 127 k.lists known ∙ sym (ap (λ (a : ℕ). (a + 127) % 128) e))
 
 -- WHAT STOOD BACK by a code waits for its home.
 pub released_for : (k : Kept) (s : State) (c l : ℕ) (routing : Routing) → StandsFor k s → c < length k.lists.back → l < length k.lists.links
     → StandsFor (record k { lists = passed (Back c) (Waiting l) k.lists; messages = restood (queue_at (Back c) k.lists) (Waiting l) k.messages; routing = routing }) (record s { rows = moved (is_back c) (all_with (Waiting l)) s.rows; routing = routing })
 released_for k s c l routing f code known =
-    subst (λ (links : List LinkState). StandsFor (record k { lists = passed (Back c) (Waiting l) k.lists; messages = restood (queue_at (Back c) k.lists) (Waiting l) k.messages; links = links; routing = routing }) (record s { rows = moved (is_back c) (all_with (Waiting l)) s.rows; routing = routing })) (sym f.links)
-    (changes k s (passed (Back c) (Waiting l) k.lists) (restood (queue_at (Back c) k.lists) (Waiting l) k.messages) (moved (is_back c) (all_with (Waiting l)) s.rows) s.links routing f (record {
-      stands = released_stands c l k.lists k.messages s.rows f.stands code known;
-      bodies = (released c l s.rows).kept.bodies f.stands.numbered;
-      as_many_messages = length-restood (queue_at (Back c) k.lists) (Waiting l) k.messages;
-      as_many_queues = passed_links k.lists (Back c) (Waiting l);
-      as_many_links = refl;
-      fsns = λ m link at. last_passed (Back c) (Waiting l) k.lists m ∙ f.fsns m link at;
-    }))
+    queues_for k s f _ _ _ (released_stands c l k.lists k.messages s.rows f.stands code known) (passed_links k.lists (Back c) (Waiting l)) routing routing refl (λ m. last_passed (Back c) (Waiting l) k.lists m)
