@@ -3,7 +3,7 @@ use Rattle.std.proofs.Common.{refl, arith, ◌≡◌, ◌∙◌, ap, sym, subst,
 use Rattle.std.proofs.lemmas.Bool.{ne_eqb}
 use Rattle.std.proofs.lemmas.List.{length-map}
 use Rattle.set_events.specs.declared.answer.Answer.{Answer}
-use Rattle.set_events.specs.declared.answer.Answer.TheVariants.{Refused, Done}
+use Rattle.set_events.specs.declared.answer.Answer.TheVariants.{Done}
 use Rattle.set_events.specs.declared.answer.Refusal.TheVariants.{Nothing}
 use Rattle.set_events.specs.declared.answer.Fate.TheVariants.{Waiting}
 use Rattle.set_queues.specs.Bodies.{CanHold}
@@ -12,7 +12,7 @@ use Rattle.set_route.specs.Routing.{Routing, asked}
 use Rattle.set_model.specs.declared.phase.Phase.TheVariants.{Up}
 use Rattle.set_model.specs.Changeover.{can_declare, declared_if, declared_from, some_declare}
 use Rattle.set_model.specs.State.{State, link_count}
-use Rattle.set_model.specs.Step.{Outcome, in_service, comes_back}
+use Rattle.set_model.specs.Step.{refused, in_service, comes_back}
 use Rattle.set_moves.specs.declared.parts.Parts.{Parts}
 use Rattle.set_moves.specs.Agreement.{StandsFor}
 use Rattle.set_moves.specs.Declaring.{HasRoomFrom}
@@ -79,15 +79,6 @@ pub all_declared : (home n links : ℕ) (old now : Parts) → n ≡ links → Be
 all_declared home n links old now e f = subst (λ (k : ℕ). Becomes old now (declared_from home 0 k)) e f
 
 -- WHAT IS ANSWERED
-gives_then : (b : Bool) (x y : Outcome) (answer : Answer) (parts : Parts) → b ≡ true → Gives x answer parts → Gives (if b then x else y) answer parts
-gives_then b x y answer parts e g = rw e g
-
-gives_else : (b : Bool) (x y : Outcome) (answer : Answer) (parts : Parts) → b ≡ false → Gives y answer parts → Gives (if b then x else y) answer parts
-gives_else b x y answer parts e g = rw e g
-
-module _ (s : State) (n : ℕ) (parts : Parts) (i : IsIn s n Up) where
-  pub came_back : some_declare n 0 (link_count s) s ≡ true → StandsFor (kept_of parts) (declared_from n 0 (link_count s) s) → Gives (in_service n s (λ link. comes_back n s)) Done parts
-  came_back e f = served s n (λ link. comes_back n s) Done parts i (gives_then (some_declare n 0 (link_count s) s) _ _ Done parts e (record { answer_is = refl; stands = f }))
-
-  pub none_back : some_declare n 0 (link_count s) s ≡ false → StandsFor (kept_of parts) s → Gives (in_service n s (λ link. comes_back n s)) (Refused Nothing) parts
-  none_back e f = served s n (λ link. comes_back n s) (Refused Nothing) parts i (gives_else (some_declare n 0 (link_count s) s) _ _ (Refused Nothing) parts e (record { answer_is = refl; stands = f }))
+pub come_back : (b : Bool) (s : State) (n : ℕ) (answer : Answer) (parts : Parts) (i : IsIn s n Up) → some_declare n 0 (link_count s) s ≡ b
+    → Gives (if b then record { answer = Done; state = declared_from n 0 (link_count s) s } else refused s Nothing) answer parts → Gives (in_service n s (λ link. comes_back n s)) answer parts
+come_back b s n answer parts i is g = served s n (λ link. comes_back n s) answer parts i (rw is g)

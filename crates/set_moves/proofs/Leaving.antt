@@ -1,10 +1,9 @@
 -- A LINK THAT IS LEFT: what stood back for it can turn.
-use Rattle.std.proofs.Common.{arith, refl, ◌≡◌, ◌∙◌, ap, sym, subst, ◌<◌, ℕ, Bool, true, false, List, length, slice_get, slice_set, Option, None, Some}
-use Rattle.std.specs.Option.{option_map}
+use Rattle.std.proofs.Common.{arith, ◌≡◌, ◌∙◌, ap, subst, ◌<◌, ℕ, Bool, true, false, List, length, slice_get, slice_set, Some}
 use Rattle.set_events.specs.declared.answer.Fate.{Fate}
 use Rattle.set_route.specs.Routing.{Routing}
 use Rattle.set_model.specs.declared.phase.Phase.TheVariants.{Up, Down}
-use Rattle.set_model.specs.Changeover.{Obeyed, out_of_service, at_link}
+use Rattle.set_model.specs.Changeover.{out_of_service}
 use Rattle.set_model.specs.Rows.{Row, is_back_to, stands_back, stream_of, is_users, numbers, back}
 use Rattle.set_model.specs.State.{LinkState, State, has_phase_up}
 use Rattle.set_model.specs.Sound.{IsAscending, IsBackOf}
@@ -17,11 +16,10 @@ use Rattle.set_model.proofs.Walk.{IsAt}
 use Rattle.set_moves.specs.declared.link.Link.{Link}
 use Rattle.set_moves.specs.declared.parts.Parts.{Parts}
 use Rattle.set_moves.specs.Agreement.{Agrees, Holds}
-use Rattle.set_events.specs.declared.answer.Took.TheVariants.{Ignored}
 use Rattle.set_model.specs.declared.phase.Phase.{Phase}
-use Rattle.set_moves.specs.Parts.{AtLink, IsOut, BecomesAt, Obeys, kept_of}
+use Rattle.set_moves.specs.Parts.{AtLink, IsOut, BecomesAt, kept_of}
 use Rattle.set_moves.specs.Turning.{IsTurningRow, IsTurning, CanTurn}
-use Rattle.set_moves.proofs.Admitting.{IsHere, is_in, none_map}
+use Rattle.set_moves.proofs.Admitting.{IsHere, is_in}
 
 -- a message that stands back is a user's
 users_of : (n : ℕ) (r : Routing) (x : Row) (f : Fate) → is_back_to n f ≡ true → IsBackOf r x f → (is_users x ≡ true) × (stream_of x.body < 16)
@@ -61,13 +59,3 @@ up_at links n h link there = ap (λ (l : Link). l.phase) (same_at links n h.link
 -- and one that is out
 pub out_at : (links : List Link) (n : ℕ) (phase : Phase) → IsHere links n phase → has_phase_up phase ≡ false → AtLink n links IsOut
 out_at links n phase h e link there = ap (λ (l : Link). has_phase_up l.phase) (same_at links n h.link link h.there there) ∙ ap has_phase_up h.phase_is ∙ e
-
--- where there is no such link an order about it is ignored
-no_phase : (o : Option Link) → option_map (λ (l : Link). l.phase) o ≡ None → o ≡ None
-no_phase o e = grind arith
-
-pub none_there : (parts : Parts) (read : List Link) (n : ℕ) (told : Option Phase) (s : State) (obeyed : LinkState → Obeyed) → read ≡ parts.links.items → told ≡ option_map (λ (l : Link). l.phase) (slice_get read n) → told ≡ None → Agrees (kept_of parts) s → Obeys (at_link n s obeyed (slice_get s.links n)) Ignored parts
-none_there parts read n told s obeyed same is none a =
-    let here : slice_get parts.links.items n ≡ None = ap (λ (ls : List Link). slice_get ls n) (sym same) ∙ no_phase (slice_get read n) (sym is ∙ none) in
-    let there : slice_get s.links n ≡ None = sym (ap (λ (ls : List LinkState). slice_get ls n) a.stands.links) ∙ none_map parts.links.items n here in
-    rw there (record { took_is = refl; stands = a.stands })

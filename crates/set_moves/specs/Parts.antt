@@ -1,5 +1,6 @@
 -- THE PARTS OF A SET as contracts see them.
 use Rattle.std.specs.Prelude.{◌≡◌, ℕ, false, ◌<◌, ◌≤◌, List, length, map, Some, slice_get}
+use Rattle.set_model.specs.declared.phase.Phase.{Phase}
 use Rattle.set_model.specs.declared.reached.Reached.{Reached}
 use Rattle.set_model.specs.declared.reached.Reached.TheVariants.{Upto, Unknown, Unanswered}
 use Rattle.set_model.specs.State.{LinkState, State, settings_of, has_phase_up}
@@ -43,6 +44,13 @@ pub record IsWhole (parts : Parts) : Type 0 where
 -- a fact of the link of this number, if there is one
 abbrev pub AtLink : ℕ → List Link → (Link → Type 0) → Type 0
 AtLink number links fact = (link : Link) → slice_get links number ≡ Some link → fact link
+
+-- a link of this number, in this phase
+pub record IsHere (links : List Link) (n : ℕ) (phase : Phase) : Type 0 where
+  pub link : Link
+  pub there : slice_get links n ≡ Some link
+  pub phase_is : link.phase ≡ phase
+  pub known : n < length links
 
 abbrev pub IsOut : Link → Type 0
 IsOut link = has_phase_up link.phase ≡ false

@@ -15,7 +15,7 @@ ghost use Rattle.set_moves.specs.Turning.{TakesTurns};
 
 use super::changeback::acknowledge_back;
 use super::link::Link;
-use super::parts::{Parts, phase_of, stand_last, target_of};
+use super::parts::{Parts, phase_at, stand_last, target_of};
 use super::settling::settle;
 use super::turning::turn_back;
 use arrayvec::ArrayVec;
@@ -124,7 +124,7 @@ fn change_over(parts: &mut Parts, number: u8, reached: Reached) -> Took
         (λ link. changed_over reached number link link.phase s) (slice_get s.links number)) result
         parts.new }
 {
-    match phase_of(&parts.links, number) {
+    match phase_at(parts, number) {
         None => return Took::Ignored,
         Some(Phase::Up) => answer_and_settle(parts, number, reached),
         Some(Phase::Down) => settle(parts, number, reached),
@@ -197,7 +197,7 @@ fn answer(parts: &mut Parts, number: u8, reached: Reached) -> Took
     ensures stands { (s : State) → Agrees (kept_of parts.old) s → Obeys (at_link number s (λ link.
         answered reached number link link.phase s) (slice_get s.links number)) result parts.new }
 {
-    if phase_of(&parts.links, number) != Some(Phase::Down) {
+    if phase_at(parts, number) != Some(Phase::Down) {
         return Took::Ignored;
     }
     settle(parts, number, reached);

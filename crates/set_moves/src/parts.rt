@@ -8,7 +8,7 @@ ghost use Rattle.set_model.specs.Rows.{appended, service_indicator, stream_of};
 ghost use Rattle.set_route.specs.Routing.{place_of};
 ghost use Rattle.set_model.specs.State.{State, fate_at, target, has_phase_up};
 ghost use Rattle.set_moves.specs.Agreement.{StandsFor, kind_of};
-ghost use Rattle.set_moves.specs.Parts.{IsWhole, Becomes, link_of, kept_of};
+ghost use Rattle.set_moves.specs.Parts.{IsWhole, IsHere, Becomes, link_of, kept_of};
 ghost use Rattle.set_moves.specs.Refusing.{service_refusal};
 ghost use Rattle.set_moves.specs.Room.{HasRoom, IsReady, SameButRoom, target_beside};
 
@@ -79,6 +79,15 @@ pub fn phase_of(links: &[Link], number: u8) -> Option<Phase>
         Some(link) => Some(link.phase),
         None => None,
     }
+}
+
+/// Where that link of the set stands in its life, if there is one.
+pub(crate) fn phase_at(parts: &Parts, number: u8) -> Option<Phase>
+    ensures value { result ≡ option_map (λ link. link.phase)
+        (slice_get parts.now.links.items number) }
+    ensures here { IfSome result (IsHere parts.now.links.items number) }
+{
+    phase_of(&parts.links, number)
 }
 
 /// Why an event of this link that needs it in service is refused, if it is.

@@ -1,12 +1,11 @@
-use Rattle.std.proofs.Common.{◌∙◌, ap, sym, subst, slice_get, ℕ}
-use Rattle.set_model.specs.Changeover.{declared_from}
+use Rattle.std.proofs.Common.{refl, ◌∙◌, ap, sym, slice_get, true, false}
+use Rattle.set_events.specs.declared.answer.Answer.TheVariants.{Refused, Done}
+use Rattle.set_events.specs.declared.answer.Refusal.TheVariants.{Nothing}
 use Rattle.set_model.specs.Step.{comes_back}
 use Rattle.set_model.specs.declared.phase.Phase.TheVariants.{Up}
-use Rattle.set_moves.specs.Agreement.{StandsFor}
-use Rattle.set_moves.specs.Parts.{kept_of}
 use Rattle.set_moves.specs.Refusing.{service_refusal}
 use Rattle.set_moves.proofs.Admitting.{serves, unserved, is_in, here_same, agrees_same}
-use Rattle.set_moves.proofs.Declaring.{came_back, none_back, count_is}
+use Rattle.set_moves.proofs.Declaring.{come_back, count_is}
 use Rattle.set_moves.proofs.Rooms.{whole_of}
 use Rattle.set_moves.proofs.changeback.restore.Goals as goal
 
@@ -19,10 +18,7 @@ has_alternative-requires-clause-known c = (serves c.args.parts.now.links.items c
 pub returns-then-not-has_alternative-clause-ok : goal.returns-then-not-has_alternative-clause-ok
 returns-then-not-has_alternative-clause-ok c = λ s a.
     let h = serves c.args.parts.now.links.items c.args.number (ap (λ links. service_refusal (slice_get links c.args.number)) (sym c.deref.ensures.value) ∙ sym c.out_of_service.ensures ∙ c.in_default.is) in
-    none_back s c.args.number c.args.parts.now (is_in c.args.parts.now s c.args.number Up a h) (sym (c.has_alternative.ensures s a) ∙ c.if-not-has_alternative.true) a.stands
-
-pub make_room_declared-requires : goal.make_room_declared-requires
-make_room_declared-requires c = record { whole = whole_of c.args.parts.now c.requires.holds }
+    come_back false s c.args.number (Refused Nothing) c.args.parts.now (is_in c.args.parts.now s c.args.number Up a h) (sym (c.has_alternative.ensures s a) ∙ c.if-not-has_alternative.true) (record { answer_is = refl; stands = a.stands })
 
 pub declare_all-requires-clause-whole : goal.declare_all-requires-clause-whole
 declare_all-requires-clause-whole c = whole_of c.make_room_declared.new.parts (c.requires.holds.0, agrees_same c.args.parts.now c.make_room_declared.new.parts c.requires.holds.0 c.make_room_declared.ensures.same c.requires.holds.1)
@@ -37,5 +33,7 @@ returns-clause-ok c = λ s a.
     let n = c.args.number in
     let h = serves c.args.parts.now.links.items n (ap (λ links. service_refusal (slice_get links n)) (sym c.deref.ensures.value) ∙ sym c.out_of_service.ensures ∙ c.in_default.is) in
     let now = agrees_same c.args.parts.now c.make_room_declared.new.parts s c.make_room_declared.ensures.same a in
-    came_back s n c.declare_all.new.parts (is_in c.args.parts.now s n Up a h) (sym (c.has_alternative.ensures s a) ∙ c.if-not-has_alternative.false)
-    (subst (λ (k : ℕ). StandsFor (kept_of c.declare_all.new.parts) (declared_from n 0 k s)) (sym (count_is c.make_room_declared.new.parts s now.stands)) (c.declare_all.ensures.stands s now.stands))
+    come_back true s n Done c.declare_all.new.parts (is_in c.args.parts.now s n Up a h) (sym (c.has_alternative.ensures s a) ∙ c.if-not-has_alternative.false) (record {
+      answer_is = refl;
+      stands = rw (count_is c.make_room_declared.new.parts s now.stands) (c.declare_all.ensures.stands s now.stands);
+    })
