@@ -54,12 +54,21 @@ none_above k m (x ∷ xs) low a = let above = a.0 in rw (ne_eqb x.number k (λ e
 back_is : (c : ℕ) (f : Fate) → is_back c f ≡ true → f ≡ Back c
 back_is c f e = grind arith
 
-pub back_of : (home : ℕ) (f : Fate) → is_back_to home f ≡ true → (c : ℕ) × (f ≡ Back c) × (home_of c ≡ home)
+back_of : (home : ℕ) (f : Fate) → is_back_to home f ≡ true → (c : ℕ) × (f ≡ Back c) × (home_of c ≡ home)
 back_of home f e = grind arith
 
 -- what waits for a code of the home waits for the home
 pub back_home : (home c : ℕ) → home_of c ≡ home → (f : Fate) → is_back c f ≡ true → is_back_to home f ≡ true
 back_home home c of f e = ap (is_back_to home) (back_is c f e) ∙ eq-eqb (home_of c) home of
+
+-- the first of those that stand back for the home stands first of its code
+pub first_back : (home : ℕ) (q : Lists) (ms : List Message) (rows rest : List Row) (y : Row) → Stands q ms rows → standing (is_back_to home) rows ≡ y ∷ rest → (c : ℕ) × (home_of c ≡ home) × (slice_get (queue_at (Back c) q) 0 ≡ Some y.number)
+first_back home q ms rows rest y s e =
+    let b = back_of home y.fate (passes (λ (row : Row). is_back_to home row.fate) rows rest y e) in
+    let own : is_back b.0 y.fate ≡ true = ap (is_back b.0) b.1 ∙ eq-eqb b.0 b.0 refl in
+    let there : standing (is_back b.0) rows ≡ standing (is_back b.0) (y ∷ rest) = sym (filter_within (λ (row : Row). is_back b.0 row.fate) (λ (row : Row). is_back_to home row.fate) (λ r f. back_home home b.0 b.2 r.fate f) rows) ∙ ap (standing (is_back b.0)) e in
+    let heads : standing (is_back b.0) (y ∷ rest) ≡ y ∷ standing (is_back b.0) rest = rw own refl in
+    (b.0, b.2, ap (λ (ns : List ℕ). slice_get ns 0) (s.queues (Back b.0) ∙ ap numbers (there ∙ heads)))
 
 -- THE OLDEST that stands back for the home is the first of the rows that do.
 pub record IsFirst (home code number : ℕ) (rows : List Row) : Type 0 where
@@ -97,12 +106,7 @@ module _ (home code : ℕ) (q : Lists) (ms : List Message) (rows : List Row) (s 
 
   -- none that stands before it has a lower number
   least : (y : Row) (rest : List Row) → standing (is_back_to home) rows ≡ y ∷ rest → o.number ≤ y.number
-  least y rest e =
-      let b = back_of home y.fate (passes (λ (row : Row). is_back_to home row.fate) rows rest y e) in
-      let own : is_back b.0 y.fate ≡ true = ap (is_back b.0) b.1 ∙ eq-eqb b.0 b.0 refl in
-      let there : standing (is_back b.0) rows ≡ standing (is_back b.0) (y ∷ rest) = sym (filter_within (λ (row : Row). is_back b.0 row.fate) (λ (row : Row). is_back_to home row.fate) (λ r f. back_home home b.0 b.2 r.fate f) rows) ∙ ap (standing (is_back b.0)) e in
-      let heads : standing (is_back b.0) (y ∷ rest) ≡ y ∷ standing (is_back b.0) rest = rw own refl in
-      o.least b.0 y.number b.2 (ap (λ (ns : List ℕ). slice_get ns 0) (s.queues (Back b.0) ∙ ap numbers (there ∙ heads)))
+  least y rest e = let b = first_back home q ms rows rest y s e in o.least b.0 y.number b.1 b.2
 
   head_is : (xs : List Row) → standing (is_back_to home) rows ≡ xs → (rest : List Row) × (xs ≡ x ∷ rest)
   head_is [] e = let none : [] ≡ x ∷ [] = sym (ap (with_number o.number) e) ∙ in_home in absurd cc

@@ -1,7 +1,7 @@
 -- ONE ROW leaves its place and stands at the end, with another fate.
-use Rattle.std.proofs.Common.{refl, arith, ◌≡◌, ◌∙◌, ap, sym, ◌≤◌, [], ◌∷◌, ◌++◌, length, ℕ, suc, Bool, true, false, not, ◌==◌, ◌⊎◌, List, map, Some, cond}
+use Rattle.std.proofs.Common.{refl, arith, ◌≡◌, ◌∙◌, ap, sym, [], ◌∷◌, ◌++◌, length, ℕ, Bool, true, false, not, ◌==◌, ◌⊎◌, List, map, Some, cond}
 use Rattle.std.specs.Prelude.{slice_get, filter}
-use Rattle.std.proofs.lemmas.Bool.{cases_eq, eq-eqb, eqb-true, not_from_true, not_from_false}
+use Rattle.std.proofs.lemmas.Bool.{cases_eq, eq-eqb, eqb-true, not_from_true}
 use Rattle.std.proofs.lemmas.List.{append-nil, append_assoc, length-append}
 use Rattle.std.proofs.lemmas.List.Elements.{filter-append}
 use Rattle.std.proofs.lemmas.List.Filters.{length-filter_both}
@@ -32,12 +32,16 @@ pub each_filter : (P : Row → Type 0) (p : Row → Bool) (xs : List Row) → Ea
 each_filter P p [] a = tt
 each_filter P p (x ∷ xs) a = grind (arith, each_filter P p xs a.1)
 
-empty : (xs : List Row) → length xs ≡ 0 → xs ≡ []
-empty [] e = refl
-empty (x ∷ xs) e = absurd (omega (arith, e))
+-- one that drops the first alone
+first_dropped : (x : Row) (rest : List Row) → with_number x.number (x ∷ rest) ≡ x ∷ [] → without x.number (x ∷ rest) ≡ rest
+first_dropped x rest one =
+    let own = eq-eqb x.number x.number refl in
+    let same : x ∷ with_number x.number rest ≡ x ∷ [] = rw own at one in
+    let none : with_number x.number rest ≡ [] = cc in
+    rw own (none_dropped (λ (row : Row). row.number == x.number) rest none)
 
-one_stands : (test : Fate → Bool) (y : Row) (b : Bool) → test y.fate ≡ b → standing test (y ∷ []) ≡ cond b (y ∷ []) []
-one_stands test y b h = grind arith
+one_stands : (test : Fate → Bool) (y : Row) → standing test (y ∷ []) ≡ cond (test y.fate) (y ∷ []) []
+one_stands test y = grind arith
 
 module _ (to : Fate) (x : Row) (rows : List Row) (one : with_number x.number rows ≡ x ∷ []) where
   abbrev k : ℕ
@@ -88,69 +92,37 @@ module _ (to : Fate) (x : Row) (rows : List Row) (one : with_number x.number row
   pub shifted_goes : (n : ℕ) → GoesTo (k ∷ []) to n rows new
   shifted_goes n = grind (arith, nat_tests, cases_eq, k, GoesTo, new, occurs_here, row_own, row_other, occurs_not)
 
-  -- BY FATE
-  standing_parts : (test : Fate → Bool) → standing test new ≡ without k (standing test rows) ++ standing test (y ∷ [])
-  standing_parts test =
-      filter-append (λ (row : Row). test row.fate) (without k rows) (y ∷ [])
-      ∙ ap (λ (ys : List Row). ys ++ standing test (y ∷ [])) (filter_comm (λ (row : Row). test row.fate) (λ (row : Row). not (row.number == k)) rows)
-
-  own_standing : (test : Fate → Bool) → with_number k (standing test rows) ≡ standing test (x ∷ [])
-  own_standing test = filter_comm (λ (row : Row). row.number == k) (λ (row : Row). test row.fate) rows ∙ ap (standing test) one
-
-  -- where it didn't stand
-  pub shifted_beside : (test : Fate → Bool) → test x.fate ≡ false → standing test new ≡ standing test rows ++ standing test (y ∷ [])
-  shifted_beside test off =
-      standing_parts test
-      ∙ ap (λ (ys : List Row). ys ++ standing test (y ∷ []))
-      (none_dropped (λ (row : Row). row.number == k) (standing test rows) (own_standing test ∙ one_stands test x false off))
-
-  -- where it stood first
-  pub shifted_off : (test : Fate → Bool) (rest : List Row) → standing test rows ≡ x ∷ rest → standing test new ≡ rest ++ standing test (y ∷ [])
-  shifted_off test rest e =
-      standing_parts test
-      ∙ ap (λ (ys : List Row). without k ys ++ standing test (y ∷ [])) e
-      ∙ ap (λ (ys : List Row). ys ++ standing test (y ∷ [])) (dropped (k == k) (eq-eqb k k refl))
+  -- BY FATE: it's gone where it stood first, and comes behind the others
+  left : (test : Fate → Bool) (rest : List Row) (b : Bool) → test x.fate ≡ b → (b ≡ true → standing test rows ≡ x ∷ rest) → without k (standing test rows) ≡ cond b rest (standing test rows)
+  left test rest b is first = go b (own ∙ ap (λ (c : Bool). cond c (x ∷ []) []) is) first
     where
-      few : length (standing test (x ∷ [])) ≤ 1
-      few = go (test x.fate) refl
-        where
-          go : (b : Bool) → test x.fate ≡ b → length (standing test (x ∷ [])) ≤ 1
-          go true h = rw h (omega arith)
-          go false h = rw h (omega arith)
+      own : with_number k (standing test rows) ≡ cond (test x.fate) (x ∷ []) []
+      own = filter_comm (λ (row : Row). row.number == k) (λ (row : Row). test row.fate) rows ∙ ap (standing test) one ∙ one_stands test x
 
-      more : length (with_number k (x ∷ rest)) ≡ suc (length (with_number k rest))
-      more = rw (eq-eqb k k refl) refl
+      go : (b : Bool) → with_number k (standing test rows) ≡ cond b (x ∷ []) [] → (b ≡ true → standing test rows ≡ x ∷ rest) → without k (standing test rows) ≡ cond b rest (standing test rows)
+      go true e first = rw (first refl) (first_dropped x rest (ap (with_number k) (sym (first refl)) ∙ e))
+      go false e first = none_dropped (λ (row : Row). row.number == k) (standing test rows) e
 
-      none : with_number k rest ≡ []
-      none =
-          let all : length (with_number k (x ∷ rest)) ≡ length (standing test (x ∷ [])) = ap (λ (ys : List Row). length (with_number k ys)) (sym e) ∙ ap length (own_standing test) in
-          empty (with_number k rest) (omega (arith, few, more, all))
-
-      dropped : (b : Bool) → b ≡ true → without k (x ∷ rest) ≡ rest
-      dropped b h = rw (eq-eqb k k refl) (none_dropped (λ (row : Row). row.number == k) rest none)
-
-  pub shifted_in : (test : Fate → Bool) → test to ≡ true → standing test (y ∷ []) ≡ y ∷ []
-  shifted_in test h = one_stands test y true h
-
-  pub shifted_out : (test : Fate → Bool) → test to ≡ false → standing test (y ∷ []) ≡ []
-  shifted_out test h = one_stands test y false h
+  pub shifted_stands : (test : Fate → Bool) (rest : List Row) → (test x.fate ≡ true → standing test rows ≡ x ∷ rest) → standing test new ≡ cond (test x.fate) rest (standing test rows) ++ cond (test to) (y ∷ []) []
+  shifted_stands test rest first =
+      filter-append (λ (row : Row). test row.fate) (without k rows) (y ∷ [])
+      ∙ ap (λ (ys : List Row). ys ++ standing test (y ∷ [])) (filter_comm (λ (row : Row). test row.fate) (λ (row : Row). not (row.number == k)) rows ∙ left test rest (test x.fate) refl first)
+      ∙ ap (λ (ys : List Row). cond (test x.fate) rest (standing test rows) ++ ys) (one_stands test y)
 
   pub shifted_each : (P : Row → Type 0) → Each P rows → P y → Each P new
   shifted_each P a p = each_append P (without k rows) (y ∷ []) (each_filter P (λ (row : Row). not (row.number == k)) rows a) (p, tt)
 
 -- THE FIRST OF THOSE THAT MOVE, moved before the others
-module _ (test : Fate → Bool) (fate : Row → Fate) (x : Row) (rest rows : List Row) (one : with_number x.number rows ≡ x ∷ []) (first : standing test rows ≡ x ∷ rest) (on : test x.fate ≡ true) (off : test (fate x) ≡ false) where
-  pub rest_stands : standing test (shifted (fate x) x rows) ≡ rest
-  rest_stands = shifted_off (fate x) x rows one test rest first ∙ ap (λ (ys : List Row). rest ++ ys) (shifted_out (fate x) x rows one test off) ∙ append-nil rest
+module _ (test : Fate → Bool) (fate : Row → Fate) (to : Fate) (x : Row) (rest rows : List Row) (way : to ≡ fate x) (one : with_number x.number rows ≡ x ∷ []) (first : standing test rows ≡ x ∷ rest) (on : test x.fate ≡ true) (off : test to ≡ false) where
+  pub rest_stands : standing test (shifted to x rows) ≡ rest
+  rest_stands = shifted_stands to x rows one test rest (λ h. first) ∙ rw (on, off) (append-nil rest)
 
-  others_stand : standing (λ f. not (test f)) (shifted (fate x) x rows) ≡ standing (λ f. not (test f)) rows ++ fated fate x ∷ []
-  others_stand =
-      shifted_beside (fate x) x rows one (λ f. not (test f)) (not_from_true (test x.fate) on)
-      ∙ ap (λ (ys : List Row). standing (λ f. not (test f)) rows ++ ys) (shifted_in (fate x) x rows one (λ f. not (test f)) (not_from_false (test (fate x)) off))
+  others_stand : standing (λ f. not (test f)) (shifted to x rows) ≡ standing (λ f. not (test f)) rows ++ fated fate x ∷ []
+  others_stand = shifted_stands to x rows one (λ f. not (test f)) rest (λ h. absurd (let no : false ≡ true = rw on at h in cc)) ∙ rw (on, off, way) refl
 
-  pub moved_same : moved test fate (shifted (fate x) x rows) ≡ moved test fate rows
+  pub moved_same : moved test fate (shifted to x rows) ≡ moved test fate rows
   moved_same =
-      ap (λ (ys : List Row). ys ++ map (fated fate) (standing test (shifted (fate x) x rows))) others_stand
+      ap (λ (ys : List Row). ys ++ map (fated fate) (standing test (shifted to x rows))) others_stand
       ∙ ap (λ (ys : List Row). (standing (λ f. not (test f)) rows ++ fated fate x ∷ []) ++ map (fated fate) ys) rest_stands
       ∙ append_assoc (standing (λ f. not (test f)) rows) (fated fate x ∷ []) (map (fated fate) rest)
       ∙ sym (ap (λ (ys : List Row). standing (λ f. not (test f)) rows ++ map (fated fate) ys) first)

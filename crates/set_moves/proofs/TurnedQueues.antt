@@ -1,5 +1,5 @@
 -- THE QUEUES, how many stand back, and the room, when the first of a code goes to a link.
-use Rattle.std.proofs.Common.{refl, arith, ◌≡◌, ◌∙◌, ap, sym, subst, ◌+◌, ◌*◌, ◌≤◌, ◌<◌, [], ◌∷◌, ◌++◌, length, ℕ, zero, suc, false, ◌==◌, ◌⊎◌, inl, inr, List, Some, cond, take, drop}
+use Rattle.std.proofs.Common.{refl, arith, ◌≡◌, ◌∙◌, ap, sym, subst, ◌+◌, ◌*◌, ◌≤◌, ◌<◌, [], ◌∷◌, ◌++◌, length, ℕ, zero, suc, false, ◌==◌, ◌⊎◌, List, Some, cond, take, drop}
 use Rattle.std.specs.Prelude.{slice_get}
 use Rattle.std.proofs.lemmas.Bool.{cases_eq, cases_lt, eq-eqb, eqb-true, ne_eqb}
 use Rattle.std.proofs.lemmas.List.{length-append, get_or_past}
@@ -12,6 +12,7 @@ use Rattle.set_queues.specs.Queues.{QueuesState}
 use Rattle.set_queues.specs.Settling.{on as on_lists}
 use Rattle.set_queues.proofs.CodeQueues.{back_none}
 use Rattle.set_queues.proofs.Passing.{queue_set, known_on, size_stays, links_stay, queued_stands}
+use Rattle.set_queues.proofs.Settling.{on_length}
 use Rattle.set_moves.specs.Turning.{TakesTurns}
 use Rattle.set_moves.proofs.Oldest.{head_of, IsOnLink}
 
@@ -100,48 +101,38 @@ turns_then a b old mid new many t u = record {
 taken_one : (to fate : Fate) (old new : Rooms) → TakesRoom to 1 old new → room_at fate old ≤ room_at fate new + 1
 taken_one to fate old new t = grind arith
 
-three : (a b c a' b' c' : List ℕ) → length a' ≡ length a → length b' + length c' ≤ length b + length c + 1 → length (a' ++ b' ++ c') ≤ length (a ++ b ++ c) + 1
-three a b c a' b' c' e h =
-    let old = length-append (a ++ b) c in
-    let old' = length-append a b in
-    let new = length-append (a' ++ b') c' in
-    let new' = length-append a' b' in
-    omega (arith, e, h, old, old', new, new')
-
 one_more : (via m number : ℕ) (at own : List ℕ) → (via ≡ m → at ≡ own) → length (cond (via == m) (at ++ number ∷ []) own) ≤ length own + 1
 one_more via m number at own same = grind (arith, nat_tests, length-append, eqb-true)
 
-on_then : (code number : ℕ) (to : Fate) (q : Lists) → Goes code number to q → (via : ℕ) → (to ≡ Waiting via) ⊎ (to ≡ Held via) → (m : ℕ) → length (on_lists m (passed_first (Back code) to q)) ≤ length (on_lists m q) + 1
-on_then code number to q g via (inl e) m = subst (λ (f : Fate). Goes code number f q → length (on_lists m (passed_first (Back code) f q)) ≤ length (on_lists m q) + 1) (sym e) waits g
-  where
-    waits : Goes code number (Waiting via) q → length (on_lists m (passed_first (Back code) (Waiting via) q)) ≤ length (on_lists m q) + 1
-    waits g =
-        let new : Lists = passed_first (Back code) (Waiting via) q in
-        let sent : queue_at (Unacked m) new ≡ queue_at (Unacked m) q = queue_then code number (Waiting via) q g (Unacked m) in
-        let wait : queue_at (Waiting m) new ≡ cond (via == m) (queue_at (Waiting via) q ++ number ∷ []) (queue_at (Waiting m) q) = queue_then code number (Waiting via) q g (Waiting m) in
-        let held : queue_at (Held m) new ≡ queue_at (Held m) q = queue_then code number (Waiting via) q g (Held m) in
-        let most = one_more via m number (queue_at (Waiting via) q) (queue_at (Waiting m) q) (λ s. ap (λ (i : ℕ). queue_at (Waiting i) q) s) in
-        let w = ap length wait in
-        let h = ap length held in
-        three (queue_at (Unacked m) q) (queue_at (Waiting m) q) (queue_at (Held m) q) (queue_at (Unacked m) new) (queue_at (Waiting m) new) (queue_at (Held m) new) (ap length sent) (omega (arith, most, w, h))
-on_then code number to q g via (inr e) m = subst (λ (f : Fate). Goes code number f q → length (on_lists m (passed_first (Back code) f q)) ≤ length (on_lists m q) + 1) (sym e) holds g
-  where
-    holds : Goes code number (Held via) q → length (on_lists m (passed_first (Back code) (Held via) q)) ≤ length (on_lists m q) + 1
-    holds g =
-        let new : Lists = passed_first (Back code) (Held via) q in
-        let sent : queue_at (Unacked m) new ≡ queue_at (Unacked m) q = queue_then code number (Held via) q g (Unacked m) in
-        let wait : queue_at (Waiting m) new ≡ queue_at (Waiting m) q = queue_then code number (Held via) q g (Waiting m) in
-        let held : queue_at (Held m) new ≡ cond (via == m) (queue_at (Held via) q ++ number ∷ []) (queue_at (Held m) q) = queue_then code number (Held via) q g (Held m) in
-        let most = one_more via m number (queue_at (Held via) q) (queue_at (Held m) q) (λ s. ap (λ (i : ℕ). queue_at (Held i) q) s) in
-        let w = ap length wait in
-        let h = ap length held in
-        three (queue_at (Unacked m) q) (queue_at (Waiting m) q) (queue_at (Held m) q) (queue_at (Unacked m) new) (queue_at (Waiting m) new) (queue_at (Held m) new) (ap length sent) (omega (arith, most, w, h))
+-- the first of a code comes to one of the queues of a link
+module _ (code number via : ℕ) (q : Lists) (m : ℕ) where
+  abbrev after : Fate → Lists
+  after to = passed_first (Back code) to q
+
+  waits : Goes code number (Waiting via) q → length (on_lists m (after (Waiting via))) ≤ length (on_lists m q) + 1
+  waits g =
+      let sent : queue_at (Unacked m) (after (Waiting via)) ≡ queue_at (Unacked m) q = queue_then code number (Waiting via) q g (Unacked m) in
+      let held : queue_at (Held m) (after (Waiting via)) ≡ queue_at (Held m) q = queue_then code number (Waiting via) q g (Held m) in
+      let wait : queue_at (Waiting m) (after (Waiting via)) ≡ cond (via == m) (queue_at (Waiting via) q ++ number ∷ []) (queue_at (Waiting m) q) = queue_then code number (Waiting via) q g (Waiting m) in
+      let most = one_more via m number (queue_at (Waiting via) q) (queue_at (Waiting m) q) (λ s. ap (λ (i : ℕ). queue_at (Waiting i) q) s) in
+      omega (arith, on_length m q, on_length m (after (Waiting via)), ap length sent, ap length held, ap length wait, most)
+
+  holds : Goes code number (Held via) q → length (on_lists m (after (Held via))) ≤ length (on_lists m q) + 1
+  holds g =
+      let sent : queue_at (Unacked m) (after (Held via)) ≡ queue_at (Unacked m) q = queue_then code number (Held via) q g (Unacked m) in
+      let wait : queue_at (Waiting m) (after (Held via)) ≡ queue_at (Waiting m) q = queue_then code number (Held via) q g (Waiting m) in
+      let held : queue_at (Held m) (after (Held via)) ≡ cond (via == m) (queue_at (Held via) q ++ number ∷ []) (queue_at (Held m) q) = queue_then code number (Held via) q g (Held m) in
+      let most = one_more via m number (queue_at (Held via) q) (queue_at (Held m) q) (λ s. ap (λ (i : ℕ). queue_at (Held i) q) s) in
+      omega (arith, on_length m q, on_length m (after (Held via)), ap length sent, ap length wait, ap length held, most)
+
+  on_then : (to : Fate) → Goes code number to q → (to ≡ Waiting via) ⊎ (to ≡ Held via) → length (on_lists m (after to)) ≤ length (on_lists m q) + 1
+  on_then to g is = either (λ f. Goes code number f q → length (on_lists m (after f)) ≤ length (on_lists m q) + 1) to via is waits holds g
 
 pub turns_one : (home code links : ℕ) (to : Fate) (old new : QueuesState) → IsOldest home code old.lists → IsOnLink links to → length old.lists.links ≡ links → new.lists ≡ passed_first (Back code) to old.lists → TakesRoom to 1 old.rooms new.rooms → new.room ≡ old.room → TakesTurns 1 old new
 turns_one home code links to old new o on many e rooms room = record {
   room = room;
   rooms = λ f. taken_one to f old.rooms new.rooms rooms;
-  on_link = λ n low. subst (λ (z : Lists). length (on_lists n z) ≤ length (on_lists n old.lists) + 1) (sym e) (on_then code o.number to old.lists (goes_to home code links to old.lists o on many) on.0 on.2 n);
+  on_link = λ n low. subst (λ (z : Lists). length (on_lists n z) ≤ length (on_lists n old.lists) + 1) (sym e) (on_then code o.number on.0 old.lists n to (goes_to home code links to old.lists o on many) on.2);
 }
 
 pub links_then : (from to : Fate) (q q' : Lists) → q' ≡ passed_first from to q → length q'.links ≡ length q.links

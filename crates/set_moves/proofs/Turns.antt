@@ -18,7 +18,7 @@ use Rattle.set_moves.specs.Agreement.{Kept, Stands, StandsFor, rows_at}
 use Rattle.set_moves.specs.Turning.{IsTurning, IsTurningRow, TurnedOn, TurnedSoFar}
 use Rattle.set_moves.proofs.Becoming.{Becoming, becomes}
 use Rattle.set_moves.proofs.RowsAt.{waits_there, sent_there, held_there, parked_there, back_there}
-use Rattle.set_moves.proofs.Shifting.{shifted, shifted_messages, shifted_goes, shifted_beside, shifted_off, shifted_in, shifted_out, shifted_each, moved_same, moved_as}
+use Rattle.set_moves.proofs.Shifting.{shifted, shifted_messages, shifted_goes, shifted_stands, shifted_each, rest_stands, moved_same, moved_as}
 use Rattle.set_moves.proofs.Standing.{restands, final, none}
 use Rattle.set_moves.proofs.States.{changes, last_stays}
 use Rattle.set_moves.proofs.Oldest.{IsFirst, IsOnLink, first_of}
@@ -39,6 +39,14 @@ tested (Back c) e = record { test = is_back c; rows_are = λ rows. refl; same = 
 tested (Acked l) e = absurd cc
 tested (Discarded cause) e = absurd cc
 
+-- the numbers of a fate's rows, where the first left those of the one and came to the other
+joined : (from at : Bool) (rest own : List Row) (y : Row) (n : ℕ) (left there here : List ℕ) → n ≡ y.number → (from ≡ true → at ≡ false) → left ≡ numbers rest → (at ≡ true → there ≡ numbers own) → here ≡ numbers own
+    → cond from left (cond at (there ++ n ∷ []) here) ≡ numbers (cond from rest own ++ cond at (y ∷ []) [])
+joined true true rest own y n left there here is apart l t h = absurd (let no = apart refl in cc)
+joined true false rest own y n left there here is apart l t h = l ∙ ap numbers (sym (append-nil rest))
+joined false true rest own y n left there here is apart l t h = rw (t refl, is) (sym (map-append (λ (r : Row). r.number) own (y ∷ [])))
+joined false false rest own y n left there here is apart l t h = h ∙ ap numbers (sym (append-nil own))
+
 -- ONE TURNS BACK
 module _ (home code : ℕ) (to : Fate) (k : Kept) (s : State) (f : StandsFor k s) (o : IsOldest home code k.lists) (on : IsOnLink (length k.lists.links) to) (x : IsFirst home code o.number s.rows) where
   abbrev row : Row
@@ -56,45 +64,20 @@ module _ (home code : ℕ) (to : Fate) (k : Kept) (s : State) (f : StandsFor k s
   number : o.number ≡ row.number
   number = sym x.number_is
 
-  back_to : same_fate (Back code) to ≡ false
-  back_to = either (λ f. same_fate (Back code) f ≡ false) to on.0 on.2 refl refl
-
   queues : (g : Fate) → queue_at g then ≡ numbers (rows_at g after)
   queues g = queue_then code o.number to k.lists goes g ∙ go (cases_Bool (is_standing g))
     where
-      -- where it stood
-      left : (t : Tested g) → same_fate (Back code) g ≡ true → Back code ≡ g → drop 1 (queue_at (Back code) k.lists) ≡ numbers (rows_at g after)
-      left t e same = subst (λ (h : Fate). drop 1 (queue_at (Back code) k.lists) ≡ numbers (rows_at h after)) same
-          (ap (drop 1) (f.stands.queues (Back code) ∙ ap numbers x.of_code)
-          ∙ sym (ap numbers (shifted_off to row s.rows x.one (is_back code) x.after x.of_code ∙ ap (λ (ys : List Row). x.after ++ ys) (shifted_out to row s.rows x.one (is_back code) (back_there code to ∙ goes.apart)) ∙ append-nil x.after)))
-
-      beside : (t : Tested g) → same_fate (Back code) g ≡ false → rows_at g after ≡ rows_at g s.rows ++ standing t.test (with_fate to row ∷ [])
-      beside t e =
-          t.rows_are after
-          ∙ shifted_beside to row s.rows x.one t.test (t.same row.fate ∙ ap (λ (h : Fate). same_fate h g) x.fate_is ∙ e)
-          ∙ ap (λ (ys : List Row). ys ++ standing t.test (with_fate to row ∷ [])) (sym (t.rows_are s.rows))
-
-      -- where it comes
-      come : (t : Tested g) → same_fate (Back code) g ≡ false → same_fate to g ≡ true → to ≡ g → queue_at to k.lists ++ o.number ∷ [] ≡ numbers (rows_at g after)
-      come t e d same =
-          ap (λ (xs : List ℕ). xs ++ o.number ∷ []) (f.stands.queues to)
-          ∙ ap (λ (h : Fate). numbers (rows_at h s.rows) ++ o.number ∷ []) same
-          ∙ ap (λ (n : ℕ). numbers (rows_at g s.rows) ++ n ∷ []) number
-          ∙ sym (ap numbers (beside t e ∙ ap (λ (ys : List Row). rows_at g s.rows ++ ys) (shifted_in to row s.rows x.one t.test (t.same to ∙ d))) ∙ map-append (λ (r : Row). r.number) (rows_at g s.rows) (with_fate to row ∷ []))
-
-      still : (t : Tested g) → same_fate (Back code) g ≡ false → same_fate to g ≡ false → queue_at g k.lists ≡ numbers (rows_at g after)
-      still t e d =
-          f.stands.queues g
-          ∙ sym (ap numbers (beside t e ∙ ap (λ (ys : List Row). rows_at g s.rows ++ ys) (shifted_out to row s.rows x.one t.test (t.same to ∙ d)) ∙ append-nil (rows_at g s.rows)))
-
-      by : (t : Tested g) → is_standing g ≡ true → (same_fate (Back code) g ≡ true) ⊎ (same_fate (Back code) g ≡ false) → (same_fate to g ≡ true) ⊎ (same_fate to g ≡ false)
-          → cond (same_fate (Back code) g) (drop 1 (queue_at (Back code) k.lists)) (cond (same_fate to g) (queue_at to k.lists ++ o.number ∷ []) (queue_at g k.lists)) ≡ numbers (rows_at g after)
-      by t u (inl e) d = rw e (left t e (same_is (Back code) g u e))
-      by t u (inr e) (inl d) = rw (e, d) (come t e d (same_is to g u d))
-      by t u (inr e) (inr d) = rw (e, d) (still t e d)
-
       go : (is_standing g ≡ true) ⊎ (is_standing g ≡ false) → cond (same_fate (Back code) g) (drop 1 (queue_at (Back code) k.lists)) (cond (same_fate to g) (queue_at to k.lists ++ o.number ∷ []) (queue_at g k.lists)) ≡ numbers (rows_at g after)
-      go (inl u) = by (tested g u) u (cases_Bool (same_fate (Back code) g)) (cases_Bool (same_fate to g))
+      go (inl u) =
+          let t = tested g u in
+          let from : t.test row.fate ≡ same_fate (Back code) g = t.same row.fate ∙ ap (λ (h : Fate). same_fate h g) x.fate_is in
+          let there = shifted_stands to row s.rows x.one t.test x.after (λ h. sym (t.rows_are s.rows) ∙ ap (λ (h : Fate). rows_at h s.rows) (sym (same_is (Back code) g u (sym from ∙ h))) ∙ x.of_code) in
+          joined (same_fate (Back code) g) (same_fate to g) x.after (rows_at g s.rows) (with_fate to row) o.number _ _ _ number
+          (λ e. subst (λ (h : Fate). same_fate to h ≡ false) (same_is (Back code) g u e) goes.apart)
+          (ap (drop 1) (f.stands.queues (Back code) ∙ ap numbers x.of_code))
+          (λ e. f.stands.queues to ∙ ap (λ (h : Fate). numbers (rows_at h s.rows)) (same_is to g u e))
+          (f.stands.queues g)
+          ∙ sym (ap numbers (t.rows_are after ∙ (rw (from, t.same to, ← t.rows_are s.rows) at there)))
       go (inr u) = sym (queue_then code o.number to k.lists goes g) ∙ final g u then ∙ sym (none g u after)
 
   pub stands_then : Stands then (restood (take 1 (queue_at (Back code) k.lists)) to k.messages) after
@@ -132,10 +115,8 @@ module _ (home code : ℕ) (to : Fate) (k : Kept) (s : State) (f : StandsFor k s
   turned_on t way =
       let off : is_back_to home to ≡ false = either (λ f. is_back_to home f ≡ false) to on.0 on.2 refl refl in
       let on_back : is_back_to home row.fate ≡ true = ap (is_back_to home) x.fate_is ∙ eq-eqb (home_of code) home o.of_home in
-      let rest_is : standing (is_back_to home) after ≡ x.rest = shifted_off to row s.rows x.one (is_back_to home) x.rest x.first ∙ ap (λ (ys : List Row). x.rest ++ ys) (shifted_out to row s.rows x.one (is_back_to home) off) ∙ append-nil x.rest in
-      let moved_is : moved (is_back_to home) fate after ≡ moved (is_back_to home) fate s.rows =
-      subst (λ (g : Fate). moved (is_back_to home) fate (shifted g row s.rows) ≡ moved (is_back_to home) fate s.rows) (sym way)
-      (moved_same (is_back_to home) fate row x.rest s.rows x.one x.first on_back (ap (is_back_to home) (sym way) ∙ off)) in
+      let rest_is : standing (is_back_to home) after ≡ x.rest = rest_stands (is_back_to home) fate to row x.rest s.rows way x.one x.first on_back off in
+      let moved_is : moved (is_back_to home) fate after ≡ moved (is_back_to home) fate s.rows = moved_same (is_back_to home) fate to row x.rest s.rows way x.one x.first on_back off in
       record {
         turning = record {
           each = shifted_each to row s.rows x.one (IsTurningRow home s) t.each (λ e. absurd (let no : true ≡ false = sym e ∙ off in cc));

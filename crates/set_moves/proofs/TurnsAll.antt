@@ -1,21 +1,22 @@
 -- ALL THAT STANDS BACK FOR A LINK turns back, the oldest first.
-use Rattle.std.proofs.Common.{refl, arith, ◌≡◌, ◌∙◌, ap, sym, subst, ◌+◌, ◌*◌, [], ◌∷◌, length, ℕ, suc, true, List, Option, Some, None}
-use Rattle.std.proofs.lemmas.Bool.{eq-eqb}
-use Rattle.set_events.specs.declared.answer.Fate.TheVariants.{Waiting, Held, Back}
+use Rattle.std.proofs.Common.{refl, arith, ◌≡◌, ◌∙◌, ap, sym, subst, ◌+◌, ◌*◌, [], ◌∷◌, length, ℕ, List, Option, Some, None}
+use Rattle.std.specs.Prelude.{slice_get}
+use Rattle.set_events.specs.declared.answer.Fate.TheVariants.{Waiting, Held}
 use Rattle.set_queues.specs.declared.message.Message.{Message}
 use Rattle.set_queues.specs.Backs.{back_from, IsOldest, IsOldestOf, NoneBack}
 use Rattle.set_queues.specs.Buffers.{Lists, HaveRoom}
 use Rattle.set_route.specs.Routing.{place_of}
-use Rattle.set_model.specs.Rows.{Row, standing, is_back, is_back_to, numbers, stream_of}
+use Rattle.set_model.specs.Rows.{Row, standing, is_back_to, stream_of}
 use Rattle.set_model.specs.Changeover.{turned_back}
 use Rattle.set_model.specs.State.{State, fate_at}
-use Rattle.set_model.proofs.Filters.{filter_within, fewer_filter}
+use Rattle.set_model.proofs.Filters.{fewer_filter}
+use Rattle.set_model.proofs.Lookups.{no_rows}
 use Rattle.set_model.proofs.Moving.{moved_nothing}
 use Rattle.set_moves.specs.Agreement.{Kept, Stands, StandsFor}
 use Rattle.set_moves.specs.declared.parts.Parts.{Parts}
 use Rattle.set_moves.specs.Parts.{IsWhole, kept_of}
 use Rattle.set_moves.specs.Turning.{IsTurning, CanTurn, TurnedSoFar, TakesTurns}
-use Rattle.set_moves.proofs.Oldest.{passes, back_of, back_home}
+use Rattle.set_moves.proofs.Oldest.{first_back}
 use Rattle.set_moves.proofs.TurnedQueues.{turns_then, some_back}
 
 -- SO MANY TURNED BACK
@@ -46,24 +47,16 @@ none_left home q ms rows s nothing = go (standing (is_back_to home) rows) refl
     go : (xs : List Row) → standing (is_back_to home) rows ≡ xs → standing (is_back_to home) rows ≡ []
     go [] e = e
     go (y ∷ rest) e =
-        let b = back_of home y.fate (passes (λ (row : Row). is_back_to home row.fate) rows rest y e) in
-        let own : is_back b.0 y.fate ≡ true = ap (is_back b.0) b.1 ∙ eq-eqb b.0 b.0 refl in
-        let there : standing (is_back b.0) rows ≡ standing (is_back b.0) (y ∷ rest) = sym (filter_within (λ (row : Row). is_back b.0 row.fate) (λ (row : Row). is_back_to home row.fate) (λ r f. back_home home b.0 b.2 r.fate f) rows) ∙ ap (standing (is_back b.0)) e in
-        let heads : standing (is_back b.0) (y ∷ rest) ≡ y ∷ standing (is_back b.0) rest = rw own refl in
-        let no : [] ≡ numbers (y ∷ standing (is_back b.0) rest) = sym (nothing b.0 b.2) ∙ s.queues (Back b.0) ∙ ap numbers (there ∙ heads) in
+        let b = first_back home q ms rows rest y s e in
+        let no : None ≡ Some y.number = sym (ap (λ (ns : List ℕ). slice_get ns 0) (nothing b.0 b.1)) ∙ b.2 in
         absurd cc
 
 -- as many turned as there are messages
 pub all_left : (home i : ℕ) (s : State) (k : Kept) → (so : TurnedSoFar home i s k) → length s.rows ≡ i → standing (is_back_to home) so.0.rows ≡ []
-all_left home i s k so many = go (standing (is_back_to home) so.0.rows) refl
-  where
-    go : (xs : List Row) → standing (is_back_to home) so.0.rows ≡ xs → standing (is_back_to home) so.0.rows ≡ []
-    go [] e = e
-    go (y ∷ rest) e =
-        let some : length (standing (is_back_to home) so.0.rows) ≡ suc (length rest) = ap length e in
-        let few = fewer_filter (λ (row : Row). is_back_to home row.fate) s.rows in
-        let sum = so.2.fewer in
-        absurd (omega (arith, some, few, sum, many))
+all_left home i s k so many =
+    let few = fewer_filter (λ (row : Row). is_back_to home row.fate) s.rows in
+    let sum = so.2.fewer in
+    no_rows (standing (is_back_to home) so.0.rows) (omega (arith, few, sum, many))
 
 -- THE LOOP: so many turned back
 pub record Turning (home i : ℕ) (old now : Parts) : Type 0 where
