@@ -75,9 +75,6 @@ count_is parts s f = sym (ap length f.links) ∙ length-map parts.links.items li
 pub asked_links : (b : Bool) (home alternative : ℕ) (r now : Routing) → now ≡ (if b then asked home alternative r else r) → now.links ≡ r.links
 asked_links b home alternative r now e = grind arith
 
-pub all_declared : (home n links : ℕ) (old now : Parts) → n ≡ links → Becomes old now (declared_from home 0 n) → Becomes old now (declared_from home 0 links)
-all_declared home n links old now e f = subst (λ (k : ℕ). Becomes old now (declared_from home 0 k)) e f
-
 -- WHAT IS ANSWERED
 pub come_back : (b : Bool) (s : State) (n : ℕ) (answer : Answer) (parts : Parts) (i : IsIn s n Up) → some_declare n 0 (link_count s) s ≡ b
     → Gives (if b then record { answer = Done; state = declared_from n 0 (link_count s) s } else refused s Nothing) answer parts → Gives (in_service n s (λ link. comes_back n s)) answer parts

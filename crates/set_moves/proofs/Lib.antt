@@ -5,7 +5,6 @@ pub mod Judged
 pub mod Leaving
 pub mod Less
 pub mod Links
-pub mod Obeying
 pub mod Occurring
 pub mod Oldest
 pub mod Reaching

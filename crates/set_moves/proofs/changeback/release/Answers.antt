@@ -1,18 +1,15 @@
-use Rattle.std.proofs.Common.{refl, arith, ◌≡◌, ◌∙◌, ap, sym, subst, ◌≤◌, ◌+◌, ◌==◌, ℕ, Bool, true, [], length, cond}
+use Rattle.std.proofs.Common.{rules, refl, arith, ◌≡◌, ◌∙◌, ap, sym, subst, ◌≤◌, ◌+◌, ◌==◌, ℕ, Bool, true, [], length, cond}
 use Rattle.std.proofs.lemmas.Bool.{eq-eqb, ne_eqb}
-use Rattle.set_queues.specs.Buffers.{Lists, queue_at, room_at}
+use Rattle.set_queues.specs.Buffers.{queue_at, room_at}
 use Rattle.set_queues.proofs.Soundness.{passed_links, passed_replaces}
 use Rattle.set_events.specs.declared.answer.Fate.TheVariants.{Waiting, Back}
-use Rattle.set_route.specs.Routing.{Routing, given_back}
+use Rattle.set_route.specs.Routing.{given_back}
 use Rattle.set_model.specs.Rows.{is_back, moved, all_with}
 use Rattle.set_moves.specs.Agreement.{StandsFor}
 use Rattle.set_moves.specs.Parts.{kept_of}
 use Rattle.set_moves.proofs.Becoming.{becomes}
 use Rattle.set_moves.proofs.States.{released_for}
 use Rattle.set_moves.proofs.changeback.release.Goals as goal
-
-pub divert-requires-clause-known : goal.divert-requires-clause-known
-divert-requires-clause-known c = let few = c.ranges.code.fits in let many = c.is_sound.ensures.codes in omega (arith, few, many)
 
 pub returns-clause-stands : goal.returns-clause-stands
 returns-clause-stands c = λ s f.
@@ -25,22 +22,7 @@ returns-clause-stands c = λ s f.
     let links = c.requires.whole.as_many in
     let runs = given_back code s.routing in
     subst (λ (l : ℕ). StandsFor (kept_of (record c.args.parts.now { queues = c.divert.new.self; routes = c.give_back.new.self })) (record s { rows = moved (is_back code) (all_with (Waiting l)) s.rows; routing = runs })) home
-    (becomes (kept_of c.args.parts.now) _ _ _ _ _ _ (record s { rows = moved (is_back code) (all_with (Waiting h)) s.rows; routing = runs }) (record {
-      settings_same = refl;
-      lists_are = c.divert.ensures.lists;
-      messages_are = c.divert.ensures.messages;
-      bodies_are = refl;
-      links_are = refl;
-      routing_is = c.give_back.ensures ∙ ap (given_back code) f.routing;
-      inbox_same = refl;
-    }) (released_for (kept_of c.args.parts.now) s code h runs f (omega (arith, few, many)) (omega (arith, home, low, links))))
-
-pub returns-clause-whole : goal.returns-clause-whole
-returns-clause-whole c = record {
-  as_many = ap (λ (q : Lists). length q.links) c.divert.ensures.lists ∙ passed_links c.args.parts.now.queues.lists (Back c.args.code) (Waiting c.home_of_code-home.result) ∙ c.requires.whole.as_many;
-  routed = ap (λ (r : Routing). r.links) c.give_back.ensures ∙ c.requires.whole.routed;
-  few = c.requires.whole.few;
-}
+    (becomes (kept_of c.args.parts.now) _ _ _ _ _ _ (record s { rows = moved (is_back code) (all_with (Waiting h)) s.rows; routing = runs }) (search rules) (released_for (kept_of c.args.parts.now) s code h runs f (omega (arith, few, many)) (omega (arith, home, low, links))))
 
 pub returns-clause-others : goal.returns-clause-others
 returns-clause-others c = λ other d.
@@ -56,3 +38,6 @@ returns-clause-others c = λ other d.
 pub returns-clause-rooms : goal.returns-clause-rooms
 returns-clause-rooms c = subst (λ (h : ℕ). room_at (Waiting h) c.args.parts.now.queues.rooms ≤ room_at (Waiting h) c.divert.new.self.rooms + length (queue_at (Back c.args.code) c.args.parts.now.queues.lists)) c.home_of_code-home.ensures.value
     (let taken = c.divert.ensures.rooms (Waiting c.home_of_code-home.result) in let here : (c.home_of_code-home.result == c.home_of_code-home.result) ≡ true = eq-eqb c.home_of_code-home.result c.home_of_code-home.result refl in rw here at taken)
+
+pub returns-clause-whole : goal.returns-clause-whole
+returns-clause-whole c = let many = passed_links c.args.parts.now.queues.lists (Back c.args.code) (Waiting c.home_of_code-home.result) in grind arith

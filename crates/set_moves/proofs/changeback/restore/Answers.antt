@@ -6,7 +6,6 @@ use Rattle.set_model.specs.declared.phase.Phase.TheVariants.{Up}
 use Rattle.set_moves.specs.Refusing.{service_refusal}
 use Rattle.set_moves.proofs.Admitting.{serves, unserved, is_in, here_same, agrees_same}
 use Rattle.set_moves.proofs.Declaring.{come_back, count_is}
-use Rattle.set_moves.proofs.Rooms.{whole_of}
 use Rattle.set_moves.proofs.changeback.restore.Goals as goal
 
 pub returns-in-Some-clause-ok : goal.returns-in-Some-clause-ok
@@ -19,9 +18,6 @@ pub returns-then-not-has_alternative-clause-ok : goal.returns-then-not-has_alter
 returns-then-not-has_alternative-clause-ok c = λ s a.
     let h = serves c.args.parts.now.links.items c.args.number (ap (λ links. service_refusal (slice_get links c.args.number)) (sym c.deref.ensures.value) ∙ sym c.out_of_service.ensures ∙ c.in_default.is) in
     come_back false s c.args.number (Refused Nothing) c.args.parts.now (is_in c.args.parts.now s c.args.number Up a h) (sym (c.has_alternative.ensures s a) ∙ c.if-not-has_alternative.true) (record { answer_is = refl; stands = a.stands })
-
-pub declare_all-requires-clause-whole : goal.declare_all-requires-clause-whole
-declare_all-requires-clause-whole c = whole_of c.make_room_declared.new.parts (c.requires.holds.0, agrees_same c.args.parts.now c.make_room_declared.new.parts c.requires.holds.0 c.make_room_declared.ensures.same c.requires.holds.1)
 
 pub declare_all-requires-clause-home : goal.declare_all-requires-clause-home
 declare_all-requires-clause-home c =

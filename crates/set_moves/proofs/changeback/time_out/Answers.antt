@@ -6,20 +6,10 @@ use Rattle.set_moves.specs.Parts.{kept_of}
 use Rattle.set_moves.proofs.Admitting.{unknown}
 use Rattle.set_moves.proofs.Becoming.{becomes}
 use Rattle.set_moves.proofs.Releasing.{run_out}
-use Rattle.set_moves.proofs.Rooms.{whole_of}
 use Rattle.set_moves.proofs.changeback.time_out.Goals as goal
 
 pub returns-then-from-len-clause-ok : goal.returns-then-from-len-clause-ok
 returns-then-from-len-clause-ok c = λ s a. unknown c.args.parts.now s a c.args.number NoSuchLink refl (λ link. runs_out c.args.number s) (omega arith)
-
-pub has_code_in_use-requires : goal.has_code_in_use-requires
-has_code_in_use-requires c = let whole = whole_of c.args.parts.now c.requires.holds in omega arith
-
-pub back_count-back-requires : goal.back_count-back-requires
-back_count-back-requires c = let whole = whole_of c.args.parts.now c.requires.holds in omega arith
-
-pub reserve_at-requires-clause-known : goal.reserve_at-requires-clause-known
-reserve_at-requires-clause-known c = let whole = whole_of c.args.parts.now c.requires.holds in omega arith
 
 pub returns-then-not-has_code_in_use-clause-ok : goal.returns-then-not-has_code_in_use-clause-ok
 returns-then-not-has_code_in_use-clause-ok c = λ s a.

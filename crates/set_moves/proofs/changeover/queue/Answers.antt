@@ -1,7 +1,5 @@
 use Rattle.std.proofs.Common.{◌∙◌, ap, sym, length, map, ◌++◌, [], ◌∷◌}
-use Rattle.set_queues.specs.Buffers.{Lists, queue_at, with_queue}
-use Rattle.set_queues.proofs.Passing.{links_stay}
-use Rattle.set_route.specs.Routing.{Routing}
+use Rattle.set_queues.specs.Buffers.{queue_at, with_queue}
 use Rattle.set_model.specs.State.{target}
 use Rattle.set_moves.specs.Parts.{link_of}
 use Rattle.set_moves.proofs.Rooms.{on_same, known_target}
@@ -16,10 +14,3 @@ returns-clause-elsewhere c = λ number known out.
     (known_target c.target_of.result c.args.parts.now.queues.lists links c.deref.result.now c.deref.ensures.value c.requires.whole.as_many c.target_of.ensures.below)
     (λ t e. out_of links number known out t (sym is ∙ e))
     (c.stand_last.ensures.lists ∙ ap (λ fate. with_queue fate (queue_at c.fate_on-fate.result c.args.parts.now.queues.lists ++ length c.args.parts.now.queues.messages ∷ []) c.args.parts.now.queues.lists) c.fate_on-fate.ensures.value)
-
-pub returns-clause-whole : goal.returns-clause-whole
-returns-clause-whole c = record {
-  as_many = ap (λ (q : Lists). length q.links) c.stand_last.ensures.lists ∙ links_stay c.fate_on-fate.result (queue_at c.fate_on-fate.result c.args.parts.now.queues.lists ++ length c.args.parts.now.queues.messages ∷ []) c.args.parts.now.queues.lists ∙ c.requires.whole.as_many ∙ sym (ap (λ ls. length ls.items) c.stand_last.ensures.links);
-  routed = ap (λ (r : Routing). r.links) c.stand_last.ensures.routes ∙ c.requires.whole.routed ∙ sym (ap (λ ls. length ls.items) c.stand_last.ensures.links);
-  few = rw (c.stand_last.ensures.links) c.requires.whole.few;
-}

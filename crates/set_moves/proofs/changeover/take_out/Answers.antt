@@ -1,8 +1,8 @@
-use Rattle.std.proofs.Common.{refl, arith, ◌∙◌, ap, sym, subst}
+use Rattle.std.proofs.Common.{refl, ◌∙◌, ap, subst}
 use Rattle.set_model.specs.declared.phase.Phase.TheVariants.{Down}
 use Rattle.set_model.specs.Changeover.{out_of_service, left_link}
-use Rattle.set_model.proofs.Lists.{same_at, length_set}
-use Rattle.set_route.specs.Routing.{Routing, left as streams_left}
+use Rattle.set_model.proofs.Lists.{same_at}
+use Rattle.set_route.specs.Routing.{left as streams_left}
 use Rattle.set_moves.specs.Agreement.{StandsFor}
 use Rattle.set_moves.specs.Parts.{kept_of}
 use Rattle.set_moves.proofs.Links.{found, link_set}
@@ -23,10 +23,3 @@ returns-clause-links c = λ link there.
     let links = c.args.parts.now.links.items in
     let x = c.index_mut-link.result.now in
     rw (c.from.ensures, same_at links c.args.number x link (found links c.args.number c.from.result x c.from.ensures c.requires.known c.index_mut-link.ensures.value) there) refl
-
-pub returns-clause-whole : goal.returns-clause-whole
-returns-clause-whole c = record {
-  as_many = c.requires.whole.as_many ∙ sym (length_set c.args.parts.now.links.items c.from.result _);
-  routed = ap (λ (r : Routing). r.links) c.divert.ensures ∙ c.requires.whole.routed ∙ sym (length_set c.args.parts.now.links.items c.from.result _);
-  few = let many = length_set c.args.parts.now.links.items c.from.result (record c.index_mut-link.result.now { phase = Down; blind = c.args.blind }) in let few = c.requires.whole.few in omega (arith, many, few);
-}

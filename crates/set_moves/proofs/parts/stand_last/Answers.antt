@@ -1,4 +1,4 @@
-use Rattle.std.proofs.Common.{refl, ◌≡◌, List, length, ℕ}
+use Rattle.std.proofs.Common.{rules, refl, ◌≡◌, List, length, ℕ}
 use Rattle.set_events.specs.declared.answer.Fate.{Fate}
 use Rattle.set_queues.specs.declared.message.Kind.{Kind}
 use Rattle.set_moves.specs.Agreement.{kind_of}
@@ -11,12 +11,4 @@ is : (fate : Fate) (body : List ℕ) (kind : Kind) (octets : ℕ) → kind ≡ k
 is fate body kind octets e f = rw (e, f) refl
 
 pub returns-clause-stands : goal.returns-clause-stands
-returns-clause-stands c = λ s f. appended_then (kept_of c.args.parts.now) _ s c.args.body.now c.args.fate _ f c.requires.queued c.requires.known (is c.args.fate c.args.body.now c.kind_of_body.result _ c.kind_of_body.ensures.value refl) (record {
-  settings_same = refl;
-  lists_are = c.add-2.ensures.lists;
-  messages_are = c.add-2.ensures.messages;
-  bodies_are = c.add.ensures.items;
-  links_are = refl;
-  routing_is = refl;
-  inbox_same = refl;
-})
+returns-clause-stands c = λ s f. appended_then (kept_of c.args.parts.now) _ s c.args.body.now c.args.fate _ f c.requires.queued c.requires.known (is c.args.fate c.args.body.now c.kind_of_body.result _ c.kind_of_body.ensures.value refl) (search rules)

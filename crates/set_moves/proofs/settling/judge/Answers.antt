@@ -1,4 +1,4 @@
-use Rattle.std.proofs.Common.{refl, arith, ◌≡◌, ◌∙◌, ap, sym, subst, ◌<◌, ◌+◌, [], length, ℕ}
+use Rattle.std.proofs.Common.{rules, refl, arith, ◌≡◌, ◌∙◌, sym, subst, ◌<◌, ◌+◌, [], length, ℕ}
 use Rattle.set_events.specs.declared.answer.Fate.TheVariants.{Unacked}
 use Rattle.set_events.specs.declared.answer.DiscardCause.TheVariants.{Emergency}
 use Rattle.set_queues.specs.Buffers.{Lists}
@@ -29,15 +29,8 @@ as_unknown reached n link s k e f = subst (λ (r : Reached). StandsFor k (judged
 
 pub returns-in-Ok-clause-stands : goal.returns-in-Ok-clause-stands
 returns-in-Ok-clause-stands c = λ s link there f.
-    reached_then (kept_of c.args.parts.now) _ s c.args.number c.in-Upto.fsn link c.args.reached c.in-Upto.is f there c.requires.reached c.in-Ok.ensures.acked.0 (record {
-      settings_same = refl;
-      lists_are = c.in-Ok.ensures.lists;
-      messages_are = c.in-Ok.ensures.messages;
-      bodies_are = refl;
-      links_are = link_set c.args.parts.now.links.items c.args.number c.from-in-Ok.result c.index_mut.result.now c.from-in-Ok.ensures c.requires.known c.index_mut.ensures.value _ s.links link (acknowledged (reach c.args.number c.in-Upto.fsn c.args.parts.now.queues.lists) link) f.links there (λ e. more link _ c.from.result _ e (c.from.ensures ∙ c.in-Ok.ensures.acked.1));
-      routing_is = refl;
-      inbox_same = refl;
-    })
+    let set = link_set c.args.parts.now.links.items c.args.number c.from-in-Ok.result c.index_mut.result.now c.from-in-Ok.ensures c.requires.known c.index_mut.ensures.value _ s.links link (acknowledged (reach c.args.number c.in-Upto.fsn c.args.parts.now.queues.lists) link) f.links there (λ e. more link _ c.from.result _ e (c.from.ensures ∙ c.in-Ok.ensures.acked.1)) in
+    reached_then (kept_of c.args.parts.now) _ s c.args.number c.in-Upto.fsn link c.args.reached c.in-Upto.is f there c.requires.reached c.in-Ok.ensures.acked.0 (search (rules, c.in-Ok.ensures.lists, c.in-Ok.ensures.messages, set))
 
 pub returns-in-Ok-clause-fewer : goal.returns-in-Ok-clause-fewer
 returns-in-Ok-clause-fewer c =
@@ -46,13 +39,6 @@ returns-in-Ok-clause-fewer c =
 
 pub returns-in-Ok-clause-phases : goal.returns-in-Ok-clause-phases
 returns-in-Ok-clause-phases c = set_view c.args.parts.now.links.items c.args.number c.from-in-Ok.result c.index_mut.result.now c.from-in-Ok.ensures c.requires.known c.index_mut.ensures.value (λ (l : Link). l.phase) _ refl
-
-pub returns-in-Ok-clause-whole : goal.returns-in-Ok-clause-whole
-returns-in-Ok-clause-whole c = record {
-  as_many = ap (λ (l : Lists). length l.links) c.in-Ok.ensures.lists ∙ acked_links c.args.parts.now.queues.lists c.args.number c.in-Upto.fsn ∙ c.requires.whole.as_many ∙ sym (length_set c.args.parts.now.links.items c.from-in-Ok.result _);
-  routed = c.requires.whole.routed ∙ sym (length_set c.args.parts.now.links.items c.from-in-Ok.result _);
-  few = rw (length_set c.args.parts.now.links.items c.from-in-Ok.result _) c.requires.whole.few;
-}
 
 pub returns-in-Err-clause-stands : goal.returns-in-Err-clause-stands
 returns-in-Err-clause-stands c = λ s link there f.
@@ -63,7 +49,7 @@ pub returns-in-Unknown-clause-stands : goal.returns-in-Unknown-clause-stands
 returns-in-Unknown-clause-stands c = λ s link there f.
     as_unknown c.args.reached c.args.number link s _ c.in-Unknown.is
     (sent_up_then (kept_of c.args.parts.now) _ s c.args.number Emergency f (known_of c.args.number c.args.parts.now.queues.lists _ c.requires.whole.as_many c.requires.known)
-    (record { settings_same = refl; lists_are = c.discard-in-Unknown.ensures.lists; messages_are = c.discard-in-Unknown.ensures.messages; bodies_are = refl; links_are = refl; routing_is = refl; inbox_same = refl }))
+    (search rules))
 
 pub returns-in-Unknown-clause-fewer : goal.returns-in-Unknown-clause-fewer
 returns-in-Unknown-clause-fewer c =
@@ -71,8 +57,9 @@ returns-in-Unknown-clause-fewer c =
     on_less c.args.number q c.discard-in-Unknown.new.self.lists (subst (NoLonger q) (sym c.discard-in-Unknown.ensures.lists) (cleared_less (Unacked c.args.number) q refl (known_of c.args.number q _ c.requires.whole.as_many c.requires.known)))
 
 pub returns-in-Unknown-clause-whole : goal.returns-in-Unknown-clause-whole
-returns-in-Unknown-clause-whole c = record {
-  as_many = ap (λ (l : Lists). length l.links) c.discard-in-Unknown.ensures.lists ∙ links_stay (Unacked c.args.number) [] c.args.parts.now.queues.lists ∙ c.requires.whole.as_many;
-  routed = c.requires.whole.routed;
-  few = c.requires.whole.few;
-}
+returns-in-Unknown-clause-whole c = let many = links_stay (Unacked c.args.number) [] c.args.parts.now.queues.lists in grind arith
+
+pub returns-in-Ok-clause-whole : goal.returns-in-Ok-clause-whole
+returns-in-Ok-clause-whole c =
+    let many = acked_links c.args.parts.now.queues.lists c.args.number c.in-Upto.fsn in
+    grind (arith, length_set)

@@ -1,4 +1,4 @@
-use Rattle.std.proofs.Common.{refl, ◌≡◌, ◌≢◌, ◌∙◌, ap, sym, subst, ℕ, Option, Some, map, length, ◌<◌}
+use Rattle.std.proofs.Common.{rules, ◌≡◌, ◌≢◌, ◌∙◌, ap, sym, subst, ℕ, Option, Some, map, length, ◌<◌}
 use Rattle.std.specs.Prelude.{IfSome}
 use Rattle.set_queues.specs.Messages.{restood}
 use Rattle.set_queues.specs.Settling.{on as on_lists, settled as settled_lists}
@@ -22,13 +22,10 @@ returns c = record {
       let is : c.target_of-target.result ≡ target s.links = c.target_of-target.ensures.value ∙ ap (λ links. target (map link_of links)) c.deref.ensures.value ∙ ap target a.stands.links in
       let apart : (t : ℕ) → target s.links ≡ Some t → n ≢ t = λ t e. out_of c.args.parts.now.links.items n c.requires.known c.requires.out t (ap target a.stands.links ∙ e) in
       let below = subst (λ (o : Option ℕ). IfSome o (λ to. to < length c.args.parts.now.links.items)) is (subst (λ links. IfSome c.target_of-target.result (λ to. to < length links)) c.deref.ensures.value c.target_of-target.ensures.below) in
-      moved_then (kept_of c.args.parts.now) _ s n link a there (aside_for (target s.links) n q.lists (length c.args.parts.now.links.items) c.requires.whole.as_many c.requires.known below apart) (apart_of (target s.links) n apart) (record {
-        settings_same = refl;
-        lists_are = c.settle.ensures.lists ∙ ap (λ fate. settled_lists n fate q.lists) (same_fates c.target_of-target.result (target s.links) is);
-        messages_are = c.settle.ensures.messages ∙ ap (λ fate. restood (on_lists n q.lists) fate q.messages) (same_fates c.target_of-target.result (target s.links) is);
-        bodies_are = refl;
-        links_are = link_set c.args.parts.now.links.items n c.from.result c.index_mut.result.now c.from.ensures c.requires.known c.index_mut.ensures.value _ s.links link (settled_link link) a.stands.links there (λ e. ap settled_link e);
-        routing_is = c.settle-2.ensures ∙ ap (λ (o : Option ℕ). streams_settled n o c.args.parts.now.routes) is ∙ ap (λ (r : Routing). streams_settled n (target s.links) r) a.stands.routing;
-        inbox_same = refl;
-      });
+      let fates = same_fates c.target_of-target.result (target s.links) is in
+      let lists = c.settle.ensures.lists ∙ ap (λ fate. settled_lists n fate q.lists) fates in
+      let messages = c.settle.ensures.messages ∙ ap (λ fate. restood (on_lists n q.lists) fate q.messages) fates in
+      let set = link_set c.args.parts.now.links.items n c.from.result c.index_mut.result.now c.from.ensures c.requires.known c.index_mut.ensures.value _ s.links link (settled_link link) a.stands.links there (λ e. ap settled_link e) in
+      let routes = c.settle-2.ensures ∙ ap (λ (o : Option ℕ). streams_settled n o c.args.parts.now.routes) is ∙ ap (λ (r : Routing). streams_settled n (target s.links) r) a.stands.routing in
+      moved_then (kept_of c.args.parts.now) _ s n link a there (aside_for (target s.links) n q.lists (length c.args.parts.now.links.items) c.requires.whole.as_many c.requires.known below apart) (apart_of (target s.links) n apart) (search (rules, lists, messages, set, routes));
 }

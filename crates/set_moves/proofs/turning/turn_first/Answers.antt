@@ -1,4 +1,4 @@
-use Rattle.std.proofs.Common.{refl, ◌∙◌, length}
+use Rattle.std.proofs.Common.{rules, arith, length}
 use Rattle.set_events.specs.declared.answer.Fate.TheVariants.{Back}
 use Rattle.set_moves.specs.Parts.{kept_of}
 use Rattle.set_moves.proofs.TurnedQueues.{turns_one, fewer_back, links_then}
@@ -9,15 +9,7 @@ pub returns-clause-stands : goal.returns-clause-stands
 returns-clause-stands c = λ s f t.
     turned_first c.args.number c.args.code (length c.args.parts.now.links.items) c.way_of-to.result (kept_of c.args.parts.now) _ s f t c.requires.oldest c.way_of-to.ensures.on_link c.requires.whole.as_many
     (λ row there. c.way_of-to.ensures.value s row f t there)
-    (record {
-      settings_same = refl;
-      lists_are = c.turn_back.ensures.lists;
-      messages_are = c.turn_back.ensures.messages;
-      bodies_are = refl;
-      links_are = refl;
-      routing_is = refl;
-      inbox_same = refl;
-    })
+    (search rules)
 
 pub returns-clause-turns : goal.returns-clause-turns
 returns-clause-turns c =
@@ -28,8 +20,4 @@ returns-clause-fewer c =
     fewer_back c.args.number c.args.code (length c.args.parts.now.links.items) c.way_of-to.result c.args.parts.now.queues.lists c.turn_back.new.self.lists c.requires.oldest c.way_of-to.ensures.on_link c.requires.whole.as_many c.turn_back.ensures.lists
 
 pub returns-clause-whole : goal.returns-clause-whole
-returns-clause-whole c = record {
-  as_many = links_then (Back c.args.code) c.way_of-to.result c.args.parts.now.queues.lists c.turn_back.new.self.lists c.turn_back.ensures.lists ∙ c.requires.whole.as_many;
-  routed = c.requires.whole.routed;
-  few = c.requires.whole.few;
-}
+returns-clause-whole c = let many = links_then (Back c.args.code) c.way_of-to.result c.args.parts.now.queues.lists c.turn_back.new.self.lists c.turn_back.ensures.lists in grind arith
