@@ -48,10 +48,6 @@ can_turn blind n old new here h stands =
     let i = is_in old s n Up a here in
     (out_of_service blind n i.link s, stands s i.link i.there a.stands, turning_of blind n old i.link s here i.there a)
 
--- as many links
-pub as_long : (old new : Parts) (n : ℕ) (blind : Bool) → n < length old.links.items → AtLink n old.links.items (λ link. new.links.items ≡ slice_set old.links.items n (record link { phase = Down; blind = blind })) → length new.links.items ≡ length old.links.items
-as_long old new n blind known links = let x = present old.links.items n known in ap length (links x.0 x.1) ∙ length_set old.links.items n (record x.0 { phase = Down; blind = blind })
-
 -- a link that is up
 pub up_at : (links : List Link) (n : ℕ) → IsHere links n Up → AtLink n links (λ link. link.phase ≡ Up)
 up_at links n h link there = ap (λ (l : Link). l.phase) (same_at links n h.link link h.there there) ∙ h.phase_is

@@ -24,19 +24,13 @@ cleared_less g q s h f = subst (λ (xs : List ℕ). length xs ≤ length (queue_
 dropped : (b : Bool) (k : ℕ) (xs ys : List ℕ) → (b ≡ true → xs ≡ ys) → length (cond b (drop k xs) ys) ≤ length ys
 dropped b k xs ys same = grind (arith, nat_tests, length-drop)
 
+same_unacked : (l : ℕ) (f : Fate) → same_fate (Unacked l) f ≡ true → Unacked l ≡ f
+same_unacked l f e = grind (arith, nat_tests, eqb-true)
+
 pub acked_less : (l fsn : ℕ) (q : Lists) → l < length q.links → NoLonger q (acknowledged l fsn q)
 acked_less l fsn q h f =
     subst (λ (xs : List ℕ). length xs ≤ length (queue_at f q)) (sym (queue_last f l fsn (with_queue (Unacked l) (drop (reach l fsn q) (queue_at (Unacked l) q)) q) ∙ queue_set (Unacked l) f (drop (reach l fsn q) (queue_at (Unacked l) q)) q refl h))
     (dropped (same_fate (Unacked l) f) (reach l fsn q) (queue_at (Unacked l) q) (queue_at f q) (λ e. ap (λ (x : Fate). queue_at x q) (same_unacked l f e)))
-  where
-    same_unacked : (l : ℕ) (f : Fate) → same_fate (Unacked l) f ≡ true → Unacked l ≡ f
-    same_unacked l (Unacked k) e = ap Unacked (eqb-true l k e)
-    same_unacked l (Waiting k) e = absurd (cc)
-    same_unacked l (Held k) e = absurd (cc)
-    same_unacked l (Acked k) e = absurd (cc)
-    same_unacked l Parked e = absurd (cc)
-    same_unacked l (Back c) e = absurd (cc)
-    same_unacked l (Discarded k) e = absurd (cc)
 
 pub less_then : (a b c : Lists) → NoLonger a b → NoLonger b c → NoLonger a c
 less_then a b c p r f = let x = p f in let y = r f in omega (arith, x, y)

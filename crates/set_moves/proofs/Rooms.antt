@@ -1,5 +1,5 @@
 -- Room that was taken, as orders and moved messages need it.
-use Rattle.std.proofs.Common.{arith, ◌≡◌, ◌≢◌, ◌∙◌, ap, sym, subst, ◌≤◌, ◌<◌, ◌+◌, ◌++◌, ℕ, Bool, false, List, map, length, Option, Some, slice_get, slice_set, Vec, Global}
+use Rattle.std.proofs.Common.{arith, ◌≡◌, ◌≢◌, ◌∙◌, refl, ap, sym, subst, ◌≤◌, ◌<◌, ◌+◌, ◌++◌, ℕ, Bool, false, List, map, length, Option, Some, slice_get, slice_set, Vec, Global}
 use Rattle.std.specs.Prelude.{IfSome}
 use Rattle.std.proofs.lemmas.List.{length-map}
 use Rattle.std.proofs.lemmas.Bool.Decides.{nat_tests}
@@ -13,9 +13,10 @@ use Rattle.set_queues.proofs.Settling.{room_left}
 use Rattle.set_route.specs.Routing.{Routing}
 use Rattle.set_route.specs.Target.{target_of}
 use Rattle.set_model.specs.declared.phase.Phase.{Phase}
+use Rattle.set_model.specs.declared.phase.Phase.TheVariants.{Down}
 use Rattle.set_model.specs.Changeover.{fate_on}
 use Rattle.set_model.specs.State.{target, has_phase_up}
-use Rattle.set_model.proofs.Lists.{map_at, map_set, set_same, present, same_at, at_set, length_set}
+use Rattle.set_model.proofs.Lists.{map_at, map_set, set_same, present, same_at, at_set, get_set_same, length_set}
 use Rattle.set_moves.specs.declared.link.Link.{Link}
 use Rattle.set_moves.specs.declared.parts.Parts.{Parts}
 use Rattle.set_moves.specs.Agreement.{Holds, Kept}
@@ -23,6 +24,7 @@ use Rattle.set_moves.specs.Parts.{IsWhole, IsCounted, AreCounted, AtLink, IsOut,
 use Rattle.set_moves.specs.Room.{HasRoom, IsReady, SameButRoom, target_beside}
 use Rattle.set_moves.specs.Turning.{TakesTurns}
 use Rattle.set_moves.proofs.Admitting.{IsHere}
+use Rattle.set_moves.proofs.Leaving.{out_at}
 use Rattle.set_moves.proofs.Targets.{ups}
 
 ups_of : List Link → List Bool
@@ -58,26 +60,15 @@ room_then_all o on on' old new h e t =
     let same : length on' ≡ length on = ap length e in
     omega (arith, h, low, same)
 
-pub fewer : (on orders room : ℕ) → on + orders ≤ room → on ≤ room
-fewer on orders room h = omega (arith, h)
-
 -- what stands on a link that is out isn't touched by what waits for the target
-off_waiting : (o : Option ℕ) (n : ℕ) → ((t : ℕ) → o ≡ Some t → n ≢ t) → same_fate (fate_on o) (Waiting n) ≡ false
-off_waiting o n apart = grind arith
-
-off_unacked : (o : Option ℕ) (n : ℕ) → same_fate (fate_on o) (Unacked n) ≡ false
-off_unacked o n = grind arith
-
-off_held : (o : Option ℕ) (n : ℕ) → same_fate (fate_on o) (Held n) ≡ false
-off_held o n = grind arith
+off_on : (o : Option ℕ) (n : ℕ) → ((t : ℕ) → o ≡ Some t → n ≢ t) → (same_fate (fate_on o) (Unacked n) ≡ false) × (same_fate (fate_on o) (Waiting n) ≡ false) × (same_fate (fate_on o) (Held n) ≡ false)
+off_on o n apart = grind arith
 
 pub on_same : (o : Option ℕ) (n : ℕ) (xs : List ℕ) (q new : Lists) → IsKnown (fate_on o) q → ((t : ℕ) → o ≡ Some t → n ≢ t) → new ≡ with_queue (fate_on o) xs q → on n new ≡ on n q
 on_same o n xs q new known apart e =
-    let s = queued_stands (fate_on o) (queued_on o) in
-    ap (on n) e
-    ∙ ap (λ (ns : List ℕ). (ns ++ queue_at (Waiting n) (with_queue (fate_on o) xs q)) ++ queue_at (Held n) (with_queue (fate_on o) xs q)) (queue_other (fate_on o) (Unacked n) xs q s known (off_unacked o n))
-    ∙ ap (λ (ns : List ℕ). (queue_at (Unacked n) q ++ ns) ++ queue_at (Held n) (with_queue (fate_on o) xs q)) (queue_other (fate_on o) (Waiting n) xs q s known (off_waiting o n apart))
-    ∙ ap (λ (ns : List ℕ). (queue_at (Unacked n) q ++ queue_at (Waiting n) q) ++ ns) (queue_other (fate_on o) (Held n) xs q s known (off_held o n))
+    let off = off_on o n apart in
+    let other : (f : Fate) → same_fate (fate_on o) f ≡ false → queue_at f new ≡ queue_at f q = λ f apart. ap (queue_at f) e ∙ queue_other (fate_on o) f xs q (queued_stands (fate_on o) (queued_on o)) known apart in
+    rw (other (Unacked n) off.0, other (Waiting n) off.1, other (Held n) off.2) refl
 
 -- THE WHOLE NUMBERS of a list in which one link changed otherwise
 pub counted_set : (bound : ℕ) (links new : List Link) (n : ℕ) (link : Link) → AreCounted bound links → new ≡ slice_set links n link → IsCounted bound link → AreCounted bound new
@@ -99,17 +90,9 @@ whole_of parts h =
 pub known_target : (o : Option ℕ) (q : Lists) (links read : List Link) → read ≡ links → length q.links ≡ length links → IfSome o (λ to. to < length read) → IsKnown (fate_on o) q
 known_target o q links read e many below = grind arith
 
--- a link of this phase isn't up
-pub is_out : (links : List Link) (n : ℕ) (link : Link) (phase : Phase) → slice_get links n ≡ Some link → link.phase ≡ phase → has_phase_up phase ≡ false → AtLink n links IsOut
-is_out links n link phase there is down other at = ap (λ (l : Link). has_phase_up l.phase) (same_at links n link other there at) ∙ ap has_phase_up is ∙ down
-
--- of a link in a phase in which it isn't up
-pub here_out : (links : List Link) (n : ℕ) (phase : Phase) → IsHere links n phase → has_phase_up phase ≡ false → AtLink n links IsOut
-here_out links n phase h down = is_out links n h.link phase h.there h.phase_is down
-
 pub here_room : (parts : Parts) (n orders : ℕ) (phase : Phase) → IsHere parts.links.items n phase → has_phase_up phase ≡ false → IsReady n orders parts → length (on n parts.queues.lists) ≤ room_at (fate_on (target (map link_of parts.links.items))) parts.queues.rooms
 here_room parts n orders phase h down r =
-    let same = beside_out parts.links.items n h.known (here_out parts.links.items n phase h down) in
+    let same = beside_out parts.links.items n h.known (out_at parts.links.items n phase h down) in
     let enough = r.place in
     subst (λ (t : Option ℕ). length (on n parts.queues.lists) ≤ room_at (fate_on t) parts.queues.rooms) same (omega (arith, enough))
 
@@ -121,8 +104,23 @@ has_room_left n old new r turns bodies same = rw same (record {
   place = let p = r.place in let taken = turns.rooms (fate_on (target_beside n old.links.items)) in omega (arith, p, taken);
 })
 
-pub still_low : (n : ℕ) (links new : List Link) (link : Link) → new ≡ slice_set links n link → n < length links → n < length new
-still_low n links new link e low = let many : length new ≡ length links = ap length e ∙ length_set links n link in omega (arith, many, low)
+-- A LINK THAT IS LEFT is out, and the whole numbers stay
+pub record IsLeft (n : ℕ) (old new : Parts) : Type 0 where
+  pub many : length new.links.items ≡ length old.links.items
+  pub out : AtLink n new.links.items IsOut
+  pub target_is : target (map link_of new.links.items) ≡ target_beside n old.links.items
+  pub counted : (bound : ℕ) → AreCounted bound old.links.items → AreCounted bound new.links.items
+
+pub is_left : (blind : Bool) (n : ℕ) (old new : Parts) → n < length old.links.items → AtLink n old.links.items (λ link. new.links.items ≡ slice_set old.links.items n (record link { phase = Down; blind = blind })) → IsLeft n old new
+is_left blind n old new known links =
+    let x = present old.links.items n known in
+    let is = links x.0 x.1 in
+    record {
+      many = ap length is ∙ length_set old.links.items n _;
+      out = λ link there. grind (arith, same_at new.links.items n _ link (ap (λ (ls : List Link). slice_get ls n) is ∙ get_set_same old.links.items n _ known) there);
+      target_is = beside_left old.links.items new.links.items n _ is refl;
+      counted = λ bound all. let one = all n x.0 x.1 in counted_set bound old.links.items new.links.items n _ all is (record { acked = one.acked; accepted = one.accepted });
+    }
 
 -- room for all that stand on a link, once it's left and the order stands
 pub room_after : (n : ℕ) (old left new : Parts) → n < length old.queues.lists.links → IsReady n 1 old → TakesTurns (back_count n old.queues.lists) old.queues left.queues → target (map link_of left.links.items) ≡ target_beside n old.links.items → target (map link_of new.links.items) ≡ target (map link_of left.links.items)

@@ -20,9 +20,6 @@ use Rattle.set_moves.proofs.Oldest.{first_back}
 use Rattle.set_moves.proofs.TurnedQueues.{turns_then, some_back}
 
 -- SO MANY TURNED BACK
-pub none_turned : (home : ℕ) (s : State) (k : Kept) → StandsFor k s → IsTurning home s → TurnedSoFar home 0 s k
-none_turned home s k f t = (s, f, record { turning = t; same = refl; fewer = omega arith })
-
 pub then_turned : (home i : ℕ) (s : State) (mid new : Kept) → TurnedSoFar home i s mid → ((t : State) → StandsFor mid t → IsTurning home t → TurnedSoFar home 1 t new) → TurnedSoFar home (i + 1) s new
 then_turned home i s mid new so one =
     let more = one so.0 so.1 so.2.turning in (

@@ -3,7 +3,8 @@ use Rattle.set_model.specs.Changeover.{out_of_service}
 use Rattle.set_queues.specs.Backs.{back_count}
 use Rattle.set_queues.specs.Queues.{QueuesState}
 use Rattle.set_queues.specs.Buffers.{HaveRoom}
-use Rattle.set_moves.proofs.Leaving.{here_up, can_turn, turning_of, as_long}
+use Rattle.set_moves.proofs.Leaving.{here_up, can_turn, turning_of}
+use Rattle.set_moves.proofs.Rooms.{is_left}
 use Rattle.set_moves.proofs.changeover.leave.Goals as goal
 
 pub turn_back-requires-clause-turning : goal.turn_back-requires-clause-turning
@@ -11,8 +12,8 @@ turn_back-requires-clause-turning c = can_turn c.args.blind c.args.number c.args
 
 pub turn_back-requires-clause-room : goal.turn_back-requires-clause-room
 turn_back-requires-clause-room c =
-    let many = as_long c.args.parts.now c.take_out.new.parts c.args.number c.args.blind c.requires.known c.take_out.ensures.links in
-    subst (λ (n : ℕ). HaveRoom n (back_count c.args.number c.take_out.new.parts.queues.lists) c.take_out.new.parts.queues.rooms) (sym many)
+    let left = is_left c.args.blind c.args.number c.args.parts.now c.take_out.new.parts c.requires.known c.take_out.ensures.links in
+    subst (λ (n : ℕ). HaveRoom n (back_count c.args.number c.take_out.new.parts.queues.lists) c.take_out.new.parts.queues.rooms) (sym left.many)
     (subst (λ (q : QueuesState). HaveRoom (length c.args.parts.now.links.items) (back_count c.args.number q.lists) q.rooms) (sym c.take_out.ensures.queues) c.requires.room)
 
 pub returns-clause-stands : goal.returns-clause-stands
