@@ -1,14 +1,14 @@
 -- A LINK THAT IS LEFT: what stood back for it can turn.
-use Rattle.std.proofs.Common.{arith, ◌≡◌, ◌∙◌, ap, subst, ◌<◌, ℕ, Bool, true, false, List, length, slice_get, slice_set, Some}
+use Rattle.std.proofs.Common.{arith, ◌≡◌, ◌∙◌, ap, subst, ◌<◌, ℕ, Bool, true, false, List, length, slice_get, Some}
 use Rattle.set_events.specs.declared.answer.Fate.{Fate}
 use Rattle.set_route.specs.Routing.{Routing}
-use Rattle.set_model.specs.declared.phase.Phase.TheVariants.{Up, Down}
+use Rattle.set_model.specs.declared.phase.Phase.TheVariants.{Up}
 use Rattle.set_model.specs.Changeover.{out_of_service}
 use Rattle.set_model.specs.Rows.{Row, is_back_to, stands_back, stream_of, is_users, numbers, back}
 use Rattle.set_model.specs.State.{LinkState, State, has_phase_up}
 use Rattle.set_model.specs.Sound.{IsAscending, IsBackOf}
 use Rattle.set_model.proofs.Filters.{filter_within}
-use Rattle.set_model.proofs.Lists.{within, present, same_at, length_set}
+use Rattle.set_model.proofs.Lists.{within, present, same_at}
 use Rattle.set_model.proofs.Places.{home_back}
 use Rattle.set_model.proofs.SoundBack.{goes}
 use Rattle.set_model.proofs.Standing.{each_so, ascends_filter}

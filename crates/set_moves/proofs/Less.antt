@@ -4,7 +4,7 @@ use Rattle.std.proofs.lemmas.Bool.{eqb-true}
 use Rattle.std.proofs.lemmas.List.{length-drop}
 use Rattle.std.proofs.lemmas.Bool.Decides.{nat_tests}
 use Rattle.set_events.specs.declared.answer.Fate.{Fate}
-use Rattle.set_events.specs.declared.answer.Fate.TheVariants.{Waiting, Unacked, Acked, Held, Parked, Back, Discarded}
+use Rattle.set_events.specs.declared.answer.Fate.TheVariants.{Waiting, Unacked, Held}
 use Rattle.set_queues.specs.Buffers.{Lists, is_standing, same_fate, queue_at, with_queue, IsKnown}
 use Rattle.set_queues.specs.Sending.{acknowledged, reach}
 use Rattle.set_queues.specs.Settling.{on}

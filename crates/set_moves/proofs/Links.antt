@@ -1,5 +1,5 @@
 -- One link of the list changes, and what the list stands for with it.
-use Rattle.std.proofs.Common.{◌≡◌, ◌∙◌, ap, sym, ◌<◌, ℕ, List, map, length, slice_get, slice_set, slice_index_or, Some}
+use Rattle.std.proofs.Common.{arith, ◌≡◌, ◌∙◌, ap, sym, ◌<◌, ℕ, List, map, length, slice_get, slice_set, slice_index_or, Some}
 use Rattle.std.proofs.lemmas.Option.{same_Some}
 use Rattle.set_moves.specs.declared.link.Link.{Link}
 use Rattle.set_moves.specs.Parts.{link_of, kept_of}
@@ -19,8 +19,7 @@ module _ (links : List Link) (n i : ℕ) (x : Link) (is : i ≡ n) (known : n < 
 
   -- it changes
   pub link_set : (y : Link) (ls : List LinkState) (link link' : LinkState) → map link_of links ≡ ls → slice_get ls n ≡ Some link → (link_of x ≡ link → link_of y ≡ link') → map link_of (slice_set links i y) ≡ slice_set ls n link'
-  link_set y ls link link' all there e =
-      ap (λ k. map link_of (slice_set links k y)) is ∙ map_set link_of links n y ∙ ap (λ xs. slice_set xs n (link_of y)) all ∙ ap (slice_set ls n) (e (stands_for ls link all there))
+  link_set y ls link link' all there e = grind (arith, map_set, stands_for)
 
   -- and nothing that this tells of it
   pub set_view : {Y : Type 0} (f : Link → Y) (y : Link) → f y ≡ f x → map f (slice_set links i y) ≡ map f links

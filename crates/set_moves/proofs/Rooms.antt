@@ -1,5 +1,5 @@
 -- Room that was taken, as orders and moved messages need it.
-use Rattle.std.proofs.Common.{arith, ◌≡◌, ◌≢◌, ◌∙◌, refl, ap, sym, subst, ◌≤◌, ◌<◌, ◌+◌, ◌++◌, ℕ, Bool, false, List, map, length, Option, Some, slice_get, slice_set, Vec, Global}
+use Rattle.std.proofs.Common.{arith, ◌≡◌, ◌≢◌, ◌∙◌, refl, ap, sym, subst, ◌≤◌, ◌<◌, ◌+◌, ℕ, Bool, false, List, map, length, Option, Some, slice_get, slice_set}
 use Rattle.std.specs.Prelude.{IfSome}
 use Rattle.std.proofs.lemmas.List.{length-map}
 use Rattle.std.proofs.lemmas.Bool.Decides.{nat_tests}
@@ -10,7 +10,6 @@ use Rattle.set_queues.specs.Backs.{back_count}
 use Rattle.set_queues.specs.Settling.{on}
 use Rattle.set_queues.proofs.Passing.{queue_other, queued_stands}
 use Rattle.set_queues.proofs.Settling.{room_left}
-use Rattle.set_route.specs.Routing.{Routing}
 use Rattle.set_route.specs.Target.{target_of}
 use Rattle.set_model.specs.declared.phase.Phase.{Phase}
 use Rattle.set_model.specs.declared.phase.Phase.TheVariants.{Down}
@@ -19,7 +18,7 @@ use Rattle.set_model.specs.State.{target, has_phase_up}
 use Rattle.set_model.proofs.Lists.{map_at, map_set, set_same, present, same_at, at_set, get_set_same, length_set}
 use Rattle.set_moves.specs.declared.link.Link.{Link}
 use Rattle.set_moves.specs.declared.parts.Parts.{Parts}
-use Rattle.set_moves.specs.Agreement.{Holds, Kept}
+use Rattle.set_moves.specs.Agreement.{Holds}
 use Rattle.set_moves.specs.Parts.{IsWhole, IsCounted, AreCounted, AtLink, IsOut, link_of, kept_of}
 use Rattle.set_moves.specs.Room.{HasRoom, IsReady, SameButRoom, target_beside}
 use Rattle.set_moves.specs.Turning.{TakesTurns}
@@ -40,25 +39,17 @@ beside_out links n known out =
 
 pub beside_left : (links new : List Link) (n : ℕ) (link : Link) → new ≡ slice_set links n link → has_phase_up link.phase ≡ false → target (map link_of new) ≡ target_beside n links
 unfolding ups_of
-beside_left links new n link e out =
-    ap target_of (ups new ∙ ap ups_of e ∙ map_set (λ (l : Link). has_phase_up l.phase) links n link ∙ ap (slice_set (ups_of links) n) out)
+beside_left links new n link e out = grind (arith, map_set, ups, ups_of)
 
 -- ROOM for an order, and then for all that stand on the link
 pub has_room : (n : ℕ) (parts : Parts) (fate : Fate) → IsReady n 1 parts → fate ≡ fate_on (target_beside n parts.links.items) → HasRoom fate parts
-has_room n parts fate r e = rw e (record {
-  message = let m = r.message in omega (arith, m);
-  body = let b = r.body in omega (arith, b);
-  place = let p = r.place in omega (arith, p);
-})
+has_room n parts fate r e = grind arith
 
 queued_on : (o : Option ℕ) → IsQueued (fate_on o)
 queued_on o = grind arith
 
 pub room_then_all : (o : Option ℕ) (on on' : List ℕ) (old new : Rooms) → length on + 1 ≤ room_at (fate_on o) old → on' ≡ on → TakesRoom (fate_on o) 1 old new → length on' ≤ room_at (fate_on o) new
-room_then_all o on on' old new h e t =
-    let low = room_left (fate_on o) 1 old new (queued_on o) t in
-    let same : length on' ≡ length on = ap length e in
-    omega (arith, h, low, same)
+room_then_all o on on' old new h e t = grind (arith, queued_on, room_left)
 
 -- what stands on a link that is out isn't touched by what waits for the target
 off_on : (o : Option ℕ) (n : ℕ) → ((t : ℕ) → o ≡ Some t → n ≢ t) → (same_fate (fate_on o) (Unacked n) ≡ false) × (same_fate (fate_on o) (Waiting n) ≡ false) × (same_fate (fate_on o) (Held n) ≡ false)
@@ -76,33 +67,18 @@ counted_set bound links new n link all e one m other there = grind (arith, nat_t
 
 -- A SET IS WHOLE that stands for a state.
 pub whole_of : (parts : Parts) → Holds (kept_of parts) → IsWhole parts
-whole_of parts h =
-    let s = h.0 in
-    let a = h.1 in
-    let links : length s.links ≡ length parts.links.items = sym (ap length a.stands.links) ∙ length-map parts.links.items link_of in
-    record {
-      as_many = a.stands.as_many ∙ links;
-      routed = ap (λ (r : Routing). r.links) a.stands.routing ∙ a.sound.routed ∙ sym a.sound.count ∙ links;
-      few = let most = a.sound.routing.at_most_16 in let routed = a.sound.routed in let count = a.sound.count in omega (arith, most, routed, count, links);
-    }
+whole_of parts h = grind (arith, length-map)
 
 -- the target's queue is one of the set's
 pub known_target : (o : Option ℕ) (q : Lists) (links read : List Link) → read ≡ links → length q.links ≡ length links → IfSome o (λ to. to < length read) → IsKnown (fate_on o) q
 known_target o q links read e many below = grind arith
 
 pub here_room : (parts : Parts) (n orders : ℕ) (phase : Phase) → IsHere parts.links.items n phase → has_phase_up phase ≡ false → IsReady n orders parts → length (on n parts.queues.lists) ≤ room_at (fate_on (target (map link_of parts.links.items))) parts.queues.rooms
-here_room parts n orders phase h down r =
-    let same = beside_out parts.links.items n h.known (out_at parts.links.items n phase h down) in
-    let enough = r.place in
-    subst (λ (t : Option ℕ). length (on n parts.queues.lists) ≤ room_at (fate_on t) parts.queues.rooms) same (omega (arith, enough))
+here_room parts n orders phase h down r = grind (arith, beside_out, out_at)
 
 -- room for an order once the link is left, and what stood back for it turned
 pub has_room_left : (n : ℕ) (old new : Parts) → IsReady n 1 old → TakesTurns (back_count n old.queues.lists) old.queues new.queues → new.bodies ≡ old.bodies → target (map link_of new.links.items) ≡ target_beside n old.links.items → HasRoom (fate_on (target (map link_of new.links.items))) new
-has_room_left n old new r turns bodies same = rw same (record {
-  message = rw (turns.room) (let m = r.message in omega (arith, m));
-  body = rw bodies r.body;
-  place = let p = r.place in let taken = turns.rooms (fate_on (target_beside n old.links.items)) in omega (arith, p, taken);
-})
+has_room_left n old new r turns bodies same = grind arith
 
 -- A LINK THAT IS LEFT is out, and the whole numbers stay
 pub record IsLeft (n : ℕ) (old new : Parts) : Type 0 where
@@ -140,8 +116,4 @@ wider bound more links h all n link there = let k = all n link there in record {
 
 -- what is whole stays so where room alone changes
 pub whole_still : (old new : Parts) → SameButRoom old new → IsWhole old → IsWhole new
-whole_still old new same whole = record {
-  as_many = ap (λ (k : Kept). length k.lists.links) same.kept ∙ whole.as_many ∙ ap (λ (ls : Vec Link Global). length ls.items) (sym same.links);
-  routed = ap (λ (k : Kept). k.routing.links) same.kept ∙ whole.routed ∙ ap (λ (ls : Vec Link Global). length ls.items) (sym same.links);
-  few = omega (arith, whole.few, ap (λ (ls : Vec Link Global). length ls.items) same.links);
-}
+whole_still old new same whole = grind arith

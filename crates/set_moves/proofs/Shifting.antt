@@ -1,5 +1,5 @@
 -- ONE ROW leaves its place and stands at the end, with another fate.
-use Rattle.std.proofs.Common.{refl, arith, ◌≡◌, ◌∙◌, ap, sym, [], ◌∷◌, ◌++◌, length, ℕ, Bool, true, false, not, ◌==◌, ◌⊎◌, List, map, Some, cond}
+use Rattle.std.proofs.Common.{refl, arith, ◌≡◌, ◌∙◌, ap, sym, [], ◌∷◌, ◌++◌, length, ℕ, Bool, true, false, not, ◌==◌, List, Some, cond}
 use Rattle.std.specs.Prelude.{slice_get, filter}
 use Rattle.std.proofs.lemmas.Bool.{cases_eq, eq-eqb, eqb-true, not_from_true}
 use Rattle.std.proofs.lemmas.List.{append-nil, append_assoc, length-append}
@@ -8,12 +8,12 @@ use Rattle.std.proofs.lemmas.List.Filters.{length-filter_both}
 use Rattle.std.proofs.lemmas.Bool.Decides.{nat_tests}
 use Rattle.set_events.specs.declared.answer.Fate.{Fate}
 use Rattle.set_queues.proofs.Standing.{occurs_here, occurs_not}
-use Rattle.set_model.specs.Rows.{Row, standing, with_fate, fated, moved, row_of, body_at, IsNumbered, Each}
+use Rattle.set_model.specs.Rows.{Row, standing, with_fate, fated, moved, row_of, IsNumbered, Each}
 use Rattle.set_model.specs.Laws.{SameMessages}
 use Rattle.set_model.proofs.Filters.{filter_comm, filter_within, filter_apart}
 use Rattle.set_model.proofs.Finding.{with_number, same_numbers}
 use Rattle.set_model.proofs.Lookups.{row_is_first}
-use Rattle.set_model.proofs.Standing.{each_append}
+use Rattle.set_model.proofs.Standing.{each_append, each_filter}
 use Rattle.set_moves.proofs.Occurring.{GoesTo}
 
 -- all but those of this number
@@ -27,10 +27,6 @@ shifted to x rows = without x.number rows ++ with_fate to x ∷ []
 pub none_dropped : (p : Row → Bool) (xs : List Row) → filter p xs ≡ [] → filter (λ x. not (p x)) xs ≡ xs
 none_dropped p [] e = refl
 none_dropped p (x ∷ xs) e = grind (arith, none_dropped p xs)
-
-pub each_filter : (P : Row → Type 0) (p : Row → Bool) (xs : List Row) → Each P xs → Each P (filter p xs)
-each_filter P p [] a = tt
-each_filter P p (x ∷ xs) a = grind (arith, each_filter P p xs a.1)
 
 -- one that drops the first alone
 first_dropped : (x : Row) (rest : List Row) → with_number x.number (x ∷ rest) ≡ x ∷ [] → without x.number (x ∷ rest) ≡ rest
@@ -77,17 +73,7 @@ module _ (to : Fate) (x : Row) (rows : List Row) (one : with_number x.number row
   row_other n ne = row_is_first n new ∙ ap (λ (ys : List Row). slice_get ys 0) (with_other n ne) ∙ sym (row_is_first n rows)
 
   pub shifted_messages : IsNumbered rows → SameMessages rows new
-  shifted_messages numbered = record {
-    count = count;
-    bodies = λ n. body n (cases_eq k n);
-    numbered = same_numbers rows new count (λ n. many n (cases_eq k n)) numbered;
-  }
-    where
-      body : (n : ℕ) → (k ≡ n) ⊎ (k ≡ n → ⊥) → body_at n new ≡ body_at n rows
-      body n h1 = grind (arith, nat_tests, new, row_own, row_old, row_other)
-
-      many : (n : ℕ) → (k ≡ n) ⊎ (k ≡ n → ⊥) → length (with_number n new) ≡ length (with_number n rows)
-      many n h1 = grind (arith, nat_tests, with_number, new, with_own, with_other)
+  shifted_messages numbered = grind (arith, cases_eq, count, row_old, row_other, row_own, same_numbers, with_number, with_other, with_own)
 
   pub shifted_goes : (n : ℕ) → GoesTo (k ∷ []) to n rows new
   shifted_goes n = grind (arith, nat_tests, cases_eq, k, GoesTo, new, occurs_here, row_own, row_other, occurs_not)
@@ -104,10 +90,7 @@ module _ (to : Fate) (x : Row) (rows : List Row) (one : with_number x.number row
       go false e first = none_dropped (λ (row : Row). row.number == k) (standing test rows) e
 
   pub shifted_stands : (test : Fate → Bool) (rest : List Row) → (test x.fate ≡ true → standing test rows ≡ x ∷ rest) → standing test new ≡ cond (test x.fate) rest (standing test rows) ++ cond (test to) (y ∷ []) []
-  shifted_stands test rest first =
-      filter-append (λ (row : Row). test row.fate) (without k rows) (y ∷ [])
-      ∙ ap (λ (ys : List Row). ys ++ standing test (y ∷ [])) (filter_comm (λ (row : Row). test row.fate) (λ (row : Row). not (row.number == k)) rows ∙ left test rest (test x.fate) refl first)
-      ∙ ap (λ (ys : List Row). cond (test x.fate) rest (standing test rows) ++ ys) (one_stands test y)
+  shifted_stands test rest first = grind (arith, filter-append, filter_comm, left, one_stands)
 
   pub shifted_each : (P : Row → Type 0) → Each P rows → P y → Each P new
   shifted_each P a p = each_append P (without k rows) (y ∷ []) (each_filter P (λ (row : Row). not (row.number == k)) rows a) (p, tt)
@@ -121,11 +104,7 @@ module _ (test : Fate → Bool) (fate : Row → Fate) (to : Fate) (x : Row) (res
   others_stand = shifted_stands to x rows one (λ f. not (test f)) rest (λ h. absurd (let no : false ≡ true = rw on at h in cc)) ∙ rw (on, off, way) refl
 
   pub moved_same : moved test fate (shifted to x rows) ≡ moved test fate rows
-  moved_same =
-      ap (λ (ys : List Row). ys ++ map (fated fate) (standing test (shifted to x rows))) others_stand
-      ∙ ap (λ (ys : List Row). (standing (λ f. not (test f)) rows ++ fated fate x ∷ []) ++ map (fated fate) ys) rest_stands
-      ∙ append_assoc (standing (λ f. not (test f)) rows) (fated fate x ∷ []) (map (fated fate) rest)
-      ∙ sym (ap (λ (ys : List Row). standing (λ f. not (test f)) rows ++ map (fated fate) ys) first)
+  moved_same = grind (arith, append_assoc, others_stand, rest_stands)
 
 -- a move as other functions tell the fates
 pub moved_as : (test : Fate → Bool) (fate other : Row → Fate) → ((x : Row) → fate x ≡ other x) → (rows : List Row) → moved test fate rows ≡ moved test other rows

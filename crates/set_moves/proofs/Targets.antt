@@ -1,5 +1,5 @@
 -- The link that messages are moved to.
-use Rattle.std.proofs.Common.{refl, ◌≡◌, ◌≢◌, ◌∙◌, ap, sym, subst, [], ◌∷◌, List, map, ℕ, true, false, slice_get, Some, Option, length, ◌<◌, arith, ◌==◌}
+use Rattle.std.proofs.Common.{refl, ◌≡◌, ◌≢◌, ◌∙◌, ap, sym, [], ◌∷◌, List, map, ℕ, false, slice_get, Some, Option, length, ◌<◌, arith, ◌==◌}
 use Rattle.std.specs.Prelude.{IfSome}
 use Rattle.std.proofs.lemmas.Bool.{ne_eqb}
 use Rattle.set_moves.specs.declared.link.Link.{Link}
@@ -30,11 +30,7 @@ same_target old new e = ap target_of (ups new ∙ same_ups old new e ∙ sym (up
 
 -- the target is up, so it's no link that isn't
 pub up_target : (links : List LinkState) (n t : ℕ) (link : LinkState) → slice_get links n ≡ Some link → has_phase_up link.phase ≡ false → target links ≡ Some t → n ≢ t
-up_target links n t link there out is e =
-    let up = target_up links t is in
-    let same : up.0 ≡ link = same_at links t link up.0 (subst (λ (k : ℕ). slice_get links k ≡ Some link) e there) up.1 in
-    let clash : true ≡ false = sym up.2 ∙ ap (λ (l : LinkState). has_phase_up l.phase) same ∙ out in
-    absurd (cc)
+up_target links n t link there out is e = grind (arith, same_at, target_up)
 
 pub out_of : (links : List Link) (n : ℕ) → n < length links → AtLink n links IsOut → (t : ℕ) → target (map link_of links) ≡ Some t → n ≢ t
 out_of links n known out t is =

@@ -92,11 +92,7 @@ fewer_back home code links to q q' o on many e =
 
 -- ROOM
 pub turns_then : (a b : ℕ) (old mid new : QueuesState) → length mid.lists.links ≡ length old.lists.links → TakesTurns a old mid → TakesTurns b mid new → TakesTurns (a + b) old new
-turns_then a b old mid new many t u = record {
-  room = u.room ∙ t.room;
-  rooms = λ f. let one = t.rooms f in let two = u.rooms f in omega (arith, one, two);
-  on_link = λ n low. let one = t.on_link n low in let two = u.on_link n (omega (arith, low, many)) in omega (arith, one, two);
-}
+turns_then a b old mid new many t u = grind arith
 
 taken_one : (to fate : Fate) (old new : Rooms) → TakesRoom to 1 old new → room_at fate old ≤ room_at fate new + 1
 taken_one to fate old new t = grind arith

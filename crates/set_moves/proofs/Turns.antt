@@ -1,5 +1,5 @@
 -- WHAT STANDS BACK FOR A LINK turns back: the oldest, once.
-use Rattle.std.proofs.Common.{refl, arith, ◌≡◌, ◌∙◌, ap, sym, subst, [], ◌∷◌, ◌++◌, length, ℕ, suc, Bool, true, false, ◌⊎◌, inl, inr, List, Some, cond, take, drop}
+use Rattle.std.proofs.Common.{rules, refl, arith, ◌≡◌, ◌∙◌, ap, sym, subst, [], ◌∷◌, ◌++◌, length, ℕ, suc, Bool, true, false, ◌⊎◌, inl, inr, List, Some, cond, take, drop}
 use Rattle.std.specs.Prelude.{slice_get}
 use Rattle.std.proofs.lemmas.Bool.{cases_Bool, eq-eqb}
 use Rattle.std.proofs.lemmas.List.{append-nil, map-append}
@@ -135,14 +135,6 @@ turned_first home code links to old new s f t o on many way b =
     let here : IsOnLink (length old.lists.links) to = (on.0, omega (arith, low, many), on.2) in
     let x = first_of home code old.lists old.messages s.rows f.stands o t.order in (
       next home code to old s f o here x,
-      becomes old new _ _ _ _ _ (next home code to old s f o here x) (record {
-        settings_same = b.settings_same;
-        lists_are = b.lists_are;
-        messages_are = b.messages_are;
-        bodies_are = b.bodies_are;
-        links_are = b.links_are ∙ f.links;
-        routing_is = b.routing_is ∙ f.routing;
-        inbox_same = b.inbox_same;
-      }) (stands_for home code to old s f o here x),
+      becomes old new _ _ _ _ _ (next home code to old s f o here x) (search rules) (stands_for home code to old s f o here x),
       turned_on home code to old s f o here x t (way x.row (ap (λ (ys : List Row). slice_get ys 0) x.of_code)),
     )

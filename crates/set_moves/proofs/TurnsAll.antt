@@ -1,14 +1,13 @@
 -- ALL THAT STANDS BACK FOR A LINK turns back, the oldest first.
-use Rattle.std.proofs.Common.{refl, arith, ◌≡◌, ◌∙◌, ap, sym, subst, ◌+◌, ◌*◌, [], ◌∷◌, length, ℕ, List, Option, Some, None}
+use Rattle.std.proofs.Common.{refl, arith, ◌≡◌, ◌∙◌, ap, sym, ◌+◌, ◌*◌, [], ◌∷◌, length, ℕ, List, Some, None}
 use Rattle.std.specs.Prelude.{slice_get}
 use Rattle.set_events.specs.declared.answer.Fate.TheVariants.{Waiting, Held}
 use Rattle.set_queues.specs.declared.message.Message.{Message}
-use Rattle.set_queues.specs.Backs.{back_from, IsOldest, IsOldestOf, NoneBack}
+use Rattle.set_queues.specs.Backs.{back_from, IsOldest, NoneBack}
 use Rattle.set_queues.specs.Buffers.{Lists, HaveRoom}
-use Rattle.set_route.specs.Routing.{place_of}
-use Rattle.set_model.specs.Rows.{Row, standing, is_back_to, stream_of}
+use Rattle.set_model.specs.Rows.{Row, standing, is_back_to}
 use Rattle.set_model.specs.Changeover.{turned_back}
-use Rattle.set_model.specs.State.{State, fate_at}
+use Rattle.set_model.specs.State.{State}
 use Rattle.set_model.proofs.Filters.{fewer_filter}
 use Rattle.set_model.proofs.Lookups.{no_rows}
 use Rattle.set_model.proofs.Moving.{moved_nothing}
@@ -17,26 +16,15 @@ use Rattle.set_moves.specs.declared.parts.Parts.{Parts}
 use Rattle.set_moves.specs.Parts.{IsWhole, kept_of}
 use Rattle.set_moves.specs.Turning.{IsTurning, CanTurn, TurnedSoFar, TakesTurns}
 use Rattle.set_moves.proofs.Oldest.{first_back}
-use Rattle.set_moves.proofs.TurnedQueues.{turns_then, some_back}
+use Rattle.set_moves.proofs.TurnedQueues.{some_back}
 
 -- SO MANY TURNED BACK
 pub then_turned : (home i : ℕ) (s : State) (mid new : Kept) → TurnedSoFar home i s mid → ((t : State) → StandsFor mid t → IsTurning home t → TurnedSoFar home 1 t new) → TurnedSoFar home (i + 1) s new
-then_turned home i s mid new so one =
-    let more = one so.0 so.1 so.2.turning in (
-      more.0,
-      more.1,
-      record {
-        turning = more.2.turning;
-        same = more.2.same ∙ so.2.same;
-        fewer = let a = so.2.fewer in let b = more.2.fewer in omega (arith, a, b);
-      },
-    )
+then_turned home i s mid new so one = grind arith
 
 -- none is left to turn
 pub all_turned : (home i : ℕ) (s : State) (k : Kept) → (so : TurnedSoFar home i s k) → standing (is_back_to home) so.0.rows ≡ [] → StandsFor k (turned_back home s)
-all_turned home i s k so left =
-    let t = so.0 in
-    subst (λ (z : State). StandsFor k z) (sym (ap (λ (rows : List Row). record t { rows = rows }) (moved_nothing (is_back_to home) (λ row. fate_at (place_of (stream_of row.body) t.routing) t) t.rows left)) ∙ so.2.same) so.1
+all_turned home i s k so left = grind (arith, moved_nothing)
 
 pub none_left : (home : ℕ) (q : Lists) (ms : List Message) (rows : List Row) → Stands q ms rows → NoneBack home q → standing (is_back_to home) rows ≡ []
 none_left home q ms rows s nothing = go (standing (is_back_to home) rows) refl
@@ -50,10 +38,7 @@ none_left home q ms rows s nothing = go (standing (is_back_to home) rows) refl
 
 -- as many turned as there are messages
 pub all_left : (home i : ℕ) (s : State) (k : Kept) → (so : TurnedSoFar home i s k) → length s.rows ≡ i → standing (is_back_to home) so.0.rows ≡ []
-all_left home i s k so many =
-    let few = fewer_filter (λ (row : Row). is_back_to home row.fate) s.rows in
-    let sum = so.2.fewer in
-    no_rows (standing (is_back_to home) so.0.rows) (omega (arith, few, sum, many))
+all_left home i s k so many = grind (arith, fewer_filter, no_rows)
 
 -- THE LOOP: so many turned back
 pub record Turning (home i : ℕ) (old now : Parts) : Type 0 where
@@ -70,26 +55,9 @@ module _ (home i : ℕ) (old now : Parts) (g : Turning home i old now) where
 
   pub room_for_one : (code : ℕ) → IsOldest home code now.queues.lists → HaveRoom (length old.links.items) (back_from (16 * home) 16 old.queues.lists) old.queues.rooms → HaveRoom (length now.links.items) 1 now.queues.rooms
   room_for_one code o room link low =
-      let few = ap (λ links. length links.items) g.links in
-      let enough = room link (omega (arith, low, few)) in
-      let wait = enough.0 in
-      let held = enough.1 in
-      let waits = g.turns.rooms (Waiting link) in
-      let holds = g.turns.rooms (Held link) in
-      let some = some_back home code now.queues.lists o in
-      let sum = g.fewer in
-      (omega (arith, wait, waits, some, sum), omega (arith, held, holds, some, sum))
-
-  pub turning_then : (new : Parts) → IsWhole old → ((s : State) → StandsFor (kept_of now) s → IsTurning home s → TurnedSoFar home 1 s (kept_of new)) → TakesTurns 1 now.queues new.queues
-      → back_from (16 * home) 16 new.queues.lists + 1 ≡ back_from (16 * home) 16 now.queues.lists → new.links ≡ now.links → new.bodies ≡ now.bodies → IsWhole new → Turning home (i + 1) old new
-  turning_then new before one turns less links bodies whole = record {
-    whole = whole;
-    links = links ∙ g.links;
-    bodies = bodies ∙ g.bodies;
-    so_far = λ s f t. then_turned home i s (kept_of now) (kept_of new) (g.so_far s f t) one;
-    turns = turns_then i 1 old.queues now.queues new.queues (g.whole.as_many ∙ ap (λ links. length links.items) g.links ∙ sym before.as_many) g.turns turns;
-    fewer = let sum = g.fewer in omega (arith, sum, less);
-  }
+      let many = ap (λ links. length links.items) g.links in
+      let enough = room link (omega (arith, low, many)) in
+      omega (arith, enough, g.turns.rooms (Waiting link), g.turns.rooms (Held link), some_back home code now.queues.lists o, g.fewer)
 
   pub turned_all : NoneBack home now.queues.lists → (s : State) → StandsFor (kept_of old) s → IsTurning home s → StandsFor (kept_of now) (turned_back home s)
   turned_all nothing s f t =
@@ -100,9 +68,3 @@ module _ (home i : ℕ) (old now : Parts) (g : Turning home i old now) where
   turned_each many s f t =
       let so = g.so_far s f t in
       all_turned home i s (kept_of now) so (all_left home i s (kept_of now) so (sym f.stands.count ∙ many))
-
-pub none_back : (home : ℕ) (q : Lists) (o : Option ℕ) → o ≡ None → IsOldestOf home o q → NoneBack home q
-none_back home q o e h = subst (λ (z : Option ℕ). IsOldestOf home z q) e h
-
-pub some_oldest : (home code : ℕ) (q : Lists) (o : Option ℕ) → o ≡ Some code → IsOldestOf home o q → IsOldest home code q
-some_oldest home code q o e h = subst (λ (z : Option ℕ). IsOldestOf home z q) e h

@@ -13,26 +13,14 @@ use Rattle.set_moves.proofs.changeback.release.Goals as goal
 
 pub returns-clause-stands : goal.returns-clause-stands
 returns-clause-stands c = λ s f.
-    let code = c.args.code in
-    let h = c.home_of_code-home.result in
-    let few = c.ranges.code.fits in
-    let many = c.is_sound.ensures.codes in
-    let home = c.home_of_code-home.ensures.value in
-    let low = c.requires.known in
-    let links = c.requires.whole.as_many in
-    let runs = given_back code s.routing in
-    subst (λ (l : ℕ). StandsFor (kept_of (record c.args.parts.now { queues = c.divert.new.self; routes = c.give_back.new.self })) (record s { rows = moved (is_back code) (all_with (Waiting l)) s.rows; routing = runs })) home
-    (becomes (kept_of c.args.parts.now) _ _ _ _ _ _ (record s { rows = moved (is_back code) (all_with (Waiting h)) s.rows; routing = runs }) (search rules) (released_for (kept_of c.args.parts.now) s code h runs f (omega (arith, few, many)) (omega (arith, home, low, links))))
+    let runs = given_back c.args.code s.routing in
+    subst (λ (l : ℕ). StandsFor (kept_of (record c.args.parts.now { queues = c.divert.new.self; routes = c.give_back.new.self })) (record s { rows = moved (is_back c.args.code) (all_with (Waiting l)) s.rows; routing = runs })) c.home_of_code-home.ensures.value
+    (becomes (kept_of c.args.parts.now) _ _ _ _ _ _ _ (search rules) (released_for (kept_of c.args.parts.now) s c.args.code c.home_of_code-home.result runs f (omega arith) (omega arith)))
 
 pub returns-clause-others : goal.returns-clause-others
 returns-clause-others c = λ other d.
-    let few = c.ranges.code.fits in
-    let many = c.is_sound.ensures.codes in
-    let low = c.requires.known in
-    let home = c.home_of_code-home.ensures.value in
-    let links = c.requires.whole.as_many in
     ap (queue_at (Back other)) c.divert.ensures.lists
-    ∙ passed_replaces c.args.parts.now.queues.lists (Back c.args.code) (Waiting c.home_of_code-home.result) refl (omega (arith, few, many)) (omega (arith, home, low, links)) tt (Back other) refl
+    ∙ passed_replaces c.args.parts.now.queues.lists (Back c.args.code) (Waiting c.home_of_code-home.result) refl (omega arith) (omega arith) tt (Back other) refl
     ∙ ap (λ (b : Bool). cond b [] (queue_at (Back other) c.args.parts.now.queues.lists)) (ne_eqb c.args.code other (λ e. d (sym e)))
 
 pub returns-clause-rooms : goal.returns-clause-rooms
