@@ -39,10 +39,8 @@ room_after n old new r links takes message body low = record {
   message = let m = r.message in omega (arith, m, message);
   body = body (16 - (n + 1)) (subst (λ (more : ℕ). CanHold more old.bodies) (let same : 16 - n ≡ 16 - (n + 1) + 1 = omega (arith, low) in same) r.body);
   each = λ link far low.
-      let same : length new.links.items ≡ length old.links.items = ap (λ ls. length ls.items) links in
-      let had = r.each link (omega (arith, far)) (omega (arith, low, same)) in
-      let away : (n == link) ≡ false = ne_eqb n link (λ e. omega (arith, e, far)) in
-      let kept : room_at (Waiting link) old.queues.rooms ≤ room_at (Waiting link) new.queues.rooms + cond false 1 0 = subst (λ (b : Bool). room_at (Waiting link) old.queues.rooms ≤ room_at (Waiting link) new.queues.rooms + cond b 1 0) away (takes (Waiting link)) in
+      let had = r.each link (omega (arith, far)) (omega (arith, low, ap (λ ls. length ls.items) links)) in
+      let kept = rw (ne_eqb n link (λ e. omega (arith, e, far))) at (takes (Waiting link)) in
       omega (arith, had, kept);
 }
 

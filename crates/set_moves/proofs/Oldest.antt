@@ -3,6 +3,7 @@ use Rattle.std.proofs.Common.{refl, arith, ◌≡◌, ◌∙◌, ap, sym, subst,
 use Rattle.std.specs.Prelude.{slice_get, filter}
 use Rattle.std.specs.Option.{option_map}
 use Rattle.std.proofs.lemmas.Bool.{eq-eqb, ne_eqb, not-true}
+use Rattle.std.proofs.lemmas.Bool.Decides.{nat_tests}
 use Rattle.std.proofs.lemmas.Option.{same_Some}
 use Rattle.set_events.specs.declared.answer.Fate.{Fate}
 use Rattle.set_events.specs.declared.answer.Fate.TheVariants.{Waiting, Held, Back}
@@ -48,6 +49,11 @@ each_found P p (z ∷ xs) i x a e = go (p z) refl i e (λ j f. each_found P p xs
 none_above : (k m : ℕ) (xs : List Row) → k ≤ m → AreAbove m (numbers xs) → with_number k xs ≡ []
 none_above k m [] low a = refl
 none_above k m (x ∷ xs) low a = let above = a.0 in rw (ne_eqb x.number k (λ e. omega (arith, e, low, above))) (none_above k m xs low a.1)
+
+-- the only one of its number stands first, where the numbers rise and none before has a lower one
+first_least : (n : ℕ) (xs : List Row) (x : Row) → with_number n xs ≡ x ∷ [] → IsAscending (numbers xs) → ((y : Row) (rest : List Row) → xs ≡ y ∷ rest → n ≤ y.number) → slice_get xs 0 ≡ Some x
+first_least n [] x e up low = absurd cc
+first_least n (y ∷ rest) x e up low = grind (arith, nat_tests, none_above n y.number rest (low y rest refl) up.0)
 
 -- FATES
 
@@ -108,26 +114,9 @@ module _ (home code : ℕ) (q : Lists) (ms : List Message) (rows : List Row) (s 
   least : (y : Row) (rest : List Row) → standing (is_back_to home) rows ≡ y ∷ rest → o.number ≤ y.number
   least y rest e = let b = first_back home q ms rows rest y s e in o.least b.0 y.number b.1 b.2
 
-  head_is : (xs : List Row) → standing (is_back_to home) rows ≡ xs → (rest : List Row) × (xs ≡ x ∷ rest)
-  head_is [] e = let none : [] ≡ x ∷ [] = sym (ap (with_number o.number) e) ∙ in_home in absurd cc
-  head_is (y ∷ rest) e = go (y.number == o.number) refl
-    where
-      mine : with_number o.number (y ∷ rest) ≡ x ∷ []
-      mine = sym (ap (with_number o.number) e) ∙ in_home
-
-      above : AreAbove y.number (numbers rest)
-      above = (subst (λ (ys : List Row). IsAscending (numbers ys)) e order).0
-
-      go : (b : Bool) → (y.number == o.number) ≡ b → (more : List Row) × (y ∷ rest ≡ x ∷ more)
-      go true h = let f : y ∷ with_number o.number rest ≡ x ∷ [] = rw h at mine in let same : y ≡ x = cc in (rest, ap (λ (z : Row). z ∷ rest) same)
-      go false h =
-          let f : with_number o.number rest ≡ x ∷ [] = rw h at mine in
-          let no : [] ≡ x ∷ [] = sym (none_above o.number y.number rest (least y rest e) above) ∙ f in
-          absurd cc
-
   pub first_of : IsFirst home code o.number rows
   first_of =
-      let h = head_is (standing (is_back_to home) rows) refl in
+      let h = head_of (standing (is_back_to home) rows) x (first_least o.number (standing (is_back_to home) rows) x in_home order least) in
       record {
         row = x;
         number_is = found.number_is;

@@ -1,5 +1,5 @@
 -- THE QUEUES, how many stand back, and the room, when the first of a code goes to a link.
-use Rattle.std.proofs.Common.{refl, arith, ◌≡◌, ◌∙◌, ap, sym, subst, ◌+◌, ◌*◌, ◌≤◌, ◌<◌, [], ◌∷◌, ◌++◌, length, ℕ, zero, suc, false, ◌==◌, ◌⊎◌, List, Some, cond, take, drop}
+use Rattle.std.proofs.Common.{refl, arith, ◌≡◌, ◌∙◌, ap, sym, subst, ◌+◌, ◌*◌, ◌≤◌, ◌<◌, [], ◌∷◌, ◌++◌, length, ℕ, zero, suc, true, false, ◌==◌, ◌⊎◌, List, Some, cond, take, drop}
 use Rattle.std.specs.Prelude.{slice_get}
 use Rattle.std.proofs.lemmas.Bool.{cases_eq, cases_lt, eq-eqb, eqb-true, ne_eqb}
 use Rattle.std.proofs.lemmas.List.{length-append, get_or_past}
@@ -7,12 +7,13 @@ use Rattle.std.proofs.lemmas.Bool.Decides.{nat_tests}
 use Rattle.set_events.specs.declared.answer.Fate.{Fate}
 use Rattle.set_events.specs.declared.answer.Fate.TheVariants.{Waiting, Unacked, Held, Back}
 use Rattle.set_queues.specs.Backs.{passed_first, back_from, IsOldest}
-use Rattle.set_queues.specs.Buffers.{Lists, Rooms, same_fate, queue_at, with_queue, room_at, IsKnown, IsQueued, TakesRoom}
+use Rattle.set_queues.specs.Buffers.{Lists, Rooms, is_standing, same_fate, queue_at, with_queue, room_at, IsKnown, IsQueued, TakesRoom}
 use Rattle.set_queues.specs.Queues.{QueuesState}
 use Rattle.set_queues.specs.Settling.{on as on_lists}
 use Rattle.set_queues.proofs.CodeQueues.{back_none}
 use Rattle.set_queues.proofs.Passing.{queue_set, known_on, size_stays, links_stay, queued_stands}
 use Rattle.set_queues.proofs.Settling.{on_length}
+use Rattle.set_queues.proofs.Standing.{same_is}
 use Rattle.set_moves.specs.Turning.{TakesTurns}
 use Rattle.set_moves.proofs.Oldest.{head_of, IsOnLink}
 
@@ -43,9 +44,7 @@ module _ (code number : ℕ) (to : Fate) (q : Lists) (g : Goes code number to q)
   code_then =
       let h = head_of (queue_at (Back code) q) number g.first in
       let own : queue_at (Back code) (passed_first (Back code) to q) ≡ drop 1 (queue_at (Back code) q) = queue_then (Back code) ∙ rw (eq-eqb code code refl) refl in
-      let less : length (queue_at (Back code) (passed_first (Back code) to q)) ≡ length h.0 = ap length (own ∙ ap (drop 1) h.1) in
-      let many : length (queue_at (Back code) q) ≡ suc (length h.0) = ap length h.1 in
-      omega (arith, less, many)
+      omega (arith, ap length (own ∙ ap (drop 1) h.1), ap length h.1)
 
   pub other_then : (c : ℕ) → (code ≡ c → ⊥) → same_fate to (Back c) ≡ false → queue_at (Back c) (passed_first (Back code) to q) ≡ queue_at (Back c) q
   other_then c ne off = queue_then (Back c) ∙ rw (ne_eqb code c ne, off) refl
@@ -97,38 +96,21 @@ turns_then a b old mid new many t u = grind arith
 taken_one : (to fate : Fate) (old new : Rooms) → TakesRoom to 1 old new → room_at fate old ≤ room_at fate new + 1
 taken_one to fate old new t = grind arith
 
-one_more : (via m number : ℕ) (at own : List ℕ) → (via ≡ m → at ≡ own) → length (cond (via == m) (at ++ number ∷ []) own) ≤ length own + 1
-one_more via m number at own same = grind (arith, nat_tests, length-append, eqb-true)
+module _ (code number via : ℕ) (to : Fate) (q : Lists) (g : Goes code number to q) (is : (to ≡ Waiting via) ⊎ (to ≡ Held via)) where
+  grown : (f : Fate) → is_standing f ≡ true → same_fate (Back code) f ≡ false → length (queue_at f (passed_first (Back code) to q)) ≤ length (queue_at f q) + cond (same_fate to f) 1 0
+  grown f standing off = grind (arith, nat_tests, queue_then code number to q g f, same_is to f standing, length-append)
 
--- the first of a code comes to one of the queues of a link
-module _ (code number via : ℕ) (q : Lists) (m : ℕ) where
-  abbrev after : Fate → Lists
-  after to = passed_first (Back code) to q
-
-  waits : Goes code number (Waiting via) q → length (on_lists m (after (Waiting via))) ≤ length (on_lists m q) + 1
-  waits g =
-      let sent : queue_at (Unacked m) (after (Waiting via)) ≡ queue_at (Unacked m) q = queue_then code number (Waiting via) q g (Unacked m) in
-      let held : queue_at (Held m) (after (Waiting via)) ≡ queue_at (Held m) q = queue_then code number (Waiting via) q g (Held m) in
-      let wait : queue_at (Waiting m) (after (Waiting via)) ≡ cond (via == m) (queue_at (Waiting via) q ++ number ∷ []) (queue_at (Waiting m) q) = queue_then code number (Waiting via) q g (Waiting m) in
-      let most = one_more via m number (queue_at (Waiting via) q) (queue_at (Waiting m) q) (λ s. ap (λ (i : ℕ). queue_at (Waiting i) q) s) in
-      omega (arith, on_length m q, on_length m (after (Waiting via)), ap length sent, ap length held, ap length wait, most)
-
-  holds : Goes code number (Held via) q → length (on_lists m (after (Held via))) ≤ length (on_lists m q) + 1
-  holds g =
-      let sent : queue_at (Unacked m) (after (Held via)) ≡ queue_at (Unacked m) q = queue_then code number (Held via) q g (Unacked m) in
-      let wait : queue_at (Waiting m) (after (Held via)) ≡ queue_at (Waiting m) q = queue_then code number (Held via) q g (Waiting m) in
-      let held : queue_at (Held m) (after (Held via)) ≡ cond (via == m) (queue_at (Held via) q ++ number ∷ []) (queue_at (Held m) q) = queue_then code number (Held via) q g (Held m) in
-      let most = one_more via m number (queue_at (Held via) q) (queue_at (Held m) q) (λ s. ap (λ (i : ℕ). queue_at (Held i) q) s) in
-      omega (arith, on_length m q, on_length m (after (Held via)), ap length sent, ap length wait, ap length held, most)
-
-  on_then : (to : Fate) → Goes code number to q → (to ≡ Waiting via) ⊎ (to ≡ Held via) → length (on_lists m (after to)) ≤ length (on_lists m q) + 1
-  on_then to g is = either (λ f. Goes code number f q → length (on_lists m (after f)) ≤ length (on_lists m q) + 1) to via is waits holds g
+  on_then : (m : ℕ) → length (on_lists m (passed_first (Back code) to q)) ≤ length (on_lists m q) + 1
+  on_then m =
+      let one : cond (via == m) 1 0 ≤ 1 = grind arith in
+      let few = either (λ f. cond (same_fate f (Unacked m)) 1 0 + cond (same_fate f (Waiting m)) 1 0 + cond (same_fate f (Held m)) 1 0 ≤ 1) to via is (omega (arith, one)) (omega (arith, one)) in
+      omega (arith, on_length m q, on_length m (passed_first (Back code) to q), grown (Unacked m) refl refl, grown (Waiting m) refl refl, grown (Held m) refl refl, few)
 
 pub turns_one : (home code links : ℕ) (to : Fate) (old new : QueuesState) → IsOldest home code old.lists → IsOnLink links to → length old.lists.links ≡ links → new.lists ≡ passed_first (Back code) to old.lists → TakesRoom to 1 old.rooms new.rooms → new.room ≡ old.room → TakesTurns 1 old new
 turns_one home code links to old new o on many e rooms room = record {
   room = room;
   rooms = λ f. taken_one to f old.rooms new.rooms rooms;
-  on_link = λ n low. subst (λ (z : Lists). length (on_lists n z) ≤ length (on_lists n old.lists) + 1) (sym e) (on_then code o.number on.0 old.lists n to (goes_to home code links to old.lists o on many) on.2);
+  on_link = λ n low. subst (λ (z : Lists). length (on_lists n z) ≤ length (on_lists n old.lists) + 1) (sym e) (on_then code o.number on.0 to old.lists (goes_to home code links to old.lists o on many) on.2 n);
 }
 
 pub links_then : (from to : Fate) (q q' : Lists) → q' ≡ passed_first from to q → length q'.links ≡ length q.links
