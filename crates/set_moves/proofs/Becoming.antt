@@ -13,7 +13,6 @@ use Rattle.set_queues.specs.Settling.{on as on_lists, settled as settled_lists}
 use Rattle.set_queues.proofs.Passing.{links_stay, queued_stands}
 use Rattle.set_queues.proofs.Settling.{IsAside}
 use Rattle.set_route.specs.Routing.{Routing, settled as streams_settled}
-use Rattle.set_model.specs.declared.reached.Reached.{Reached}
 use Rattle.set_model.specs.declared.reached.Reached.TheVariants.{Upto}
 use Rattle.set_model.specs.Rows.{Row, appended, changed, turned, is_unacked, is_waiting, is_on, is_parked, moved, all_with, IsInOrder}
 use Rattle.set_model.specs.Changeover.{judged, discarded, acknowledged_by, acknowledged, moved_over, settled_link, fate_on}
@@ -21,7 +20,6 @@ use Rattle.set_model.specs.State.{State, LinkState, target, with_link}
 use Rattle.set_model.proofs.Events.{Kept as RowsKept, moved_to, moved_aside}
 use Rattle.set_model.proofs.Lists.{set_same}
 use Rattle.set_moves.specs.Agreement.{Kept, StandsFor, Agrees}
-use Rattle.set_moves.specs.Parts.{IsReach}
 use Rattle.set_moves.proofs.Standing.{message_of}
 use Rattle.set_moves.proofs.States.{kept_is, link_for, sent_for, appended_for, acked_for, sent_up_for, waiting_up_for, settled_for, risen_for}
 use Rattle.set_moves.proofs.Reaching.{reach_is, is_reached, is_unreached}
@@ -49,9 +47,6 @@ appended_then old new s body fate message f queued known is b =
     (appended_for old s body fate f (queued_stands fate queued) known))
 
 -- MESSAGES THAT ARE GIVEN UP
-still : (n : ℕ) (q : Lists) → n < length q.links → n < length (with_queue (Unacked n) [] q).links
-still n q low = let many = links_stay (Unacked n) [] q in omega (arith, many, low)
-
 -- the rows where what was sent is given up
 abbrev pub discarded_sent : DiscardCause → ℕ → State → List Row
 discarded_sent cause n s = changed (is_unacked n) (Discarded cause) s.rows
@@ -66,24 +61,21 @@ pub discarded_then : (old mid new : Kept) (s : State) (n : ℕ) (cause : Discard
     → Becoming mid new (with_queue (Waiting n) [] mid.lists) (restood (queue_at (Waiting n) mid.lists) (Discarded cause) mid.messages) mid.bodies mid.links mid.routing
     → StandsFor new (discarded cause n s)
 discarded_then old mid new s n cause f known a b =
-    let inner : n < length mid.lists.links = subst (λ (q : Lists). n < length q.links) (sym a.lists_are) (still n old.lists known) in
+    let inner : n < length mid.lists.links = rw a.lists_are (omega (arith, known, links_stay (Unacked n) [] old.lists)) in
     let first = sent_up_then old mid s n cause f known a in
     becomes mid new _ _ _ _ _ _ b (waiting_up_for mid (record s { rows = discarded_sent cause n s }) n cause first inner)
 
 -- WHAT REACHED THE FAR END
-pub is_low : (reached : Reached) (fsn : ℕ) → reached ≡ Upto fsn → IsReach reached → fsn < 128
-is_low reached fsn e low = grind arith
-
-module _ (old new : Kept) (s : State) (n fsn : ℕ) (link : LinkState) (reached : Reached) (is : reached ≡ Upto fsn) (f : StandsFor old s) (there : slice_get s.links n ≡ Some link) where
-  pub reached_then : IsReach reached → reach n fsn old.lists ≤ length (queue_at (Unacked n) old.lists)
+module _ (old new : Kept) (s : State) (n fsn : ℕ) (link : LinkState) (f : StandsFor old s) (there : slice_get s.links n ≡ Some link) where
+  pub reached_then : fsn < 128 → reach n fsn old.lists ≤ length (queue_at (Unacked n) old.lists)
       → Becoming old new (acked_lists n fsn old.lists) (restood (take (reach n fsn old.lists) (queue_at (Unacked n) old.lists)) (Acked n) old.messages) old.bodies (slice_set s.links n (acknowledged (reach n fsn old.lists) link)) old.routing
-      → StandsFor new (judged reached n link s)
+      → StandsFor new (judged (Upto fsn) n link s)
   reached_then low h b =
-      let done : StandsFor new (acknowledged_by (reach n fsn old.lists) n link s) = becomes old new _ _ _ _ _ _ b (acked_for old s n fsn link (acknowledged (reach n fsn old.lists) link) f there (is_low reached fsn is low) refl) in
-      subst (λ (r : Reached). StandsFor new (judged r n link s)) (sym is) (rw (is_reached old s n fsn link f there h) (subst (λ (count : ℕ). StandsFor new (acknowledged_by count n link s)) (reach_is old s n fsn link f there) done))
+      let done : StandsFor new (acknowledged_by (reach n fsn old.lists) n link s) = becomes old new _ _ _ _ _ _ b (acked_for old s n fsn link (acknowledged (reach n fsn old.lists) link) f there low refl) in
+      rw (is_reached old s n fsn link f there h) (subst (λ (count : ℕ). StandsFor new (acknowledged_by count n link s)) (reach_is old s n fsn link f there) done)
 
-  pub unreached_then : (reach n fsn old.lists ≤ length (queue_at (Unacked n) old.lists) → ⊥) → StandsFor new (discarded Unreasonable n s) → StandsFor new (judged reached n link s)
-  unreached_then h done = subst (λ (r : Reached). StandsFor new (judged r n link s)) (sym is) (rw (is_unreached old s n fsn link f there h) done)
+  pub unreached_then : (reach n fsn old.lists ≤ length (queue_at (Unacked n) old.lists) → ⊥) → StandsFor new (discarded Unreasonable n s) → StandsFor new (judged (Upto fsn) n link s)
+  unreached_then h done = rw (is_unreached old s n fsn link f there h) done
 
 -- WHAT STANDS ON A LINK IS MOVED
 moved_rows : (n : ℕ) (t : Option ℕ) (s : State) → ((k : ℕ) → t ≡ Some k → (n == k) ≡ false) → RowsKept s.rows (moved (is_on n) (all_with (fate_on t)) s.rows)

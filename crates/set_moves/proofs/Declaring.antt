@@ -1,5 +1,5 @@
 -- A declaration goes out on each link from which streams come back.
-use Rattle.std.proofs.Common.{refl, arith, ◌≡◌, ◌∙◌, ap, sym, subst, ◌≤◌, ◌<◌, ◌+◌, ◌-◌, ◌==◌, ℕ, zero, suc, true, false, Bool, length, cond, if◌then◌else◌}
+use Rattle.std.proofs.Common.{add-one, refl, arith, ◌≡◌, ◌∙◌, ap, sym, subst, ◌≤◌, ◌<◌, ◌+◌, ◌-◌, ℕ, zero, suc, true, false, Bool, length, if◌then◌else◌}
 use Rattle.std.proofs.lemmas.Bool.{ne_eqb}
 use Rattle.std.proofs.lemmas.List.{length-map}
 use Rattle.set_events.specs.declared.answer.Answer.{Answer}
@@ -7,7 +7,7 @@ use Rattle.set_events.specs.declared.answer.Answer.TheVariants.{Done}
 use Rattle.set_events.specs.declared.answer.Refusal.TheVariants.{Nothing}
 use Rattle.set_events.specs.declared.answer.Fate.TheVariants.{Waiting}
 use Rattle.set_queues.specs.Bodies.{CanHold}
-use Rattle.set_queues.specs.Buffers.{TakesRoom, room_at}
+use Rattle.set_queues.specs.Buffers.{TakesRoom}
 use Rattle.set_route.specs.Routing.{Routing, asked}
 use Rattle.set_model.specs.declared.phase.Phase.TheVariants.{Up}
 use Rattle.set_model.specs.Changeover.{can_declare, declared_if, declared_from, some_declare}
@@ -21,16 +21,13 @@ use Rattle.set_moves.proofs.Admitting.{IsIn, served}
 
 -- ONE LINK MORE
 pub declared_next : (home first n : ℕ) (s : State) → declared_from home first (suc n) s ≡ declared_if home (first + n) (declared_from home first n s)
-declared_next home first zero s = let same : first ≡ first + 0 = omega arith in ap (λ (a : ℕ). declared_if home a s) same
-declared_next home first (suc n) s =
-    let same : suc first + n ≡ first + suc n = omega arith in
-    declared_next home (suc first) n (declared_if home first s) ∙ ap (λ (a : ℕ). declared_if home a (declared_from home (suc first) n (declared_if home first s))) same
+declared_next home first zero s = grind arith
+declared_next home first (suc n) s = grind (arith, declared_next home (suc first) n (declared_if home first s))
 
 pub becomes_next : (home n : ℕ) (old now new : Parts) → Becomes old now (declared_from home 0 n) → Becomes now new (declared_if home n) → Becomes old new (declared_from home 0 (n + 1))
 becomes_next home n old now new before next s f =
-    let more : suc n ≡ n + 1 = omega arith in
-    let here : n ≡ 0 + n = omega arith in
-    subst (λ (t : State). StandsFor (kept_of new) t) (ap (λ (a : ℕ). declared_if home a (declared_from home 0 n s)) here ∙ sym (declared_next home 0 n s) ∙ ap (λ (k : ℕ). declared_from home 0 k s) more) (next (declared_from home 0 n s) (before s f))
+    let here : 0 + n ≡ n = omega arith in
+    rw (add-one, declared_next home 0 n s, here) (next (declared_from home 0 n s) (before s f))
 
 -- ROOM on the links that are left, once one was taken
 pub room_after : (n : ℕ) (old new : Parts) → HasRoomFrom n old → new.links ≡ old.links → TakesRoom (Waiting n) 1 old.queues.rooms new.queues.rooms → old.queues.room ≤ new.queues.room + 1 → ((more : ℕ) → CanHold (more + 1) old.bodies → CanHold more new.bodies) → n < 16

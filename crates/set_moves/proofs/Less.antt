@@ -18,8 +18,8 @@ NoLonger q q' = (f : Fate) → length (queue_at f q') ≤ length (queue_at f q)
 shorter : (b : Bool) (xs ys : List ℕ) → length xs ≤ length ys → length (cond b xs ys) ≤ length ys
 shorter b xs ys h = grind arith
 
-pub cleared_less : (g : Fate) (q : Lists) → is_standing g ≡ true → IsKnown g q → NoLonger q (with_queue g [] q)
-cleared_less g q s h f = subst (λ (xs : List ℕ). length xs ≤ length (queue_at f q)) (sym (queue_set g f [] q s h)) (shorter (same_fate g f) [] (queue_at f q) (omega arith))
+pub cleared_less : (g : Fate) (q q' : Lists) → q' ≡ with_queue g [] q → is_standing g ≡ true → IsKnown g q → NoLonger q q'
+cleared_less g q q' e s h f = rw (e, queue_set g f [] q s h) (shorter (same_fate g f) [] (queue_at f q) (omega arith))
 
 dropped : (b : Bool) (k : ℕ) (xs ys : List ℕ) → (b ≡ true → xs ≡ ys) → length (cond b (drop k xs) ys) ≤ length ys
 dropped b k xs ys same = grind (arith, nat_tests, length-drop)

@@ -1,5 +1,6 @@
 -- CODES ARE GIVEN BACK one after another.
-use Rattle.std.proofs.Common.{refl, arith, ◌≡◌, ◌∙◌, ap, sym, subst, ◌<◌, ℕ, zero, suc, ◌+◌, ◌*◌, Bool, true, false, length, if◌then◌else◌}
+use Rattle.std.proofs.Common.{add-one, arith, ◌≡◌, ◌∙◌, ap, sym, subst, ◌<◌, ℕ, zero, suc, ◌+◌, ◌*◌, Bool, true, false, length, if◌then◌else◌}
+use Rattle.std.proofs.lemmas.Bool.Decides.{nat_tests}
 use Rattle.std.specs.Option.{option_map}
 use Rattle.set_events.specs.declared.answer.Answer.{Answer}
 use Rattle.set_events.specs.declared.answer.Answer.TheVariants.{Done}
@@ -16,27 +17,21 @@ use Rattle.set_moves.proofs.Admitting.{links_at}
 
 -- one more
 released_last : (code n : ℕ) (s : State) → released_from code (suc n) s ≡ released (code + n) (released_from code n s)
-released_last code zero s = let e : code ≡ code + 0 = omega arith in ap (λ (c : ℕ). released c s) e
+released_last code zero s = grind arith
 released_last code (suc n) s =
-    let e : suc code + n ≡ code + suc n = omega arith in
-    released_last (suc code) n (released code s) ∙ ap (λ (c : ℕ). released c (released_from code (suc n) s)) e
+    let next : code + suc n ≡ suc code + n = omega arith in
+    rw next (released_last (suc code) n (released code s))
 
 pub released_more : (code n : ℕ) (s : State) → released_from code (n + 1) s ≡ released (code + n) (released_from code n s)
-released_more code n s = let e : n + 1 ≡ suc n = omega arith in ap (λ (k : ℕ). released_from code k s) e ∙ released_last code n s
+released_more code n s = rw add-one (released_last code n s)
 
 -- whether one is in use
 none_last : (code n : ℕ) (s : State) → some_in_use code n s ≡ false → is_free (code_of (code + n) s.routing) ≡ true → some_in_use code (suc n) s ≡ false
-none_last code zero s e f = let same : code + 0 ≡ code = omega arith in rw (ap (λ (c : ℕ). is_free (code_of c s.routing)) (sym same) ∙ f) refl
-none_last code (suc n) s e f =
-    let next : code + suc n ≡ suc code + n = omega arith in
-    go (is_free (code_of code s.routing)) refl (λ g. none_last (suc code) n s g (ap (λ (c : ℕ). is_free (code_of c s.routing)) (sym next) ∙ f))
-  where
-    go : (b : Bool) → is_free (code_of code s.routing) ≡ b → (some_in_use (suc code) n s ≡ false → some_in_use (suc code) (suc n) s ≡ false) → some_in_use code (suc (suc n)) s ≡ false
-    go true h later = rw h (later (rw h at e))
-    go false h later = let no : true ≡ false = rw h at e in absurd cc
+none_last code zero s e f = grind arith
+none_last code (suc n) s e f = grind (arith, nat_tests, none_last (suc code) n s)
 
 pub none_more : (code n : ℕ) (s : State) → some_in_use code n s ≡ false → is_free (code_of (code + n) s.routing) ≡ true → some_in_use code (n + 1) s ≡ false
-none_more code n s e f = let same : n + 1 ≡ suc n = omega arith in ap (λ (k : ℕ). some_in_use code k s) same ∙ none_last code n s e f
+none_more code n s e f = rw add-one (none_last code n s e f)
 
 -- what is answered, where the link is there
 pub run_out : (b : Bool) (old parts : Parts) (s : State) (n : ℕ) (answer : Answer) → Agrees (kept_of old) s → n < length old.links.items → some_in_use (16 * n) 16 s ≡ b

@@ -1,11 +1,11 @@
 -- Room that was taken, as orders and moved messages need it.
-use Rattle.std.proofs.Common.{arith, ◌≡◌, ◌≢◌, ◌∙◌, refl, ap, sym, subst, ◌≤◌, ◌<◌, ◌+◌, ℕ, Bool, false, List, map, length, Option, Some, slice_get, slice_set}
+use Rattle.std.proofs.Common.{arith, ◌≡◌, ◌≢◌, ◌∙◌, refl, ap, sym, ◌≤◌, ◌<◌, ℕ, Bool, false, List, map, length, Option, Some, slice_get, slice_set}
 use Rattle.std.specs.Prelude.{IfSome}
 use Rattle.std.proofs.lemmas.List.{length-map}
 use Rattle.std.proofs.lemmas.Bool.Decides.{nat_tests}
 use Rattle.set_events.specs.declared.answer.Fate.{Fate}
 use Rattle.set_events.specs.declared.answer.Fate.TheVariants.{Waiting, Unacked, Held}
-use Rattle.set_queues.specs.Buffers.{Lists, Rooms, IsKnown, IsQueued, TakesRoom, same_fate, queue_at, with_queue, room_at}
+use Rattle.set_queues.specs.Buffers.{Lists, IsKnown, IsQueued, TakesRoom, same_fate, queue_at, with_queue, room_at}
 use Rattle.set_queues.specs.Backs.{back_count}
 use Rattle.set_queues.specs.Settling.{on}
 use Rattle.set_queues.proofs.Passing.{queue_other, queued_stands}
@@ -47,9 +47,6 @@ has_room n parts fate r e = grind arith
 
 queued_on : (o : Option ℕ) → IsQueued (fate_on o)
 queued_on o = grind arith
-
-pub room_then_all : (o : Option ℕ) (on on' : List ℕ) (old new : Rooms) → length on + 1 ≤ room_at (fate_on o) old → on' ≡ on → TakesRoom (fate_on o) 1 old new → length on' ≤ room_at (fate_on o) new
-room_then_all o on on' old new h e t = grind (arith, queued_on, room_left)
 
 -- what stands on a link that is out isn't touched by what waits for the target
 off_on : (o : Option ℕ) (n : ℕ) → ((t : ℕ) → o ≡ Some t → n ≢ t) → (same_fate (fate_on o) (Unacked n) ≡ false) × (same_fate (fate_on o) (Waiting n) ≡ false) × (same_fate (fate_on o) (Held n) ≡ false)
@@ -103,13 +100,9 @@ pub room_after : (n : ℕ) (old left new : Parts) → n < length old.queues.list
     → on n new.queues.lists ≡ on n left.queues.lists → TakesRoom (fate_on (target (map link_of left.links.items))) 1 left.queues.rooms new.queues.rooms
     → length (on n new.queues.lists) ≤ room_at (fate_on (target (map link_of new.links.items))) new.queues.rooms
 room_after n old left new low r turns beside same elsewhere takes =
-    let to = target_beside n old.links.items in
-    let more : length (on n left.queues.lists) ≤ length (on n old.queues.lists) + back_count n old.queues.lists = turns.on_link n low in
-    let taken : room_at (fate_on to) old.queues.rooms ≤ room_at (fate_on to) left.queues.rooms + back_count n old.queues.lists = turns.rooms (fate_on to) in
-    let enough = r.place in
-    subst (λ (o : Option ℕ). length (on n new.queues.lists) ≤ room_at (fate_on o) new.queues.rooms) (sym (same ∙ beside))
-    (room_then_all to (on n left.queues.lists) (on n new.queues.lists) left.queues.rooms new.queues.rooms (omega (arith, more, taken, enough)) elsewhere
-    (subst (λ (o : Option ℕ). TakesRoom (fate_on o) 1 left.queues.rooms new.queues.rooms) beside takes))
+    let to = fate_on (target_beside n old.links.items) in
+    let left_room = room_left to 1 left.queues.rooms new.queues.rooms (queued_on (target_beside n old.links.items)) (rw beside at takes) in
+    rw (same ∙ beside) (omega (arith, turns.on_link n low, turns.rooms to, r.place, ap length elsewhere, left_room))
 
 pub wider : (bound more : ℕ) (links : List Link) → bound ≤ more → AreCounted bound links → AreCounted more links
 wider bound more links h all n link there = let k = all n link there in record { acked = let low = k.acked in omega (arith, h, low); accepted = let low = k.accepted in omega (arith, h, low) }

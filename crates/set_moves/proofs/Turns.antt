@@ -42,10 +42,7 @@ tested (Discarded cause) e = absurd cc
 -- the numbers of a fate's rows, where the first left those of the one and came to the other
 joined : (from at : Bool) (rest own : List Row) (y : Row) (n : ℕ) (left there here : List ℕ) → n ≡ y.number → (from ≡ true → at ≡ false) → left ≡ numbers rest → (at ≡ true → there ≡ numbers own) → here ≡ numbers own
     → cond from left (cond at (there ++ n ∷ []) here) ≡ numbers (cond from rest own ++ cond at (y ∷ []) [])
-joined true true rest own y n left there here is apart l t h = absurd (let no = apart refl in cc)
-joined true false rest own y n left there here is apart l t h = l ∙ ap numbers (sym (append-nil rest))
-joined false true rest own y n left there here is apart l t h = rw (t refl, is) (sym (map-append (λ (r : Row). r.number) own (y ∷ [])))
-joined false false rest own y n left there here is apart l t h = h ∙ ap numbers (sym (append-nil own))
+joined from at rest own y n left there here h0 h1 h2 h3 h4 = grind (arith, append-nil, map-append)
 
 -- ONE TURNS BACK
 module _ (home code : ℕ) (to : Fate) (k : Kept) (s : State) (f : StandsFor k s) (o : IsOldest home code k.lists) (on : IsOnLink (length k.lists.links) to) (x : IsFirst home code o.number s.rows) where

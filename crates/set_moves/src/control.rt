@@ -41,9 +41,11 @@ impl Control {
     pub(crate) fn new(method: Method) -> Control
         ensures { result ≡ start_of method }
     {
-        Control {
-            by: ByMethod::new(method),
-        }
+        let by = match method {
+            Method::Basic => ByMethod::Basic(Basic::new()),
+            Method::Cyclic { n1, n2 } => ByMethod::Cyclic(Pcr::new(n1, n2)),
+        };
+        Control { by }
     }
 
     /// What is to be sent next, where the bodies of the unacknowledged messages have so many octets.
@@ -51,7 +53,10 @@ impl Control {
         ensures value { result ≡ choice_of octets self.now window.now }
         ensures possible { IsPossible result window.now }
     {
-        self.by.choice(window, octets)
+        match &self.by {
+            ByMethod::Basic(basic) => basic.choice(window),
+            ByMethod::Cyclic(pcr) => pcr.choice(window, octets),
+        }
     }
 
     /// Sends what was chosen: the header of the unit.
@@ -60,7 +65,10 @@ impl Control {
         ensures head { result ≡ head_of self.old (fsn_of choice window.now) }
         ensures state { self.new ≡ control_after choice octets self.old window.now }
     {
-        self.by.send(choice, window, octets)
+        match &mut self.by {
+            ByMethod::Basic(basic) => basic.send(choice, window),
+            ByMethod::Cyclic(pcr) => pcr.send(choice, window, octets),
+        }
     }
 
     /// What a heard unit with this header means; `is_msu` tells an MSU from a FISU. The messages that
@@ -69,48 +77,7 @@ impl Control {
         ensures part { result ≡ part_of self.old window.now head is_msu }
         ensures state { self.new ≡ control_heard self.old window.now head is_msu }
     {
-        self.by.hear(window, head, is_msu)
-    }
-}
-
-impl ByMethod {
-    fn new(method: Method) -> ByMethod
-        ensures { control_of result ≡ start_of method }
-    {
-        match method {
-            Method::Basic => ByMethod::Basic(Basic::new()),
-            Method::Cyclic { n1, n2 } => ByMethod::Cyclic(Pcr::new(n1, n2)),
-        }
-    }
-
-    fn choice(&self, window: &Window, octets: u32) -> Choice
-        ensures value { result ≡ choice_of octets (control_of self.now) window.now }
-        ensures possible { IsPossible result window.now }
-    {
-        match self {
-            ByMethod::Basic(basic) => basic.choice(window),
-            ByMethod::Cyclic(pcr) => pcr.choice(window, octets),
-        }
-    }
-
-    fn send(&mut self, choice: Choice, window: &Window, octets: u32) -> Header
-        requires { choice ≡ choice_of octets (control_of self.old) window.now }
-        ensures head { result ≡ head_of (control_of self.old) (fsn_of choice window.now) }
-        ensures state { control_of self.new ≡ control_after choice octets (control_of self.old)
-            window.now }
-    {
-        match self {
-            ByMethod::Basic(basic) => basic.send(choice, window),
-            ByMethod::Cyclic(pcr) => pcr.send(choice, window, octets),
-        }
-    }
-
-    fn hear(&mut self, window: &Window, head: Header, is_msu: bool) -> HeardPart
-        ensures part { result ≡ part_of (control_of self.old) window.now head is_msu }
-        ensures state { control_of self.new ≡ control_heard (control_of self.old) window.now head
-            is_msu }
-    {
-        match self {
+        match &mut self.by {
             ByMethod::Basic(basic) => basic.hear(window, head, is_msu),
             ByMethod::Cyclic(pcr) => pcr.hear(window, head, is_msu),
         }

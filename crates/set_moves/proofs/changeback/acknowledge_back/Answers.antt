@@ -1,7 +1,6 @@
-use Rattle.std.proofs.Common.{refl, ◌≡◌, ◌∙◌, ap, sym, ℕ, false}
+use Rattle.std.proofs.Common.{arith, ◌≡◌, ◌∙◌, ap, sym, ℕ, false}
 use Rattle.set_events.specs.declared.answer.Took.TheVariants.{Order as TookOrder}
 use Rattle.set_route.specs.declared.place.Code.{Code}
-use Rattle.set_route.specs.declared.place.Code.TheVariants.{Free, Asked, Spent}
 use Rattle.set_route.specs.Routing.{Routing, code_of, is_free}
 use Rattle.set_model.specs.Changeover.{acknowledged_back, released}
 use Rattle.set_model.specs.State.{State}
@@ -11,9 +10,7 @@ use Rattle.set_moves.specs.Parts.{Obeys, kept_of}
 use Rattle.set_moves.proofs.changeback.acknowledge_back.Goals as goal
 
 in_use : (code : ℕ) (x : Code) (s : State) (parts : Parts) → is_free x ≡ false → StandsFor (kept_of parts) (released code s) → Obeys (acknowledged_back code x s) TookOrder parts
-in_use code Free s parts e f = absurd cc
-in_use code Asked s parts e f = record { took_is = refl; stands = f }
-in_use code Spent s parts e f = record { took_is = refl; stands = f }
+in_use code x s parts h0 h1 = grind arith
 
 pub returns : goal.returns
 returns c = record {

@@ -1,4 +1,4 @@
-use Rattle.std.proofs.Common.{arith, ◌∙◌, ap, sym, length, Result, Ok, Err}
+use Rattle.std.proofs.Common.{arith, ◌∙◌, ap, sym, length, Result}
 use Rattle.std.specs.Prelude.{OnOk}
 use Rattle.set_queues.specs.Backs.{back_count}
 use Rattle.set_queues.specs.Buffers.{Lists}
@@ -9,8 +9,7 @@ use Rattle.set_moves.specs.Room.{target_beside}
 use Rattle.set_moves.proofs.parts.make_room_beside.Goals as goal
 
 on_ok : {A E : Type 0} {P Q : Type 0} (r : Result A E) → (P → Q) → OnOk r P → OnOk r Q
-on_ok (Ok x) f p = f p
-on_ok (Err e) f p = p
+on_ok r h0 h1 = grind arith
 
 pub returns-clause-room : goal.returns-clause-room
 returns-clause-room c = on_ok c.reserve_all.result (λ enough.

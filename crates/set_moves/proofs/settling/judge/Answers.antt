@@ -1,60 +1,48 @@
-use Rattle.std.proofs.Common.{rules, refl, arith, ◌≡◌, ◌∙◌, sym, subst, ◌<◌, ◌+◌, [], length, ℕ}
+use Rattle.std.proofs.Common.{rules, refl, arith, ◌≡◌, ◌∙◌, sym, subst, ◌+◌, [], ℕ}
 use Rattle.set_events.specs.declared.answer.Fate.TheVariants.{Unacked}
 use Rattle.set_events.specs.declared.answer.DiscardCause.TheVariants.{Emergency}
-use Rattle.set_queues.specs.Buffers.{Lists}
 use Rattle.set_queues.specs.Sending.{reach}
 use Rattle.set_queues.proofs.Passing.{links_stay}
 use Rattle.set_queues.proofs.Soundness.{acked_links}
-use Rattle.set_model.specs.declared.reached.Reached.{Reached}
-use Rattle.set_model.specs.declared.reached.Reached.TheVariants.{Unknown}
-use Rattle.set_model.specs.Changeover.{judged, acknowledged}
-use Rattle.set_model.specs.State.{State, LinkState}
+use Rattle.set_model.specs.Changeover.{acknowledged}
+use Rattle.set_model.specs.State.{LinkState}
 use Rattle.set_model.proofs.Lists.{length_set}
 use Rattle.set_moves.specs.declared.link.Link.{Link}
-use Rattle.set_moves.specs.Agreement.{Kept, StandsFor}
+use Rattle.set_moves.specs.Agreement.{StandsFor}
 use Rattle.set_moves.specs.Parts.{kept_of}
 use Rattle.set_moves.proofs.Becoming.{reached_then, unreached_then, sent_up_then}
 use Rattle.set_moves.proofs.Links.{link_set, set_view}
 use Rattle.set_moves.proofs.Less.{cleared_less, acked_less, on_less, NoLonger}
 use Rattle.set_moves.proofs.settling.judge.Goals as goal
 
-known_of : (n : ℕ) (q : Lists) (count : ℕ) → length q.links ≡ count → n < count → n < length q.links
-known_of n q count e low = omega (arith, e, low)
-
 more : (link link' : LinkState) (d count : ℕ) → link' ≡ link → d ≡ count → record link' { acked = link'.acked + d } ≡ acknowledged count link
 more link link' d count e f = rw (e, f) refl
-
-as_unknown : (reached : Reached) (n : ℕ) (link : LinkState) (s : State) (k : Kept) → reached ≡ Unknown → StandsFor k (judged Unknown n link s) → StandsFor k (judged reached n link s)
-as_unknown reached n link s k e f = subst (λ (r : Reached). StandsFor k (judged r n link s)) (sym e) f
 
 pub returns-in-Ok-clause-stands : goal.returns-in-Ok-clause-stands
 returns-in-Ok-clause-stands c = λ s link there f.
     let set = link_set c.args.parts.now.links.items c.args.number c.from-in-Ok.result c.index_mut.result.now c.from-in-Ok.ensures c.requires.known c.index_mut.ensures.value _ s.links link (acknowledged (reach c.args.number c.in-Upto.fsn c.args.parts.now.queues.lists) link) f.links there (λ e. more link _ c.from.result _ e (c.from.ensures ∙ c.in-Ok.ensures.acked.1)) in
-    reached_then (kept_of c.args.parts.now) _ s c.args.number c.in-Upto.fsn link c.args.reached c.in-Upto.is f there c.requires.reached c.in-Ok.ensures.acked.0 (search (rules, c.in-Ok.ensures.lists, c.in-Ok.ensures.messages, set))
+    rw c.in-Upto.is (reached_then (kept_of c.args.parts.now) _ s c.args.number c.in-Upto.fsn link f there (rw c.in-Upto.is at c.requires.reached) c.in-Ok.ensures.acked.0 (search (rules, c.in-Ok.ensures.lists, c.in-Ok.ensures.messages, set)))
 
 pub returns-in-Ok-clause-fewer : goal.returns-in-Ok-clause-fewer
 returns-in-Ok-clause-fewer c =
     let q = c.args.parts.now.queues.lists in
-    on_less c.args.number q c.acknowledge.new.self.lists (subst (NoLonger q) (sym c.in-Ok.ensures.lists) (acked_less c.args.number c.in-Upto.fsn q (known_of c.args.number q _ c.requires.whole.as_many c.requires.known)))
+    on_less c.args.number q c.acknowledge.new.self.lists (subst (NoLonger q) (sym c.in-Ok.ensures.lists) (acked_less c.args.number c.in-Upto.fsn q (omega arith)))
 
 pub returns-in-Ok-clause-phases : goal.returns-in-Ok-clause-phases
 returns-in-Ok-clause-phases c = set_view c.args.parts.now.links.items c.args.number c.from-in-Ok.result c.index_mut.result.now c.from-in-Ok.ensures c.requires.known c.index_mut.ensures.value (λ (l : Link). l.phase) _ refl
 
 pub returns-in-Err-clause-stands : goal.returns-in-Err-clause-stands
 returns-in-Err-clause-stands c = λ s link there f.
-    unreached_then (kept_of c.args.parts.now) _ s c.args.number c.in-Upto.fsn link c.args.reached c.in-Upto.is f there c.in-Err.ensures.acked
-    (c.discard.ensures.stands s (subst (λ q. StandsFor (record (kept_of c.args.parts.now) { lists = q.lists; messages = q.messages }) s) (sym c.in-Err.ensures.err) f))
+    rw c.in-Upto.is (unreached_then (kept_of c.args.parts.now) _ s c.args.number c.in-Upto.fsn link f there c.in-Err.ensures.acked
+    (c.discard.ensures.stands s (subst (λ q. StandsFor (record (kept_of c.args.parts.now) { lists = q.lists; messages = q.messages }) s) (sym c.in-Err.ensures.err) f)))
 
 pub returns-in-Unknown-clause-stands : goal.returns-in-Unknown-clause-stands
-returns-in-Unknown-clause-stands c = λ s link there f.
-    as_unknown c.args.reached c.args.number link s _ c.in-Unknown.is
-    (sent_up_then (kept_of c.args.parts.now) _ s c.args.number Emergency f (known_of c.args.number c.args.parts.now.queues.lists _ c.requires.whole.as_many c.requires.known)
-    (search rules))
+returns-in-Unknown-clause-stands c = λ s link there f. rw c.in-Unknown.is (sent_up_then (kept_of c.args.parts.now) _ s c.args.number Emergency f (omega arith) (search rules))
 
 pub returns-in-Unknown-clause-fewer : goal.returns-in-Unknown-clause-fewer
 returns-in-Unknown-clause-fewer c =
     let q = c.args.parts.now.queues.lists in
-    on_less c.args.number q c.discard-in-Unknown.new.self.lists (subst (NoLonger q) (sym c.discard-in-Unknown.ensures.lists) (cleared_less (Unacked c.args.number) q refl (known_of c.args.number q _ c.requires.whole.as_many c.requires.known)))
+    on_less c.args.number q c.discard-in-Unknown.new.self.lists (cleared_less (Unacked c.args.number) q _ c.discard-in-Unknown.ensures.lists refl (omega arith))
 
 pub returns-in-Unknown-clause-whole : goal.returns-in-Unknown-clause-whole
 returns-in-Unknown-clause-whole c = let many = links_stay (Unacked c.args.number) [] c.args.parts.now.queues.lists in grind arith
