@@ -1,5 +1,7 @@
 -- What is kept after a call stands for what became of the state.
-use Rattle.std.proofs.Common.{refl, arith, ◌≡◌, ◌∙◌, ap, sym, subst, ◌≤◌, ◌<◌, [], ◌∷◌, ◌++◌, List, ℕ, false, length, take, Option, Some, None, ◌==◌, slice_get, slice_set}
+use Rattle.std.proofs.Common.{refl, arith, ◌≡◌, ◌∙◌, ap, sym, subst, ◌≤◌, ◌<◌, [], ◌∷◌, ◌++◌, List, ℕ, false, length, take, Option, Some, None, ◌==◌, slice_get, slice_set, ◌+◌, ◌-◌, ◌%◌, true}
+use Rattle.std.proofs.lemmas.Bool.{le-leb, lt-leb}
+use Rattle.std.proofs.lemmas.List.{length-map}
 use Rattle.set_events.specs.declared.answer.Fate.{Fate}
 use Rattle.set_events.specs.declared.answer.Fate.TheVariants.{Unacked, Waiting, Acked, Parked, Discarded}
 use Rattle.set_events.specs.declared.answer.DiscardCause.{DiscardCause}
@@ -14,15 +16,14 @@ use Rattle.set_queues.proofs.Passing.{links_stay, queued_stands}
 use Rattle.set_queues.proofs.Settling.{IsAside}
 use Rattle.set_route.specs.Routing.{Routing, settled as streams_settled}
 use Rattle.set_model.specs.declared.reached.Reached.TheVariants.{Upto}
-use Rattle.set_model.specs.Rows.{Row, appended, changed, turned, is_unacked, is_waiting, is_on, is_parked, moved, all_with, IsInOrder}
-use Rattle.set_model.specs.Changeover.{judged, discarded, acknowledged_by, acknowledged, moved_over, settled_link, fate_on}
+use Rattle.set_model.specs.Rows.{Row, appended, changed, turned, is_unacked, is_waiting, is_on, is_parked, moved, all_with, IsInOrder, unack}
+use Rattle.set_model.specs.Changeover.{judged, discarded, acknowledged_by, acknowledged, moved_over, settled_link, fate_on, reached_by, is_reasonable}
 use Rattle.set_model.specs.State.{State, LinkState, target, with_link}
 use Rattle.set_model.proofs.Events.{Kept as RowsKept, moved_to, moved_aside}
 use Rattle.set_model.proofs.Lists.{set_same}
 use Rattle.set_moves.specs.Agreement.{Kept, StandsFor, Agrees}
 use Rattle.set_moves.proofs.Standing.{message_of}
 use Rattle.set_moves.proofs.States.{kept_is, link_for, sent_for, appended_for, acked_for, sent_up_for, waiting_up_for, settled_for, risen_for}
-use Rattle.set_moves.proofs.Reaching.{reach_is, is_reached, is_unreached}
 
 -- new keeps this, and all else as old
 pub record Becoming (old new : Kept) (lists : Lists) (messages : List Message) (bodies : List (List ℕ)) (links : List LinkState) (routing : Routing) : Type 0 where
@@ -65,7 +66,20 @@ discarded_then old mid new s n cause f known a b =
     let first = sent_up_then old mid s n cause f known a in
     becomes mid new _ _ _ _ _ _ b (waiting_up_for mid (record s { rows = discarded_sent cause n s }) n cause first inner)
 
--- WHAT REACHED THE FAR END
+-- WHAT REACHED THE FAR END: how far an FSN reaches, as the queues and as the rows tell it
+module _ (k : Kept) (s : State) (n fsn : ℕ) (link : LinkState) (f : StandsFor k s) (there : slice_get s.links n ≡ Some link) where
+  pub reach_is : reach n fsn k.lists ≡ reached_by fsn n link s.rows
+  reach_is = ap (λ (last : ℕ). (fsn + 128 - last) % 128) (f.fsns n link there)
+
+  pub sent_count : length (queue_at (Unacked n) k.lists) ≡ length (unack n s.rows)
+  sent_count = ap length (f.stands.queues (Unacked n)) ∙ length-map (unack n s.rows) (λ (row : Row). row.number)
+
+  pub is_reached : reach n fsn k.lists ≤ length (queue_at (Unacked n) k.lists) → is_reasonable fsn n link s.rows ≡ true
+  is_reached h = le-leb (reached_by fsn n link s.rows) (length (unack n s.rows)) (let a = reach_is in let b = sent_count in omega (arith, a, b, h))
+
+  pub is_unreached : (reach n fsn k.lists ≤ length (queue_at (Unacked n) k.lists) → ⊥) → is_reasonable fsn n link s.rows ≡ false
+  is_unreached h = lt-leb (reached_by fsn n link s.rows) (length (unack n s.rows)) (let a = reach_is in let b = sent_count in omega (arith, a, b, h))
+
 module _ (old new : Kept) (s : State) (n fsn : ℕ) (link : LinkState) (f : StandsFor old s) (there : slice_get s.links n ≡ Some link) where
   pub reached_then : fsn < 128 → reach n fsn old.lists ≤ length (queue_at (Unacked n) old.lists)
       → Becoming old new (acked_lists n fsn old.lists) (restood (take (reach n fsn old.lists) (queue_at (Unacked n) old.lists)) (Acked n) old.messages) old.bodies (slice_set s.links n (acknowledged (reach n fsn old.lists) link)) old.routing

@@ -1,14 +1,11 @@
 pub mod Admitting
 pub mod Becoming
 pub mod Declaring
-pub mod Judged
 pub mod Leaving
 pub mod Less
 pub mod Links
 pub mod Occurring
 pub mod Oldest
-pub mod Reaching
-pub mod Releasing
 pub mod Rooms
 pub mod RowsAt
 pub mod Shifting
@@ -17,4 +14,3 @@ pub mod States
 pub mod Targets
 pub mod TurnedQueues
 pub mod Turns
-pub mod TurnsAll

@@ -1,28 +1,35 @@
--- WHAT STANDS BACK FOR A LINK turns back: the oldest, once.
-use Rattle.std.proofs.Common.{rules, refl, arith, ◌≡◌, ◌∙◌, ap, sym, subst, [], ◌∷◌, ◌++◌, length, ℕ, suc, Bool, true, false, ◌⊎◌, inl, inr, List, Some, cond, take, drop}
+-- WHAT STANDS BACK FOR A LINK turns back: the oldest, and so all of it, the oldest first.
+use Rattle.std.proofs.Common.{rules, refl, arith, ◌≡◌, ◌∙◌, ap, sym, subst, [], ◌∷◌, ◌++◌, length, ℕ, suc, Bool, true, false, ◌⊎◌, inl, inr, List, Some, cond, take, drop, ◌+◌, ◌*◌, None}
 use Rattle.std.specs.Prelude.{slice_get}
 use Rattle.std.proofs.lemmas.Bool.{cases_Bool, eq-eqb}
 use Rattle.std.proofs.lemmas.List.{append-nil, map-append}
 use Rattle.set_events.specs.declared.answer.Fate.{Fate}
 use Rattle.set_events.specs.declared.answer.Fate.TheVariants.{Waiting, Unacked, Acked, Held, Parked, Back, Discarded}
-use Rattle.set_queues.specs.Backs.{passed_first, IsOldest}
-use Rattle.set_queues.specs.Buffers.{Lists, is_standing, same_fate, queue_at, with_queue, last_at}
+use Rattle.set_queues.specs.Backs.{passed_first, IsOldest, back_from, NoneBack}
+use Rattle.set_queues.specs.Buffers.{Lists, is_standing, same_fate, queue_at, with_queue, last_at, HaveRoom}
 use Rattle.set_queues.specs.Messages.{restood}
 use Rattle.set_queues.proofs.Standing.{length-restood, same_is}
+use Rattle.set_queues.specs.declared.message.Message.{Message}
 use Rattle.set_route.specs.declared.place.Place.{Place}
 use Rattle.set_route.specs.Routing.{home_of, place_of}
 use Rattle.set_model.specs.Rows.{Row, standing, is_waiting, is_unacked, is_held, is_parked, is_back, is_back_to, numbers, with_fate, moved, stream_of}
 use Rattle.set_model.specs.Sound.{IsAscending}
 use Rattle.set_model.specs.State.{State, fate_at}
+use Rattle.set_model.specs.Changeover.{turned_back}
+use Rattle.set_model.proofs.Filters.{fewer_filter}
+use Rattle.set_model.proofs.Lookups.{no_rows}
+use Rattle.set_model.proofs.Moving.{moved_nothing}
 use Rattle.set_moves.specs.Agreement.{Kept, Stands, StandsFor, rows_at}
-use Rattle.set_moves.specs.Turning.{IsTurning, IsTurningRow, TurnedOn, TurnedSoFar}
+use Rattle.set_moves.specs.Turning.{IsTurning, IsTurningRow, TurnedOn, TurnedSoFar, CanTurn, TakesTurns}
 use Rattle.set_moves.proofs.Becoming.{Becoming, becomes}
 use Rattle.set_moves.proofs.RowsAt.{waits_there, sent_there, held_there, parked_there, back_there}
 use Rattle.set_moves.proofs.Shifting.{shifted, shifted_messages, shifted_goes, shifted_stands, shifted_each, rest_stands, moved_same, moved_as}
 use Rattle.set_moves.proofs.Standing.{restands, final, none}
 use Rattle.set_moves.proofs.States.{changes, last_stays}
-use Rattle.set_moves.proofs.Oldest.{IsFirst, IsOnLink, first_of}
-use Rattle.set_moves.proofs.TurnedQueues.{Goes, either, goes_to, taken, queue_then, links_then}
+use Rattle.set_moves.proofs.Oldest.{IsFirst, IsOnLink, first_of, first_back}
+use Rattle.set_moves.proofs.TurnedQueues.{Goes, either, goes_to, taken, queue_then, links_then, some_back}
+use Rattle.set_moves.specs.declared.parts.Parts.{Parts}
+use Rattle.set_moves.specs.Parts.{IsWhole, kept_of}
 
 -- where a fate that isn't final is looked for
 record Tested (f : Fate) : Type 0 where
@@ -135,3 +142,54 @@ turned_first home code links to old new s f t o on many way b =
       becomes old new _ _ _ _ _ (next home code to old s f o here x) (search rules) (stands_for home code to old s f o here x),
       turned_on home code to old s f o here x t (way x.row (ap (λ (ys : List Row). slice_get ys 0) x.of_code)),
     )
+
+-- SO MANY TURNED BACK
+pub then_turned : (home i : ℕ) (s : State) (mid new : Kept) → TurnedSoFar home i s mid → ((t : State) → StandsFor mid t → IsTurning home t → TurnedSoFar home 1 t new) → TurnedSoFar home (i + 1) s new
+then_turned home i s mid new so one = grind arith
+
+-- none is left to turn
+pub all_turned : (home i : ℕ) (s : State) (k : Kept) → (so : TurnedSoFar home i s k) → standing (is_back_to home) so.0.rows ≡ [] → StandsFor k (turned_back home s)
+all_turned home i s k so left = grind (arith, moved_nothing)
+
+pub none_left : (home : ℕ) (q : Lists) (ms : List Message) (rows : List Row) → Stands q ms rows → NoneBack home q → standing (is_back_to home) rows ≡ []
+none_left home q ms rows s nothing = go (standing (is_back_to home) rows) refl
+  where
+    go : (xs : List Row) → standing (is_back_to home) rows ≡ xs → standing (is_back_to home) rows ≡ []
+    go [] e = e
+    go (y ∷ rest) e =
+        let b = first_back home q ms rows rest y s e in
+        let no : None ≡ Some y.number = sym (ap (λ (ns : List ℕ). slice_get ns 0) (nothing b.0 b.1)) ∙ b.2 in
+        absurd cc
+
+-- as many turned as there are messages
+pub all_left : (home i : ℕ) (s : State) (k : Kept) → (so : TurnedSoFar home i s k) → length s.rows ≡ i → standing (is_back_to home) so.0.rows ≡ []
+all_left home i s k so many = grind (arith, fewer_filter, no_rows)
+
+-- THE LOOP: so many turned back
+pub record Turning (home i : ℕ) (old now : Parts) : Type 0 where
+  pub whole : IsWhole now
+  pub links : now.links ≡ old.links
+  pub bodies : now.bodies ≡ old.bodies
+  pub so_far : (s : State) → StandsFor (kept_of old) s → IsTurning home s → TurnedSoFar home i s (kept_of now)
+  pub turns : TakesTurns i old.queues now.queues
+  pub fewer : back_from (16 * home) 16 now.queues.lists + i ≡ back_from (16 * home) 16 old.queues.lists
+
+module _ (home i : ℕ) (old now : Parts) (g : Turning home i old now) where
+  pub can_turn : CanTurn home (kept_of old) → CanTurn home (kept_of now)
+  can_turn can = let so = g.so_far can.0 can.1 can.2 in (so.0, so.1, so.2.turning)
+
+  pub room_for_one : (code : ℕ) → IsOldest home code now.queues.lists → HaveRoom (length old.links.items) (back_from (16 * home) 16 old.queues.lists) old.queues.rooms → HaveRoom (length now.links.items) 1 now.queues.rooms
+  room_for_one code o room link low =
+      let many = ap (λ links. length links.items) g.links in
+      let enough = room link (omega (arith, low, many)) in
+      omega (arith, enough, g.turns.rooms (Waiting link), g.turns.rooms (Held link), some_back home code now.queues.lists o, g.fewer)
+
+  pub turned_all : NoneBack home now.queues.lists → (s : State) → StandsFor (kept_of old) s → IsTurning home s → StandsFor (kept_of now) (turned_back home s)
+  turned_all nothing s f t =
+      let so = g.so_far s f t in
+      all_turned home i s (kept_of now) so (none_left home now.queues.lists now.queues.messages so.0.rows so.1.stands nothing)
+
+  pub turned_each : length old.queues.messages ≡ i → (s : State) → StandsFor (kept_of old) s → IsTurning home s → StandsFor (kept_of now) (turned_back home s)
+  turned_each many s f t =
+      let so = g.so_far s f t in
+      all_turned home i s (kept_of now) so (all_left home i s (kept_of now) so (sym f.stands.count ∙ many))

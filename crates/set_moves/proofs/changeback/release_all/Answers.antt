@@ -1,12 +1,22 @@
-use Rattle.std.proofs.Common.{arith, ◌≡◌, ◌≤◌, ◌∙◌, ap, ℕ, ◌+◌, ◌*◌, ◌-◌, length}
+use Rattle.std.proofs.Common.{arith, ◌≡◌, ◌≤◌, ◌∙◌, ap, ℕ, ◌+◌, ◌*◌, ◌-◌, length, add-one, zero, suc}
 use Rattle.set_events.specs.declared.answer.Fate.TheVariants.{Waiting, Back}
 use Rattle.set_queues.specs.Backs.{back_from, back_count}
 use Rattle.set_queues.specs.Buffers.{Lists, queue_at, room_at}
 use Rattle.set_queues.proofs.CodeQueues.{back_more, back_grows}
 use Rattle.set_route.specs.Routing.{home_of}
-use Rattle.set_model.specs.Changeover.{released_from}
-use Rattle.set_moves.proofs.Releasing.{released_more}
+use Rattle.set_model.specs.Changeover.{released_from, released}
+use Rattle.set_model.specs.State.{State}
 use Rattle.set_moves.proofs.changeback.release_all.Goals as goal
+
+-- one more
+released_last : (code n : ℕ) (s : State) → released_from code (suc n) s ≡ released (code + n) (released_from code n s)
+released_last code zero s = grind arith
+released_last code (suc n) s =
+    let next : code + suc n ≡ suc code + n = omega arith in
+    rw next (released_last (suc code) n (released code s))
+
+released_more : (code n : ℕ) (s : State) → released_from code (n + 1) s ≡ released (code + n) (released_from code n s)
+released_more code n s = rw add-one (released_last code n s)
 
 -- what waits for one of the codes waits for all
 enough : (home i room : ℕ) (q : Lists) → i + 1 ≤ 16 → back_count home q ≤ room + back_from (16 * home) i q → length (queue_at (Back (16 * home + i)) q) ≤ room

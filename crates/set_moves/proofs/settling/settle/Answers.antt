@@ -1,12 +1,52 @@
-use Rattle.std.proofs.Common.{arith, ◌≤◌, ◌∙◌, ap, sym, subst, ℕ, Option, length, map}
+use Rattle.std.proofs.Common.{arith, ◌≤◌, ◌∙◌, ap, sym, subst, ℕ, Option, length, map, refl, ◌≡◌, Bool, true, false}
 use Rattle.set_queues.specs.Buffers.{room_at}
 use Rattle.set_queues.specs.Settling.{on as on_lists}
-use Rattle.set_model.specs.Changeover.{judged, judged_link, fate_on}
-use Rattle.set_model.specs.State.{target, has_phase_up}
+use Rattle.set_model.specs.Changeover.{judged, judged_link, fate_on, discarded, acknowledged, is_reasonable, reached_by}
+use Rattle.set_model.specs.State.{target, has_phase_up, State, LinkState}
+use Rattle.set_model.specs.declared.phase.Phase.TheVariants.{Down}
+use Rattle.set_model.specs.declared.reached.Reached.{Reached}
+use Rattle.set_model.specs.declared.reached.Reached.TheVariants.{Upto, Unknown, Unanswered}
+use Rattle.set_model.specs.Rows.{is_waiting, is_unacked, changed}
+use Rattle.set_model.specs.Sound.{IsSound}
+use Rattle.set_model.proofs.Events.{sent_given_up, waiting_given_up}
+use Rattle.set_model.proofs.InPlace.{fewer_changed}
+use Rattle.set_model.proofs.Lists.{within, get_set_same}
+use Rattle.set_model.proofs.Places.{waiting_on, unacked_on}
+use Rattle.set_model.proofs.SoundLink.{acknowledges, gives_up}
+use Rattle.set_model.proofs.Walk.{IsAt}
 use Rattle.set_moves.specs.Parts.{link_of}
-use Rattle.set_moves.proofs.Judged.{is_judged}
 use Rattle.set_moves.proofs.Targets.{same_target, phase_at}
+use Rattle.set_events.specs.declared.answer.Fate.TheVariants.{Discarded}
+use Rattle.set_events.specs.declared.answer.DiscardCause.{DiscardCause}
+use Rattle.set_events.specs.declared.answer.DiscardCause.TheVariants.{Emergency, Unreasonable, NoAnswer}
 use Rattle.set_moves.proofs.settling.settle.Goals as goal
+
+-- A LINK THAT SETTLES, once it's judged how far the far end got:
+-- the state is still one that a set can have, and the link is there, still left
+record IsJudged (reached : Reached) (n : ℕ) (link : LinkState) (s : State) : Type 0 where
+  sound : IsSound (judged reached n link s)
+  at : IsAt n (judged_link reached n link s.rows) Down (judged reached n link s)
+
+module _ (n : ℕ) (link : LinkState) (s : State) (at : IsAt n link Down s) (t : IsSound s) where
+  sent_up : (cause : DiscardCause) → IsSound (record s { rows = changed (is_unacked n) (Discarded cause) s.rows })
+  sent_up cause = gives_up (is_unacked n) cause n link s (unacked_on n) (sent_given_up n cause s.rows) (fewer_changed (is_unacked n) (is_unacked n) (Discarded cause) refl s.rows) at t
+
+  both_up : (cause : DiscardCause) → IsSound (discarded cause n s)
+  both_up cause =
+      let mid : State = record s { rows = changed (is_unacked n) (Discarded cause) s.rows } in
+      gives_up (is_waiting n) cause n link mid (waiting_on n) (waiting_given_up n cause mid.rows) (fewer_changed (is_waiting n) (is_unacked n) (Discarded cause) refl mid.rows) (record { there = at.there; phase_is = at.phase_is }) (sent_up cause)
+
+  is_judged : (reached : Reached) → IsJudged reached n link s
+  is_judged Unknown = record { sound = sent_up Emergency; at = record { there = at.there; phase_is = at.phase_is } }
+  is_judged Unanswered = record { sound = both_up NoAnswer; at = record { there = at.there; phase_is = at.phase_is } }
+  is_judged (Upto fsn) = go (is_reasonable fsn n link s.rows) refl
+    where
+      go : (b : Bool) → is_reasonable fsn n link s.rows ≡ b → IsJudged (Upto fsn) n link s
+      go true e = record {
+        sound = rw e (acknowledges (reached_by fsn n link s.rows) n link s at t);
+        at = rw e (record { there = get_set_same s.links n (acknowledged (reached_by fsn n link s.rows) link) (within s.links n link at.there); phase_is = at.phase_is });
+      }
+      go false e = record { sound = rw e (both_up Unreasonable); at = rw e (record { there = at.there; phase_is = at.phase_is }) }
 
 pub move_all-requires-clause-out : goal.move_all-requires-clause-out
 move_all-requires-clause-out c = λ link there.

@@ -1,7 +1,7 @@
 use Rattle.std.proofs.Common.{arith, ◌∙◌, ap, sym, length}
 use Rattle.set_moves.specs.Parts.{kept_of}
 use Rattle.set_moves.proofs.TurnedQueues.{turns_then}
-use Rattle.set_moves.proofs.TurnsAll.{room_for_one, then_turned, turned_all, turned_each}
+use Rattle.set_moves.proofs.Turns.{room_for_one, then_turned, turned_all, turned_each}
 use Rattle.set_moves.proofs.turning.turn_back.Goals as goal
 
 pub turn_first-requires-clause-room : goal.turn_first-requires-clause-room

@@ -1,4 +1,4 @@
-use Rattle.set_moves.proofs.TurnsAll.{Turning}
+use Rattle.set_moves.proofs.Turns.{Turning}
 use Rattle.set_moves.proofs.turning.turn_back.Given as goal
 
 abbrev pub invariant-loop : goal.invariant-loop
