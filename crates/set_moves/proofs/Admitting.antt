@@ -30,23 +30,14 @@ use Rattle.set_model.proofs.Lists.{within}
 is_here : (links : List Link) (n : ℕ) (phase : Phase) (link : Link) → slice_get links n ≡ Some link → link.phase ≡ phase → IsHere links n phase
 is_here links n phase link e p = record { link = link; there = e; phase_is = p; known = within links n link e }
 
-up_phase : (phase : Phase) → has_phase_up phase ≡ true → phase ≡ Up
-up_phase phase e = grind arith
-
 pub serves : (links : List Link) (n : ℕ) → service_refusal (slice_get links n) ≡ None → IsHere links n Up
-serves links n none = grind (arith, nat_tests, is_here, up_phase)
-
-settled_phase : (phase : Phase) → refusal_in phase (Some NotDown) (Some Unsettled) None ≡ None → phase ≡ Settled
-settled_phase phase e = grind arith
+serves links n none = grind (arith, nat_tests, is_here)
 
 pub can_rise : (links : List Link) (n : ℕ) → rising_refusal (slice_get links n) ≡ None → IsHere links n Settled
-can_rise links n none = grind (arith, nat_tests, is_here, settled_phase)
-
-down_phase : (phase : Phase) → refusal_in phase (Some Nothing) None (Some Nothing) ≡ None → phase ≡ Down
-down_phase phase e = grind arith
+can_rise links n none = grind (arith, nat_tests, is_here)
 
 pub can_wait : (links : List Link) (n : ℕ) → waiting_refusal (slice_get links n) ≡ None → IsHere links n Down
-can_wait links n none = grind (arith, nat_tests, is_here, down_phase)
+can_wait links n none = grind (arith, nat_tests, is_here)
 
 -- The same of the state that the links stand for.
 pub record IsIn (s : State) (n : ℕ) (phase : Phase) : Type 0 where

@@ -36,9 +36,8 @@ room_after n old new r links takes message body low = record {
   message = let m = r.message in omega (arith, m, message);
   body = body (16 - (n + 1)) (subst (λ (more : ℕ). CanHold more old.bodies) (let same : 16 - n ≡ 16 - (n + 1) + 1 = omega (arith, low) in same) r.body);
   each = λ link far low.
-      let had = r.each link (omega (arith, far)) (omega (arith, low, ap (λ ls. length ls.items) links)) in
       let kept = rw (ne_eqb n link (λ e. omega (arith, e, far))) at (takes (Waiting link)) in
-      omega (arith, had, kept);
+      omega (arith, r.each link (omega (arith, far)) (omega (arith, low, ap (λ ls. length ls.items) links)), kept);
 }
 
 -- WHETHER ANY LINK IS SUCH, of so many

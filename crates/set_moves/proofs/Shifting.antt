@@ -58,10 +58,8 @@ module _ (to : Fate) (x : Row) (rows : List Row) (one : with_number x.number row
 
   count : length new ≡ length rows
   count =
-      let both = length-filter_both (λ (row : Row). row.number == k) (λ (row : Row). not (row.number == k)) (λ row. refl) rows in
       let own : length (with_number k rows) ≡ 1 = ap length one in
-      let more = length-append (without k rows) (y ∷ []) in
-      omega (arith, both, own, more)
+      omega (arith, length-filter_both (λ (row : Row). row.number == k) (λ (row : Row). not (row.number == k)) (λ row. refl) rows, own, length-append (without k rows) (y ∷ []))
 
   row_own : row_of k new ≡ Some y
   row_own = row_is_first k new ∙ ap (λ (ys : List Row). slice_get ys 0) with_own

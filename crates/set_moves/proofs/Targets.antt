@@ -2,6 +2,7 @@
 use Rattle.std.proofs.Common.{refl, ◌≡◌, ◌≢◌, ◌∙◌, ap, sym, [], ◌∷◌, List, map, ℕ, false, slice_get, Some, Option, length, ◌<◌, arith, ◌==◌}
 use Rattle.std.specs.Prelude.{IfSome}
 use Rattle.std.proofs.lemmas.Bool.{ne_eqb}
+use Rattle.std.proofs.lemmas.Simd.{map-map}
 use Rattle.set_moves.specs.declared.link.Link.{Link}
 use Rattle.set_queues.specs.Buffers.{Lists, IsKnown}
 use Rattle.set_queues.specs.Settling.{fate_on as fate_there}
@@ -14,16 +15,11 @@ use Rattle.set_model.proofs.Lists.{same_at, map_at, at_map, present}
 use Rattle.set_model.proofs.Targets.{target_up}
 
 pub ups : (links : List Link) → map (λ (link : LinkState). has_phase_up link.phase) (map link_of links) ≡ map (λ (link : Link). has_phase_up link.phase) links
-ups [] = refl
-ups (link ∷ links) = ap (λ rest. has_phase_up link.phase ∷ rest) (ups links)
+ups links = map-map (λ (link : LinkState). has_phase_up link.phase) link_of links
 
 -- links of the same phases have the same target
-by_phase : (links : List Link) → map (λ (link : Link). has_phase_up link.phase) links ≡ map has_phase_up (map (λ (link : Link). link.phase) links)
-by_phase [] = refl
-by_phase (link ∷ links) = ap (λ rest. has_phase_up link.phase ∷ rest) (by_phase links)
-
 pub same_ups : (old new : List Link) → map (λ (link : Link). link.phase) new ≡ map (λ (link : Link). link.phase) old → map (λ (link : Link). has_phase_up link.phase) new ≡ map (λ (link : Link). has_phase_up link.phase) old
-same_ups old new e = by_phase new ∙ ap (map has_phase_up) e ∙ sym (by_phase old)
+same_ups old new e = sym (map-map has_phase_up (λ (link : Link). link.phase) new) ∙ ap (map has_phase_up) e ∙ map-map has_phase_up (λ (link : Link). link.phase) old
 
 pub same_target : (old new : List Link) → map (λ (link : Link). link.phase) new ≡ map (λ (link : Link). link.phase) old → target (map link_of new) ≡ target (map link_of old)
 same_target old new e = ap target_of (ups new ∙ same_ups old new e ∙ sym (ups old))

@@ -57,11 +57,9 @@ module _ (code : ℕ) (q q' : Lists) (others : (c : ℕ) → (code ≡ c → ⊥
   back_same : (from n : ℕ) → from + n ≤ code → back_from from n q' ≡ back_from from n q
   back_same from zero low = back_none from q' ∙ sym (back_none from q)
   back_same from (suc n) low =
-      let before = back_same from n (omega (arith, low)) in
-      let same = ap length (others (from + n) (λ e. omega (arith, e, low))) in
       let old = back_suc from n q in
       let new = back_suc from n q' in
-      omega (arith, before, same, old, new)
+      omega (arith, back_same from n (omega (arith, low)), ap length (others (from + n) (λ e. omega (arith, e, low))), old, new)
 
   pub back_less : length (queue_at (Back code) q') + 1 ≡ length (queue_at (Back code) q) → (from n : ℕ) → from ≤ code → code < from + n → back_from from n q' + 1 ≡ back_from from n q
   back_less less from zero low high = absurd (omega (arith, low, high))
@@ -73,8 +71,7 @@ either P to via h3 w h = grind arith
 
 pub goes_to : (home code links : ℕ) (to : Fate) (q : Lists) (o : IsOldest home code q) → IsOnLink links to → length q.links ≡ links → Goes code o.number to q
 goes_to home code links to q o on many =
-    let low = on.1 in
-    let known : on.0 < length q.links = omega (arith, low, many) in
+    let known : on.0 < length q.links = omega (arith, on.1, many) in
     record {
       first = o.first;
       known = either (λ f. IsKnown f q) to on.0 on.2 known known;

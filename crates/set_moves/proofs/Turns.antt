@@ -65,9 +65,6 @@ module _ (home code : ℕ) (to : Fate) (k : Kept) (s : State) (f : StandsFor k s
   goes : Goes code o.number to k.lists
   goes = goes_to home code (length k.lists.links) to k.lists o on refl
 
-  number : o.number ≡ row.number
-  number = sym x.number_is
-
   queues : (g : Fate) → queue_at g then ≡ numbers (rows_at g after)
   queues g = queue_then code o.number to k.lists goes g ∙ go (cases_Bool (is_standing g))
     where
@@ -76,7 +73,7 @@ module _ (home code : ℕ) (to : Fate) (k : Kept) (s : State) (f : StandsFor k s
           let t = tested g u in
           let from : t.test row.fate ≡ same_fate (Back code) g = t.same row.fate ∙ ap (λ (h : Fate). same_fate h g) x.fate_is in
           let there = shifted_stands to row s.rows x.one t.test x.after (λ h. sym (t.rows_are s.rows) ∙ ap (λ (h : Fate). rows_at h s.rows) (sym (same_is (Back code) g u (sym from ∙ h))) ∙ x.of_code) in
-          joined (same_fate (Back code) g) (same_fate to g) x.after (rows_at g s.rows) (with_fate to row) o.number _ _ _ number
+          joined (same_fate (Back code) g) (same_fate to g) x.after (rows_at g s.rows) (with_fate to row) o.number _ _ _ (sym x.number_is)
           (λ e. subst (λ (h : Fate). same_fate to h ≡ false) (same_is (Back code) g u e) goes.apart)
           (ap (drop 1) (f.stands.queues (Back code) ∙ ap numbers x.of_code))
           (λ e. f.stands.queues to ∙ ap (λ (h : Fate). numbers (rows_at h s.rows)) (same_is to g u e))
@@ -88,7 +85,7 @@ module _ (home code : ℕ) (to : Fate) (k : Kept) (s : State) (f : StandsFor k s
   stands_then =
       let low = x.below in
       let many = f.stands.count in
-      let ns : row.number ∷ [] ≡ take 1 (queue_at (Back code) k.lists) = ap (λ (n : ℕ). n ∷ []) (sym number) ∙ sym (taken code o.number to k.lists goes) in
+      let ns : row.number ∷ [] ≡ take 1 (queue_at (Back code) k.lists) = ap (λ (n : ℕ). n ∷ []) x.number_is ∙ sym (taken code o.number to k.lists goes) in
       subst (λ (xs : List ℕ). Stands then (restood xs to k.messages) after) ns
       (restands k.lists then k.messages s.rows after (row.number ∷ []) to f.stands (shifted_messages to row s.rows x.one f.stands.numbered) (omega (arith, low, many), tt) queues (λ n. shifted_goes to row s.rows x.one n))
 
@@ -135,8 +132,7 @@ pub turned_first : (home code links : ℕ) (to : Fate) (old new : Kept) (s : Sta
     → Becoming old new (passed_first (Back code) to old.lists) (restood (take 1 (queue_at (Back code) old.lists)) to old.messages) old.bodies old.links old.routing
     → TurnedSoFar home 1 s new
 turned_first home code links to old new s f t o on many way b =
-    let low = on.1 in
-    let here : IsOnLink (length old.lists.links) to = (on.0, omega (arith, low, many), on.2) in
+    let here : IsOnLink (length old.lists.links) to = (on.0, omega (arith, on.1, many), on.2) in
     let x = first_of home code old.lists old.messages s.rows f.stands o t.order in (
       next home code to old s f o here x,
       becomes old new _ _ _ _ _ (next home code to old s f o here x) (search rules) (stands_for home code to old s f o here x),
@@ -175,13 +171,9 @@ pub record Turning (home i : ℕ) (old now : Parts) : Type 0 where
   pub fewer : back_from (16 * home) 16 now.queues.lists + i ≡ back_from (16 * home) 16 old.queues.lists
 
 module _ (home i : ℕ) (old now : Parts) (g : Turning home i old now) where
-  pub can_turn : CanTurn home (kept_of old) → CanTurn home (kept_of now)
-  can_turn can = let so = g.so_far can.0 can.1 can.2 in (so.0, so.1, so.2.turning)
-
   pub room_for_one : (code : ℕ) → IsOldest home code now.queues.lists → HaveRoom (length old.links.items) (back_from (16 * home) 16 old.queues.lists) old.queues.rooms → HaveRoom (length now.links.items) 1 now.queues.rooms
   room_for_one code o room link low =
-      let many = ap (λ links. length links.items) g.links in
-      let enough = room link (omega (arith, low, many)) in
+      let enough = room link (omega (arith, low, ap (λ links. length links.items) g.links)) in
       omega (arith, enough, g.turns.rooms (Waiting link), g.turns.rooms (Held link), some_back home code now.queues.lists o, g.fewer)
 
   pub turned_all : NoneBack home now.queues.lists → (s : State) → StandsFor (kept_of old) s → IsTurning home s → StandsFor (kept_of now) (turned_back home s)

@@ -14,8 +14,7 @@ returns-then-may_declare c = λ s a.
 
 pub returns : goal.returns
 returns c = λ s a.
-    let past = c.loop-alternative-test.false in
     let most = c.loop-alternative.auto.alternative-end in
     let many = c.len-alternative-end.ensures in
     let count = count_is c.args.parts.now s a.stands in
-    sym (none_of_all c.args.number c.loop-alternative.alternative s (omega (arith, past, most, many, count)) (c.loop-alternative.invariant s a.stands))
+    sym (none_of_all c.args.number c.loop-alternative.alternative s (omega (arith, c.loop-alternative-test.false, most, many, count)) (c.loop-alternative.invariant s a.stands))

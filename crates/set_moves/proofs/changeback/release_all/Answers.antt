@@ -38,11 +38,10 @@ loop-alternative-preserved c =
     let is = c.changeback_code.ensures in
     let home : home_of c.changeback_code.result ≡ h = omega arith in
     let same = ap (λ (k : ℕ). length (queue_at (Back k) c.loop-alternative.parts.queues.lists)) is ∙ ap length (c.loop-alternative.invariant.later i (omega arith)) in
-    let taken = rw home at c.release.ensures.rooms in
     record {
       whole = c.release.ensures.whole;
       links = c.release.ensures.links ∙ c.loop-alternative.invariant.links;
-      room = omega (arith, back_more (16 * h) i c.args.parts.now.queues.lists, taken, same);
+      room = omega (arith, back_more (16 * h) i c.args.parts.now.queues.lists, rw home at c.release.ensures.rooms, same);
       later = λ j far. c.release.ensures.others (16 * h + j) (λ e. omega (arith, e, far)) ∙ c.loop-alternative.invariant.later j (omega (arith, far));
       stands = λ s f. rw (released_more (16 * h) i s, ← is) (c.release.ensures.stands (released_from (16 * h) i s) (c.loop-alternative.invariant.stands s f));
     }

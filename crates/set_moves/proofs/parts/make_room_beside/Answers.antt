@@ -16,14 +16,12 @@ returns-clause-room c = on_ok c.reserve_all.result (λ enough.
     let n = c.args.number in
     let before = c.in_ok-reserve_each.ensures.same.0 ∙ c.in_ok-reserve-2.ensures.same.0 in
     let back = c.back_count-back.ensures.value ∙ sym (ap (back_count n) (c.reserve_all.ensures.same.0 ∙ before)) in
-    let on_same = ap (λ (l : Lists). length (on n l)) c.reserve_all.ensures.same.0 in
-    let many = ap (λ (l : Lists). length l.links) before ∙ c.requires.whole.as_many in
     let fate = c.fate_on-fate.ensures.value ∙ ap fate_on (c.other_target.ensures.value ∙ ap (target_beside n) c.deref.ensures.value) in
     record {
       message = omega (arith, c.in_ok-reserve-2.ensures.room, c.reserve_all.ensures.same.2, c.in_ok-reserve_each.ensures.same.2);
       body = c.in_ok-reserve.ensures.room;
-      place = rw (← fate) (omega (arith, enough, c.in-Some.ensures, back, on_same));
+      place = rw (← fate) (omega (arith, enough, c.in-Some.ensures, back, ap (λ (l : Lists). length (on n l)) c.reserve_all.ensures.same.0));
       each = λ link low.
-          let had = c.in_ok-reserve_each.ensures.room link (omega (arith, low, many)) in
+          let had = c.in_ok-reserve_each.ensures.room link (omega (arith, low, ap (λ (l : Lists). length l.links) before ∙ c.requires.whole.as_many)) in
           omega (arith, had, back, c.reserve_all.ensures.kept (Waiting link), c.reserve_all.ensures.kept (Held link));
     }) c.reserve_all.ensures.room

@@ -27,8 +27,7 @@ fate_of_new-requires-clause-stream c =
     let can = c.requires.turning in
     let w = way c.args.number c.args.code c.in-Some.first (kept_of c.args.parts.now) can.0 can.1 can.2 c.requires.oldest.of_home (sym c.number_at.ensures ∙ c.in-Some.is) in
     let same = same_stream (kept_of c.args.parts.now) can.0 c.args.code c.in-Some.first c.in-User.stream c.in-Some-message.message c.message.result c.message.ensures c.in-Some-message.is c.in-User.is w in
-    let few = w.few in
-    omega (arith, same, few)
+    omega (arith, same, w.few)
 
 pub unreachable-requires-in-Order : goal.unreachable-requires-in-Order
 unreachable-requires-in-Order c =
