@@ -1,5 +1,5 @@
 -- THE QUEUES, how many stand back, and the room, when the first of a code goes to a link.
-use Rattle.std.proofs.Common.{refl, arith, ◌≡◌, ◌∙◌, ap, sym, subst, ◌+◌, ◌*◌, ◌≤◌, ◌<◌, [], ◌∷◌, ◌++◌, length, ℕ, zero, suc, true, false, ◌==◌, ◌⊎◌, List, Some, cond, take, drop}
+use Rattle.std.proofs.Common.{refl, arith, ◌≡◌, ◌∙◌, ap, sym, subst, ◌+◌, ◌-◌, ◌*◌, ◌%◌, ◌≤◌, ◌<◌, [], ◌∷◌, ◌++◌, length, ℕ, zero, suc, true, false, ◌==◌, ◌⊎◌, List, Some, cond, take, drop}
 use Rattle.std.specs.Prelude.{slice_get}
 use Rattle.std.proofs.lemmas.Bool.{cases_eq, cases_lt, eq-eqb, ne_eqb}
 use Rattle.std.proofs.lemmas.List.{length-append, get_or_past}
@@ -10,7 +10,7 @@ use Rattle.set_queues.specs.Backs.{passed_first, back_from, IsOldest}
 use Rattle.set_queues.specs.Buffers.{Lists, Rooms, is_standing, same_fate, queue_at, with_queue, room_at, IsKnown, IsQueued, TakesRoom}
 use Rattle.set_queues.specs.Queues.{QueuesState}
 use Rattle.set_queues.specs.Settling.{on as on_lists}
-use Rattle.set_queues.proofs.CodeQueues.{back_none}
+use Rattle.set_queues.proofs.CodeQueues.{back_none, back_more, back_grows}
 use Rattle.set_queues.proofs.Passing.{queue_set, known_on, size_stays, links_stay, queued_stands}
 use Rattle.set_queues.proofs.Settling.{on_length}
 use Rattle.set_queues.proofs.Standing.{same_is}
@@ -55,11 +55,8 @@ back_suc code n q = refl
 
 module _ (code : ℕ) (q q' : Lists) (others : (c : ℕ) → (code ≡ c → ⊥) → queue_at (Back c) q' ≡ queue_at (Back c) q) where
   back_same : (from n : ℕ) → from + n ≤ code → back_from from n q' ≡ back_from from n q
-  back_same from zero low = back_none from q' ∙ sym (back_none from q)
-  back_same from (suc n) low =
-      let old = back_suc from n q in
-      let new = back_suc from n q' in
-      omega (arith, back_same from n (omega (arith, low)), ap length (others (from + n) (λ e. omega (arith, e, low))), old, new)
+  back_same from zero low = grind (arith, back_none)
+  back_same from (suc n) low = grind (arith, back_suc, back_same from n (omega (arith, low)), others (from + n))
 
   pub back_less : length (queue_at (Back code) q') + 1 ≡ length (queue_at (Back code) q) → (from n : ℕ) → from ≤ code → code < from + n → back_from from n q' + 1 ≡ back_from from n q
   back_less less from zero low high = absurd (omega (arith, low, high))
@@ -113,13 +110,9 @@ turns_one home code links to old new o on many e rooms room = record {
 pub links_then : (from to : Fate) (q q' : Lists) → q' ≡ passed_first from to q → length q'.links ≡ length q.links
 links_then from to q q' e = ap (λ (z : Lists). length z.links) e ∙ links_stay from (drop 1 (queue_at from q)) (with_queue to (queue_at to q ++ take 1 (queue_at from q)) q) ∙ links_stay to (queue_at to q ++ take 1 (queue_at from q)) q
 
-back_some : (code : ℕ) (q : Lists) → 1 ≤ length (queue_at (Back code) q) → (from n : ℕ) → from ≤ code → code < from + n → 1 ≤ back_from from n q
-back_some code q some from zero low high = absurd (omega (arith, low, high))
-back_some code q some from (suc n) low high = grind (arith, nat_tests, cases_eq, back_suc, back_some code q some from n low)
-
 pub some_back : (home code : ℕ) (q : Lists) → IsOldest home code q → 1 ≤ back_from (16 * home) 16 q
 some_back home code q o =
     let h = head_of (queue_at (Back code) q) o.number o.first in
-    let many : length (queue_at (Back code) q) ≡ suc (length h.0) = ap length h.1 in
-    let of = o.of_home in
-    back_some code q (omega (arith, many)) (16 * home) 16 (omega (arith, of)) (omega (arith, of))
+    let is : 16 * home + code % 16 ≡ code = omega (arith, o.of_home) in
+    let first : back_from (16 * home) (code % 16 + 1) q ≤ back_from (16 * home) 16 q = back_grows (16 * home) (code % 16 + 1) (15 - code % 16) 16 q (omega arith) in
+    omega (arith, first, back_more (16 * home) (code % 16) q, ap (λ (c : ℕ). length (queue_at (Back c) q)) is, ap length h.1)

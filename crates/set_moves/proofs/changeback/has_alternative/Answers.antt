@@ -6,11 +6,7 @@ pub loop-alternative-preserved : goal.loop-alternative-preserved
 loop-alternative-preserved c = λ s f. none_next c.args.number c.loop-alternative.alternative s (sym (c.may_declare.ensures.value s f) ∙ c.if-may_declare.false) (c.loop-alternative.invariant s f)
 
 pub returns-then-may_declare : goal.returns-then-may_declare
-returns-then-may_declare c = λ s a.
-    let low = c.loop-alternative-test.true in
-    let many = c.len-alternative-end.ensures in
-    let count = count_is c.args.parts.now s a.stands in
-    sym (found_here c.args.number c.loop-alternative.alternative s (omega (arith, low, many, count)) (sym (c.may_declare.ensures.value s a.stands) ∙ c.if-may_declare.true) (c.loop-alternative.invariant s a.stands))
+returns-then-may_declare c = grind (arith, count_is, found_here)
 
 pub returns : goal.returns
 returns c = λ s a.

@@ -1,4 +1,4 @@
-use Rattle.std.proofs.Common.{refl, ◌∙◌, ap, subst}
+use Rattle.std.proofs.Common.{arith, refl, ◌∙◌, ap, subst}
 use Rattle.set_model.specs.declared.phase.Phase.TheVariants.{Down}
 use Rattle.set_model.specs.Changeover.{out_of_service, left_link}
 use Rattle.set_model.proofs.Lists.{same_at}
@@ -19,7 +19,4 @@ returns-clause-stands c = λ s link there f.
     (link_for (kept_of c.args.parts.now) s n link (left_link c.args.blind link) (streams_left n s.routing) f there refl)
 
 pub returns-clause-links : goal.returns-clause-links
-returns-clause-links c = λ link there.
-    let links = c.args.parts.now.links.items in
-    let x = c.index_mut-link.result.now in
-    rw (c.from.ensures, same_at links c.args.number x link (found links c.args.number c.from.result x c.from.ensures c.requires.known c.index_mut-link.ensures.value) there) refl
+returns-clause-links c = grind (arith, found, same_at)

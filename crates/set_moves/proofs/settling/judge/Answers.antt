@@ -24,9 +24,7 @@ returns-in-Ok-clause-stands c = λ s link there f.
     rw c.in-Upto.is (reached_then (kept_of c.args.parts.now) _ s c.args.number c.in-Upto.fsn link f there (rw c.in-Upto.is at c.requires.reached) c.in-Ok.ensures.acked.0 (search (rules, c.in-Ok.ensures.lists, c.in-Ok.ensures.messages, set)))
 
 pub returns-in-Ok-clause-fewer : goal.returns-in-Ok-clause-fewer
-returns-in-Ok-clause-fewer c =
-    let q = c.args.parts.now.queues.lists in
-    on_less c.args.number q c.acknowledge.new.self.lists (subst (NoLonger q) (sym c.in-Ok.ensures.lists) (acked_less c.args.number c.in-Upto.fsn q (omega arith)))
+returns-in-Ok-clause-fewer c = grind (arith, NoLonger, acked_less, on_less)
 
 pub returns-in-Ok-clause-phases : goal.returns-in-Ok-clause-phases
 returns-in-Ok-clause-phases c = set_view c.args.parts.now.links.items c.args.number c.from-in-Ok.result c.index_mut.result.now c.from-in-Ok.ensures c.requires.known c.index_mut.ensures.value (λ (l : Link). l.phase) _ refl
@@ -40,14 +38,10 @@ pub returns-in-Unknown-clause-stands : goal.returns-in-Unknown-clause-stands
 returns-in-Unknown-clause-stands c = λ s link there f. rw c.in-Unknown.is (sent_up_then (kept_of c.args.parts.now) _ s c.args.number Emergency f (omega arith) (search rules))
 
 pub returns-in-Unknown-clause-fewer : goal.returns-in-Unknown-clause-fewer
-returns-in-Unknown-clause-fewer c =
-    let q = c.args.parts.now.queues.lists in
-    on_less c.args.number q c.discard-in-Unknown.new.self.lists (cleared_less (Unacked c.args.number) q _ c.discard-in-Unknown.ensures.lists refl (omega arith))
+returns-in-Unknown-clause-fewer c = search (rules, cleared_less, on_less)
 
 pub returns-in-Unknown-clause-whole : goal.returns-in-Unknown-clause-whole
 returns-in-Unknown-clause-whole c = let many = links_stay (Unacked c.args.number) [] c.args.parts.now.queues.lists in grind arith
 
 pub returns-in-Ok-clause-whole : goal.returns-in-Ok-clause-whole
-returns-in-Ok-clause-whole c =
-    let many = acked_links c.args.parts.now.queues.lists c.args.number c.in-Upto.fsn in
-    grind (arith, length_set)
+returns-in-Ok-clause-whole c = grind (arith, acked_links, length_set)

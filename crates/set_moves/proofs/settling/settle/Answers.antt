@@ -49,17 +49,13 @@ module _ (n : ℕ) (link : LinkState) (s : State) (at : IsAt n link Down s) (t :
       go false e = record { sound = rw e (both_up Unreasonable); at = rw e (record { there = at.there; phase_is = at.phase_is }) }
 
 pub move_all-requires-clause-out : goal.move_all-requires-clause-out
-move_all-requires-clause-out c = λ link there.
-    let x = phase_at c.args.parts.now.links.items c.judge.new.parts.links.items c.args.number link c.judge.ensures.phases there in
-    ap has_phase_up (sym x.2) ∙ c.requires.out x.0 x.1
+move_all-requires-clause-out c = grind (arith, phase_at)
 
 enough : (on' on room room' : ℕ) → on' ≤ on → on ≤ room → room ≤ room' → on' ≤ room'
 enough on' on room room' a b d = omega (arith, a, b, d)
 
 pub move_all-requires-clause-room : goal.move_all-requires-clause-room
-move_all-requires-clause-room c =
-    let same = same_target c.args.parts.now.links.items c.judge.new.parts.links.items c.judge.ensures.phases in
-    subst (λ (t : Option ℕ). length (on_lists c.args.number c.judge.new.parts.queues.lists) ≤ room_at (fate_on t) c.judge.new.parts.queues.rooms) (sym same) (enough _ _ _ _ c.judge.ensures.fewer c.requires.room (c.judge.ensures.rooms (fate_on (target (map link_of c.args.parts.now.links.items)))))
+move_all-requires-clause-room c = grind (arith, enough, same_target)
 
 pub returns : goal.returns
 returns c = record {

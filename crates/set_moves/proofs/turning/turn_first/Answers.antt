@@ -12,8 +12,7 @@ returns-clause-stands c = λ s f t.
     (search rules)
 
 pub returns-clause-turns : goal.returns-clause-turns
-returns-clause-turns c =
-    turns_one c.args.number c.args.code (length c.args.parts.now.links.items) c.way_of-to.result c.args.parts.now.queues c.turn_back.new.self c.requires.oldest c.way_of-to.ensures.on_link c.requires.whole.as_many c.turn_back.ensures.lists c.turn_back.ensures.rooms c.turn_back.ensures.room
+returns-clause-turns c = search (rules, turns_one)
 
 pub returns-clause-fewer : goal.returns-clause-fewer
 returns-clause-fewer c =
