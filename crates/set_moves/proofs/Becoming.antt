@@ -39,33 +39,6 @@ module _ (old new : Kept) (lists : Lists) (messages : List Message) (bodies : Li
   pub becomes : Becoming old new lists messages bodies links routing → StandsFor (record old { lists = lists; messages = messages; bodies = bodies; links = links; routing = routing }) s → StandsFor new s
   becomes b f = subst (λ k. StandsFor k s) (ap (λ settings. record { settings = settings; lists = lists; messages = messages; bodies = bodies; links = links; routing = routing; inbox = old.inbox }) (sym b.settings_same) ∙ kept_is new lists messages bodies links routing old.inbox b.lists_are b.messages_are b.bodies_are b.links_are b.routing_is b.inbox_same) f
 
--- A NEW MESSAGE
-pub appended_then : (old new : Kept) (s : State) (body : List ℕ) (fate : Fate) (message : Message) → StandsFor old s → IsQueued fate → IsKnown fate old.lists → message ≡ message_of body fate
-    → Becoming old new (with_queue fate (queue_at fate old.lists ++ length old.messages ∷ []) old.lists) (old.messages ++ message ∷ []) (old.bodies ++ body ∷ []) old.links old.routing → StandsFor new (record s { rows = appended s.rows body fate })
-appended_then old new s body fate message f queued known is b =
-    becomes old new _ _ _ _ _ (record s { rows = appended s.rows body fate }) b
-    (subst (λ (m : Message). StandsFor (record old { lists = with_queue fate (queue_at fate old.lists ++ length old.messages ∷ []) old.lists; messages = old.messages ++ m ∷ []; bodies = old.bodies ++ body ∷ [] }) (record s { rows = appended s.rows body fate })) (sym is)
-    (appended_for old s body fate f (queued_stands fate queued) known))
-
--- MESSAGES THAT ARE GIVEN UP
--- the rows where what was sent is given up
-abbrev pub discarded_sent : DiscardCause → ℕ → State → List Row
-discarded_sent cause n s = changed (is_unacked n) (Discarded cause) s.rows
-
-pub sent_up_then : (old new : Kept) (s : State) (n : ℕ) (cause : DiscardCause) → StandsFor old s → n < length old.lists.links
-    → Becoming old new (with_queue (Unacked n) [] old.lists) (restood (queue_at (Unacked n) old.lists) (Discarded cause) old.messages) old.bodies old.links old.routing
-    → StandsFor new (record s { rows = discarded_sent cause n s })
-sent_up_then old new s n cause f known b = becomes old new _ _ _ _ _ _ b (sent_up_for old s n cause f known)
-
-pub discarded_then : (old mid new : Kept) (s : State) (n : ℕ) (cause : DiscardCause) → StandsFor old s → n < length old.lists.links
-    → Becoming old mid (with_queue (Unacked n) [] old.lists) (restood (queue_at (Unacked n) old.lists) (Discarded cause) old.messages) old.bodies old.links old.routing
-    → Becoming mid new (with_queue (Waiting n) [] mid.lists) (restood (queue_at (Waiting n) mid.lists) (Discarded cause) mid.messages) mid.bodies mid.links mid.routing
-    → StandsFor new (discarded cause n s)
-discarded_then old mid new s n cause f known a b =
-    let inner : n < length mid.lists.links = rw a.lists_are (omega (arith, known, links_stay (Unacked n) [] old.lists)) in
-    let first = sent_up_then old mid s n cause f known a in
-    becomes mid new _ _ _ _ _ _ b (waiting_up_for mid (record s { rows = discarded_sent cause n s }) n cause first inner)
-
 -- WHAT REACHED THE FAR END: how far an FSN reaches, as the queues and as the rows tell it
 module _ (k : Kept) (s : State) (n fsn : ℕ) (link : LinkState) (f : StandsFor k s) (there : slice_get s.links n ≡ Some link) where
   pub reach_is : reach n fsn k.lists ≡ reached_by fsn n link s.rows
@@ -79,29 +52,6 @@ module _ (k : Kept) (s : State) (n fsn : ℕ) (link : LinkState) (f : StandsFor 
 
   pub is_unreached : (reach n fsn k.lists ≤ length (queue_at (Unacked n) k.lists) → ⊥) → is_reasonable fsn n link s.rows ≡ false
   is_unreached h = lt-leb (reached_by fsn n link s.rows) (length (unack n s.rows)) (let a = reach_is in let b = sent_count in omega (arith, a, b, h))
-
-module _ (old new : Kept) (s : State) (n fsn : ℕ) (link : LinkState) (f : StandsFor old s) (there : slice_get s.links n ≡ Some link) where
-  pub reached_then : fsn < 128 → reach n fsn old.lists ≤ length (queue_at (Unacked n) old.lists)
-      → Becoming old new (acked_lists n fsn old.lists) (restood (take (reach n fsn old.lists) (queue_at (Unacked n) old.lists)) (Acked n) old.messages) old.bodies (slice_set s.links n (acknowledged (reach n fsn old.lists) link)) old.routing
-      → StandsFor new (judged (Upto fsn) n link s)
-  reached_then low h b =
-      let done : StandsFor new (acknowledged_by (reach n fsn old.lists) n link s) = becomes old new _ _ _ _ _ _ b (acked_for old s n fsn link (acknowledged (reach n fsn old.lists) link) f there low refl) in
-      rw (is_reached old s n fsn link f there h) (subst (λ (count : ℕ). StandsFor new (acknowledged_by count n link s)) (reach_is old s n fsn link f there) done)
-
-  pub unreached_then : (reach n fsn old.lists ≤ length (queue_at (Unacked n) old.lists) → ⊥) → StandsFor new (discarded Unreasonable n s) → StandsFor new (judged (Upto fsn) n link s)
-  unreached_then h done = rw (is_unreached old s n fsn link f there h) done
-
--- WHAT STANDS ON A LINK IS MOVED
-moved_rows : (n : ℕ) (t : Option ℕ) (s : State) → ((k : ℕ) → t ≡ Some k → (n == k) ≡ false) → RowsKept s.rows (moved (is_on n) (all_with (fate_on t)) s.rows)
-moved_rows n None s apart = (moved_aside n s.rows).left_is.kept
-moved_rows n (Some t) s apart = (moved_to n t s.rows (apart t refl)).left_is.kept
-
-pub moved_then : (old new : Kept) (s : State) (n : ℕ) (link : LinkState) → Agrees old s → slice_get s.links n ≡ Some link → IsAside n (fate_on (target s.links)) old.lists → ((k : ℕ) → target s.links ≡ Some k → (n == k) ≡ false)
-    → Becoming old new (settled_lists n (fate_on (target s.links)) old.lists) (restood (on_lists n old.lists) (fate_on (target s.links)) old.messages) old.bodies (slice_set s.links n (settled_link link)) (streams_settled n (target s.links) s.routing)
-    → StandsFor new (moved_over n link s)
-moved_then old new s n link a there aside apart b =
-    let one = a.sound.links n link there in
-    becomes old new _ _ _ _ _ _ b (settled_for old s n (target s.links) link (settled_link link) (streams_settled n (target s.links) s.routing) a.stands one.in_order one.held_last there refl aside apart (moved_rows n (target s.links) s apart))
 
 -- A LINK'S CONTROL GOES ON
 pub link_then : (old new : Kept) (s : State) (n : ℕ) (link link' : LinkState) → StandsFor old s → slice_get s.links n ≡ Some link → link'.acked ≡ link.acked → Becoming old new old.lists old.messages old.bodies (slice_set s.links n link') s.routing

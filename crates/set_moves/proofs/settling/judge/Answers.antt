@@ -4,13 +4,14 @@ use Rattle.set_events.specs.declared.answer.DiscardCause.TheVariants.{Emergency}
 use Rattle.set_queues.specs.Sending.{reach}
 use Rattle.set_queues.proofs.Passing.{links_stay}
 use Rattle.set_queues.proofs.Soundness.{acked_links}
-use Rattle.set_model.specs.Changeover.{acknowledged}
+use Rattle.set_model.specs.Changeover.{acknowledged, acknowledged_by}
 use Rattle.set_model.specs.State.{LinkState}
 use Rattle.set_model.proofs.Lists.{length_set}
 use Rattle.set_moves.specs.declared.link.Link.{Link}
 use Rattle.set_moves.specs.Agreement.{StandsFor}
 use Rattle.set_moves.specs.Parts.{kept_of}
-use Rattle.set_moves.proofs.Becoming.{reached_then, unreached_then, sent_up_then}
+use Rattle.set_moves.proofs.Becoming.{becomes, reach_is, is_reached, is_unreached}
+use Rattle.set_moves.proofs.States.{acked_for, sent_up_for}
 use Rattle.set_moves.proofs.Links.{link_set, set_view}
 use Rattle.set_moves.proofs.Less.{cleared_less, acked_less, on_less, NoLonger}
 use Rattle.set_moves.proofs.settling.judge.Goals as goal
@@ -21,7 +22,8 @@ more link link' d count e f = rw (e, f) refl
 pub returns-in-Ok-clause-stands : goal.returns-in-Ok-clause-stands
 returns-in-Ok-clause-stands c = λ s link there f.
     let set = link_set c.args.parts.now.links.items c.args.number c.from-in-Ok.result c.index_mut.result.now c.from-in-Ok.ensures c.requires.known c.index_mut.ensures.value _ s.links link (acknowledged (reach c.args.number c.in-Upto.fsn c.args.parts.now.queues.lists) link) f.links there (λ e. more link _ c.from.result _ e (c.from.ensures ∙ c.in-Ok.ensures.acked.1)) in
-    rw c.in-Upto.is (reached_then (kept_of c.args.parts.now) _ s c.args.number c.in-Upto.fsn link f there (rw c.in-Upto.is at c.requires.reached) c.in-Ok.ensures.acked.0 (search (rules, c.in-Ok.ensures.lists, c.in-Ok.ensures.messages, set)))
+    rw (c.in-Upto.is, is_reached (kept_of c.args.parts.now) s c.args.number c.in-Upto.fsn link f there c.in-Ok.ensures.acked.0, ← reach_is (kept_of c.args.parts.now) s c.args.number c.in-Upto.fsn link f there)
+    (becomes (kept_of c.args.parts.now) _ _ _ _ _ _ _ (search (rules, c.in-Ok.ensures.lists, c.in-Ok.ensures.messages, set)) (acked_for (kept_of c.args.parts.now) s c.args.number c.in-Upto.fsn link (acknowledged (reach c.args.number c.in-Upto.fsn c.args.parts.now.queues.lists) link) f there (rw c.in-Upto.is at c.requires.reached) refl))
 
 pub returns-in-Ok-clause-fewer : goal.returns-in-Ok-clause-fewer
 returns-in-Ok-clause-fewer c = grind (arith, NoLonger, acked_less, on_less)
@@ -31,11 +33,11 @@ returns-in-Ok-clause-phases c = set_view c.args.parts.now.links.items c.args.num
 
 pub returns-in-Err-clause-stands : goal.returns-in-Err-clause-stands
 returns-in-Err-clause-stands c = λ s link there f.
-    rw c.in-Upto.is (unreached_then (kept_of c.args.parts.now) _ s c.args.number c.in-Upto.fsn link f there c.in-Err.ensures.acked
-    (c.discard.ensures.stands s (subst (λ q. StandsFor (record (kept_of c.args.parts.now) { lists = q.lists; messages = q.messages }) s) (sym c.in-Err.ensures.err) f)))
+    rw (c.in-Upto.is, is_unreached (kept_of c.args.parts.now) s c.args.number c.in-Upto.fsn link f there c.in-Err.ensures.acked)
+    (c.discard.ensures.stands s (subst (λ q. StandsFor (record (kept_of c.args.parts.now) { lists = q.lists; messages = q.messages }) s) (sym c.in-Err.ensures.err) f))
 
 pub returns-in-Unknown-clause-stands : goal.returns-in-Unknown-clause-stands
-returns-in-Unknown-clause-stands c = λ s link there f. rw c.in-Unknown.is (sent_up_then (kept_of c.args.parts.now) _ s c.args.number Emergency f (omega arith) (search rules))
+returns-in-Unknown-clause-stands c = λ s link there f. rw c.in-Unknown.is (becomes (kept_of c.args.parts.now) _ _ _ _ _ _ _ (search rules) (sent_up_for (kept_of c.args.parts.now) s c.args.number Emergency f (omega arith)))
 
 pub returns-in-Unknown-clause-fewer : goal.returns-in-Unknown-clause-fewer
 returns-in-Unknown-clause-fewer c = search (rules, cleared_less, on_less)
