@@ -1,29 +1,20 @@
 -- What is kept after a call stands for what became of the state.
-use Rattle.std.proofs.Common.{refl, arith, ◌≡◌, ◌∙◌, ap, sym, subst, ◌≤◌, ◌<◌, [], ◌∷◌, ◌++◌, List, ℕ, false, length, take, Option, Some, None, ◌==◌, slice_get, slice_set, ◌+◌, ◌-◌, ◌%◌, true}
+use Rattle.std.proofs.Common.{refl, arith, ◌≡◌, ◌∙◌, ap, sym, subst, ◌≤◌, [], ◌∷◌, List, ℕ, false, length, Some, slice_get, slice_set, ◌+◌, ◌-◌, ◌%◌, true}
 use Rattle.std.proofs.lemmas.Bool.{le-leb, lt-leb}
 use Rattle.std.proofs.lemmas.List.{length-map}
-use Rattle.set_events.specs.declared.answer.Fate.{Fate}
-use Rattle.set_events.specs.declared.answer.Fate.TheVariants.{Unacked, Waiting, Acked, Parked, Discarded}
-use Rattle.set_events.specs.declared.answer.DiscardCause.{DiscardCause}
-use Rattle.set_events.specs.declared.answer.DiscardCause.TheVariants.{Unreasonable}
+use Rattle.set_events.specs.declared.answer.Fate.TheVariants.{Unacked, Waiting, Parked}
 use Rattle.set_queues.specs.declared.message.Message.{Message}
-use Rattle.set_queues.specs.Buffers.{Lists, queue_at, with_queue, with_last, IsKnown, IsQueued}
+use Rattle.set_queues.specs.Buffers.{Lists, queue_at, with_last}
 use Rattle.set_queues.specs.Messages.{restood}
-use Rattle.set_queues.specs.Sending.{first_sent, acknowledged as acked_lists, reach}
+use Rattle.set_queues.specs.Sending.{first_sent, reach}
 use Rattle.set_queues.specs.Queues.{passed}
-use Rattle.set_queues.specs.Settling.{on as on_lists, settled as settled_lists}
-use Rattle.set_queues.proofs.Passing.{links_stay, queued_stands}
-use Rattle.set_queues.proofs.Settling.{IsAside}
-use Rattle.set_route.specs.Routing.{Routing, settled as streams_settled}
-use Rattle.set_model.specs.declared.reached.Reached.TheVariants.{Upto}
-use Rattle.set_model.specs.Rows.{Row, appended, changed, turned, is_unacked, is_waiting, is_on, is_parked, moved, all_with, IsInOrder, unack}
-use Rattle.set_model.specs.Changeover.{judged, discarded, acknowledged_by, acknowledged, moved_over, settled_link, fate_on, reached_by, is_reasonable}
-use Rattle.set_model.specs.State.{State, LinkState, target, with_link}
-use Rattle.set_model.proofs.Events.{Kept as RowsKept, moved_to, moved_aside}
+use Rattle.set_route.specs.Routing.{Routing}
+use Rattle.set_model.specs.Rows.{Row, turned, is_waiting, is_parked, moved, all_with, IsInOrder, unack}
+use Rattle.set_model.specs.Changeover.{reached_by, is_reasonable}
+use Rattle.set_model.specs.State.{State, LinkState, with_link}
 use Rattle.set_model.proofs.Lists.{set_same}
-use Rattle.set_moves.specs.Agreement.{Kept, StandsFor, Agrees}
-use Rattle.set_moves.proofs.Standing.{message_of}
-use Rattle.set_moves.proofs.States.{kept_is, link_for, sent_for, appended_for, acked_for, sent_up_for, waiting_up_for, settled_for, risen_for}
+use Rattle.set_moves.specs.Agreement.{Kept, StandsFor}
+use Rattle.set_moves.proofs.States.{kept_is, link_for, sent_for, risen_for}
 
 -- new keeps this, and all else as old
 pub record Becoming (old new : Kept) (lists : Lists) (messages : List Message) (bodies : List (List ℕ)) (links : List LinkState) (routing : Routing) : Type 0 where

@@ -1,5 +1,5 @@
 -- The link that messages are moved to.
-use Rattle.std.proofs.Common.{refl, ◌≡◌, ◌≢◌, ◌∙◌, ap, sym, [], ◌∷◌, List, map, ℕ, false, slice_get, Some, Option, length, ◌<◌, arith, ◌==◌}
+use Rattle.std.proofs.Common.{◌≡◌, ◌≢◌, ◌∙◌, ap, sym, List, map, ℕ, false, slice_get, Some, Option, length, ◌<◌, arith, ◌==◌}
 use Rattle.std.specs.Prelude.{IfSome}
 use Rattle.std.proofs.lemmas.Bool.{ne_eqb}
 use Rattle.std.proofs.lemmas.Simd.{map-map}

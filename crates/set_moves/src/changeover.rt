@@ -74,6 +74,7 @@ pub fn leave(parts: &mut Parts, number: u8, blind: bool)
 }
 
 /// The link is out of service, and streams on their way back to it run where they came from.
+#[tactic(auto, using(crate::proofs::Links::found, set_model::proofs::Lists::same_at))]
 fn take_out(parts: &mut Parts, number: u8, blind: bool)
     requires whole { IsWhole parts.old }
     requires known { number < length parts.old.links.items }
@@ -159,6 +160,7 @@ fn answer_and_settle(parts: &mut Parts, number: u8, reached: Reached)
 }
 
 /// A link that settled is answered for again, as its last life would have been (own).
+#[tactic(auto, using(crate::proofs::Links::stands_for, crate::proofs::Rooms::has_room, crate::proofs::Rooms::beside_out))]
 fn reply_again(parts: &mut Parts, number: u8)
     requires whole { IsWhole parts.old }
     requires counted { AreCounted (2 ^ 61) parts.old.links.items }

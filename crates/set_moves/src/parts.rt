@@ -39,6 +39,7 @@ pub struct Parts {
 }
 
 /// The lowest-numbered link that is up, if any (own).
+#[tactic(auto, using(crate::proofs::Targets::ups))]
 pub fn target_of(links: &[Link]) -> Option<u8>
     requires { length links.now ≤ 16 }
     ensures value { result ≡ target (map link_of links.now) }
@@ -75,13 +76,11 @@ fn up_links(links: &[Link]) -> ArrayVec<bool, 16>
 pub fn phase_of(links: &[Link], number: u8) -> Option<Phase>
     ensures { result ≡ option_map (λ link. link.phase) (slice_get links.now number) }
 {
-    match links.get(usize::from(number)) {
-        Some(link) => Some(link.phase),
-        None => None,
-    }
+    Some(links.get(usize::from(number))?.phase)
 }
 
 /// Where that link of the set stands in its life, if there is one.
+#[tactic(auto, using(crate::proofs::Admitting::phase_here))]
 pub(crate) fn phase_at(parts: &Parts, number: u8) -> Option<Phase>
     ensures value { result ≡ option_map (λ link. link.phase)
         (slice_get parts.now.links.items number) }
@@ -137,8 +136,7 @@ pub fn make_room_beside(parts: &mut Parts, number: u8, orders: usize) -> Result<
 fn with_turns(orders: usize, back: usize) -> Option<usize>
     ensures { IfSome result (λ more. more ≡ orders + 2 * back) }
 {
-    let twice = back.checked_add(back)?;
-    twice.checked_add(orders)
+    back.checked_add(back)?.checked_add(orders)
 }
 
 /// Takes room in the link's queue for all that is parked. Nothing else changes, also where memory is

@@ -3,17 +3,14 @@ use Rattle.set_events.specs.declared.answer.Fate.TheVariants.{Unacked}
 use Rattle.set_events.specs.declared.answer.DiscardCause.TheVariants.{Emergency}
 use Rattle.set_queues.specs.Sending.{reach}
 use Rattle.set_queues.proofs.Passing.{links_stay}
-use Rattle.set_queues.proofs.Soundness.{acked_links}
-use Rattle.set_model.specs.Changeover.{acknowledged, acknowledged_by}
+use Rattle.set_model.specs.Changeover.{acknowledged}
 use Rattle.set_model.specs.State.{LinkState}
-use Rattle.set_model.proofs.Lists.{length_set}
-use Rattle.set_moves.specs.declared.link.Link.{Link}
 use Rattle.set_moves.specs.Agreement.{StandsFor}
 use Rattle.set_moves.specs.Parts.{kept_of}
 use Rattle.set_moves.proofs.Becoming.{becomes, reach_is, is_reached, is_unreached}
 use Rattle.set_moves.proofs.States.{acked_for, sent_up_for}
-use Rattle.set_moves.proofs.Links.{link_set, set_view}
-use Rattle.set_moves.proofs.Less.{cleared_less, acked_less, on_less, NoLonger}
+use Rattle.set_moves.proofs.Links.{link_set}
+use Rattle.set_moves.proofs.Less.{cleared_less, on_less}
 use Rattle.set_moves.proofs.settling.judge.Goals as goal
 
 more : (link link' : LinkState) (d count : ℕ) → link' ≡ link → d ≡ count → record link' { acked = link'.acked + d } ≡ acknowledged count link
@@ -24,12 +21,6 @@ returns-in-Ok-clause-stands c = λ s link there f.
     let set = link_set c.args.parts.now.links.items c.args.number c.from-in-Ok.result c.index_mut.result.now c.from-in-Ok.ensures c.requires.known c.index_mut.ensures.value _ s.links link (acknowledged (reach c.args.number c.in-Upto.fsn c.args.parts.now.queues.lists) link) f.links there (λ e. more link _ c.from.result _ e (c.from.ensures ∙ c.in-Ok.ensures.acked.1)) in
     rw (c.in-Upto.is, is_reached (kept_of c.args.parts.now) s c.args.number c.in-Upto.fsn link f there c.in-Ok.ensures.acked.0, ← reach_is (kept_of c.args.parts.now) s c.args.number c.in-Upto.fsn link f there)
     (becomes (kept_of c.args.parts.now) _ _ _ _ _ _ _ (search (rules, c.in-Ok.ensures.lists, c.in-Ok.ensures.messages, set)) (acked_for (kept_of c.args.parts.now) s c.args.number c.in-Upto.fsn link (acknowledged (reach c.args.number c.in-Upto.fsn c.args.parts.now.queues.lists) link) f there (rw c.in-Upto.is at c.requires.reached) refl))
-
-pub returns-in-Ok-clause-fewer : goal.returns-in-Ok-clause-fewer
-returns-in-Ok-clause-fewer c = grind (arith, NoLonger, acked_less, on_less)
-
-pub returns-in-Ok-clause-phases : goal.returns-in-Ok-clause-phases
-returns-in-Ok-clause-phases c = set_view c.args.parts.now.links.items c.args.number c.from-in-Ok.result c.index_mut.result.now c.from-in-Ok.ensures c.requires.known c.index_mut.ensures.value (λ (l : Link). l.phase) _ refl
 
 pub returns-in-Err-clause-stands : goal.returns-in-Err-clause-stands
 returns-in-Err-clause-stands c = λ s link there f.
@@ -44,6 +35,3 @@ returns-in-Unknown-clause-fewer c = search (rules, cleared_less, on_less)
 
 pub returns-in-Unknown-clause-whole : goal.returns-in-Unknown-clause-whole
 returns-in-Unknown-clause-whole c = let many = links_stay (Unacked c.args.number) [] c.args.parts.now.queues.lists in grind arith
-
-pub returns-in-Ok-clause-whole : goal.returns-in-Ok-clause-whole
-returns-in-Ok-clause-whole c = grind (arith, acked_links, length_set)

@@ -1,8 +1,6 @@
-use Rattle.std.proofs.Common.{arith, ◌≤◌, ◌∙◌, ap, sym, subst, ℕ, Option, length, map, refl, ◌≡◌, Bool, true, false}
-use Rattle.set_queues.specs.Buffers.{room_at}
-use Rattle.set_queues.specs.Settling.{on as on_lists}
-use Rattle.set_model.specs.Changeover.{judged, judged_link, fate_on, discarded, acknowledged, is_reasonable, reached_by}
-use Rattle.set_model.specs.State.{target, has_phase_up, State, LinkState}
+use Rattle.std.proofs.Common.{ℕ, refl, ◌≡◌, Bool, true, false}
+use Rattle.set_model.specs.Changeover.{judged, judged_link, discarded, acknowledged, is_reasonable, reached_by}
+use Rattle.set_model.specs.State.{State, LinkState}
 use Rattle.set_model.specs.declared.phase.Phase.TheVariants.{Down}
 use Rattle.set_model.specs.declared.reached.Reached.{Reached}
 use Rattle.set_model.specs.declared.reached.Reached.TheVariants.{Upto, Unknown, Unanswered}
@@ -14,8 +12,6 @@ use Rattle.set_model.proofs.Lists.{within, get_set_same}
 use Rattle.set_model.proofs.Places.{waiting_on, unacked_on}
 use Rattle.set_model.proofs.SoundLink.{acknowledges, gives_up}
 use Rattle.set_model.proofs.Walk.{IsAt}
-use Rattle.set_moves.specs.Parts.{link_of}
-use Rattle.set_moves.proofs.Targets.{same_target, phase_at}
 use Rattle.set_events.specs.declared.answer.Fate.TheVariants.{Discarded}
 use Rattle.set_events.specs.declared.answer.DiscardCause.{DiscardCause}
 use Rattle.set_events.specs.declared.answer.DiscardCause.TheVariants.{Emergency, Unreasonable, NoAnswer}
@@ -47,15 +43,6 @@ module _ (n : ℕ) (link : LinkState) (s : State) (at : IsAt n link Down s) (t :
         at = rw e (record { there = get_set_same s.links n (acknowledged (reached_by fsn n link s.rows) link) (within s.links n link at.there); phase_is = at.phase_is });
       }
       go false e = record { sound = rw e (both_up Unreasonable); at = rw e (record { there = at.there; phase_is = at.phase_is }) }
-
-pub move_all-requires-clause-out : goal.move_all-requires-clause-out
-move_all-requires-clause-out c = grind (arith, phase_at)
-
-enough : (on' on room room' : ℕ) → on' ≤ on → on ≤ room → room ≤ room' → on' ≤ room'
-enough on' on room room' a b d = omega (arith, a, b, d)
-
-pub move_all-requires-clause-room : goal.move_all-requires-clause-room
-move_all-requires-clause-room c = grind (arith, enough, same_target)
 
 pub returns : goal.returns
 returns c = record {
