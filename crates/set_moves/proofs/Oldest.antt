@@ -19,6 +19,7 @@ use Rattle.set_model.specs.State.{State, fate_at, is_up, link_count}
 use Rattle.set_model.proofs.Filters.{filter_comm, filter_within}
 use Rattle.set_model.proofs.Finding.{with_number}
 use Rattle.set_model.proofs.Lookups.{Found, found_by_number, at_most_one, row_is_first}
+use Rattle.set_model.proofs.Standing.{each_filter}
 use Rattle.set_moves.specs.Agreement.{Kept, Stands, StandsFor, label_in, label_of, kind_of}
 use Rattle.set_moves.specs.Turning.{IsTurning, IsTurningRow}
 
@@ -36,15 +37,6 @@ single (y ∷ z ∷ xs) x e l = absurd (omega (arith, l))
 pub passes : (p : Row → Bool) (xs rest : List Row) (x : Row) → filter p xs ≡ x ∷ rest → p x ≡ true
 passes p [] rest x e = absurd cc
 passes p (z ∷ xs) rest x e = grind (arith, passes p xs rest x)
-
-each_found : (P : Row → Type 0) (p : Row → Bool) (xs : List Row) (i : ℕ) (x : Row) → Each P xs → slice_get (filter p xs) i ≡ Some x → P x
-each_found P p [] i x a e = absurd cc
-each_found P p (z ∷ xs) i x a e = go (p z) refl i e (λ j f. each_found P p xs j x a.1 f)
-  where
-    go : (b : Bool) → p z ≡ b → (i : ℕ) → slice_get (filter p (z ∷ xs)) i ≡ Some x → ((j : ℕ) → slice_get (filter p xs) j ≡ Some x → P x) → P x
-    go true h zero e later = let f : Some z ≡ Some x = rw h at e in subst P (same_Some z x f) a.0
-    go true h (suc j) e later = later j (rw h at e)
-    go false h j e later = later j (rw h at e)
 
 none_above : (k m : ℕ) (xs : List Row) → k ≤ m → AreAbove m (numbers xs) → with_number k xs ≡ []
 none_above k m [] low a = refl
@@ -104,11 +96,8 @@ module _ (home code : ℕ) (q : Lists) (ms : List Message) (rows : List Row) (s 
   only : with_number o.number rows ≡ x ∷ []
   only = single (with_number o.number rows) x (sym (row_is_first o.number rows) ∙ found.row_is) (at_most_one o.number rows s.numbered)
 
-  home_is : is_back_to home x.fate ≡ true
-  home_is = ap (is_back_to home) fate_of ∙ eq-eqb (home_of code) home o.of_home
-
   in_home : with_number o.number (standing (is_back_to home) rows) ≡ x ∷ []
-  in_home = filter_comm (λ (row : Row). row.number == o.number) (λ (row : Row). is_back_to home row.fate) rows ∙ ap (standing (is_back_to home)) only ∙ rw home_is refl
+  in_home = filter_comm (λ (row : Row). row.number == o.number) (λ (row : Row). is_back_to home row.fate) rows ∙ ap (standing (is_back_to home)) only ∙ rw (ap (is_back_to home) fate_of ∙ eq-eqb (home_of code) home o.of_home) refl
 
   -- none that stands before it has a lower number
   least : (y : Row) (rest : List Row) → standing (is_back_to home) rows ≡ y ∷ rest → o.number ≤ y.number
@@ -145,8 +134,8 @@ way home code first k s f t of e =
     let there = found_by_number (λ (row : Row). is_back code row.fate) s.rows 0 first f.stands.numbered (sym (ap (λ (ns : List ℕ). slice_get ns 0) (f.stands.queues (Back code))) ∙ e) in
     let h = head_of (standing (is_back code) s.rows) there.row there.there in
     let back = passes (λ (row : Row). is_back code row.fate) s.rows h.0 there.row h.1 in
-    let own = each_found (IsTurningRow home s) (λ (row : Row). is_back code row.fate) s.rows 0 there.row t.each there.there in
-    let turns = own (back_home home code of there.row.fate back) in
+    let own = subst (Each (IsTurningRow home s)) h.1 (each_filter (IsTurningRow home s) (λ (row : Row). is_back code row.fate) s.rows t.each) in
+    let turns = own.0 (back_home home code of there.row.fate back) in
     let label : option_map label_in (slice_get k.messages first) ≡ Some (label_of there.row.body) = f.stands.labels first ∙ ap (option_map label_of) there.body_is in
     record {
       row = there.row;
@@ -155,23 +144,19 @@ way home code first k s f t of e =
       via = turns.2;
       place_is = turns.3;
       low = turns.4;
-      kind_is = λ m at. ap (λ l. l.kind) (same_Some (label_in m) (label_of there.row.body) (sym (ap (option_map label_in) at) ∙ label)) ∙ users_kind there.row turns.0;
+      kind_is = λ m at. ap (λ l. l.kind) (same_Some (label_in m) (label_of there.row.body) (sym (ap (option_map label_in) at) ∙ label)) ∙ rw (not-true (service_indicator there.row.body == 0) turns.0) refl;
       found = λ none. let no : None ≡ Some (label_of there.row.body) = sym (ap (option_map label_in) none) ∙ label in cc;
     }
-  where
-    users_kind : (row : Row) → is_users row ≡ true → kind_of row.body ≡ User (stream_of row.body)
-    users_kind row u = rw (not-true (service_indicator row.body == 0) u) refl
 
 -- it waits for a link, or is held for it
 abbrev pub IsOnLink : ℕ → Fate → Type 0
 IsOnLink links to = (via : ℕ) × (via < links) × ((to ≡ Waiting via) ⊎ (to ≡ Held via))
 
+runs_on : (via : ℕ) (to : Fate) (s : State) → to ≡ fate_at (On via) s → (to ≡ Waiting via) ⊎ (to ≡ Held via)
+runs_on via to s e = grind arith
+
 pub on_way : (links via : ℕ) (to : Fate) (s : State) → link_count s ≡ links → via < link_count s → to ≡ fate_at (On via) s → IsOnLink links to
-on_way links via to s many low e = (via, omega (arith, many, low), go (is_up via s) refl)
-  where
-    go : (b : Bool) → is_up via s ≡ b → (to ≡ Waiting via) ⊎ (to ≡ Held via)
-    go true h = inl (e ∙ rw h refl)
-    go false h = inr (e ∙ rw h refl)
+on_way links via to s many low e = (via, omega (arith, many, low), runs_on via to s e)
 
 pub same_user : (a b : ℕ) → User a ≡ User b → a ≡ b
 same_user a b e = cc

@@ -83,11 +83,9 @@ module _ (home code : ℕ) (to : Fate) (k : Kept) (s : State) (f : StandsFor k s
 
   pub stands_then : Stands then (restood (take 1 (queue_at (Back code) k.lists)) to k.messages) after
   stands_then =
-      let low = x.below in
-      let many = f.stands.count in
       let ns : row.number ∷ [] ≡ take 1 (queue_at (Back code) k.lists) = ap (λ (n : ℕ). n ∷ []) x.number_is ∙ sym (taken code o.number to k.lists goes) in
       subst (λ (xs : List ℕ). Stands then (restood xs to k.messages) after) ns
-      (restands k.lists then k.messages s.rows after (row.number ∷ []) to f.stands (shifted_messages to row s.rows x.one f.stands.numbered) (omega (arith, low, many), tt) queues (λ n. shifted_goes to row s.rows x.one n))
+      (restands k.lists then k.messages s.rows after (row.number ∷ []) to f.stands (shifted_messages to row s.rows x.one f.stands.numbered) (omega (arith, x.below, f.stands.count), tt) queues (λ n. shifted_goes to row s.rows x.one n))
 
   last_then : (n : ℕ) → last_at n then ≡ last_at n k.lists
   last_then n = last_stays (Back code) (drop 1 (queue_at (Back code) k.lists)) (with_queue to (queue_at to k.lists ++ take 1 (queue_at (Back code) k.lists)) k.lists) n ∙ last_stays to (queue_at to k.lists ++ take 1 (queue_at (Back code) k.lists)) k.lists n
