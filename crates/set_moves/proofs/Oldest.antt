@@ -1,5 +1,5 @@
 -- THE OLDEST that stands back for a link is the first of the rows that do; and where it goes.
-use Rattle.std.proofs.Common.{refl, arith, ◌≡◌, ◌∙◌, ap, sym, subst, ◌/◌, ◌≤◌, ◌<◌, [], ◌∷◌, length, ℕ, zero, suc, Bool, true, false, ◌==◌, ◌⊎◌, inl, inr, List, Some, None}
+use Rattle.std.proofs.Common.{refl, arith, ◌≡◌, ◌∙◌, ap, sym, subst, ◌/◌, ◌≤◌, ◌<◌, [], ◌∷◌, length, ℕ, Bool, true, ◌==◌, ◌⊎◌, List, Some, None}
 use Rattle.std.specs.Prelude.{slice_get, filter}
 use Rattle.std.specs.Option.{option_map}
 use Rattle.std.proofs.lemmas.Bool.{eq-eqb, ne_eqb, not-true}
@@ -13,14 +13,14 @@ use Rattle.set_queues.specs.Backs.{IsOldest}
 use Rattle.set_queues.specs.Buffers.{Lists, queue_at}
 use Rattle.set_route.specs.declared.place.Place.TheVariants.{On}
 use Rattle.set_route.specs.Routing.{home_of, place_of}
-use Rattle.set_model.specs.Rows.{Row, standing, is_back, is_back_to, is_users, numbers, service_indicator, stream_of, Each}
+use Rattle.set_model.specs.Rows.{Row, standing, is_back, is_back_to, numbers, service_indicator, stream_of, Each}
 use Rattle.set_model.specs.Sound.{AreAbove, IsAscending}
-use Rattle.set_model.specs.State.{State, fate_at, is_up, link_count}
+use Rattle.set_model.specs.State.{State, fate_at, link_count}
 use Rattle.set_model.proofs.Filters.{filter_comm, filter_within}
 use Rattle.set_model.proofs.Finding.{with_number}
 use Rattle.set_model.proofs.Lookups.{Found, found_by_number, at_most_one, row_is_first}
 use Rattle.set_model.proofs.Standing.{each_filter}
-use Rattle.set_moves.specs.Agreement.{Kept, Stands, StandsFor, label_in, label_of, kind_of}
+use Rattle.set_moves.specs.Agreement.{Kept, Stands, StandsFor, label_in, label_of}
 use Rattle.set_moves.specs.Turning.{IsTurning, IsTurningRow}
 
 -- LISTS

@@ -77,6 +77,7 @@ pub fn time_out(parts: &mut Parts, number: u8, answer: &mut Answer) -> Result<()
 }
 
 /// Whether streams can come back from some link.
+#[tactic(auto, using(crate::proofs::Declaring::count_is, crate::proofs::Declaring::found_here))]
 fn has_alternative(parts: &Parts, number: u8) -> bool
     requires holds { Holds (kept_of parts.now) }
     requires known { number < length parts.now.links.items }

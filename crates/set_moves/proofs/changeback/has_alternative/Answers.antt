@@ -1,12 +1,9 @@
 use Rattle.std.proofs.Common.{arith, ◌∙◌, sym}
-use Rattle.set_moves.proofs.Declaring.{none_next, found_here, none_of_all, count_is}
+use Rattle.set_moves.proofs.Declaring.{none_next, none_of_all, count_is}
 use Rattle.set_moves.proofs.changeback.has_alternative.Goals as goal
 
 pub loop-alternative-preserved : goal.loop-alternative-preserved
 loop-alternative-preserved c = λ s f. none_next c.args.number c.loop-alternative.alternative s (sym (c.may_declare.ensures.value s f) ∙ c.if-may_declare.false) (c.loop-alternative.invariant s f)
-
-pub returns-then-may_declare : goal.returns-then-may_declare
-returns-then-may_declare c = grind (arith, count_is, found_here)
 
 pub returns : goal.returns
 returns c = λ s a.
