@@ -13,7 +13,7 @@ use Rattle.set_queues.specs.Messages.{updated}
 use Rattle.set_queues.specs.Buffers.{LinkLists, Lists, LinkRooms, Rooms, BuffersState, room_at, room_in, same_fate, list_in, number_in, KeepsRoom, TakesRoom, HaveRoom}
 use Rattle.set_queues.specs.Kept.{lists_of, rooms_of, messages_of, room_of, state_of}
 use Rattle.set_queues.specs.declared.buffers.Buffers.TheInside.{Inside}
-use Rattle.set_queues.proofs.Updates.{updated_there, updated_other, map_set_updated, map_set_same, read_set}
+use Rattle.set_queues.proofs.Updates.{updated_there, updated_other, updated_twice, map_set_updated, map_set_same, read_set}
 
 -- the link that an index reads
 pub link_there : (xs : List Link) (l : ℕ) (x : Link) → l < length (map lists_of xs) → x ≡ get_or xs l x → slice_get xs l ≡ Some x
@@ -65,11 +65,12 @@ pub takes_held : (xs : List Link) (l : ℕ) (x y : Link) (parked : ℕ) (back : 
 takes_held xs l x y parked back e u h fate = rw (rooms_set xs l x y parked back e) (omega (arith, rooms_changed (rooms xs parked back) l (rooms_of x) (rooms_of y) 0 1 (there_too xs l x e) (omega arith) h fate, nothing (same_fate (Waiting l) fate)))
 
 -- the room of the link that was set
-pub room_waiting : (xs : List Link) (l : ℕ) (x y : Link) (parked : ℕ) (back : List ℕ) → slice_get xs l ≡ Some x → room_at (Waiting l) (rooms (slice_set xs l y) parked back) ≡ y.window.room
-room_waiting xs l x y parked back e = ap (room_at (Waiting l)) (rooms_set xs l x y parked back e) ∙ (ap (room_in (λ (z : LinkRooms). z.unsent)) (updated_there (λ (z : LinkRooms). rooms_of y) (map rooms_of xs) l (rooms_of x) (there_too xs l x e)))
+pub room_now : (room : LinkRooms → ℕ) (xs : List Link) (l : ℕ) (x y : Link) → slice_get xs l ≡ Some x → room_in room (slice_get (map rooms_of (slice_set xs l y)) l) ≡ room (rooms_of y)
+room_now room xs l x y e = ap (λ (rs : List LinkRooms). room_in room (slice_get rs l)) (map_set_updated rooms_of (λ (z : LinkRooms). rooms_of y) xs l x y e refl) ∙ ap (room_in room) (updated_there (λ (z : LinkRooms). rooms_of y) (map rooms_of xs) l (rooms_of x) (there_too xs l x e))
 
-pub room_held : (xs : List Link) (l : ℕ) (x y : Link) (parked : ℕ) (back : List ℕ) → slice_get xs l ≡ Some x → room_at (Held l) (rooms (slice_set xs l y) parked back) ≡ y.held.room
-room_held xs l x y parked back e = ap (room_at (Held l)) (rooms_set xs l x y parked back e) ∙ (ap (room_in (λ (z : LinkRooms). z.held)) (updated_there (λ (z : LinkRooms). rooms_of y) (map rooms_of xs) l (rooms_of x) (there_too xs l x e)))
+-- a link of which the lists stay
+pub lists_same : (xs : List Link) (l : ℕ) (x y : Link) → slice_get xs l ≡ Some x → lists_of y ≡ lists_of x → map lists_of (slice_set xs l y) ≡ map lists_of xs
+lists_same xs l x y e h = map_set_same lists_of xs l x y e h
 
 -- the link that an index of this number reads
 pub found : (fields : Inside) (value : BuffersState) (i l : ℕ) (x : Link) → state_of fields ≡ value → l < length value.lists.links → i ≡ l → x ≡ get_or fields.links.items i x → slice_get fields.links.items l ≡ Some x
@@ -150,3 +151,7 @@ takes_back links parked xs c x y d e h h9 = grind (arith, room_read, room_less)
 
 pub keeps_back : (links : List LinkRooms) (parked : ℕ) (xs : List QueueState) (c : ℕ) (x y : QueueState) → slice_get xs c ≡ Some x → x.room ≤ y.room → KeepsRoom (back_rooms links parked xs) (back_rooms links parked (slice_set xs c y))
 keeps_back links parked xs c x y e h fate = omega (arith, takes_back links parked xs c x y 0 e (omega (arith, h)) fate, nothing (same_fate (Back c) fate))
+
+-- what a call on a queue of a link is for the set; and one on a code's
+pub ruleset of_link = (found, within, lists_set, list_there, last_there, rooms_there, keeps, takes_waiting, takes_held, room_now, lists_same, same_links, updated_twice)
+pub ruleset of_code = (back_found, within_back, back_set, back_there, room_there, back_same, room_back, takes_back, keeps_back)

@@ -60,6 +60,7 @@ impl Bodies {
     }
 
     /// The body of the next message: these octets. There is room for it, so it takes no memory.
+    #[tactic(auto, using(crate::proofs::Storing::bodies_more, crate::proofs::Storing::all_more))]
     pub fn add(&mut self, body: &[u8])
         requires room { CanHold 1 self.old }
         requires fits { length body.now ≤ 273 }

@@ -53,6 +53,7 @@ impl Link {
     }
 
     /// So many links, with nothing in their queues.
+    #[tactic(auto, using(crate::proofs::Updates::map_push_same))]
     fn no_messages(alloc: Global, links: u8) -> Result<Vec<Link>, AllocError>
         ensures { IfOk result (λ made. map lists_of made.items ≡ replicate links
             (record { last = 127; unacked = []; unsent = []; held = [] })) }
@@ -94,6 +95,7 @@ impl Buffers {
     }
 
     /// The window of a link.
+    #[tactic(auto, using(crate::proofs::Linked::of_link))]
     pub(crate) fn window(&self, link: u8) -> &Window
         requires { link < length self.now.lists.links }
         ensures last { result.now.last ≡ last_at link self.now.lists }
@@ -105,6 +107,7 @@ impl Buffers {
     }
 
     /// How many messages stand there.
+    #[tactic(auto, using(crate::proofs::Linked::of_link, crate::proofs::Linked::of_code))]
     pub(crate) fn len(&self, fate: Fate) -> usize
         requires { IsKnown fate self.now.lists }
         ensures value { result ≡ length (queue_at fate self.now.lists) }
@@ -120,6 +123,7 @@ impl Buffers {
     }
 
     /// The message at this place of those that stand there, the oldest at 0.
+    #[tactic(auto, using(crate::proofs::Linked::of_link, crate::proofs::Linked::of_code))]
     pub(crate) fn at(&self, fate: Fate, place: usize) -> Option<u64>
         requires { IsKnown fate self.now.lists }
         ensures { result ≡ slice_get (queue_at fate self.now.lists) place }
@@ -135,6 +139,7 @@ impl Buffers {
     }
 
     /// Makes room for so many more there. The messages stay where they stand.
+    #[tactic(auto, using(crate::proofs::Linked::of_link, crate::proofs::Linked::of_code))]
     pub(crate) fn reserve(&mut self, fate: Fate, messages: usize) -> Result<(), AllocError>
         requires known { IsKnown fate self.old.lists }
         requires queued { IsQueued fate }
@@ -170,6 +175,7 @@ impl Buffers {
     }
 
     /// The message stands there, behind the others.
+    #[tactic(auto, using(crate::proofs::Linked::of_link, crate::proofs::Linked::of_code))]
     pub(crate) fn push(&mut self, fate: Fate, message: u64)
         requires known { IsKnown fate self.old.lists }
         requires room { 0 < room_at fate self.old.rooms }
@@ -187,6 +193,7 @@ impl Buffers {
     }
 
     /// No message stands there from now on.
+    #[tactic(auto, using(crate::proofs::Linked::of_link, crate::proofs::Linked::of_code))]
     pub(crate) fn clear(&mut self, fate: Fate)
         requires known { IsKnown fate self.old.lists }
         ensures lists { self.new.lists ≡ with_queue fate [] self.old.lists }
@@ -203,6 +210,7 @@ impl Buffers {
     }
 
     /// The first that waits for the acknowledgement of the changeback leaves, if there is one.
+    #[tactic(auto, using(crate::proofs::Linked::of_code))]
     pub(crate) fn drop_back(&mut self, code: u8)
         requires known { code < length self.old.lists.back }
         ensures lists { self.new.lists ≡ with_queue (Fate.Back code)
@@ -223,6 +231,7 @@ impl Buffers {
     /// message and its FSN.
     ///
     /// Refusals, in this order: 1 [`WindowFault::Empty`], 2 [`WindowFault::Full`].
+    #[tactic(auto, using(crate::proofs::Linked::of_link))]
     pub(crate) fn send(&mut self, link: u8) -> Result<(u64, u8), WindowFault>
         requires { link < length self.old.lists.links }
         ensures empty { (result ≡ Err WindowFault.Empty) ↔ (queue_at
@@ -244,6 +253,7 @@ impl Buffers {
     /// The messages of the link up to this FSN leave the unacknowledged ones: how many.
     ///
     /// Refusal: 3 [`WindowFault::Unreasonable`].
+    #[tactic(auto, using(crate::proofs::Linked::of_link))]
     pub(crate) fn ack(&mut self, link: u8, fsn: u8) -> Result<u8, WindowFault>
         requires known { link < length self.old.lists.links }
         requires fsn { fsn < 128 }
@@ -258,6 +268,7 @@ impl Buffers {
     }
 
     /// FSN 127 counts as acknowledged on the link again (Q.703 5.2.1).
+    #[tactic(auto, using(crate::proofs::Linked::of_link))]
     pub(crate) fn reset(&mut self, link: u8)
         requires known { link < length self.old.lists.links }
         requires unacked { queue_at (Fate.Unacked link) self.old.lists ≡ [] }
@@ -270,6 +281,7 @@ impl Buffers {
 }
 
 /// A queue for each changeback code. It takes no memory while nothing stands in it.
+#[tactic(auto, using(crate::proofs::Updates::map_push_same))]
 fn no_backs(alloc: Global) -> Result<Vec<Queue>, AllocError>
     ensures { IfOk result (λ queues. map messages_of queues.items ≡ replicate 256 []) }
 {
