@@ -113,7 +113,7 @@ sent_stands l message q ms rows s o known there =
     let sent = s.queues (Unacked l) in
     let first : message ∷ [] ≡ take 1 (numbers (wait l rows)) = one (queue_at (Waiting l) q) there ∙ ap (take 1) waits in
     shifts_stand q (first_sent l message q) ms rows (turned (is_waiting l) (Unacked l) 1 rows) (is_waiting l) (Unacked l) _ (message ∷ []) _ _ s (sent_shifts l rows s.numbered o)
-    (λ f t. both_replaced q (Waiting l) (Unacked l) (drop 1 (queue_at (Waiting l) q)) (queue_at (Unacked l) q ++ message ∷ []) refl refl known known f t ∙ grind (arith, nat_tests, waits, sent, first)) first
+    (λ f t. both_replaced q (Waiting l) (Unacked l) (drop 1 (queue_at (Waiting l) q)) (queue_at (Unacked l) q ++ message ∷ []) known known f t ∙ grind (arith, nat_tests, waits, sent, first)) first
   where
     one : (xs : List ℕ) → slice_get xs 0 ≡ Some message → message ∷ [] ≡ take 1 xs
     one xs e = grind arith

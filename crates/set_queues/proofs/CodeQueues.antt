@@ -1,6 +1,5 @@
--- What waits for the acknowledgements of changebacks: the first of a queue, and how many wait for a home's codes.
-use Rattle.std.proofs.Common.{refl, arith, ◌≡◌, ◌∙◌, ap, sym, ◌+◌, ◌≤◌, ◌<◌, [], ◌∷◌, ◌++◌, length, ℕ, zero, suc, inl, inr, List, Option, Some, None, take, add-one}
-use Rattle.std.specs.Prelude.{slice_get}
+-- What waits for the acknowledgements of changebacks: how many wait for a home's codes.
+use Rattle.std.proofs.Common.{refl, arith, ◌≡◌, ◌∙◌, ap, sym, ◌+◌, ◌≤◌, ◌<◌, [], ◌∷◌, ◌++◌, length, ℕ, zero, suc, inl, inr, List, Option, Some, None, add-one}
 use Rattle.std.specs.Option.{option_map}
 use Rattle.std.proofs.lemmas.Bool.{cases_lt}
 use Rattle.std.proofs.lemmas.List.{length-append}
@@ -14,15 +13,6 @@ use Rattle.set_queues.specs.Buffers.{Lists, queue_at}
 use Rattle.set_queues.specs.Queues.{occurs, has_fate, AreTied}
 use Rattle.set_queues.specs.Backs.{back_from}
 use Rattle.set_queues.proofs.Standing.{occurs-append, occurs_here, occurs_not}
-
--- the first of a list
-
-pub first_taken : (xs : List ℕ) (n : ℕ) → slice_get xs 0 ≡ Some n → take 1 xs ≡ n ∷ []
-first_taken xs n e = grind arith
-
-pub none_first : (xs : List ℕ) → slice_get xs 0 ≡ None → xs ≡ []
-none_first [] e = refl
-none_first (x ∷ xs) e = absurd (cc)
 
 -- HOW MANY WAIT
 

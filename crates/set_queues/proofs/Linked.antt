@@ -10,7 +10,7 @@ use Rattle.set_events.specs.declared.answer.Fate.{Fate}
 use Rattle.set_events.specs.declared.answer.Fate.TheVariants.{Waiting, Held, Back}
 use Rattle.set_queues.specs.declared.buffers.Link.{Link}
 use Rattle.set_queues.specs.Messages.{updated}
-use Rattle.set_queues.specs.Buffers.{LinkLists, Lists, LinkRooms, Rooms, BuffersState, room_at, room_in, same_fate, list_in, number_in, KeepsRoom, TakesRoom, HaveRoom}
+use Rattle.set_queues.specs.Buffers.{LinkLists, LinkRooms, Rooms, BuffersState, room_at, room_in, same_fate, list_in, number_in, KeepsRoom, TakesRoom, HaveRoom}
 use Rattle.set_queues.specs.Kept.{lists_of, rooms_of, messages_of, room_of, state_of}
 use Rattle.set_queues.specs.declared.buffers.Buffers.TheInside.{Inside}
 use Rattle.set_queues.proofs.Updates.{updated_there, updated_other, updated_twice, map_set_updated, map_set_same, read_set}
@@ -83,10 +83,6 @@ within fields value i l v b n = grind (arith, length-map)
 pub within_back : (fields : Inside) (value : BuffersState) (i c : ℕ) → state_of fields ≡ value → c < length value.lists.back → i ≡ c → i < vec_len fields.back
 within_back fields value i c v b n = grind (arith, length-map)
 
--- the lists of the set when a link changes, and when a code's queue does
-abbrev pub links_in : Inside → List LinkLists → Lists
-links_in fields links = record (state_of fields).lists { links = links }
-
 -- a link that is set to what is seen alike changes nothing
 abbrev state_with : Inside → List LinkLists → List LinkRooms → BuffersState
 state_with fields lists rooms = record {
@@ -154,4 +150,5 @@ keeps_back links parked xs c x y e h fate = omega (arith, takes_back links parke
 
 -- what a call on a queue of a link is for the set; and one on a code's
 pub ruleset of_link = (found, within, lists_set, list_there, last_there, rooms_there, keeps, takes_waiting, takes_held, room_now, lists_same, same_links, updated_twice)
+
 pub ruleset of_code = (back_found, within_back, back_set, back_there, room_there, back_same, room_back, takes_back, keeps_back)

@@ -1,15 +1,16 @@
 -- A queue is replaced by another list.
-use Rattle.std.proofs.Common.{refl, arith, ◌≡◌, ◌∙◌, ap, subst, ◌<◌, [], ◌∷◌, ◌++◌, length, ℕ, zero, suc, Bool, true, false, ◌==◌, List, Option, Some, cond}
+use Rattle.std.proofs.Common.{refl, arith, ◌≡◌, ◌∙◌, ap, subst, ◌<◌, ◌+◌, [], ◌∷◌, ◌++◌, length, take, append_assoc, ℕ, zero, suc, Bool, true, false, ◌==◌, List, Option, Some, cond}
 use Rattle.std.specs.Prelude.{slice_get}
 use Rattle.std.specs.Option.{option_map}
-use Rattle.std.proofs.lemmas.Bool.{eqb-true, eqb-false}
+use Rattle.std.proofs.lemmas.Bool.{eqb-true, eqb-false, eq-eqb}
 use Rattle.std.proofs.lemmas.Option.{get_or_from_slice_get}
 use Rattle.set_events.specs.declared.answer.Fate.{Fate}
 use Rattle.set_events.specs.declared.answer.Fate.TheVariants.{Waiting, Unacked, Acked, Held, Parked, Back, Discarded}
-use Rattle.set_queues.specs.Messages.{updated}
-use Rattle.set_queues.specs.Buffers.{LinkLists, Lists, is_standing, same_fate, queue_at, with_queue, list_in, number_in, IsKnown, IsQueued}
+use Rattle.set_queues.specs.declared.message.Message.{Message}
+use Rattle.set_queues.specs.Messages.{updated, restood_one, restood}
+use Rattle.set_queues.specs.Buffers.{LinkLists, Lists, is_standing, same_fate, queue_at, with_queue, list_in, number_in, IsKnown, IsQueued, Rooms, CanTake, TakesRoom}
 use Rattle.set_queues.proofs.Updates.{length-updated, updated_same, updated_other, updated_twice, updated_id, read_set}
-use Rattle.set_queues.proofs.Standing.{same_self}
+use Rattle.set_queues.proofs.Standing.{same_self, take_get, given_at, none_past, room_sum, append-nil, length-restood, restood-append}
 
 there : {X : Type 0} (xs : List X) (n : ℕ) → n < length xs → (x : X) × (slice_get xs n ≡ Some x)
 there [] n h = absurd (omega arith)
@@ -128,6 +129,29 @@ queue_same g xs q s h = queue_set g g xs q s h ∙ ap (λ (b : Bool). cond b xs 
 pub queue_other : (g f : Fate) (xs : List ℕ) (q : Lists) → is_standing g ≡ true → IsKnown g q → same_fate g f ≡ false → queue_at f (with_queue g xs q) ≡ queue_at f q
 queue_other g f xs q s h n = queue_set g f xs q s h ∙ ap (λ (b : Bool). cond b xs (queue_at f q)) n
 
+-- a queue in which messages stand, when one is replaced that may be no queue
+pub queue_any : (g f : Fate) (xs : List ℕ) (q : Lists) → is_standing f ≡ true → IsKnown g q → queue_at f (with_queue g xs q) ≡ cond (same_fate g f) xs (queue_at f q)
+queue_any g f xs q s h = grind (arith, queue_set)
+
+pub queue_away : (g f : Fate) (xs : List ℕ) (q now : Lists) → now ≡ with_queue g xs q → IsKnown g q → same_fate g f ≡ false → queue_at f now ≡ queue_at f q
+queue_away g f xs q now e h n = grind (arith, queue_other)
+
+pub known_with : (f g : Fate) (xs : List ℕ) (q now : Lists) → now ≡ with_queue g xs q → IsKnown f q → IsKnown f now
+known_with f g xs q now e h = rw e (known_on f q _ (size_stays g xs q) h)
+
 -- one more stands last in a queue that was replaced
-pub queue_more : (g : Fate) (xs : List ℕ) (m : ℕ) (q now : Lists) → is_standing g ≡ true → IsKnown g q → now ≡ with_queue g xs q → with_queue g (queue_at g now ++ m ∷ []) now ≡ with_queue g (xs ++ m ∷ []) q
-queue_more g xs m q now s h e = rw e (rw (queue_same g xs q s h) (queue_twice g (xs ++ m ∷ []) xs q))
+queue_more : (g : Fate) (xs : List ℕ) (m : ℕ) (q now : Lists) → IsKnown g q → now ≡ with_queue g xs q → with_queue g (queue_at g now ++ m ∷ []) now ≡ with_queue g (xs ++ m ∷ []) q
+queue_more g xs m q now h e = grind (arith, queue_same, queue_twice)
+
+-- the next of a list does
+pub queue_next : (g : Fate) (xs ys : List ℕ) (i m : ℕ) (q now new : Lists) → IsKnown g q → now ≡ with_queue g (xs ++ take i ys) q → slice_get ys i ≡ Some m → new ≡ with_queue g (queue_at g now ++ m ∷ []) now → new ≡ with_queue g (xs ++ take (i + 1) ys) q
+queue_next g xs ys i m q now new h e f n = rw (n, queue_more g _ m q now h e, take_get ys i m f) (simp append_assoc)
+
+pub restood_next : (ys : List ℕ) (i m : ℕ) (f : Fate) (ms now new : List Message) → now ≡ restood (take i ys) f ms → slice_get ys i ≡ Some m → new ≡ restood_one m f now → new ≡ restood (take (i + 1) ys) f ms
+restood_next ys i m f ms now new e g n = rw (n, e, take_get ys i m g, restood-append) refl
+
+-- there is room for one more as long as not all came
+pub takes_one : (f : Fate) (n i : ℕ) (old now : Rooms) → CanTake f n old → TakesRoom f i old now → i < n → CanTake f 1 now
+takes_one f n i old now c t h = let there = t f in grind (arith, eq-eqb)
+
+pub ruleset passing = (queue_id, queue_away, known_with, queue_next, restood_next, takes_one, take_get, given_at, none_past, room_sum, append-nil, length-restood)

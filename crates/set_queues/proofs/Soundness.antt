@@ -1,24 +1,28 @@
 -- What holds of every set's queues goes on holding.
-use Rattle.std.proofs.Common.{refl, arith, ◌≡◌, ◌∙◌, ap, sym, subst, ◌+◌, ◌≤◌, ◌<◌, [], ◌∷◌, ◌++◌, length, ℕ, zero, suc, Bool, true, false, ◌==◌, ◌⊎◌, inl, inr, List, Option, Some, None, cond, get_or, take, drop, replicate}
+use Rattle.std.proofs.Common.{refl, arith, ◌≡◌, ◌∙◌, ap, sym, subst, ◌+◌, ◌-◌, ◌≤◌, ◌<◌, [], ◌∷◌, ◌++◌, length, ℕ, zero, suc, Bool, true, false, ◌==◌, ◌⊎◌, inl, inr, List, Option, Some, None, cond, get_or, take, drop, replicate}
 use Rattle.std.specs.Prelude.{slice_get, slice_index}
 use Rattle.std.specs.Option.{option_map}
 use Rattle.std.proofs.lemmas.Bool.{cases_eq}
 use Rattle.set_events.specs.declared.answer.Fate.{Fate}
-use Rattle.set_events.specs.declared.answer.Fate.TheVariants.{Waiting, Unacked, Acked, Held, Back}
+use Rattle.set_events.specs.declared.answer.Fate.TheVariants.{Waiting, Unacked, Acked, Held}
 use Rattle.set_queues.specs.declared.message.Message.{Message}
 use Rattle.set_queues.specs.Counts.{one_if}
-use Rattle.set_queues.specs.Messages.{with_fate, restood_one, restood, octets_in, octets_of}
+use Rattle.set_queues.specs.Messages.{with_fate, restood_one, restood, octets_in, octets_at, octets_of}
 use Rattle.set_queues.specs.Backs.{passed_first}
-use Rattle.set_queues.specs.Sending.{first_sent, acknowledged, reach}
+use Rattle.set_queues.specs.Sending.{IsSending, first_sent, acknowledged, reach}
 use Rattle.set_queues.specs.Tally.{IsFit, AreFit}
-use Rattle.set_queues.specs.Buffers.{LinkLists, Lists, is_standing, same_fate, queue_at, with_queue, with_last, list_in, IsKnown, IsQueued}
-use Rattle.set_queues.specs.Queues.{occurs, has_fate, stands, passed, AreTied, AreGiven, AreNarrow, AreSound, AreWeighed}
+use Rattle.set_queues.specs.Buffers.{LinkLists, Lists, is_standing, same_fate, queue_at, with_queue, with_last, list_in, IsKnown, IsQueued, Rooms, CanTake}
+use Rattle.set_queues.specs.declared.queues.Queues.TheInside.{Inside}
+use Rattle.set_queues.specs.Sound.{IsSound}
+use Rattle.set_queues.specs.Queues.{occurs, has_fate, stands, passed, AreTied, AreGiven, AreSound, AreWeighed}
 use Rattle.set_queues.proofs.Updates.{length-updated, updated_same, updated_other}
-use Rattle.set_queues.proofs.Standing.{Moves, moved_tie, given_queue, given_at, same_is, occurs-append, occurs-split, occurs_here, occurs_not}
+use Rattle.set_queues.proofs.Standing.{Moves, moved_tie, given_queue, given_at, take_get, whole, same_is, occurs-append, occurs-split, occurs_here, occurs_not}
 use Rattle.set_queues.proofs.Tallies.{fit_push}
-use Rattle.std.proofs.lemmas.List.{length-replicate, length-append, length-drop}
+use Rattle.set_queues.proofs.Weighing.{octets-append, octets-split, octets_stay, octets_few}
+use Rattle.std.proofs.lemmas.Bool.Decides.{nat_tests}
+use Rattle.std.proofs.lemmas.List.{drop_all, length-replicate, length-append, length-take, length-drop}
 use Rattle.std.proofs.lemmas.Option.{slice_get_past}
-use Rattle.set_queues.proofs.Passing.{queue_set, queued_stands, SameSize, size_stays, size_both, known_on, list_kept, kept_unsent, kept_unacked, kept_held}
+use Rattle.set_queues.proofs.Passing.{queue_set, queue_any, queued_stands, links_stay, known_with, queue_away, SameSize, size_stays, size_both, known_on, list_kept, kept_unsent, kept_unacked, kept_held}
 
 -- a message stays fit wherever it comes to stand
 
@@ -44,104 +48,101 @@ fit_restood (n ∷ ns) f ms fit = fit_restood ns f (restood_one n f ms) (fit_one
 abbrev pub Replaces : Lists → Lists → Fate → Fate → List ℕ → List ℕ → Type 0
 Replaces q q' from to left joined = (f : Fate) → is_standing f ≡ true → queue_at f q' ≡ cond (same_fate from f) left (cond (same_fate to f) joined (queue_at f q))
 
-pub replaced_moves : (q q' : Lists) (from to : Fate) (left joined ns : List ℕ) → same_fate to from ≡ false → Replaces q q' from to left joined → ((m : ℕ) → occurs m left + occurs m ns ≡ occurs m (queue_at from q)) → ((m : ℕ) → occurs m joined ≡ occurs m (queue_at to q) + occurs m ns) → Moves ns from to q q'
-replaced_moves q q' from to left joined ns apart r leave join f s m = go (same_fate from f) (same_fate to f) refl refl (r f s)
-  where
-    go : (a b : Bool) → same_fate from f ≡ a → same_fate to f ≡ b → queue_at f q' ≡ cond a left (cond b joined (queue_at f q)) → occurs m (queue_at f q') + cond a (occurs m ns) 0 ≡ occurs m (queue_at f q) + cond b (occurs m ns) 0
-    go true true e d g = grind (arith, same_is)
-    go true false e d g =
-        let here : from ≡ f = same_is from f s e in
-        omega (arith, ap (occurs m) g, leave m, ap (λ (x : Fate). occurs m (queue_at x q)) here)
-    go false true e d g =
-        let here : to ≡ f = same_is to f s d in
-        omega (arith, ap (occurs m) g, join m, ap (λ (x : Fate). occurs m (queue_at x q)) here)
-    go false false e d g = omega (arith, ap (occurs m) g)
-
--- no message stands in a final place's queue
-pub final_apart : (to f : Fate) → is_standing to ≡ false → is_standing f ≡ true → same_fate to f ≡ false
-final_apart to f e s = grind arith
-
-pub final_empty : (to : Fate) (q : Lists) → is_standing to ≡ false → queue_at to q ≡ []
-final_empty to q e = grind arith
-
-pub unqueued : (to : Fate) (l : ℕ) → IsQueued to → same_fate to (Unacked l) ≡ false
-unqueued to l h = grind arith
-
-pub sound_moved : (q q' : Lists) (ms : List Message) (ns left joined : List ℕ) (from to : Fate) → AreSound q ms → is_standing from ≡ true → same_fate to from ≡ false → SameSize q q' → AreNarrow q' → Replaces q q' from to left joined → ((m : ℕ) → occurs m left + occurs m ns ≡ occurs m (queue_at from q)) → ((m : ℕ) → occurs m joined ≡ occurs m (queue_at to q) + occurs m ns) → AreSound q' (restood ns to ms)
-sound_moved q q' ms ns left joined from to h s apart e narrow r leave join =
-    let within : (m : ℕ) → occurs m ns ≤ occurs m (queue_at from q) = λ m. omega (arith, leave m) in
-    record {
-      one = omega (arith, h.one, e.links);
-      few = omega (arith, h.few, e.links);
-      codes = e.back ∙ h.codes;
-      narrow = narrow;
-      tied = moved_tie q q' ms ns from to h.tied s (given_queue q ms from h.tied s ns within) within (replaced_moves q q' from to left joined ns apart r leave join);
-      fit = fit_restood ns to ms h.fit;
-    }
-
-pub given_all : (q : Lists) (ms : List Message) (from : Fate) → AreSound q ms → is_standing from ≡ true → AreGiven (queue_at from q) ms
-given_all q ms from h s = given_queue q ms from h.tied s (queue_at from q) (λ m. omega arith)
-
-narrower : (b : Bool) (xs : List ℕ) → length xs ≤ 127 → length (cond b [] xs) ≤ 127
-narrower b xs h = grind arith
-
--- the queue that messages leave and the one that they join
-pub both_replaced : (q : Lists) (from to : Fate) (left joined : List ℕ) → is_standing from ≡ true → is_standing to ≡ true → IsKnown from q → IsKnown to q → Replaces q (with_queue from left (with_queue to joined q)) from to left joined
-both_replaced q from to left joined s u k o f t = search (queue_set, known_on, size_stays)
-
 pub both_size : (q : Lists) (from to : Fate) (left joined : List ℕ) → SameSize q (with_queue from left (with_queue to joined q))
 both_size q from to left joined = size_both q (with_queue to joined q) (with_queue from left (with_queue to joined q)) (size_stays to joined q) (size_stays from left (with_queue to joined q))
 
--- ALL OF A QUEUE GO TO ANOTHER
+pub both_replaced : (q : Lists) (from to : Fate) (left joined : List ℕ) → IsKnown from q → IsKnown to q → Replaces q (with_queue from left (with_queue to joined q)) from to left joined
+both_replaced q from to left joined k o f s = search (queue_any, known_on, size_stays)
 
 pub passed_replaces : (q : Lists) (from to : Fate) → is_standing from ≡ true → IsKnown from q → IsKnown to q → IsQueued to → Replaces q (passed from to q) from to [] (queue_at to q ++ queue_at from q)
-passed_replaces q from to s k o u = both_replaced q from to [] (queue_at to q ++ queue_at from q) s (queued_stands to u) k o
+passed_replaces q from to s k o u = both_replaced q from to [] (queue_at to q ++ queue_at from q) k o
 
 pub passed_size : (q : Lists) (from to : Fate) → SameSize q (passed from to q)
 passed_size q from to = both_size q from to [] (queue_at to q ++ queue_at from q)
 
-pub passed_unacked : (q : Lists) (from to : Fate) → is_standing from ≡ true → IsKnown from q → IsKnown to q → IsQueued to → (l : ℕ) → queue_at (Unacked l) (passed from to q) ≡ cond (same_fate from (Unacked l)) [] (queue_at (Unacked l) q)
-passed_unacked q from to s k o u l = passed_replaces q from to s k o u (Unacked l) refl ∙ ap (λ (b : Bool). cond (same_fate from (Unacked l)) [] (cond b (queue_at to q ++ queue_at from q) (queue_at (Unacked l) q))) (unqueued to l u)
+pub given_all : (q : Lists) (ms : List Message) (from : Fate) → AreSound q ms → is_standing from ≡ true → AreGiven (queue_at from q) ms
+given_all q ms from h s = given_queue q ms from h.tied s (queue_at from q) (λ m. omega arith)
 
-pub sound_passed : (q : Lists) (ms : List Message) (from to : Fate) → AreSound q ms → is_standing from ≡ true → IsKnown from q → IsKnown to q → IsQueued to → same_fate to from ≡ false → AreSound (passed from to q) (restood (queue_at from q) to ms)
-sound_passed q ms from to h s k o u apart =
-    sound_moved q (passed from to q) ms (queue_at from q) [] (queue_at to q ++ queue_at from q) from to h s apart (passed_size q from to)
-    (λ l. subst (λ (xs : List ℕ). length xs ≤ 127) (sym (passed_unacked q from to s k o u l)) (narrower (same_fate from (Unacked l)) (queue_at (Unacked l) q) (h.narrow l)))
-    (passed_replaces q from to s k o u) (λ m. omega arith) (λ m. occurs-append m (queue_at to q) (queue_at from q))
+-- THE FIRST SO MANY OF A QUEUE stand last in another place
 
--- THE FIRST OF A CODE'S QUEUE GOES TO ANOTHER
+abbrev pub moved : ℕ → Fate → Fate → Lists → Lists
+moved k from to q = with_queue from (drop k (queue_at from q)) (with_queue to (queue_at to q ++ take k (queue_at from q)) q)
 
-pub first_unacked : (q : Lists) (code : ℕ) (to : Fate) → IsKnown (Back code) q → IsKnown to q → IsQueued to → (l : ℕ) → queue_at (Unacked l) (passed_first (Back code) to q) ≡ queue_at (Unacked l) q
-first_unacked q code to k o u l = both_replaced q (Back code) to (drop 1 (queue_at (Back code) q)) (queue_at to q ++ take 1 (queue_at (Back code) q)) refl (queued_stands to u) k o (Unacked l) refl ∙ ap (λ (b : Bool). cond b (queue_at to q ++ take 1 (queue_at (Back code) q)) (queue_at (Unacked l) q)) (unqueued to l u)
+pub record CanMove (from to : Fate) (q : Lists) : Type 0 where
+  pub standing : is_standing from ≡ true
+  pub known : IsKnown from q
+  pub other : IsKnown to q
+  pub apart : same_fate to from ≡ false
 
-pub first_size : (q : Lists) (code : ℕ) (to : Fate) → SameSize q (passed_first (Back code) to q)
-first_size q code to = both_size q (Back code) to (drop 1 (queue_at (Back code) q)) (queue_at to q ++ take 1 (queue_at (Back code) q))
+moved_queue : (k : ℕ) (from to : Fate) (q : Lists) → CanMove from to q → Replaces q (moved k from to q) from to (drop k (queue_at from q)) (queue_at to q ++ take k (queue_at from q))
+moved_queue k from to q c = both_replaced q from to _ _ c.known c.other
 
-pub sound_first : (q : Lists) (ms : List Message) (code : ℕ) (to : Fate) → AreSound q ms → IsKnown (Back code) q → IsKnown to q → IsQueued to → same_fate to (Back code) ≡ false → AreSound (passed_first (Back code) to q) (restood (take 1 (queue_at (Back code) q)) to ms)
-sound_first q ms code to h k o u apart =
-    sound_moved q (passed_first (Back code) to q) ms (take 1 (queue_at (Back code) q)) (drop 1 (queue_at (Back code) q)) (queue_at to q ++ take 1 (queue_at (Back code) q)) (Back code) to h refl apart (first_size q code to)
-    (λ l. subst (λ (xs : List ℕ). length xs ≤ 127) (sym (first_unacked q code to k o u l)) (h.narrow l))
-    (both_replaced q (Back code) to (drop 1 (queue_at (Back code) q)) (queue_at to q ++ take 1 (queue_at (Back code) q)) refl (queued_stands to u) k o)
-    (λ m. omega (arith, occurs-split m 1 (queue_at (Back code) q))) (λ m. occurs-append m (queue_at to q) (take 1 (queue_at (Back code) q)))
+moved_moves : (k : ℕ) (from to : Fate) (q : Lists) → CanMove from to q → Moves (take k (queue_at from q)) from to q (moved k from to q)
+moved_moves k from to q c f s m = go (same_fate from f) (same_fate to f) refl refl (moved_queue k from to q c f s)
+  where
+    left : occurs m (take k (queue_at from q)) + occurs m (drop k (queue_at from q)) ≡ occurs m (queue_at from q)
+    left = occurs-split m k (queue_at from q)
 
--- ALL OF A QUEUE LEAVE FOR A FINAL PLACE
+    go : (a b : Bool) → same_fate from f ≡ a → same_fate to f ≡ b → queue_at f (moved k from to q) ≡ cond a (drop k (queue_at from q)) (cond b (queue_at to q ++ take k (queue_at from q)) (queue_at f q)) → occurs m (queue_at f (moved k from to q)) + cond a (occurs m (take k (queue_at from q))) 0 ≡ occurs m (queue_at f q) + cond b (occurs m (take k (queue_at from q))) 0
+    go true true e d g = absurd (cc (same_is from f s e, same_is to f s d, c.apart, e))
+    go true false e d g = omega (arith, left, ap (occurs m) g, ap (λ (x : Fate). occurs m (queue_at x q)) (same_is from f s e))
+    go false true e d g = omega (arith, ap (occurs m) g, occurs-append m (queue_at to q) (take k (queue_at from q)), ap (λ (x : Fate). occurs m (queue_at x q)) (same_is to f s d))
+    go false false e d g = omega (arith, ap (occurs m) g)
 
-left_replaces : (q q' : Lists) (from to : Fate) (left : List ℕ) → is_standing to ≡ false → ((f : Fate) → is_standing f ≡ true → queue_at f q' ≡ cond (same_fate from f) left (queue_at f q)) → (joined : List ℕ) → Replaces q q' from to left joined
-left_replaces q q' from to left e r joined f s = r f s ∙ ap (λ (b : Bool). cond (same_fate from f) left (cond b joined (queue_at f q))) (sym (final_apart to f e s))
+sound_moved : (k : ℕ) (from to : Fate) (q : Lists) (ms : List Message) → AreSound q ms → CanMove from to q → ((l : ℕ) → same_fate to (Unacked l) ≡ true → length (queue_at to q) + k ≤ 127) → AreSound (moved k from to q) (restood (take k (queue_at from q)) to ms)
+sound_moved k from to q ms h c n =
+    let size = both_size q from to (drop k (queue_at from q)) (queue_at to q ++ take k (queue_at from q)) in
+    let within : (m : ℕ) → occurs m (take k (queue_at from q)) ≤ occurs m (queue_at from q) = λ m. omega (arith, occurs-split m k (queue_at from q)) in
+    record {
+      one = omega (arith, h.one, size.links);
+      few = omega (arith, h.few, size.links);
+      codes = size.back ∙ h.codes;
+      narrow = λ l. let there = moved_queue k from to q c (Unacked l) refl in let had = h.narrow l in let more = n l in grind (arith, same_is, length-append, length-take, length-drop);
+      tied = moved_tie q (moved k from to q) ms (take k (queue_at from q)) from to h.tied c.standing (given_queue q ms from h.tied c.standing _ within) within (moved_moves k from to q c);
+      fit = fit_restood (take k (queue_at from q)) to ms h.fit;
+    }
 
-pub sound_left : (q q' : Lists) (ms : List Message) (ns left : List ℕ) (from to : Fate) → AreSound q ms → is_standing from ≡ true → is_standing to ≡ false → SameSize q q' → AreNarrow q' → ((f : Fate) → is_standing f ≡ true → queue_at f q' ≡ cond (same_fate from f) left (queue_at f q)) → ((m : ℕ) → occurs m left + occurs m ns ≡ occurs m (queue_at from q)) → AreSound q' (restood ns to ms)
-sound_left q q' ms ns left from to h s e n narrow r leave =
-    sound_moved q q' ms ns left ns from to h s (final_apart to from e s) n narrow (left_replaces q q' from to left e r ns) leave
-    (λ m. omega (arith, ap (occurs m) (final_empty to q e)))
+-- the octets that are counted are those that leave and come
+abbrev pub Weighs : ℕ → Fate → Fate → Lists → List Message → List ℕ → List ℕ → Type 0
+Weighs k from to q ms octets octets' = (l : ℕ) → l < length q.links → slice_index octets' l + cond (same_fate from (Unacked l)) (octets_of (take k (queue_at from q)) ms) 0 ≡ slice_index octets l + cond (same_fate to (Unacked l)) (octets_of (take k (queue_at from q)) ms) 0
 
-pub cleared_queue : (q : Lists) (from f : Fate) → is_standing from ≡ true → IsKnown from q → queue_at f (with_queue from [] q) ≡ cond (same_fate from f) [] (queue_at f q)
-cleared_queue q from f s k = queue_set from f [] q s k
+weighed_moved : (k : ℕ) (from to : Fate) (q : Lists) (ms : List Message) (octets octets' : List ℕ) → AreWeighed octets q ms → CanMove from to q → Weighs k from to q ms octets octets' → AreWeighed octets' (moved k from to q) (restood (take k (queue_at from q)) to ms)
+weighed_moved k from to q ms octets octets' w c h l b =
+    let small : l < length q.links = omega (arith, b, (both_size q from to (drop k (queue_at from q)) (queue_at to q ++ take k (queue_at from q))).links) in
+    let there = moved_queue k from to q c (Unacked l) refl in
+    let was = w l small in
+    let now = h l small in
+    grind (arith, same_is, octets_stay, octets-append, octets-split)
 
-pub sound_cleared : (q : Lists) (ms : List Message) (from to : Fate) → AreSound q ms → is_standing from ≡ true → is_standing to ≡ false → IsKnown from q → AreSound (with_queue from [] q) (restood (queue_at from q) to ms)
-sound_cleared q ms from to h s e k =
-    sound_left q (with_queue from [] q) ms (queue_at from q) [] from to h s e (size_stays from [] q)
-    (λ l. subst (λ (xs : List ℕ). length xs ≤ 127) (sym (cleared_queue q from (Unacked l) s k)) (narrower (same_fate from (Unacked l)) (queue_at (Unacked l) q) (h.narrow l)))
-    (λ f t. cleared_queue q from f s k) (λ m. omega arith)
+pub kept_moved : (s s' : Inside) (k : ℕ) (from to : Fate) → IsSound s → CanMove from to s.buffers.lists → s'.buffers.lists ≡ moved k from to s.buffers.lists → s'.messages.messages ≡ restood (take k (queue_at from s.buffers.lists)) to s.messages.messages → ((l : ℕ) → same_fate to (Unacked l) ≡ true → length (queue_at to s.buffers.lists) + k ≤ 127) → Weighs k from to s.buffers.lists s.messages.messages s.octets s'.octets → IsSound s'
+kept_moved s s' k from to h c e m n w = record {
+  sound = rw (e, m) (sound_moved k from to _ _ h.sound c n);
+  weighed = rw (e, m) (weighed_moved k from to _ _ _ _ h.weighed c w);
+}
+
+pub unqueued : (to : Fate) (l : ℕ) → IsQueued to → same_fate to (Unacked l) ≡ false
+unqueued to l h = grind arith
+
+pub untaken : (to : Fate) (n l : ℕ) (r : Rooms) → CanTake to n r → same_fate to (Unacked l) ≡ false
+untaken to n l r h = grind arith
+
+-- to where messages come otherwise than by being sent; all of a queue, where its octets are counted
+pub kept_passed : (s s' : Inside) (k : ℕ) (from to : Fate) → IsSound s → CanMove from to s.buffers.lists → ((l : ℕ) → same_fate to (Unacked l) ≡ false) → s'.buffers.lists ≡ moved k from to s.buffers.lists → s'.messages.messages ≡ restood (take k (queue_at from s.buffers.lists)) to s.messages.messages → ((l : ℕ) → same_fate from (Unacked l) ≡ true → k ≡ length (queue_at from s.buffers.lists)) → ((l : ℕ) → l < 16 → slice_index s'.octets l ≡ cond (same_fate from (Unacked l)) 0 (slice_index s.octets l)) → IsSound s'
+kept_passed s s' k from to h c n e m all w = kept_moved s s' k from to h c e m (λ l f. let no = n l in absurd (cc)) weighs
+  where
+    weighs : Weighs k from to s.buffers.lists s.messages.messages s.octets s'.octets
+    weighs l b =
+        let was = h.weighed l b in
+        let now = w l (omega (arith, b, h.sound.few)) in
+        let not = n l in
+        let full = all l in
+        grind (arith, same_is, whole)
+
+pub moved_whole : (k : ℕ) (from to : Fate) (q mid new : Lists) → k ≡ length (queue_at from q) → mid ≡ with_queue to (queue_at to q ++ take k (queue_at from q)) q → new ≡ with_queue from [] mid → new ≡ moved k from to q
+moved_whole k from to q mid new e m n = rw (n, m, drop_all k (queue_at from q) (omega (arith, e))) refl
+
+pub moved_one : (from to : Fate) (q mid new : Lists) → IsKnown to q → same_fate to from ≡ false → mid ≡ with_queue to (queue_at to q ++ take 1 (queue_at from q)) q → new ≡ with_queue from (drop 1 (queue_at from mid)) mid → new ≡ passed_first from to q
+moved_one from to q mid new o a m n = rw (n, queue_away to from _ q mid m o a, m) refl
 
 -- A NEW MESSAGE
 
@@ -250,31 +251,21 @@ weighed_new q ms n codes e l h = zero_at 16 l ∙ sym (ap (λ (ns : List ℕ). o
 
 -- THE FIRST THAT WAITS IS SENT
 
-sent_replaces : (q : Lists) (l n : ℕ) → l < length q.links → Replaces q (first_sent l n q) (Waiting l) (Unacked l) (drop 1 (queue_at (Waiting l) q)) (queue_at (Unacked l) q ++ n ∷ [])
-sent_replaces q l n h = both_replaced q (Waiting l) (Unacked l) (drop 1 (queue_at (Waiting l) q)) (queue_at (Unacked l) q ++ n ∷ []) refl refl h h
-
-pub sent_size : (q : Lists) (l n : ℕ) → SameSize q (first_sent l n q)
-sent_size q l n = both_size q (Waiting l) (Unacked l) (drop 1 (queue_at (Waiting l) q)) (queue_at (Unacked l) q ++ n ∷ [])
-
-pub sent_unacked : (q : Lists) (l n k : ℕ) → l < length q.links → queue_at (Unacked k) (first_sent l n q) ≡ cond (l == k) (queue_at (Unacked l) q ++ n ∷ []) (queue_at (Unacked k) q)
-sent_unacked q l n k h = sent_replaces q l n h (Unacked k) refl
-
-first_leaves : (m n : ℕ) (xs : List ℕ) → slice_get xs 0 ≡ Some n → occurs m (drop 1 xs) + occurs m (n ∷ []) ≡ occurs m xs
-first_leaves m n xs e = grind arith
-
-one_wider : (b : Bool) (xs ys : List ℕ) (n : ℕ) → length xs < 127 → length ys ≤ 127 → length (cond b (xs ++ n ∷ []) ys) ≤ 127
-one_wider b xs ys n h k = grind (arith, length-append)
-
-pub sound_sent : (q : Lists) (ms : List Message) (l n : ℕ) → AreSound q ms → l < length q.links → slice_get (queue_at (Waiting l) q) 0 ≡ Some n → length (queue_at (Unacked l) q) < 127 → AreSound (first_sent l n q) (restood (n ∷ []) (Unacked l) ms)
-sound_sent q ms l n h b e few =
-    sound_moved q (first_sent l n q) ms (n ∷ []) (drop 1 (queue_at (Waiting l) q)) (queue_at (Unacked l) q ++ n ∷ []) (Waiting l) (Unacked l) h refl refl (sent_size q l n)
-    (λ k. subst (λ (xs : List ℕ). length xs ≤ 127) (sym (sent_unacked q l n k b)) (one_wider (l == k) (queue_at (Unacked l) q) (queue_at (Unacked k) q) n few (h.narrow k)))
-    (sent_replaces q l n b) (λ m. first_leaves m n (queue_at (Waiting l) q) e) (λ m. occurs-append m (queue_at (Unacked l) q) (n ∷ []))
-
 pub given_first : (q : Lists) (ms : List Message) (l n : ℕ) → AreSound q ms → slice_get (queue_at (Waiting l) q) 0 ≡ Some n → n < length ms
 given_first q ms l n h e = given_at (queue_at (Waiting l) q) ms 0 n (given_all q ms (Waiting l) h refl) e
 
--- THE FIRST OF THE UNACKNOWLEDGED LEAVE
+pub kept_sent : (s s' : Inside) (l n more : ℕ) → IsSound s → l < length s.buffers.lists.links → IsSending l n s.buffers.lists s'.buffers.lists → length (queue_at (Unacked l) s.buffers.lists) < 127 → s'.messages.messages ≡ restood_one n (Unacked l) s.messages.messages → more ≡ octets_at n s.messages.messages → ((k : ℕ) → k < 16 → slice_index s'.octets k ≡ cond (l == k) (slice_index s.octets k + more) (slice_index s.octets k)) → IsSound s'
+kept_sent s s' l n more h b i few m e w =
+    let one : take 1 (queue_at (Waiting l) s.buffers.lists) ≡ n ∷ [] = take_get _ 0 n i.first in
+    kept_moved s s' 1 (Waiting l) (Unacked l) h (record { standing = refl; known = b; other = b; apart = refl })
+    (rw (i.lists, one) refl) (rw (m, one) refl)
+    (λ k t. let same = same_is (Unacked l) (Unacked k) refl t in omega (arith, few))
+    (λ k small. let now = w k (omega (arith, small, h.sound.few)) in rw (one, now, e) (at_link (l == k) (slice_index s.octets k) (octets_at n s.messages.messages)))
+  where
+    at_link : (b : Bool) (had more : ℕ) → cond b (had + more) had + 0 ≡ had + cond b (more + 0) 0
+    at_link b had more = grind arith
+
+-- THE FIRST OF THE UNACKNOWLEDGED LEAVE, and a link has a new life
 
 pub queue_last : (f : Fate) (l fsn : ℕ) (q : Lists) → queue_at f (with_last l fsn q) ≡ queue_at f q
 queue_last (Waiting k) l fsn q = list_kept (list_in (λ (z : LinkLists). z.unsent)) (λ (z : LinkLists). record z { last = fsn }) q.links l k (kept_unsent (λ (z : LinkLists). record z { last = fsn }) (λ x. refl)) (l == k) refl
@@ -282,41 +273,35 @@ queue_last (Unacked k) l fsn q = list_kept (list_in (λ (z : LinkLists). z.unack
 queue_last (Held k) l fsn q = list_kept (list_in (λ (z : LinkLists). z.held)) (λ (z : LinkLists). record z { last = fsn }) q.links l k (kept_held (λ (z : LinkLists). record z { last = fsn }) (λ x. refl)) (l == k) refl
 queue_last _ l fsn q = refl
 
-acked_queue : (q : Lists) (l fsn : ℕ) (f : Fate) → l < length q.links → queue_at f (acknowledged l fsn q) ≡ cond (same_fate (Unacked l) f) (drop (reach l fsn q) (queue_at (Unacked l) q)) (queue_at f q)
-acked_queue q l fsn f h = queue_last f l fsn (with_queue (Unacked l) (drop (reach l fsn q) (queue_at (Unacked l) q)) q) ∙ queue_set (Unacked l) f (drop (reach l fsn q) (queue_at (Unacked l) q)) q refl h
+pub last_links : (l fsn : ℕ) (q : Lists) → length (with_last l fsn q).links ≡ length q.links
+last_links l fsn q = length-updated (λ (z : LinkLists). record z { last = fsn }) q.links l
 
-pub acked_unacked : (q : Lists) (l fsn k : ℕ) → l < length q.links → queue_at (Unacked k) (acknowledged l fsn q) ≡ cond (l == k) (drop (reach l fsn q) (queue_at (Unacked l) q)) (queue_at (Unacked k) q)
-acked_unacked q l fsn k h = acked_queue q l fsn (Unacked k) h
-
-pub last_size : (l fsn : ℕ) (q : Lists) → SameSize q (with_last l fsn q)
-last_size l fsn q = record { links = length-updated (λ (z : LinkLists). record z { last = fsn }) q.links l; back = refl }
-
-pub acked_size : (q : Lists) (l fsn : ℕ) → SameSize q (acknowledged l fsn q)
-acked_size q l fsn = size_both q (with_queue (Unacked l) (drop (reach l fsn q) (queue_at (Unacked l) q)) q) (acknowledged l fsn q) (size_stays (Unacked l) (drop (reach l fsn q) (queue_at (Unacked l) q)) q) (last_size l fsn (with_queue (Unacked l) (drop (reach l fsn q) (queue_at (Unacked l) q)) q))
-
-dropped : (b : Bool) (k : ℕ) (xs ys : List ℕ) → length xs ≤ 127 → length ys ≤ 127 → length (cond b (drop k xs) ys) ≤ 127
-dropped b k xs ys h g = grind (arith, length-drop)
-
-pub sound_acked : (q : Lists) (ms : List Message) (l fsn : ℕ) → AreSound q ms → l < length q.links → AreSound (acknowledged l fsn q) (restood (take (reach l fsn q) (queue_at (Unacked l) q)) (Acked l) ms)
-sound_acked q ms l fsn h b =
-    sound_left q (acknowledged l fsn q) ms (take (reach l fsn q) (queue_at (Unacked l) q)) (drop (reach l fsn q) (queue_at (Unacked l) q)) (Unacked l) (Acked l) h refl refl (acked_size q l fsn)
-    (λ k. subst (λ (xs : List ℕ). length xs ≤ 127) (sym (acked_unacked q l fsn k b)) (dropped (l == k) (reach l fsn q) (queue_at (Unacked l) q) (queue_at (Unacked k) q) (h.narrow l) (h.narrow k)))
-    (λ f s. acked_queue q l fsn f b) (λ m. omega (arith, occurs-split m (reach l fsn q) (queue_at (Unacked l) q)))
-
--- A NEW LIFE OF A LINK
-
-pub sound_last : (q : Lists) (ms : List Message) (l fsn : ℕ) → AreSound q ms → AreSound (with_last l fsn q) ms
+sound_last : (q : Lists) (ms : List Message) (l fsn : ℕ) → AreSound q ms → AreSound (with_last l fsn q) ms
 sound_last q ms l fsn h = record {
-  one = omega (arith, h.one, (last_size l fsn q).links);
-  few = omega (arith, h.few, (last_size l fsn q).links);
+  one = omega (arith, h.one, last_links l fsn q);
+  few = omega (arith, h.few, last_links l fsn q);
   codes = h.codes;
-  narrow = λ k. subst (λ (xs : List ℕ). length xs ≤ 127) (sym (queue_last (Unacked k) l fsn q)) (h.narrow k);
-  tied = λ f s m. ap (occurs m) (queue_last f l fsn q) ∙ h.tied f s m;
+  narrow = λ k. rw (queue_last (Unacked k) l fsn q) (h.narrow k);
+  tied = λ f s m. rw (queue_last f l fsn q) (h.tied f s m);
   fit = h.fit;
 }
 
-pub weighed_last : (octets : List ℕ) (q : Lists) (ms : List Message) (l fsn : ℕ) → AreWeighed octets q ms → AreWeighed octets (with_last l fsn q) ms
-weighed_last octets q ms l fsn w k b = w k (omega (arith, b, (last_size l fsn q).links)) ∙ sym (ap (λ (ns : List ℕ). octets_of ns ms) (queue_last (Unacked k) l fsn q))
+pub kept_reset : (s s' : Inside) (l fsn : ℕ) → IsSound s → s'.buffers.lists ≡ with_last l fsn s.buffers.lists → s'.messages.messages ≡ s.messages.messages → s'.octets ≡ s.octets → IsSound s'
+kept_reset s s' l fsn h e m o = record {
+  sound = rw (e, m) (sound_last s.buffers.lists s.messages.messages l fsn h.sound);
+  weighed = rw (e, m, o) (λ k b. rw (queue_last (Unacked k) l fsn s.buffers.lists) (h.weighed k (omega (arith, b, last_links l fsn s.buffers.lists))));
+}
+
+pub kept_acked : (s s' : Inside) (l fsn k fewer : ℕ) → IsSound s → l < length s.buffers.lists.links → reach l fsn s.buffers.lists ≡ k → s'.buffers.lists ≡ acknowledged l fsn s.buffers.lists → s'.messages.messages ≡ restood (take k (queue_at (Unacked l) s.buffers.lists)) (Acked l) s.messages.messages → fewer ≡ octets_of (take k (queue_at (Unacked l) s.buffers.lists)) s.messages.messages → ((k : ℕ) → k < 16 → slice_index s'.octets k ≡ cond (l == k) (slice_index s.octets k - fewer) (slice_index s.octets k)) → IsSound s'
+kept_acked s s' l fsn k fewer h b r e m f w =
+    let q = s.buffers.lists in
+    let mid : Inside = record s' { buffers = record s'.buffers { lists = moved k (Unacked l) (Acked l) q } } in
+    kept_reset mid s' l fsn
+    (kept_moved s mid k (Unacked l) (Acked l) h (record { standing = refl; known = b; other = tt; apart = refl }) refl m (λ i t. absurd (cc)) weighs)
+    (rw (e, r) refl) refl refl
+  where
+    weighs : Weighs k (Unacked l) (Acked l) s.buffers.lists s.messages.messages s.octets s'.octets
+    weighs i small = let now = w i (omega (arith, small, h.sound.few)) in let was = h.weighed i small in let all = octets-split k (queue_at (Unacked l) s.buffers.lists) s.messages.messages in grind (arith, nat_tests)
 
 -- THE LINKS STAY AS MANY
 
@@ -324,10 +309,9 @@ pub passed_links : (q : Lists) (from to : Fate) → length (passed from to q).li
 passed_links q from to = (passed_size q from to).links
 
 pub sent_links : (q : Lists) (l n : ℕ) → length (first_sent l n q).links ≡ length q.links
-sent_links q l n = (sent_size q l n).links
+sent_links q l n = (both_size q (Waiting l) (Unacked l) (drop 1 (queue_at (Waiting l) q)) (queue_at (Unacked l) q ++ n ∷ [])).links
 
 pub acked_links : (q : Lists) (l fsn : ℕ) → length (acknowledged l fsn q).links ≡ length q.links
-acked_links q l fsn = (acked_size q l fsn).links
+acked_links q l fsn = last_links l fsn (with_queue (Unacked l) (drop (reach l fsn q) (queue_at (Unacked l) q)) q) ∙ links_stay (Unacked l) (drop (reach l fsn q) (queue_at (Unacked l) q)) q
 
-pub last_links : (l fsn : ℕ) (q : Lists) → length (with_last l fsn q).links ≡ length q.links
-last_links l fsn q = (last_size l fsn q).links
+pub ruleset leaving = (given_all, given_first, known_with, octets_few, octets-split)

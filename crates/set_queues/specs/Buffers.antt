@@ -156,6 +156,16 @@ abbrev pub TakesRoom : Fate → ℕ → Rooms → Rooms → Type 0
 TakesRoom to count old new = (fate : Fate) → room_at fate old ≤ room_at fate new +
     (if same_fate to fate then count else 0)
 
+-- so many can come to stand there otherwise than by being sent: there is room for them, or they stand in no queue
+abbrev pub CanTake : Fate → ℕ → Rooms → Type 0
+CanTake (Waiting l) count r = count ≤ room_at (Waiting l) r
+CanTake (Held l) count r = count ≤ room_at (Held l) r
+CanTake Parked count r = count ≤ room_at Parked r
+CanTake (Back c) count r = count ≤ room_at (Back c) r
+CanTake (Unacked l) count r = ⊥
+CanTake (Acked l) count r = Unit {0}
+CanTake (Discarded cause) count r = Unit {0}
+
 -- so many links have room for so many more that wait, and for as many that are held
 abbrev pub HaveRoom : ℕ → ℕ → Rooms → Type 0
 HaveRoom links messages r = (link : ℕ) → link < links

@@ -69,7 +69,7 @@ impl Link {
 
 impl Buffers {
     ghost use Rattle.std.specs.Prelude.{◌≡◌, ◌+◌, ◌<◌, ◌≤◌, ◌++◌, [], ◌∷◌, IfOk, OnOk, length, replicate, drop, slice_get};
-    ghost use Rattle.set_queues.specs.Buffers.{IsKnown, IsQueued, KeepsRoom, TakesRoom, HaveRoom, queue_at, with_queue, last_at, room_at};
+    ghost use Rattle.set_queues.specs.Buffers.{IsKnown, IsQueued, CanTake, KeepsRoom, TakesRoom, HaveRoom, queue_at, with_queue, last_at, room_at};
 
     /// The queues of so many links, all empty.
     pub(crate) fn new(alloc: Global, links: u8) -> Result<Buffers, AllocError>
@@ -174,11 +174,11 @@ impl Buffers {
         Ok(())
     }
 
-    /// The message stands there, behind the others.
+    /// The message stands there, behind the others, if the fate isn't final.
     #[tactic(auto, using(crate::proofs::Linked::of_link, crate::proofs::Linked::of_code))]
     pub(crate) fn push(&mut self, fate: Fate, message: u64)
         requires known { IsKnown fate self.old.lists }
-        requires room { 0 < room_at fate self.old.rooms }
+        requires room { CanTake fate 1 self.old.rooms }
         ensures lists { self.new.lists ≡ with_queue fate (queue_at fate self.old.lists
             ++ message ∷ []) self.old.lists }
         ensures room { TakesRoom fate 1 self.old.rooms self.new.rooms }
@@ -188,7 +188,8 @@ impl Buffers {
             Fate::Held { link } => self.links[usize::from(link)].held.push_reserved(message),
             Fate::Parked => self.parked.push_reserved(message),
             Fate::Back { code } => self.back[usize::from(code)].push_reserved(message),
-            Fate::Unacked { .. } | Fate::Acked { .. } | Fate::Discarded { .. } => unreachable!(),
+            Fate::Acked { .. } | Fate::Discarded { .. } => (),
+            Fate::Unacked { .. } => unreachable!(),
         }
     }
 

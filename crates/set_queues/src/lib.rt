@@ -40,8 +40,8 @@
 //! caller's to know. It reads no clock, does no IO and takes no lock.
 //!
 //! The files: `message` what is kept of one; `messages` all of them with their counts (`tally`,
-//! `counting`); `buffers` the queues; `backs` what waits for the changebacks of one home; `moving` a
-//! whole queue, or the first of one, that goes elsewhere; `weight` the octets of unacknowledged bodies;
+//! `counting`); `buffers` the queues; `backs` what waits for the changebacks of one home; `moving` the
+//! first of a queue that go elsewhere; `weight` the octets of unacknowledged bodies;
 //! `queues` the whole; `bodies` the bodies.
 #![tactic(auto)]
 

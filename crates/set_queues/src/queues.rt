@@ -7,7 +7,7 @@ use super::backs::{count_back, oldest_back};
 use super::buffers::Buffers;
 use super::message::Message;
 use super::messages::Messages;
-use super::moving::{queue_too, restand_first, shift_back};
+use super::moving::pass;
 use super::weight::{weigh, weigh_less, weigh_more, weigh_none};
 use l2_window::{Queue, Window, WindowFault};
 use set_events::{Counts, DiscardCause, Fate};
@@ -53,7 +53,7 @@ impl Queues {
     ghost use Rattle.std.specs.Result.{OkIff};
     ghost use Rattle.set_queues.specs.Messages.{restood, fate_at, octets_of, counts_of, unsent_of};
     ghost use Rattle.set_queues.specs.Tally.{IsFit};
-    ghost use Rattle.set_queues.specs.Buffers.{IsKnown, IsQueued, KeepsRoom, TakesRoom, HaveRoom, is_standing, same_fate, queue_at, with_queue, last_at, with_last, room_at};
+    ghost use Rattle.set_queues.specs.Buffers.{IsKnown, IsQueued, CanTake, KeepsRoom, TakesRoom, HaveRoom, is_standing, same_fate, queue_at, with_queue, last_at, with_last, room_at};
     ghost use Rattle.set_queues.specs.Queues.{AreSound, passed};
     ghost use Rattle.set_queues.specs.Backs.{IsOldestOf, back_count, passed_first};
     ghost use Rattle.set_queues.specs.Sending.{IsSending, acknowledged, reach};
@@ -272,6 +272,7 @@ impl Queues {
     ///
     /// Refusals, in this order: 1 [`WindowFault::Empty`] with none that waits, 2
     /// [`WindowFault::Full`] with 127 unacknowledged.
+    #[tactic(auto, using(crate::proofs::Soundness::leaving))]
     pub fn send(&mut self, link: u8) -> Result<(u64, u8), WindowFault>
         requires { link < length self.old.lists.links }
         ensures empty { (result ≡ Err WindowFault.Empty) ↔ (queue_at
@@ -300,6 +301,7 @@ impl Queues {
     ///
     /// Refusal: 3 [`WindowFault::Unreasonable`], where the FSN is neither that last acknowledged nor
     /// that of an unacknowledged message.
+    #[tactic(auto, using(crate::proofs::Soundness::leaving))]
     pub fn acknowledge(&mut self, link: u8, fsn: u8) -> Result<u8, WindowFault>
         requires known { link < length self.old.lists.links }
         requires fsn { fsn < 128 }
@@ -319,8 +321,8 @@ impl Queues {
         };
         let from = Fate::Unacked { link };
         let octets = weigh(&self.buffers, &self.messages, link, count);
-        restand_first(
-            &self.buffers,
+        pass(
+            &mut self.buffers,
             &mut self.messages,
             from,
             usize::from(count),
@@ -351,17 +353,14 @@ impl Queues {
             (queue_at from self.old.lists)) self.old.rooms self.new.rooms }
         ensures room { self.new.room ≡ self.old.room }
     {
-        let count = self.buffers.len(from);
-        restand_first(&self.buffers, &mut self.messages, from, count, to);
-        queue_too(&mut self.buffers, from, to);
-        self.buffers.clear(from);
-        weigh_none(&mut self.octets, from);
+        self.pass_all(from, to);
     }
 
     /// The first message that waits for the acknowledgement of the changeback of this code stands last in
     /// the other queue from now on. It wants no memory.
     ///
     /// Conditions: one waits for it; the other is a queue in which messages can wait, with room for one.
+    #[tactic(auto, using(crate::proofs::Soundness::leaving))]
     pub fn turn_back(&mut self, code: u8, to: Fate)
         requires some { queue_at (Fate.Back code) self.old.lists ≢ [] }
         requires other { IsKnown to self.old.lists }
@@ -375,8 +374,8 @@ impl Queues {
         ensures room { self.new.room ≡ self.old.room }
     {
         let from = Fate::Back { code };
-        restand_first(&self.buffers, &mut self.messages, from, 1, to);
-        shift_back(&mut self.buffers, code, to);
+        pass(&mut self.buffers, &mut self.messages, from, 1, to);
+        self.buffers.drop_back(code);
     }
 
     /// All that stand in the queue are given up, for this cause.
@@ -389,9 +388,27 @@ impl Queues {
         ensures rooms { KeepsRoom self.old.rooms self.new.rooms }
         ensures room { self.new.room ≡ self.old.room }
     {
+        self.pass_all(from, Fate::Discarded { cause });
+    }
+
+    /// All that stand in one queue have another fate from now on, and stand last there, in their order, if
+    /// it isn't final.
+    #[tactic(auto, using(crate::proofs::Soundness::leaving))]
+    fn pass_all(&mut self, from: Fate, to: Fate)
+        requires standing { is_standing from ≡ true }
+        requires known { IsKnown from self.old.lists }
+        requires other { IsKnown to self.old.lists }
+        requires apart { same_fate to from ≡ false }
+        requires room { CanTake to (length (queue_at from self.old.lists)) self.old.rooms }
+        ensures lists { self.new.lists ≡ passed from to self.old.lists }
+        ensures messages { self.new.messages ≡ restood
+            (queue_at from self.old.lists) to self.old.messages }
+        ensures rooms { TakesRoom to (length
+            (queue_at from self.old.lists)) self.old.rooms self.new.rooms }
+        ensures room { self.new.room ≡ self.old.room }
+    {
         let count = self.buffers.len(from);
-        let to = Fate::Discarded { cause };
-        restand_first(&self.buffers, &mut self.messages, from, count, to);
+        pass(&mut self.buffers, &mut self.messages, from, count, to);
         self.buffers.clear(from);
         weigh_none(&mut self.octets, from);
     }

@@ -1,23 +1,23 @@
-use Rattle.std.proofs.Common.{arith, refl, ◌<◌, length, take}
+use Rattle.std.proofs.Common.{arith, refl}
 use Rattle.set_events.specs.declared.answer.Fate.TheVariants.{Back}
-use Rattle.set_queues.specs.Buffers.{IsKnown, queue_at}
-use Rattle.set_queues.specs.Backs.{passed_first}
-use Rattle.set_queues.proofs.Soundness.{given_all, sound_first, first_size, first_unacked}
-use Rattle.set_queues.proofs.Weighing.{weighed_cleared}
+use Rattle.set_queues.specs.Buffers.{IsKnown}
+use Rattle.set_queues.proofs.Passing.{known_with}
+use Rattle.set_queues.proofs.Soundness.{given_all, unqueued, kept_passed, moved_one}
 use Rattle.set_queues.proofs.queues.Queues.turn_back.Goals as goal
 
-pub restand_first-requires-clause-given : goal.restand_first-requires-clause-given
-restand_first-requires-clause-given c = given_all _ _ (Back c.args.code) c.self.invariant.sound refl
+pub pass-requires-clause-given : goal.pass-requires-clause-given
+pass-requires-clause-given c = given_all _ _ (Back c.args.code) c.self.invariant.sound refl
+
+pub drop_back-requires : goal.drop_back-requires
+drop_back-requires c = record { known = known_with (Back c.args.code) c.args.to _ _ _ c.pass.ensures.lists (omega (arith, c.ranges.code.fits, c.self.invariant.sound.codes)) }
 
 pub invariant_of-self : goal.invariant_of-self
 invariant_of-self c =
-    let q = c.self.inside.buffers.lists in
-    let known : c.args.code < length c.self.inside.buffers.lists.back = omega (arith, c.ranges.code.fits, c.self.invariant.sound.codes) in
+    let known : IsKnown (Back c.args.code) c.self.inside.buffers.lists = omega (arith, c.ranges.code.fits, c.self.invariant.sound.codes) in
     let other : IsKnown c.args.to c.self.inside.buffers.lists = rw (← c.self.view_is) at c.requires.other in
-    record {
-      sound = rw (c.restand_first.ensures.messages, c.shift_back.ensures.lists)
-          (sound_first q c.self.inside.messages.messages c.args.code c.args.to c.self.invariant.sound known other c.requires.queued c.requires.apart);
-      weighed = rw (c.restand_first.ensures.messages, c.shift_back.ensures.lists)
-          (weighed_cleared c.self.inside.octets c.self.inside.octets q (passed_first (Back c.args.code) c.args.to q) c.self.inside.messages.messages (take 1 (queue_at (Back c.args.code) q)) (Back c.args.code) c.args.to c.self.invariant.weighed (first_size q c.args.code c.args.to).links c.self.invariant.sound.few
-          (λ l. first_unacked q c.args.code c.args.to known other c.requires.queued l) (λ l h. refl));
-    }
+    kept_passed c.self.inside _ 1 (Back c.args.code) c.args.to c.self.invariant (record { standing = refl; known = known; other = other; apart = c.requires.apart }) (λ l. unqueued c.args.to l c.requires.queued)
+    (moved_one (Back c.args.code) c.args.to c.self.inside.buffers.lists c.pass.new.buffers.lists _ other c.requires.apart c.pass.ensures.lists c.drop_back.ensures.lists)
+    c.pass.ensures.messages (λ l t. absurd (cc)) (λ l h. refl)
+
+pub returns-clause-lists : goal.returns-clause-lists
+returns-clause-lists c = rw (← c.self.view_is) (moved_one (Back c.args.code) c.args.to c.self.inside.buffers.lists c.pass.new.buffers.lists _ (rw (← c.self.view_is) at c.requires.other) c.requires.apart c.pass.ensures.lists c.drop_back.ensures.lists)

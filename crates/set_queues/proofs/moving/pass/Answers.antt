@@ -1,0 +1,17 @@
+use Rattle.std.proofs.Common.{◌≡◌, ◌∙◌, ap, sym, List, ℕ, Some}
+use Rattle.std.specs.Prelude.{slice_get}
+use Rattle.set_queues.specs.Buffers.{queue_at, same_fate}
+use Rattle.set_queues.proofs.Standing.{room_sum}
+use Rattle.set_queues.proofs.Passing.{queue_away, queue_next, restood_next}
+use Rattle.set_queues.proofs.moving.pass.Goals as goal
+
+pub loop-place-preserved : goal.loop-place-preserved
+loop-place-preserved c =
+    let same : queue_at c.args.from c.loop-place.buffers.lists ≡ queue_at c.args.from c.args.buffers.now.lists = queue_away c.args.to c.args.from _ _ _ c.loop-place.invariant.lists c.requires.other c.requires.apart in
+    let got : slice_get (queue_at c.args.from c.args.buffers.now.lists) c.loop-place.place ≡ Some c.in-Some.number = ap (λ (ns : List ℕ). slice_get ns c.loop-place.place) (sym same) ∙ sym c.at.ensures ∙ c.in-Some.is in
+    record {
+      lists = queue_next c.args.to _ _ _ _ _ _ _ c.requires.other c.loop-place.invariant.lists got c.push.ensures.lists;
+      messages = restood_next (queue_at c.args.from c.args.buffers.now.lists) c.loop-place.place c.in-Some.number c.args.to c.args.messages.now.messages _ _ c.loop-place.invariant.messages got c.restand.ensures.messages;
+      rooms = λ fate. room_sum (same_fate c.args.to fate) _ _ _ c.loop-place.place 1 (c.loop-place.invariant.rooms fate) (c.push.ensures.room fate);
+      room = c.restand.ensures.room ∙ c.loop-place.invariant.room;
+    }
