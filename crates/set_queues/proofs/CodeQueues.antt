@@ -1,7 +1,5 @@
 -- What waits for the acknowledgements of changebacks: how many wait for a home's codes.
-use Rattle.std.proofs.Common.{refl, arith, ◌≡◌, ◌∙◌, ap, sym, ◌+◌, ◌≤◌, ◌<◌, [], ◌∷◌, ◌++◌, length, ℕ, zero, suc, inl, inr, List, Option, Some, None, add-one}
-use Rattle.std.specs.Option.{option_map}
-use Rattle.std.proofs.lemmas.Bool.{cases_lt}
+use Rattle.std.proofs.Common.{refl, arith, ◌≡◌, sym, ◌+◌, ◌-◌, ◌≤◌, ◌<◌, [], ◌∷◌, ◌++◌, length, ℕ, zero, suc, List, Option, Some, None, add-one}
 use Rattle.std.proofs.lemmas.List.{length-append}
 use Rattle.std.proofs.lemmas.Option.{slice_get_past}
 use Rattle.set_events.specs.declared.answer.Fate.{Fate}
@@ -12,7 +10,7 @@ use Rattle.set_queues.specs.Messages.{fate_at}
 use Rattle.set_queues.specs.Buffers.{Lists, queue_at}
 use Rattle.set_queues.specs.Queues.{occurs, has_fate, AreTied}
 use Rattle.set_queues.specs.Backs.{back_from}
-use Rattle.set_queues.proofs.Standing.{occurs-append, occurs_here, occurs_not}
+use Rattle.set_queues.proofs.Standing.{occurs-append, occurs_here}
 
 -- HOW MANY WAIT
 
@@ -29,9 +27,10 @@ back_more code n q = rw add-one (back_suc code n q)
 
 pub back_grows : (code n k m : ℕ) (q : Lists) → n + k ≡ m → back_from code n q ≤ back_from code m q
 back_grows code n zero m q e = grind arith
-back_grows code n (suc k) m q e =
-    let next : suc (n + k) ≡ m = omega (arith, e) in
-    omega (arith, back_grows code n k (n + k) q refl, back_suc code (n + k) q, ap (λ (i : ℕ). back_from code i q) next)
+back_grows code n (suc k) m q e = grind (arith, back_grows code n k (n + k) q refl, back_suc code (n + k) q)
+
+pub back_below : (code n : ℕ) (q : Lists) → n < 16 → back_from code n q + length (queue_at (Back (code + n)) q) ≤ back_from code 16 q
+back_below code n q h = omega (arith, back_more code n q, back_grows code (n + 1) (15 - n) 16 q (omega arith))
 
 -- a list in which each number stands once at most, all of them below a bound, is no longer than it
 
@@ -53,13 +52,7 @@ total_one (suc n) x h = grind (arith, total_one n x)
 
 total_all : (n : ℕ) (xs : List ℕ) → ((m : ℕ) → n ≤ m → occurs m xs ≡ 0) → length xs ≤ total n xs
 total_all n [] h = omega arith
-total_all n (x ∷ xs) h = omega (arith, total_cons n x xs, total_one n x below, total_all n xs (λ m b. omega (arith, h m b)))
-  where
-    below : x < n
-    below = elim (cases_lt x n) [
-      | inl b ↦ b
-      | inr b ↦ absurd (omega (arith, h x b, occurs_here x x refl))
-    ]
+total_all n (x ∷ xs) h = grind (arith, h x, total_cons n x xs, total_one n x, occurs_here x x refl, total_all n xs (λ m b. omega (arith, h m b)))
 
 few_in : (n : ℕ) (xs : List ℕ) → ((m : ℕ) → occurs m xs ≤ 1) → ((m : ℕ) → n ≤ m → occurs m xs ≡ 0) → length xs ≤ n
 few_in n xs once none = omega (arith, total_few n xs once, total_all n xs none)
@@ -82,18 +75,17 @@ all_occur : (code n m : ℕ) (q : Lists) (ms : List Message) → AreTied q ms �
 all_occur code zero m q ms tie = refl
 all_occur code (suc n) m q ms tie = omega (arith, occurs-append m (all_back code n q) (queue_at (Back (code + n)) q), all_occur code n m q ms tie, tie (Back (code + n)) refl m)
 
-hits_before : (code n d : ℕ) (fate : Option Fate) → fate ≡ Some (Back d) → code + n ≤ d → hits code n fate ≡ 0
-hits_before code zero d fate e h = refl
-hits_before code (suc n) d fate e h =
-    omega (arith, hits_before code n d fate e (omega (arith, h)), ap (λ (o : Option Fate). one_if (has_fate (Back (code + n)) o)) e, occurs_not d (code + n) (λ g. omega (arith, h, g)))
+hits_before : (code n d : ℕ) → code + n ≤ d → hits code n (Some (Back d)) ≡ 0
+hits_before code zero d h = refl
+hits_before code (suc n) d h = grind (arith, hits_before code n d)
 
 hits_few : (code n : ℕ) (fate : Option Fate) → hits code n fate ≤ 1
 hits_few code zero fate = omega arith
 hits_few code (suc n) fate = grind (arith, hits_before, hits_few code n fate)
 
-hits_none : (code n : ℕ) (fate : Option Fate) → fate ≡ None → hits code n fate ≡ 0
-hits_none code zero fate e = refl
-hits_none code (suc n) fate e = omega (arith, hits_none code n fate e, ap (λ (o : Option Fate). one_if (has_fate (Back (code + n)) o)) e)
+hits_none : (code n : ℕ) → hits code n None ≡ 0
+hits_none code zero = refl
+hits_none code (suc n) = grind (arith, hits_none code n)
 
 pub back_few : (code n : ℕ) (q : Lists) (ms : List Message) → AreTied q ms → back_from code n q ≤ length ms
 back_few code n q ms tie =
@@ -102,5 +94,5 @@ back_few code n q ms tie =
       all_length code n q,
       few_in (length ms) (all_back code n q)
           (λ m. omega (arith, all_occur code n m q ms tie, hits_few code n (fate_at m ms)))
-          (λ m b. all_occur code n m q ms tie ∙ hits_none code n (fate_at m ms) (ap (option_map (λ (x : Message). x.fate)) (slice_get_past ms m b))),
+          (λ m b. rw (all_occur code n m q ms tie, slice_get_past ms m b) (hits_none code n)),
     )

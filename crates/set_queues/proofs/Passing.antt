@@ -1,15 +1,15 @@
 -- A queue is replaced by another list.
-use Rattle.std.proofs.Common.{refl, arith, ◌≡◌, ◌∙◌, ap, subst, ◌<◌, ◌+◌, [], ◌∷◌, ◌++◌, length, take, append_assoc, ℕ, zero, suc, Bool, true, false, ◌==◌, List, Option, Some, cond}
+use Rattle.std.proofs.Common.{refl, arith, ◌≡◌, ◌∙◌, ap, ◌<◌, ◌+◌, [], ◌∷◌, ◌++◌, length, take, append_assoc, ℕ, zero, suc, Bool, true, false, ◌==◌, List, Option, Some, cond}
 use Rattle.std.specs.Prelude.{slice_get}
 use Rattle.std.specs.Option.{option_map}
-use Rattle.std.proofs.lemmas.Bool.{eqb-true, eqb-false, eq-eqb}
+use Rattle.std.proofs.lemmas.Bool.{eq-eqb}
 use Rattle.std.proofs.lemmas.Option.{get_or_from_slice_get}
 use Rattle.set_events.specs.declared.answer.Fate.{Fate}
-use Rattle.set_events.specs.declared.answer.Fate.TheVariants.{Waiting, Unacked, Acked, Held, Parked, Back, Discarded}
+use Rattle.set_events.specs.declared.answer.Fate.TheVariants.{Waiting, Unacked, Held, Parked, Back}
 use Rattle.set_queues.specs.declared.message.Message.{Message}
 use Rattle.set_queues.specs.Messages.{updated, restood_one, restood}
-use Rattle.set_queues.specs.Buffers.{LinkLists, Lists, is_standing, same_fate, queue_at, with_queue, list_in, number_in, IsKnown, IsQueued, Rooms, CanTake, TakesRoom}
-use Rattle.set_queues.proofs.Updates.{length-updated, updated_same, updated_other, updated_twice, updated_id, read_set}
+use Rattle.set_queues.specs.Buffers.{LinkLists, Lists, is_standing, same_fate, queue_at, with_queue, number_in, IsKnown, IsQueued, Rooms, CanTake, TakesRoom}
+use Rattle.set_queues.proofs.Updates.{length-updated, updated_same, updated_there, updated_other, updated_twice, updated_id, read_set}
 use Rattle.set_queues.proofs.Standing.{same_self, take_get, given_at, none_past, room_sum, append-nil, length-restood, restood-append}
 
 there : {X : Type 0} (xs : List X) (n : ℕ) → n < length xs → (x : X) × (slice_get xs n ≡ Some x)
@@ -17,65 +17,18 @@ there [] n h = absurd (omega arith)
 there (x ∷ xs) zero h = (x, refl)
 there (x ∷ xs) (suc n) h = there xs n (omega arith)
 
--- a list of a link that changes is the new one, and no other list is touched
-list_set : (list : LinkLists → List ℕ) (f : LinkLists → LinkLists) (numbers : List ℕ) (ls : List LinkLists) (l k : ℕ) (b : Bool) → (l == k) ≡ b → l < length ls → ((x : LinkLists) → list (f x) ≡ numbers) → list_in list (slice_get (updated l f ls) k) ≡ cond b numbers (list_in list (slice_get ls k))
-list_set list f numbers ls l k true t h e =
-    let same : l ≡ k = eqb-true l k t in
-    let x = there ls l h in
-    subst (λ (i : ℕ). list_in list (slice_get (updated l f ls) i) ≡ numbers) same (ap (list_in list) (updated_same f ls l ∙ ap (option_map f) x.1) ∙ e x.0)
-list_set list f numbers ls l k false t h e = ap (list_in list) (updated_other f ls l k (eqb-false l k t))
-
 pub list_kept : {Y : Type 0} (get : Option LinkLists → Y) (f : LinkLists → LinkLists) (ls : List LinkLists) (l k : ℕ) → ((o : Option LinkLists) → get (option_map f o) ≡ get o) → (b : Bool) → (l == k) ≡ b → get (slice_get (updated l f ls) k) ≡ get (slice_get ls k)
 list_kept get f ls l k e b t = grind (arith, updated_same, updated_other)
-
-pub kept_unsent : (f : LinkLists → LinkLists) → ((x : LinkLists) → (f x).unsent ≡ x.unsent) → (o : Option LinkLists) → list_in (λ (z : LinkLists). z.unsent) (option_map f o) ≡ list_in (λ (z : LinkLists). z.unsent) o
-kept_unsent f e o = grind arith
-
-pub kept_unacked : (f : LinkLists → LinkLists) → ((x : LinkLists) → (f x).unacked ≡ x.unacked) → (o : Option LinkLists) → list_in (λ (z : LinkLists). z.unacked) (option_map f o) ≡ list_in (λ (z : LinkLists). z.unacked) o
-kept_unacked f e o = grind arith
-
-pub kept_held : (f : LinkLists → LinkLists) → ((x : LinkLists) → (f x).held ≡ x.held) → (o : Option LinkLists) → list_in (λ (z : LinkLists). z.held) (option_map f o) ≡ list_in (λ (z : LinkLists). z.held) o
-kept_held f e o = grind arith
 
 pub kept_last : (f : LinkLists → LinkLists) → ((x : LinkLists) → (f x).last ≡ x.last) → (o : Option LinkLists) → number_in (option_map f o) ≡ number_in o
 kept_last f e o = grind arith
 
 pub queue_set : (g f : Fate) (numbers : List ℕ) (q : Lists) → is_standing g ≡ true → IsKnown g q → queue_at f (with_queue g numbers q) ≡ cond (same_fate g f) numbers (queue_at f q)
-queue_set (Waiting l) (Waiting k) ns q s h = list_set (λ (z : LinkLists). z.unsent) (λ (z : LinkLists). record z { unsent = ns }) ns q.links l k (l == k) refl h (λ x. refl)
-queue_set (Waiting l) (Unacked k) ns q s h = list_kept (list_in (λ (z : LinkLists). z.unacked)) (λ (z : LinkLists). record z { unsent = ns }) q.links l k (kept_unacked (λ (z : LinkLists). record z { unsent = ns }) (λ x. refl)) (l == k) refl
-queue_set (Waiting l) (Held k) ns q s h = list_kept (list_in (λ (z : LinkLists). z.held)) (λ (z : LinkLists). record z { unsent = ns }) q.links l k (kept_held (λ (z : LinkLists). record z { unsent = ns }) (λ x. refl)) (l == k) refl
-queue_set (Waiting l) Parked ns q s h = refl
-queue_set (Waiting l) (Back k) ns q s h = refl
-queue_set (Waiting l) (Acked k) ns q s h = refl
-queue_set (Waiting l) (Discarded d) ns q s h = refl
-queue_set (Unacked l) (Waiting k) ns q s h = list_kept (list_in (λ (z : LinkLists). z.unsent)) (λ (z : LinkLists). record z { unacked = ns }) q.links l k (kept_unsent (λ (z : LinkLists). record z { unacked = ns }) (λ x. refl)) (l == k) refl
-queue_set (Unacked l) (Unacked k) ns q s h = list_set (λ (z : LinkLists). z.unacked) (λ (z : LinkLists). record z { unacked = ns }) ns q.links l k (l == k) refl h (λ x. refl)
-queue_set (Unacked l) (Held k) ns q s h = list_kept (list_in (λ (z : LinkLists). z.held)) (λ (z : LinkLists). record z { unacked = ns }) q.links l k (kept_held (λ (z : LinkLists). record z { unacked = ns }) (λ x. refl)) (l == k) refl
-queue_set (Unacked l) Parked ns q s h = refl
-queue_set (Unacked l) (Back k) ns q s h = refl
-queue_set (Unacked l) (Acked k) ns q s h = refl
-queue_set (Unacked l) (Discarded d) ns q s h = refl
-queue_set (Held l) (Waiting k) ns q s h = list_kept (list_in (λ (z : LinkLists). z.unsent)) (λ (z : LinkLists). record z { held = ns }) q.links l k (kept_unsent (λ (z : LinkLists). record z { held = ns }) (λ x. refl)) (l == k) refl
-queue_set (Held l) (Unacked k) ns q s h = list_kept (list_in (λ (z : LinkLists). z.unacked)) (λ (z : LinkLists). record z { held = ns }) q.links l k (kept_unacked (λ (z : LinkLists). record z { held = ns }) (λ x. refl)) (l == k) refl
-queue_set (Held l) (Held k) ns q s h = list_set (λ (z : LinkLists). z.held) (λ (z : LinkLists). record z { held = ns }) ns q.links l k (l == k) refl h (λ x. refl)
-queue_set (Held l) Parked ns q s h = refl
-queue_set (Held l) (Back k) ns q s h = refl
-queue_set (Held l) (Acked k) ns q s h = refl
-queue_set (Held l) (Discarded d) ns q s h = refl
-queue_set Parked (Waiting k) ns q s h = refl
-queue_set Parked (Unacked k) ns q s h = refl
-queue_set Parked (Held k) ns q s h = refl
-queue_set Parked Parked ns q s h = refl
-queue_set Parked (Back k) ns q s h = refl
-queue_set Parked (Acked k) ns q s h = refl
-queue_set Parked (Discarded d) ns q s h = refl
-queue_set (Back c) (Waiting k) ns q s h = refl
-queue_set (Back c) (Unacked k) ns q s h = refl
-queue_set (Back c) (Held k) ns q s h = refl
-queue_set (Back c) Parked ns q s h = refl
-queue_set (Back c) (Back k) ns q s h = read_set ns q.back c k [] (c == k) refl h
-queue_set (Back c) (Acked k) ns q s h = refl
-queue_set (Back c) (Discarded d) ns q s h = refl
+queue_set (Waiting l) f ns q s h = let x = there q.links l h in grind (arith, updated_there, updated_other)
+queue_set (Unacked l) f ns q s h = let x = there q.links l h in grind (arith, updated_there, updated_other)
+queue_set (Held l) f ns q s h = let x = there q.links l h in grind (arith, updated_there, updated_other)
+queue_set Parked f ns q s h = grind arith
+queue_set (Back c) f ns q s h = grind (arith, read_set)
 queue_set _ f ns q s h = absurd (cc)
 
 -- the links stay as many
@@ -104,21 +57,11 @@ pub queue_twice : (g : Fate) (xs ys : List ℕ) (q : Lists) → with_queue g xs 
 queue_twice g xs ys q = grind (arith, updated_twice)
 
 pub queue_id : (g : Fate) (q : Lists) → IsKnown g q → with_queue g (queue_at g q) q ≡ q
-queue_id (Waiting l) q h =
-    let x = there q.links l h in
-    ap (λ (ls : List LinkLists). record q { links = ls }) (updated_id (λ (z : LinkLists). record z { unsent = queue_at (Waiting l) q }) q.links l x.0 x.1 (rw x.1 refl))
-queue_id (Unacked l) q h =
-    let x = there q.links l h in
-    ap (λ (ls : List LinkLists). record q { links = ls }) (updated_id (λ (z : LinkLists). record z { unacked = queue_at (Unacked l) q }) q.links l x.0 x.1 (rw x.1 refl))
-queue_id (Held l) q h =
-    let x = there q.links l h in
-    ap (λ (ls : List LinkLists). record q { links = ls }) (updated_id (λ (z : LinkLists). record z { held = queue_at (Held l) q }) q.links l x.0 x.1 (rw x.1 refl))
-queue_id Parked q h = refl
-queue_id (Back c) q h =
-    let x = there q.back c h in
-    ap (λ (bs : List (List ℕ)). record q { back = bs }) (updated_id (λ (z : List ℕ). queue_at (Back c) q) q.back c x.0 x.1 (get_or_from_slice_get q.back c x.0 [] x.1))
-queue_id (Acked l) q h = refl
-queue_id (Discarded c) q h = refl
+queue_id (Waiting l) q h = let x = there q.links l h in grind (arith, updated_id)
+queue_id (Unacked l) q h = let x = there q.links l h in grind (arith, updated_id)
+queue_id (Held l) q h = let x = there q.links l h in grind (arith, updated_id)
+queue_id (Back c) q h = let x = there q.back c h in grind (arith, updated_id, get_or_from_slice_get)
+queue_id _ q h = refl
 
 pub queued_stands : (f : Fate) → IsQueued f → is_standing f ≡ true
 queued_stands f h = grind arith

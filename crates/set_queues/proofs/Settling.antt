@@ -101,3 +101,10 @@ settling link to q a =
           ∙ untouched (passed (Unacked link) to q) (Waiting link) to f refl a1.known a1.other a1.queued s w t
           ∙ untouched q (Unacked link) to f refl a.known a.other a.queued s u t;
     }
+
+-- a place is known still
+
+pub known_passed : (f from to : Fate) (q now : Lists) → now ≡ passed from to q → IsKnown f q → IsKnown f now
+known_passed f from to q now e k = rw e (known_on f q _ (passed_size q from to) k)
+
+pub ruleset settles = (aside_of, waits_on, held_last, on_length, restood_three, rooms_three)

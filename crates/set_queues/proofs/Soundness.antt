@@ -1,48 +1,27 @@
 -- What holds of every set's queues goes on holding.
-use Rattle.std.proofs.Common.{refl, arith, ◌≡◌, ◌∙◌, ap, sym, subst, ◌+◌, ◌-◌, ◌≤◌, ◌<◌, [], ◌∷◌, ◌++◌, length, ℕ, zero, suc, Bool, true, false, ◌==◌, ◌⊎◌, inl, inr, List, Option, Some, None, cond, get_or, take, drop, replicate}
+use Rattle.std.proofs.Common.{refl, arith, ◌≡◌, ◌∙◌, ap, sym, subst, ◌+◌, ◌-◌, ◌≤◌, ◌<◌, [], ◌∷◌, ◌++◌, length, ℕ, zero, suc, Bool, true, false, ◌==◌, ◌⊎◌, inl, inr, List, Some, cond, get_or, take, drop, replicate}
 use Rattle.std.specs.Prelude.{slice_get, slice_index}
-use Rattle.std.specs.Option.{option_map}
 use Rattle.std.proofs.lemmas.Bool.{cases_eq}
 use Rattle.set_events.specs.declared.answer.Fate.{Fate}
-use Rattle.set_events.specs.declared.answer.Fate.TheVariants.{Waiting, Unacked, Acked, Held}
+use Rattle.set_events.specs.declared.answer.Fate.TheVariants.{Waiting, Unacked, Acked}
 use Rattle.set_queues.specs.declared.message.Message.{Message}
 use Rattle.set_queues.specs.Counts.{one_if}
-use Rattle.set_queues.specs.Messages.{with_fate, restood_one, restood, octets_in, octets_at, octets_of}
+use Rattle.set_queues.specs.Messages.{restood_one, restood, octets_in, octets_at, octets_of}
 use Rattle.set_queues.specs.Backs.{passed_first}
 use Rattle.set_queues.specs.Sending.{IsSending, first_sent, acknowledged, reach}
-use Rattle.set_queues.specs.Tally.{IsFit, AreFit}
+use Rattle.set_queues.specs.Tally.{IsFit}
 use Rattle.set_queues.specs.Buffers.{LinkLists, Lists, is_standing, same_fate, queue_at, with_queue, with_last, list_in, IsKnown, IsQueued, Rooms, CanTake}
 use Rattle.set_queues.specs.declared.queues.Queues.TheInside.{Inside}
 use Rattle.set_queues.specs.Sound.{IsSound}
-use Rattle.set_queues.specs.Queues.{occurs, has_fate, stands, passed, AreTied, AreGiven, AreSound, AreWeighed}
+use Rattle.set_queues.specs.Queues.{occurs, stands, passed, AreTied, AreGiven, AreSound, AreWeighed}
 use Rattle.set_queues.proofs.Updates.{length-updated, updated_same, updated_other}
 use Rattle.set_queues.proofs.Standing.{Moves, moved_tie, given_queue, given_at, take_get, whole, same_is, occurs-append, occurs-split, occurs_here, occurs_not}
-use Rattle.set_queues.proofs.Tallies.{fit_push}
+use Rattle.set_queues.proofs.Tallies.{fit_push, fit_restood}
 use Rattle.set_queues.proofs.Weighing.{octets-append, octets-split, octets_stay, octets_few}
 use Rattle.std.proofs.lemmas.Bool.Decides.{nat_tests}
 use Rattle.std.proofs.lemmas.List.{drop_all, length-replicate, length-append, length-take, length-drop}
 use Rattle.std.proofs.lemmas.Option.{slice_get_past}
-use Rattle.set_queues.proofs.Passing.{queue_set, queue_any, queued_stands, links_stay, known_with, queue_away, SameSize, size_stays, size_both, known_on, list_kept, kept_unsent, kept_unacked, kept_held}
-
--- a message stays fit wherever it comes to stand
-
-fit_one : (n : ℕ) (f : Fate) (ms : List Message) → AreFit ms → AreFit (restood_one n f ms)
-fit_one n f ms fit k m e = go (cases_eq n k)
-  where
-    some : (o : Option Message) → slice_get ms k ≡ o → option_map (with_fate f) o ≡ Some m → IsFit m
-    some None d h = absurd (cc)
-    some (Some x) d h =
-        let g : with_fate f x ≡ m = cc in
-        let was : IsFit x = fit k x d in
-        subst IsFit g (record { octets = was.octets; known = was.known })
-
-    go : (n ≡ k) ⊎ (n ≡ k → ⊥) → IsFit m
-    go (inl i) = some (slice_get ms k) refl (sym (subst (λ (j : ℕ). slice_get (restood_one n f ms) j ≡ option_map (with_fate f) (slice_get ms j)) i (updated_same (with_fate f) ms n)) ∙ e)
-    go (inr ne) = fit k m (sym (updated_other (with_fate f) ms n k ne) ∙ e)
-
-pub fit_restood : (ns : List ℕ) (f : Fate) (ms : List Message) → AreFit ms → AreFit (restood ns f ms)
-fit_restood [] f ms fit = fit
-fit_restood (n ∷ ns) f ms fit = fit_restood ns f (restood_one n f ms) (fit_one n f ms fit)
+use Rattle.set_queues.proofs.Passing.{queue_set, queue_any, queued_stands, links_stay, known_with, queue_away, SameSize, size_stays, size_both, known_on}
 
 -- two queues change: messages leave the one and join the other
 abbrev pub Replaces : Lists → Lists → Fate → Fate → List ℕ → List ℕ → Type 0
@@ -156,37 +135,15 @@ push_other [] x (suc m) ne = refl
 push_other (y ∷ ms) x zero ne = refl
 push_other (y ∷ ms) x (suc m) ne = push_other ms x m (λ e. ne (ap suc e))
 
-added_queue : (q : Lists) (to f : Fate) (n : ℕ) → IsKnown to q → IsQueued to → queue_at f (with_queue to (queue_at to q ++ n ∷ []) q) ≡ cond (same_fate to f) (queue_at to q ++ n ∷ []) (queue_at f q)
-added_queue q to f n k u = queue_set to f (queue_at to q ++ n ∷ []) q (queued_stands to u) k
-
-added_tie : (q : Lists) (ms : List Message) (x : Message) → AreTied q ms → IsKnown x.fate q → IsQueued x.fate → AreTied (with_queue x.fate (queue_at x.fate q ++ length ms ∷ []) q) (ms ++ x ∷ [])
-added_tie q ms x tie k u f s m = go (cases_eq (length ms) m)
+added_tie : (q : Lists) (ms : List Message) (x : Message) → AreTied q ms → IsKnown x.fate q → AreTied (with_queue x.fate (queue_at x.fate q ++ length ms ∷ []) q) (ms ++ x ∷ [])
+added_tie q ms x tie k f s m = go (cases_eq (length ms) m) (tie f s m) (queue_any x.fate f (queue_at x.fate q ++ length ms ∷ []) q s k)
   where
-    was_new : length ms ≡ m → one_if (stands f m ms) ≡ 0
-    was_new e = ap (λ (o : Option Message). one_if (has_fate f (option_map (λ (y : Message). y.fate) o))) (slice_get_past ms m (omega arith))
-
-    is_new : length ms ≡ m → one_if (stands f m (ms ++ x ∷ [])) ≡ one_if (same_fate x.fate f)
-    is_new e = ap (λ (o : Option Message). one_if (has_fate f (option_map (λ (y : Message). y.fate) o))) (subst (λ (i : ℕ). slice_get (ms ++ x ∷ []) i ≡ Some x) e (push_same ms x))
-
-    is_old : (length ms ≡ m → ⊥) → one_if (stands f m (ms ++ x ∷ [])) ≡ one_if (stands f m ms)
-    is_old ne = ap (λ (o : Option Message). one_if (has_fate f (option_map (λ (y : Message). y.fate) o))) (push_other ms x m ne)
-
-    more : (b : Bool) → same_fate x.fate f ≡ b → queue_at f (with_queue x.fate (queue_at x.fate q ++ length ms ∷ []) q) ≡ cond b (queue_at x.fate q ++ length ms ∷ []) (queue_at f q) → occurs m (queue_at f (with_queue x.fate (queue_at x.fate q ++ length ms ∷ []) q)) ≡ occurs m (queue_at f q) + cond b (one_if (length ms == m)) 0
-    more true e g =
-        let here : x.fate ≡ f = same_is x.fate f s e in
-        omega (arith, ap (occurs m) g, occurs-append m (queue_at x.fate q) (length ms ∷ []), ap (λ (y : Fate). occurs m (queue_at y q)) here)
-    more false e g = omega (arith, ap (occurs m) g)
-
-    here_if : (b : Bool) → one_if b ≡ cond b 1 0
-    here_if true = refl
-    here_if false = refl
-
-    go : (length ms ≡ m) ⊎ (length ms ≡ m → ⊥) → occurs m (queue_at f (with_queue x.fate (queue_at x.fate q ++ length ms ∷ []) q)) ≡ one_if (stands f m (ms ++ x ∷ []))
-    go (inl e) = grind (arith, occurs_here, more, added_queue, was_new, here_if, is_new)
-    go (inr ne) = grind (arith, more, added_queue, occurs_not, is_old)
+    go : (length ms ≡ m) ⊎ (length ms ≡ m → ⊥) → occurs m (queue_at f q) ≡ one_if (stands f m ms) → queue_at f (with_queue x.fate (queue_at x.fate q ++ length ms ∷ []) q) ≡ cond (same_fate x.fate f) (queue_at x.fate q ++ length ms ∷ []) (queue_at f q) → occurs m (queue_at f (with_queue x.fate (queue_at x.fate q ++ length ms ∷ []) q)) ≡ one_if (stands f m (ms ++ x ∷ []))
+    go (inl e) had there = let new = push_same ms x in grind (arith, same_is, occurs-append, occurs_here, slice_get_past)
+    go (inr ne) had there = let old = push_other ms x m ne in grind (arith, same_is, occurs-append, occurs_not)
 
 added_unacked : (q : Lists) (to : Fate) (n l : ℕ) → IsKnown to q → IsQueued to → queue_at (Unacked l) (with_queue to (queue_at to q ++ n ∷ []) q) ≡ queue_at (Unacked l) q
-added_unacked q to n l k u = added_queue q to (Unacked l) n k u ∙ ap (λ (b : Bool). cond b (queue_at to q ++ n ∷ []) (queue_at (Unacked l) q)) (unqueued to l u)
+added_unacked q to n l k u = queue_any to (Unacked l) (queue_at to q ++ n ∷ []) q refl k ∙ ap (λ (b : Bool). cond b (queue_at to q ++ n ∷ []) (queue_at (Unacked l) q)) (unqueued to l u)
 
 pub sound_added : (q : Lists) (ms : List Message) (x : Message) → AreSound q ms → IsFit x → IsKnown x.fate q → IsQueued x.fate → AreSound (with_queue x.fate (queue_at x.fate q ++ length ms ∷ []) q) (ms ++ x ∷ [])
 sound_added q ms x h fit k u = record {
@@ -194,7 +151,7 @@ sound_added q ms x h fit k u = record {
   few = omega (arith, h.few, (size_stays x.fate (queue_at x.fate q ++ length ms ∷ []) q).links);
   codes = (size_stays x.fate (queue_at x.fate q ++ length ms ∷ []) q).back ∙ h.codes;
   narrow = λ l. subst (λ (xs : List ℕ). length xs ≤ 127) (sym (added_unacked q x.fate (length ms) l k u)) (h.narrow l);
-  tied = added_tie q ms x h.tied k u;
+  tied = added_tie q ms x h.tied k;
   fit = fit_push ms x h.fit fit;
 }
 
@@ -268,10 +225,7 @@ kept_sent s s' l n more h b i few m e w =
 -- THE FIRST OF THE UNACKNOWLEDGED LEAVE, and a link has a new life
 
 pub queue_last : (f : Fate) (l fsn : ℕ) (q : Lists) → queue_at f (with_last l fsn q) ≡ queue_at f q
-queue_last (Waiting k) l fsn q = list_kept (list_in (λ (z : LinkLists). z.unsent)) (λ (z : LinkLists). record z { last = fsn }) q.links l k (kept_unsent (λ (z : LinkLists). record z { last = fsn }) (λ x. refl)) (l == k) refl
-queue_last (Unacked k) l fsn q = list_kept (list_in (λ (z : LinkLists). z.unacked)) (λ (z : LinkLists). record z { last = fsn }) q.links l k (kept_unacked (λ (z : LinkLists). record z { last = fsn }) (λ x. refl)) (l == k) refl
-queue_last (Held k) l fsn q = list_kept (list_in (λ (z : LinkLists). z.held)) (λ (z : LinkLists). record z { last = fsn }) q.links l k (kept_held (λ (z : LinkLists). record z { last = fsn }) (λ x. refl)) (l == k) refl
-queue_last _ l fsn q = refl
+queue_last f l fsn q = grind (arith, updated_same, updated_other)
 
 pub last_links : (l fsn : ℕ) (q : Lists) → length (with_last l fsn q).links ≡ length q.links
 last_links l fsn q = length-updated (λ (z : LinkLists). record z { last = fsn }) q.links l

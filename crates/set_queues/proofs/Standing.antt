@@ -1,9 +1,9 @@
 -- Messages that come to stand elsewhere, and the queues that name them.
-use Rattle.std.proofs.Common.{refl, arith, ◌≡◌, ◌∙◌, ap, subst, ◌+◌, ◌≤◌, ◌<◌, [], ◌∷◌, ◌++◌, length, ℕ, zero, suc, Bool, true, ◌==◌, ◌⊎◌, inl, inr, List, Option, Some, None, cond, take, drop, add-one}
+use Rattle.std.proofs.Common.{refl, arith, ◌≡◌, ◌∙◌, ap, subst, ◌+◌, ◌≤◌, ◌<◌, [], ◌∷◌, ◌++◌, length, ℕ, zero, suc, Bool, true, false, ◌==◌, ◌⊎◌, inl, inr, List, Option, Some, None, cond, take, drop, add-one}
 use Rattle.std.specs.Prelude.{slice_get}
 use Rattle.std.specs.Option.{option_map}
 use Rattle.std.proofs.lemmas.Bool.{eq-eqb, ne_eqb, cases_eq}
-use Rattle.std.proofs.lemmas.Option.{slice_get_within}
+use Rattle.std.proofs.lemmas.Option.{slice_get_within, slice_get_past}
 use Rattle.set_events.specs.declared.answer.Fate.{Fate}
 use Rattle.set_queues.specs.declared.message.Message.{Message}
 use Rattle.set_queues.specs.Counts.{one_if}
@@ -145,3 +145,8 @@ whole [] zero e = refl
 whole [] (suc k) e = refl
 whole (x ∷ xs) zero e = absurd (omega arith)
 whole (x ∷ xs) (suc k) e = ap (λ (ys : List ℕ). x ∷ ys) (whole xs k (omega arith))
+
+pub apart : (f g : Fate) → is_standing g ≡ true → (f ≡ g → ⊥) → same_fate f g ≡ false
+apart f g s ne = grind arith
+
+pub ruleset laws = (apart, same_self, slice_get_past)

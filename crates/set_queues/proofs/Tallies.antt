@@ -1,38 +1,33 @@
 -- The running counts of a list of messages, when one of them changes or joins.
-use Rattle.std.proofs.Common.{arith, ◌≡◌, subst, ◌+◌, ◌≤◌, ◌<◌, ◌^◌, [], ◌∷◌, ◌++◌, length, ℕ, zero, suc, Bool, List, Some, cond}
+use Rattle.std.proofs.Common.{arith, ◌≡◌, subst, ◌+◌, ◌≤◌, ◌<◌, [], ◌∷◌, ◌++◌, length, ℕ, zero, suc, Bool, List, Option, Some, None}
 use Rattle.std.specs.Prelude.{filter, slice_get, slice_set}
+use Rattle.std.proofs.Common.{get_or, refl}
+use Rattle.std.proofs.lemmas.Option.{slice_get_read}
 use Rattle.set_queues.specs.declared.message.Message.{Message}
+use Rattle.set_events.specs.declared.answer.Fate.{Fate}
+use Rattle.set_queues.specs.Messages.{with_fate, restood_one, restood}
+use Rattle.set_queues.proofs.Updates.{set_updated, updated_same, updated_other}
 use Rattle.set_queues.specs.declared.tally.Tally.{Tally}
 use Rattle.set_queues.specs.Counts.{one_if, waits, was_sent, was_acked, was_held, is_parked, stands_back, was_discarded}
 use Rattle.set_queues.specs.Tally.{is_there, is_queued, IsTally, IsMore, IsAmong, AreFew, IsFit, AreFit}
 
-length_if : (b : Bool) (x : Message) (xs : List Message) → length (cond b (x ∷ xs) xs) ≡ one_if b + length xs
-length_if b x xs = grind arith
-
-count_cons : (p : Message → Bool) (x : Message) (xs : List Message) → length (filter p (x ∷ xs)) ≡ one_if (p x) + length (filter p xs)
-count_cons p x xs = length_if (p x) x (filter p xs)
-
 pub count_set : (p : Message → Bool) (xs : List Message) (n : ℕ) (x y : Message) → slice_get xs n ≡ Some x → length (filter p (slice_set xs n y)) + one_if (p x) ≡ length (filter p xs) + one_if (p y)
 count_set p [] n x y e = absurd (cc)
 count_set p (z ∷ xs) zero x y e = grind arith
-count_set p (z ∷ xs) (suc n) x y e =
-    omega (arith, count_cons p z (slice_set xs n y), count_cons p z xs, count_set p xs n x y e)
+count_set p (z ∷ xs) (suc n) x y e = grind (arith, count_set p xs n x y e)
 
 pub count_push : (p : Message → Bool) (xs : List Message) (y : Message) → length (filter p (xs ++ y ∷ [])) ≡ length (filter p xs) + one_if (p y)
-count_push p [] y = omega (arith, count_cons p y [])
-count_push p (x ∷ xs) y = omega (arith, count_cons p x (xs ++ y ∷ []), count_cons p x xs, count_push p xs y)
+count_push p [] y = grind arith
+count_push p (x ∷ xs) y = grind (arith, count_push p xs y)
 
 pub count_in : (p : Message → Bool) (xs : List Message) (n : ℕ) (x : Message) → slice_get xs n ≡ Some x → one_if (p x) ≤ length (filter p xs)
 count_in p [] n x e = absurd (cc)
 count_in p (z ∷ xs) zero x e = grind arith
-count_in p (z ∷ xs) (suc n) x e = omega (arith, count_cons p z xs, count_in p xs n x e)
-
-one_at_most : (b : Bool) → one_if b ≤ 1
-one_at_most b = grind arith
+count_in p (z ∷ xs) (suc n) x e = grind (arith, count_in p xs n x e)
 
 pub count_few : (p : Message → Bool) (xs : List Message) → length (filter p xs) ≤ length xs
 count_few p [] = omega arith
-count_few p (x ∷ xs) = omega (arith, count_cons p x xs, one_at_most (p x), count_few p xs)
+count_few p (x ∷ xs) = grind (arith, count_few p xs)
 
 pub tally_in : (t : Tally) (xs : List Message) (n : ℕ) (x : Message) → IsTally t xs → slice_get xs n ≡ Some x → IsAmong x t
 tally_in t xs n x h e = record {
@@ -45,9 +40,6 @@ tally_in t xs n x h e = record {
   discarded = omega (arith, h.discarded, count_in (is_there was_discarded) xs n x e);
   unsent = λ s b. omega (arith, h.unsent s b, count_in (is_queued s) xs n x e);
 }
-
-pub tally_few : (t : Tally) (xs : List Message) → IsTally t xs → length xs < 2 ^ 63 → AreFew t
-tally_few t xs h few = grind (arith, count_few)
 
 -- one that left is fewer than a range's end
 pub fewer : (m : Message) (old new : Tally) → IsMore m old new → AreFew new → AreFew old
@@ -75,9 +67,22 @@ fit_push [] y h f (suc n) m e = absurd (cc)
 fit_push (x ∷ xs) y h f zero m e = h zero m e
 fit_push (x ∷ xs) y h f (suc n) m e = fit_push xs y (λ k w g. h (suc k) w g) f n m e
 
-pub fit_set : (xs : List Message) (i : ℕ) (y : Message) → AreFit xs → IsFit y → AreFit (slice_set xs i y)
-fit_set [] i y h f n m e = absurd (cc)
-fit_set (x ∷ xs) zero y h f zero m e = let g : y ≡ m = cc in subst IsFit g f
-fit_set (x ∷ xs) zero y h f (suc n) m e = h (suc n) m e
-fit_set (x ∷ xs) (suc i) y h f zero m e = h zero m e
-fit_set (x ∷ xs) (suc i) y h f (suc n) m e = fit_set xs i y (λ k w g. h (suc k) w g) f n m e
+pub fit_one : (n : ℕ) (f : Fate) (ms : List Message) → AreFit ms → AreFit (restood_one n f ms)
+fit_one n f ms fit k m e = go (slice_get ms k) refl
+  where
+    go : (o : Option Message) → slice_get ms k ≡ o → IsFit m
+    go None d = grind (arith, updated_same, updated_other)
+    go (Some x) d = let was = fit k x d in grind (arith, updated_same, updated_other)
+
+pub fit_restood : (ns : List ℕ) (f : Fate) (ms : List Message) → AreFit ms → AreFit (restood ns f ms)
+fit_restood [] f ms fit = fit
+fit_restood (n ∷ ns) f ms fit = fit_restood ns f (restood_one n f ms) (fit_one n f ms fit)
+
+-- the message that an index of this number reads
+pub read_there : (xs : List Message) (i : ℕ) (x : Message) → i < length xs → x ≡ get_or xs i x → slice_get xs i ≡ Some x
+read_there xs i x b e = slice_get_read xs _ i x refl b e
+
+pub restood_set : (xs : List Message) (i : ℕ) (x : Message) (fate : Fate) → slice_get xs i ≡ Some x → slice_set xs i (record { fate = fate; kind = x.kind; octets = x.octets }) ≡ restood_one i fate xs
+restood_set xs i x fate e = set_updated (with_fate fate) xs i x e
+
+pub ruleset restands = (read_there, restood_set, count_few)

@@ -6,7 +6,7 @@ use Rattle.set_queues.specs.declared.message.Message.{Message}
 use Rattle.set_queues.specs.Messages.{restood_one, restood, octets_in, octets_at, octets_of}
 use Rattle.set_queues.specs.Tally.{AreFit}
 use Rattle.set_queues.proofs.Updates.{updated_same, updated_other}
-use Rattle.set_queues.proofs.Standing.{take_get}
+use Rattle.set_queues.proofs.Standing.{take_get, fate_moves, fate_stays, length-restood}
 
 pub octets-append : (xs ys : List ℕ) (ms : List Message) → octets_of (xs ++ ys) ms ≡ octets_of xs ms + octets_of ys ms
 octets-append [] ys ms = omega arith
@@ -40,3 +40,8 @@ octets_stay ns (k ∷ ks) f ms = octets_stay ns ks f (restood_one k f ms) ∙ oc
 
 pub octets_more : (xs : List ℕ) (i n : ℕ) (ms : List Message) → slice_get xs i ≡ Some n → octets_of (take (i + 1) xs) ms ≡ octets_of (take i xs) ms + octets_at n ms
 octets_more xs i n ms e = omega (arith, ap (λ (ns : List ℕ). octets_of ns ms) (take_get xs i n e), octets-append (take i xs) (n ∷ []) ms)
+
+pub octets_kept : (n : ℕ) (ks : List ℕ) (f : Fate) (ms : List Message) → octets_at n (restood ks f ms) ≡ octets_at n ms
+octets_kept n ks f ms = omega (arith, octets_stay (n ∷ []) ks f ms)
+
+pub ruleset laws = (octets_kept, fate_moves, fate_stays, length-restood)

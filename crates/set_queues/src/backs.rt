@@ -6,6 +6,7 @@ use super::buffers::Buffers;
 use set_events::Fate;
 
 /// How many messages wait for a code of this home.
+#[tactic(auto, using(crate::proofs::CodeQueues::back_none, crate::proofs::CodeQueues::back_more, crate::proofs::CodeQueues::back_below))]
 pub(crate) fn count_back(buffers: &Buffers, home: u8) -> usize
     requires home { home < 16 }
     requires codes { length buffers.now.lists.back ≡ 256 }

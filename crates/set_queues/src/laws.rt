@@ -11,12 +11,14 @@ pub fn settling_moves_the_queues()
 
 /// Each number below the count stands in exactly one queue, or in none if its fate is final, and no
 /// other number in any.
+#[tactic(auto, using(crate::proofs::Standing::laws))]
 pub fn each_number_stands_once()
     ensures { EachNumberStandsOnce }
 {}
 
 /// A message that moves has its new fate, and every other keeps its own; none changes its octets, and
 /// none is lost.
+#[tactic(auto, using(crate::proofs::Weighing::laws))]
 pub fn fates_move_with_their_numbers()
     ensures { FatesMoveWithTheirNumbers }
 {}

@@ -105,6 +105,7 @@ impl Messages {
     }
 
     /// A new message; its number.
+    #[tactic(auto, using(crate::proofs::Tallies::count_few))]
     pub(crate) fn add(&mut self, message: Message) -> u64
         requires room { 0 < self.old.room }
         requires fit { IsFit message }
@@ -121,6 +122,7 @@ impl Messages {
     }
 
     /// The message of this number stands there from now on; the octets of its body.
+    #[tactic(auto, using(crate::proofs::Tallies::restands))]
     pub(crate) fn restand(&mut self, number: u64, fate: Fate) -> u16
         requires { number < length self.old.messages }
         ensures messages { self.new.messages ≡ restood_one number fate self.old.messages }

@@ -171,6 +171,7 @@ impl Queues {
 
     /// How many messages wait for the acknowledgement of a changeback of this home, 0 to 15: for one of
     /// the codes 16 * home to 16 * home + 15.
+    #[tactic(auto, using(crate::proofs::CodeQueues::back_few))]
     pub fn back_count(&self, home: u8) -> usize
         requires { home < 16 }
         ensures value { result ≡ back_count home self.now.lists }
@@ -418,6 +419,7 @@ impl Queues {
     /// waited, then those that were held, each in their order. It wants no memory.
     ///
     /// Conditions: links of the set, the target another one, with room for those that move.
+    #[tactic(auto, using(crate::proofs::Settling::settles))]
     pub fn settle(&mut self, link: u8, target: Option<u8>)
         requires known { link < length self.old.lists.links }
         requires other { IsKnown (fate_on target) self.old.lists }

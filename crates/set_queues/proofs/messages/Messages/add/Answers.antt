@@ -1,9 +1,5 @@
-use Rattle.std.proofs.Common.{rules}
-use Rattle.set_queues.proofs.Tallies.{tally_few, tally_push, fit_push}
+use Rattle.set_queues.proofs.Tallies.{tally_push, fit_push}
 use Rattle.set_queues.proofs.messages.Messages.add.Goals as goal
-
-pub enter-requires-clause-few : goal.enter-requires-clause-few
-enter-requires-clause-few c = tally_few c.self.inside.tally c.self.inside.messages.items c.self.invariant.tally (search rules)
 
 pub invariant_of-self : goal.invariant_of-self
 invariant_of-self c = record {
