@@ -9,13 +9,9 @@ use Rattle.set_events.specs.declared.answer.Fate.TheVariants.{Waiting, Unacked, 
 use Rattle.set_queues.specs.declared.message.Message.{Message}
 use Rattle.set_queues.specs.Messages.{updated, restood_one, restood}
 use Rattle.set_queues.specs.Buffers.{LinkLists, Lists, is_standing, same_fate, queue_at, with_queue, number_in, IsKnown, IsQueued, Rooms, CanTake, TakesRoom}
-use Rattle.set_queues.proofs.Updates.{length-updated, updated_same, updated_there, updated_other, updated_twice, updated_id, read_set}
-use Rattle.set_queues.proofs.Standing.{same_self, take_get, given_at, none_past, room_sum, append-nil, length-restood, restood-append}
-
-there : {X : Type 0} (xs : List X) (n : ℕ) → n < length xs → (x : X) × (slice_get xs n ≡ Some x)
-there [] n h = absurd (omega arith)
-there (x ∷ xs) zero h = (x, refl)
-there (x ∷ xs) (suc n) h = there xs n (omega arith)
+use Rattle.set_queues.proofs.Updates.{there, length-updated, updated_same, updated_there, updated_other, updated_twice, updated_id, read_set}
+use Rattle.std.proofs.lemmas.List.{append-nil}
+use Rattle.set_queues.proofs.Standing.{same_self, take_get, given_at, none_past, room_sum, length-restood, restood-append}
 
 pub list_kept : {Y : Type 0} (get : Option LinkLists → Y) (f : LinkLists → LinkLists) (ls : List LinkLists) (l k : ℕ) → ((o : Option LinkLists) → get (option_map f o) ≡ get o) → (b : Bool) → (l == k) ≡ b → get (slice_get (updated l f ls) k) ≡ get (slice_get ls k)
 list_kept get f ls l k e b t = grind (arith, updated_same, updated_other)

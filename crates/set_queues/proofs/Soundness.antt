@@ -145,25 +145,27 @@ added_tie q ms x tie k f s m = go (cases_eq (length ms) m) (tie f s m) (queue_an
 added_unacked : (q : Lists) (to : Fate) (n l : ℕ) → IsKnown to q → IsQueued to → queue_at (Unacked l) (with_queue to (queue_at to q ++ n ∷ []) q) ≡ queue_at (Unacked l) q
 added_unacked q to n l k u = queue_any to (Unacked l) (queue_at to q ++ n ∷ []) q refl k ∙ ap (λ (b : Bool). cond b (queue_at to q ++ n ∷ []) (queue_at (Unacked l) q)) (unqueued to l u)
 
-pub sound_added : (q : Lists) (ms : List Message) (x : Message) → AreSound q ms → IsFit x → IsKnown x.fate q → IsQueued x.fate → AreSound (with_queue x.fate (queue_at x.fate q ++ length ms ∷ []) q) (ms ++ x ∷ [])
-sound_added q ms x h fit k u = record {
-  one = omega (arith, h.one, (size_stays x.fate (queue_at x.fate q ++ length ms ∷ []) q).links);
-  few = omega (arith, h.few, (size_stays x.fate (queue_at x.fate q ++ length ms ∷ []) q).links);
-  codes = (size_stays x.fate (queue_at x.fate q ++ length ms ∷ []) q).back ∙ h.codes;
-  narrow = λ l. subst (λ (xs : List ℕ). length xs ≤ 127) (sym (added_unacked q x.fate (length ms) l k u)) (h.narrow l);
-  tied = added_tie q ms x h.tied k;
-  fit = fit_push ms x h.fit fit;
-}
-
 octets_push : (ns : List ℕ) (ms : List Message) (x : Message) → AreGiven ns ms → octets_of ns (ms ++ x ∷ []) ≡ octets_of ns ms
 octets_push [] ms x g = refl
 octets_push (n ∷ ns) ms x g = omega (arith, ap octets_in (push_other ms x n (λ e. omega (arith, g.0, e))), octets_push ns ms x g.1)
 
-pub weighed_added : (octets : List ℕ) (q : Lists) (ms : List Message) (x : Message) → AreSound q ms → IsKnown x.fate q → IsQueued x.fate → AreWeighed octets q ms → AreWeighed octets (with_queue x.fate (queue_at x.fate q ++ length ms ∷ []) q) (ms ++ x ∷ [])
-weighed_added octets q ms x h k u w l b =
-    w l (omega (arith, b, (size_stays x.fate (queue_at x.fate q ++ length ms ∷ []) q).links))
-    ∙ sym (octets_push (queue_at (Unacked l) q) ms x (given_all q ms (Unacked l) h refl))
-    ∙ sym (ap (λ (ns : List ℕ). octets_of ns (ms ++ x ∷ [])) (added_unacked q x.fate (length ms) l k u))
+pub kept_added : (s s' : Inside) (x : Message) → IsSound s → IsFit x → IsKnown x.fate s.buffers.lists → IsQueued x.fate → s'.buffers.lists ≡ with_queue x.fate (queue_at x.fate s.buffers.lists ++ length s.messages.messages ∷ []) s.buffers.lists → s'.messages.messages ≡ s.messages.messages ++ x ∷ [] → s'.octets ≡ s.octets → IsSound s'
+kept_added s s' x h fit k u e m o =
+    let q = s.buffers.lists in
+    let ms = s.messages.messages in
+    let n = length ms in
+    let size = size_stays x.fate (queue_at x.fate q ++ n ∷ []) q in
+    record {
+      sound = rw (e, m) (record {
+        one = omega (arith, h.sound.one, size.links);
+        few = omega (arith, h.sound.few, size.links);
+        codes = size.back ∙ h.sound.codes;
+        narrow = λ l. rw (added_unacked q x.fate n l k u) (h.sound.narrow l);
+        tied = added_tie q ms x h.sound.tied k;
+        fit = fit_push ms x h.sound.fit fit;
+      });
+      weighed = rw (e, m, o) (λ l b. rw (added_unacked q x.fate n l k u, octets_push (queue_at (Unacked l) q) ms x (given_all q ms (Unacked l) h.sound refl)) (h.weighed l (omega (arith, b, size.links))));
+    }
 
 -- NO MESSAGE
 
@@ -172,10 +174,10 @@ none_in list zero k e = refl
 none_in list (suc n) zero e = e
 none_in list (suc n) (suc k) e = none_in list n k e
 
-none_back : (n k : ℕ) → get_or {A = List ℕ} (replicate n []) k [] ≡ []
-none_back zero k = refl
-none_back (suc n) zero = refl
-none_back (suc n) (suc k) = none_back n k
+all_alike : {X : Type 0} (x : X) (n k : ℕ) → get_or (replicate n x) k x ≡ x
+all_alike x zero k = refl
+all_alike x (suc n) zero = refl
+all_alike x (suc n) (suc k) = all_alike x n k
 
 -- nothing stands in any queue
 pub record AreEmpty (q : Lists) (n codes : ℕ) : Type 0 where
@@ -184,27 +186,22 @@ pub record AreEmpty (q : Lists) (n codes : ℕ) : Type 0 where
   pub back : q.back ≡ replicate codes []
 
 empty_queue : (q : Lists) (n codes : ℕ) (f : Fate) → AreEmpty q n codes → queue_at f q ≡ []
-empty_queue q n codes f e = grind (arith, none_in, none_back)
+empty_queue q n codes f e = grind (arith, none_in, all_alike)
 
-pub sound_new : (q : Lists) (ms : List Message) (n : ℕ) → AreEmpty q n 256 → ms ≡ [] → 1 ≤ n → n ≤ 16 → AreSound q ms
-sound_new q ms n e m low high =
-    let size : length q.links ≡ n = ap length e.links ∙ length-replicate n (record { last = 127; unacked = []; unsent = []; held = [] }) in
+pub kept_new : (s : Inside) (n : ℕ) → AreEmpty s.buffers.lists n 256 → s.messages.messages ≡ [] → s.octets ≡ replicate 16 0 → 1 ≤ n → n ≤ 16 → IsSound s
+kept_new s n e m o low high =
+    let size : length s.buffers.lists.links ≡ n = ap length e.links ∙ length-replicate n (record { last = 127; unacked = []; unsent = []; held = [] }) in
     record {
-      one = omega arith;
-      few = omega arith;
-      codes = ap length e.back ∙ length-replicate {A = List ℕ} 256 [];
-      narrow = λ l. omega (arith, ap length (empty_queue q n 256 (Unacked l) e));
-      tied = λ f s i. rw (m, empty_queue q n 256 f e) refl;
-      fit = λ i x h. let no : slice_get [] i ≡ Some x = rw m at h in absurd (cc);
+      sound = record {
+        one = omega arith;
+        few = omega arith;
+        codes = ap length e.back ∙ length-replicate {A = List ℕ} 256 [];
+        narrow = λ l. omega (arith, ap length (empty_queue s.buffers.lists n 256 (Unacked l) e));
+        tied = λ f t i. rw (m, empty_queue s.buffers.lists n 256 f e) refl;
+        fit = λ i x h. let no : slice_get [] i ≡ Some x = rw m at h in absurd (cc);
+      };
+      weighed = λ l b. rw (o, empty_queue s.buffers.lists n 256 (Unacked l) e) (all_alike 0 16 l);
     }
-
-zero_at : (n l : ℕ) → slice_index (replicate n 0) l ≡ 0
-zero_at zero l = refl
-zero_at (suc n) zero = refl
-zero_at (suc n) (suc l) = zero_at n l
-
-pub weighed_new : (q : Lists) (ms : List Message) (n codes : ℕ) → AreEmpty q n codes → AreWeighed (replicate 16 0) q ms
-weighed_new q ms n codes e l h = zero_at 16 l ∙ sym (ap (λ (ns : List ℕ). octets_of ns ms) (empty_queue q n codes (Unacked l) e))
 
 -- THE FIRST THAT WAITS IS SENT
 

@@ -3,14 +3,16 @@ use Rattle.std.proofs.Common.{refl, arith, ◌≡◌, ◌∙◌, ap, subst, ◌+
 use Rattle.std.specs.Prelude.{slice_get}
 use Rattle.std.specs.Option.{option_map}
 use Rattle.std.proofs.lemmas.Bool.{eq-eqb, ne_eqb, cases_eq}
-use Rattle.std.proofs.lemmas.Option.{slice_get_within, slice_get_past}
+use Rattle.std.proofs.lemmas.Option.{slice_get_within, slice_get_past, slice_get-get_or, get_or_from_slice_get}
+use Rattle.std.proofs.lemmas.List.{take_all}
+use Rattle.std.proofs.lemmas.Grind.{take_at_read}
 use Rattle.set_events.specs.declared.answer.Fate.{Fate}
 use Rattle.set_queues.specs.declared.message.Message.{Message}
 use Rattle.set_queues.specs.Counts.{one_if}
 use Rattle.set_queues.specs.Messages.{with_fate, restood_one, restood, fate_at}
 use Rattle.set_queues.specs.Buffers.{Lists, is_standing, same_fate, queue_at}
 use Rattle.set_queues.specs.Queues.{occurs, has_fate, stands, AreTied, AreGiven}
-use Rattle.set_queues.proofs.Updates.{length-updated, updated_same, updated_other}
+use Rattle.set_queues.proofs.Updates.{there, length-updated, updated_same, updated_other}
 
 -- of a fate that isn't final
 pub same_is : (f g : Fate) → is_standing g ≡ true → same_fate f g ≡ true → f ≡ g
@@ -45,11 +47,6 @@ restood-append (x ∷ xs) ys f ms = restood-append xs ys f (restood_one x f ms)
 
 fate_of_one : (f : Fate) (o : Option Message) (m : Message) → o ≡ Some m → option_map (λ (x : Message). x.fate) (option_map (with_fate f) o) ≡ Some f
 fate_of_one f o m e = rw e refl
-
-there : {X : Type 0} (xs : List X) (n : ℕ) → n < length xs → (x : X) × (slice_get xs n ≡ Some x)
-there [] n h = absurd (omega arith)
-there (x ∷ xs) zero h = (x, refl)
-there (x ∷ xs) (suc n) h = there xs n (omega arith)
 
 pub fate_same : (n : ℕ) (f : Fate) (ms : List Message) → n < length ms → fate_at n (restood_one n f ms) ≡ Some f
 fate_same n f ms h =
@@ -115,13 +112,8 @@ given_queue q ms f tie s (n ∷ ns) within =
 
 -- the first so many, one after another
 
-take_suc : (xs : List ℕ) (i x : ℕ) → slice_get xs i ≡ Some x → take (suc i) xs ≡ take i xs ++ x ∷ []
-take_suc [] i x h = absurd (cc)
-take_suc (y ∷ xs) zero x h = let e : y ≡ x = cc in ap (λ (z : ℕ). z ∷ []) e
-take_suc (y ∷ xs) (suc i) x h = ap (λ (zs : List ℕ). y ∷ zs) (take_suc xs i x h)
-
 pub take_get : (xs : List ℕ) (i x : ℕ) → slice_get xs i ≡ Some x → take (i + 1) xs ≡ take i xs ++ x ∷ []
-take_get xs i x h = rw add-one (take_suc xs i x h)
+take_get xs i x h = rw (get_or_from_slice_get xs i x x h) at (take_at_read xs i x (slice_get_within xs i x h)).1
 
 pub given_at : (ns : List ℕ) (ms : List Message) (i n : ℕ) → AreGiven ns ms → slice_get ns i ≡ Some n → n < length ms
 given_at [] ms i n g e = absurd (cc)
@@ -129,22 +121,13 @@ given_at (x ∷ ns) ms zero n g e = let f : x ≡ n = cc in omega (arith, g.0)
 given_at (x ∷ ns) ms (suc i) n g e = given_at ns ms i n g.1 e
 
 pub none_past : (xs : List ℕ) (i : ℕ) → slice_get xs i ≡ None → i < length xs → ⊥
-none_past [] i e h = omega arith
-none_past (x ∷ xs) zero e h = absurd (cc)
-none_past (x ∷ xs) (suc i) e h = none_past xs i e (omega arith)
-
-pub append-nil : (xs : List ℕ) → xs ++ [] ≡ xs
-append-nil [] = refl
-append-nil (x ∷ xs) = ap (λ (ys : List ℕ). x ∷ ys) (append-nil xs)
+none_past xs i e h = let some = slice_get-get_or xs i 0 h in absurd (cc)
 
 pub room_sum : (b : Bool) (r0 r1 r2 i k : ℕ) → r0 ≤ r1 + cond b i 0 → r1 ≤ r2 + cond b k 0 → r0 ≤ r2 + cond b (i + k) 0
 room_sum b r0 r1 r2 i k g h = grind arith
 
 pub whole : (xs : List ℕ) (k : ℕ) → k ≡ length xs → take k xs ≡ xs
-whole [] zero e = refl
-whole [] (suc k) e = refl
-whole (x ∷ xs) zero e = absurd (omega arith)
-whole (x ∷ xs) (suc k) e = ap (λ (ys : List ℕ). x ∷ ys) (whole xs k (omega arith))
+whole xs k e = take_all k xs (omega (arith, e))
 
 pub apart : (f g : Fate) → is_standing g ≡ true → (f ≡ g → ⊥) → same_fate f g ≡ false
 apart f g s ne = grind arith

@@ -1,5 +1,8 @@
+use Rattle.std.proofs.Common.{◌∙◌, ap, length}
 use Rattle.set_events.specs.declared.answer.Fate.TheVariants.{Waiting, Unacked, Held}
-use Rattle.set_queues.proofs.Settling.{known_passed}
+use Rattle.set_queues.specs.Buffers.{Lists, queue_at, same_fate}
+use Rattle.set_queues.specs.Queues.{passed}
+use Rattle.set_queues.proofs.Settling.{IsAside, aside_of, known_passed, waits_on, held_last, on_length, rooms_three}
 use Rattle.set_queues.proofs.queues.Queues.settle.Goals as goal
 
 pub divert-requires-2-clause-known : goal.divert-requires-2-clause-known
@@ -17,3 +20,12 @@ pub divert-requires-3-clause-other : goal.divert-requires-3-clause-other
 divert-requires-3-clause-other c =
     known_passed c.fate_on-to.result (Waiting c.args.link) c.fate_on-to.result c.divert.new.self.lists _ c.divert-2.ensures.lists
     (known_passed c.fate_on-to.result (Unacked c.args.link) c.fate_on-to.result c.args.self.now.lists _ c.divert.ensures.lists (rw c.fate_on-to.ensures.value c.requires.other))
+
+pub returns-clause-rooms : goal.returns-clause-rooms
+returns-clause-rooms c =
+    let aside : IsAside c.args.link c.fate_on-to.result c.args.self.now.lists = aside_of c.args.target c.args.link _ c.args.self.now.lists c.fate_on-to.ensures.value c.requires.known c.requires.other c.requires.apart in
+    let waits = ap (λ (q : Lists). length (queue_at (Waiting c.args.link) q)) c.divert.ensures.lists ∙ ap length (waits_on c.args.link c.fate_on-to.result c.args.self.now.lists aside) in
+    let held = ap (λ (q : Lists). length (queue_at (Held c.args.link) q)) (c.divert-2.ensures.lists ∙ ap (passed (Waiting c.args.link) c.fate_on-to.result) c.divert.ensures.lists) ∙ ap length (held_last c.args.link c.fate_on-to.result c.args.self.now.lists aside) in
+    λ fate.
+    let three = rooms_three (same_fate c.fate_on-to.result fate) _ _ _ _ _ _ _ (c.divert.ensures.rooms fate) (c.divert-2.ensures.rooms fate) (c.divert-3.ensures.rooms fate) in
+    rw (← c.fate_on-to.ensures.value, on_length c.args.link c.args.self.now.lists) (rw (waits, held) at three)
