@@ -1,5 +1,5 @@
 -- The running counts of a list of messages, when one of them changes or joins.
-use Rattle.std.proofs.Common.{arith, ◌≡◌, subst, ◌+◌, ◌≤◌, ◌<◌, [], ◌∷◌, ◌++◌, length, ℕ, zero, suc, Bool, List, Option, Some, None}
+use Rattle.std.proofs.Common.{◌^◌, arith, ◌≡◌, subst, ◌+◌, ◌≤◌, ◌<◌, [], ◌∷◌, ◌++◌, length, ℕ, zero, suc, Bool, List, Option, Some, None}
 use Rattle.std.specs.Prelude.{filter, slice_get, slice_set}
 use Rattle.std.proofs.Common.{get_or, refl}
 use Rattle.std.proofs.lemmas.Option.{slice_get_read}
@@ -40,6 +40,9 @@ tally_in t xs n x h e = record {
   discarded = omega (arith, h.discarded, count_in (is_there was_discarded) xs n x e);
   unsent = λ s b. omega (arith, h.unsent s b, count_in (is_queued s) xs n x e);
 }
+
+pub tally_few : (t : Tally) (xs : List Message) → IsTally t xs → length xs < 2 ^ 63 → AreFew t
+tally_few t xs h few = grind (arith, count_few)
 
 -- one that left is fewer than a range's end
 pub fewer : (m : Message) (old new : Tally) → IsMore m old new → AreFew new → AreFew old
@@ -85,4 +88,4 @@ read_there xs i x b e = slice_get_read xs _ i x refl b e
 pub restood_set : (xs : List Message) (i : ℕ) (x : Message) (fate : Fate) → slice_get xs i ≡ Some x → slice_set xs i (record { fate = fate; kind = x.kind; octets = x.octets }) ≡ restood_one i fate xs
 restood_set xs i x fate e = set_updated (with_fate fate) xs i x e
 
-pub ruleset restands = (read_there, restood_set, count_few)
+pub ruleset restands = (read_there, restood_set)

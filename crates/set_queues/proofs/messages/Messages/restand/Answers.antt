@@ -1,10 +1,13 @@
-use Rattle.std.proofs.Common.{◌≡◌, Some}
+use Rattle.std.proofs.Common.{rules, ◌≡◌, Some}
 use Rattle.std.specs.Prelude.{slice_get}
-use Rattle.set_queues.proofs.Tallies.{read_there, restood_set, tally_in, tally_set, fit_one}
+use Rattle.set_queues.proofs.Tallies.{read_there, restood_set, tally_in, tally_few, fewer, tally_set, fit_one}
 use Rattle.set_queues.proofs.messages.Messages.restand.Goals as goal
 
 pub leave-requires-clause-among : goal.leave-requires-clause-among
 leave-requires-clause-among c = tally_in _ _ c.args.number _ c.self.invariant.tally (read_there _ c.args.number _ (rw (← c.self.view_is) at c.requires) c.index-was.ensures)
+
+pub enter-requires-clause-few : goal.enter-requires-clause-few
+enter-requires-clause-few c = fewer _ _ _ c.leave.ensures (tally_few c.self.inside.tally c.self.inside.messages.items c.self.invariant.tally (search rules))
 
 pub invariant_of-self : goal.invariant_of-self
 invariant_of-self c =

@@ -1,5 +1,5 @@
-use Rattle.std.proofs.Common.{refl, ◌∙◌, ap, [], ◌∷◌, ◌++◌, ℕ}
-use Rattle.set_queues.specs.Buffers.{IsKnown, queue_at, with_queue}
+use Rattle.std.proofs.Common.{refl}
+use Rattle.set_queues.specs.Buffers.{IsKnown}
 use Rattle.set_queues.proofs.Soundness.{kept_added}
 use Rattle.set_queues.proofs.queues.Queues.add.Goals as goal
 
