@@ -39,19 +39,13 @@ window_is k s n link w f there last unacked unsent =
 
 module _ (w v : WindowState) (is : w ≡ record v { room = w.room }) where
   pub choice_is : (o p : ℕ) (c d : Control) → o ≡ p → c ≡ d → choice_of o c w ≡ choice_of p d v
-  choice_is o p c d e f = ap (λ (x : WindowState). choice_of o c x) is ∙ choice_roomless o w.room c v ∙ ap (λ (i : ℕ). choice_of i c v) e ∙ ap (λ (x : Control). choice_of p x v) f
+  choice_is o p c d e f = cc (choice_roomless o w.room c v)
 
   pub after_is : (o p : ℕ) (choice : Choice) (c d : Control) → o ≡ p → c ≡ d → control_after choice o c w ≡ control_after choice p d v
-  after_is o p choice c d e f = ap (λ (x : WindowState). control_after choice o c x) is ∙ after_roomless o w.room choice c v ∙ ap (λ (i : ℕ). control_after choice i c v) e ∙ ap (λ (x : Control). control_after choice p x v) f
+  after_is o p choice c d e f = cc (after_roomless o w.room choice c v)
 
   pub head_is : (choice : Choice) (c d : Control) → c ≡ d → head_of c (fsn_of choice w) ≡ head_of d (fsn_of choice v)
-  head_is choice c d f = ap (λ (x : WindowState). head_of c (fsn_of choice x)) is ∙ ap (head_of c) (fsn_roomless w.room choice v) ∙ ap (λ (x : Control). head_of x (fsn_of choice v)) f
-
-  pub part_is : (c d : Control) (head : Header) (msu : Bool) → c ≡ d → part_of c w head msu ≡ part_of d v head msu
-  part_is c d head msu f = ap (λ (x : WindowState). part_of c x head msu) is ∙ part_roomless w.room c v head msu ∙ ap (λ (x : Control). part_of x v head msu) f
-
-  pub heard_is : (c d : Control) (head : Header) (msu : Bool) → c ≡ d → control_heard c w head msu ≡ control_heard d v head msu
-  heard_is c d head msu f = ap (λ (x : WindowState). control_heard c x head msu) is ∙ heard_roomless w.room c v head msu ∙ ap (λ (x : Control). control_heard x v head msu) f
+  head_is choice c d f = cc (fsn_roomless w.room choice v)
 
 -- The octets that are kept are the rows'.
 pub weighs : (k : Kept) (s : State) (n octets : ℕ) → Agrees k s → octets ≡ octets_of (queue_at (Unacked n) k.lists) k.messages → octets ≡ octets_in (unack n s.rows)

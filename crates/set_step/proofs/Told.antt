@@ -101,7 +101,7 @@ unfolding back_from
 same_from code zero old new k = refl
 same_from code (suc n) old new k =
     let rest = same_from code n old new k in
-    let last = ap length (k.backs (code + n)) in
+    let last = ap length (k.queues.backs (code + n)) in
     omega (arith, rest, last)
 
 same_back : (n : ℕ) (old new : Parts) → KeepsSpace old new → back_count n new.queues.lists ≡ back_count n old.queues.lists
@@ -109,15 +109,15 @@ same_back n old new k = same_from (16 * n) 16 old new k
 
 pub ready_still : (n orders : ℕ) (old new : Parts) → KeepsSpace old new → IsReady n orders old → IsReady n orders new
 ready_still n orders old new k r = record {
-  message = rw (k.message) r.message;
+  message = rw (k.queues.message) r.message;
   body = rw (k.bodies) r.body;
   place = subst (λ (o : Option ℕ). length (on n new.queues.lists) + orders + 2 * back_count n new.queues.lists ≤ room_at (fate_on o) new.queues.rooms) (sym (same_beside n old new k))
-      (let fewer = k.fewer n in let room = k.rooms (fate_on (target_beside n old.links.items)) in let enough = r.place in let back = same_back n old new k in omega (arith, fewer, room, enough, back));
+      (let fewer = k.queues.fewer n in let room = k.queues.rooms (fate_on (target_beside n old.links.items)) in let enough = r.place in let back = same_back n old new k in omega (arith, fewer, room, enough, back));
   each = λ link low.
       let had = r.each link (let many = as_many old new k in omega (arith, many, low)) in
       let back = same_back n old new k in
-      let w = k.rooms (Waiting link) in
-      let h = k.rooms (Held link) in
+      let w = k.queues.rooms (Waiting link) in
+      let h = k.queues.rooms (Held link) in
       let here = had.0 in
       let there = had.1 in
       (omega (arith, w, here, back), omega (arith, h, there, back));
@@ -141,12 +141,12 @@ spacious_still (Some order) old new k p = for_order order p
     for_order (Cbd link code) r =
         let same = same_target old.links.items new.links.items k.phases in
         subst (λ (o : Option ℕ). HasRoom (fate_on o) new) (sym same) (record {
-          message = rw (k.message) r.message;
+          message = rw (k.queues.message) r.message;
           body = rw (k.bodies) r.body;
-          place = let had = r.place in let more = k.rooms (fate_on (target (map link_kept old.links.items))) in omega (arith, had, more);
+          place = let had = r.place in let more = k.queues.rooms (fate_on (target (map link_kept old.links.items))) in omega (arith, had, more);
         })
     for_order (Cba link code) r = λ low.
         let had = r (let many = as_many old new k in omega (arith, many, low)) in
-        let more = k.rooms (Waiting (home_of code)) in
-        let same = ap length (k.backs code) in
+        let more = k.queues.rooms (Waiting (home_of code)) in
+        let same = ap length (k.queues.backs code) in
         omega (arith, had, more, same)

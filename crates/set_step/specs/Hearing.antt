@@ -1,14 +1,24 @@
 -- What a heard unit brings, and the space that it may want.
-use Rattle.std.specs.Prelude.{◌≡◌, ℕ, ◌==◌, ◌<◌, ◌≤◌, if◌then◌else◌, Option, Some, None, List, length, map}
+use Rattle.std.specs.Prelude.{◌≡◌, ℕ, Bool, ◌+◌, ◌==◌, ◌<◌, ◌≤◌, if◌then◌else◌, Option, Some, None, List, length, map, slice_get, slice_set}
 use Rattle.std.specs.VecDeque.{deque_len, deque_capacity}
 use Rattle.l2_units.specs.declared.unit.Unit.{Unit as SignalUnit}
 use Rattle.l2_units.specs.declared.unit.Unit.TheVariants.{Fisu, Lssu, Msu}
+use Rattle.l2_units.specs.declared.unit.Header.{Header}
+use Rattle.l2_window.specs.Window.{WindowState}
+use Rattle.l2_window.specs.declared.control.HeardPart.{HeardPart}
 use Rattle.l3_orders.specs.declared.order.Order.{Order}
 use Rattle.l3_orders.specs.Grammar.{order_of}
-use Rattle.set_events.specs.declared.answer.Fate.TheVariants.{Back}
-use Rattle.set_queues.specs.Buffers.{KeepsRoom, queue_at}
+use Rattle.set_events.specs.declared.answer.Fate.TheVariants.{Unacked, Acked, Back}
+use Rattle.set_queues.specs.Buffers.{Lists, KeepsRoom, queue_at}
+use Rattle.set_queues.specs.Queues.{QueuesState}
+use Rattle.set_queues.specs.Sending.{reach}
 use Rattle.set_queues.specs.Settling.{on}
-use Rattle.set_model.specs.Rows.{service_indicator}
+use Rattle.set_model.specs.Control.{control_heard}
+use Rattle.set_model.specs.Step.{one_if}
+use Rattle.set_moves.specs.declared.link.Link.{Link}
+use Rattle.set_model.specs.Rows.{is_unacked, service_indicator, turned}
+use Rattle.set_model.specs.State.{LinkState, State, with_link}
+use Rattle.set_moves.specs.Agreement.{Kept, StandsFor}
 use Rattle.set_moves.specs.declared.parts.Parts.{Parts}
 use Rattle.set_moves.specs.Room.{IsSpaciousFor}
 
@@ -34,12 +44,37 @@ abbrev pub IsSpacious : Option Order → Parts → Type 0
 IsSpacious None parts = Unit {0}
 IsSpacious (Some order) parts = IsSpaciousFor order parts
 
--- no room is taken, no more stands on a link than before, and no link changes its phase
+-- the link when its control heard, by the kept window, what this header tells
+abbrev pub counted_at : HeardPart → WindowState → Header → Bool → Link → Link
+counted_at part window head is_msu link = record link {
+  acked = link.acked + part.acked;
+  accepted = link.accepted + one_if part.accept;
+  control = control_heard link.control window head is_msu;
+}
+
+-- so many stand unacknowledged on the link up to this FSN
+pub record ReachesTo (fsn count number : ℕ) (q : Lists) : Type 0 where
+  pub count_is : count ≡ reach number fsn q
+  pub there : count ≤ length (queue_at (Unacked number) q)
+
+-- WHATEVER STATE the queues stand for beside the rest, so many are acknowledged of the link that counts them
+abbrev pub Acknowledges : ℕ → ℕ → QueuesState → QueuesState → Type 0
+Acknowledges count number old new =
+    (k : Kept) (s : State) (link counted : LinkState) → slice_get s.links number ≡ Some link
+    → counted.acked ≡ link.acked + count → StandsFor (record k { lists = old.lists; messages = old.messages }) s
+    → StandsFor (record k { lists = new.lists; messages = new.messages; links = slice_set s.links number counted })
+    (with_link number counted (record s { rows = turned (is_unacked number) (Acked number) count s.rows }))
+
+-- no room is taken, and no more stands on a link than before
+pub record KeepsQueues (old new : QueuesState) : Type 0 where
+  pub message : new.room ≡ old.room
+  pub rooms : KeepsRoom old.rooms new.rooms
+  pub fewer : (number : ℕ) → length (on number new.lists) ≤ length (on number old.lists)
+  pub backs : (code : ℕ) → queue_at (Back code) new.lists ≡ queue_at (Back code) old.lists
+
+-- nor is room taken beside them, and no link changes its phase
 pub record KeepsSpace (old new : Parts) : Type 0 where
-  pub message : new.queues.room ≡ old.queues.room
+  pub queues : KeepsQueues old.queues new.queues
   pub bodies : new.bodies ≡ old.bodies
-  pub rooms : KeepsRoom old.queues.rooms new.queues.rooms
-  pub fewer : (number : ℕ) → length (on number new.queues.lists) ≤ length (on number old.queues.lists)
   pub phases : map (λ link. link.phase) new.links.items ≡ map (λ link. link.phase) old.links.items
   pub inbox : new.inbox ≡ old.inbox
-  pub backs : (code : ℕ) → queue_at (Back code) new.queues.lists ≡ queue_at (Back code) old.queues.lists

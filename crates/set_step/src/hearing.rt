@@ -7,19 +7,19 @@ ghost use Rattle.set_model.specs.Control.{part_of};
 ghost use Rattle.set_model.specs.State.{State, window_of};
 ghost use Rattle.set_model.specs.Step.{in_service, heard, is_msu, brought, takes, after_control, report_of};
 ghost use Rattle.set_moves.specs.Agreement.{Agrees, Holds};
-ghost use Rattle.set_step.specs.Hearing.{HasPlace, IsSpacious, KeepsSpace, order_brought, message_brought};
-ghost use Rattle.set_moves.specs.Parts.{Answers, AreCounted, IsWhole, OfStates, BecomesAt, Obeys, kept_of};
+ghost use Rattle.set_step.specs.Hearing.{Acknowledges, HasPlace, IsSpacious, KeepsQueues, KeepsSpace, ReachesTo, counted_at, order_brought, message_brought};
+ghost use Rattle.set_moves.specs.Parts.{Answers, AreCounted, IsCounted, IsWhole, OfStates, BecomesAt, Obeys, kept_of};
 ghost use Rattle.set_moves.specs.Room.{IsReady, IsSpaciousFor, SameButRoom, back_at, home_room};
 
-use l2_units::{Unit, header_in};
-use l2_window::HeardPart;
+use l2_units::{Header, Unit, header_in};
+use l2_window::{HeardPart, Window};
 use l3_orders::{Order, read_order};
 use set_events::{Answer, Fate, Refusal, Report, Took};
 use set_moves::{
-    HeardBody, Parts, make_room, make_room_beside, obey, out_of_service, service_indicator,
+    HeardBody, Link, Parts, make_room, make_room_beside, obey, out_of_service, service_indicator,
     target_of,
 };
-use set_queues::fate_on;
+use set_queues::{Queues, fate_on};
 use set_route::home_of_code;
 use std::alloc::AllocError;
 
@@ -177,18 +177,41 @@ fn control_hears(parts: &mut Parts, number: u8, unit: &Unit) -> HeardPart
     ensures keeps { KeepsSpace parts.old parts.new }
 {
     let window = parts.queues.window(number);
-    let link = &mut parts.links[usize::from(number)];
     let head = header_in(unit);
-    let part = link.control.hear(window, head, has_message(unit));
+    let link = &mut parts.links[usize::from(number)];
+    let part = hear_at(link, window, head, has_message(unit));
+    acknowledge(&mut parts.queues, number, head.bsn, part.acked);
+    part
+}
+
+/// The link's control hears the unit, and the link counts.
+fn hear_at(link: &mut Link, window: &Window, head: Header, is_msu: bool) -> HeardPart
+    requires { IsCounted (2 ^ 60) link.old }
+    ensures part { result ≡ part_of link.old.control window.now head is_msu }
+    ensures link { link.new ≡ counted_at result window.now head is_msu link.old }
+    ensures counted { IsCounted (2 ^ 61) link.new }
+{
+    let part = link.control.hear(window, head, is_msu);
     link.acked += u64::from(part.acked);
     link.accepted += u64::from(part.accept);
-    if part.acked > 0 {
-        match parts.queues.acknowledge(number, head.bsn) {
-            Ok(_) => (),
-            Err(_) => unreachable!(),
-        }
-    }
     part
+}
+
+/// So many messages of the link are acknowledged, if any are: those up to this BSN.
+fn acknowledge(queues: &mut Queues, number: u8, bsn: u8, acked: u8)
+    requires known { number < length queues.old.lists.links }
+    requires bsn { bsn < 128 }
+    requires reach { 0 < acked → ReachesTo bsn acked number queues.old.lists }
+    ensures stands { Acknowledges acked number queues.old queues.new }
+    ensures keeps { KeepsQueues queues.old queues.new }
+{
+    if acked == 0 {
+        return;
+    }
+    match queues.acknowledge(number, bsn) {
+        Ok(_) => (),
+        Err(_) => unreachable!(),
+    }
 }
 
 /// Whether the unit is an MSU.
