@@ -6,4 +6,5 @@ pub mod Counting
 pub mod Fresh
 pub mod Heard
 pub mod Reading
+pub mod Refusals
 pub mod Told

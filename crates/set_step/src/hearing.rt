@@ -11,13 +11,13 @@ ghost use Rattle.set_step.specs.Hearing.{Acknowledges, HasPlace, IsSpacious, Kee
 ghost use Rattle.set_moves.specs.Parts.{Answers, AreCounted, IsCounted, IsWhole, OfStates, BecomesAt, Obeys, kept_of};
 ghost use Rattle.set_moves.specs.Room.{IsReady, IsSpaciousFor, SameButRoom, back_at, home_room};
 
+use super::admitting::unserved;
 use l2_units::{Header, Unit, header_in};
 use l2_window::{HeardPart, Window};
 use l3_orders::{Order, read_order};
 use set_events::{Answer, Fate, Refusal, Report, Took};
 use set_moves::{
-    HeardBody, Link, Parts, make_room, make_room_beside, obey, out_of_service, service_indicator,
-    target_of,
+    HeardBody, Link, Parts, make_room, make_room_beside, obey, service_indicator, target_of,
 };
 use set_queues::{Queues, fate_on};
 use set_route::home_of_code;
@@ -40,7 +40,7 @@ pub(crate) fn hear(
     ensures err { OnErr result (kept_of parts.new ≡ kept_of parts.old) }
     ensures none { is_msu unit.now ≡ false → IsOk result }
 {
-    if let Some(why) = out_of_service(&parts.links, number) {
+    if let Some(why) = unserved(parts, number) {
         *answer = Answer::Refused { why };
         return Ok(());
     }

@@ -10,18 +10,19 @@ ghost use Rattle.set_moves.specs.Agreement.{Agrees, Holds, StandsFor, rows_at};
 ghost use Rattle.set_moves.specs.Parts.{Answers, AnswersAt, OfAgreed, AgreedBecomes, kept_of};
 ghost use Rattle.set_step.specs.Sending.{IsThere, choice_in, goes_on};
 
+use super::admitting::unserved;
 use arrayvec::ArrayVec;
 use l2_units::{Header, LONGEST_BODY, Unit, body_of};
 use l2_window::Choice;
 use set_events::{Answer, Fate};
-use set_moves::{Parts, out_of_service};
+use set_moves::Parts;
 
 /// The next unit to send.
 pub(crate) fn send_next(parts: &mut Parts, number: u8, answer: &mut Answer)
     requires { Holds (kept_of parts.old) }
     ensures { Answers parts.old parts.new answer.new (λ s. in_service number s (next number s)) }
 {
-    if let Some(why) = out_of_service(&parts.links, number) {
+    if let Some(why) = unserved(parts, number) {
         *answer = Answer::Refused { why };
         return;
     }

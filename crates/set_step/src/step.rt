@@ -12,18 +12,19 @@ ghost use Rattle.set_model.specs.declared.phase.Phase.TheVariants.{Up, Settled};
 ghost use Rattle.set_moves.specs.Agreement.{Holds};
 ghost use Rattle.set_step.specs.Faults.{wants_none};
 ghost use Rattle.set_moves.specs.Parts.{Answers, AreCounted, Becomes, BecomesAt, AgreedBecomes, AtLink, link_of, kept_of};
-ghost use Rattle.set_moves.specs.Refusing.{refusal_by, rising_refusal, waiting_refusal};
+ghost use Rattle.set_moves.specs.Refusing.{refusal_by};
 ghost use Rattle.set_moves.specs.Room.{HasRoom, IsReady};
 
+use super::admitting::{unraised, unserved, unwaited};
 use super::hearing::hear;
 use super::sending::send_next;
 use l2_units::LONGEST_BODY;
 use l3_orders::Order;
 use set_events::{Answer, Body, Event, Fate, Refusal};
-use set_model::{Phase, Reached};
+use set_model::Reached;
 use set_moves::{
-    Link, Parts, fate_of_new, leave, make_room, make_room_beside, make_room_parked, out_of_service,
-    phase_of, queue, restore, service_indicator, settle, stand_last, stream_of_body, time_out,
+    Link, Parts, fate_of_new, leave, make_room, make_room_beside, make_room_parked, queue, restore,
+    service_indicator, settle, stand_last, stream_of_body, time_out,
 };
 use set_queues::Queues;
 use std::alloc::AllocError;
@@ -161,7 +162,7 @@ fn give_up(parts: &mut Parts, number: u8, answer: &mut Answer) -> Result<(), All
         (λ s. on_link number s (λ link. gives_up number s link link.phase))) }
     ensures err { OnErr result (kept_of parts.new ≡ kept_of parts.old) }
 {
-    if let Some(why) = out_of_waiting(&parts.links, number) {
+    if let Some(why) = unwaited(parts, number) {
         *answer = Answer::Refused { why };
         return Ok(());
     }
@@ -169,17 +170,6 @@ fn give_up(parts: &mut Parts, number: u8, answer: &mut Answer) -> Result<(), All
     settle(parts, number, Reached::Unanswered);
     *answer = Answer::Done;
     Ok(())
-}
-
-/// Why no answer is waited for on this link, if none is.
-fn out_of_waiting(links: &[Link], number: u8) -> Option<Refusal>
-    ensures { result ≡ waiting_refusal (slice_get links.now number) }
-{
-    match phase_of(links, number) {
-        None => Some(Refusal::NoSuchLink),
-        Some(Phase::Down) => None,
-        Some(Phase::Up | Phase::Settled) => Some(Refusal::Nothing),
-    }
 }
 
 /// The link is left, and an order tells the far end: a changeover order with the FSN last accepted,
@@ -196,7 +186,7 @@ fn take_down(
         (falls blind number s))) }
     ensures err { OnErr result (kept_of parts.new ≡ kept_of parts.old) }
 {
-    if let Some(why) = out_of_service(&parts.links, number) {
+    if let Some(why) = unserved(parts, number) {
         *answer = Answer::Refused { why };
         return Ok(());
     }
@@ -247,7 +237,7 @@ fn bring_up(parts: &mut Parts, number: u8, answer: &mut Answer) -> Result<(), Al
         (λ s. on_link number s (λ link. rises number s link.phase))) }
     ensures err { OnErr result (kept_of parts.new ≡ kept_of parts.old) }
 {
-    if let Some(why) = out_of_rising(&parts.links, number) {
+    if let Some(why) = unraised(parts, number) {
         *answer = Answer::Refused { why };
         return Ok(());
     }
@@ -273,18 +263,6 @@ fn rise(parts: &mut Parts, number: u8)
         .divert(Fate::Parked, Fate::Waiting { link: number });
     parts.links[usize::from(number)].rise(parts.config.method);
     parts.routes.raise(number);
-}
-
-/// Why a link can't come up, if it can't.
-fn out_of_rising(links: &[Link], number: u8) -> Option<Refusal>
-    ensures { result ≡ rising_refusal (slice_get links.now number) }
-{
-    match phase_of(links, number) {
-        None => Some(Refusal::NoSuchLink),
-        Some(Phase::Up) => Some(Refusal::NotDown),
-        Some(Phase::Down) => Some(Refusal::Unsettled),
-        Some(Phase::Settled) => None,
-    }
 }
 
 /// A law: the octets of a label tell one of 16 streams.
