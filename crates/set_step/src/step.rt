@@ -248,6 +248,7 @@ fn bring_up(parts: &mut Parts, number: u8, answer: &mut Answer) -> Result<(), Al
 }
 
 /// The settled link is in service from now on.
+#[tactic(auto, using(crate::proofs::Refusals::queue_there))]
 fn rise(parts: &mut Parts, number: u8)
     requires holds { Holds (kept_of parts.old) }
     requires known { number < length parts.old.links.items }

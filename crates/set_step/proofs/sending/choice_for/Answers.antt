@@ -15,9 +15,3 @@ returns-clause-chosen c = λ s link there a.
     let is = window_is k s n link c.window-window.result.now a.stands there c.window-window.ensures.last c.window-window.ensures.unacked c.window-window.ensures.unsent in
     let control = ap (λ (l : LinkState). l.control) (stands_for c.args.parts.now.links.items n c.from.result x c.from.ensures c.requires.known c.index.ensures s.links link a.stands.links there) in
     c.choice.ensures.value ∙ choice_is c.window-window.result.now (window_of n link s.rows) is c.octets-octets.result (octets_in (unack n s.rows)) x.control link.control (weighs k s n c.octets-octets.result a c.octets-octets.ensures) control
-
-pub window-window-requires : goal.window-window-requires
-window-window-requires c = let as_many = (whole_of c.args.parts.now c.requires.holds).as_many in let known = c.requires.known in omega (arith, as_many, known)
-
-pub octets-octets-requires : goal.octets-octets-requires
-octets-octets-requires c = let as_many = (whole_of c.args.parts.now c.requires.holds).as_many in let known = c.requires.known in omega (arith, as_many, known)

@@ -47,9 +47,3 @@ returns-clause-stands c = λ s link there a.
       routing_is = a.stands.routing;
       inbox_same = refl;
     })
-
-pub window-window-requires : goal.window-window-requires
-window-window-requires c = let as_many = (whole_of c.args.parts.now c.requires.holds).as_many in let known = c.requires.known in omega (arith, as_many, known)
-
-pub octets-octets-requires : goal.octets-octets-requires
-octets-octets-requires c = let as_many = (whole_of c.args.parts.now c.requires.holds).as_many in let known = c.requires.known in omega (arith, as_many, known)

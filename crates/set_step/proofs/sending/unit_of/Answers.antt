@@ -39,17 +39,8 @@ returns-in-Fill c = λ s link there a.
     (subst (λ choice. c.go_on-head-in-Fill.result ≡ head_of link.control (fsn_of choice (window_of n link s.rows))) c.in-Fill.is (c.go_on-head-in-Fill.ensures.head s link there a))
     (subst (λ choice. StandsFor (kept_of c.go_on-head-in-Fill.new.parts) (goes_on n choice link s)) c.in-Fill.is (c.go_on-head-in-Fill.ensures.stands s link there a))
 
-pub body_at-body-requires-clause-known : goal.body_at-body-requires-clause-known
-body_at-body-requires-clause-known c = let as_many = (whole_of c.args.parts.now c.requires.holds).as_many in let known = c.requires.known in omega (arith, as_many, known)
-
-pub body_at-body-requires-in-First-clause-known : goal.body_at-body-requires-in-First-clause-known
-body_at-body-requires-in-First-clause-known c = let as_many = (whole_of c.args.parts.now c.requires.holds).as_many in let known = c.requires.known in omega (arith, as_many, known)
-
 pub body_at-body-requires-in-First-clause-place : goal.body_at-body-requires-in-First-clause-place
 body_at-body-requires-in-First-clause-place c = let there : IsThere First c.args.number c.args.parts.now.queues.lists = rw c.in-First.is at c.choice_for-choice.ensures.there in there.0
-
-pub send_first-requires-clause-known : goal.send_first-requires-clause-known
-send_first-requires-clause-known c = rw c.go_on-head-in-First.ensures.queues (let as_many = (whole_of c.args.parts.now c.requires.holds).as_many in let known = c.requires.known in omega (arith, as_many, known))
 
 pub send_first-requires-clause-some : goal.send_first-requires-clause-some
 send_first-requires-clause-some c = let there : IsThere First c.args.number c.args.parts.now.queues.lists = rw c.in-First.is at c.choice_for-choice.ensures.there in rw c.go_on-head-in-First.ensures.queues there.0

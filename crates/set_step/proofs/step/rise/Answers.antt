@@ -15,7 +15,7 @@ use Rattle.set_moves.specs.declared.parts.Parts.{Parts}
 use Rattle.set_moves.specs.Agreement.{Holds}
 use Rattle.set_moves.specs.Parts.{AtLink, link_of, kept_of}
 use Rattle.set_moves.proofs.Becoming.{risen_then}
-use Rattle.set_moves.proofs.Rooms.{whole_of}
+use Rattle.set_step.proofs.Refusals.{queue_there}
 use Rattle.set_step.proofs.step.rise.Goals as goal
 
 -- nothing stands on a link that settled
@@ -33,11 +33,8 @@ reset-requires-clause-unacked c = (empty c.args.parts.now c.args.number c.requir
 pub reset-requires-clause-unsent : goal.reset-requires-clause-unsent
 reset-requires-clause-unsent c = (empty c.args.parts.now c.args.number c.requires.holds c.requires.known c.requires.settled).1
 
-low : (n a b : ℕ) → a ≡ b → n < b → n < a
-low n a b e h = omega (arith, e, h)
-
 pub divert-requires-clause-other : goal.divert-requires-clause-other
-divert-requires-clause-other c = low c.args.number _ _ (ap (λ (q : Lists). length q.links) c.reset.ensures.lists ∙ last_links c.args.number 127 c.args.parts.now.queues.lists ∙ (whole_of c.args.parts.now c.requires.holds).as_many) c.requires.known
+divert-requires-clause-other c = omega (arith, queue_there c.args.parts.now c.args.number c.requires.holds c.requires.known, ap (λ (q : Lists). length q.links) c.reset.ensures.lists, last_links c.args.number 127 c.args.parts.now.queues.lists)
 
 pub divert-requires-clause-room : goal.divert-requires-clause-room
 divert-requires-clause-room c =
@@ -61,6 +58,3 @@ returns c = record {
         inbox_same = refl;
       });
 }
-
-pub reset-requires-clause-known : goal.reset-requires-clause-known
-reset-requires-clause-known c = let as_many = (whole_of c.args.parts.now c.requires.holds).as_many in let known = c.requires.known in omega (arith, as_many, known)
