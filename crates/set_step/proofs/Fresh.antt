@@ -1,9 +1,9 @@
 -- A set of which nothing was asked, and what holds after each event.
-use Rattle.std.proofs.Common.{refl, arith, ◌≡◌, ◌∙◌, ap, sym, subst, ℕ, zero, suc, ◌^◌, ◌+◌, ◌%◌, List, [], map, slice_get, Some, Bool, cond}
+use Rattle.std.proofs.Common.{refl, arith, ◌≡◌, ◌∙◌, ap, sym, subst, ℕ, zero, suc, ◌^◌, ◌+◌, ◌%◌, List, [], map, slice_get, Some, None, Bool, cond, nat_lt, if◌then◌else◌}
 use Rattle.std.specs.Prelude.{replicate, slice_index_or}
 use Rattle.std.proofs.lemmas.List.{length-replicate}
-use Rattle.std.proofs.lemmas.Option.{same_Some}
 use Rattle.std.proofs.lemmas.Bool.{le-ltb}
+use Rattle.std.proofs.lemmas.Bool.Decides.{nat_tests}
 use Rattle.set_events.specs.declared.answer.Answer.{Answer}
 use Rattle.set_events.specs.declared.answer.Fate.{Fate}
 use Rattle.set_events.specs.declared.answer.Fate.TheVariants.{Waiting, Unacked, Acked, Held, Parked, Back, Discarded}
@@ -28,20 +28,19 @@ use Rattle.set_moves.specs.Parts.{Answers, AreCounted, kept_of, link_of}
 abbrev pub new_lists : LinkLists
 new_lists = record { last = 127; unacked = []; unsent = []; held = [] }
 
+replicated : {X : Type 0} (n k : ℕ) (x : X) → slice_get (replicate n x) k ≡ (if nat_lt k n then Some x else None)
+replicated zero k x = grind (arith, nat_tests)
+replicated (suc n) zero x = grind (arith, nat_tests)
+replicated (suc n) (suc k) x = grind (arith, nat_tests, replicated n k x)
+
 none_in : (list : LinkLists → List ℕ) (n k : ℕ) → list new_lists ≡ [] → list_in list (slice_get (replicate n new_lists) k) ≡ []
-none_in list zero k e = refl
-none_in list (suc n) zero e = e
-none_in list (suc n) (suc k) e = none_in list n k e
+none_in list n k e = grind (arith, nat_tests, replicated n k new_lists)
 
 fsn_in : (n k : ℕ) (link other : LinkState) → slice_get (replicate n link) k ≡ Some other → number_in (slice_get (replicate n new_lists) k) ≡ 127
-fsn_in zero k link other e = absurd cc
-fsn_in (suc n) zero link other e = refl
-fsn_in (suc n) (suc k) link other e = fsn_in n k link other e
+fsn_in n k link other e = grind (arith, nat_tests, replicated n k new_lists, replicated n k link)
 
 new_there : (n k : ℕ) (link other : LinkState) → slice_get (replicate n link) k ≡ Some other → other ≡ link
-new_there zero k link other e = absurd cc
-new_there (suc n) zero link other e = sym (same_Some link other e)
-new_there (suc n) (suc k) link other e = new_there n k link other e
+new_there n k link other e = grind (arith, nat_tests, replicated n k link)
 
 abbrev nothing : List ℕ
 nothing = []

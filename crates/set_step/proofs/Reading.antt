@@ -1,12 +1,11 @@
 -- What is read of a set: how many messages stand in each place, and the unacknowledged ones of a link.
-use Rattle.std.proofs.Common.{refl, arith, ◌≡◌, ◌∙◌, ap, sym, ℕ, zero, suc, ◌+◌, ◌%◌, ◌<◌, ◌≤◌, ◌&&◌, Bool, List, [], ◌∷◌, length, slice_get, Option, Some, None}
+use Rattle.std.proofs.Common.{refl, arith, ◌≡◌, ◌∙◌, ap, sym, ℕ, ◌+◌, ◌%◌, ◌<◌, ◌≤◌, ◌&&◌, Bool, List, [], ◌∷◌, length, slice_get, Option, Some, None}
 use Rattle.std.specs.Prelude.{filter}
 use Rattle.std.specs.Option.{option_map}
 use Rattle.std.proofs.lemmas.Option.{slice_get_past}
 use Rattle.std.proofs.lemmas.Bool.Decides.{nat_tests}
-use Rattle.set_events.specs.declared.answer.DiscardCause.{DiscardCause}
 use Rattle.set_events.specs.declared.answer.Fate.{Fate}
-use Rattle.set_events.specs.declared.answer.Fate.TheVariants.{Waiting, Unacked, Acked, Held, Parked, Back, Discarded}
+use Rattle.set_events.specs.declared.answer.Fate.TheVariants.{Unacked}
 use Rattle.set_queues.specs.declared.message.Message.{Message}
 use Rattle.set_queues.specs.Buffers.{Lists, queue_at, last_at}
 use Rattle.set_queues.specs.Counts.{waits, was_sent, was_acked, was_held, is_parked, stands_back, was_discarded}
@@ -15,7 +14,7 @@ use Rattle.set_queues.specs.Messages.{count_of, counts_of}
 use Rattle.set_model.specs.Rows.{Row, standing, users, numbers, unack, counts_of as counts_in, waits as waits_in, was_sent as was_sent_in, was_acked as was_acked_in, was_held as was_held_in, is_parked as is_parked_in, stands_back as stands_back_in, was_discarded as was_discarded_in}
 use Rattle.set_model.specs.State.{State, LinkState, unacked_of, unacked_in}
 use Rattle.set_model.specs.declared.numbered.Numbered.{Numbered}
-use Rattle.set_model.proofs.Lists.{map_at}
+use Rattle.set_model.proofs.Lists.{map_at, present}
 use Rattle.set_model.proofs.Lookups.{row_at_number}
 use Rattle.set_moves.specs.Agreement.{Kept, StandsFor, Stands, kind_of}
 use Rattle.set_step.proofs.Counting.{counted}
@@ -28,19 +27,15 @@ two_filters test like same (x ∷ rows) = grind (arith, two_filters test like sa
 in_place : (test like : Fate → Bool) → ((fate : Fate) → test fate ≡ like fate) → (q : Lists) (ms : List Message) (rows : List Row) → Stands q ms rows → count_of test ms ≡ length (standing like (users rows))
 in_place test like same q ms rows s = counted (λ l fate. is_users l.kind && test fate) q ms rows s ∙ two_filters test like same rows
 
--- tests that agree on each kind of fate agree
-same_test : (test like : Fate → Bool) → ((l : ℕ) → test (Waiting l) ≡ like (Waiting l)) → ((l : ℕ) → test (Unacked l) ≡ like (Unacked l)) → ((l : ℕ) → test (Acked l) ≡ like (Acked l)) → ((l : ℕ) → test (Held l) ≡ like (Held l)) → test Parked ≡ like Parked → ((c : ℕ) → test (Back c) ≡ like (Back c)) → ((c : DiscardCause) → test (Discarded c) ≡ like (Discarded c)) → (fate : Fate) → test fate ≡ like fate
-same_test test like w u a h p b d fate = grind arith
-
 pub counts_are : (q : Lists) (ms : List Message) (rows : List Row) → Stands q ms rows → counts_of ms ≡ counts_in rows
 counts_are q ms rows s =
-    let waiting : count_of waits ms ≡ length (standing waits_in (users rows)) = in_place waits waits_in (same_test waits waits_in (λ l. refl) (λ l. refl) (λ l. refl) (λ l. refl) refl (λ c. refl) (λ c. refl)) q ms rows s in
-    let unacked : count_of was_sent ms ≡ length (standing was_sent_in (users rows)) = in_place was_sent was_sent_in (same_test was_sent was_sent_in (λ l. refl) (λ l. refl) (λ l. refl) (λ l. refl) refl (λ c. refl) (λ c. refl)) q ms rows s in
-    let acked : count_of was_acked ms ≡ length (standing was_acked_in (users rows)) = in_place was_acked was_acked_in (same_test was_acked was_acked_in (λ l. refl) (λ l. refl) (λ l. refl) (λ l. refl) refl (λ c. refl) (λ c. refl)) q ms rows s in
-    let held : count_of was_held ms ≡ length (standing was_held_in (users rows)) = in_place was_held was_held_in (same_test was_held was_held_in (λ l. refl) (λ l. refl) (λ l. refl) (λ l. refl) refl (λ c. refl) (λ c. refl)) q ms rows s in
-    let parked : count_of is_parked ms ≡ length (standing is_parked_in (users rows)) = in_place is_parked is_parked_in (same_test is_parked is_parked_in (λ l. refl) (λ l. refl) (λ l. refl) (λ l. refl) refl (λ c. refl) (λ c. refl)) q ms rows s in
-    let back : count_of stands_back ms ≡ length (standing stands_back_in (users rows)) = in_place stands_back stands_back_in (same_test stands_back stands_back_in (λ l. refl) (λ l. refl) (λ l. refl) (λ l. refl) refl (λ c. refl) (λ c. refl)) q ms rows s in
-    let discarded : count_of was_discarded ms ≡ length (standing was_discarded_in (users rows)) = in_place was_discarded was_discarded_in (same_test was_discarded was_discarded_in (λ l. refl) (λ l. refl) (λ l. refl) (λ l. refl) refl (λ c. refl) (λ c. refl)) q ms rows s in
+    let waiting = in_place waits waits_in (λ fate. grind arith) q ms rows s in
+    let unacked = in_place was_sent was_sent_in (λ fate. grind arith) q ms rows s in
+    let acked = in_place was_acked was_acked_in (λ fate. grind arith) q ms rows s in
+    let held = in_place was_held was_held_in (λ fate. grind arith) q ms rows s in
+    let parked = in_place is_parked is_parked_in (λ fate. grind arith) q ms rows s in
+    let back = in_place stands_back stands_back_in (λ fate. grind arith) q ms rows s in
+    let discarded = in_place was_discarded was_discarded_in (λ fate. grind arith) q ms rows s in
     cc
 
 -- THE UNACKNOWLEDGED MESSAGES of a link
@@ -62,15 +57,9 @@ unacked_one k s n place number link st there at =
     ∙ ap (λ (i : ℕ). Some (numbered i ((link.acked + place) % 128))) r.2
     ∙ ap (λ (i : ℕ). Some (numbered number i)) fsn
 
--- the set has the link
-link_there : (links : List LinkState) (n : ℕ) → n < length links → (link : LinkState) × (slice_get links n ≡ Some link)
-link_there [] n low = absurd (omega (arith, low))
-link_there (x ∷ links) zero low = (x, refl)
-link_there (x ∷ links) (suc n) low = link_there links n (omega (arith, low))
-
 pub unacked_there : (k : Kept) (s : State) (n place number : ℕ) → StandsFor k s → n < length k.links → slice_get (queue_at (Unacked n) k.lists) place ≡ Some number → unacked_in s n place ≡ Some (numbered number ((last_at n k.lists + 1 + place) % 128))
 unacked_there k s n place number st low at =
-    let l = link_there s.links n (omega (arith, low, ap length st.links)) in
+    let l = present s.links n (omega (arith, low, ap length st.links)) in
     unacked_one k s n place number l.0 st l.1 at
 
 -- there is none at that place

@@ -31,6 +31,7 @@ use std::alloc::AllocError;
 
 /// What is answered to an event is put into `answer`: an answer has room for a unit, and one that is handed on by value is
 /// copied each time. On a fault nothing of the parts has changed.
+#[tactic(auto, using(crate::proofs::Carrying::may_want))]
 pub(crate) fn carry_out(
     parts: &mut Parts,
     event: &Event,

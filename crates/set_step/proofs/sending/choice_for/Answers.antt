@@ -1,5 +1,4 @@
-use Rattle.set_moves.proofs.Rooms.{whole_of}
-use Rattle.std.proofs.Common.{◌∙◌, ap, arith}
+use Rattle.std.proofs.Common.{◌∙◌, ap}
 use Rattle.set_model.specs.State.{LinkState, window_of}
 use Rattle.set_model.specs.Rows.{octets_in, unack}
 use Rattle.set_moves.specs.Parts.{kept_of}

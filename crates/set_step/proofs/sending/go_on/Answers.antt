@@ -1,5 +1,4 @@
-use Rattle.set_moves.proofs.Rooms.{whole_of}
-use Rattle.std.proofs.Common.{refl, ◌∙◌, ap, sym, slice_get, arith}
+use Rattle.std.proofs.Common.{refl, ◌∙◌, ap, sym, slice_get}
 use Rattle.set_model.specs.Control.{control_after}
 use Rattle.set_model.specs.Rows.{octets_in, unack}
 use Rattle.set_model.specs.State.{LinkState, window_of}

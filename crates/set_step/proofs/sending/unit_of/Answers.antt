@@ -1,13 +1,9 @@
-use Rattle.set_moves.proofs.Rooms.{whole_of}
-use Rattle.std.proofs.Common.{◌≡◌, subst, arith}
-use Rattle.l2_window.specs.Control.{fsn_of}
 use Rattle.l2_window.specs.declared.control.Choice.TheVariants.{First}
 use Rattle.set_events.specs.declared.answer.Fate.TheVariants.{Waiting, Unacked}
-use Rattle.set_model.specs.Control.{head_of, control_after}
+use Rattle.set_model.specs.Control.{control_after}
 use Rattle.set_model.specs.Rows.{octets_in, unack}
 use Rattle.set_model.specs.State.{window_of}
 use Rattle.set_model.proofs.Lists.{within, get_set_same}
-use Rattle.set_moves.specs.Agreement.{StandsFor}
 use Rattle.set_step.specs.Sending.{goes_on, IsThere}
 use Rattle.set_moves.specs.Parts.{kept_of}
 use Rattle.set_step.proofs.Bodies.{row_there}
@@ -16,9 +12,8 @@ use Rattle.set_step.proofs.sending.unit_of.Goals as goal
 
 pub returns-in-Again : goal.returns-in-Again
 returns-in-Again c = λ s link there a.
-    let n = c.args.number in
-    let row = row_there (kept_of c.args.parts.now) s a (Unacked n) c.in-Again.place c.in-Again.ensures.there in
-    again_given n link s c.go_on-head.new.parts c.go_on-head.result c.body_at-body.result c.in-Again.place row.0 (c.in-Again.ensures.chosen s link there a)
+    let row = row_there (kept_of c.args.parts.now) s a (Unacked c.args.number) c.in-Again.place c.in-Again.ensures.there in
+    again_given c.args.number link s c.go_on-head.new.parts c.go_on-head.result c.body_at-body.result row.0 c.in-Again.place (c.in-Again.ensures.chosen s link there a)
     (c.go_on-head.ensures.head s link there a) row.1 (c.body_at-body.ensures s row.0 a row.1)
     (c.go_on-head.ensures.stands s link there a)
 
@@ -27,17 +22,16 @@ returns-in-First c = λ s link there a.
     let n = c.args.number in
     let row = row_there (kept_of c.args.parts.now) s a (Waiting n) 0 c.in-First.ensures.there.0 in
     let link' = record link { control = control_after First (octets_in (unack n s.rows)) link.control (window_of n link s.rows) } in
-    let stands = subst (λ choice. StandsFor (kept_of c.go_on-head-in-First.new.parts) (goes_on n choice link s)) c.in-First.is (c.go_on-head-in-First.ensures.stands s link there a) in
+    let stands = rw c.in-First.is at (c.go_on-head-in-First.ensures.stands s link there a) in
     first_given n link s c.send_first.new.parts c.go_on-head-in-First.result c.body_at-body-in-First.result row.0 (c.in-First.ensures.chosen s link there a)
-    (subst (λ choice. c.go_on-head-in-First.result ≡ head_of link.control (fsn_of choice (window_of n link s.rows))) c.in-First.is (c.go_on-head-in-First.ensures.head s link there a)) row.1 (c.body_at-body-in-First.ensures s row.0 a row.1)
+    (rw c.in-First.is at (c.go_on-head-in-First.ensures.head s link there a)) row.1 (c.body_at-body-in-First.ensures s row.0 a row.1)
     (c.send_first.ensures (goes_on n First link s) link' (get_set_same s.links n link' (within s.links n link there)) stands (a.sound.links n link there).in_order)
 
 pub returns-in-Fill : goal.returns-in-Fill
 returns-in-Fill c = λ s link there a.
-    let n = c.args.number in
-    fill_given n link s c.go_on-head-in-Fill.new.parts c.go_on-head-in-Fill.result (c.in-Fill.ensures.chosen s link there a)
-    (subst (λ choice. c.go_on-head-in-Fill.result ≡ head_of link.control (fsn_of choice (window_of n link s.rows))) c.in-Fill.is (c.go_on-head-in-Fill.ensures.head s link there a))
-    (subst (λ choice. StandsFor (kept_of c.go_on-head-in-Fill.new.parts) (goes_on n choice link s)) c.in-Fill.is (c.go_on-head-in-Fill.ensures.stands s link there a))
+    fill_given c.args.number link s c.go_on-head-in-Fill.new.parts c.go_on-head-in-Fill.result (c.in-Fill.ensures.chosen s link there a)
+    (rw c.in-Fill.is at (c.go_on-head-in-Fill.ensures.head s link there a))
+    (rw c.in-Fill.is at (c.go_on-head-in-Fill.ensures.stands s link there a))
 
 pub body_at-body-requires-in-First-clause-place : goal.body_at-body-requires-in-First-clause-place
 body_at-body-requires-in-First-clause-place c = let there : IsThere First c.args.number c.args.parts.now.queues.lists = rw c.in-First.is at c.choice_for-choice.ensures.there in there.0
