@@ -82,6 +82,10 @@ module _ (blind : Bool) (n : ℕ) (link : LinkState) (s : State) (at : IsAt n li
       (down_sound s.settings.method n (left_link blind link) s.rows refl refl l.window l.counted l.method l.in_order l.held_last)
       (λ k d. untouched_self k s.rows) t.links
 
+  -- a link that is up was so before
+  before : (k : ℕ) (other : LinkState) → slice_get mid.links k ≡ Some other → has_phase_up other.phase ≡ true → (old : LinkState) × (slice_get s.links k ≡ Some old) × (has_phase_up old.phase ≡ true)
+  before = up_before s.links n link (left_link blind link) at.there (λ e. absurd cc)
+
   off : (k : ℕ) (f : Fate) → is_back_to n f ≡ true → is_on k f ≡ false
   off k f e = back_not_on k f (home_back n f e)
 
@@ -115,18 +119,27 @@ module _ (blind : Bool) (n : ℕ) (link : LinkState) (s : State) (at : IsAt n li
       on_same : has_phase_settled other.phase ≡ true → on k new ≡ on k s.rows
       on_same e = moved_more (is_back_to n) (is_on k) fate s.rows (off k) ∙ ap (λ (xs : List Row). on k s.rows ++ xs) (gone (is_on k) (away e)) ∙ append-nil (on k s.rows)
 
-  left_parked : parked new ≡ parked s.rows
-  left_parked = grind (arith, moved_more, gone)
+  left_parked : (k : ℕ) (other : LinkState) → slice_get mid.links k ≡ Some other → has_phase_up other.phase ≡ true → parked new ≡ []
+  left_parked k other there up = let old = before k other there up in same ∙ t.none_aside k old.0 old.1 old.2
+    where
+      same : parked new ≡ parked s.rows
+      same = grind (arith, moved_more, gone)
 
-  left_placed : (place : Place) → IsPlaced s.links place → IsPlaced mid.links (place_left n place)
-  left_placed Nowhere p = tt
-  left_placed (On l) p = placed_set s.links n link (left_link blind link) (On l) at.there refl p
-  left_placed (Changing to code via) p =
-      let there = placed_set s.links n link (left_link blind link) (On via) at.there refl p in
-      cond_both (to == n) (On via) (Changing to code via) (IsPlaced mid.links) (λ e. there) (λ e. there)
+  left_placed : (k : ℕ) → k < 16 → IsPlaced mid.links (place_of k mid.routing)
+  left_placed k few = rw ((alone s.routing k t.routing few).left_place n) (go (place_of k s.routing) (t.placed k few))
+    where
+      go : (place : Place) → IsPlaced s.links place → IsPlaced mid.links (place_left n place)
+      go Nowhere p = tt
+      go (On l) p = placed_set s.links n link (left_link blind link) (On l) at.there refl p
+      go (Changing to code via) p =
+          let there = placed_set s.links n link (left_link blind link) (On via) at.there refl p in
+          cond_both (to == n) (On via) (Changing to code via) (IsPlaced mid.links) (λ e. there) (λ e. there)
 
-  left_runs : (place : Place) → place ≢ Nowhere → place_left n place ≢ Nowhere
-  left_runs place d e = grind arith
+  left_runs : (j : ℕ) (other : LinkState) → slice_get mid.links j ≡ Some other → has_phase_up other.phase ≡ true → (k : ℕ) → k < 16 → place_of k mid.routing ≢ Nowhere
+  left_runs j other there up k few = let old = before j other there up in rw ((alone s.routing k t.routing few).left_place n) (go (place_of k s.routing) (t.all_run j old.0 old.1 old.2 k few))
+    where
+      go : (place : Place) → place ≢ Nowhere → place_left n place ≢ Nowhere
+      go place d e = grind arith
 
   -- an open code that stays open has another home
   still_open : (code : ℕ) (c : Code) → code_left n code c ≡ Asked → (c ≡ Asked) × ((home_of code == n) ≡ false)
@@ -153,23 +166,7 @@ module _ (blind : Bool) (n : ℕ) (link : LinkState) (s : State) (at : IsAt n li
   left_order = rw left_back (ascends_filter (λ (row : Row). not (is_back_to n row.fate)) (back s.rows) t.back_order)
 
   pub leaves : IsSound (left_by blind n link s)
-  leaves =
-      let before = up_before s.links n link (left_link blind link) at.there (λ e. absurd cc) in
-      record {
-        managed = t.managed;
-        routing = left_sound n s.routing t.routing;
-        routed = t.routed;
-        count = length-set s.links n (left_link blind link) ∙ t.count;
-        numbered = moved_numbered (is_back_to n) fate s.rows t.numbered;
-        fit = moved_fit (is_back_to n) fate s.rows t.fit;
-        links = left_link_sound;
-        placed = λ k few. rw ((alone s.routing k t.routing few).left_place n) (left_placed (place_of k s.routing) (t.placed k few));
-        none_aside = λ k other there up. let old = before k other there up in left_parked ∙ t.none_aside k old.0 old.1 old.2;
-        all_run = λ j other there up k few e. let old = before j other there up in left_runs (place_of k s.routing) (t.all_run j old.0 old.1 old.2 k few) (sym ((alone s.routing k t.routing few).left_place n) ∙ e);
-        homes_up = left_homes;
-        backs = left_backs;
-        back_order = left_order;
-      }
+  leaves = search (left_sound, length-set, moved_numbered, moved_fit, left_link_sound, left_placed, left_parked, left_runs, left_homes, left_backs, left_order)
 
 -- A DECLARATION.
 -- the link that it goes out on is up
@@ -195,11 +192,11 @@ module _ (home alternative : ℕ) (s : State) (up : is_up home s ≡ true) (may 
   alternative_below : alternative < s.routing.links
   alternative_below = below alternative (ap link_is_up there.1 ∙ there.2)
 
-  place_asked : (away : Bool) (place : Place) → IsPlaced s.links place → IsPlaced s.links (if away then Changing home (code_for home alternative) alternative else place)
-  place_asked away place p = grind arith
+  asked_placed : (k : ℕ) → k < 16 → IsPlaced s.links (place_of k runs)
+  asked_placed k few = rw ((alone s.routing k t.routing few).asked_place home alternative) (cond_both ((k % s.routing.links == home) && runs_on alternative (place_of k s.routing)) _ _ (IsPlaced s.links) (λ e. (there.0, there.1, up_unsettled there.0.phase there.2)) (λ e. t.placed k few))
 
-  asked_runs : (away : Bool) (place : Place) → place ≢ Nowhere → (if away then Changing home (code_for home alternative) alternative else place) ≢ Nowhere
-  asked_runs away place d e = grind arith
+  asked_run : (n : ℕ) (link : LinkState) → slice_get s.links n ≡ Some link → has_phase_up link.phase ≡ true → (k : ℕ) → k < 16 → place_of k runs ≢ Nowhere
+  asked_run n link at rising k few = rw ((alone s.routing k t.routing few).asked_place home alternative) (cond_both ((k % s.routing.links == home) && runs_on alternative (place_of k s.routing)) _ _ (λ (p : Place). p ≢ Nowhere) (λ e d. absurd cc) (λ e. t.all_run n link at rising k few))
 
   asked_homes : (code : ℕ) → code_of code runs ≡ Asked → is_up (home_of code) s ≡ true
   asked_homes code e = go (code == code_for home alternative) refl
@@ -224,21 +221,7 @@ module _ (home alternative : ℕ) (s : State) (up : is_up home s ≡ true) (may 
       still k place code via e = rw (e, and_false (k % s.routing.links == home) false refl) refl
 
   pub declares : IsSound (declared home alternative s)
-  declares = record {
-    managed = t.managed;
-    routing = asked_sound home alternative s.routing home_below alternative_below t.routing;
-    routed = t.routed;
-    count = t.count;
-    numbered = numbered_appended s.rows body (Waiting alternative) t.numbered;
-    fit = fit_appended s.rows body (Waiting alternative) t.fit (order_fits (Cbd home (code_for home alternative)) s);
-    links = link_appended s body t (Waiting alternative) there;
-    placed = λ k few. rw ((alone s.routing k t.routing few).asked_place home alternative) (place_asked ((k % s.routing.links == home) && runs_on alternative (place_of k s.routing)) (place_of k s.routing) (t.placed k few));
-    none_aside = none_parked s body t (Waiting alternative) there;
-    all_run = λ n link at rising k few e. asked_runs ((k % s.routing.links == home) && runs_on alternative (place_of k s.routing)) (place_of k s.routing) (t.all_run n link at rising k few) (sym ((alone s.routing k t.routing few).asked_place home alternative) ∙ e);
-    homes_up = asked_homes;
-    backs = backs_appended runs s.rows body (Waiting alternative) refl asked_backs;
-    back_order = back_appended runs s.rows body (Waiting alternative) refl t.back_order;
-  }
+  declares = search (asked_sound, home_below, alternative_below, numbered_appended, fit_appended, order_fits, link_appended, there, asked_placed, none_parked, asked_run, asked_homes, backs_appended, asked_backs, back_appended)
 
 -- WHAT STOOD BACK WAITS FOR ITS HOME.
 module _ (code : ℕ) (s : State) (t : IsSound s) where
@@ -276,16 +259,22 @@ module _ (code : ℕ) (s : State) (t : IsSound s) where
       go false down = subst (λ (rows : List Row). IsSoundLink s.settings.method k other rows) (sym (none_back down)) (t.links k other there)
       go true up = ⊎_elim (at_home up) (λ e. link_untouched s.settings.method k other s.rows gone_rows (r.others k e) (t.links k other there)) (cases_Bool (home == k))
 
-  back_placed : (k : ℕ) → k < 16 → (place : Place) → place_of k s.routing ≡ place → IsPlaced s.links place → IsPlaced s.links (place_back code place)
-  back_placed k few Nowhere e p = tt
-  back_placed k few (On l) e p = p
-  back_placed k few (Changing to c via) e p =
-      let coded = coded_at s.routing k t.routing to c via e in
-      let l = up_link to s (ap (λ (j : ℕ). is_up j s) (sym coded.0) ∙ t.homes_up c coded.1) in
-      cond_both (c == code) (On to) (Changing to c via) (IsPlaced s.links) (λ f. (l.0, l.1, up_unsettled l.0.phase l.2)) (λ f. p)
+  back_placed : (k : ℕ) → k < 16 → IsPlaced s.links (place_of k (given_back code s.routing))
+  back_placed k few = rw ((alone s.routing k t.routing few).back_place code) (go (place_of k s.routing) refl (t.placed k few))
+    where
+      go : (place : Place) → place_of k s.routing ≡ place → IsPlaced s.links place → IsPlaced s.links (place_back code place)
+      go Nowhere e p = tt
+      go (On l) e p = p
+      go (Changing to c via) e p =
+          let coded = coded_at s.routing k t.routing to c via e in
+          let l = up_link to s (ap (λ (j : ℕ). is_up j s) (sym coded.0) ∙ t.homes_up c coded.1) in
+          cond_both (c == code) (On to) (Changing to c via) (IsPlaced s.links) (λ f. (l.0, l.1, up_unsettled l.0.phase l.2)) (λ f. p)
 
-  back_runs : (place : Place) → place ≢ Nowhere → place_back code place ≢ Nowhere
-  back_runs place d e = grind arith
+  back_runs : (n : ℕ) (link : LinkState) → slice_get s.links n ≡ Some link → has_phase_up link.phase ≡ true → (k : ℕ) → k < 16 → place_of k (given_back code s.routing) ≢ Nowhere
+  back_runs n link at up k few = rw ((alone s.routing k t.routing few).back_place code) (go (place_of k s.routing) (t.all_run n link at up k few))
+    where
+      go : (place : Place) → place ≢ Nowhere → place_back code place ≢ Nowhere
+      go place d e = grind arith
 
   back_homes : (c : ℕ) → code_of c (given_back code s.routing) ≡ Asked → is_up (home_of c) s ≡ true
   back_homes c e = go (c == code) refl
@@ -312,18 +301,4 @@ module _ (code : ℕ) (s : State) (t : IsSound s) where
   back_numbers = rw back_after (ascends_filter (λ (row : Row). not (is_back code row.fate)) (back s.rows) t.back_order)
 
   pub releases : IsSound (released code s)
-  releases = record {
-    managed = t.managed;
-    routing = back_sound code s.routing t.routing;
-    routed = t.routed;
-    count = t.count;
-    numbered = moved_numbered (is_back code) (all_with (Waiting home)) s.rows t.numbered;
-    fit = moved_fit (is_back code) (all_with (Waiting home)) s.rows t.fit;
-    links = back_links;
-    placed = λ k few. rw ((alone s.routing k t.routing few).back_place code) (back_placed k few (place_of k s.routing) refl (t.placed k few));
-    none_aside = λ k other at up. r.parked_same ∙ t.none_aside k other at up;
-    all_run = λ j other at up k few e. back_runs (place_of k s.routing) (t.all_run j other at up k few) (sym ((alone s.routing k t.routing few).back_place code) ∙ e);
-    homes_up = back_homes;
-    backs = back_backs;
-    back_order = back_numbers;
-  }
+  releases = search (back_sound, moved_numbered, moved_fit, back_links, back_placed, r.parked_same, t.none_aside, back_runs, back_homes, back_backs, back_numbers)
