@@ -126,20 +126,10 @@ module _ (blind : Bool) (n : ℕ) (link : LinkState) (s : State) (at : IsAt n li
       same = grind (arith, moved_more, gone)
 
   left_placed : (k : ℕ) → k < 16 → IsPlaced mid.links (place_of k mid.routing)
-  left_placed k few = rw ((alone s.routing k t.routing few).left_place n) (go (place_of k s.routing) (t.placed k few))
-    where
-      go : (place : Place) → IsPlaced s.links place → IsPlaced mid.links (place_left n place)
-      go Nowhere p = tt
-      go (On l) p = placed_set s.links n link (left_link blind link) (On l) at.there refl p
-      go (Changing to code via) p =
-          let there = placed_set s.links n link (left_link blind link) (On via) at.there refl p in
-          cond_both (to == n) (On via) (Changing to code via) (IsPlaced mid.links) (λ e. there) (λ e. there)
+  left_placed k few = let stays = placed_set s.links n link (left_link blind link) (place_of k s.routing) at.there refl (t.placed k few) in rw ((alone s.routing k t.routing few).left_place n) (grind (arith, stays))
 
   left_runs : (j : ℕ) (other : LinkState) → slice_get mid.links j ≡ Some other → has_phase_up other.phase ≡ true → (k : ℕ) → k < 16 → place_of k mid.routing ≢ Nowhere
-  left_runs j other there up k few = let old = before j other there up in rw ((alone s.routing k t.routing few).left_place n) (go (place_of k s.routing) (t.all_run j old.0 old.1 old.2 k few))
-    where
-      go : (place : Place) → place ≢ Nowhere → place_left n place ≢ Nowhere
-      go place d e = grind arith
+  left_runs j other there up k few e = let old = before j other there up in t.all_run j old.0 old.1 old.2 k few (grind (arith, (alone s.routing k t.routing few).left_place n))
 
   -- an open code that stays open has another home
   still_open : (code : ℕ) (c : Code) → code_left n code c ≡ Asked → (c ≡ Asked) × ((home_of code == n) ≡ false)
@@ -271,10 +261,7 @@ module _ (code : ℕ) (s : State) (t : IsSound s) where
           cond_both (c == code) (On to) (Changing to c via) (IsPlaced s.links) (λ f. (l.0, l.1, up_unsettled l.0.phase l.2)) (λ f. p)
 
   back_runs : (n : ℕ) (link : LinkState) → slice_get s.links n ≡ Some link → has_phase_up link.phase ≡ true → (k : ℕ) → k < 16 → place_of k (given_back code s.routing) ≢ Nowhere
-  back_runs n link at up k few = rw ((alone s.routing k t.routing few).back_place code) (go (place_of k s.routing) (t.all_run n link at up k few))
-    where
-      go : (place : Place) → place ≢ Nowhere → place_back code place ≢ Nowhere
-      go place d e = grind arith
+  back_runs n link at up k few = let runs = t.all_run n link at up k few in rw ((alone s.routing k t.routing few).back_place code) (grind (arith, runs))
 
   back_homes : (c : ℕ) → code_of c (given_back code s.routing) ≡ Asked → is_up (home_of c) s ≡ true
   back_homes c e = go (c == code) refl

@@ -6,13 +6,14 @@ use Rattle.set_events.specs.declared.answer.Fate.TheVariants.{Waiting}
 use Rattle.set_events.specs.declared.config.Method.{Method}
 use Rattle.set_route.specs.declared.place.Place.{Place}
 use Rattle.set_route.specs.declared.place.Place.TheVariants.{On, Changing, Nowhere}
-use Rattle.set_route.specs.Routing.{place_of, has_messages, home_of, raised, settled, place_raised, place_settled, place_on, via_settled}
+use Rattle.set_route.specs.declared.place.Code.TheVariants.{Asked}
+use Rattle.set_route.specs.Routing.{code_of, place_of, has_messages, home_of, raised, settled, place_raised, place_settled, place_on, via_settled}
 use Rattle.set_route.proofs.Alone.{alone}
 use Rattle.set_route.proofs.Places.{raised_sound, settled_sound}
 use Rattle.set_model.specs.declared.phase.Phase.TheVariants.{Down, Settled}
 use Rattle.set_model.specs.Rows.{Row, is_on, is_parked, stands_back, unack, on, back, parked, numbers, moved, all_with}
 use Rattle.set_model.specs.Control.{accepted_of, start_of}
-use Rattle.set_model.specs.State.{LinkState, State, link_is_up, has_phase_up, has_phase_settled, target}
+use Rattle.set_model.specs.State.{LinkState, State, is_up, link_is_up, has_phase_up, has_phase_settled, target}
 use Rattle.set_model.specs.Changeover.{fate_on, settled_link, moved_over}
 use Rattle.set_model.specs.Step.{risen_link, rises}
 use Rattle.set_model.specs.Sound.{IsOf, IsInRange, IsSoundLink, IsPlaced, IsAscending, AreBack, IsSound}
@@ -36,9 +37,6 @@ start_method m = grind arith
 
 pub start_range : (m : Method) (count : ℕ) → IsInRange (start_of m) count
 start_range m count = grind arith
-
-raised_runs : (n home : ℕ) (used : Bool) (place : Place) → place_raised n home used place ≢ Nowhere
-raised_runs n home used place e = grind arith
 
 module _ (n : ℕ) (link : LinkState) (s : State) (at : IsAt n link Settled s) (t : IsSound s) where
   abbrev new : List Row
@@ -68,10 +66,11 @@ module _ (n : ℕ) (link : LinkState) (s : State) (at : IsAt n link Settled s) (
   risen_there : IsPlaced (slice_set s.links n risen) (On n)
   risen_there = (risen, get_set_same s.links n risen (within s.links n link at.there), refl)
 
-  place_risen : (home : ℕ) (used : Bool) (place : Place) → IsPlaced s.links place → IsPlaced (slice_set s.links n risen) (place_raised n home used place)
-  place_risen home used Nowhere p = risen_there
-  place_risen home used (Changing to code via) p = placed_set s.links n link risen (Changing to code via) at.there refl p
-  place_risen home used (On l) p = cond_both ((home == n) && not used) (On n) (On l) (IsPlaced (slice_set s.links n risen)) (λ e. risen_there) (λ e. placed_set s.links n link risen (On l) at.there refl p)
+  risen_placed : (k : ℕ) → k < 16 → IsPlaced (slice_set s.links n risen) (place_of k (raised n s.routing))
+  risen_placed k few = let stays = placed_set s.links n link risen (place_of k s.routing) at.there refl (t.placed k few) in rw ((alone s.routing k t.routing few).raised_place n) (grind (arith, stays, risen_there))
+
+  risen_runs : (j : ℕ) (other : LinkState) → slice_get (slice_set s.links n risen) j ≡ Some other → has_phase_up other.phase ≡ true → (k : ℕ) → k < 16 → place_of k (raised n s.routing) ≢ Nowhere
+  risen_runs j other there up k few = rw ((alone s.routing k t.routing few).raised_place n) (grind arith)
 
   risen_back : back new ≡ back s.rows
   risen_back = moved_same is_parked stands_back (all_with (Waiting n)) s.rows (λ x. refl) parked_not_back
@@ -84,24 +83,10 @@ module _ (n : ℕ) (link : LinkState) (s : State) (at : IsAt n link Settled s) (
   pub rises_sound : IsSound (rises n s Settled).state
   rises_sound =
       let u = unparked n s.rows in
+      let links = links_set s.settings.method s.links n risen s.rows new risen_one u.others t.links in
       let below = within s.links n link at.there in
-      let links = t.count in
-      let routed = t.routed in
-      record {
-        managed = t.managed;
-        routing = raised_sound n s.routing (omega (arith, below, links, routed)) t.routing;
-        routed = t.routed;
-        count = length-set s.links n risen ∙ t.count;
-        numbered = u.kept.numbered t.numbered;
-        fit = u.kept.fit t.fit;
-        links = links_set s.settings.method s.links n risen s.rows new risen_one u.others t.links;
-        placed = λ k few. rw ((alone s.routing k t.routing few).raised_place n) (place_risen (k % s.routing.links) (has_messages k s.routing) (place_of k s.routing) (t.placed k few));
-        none_aside = λ k other there up. u.parked_none;
-        all_run = λ j other there up k few e. raised_runs n (k % s.routing.links) (has_messages k s.routing) (place_of k s.routing) (sym ((alone s.routing k t.routing few).raised_place n) ∙ e);
-        homes_up = λ code e. up_after s.links n link risen at.there (λ up. refl) (home_of code) (t.homes_up code e);
-        backs = risen_backs;
-        back_order = subst (λ (rows : List Row). IsAscending (numbers rows)) (sym risen_back) t.back_order;
-      }
+      let known : n < s.routing.links = omega (arith, below, t.count, t.routed) in
+      search (raised_sound, length-set, u.kept.numbered, u.kept.fit, risen_placed, risen_runs, up_after, t.homes_up, risen_backs, risen_back)
 
 -- A LINK IS LEFT BY ITS MESSAGES.
 module _ (n : ℕ) (link : LinkState) (s : State) (at : IsAt n link Down s) (t : IsSound s) where
