@@ -1,6 +1,7 @@
 -- WHAT HOLDS OF EVERY STATE is kept when a link is left, and by a changeback.
 use Rattle.std.proofs.Common.{⊎_elim, refl, arith, ◌≡◌, ◌≢◌, ◌∙◌, ap, sym, subst, ◌<◌, ℕ, ◌%◌, ◌==◌, Bool, true, false, not, ◌&&◌, List, [], ◌++◌, slice_get, Some, if◌then◌else◌, map}
 use Rattle.std.proofs.lemmas.Bool.{eqb-true, eqb-false, and_parts, and_right as and_false, cond-true, cond-false, cond_both, cases_Bool}
+use Rattle.std.proofs.lemmas.Bool.Decides.{nat_tests}
 use Rattle.std.proofs.lemmas.List.{length-set, append-nil}
 use Rattle.l3_orders.specs.declared.order.Order.TheVariants.{Cbd}
 use Rattle.l3_orders.specs.Grammar.{text}
@@ -138,8 +139,7 @@ module _ (blind : Bool) (n : ℕ) (link : LinkState) (s : State) (at : IsAt n li
   left_homes : (code : ℕ) → code_of code mid.routing ≡ Asked → is_up (home_of code) mid ≡ true
   left_homes code e =
       let below = in_use_below mid.routing (left_sound n s.routing t.routing) code e in
-      let stays = still_open code (code_of code s.routing) (sym ((codes_alone s.routing code t.routing below).left_code n) ∙ e) in
-      ap link_is_up (get_set_other s.links n (home_of code) (left_link blind link) (λ same. eqb-false (home_of code) n stays.1 (sym same))) ∙ t.homes_up code stays.0
+      grind (arith, nat_tests, (codes_alone s.routing code t.routing below).left_code n, t.homes_up code, get_set_other)
 
   left_back : back new ≡ standing (λ f. not (is_back_to n f)) (back s.rows)
   left_back = moved_off (is_back_to n) stands_back fate s.rows (gone stands_back (λ via p. on_either mid stands_back via refl refl))
@@ -183,26 +183,17 @@ module _ (home alternative : ℕ) (s : State) (up : is_up home s ≡ true) (may 
   alternative_below = below alternative (ap link_is_up there.1 ∙ there.2)
 
   asked_placed : (k : ℕ) → k < 16 → IsPlaced s.links (place_of k runs)
-  asked_placed k few = rw ((alone s.routing k t.routing few).asked_place home alternative) (cond_both ((k % s.routing.links == home) && runs_on alternative (place_of k s.routing)) _ _ (IsPlaced s.links) (λ e. (there.0, there.1, up_unsettled there.0.phase there.2)) (λ e. t.placed k few))
+  asked_placed k few = let p = t.placed k few in rw ((alone s.routing k t.routing few).asked_place home alternative) (grind (arith, p, there, up_unsettled))
 
   asked_run : (n : ℕ) (link : LinkState) → slice_get s.links n ≡ Some link → has_phase_up link.phase ≡ true → (k : ℕ) → k < 16 → place_of k runs ≢ Nowhere
-  asked_run n link at rising k few = rw ((alone s.routing k t.routing few).asked_place home alternative) (cond_both ((k % s.routing.links == home) && runs_on alternative (place_of k s.routing)) _ _ (λ (p : Place). p ≢ Nowhere) (λ e d. absurd cc) (λ e. t.all_run n link at rising k few))
+  asked_run n link at rising k few = let runs = t.all_run n link at rising k few in rw ((alone s.routing k t.routing few).asked_place home alternative) (grind (arith, runs))
 
   asked_homes : (code : ℕ) → code_of code runs ≡ Asked → is_up (home_of code) s ≡ true
-  asked_homes code e = go (code == code_for home alternative) refl
-    where
-      few : s.routing.links < 17
-      few = let most = t.routing.at_most_16 in omega (arith, most)
-
-      in_range : code < 256
-      in_range = in_use_below runs (asked_sound home alternative s.routing home_below alternative_below t.routing) code e
-
-      is : code_of code runs ≡ (if code == code_for home alternative then Asked else code_of code s.routing)
-      is = (codes_alone s.routing code t.routing in_range).asked_code home alternative (omega (arith, few, home_below)) (omega (arith, few, alternative_below))
-
-      go : (b : Bool) → (code == code_for home alternative) ≡ b → is_up (home_of code) s ≡ true
-      go true f = grind (arith, eqb-true, alternative_below)
-      go false f = t.homes_up code (sym (is ∙ cond-false (code == code_for home alternative) Asked (code_of code s.routing) f) ∙ e)
+  asked_homes code e =
+      let few : s.routing.links < 17 = let most = t.routing.at_most_16 in omega (arith, most) in
+      let below = in_use_below runs (asked_sound home alternative s.routing home_below alternative_below t.routing) code e in
+      let is = (codes_alone s.routing code t.routing below).asked_code home alternative (omega (arith, few, home_below)) (omega (arith, few, alternative_below)) in
+      grind (arith, nat_tests, is, up, few, alternative_below, t.homes_up code)
 
   asked_backs : AreBack runs s.rows
   asked_backs = backs_kept (λ code. Unit {0}) s.routing runs (λ k few code via of e. (via, (alone s.routing k t.routing few).asked_place home alternative ∙ still k (place_of k s.routing) code via e)) (λ code. tt) s.rows t.backs
@@ -264,14 +255,7 @@ module _ (code : ℕ) (s : State) (t : IsSound s) where
   back_runs n link at up k few = let runs = t.all_run n link at up k few in rw ((alone s.routing k t.routing few).back_place code) (grind (arith, runs))
 
   back_homes : (c : ℕ) → code_of c (given_back code s.routing) ≡ Asked → is_up (home_of c) s ≡ true
-  back_homes c e = go (c == code) refl
-    where
-      is : code_of c (given_back code s.routing) ≡ (if c == code then Free else code_of c s.routing)
-      is = (codes_alone s.routing c t.routing (in_use_below (given_back code s.routing) (back_sound code s.routing t.routing) c e)).back_code code
-
-      go : (b : Bool) → (c == code) ≡ b → is_up (home_of c) s ≡ true
-      go true f = let no : Asked ≡ Free = sym e ∙ is ∙ cond-true (c == code) Free (code_of c s.routing) f in absurd cc
-      go false f = t.homes_up c (sym (is ∙ cond-false (c == code) Free (code_of c s.routing) f) ∙ e)
+  back_homes c e = grind (arith, nat_tests, (codes_alone s.routing c t.routing (in_use_below (given_back code s.routing) (back_sound code s.routing t.routing) c e)).back_code code, t.homes_up c)
 
   back_after : back gone_rows ≡ standing (λ f. not (is_back code f)) (back s.rows)
   back_after = moved_off (is_back code) stands_back (all_with (Waiting home)) s.rows (fated_none stands_back (all_with (Waiting home)) (λ x. refl) (standing (is_back code) s.rows))
