@@ -93,16 +93,9 @@ module _ (blind : Bool) (n : ℕ) (link : LinkState) (s : State) (at : IsAt n li
   left_link_sound : (k : ℕ) (other : LinkState) → slice_get mid.links k ≡ Some other → IsSoundLink s.settings.method k other new
   left_link_sound k other there =
       let l = mid_links k other there in
-      record {
-        window = rw unack_same l.window;
-        counted = l.counted;
-        method = l.method;
-        in_order = order_moved k (is_back_to n) fate s.rows (λ x. offered_out k _ mid) l.in_order;
-        held_last = last (has_phase_up other.phase) refl;
-        none_held = λ e. held_same e ∙ l.none_held e;
-        in_range = λ e. rw unack_same (l.in_range e);
-        settled = λ e. on_same e ∙ l.settled e;
-      }
+      let order = order_moved k (is_back_to n) fate s.rows (λ x. offered_out k _ mid) l.in_order in
+      let held_last = last (has_phase_up other.phase) refl in
+      search (unack_same, held_same, on_same, l.none_held, l.in_range, l.settled)
     where
       unack_same : unack k new ≡ unack k s.rows
       unack_same = moved_same (is_back_to n) (is_unacked k) fate s.rows (λ x. offered_out k _ mid) (λ f e. not_on_unacked k f (off k f e))
@@ -114,11 +107,8 @@ module _ (blind : Bool) (n : ℕ) (link : LinkState) (s : State) (at : IsAt n li
       last true e = last_none k new (held_same e ∙ (mid_links k other there).none_held e)
       last false e = last_moved k (is_back_to n) fate s.rows (λ x. offered_out k _ mid) (λ x. down_not_waiting mid k (ap link_is_up there ∙ e) _) (mid_links k other there).held_last
 
-      away : has_phase_settled other.phase ≡ true → (via : ℕ) → IsPlaced mid.links (On via) → is_on k (fate_at (On via) mid) ≡ false
-      away e via p = grind arith
-
       on_same : has_phase_settled other.phase ≡ true → on k new ≡ on k s.rows
-      on_same e = moved_more (is_back_to n) (is_on k) fate s.rows (off k) ∙ ap (λ (xs : List Row). on k s.rows ++ xs) (gone (is_on k) (away e)) ∙ append-nil (on k s.rows)
+      on_same e = grind (arith, moved_more, gone, append-nil, off)
 
   left_parked : (k : ℕ) (other : LinkState) → slice_get mid.links k ≡ Some other → has_phase_up other.phase ≡ true → parked new ≡ []
   left_parked k other there up = let old = before k other there up in same ∙ t.none_aside k old.0 old.1 old.2
@@ -131,10 +121,6 @@ module _ (blind : Bool) (n : ℕ) (link : LinkState) (s : State) (at : IsAt n li
 
   left_runs : (j : ℕ) (other : LinkState) → slice_get mid.links j ≡ Some other → has_phase_up other.phase ≡ true → (k : ℕ) → k < 16 → place_of k mid.routing ≢ Nowhere
   left_runs j other there up k few e = let old = before j other there up in t.all_run j old.0 old.1 old.2 k few (grind (arith, (alone s.routing k t.routing few).left_place n))
-
-  -- an open code that stays open has another home
-  still_open : (code : ℕ) (c : Code) → code_left n code c ≡ Asked → (c ≡ Asked) × ((home_of code == n) ≡ false)
-  still_open code c e = grind arith
 
   left_homes : (code : ℕ) → code_of code mid.routing ≡ Asked → is_up (home_of code) mid ≡ true
   left_homes code e =
@@ -266,7 +252,7 @@ module _ (code : ℕ) (s : State) (t : IsSound s) where
       (subst (AreBack (given_back code s.routing)) (sym back_after) (each_left (is_back code) (λ row. IsBackOf s.routing row row.fate) (λ row. IsBackOf (given_back code s.routing) row row.fate) stays (back s.rows) (each_filter (λ row. IsBackOf s.routing row row.fate) (λ row. stands_back row.fate) s.rows t.backs)))
     where
       stays : (x : Row) → is_back code x.fate ≡ false → IsBackOf s.routing x x.fate → IsBackOf (given_back code s.routing) x x.fate
-      stays x e b = stood (λ c. (c == code) ≡ false) s.routing (given_back code s.routing) (λ k few c via of f. (via, (alone s.routing k t.routing few).back_place code ∙ ap (place_back code) f ∙ cond-false (c == code) (On (home_of c)) (Changing (home_of c) c via) of)) x x.fate (λ c f. sym (ap (is_back code) f) ∙ e) b
+      stays x e b = stood (λ c. (c == code) ≡ false) s.routing (given_back code s.routing) (λ k few c via of f. (via, rw ((alone s.routing k t.routing few).back_place code, f, of) refl)) x x.fate (λ c f. sym (ap (is_back code) f) ∙ e) b
 
   back_numbers : IsAscending (numbers (back gone_rows))
   back_numbers = rw back_after (ascends_filter (λ (row : Row). not (is_back code row.fate)) (back s.rows) t.back_order)
