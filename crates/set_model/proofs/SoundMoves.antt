@@ -103,16 +103,8 @@ module _ (n : ℕ) (link : LinkState) (s : State) (at : IsAt n link Down s) (t :
   settled_one : (to : Option ℕ) → Left n (fate_on to) s.rows (off_to to) → IsSoundLink s.settings.method n (settled_link link) (off_to to)
   settled_one to m =
       let l = t.links n link at.there in
-      record {
-        window = rw m.unack_none (omega arith);
-        counted = l.counted;
-        method = l.method;
-        in_order = m.in_order;
-        held_last = m.held_last;
-        none_held = λ e. absurd cc;
-        in_range = λ e. absurd cc;
-        settled = λ e. m.on_none;
-      }
+      let none = m.unack_none in
+      grind arith
 
   -- what a link sees of it
   link_left : (to : Option ℕ) → target s.links ≡ to → (k : ℕ) (other : LinkState) → slice_get (slice_set s.links n (settled_link link)) k ≡ Some other → IsSoundLink s.settings.method k other (off_to to)
@@ -137,12 +129,8 @@ module _ (n : ℕ) (link : LinkState) (s : State) (at : IsAt n link Down s) (t :
   -- a stream on its way back has a home that is up, so there is a target
   home_up : (k : ℕ) → k < 16 → (to code via : ℕ) → place_of k s.routing ≡ Changing to code via → target s.links ≡ None → ⊥
   home_up k few to code via e none =
-      let coded = coded_at s.routing k t.routing to code via e in
-      no_up (home_of code) (slice_get s.links (home_of code)) refl (t.homes_up code coded.1)
-    where
-      no_up : (h : ℕ) (o : Option LinkState) → slice_get s.links h ≡ o → link_is_up (slice_get s.links h) ≡ true → ⊥
-      no_up h None f up = let no : true ≡ false = sym up ∙ ap link_is_up f in cc
-      no_up h (Some other) f up = false_true (has_phase_up other.phase) (none_up s.links h other none f) (ap link_is_up (sym f) ∙ up)
+      let up = t.homes_up code (coded_at s.routing k t.routing to code via e).1 in
+      grind (arith, none_up)
 
   on_target : (to : Option ℕ) → target s.links ≡ to → IsPlaced (slice_set s.links n (settled_link link)) (place_on to)
   on_target None e = tt
@@ -157,46 +145,41 @@ module _ (n : ℕ) (link : LinkState) (s : State) (at : IsAt n link Down s) (t :
   place_left (Some r) e (Changing home code via) some p = cond_both (via == n) r via (λ (k : ℕ). IsPlaced (slice_set s.links n (settled_link link)) (On k)) (λ f. on_target (Some r) e) (λ f. on_other via f p)
   place_left to e (On l) some p = cond_both (l == n) (place_on to) (On l) (IsPlaced (slice_set s.links n (settled_link link))) (λ f. on_target to e) (λ f. on_other l f p)
 
-  -- while a link is up there is a target
-  runs_left : (to : Option ℕ) → (to ≡ None → ⊥) → (place : Place) → place ≢ Nowhere → place_settled n to place ≢ Nowhere
-  runs_left to some place d e = grind arith
-
-  parked_left : (to : Option ℕ) → (to ≡ None → ⊥) → target s.links ≡ to → parked (off_to to) ≡ parked s.rows
-  parked_left None some e = absurd (some refl)
-  parked_left (Some to) some e = (moved_to n to s.rows (not_target to e)).parked_same
-
-  below_links : (to : Option ℕ) → target s.links ≡ to → IfSome to (λ r. r < s.routing.links)
-  below_links to e = grind (arith, target_up, within)
-
   target_not_back : (to : Option ℕ) → stands_back (fate_on to) ≡ false
   target_not_back to = grind arith
 
-  back_left : (to : Option ℕ) → back (off_to to) ≡ back s.rows
-  back_left to = moved_same (is_on n) stands_back (all_with (fate_on to)) s.rows (λ x. target_not_back to) (on_not_back n)
+  below_links : IfSome (target s.links) (λ r. r < s.routing.links)
+  below_links = grind (arith, target_up, within)
 
-  left_backs : (to : Option ℕ) → AreBack (settled n to s.routing) (off_to to)
-  left_backs to =
-      backs_same (settled n to s.routing) s.rows (off_to to) (back_left to)
-      (backs_kept (λ code. Unit {0}) s.routing (settled n to s.routing) (λ k few code via of e. (via_settled n to via, (alone s.routing k t.routing few).settled_place n to ∙ ap (place_settled n to) e)) (λ code. tt) s.rows t.backs)
+  back_left : back (off_to (target s.links)) ≡ back s.rows
+  back_left = moved_same (is_on n) stands_back (all_with (fate_on (target s.links))) s.rows (λ x. target_not_back (target s.links)) (on_not_back n)
+
+  left_backs : AreBack (settled n (target s.links) s.routing) (off_to (target s.links))
+  left_backs =
+      backs_same (settled n (target s.links) s.routing) s.rows (off_to (target s.links)) back_left
+      (backs_kept (λ code. Unit {0}) s.routing (settled n (target s.links) s.routing) (λ k few code via of e. (via_settled n (target s.links) via, (alone s.routing k t.routing few).settled_place n (target s.links) ∙ ap (place_settled n (target s.links)) e)) (λ code. tt) s.rows t.backs)
+
+  left_placed : (k : ℕ) → k < 16 → IsPlaced (slice_set s.links n (settled_link link)) (place_of k (settled n (target s.links) s.routing))
+  left_placed k few = rw ((alone s.routing k t.routing few).settled_place n (target s.links)) (place_left (target s.links) refl (place_of k s.routing) (λ home code via e. home_up k few home code via e) (t.placed k few))
+
+  -- while a link is up there is a target
+  before : (k : ℕ) (other : LinkState) → slice_get (slice_set s.links n (settled_link link)) k ≡ Some other → has_phase_up other.phase ≡ true → (parked s.rows ≡ []) × (target s.links ≢ None) × ((j : ℕ) → j < 16 → place_of j s.routing ≢ Nowhere)
+  before k other here up =
+      let old = up_before s.links n link (settled_link link) at.there (λ e. absurd cc) k other here up in
+      (t.none_aside k old.0 old.1 old.2, (λ e. false_true (has_phase_up old.0.phase) (none_up s.links k old.0 e old.1) old.2), t.all_run k old.0 old.1 old.2)
+
+  left_parked : (k : ℕ) (other : LinkState) → slice_get (slice_set s.links n (settled_link link)) k ≡ Some other → has_phase_up other.phase ≡ true → parked (off_to (target s.links)) ≡ []
+  left_parked k other here up = let b = before k other here up in same (target s.links) b.1 refl ∙ b.0
+    where
+      same : (to : Option ℕ) → to ≢ None → target s.links ≡ to → parked (off_to to) ≡ parked s.rows
+      same None some e = absurd (some refl)
+      same (Some to) some e = (moved_to n to s.rows (not_target to e)).parked_same
+
+  left_runs : (j : ℕ) (other : LinkState) → slice_get (slice_set s.links n (settled_link link)) j ≡ Some other → has_phase_up other.phase ≡ true → (k : ℕ) → k < 16 → place_of k (settled n (target s.links) s.routing) ≢ Nowhere
+  left_runs j other here up k few = let b = before j other here up in let runs = b.2 k few in rw ((alone s.routing k t.routing few).settled_place n (target s.links)) (grind (arith, runs))
 
   pub moves_off_sound : IsSound (moved_over n link s)
   moves_off_sound =
-      let to = target s.links in
-      let before = up_before s.links n link (settled_link link) at.there (λ e. absurd cc) in
-      let some = λ (k : ℕ) (other : LinkState) (at : slice_get (slice_set s.links n (settled_link link)) k ≡ Some other) (up : has_phase_up other.phase ≡ true) (e : target s.links ≡ None).
-      let old = before k other at up in false_true (has_phase_up old.0.phase) (none_up s.links k old.0 e old.1) old.2 in
-      record {
-        managed = t.managed;
-        routing = settled_sound n to s.routing (below_links to refl) t.routing;
-        routed = t.routed;
-        count = length-set s.links n (settled_link link) ∙ t.count;
-        numbered = moved_numbered (is_on n) (all_with (fate_on to)) s.rows t.numbered;
-        fit = moved_fit (is_on n) (all_with (fate_on to)) s.rows t.fit;
-        links = link_left to refl;
-        placed = λ k few. rw ((alone s.routing k t.routing few).settled_place n to) (place_left to refl (place_of k s.routing) (λ home code via e. home_up k few home code via e) (t.placed k few));
-        none_aside = λ k other at up. let old = before k other at up in parked_left to (some k other at up) refl ∙ t.none_aside k old.0 old.1 old.2;
-        all_run = λ j other at up k few e. let old = before j other at up in runs_left to (some j other at up) (place_of k s.routing) (t.all_run j old.0 old.1 old.2 k few) (sym ((alone s.routing k t.routing few).settled_place n to) ∙ e);
-        homes_up = λ code e. up_after s.links n link (settled_link link) at.there (λ up. false_true (has_phase_up link.phase) down up) (home_of code) (t.homes_up code e);
-        backs = left_backs to;
-        back_order = subst (λ (rows : List Row). IsAscending (numbers rows)) (sym (back_left to)) t.back_order;
-      }
+      let links = link_left (target s.links) refl in
+      let stays : has_phase_up link.phase ≡ true → has_phase_up (settled_link link).phase ≡ true = false_true (has_phase_up link.phase) down in
+      search (settled_sound, below_links, length-set, moved_numbered, moved_fit, left_placed, left_parked, left_runs, up_after, t.homes_up, left_backs, back_left)
