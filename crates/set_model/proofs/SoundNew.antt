@@ -1,5 +1,5 @@
 -- WHAT HOLDS OF EVERY STATE is kept by a new message.
-use Rattle.std.proofs.Common.{refl, arith, ◌≡◌, ◌∙◌, ap, sym, subst, ◌<◌, ◌≤◌, ℕ, ◌==◌, Bool, true, false, not, List, [], ◌∷◌, ◌++◌, length, slice_get, Option, None, Some}
+use Rattle.std.proofs.Common.{refl, arith, ◌≡◌, ◌≢◌, ◌∙◌, ap, sym, subst, ◌<◌, ◌≤◌, ℕ, ◌==◌, Bool, true, false, not, List, [], ◌∷◌, ◌++◌, length, slice_get, Option, None, Some}
 use Rattle.std.proofs.lemmas.Bool.{eqb-true}
 use Rattle.std.proofs.lemmas.List.{map-append}
 use Rattle.l3_orders.specs.declared.order.Order.{Order}
@@ -112,6 +112,9 @@ module _ (s : State) (body : List ℕ) (t : IsSound s) (low : stream_of body < 1
   same_place : (k : ℕ) → k < 16 → place_of k runs ≡ place_of k s.routing
   same_place k few = (alone s.routing k t.routing few).accepted_place stream
 
+  still_run : (n : ℕ) (link : LinkState) → slice_get s.links n ≡ Some link → has_phase_up link.phase ≡ true → (k : ℕ) → k < 16 → place_of k runs ≢ Nowhere
+  still_run n link there up k few = rw (same_place k few) (t.all_run n link there up k few)
+
   one_back : (place : Place) → place_of stream s.routing ≡ place → IsBackOf runs (new_row (length s.rows) body (fate_at place s)) (fate_at place s)
   one_back Nowhere e = tt
   one_back (Changing to code via) e =
@@ -134,22 +137,7 @@ module _ (s : State) (body : List ℕ) (t : IsSound s) (low : stream_of body < 1
 
 pub offers : (s : State) (body : List ℕ) → stream_of body < 16 → offer_refusal s.rows body ≡ None → IsSound s → IsSound (offered None s body).state
 offers s body low free t =
-    let stream = stream_of body in
-    let place = place_of stream s.routing in
-    let fate = fate_at place s in
-    let fits = open_offer s t stream low place refl in
-    record {
-      managed = t.managed;
-      routing = accepted_sound stream s.routing t.routing;
-      routed = t.routed;
-      count = t.count;
-      numbered = numbered_appended s.rows body fate t.numbered;
-      fit = fit_appended s.rows body fate t.fit (offer_fits s.rows body free).0;
-      links = link_appended s body t fate fits;
-      placed = λ k few. rw ((alone s.routing k t.routing few).accepted_place stream) (t.placed k few);
-      none_aside = none_parked s body t fate fits;
-      all_run = λ n link there up k few e. t.all_run n link there up k few (sym ((alone s.routing k t.routing few).accepted_place stream) ∙ e);
-      homes_up = t.homes_up;
-      backs = offer_backs s body t low (offer_fits s.rows body free).1;
-      back_order = offer_order s body t low (offer_fits s.rows body free).1 fate;
-    }
+    let fits = offer_fits s.rows body free in
+    let opened = open_offer s t (stream_of body) low (place_of (stream_of body) s.routing) refl in
+    let backs = offer_backs s body t low fits.1 in
+    search (accepted_sound, numbered_appended, fit_appended, link_appended, same_place, t.placed, none_parked, still_run, t.homes_up, offer_order)
