@@ -1,6 +1,7 @@
 -- What a list holds when one place of it is set.
-use Rattle.std.proofs.Common.{refl, arith, ◌≡◌, ◌≢◌, ◌∙◌, ap, sym, ◌<◌, [], ◌∷◌, length, ℕ, zero, suc, List, map, slice_get, slice_set, slice_index_or, Some, ◌⊎◌, inl, inr}
+use Rattle.std.proofs.Common.{refl, arith, ◌≡◌, ◌≢◌, ◌==◌, Bool, true, false, ◌∙◌, ap, sym, ◌<◌, [], ◌∷◌, length, ℕ, zero, suc, List, map, slice_get, slice_set, slice_index_or, Some, ◌⊎◌, inl, inr}
 use Rattle.std.proofs.lemmas.Option.{same_Some, slice_get-get_or, slice_get-map, slice_get_within}
+use Rattle.std.proofs.lemmas.Bool.Decides.{nat_tests}
 use Rattle.std.proofs.lemmas.List.{length-set}
 use Rattle.std.specs.Option.{option_map}
 
@@ -42,6 +43,10 @@ at_set (z ∷ xs) zero zero x y there = inl (refl, sym (same_Some x y there))
 at_set (z ∷ xs) zero (suc m) x y there = inr ((λ same. absurd (omega (arith, same))), there)
 at_set (z ∷ xs) (suc n) zero x y there = inr ((λ same. absurd (omega (arith, same))), there)
 at_set (z ∷ xs) (suc n) (suc m) x y there = grind (arith, at_set xs n m x y there)
+
+-- what holds of the new element and of the others holds of each
+pub each_set : {X : Type 0} (P : ℕ → X → Type 0) (xs : List X) (n : ℕ) (x : X) → P n x → ((m : ℕ) (y : X) → (n == m) ≡ false → slice_get xs m ≡ Some y → P m y) → (m : ℕ) (y : X) → slice_get (slice_set xs n x) m ≡ Some y → P m y
+each_set P xs n x one others m y there = grind (arith, nat_tests, at_set)
 
 -- only what is in the list is found
 pub within : {X : Type 0} (xs : List X) (n : ℕ) (x : X) → slice_get xs n ≡ Some x → n < length xs

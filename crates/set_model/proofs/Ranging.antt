@@ -20,7 +20,7 @@ use Rattle.set_model.specs.Sound.{WholeNumbers, one_more, AreFewOn, AreAtMost, A
 use Rattle.set_model.proofs.Events.{appended_out}
 use Rattle.set_model.proofs.Filters.{filter_comm, fewer_filter, fated_none}
 use Rattle.set_model.proofs.InPlace.{turned_left, fewer_turned, fewer_changed}
-use Rattle.set_model.proofs.Lists.{at_set}
+use Rattle.set_model.proofs.Lists.{each_set}
 use Rattle.set_model.proofs.Walk.{KeptBy, step_walks}
 
 -- no more come than turn
@@ -55,11 +55,8 @@ module _ (n : ℕ) (link : LinkState) (rows : List Row) (head : Header) where
 
 -- A LINK THAT CHANGES, and the others.
 few_set : (k : ℕ → WholeNumbers) (n : ℕ) (link : LinkState) (s : State) (rows : List Row) → AreFewOn (k n) n link rows → ((m : ℕ) → length (unack m rows) ≤ length (unack m s.rows)) → AreAtMost k s → AreAtMost k (record s { links = slice_set s.links n link; rows = rows })
-few_set k n link s rows one fewer few m other there = go (at_set s.links n m link other there)
-  where
-    go : ((m ≡ n) × (other ≡ link)) ⊎ ((m ≢ n) × (slice_get s.links m ≡ Some other)) → AreFewOn (k m) m other rows
-    go (inl p) = rw (p.0, p.1) one
-    go (inr p) = let f = few m other p.1 in let sent = f.sent in let less = fewer m in record { sent = omega (arith, sent, less); accepted = f.accepted }
+few_set k n link s rows one fewer few =
+    each_set (λ m other. AreFewOn (k m) m other rows) s.links n link one (λ m other d there. let f = few m other there in let sent = f.sent in let less = fewer m in record { sent = omega (arith, sent, less); accepted = f.accepted })
 
 few_rows : (k : ℕ → WholeNumbers) (s : State) (rows : List Row) → ((m : ℕ) → length (unack m rows) ≤ length (unack m s.rows)) → AreAtMost k s → AreAtMost k (record s { rows = rows })
 few_rows k s rows fewer few m link there = let f = few m link there in let sent = f.sent in let less = fewer m in record { sent = omega (arith, sent, less); accepted = f.accepted }
@@ -114,11 +111,8 @@ wider k s few m link there = let f = few m link there in let a = f.sent in let b
 
 -- a link that changes, where each has one unacknowledged message more at most
 few_more : (k : ℕ → WholeNumbers) (n : ℕ) (link : LinkState) (s : State) (rows : List Row) → AreFewOn (one_more (k n)) n link rows → ((m : ℕ) → length (unack m rows) ≤ length (unack m s.rows) + 1) → AreAtMost k s → (m : ℕ) (other : LinkState) → slice_get (slice_set s.links n link) m ≡ Some other → AreFewOn (one_more (k m)) m other rows
-few_more k n link s rows one more few m other there = go (at_set s.links n m link other there)
-  where
-    go : ((m ≡ n) × (other ≡ link)) ⊎ ((m ≢ n) × (slice_get s.links m ≡ Some other)) → AreFewOn (one_more (k m)) m other rows
-    go (inl p) = rw (p.0, p.1) one
-    go (inr p) = let f = few m other p.1 in let sent = f.sent in let accepted = f.accepted in let most = more m in record { sent = omega (arith, sent, most); accepted = omega (arith, accepted) }
+few_more k n link s rows one more few =
+    each_set (λ m other. AreFewOn (one_more (k m)) m other rows) s.links n link one (λ m other d there. let f = few m other there in let sent = f.sent in let accepted = f.accepted in let most = more m in record { sent = omega (arith, sent, most); accepted = omega (arith, accepted) })
 
 pub step_at_most : (s : State) (event : Event) (k : ℕ → WholeNumbers) → AreAtMost k s → AreAtMost (λ n. one_more (k n)) (step s event).state
 step_at_most s event k few = step_walks s (λ t u. (j : ℕ → WholeNumbers) → AreAtMost j t → AreAtMost j u) (AreAtMost (λ n. one_more (k n))) event (record {

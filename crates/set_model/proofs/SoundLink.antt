@@ -1,6 +1,7 @@
 -- WHAT HOLDS OF EVERY STATE is kept by a change of one link, with rows that change in their places.
-use Rattle.std.proofs.Common.{refl, arith, ◌≡◌, ◌≢◌, ◌∙◌, ap, sym, subst, ◌<◌, ◌≤◌, ℕ, ◌+◌, ◌%◌, ◌==◌, Bool, true, false, List, [], ◌∷◌, length, map, take, drop, slice_get, slice_set, Some, ◌⊎◌, inl, inr}
-use Rattle.std.proofs.lemmas.Bool.{eqb-false}
+use Rattle.std.proofs.Common.{⊎_elim, refl, arith, ◌≡◌, ◌≢◌, ◌∙◌, ap, sym, subst, ◌<◌, ◌≤◌, ℕ, ◌+◌, ◌%◌, ◌==◌, Bool, true, false, List, [], ◌∷◌, length, map, take, drop, slice_get, slice_set, Some, ◌⊎◌, inl, inr}
+use Rattle.std.proofs.lemmas.Bool.{cases_Bool, eqb-true, eqb-false}
+use Rattle.std.proofs.lemmas.Bool.Decides.{nat_tests}
 use Rattle.std.proofs.lemmas.List.{length-map, length-append, length-drop, length-set}
 use Rattle.l2_units.specs.declared.unit.Header.{Header}
 use Rattle.l2_units.specs.declared.unit.Unit.{Unit as SignalUnit}
@@ -27,7 +28,7 @@ use Rattle.set_model.proofs.Backs.{backs_same}
 use Rattle.set_model.proofs.Events.{Kept, kept_self, Untouched, untouched_self, sent, acknowledged, GivenUp}
 use Rattle.set_model.proofs.InPlace.{turned_same, changed_same}
 use Rattle.set_model.proofs.Order.{last_none}
-use Rattle.set_model.proofs.Lists.{at_set, get_set_same, get_set_other, set_same, within}
+use Rattle.set_model.proofs.Lists.{at_set, each_set, get_set_same, get_set_other, set_same, within}
 use Rattle.set_model.proofs.Places.{false_true, apart, waiting_on, unacked_on, on_not_back}
 use Rattle.set_model.proofs.Walk.{IsAt}
 
@@ -42,11 +43,7 @@ link_untouched m n link rows new u t = grind arith
 -- the link that changes, and the others
 pub links_by : (m : Method) (links : List LinkState) (n : ℕ) (link : LinkState) (new : List Row) → IsSoundLink m n link new → ((k : ℕ) (other : LinkState) → (n == k) ≡ false → slice_get links k ≡ Some other → IsSoundLink m k other new)
     → (k : ℕ) (other : LinkState) → slice_get (slice_set links n link) k ≡ Some other → IsSoundLink m k other new
-links_by m links n link new one others k other there = go (at_set links n k link other there)
-  where
-    go : ((k ≡ n) × (other ≡ link)) ⊎ ((k ≢ n) × (slice_get links k ≡ Some other)) → IsSoundLink m k other new
-    go (inl p) = rw (p.0, p.1) one
-    go (inr p) = others k other (apart n k (λ e. p.0 (sym e))) p.1
+links_by m links n link new = each_set (λ k other. IsSoundLink m k other new) links n link
 
 pub links_set : (m : Method) (links : List LinkState) (n : ℕ) (link : LinkState) (rows new : List Row) → IsSoundLink m n link new → ((k : ℕ) → (n == k) ≡ false → Untouched k rows new) → ((k : ℕ) (other : LinkState) → slice_get links k ≡ Some other → IsSoundLink m k other rows)
     → (k : ℕ) (other : LinkState) → slice_get (slice_set links n link) k ≡ Some other → IsSoundLink m k other new
@@ -54,11 +51,8 @@ links_set m links n link rows new one others all = links_by m links n link new o
 
 -- a place stays one, where the link that changes isn't settled
 placed_on : (links : List LinkState) (n : ℕ) (link link' : LinkState) (l : ℕ) → slice_get links n ≡ Some link → has_phase_settled link'.phase ≡ false → IsPlaced links (On l) → IsPlaced (slice_set links n link') (On l)
-placed_on links n link link' l there unsettled p = go (n == l) refl
-  where
-    go : (b : Bool) → (n == l) ≡ b → IsPlaced (slice_set links n link') (On l)
-    go true e = let same : l ≡ n = grind arith in rw same (link', get_set_same links n link' (within links n link there), unsettled)
-    go false e = (p.0, get_set_other links n l link' (eqb-false n l e) ∙ p.1, p.2)
+placed_on links n link link' l there unsettled p =
+    ⊎_elim (λ e. (link', grind (arith, eqb-true, get_set_same, within), unsettled)) (λ e. (p.0, get_set_other links n l link' (eqb-false n l e) ∙ p.1, p.2)) (cases_Bool (n == l))
 
 pub placed_set : (links : List LinkState) (n : ℕ) (link link' : LinkState) (place : Place) → slice_get links n ≡ Some link → has_phase_settled link'.phase ≡ false → IsPlaced links place → IsPlaced (slice_set links n link') place
 placed_set links n link link' Nowhere there unsettled p = tt
@@ -67,11 +61,7 @@ placed_set links n link link' (Changing to code l) there unsettled p = placed_on
 
 -- a link that is up was there before, where the one that changes isn't up anew
 pub up_before : (links : List LinkState) (n : ℕ) (link link' : LinkState) → slice_get links n ≡ Some link → (has_phase_up link'.phase ≡ true → has_phase_up link.phase ≡ true) → (k : ℕ) (other : LinkState) → slice_get (slice_set links n link') k ≡ Some other → has_phase_up other.phase ≡ true → (old : LinkState) × (slice_get links k ≡ Some old) × (has_phase_up old.phase ≡ true)
-up_before links n link link' there same k other at up = go (at_set links n k link' other at)
-  where
-    go : ((k ≡ n) × (other ≡ link')) ⊎ ((k ≢ n) × (slice_get links k ≡ Some other)) → (old : LinkState) × (slice_get links k ≡ Some old) × (has_phase_up old.phase ≡ true)
-    go (inl p) = (link, ap (slice_get links) p.0 ∙ there, same (ap (λ (l : LinkState). has_phase_up l.phase) (sym p.1) ∙ up))
-    go (inr p) = (other, p.1, up)
+up_before links n link link' there same k other at up = grind (arith, nat_tests, at_set)
 
 -- and one that was up is, where the one that changes stays so
 pub up_after : (links : List LinkState) (n : ℕ) (link link' : LinkState) → slice_get links n ≡ Some link → (has_phase_up link.phase ≡ true → has_phase_up link'.phase ≡ true) → (k : ℕ) → link_is_up (slice_get links k) ≡ true → link_is_up (slice_get (slice_set links n link') k) ≡ true
@@ -123,16 +113,10 @@ down_sound m n link new down unsettled few counted method order last = grind ari
 
 -- ONE THAT IS UP, where nothing that was sent or is held changes.
 pub up_same : (m : Method) (n : ℕ) (link : LinkState) (rows new : List Row) → has_phase_up link.phase ≡ true → unack n new ≡ unack n rows → held n new ≡ held n rows → IsInOrder n new → IsSoundLink m n link rows → IsSoundLink m n link new
-up_same m n link rows new up u h order l = record {
-  window = rw u l.window;
-  counted = l.counted;
-  method = l.method;
-  in_order = order;
-  held_last = last_none n new (h ∙ l.none_held up);
-  none_held = λ e. h ∙ l.none_held up;
-  in_range = λ e. rw u (l.in_range up);
-  settled = λ e. false_true (has_phase_settled link.phase) (up_unsettled link.phase up) e;
-}
+up_same m n link rows new up u h order l =
+    let last = last_none n new (h ∙ l.none_held up) in
+    let unsettled = up_unsettled link.phase up in
+    grind arith
 
 unacked_not_back : (n : ℕ) (f : Fate) → is_unacked n f ≡ true → stands_back f ≡ false
 unacked_not_back n f e = on_not_back n f (unacked_on n f e)

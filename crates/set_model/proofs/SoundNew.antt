@@ -43,33 +43,25 @@ module _ (s : State) (body : List ℕ) (t : IsSound s) where
   off_link fate k other there off = link_untouched s.settings.method k other s.rows (appended s.rows body fate) (appended_untouched s.rows body fate k off) (t.links k other there)
 
   pub link_appended : (fate : Fate) → IsOpen fate s.links → (k : ℕ) (other : LinkState) → slice_get s.links k ≡ Some other → IsSoundLink s.settings.method k other (appended s.rows body fate)
-  link_appended Parked fits k other there = off_link Parked k other there refl
-  link_appended (Back c) fits k other there = off_link (Back c) k other there refl
-  link_appended (Unacked n) fits k other there = absurd fits
-  link_appended (Acked n) fits k other there = absurd fits
-  link_appended (Discarded cause) fits k other there = absurd fits
   link_appended (Waiting n) fits k other there = go (n == k) refl
     where
       go : (b : Bool) → (n == k) ≡ b → IsSoundLink s.settings.method k other (appended s.rows body (Waiting n))
       go false e = off_link (Waiting n) k other there e
       go true e =
-          let same : n ≡ k = eqb-true n k e in
-          let it : fits.0 ≡ other = same_at s.links k other fits.0 there (ap (slice_get s.links) (sym same) ∙ fits.1) in
-          let up : has_phase_up other.phase ≡ true = ap (λ (l : LinkState). has_phase_up l.phase) (sym it) ∙ fits.2 in
           let l = t.links k other there in
-          up_same s.settings.method k other s.rows (appended s.rows body (Waiting n)) up (appended_out s.rows body (Waiting n) (is_unacked k) refl) (appended_out s.rows body (Waiting n) (is_held k) refl)
-          (order_appended k s.rows body (Waiting n) refl l.in_order) l
+          let order = order_appended k s.rows body (Waiting n) refl l.in_order in
+          let up : has_phase_up other.phase ≡ true = grind (arith, eqb-true) in
+          up_same s.settings.method k other s.rows (appended s.rows body (Waiting n)) up (appended_out s.rows body (Waiting n) (is_unacked k) refl) (appended_out s.rows body (Waiting n) (is_held k) refl) order l
   link_appended (Held n) fits k other there = go (n == k) refl
     where
       go : (b : Bool) → (n == k) ≡ b → IsSoundLink s.settings.method k other (appended s.rows body (Held n))
       go false e = off_link (Held n) k other there e
       go true e =
-          let same : n ≡ k = eqb-true n k e in
-          let it : fits.0 ≡ other = same_at s.links k other fits.0 there (ap (slice_get s.links) (sym same) ∙ fits.1) in
-          let not_up : has_phase_up other.phase ≡ false = ap (λ (l : LinkState). has_phase_up l.phase) (sym it) ∙ fits.2 in
           let l = t.links k other there in
-          down_sound s.settings.method k other (appended s.rows body (Held n)) not_up (ap (λ (l : LinkState). has_phase_settled l.phase) (sym it) ∙ fits.3) (rw (appended_out s.rows body (Held n) (is_unacked k) refl) l.window)
+          let phase : (has_phase_up other.phase ≡ false) × (has_phase_settled other.phase ≡ false) = grind (arith, eqb-true) in
+          down_sound s.settings.method k other (appended s.rows body (Held n)) phase.0 phase.1 (rw (appended_out s.rows body (Held n) (is_unacked k) refl) l.window)
           l.counted l.method (order_appended k s.rows body (Held n) refl l.in_order) (last_appended k s.rows body (Held n) refl refl l.held_last)
+  link_appended fate fits k other there = off_link fate k other there (grind arith)
 
   pub none_parked : (fate : Fate) → IsOpen fate s.links → (k : ℕ) (other : LinkState) → slice_get s.links k ≡ Some other → has_phase_up other.phase ≡ true → parked (appended s.rows body fate) ≡ []
   none_parked fate fits k other there rising = grind (arith, appended_out)
@@ -132,8 +124,7 @@ module _ (s : State) (body : List ℕ) (t : IsSound s) (low : stream_of body < 1
       go : (b : Bool) → stands_back fate ≡ b → IsAscending (numbers (back (appended s.rows body fate)))
       go false e = back_appended s.routing s.rows body fate e t.back_order
       go true e =
-          let numbers_are : numbers (back (appended s.rows body fate)) ≡ numbers (back s.rows) ++ length s.rows ∷ [] = ap numbers (appended_in s.rows body fate stands_back e) ∙ map-append (λ (row : Row). row.number) (back s.rows) (new_row (length s.rows) body fate ∷ []) in
-          subst IsAscending (sym numbers_are) (ascends_end (length s.rows) (numbers (back s.rows)) (λ i m f. (found_by_number (λ (row : Row). stands_back row.fate) s.rows i m t.numbered f).below) t.back_order)
+          rw (appended_in s.rows body fate stands_back e, map-append) (ascends_end (length s.rows) (numbers (back s.rows)) (λ i m f. (found_by_number (λ (row : Row). stands_back row.fate) s.rows i m t.numbered f).below) t.back_order)
 
 pub offers : (s : State) (body : List ℕ) → stream_of body < 16 → offer_refusal s.rows body ≡ None → IsSound s → IsSound (offered None s body).state
 offers s body low free t =
