@@ -1,14 +1,13 @@
 -- What a list holds when one place of it is set.
 use Rattle.std.proofs.Common.{refl, arith, ◌≡◌, ◌≢◌, ◌==◌, Bool, true, false, ◌∙◌, ap, sym, ◌<◌, [], ◌∷◌, length, ℕ, zero, suc, List, map, slice_get, slice_set, slice_index_or, Some, ◌⊎◌, inl, inr}
-use Rattle.std.proofs.lemmas.Option.{same_Some, slice_get-get_or, slice_get-map, slice_get_within}
+use Rattle.std.proofs.lemmas.Option.{same_Some, get_or_from_slice_get, slice_get-get_or, slice_get-map, slice_get_within}
 use Rattle.std.proofs.lemmas.Bool.Decides.{nat_tests}
-use Rattle.std.proofs.lemmas.List.{length-set}
+use Rattle.std.proofs.lemmas.List.{length-set, map-set, set-get_or, get_or-set_same}
+use Rattle.std.proofs.Math.Seq.{map-set_same}
 use Rattle.std.specs.Option.{option_map}
 
 pub get_set_same : {X : Type 0} (xs : List X) (n : ℕ) (x : X) → n < length xs → slice_get (slice_set xs n x) n ≡ Some x
-get_set_same [] n x few = absurd (omega (arith, few))
-get_set_same (y ∷ xs) zero x few = refl
-get_set_same (y ∷ xs) (suc n) x few = get_set_same xs n x (omega (arith, few))
+get_set_same xs n x few = slice_get-get_or (slice_set xs n x) n x (omega (arith, few, length-set xs n x)) ∙ ap Some (get_or-set_same xs n x x few)
 
 pub get_set_other : {X : Type 0} (xs : List X) (n m : ℕ) (x : X) → n ≢ m → slice_get (slice_set xs n x) m ≡ slice_get xs m
 get_set_other [] n m x other = refl
@@ -18,15 +17,11 @@ get_set_other (y ∷ xs) (suc n) zero x other = refl
 get_set_other (y ∷ xs) (suc n) (suc m) x other = get_set_other xs n m x (λ same. other (ap suc same))
 
 pub map_set : {X Y : Type 0} (f : X → Y) (xs : List X) (n : ℕ) (x : X) → map f (slice_set xs n x) ≡ slice_set (map f xs) n (f x)
-map_set f [] n x = refl
-map_set f (y ∷ xs) zero x = refl
-map_set f (y ∷ xs) (suc n) x = ap (λ rest. f y ∷ rest) (map_set f xs n x)
+map_set f xs n x = map-set f xs n x
 
 -- a place that is set to what it holds
 pub set_same : {X : Type 0} (xs : List X) (n : ℕ) (x : X) → slice_get xs n ≡ Some x → slice_set xs n x ≡ xs
-set_same [] n x there = refl
-set_same (y ∷ xs) zero x there = ap (λ z. z ∷ xs) (sym (same_Some y x there))
-set_same (y ∷ xs) (suc n) x there = ap (λ rest. y ∷ rest) (set_same xs n x there)
+set_same xs n x there = ap (slice_set xs n) (sym (get_or_from_slice_get xs n x x there)) ∙ set-get_or xs n x
 
 pub length_set : {X : Type 0} (xs : List X) (n : ℕ) (x : X) → length (slice_set xs n x) ≡ length xs
 length_set xs n x = length-set xs n x
@@ -54,9 +49,7 @@ within xs n x there = slice_get_within xs n x there
 
 -- a place that is set to something of the same image
 pub map_set_same : {X Y : Type 0} (f : X → Y) (xs : List X) (n : ℕ) (x y : X) → slice_get xs n ≡ Some x → f y ≡ f x → map f (slice_set xs n y) ≡ map f xs
-map_set_same f [] n x y there same = refl
-map_set_same f (z ∷ xs) zero x y there same = ap (λ w. w ∷ map f xs) (same ∙ ap f (sym (same_Some z x there)))
-map_set_same f (z ∷ xs) (suc n) x y there same = ap (λ rest. f z ∷ rest) (map_set_same f xs n x y there same)
+map_set_same f xs n x y there same = map-set_same f xs n y x (same ∙ ap f (sym (get_or_from_slice_get xs n x x there)))
 
 pub same_at : {X : Type 0} (xs : List X) (n : ℕ) (x y : X) → slice_get xs n ≡ Some x → slice_get xs n ≡ Some y → y ≡ x
 same_at xs n x y a b = same_Some y x (sym b ∙ a)

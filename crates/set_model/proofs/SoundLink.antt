@@ -82,21 +82,12 @@ changes : (n : ℕ) (link link' : LinkState) (s : State) (new : List Row) → Is
 changes n link link' s new t c =
     let up = ap has_phase_up c.phase_same in
     let before = up_before s.links n link link' c.there (λ e. sym up ∙ e) in
-    record {
-      managed = t.managed;
-      routing = t.routing;
-      routed = t.routed;
-      count = length-set s.links n link' ∙ t.count;
-      numbered = c.kept.numbered t.numbered;
-      fit = c.kept.fit t.fit;
-      links = links_set s.settings.method s.links n link' s.rows new c.one c.others t.links;
-      placed = λ stream few. placed_set s.links n link link' _ c.there (ap has_phase_settled c.phase_same ∙ c.unsettled) (t.placed stream few);
-      none_aside = λ k other at rising. let old = before k other at rising in c.parked_same ∙ t.none_aside k old.0 old.1 old.2;
-      all_run = λ k other at rising. let old = before k other at rising in t.all_run k old.0 old.1 old.2;
-      homes_up = λ code e. up_after s.links n link link' c.there (λ e. up ∙ e) (home_of code) (t.homes_up code e);
-      backs = backs_same s.routing s.rows new c.back_same t.backs;
-      back_order = subst (λ (rows : List Row). IsAscending (numbers rows)) (sym c.back_same) t.back_order;
-    }
+    let stays = up_after s.links n link link' c.there (λ e. up ∙ e) in
+    let links = links_set s.settings.method s.links n link' s.rows new c.one c.others t.links in
+    let unsettled = ap has_phase_settled c.phase_same ∙ c.unsettled in
+    let aside = λ (k : ℕ) (other : LinkState) (at : slice_get (slice_set s.links n link') k ≡ Some other) (rising : has_phase_up other.phase ≡ true). let old = before k other at rising in c.parked_same ∙ t.none_aside k old.0 old.1 old.2 in
+    let run = λ (k : ℕ) (other : LinkState) (at : slice_get (slice_set s.links n link') k ≡ Some other) (rising : has_phase_up other.phase ≡ true). let old = before k other at rising in t.all_run k old.0 old.1 old.2 in
+    search (length-set, c.kept.numbered, c.kept.fit, placed_set, t.placed, t.homes_up, backs_same, c.back_same)
 
 -- the same, where the link stays
 rows_change : (n : ℕ) (link : LinkState) (s : State) (new : List Row) → IsSound s → Changes n link link s new → IsSound (record s { rows = new })
