@@ -29,54 +29,47 @@ alive_of a b e = grind arith
 none_behind : (b : Bool) (x : Row) (xs : List Row) → cond b (x ∷ xs) xs ≡ [] → xs ≡ []
 none_behind b x xs e = grind arith
 
-none_before : (b : Bool) (x : Row) (xs ys : List Row) → (xs ≡ [] → ys ≡ []) → cond b (x ∷ xs) xs ≡ [] → cond b (x ∷ ys) ys ≡ []
-none_before b x xs ys f e = grind arith
+-- no more than before: of the live rows, and of those that are astray
+record Less (xs ys away gone : List Row) : Type 0 where
+  pub above : (k : ℕ) → AreAbove k (numbers xs) → AreAbove k (numbers ys)
+  pub ascends : IsAscending (numbers xs) → IsAscending (numbers ys)
+  pub none : xs ≡ [] → ys ≡ []
+  pub none_away : away ≡ [] → gone ≡ []
 
-above_if : (b : Bool) (k : ℕ) (x : Row) (xs ys : List Row) → (AreAbove k (numbers xs) → AreAbove k (numbers ys)) → AreAbove k (numbers (cond b (x ∷ xs) xs)) → AreAbove k (numbers (cond b (x ∷ ys) ys))
-above_if b k x xs ys f a = grind arith
+less_both : (b c : Bool) (x : Row) (xs ys away gone : List Row) → Less xs ys away gone → Less (cond b (x ∷ xs) xs) (cond b (x ∷ ys) ys) (cond c (x ∷ away) away) (cond c (x ∷ gone) gone)
+less_both b c x xs ys away gone p = record {
+  above = λ k a. grind (arith, p.above k);
+  ascends = λ a. grind (arith, p.above x.number);
+  none = λ e. grind arith;
+  none_away = λ e. grind arith;
+}
 
-above_behind : (b : Bool) (k : ℕ) (x : Row) (xs : List Row) → AreAbove k (numbers (cond b (x ∷ xs) xs)) → AreAbove k (numbers xs)
-above_behind b k x xs a = grind arith
-
-ascends_if : (b : Bool) (x : Row) (xs ys : List Row) → ((k : ℕ) → AreAbove k (numbers xs) → AreAbove k (numbers ys)) → (IsAscending (numbers xs) → IsAscending (numbers ys)) → IsAscending (numbers (cond b (x ∷ xs) xs)) → IsAscending (numbers (cond b (x ∷ ys) ys))
-ascends_if true x xs ys f g a = (f x.number a.0, g a.1)
-ascends_if false x xs ys f g a = g a
-
-ascends_behind : (b : Bool) (x : Row) (xs : List Row) → IsAscending (numbers (cond b (x ∷ xs) xs)) → IsAscending (numbers xs)
-ascends_behind b x xs a = grind arith
+less_before : (b c : Bool) (x : Row) (xs ys away gone : List Row) → Less xs ys away gone → Less (cond b (x ∷ xs) xs) ys (cond c (x ∷ away) away) gone
+less_before b c x xs ys away gone p = record {
+  above = λ k a. grind (arith, p.above k);
+  ascends = λ a. grind (arith, p.above x.number);
+  none = λ e. grind arith;
+  none_away = λ e. grind arith;
+}
 
 -- ROWS THAT ARE FINISHED in their places.
 module _ (stream : ℕ) (place : Place) (test : Fate → Bool) (fate : Fate) (done : is_unfinished fate ≡ false) where
-  pub record Fewer (xs ys : List Row) : Type 0 where
-    pub above : (k : ℕ) → AreAbove k (numbers (live stream xs)) → AreAbove k (numbers (live stream ys))
-    pub ascends : IsAscending (numbers (live stream xs)) → IsAscending (numbers (live stream ys))
-    pub none : live stream xs ≡ [] → live stream ys ≡ []
-    pub away : astray stream place xs ≡ [] → astray stream place ys ≡ []
+  abbrev Fewer : List Row → List Row → Type 0
+  Fewer xs ys = Less (live stream xs) (live stream ys) (astray stream place xs) (astray stream place ys)
 
   nothing : Fewer [] []
-  nothing = record { above = λ k a. a; ascends = λ a. a; none = λ e. e; away = λ e. e }
+  nothing = record { above = λ k a. a; ascends = λ a. a; none = λ e. e; none_away = λ e. e }
 
   stays : (x : Row) (xs ys : List Row) → Fewer xs ys → Fewer (x ∷ xs) (x ∷ ys)
-  stays x xs ys p = record {
-    above = λ k. above_if (is_live stream x) k x (live stream xs) (live stream ys) (p.above k);
-    ascends = ascends_if (is_live stream x) x (live stream xs) (live stream ys) p.above p.ascends;
-    none = none_before (is_live stream x) x (live stream xs) (live stream ys) p.none;
-    away = none_before (is_astray stream place x) x (astray stream place xs) (astray stream place ys) p.away;
-  }
+  stays x xs ys p = less_both (is_live stream x) (is_astray stream place x) x (live stream xs) (live stream ys) (astray stream place xs) (astray stream place ys) p
 
   turns : (x : Row) (xs ys : List Row) → test x.fate ≡ true → Fewer xs ys → Fewer (x ∷ xs) (with_fate fate x ∷ ys)
   turns x xs ys t p =
       let gone : is_live stream (with_fate fate x) ≡ false = rw done (and_false (is_users x) (stream_of x.body == stream)) in
-      let none_astray : is_astray stream place (with_fate fate x) ≡ false = dead (is_live stream (with_fate fate x)) (not (stands_at place fate)) gone in
-      record {
-        above = λ k a. rw gone (p.above k (above_behind (is_live stream x) k x (live stream xs) a));
-        ascends = λ a. rw gone (p.ascends (ascends_behind (is_live stream x) x (live stream xs) a));
-        none = λ e. rw gone (p.none (none_behind (is_live stream x) x (live stream xs) e));
-        away = λ e. rw none_astray (p.away (none_behind (is_astray stream place x) x (astray stream place xs) e));
-      }
+      rw gone (less_before (is_live stream x) (is_astray stream place x) x (live stream xs) (live stream ys) (astray stream place xs) (astray stream place ys) p)
 
   finished : (used : Bool) (xs ys : List Row) → Fewer xs ys → IsSoundStream stream place used xs → IsSoundStream stream place used ys
-  finished used xs ys p t = record { in_order = p.ascends t.in_order; together = p.away t.together; unused = λ e. p.none (t.unused e) }
+  finished used xs ys p t = record { in_order = p.ascends t.in_order; together = p.none_away t.together; unused = λ e. p.none (t.unused e) }
 
   pub stream_turned : (used : Bool) (n : ℕ) (rows : List Row) → IsSoundStream stream place used rows → IsSoundStream stream place used (turned test fate n rows)
   stream_turned used n rows t = finished used rows (turned test fate n rows) (where_turned test fate Fewer nothing stays turns n rows) t

@@ -2,7 +2,7 @@
 use Rattle.std.proofs.Common.{⊎_elim, refl, arith, ◌≡◌, ◌≢◌, ◌∙◌, ap, sym, subst, ◌<◌, ◌≤◌, ℕ, ◌+◌, ◌%◌, ◌==◌, Bool, true, false, List, [], ◌∷◌, length, map, take, drop, slice_get, slice_set, Some, ◌⊎◌, inl, inr}
 use Rattle.std.proofs.lemmas.Bool.{cases_Bool, eqb-true, eqb-false}
 use Rattle.std.proofs.lemmas.Bool.Decides.{nat_tests}
-use Rattle.std.proofs.lemmas.List.{length-map, length-append, length-drop, length-set}
+use Rattle.std.proofs.lemmas.List.{length-map, length-append, length-drop, length-set, length-take}
 use Rattle.l2_units.specs.declared.unit.Header.{Header}
 use Rattle.l2_units.specs.declared.unit.Unit.{Unit as SignalUnit}
 use Rattle.l2_units.specs.Grammar.{head_of as header_in}
@@ -140,14 +140,7 @@ gives_up test cause n link s on_link g fewer at t =
 -- SENDING.
 -- how many are unacknowledged then
 count_sent : (n : ℕ) (rows : List Row) → IsInOrder n rows → 0 < length (wait n rows) → length (unack n (turned (is_waiting n) (Unacked n) 1 rows)) ≡ length (unack n rows) + 1
-count_sent n rows order some =
-    ap length ((sent n rows).unack_is order)
-    ∙ length-append (unack n rows) (map (with_fate (Unacked n)) (take 1 (wait n rows)))
-    ∙ ap (λ (k : ℕ). length (unack n rows) + k) (length-map (take 1 (wait n rows)) (with_fate (Unacked n)) ∙ one (wait n rows) some)
-  where
-    one : (xs : List Row) → 0 < length xs → length (take 1 xs) ≡ 1
-    one [] few = absurd (omega (arith, few))
-    one (x ∷ xs) few = refl
+count_sent n rows order some = rw ((sent n rows).unack_is order) (simp (length-append, length-map, length-take) (omega arith))
 
 module _ (n : ℕ) (link : LinkState) (s : State) (at : IsAt n link Up s) (t : IsSound s) where
   abbrev window : WindowState
