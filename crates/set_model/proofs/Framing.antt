@@ -9,6 +9,7 @@ use Rattle.l2_window.specs.Window.{WindowState}
 use Rattle.l2_window.specs.declared.control.HeardPart.{HeardPart}
 use Rattle.l3_orders.specs.declared.order.Order.{Order}
 use Rattle.l3_orders.specs.Grammar.{text, order_of}
+use Rattle.set_events.specs.declared.answer.DiscardCause.{DiscardCause}
 use Rattle.set_events.specs.declared.answer.Fate.{Fate}
 use Rattle.set_events.specs.declared.answer.Fate.TheVariants.{Waiting, Unacked, Acked, Parked}
 use Rattle.set_events.specs.declared.event.Event.{Event}
@@ -19,16 +20,16 @@ use Rattle.set_model.specs.declared.phase.Phase.TheVariants.{Up, Down}
 use Rattle.set_model.specs.Rows.{Row, standing, is_on, is_waiting, is_unacked, is_held, is_back_to, unack, wait, held, on, numbers, octets_in, service_indicator, stream_of, turned, appended, fated, with_fate, IsInOrder}
 use Rattle.set_model.specs.Control.{Choice, again, first, fill, choice_of, part_of, control_heard, window_heard, acked_by}
 use Rattle.set_model.specs.State.{LinkState, State, is_up, link_is_up, fate_at, target, window_of}
-use Rattle.set_model.specs.Changeover.{fate_on, left_link, out_of_service, turned_back, left_by, released, acknowledged as acknowledged_link, settled_link, moved_over}
+use Rattle.set_model.specs.Changeover.{fate_on, left_link, out_of_service, turned_back, left_by, released, acknowledged as acknowledged_link, acknowledged_by, settled_link, moved_over}
 use Rattle.set_model.specs.Step.{rows_sent, is_msu, one_if, brought, takes, after_control, step}
 use Rattle.set_model.specs.Sound.{IsSound}
 use Rattle.set_model.specs.Frame.{BringsAbout, Concerns, LeavesAlone, window_after, MovesAsItsControl}
 use Rattle.set_model.proofs.Controlling.{part_acked, last_heard}
-use Rattle.set_model.proofs.Events.{Untouched, untouched_self, sent, acknowledged, sent_given_up, waiting_given_up, moved_to, moved_aside, unparked, released as released_rows, appended_in, appended_out, appended_untouched, numbers_joined}
+use Rattle.set_model.proofs.Events.{Untouched, untouched_self, sent, acknowledged, sent_given_up, waiting_given_up, moved_to, moved_aside, unparked, released as released_rows, appended_in, appended_out, appended_untouched, numbers_joined, moved_untouched}
 use Rattle.set_model.proofs.Filters.{fated_none}
 use Rattle.set_model.proofs.Lists.{get_set_same, get_set_other, within}
 use Rattle.set_model.proofs.Moving.{moved_same, moved_more}
-use Rattle.set_model.proofs.Places.{false_true, apart, not_on_unacked, not_on_waiting, not_on_held, back_not_on, home_back}
+use Rattle.set_model.proofs.Places.{false_true, apart, not_on_unacked, not_on_waiting, not_on_held, back_not_on, home_back, code_back}
 use Rattle.set_model.proofs.Ranging.{offered_out}
 use Rattle.set_model.proofs.SoundBack.{up_not_held, down_not_waiting, alternative_up}
 use Rattle.set_model.proofs.Targets.{target_up}
@@ -92,6 +93,9 @@ alone_turned n m s =
       none_later = λ e. fated_none (is_held n) fate (λ x. up_not_held s n e _) (standing (is_back_to m) s.rows);
     }
 
+alone_left : (blind : Bool) (n m : ℕ) (link : LinkState) (s : State) → (m == n) ≡ false → LeavesAlone n s (left_by blind m link s)
+alone_left blind n m link s d = alone_then n s (out_of_service blind m link s) _ (alone_set n m (left_link blind link) s _ d refl (untouched_self n s.rows)) (alone_turned n m (out_of_service blind m link s))
+
 alone_off : (n m : ℕ) (link : LinkState) (s : State) → (m == n) ≡ false → IsAt m link Down s → LeavesAlone n s (moved_over m link s)
 alone_off n m link s d at = go (target s.links) refl
   where
@@ -125,19 +129,11 @@ module _ (n : ℕ) (event : Event) (s : State) (free : Concerns event n s → �
   off m known = apart m n (λ same. free (subst (λ (k : ℕ). Concerns event k s) same known))
 
   small : (May : Type 0) → KeptBy (λ m. Concerns event m s) May (LeavesAlone n)
-  small May = record {
-    same = λ a. alone_self n a;
-    after = λ a b c p q. alone_then n a b c p q;
-    delivers = λ body a. alone_by n a _ refl (untouched_self n a.rows);
-    queues = λ order a. alone_new n (text order a.settings.sio a.settings.dpc a.settings.opc) a (target a.links) refl;
-    leaves = λ blind m link a known at. alone_then n a (out_of_service blind m link a) (left_by blind m link a) (alone_set n m (left_link blind link) a (out_of_service blind m link a) (off m known) refl (untouched_self n a.rows)) (alone_turned n m (out_of_service blind m link a));
-    acknowledges = λ count m link a known at few. alone_set n m (acknowledged_link count link) a _ (off m known) refl ((acknowledged m count a.rows).others n (off m known));
-    gives_up_sent = λ cause m link a known at. alone_by n a _ refl ((sent_given_up m cause a.rows).others n (off m known));
-    gives_up_waiting = λ cause m link a known at. alone_by n a _ refl ((waiting_given_up m cause a.rows).others n (off m known));
-    moves_off = λ m link a known at. alone_off n m link a (off m known) at;
-    declares = λ may home alternative a up can. alone_waits n _ a _ alternative (alternative_up home alternative a can);
-    releases = λ code a known. alone_by n a (released code a) refl ((released_rows code (home_of code) a.rows).others n (off (home_of code) known));
-  }
+  small May =
+      let acked = λ (m count : ℕ) (link : LinkState) (a : State) (d : (m == n) ≡ false). alone_set n m (acknowledged_link count link) a (acknowledged_by count m link a) d refl ((acknowledged m count a.rows).others n d) in
+      let sent_up = λ (m : ℕ) (cause : DiscardCause) (rows : List Row). (sent_given_up m cause rows).others in
+      let waiting_up = λ (m : ℕ) (cause : DiscardCause) (rows : List Row). (waiting_given_up m cause rows).others in
+      search (alone_self, alone_then, alone_by, untouched_self, alone_new, alone_set, alone_left, off, moved_untouched, back_not_on, code_back, alone_off, alone_waits, alternative_up)
 
 sent_alone : (n m : ℕ) (choice : Choice) (rows : List Row) → (m == n) ≡ false → Untouched n rows (rows_sent choice m rows)
 sent_alone n m first rows d = (sent m rows).others n d

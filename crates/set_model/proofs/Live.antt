@@ -16,10 +16,6 @@ use Rattle.set_model.proofs.Places.{false_true}
 and_false : (u v : Bool) → (u && (v && false)) ≡ false
 and_false u v = grind arith
 
--- a row that isn't live isn't astray
-dead : (a b : Bool) → a ≡ false → (a && b) ≡ false
-dead a b e = rw e refl
-
 alive_not : (b : Bool) → (b && false) ≡ false
 alive_not b = grind arith
 

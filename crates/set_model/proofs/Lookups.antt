@@ -35,9 +35,6 @@ module _ (test : Fate → Bool) (fate : Row → Fate) where
   row_moved : (number : ℕ) (rows : List Row) → IsNumbered rows → row_of number (moved test fate rows) ≡ option_map (moved_row test fate) (row_of number rows)
   row_moved number rows numbered = grind (arith, row_is_first, filter_moved, few_moved)
 
-  same_fate : (b : Bool) (x : Row) → (cond b (fated fate x) x).fate ≡ cond b (fate x) x.fate
-  same_fate b x = grind arith
-
   place_then : (row : Option Row) → option_map (λ r. r.fate) (option_map (moved_row test fate) row) ≡ option_map (λ r. cond (test r.fate) (fate r) r.fate) row
   place_then row = grind arith
 

@@ -57,10 +57,6 @@ delivered k s inbox message f is = subst (λ (i : List (List ℕ)). StandsFor (r
 
 -- WHAT A UNIT BRINGS
 module _ (parts : Parts) (s : State) where
-  -- it's one of the management if it has a body that isn't for users
-  no_message : (head : Header) (body : ArrayVec ℕ 273 (Unit {0})) → message_brought (Msu head body) ≡ None → (service_indicator body.items == 0) ≡ true
-  no_message head body none = grind arith
-
   pub message_taken : (unit : SignalUnit) (message : List ℕ) → message_brought unit ≡ Some message → StandsFor (kept_of parts) (record s { inbox = s.inbox ++ message ∷ [] }) → Obeys (takes (brought true unit) s) Message parts
   message_taken unit message e stands = grind arith
 
