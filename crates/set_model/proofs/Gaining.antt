@@ -6,13 +6,14 @@ use Rattle.l3_orders.specs.declared.order.Order.{Order}
 use Rattle.l3_orders.specs.declared.order.Order.TheVariants.{Cbd}
 use Rattle.l3_orders.specs.Grammar.{text}
 use Rattle.set_events.specs.declared.answer.Answer.{Answer}
+use Rattle.set_events.specs.declared.answer.DiscardCause.{DiscardCause}
 use Rattle.set_events.specs.declared.answer.Fate.{Fate}
 use Rattle.set_events.specs.declared.answer.Fate.TheVariants.{Waiting}
 use Rattle.set_events.specs.declared.answer.Refusal.{Refusal as SetRefusal}
 use Rattle.set_events.specs.declared.event.Event.{Event}
 use Rattle.set_events.specs.declared.event.Event.TheVariants.{Offer, Take, Find}
 use Rattle.set_model.specs.Rows.{Row, is_on, is_back_to, was_acked, moved, all_with, appended, service_indicator, counts_of, total_of, stream_of}
-use Rattle.set_model.specs.State.{State, fate_at, target}
+use Rattle.set_model.specs.State.{LinkState, State, fate_at, target}
 use Rattle.set_model.specs.Control.{Choice, first}
 use Rattle.set_model.specs.Changeover.{fate_on, out_of_service, turned_back}
 use Rattle.set_model.specs.Step.{offer_refusal, offered, rows_sent, step, messages_in, octets_of, Gains}
@@ -58,20 +59,17 @@ counted_sent _ n rows = counted_self rows
 abbrev CountedFrom : State → State → Type 0
 CountedFrom s t = IsManaged s.settings → (t.settings ≡ s.settings) × Counted s.rows t.rows
 
+from_then : (a b c : State) → CountedFrom a b → CountedFrom b c → CountedFrom a c
+from_then a b c p q m = let x = p m in let y = q (rw x.0 m) in (y.0 ∙ x.0, counted_then a.rows b.rows c.rows x.1 y.1)
+
 small : (Known : ℕ → Type 0) (May : Type 0) → KeptBy Known May CountedFrom
-small Known May = record {
-  same = λ s m. (refl, counted_self s.rows);
-  after = λ a b c p q m. let x = p m in let y = q (rw x.0 m) in (y.0 ∙ x.0, counted_then a.rows b.rows c.rows x.1 y.1);
-  delivers = λ body s m. (refl, counted_self s.rows);
-  queues = λ order s m. (refl, counted_order order (fate_on (target s.links)) s m);
-  leaves = λ blind n link s known at m. (refl, counted_back n (out_of_service blind n link s));
-  acknowledges = λ count n link s known at few m. (refl, counted_kept _ _ (acknowledged n count s.rows).kept);
-  gives_up_sent = λ cause n link s known at m. (refl, counted_kept _ _ (sent_given_up n cause s.rows).kept);
-  gives_up_waiting = λ cause n link s known at m. (refl, counted_kept _ _ (waiting_given_up n cause s.rows).kept);
-  moves_off = λ n link s known at m. (refl, counted_moved n (target s.links) s.rows);
-  declares = λ may home alternative s up can m. (refl, counted_order (Cbd home (code_for home alternative)) (Waiting alternative) s m);
-  releases = λ code s known m. (refl, counted_kept _ _ (released_rows code (home_of code) s.rows).kept);
-}
+small Known May =
+    let acked = λ (n count : ℕ) (rows : List Row). counted_kept rows _ (acknowledged n count rows).kept in
+    let sent_up = λ (n : ℕ) (cause : DiscardCause) (rows : List Row). counted_kept rows _ (sent_given_up n cause rows).kept in
+    let waiting_up = λ (n : ℕ) (cause : DiscardCause) (rows : List Row). counted_kept rows _ (waiting_given_up n cause rows).kept in
+    let back = λ (code n : ℕ) (rows : List Row). counted_kept rows _ (released_rows code n rows).kept in
+    let turned = λ (blind : Bool) (n : ℕ) (link : LinkState) (s : State). counted_back n (out_of_service blind n link s) in
+    search (counted_self, from_then, counted_order, counted_moved)
 
 abbrev pub is_offer : Event → Bool
 is_offer (Offer body) = true
@@ -81,7 +79,7 @@ step_counted : (s : State) (event : Event) → is_offer event ≡ false → Coun
 step_counted s event other = step_walks s CountedFrom (CountedFrom s) event (record {
   small = small _ _;
   unmoved = λ m. (refl, counted_self s.rows);
-  rests = λ t u p q m. let x = p m in let y = q (rw x.0 m) in (y.0 ∙ x.0, counted_then s.rows t.rows u.rows x.1 y.1);
+  rests = λ t u p q. from_then s t u p q;
   offers = λ body e none. absurd (let no : true ≡ false = sym (ap is_offer e) ∙ other in cc);
   takes = λ body rest e there m. (refl, counted_self s.rows);
   sends = λ n link e at m. (refl, counted_sent _ n s.rows);

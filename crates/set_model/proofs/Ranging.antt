@@ -54,9 +54,11 @@ module _ (n : ℕ) (link : LinkState) (rows : List Row) (head : Header) where
   acked_few msu = grind (arith, part_acked, sent_length)
 
 -- A LINK THAT CHANGES, and the others.
-few_set : (k : ℕ → WholeNumbers) (n : ℕ) (link : LinkState) (s : State) (rows : List Row) → AreFewOn (k n) n link rows → ((m : ℕ) → length (unack m rows) ≤ length (unack m s.rows)) → AreAtMost k s → AreAtMost k (record s { links = slice_set s.links n link; rows = rows })
-few_set k n link s rows one fewer few =
-    each_set (λ m other. AreFewOn (k m) m other rows) s.links n link one (λ m other d there. let f = few m other there in let sent = f.sent in let less = fewer m in record { sent = omega (arith, sent, less); accepted = f.accepted })
+few_set : (k : ℕ → WholeNumbers) (n : ℕ) (link link' : LinkState) (s : State) (rows : List Row) → slice_get s.links n ≡ Some link → link'.acked + length (unack n rows) ≤ link.acked + length (unack n s.rows) → link'.accepted ≤ link.accepted → ((m : ℕ) → length (unack m rows) ≤ length (unack m s.rows)) → AreAtMost k s → AreAtMost k (record s { links = slice_set s.links n link'; rows = rows })
+few_set k n link link' s rows there sent accepted fewer few =
+    each_set (λ m other. AreFewOn (k m) m other rows) s.links n link'
+    (let f = few n link there in let most = f.sent in let enough = f.accepted in record { sent = omega (arith, sent, most); accepted = omega (arith, accepted, enough) })
+    (λ m other d at. let f = few m other at in let most = f.sent in let less = fewer m in record { sent = omega (arith, most, less); accepted = f.accepted })
 
 few_rows : (k : ℕ → WholeNumbers) (s : State) (rows : List Row) → ((m : ℕ) → length (unack m rows) ≤ length (unack m s.rows)) → AreAtMost k s → AreAtMost k (record s { rows = rows })
 few_rows k s rows fewer few m link there = let f = few m link there in let sent = f.sent in let less = fewer m in record { sent = omega (arith, sent, less); accepted = f.accepted }
@@ -76,27 +78,16 @@ small Known May = record {
   after = λ a b c p q k few. q k (p k few);
   delivers = λ body s k few. few;
   queues = λ order s k few. few_rows k s _ (λ m. same_appended m s.rows (text order s.settings.sio s.settings.dpc s.settings.opc) (fate_on (target s.links)) (not_sent m (target s.links))) few;
-  leaves = λ blind n link s known at k few.
-      let f = few n link at.there in
-      let sent = f.sent in
-      let mid = out_of_service blind n link s in
-      let less = few_back n n mid in
-      few_set k n (left_link blind link) s (turned_back n mid).rows (record { sent = omega (arith, sent, less); accepted = f.accepted }) (λ m. few_back n m mid) few;
+  leaves = λ blind n link s known at k few. let back = λ (m : ℕ). few_back n m (out_of_service blind n link s) in let less = back n in few_set k n link (left_link blind link) s _ at.there (omega (arith, less)) (omega arith) back few;
   acknowledges = λ count n link s known at fits k few.
-      let f = few n link at.there in
-      let sent = f.sent in
       let left = length-drop count (unack n s.rows) in
       let gone = ap length (turned_left (is_unacked n) (Acked n) refl count s.rows) in
-      few_set k n (acknowledged_link count link) s (turned (is_unacked n) (Acked n) count s.rows) (record { sent = omega (arith, sent, left, gone, fits); accepted = f.accepted }) (λ m. fewer_turned (is_unacked n) (is_unacked m) (Acked n) refl count s.rows) few;
+      few_set k n link (acknowledged_link count link) s _ at.there (omega (arith, left, gone, fits)) (omega arith) (λ m. fewer_turned (is_unacked n) (is_unacked m) (Acked n) refl count s.rows) few;
   gives_up_sent = λ cause n link s known at k few. few_rows k s _ (λ m. fewer_changed (is_unacked n) (is_unacked m) (Discarded cause) refl s.rows) few;
   gives_up_waiting = λ cause n link s known at k few. few_rows k s _ (λ m. fewer_changed (is_waiting n) (is_unacked m) (Discarded cause) refl s.rows) few;
   declares = λ may home alternative s up can k few. few_rows k s _ (λ m. same_appended m s.rows _ (Waiting alternative) refl) few;
   releases = λ code s known k few. few_rows k s _ (λ m. few_moved (is_back code) (Waiting (home_of code)) m s.rows refl) few;
-  moves_off = λ n link s known at k few.
-      let f = few n link at.there in
-      let sent = f.sent in
-      let less = few_moved (is_on n) (fate_on (target s.links)) n s.rows (not_sent n (target s.links)) in
-      few_set k n (settled_link link) s (moved (is_on n) (all_with (fate_on (target s.links))) s.rows) (record { sent = omega (arith, sent, less); accepted = f.accepted }) (λ m. few_moved (is_on n) (fate_on (target s.links)) m s.rows (not_sent m (target s.links))) few;
+  moves_off = λ n link s known at k few. let off = λ (m : ℕ). few_moved (is_on n) (fate_on (target s.links)) m s.rows (not_sent m (target s.links)) in let less = off n in few_set k n link (settled_link link) s _ at.there (omega (arith, less)) (omega arith) off few;
 }
 
 one_low : (b : Bool) → one_if b ≤ 1
@@ -110,9 +101,11 @@ wider : (k : ℕ → WholeNumbers) (s : State) → AreAtMost k s → AreAtMost (
 wider k s few m link there = let f = few m link there in let a = f.sent in let b = f.accepted in record { sent = omega (arith, a); accepted = omega (arith, b) }
 
 -- a link that changes, where each has one unacknowledged message more at most
-few_more : (k : ℕ → WholeNumbers) (n : ℕ) (link : LinkState) (s : State) (rows : List Row) → AreFewOn (one_more (k n)) n link rows → ((m : ℕ) → length (unack m rows) ≤ length (unack m s.rows) + 1) → AreAtMost k s → (m : ℕ) (other : LinkState) → slice_get (slice_set s.links n link) m ≡ Some other → AreFewOn (one_more (k m)) m other rows
-few_more k n link s rows one more few =
-    each_set (λ m other. AreFewOn (one_more (k m)) m other rows) s.links n link one (λ m other d there. let f = few m other there in let sent = f.sent in let accepted = f.accepted in let most = more m in record { sent = omega (arith, sent, most); accepted = omega (arith, accepted) })
+few_more : (k : ℕ → WholeNumbers) (n : ℕ) (link link' : LinkState) (s : State) (rows : List Row) → slice_get s.links n ≡ Some link → link'.acked + length (unack n rows) ≤ link.acked + length (unack n s.rows) + 1 → link'.accepted ≤ link.accepted + 1 → ((m : ℕ) → length (unack m rows) ≤ length (unack m s.rows) + 1) → AreAtMost k s → (m : ℕ) (other : LinkState) → slice_get (slice_set s.links n link') m ≡ Some other → AreFewOn (one_more (k m)) m other rows
+few_more k n link link' s rows there sent accepted more few =
+    each_set (λ m other. AreFewOn (one_more (k m)) m other rows) s.links n link'
+    (let f = few n link there in let most = f.sent in let enough = f.accepted in record { sent = omega (arith, sent, most); accepted = omega (arith, accepted, enough) })
+    (λ m other d at. let f = few m other at in let most = f.sent in let enough = f.accepted in let less = more m in record { sent = omega (arith, most, less); accepted = omega (arith, enough) })
 
 pub step_at_most : (s : State) (event : Event) (k : ℕ → WholeNumbers) → AreAtMost k s → AreAtMost (λ n. one_more (k n)) (step s event).state
 step_at_most s event k few = step_walks s (λ t u. (j : ℕ → WholeNumbers) → AreAtMost j t → AreAtMost j u) (AreAtMost (λ n. one_more (k n))) event (record {
@@ -122,28 +115,20 @@ step_at_most s event k few = step_walks s (λ t u. (j : ℕ → WholeNumbers) �
   offers = λ body e none. few_rows (λ n. one_more (k n)) s _ (λ m. same_appended m s.rows body _ (offered_out m (place_of (stream_of body) s.routing) s)) (wider k s few);
   takes = λ body rest e there. wider k s few;
   sends = λ n link e at.
-      let f = few n link at.there in
-      let sent = f.sent in
-      let accepted = f.accepted in
       let choice = choice_of (octets_in (unack n s.rows)) link.control (window_of n link s.rows) in
       let most = few_sent choice n n s.rows in
-      few_more k n _ s (rows_sent choice n s.rows) (record { sent = omega (arith, sent, most); accepted = omega (arith, accepted) }) (λ m. few_sent choice m n s.rows) few;
+      few_more k n link _ s (rows_sent choice n s.rows) at.there (omega (arith, most)) (omega arith) (λ m. few_sent choice m n s.rows) few;
   hears = λ n unit link e at.
-      let f = few n link at.there in
-      let sent = f.sent in
-      let accepted = f.accepted in
       let part = part_of link.control (window_of n link s.rows) (header_in unit) (is_msu unit) in
       let fits : part.acked ≤ length (unack n s.rows) = acked_few n link s.rows (header_in unit) (is_msu unit) in
       let left = length-drop part.acked (unack n s.rows) in
       let gone = ap length (turned_left (is_unacked n) (Acked n) refl part.acked s.rows) in
       let one = one_low part.accept in
-      few_more k n _ s (turned (is_unacked n) (Acked n) part.acked s.rows) (record { sent = omega (arith, sent, left, gone, fits); accepted = omega (arith, accepted, one) }) (λ m. let less = fewer_turned (is_unacked n) (is_unacked m) (Acked n) refl part.acked s.rows in omega (arith, less)) few;
+      few_more k n link _ s (turned (is_unacked n) (Acked n) part.acked s.rows) at.there (omega (arith, left, gone, fits)) (omega (arith, one)) (λ m. let less = fewer_turned (is_unacked n) (is_unacked m) (Acked n) refl part.acked s.rows in omega (arith, less)) few;
   rises = λ n link e at.
-      let f = few n link at.there in
-      let sent = f.sent in
       let same = λ (m : ℕ). few_moved is_parked (Waiting n) m s.rows refl in
       let mine = same n in
-      few_more k n (risen_link s.settings.method) s (moved is_parked (all_with (Waiting n)) s.rows) (record { sent = omega (arith, sent, mine); accepted = omega arith }) (λ m. let less = same m in omega (arith, less)) few;
+      few_more k n link (risen_link s.settings.method) s (moved is_parked (all_with (Waiting n)) s.rows) at.there (omega (arith, mine)) (omega arith) (λ m. let less = same m in omega (arith, less)) few;
 })
 
 pub step_few : (s : State) (event : Event) (events : ℕ) → AreFew events s → AreFew (events + 1) (step s event).state

@@ -8,7 +8,7 @@ use Rattle.set_events.specs.declared.answer.Fate.TheVariants.{Waiting, Acked, Di
 use Rattle.set_events.specs.declared.event.Event.{Event}
 use Rattle.set_route.specs.declared.place.Place.{Place}
 use Rattle.set_route.specs.declared.place.Place.TheVariants.{On, Changing, Nowhere}
-use Rattle.set_route.specs.Routing.{NoneOpen, place_of, has_messages, place_raised, place_settled, place_on}
+use Rattle.set_route.specs.Routing.{NoneOpen, settled, place_of, has_messages, place_raised, place_settled, place_on}
 use Rattle.set_route.proofs.Alone.{alone}
 use Rattle.set_route.proofs.Quiet.{never_changing}
 use Rattle.set_model.specs.Rows.{Row, is_waiting, is_unacked, is_on, is_parked, is_users, stream_of, moved, all_with}
@@ -21,7 +21,7 @@ use Rattle.set_model.specs.Laws.{RunsStraight}
 use Rattle.set_model.proofs.Finding.{new_row}
 use Rattle.set_model.proofs.Live.{stream_turned, stream_changed, stream_sent, stream_appended, stream_goes, stream_remains, stream_empty}
 use Rattle.set_model.proofs.Places.{itself, apart_back, on_other, on_not_parked, parked_not_on}
-use Rattle.set_model.proofs.Plain.{PlainKept, plain_walks}
+use Rattle.set_model.proofs.Plain.{PlainKept, Quietly, plain_walks}
 
 -- NO STREAM IS ON ITS WAY BACK.
 never : (s : State) → IsSound s → NoneOpen s.routing → (k to code via : ℕ) → place_of k s.routing ≡ Changing to code via → ⊥
@@ -31,10 +31,10 @@ never s t none k to code via e = never_changing k to code via s.routing t.routin
 no_users : (order : Order) (s : State) (fate : Fate) (stream : ℕ) → IsManaged s.settings → is_live stream (new_row (length s.rows) (text order s.settings.sio s.settings.dpc s.settings.opc) fate) ≡ false
 no_users order s fate stream m = grind arith
 
-pub queues : (order : Order) (s : State) → IsSound s → AreTogether s → AreTogether (queued order s)
-queues order s t r stream low =
-    stream_appended stream (place_of stream s.routing) (has_messages stream s.routing) (has_messages stream s.routing) s.rows _ (fate_on (target s.links)) t.numbered (r stream low)
-    (λ e. let no : true ≡ false = sym e ∙ no_users order s (fate_on (target s.links)) stream t.managed in absurd cc) (λ e. e)
+queues : (order : Order) (s : State) → Quietly s → AreTogether s → AreTogether (queued order s)
+queues order s quiet r stream low =
+    stream_appended stream (place_of stream s.routing) (has_messages stream s.routing) (has_messages stream s.routing) s.rows _ (fate_on (target s.links)) quiet.0.numbered (r stream low)
+    (λ e. let no : true ≡ false = sym e ∙ no_users order s (fate_on (target s.links)) stream quiet.0.managed in absurd cc) (λ e. e)
 
 -- AN OFFER goes where its stream runs.
 stands_offer : (place : Place) (s : State) → ((to code via : ℕ) → place ≡ Changing to code via → ⊥) → stands_at place (fate_at place s) ≡ true
@@ -106,6 +106,11 @@ module _ (n : ℕ) (to : Option ℕ) (rows : List Row) where
           rw e (stream_goes k (On l) (place_on to) (is_on n) (fate_on to) (on_unfinished n) (target_unfinished to) (λ f there. ap (λ (j : ℕ). is_on j f) (sym same) ∙ there) (target_stands to) used rows p)
       go false e = rw e (stream_remains k (On l) (On l) (is_on n) (fate_on to) (on_unfinished n) (target_unfinished to) (λ f there. on_other n l (apart_back l n e) f there) used rows refl p)
 
+moves_off : (n : ℕ) (s : State) → Quietly s → AreTogether s → (k : ℕ) → k < 16 → IsSoundStream k (place_of k (settled n (target s.links) s.routing)) (has_messages k (settled n (target s.links) s.routing)) (off n (target s.links) s.rows)
+moves_off n s quiet r k low =
+    let a = alone s.routing k quiet.0.routing low in
+    rw (a.settled_place n (target s.links), a.settled_messages n (target s.links)) (stream_left n (target s.links) s.rows k (has_messages k s.routing) (place_of k s.routing) (never s quiet.0 quiet.1 k) (r k low))
+
 -- SENDING.
 sends : (choice : Choice) (n : ℕ) (s : State) → AreTogether s → (stream : ℕ) → stream < 16 → IsSoundStream stream (place_of stream s.routing) (has_messages stream s.routing) (rows_sent choice n s.rows)
 sends (again place) n s r stream low = r stream low
@@ -114,19 +119,7 @@ sends first n s r stream low = stream_sent stream (place_of stream s.routing) n 
 
 -- THE STEP.
 small : (Known : ℕ → Type 0) → PlainKept Known (λ s u. AreTogether s → AreTogether u)
-small Known = record {
-  same = λ s r. r;
-  after = λ a b c p q r. q (p r);
-  delivers = λ body s quiet r. r;
-  queues = λ order s quiet r. queues order s quiet.0 r;
-  leaves = λ blind n link s quiet known at r. r;
-  acknowledges = λ count n link s quiet known at few r k low. stream_turned k (place_of k s.routing) (is_unacked n) (Acked n) refl (has_messages k s.routing) count s.rows (r k low);
-  gives_up_sent = λ cause n link s quiet known at r k low. stream_changed k (place_of k s.routing) (is_unacked n) (Discarded cause) refl (has_messages k s.routing) s.rows (r k low);
-  gives_up_waiting = λ cause n link s quiet known at r k low. stream_changed k (place_of k s.routing) (is_waiting n) (Discarded cause) refl (has_messages k s.routing) s.rows (r k low);
-  moves_off = λ n link s quiet known at r k low.
-      let a = alone s.routing k quiet.0.routing low in
-      rw (a.settled_place n (target s.links), a.settled_messages n (target s.links)) (stream_left n (target s.links) s.rows k (has_messages k s.routing) (place_of k s.routing) (never s quiet.0 quiet.1 k) (r k low));
-}
+small Known = search (queues, stream_turned, stream_changed, moves_off)
 
 pub step_straight : (s : State) (event : Event) → IsAsked event → BeginsNone event → IsSound s → RunsStraight s → RunsStraight (step s event).state
 step_straight s event asked begins t r =
