@@ -1,4 +1,5 @@
 -- What the control's own step does to the window, the FSN last accepted, and the cursor.
+use Rattle.std.proofs.lemmas.Bool.Decides.{nat_tests}
 use Rattle.std.proofs.Common.{refl, arith, ◌≡◌, ◌≢◌, ◌<◌, ◌≤◌, ℕ, ◌+◌, ◌%◌, Bool, true, false, ◌&&◌, length, drop, if◌then◌else◌}
 use Rattle.std.proofs.lemmas.Bool.{ltb-true}
 use Rattle.std.proofs.lemmas.List.{length-drop}
@@ -43,12 +44,7 @@ last_heard control w head acked e = grind arith
 
 -- the FSN last accepted
 pub accepted_heard : (control : Control) (w : WindowState) (head : Header) (msu : Bool) (n : ℕ) → accepted_of control ≡ (n + 127) % 128 → accepted_of (control_heard control w head msu) ≡ (n + one_if (is_accepted control w head msu) + 127) % 128
-accepted_heard (Basic s) w head msu n e = go (basic.is_accepted s w head msu) refl
-  where
-    go : (b : Bool) → basic.is_accepted s w head msu ≡ b → (if basic.is_accepted s w head msu then head.fsn else s.accepted) ≡ (n + one_if (basic.is_accepted s w head msu) + 127) % 128
-    go true f = grind (arith, and_right)
-    go false f = rw f (omega (arith, e))
-accepted_heard (Cyclic s) w head msu n e = grind arith
+accepted_heard v0 w head msu n e = grind (arith, nat_tests, head.fsn, and_right)
 
 -- the cursor, or the place in the cycle
 pub range_heard : (control : Control) (w : WindowState) (head : Header) (msu : Bool) → IsInRange control (length w.unacked) → IsInRange (control_heard control w head msu) (length (drop (acked_by control w head) w.unacked))

@@ -29,11 +29,7 @@ abbrev pub new_row : ℕ → List ℕ → Fate → Row
 new_row number body fate = record { number = number; body = body; fate = fate }
 
 pub numbered_appended : (rows : List Row) (body : List ℕ) (fate : Fate) → IsNumbered rows → IsNumbered (appended rows body fate)
-numbered_appended rows body fate numbered number =
-    ap length (filter-append (λ (row : Row). row.number == number) rows (new_row (length rows) body fate ∷ [])) ∙ length-append (with_number number rows) (with_number number (new_row (length rows) body fate ∷ [])) ∙ go (cases_order number (length rows))
-  where
-    go : (number ≡ length rows) ⊎ ((number < length rows) ⊎ (length rows < number)) → length (with_number number rows) + length (with_number number (new_row (length rows) body fate ∷ [])) ≡ cond (nat_lt number (length (appended rows body fate))) 1 0
-    go order = grind (arith, nat_tests, length_push)
+numbered_appended rows body fate numbered number = grind (arith, nat_tests, filter-append, length-append, cases_order, nat_tests, length_push)
 
 pub fit_appended : (rows : List Row) (body : List ℕ) (fate : Fate) → AreFit rows → length body ≤ 273 → AreFit (appended rows body fate)
 fit_appended rows body fate a f = fit_append rows (new_row (length rows) body fate ∷ []) a (f, tt)

@@ -1,4 +1,5 @@
 -- THE STREAMS' MESSAGES: they stay in the order of their numbers, and together.
+use Rattle.std.proofs.lemmas.Bool.Decides.{nat_tests}
 use Rattle.std.proofs.Common.{refl, arith, ◌≡◌, ◌∙◌, ap, sym, subst, ◌<◌, ℕ, suc, Bool, true, false, not, ◌&&◌, ◌==◌, List, [], ◌∷◌, ◌++◌, length, map, slice_get, Some, cond}
 use Rattle.std.proofs.lemmas.List.{append-nil, map-append}
 use Rattle.std.proofs.lemmas.List.Elements.{filter-append}
@@ -60,9 +61,7 @@ module _ (stream : ℕ) (place : Place) (test : Fate → Bool) (fate : Fate) (do
   stays x xs ys p = less_both (is_live stream x) (is_astray stream place x) x (live stream xs) (live stream ys) (astray stream place xs) (astray stream place ys) p
 
   turns : (x : Row) (xs ys : List Row) → test x.fate ≡ true → Fewer xs ys → Fewer (x ∷ xs) (with_fate fate x ∷ ys)
-  turns x xs ys t p =
-      let gone : is_live stream (with_fate fate x) ≡ false = rw done (and_false (is_users x) (stream_of x.body == stream)) in
-      rw gone (less_before (is_live stream x) (is_astray stream place x) x (live stream xs) (live stream ys) (astray stream place xs) (astray stream place ys) p)
+  turns x xs ys t p = grind (arith, nat_tests, and_false, x.body, less_before)
 
   finished : (used : Bool) (xs ys : List Row) → Fewer xs ys → IsSoundStream stream place used xs → IsSoundStream stream place used ys
   finished used xs ys p t = record { in_order = p.ascends t.in_order; together = p.none_away t.together; unused = λ e. p.none (t.unused e) }
@@ -94,16 +93,7 @@ module _ (stream : ℕ) (place : Place) (n : ℕ) where
   numbers_if b x xs ys e = grind arith
 
   one_sent : (x y : Row) (xs ys : List Row) → y.number ≡ x.number → is_live stream y ≡ is_live stream x → is_astray stream place y ≡ is_astray stream place x → Same xs ys → Same (x ∷ xs) (y ∷ ys)
-  one_sent x y xs ys number alive there p = record {
-    numbers_same = rw alive (renamed (is_live stream x)) ∙ numbers_if (is_live stream x) x (live stream xs) (live stream ys) p.numbers_same;
-    away = λ e. rw there (emptied (is_astray stream place x) e);
-  }
-    where
-      renamed : (b : Bool) → numbers (cond b (y ∷ live stream ys) (live stream ys)) ≡ numbers (cond b (x ∷ live stream ys) (live stream ys))
-      renamed b = grind arith
-
-      emptied : (b : Bool) → cond b (x ∷ astray stream place xs) (astray stream place xs) ≡ [] → cond b (y ∷ astray stream place ys) (astray stream place ys) ≡ []
-      emptied b e = grind arith
+  one_sent x y xs ys number alive there p = grind (arith, nat_tests, numbers_if, p.numbers_same)
 
   sends_one : (x : Row) (xs ys : List Row) → is_waiting n x.fate ≡ true → Same xs ys → Same (x ∷ xs) (with_fate (Unacked n) x ∷ ys)
   sends_one x xs ys w p = grind (arith, same_stand)

@@ -111,10 +111,7 @@ module _ (blind : Bool) (n : ℕ) (link : LinkState) (s : State) (at : IsAt n li
       on_same e = grind (arith, moved_more, gone, append-nil, off)
 
   left_parked : (k : ℕ) (other : LinkState) → slice_get mid.links k ≡ Some other → has_phase_up other.phase ≡ true → parked new ≡ []
-  left_parked k other there up = let old = before k other there up in same ∙ t.none_aside k old.0 old.1 old.2
-    where
-      same : parked new ≡ parked s.rows
-      same = grind (arith, moved_more, gone)
+  left_parked k other there up = grind (arith, nat_tests, before, moved_more, gone)
 
   left_placed : (k : ℕ) → k < 16 → IsPlaced mid.links (place_of k mid.routing)
   left_placed k few = let stays = placed_set s.links n link (left_link blind link) (place_of k s.routing) at.there refl (t.placed k few) in rw ((alone s.routing k t.routing few).left_place n) (grind (arith, stays))
@@ -200,14 +197,7 @@ module _ (code : ℕ) (s : State) (t : IsSound s) where
 
   -- where its home isn't up nothing stands back by the code
   pub none_back : is_up home s ≡ false → gone_rows ≡ s.rows
-  none_back down = moved_nothing (is_back code) (all_with (Waiting home)) s.rows (none_standing (λ row. IsBackOf s.routing row row.fate) (is_back code) (λ x e b. no x x.fate e b) s.rows t.backs)
-    where
-      no : (x : Row) (f : Fate) → is_back code f ≡ true → IsBackOf s.routing x f → ⊥
-      no x (Back c) e b =
-          let same : c ≡ code = eqb-true c code e in
-          let coded = coded_at s.routing (stream_of x.body) t.routing (home_of c) c b.2 b.3 in
-          false_true (is_up home s) down (ap (λ (k : ℕ). is_up (home_of k) s) (sym same) ∙ t.homes_up c coded.1)
-      no x _ e b = absurd cc
+  none_back down = grind (arith, nat_tests, moved_nothing, none_standing, eqb-true, coded_at, false_true)
 
   abbrev r : Released code home s.rows gone_rows
   r = released_rows code home s.rows

@@ -104,10 +104,7 @@ down_sound m n link new down unsettled few counted method order last = grind ari
 
 -- ONE THAT IS UP, where nothing that was sent or is held changes.
 pub up_same : (m : Method) (n : ℕ) (link : LinkState) (rows new : List Row) → has_phase_up link.phase ≡ true → unack n new ≡ unack n rows → held n new ≡ held n rows → IsInOrder n new → IsSoundLink m n link rows → IsSoundLink m n link new
-up_same m n link rows new up u h order l =
-    let last = last_none n new (h ∙ l.none_held up) in
-    let unsettled = up_unsettled link.phase up in
-    grind arith
+up_same m n link rows new up u h order l = grind (arith, nat_tests, last_none, l.none_held, up_unsettled, link.phase)
 
 unacked_not_back : (n : ℕ) (f : Fate) → is_unacked n f ≡ true → stands_back f ≡ false
 unacked_not_back n f e = on_not_back n f (unacked_on n f e)

@@ -1,4 +1,5 @@
 -- WHAT HOLDS OF EVERY STATE is kept when a link comes up, and when it is left by its messages.
+use Rattle.std.proofs.lemmas.Bool.Decides.{nat_tests}
 use Rattle.std.proofs.Common.{refl, arith, ◌≡◌, ◌≢◌, ◌∙◌, ap, sym, subst, ◌<◌, ℕ, ◌%◌, ◌==◌, Bool, true, false, not, ◌&&◌, List, [], length, slice_get, slice_set, Option, None, Some, IfSome}
 use Rattle.std.proofs.lemmas.Bool.{eqb-true, eqb-false, cond_both}
 use Rattle.std.proofs.lemmas.List.{length-set}
@@ -128,9 +129,7 @@ module _ (n : ℕ) (link : LinkState) (s : State) (at : IsAt n link Down s) (t :
 
   -- a stream on its way back has a home that is up, so there is a target
   home_up : (k : ℕ) → k < 16 → (to code via : ℕ) → place_of k s.routing ≡ Changing to code via → target s.links ≡ None → ⊥
-  home_up k few to code via e none =
-      let up = t.homes_up code (coded_at s.routing k t.routing to code via e).1 in
-      grind (arith, none_up)
+  home_up k few to code via e none = grind (arith, nat_tests, coded_at, none_up)
 
   on_target : (to : Option ℕ) → target s.links ≡ to → IsPlaced (slice_set s.links n (settled_link link)) (place_on to)
   on_target None e = tt
