@@ -35,14 +35,7 @@ pub kept_self : (rows : List Row) → Kept rows rows
 kept_self rows = record { fit = λ f. f; numbered = λ f. f; count = refl; bodies = λ f number. refl; total = refl; acked = omega arith }
 
 pub kept_in_place : (test : Fate → Bool) (rows new : List Row) → InPlace test rows new → ((f : Fate) → test f ≡ true → was_acked f ≡ false) → Kept rows new
-kept_in_place test rows new i w = record {
-  fit = i.fit;
-  numbered = same_numbers rows new i.count (λ number. i.as_many (λ (row : Row). row.number == number) (λ f x. refl));
-  count = i.count;
-  bodies = λ numbered number. i.bodies number;
-  total = total_in_place test rows new i;
-  acked = i.acked w;
-}
+kept_in_place test rows new i w = search (i.fit, same_numbers, i.count, i.as_many, i.bodies, total_in_place, i.acked)
 
 pub moved_kept : (test : Fate → Bool) (fate : Row → Fate) (rows : List Row) → ((row : Row) → was_acked (fate row) ≡ false) → ((f : Fate) → test f ≡ true → was_acked f ≡ false) → Kept rows (moved test fate rows)
 moved_kept test fate rows o w = grind (arith, moved_fit, moved_numbered, moved_length, body_moved, total_moved, acked_moved)
