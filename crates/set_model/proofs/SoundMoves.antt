@@ -132,8 +132,7 @@ module _ (n : ℕ) (link : LinkState) (s : State) (at : IsAt n link Down s) (t :
   home_up k few to code via e none = grind (arith, nat_tests, coded_at, none_up)
 
   on_target : (to : Option ℕ) → target s.links ≡ to → IsPlaced (slice_set s.links n (settled_link link)) (place_on to)
-  on_target None e = tt
-  on_target (Some r) e = grind (arith, target_up, get_set_other, eqb-false, not_target, up_unsettled)
+  on_target v0 e = grind (arith, nat_tests, target_up, get_set_other, eqb-false, not_target, up_unsettled)
 
   on_other : (l : ℕ) → (l == n) ≡ false → IsPlaced s.links (On l) → IsPlaced (slice_set s.links n (settled_link link)) (On l)
   on_other l d p = (p.0, get_set_other s.links n l (settled_link link) (λ same. eqb-false l n d (sym same)) ∙ p.1, p.2)
