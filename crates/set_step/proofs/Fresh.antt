@@ -83,13 +83,7 @@ module _ (config : SetConfig) where
   settings_fit = record { some_link = config.has_links; at_most_16 = config.links_in_range; managed = config.management }
 
   stands_new : Stands (no_lists config.links) [] []
-  stands_new = record {
-    queues = λ fate. empty config.links fate ∙ sym (none_stands fate);
-    fates = λ number. refl;
-    labels = λ number. refl;
-    count = refl;
-    numbered = λ number. sym (ap (λ (b : Bool). cond b 1 0) (le-ltb number 0 (omega arith)));
-  }
+  stands_new = grind (arith, nat_tests, empty, none_stands, le-ltb)
 
   pub new_agrees : Agrees (new_kept config) (new_state config)
   new_agrees = record {
@@ -110,12 +104,7 @@ module _ (config : SetConfig) where
 -- AFTER AN EVENT
 
 pub answers_for : (old new : Parts) (event : Event) (answer : Answer) → IsAsked event → Answers old new answer (λ s. stepped s event) → (s : State) → Agrees (kept_of old) s → AnswersFor (step s event) answer (kept_of new)
-answers_for old new event answer asked ok s a =
-    let gives = ok s a in
-    subst (λ o. AnswersFor o answer (kept_of new)) (sym (step_is s event)) (record {
-      answer_is = gives.answer_is;
-      agrees = record { stands = gives.stands; sound = subst (λ o. IsSound o.state) (step_is s event) (step_sound s event asked a.sound) };
-    })
+answers_for old new event answer asked ok s a = grind (arith, nat_tests, step_is, step_sound, a.sound)
 
 pub holds_after : (old new : Parts) (event : Event) (answer : Answer) → IsAsked event → Answers old new answer (λ s. stepped s event) → Holds (kept_of old) → Holds (kept_of new)
 holds_after old new event answer asked answers h = ((step h.0 event).state, (answers_for old new event answer asked answers h.0 h.1).agrees)

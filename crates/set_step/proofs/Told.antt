@@ -40,17 +40,7 @@ use Rattle.set_moves.proofs.Targets.{same_ups, same_target}
 
 -- THE INBOX
 inbox_for : (k : Kept) (s : State) (inbox : List (List ℕ)) → StandsFor k s → StandsFor (record k { inbox = inbox }) (record s { inbox = inbox })
-inbox_for k s inbox f = record {
-  settings = f.settings;
-  stands = f.stands;
-  bodies = f.bodies;
-  held_bodies = f.held_bodies;
-  links = f.links;
-  as_many = f.as_many;
-  fsns = f.fsns;
-  routing = f.routing;
-  inbox = refl;
-}
+inbox_for k s inbox f = grind (arith, nat_tests, f.settings, f.stands, f.bodies, f.held_bodies, f.links, f.as_many, f.fsns, f.routing)
 
 pub delivered : (k : Kept) (s : State) (inbox : List (List ℕ)) (message : List ℕ) → StandsFor k s → inbox ≡ k.inbox ++ message ∷ [] → StandsFor (record k { inbox = inbox }) (record s { inbox = s.inbox ++ message ∷ [] })
 delivered k s inbox message f is = subst (λ (i : List (List ℕ)). StandsFor (record k { inbox = i }) (record s { inbox = s.inbox ++ message ∷ [] })) (sym (is ∙ ap (λ (i : List (List ℕ)). i ++ message ∷ []) f.inbox)) (inbox_for k s (s.inbox ++ message ∷ []) f)
