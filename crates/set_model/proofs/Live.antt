@@ -126,18 +126,14 @@ module _ (stream : ℕ) (place : Place) (used used' : Bool) (rows : List Row) (b
   stream_appended fits grows = go (is_live stream x) refl
     where
       none_astray : is_astray stream place x ≡ false → astray stream place (appended rows body fate) ≡ []
-      none_astray e = astray_split ∙ ap (λ (b : Bool). astray stream place rows ++ cond b (x ∷ []) []) e ∙ append-nil (astray stream place rows) ∙ t.together
+      none_astray e = rw (astray_split, e, append-nil) t.together
 
       go : (b : Bool) → is_live stream x ≡ b → IsSoundStream stream place used' (appended rows body fate)
-      go true h =
-          let f = fits h in
-          let all : live stream (appended rows body fate) ≡ live stream rows ++ x ∷ [] = live_split ∙ ap (λ (b : Bool). live stream rows ++ cond b (x ∷ []) []) h in
-          let numbers_are : numbers (live stream (appended rows body fate)) ≡ numbers (live stream rows) ++ length rows ∷ [] = ap numbers all ∙ map-append (λ (row : Row). row.number) (live stream rows) (x ∷ []) in
-          record {
-            in_order = subst IsAscending (sym numbers_are) (ascends_end (length rows) (numbers (live stream rows)) (λ i m e. (found_by_number (is_live stream) rows i m numbered e).below) t.in_order);
-            together = none_astray (ap (λ (b : Bool). is_live stream x && not b) f.0 ∙ alive_not (is_live stream x));
-            unused = λ e. false_true used' e f.1;
-          }
+      go true h = record {
+        in_order = rw (live_split, h, map-append) (ascends_end (length rows) (numbers (live stream rows)) (λ i m e. (found_by_number (is_live stream) rows i m numbered e).below) t.in_order);
+        together = none_astray (rw (fits h).0 (alive_not (is_live stream x)));
+        unused = λ e. false_true used' e (fits h).1;
+      }
       go false h = grind (arith, live_split, append-nil, none_astray)
 
 -- ROWS THAT MOVE: all live ones of a stream do, or none.
@@ -175,10 +171,7 @@ module _ (stream : ℕ) (place place' : Place) (test : Fate → Bool) (to : Fate
     pub stream_goes : (used : Bool) (rows : List Row) → IsSoundStream stream place used rows → IsSoundStream stream place' used (moved test (all_with to) rows)
     stream_goes used rows t =
         let g = go_all rows t.together in
-        same_stream stream place place' used rows (moved test (all_with to) rows)
-        (ap numbers (live_parts rows ∙ ap (λ (xs : List Row). xs ++ live stream (gone rows)) g.kept_live) ∙ g.gone_live)
-        (astray_parts rows ∙ ap (λ (xs : List Row). xs ++ astray stream place' (gone rows)) g.kept_astray ∙ g.gone_astray)
-        t
+        same_stream stream place place' used rows (moved test (all_with to) rows) (rw (live_parts rows, g.kept_live) g.gone_live) (rw (astray_parts rows, g.kept_astray) g.gone_astray) t
 
   -- those of another
   module _ (none_goes : (f : Fate) → stands_at place f ≡ true → test f ≡ false) where
@@ -198,10 +191,8 @@ module _ (stream : ℕ) (place place' : Place) (test : Fate → Bool) (to : Fate
     pub stream_remains : (used : Bool) (rows : List Row) → place' ≡ place → IsSoundStream stream place used rows → IsSoundStream stream place used (moved test (all_with to) rows)
     stream_remains used rows same t =
         let g = stay_all rows t.together in
-        same_stream stream place place used rows (moved test (all_with to) rows)
-        (ap numbers (live_parts rows ∙ ap (λ (xs : List Row). live stream (kept rows) ++ xs) g.gone_live ∙ append-nil (live stream (kept rows)) ∙ g.kept_live))
-        (filter-append (is_astray stream place) (kept rows) (gone rows) ∙ ap (λ (xs : List Row). xs ++ astray stream place (gone rows)) g.kept_astray ∙ g.gone_astray)
-        t
+        same_stream stream place place used rows (moved test (all_with to) rows) (rw (live_parts rows, g.gone_live, append-nil) (ap numbers g.kept_live))
+        (rw (filter-append (is_astray stream place) (kept rows) (gone rows), g.kept_astray) g.gone_astray) t
 
 -- a stream with no live message can run anywhere
 pub stream_empty : (stream : ℕ) (place place' : Place) (used : Bool) (rows : List Row) → live stream rows ≡ [] → IsSoundStream stream place used rows → IsSoundStream stream place' used rows
