@@ -1,5 +1,7 @@
 -- THE FAULTS of a bank, by their numbers.
 use Rattle.std.specs.Prelude.{ℕ}
+use Rattle.set_crew.specs.declared.fault.CrewFault.{CrewFault}
+use Rattle.set_crew.specs.declared.fault.CrewFault.TheVariants as crew
 use Rattle.bank_core.specs.declared.fault.BankFault.{BankFault}
 use Rattle.bank_core.specs.declared.fault.BankFault.TheVariants.{NoMemory, Users, Sets, NoThread, Unclosed}
 
@@ -17,3 +19,9 @@ EndsEarly Users = ⊥
 EndsEarly Sets = ⊥
 EndsEarly NoThread = Unit {0}
 EndsEarly Unclosed = Unit {0}
+
+-- what the bank tells of a set that didn't
+abbrev pub fault_of : CrewFault → BankFault
+fault_of crew.NoMemory = NoMemory
+fault_of crew.NoThread = NoThread
+fault_of crew.Unclosed = Unclosed

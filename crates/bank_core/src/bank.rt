@@ -4,12 +4,10 @@ ghost use Rattle.bank_core.specs.Faults.{EndsEarly};
 ghost use Rattle.bank_core.specs.Room.{IsRoomFor};
 
 use super::fault::BankFault;
-use super::orders::Orders;
-use super::plan::{Job, Plan};
 use super::running::Running;
-use super::set_thread::Work;
 use line_ring::Line;
 use link_term::Gate;
+use set_crew::{Job, Orders, Plan, Work};
 use set_events::SetConfig;
 use set_ledger::MOST_USERS;
 use std::alloc::Global;

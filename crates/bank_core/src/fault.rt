@@ -2,6 +2,7 @@
 ghost use Rattle.std.specs.Prelude.{◌≡◌};
 ghost use Rattle.bank_core.specs.Faults.{fault_number};
 
+use set_crew::CrewFault;
 use std::alloc::AllocError;
 use thiserror::Error;
 
@@ -42,5 +43,20 @@ impl From<AllocError> for BankFault {
 
     fn from(_error: AllocError) -> BankFault {
         BankFault::NoMemory
+    }
+}
+
+impl From<CrewFault> for BankFault {
+    ghost use Rattle.std.specs.Prelude.{◌≡◌};
+    ghost use Rattle.bank_core.specs.Faults.{fault_of};
+
+    ghost from_gives = { λ crew fault. fault ≡ fault_of crew };
+
+    fn from(fault: CrewFault) -> BankFault {
+        match fault {
+            CrewFault::NoMemory => BankFault::NoMemory,
+            CrewFault::NoThread => BankFault::NoThread,
+            CrewFault::Unclosed => BankFault::Unclosed,
+        }
     }
 }

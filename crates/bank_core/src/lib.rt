@@ -2,7 +2,8 @@
 //!
 //! [`Bank::create`] takes the sets' configurations, [`Bank::start`] gives each set a thread, and [`Running::join`]
 //! hands out what each set came to. A set's thread opens its set, runs its terminals and users, gathers their seats,
-//! and closes it: its history is legal for its configuration, whatever the threads did, and in whatever order.
+//! and closes it (`set_crew`): its history is legal for its configuration, whatever the threads did, and in whatever
+//! order.
 //!
 //! ```text
 //! bank        start                                                  join: a list of SetEnds, in the sets' order
@@ -19,18 +20,12 @@
 #![tactic(auto)]
 
 mod bank;
-mod crew;
 mod fault;
-mod orders;
-mod plan;
 mod running;
-mod set_thread;
 mod summing;
-mod terminal;
-mod user;
 
 pub use bank::Bank;
 pub use fault::BankFault;
-pub use plan::{Job, Plan};
-pub use running::{Running, SetEnd};
+pub use running::Running;
+pub use set_crew::{Job, Plan, SetEnd};
 pub use summing::{SetTotals, totals};

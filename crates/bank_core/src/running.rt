@@ -5,42 +5,29 @@ ghost use Rattle.bank_core.specs.Faults.{EndsEarly};
 ghost use Rattle.bank_core.specs.Room.{IsRoomFor};
 
 use super::fault::BankFault;
-use super::set_thread::{Work, one_set};
 use line_ring::Line;
-use link_term::{Gate, TermFault, TermReport};
+use link_term::Gate;
+use set_crew::{CrewFault, SetEnd, Work, one_set};
 use set_events::SetConfig;
-use set_shared::Closed;
 use std::alloc::{AllocError, Global};
 use std::marker::Model;
 use std::sync::Wait;
 use std::thread;
 use std::thread::{Promise, PromisedHandle, Threads};
 
-/// What a set came to.
-#[derive(Drop)]
-pub struct SetEnd {
-    /// The history, legal for the set's configuration, with its books and counts.
-    pub closed: Closed,
-    /// What the turns of each terminal counted, by the links' numbers, or why they ended early.
-    pub reports: Vec<Result<TermReport, TermFault>>,
-    /// Whether each user got through, by the users' numbers.
-    pub users: Vec<bool>,
-}
-
 /// What a set's thread answers: the end of the set of this configuration, or why there is none.
 #[derive(Drop)]
 pub(crate) struct EndOf(pub(crate) SetConfig);
 
-impl Promise<Result<SetEnd, BankFault>> for EndOf {
-    ghost use Rattle.std.specs.Prelude.{MatchResult};
-    ghost use Rattle.bank_core.specs.Ends.{IsEndOf};
-    ghost use Rattle.bank_core.specs.Faults.{EndsEarly};
+impl Promise<Result<SetEnd, CrewFault>> for EndOf {
+    ghost use Rattle.std.specs.Prelude.{IfOk};
+    ghost use Rattle.set_crew.specs.Ends.{IsEndOf};
 
-    ghost kept_by = { λ promise result. MatchResult result (IsEndOf promise.0) EndsEarly };
+    ghost kept_by = { λ promise result. IfOk result (IsEndOf promise.0) };
 }
 
 /// The thread of a set.
-pub(crate) type SetThread = PromisedHandle<Result<SetEnd, BankFault>, EndOf>;
+pub(crate) type SetThread = PromisedHandle<Result<SetEnd, CrewFault>, EndOf>;
 
 /// A bank whose sets run. Contracts see their configurations, in order. Where it's dropped they run on, and nobody
 /// learns what they come to.
@@ -109,7 +96,7 @@ impl Running {
         }
         match first_fault {
             None => Ok(ends),
-            Some(fault) => Err(fault),
+            Some(fault) => Err(BankFault::from(fault)),
         }
     }
 }

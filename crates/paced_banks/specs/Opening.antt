@@ -4,7 +4,7 @@ use Rattle.set_events.specs.declared.config.SetConfig.{SetConfig}
 use Rattle.set_events.specs.declared.config.Method.{Method}
 use Rattle.set_events.specs.declared.config.Method.TheVariants.{Basic, Cyclic}
 use Rattle.set_events.specs.Config.{IsConfigOf}
-use Rattle.bank_core.specs.declared.running.SetEnd.{SetEnd}
+use Rattle.set_crew.specs.declared.end.SetEnd.{SetEnd}
 use Rattle.bank_core.specs.Ends.{AreEnds}
 
 -- 0, 1, .. below a number

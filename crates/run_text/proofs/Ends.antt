@@ -5,7 +5,7 @@ use Rattle.std.proofs.lemmas.List.{length-append, length-map}
 use Rattle.std.proofs.lemmas.List.Elements.{All-nil, All-cons}
 use Rattle.set_events.specs.declared.config.SetConfig.{SetConfig}
 use Rattle.set_events.specs.declared.config.Method.{Method}
-use Rattle.bank_core.specs.declared.running.SetEnd.{SetEnd}
+use Rattle.set_crew.specs.declared.end.SetEnd.{SetEnd}
 use Rattle.bank_core.specs.Ends.{AreEnds}
 use Rattle.paced_banks.specs.Opening.{AreEndsOf, numbers_below}
 use Rattle.printing.specs.declared.fault.Fault.{Fault}

@@ -3,7 +3,7 @@ use Rattle.std.proofs.Common.{refl, arith, ◌≡◌, ◌∙◌, ap, sym, ℕ, �
 use Rattle.std.proofs.lemmas.List.{append-nil}
 use Rattle.term_model.specs.declared.report.TermReport.{TermReport}
 use Rattle.link_term.specs.declared.fault.TermFault.{TermFault}
-use Rattle.bank_core.specs.declared.running.SetEnd.{SetEnd}
+use Rattle.set_crew.specs.declared.end.SetEnd.{SetEnd}
 use Rattle.bank_core.specs.declared.summing.SetTotals.{SetTotals}
 use Rattle.run_text.specs.RunText.{sets_text, set_links_text, links_text}
 

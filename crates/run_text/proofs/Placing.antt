@@ -8,7 +8,7 @@ use Rattle.set_events.specs.declared.books.Books.{Books}
 use Rattle.set_step.specs.declared.fault.SetFault.{SetFault}
 use Rattle.set_step.specs.declared.fault.SetFault.TheVariants.{Exhausted}
 use Rattle.set_core.proofs.Keeping.{messages_few}
-use Rattle.bank_core.specs.declared.running.SetEnd.{SetEnd}
+use Rattle.set_crew.specs.declared.end.SetEnd.{SetEnd}
 use Rattle.run_text.specs.Running.{IsAnEnd}
 use Rattle.set_model.specs.Rows.{counts_of, total_of}
 use Rattle.set_model.specs.State.{State, new_state}

@@ -10,7 +10,7 @@ use Rattle.set_events.specs.declared.history.Entry.{Entry}
 use Rattle.set_model.specs.Rows.{total_of}
 use Rattle.term_model.specs.declared.report.TermReport.{TermReport}
 use Rattle.link_term.specs.declared.fault.TermFault.{TermFault}
-use Rattle.bank_core.specs.declared.running.SetEnd.{SetEnd}
+use Rattle.set_crew.specs.declared.end.SetEnd.{SetEnd}
 use Rattle.bank_core.specs.declared.summing.SetTotals.{SetTotals}
 use Rattle.bank_core.specs.Totals.{accepted_in_all, placed_in_all, all_are_legal}
 use Rattle.run_text.specs.declared.link.LinkEnd.{LinkEnd}

@@ -2,8 +2,8 @@
 use Rattle.std.specs.Prelude.{◌≡◌, ℕ, Bool, true, List, [], ◌++◌, Option, Result, MatchResult, All, IsOk}
 use Rattle.std.specs.Io.KnownBytes.{Appends}
 use Rattle.set_events.specs.declared.config.SetConfig.{SetConfig}
-use Rattle.bank_core.specs.declared.running.SetEnd.{SetEnd}
-use Rattle.bank_core.specs.Ends.{IsEndOf}
+use Rattle.set_crew.specs.declared.end.SetEnd.{SetEnd}
+use Rattle.set_crew.specs.Ends.{IsEndOf}
 use Rattle.paced_banks.specs.declared.traffic.Traffic.{Traffic}
 use Rattle.paced_banks.specs.Opening.{AreEndsOf, method_of}
 use Rattle.printing.specs.declared.fault.Fault.{Fault}

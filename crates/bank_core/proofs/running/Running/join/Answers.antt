@@ -7,7 +7,6 @@ pub loop-thread-preserved-in-Ok : goal.loop-thread-preserved-in-Ok
 loop-thread-preserved-in-Ok g c =
     let kept = c.loop-thread.invariant in (
       (λ none. one_end_more (λ thread. thread.promise.0) c.loop-thread.yielded c.in-Some.thread c.loop-thread.ends.items c.push_reserved.new.self.items c.in-Ok.end c.push_reserved.ensures.items (kept.0 none) c.in-Ok.ensures),
-      kept.1,
-      omega (arith, length-append c.loop-thread.yielded (c.in-Some.thread ∷ []), kept.2, c.push_reserved.ensures.len),
-      omega (arith, kept.3, c.push_reserved.ensures.capacity),
+      omega (arith, length-append c.loop-thread.yielded (c.in-Some.thread ∷ []), kept.1, c.push_reserved.ensures.len),
+      omega (arith, kept.2, c.push_reserved.ensures.capacity),
     )

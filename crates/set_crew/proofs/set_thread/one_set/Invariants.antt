@@ -1,4 +1,4 @@
-use Rattle.bank_core.proofs.set_thread.one_set.Given as goal
+use Rattle.set_crew.proofs.set_thread.one_set.Given as goal
 
 -- each ledger is named by its blank
 abbrev pub ghosts-run_set-C-Ledger : goal.ghosts-run_set-C-Ledger

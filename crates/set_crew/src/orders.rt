@@ -5,11 +5,13 @@ use link_term::Gate;
 
 /// What holds for all terminals and users of one set.
 #[derive(Drop)]
-pub(crate) struct Orders<G: Gate> {
+pub struct Orders<G: Gate> {
     /// The number of the set, which is told to the gate alone.
-    pub(crate) set: u16,
-    pub(crate) gate: G,
-    pub(crate) plan: Plan,
+    pub set: u16,
+    /// What each terminal and user passes before it asks the set, and after it.
+    pub gate: G,
+    /// What all terminals do.
+    pub plan: Plan,
 }
 
 /// A gate that is lent, so that all terminals of a set pass the same one.

@@ -1,4 +1,4 @@
-//! What the users and the terminals of a bank are to do.
+//! What the users and the terminals of a set are to do.
 ghost use Rattle.std.specs.Prelude.{◌≤◌, ◌^◌};
 
 use link_term::Timers;
@@ -19,7 +19,7 @@ pub enum Job {
     },
 }
 
-/// What all terminals of a bank do.
+/// What all terminals do.
 #[derive(Clone, Copy, Debug, PartialEq, Eq)]
 pub struct Plan {
     /// The lengths of their timers, in octet times.

@@ -1,8 +1,6 @@
 //! The threads of one set.
-ghost use Rattle.std.specs.Prelude.{IfErr};
-ghost use Rattle.bank_core.specs.Faults.{EndsEarly};
 
-use super::fault::BankFault;
+use super::fault::CrewFault;
 use link_term::{TermFault, TermReport};
 use set_shared::{TermSeat, UserSeat};
 use std::alloc::{AllocError, Global};
@@ -56,9 +54,7 @@ impl<C: Ledger, M: Ledger, O: Ledger, A: Ledger> Crew<C, M, O, A> {
     }
 
     /// Keeps the seat of a terminal that has no line.
-    pub(crate) fn leave_idle(&mut self, seat: TermSeat<C, M, O, A>) -> Result<(), BankFault>
-        ensures { IfErr result EndsEarly }
-    {
+    pub(crate) fn leave_idle(&mut self, seat: TermSeat<C, M, O, A>) -> Result<(), CrewFault> {
         self.idle.reserve(1)?;
         self.idle.push_reserved(seat);
         Ok(())
@@ -69,9 +65,7 @@ impl<C: Ledger, M: Ledger, O: Ledger, A: Ledger> Crew<C, M, O, A> {
         self,
         rt: &R,
         alloc: Global,
-    ) -> Result<Gathered<C, M, O, A>, BankFault>
-        ensures { IfErr result EndsEarly }
-    {
+    ) -> Result<Gathered<C, M, O, A>, CrewFault> {
         let Crew {
             users,
             terminals,
@@ -87,7 +81,7 @@ impl<C: Ledger, M: Ledger, O: Ledger, A: Ledger> Crew<C, M, O, A> {
         let of_terminals = wait_for_all(rt, terminals, &mut all.terminals, &mut all.reports);
         match of_users.and(of_terminals) {
             Ok(()) => Ok(all),
-            Err(_) => Err(BankFault::NoMemory),
+            Err(_) => Err(CrewFault::NoMemory),
         }
     }
 }
@@ -103,16 +97,14 @@ pub(crate) fn start_shift<
     scope: &'s Scope<'s, &'e ()>,
     shift: W,
     threads: &mut Vec<JoinHandle<Ended<S, T>>>,
-) -> Result<(), BankFault>
-    ensures { IfErr result EndsEarly }
-{
+) -> Result<(), CrewFault> {
     threads.reserve(1)?;
     match scope.spawn(move || shift.work()) {
         Ok(started) => {
             threads.push_reserved(started);
             Ok(())
         }
-        Err(_) => Err(BankFault::NoThread),
+        Err(_) => Err(CrewFault::NoThread),
     }
 }
 

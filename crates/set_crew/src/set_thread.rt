@@ -1,14 +1,13 @@
 //! What a set's thread does.
-ghost use Rattle.std.specs.Prelude.{◌≡◌, ◌<◌, ◌≤◌, ◌↔◌, IsTrue, IfErr, MatchResult};
+ghost use Rattle.std.specs.Prelude.{◌≡◌, ◌<◌, ◌≤◌, ◌↔◌, IsTrue, IfOk};
 ghost use Rattle.set_ledger.specs.Totals.{AreParts, Names};
-ghost use Rattle.bank_core.specs.Ends.{IsEndOf, IsClosedAs};
-ghost use Rattle.bank_core.specs.Faults.{EndsEarly};
+ghost use Rattle.set_crew.specs.Ends.{IsEndOf, IsClosedAs};
 
 use super::crew::{Crew, Gathered, start_shift};
-use super::fault::BankFault;
+use super::end::SetEnd;
+use super::fault::CrewFault;
 use super::orders::Orders;
 use super::plan::Job;
-use super::running::SetEnd;
 use super::terminal::TermShift;
 use super::user::UserShift;
 use line_ring::Line;
@@ -24,15 +23,18 @@ use std::thread::{Scope, Threads};
 
 /// What the thread of one set is to do.
 #[derive(Drop)]
-pub(crate) struct Work<L: Line + Drop, G: Gate> {
-    pub(crate) config: SetConfig,
-    pub(crate) users: u16,
+pub struct Work<L: Line + Drop, G: Gate> {
+    /// What the set is opened with.
+    pub config: SetConfig,
+    /// How many users it has, 1 to 64.
+    pub users: u16,
     /// The line of each link, by the links' numbers.
-    pub(crate) lines: Vec<L>,
+    pub lines: Vec<L>,
     /// The job of each user, by the users' numbers.
-    pub(crate) jobs: Vec<Job>,
-    pub(crate) orders: Orders<G>,
-    pub(crate) ghost users_in_range: { (0 < users) × (users ≤ 64) },
+    pub jobs: Vec<Job>,
+    /// What holds for all its terminals and users.
+    pub orders: Orders<G>,
+    pub ghost users_in_range: { (0 < users) × (users ≤ 64) },
 }
 
 /// The seats of a set, with what is to be done at them.
@@ -45,12 +47,18 @@ struct Seats<C: Ledger, M: Ledger, O: Ledger, A: Ledger, L: Drop> {
 }
 
 /// Opens a set, runs its terminals and users, and closes it.
-pub(crate) fn one_set<
-    L: Line + Drop + Send,
-    G: Gate + Drop + Send + Sync,
-    R: Threads + Wait + Sync,
->(rt: &R, alloc: Global, work: Work<L, G>) -> Result<SetEnd, BankFault>
-    ensures { MatchResult result (IsEndOf work.config) EndsEarly }
+///
+/// A link that has no line isn't run, and a user that has no job makes no call; lines and jobs that are over are given
+/// up. Each terminal is told to come up in an emergency before its first turn.
+///
+/// Faults, once all threads that were started have ended: [`CrewFault::NoMemory`], [`CrewFault::NoThread`],
+/// [`CrewFault::Unclosed`].
+pub fn one_set<L: Line + Drop + Send, G: Gate + Drop + Send + Sync, R: Threads + Wait + Sync>(
+    rt: &R,
+    alloc: Global,
+    work: Work<L, G>,
+) -> Result<SetEnd, CrewFault>
+    ensures { IfOk result (IsEndOf work.config) }
 {
     let users = u64::from(work.users);
     let links = u64::from(work.config.links);
@@ -72,18 +80,18 @@ fn run_set<
     L: Line + Drop + Send,
     G: Gate + Drop + Send + Sync,
     R: Threads + Wait + Sync,
->(rt: &R, alloc: Global, work: Work<L, G>, blanks: Blanks) -> Result<SetEnd, BankFault>
+>(rt: &R, alloc: Global, work: Work<L, G>, blanks: Blanks) -> Result<SetEnd, CrewFault>
     requires calls { Names blanks.calls C.name C.parts }
     requires messages { Names blanks.messages M.name M.parts }
     requires octets { Names blanks.octets O.name O.parts }
     requires acknowledged { Names blanks.acknowledged A.name A.parts }
     requires parts { AreParts C.parts M.parts O.parts A.parts work.users work.config.links }
-    ensures { MatchResult result (IsEndOf work.config) EndsEarly }
+    ensures { IfOk result (IsEndOf work.config) }
 {
     let config = work.config;
     match LinkSet::<C, M, O, A>::create(alloc, &config, work.users, blanks) {
         Ok(opened) => run_opened(rt, alloc, opened, work),
-        Err(_) => Err(BankFault::NoMemory),
+        Err(_) => Err(CrewFault::NoMemory),
     }
 }
 
@@ -96,8 +104,8 @@ fn run_opened<
     L: Line + Drop + Send,
     G: Gate + Drop + Send + Sync,
     R: Threads + Wait + Sync,
->(rt: &R, alloc: Global, opened: Opened<C, M, O, A>, work: Work<L, G>) -> Result<SetEnd, BankFault>
-    ensures { MatchResult result (IsEndOf work.config) EndsEarly }
+>(rt: &R, alloc: Global, opened: Opened<C, M, O, A>, work: Work<L, G>) -> Result<SetEnd, CrewFault>
+    ensures { IfOk result (IsEndOf work.config) }
 {
     let Opened {
         set,
@@ -128,8 +136,8 @@ fn end_set<C: Ledger, M: Ledger, O: Ledger, A: Ledger>(
     set: LinkSet<C, M, O, A>,
     gathered: Gathered<C, M, O, A>,
     config: &SetConfig,
-) -> Result<SetEnd, BankFault>
-    ensures { MatchResult result (IsEndOf config.now) EndsEarly }
+) -> Result<SetEnd, CrewFault>
+    ensures { IfOk result (IsEndOf config.now) }
 {
     let Gathered {
         users,
@@ -151,17 +159,17 @@ fn close<C: Ledger, M: Ledger, O: Ledger, A: Ledger>(
     users: Vec<UserSeat<C, M, O, A>>,
     terminals: Vec<TermSeat<C, M, O, A>>,
     config: &SetConfig,
-) -> Result<Closed, BankFault>
-    ensures { MatchResult result (IsClosedAs config.now) EndsEarly }
+) -> Result<Closed, CrewFault>
+    ensures { IfOk result (IsClosedAs config.now) }
 {
     let Ok(closed) = set.close(users, terminals) else {
-        return Err(BankFault::Unclosed);
+        return Err(CrewFault::Unclosed);
     };
     // what stood under the lock has no name, so that its configuration is compared
     if is_same(&closed.config, config) {
         Ok(closed)
     } else {
-        Err(BankFault::Unclosed)
+        Err(CrewFault::Unclosed)
     }
 }
 
@@ -188,14 +196,13 @@ fn run_seats<
     set: &LinkSet<C, M, O, A>,
     seats: Seats<C, M, O, A, L>,
     orders: &Orders<G>,
-) -> Result<Gathered<C, M, O, A>, BankFault>
-    ensures { IfErr result EndsEarly }
-{
+) -> Result<Gathered<C, M, O, A>, CrewFault> {
     thread::scope(
         thread::scope_env(),
         rt,
-        |scope| -> Result<Gathered<C, M, O, A>, BankFault>
-            ensures { IfErr result EndsEarly }
+        |scope| -> Result<Gathered<C, M, O, A>, CrewFault>
+            // nothing is told of it: with no clause all that its body gives would be
+            ensures { Unit {0} }
         {
             let mut crew = Crew::new(alloc);
             match start_all(scope, rt, set, seats, orders, &mut crew) {
@@ -224,9 +231,7 @@ fn start_all<
     seats: Seats<C, M, O, A, L>,
     orders: &'s Orders<G>,
     crew: &mut Crew<C, M, O, A>,
-) -> Result<(), BankFault>
-    ensures { IfErr result EndsEarly }
-{
+) -> Result<(), CrewFault> {
     let Seats {
         users,
         jobs,
@@ -258,9 +263,7 @@ fn start_terminals<
     lines: Vec<L>,
     orders: &'s Orders<G>,
     crew: &mut Crew<C, M, O, A>,
-) -> Result<(), BankFault>
-    ensures { IfErr result EndsEarly }
-{
+) -> Result<(), CrewFault> {
     let mut lines = lines.into_iter();
     for seat in seats {
         let started = match lines.next() {
@@ -300,9 +303,7 @@ fn start_users<
     jobs: Vec<Job>,
     orders: &'s Orders<G>,
     crew: &mut Crew<C, M, O, A>,
-) -> Result<(), BankFault>
-    ensures { IfErr result EndsEarly }
-{
+) -> Result<(), CrewFault> {
     let mut jobs = jobs.into_iter();
     for seat in seats {
         let job = jobs.next().unwrap_or(Job::Take { times: 0 });

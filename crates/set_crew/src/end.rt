@@ -1,0 +1,15 @@
+//! What a set came to.
+
+use link_term::{TermFault, TermReport};
+use set_shared::Closed;
+
+/// What a set came to.
+#[derive(Drop)]
+pub struct SetEnd {
+    /// The history, legal for the set's configuration, with its books and counts.
+    pub closed: Closed,
+    /// What the turns of each terminal counted, by the links' numbers, or why they ended early.
+    pub reports: Vec<Result<TermReport, TermFault>>,
+    /// Whether each user got through, by the users' numbers.
+    pub users: Vec<bool>,
+}

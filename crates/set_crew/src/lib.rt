@@ -1,0 +1,31 @@
+//! The crew of one set: threads that run its terminals and users, from its opening to its closing.
+//!
+//! [`one_set`] opens a set, starts a thread for each terminal that has a line and for each user, waits for all of
+//! them, and closes the set: what it came to is a [`SetEnd`], whose history is legal for the set's configuration,
+//! whatever the threads did, and in whatever order. The thread that calls it is the set's own (`bank_core`).
+//!
+//! ```text
+//! Work    create   +-- terminal 0: line 0, all turns --+   close    SetEnd
+//!   |       |   ---+-- terminal 1: line 1, all turns --+-----+        ^
+//!   +-------+      +-- user 0: job 0 ------------------+     +--------+
+//!                  +-- user 1: job 1 ------------------+
+//! ```
+//!
+//! Every seat comes back: that of a terminal without a line at once, the others from their threads. Nothing is
+//! promised of who gets on, or when.
+#![tactic(auto)]
+
+mod crew;
+mod end;
+mod fault;
+mod orders;
+mod plan;
+mod set_thread;
+mod terminal;
+mod user;
+
+pub use end::SetEnd;
+pub use fault::CrewFault;
+pub use orders::Orders;
+pub use plan::{Job, Plan};
+pub use set_thread::{Work, one_set};
