@@ -55,13 +55,7 @@ restands q q' ms rows new ns to s kept given queues goes = record {
     fate n zero e = fate_stays n ns to ms e ∙ s.fates n ∙ sym ((goes n).stays e)
     fate n (suc k) e = fate_moves n ns to ms given (omega (arith, e)) ∙ sym ((goes n).goes (omega (arith, e)))
 
--- A final fate has no queue.
-pub final : (f : Fate) → is_standing f ≡ false → (g : Lists) → queue_at f g ≡ []
-final f e g = grind arith
-
-pub none : (f : Fate) → is_standing f ≡ false → (rs : List Row) → numbers (rows_at f rs) ≡ []
-none f e g = grind arith
-
+-- a final fate has no queue
 pub only_standing : (q : Lists) (rows : List Row) → ((f : Fate) → is_standing f ≡ true → queue_at f q ≡ numbers (rows_at f rows)) → (f : Fate) → queue_at f q ≡ numbers (rows_at f rows)
 only_standing q rows h f = grind (arith, h)
 

@@ -17,7 +17,7 @@ use Rattle.set_queues.proofs.Passing.{links_stay, list_kept, kept_last}
 use Rattle.set_queues.proofs.Settling.{IsAside}
 use Rattle.set_queues.proofs.Soundness.{passed_links, sent_links, acked_links, queue_last, last_links}
 use Rattle.set_route.specs.Routing.{Routing}
-use Rattle.set_model.specs.Rows.{Row, is_waiting, is_unacked, is_on, is_parked, is_back, turned, changed, moved, all_with, appended, body_at, IsInOrder, IsHeldLast}
+use Rattle.set_model.specs.Rows.{Row, is_waiting, is_unacked, is_on, is_parked, is_back, turned, changed, moved, all_with, appended, IsInOrder, IsHeldLast}
 use Rattle.set_model.specs.Changeover.{fate_on}
 use Rattle.set_model.specs.State.{LinkState, State}
 use Rattle.set_model.proofs.Events.{Kept as RowsKept}
@@ -60,45 +60,10 @@ last_here l fsn q h = let x = present q.links l h in ap number_in (updated_there
 pub last_there : (l fsn : ℕ) (q : Lists) (n : ℕ) → l ≢ n → last_at n (with_last l fsn q) ≡ last_at n q
 last_there l fsn q n ne = ap number_in (updated_other (λ (z : LinkLists). record z { last = fsn }) q.links l n ne)
 
--- ALL AGAIN, when queues, rows, links and routing changed together.
-pub record Change (k : Kept) (s : State) (lists : Lists) (messages : List Message) (rows : List Row) (links : List LinkState) : Type 0 where
-  pub stands : Stands lists messages rows
-  pub bodies : (number : ℕ) → body_at number rows ≡ body_at number s.rows
-  pub as_many_messages : length messages ≡ length k.messages
-  pub as_many_queues : length lists.links ≡ length k.lists.links
-  pub as_many_links : length links ≡ length s.links
-  pub fsns : (number : ℕ) (link : LinkState) → slice_get links number ≡ Some link → last_at number lists ≡ (link.acked + 127) % 128
-
-pub changes : (k : Kept) (s : State) (lists : Lists) (messages : List Message) (rows : List Row) (links : List LinkState) (routing : Routing) → StandsFor k s → Change k s lists messages rows links
-    → StandsFor (record k { lists = lists; messages = messages; links = links; routing = routing }) (record s { rows = rows; links = links; routing = routing })
-changes k s lists messages rows links routing f c = record {
-  settings = f.settings;
-  stands = c.stands;
-  bodies = λ n. f.bodies n ∙ sym (c.bodies n);
-  held_bodies = f.held_bodies ∙ sym c.as_many_messages;
-  links = refl;
-  as_many = c.as_many_queues ∙ f.as_many ∙ sym c.as_many_links;
-  fsns = c.fsns;
-  routing = refl;
-  inbox = f.inbox;
-}
-
 -- the FSNs of links of which one changed
 fsns_set : (s : State) (lists : Lists) (n : ℕ) (link' : LinkState) → ((m : ℕ) (link : LinkState) → n ≢ m → slice_get s.links m ≡ Some link → last_at m lists ≡ (link.acked + 127) % 128) → last_at n lists ≡ (link'.acked + 127) % 128
     → (m : ℕ) (link : LinkState) → slice_get (slice_set s.links n link') m ≡ Some link → last_at m lists ≡ (link.acked + 127) % 128
 fsns_set s lists n link' others own m link there = grind (arith, nat_tests, at_set)
-
--- A LINK CHANGES, but for what was acknowledged on it.
-pub link_for : (k : Kept) (s : State) (n : ℕ) (link link' : LinkState) (routing : Routing) → StandsFor k s → slice_get s.links n ≡ Some link → link'.acked ≡ link.acked
-    → StandsFor (record k { links = slice_set s.links n link'; routing = routing }) (record s { links = slice_set s.links n link'; routing = routing })
-link_for k s n link link' routing f there e = changes k s k.lists k.messages s.rows (slice_set s.links n link') routing f (record {
-  stands = f.stands;
-  bodies = λ m. refl;
-  as_many_messages = refl;
-  as_many_queues = refl;
-  as_many_links = length_set s.links n link';
-  fsns = fsns_set s k.lists n link' (λ m other ne at. f.fsns m other at) (f.fsns n link there ∙ ap (λ (a : ℕ). (a + 127) % 128) (sym e));
-})
 
 -- A NEW MESSAGE.
 pub appended_for : (k : Kept) (s : State) (body : List ℕ) (fate : Fate) → StandsFor k s → is_standing fate ≡ true → IsKnown fate k.lists
@@ -121,7 +86,7 @@ module _ (k : Kept) (s : State) (f : StandsFor k s) (lists : Lists) (messages : 
   as_many_bodies = let now = moves.stands.count in let then = moves.same.count in let before = f.stands.count in let bodies = f.held_bodies in omega (arith, now, then, before, bodies)
 
   -- no link changes
-  queues_for : ((n : ℕ) → last_at n lists ≡ last_at n k.lists) → StandsFor (record k { lists = lists; messages = messages; routing = routing }) (record s { rows = new; routing = routing' })
+  pub queues_for : ((n : ℕ) → last_at n lists ≡ last_at n k.lists) → StandsFor (record k { lists = lists; messages = messages; routing = routing }) (record s { rows = new; routing = routing' })
   queues_for last = record {
     settings = f.settings;
     stands = moves.stands;
@@ -152,6 +117,13 @@ module _ (k : Kept) (s : State) (f : StandsFor k s) (lists : Lists) (messages : 
 -- a link on which nothing more was acknowledged
 still : (k : Kept) (s : State) (n : ℕ) (link link' : LinkState) → StandsFor k s → slice_get s.links n ≡ Some link → link'.acked ≡ link.acked → last_at n k.lists ≡ (link'.acked + 127) % 128
 still k s n link link' f there e = f.fsns n link there ∙ ap (λ (a : ℕ). (a + 127) % 128) (sym e)
+
+-- A LINK CHANGES, but for what was acknowledged on it.
+pub link_for : (k : Kept) (s : State) (n : ℕ) (link link' : LinkState) (routing : Routing) → StandsFor k s → slice_get s.links n ≡ Some link → link'.acked ≡ link.acked
+    → StandsFor (record k { links = slice_set s.links n link'; routing = routing }) (record s { links = slice_set s.links n link'; routing = routing })
+link_for k s n link link' routing f there e =
+    let nothing : Moves k.lists k.messages s.rows s.rows = record { stands = f.stands; same = record { count = refl; bodies = λ m. refl; numbered = f.stands.numbered } } in
+    link_and_queues_for k s f _ _ _ nothing refl routing routing refl n link' (λ m ne. refl) (still k s n link link' f there e)
 
 -- there are queues of each link
 has_queues : (k : Kept) (s : State) (n : ℕ) (link : LinkState) → StandsFor k s → slice_get s.links n ≡ Some link → n < length k.lists.links

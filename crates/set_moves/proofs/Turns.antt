@@ -1,55 +1,45 @@
 -- WHAT STANDS BACK FOR A LINK turns back: the oldest, and so all of it, the oldest first.
-use Rattle.std.proofs.Common.{rules, refl, arith, ◌≡◌, ◌∙◌, ap, sym, subst, [], ◌∷◌, ◌++◌, length, ℕ, suc, Bool, true, false, ◌⊎◌, inl, inr, List, Some, cond, take, drop, ◌+◌, ◌*◌, None}
+use Rattle.std.proofs.Common.{refl, arith, ◌≡◌, ◌∙◌, ap, sym, subst, [], ◌∷◌, ◌++◌, length, ℕ, suc, Bool, true, false, List, Some, cond, take, drop, ◌+◌, ◌*◌, None}
 use Rattle.std.specs.Prelude.{slice_get}
-use Rattle.std.proofs.lemmas.Bool.{cases_Bool, eq-eqb}
+use Rattle.std.proofs.lemmas.Bool.{eq-eqb}
+use Rattle.std.proofs.lemmas.Bool.Decides.{nat_tests}
 use Rattle.std.proofs.lemmas.List.{append-nil, map-append}
 use Rattle.set_events.specs.declared.answer.Fate.{Fate}
-use Rattle.set_events.specs.declared.answer.Fate.TheVariants.{Waiting, Unacked, Acked, Held, Parked, Back, Discarded}
+use Rattle.set_events.specs.declared.answer.Fate.TheVariants.{Waiting, Held, Back}
 use Rattle.set_queues.specs.Backs.{passed_first, IsOldest, back_from, NoneBack}
 use Rattle.set_queues.specs.Buffers.{Lists, is_standing, same_fate, queue_at, with_queue, last_at, HaveRoom}
 use Rattle.set_queues.specs.Messages.{restood}
-use Rattle.set_queues.proofs.Standing.{length-restood, same_is}
+use Rattle.set_queues.proofs.Standing.{same_is}
 use Rattle.set_queues.specs.declared.message.Message.{Message}
 use Rattle.set_route.specs.declared.place.Place.{Place}
 use Rattle.set_route.specs.Routing.{home_of, place_of}
-use Rattle.set_model.specs.Rows.{Row, standing, is_waiting, is_unacked, is_held, is_parked, is_back, is_back_to, numbers, with_fate, moved, stream_of}
+use Rattle.set_model.specs.Rows.{Row, standing, is_back, is_back_to, numbers, moved, stream_of}
 use Rattle.set_model.specs.Sound.{IsAscending}
 use Rattle.set_model.specs.State.{State, fate_at}
 use Rattle.set_model.specs.Changeover.{turned_back}
 use Rattle.set_model.proofs.Filters.{fewer_filter}
+use Rattle.set_model.proofs.Finding.{with_number}
 use Rattle.set_model.proofs.Lookups.{no_rows}
 use Rattle.set_model.proofs.Moving.{moved_nothing}
 use Rattle.set_moves.specs.Agreement.{Kept, Stands, StandsFor, rows_at}
 use Rattle.set_moves.specs.Turning.{IsTurning, IsTurningRow, TurnedOn, TurnedSoFar, TakesTurns}
 use Rattle.set_moves.proofs.Becoming.{Becoming, becomes}
-use Rattle.set_moves.proofs.RowsAt.{waits_there, sent_there, held_there, parked_there, back_there}
+use Rattle.set_moves.proofs.RowsAt.{Shifts, is_there, rows_as}
 use Rattle.set_moves.proofs.Shifting.{shifted, shifted_messages, shifted_goes, shifted_stands, shifted_each, rest_stands, moved_same, moved_as}
-use Rattle.set_moves.proofs.Standing.{restands, final, none}
-use Rattle.set_moves.proofs.States.{changes, last_stays}
+use Rattle.set_moves.proofs.Standing.{Moves, shifts_stand}
+use Rattle.set_moves.proofs.States.{queues_for, last_stays}
 use Rattle.set_moves.proofs.Oldest.{IsFirst, IsOnLink, first_of, first_back}
 use Rattle.set_moves.proofs.TurnedQueues.{Goes, either, goes_to, taken, queue_then, links_then, some_back}
 use Rattle.set_moves.specs.declared.parts.Parts.{Parts}
 use Rattle.set_moves.specs.Parts.{IsWhole, kept_of}
 
--- where a fate that isn't final is looked for
-record Tested (f : Fate) : Type 0 where
-  test : Fate → Bool
-  rows_are : (rows : List Row) → rows_at f rows ≡ standing test rows
-  same : (g : Fate) → test g ≡ same_fate g f
+-- the numbers of a fate's rows, where the first that stood back by the code came to another
+module _ (code : ℕ) (to : Fate) (x : Row) (rest rows : List Row) (one : with_number x.number rows ≡ x ∷ []) (is : x.fate ≡ Back code) (of_code : standing (is_back code) rows ≡ x ∷ rest) (apart : same_fate to (Back code) ≡ false) where
+  first_there : (g : Fate) → is_standing g ≡ true → is_there g x.fate ≡ true → standing (is_there g) rows ≡ x ∷ rest
+  first_there g t h = let here : Back code ≡ g = grind (arith, same_is) in sym (rows_as g rows t) ∙ rw (← here) of_code
 
-tested : (f : Fate) → is_standing f ≡ true → Tested f
-tested (Waiting l) e = record { test = is_waiting l; rows_are = λ rows. refl; same = waits_there l }
-tested (Unacked l) e = record { test = is_unacked l; rows_are = λ rows. refl; same = sent_there l }
-tested (Held l) e = record { test = is_held l; rows_are = λ rows. refl; same = held_there l }
-tested Parked e = record { test = is_parked; rows_are = λ rows. refl; same = parked_there }
-tested (Back c) e = record { test = is_back c; rows_are = λ rows. refl; same = back_there c }
-tested (Acked l) e = absurd cc
-tested (Discarded cause) e = absurd cc
-
--- the numbers of a fate's rows, where the first left those of the one and came to the other
-joined : (from at : Bool) (rest own : List Row) (y : Row) (n : ℕ) (left there here : List ℕ) → n ≡ y.number → (from ≡ true → at ≡ false) → left ≡ numbers rest → (at ≡ true → there ≡ numbers own) → here ≡ numbers own
-    → cond from left (cond at (there ++ n ∷ []) here) ≡ numbers (cond from rest own ++ cond at (y ∷ []) [])
-joined from at rest own y n left there here h0 h1 h2 h3 h4 = grind (arith, append-nil, map-append)
+  turned_place : (g : Fate) → is_standing g ≡ true → (b d : Bool) → is_back code g ≡ b → same_fate to g ≡ d → numbers (rows_at g (shifted to x rows)) ≡ cond b (drop 1 (numbers (standing (is_back code) rows))) (cond d (numbers (rows_at to rows) ++ x.number ∷ []) (numbers (rows_at g rows)))
+  turned_place g t b d e h = let there = shifted_stands to x rows one (is_there g) rest (first_there g t) in let from : is_there g x.fate ≡ b = grind (arith, nat_tests) in rw (rows_as g _ t, there, from, h) (grind (arith, append-nil, map-append, same_is, rows_as, of_code))
 
 -- ONE TURNS BACK
 module _ (home code : ℕ) (to : Fate) (k : Kept) (s : State) (f : StandsFor k s) (o : IsOldest home code k.lists) (on : IsOnLink (length k.lists.links) to) (x : IsFirst home code o.number s.rows) where
@@ -65,41 +55,28 @@ module _ (home code : ℕ) (to : Fate) (k : Kept) (s : State) (f : StandsFor k s
   goes : Goes code o.number to k.lists
   goes = goes_to home code (length k.lists.links) to k.lists o on refl
 
-  queues : (g : Fate) → queue_at g then ≡ numbers (rows_at g after)
-  queues g = queue_then code o.number to k.lists goes g ∙ go (cases_Bool (is_standing g))
-    where
-      go : (is_standing g ≡ true) ⊎ (is_standing g ≡ false) → cond (same_fate (Back code) g) (drop 1 (queue_at (Back code) k.lists)) (cond (same_fate to g) (queue_at to k.lists ++ o.number ∷ []) (queue_at g k.lists)) ≡ numbers (rows_at g after)
-      go (inl u) =
-          let t = tested g u in
-          let from : t.test row.fate ≡ same_fate (Back code) g = t.same row.fate ∙ ap (λ (h : Fate). same_fate h g) x.fate_is in
-          let there = shifted_stands to row s.rows x.one t.test x.after (λ h. sym (t.rows_are s.rows) ∙ ap (λ (h : Fate). rows_at h s.rows) (sym (same_is (Back code) g u (sym from ∙ h))) ∙ x.of_code) in
-          joined (same_fate (Back code) g) (same_fate to g) x.after (rows_at g s.rows) (with_fate to row) o.number _ _ _ (sym x.number_is)
-          (λ e. subst (λ (h : Fate). same_fate to h ≡ false) (same_is (Back code) g u e) goes.apart)
-          (ap (drop 1) (f.stands.queues (Back code) ∙ ap numbers x.of_code))
-          (λ e. f.stands.queues to ∙ ap (λ (h : Fate). numbers (rows_at h s.rows)) (same_is to g u e))
-          (f.stands.queues g)
-          ∙ sym (ap numbers (t.rows_are after ∙ (rw (from, t.same to, ← t.rows_are s.rows) at there)))
-      go (inr u) = sym (queue_then code o.number to k.lists goes g) ∙ final g u then ∙ sym (none g u after)
+  turned : Shifts (is_back code) to (row.number ∷ []) (drop 1 (numbers (standing (is_back code) s.rows))) (numbers (rows_at to s.rows) ++ row.number ∷ []) s.rows after
+  turned = record {
+    places = λ g t. turned_place code to row x.after s.rows x.one x.fate_is x.of_code goes.apart g t (is_back code g) (same_fate to g) refl refl;
+    messages = shifted_messages to row s.rows x.one f.stands.numbered;
+    goes = λ n. shifted_goes to row s.rows x.one n;
+    given = λ ms many. (omega (arith, x.below, many), tt);
+  }
 
-  pub stands_then : Stands then (restood (take 1 (queue_at (Back code) k.lists)) to k.messages) after
-  stands_then =
-      let ns : row.number ∷ [] ≡ take 1 (queue_at (Back code) k.lists) = ap (λ (n : ℕ). n ∷ []) x.number_is ∙ sym (taken code o.number to k.lists goes) in
-      subst (λ (xs : List ℕ). Stands then (restood xs to k.messages) after) ns
-      (restands k.lists then k.messages s.rows after (row.number ∷ []) to f.stands (shifted_messages to row s.rows x.one f.stands.numbered) (omega (arith, x.below, f.stands.count), tt) queues (λ n. shifted_goes to row s.rows x.one n))
+  pub moves_then : Moves then (restood (take 1 (queue_at (Back code) k.lists)) to k.messages) s.rows after
+  moves_then =
+      let back = f.stands.queues (Back code) in
+      let same = x.number_is in
+      let joined : queue_at to k.lists ++ o.number ∷ [] ≡ numbers (rows_at to s.rows) ++ row.number ∷ [] = cc (f.stands.queues to, same) in
+      shifts_stand k.lists then k.messages s.rows after (is_back code) to _ _ _ _ f.stands turned
+      (λ g t. queue_then code o.number to k.lists goes g ∙ ap (λ (ns : List ℕ). cond (same_fate (Back code) g) (drop 1 (queue_at (Back code) k.lists)) (cond (same_fate to g) ns (queue_at g k.lists))) joined ∙ grind (arith, nat_tests, back))
+      (taken code o.number to k.lists goes ∙ ap (λ (n : ℕ). n ∷ []) (sym same))
 
   last_then : (n : ℕ) → last_at n then ≡ last_at n k.lists
   last_then n = last_stays (Back code) (drop 1 (queue_at (Back code) k.lists)) (with_queue to (queue_at to k.lists ++ take 1 (queue_at (Back code) k.lists)) k.lists) n ∙ last_stays to (queue_at to k.lists ++ take 1 (queue_at (Back code) k.lists)) k.lists n
 
-  pub stands_for : StandsFor (record k { lists = then; messages = restood (take 1 (queue_at (Back code) k.lists)) to k.messages; links = s.links; routing = s.routing }) (record s { rows = after })
-  stands_for =
-      changes k s then (restood (take 1 (queue_at (Back code) k.lists)) to k.messages) after s.links s.routing f (record {
-        stands = stands_then;
-        bodies = (shifted_messages to row s.rows x.one f.stands.numbered).bodies;
-        as_many_messages = length-restood (take 1 (queue_at (Back code) k.lists)) to k.messages;
-        as_many_queues = links_then (Back code) to k.lists then refl;
-        as_many_links = refl;
-        fsns = λ n link there. last_then n ∙ f.fsns n link there;
-      })
+  pub stands_for : StandsFor (record k { lists = then; messages = restood (take 1 (queue_at (Back code) k.lists)) to k.messages }) (record s { rows = after })
+  stands_for = queues_for k s f _ _ _ moves_then (links_then (Back code) to k.lists then refl) _ _ f.routing last_then
 
   abbrev fate : Row → Fate
   fate r = fate_at (place_of (stream_of r.body) s.routing) s
@@ -133,7 +110,7 @@ turned_first home code links to old new s f t o on many way b =
     let here : IsOnLink (length old.lists.links) to = (on.0, omega (arith, on.1, many), on.2) in
     let x = first_of home code old.lists old.messages s.rows f.stands o t.order in (
       next home code to old s f o here x,
-      becomes old new _ _ _ _ _ (next home code to old s f o here x) (search rules) (stands_for home code to old s f o here x),
+      becomes old new _ _ _ _ _ (next home code to old s f o here x) b (stands_for home code to old s f o here x),
       turned_on home code to old s f o here x t (way x.row (ap (λ (ys : List Row). slice_get ys 0) x.of_code)),
     )
 
