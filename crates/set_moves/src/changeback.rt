@@ -35,6 +35,7 @@ pub fn restore(parts: &mut Parts, number: u8, answer: &mut Answer) -> Result<(),
         *answer = Answer::Refused { why };
         return Ok(());
     }
+    parts.is_whole();
     if !has_alternative(parts, number) {
         *answer = Answer::Refused {
             why: Refusal::Nothing,
@@ -55,6 +56,7 @@ pub fn time_out(parts: &mut Parts, number: u8, answer: &mut Answer) -> Result<()
         (λ s. on_link number s (λ link. runs_out number s))) }
     ensures err { OnErr result (kept_of parts.new ≡ kept_of parts.old) }
 {
+    parts.is_whole();
     if usize::from(number) >= parts.links.len() {
         *answer = Answer::Refused {
             why: Refusal::NoSuchLink,
@@ -229,6 +231,7 @@ pub(crate) fn acknowledge_back(parts: &mut Parts, code: u8) -> Took
     ensures stands { (s : State) → Agrees (kept_of parts.old) s
         → Obeys (acknowledged_back code (code_of code s.routing) s) result parts.new }
 {
+    parts.is_whole();
     parts.routes.is_sound();
     if is_unused(parts.routes.code(code)) {
         return Took::Ignored;

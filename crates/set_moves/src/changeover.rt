@@ -126,6 +126,7 @@ fn change_over(parts: &mut Parts, number: u8, reached: Reached) -> Took
         (λ link. changed_over reached number link link.phase s) (slice_get s.links number)) result
         parts.new }
 {
+    parts.is_whole();
     match phase_at(parts, number) {
         None => return Took::Ignored,
         Some(Phase::Up) => answer_and_settle(parts, number, reached),
@@ -200,6 +201,7 @@ fn answer(parts: &mut Parts, number: u8, reached: Reached) -> Took
     ensures stands { (s : State) → Agrees (kept_of parts.old) s → Obeys (at_link number s (λ link.
         answered reached number link link.phase s) (slice_get s.links number)) result parts.new }
 {
+    parts.is_whole();
     if phase_at(parts, number) != Some(Phase::Down) {
         return Took::Ignored;
     }

@@ -7,7 +7,7 @@ ghost use Rattle.set_queues.specs.Kind.{is_kind};
 ghost use Rattle.set_model.specs.Rows.{appended, service_indicator, stream_of};
 ghost use Rattle.set_route.specs.Routing.{place_of};
 ghost use Rattle.set_model.specs.State.{State, fate_at, target, has_phase_up};
-ghost use Rattle.set_moves.specs.Agreement.{StandsFor, kind_of};
+ghost use Rattle.set_moves.specs.Agreement.{StandsFor, Holds, kind_of};
 ghost use Rattle.set_moves.specs.Parts.{IsWhole, IsHere, Becomes, link_of, kept_of};
 ghost use Rattle.set_moves.specs.Refusing.{service_refusal};
 ghost use Rattle.set_moves.specs.Room.{HasRoom, IsReady, SameButRoom, target_beside};
@@ -36,6 +36,16 @@ pub struct Parts {
     pub routes: Routes,
     /// The messages heard for users.
     pub inbox: Inbox,
+}
+
+impl Parts {
+    /// A law: what holds a state is whole.
+    pub(crate) fn is_whole(&self)
+        requires { Holds (kept_of self.now) }
+        ensures { IsWhole self.now }
+    {
+        let _ = &self.links;
+    }
 }
 
 /// The lowest-numbered link that is up, if any (own).
