@@ -1,7 +1,7 @@
 -- WHAT HOLDS OF EVERY STATE is kept when a link comes up, and when it is left by its messages.
 use Rattle.std.proofs.lemmas.Bool.Decides.{nat_tests}
-use Rattle.std.proofs.Common.{refl, arith, ◌≡◌, ◌≢◌, ◌∙◌, ap, sym, subst, ◌<◌, ℕ, ◌%◌, ◌==◌, Bool, true, false, not, ◌&&◌, List, [], length, slice_get, slice_set, Option, None, Some, IfSome}
-use Rattle.std.proofs.lemmas.Bool.{eqb-true, eqb-false, cond_both}
+use Rattle.std.proofs.Common.{⊎_elim, refl, arith, ◌≡◌, ◌≢◌, ◌∙◌, ap, sym, subst, ◌<◌, ℕ, ◌%◌, ◌==◌, Bool, true, false, not, ◌&&◌, List, [], length, slice_get, slice_set, Option, None, Some, IfSome}
+use Rattle.std.proofs.lemmas.Bool.{cases_Bool, eqb-true, eqb-false, cond_both}
 use Rattle.std.proofs.lemmas.List.{length-set}
 use Rattle.set_events.specs.declared.answer.Fate.TheVariants.{Waiting}
 use Rattle.set_events.specs.declared.config.Method.{Method}
@@ -112,20 +112,16 @@ module _ (n : ℕ) (link : LinkState) (s : State) (at : IsAt n link Down s) (t :
   link_left None e =
       let m = (moved_aside n s.rows).left_is in
       links_set s.settings.method s.links n (settled_link link) s.rows (off_to None) (settled_one None m) (λ k d. m.others k d refl) t.links
-  link_left (Some to) e = links_by s.settings.method s.links n (settled_link link) (off_to (Some to)) (settled_one (Some to) m.left_is) (λ k other d here. go k other d here (to == k) refl)
+  link_left (Some to) e = links_by s.settings.method s.links n (settled_link link) (off_to (Some to)) (settled_one (Some to) m.left_is) (λ k other d here. ⊎_elim (at_target k other here) (λ f. link_untouched s.settings.method k other s.rows (off_to (Some to)) (m.left_is.others k d f) (t.links k other here)) (cases_Bool (to == k)))
     where
       m : MovedTo n to s.rows (off_to (Some to))
       m = moved_to n to s.rows (not_target to e)
 
-      go : (k : ℕ) (other : LinkState) → (n == k) ≡ false → slice_get s.links k ≡ Some other → (b : Bool) → (to == k) ≡ b → IsSoundLink s.settings.method k other (off_to (Some to))
-      go k other d here false f = link_untouched s.settings.method k other s.rows (off_to (Some to)) (m.left_is.others k d f) (t.links k other here)
-      go k other d here true f =
-          let same : k ≡ to = sym (eqb-true to k f) in
-          let there : slice_get s.links to ≡ Some other = ap (slice_get s.links) (sym same) ∙ here in
-          let found = target_up s.links to e in
-          let up : has_phase_up other.phase ≡ true = ap (λ (l : LinkState). has_phase_up l.phase) (sym (same_at s.links to other found.0 there found.1)) ∙ found.2 in
-          let l = t.links to other there in
-          rw same (up_same s.settings.method to other s.rows (off_to (Some to)) up m.unack_same m.held_same (m.order_kept l.in_order) l)
+      at_target : (k : ℕ) (other : LinkState) → slice_get s.links k ≡ Some other → (to == k) ≡ true → IsSoundLink s.settings.method k other (off_to (Some to))
+      at_target k other here f =
+          let l = t.links k other here in
+          let up : has_phase_up other.phase ≡ true = grind (arith, eqb-true, target_up) in
+          rw (← eqb-true to k f) (up_same s.settings.method to other s.rows (off_to (Some to)) up m.unack_same m.held_same (m.order_kept (rw (← eqb-true to k f) at l.in_order)) (rw (← eqb-true to k f) at l))
 
   -- a stream on its way back has a home that is up, so there is a target
   home_up : (k : ℕ) → k < 16 → (to code via : ℕ) → place_of k s.routing ≡ Changing to code via → target s.links ≡ None → ⊥

@@ -1,6 +1,6 @@
 -- WHILE NO CHANGEBACK IS UNDER WAY the messages of each stream stay together, where it runs.
 use Rattle.std.proofs.Common.{refl, arith, ◌≡◌, ◌∙◌, ap, sym, ◌<◌, ℕ, ◌%◌, ◌==◌, Bool, true, false, not, ◌&&◌, ◌||◌, List, length, Option, None}
-use Rattle.std.proofs.lemmas.Bool.{eqb-true}
+use Rattle.std.proofs.lemmas.Bool.{cond_both, eqb-true}
 use Rattle.l3_orders.specs.declared.order.Order.{Order}
 use Rattle.l3_orders.specs.Grammar.{text}
 use Rattle.set_events.specs.declared.answer.Fate.{Fate}
@@ -72,14 +72,9 @@ module _ (n : ℕ) (rows : List Row) where
   stream_risen : (k home : ℕ) (used : Bool) (place : Place) → ((to code via : ℕ) → place ≡ Changing to code via → ⊥) → IsSoundStream k place used rows → IsSoundStream k (place_raised n home used place) used risen
   stream_risen k home used Nowhere away p = stream_goes k Nowhere (On n) is_parked (Waiting n) parked_unfinished refl (λ f e. e) (itself n) used rows p
   stream_risen k home used (Changing to code via) away p = absurd (away to code via refl)
-  stream_risen k home used (On l) away p = go ((home == n) && not used) refl
-    where
-      remains : IsSoundStream k (On l) used risen
-      remains = stream_remains k (On l) (On l) is_parked (Waiting n) parked_unfinished refl (λ f e. on_not_parked l f e) used rows refl p
-
-      go : (b : Bool) → ((home == n) && not used) ≡ b → IsSoundStream k (place_raised n home used (On l)) used risen
-      go true e = rw e (stream_empty k (On l) (On n) used risen (remains.unused (not_used (home == n) used e)) remains)
-      go false e = rw e remains
+  stream_risen k home used (On l) away p =
+      let remains = stream_remains k (On l) (On l) is_parked (Waiting n) parked_unfinished refl (λ f e. on_not_parked l f e) used rows refl p in
+      cond_both ((home == n) && not used) (On n) (On l) (λ (at : Place). IsSoundStream k at used risen) (λ e. stream_empty k (On l) (On n) used risen (remains.unused (not_used (home == n) used e)) remains) (λ e. remains)
 
 -- A LINK IS LEFT BY ITS MESSAGES.
 on_unfinished : (n : ℕ) (f : Fate) → is_on n f ≡ true → is_unfinished f ≡ true
@@ -98,13 +93,10 @@ module _ (n : ℕ) (to : Option ℕ) (rows : List Row) where
   stream_left : (k : ℕ) (used : Bool) (place : Place) → ((home code via : ℕ) → place ≡ Changing home code via → ⊥) → IsSoundStream k place used rows → IsSoundStream k (place_settled n to place) used off
   stream_left k used Nowhere away p = stream_remains k Nowhere Nowhere (is_on n) (fate_on to) (on_unfinished n) (target_unfinished to) (λ f e. parked_not_on n f e) used rows refl p
   stream_left k used (Changing home code via) away p = absurd (away home code via refl)
-  stream_left k used (On l) away p = go (l == n) refl
-    where
-      go : (b : Bool) → (l == n) ≡ b → IsSoundStream k (place_settled n to (On l)) used off
-      go true e =
-          let same : l ≡ n = eqb-true l n e in
-          rw e (stream_goes k (On l) (place_on to) (is_on n) (fate_on to) (on_unfinished n) (target_unfinished to) (λ f there. ap (λ (j : ℕ). is_on j f) (sym same) ∙ there) (target_stands to) used rows p)
-      go false e = rw e (stream_remains k (On l) (On l) (is_on n) (fate_on to) (on_unfinished n) (target_unfinished to) (λ f there. on_other n l (apart_back l n e) f there) used rows refl p)
+  stream_left k used (On l) away p =
+      cond_both (l == n) (place_on to) (On l) (λ (at : Place). IsSoundStream k at used off)
+      (λ e. stream_goes k (On l) (place_on to) (is_on n) (fate_on to) (on_unfinished n) (target_unfinished to) (λ f there. rw (← eqb-true l n e) there) (target_stands to) used rows p)
+      (λ e. stream_remains k (On l) (On l) (is_on n) (fate_on to) (on_unfinished n) (target_unfinished to) (λ f there. on_other n l (apart_back l n e) f there) used rows refl p)
 
 moves_off : (n : ℕ) (s : State) → Quietly s → AreTogether s → (k : ℕ) → k < 16 → IsSoundStream k (place_of k (settled n (target s.links) s.routing)) (has_messages k (settled n (target s.links) s.routing)) (off n (target s.links) s.rows)
 moves_off n s quiet r k low =
