@@ -1,14 +1,13 @@
 -- What the control's own step does to the window, the FSN last accepted, and the cursor.
 use Rattle.std.proofs.lemmas.Bool.Decides.{nat_tests}
-use Rattle.std.proofs.Common.{refl, arith, ◌≡◌, ◌≢◌, ◌<◌, ◌≤◌, ℕ, ◌+◌, ◌%◌, Bool, true, false, ◌&&◌, length, drop, if◌then◌else◌}
+use Rattle.std.proofs.Common.{arith, ◌≡◌, ◌≢◌, ◌<◌, ◌≤◌, ℕ, ◌+◌, ◌%◌, Bool, true, ◌&&◌, length, drop, if◌then◌else◌}
 use Rattle.std.proofs.lemmas.Bool.{ltb-true}
 use Rattle.std.proofs.lemmas.List.{length-drop}
-use Rattle.l2_basic.specs.Basic as basic
 use Rattle.l2_pcr.specs.Pcr as cyclic
 use Rattle.l2_units.specs.declared.unit.Header.{Header}
 use Rattle.l2_window.specs.Window.{WindowState}
 use Rattle.set_events.specs.declared.config.Method.{Method}
-use Rattle.set_model.specs.Control.{Control, Basic, Cyclic, Choice, again, first, fill, accepted_of, choice_of, control_after, is_accepted, acked_by, part_of, window_heard, control_heard}
+use Rattle.set_model.specs.Control.{Control, Choice, again, first, fill, accepted_of, choice_of, control_after, is_accepted, acked_by, part_of, window_heard, control_heard}
 use Rattle.set_model.specs.Step.{one_if}
 use Rattle.set_model.specs.Sound.{IsOf, IsInRange}
 

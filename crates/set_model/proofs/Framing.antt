@@ -8,24 +8,24 @@ use Rattle.l2_units.specs.Grammar.{head_of as header_in}
 use Rattle.l2_window.specs.Window.{WindowState}
 use Rattle.l2_window.specs.declared.control.HeardPart.{HeardPart}
 use Rattle.l3_orders.specs.declared.order.Order.{Order}
-use Rattle.l3_orders.specs.Grammar.{text, order_of}
+use Rattle.l3_orders.specs.Grammar.{order_of}
 use Rattle.set_events.specs.declared.answer.DiscardCause.{DiscardCause}
 use Rattle.set_events.specs.declared.answer.Fate.{Fate}
 use Rattle.set_events.specs.declared.answer.Fate.TheVariants.{Waiting, Unacked, Acked, Parked}
 use Rattle.set_events.specs.declared.event.Event.{Event}
 use Rattle.set_route.specs.declared.place.Place.{Place}
 use Rattle.set_route.specs.declared.place.Place.TheVariants.{On}
-use Rattle.set_route.specs.Routing.{Routing, place_of, home_of}
+use Rattle.set_route.specs.Routing.{Routing, place_of}
 use Rattle.set_model.specs.declared.phase.Phase.TheVariants.{Up, Down}
 use Rattle.set_model.specs.Rows.{Row, standing, is_on, is_waiting, is_unacked, is_held, is_back_to, unack, wait, held, on, numbers, octets_in, service_indicator, stream_of, turned, appended, fated, with_fate, IsInOrder}
 use Rattle.set_model.specs.Control.{Choice, again, first, fill, choice_of, part_of, control_heard, window_heard, acked_by}
 use Rattle.set_model.specs.State.{LinkState, State, is_up, link_is_up, fate_at, target, window_of}
-use Rattle.set_model.specs.Changeover.{fate_on, left_link, out_of_service, turned_back, left_by, released, acknowledged as acknowledged_link, acknowledged_by, settled_link, moved_over}
+use Rattle.set_model.specs.Changeover.{fate_on, left_link, out_of_service, turned_back, left_by, acknowledged as acknowledged_link, acknowledged_by, settled_link, moved_over}
 use Rattle.set_model.specs.Step.{rows_sent, is_msu, one_if, brought, takes, after_control, step}
 use Rattle.set_model.specs.Sound.{IsSound}
 use Rattle.set_model.specs.Frame.{BringsAbout, Concerns, LeavesAlone, window_after, MovesAsItsControl}
 use Rattle.set_model.proofs.Controlling.{part_acked, last_heard}
-use Rattle.set_model.proofs.Events.{Untouched, untouched_self, sent, acknowledged, sent_given_up, waiting_given_up, moved_to, moved_aside, unparked, released as released_rows, appended_in, appended_out, appended_untouched, numbers_joined, moved_untouched}
+use Rattle.set_model.proofs.Events.{Untouched, untouched_self, sent, acknowledged, sent_given_up, waiting_given_up, moved_to, moved_aside, unparked, appended_in, appended_out, appended_untouched, numbers_joined, moved_untouched}
 use Rattle.set_model.proofs.Filters.{fated_none}
 use Rattle.set_model.proofs.Lists.{get_set_same, get_set_other, within}
 use Rattle.set_model.proofs.Moving.{moved_same, moved_more}

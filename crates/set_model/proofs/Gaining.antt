@@ -1,19 +1,17 @@
 -- What a step brings: each accepted message stands in one place more, and what is acknowledged stays so.
 use Rattle.std.proofs.Common.{refl, arith, ◌≡◌, ◌∙◌, ap, sym, ◌≤◌, length, ℕ, ◌==◌, Bool, true, false, List, Option, None}
 use Rattle.set_route.specs.declared.place.Place.{Place}
-use Rattle.set_route.specs.Routing.{place_of, code_for, home_of}
+use Rattle.set_route.specs.Routing.{place_of}
 use Rattle.l3_orders.specs.declared.order.Order.{Order}
-use Rattle.l3_orders.specs.declared.order.Order.TheVariants.{Cbd}
 use Rattle.l3_orders.specs.Grammar.{text}
 use Rattle.set_events.specs.declared.answer.Answer.{Answer}
 use Rattle.set_events.specs.declared.answer.DiscardCause.{DiscardCause}
 use Rattle.set_events.specs.declared.answer.Fate.{Fate}
-use Rattle.set_events.specs.declared.answer.Fate.TheVariants.{Waiting}
 use Rattle.set_events.specs.declared.answer.Refusal.{Refusal as SetRefusal}
 use Rattle.set_events.specs.declared.event.Event.{Event}
 use Rattle.set_events.specs.declared.event.Event.TheVariants.{Offer, Take, Find}
 use Rattle.set_model.specs.Rows.{Row, is_on, is_back_to, was_acked, moved, all_with, appended, service_indicator, counts_of, total_of, stream_of}
-use Rattle.set_model.specs.State.{LinkState, State, fate_at, target}
+use Rattle.set_model.specs.State.{LinkState, State, fate_at}
 use Rattle.set_model.specs.Control.{Choice, first}
 use Rattle.set_model.specs.Changeover.{fate_on, out_of_service, turned_back}
 use Rattle.set_model.specs.Step.{offer_refusal, offered, rows_sent, step, messages_in, octets_of, Gains}

@@ -1,5 +1,5 @@
 -- What a list holds when one place of it is set.
-use Rattle.std.proofs.Common.{refl, arith, ◌≡◌, ◌≢◌, ◌==◌, Bool, true, false, ◌∙◌, ap, sym, ◌<◌, [], ◌∷◌, length, ℕ, zero, suc, List, map, slice_get, slice_set, slice_index_or, Some, ◌⊎◌, inl, inr}
+use Rattle.std.proofs.Common.{refl, arith, ◌≡◌, ◌≢◌, ◌==◌, false, ◌∙◌, ap, sym, ◌<◌, [], ◌∷◌, length, ℕ, zero, suc, List, map, slice_get, slice_set, slice_index_or, Some, ◌⊎◌, inl, inr}
 use Rattle.std.proofs.lemmas.Option.{same_Some, get_or_from_slice_get, slice_get-get_or, slice_get-map, slice_get_within}
 use Rattle.std.proofs.lemmas.Bool.Decides.{nat_tests}
 use Rattle.std.proofs.lemmas.List.{length-set, map-set, set-get_or, get_or-set_same}

@@ -1,12 +1,12 @@
 -- THE STREAMS' MESSAGES: they stay in the order of their numbers, and together.
 use Rattle.std.proofs.lemmas.Bool.Decides.{nat_tests}
-use Rattle.std.proofs.Common.{refl, arith, ◌≡◌, ◌∙◌, ap, sym, subst, ◌<◌, ℕ, suc, Bool, true, false, not, ◌&&◌, ◌==◌, List, [], ◌∷◌, ◌++◌, length, map, slice_get, Some, cond}
+use Rattle.std.proofs.Common.{refl, arith, ◌≡◌, ◌∙◌, ap, ◌<◌, ℕ, suc, Bool, true, false, not, ◌&&◌, List, [], ◌∷◌, ◌++◌, length, map, slice_get, Some, cond}
 use Rattle.std.proofs.lemmas.List.{append-nil, map-append}
 use Rattle.std.proofs.lemmas.List.Elements.{filter-append}
 use Rattle.set_events.specs.declared.answer.Fate.{Fate}
 use Rattle.set_events.specs.declared.answer.Fate.TheVariants.{Unacked}
 use Rattle.set_route.specs.declared.place.Place.{Place}
-use Rattle.set_model.specs.Rows.{Row, standing, is_waiting, is_users, stream_of, numbers, turned, changed, moved, all_with, appended, with_fate, fated, IsNumbered}
+use Rattle.set_model.specs.Rows.{Row, standing, is_waiting, numbers, turned, changed, moved, all_with, appended, with_fate, fated, IsNumbered}
 use Rattle.set_model.specs.Sound.{is_unfinished, stands_at, is_live, live, is_astray, astray, AreAbove, IsAscending, IsSoundStream}
 use Rattle.set_model.proofs.Filters.{filter_within}
 use Rattle.set_model.proofs.Finding.{new_row}

@@ -1,6 +1,6 @@
 -- WHAT HOLDS OF EVERY STATE is kept when a link is left, and by a changeback.
-use Rattle.std.proofs.Common.{⊎_elim, refl, arith, ◌≡◌, ◌≢◌, ◌∙◌, ap, sym, subst, ◌<◌, ℕ, ◌%◌, ◌==◌, Bool, true, false, not, ◌&&◌, List, [], ◌++◌, slice_get, Some, if◌then◌else◌, map}
-use Rattle.std.proofs.lemmas.Bool.{eqb-true, eqb-false, and_parts, and_right as and_false, cond-true, cond-false, cond_both, cases_Bool}
+use Rattle.std.proofs.Common.{⊎_elim, refl, arith, ◌≡◌, ◌≢◌, ◌∙◌, ap, sym, subst, ◌<◌, ℕ, ◌%◌, ◌==◌, Bool, true, false, not, ◌&&◌, List, [], slice_get, Some, if◌then◌else◌, map}
+use Rattle.std.proofs.lemmas.Bool.{eqb-true, and_parts, and_right as and_false, cond-false, cond_both, cases_Bool}
 use Rattle.std.proofs.lemmas.Bool.Decides.{nat_tests}
 use Rattle.std.proofs.lemmas.List.{length-set, append-nil}
 use Rattle.l3_orders.specs.declared.order.Order.TheVariants.{Cbd}
@@ -9,9 +9,8 @@ use Rattle.set_events.specs.declared.answer.Fate.{Fate}
 use Rattle.set_events.specs.declared.answer.Fate.TheVariants.{Waiting, Held, Back}
 use Rattle.set_route.specs.declared.place.Place.{Place}
 use Rattle.set_route.specs.declared.place.Place.TheVariants.{On, Changing, Nowhere}
-use Rattle.set_route.specs.declared.place.Code.{Code}
-use Rattle.set_route.specs.declared.place.Code.TheVariants.{Free, Asked}
-use Rattle.set_route.specs.Routing.{Routing, IsRouting, code_for, home_of, code_of, place_of, place_left, code_left, runs_on, asked, place_back, given_back}
+use Rattle.set_route.specs.declared.place.Code.TheVariants.{Asked}
+use Rattle.set_route.specs.Routing.{Routing, IsRouting, code_for, home_of, code_of, place_of, place_left, runs_on, asked, place_back, given_back}
 use Rattle.set_route.proofs.Alone.{alone, codes_alone}
 use Rattle.set_route.proofs.Places.{left_sound, asked_sound, back_sound}
 use Rattle.set_model.specs.declared.phase.Phase.TheVariants.{Up}

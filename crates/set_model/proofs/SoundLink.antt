@@ -1,5 +1,5 @@
 -- WHAT HOLDS OF EVERY STATE is kept by a change of one link, with rows that change in their places.
-use Rattle.std.proofs.Common.{⊎_elim, refl, arith, ◌≡◌, ◌≢◌, ◌∙◌, ap, sym, subst, ◌<◌, ◌≤◌, ℕ, ◌+◌, ◌%◌, ◌==◌, Bool, true, false, List, [], ◌∷◌, length, map, take, drop, slice_get, slice_set, Some, ◌⊎◌, inl, inr}
+use Rattle.std.proofs.Common.{⊎_elim, refl, arith, ◌≡◌, ◌∙◌, ap, sym, subst, ◌<◌, ◌≤◌, ℕ, ◌+◌, ◌%◌, ◌==◌, Bool, true, false, List, length, drop, slice_get, slice_set, Some}
 use Rattle.std.proofs.lemmas.Bool.{cases_Bool, eqb-true, eqb-false}
 use Rattle.std.proofs.lemmas.Bool.Decides.{nat_tests}
 use Rattle.std.proofs.lemmas.List.{length-map, length-append, length-drop, length-set, length-take}
@@ -14,22 +14,21 @@ use Rattle.set_events.specs.declared.answer.Fate.TheVariants.{Unacked, Acked, Di
 use Rattle.set_events.specs.declared.config.Method.{Method}
 use Rattle.set_route.specs.declared.place.Place.{Place}
 use Rattle.set_route.specs.declared.place.Place.TheVariants.{On, Changing, Nowhere}
-use Rattle.set_route.specs.Routing.{home_of}
 use Rattle.set_model.specs.declared.phase.Phase.{Phase}
 use Rattle.set_model.specs.declared.phase.Phase.TheVariants.{Up, Down}
-use Rattle.set_model.specs.Rows.{Row, is_waiting, is_unacked, is_on, unack, wait, held, back, parked, numbers, octets_in, turned, changed, with_fate, stands_back, IsInOrder, IsHeldLast}
+use Rattle.set_model.specs.Rows.{Row, is_waiting, is_unacked, is_on, unack, wait, held, back, parked, numbers, octets_in, turned, changed, stands_back, IsInOrder, IsHeldLast}
 use Rattle.set_model.specs.Control.{Choice, again, first, fill, choice_of, control_after, part_of, control_heard, acked_by, accepted_of}
 use Rattle.set_model.specs.State.{LinkState, State, link_is_up, has_phase_up, has_phase_settled, last_accepted, window_of}
 use Rattle.set_model.specs.Changeover.{acknowledged_by, acknowledged as acknowledged_link}
 use Rattle.set_model.specs.Step.{sends, one_if, is_msu, next, after_control}
-use Rattle.set_model.specs.Sound.{IsOf, IsInRange, IsSoundLink, IsPlaced, IsAscending, IsSound}
+use Rattle.set_model.specs.Sound.{IsOf, IsInRange, IsSoundLink, IsPlaced, IsSound}
 use Rattle.set_model.proofs.Controlling.{first_chosen, range_after, method_heard, part_acked, part_accept, accepted_heard, range_heard}
 use Rattle.set_model.proofs.Backs.{backs_same}
 use Rattle.set_model.proofs.Events.{Kept, kept_self, Untouched, untouched_self, sent, acknowledged, GivenUp}
 use Rattle.set_model.proofs.InPlace.{turned_same, changed_same}
 use Rattle.set_model.proofs.Order.{last_none}
 use Rattle.set_model.proofs.Lists.{at_set, each_set, get_set_same, get_set_other, set_same, within}
-use Rattle.set_model.proofs.Places.{false_true, apart, waiting_on, unacked_on, on_not_back}
+use Rattle.set_model.proofs.Places.{false_true, waiting_on, unacked_on, on_not_back}
 use Rattle.set_model.proofs.Walk.{IsAt}
 
 -- PHASES.

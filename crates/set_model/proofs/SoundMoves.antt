@@ -1,26 +1,25 @@
 -- WHAT HOLDS OF EVERY STATE is kept when a link comes up, and when it is left by its messages.
 use Rattle.std.proofs.lemmas.Bool.Decides.{nat_tests}
-use Rattle.std.proofs.Common.{⊎_elim, refl, arith, ◌≡◌, ◌≢◌, ◌∙◌, ap, sym, subst, ◌<◌, ℕ, ◌%◌, ◌==◌, Bool, true, false, not, ◌&&◌, List, [], length, slice_get, slice_set, Option, None, Some, IfSome}
+use Rattle.std.proofs.Common.{⊎_elim, refl, arith, ◌≡◌, ◌≢◌, ◌∙◌, ap, sym, ◌<◌, ℕ, ◌%◌, ◌==◌, true, false, List, [], length, slice_get, slice_set, Option, None, Some, IfSome}
 use Rattle.std.proofs.lemmas.Bool.{cases_Bool, eqb-true, eqb-false, cond_both}
 use Rattle.std.proofs.lemmas.List.{length-set}
 use Rattle.set_events.specs.declared.answer.Fate.TheVariants.{Waiting}
 use Rattle.set_events.specs.declared.config.Method.{Method}
 use Rattle.set_route.specs.declared.place.Place.{Place}
 use Rattle.set_route.specs.declared.place.Place.TheVariants.{On, Changing, Nowhere}
-use Rattle.set_route.specs.declared.place.Code.TheVariants.{Asked}
-use Rattle.set_route.specs.Routing.{code_of, place_of, has_messages, home_of, raised, settled, place_raised, place_settled, place_on, via_settled}
+use Rattle.set_route.specs.Routing.{place_of, has_messages, raised, settled, place_raised, place_settled, place_on, via_settled}
 use Rattle.set_route.proofs.Alone.{alone}
 use Rattle.set_route.proofs.Places.{raised_sound, settled_sound}
 use Rattle.set_model.specs.declared.phase.Phase.TheVariants.{Down, Settled}
-use Rattle.set_model.specs.Rows.{Row, is_on, is_parked, stands_back, unack, on, back, parked, numbers, moved, all_with}
+use Rattle.set_model.specs.Rows.{Row, is_on, is_parked, stands_back, unack, on, back, parked, moved, all_with}
 use Rattle.set_model.specs.Control.{accepted_of, start_of}
-use Rattle.set_model.specs.State.{LinkState, State, is_up, link_is_up, has_phase_up, has_phase_settled, target}
+use Rattle.set_model.specs.State.{LinkState, State, has_phase_up, has_phase_settled, target}
 use Rattle.set_model.specs.Changeover.{fate_on, settled_link, moved_over}
 use Rattle.set_model.specs.Step.{risen_link, rises}
-use Rattle.set_model.specs.Sound.{IsOf, IsInRange, IsSoundLink, IsPlaced, IsAscending, AreBack, IsSound}
+use Rattle.set_model.specs.Sound.{IsOf, IsInRange, IsSoundLink, IsPlaced, AreBack, IsSound}
 use Rattle.set_model.proofs.Backs.{coded_at, backs_kept, backs_same}
 use Rattle.set_model.proofs.Events.{Left, MovedTo, moved_to, moved_aside, unparked}
-use Rattle.set_model.proofs.Lists.{get_set_same, get_set_other, same_at, within}
+use Rattle.set_model.proofs.Lists.{get_set_same, get_set_other, within}
 use Rattle.set_model.proofs.Moving.{moved_numbered, moved_fit, moved_same}
 use Rattle.set_model.proofs.Order.{order_none}
 use Rattle.set_model.proofs.Places.{false_true, on_not_back, parked_not_back}

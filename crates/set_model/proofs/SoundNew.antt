@@ -1,11 +1,11 @@
 -- WHAT HOLDS OF EVERY STATE is kept by a new message.
-use Rattle.std.proofs.Common.{refl, arith, ◌≡◌, ◌≢◌, ◌∙◌, ap, sym, subst, ◌<◌, ◌≤◌, ℕ, ◌==◌, Bool, true, false, not, List, [], ◌∷◌, ◌++◌, length, slice_get, Option, None, Some}
+use Rattle.std.proofs.Common.{refl, arith, ◌≡◌, ◌≢◌, ◌∙◌, ap, sym, subst, ◌<◌, ◌≤◌, ℕ, ◌==◌, Bool, true, false, not, List, [], length, slice_get, Option, None, Some}
 use Rattle.std.proofs.lemmas.Bool.{eqb-true}
 use Rattle.std.proofs.lemmas.List.{map-append}
 use Rattle.l3_orders.specs.declared.order.Order.{Order}
 use Rattle.l3_orders.specs.Grammar.{text}
 use Rattle.set_events.specs.declared.answer.Fate.{Fate}
-use Rattle.set_events.specs.declared.answer.Fate.TheVariants.{Waiting, Unacked, Acked, Held, Parked, Back, Discarded}
+use Rattle.set_events.specs.declared.answer.Fate.TheVariants.{Waiting, Held, Parked, Back}
 use Rattle.set_route.specs.declared.place.Place.{Place}
 use Rattle.set_route.specs.declared.place.Place.TheVariants.{On, Changing, Nowhere}
 use Rattle.set_route.specs.Routing.{Routing, accepted, place_of}
@@ -20,7 +20,6 @@ use Rattle.set_model.proofs.Backs.{coded_at, backs_kept}
 use Rattle.set_model.proofs.Events.{appended_in, appended_out, appended_untouched}
 use Rattle.set_model.proofs.Finding.{new_row, numbered_appended, fit_appended}
 use Rattle.set_model.proofs.Gaining.{offer_fits}
-use Rattle.set_model.proofs.Lists.{same_at}
 use Rattle.set_model.proofs.Live.{ascends_end}
 use Rattle.set_model.proofs.Lookups.{found_by_number}
 use Rattle.set_model.proofs.Standing.{each_appended}

@@ -4,14 +4,14 @@ use Rattle.std.proofs.lemmas.Bool.{cond_both, eqb-true}
 use Rattle.l3_orders.specs.declared.order.Order.{Order}
 use Rattle.l3_orders.specs.Grammar.{text}
 use Rattle.set_events.specs.declared.answer.Fate.{Fate}
-use Rattle.set_events.specs.declared.answer.Fate.TheVariants.{Waiting, Acked, Discarded}
+use Rattle.set_events.specs.declared.answer.Fate.TheVariants.{Waiting, Acked}
 use Rattle.set_events.specs.declared.event.Event.{Event}
 use Rattle.set_route.specs.declared.place.Place.{Place}
 use Rattle.set_route.specs.declared.place.Place.TheVariants.{On, Changing, Nowhere}
 use Rattle.set_route.specs.Routing.{NoneOpen, settled, place_of, has_messages, place_raised, place_settled, place_on}
 use Rattle.set_route.proofs.Alone.{alone}
 use Rattle.set_route.proofs.Quiet.{never_changing}
-use Rattle.set_model.specs.Rows.{Row, is_waiting, is_unacked, is_on, is_parked, is_users, stream_of, moved, all_with}
+use Rattle.set_model.specs.Rows.{Row, is_unacked, is_on, is_parked, is_users, stream_of, moved, all_with}
 use Rattle.set_model.specs.State.{State, fate_at, target}
 use Rattle.set_model.specs.Changeover.{fate_on, queued}
 use Rattle.set_model.specs.Control.{Choice, again, first, fill}
