@@ -1,5 +1,5 @@
 -- A set of which nothing was asked, and what holds after each event.
-use Rattle.std.proofs.Common.{refl, arith, ◌≡◌, ◌∙◌, ap, sym, subst, ℕ, zero, suc, ◌^◌, ◌+◌, ◌%◌, List, [], map, slice_get, Some, None, Bool, cond, nat_lt, if◌then◌else◌}
+use Rattle.std.proofs.Common.{refl, arith, ◌≡◌, ◌∙◌, ap, sym, subst, ℕ, zero, suc, ◌^◌, ◌+◌, ◌%◌, List, [], map, slice_get, Some, None, nat_lt, if◌then◌else◌}
 use Rattle.std.specs.Prelude.{replicate, slice_index_or}
 use Rattle.std.proofs.lemmas.List.{length-replicate}
 use Rattle.std.proofs.lemmas.Bool.{le-ltb}
@@ -12,7 +12,7 @@ use Rattle.set_events.specs.declared.event.Event.{Event}
 use Rattle.set_queues.specs.Buffers.{Lists, LinkLists, queue_at, list_in, number_in}
 use Rattle.set_route.specs.Routing.{new_routing}
 use Rattle.set_model.specs.Rows.{numbers}
-use Rattle.set_model.specs.Sound.{IsSettings, IsSound, IsAsked}
+use Rattle.set_model.specs.Sound.{IsSettings, IsAsked}
 use Rattle.set_model.specs.State.{State, LinkState, settings_of, new_link, new_state}
 use Rattle.set_model.specs.Step.{step, stepped}
 use Rattle.set_model.proofs.Lists.{map_at}

@@ -1,12 +1,11 @@
 -- What a heard unit brings, as the step has it; and that hearing takes no room.
-use Rattle.std.proofs.Common.{refl, arith, ◌≡◌, ◌∙◌, ap, sym, subst, ◌≤◌, ◌<◌, ◌+◌, ◌*◌, ◌++◌, [], ◌∷◌, List, ℕ, zero, suc, Bool, true, false, ◌==◌, length, map, Option, Some, None, slice_set}
+use Rattle.std.proofs.Common.{refl, arith, ◌≡◌, ◌∙◌, ap, sym, subst, ◌≤◌, ◌<◌, ◌+◌, ◌*◌, ◌++◌, [], ◌∷◌, List, ℕ, zero, suc, Bool, true, false, length, map, Option, Some, None, slice_set}
 use Rattle.std.proofs.lemmas.List.{length-map}
 use Rattle.std.proofs.lemmas.Bool.Decides.{nat_tests}
-use Rattle.arrayvec.specs.declared.array_vec.ArrayVec.{ArrayVec}
 use Rattle.l2_signals.specs.declared.status.Status.{Status}
 use Rattle.l2_units.specs.declared.unit.Header.{Header}
 use Rattle.l2_units.specs.declared.unit.Unit.{Unit as SignalUnit}
-use Rattle.l2_units.specs.declared.unit.Unit.TheVariants.{Lssu, Msu}
+use Rattle.l2_units.specs.declared.unit.Unit.TheVariants.{Lssu}
 use Rattle.l2_units.specs.Grammar.{head_of as header_in}
 use Rattle.l2_window.specs.declared.control.HeardPart.{HeardPart}
 use Rattle.l3_orders.specs.declared.order.Order.{Order}
@@ -23,7 +22,6 @@ use Rattle.set_queues.specs.Settling.{on}
 use Rattle.set_route.specs.Target.{target_of}
 use Rattle.set_model.specs.declared.phase.Phase.TheVariants.{Up}
 use Rattle.set_model.specs.Control.{part_of}
-use Rattle.set_model.specs.Rows.{service_indicator}
 use Rattle.set_model.specs.Changeover.{fate_on, order_obeyed}
 use Rattle.set_model.specs.Sound.{IsSound}
 use Rattle.set_model.specs.State.{LinkState, State, target, window_of}
