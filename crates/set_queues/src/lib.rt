@@ -4,7 +4,8 @@
 //! [`Queues`] has of each of 1 to 16 links a window (`l2_window`) and the messages that are held for
 //! it, the parked messages, of each of 256 changeback codes those that wait for its acknowledgement, and
 //! of every number ever given out its [`Message`]: where it stands, whose it is, and the octets of its
-//! body. The bodies themselves are [`Bodies`], which knows nothing of queues. A fate that isn't final names a queue:
+//! body. The bodies themselves are [`Bodies`], which knows nothing of queues. A fate that isn't final names a queue;
+//! [`fate_on`] is that of what moves to a link, or of what no link takes:
 //!
 //! ```text
 //!          add (Waiting, Held, Parked, Back)
