@@ -11,8 +11,8 @@
 //!                  +-- user 1: job 1 ------------------+
 //! ```
 //!
-//! Every seat comes back: that of a terminal without a line at once, the others from their threads. Nothing is
-//! promised of who gets on, or when.
+//! Each thread hands its seat back, and a terminal without a line has none; with all its seats the set is closed. That
+//! no seat is missing then is shown by tests (`bank_tests`). Nothing is promised of who gets on, or when.
 #![tactic(auto)]
 
 mod crew;
