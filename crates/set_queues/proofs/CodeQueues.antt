@@ -1,5 +1,8 @@
 -- What waits for the acknowledgements of changebacks: how many wait for a home's codes.
-use Rattle.std.proofs.Common.{refl, arith, ◌≡◌, sym, ◌+◌, ◌-◌, ◌≤◌, ◌<◌, [], ◌∷◌, ◌++◌, length, ℕ, zero, suc, List, Option, Some, None, add-one}
+use Rattle.std.proofs.Common.{refl, arith, ◌≡◌, sym, ◌+◌, ◌-◌, ◌≤◌, ◌<◌, [], ◌∷◌, ◌++◌, length, ℕ, zero, suc, true, false, ◌==◌, List, Option, Some, None, add-one}
+use Rattle.std.specs.List.{AllByRecursion, IsDistinct, list_any}
+use Rattle.std.proofs.lemmas.Bool.Decides.{nat_tests}
+use Rattle.std.proofs.lemmas.Map.Steps.{length-le_from_distinct_below}
 use Rattle.std.proofs.lemmas.List.{length-append}
 use Rattle.std.proofs.lemmas.Option.{slice_get_past}
 use Rattle.set_events.specs.declared.answer.Fate.{Fate}
@@ -34,28 +37,21 @@ back_below code n q h = omega (arith, back_more code n q, back_grows code (n + 1
 
 -- a list in which each number stands once at most, all of them below a bound, is no longer than it
 
-abbrev total : ℕ → List ℕ → ℕ
-total zero xs = 0
-total (suc n) xs = total n xs + occurs n xs
+none_alike : (x : ℕ) (xs : List ℕ) → occurs x xs ≡ 0 → AllByRecursion (λ y. (x == y) ≡ false) xs
+none_alike x [] h = tt
+none_alike x (y ∷ ys) h = (grind (arith, nat_tests), none_alike x ys (omega arith))
 
-total_few : (n : ℕ) (xs : List ℕ) → ((m : ℕ) → occurs m xs ≤ 1) → total n xs ≤ n
-total_few zero xs h = omega arith
-total_few (suc n) xs h = omega (arith, total_few n xs h, h n)
+distinct : (xs : List ℕ) → ((m : ℕ) → occurs m xs ≤ 1) → IsDistinct ◌==◌ xs
+unfolding IsDistinct
+distinct [] once = tt
+distinct (x ∷ xs) once = (none_alike x xs (omega (arith, once x, occurs_here x x refl)), distinct xs (λ m. omega (arith, once m)))
 
-total_cons : (n x : ℕ) (xs : List ℕ) → total n (x ∷ xs) ≡ total n (x ∷ []) + total n xs
-total_cons zero x xs = omega arith
-total_cons (suc n) x xs = omega (arith, total_cons n x xs)
-
-total_one : (n x : ℕ) → x < n → 1 ≤ total n (x ∷ [])
-total_one zero x h = absurd (omega arith)
-total_one (suc n) x h = grind (arith, total_one n x)
-
-total_all : (n : ℕ) (xs : List ℕ) → ((m : ℕ) → n ≤ m → occurs m xs ≡ 0) → length xs ≤ total n xs
-total_all n [] h = omega arith
-total_all n (x ∷ xs) h = grind (arith, h x, total_cons n x xs, total_one n x, occurs_here x x refl, total_all n xs (λ m b. omega (arith, h m b)))
+occurs_in : (m : ℕ) (xs : List ℕ) → list_any (λ x. m == x) xs ≡ true → 0 < occurs m xs
+occurs_in m [] h = absurd (cc)
+occurs_in m (x ∷ xs) h = grind (arith, nat_tests, occurs_in m xs)
 
 few_in : (n : ℕ) (xs : List ℕ) → ((m : ℕ) → occurs m xs ≤ 1) → ((m : ℕ) → n ≤ m → occurs m xs ≡ 0) → length xs ≤ n
-few_in n xs once none = omega (arith, total_few n xs once, total_all n xs none)
+few_in n xs once none = length-le_from_distinct_below xs n (distinct xs once) (λ m h. let some = occurs_in m xs h in grind (arith, none))
 
 -- all that wait for so many codes: each stands once at most, and was given out
 

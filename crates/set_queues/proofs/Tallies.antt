@@ -1,14 +1,16 @@
 -- The running counts of a list of messages, when one of them changes or joins.
-use Rattle.std.proofs.Common.{◌^◌, arith, ◌≡◌, subst, ◌+◌, ◌≤◌, ◌<◌, [], ◌∷◌, ◌++◌, length, ℕ, zero, suc, Bool, List, Option, Some, None}
+use Rattle.std.proofs.Common.{◌^◌, arith, rules, ◌≡◌, subst, ◌+◌, ◌≤◌, ◌<◌, [], ◌∷◌, ◌++◌, length, ℕ, zero, suc, Bool, List, Option, Some, None}
 use Rattle.std.specs.Prelude.{filter, slice_get, slice_set}
 use Rattle.std.proofs.Common.{get_or, refl}
 use Rattle.std.proofs.lemmas.Option.{slice_get_read}
 use Rattle.set_queues.specs.declared.message.Message.{Message}
 use Rattle.set_events.specs.declared.answer.Fate.{Fate}
-use Rattle.set_queues.specs.Messages.{with_fate, restood_one, restood}
+use Rattle.set_queues.specs.Messages.{with_fate, restood_one, restood, counts_of}
 use Rattle.set_queues.proofs.Updates.{set_updated, updated_same, updated_other}
 use Rattle.set_queues.specs.declared.tally.Tally.{Tally}
-use Rattle.set_queues.specs.Counts.{one_if, waits, was_sent, was_acked, was_held, is_parked, stands_back, was_discarded}
+use Rattle.set_queues.specs.Counts.{one_if, stands_at}
+use Rattle.set_events.specs.declared.answer.Fate.TheVariants.{Waiting, Unacked, Acked, Held, Parked, Back, Discarded}
+use Rattle.set_events.specs.declared.answer.DiscardCause.TheVariants.{Emergency}
 use Rattle.set_queues.specs.Tally.{is_there, is_queued, IsTally, IsMore, IsAmong, AreFew, IsFit, AreFit}
 
 pub count_set : (p : Message → Bool) (xs : List Message) (n : ℕ) (x y : Message) → slice_get xs n ≡ Some x → length (filter p (slice_set xs n y)) + one_if (p x) ≡ length (filter p xs) + one_if (p y)
@@ -31,13 +33,7 @@ count_few p (x ∷ xs) = grind (arith, count_few p xs)
 
 pub tally_in : (t : Tally) (xs : List Message) (n : ℕ) (x : Message) → IsTally t xs → slice_get xs n ≡ Some x → IsAmong x t
 tally_in t xs n x h e = record {
-  waiting = omega (arith, h.waiting, count_in (is_there waits) xs n x e);
-  unacked = omega (arith, h.unacked, count_in (is_there was_sent) xs n x e);
-  acked = omega (arith, h.acked, count_in (is_there was_acked) xs n x e);
-  held = omega (arith, h.held, count_in (is_there was_held) xs n x e);
-  parked = omega (arith, h.parked, count_in (is_there is_parked) xs n x e);
-  back = omega (arith, h.back, count_in (is_there stands_back) xs n x e);
-  discarded = omega (arith, h.discarded, count_in (is_there was_discarded) xs n x e);
+  counts = λ place. omega (arith, h.counts place, count_in (is_there (stands_at place)) xs n x e);
   unsent = λ s b. omega (arith, h.unsent s b, count_in (is_queued s) xs n x e);
 }
 
@@ -53,15 +49,21 @@ tally_push t u xs y h i = grind (arith, count_push)
 
 pub tally_set : (t u v : Tally) (xs : List Message) (n : ℕ) (x y : Message) → IsTally t xs → slice_get xs n ≡ Some x → IsMore x u t → IsMore y u v → IsTally v (slice_set xs n y)
 tally_set t u v xs n x y h e i j = record {
-  waiting = omega (arith, h.waiting, i.waiting, j.waiting, count_set (is_there waits) xs n x y e);
-  unacked = omega (arith, h.unacked, i.unacked, j.unacked, count_set (is_there was_sent) xs n x y e);
-  acked = omega (arith, h.acked, i.acked, j.acked, count_set (is_there was_acked) xs n x y e);
-  held = omega (arith, h.held, i.held, j.held, count_set (is_there was_held) xs n x y e);
-  parked = omega (arith, h.parked, i.parked, j.parked, count_set (is_there is_parked) xs n x y e);
-  back = omega (arith, h.back, i.back, j.back, count_set (is_there stands_back) xs n x y e);
-  discarded = omega (arith, h.discarded, i.discarded, j.discarded, count_set (is_there was_discarded) xs n x y e);
+  counts = λ place. omega (arith, h.counts place, i.counts place, j.counts place, count_set (is_there (stands_at place)) xs n x y e);
   unsent = λ s b. omega (arith, h.unsent s b, i.unsent s b, j.unsent s b, count_set (is_queued s) xs n x y e);
 }
+
+-- the counts are known by each place
+pub all_counts : (t : Tally) (xs : List Message) → IsTally t xs → t.counts ≡ counts_of xs
+all_counts t xs h =
+    let waiting = h.counts (Waiting 0) in
+    let unacked = h.counts (Unacked 0) in
+    let acked = h.counts (Acked 0) in
+    let held = h.counts (Held 0) in
+    let parked = h.counts Parked in
+    let back = h.counts (Back 0) in
+    let discarded = h.counts (Discarded Emergency) in
+    search rules
 
 -- every message stays fit
 pub fit_push : (xs : List Message) (y : Message) → AreFit xs → IsFit y → AreFit (xs ++ y ∷ [])

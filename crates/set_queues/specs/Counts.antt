@@ -1,5 +1,5 @@
 -- How many of the users' messages stand in each place.
-use Rattle.std.specs.Prelude.{◌≡◌, ℕ, ◌+◌, ◌<◌, ◌^◌, Bool, true, false}
+use Rattle.std.specs.Prelude.{◌≡◌, ℕ, ◌+◌, Bool, true, false}
 use Rattle.set_events.specs.declared.answer.Fate.{Fate}
 use Rattle.set_events.specs.declared.answer.Fate.TheVariants.{Waiting, Unacked, Acked, Held, Parked, Back, Discarded}
 use Rattle.set_events.specs.declared.answer.Counts.{Counts}
@@ -56,34 +56,17 @@ count_at Parked c = c.parked
 count_at (Back code) c = c.back
 count_at (Discarded cause) c = c.discarded
 
+-- whether a message of a fate stands there
+abbrev pub stands_at : Fate → Fate → Bool
+stands_at (Waiting l) = waits
+stands_at (Unacked l) = was_sent
+stands_at (Acked l) = was_acked
+stands_at (Held l) = was_held
+stands_at Parked = is_parked
+stands_at (Back c) = stands_back
+stands_at (Discarded cause) = was_discarded
+
 -- one more stands there
-pub record IsOneMore (fate : Fate) (old new : Counts) : Type 0 where
-  pub waiting : new.waiting ≡ old.waiting + one_if (waits fate)
-  pub unacked : new.unacked ≡ old.unacked + one_if (was_sent fate)
-  pub acked : new.acked ≡ old.acked + one_if (was_acked fate)
-  pub held : new.held ≡ old.held + one_if (was_held fate)
-  pub parked : new.parked ≡ old.parked + one_if (is_parked fate)
-  pub back : new.back ≡ old.back + one_if (stands_back fate)
-  pub discarded : new.discarded ≡ old.discarded + one_if (was_discarded fate)
-
--- far from the end of their range
-pub record AreCountable (c : Counts) : Type 0 where
-  pub waiting : c.waiting < 2 ^ 63
-  pub unacked : c.unacked < 2 ^ 63
-  pub acked : c.acked < 2 ^ 63
-  pub held : c.held < 2 ^ 63
-  pub parked : c.parked < 2 ^ 63
-  pub back : c.back < 2 ^ 63
-  pub discarded : c.discarded < 2 ^ 63
-
--- none in any place
-abbrev pub no_counts : Counts
-no_counts = record {
-  waiting = 0;
-  unacked = 0;
-  acked = 0;
-  held = 0;
-  parked = 0;
-  back = 0;
-  discarded = 0;
-}
+abbrev pub IsOneMore : Fate → Counts → Counts → Type 0
+IsOneMore fate old new = (place : Fate) → count_at place new ≡ count_at place old
+    + one_if (stands_at place fate)

@@ -1,5 +1,5 @@
 //! The bodies of the messages.
-ghost use Rattle.std.specs.Prelude.{◌≡◌, ◌-◌, ◌<◌, length, slice_get, Some};
+ghost use Rattle.std.specs.Prelude.{◌≡◌, ◌<◌, ◌∷◌, length, slice_index};
 
 use l2_units::LONGEST_BODY;
 use std::alloc::{AllocError, Global};
@@ -74,6 +74,7 @@ impl Bodies {
     }
 
     /// The body of the message of this number.
+    #[tactic(auto, using(crate::proofs::Storing::found, crate::proofs::Storing::length_bodies))]
     pub fn body(&self, number: u64) -> &[u8]
         requires { number < length self.now.items }
         ensures { slice_get self.now.items number ≡ Some result.now }
@@ -87,8 +88,7 @@ impl Bodies {
 /// Where the body at this place starts: where the one before it ends.
 fn start_of(ends: &[usize], place: usize) -> usize
     requires { place < length ends.now }
-    ensures first { place ≡ 0 → result ≡ 0 }
-    ensures next { 0 < place → slice_get ends.now (place - 1) ≡ Some result }
+    ensures { result ≡ slice_index (0 ∷ ends.now) place }
 {
     if place == 0 {
         return 0;

@@ -1,12 +1,12 @@
 //! One more or one fewer of the users' messages in a place.
 ghost use Rattle.std.specs.Prelude.{◌≡◌, ◌<◌, ◌^◌};
-ghost use Rattle.set_queues.specs.Counts.{AreCountable, IsOneMore, count_at, is_unsent};
+ghost use Rattle.set_queues.specs.Counts.{IsOneMore, count_at, is_unsent};
 
 use set_events::{Counts, Fate};
 
 /// One more stands there.
 pub(crate) fn count(counts: &mut Counts, fate: Fate)
-    requires { AreCountable counts.old }
+    requires { count_at fate counts.old < 2 ^ 63 }
     ensures { IsOneMore fate counts.old counts.new }
 {
     match fate {

@@ -90,6 +90,7 @@ impl Messages {
     }
 
     /// How many of the users' messages stand in each place.
+    #[tactic(auto, using(crate::proofs::Tallies::all_counts))]
     pub(crate) fn counts(&self) -> Counts
         ensures { result ≡ counts_of self.now.messages }
     {

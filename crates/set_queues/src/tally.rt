@@ -2,7 +2,6 @@
 ghost use Rattle.std.specs.Prelude.{◌≡◌, ◌≤◌, true};
 ghost use Rattle.set_queues.specs.Kind.{is_kind};
 ghost use Rattle.set_queues.specs.Tally.{IsAmong, IsMore, AreFew};
-ghost use Rattle.set_queues.specs.Counts.{no_counts};
 
 use super::counting::{count, counts_as_unsent, uncount};
 use super::message::{Kind, Message};
