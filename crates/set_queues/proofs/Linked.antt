@@ -97,7 +97,7 @@ pub room_there : (xs : List QueueState) (c : ℕ) (x : QueueState) → slice_get
 room_there xs c x e = get_or_from_slice_get (map room_of xs) c (room_of x) 0 (slice_get-map room_of xs c ∙ ap (option_map room_of) e)
 
 room_read : (xs : List QueueState) (c k : ℕ) (x y : QueueState) → slice_get xs c ≡ Some x → get_or (map room_of (slice_set xs c y)) k 0 ≡ cond (c == k) y.room (get_or (map room_of xs) k 0)
-room_read xs c k x y e = rw (map_set_updated room_of (λ (r : ℕ). y.room) xs c x y e refl) (read_set y.room (map room_of xs) c k 0 (c == k) refl (omega (arith, slice_get_within xs c x e, length-map xs room_of)))
+room_read xs c k x y e = rw (map_set_updated room_of (λ (r : ℕ). y.room) xs c x y e refl) (read_set y.room (map room_of xs) c k 0 (omega (arith, slice_get_within xs c x e, length-map xs room_of)))
 
 pub room_back : (xs : List QueueState) (c : ℕ) (x y : QueueState) → slice_get xs c ≡ Some x → get_or (map room_of (slice_set xs c y)) c 0 ≡ y.room
 room_back xs c x y e = grind (arith, room_read, eq-eqb)

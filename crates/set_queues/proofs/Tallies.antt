@@ -1,16 +1,14 @@
 -- The running counts of a list of messages, when one of them changes or joins.
-use Rattle.std.proofs.Common.{◌^◌, arith, rules, ◌≡◌, subst, ◌+◌, ◌≤◌, ◌<◌, [], ◌∷◌, ◌++◌, length, ℕ, zero, suc, Bool, List, Option, Some, None}
+use Rattle.std.proofs.Common.{◌^◌, arith, ◌≡◌, ◌+◌, ◌≤◌, ◌<◌, [], ◌∷◌, ◌++◌, length, ℕ, zero, suc, Bool, List, Option, Some, None}
 use Rattle.std.specs.Prelude.{filter, slice_get, slice_set}
 use Rattle.std.proofs.Common.{get_or, refl}
 use Rattle.std.proofs.lemmas.Option.{slice_get_read}
 use Rattle.set_queues.specs.declared.message.Message.{Message}
 use Rattle.set_events.specs.declared.answer.Fate.{Fate}
-use Rattle.set_queues.specs.Messages.{with_fate, restood_one, restood, counts_of}
-use Rattle.set_queues.proofs.Updates.{set_updated, updated_same, updated_other}
+use Rattle.set_queues.specs.Messages.{with_fate, restood_one, restood}
+use Rattle.set_queues.proofs.Updates.{set_updated, updated_same, updated_other, get_push}
 use Rattle.set_queues.specs.declared.tally.Tally.{Tally}
 use Rattle.set_queues.specs.Counts.{one_if, stands_at}
-use Rattle.set_events.specs.declared.answer.Fate.TheVariants.{Waiting, Unacked, Acked, Held, Parked, Back, Discarded}
-use Rattle.set_events.specs.declared.answer.DiscardCause.TheVariants.{Emergency}
 use Rattle.set_queues.specs.Tally.{is_there, is_queued, IsTally, IsMore, IsAmong, AreFew, IsFit, AreFit}
 
 pub count_set : (p : Message → Bool) (xs : List Message) (n : ℕ) (x y : Message) → slice_get xs n ≡ Some x → length (filter p (slice_set xs n y)) + one_if (p x) ≡ length (filter p xs) + one_if (p y)
@@ -44,33 +42,9 @@ tally_few t xs h few = grind (arith, count_few)
 pub fewer : (m : Message) (old new : Tally) → IsMore m old new → AreFew new → AreFew old
 fewer m old new i few = grind arith
 
-pub tally_push : (t u : Tally) (xs : List Message) (y : Message) → IsTally t xs → IsMore y t u → IsTally u (xs ++ y ∷ [])
-tally_push t u xs y h i = grind (arith, count_push)
-
-pub tally_set : (t u v : Tally) (xs : List Message) (n : ℕ) (x y : Message) → IsTally t xs → slice_get xs n ≡ Some x → IsMore x u t → IsMore y u v → IsTally v (slice_set xs n y)
-tally_set t u v xs n x y h e i j = record {
-  counts = λ place. omega (arith, h.counts place, i.counts place, j.counts place, count_set (is_there (stands_at place)) xs n x y e);
-  unsent = λ s b. omega (arith, h.unsent s b, i.unsent s b, j.unsent s b, count_set (is_queued s) xs n x y e);
-}
-
--- the counts are known by each place
-pub all_counts : (t : Tally) (xs : List Message) → IsTally t xs → t.counts ≡ counts_of xs
-all_counts t xs h =
-    let waiting = h.counts (Waiting 0) in
-    let unacked = h.counts (Unacked 0) in
-    let acked = h.counts (Acked 0) in
-    let held = h.counts (Held 0) in
-    let parked = h.counts Parked in
-    let back = h.counts (Back 0) in
-    let discarded = h.counts (Discarded Emergency) in
-    search rules
-
 -- every message stays fit
 pub fit_push : (xs : List Message) (y : Message) → AreFit xs → IsFit y → AreFit (xs ++ y ∷ [])
-fit_push [] y h f zero m e = let g : y ≡ m = cc in subst IsFit g f
-fit_push [] y h f (suc n) m e = absurd (cc)
-fit_push (x ∷ xs) y h f zero m e = h zero m e
-fit_push (x ∷ xs) y h f (suc n) m e = fit_push xs y (λ k w g. h (suc k) w g) f n m e
+fit_push xs y h f n m e = let old = h n m in grind (arith, get_push)
 
 pub fit_one : (n : ℕ) (f : Fate) (ms : List Message) → AreFit ms → AreFit (restood_one n f ms)
 fit_one n f ms fit k m e = go (slice_get ms k) refl
@@ -82,6 +56,20 @@ fit_one n f ms fit k m e = go (slice_get ms k) refl
 pub fit_restood : (ns : List ℕ) (f : Fate) (ms : List Message) → AreFit ms → AreFit (restood ns f ms)
 fit_restood [] f ms fit = fit
 fit_restood (n ∷ ns) f ms fit = fit_restood ns f (restood_one n f ms) (fit_one n f ms fit)
+
+pub tally_push : (t u : Tally) (xs : List Message) (y : Message) → IsTally t xs → IsFit y → IsMore y t u → IsTally u (xs ++ y ∷ [])
+tally_push t u xs y h f i = record {
+  counts = λ place. grind (arith, count_push, h.counts place, i.counts place);
+  unsent = λ s b. grind (arith, count_push, h.unsent s b, i.unsent s b);
+  fit = fit_push xs y h.fit f;
+}
+
+pub tally_set : (t u v : Tally) (xs : List Message) (n : ℕ) (x : Message) (fate : Fate) → IsTally t xs → slice_get xs n ≡ Some x → IsMore x u t → IsMore (with_fate fate x) u v → IsTally v (slice_set xs n (with_fate fate x))
+tally_set t u v xs n x fate h e i j = record {
+  counts = λ place. omega (arith, h.counts place, i.counts place, j.counts place, count_set (is_there (stands_at place)) xs n x (with_fate fate x) e);
+  unsent = λ s b. omega (arith, h.unsent s b, i.unsent s b, j.unsent s b, count_set (is_queued s) xs n x (with_fate fate x) e);
+  fit = rw (set_updated (with_fate fate) xs n x e) (fit_one n fate xs h.fit);
+}
 
 -- the message that an index of this number reads
 pub read_there : (xs : List Message) (i : ℕ) (x : Message) → i < length xs → x ≡ get_or xs i x → slice_get xs i ≡ Some x

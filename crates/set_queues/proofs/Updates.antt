@@ -1,5 +1,5 @@
 -- Lists of which the element at one place changes.
-use Rattle.std.proofs.Common.{refl, arith, ◌≡◌, ◌∙◌, ap, sym, ◌<◌, ◌+◌, ◌==◌, [], ◌∷◌, ◌++◌, length, map, replicate, ℕ, zero, suc, Bool, cond, get_or, List, Some}
+use Rattle.std.proofs.Common.{refl, arith, ◌≡◌, ◌∙◌, ap, sym, ◌<◌, ◌+◌, ◌==◌, [], ◌∷◌, ◌++◌, length, map, replicate, ℕ, zero, suc, cond, get_or, List, Some}
 use Rattle.std.proofs.lemmas.List.{map-append, replicate_more}
 use Rattle.std.specs.Prelude.{slice_get, slice_set}
 use Rattle.std.specs.Option.{option_map}
@@ -61,20 +61,19 @@ module _ {X : Type 0} where
   updated_id f (y ∷ xs) (suc n) x e h = ap (λ (zs : List X). y ∷ zs) (updated_id f xs n x e h)
 
   -- one element is set: what an index reads
-  pub read_same : (x : X) (xs : List X) (n : ℕ) (d : X) → n < length xs → get_or (updated n (λ (y : X). x) xs) n d ≡ x
-  read_same x [] n d h = absurd (omega arith)
-  read_same x (y ∷ xs) zero d h = refl
-  read_same x (y ∷ xs) (suc n) d h = read_same x xs n d (omega arith)
+  pub read_set : (x : X) (xs : List X) (n k : ℕ) (d : X) → n < length xs → get_or (updated n (λ (y : X). x) xs) k d ≡ cond (n == k) x (get_or xs k d)
+  read_set x [] n k d h = absurd (omega arith)
+  read_set x (y ∷ xs) zero zero d h = refl
+  read_set x (y ∷ xs) zero (suc k) d h = grind arith
+  read_set x (y ∷ xs) (suc n) zero d h = grind arith
+  read_set x (y ∷ xs) (suc n) (suc k) d h = let again = read_set x xs n k d (omega arith) in grind arith
 
-  read_other : (x : X) (xs : List X) (n k : ℕ) (d : X) → (n ≡ k → ⊥) → get_or (updated n (λ (y : X). x) xs) k d ≡ get_or xs k d
-  read_other x [] n k d ne = refl
-  read_other x (y ∷ xs) zero zero d ne = absurd (ne refl)
-  read_other x (y ∷ xs) zero (suc k) d ne = refl
-  read_other x (y ∷ xs) (suc n) zero d ne = refl
-  read_other x (y ∷ xs) (suc n) (suc k) d ne = read_other x xs n k d (λ e. ne (ap suc e))
-
-  pub read_set : (x : X) (xs : List X) (n k : ℕ) (d : X) (b : Bool) → (n == k) ≡ b → n < length xs → get_or (updated n (λ (y : X). x) xs) k d ≡ cond b x (get_or xs k d)
-  read_set x xs n k d b t h = grind (arith, read_same, read_other)
+  -- one more at the end
+  pub get_push : (xs : List X) (y : X) (k : ℕ) → slice_get (xs ++ y ∷ []) k ≡ cond (length xs == k) (Some y) (slice_get xs k)
+  get_push [] y zero = refl
+  get_push [] y (suc k) = grind arith
+  get_push (x ∷ xs) y zero = grind arith
+  get_push (x ∷ xs) y (suc k) = let again = get_push xs y k in grind arith
 
 module _ {X Y : Type 0} where
   -- one more that is seen alike

@@ -1,7 +1,6 @@
 pub mod Backs
 pub mod Bodies
 pub mod Buffers
-pub mod Counted
 pub mod Counts
 pub mod Kept
 pub mod Kind
@@ -10,6 +9,5 @@ pub mod Messages
 pub mod Queues
 pub mod Sending
 pub mod Settling
-pub mod Sound
 pub mod Tally
 pub mod Weight

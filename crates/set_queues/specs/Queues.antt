@@ -66,3 +66,8 @@ pub record AreSound (q : Lists) (messages : List Message) : Type 0 where
   pub narrow : AreNarrow q
   pub tied : AreTied q messages
   pub fit : AreFit messages
+
+-- and the octets of the unacknowledged bodies are counted: what holds of all that is kept
+pub record AreKept (q : Lists) (messages : List Message) (octets : List ℕ) : Type 0 where
+  pub sound : AreSound q messages
+  pub weighed : AreWeighed octets q messages

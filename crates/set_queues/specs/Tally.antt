@@ -15,11 +15,20 @@ is_there test m = is_users m.kind && test m.fate
 abbrev pub is_queued : ℕ → Message → Bool
 is_queued stream m = is_of stream m.kind && is_unsent m.fate
 
--- each count is the length of its filter
+-- no body is longer than a unit's, and a stream has four bits
+pub record IsFit (m : Message) : Type 0 where
+  pub octets : m.octets ≤ 273
+  pub known : is_kind m.kind ≡ true
+
+abbrev pub AreFit : List Message → Type 0
+AreFit messages = (number : ℕ) (m : Message) → slice_get messages number ≡ Some m → IsFit m
+
+-- each count is the length of its filter, and every message is fit
 pub record IsTally (tally : Tally) (messages : List Message) : Type 0 where
   pub counts : (place : Fate) → count_at place tally.counts ≡ count_of (stands_at place) messages
   pub unsent : (stream : ℕ) → stream < 16 → slice_index tally.unsent stream
       ≡ unsent_of stream messages
+  pub fit : AreFit messages
 
 -- new counts this message too
 pub record IsMore (m : Message) (old new : Tally) : Type 0 where
@@ -38,11 +47,3 @@ pub record IsAmong (m : Message) (tally : Tally) : Type 0 where
 pub record AreFew (tally : Tally) : Type 0 where
   pub counts : (place : Fate) → count_at place tally.counts < 2 ^ 63
   pub unsent : (stream : ℕ) → stream < 16 → slice_index tally.unsent stream < 2 ^ 63
-
--- no body is longer than a unit's, and a stream has four bits
-pub record IsFit (m : Message) : Type 0 where
-  pub octets : m.octets ≤ 273
-  pub known : is_kind m.kind ≡ true
-
-abbrev pub AreFit : List Message → Type 0
-AreFit messages = (number : ℕ) (m : Message) → slice_get messages number ≡ Some m → IsFit m

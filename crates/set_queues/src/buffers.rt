@@ -242,6 +242,7 @@ impl Buffers {
             (Fate.Unacked link) self.old.lists))) }
         ensures succeeds { queue_at (Fate.Waiting link) self.old.lists ≢ [] → length (queue_at
             (Fate.Unacked link) self.old.lists) < 127 → IsOk result }
+        ensures few { OnOk result (length (queue_at (Fate.Unacked link) self.old.lists) < 127) }
         ensures sent { IfOk result (λ sent. IsSending link sent.0 self.old.lists self.new.lists) }
         ensures fsn { IfOk result (λ sent. sent.1 ≡ (last_at link self.old.lists + 1 + length
             (queue_at (Fate.Unacked link) self.old.lists)) % 128) }

@@ -23,9 +23,9 @@ impl Model for Messages {
 
     ghost view = { λ m. record { messages = m.messages.items; room = vec_capacity m.messages - vec_len m.messages } };
 
-    ghost use Rattle.set_queues.specs.Counted.{IsCounted};
+    ghost use Rattle.set_queues.specs.Tally.{IsTally};
 
-    ghost invariant = { IsCounted };
+    ghost invariant = { λ m. IsTally m.tally m.messages.items };
 }
 
 impl Messages {
@@ -90,7 +90,6 @@ impl Messages {
     }
 
     /// How many of the users' messages stand in each place.
-    #[tactic(auto, using(crate::proofs::Tallies::all_counts))]
     pub(crate) fn counts(&self) -> Counts
         ensures { result ≡ counts_of self.now.messages }
     {

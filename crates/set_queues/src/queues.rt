@@ -31,7 +31,7 @@ pub struct Queues {
 }
 
 impl Model for Queues {
-    ghost use Rattle.set_queues.specs.Queues.{QueuesState};
+    ghost use Rattle.set_queues.specs.Queues.{QueuesState, AreKept};
 
     ghost Value = { QueuesState };
 
@@ -42,9 +42,7 @@ impl Model for Queues {
       room = q.messages.room;
     } };
 
-    ghost use Rattle.set_queues.specs.Sound.{IsSound};
-
-    ghost invariant = { IsSound };
+    ghost invariant = { λ q. AreKept q.buffers.lists q.messages.messages q.octets };
 }
 
 impl Queues {

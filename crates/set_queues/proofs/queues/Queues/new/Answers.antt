@@ -1,6 +1,5 @@
-use Rattle.std.proofs.Common.{refl}
 use Rattle.set_queues.proofs.Soundness.{kept_new}
 use Rattle.set_queues.proofs.queues.Queues.new.Goals as goal
 
 pub invariant_of-result : goal.invariant_of-result
-invariant_of-result c = kept_new _ c.args.links (record { links = c.in_ok-new.ensures.links; parked = c.in_ok-new.ensures.parked; back = c.in_ok-new.ensures.back }) c.new-2.ensures refl c.requires.0 c.requires.1
+invariant_of-result c = rw c.new-2.ensures (kept_new _ c.args.links (record { links = c.in_ok-new.ensures.links; parked = c.in_ok-new.ensures.parked; back = c.in_ok-new.ensures.back }) c.requires.0 c.requires.1)

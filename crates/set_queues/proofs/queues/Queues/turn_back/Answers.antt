@@ -15,9 +15,9 @@ pub invariant_of-self : goal.invariant_of-self
 invariant_of-self c =
     let known : IsKnown (Back c.args.code) c.self.inside.buffers.lists = omega (arith, c.ranges.code.fits, c.self.invariant.sound.codes) in
     let other : IsKnown c.args.to c.self.inside.buffers.lists = rw (← c.self.view_is) at c.requires.other in
-    kept_passed c.self.inside _ 1 (Back c.args.code) c.args.to c.self.invariant (record { standing = refl; known = known; other = other; apart = c.requires.apart }) (λ l. unqueued c.args.to l c.requires.queued)
-    (moved_one (Back c.args.code) c.args.to c.self.inside.buffers.lists c.pass.new.buffers.lists _ other c.requires.apart c.pass.ensures.lists c.drop_back.ensures.lists)
-    c.pass.ensures.messages (λ l t. absurd (cc)) (λ l h. refl)
+    rw (moved_one (Back c.args.code) c.args.to _ _ _ other c.requires.apart c.pass.ensures.lists c.drop_back.ensures.lists, c.pass.ensures.messages) (
+    kept_passed 1 (Back c.args.code) c.args.to _ _ _ _ c.self.invariant (record { standing = refl; known = known; other = other; apart = c.requires.apart })
+    (λ l. unqueued c.args.to l c.requires.queued) (λ l t. absurd (cc)) (λ l h. refl))
 
 pub returns-clause-lists : goal.returns-clause-lists
 returns-clause-lists c = rw (← c.self.view_is) (moved_one (Back c.args.code) c.args.to c.self.inside.buffers.lists c.pass.new.buffers.lists _ (rw (← c.self.view_is) at c.requires.other) c.requires.apart c.pass.ensures.lists c.drop_back.ensures.lists)
