@@ -47,36 +47,23 @@ lists_same xs l x y e h = map_set_same lists_of xs l x y e h
 pub rooms_there : (room : LinkRooms → ℕ) (xs : List Link) (l : ℕ) (x : Link) → slice_get xs l ≡ Some x → room_in room (slice_get (map rooms_of xs) l) ≡ room (rooms_of x)
 rooms_there room xs l x e = grind (arith, slice_get-map)
 
-pub rooms_same : (xs : List Link) (l : ℕ) (x y : Link) → slice_get xs l ≡ Some x → rooms_of y ≡ rooms_of x → map rooms_of (slice_set xs l y) ≡ map rooms_of xs
-rooms_same xs l x y e h = map_set_same rooms_of xs l x y e h
-
-module _ (xs : List Link) (l : ℕ) (x y : Link) (e : slice_get xs l ≡ Some x) where
-  was : slice_get (map rooms_of xs) l ≡ Some (rooms_of x)
-  was = slice_get-map rooms_of xs l ∙ ap (option_map rooms_of) e
-
-  one_set : map rooms_of (slice_set xs l y) ≡ updated l (λ (z : LinkRooms). rooms_of y) (map rooms_of xs)
-  one_set = map_set_updated rooms_of (λ (z : LinkRooms). rooms_of y) xs l x y e refl
-
-  now : slice_get (map rooms_of (slice_set xs l y)) l ≡ Some (rooms_of y)
-  now = rw one_set (updated_there (λ (z : LinkRooms). rooms_of y) (map rooms_of xs) l (rooms_of x) was)
-
-  other : (k : ℕ) → (l ≡ k → ⊥) → slice_get (map rooms_of (slice_set xs l y)) k ≡ slice_get (map rooms_of xs) k
-  other k ne = rw one_set (updated_other (λ (z : LinkRooms). rooms_of y) (map rooms_of xs) l k ne)
+rooms_set : (room : LinkRooms → ℕ) (xs : List Link) (l k : ℕ) (x y : Link) → slice_get xs l ≡ Some x → room_in room (slice_get (map rooms_of (slice_set xs l y)) k) ≡ cond (l == k) (room (rooms_of y)) (room_in room (slice_get (map rooms_of xs) k))
+rooms_set room xs l k x y e = rw (map_set_updated rooms_of (λ (z : LinkRooms). rooms_of y) xs l x y e refl) (grind (arith, updated_there, updated_other, slice_get-map))
 
 abbrev rooms : List Link → ℕ → List ℕ → Rooms
 rooms xs parked back = record { links = map rooms_of xs; parked = parked; back = back }
 
 pub room_now : (room : LinkRooms → ℕ) (xs : List Link) (l : ℕ) (x y : Link) → slice_get xs l ≡ Some x → room_in room (slice_get (map rooms_of (slice_set xs l y)) l) ≡ room (rooms_of y)
-room_now room xs l x y e = grind (arith, now)
+room_now room xs l x y e = grind (arith, rooms_set, eq-eqb)
 
 pub keeps : (xs : List Link) (l : ℕ) (x y : Link) (parked : ℕ) (back : List ℕ) → slice_get xs l ≡ Some x → x.window.room ≤ y.window.room → x.held.room ≤ y.held.room → KeepsRoom (rooms xs parked back) (rooms (slice_set xs l y) parked back)
-keeps xs l x y parked back e u h fate = let before = was xs l x y e in let after = now xs l x y e in grind (arith, other)
+keeps xs l x y parked back e u h fate = grind (arith, rooms_set, rooms_there)
 
 pub takes_waiting : (xs : List Link) (l : ℕ) (x y : Link) (parked : ℕ) (back : List ℕ) → slice_get xs l ≡ Some x → x.window.room ≤ y.window.room + 1 → x.held.room ≤ y.held.room → TakesRoom (Waiting l) 1 (rooms xs parked back) (rooms (slice_set xs l y) parked back)
-takes_waiting xs l x y parked back e u h fate = let before = was xs l x y e in let after = now xs l x y e in grind (arith, other)
+takes_waiting xs l x y parked back e u h fate = grind (arith, rooms_set, rooms_there)
 
 pub takes_held : (xs : List Link) (l : ℕ) (x y : Link) (parked : ℕ) (back : List ℕ) → slice_get xs l ≡ Some x → x.window.room ≤ y.window.room → x.held.room ≤ y.held.room + 1 → TakesRoom (Held l) 1 (rooms xs parked back) (rooms (slice_set xs l y) parked back)
-takes_held xs l x y parked back e u h fate = let before = was xs l x y e in let after = now xs l x y e in grind (arith, other)
+takes_held xs l x y parked back e u h fate = grind (arith, rooms_set, rooms_there)
 
 -- one link more has room
 pub room_each : (l n : ℕ) (old mid new : Rooms) → HaveRoom l n old → KeepsRoom old mid → n ≤ room_at (Waiting l) mid → KeepsRoom mid new → n ≤ room_at (Held l) new → HaveRoom (l + 1) n new
@@ -112,6 +99,6 @@ pub keeps_back : (links : List LinkRooms) (parked : ℕ) (xs : List QueueState) 
 keeps_back links parked xs c x y e h fate = grind (arith, room_read, room_there)
 
 -- what a call on a queue of a link is for the set; and one on a code's
-pub ruleset of_link = (found, within, list_there, last_there, lists_set, lists_same, rooms_there, rooms_same, room_now, keeps, takes_waiting, takes_held, updated_twice)
+pub ruleset of_link = (found, within, list_there, last_there, lists_set, lists_same, rooms_there, room_now, keeps, takes_waiting, takes_held, updated_twice)
 
 pub ruleset of_code = (back_found, within_back, back_there, back_set, back_same, room_there, room_back, takes_back, keeps_back)

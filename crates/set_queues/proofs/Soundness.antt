@@ -16,7 +16,7 @@ use Rattle.set_queues.proofs.Standing.{Moves, moved_tie, given_queue, given_at, 
 use Rattle.set_queues.proofs.Tallies.{fit_push, fit_restood}
 use Rattle.set_queues.proofs.Weighing.{octets-append, octets-split, octets_stay, octets_few}
 use Rattle.std.proofs.lemmas.Bool.Decides.{nat_tests}
-use Rattle.std.proofs.lemmas.List.{drop_all, length-replicate, length-append, length-take, length-drop}
+use Rattle.std.proofs.lemmas.List.{drop_all, get_or-replicate, get_or_past, length-replicate, length-append, length-take, length-drop}
 use Rattle.std.proofs.lemmas.Option.{slice_get_past}
 use Rattle.set_queues.proofs.Passing.{queue_set, queue_any, queued_stands, links_stay, known_with, queue_away, SameSize, size_stays, size_both, known_on}
 
@@ -158,9 +158,7 @@ none_in list (suc n) zero e = e
 none_in list (suc n) (suc k) e = none_in list n k e
 
 all_alike : {X : Type 0} (x : X) (n k : ℕ) → get_or (replicate n x) k x ≡ x
-all_alike x zero k = refl
-all_alike x (suc n) zero = refl
-all_alike x (suc n) (suc k) = all_alike x n k
+all_alike x n k = grind (arith, get_or-replicate, get_or_past, length-replicate)
 
 -- nothing stands in any queue
 pub record AreEmpty (q : Lists) (n codes : ℕ) : Type 0 where

@@ -1,6 +1,8 @@
 -- Lists of which the element at one place changes.
 use Rattle.std.proofs.Common.{refl, arith, ◌≡◌, ◌∙◌, ap, sym, ◌<◌, ◌+◌, ◌==◌, [], ◌∷◌, ◌++◌, length, map, replicate, ℕ, zero, suc, cond, get_or, List, Some}
-use Rattle.std.proofs.lemmas.List.{map-append, replicate_more}
+use Rattle.std.proofs.Math.Seq.{map-set_same}
+use Rattle.std.proofs.lemmas.List.{map-append, replicate_more, map-set}
+use Rattle.std.proofs.lemmas.Option.{slice_get-map, get_or_from_slice_get}
 use Rattle.std.specs.Prelude.{slice_get, slice_set}
 use Rattle.std.specs.Option.{option_map}
 use Rattle.set_queues.specs.Messages.{updated}
@@ -40,14 +42,10 @@ module _ {X : Type 0} where
 module _ {X Y : Type 0} where
   -- a changed element is seen as a changed view
   pub map_set_updated : (v : X → Y) (f : Y → Y) (xs : List X) (n : ℕ) (x y : X) → slice_get xs n ≡ Some x → v y ≡ f (v x) → map v (slice_set xs n y) ≡ updated n f (map v xs)
-  map_set_updated v f [] n x y e h = refl
-  map_set_updated v f (z ∷ xs) zero x y e h = let g : z ≡ x = cc in ap (λ (w : Y). w ∷ map v xs) (h ∙ ap (λ (w : X). f (v w)) (sym g))
-  map_set_updated v f (z ∷ xs) (suc n) x y e h = ap (λ (ws : List Y). v z ∷ ws) (map_set_updated v f xs n x y e h)
+  map_set_updated v f xs n x y e h = map-set v xs n y ∙ ap (slice_set (map v xs) n) h ∙ set_updated f (map v xs) n (v x) (slice_get-map v xs n ∙ ap (option_map v) e)
 
   pub map_set_same : (v : X → Y) (xs : List X) (n : ℕ) (x y : X) → slice_get xs n ≡ Some x → v y ≡ v x → map v (slice_set xs n y) ≡ map v xs
-  map_set_same v [] n x y e h = refl
-  map_set_same v (z ∷ xs) zero x y e h = let g : z ≡ x = cc in ap (λ (w : Y). w ∷ map v xs) (h ∙ ap v (sym g))
-  map_set_same v (z ∷ xs) (suc n) x y e h = ap (λ (ws : List Y). v z ∷ ws) (map_set_same v xs n x y e h)
+  map_set_same v xs n x y e h = map-set_same v xs n y x (h ∙ ap v (sym (get_or_from_slice_get xs n x x e)))
 
 module _ {X : Type 0} where
   pub updated_twice : (f g : X → X) (xs : List X) (n : ℕ) → updated n f (updated n g xs) ≡ updated n (λ (x : X). f (g x)) xs

@@ -1,6 +1,6 @@
 -- The queues in which messages stand, as lists of their numbers. Read this file first.
 use Rattle.std.specs.Prelude.{ℕ, ◌+◌, ◌<◌, ◌≤◌, ◌==◌, Bool, true, false, List, [], length, slice_get, slice_index_or, Option, Some, None, if◌then◌else◌}
-use Rattle.l2_window.specs.Window.{WindowState, fsn_before_first}
+use Rattle.l2_window.specs.Window.{fsn_before_first}
 use Rattle.set_events.specs.declared.answer.Fate.{Fate}
 use Rattle.set_events.specs.declared.answer.Fate.TheVariants.{Waiting, Unacked, Acked, Held, Parked, Back, Discarded}
 use Rattle.set_events.specs.declared.answer.DiscardCause.{DiscardCause}
@@ -113,15 +113,6 @@ last_at l q = number_in (slice_get q.links l)
 
 abbrev pub with_last : ℕ → ℕ → Lists → Lists
 with_last l fsn q = record q { links = updated l (λ link. record link { last = fsn }) q.links }
-
--- the window of a link, with this room
-abbrev pub window_with : ℕ → LinkLists → WindowState
-window_with room link = record {
-  last = link.last;
-  unacked = link.unacked;
-  unsent = link.unsent;
-  room = room;
-}
 
 -- How much room there is: so many pushes want no memory.
 

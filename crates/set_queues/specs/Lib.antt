@@ -10,4 +10,3 @@ pub mod Queues
 pub mod Sending
 pub mod Settling
 pub mod Tally
-pub mod Weight

@@ -38,20 +38,6 @@ impl Link {
     ghost use Rattle.std.specs.Prelude.{◌≡◌, [], IfOk, map, replicate};
     ghost use Rattle.set_queues.specs.Kept.{lists_of};
 
-    fn new(alloc: Global) -> Result<Link, AllocError>
-        ensures { IfOk result (λ link. lists_of link ≡ record {
-          last = 127;
-          unacked = [];
-          unsent = [];
-          held = [];
-        }) }
-    {
-        Ok(Link {
-            window: Window::new(alloc)?,
-            held: Queue::new(alloc)?,
-        })
-    }
-
     /// So many links, with nothing in their queues.
     #[tactic(auto, using(crate::proofs::Updates::map_push_same))]
     fn no_messages(alloc: Global, links: u8) -> Result<Vec<Link>, AllocError>
@@ -60,8 +46,9 @@ impl Link {
     {
         let mut made = Vec::new(alloc);
         for _ in 0..links {
-            let link = Link::new(alloc)?;
-            made.push(link)?;
+            let window = Window::new(alloc)?;
+            let held = Queue::new(alloc)?;
+            made.push(Link { window, held })?;
         }
         Ok(made)
     }
@@ -184,7 +171,10 @@ impl Buffers {
         ensures room { TakesRoom fate 1 self.old.rooms self.new.rooms }
     {
         match fate {
-            Fate::Waiting { link } => wait(&mut self.links[usize::from(link)].window, message),
+            Fate::Waiting { link } => match self.links[usize::from(link)].window.push(message) {
+                Ok(()) => (),
+                Err(_) => unreachable!(),
+            },
             Fate::Held { link } => self.links[usize::from(link)].held.push_reserved(message),
             Fate::Parked => self.parked.push_reserved(message),
             Fate::Back { code } => self.back[usize::from(code)].push_reserved(message),
@@ -293,18 +283,4 @@ fn no_backs(alloc: Global) -> Result<Vec<Queue>, AllocError>
         made.push(queue)?;
     }
     Ok(made)
-}
-
-/// The message waits last.
-fn wait(window: &mut Window, message: u64)
-    requires { 0 < window.old.room }
-    ensures last { window.new.last ≡ window.old.last }
-    ensures unacked { window.new.unacked ≡ window.old.unacked }
-    ensures unsent { window.new.unsent ≡ window.old.unsent ++ message ∷ [] }
-    ensures room { window.old.room ≤ window.new.room + 1 }
-{
-    match window.push(message) {
-        Ok(()) => (),
-        Err(_) => unreachable!(),
-    }
 }

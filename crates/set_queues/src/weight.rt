@@ -3,7 +3,6 @@ ghost use Rattle.std.specs.Prelude.{◌≡◌, ◌+◌, ◌-◌, ◌^◌, ◌==�
 ghost use Rattle.set_queues.specs.Messages.{octets_of};
 ghost use Rattle.set_queues.specs.Buffers.{queue_at, same_fate};
 ghost use Rattle.set_queues.specs.Tally.{AreFit};
-ghost use Rattle.set_queues.specs.Weight.{HasWeight};
 
 use super::buffers::Buffers;
 use super::messages::Messages;
@@ -30,7 +29,7 @@ pub(crate) fn weigh(buffers: &Buffers, messages: &Messages, link: u8, count: u8)
 
 /// No octets are unacknowledged on the link whose queue of sent messages this is, if it is one.
 pub(crate) fn weigh_none(octets: &mut [u32; 16], fate: Fate)
-    requires { HasWeight fate }
+    requires { (link : ℕ) → fate ≡ Fate.Unacked link → link < 16 }
     ensures { (link : ℕ) → link < 16 → slice_index octets.new link ≡ (if same_fate fate
         (Fate.Unacked link) then 0 else slice_index octets.old link) }
 {
