@@ -31,19 +31,13 @@ queue_set _ f ns q s h = absurd (cc)
 pub links_stay : (g : Fate) (numbers : List ℕ) (q : Lists) → length (with_queue g numbers q).links ≡ length q.links
 links_stay g ns q = grind (arith, length-updated)
 
-back_stays : (g : Fate) (numbers : List ℕ) (q : Lists) → length (with_queue g numbers q).back ≡ length q.back
-back_stays g ns q = grind (arith, length-updated)
-
 -- as many links, and as many codes
 pub record SameSize (q q' : Lists) : Type 0 where
   pub links : length q'.links ≡ length q.links
   pub back : length q'.back ≡ length q.back
 
 pub size_stays : (g : Fate) (numbers : List ℕ) (q : Lists) → SameSize q (with_queue g numbers q)
-size_stays g ns q = record { links = links_stay g ns q; back = back_stays g ns q }
-
-pub size_both : (p q r : Lists) → SameSize p q → SameSize q r → SameSize p r
-size_both p q r e f = record { links = f.links ∙ e.links; back = f.back ∙ e.back }
+size_stays g ns q = record { links = links_stay g ns q; back = grind (arith, length-updated) }
 
 pub known_on : (f : Fate) (q q' : Lists) → SameSize q q' → IsKnown f q → IsKnown f q'
 known_on f q q' e h = grind arith

@@ -12,20 +12,23 @@ use Rattle.set_queues.specs.Tally.{IsFit}
 use Rattle.set_queues.specs.Buffers.{LinkLists, Lists, is_standing, same_fate, queue_at, with_queue, with_last, list_in, IsKnown, IsQueued, Rooms, CanTake}
 use Rattle.set_queues.specs.Queues.{occurs, stands, passed, AreTied, AreGiven, AreSound, AreNarrow, AreWeighed, AreKept}
 use Rattle.set_queues.proofs.Updates.{length-updated, updated_same, updated_other, get_push}
-use Rattle.set_queues.proofs.Standing.{Moves, moved_tie, given_queue, given_at, take_get, whole, same_is, occurs-append, occurs-split}
+use Rattle.set_queues.proofs.Standing.{Moves, moved_tie, given_queue, given_at, take_get, same_is, occurs-append, occurs-split}
 use Rattle.set_queues.proofs.Tallies.{fit_push, fit_restood}
 use Rattle.set_queues.proofs.Weighing.{octets-append, octets-split, octets_stay, octets_few}
 use Rattle.std.proofs.lemmas.Bool.Decides.{nat_tests}
-use Rattle.std.proofs.lemmas.List.{drop_all, get_or-replicate, get_or_past, length-replicate, length-append, length-take, length-drop}
+use Rattle.std.proofs.lemmas.List.{drop_all, take_all, get_or-replicate, get_or_past, length-replicate, length-append, length-take, length-drop}
 use Rattle.std.proofs.lemmas.Option.{slice_get_past}
-use Rattle.set_queues.proofs.Passing.{queue_set, queue_any, queued_stands, links_stay, known_with, queue_away, SameSize, size_stays, size_both, known_on}
+use Rattle.set_queues.proofs.Passing.{queue_set, queue_any, queued_stands, links_stay, known_with, queue_away, SameSize, size_stays, known_on}
 
 -- two queues change: messages leave the one and join the other
 abbrev pub Replaces : Lists → Lists → Fate → Fate → List ℕ → List ℕ → Type 0
 Replaces q q' from to left joined = (f : Fate) → is_standing f ≡ true → queue_at f q' ≡ cond (same_fate from f) left (cond (same_fate to f) joined (queue_at f q))
 
 pub both_size : (q : Lists) (from to : Fate) (left joined : List ℕ) → SameSize q (with_queue from left (with_queue to joined q))
-both_size q from to left joined = size_both q (with_queue to joined q) (with_queue from left (with_queue to joined q)) (size_stays to joined q) (size_stays from left (with_queue to joined q))
+both_size q from to left joined =
+    let once = size_stays to joined q in
+    let twice = size_stays from left (with_queue to joined q) in
+    record { links = twice.links ∙ once.links; back = twice.back ∙ once.back }
 
 pub both_replaced : (q : Lists) (from to : Fate) (left joined : List ℕ) → IsKnown from q → IsKnown to q → Replaces q (with_queue from left (with_queue to joined q)) from to left joined
 both_replaced q from to left joined k o f s = search (queue_any, known_on, size_stays)
@@ -108,7 +111,7 @@ kept_passed k from to q ms octets octets' h c n all w = kept_moved k from to q m
     let now = w l (omega (arith, b, h.sound.few)) in
     let not = n l in
     let full = all l in
-    grind (arith, same_is, whole))
+    grind (arith, same_is, take_all))
 
 pub moved_whole : (k : ℕ) (from to : Fate) (q mid new : Lists) → k ≡ length (queue_at from q) → mid ≡ with_queue to (queue_at to q ++ take k (queue_at from q)) q → new ≡ with_queue from [] mid → new ≡ moved k from to q
 moved_whole k from to q mid new e m n = rw (n, m, drop_all k (queue_at from q) (omega (arith, e))) refl
@@ -204,8 +207,8 @@ queue_last f l fsn q = grind (arith, updated_same, updated_other)
 pub last_links : (l fsn : ℕ) (q : Lists) → length (with_last l fsn q).links ≡ length q.links
 last_links l fsn q = length-updated (λ (z : LinkLists). record z { last = fsn }) q.links l
 
-pub kept_last : (q : Lists) (ms : List Message) (octets : List ℕ) (l fsn : ℕ) → AreKept q ms octets → AreKept (with_last l fsn q) ms octets
-kept_last q ms octets l fsn h = record {
+pub kept_with_last : (q : Lists) (ms : List Message) (octets : List ℕ) (l fsn : ℕ) → AreKept q ms octets → AreKept (with_last l fsn q) ms octets
+kept_with_last q ms octets l fsn h = record {
   sound = record {
     one = omega (arith, h.sound.one, last_links l fsn q);
     few = omega (arith, h.sound.few, last_links l fsn q);
@@ -218,7 +221,7 @@ kept_last q ms octets l fsn h = record {
 }
 
 pub kept_acked : (q : Lists) (ms : List Message) (octets octets' : List ℕ) (l k fsn : ℕ) → AreKept q ms octets → l < length q.links → ((i : ℕ) → i < 16 → slice_index octets' i ≡ cond (l == i) (slice_index octets i - octets_of (take k (queue_at (Unacked l) q)) ms) (slice_index octets i)) → AreKept (with_last l fsn (moved k (Unacked l) (Acked l) q)) (restood (take k (queue_at (Unacked l) q)) (Acked l) ms) octets'
-kept_acked q ms octets octets' l k fsn h b w = kept_last _ _ octets' l fsn (kept_moved k (Unacked l) (Acked l) q ms (record { standing = refl; known = b; other = tt; apart = refl }) octets octets' h (λ i t. absurd (cc)) (λ i small.
+kept_acked q ms octets octets' l k fsn h b w = kept_with_last _ _ octets' l fsn (kept_moved k (Unacked l) (Acked l) q ms (record { standing = refl; known = b; other = tt; apart = refl }) octets octets' h (λ i t. absurd (cc)) (λ i small.
     let now = w i (omega (arith, small, h.sound.few)) in
     let was = h.weighed i small in
     let all = octets-split k (queue_at (Unacked l) q) ms in

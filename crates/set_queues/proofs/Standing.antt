@@ -2,6 +2,7 @@
 use Rattle.std.proofs.Common.{refl, arith, ◌≡◌, ◌∙◌, ap, subst, ◌+◌, ◌≤◌, ◌<◌, [], ◌∷◌, ◌++◌, length, ℕ, zero, suc, Bool, true, false, ◌==◌, ◌⊎◌, inl, inr, List, Option, Some, None, cond, take, drop}
 use Rattle.std.specs.Prelude.{slice_get}
 use Rattle.std.specs.Option.{option_map}
+use Rattle.std.proofs.lemmas.Bool.Decides.{nat_tests}
 use Rattle.std.proofs.lemmas.Bool.{eq-eqb, ne_eqb, cases_eq}
 use Rattle.std.proofs.lemmas.Option.{slice_get_within, slice_get_past, slice_get-get_or, get_or_from_slice_get}
 use Rattle.std.proofs.lemmas.List.{take_all}
@@ -45,16 +46,11 @@ pub restood-append : (xs ys : List ℕ) (f : Fate) (ms : List Message) → resto
 restood-append [] ys f ms = refl
 restood-append (x ∷ xs) ys f ms = restood-append xs ys f (restood_one x f ms)
 
-fate_of_one : (f : Fate) (o : Option Message) (m : Message) → o ≡ Some m → option_map (λ (x : Message). x.fate) (option_map (with_fate f) o) ≡ Some f
-fate_of_one f o m e = rw e refl
-
 pub fate_same : (n : ℕ) (f : Fate) (ms : List Message) → n < length ms → fate_at n (restood_one n f ms) ≡ Some f
-fate_same n f ms h =
-    let t = there ms n h in
-    ap (option_map (λ (x : Message). x.fate)) (updated_same (with_fate f) ms n) ∙ fate_of_one f (slice_get ms n) t.0 t.1
+fate_same n f ms h = let t = there ms n h in grind (arith, updated_same)
 
 pub fate_other : (n k : ℕ) (f : Fate) (ms : List Message) → (n ≡ k → ⊥) → fate_at k (restood_one n f ms) ≡ fate_at k ms
-fate_other n k f ms ne = ap (option_map (λ (x : Message). x.fate)) (updated_other (with_fate f) ms n k ne)
+fate_other n k f ms ne = grind (arith, updated_other)
 
 given_on : (ns : List ℕ) (ms ms' : List Message) → length ms' ≡ length ms → AreGiven ns ms → AreGiven ns ms'
 given_on [] ms ms' e g = tt
@@ -70,16 +66,11 @@ fate_stays m (n ∷ ns) f ms z =
 -- one that is has the new fate
 pub fate_moves : (m : ℕ) (ns : List ℕ) (f : Fate) (ms : List Message) → AreGiven ns ms → 0 < occurs m ns → fate_at m (restood ns f ms) ≡ Some f
 fate_moves m [] f ms g z = absurd (omega arith)
-fate_moves m (n ∷ ns) f ms g z = go (cases_zero (occurs m ns)) (cases_eq n m) (fate_moves m ns f (restood_one n f ms) (given_on ns ms (restood_one n f ms) (length-updated (with_fate f) ms n) g.1))
-  where
-    cases_zero : (k : ℕ) → (k ≡ 0) ⊎ (0 < k)
-    cases_zero zero = inl refl
-    cases_zero (suc k) = inr (omega arith)
-
-    go : (occurs m ns ≡ 0) ⊎ (0 < occurs m ns) → (n ≡ m) ⊎ (n ≡ m → ⊥) → (0 < occurs m ns → fate_at m (restood ns f (restood_one n f ms)) ≡ Some f) → fate_at m (restood ns f (restood_one n f ms)) ≡ Some f
-    go (inr later) c again = again later
-    go (inl none) (inl e) again = fate_stays m ns f (restood_one n f ms) none ∙ subst (λ (k : ℕ). fate_at k (restood_one n f ms) ≡ Some f) e (fate_same n f ms g.0)
-    go (inl none) (inr ne) again = absurd (omega (arith, none, occurs_not n m ne))
+fate_moves m (n ∷ ns) f ms g z =
+    let again = fate_moves m ns f (restood_one n f ms) (given_on ns ms (restood_one n f ms) (length-updated (with_fate f) ms n) g.1) in
+    let stays = fate_stays m ns f (restood_one n f ms) in
+    let now = fate_same n f ms g.0 in
+    grind (arith, nat_tests)
 
 -- THE TIE, when messages move from one queue to another, or to none
 
@@ -102,13 +93,9 @@ moved_tie q q' ms ns from to tie s given within moves f sf m = grind (arith, fat
 pub given_queue : (q : Lists) (ms : List Message) (f : Fate) → AreTied q ms → is_standing f ≡ true → (ns : List ℕ) → ((m : ℕ) → occurs m ns ≤ occurs m (queue_at f q)) → AreGiven ns ms
 given_queue q ms f tie s [] within = tt
 given_queue q ms f tie s (n ∷ ns) within =
-    let here : one_if (n == n) ≡ 1 = occurs_here n n refl in
-    let on : stands f n ms ≡ true = one_true (stands f n ms) (omega (arith, within n, tie f s n)) in
-    (given_one (slice_get ms n) refl (has_of f f (fate_at n ms) s on), given_queue q ms f tie s ns (λ m. omega (arith, within m)))
-  where
-    given_one : (o : Option Message) → slice_get ms n ≡ o → option_map (λ (x : Message). x.fate) o ≡ Some f → n < length ms
-    given_one None e h = absurd (cc)
-    given_one (Some x) e h = slice_get_within ms n x e
+    let stood = tie f s n in
+    let most = within n in
+    (grind (arith, slice_get_past, occurs_here), given_queue q ms f tie s ns (λ m. omega (arith, within m)))
 
 -- the first so many, one after another
 
@@ -125,9 +112,6 @@ none_past xs i e h = let some = slice_get-get_or xs i 0 h in absurd (cc)
 
 pub room_sum : (b : Bool) (r0 r1 r2 i k : ℕ) → r0 ≤ r1 + cond b i 0 → r1 ≤ r2 + cond b k 0 → r0 ≤ r2 + cond b (i + k) 0
 room_sum b r0 r1 r2 i k g h = grind arith
-
-pub whole : (xs : List ℕ) (k : ℕ) → k ≡ length xs → take k xs ≡ xs
-whole xs k e = take_all k xs (omega (arith, e))
 
 pub apart : (f g : Fate) → is_standing g ≡ true → (f ≡ g → ⊥) → same_fate f g ≡ false
 apart f g s ne = grind arith
