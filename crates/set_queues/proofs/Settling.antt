@@ -12,7 +12,7 @@ use Rattle.set_queues.specs.Queues.{passed}
 use Rattle.set_queues.specs.Settling.{fate_on, on, Settles}
 use Rattle.set_queues.proofs.Standing.{restood-append, room_sum, same_self}
 use Rattle.set_queues.proofs.Passing.{queued_stands, known_on}
-use Rattle.set_queues.proofs.Soundness.{passed_replaces, passed_size, unqueued}
+use Rattle.set_queues.proofs.Soundness.{passed_links, passed_replaces, passed_size, unqueued}
 
 -- a place for what leaves the link
 pub record IsAside (link : ℕ) (to : Fate) (q : Lists) : Type 0 where
@@ -82,4 +82,4 @@ settling link to q a =
 pub known_passed : (f from to : Fate) (q now : Lists) → now ≡ passed from to q → IsKnown f q → IsKnown f now
 known_passed f from to q now e k = rw e (known_on f q _ (passed_size q from to) k)
 
-pub ruleset settles = (aside_of, waits_on, held_last, on_length, restood_three, rooms_three)
+pub ruleset settles = (passed_links, aside_of, waits_on, held_last, on_length, restood_three, rooms_three)

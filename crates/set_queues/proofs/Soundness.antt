@@ -119,6 +119,9 @@ moved_whole k from to q mid new e m n = rw (n, m, drop_all k (queue_at from q) (
 pub moved_one : (from to : Fate) (q mid new : Lists) → IsKnown to q → same_fate to from ≡ false → mid ≡ with_queue to (queue_at to q ++ take 1 (queue_at from q)) q → new ≡ with_queue from (drop 1 (queue_at from mid)) mid → new ≡ passed_first from to q
 moved_one from to q mid new o a m n = rw (n, queue_away to from _ q mid m o a, m) refl
 
+pub kept_as : (q q' : Lists) (ms : List Message) (octets : List ℕ) → q' ≡ q → AreKept q ms octets → AreKept q' ms octets
+kept_as q q' ms octets e h = rw e h
+
 -- A NEW MESSAGE
 
 stands_push : (ms : List Message) (x : Message) (f : Fate) (m : ℕ) → one_if (stands f m (ms ++ x ∷ [])) ≡ one_if (stands f m ms) + cond (length ms == m) (one_if (same_fate x.fate f)) 0

@@ -11,14 +11,14 @@ use std::marker::Model;
 /// The queues of a link.
 #[derive(Drop)]
 pub(crate) struct Link {
-    window: Window,
+    pub(crate) window: Window,
     held: Queue,
 }
 
 /// The queues of a set. A fate that isn't final names one of them.
 #[derive(Drop)]
 pub(crate) struct Buffers {
-    links: Vec<Link>,
+    pub(crate) links: Vec<Link>,
     parked: Queue,
     /// By the changeback's code, 0 to 255.
     back: Vec<Queue>,
@@ -55,8 +55,9 @@ impl Link {
 }
 
 impl Buffers {
-    ghost use Rattle.std.specs.Prelude.{◌≡◌, ◌+◌, ◌<◌, ◌≤◌, ◌++◌, [], ◌∷◌, IfOk, OnOk, length, replicate, drop, slice_get};
+    ghost use Rattle.std.specs.Prelude.{◌≡◌, ◌≢◌, ◌↔◌, ◌+◌, ◌%◌, ◌<◌, ◌≤◌, ◌++◌, [], ◌∷◌, IsOk, IfOk, OnOk, OnErr, length, replicate, drop, slice_get};
     ghost use Rattle.set_queues.specs.Buffers.{IsKnown, IsQueued, CanTake, KeepsRoom, TakesRoom, HaveRoom, queue_at, with_queue, last_at, room_at};
+    ghost use Rattle.set_queues.specs.Sending.{IsSending};
 
     /// The queues of so many links, all empty.
     pub(crate) fn new(alloc: Global, links: u8) -> Result<Buffers, AllocError>
@@ -79,18 +80,6 @@ impl Buffers {
         ensures { result ≡ length self.now.lists.links }
     {
         self.links.len()
-    }
-
-    /// The window of a link.
-    #[tactic(auto, using(crate::proofs::Linked::of_link))]
-    pub(crate) fn window(&self, link: u8) -> &Window
-        requires { link < length self.now.lists.links }
-        ensures last { result.now.last ≡ last_at link self.now.lists }
-        ensures unacked { result.now.unacked ≡ queue_at (Fate.Unacked link) self.now.lists }
-        ensures unsent { result.now.unsent ≡ queue_at (Fate.Waiting link) self.now.lists }
-        ensures room { result.now.room ≡ room_at (Fate.Waiting link) self.now.rooms }
-    {
-        &self.links[usize::from(link)].window
     }
 
     /// How many messages stand there.
@@ -210,13 +199,6 @@ impl Buffers {
     {
         self.back[usize::from(code)].pop();
     }
-}
-
-impl Buffers {
-    ghost use Rattle.std.specs.Prelude.{◌≡◌, ◌≢◌, ◌↔◌, ◌+◌, ◌%◌, ◌<◌, ◌≤◌, [], IsOk, IfOk, OnOk, OnErr, length};
-    ghost use Rattle.std.specs.Result.{OkIff};
-    ghost use Rattle.set_queues.specs.Buffers.{KeepsRoom, queue_at, last_at, with_last};
-    ghost use Rattle.set_queues.specs.Sending.{IsSending, acknowledged, reach};
 
     /// The first message that waits for the link is sent: it stands last among the unacknowledged. The
     /// message and its FSN.
@@ -240,35 +222,6 @@ impl Buffers {
         ensures err { OnErr result (self.new ≡ self.old) }
     {
         self.links[usize::from(link)].window.send()
-    }
-
-    /// The messages of the link up to this FSN leave the unacknowledged ones: how many.
-    ///
-    /// Refusal: 3 [`WindowFault::Unreasonable`].
-    #[tactic(auto, using(crate::proofs::Linked::of_link))]
-    pub(crate) fn ack(&mut self, link: u8, fsn: u8) -> Result<u8, WindowFault>
-        requires known { link < length self.old.lists.links }
-        requires fsn { fsn < 128 }
-        ensures acked { OkIff result (reach link fsn self.old.lists ≤ length (queue_at
-            (Fate.Unacked link) self.old.lists)) (reach link fsn self.old.lists) }
-        ensures ok { OnOk result (self.new.lists ≡ acknowledged link fsn self.old.lists) }
-        ensures unreasonable { OnErr result (result ≡ Err WindowFault.Unreasonable) }
-        ensures room { OnOk result (KeepsRoom self.old.rooms self.new.rooms) }
-        ensures err { OnErr result (self.new ≡ self.old) }
-    {
-        self.links[usize::from(link)].window.ack(fsn)
-    }
-
-    /// FSN 127 counts as acknowledged on the link again (Q.703 5.2.1).
-    #[tactic(auto, using(crate::proofs::Linked::of_link))]
-    pub(crate) fn reset(&mut self, link: u8)
-        requires known { link < length self.old.lists.links }
-        requires unacked { queue_at (Fate.Unacked link) self.old.lists ≡ [] }
-        requires unsent { queue_at (Fate.Waiting link) self.old.lists ≡ [] }
-        ensures lists { self.new.lists ≡ with_last link 127 self.old.lists }
-        ensures room { KeepsRoom self.old.rooms self.new.rooms }
-    {
-        self.links[usize::from(link)].window.reset();
     }
 }
 

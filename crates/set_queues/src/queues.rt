@@ -141,6 +141,7 @@ impl Queues {
     }
 
     /// The window of the link.
+    #[tactic(auto, using(crate::proofs::Linked::of_link))]
     pub fn window(&self, link: u8) -> &Window
         requires { link < length self.now.lists.links }
         ensures last { result.now.last ≡ last_at link self.now.lists }
@@ -148,7 +149,8 @@ impl Queues {
         ensures unsent { result.now.unsent ≡ queue_at (Fate.Waiting link) self.now.lists }
         ensures room { result.now.room ≡ room_at (Fate.Waiting link) self.now.rooms }
     {
-        self.buffers.window(link)
+        let buffers = &self.buffers;
+        &buffers.links[usize::from(link)].window
     }
 
     /// How many messages stand there.
@@ -300,7 +302,7 @@ impl Queues {
     ///
     /// Refusal: 3 [`WindowFault::Unreasonable`], where the FSN is neither that last acknowledged nor
     /// that of an unacknowledged message.
-    #[tactic(auto, using(crate::proofs::Soundness::leaving))]
+    #[tactic(auto, using(crate::proofs::Soundness::leaving, crate::proofs::Linked::of_link))]
     pub fn acknowledge(&mut self, link: u8, fsn: u8) -> Result<u8, WindowFault>
         requires known { link < length self.old.lists.links }
         requires fsn { fsn < 128 }
@@ -315,7 +317,7 @@ impl Queues {
         ensures unreasonable { OnErr result (result ≡ Err WindowFault.Unreasonable) }
         ensures err { OnErr result (self.new ≡ self.old) }
     {
-        let Some(count) = self.buffers.window(link).distance(fsn) else {
+        let Some(count) = self.window(link).distance(fsn) else {
             return Err(WindowFault::Unreasonable);
         };
         let from = Fate::Unacked { link };
@@ -328,7 +330,8 @@ impl Queues {
             Fate::Acked { link },
         );
         weigh_less(&mut self.octets, link, octets);
-        match self.buffers.ack(link, fsn) {
+        let buffers = &mut self.buffers;
+        match buffers.links[usize::from(link)].window.ack(fsn) {
             Ok(acked) => Ok(acked),
             Err(_) => unreachable!(),
         }
@@ -439,6 +442,7 @@ impl Queues {
     /// A new life of the link: FSN 127 counts as acknowledged again (Q.703 5.2.1).
     ///
     /// Conditions: nothing was sent on it and isn't acknowledged, and nothing waits for it.
+    #[tactic(auto, using(crate::proofs::Linked::of_link))]
     pub fn reset(&mut self, link: u8)
         requires known { link < length self.old.lists.links }
         requires unacked { queue_at (Fate.Unacked link) self.old.lists ≡ [] }
@@ -447,7 +451,8 @@ impl Queues {
         ensures same { (self.new.messages ≡ self.old.messages) × (self.new.room ≡ self.old.room) }
         ensures rooms { KeepsRoom self.old.rooms self.new.rooms }
     {
-        self.buffers.reset(link);
+        let buffers = &mut self.buffers;
+        buffers.links[usize::from(link)].window.reset();
     }
 }
 

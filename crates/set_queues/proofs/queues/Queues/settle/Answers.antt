@@ -1,8 +1,8 @@
-use Rattle.std.proofs.Common.{◌∙◌, ap, length}
+use Rattle.std.proofs.Common.{arith, ◌∙◌, ap, length}
 use Rattle.set_events.specs.declared.answer.Fate.TheVariants.{Waiting, Unacked, Held}
-use Rattle.set_queues.specs.Buffers.{Lists, queue_at, same_fate}
+use Rattle.set_queues.specs.Buffers.{Lists, queue_at}
 use Rattle.set_queues.specs.Queues.{passed}
-use Rattle.set_queues.proofs.Settling.{IsAside, aside_of, known_passed, waits_on, held_last, on_length, rooms_three}
+use Rattle.set_queues.proofs.Settling.{IsAside, aside_of, known_passed, waits_on, held_last, on_length}
 use Rattle.set_queues.proofs.queues.Queues.settle.Goals as goal
 
 pub divert-requires-2-clause-known : goal.divert-requires-2-clause-known
@@ -27,5 +27,7 @@ returns-clause-rooms c =
     let waits = ap (λ (q : Lists). length (queue_at (Waiting c.args.link) q)) c.divert.ensures.lists ∙ ap length (waits_on c.args.link c.fate_on-to.result c.args.self.now.lists aside) in
     let held = ap (λ (q : Lists). length (queue_at (Held c.args.link) q)) (c.divert-2.ensures.lists ∙ ap (passed (Waiting c.args.link) c.fate_on-to.result) c.divert.ensures.lists) ∙ ap length (held_last c.args.link c.fate_on-to.result c.args.self.now.lists aside) in
     λ fate.
-    let three = rooms_three (same_fate c.fate_on-to.result fate) _ _ _ _ _ _ _ (c.divert.ensures.rooms fate) (c.divert-2.ensures.rooms fate) (c.divert-3.ensures.rooms fate) in
-    rw (← c.fate_on-to.ensures.value, on_length c.args.link c.args.self.now.lists) (rw (waits, held) at three)
+    let one = c.divert.ensures.rooms fate in
+    let two = c.divert-2.ensures.rooms fate in
+    let three = c.divert-3.ensures.rooms fate in
+    grind (arith, on_length)
