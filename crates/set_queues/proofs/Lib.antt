@@ -7,4 +7,3 @@ pub mod Standing
 pub mod Storing
 pub mod Tallies
 pub mod Updates
-pub mod Weighing

@@ -9,12 +9,12 @@ use Rattle.set_queues.specs.Messages.{restood_one, restood, octets_at, octets_of
 use Rattle.set_queues.specs.Backs.{passed_first}
 use Rattle.set_queues.specs.Sending.{first_sent, acknowledged, reach}
 use Rattle.set_queues.specs.Tally.{IsFit}
-use Rattle.set_queues.specs.Buffers.{LinkLists, Lists, is_standing, same_fate, queue_at, with_queue, with_last, list_in, IsKnown, IsQueued, Rooms, CanTake}
+use Rattle.set_queues.specs.Buffers.{no_lists, AreEmpty, LinkLists, Lists, is_standing, same_fate, queue_at, with_queue, with_last, list_in, IsKnown, IsQueued, Rooms, CanTake}
 use Rattle.set_queues.specs.Queues.{occurs, stands, passed, AreTied, AreGiven, AreSound, AreNarrow, AreWeighed, AreKept}
 use Rattle.set_queues.proofs.Updates.{length-updated, updated_same, updated_other, get_push}
 use Rattle.set_queues.proofs.Standing.{Moves, moved_tie, given_queue, given_at, take_get, same_is, occurs-append, occurs-split}
 use Rattle.set_queues.proofs.Tallies.{fit_push, fit_restood}
-use Rattle.set_queues.proofs.Weighing.{octets-append, octets-split, octets_stay, octets_few}
+use Rattle.set_queues.proofs.Tallies.{octets-append, octets-split, octets_stay, octets_few}
 use Rattle.std.proofs.lemmas.Bool.Decides.{nat_tests}
 use Rattle.std.proofs.lemmas.List.{drop_all, take_all, get_or-replicate, get_or_past, length-replicate, length-append, length-take, length-drop}
 use Rattle.std.proofs.lemmas.Option.{slice_get_past}
@@ -158,7 +158,7 @@ kept_added q ms octets x h fit k u =
 
 -- NO MESSAGE
 
-none_in : (list : LinkLists → List ℕ) (n k : ℕ) → list (record { last = 127; unacked = []; unsent = []; held = [] }) ≡ [] → list_in list (slice_get (replicate n (record { last = 127; unacked = []; unsent = []; held = [] })) k) ≡ []
+none_in : (list : LinkLists → List ℕ) (n k : ℕ) → list no_lists ≡ [] → list_in list (slice_get (replicate n no_lists) k) ≡ []
 none_in list zero k e = refl
 none_in list (suc n) zero e = e
 none_in list (suc n) (suc k) e = none_in list n k e
@@ -166,18 +166,12 @@ none_in list (suc n) (suc k) e = none_in list n k e
 all_alike : {X : Type 0} (x : X) (n k : ℕ) → get_or (replicate n x) k x ≡ x
 all_alike x n k = grind (arith, get_or-replicate, get_or_past, length-replicate)
 
--- nothing stands in any queue
-pub record AreEmpty (q : Lists) (n codes : ℕ) : Type 0 where
-  pub links : q.links ≡ replicate n (record { last = 127; unacked = []; unsent = []; held = [] })
-  pub parked : q.parked ≡ []
-  pub back : q.back ≡ replicate codes []
-
-empty_queue : (q : Lists) (n codes : ℕ) (f : Fate) → AreEmpty q n codes → queue_at f q ≡ []
+empty_queue : (q : Lists) (n codes : ℕ) (f : Fate) → AreEmpty n codes q → queue_at f q ≡ []
 empty_queue q n codes f e = grind (arith, none_in, all_alike)
 
-pub kept_new : (q : Lists) (n : ℕ) → AreEmpty q n 256 → 1 ≤ n → n ≤ 16 → AreKept q [] (replicate 16 0)
+pub kept_new : (q : Lists) (n : ℕ) → AreEmpty n 256 q → 1 ≤ n → n ≤ 16 → AreKept q [] (replicate 16 0)
 kept_new q n e low high =
-    let size : length q.links ≡ n = ap length e.links ∙ length-replicate n (record { last = 127; unacked = []; unsent = []; held = [] }) in
+    let size : length q.links ≡ n = ap length e.links ∙ length-replicate n no_lists in
     record {
       sound = record {
         one = omega arith;

@@ -1,15 +1,15 @@
--- The running counts of a list of messages, when one of them changes or joins.
-use Rattle.std.proofs.Common.{◌^◌, arith, ◌≡◌, ◌+◌, ◌≤◌, ◌<◌, [], ◌∷◌, ◌++◌, length, ℕ, zero, suc, Bool, List, Option, Some, None}
+-- The running counts of a list of messages, when one of them changes or joins, and the octets of their bodies.
+use Rattle.std.proofs.Common.{◌^◌, arith, ◌≡◌, ◌+◌, ◌≤◌, ◌<◌, [], ◌∷◌, ◌++◌, length, ℕ, zero, suc, Bool, List, Option, Some, None, get_or, refl, ◌∙◌, ap, ◌*◌, take, drop}
 use Rattle.std.specs.Prelude.{filter, slice_get, slice_set}
-use Rattle.std.proofs.Common.{get_or, refl}
 use Rattle.std.proofs.lemmas.Option.{slice_get_read}
 use Rattle.set_queues.specs.declared.message.Message.{Message}
 use Rattle.set_events.specs.declared.answer.Fate.{Fate}
-use Rattle.set_queues.specs.Messages.{with_fate, restood_one, restood}
+use Rattle.set_queues.specs.Messages.{with_fate, restood_one, restood, octets_in, octets_at, octets_of}
 use Rattle.set_queues.proofs.Updates.{set_updated, updated_same, updated_other, get_push}
 use Rattle.set_queues.specs.declared.tally.Tally.{Tally}
 use Rattle.set_queues.specs.Counts.{one_if, stands_at}
 use Rattle.set_queues.specs.Tally.{is_there, is_queued, IsTally, IsMore, IsAmong, AreFew, IsFit, AreFit}
+use Rattle.set_queues.proofs.Standing.{take_get, fate_moves, fate_stays, length-restood}
 
 pub count_set : (p : Message → Bool) (xs : List Message) (n : ℕ) (x y : Message) → slice_get xs n ≡ Some x → length (filter p (slice_set xs n y)) + one_if (p x) ≡ length (filter p xs) + one_if (p y)
 count_set p [] n x y e = absurd (cc)
@@ -79,3 +79,43 @@ pub restood_set : (xs : List Message) (i : ℕ) (x : Message) (fate : Fate) → 
 restood_set xs i x fate e = set_updated (with_fate fate) xs i x e
 
 pub ruleset restands = (read_there, restood_set)
+
+-- THE OCTETS of the bodies
+
+pub octets-append : (xs ys : List ℕ) (ms : List Message) → octets_of (xs ++ ys) ms ≡ octets_of xs ms + octets_of ys ms
+octets-append [] ys ms = omega arith
+octets-append (x ∷ xs) ys ms = omega (arith, octets-append xs ys ms)
+
+pub octets-split : (k : ℕ) (xs : List ℕ) (ms : List Message) → octets_of (take k xs) ms + octets_of (drop k xs) ms ≡ octets_of xs ms
+octets-split zero xs ms = omega arith
+octets-split (suc k) [] ms = omega arith
+octets-split (suc k) (x ∷ xs) ms = omega (arith, octets-split k xs ms)
+
+pub fit_octets : (ms : List Message) (n : ℕ) (o : Option Message) → slice_get ms n ≡ o → AreFit ms → octets_in o ≤ 273
+fit_octets ms n None e f = omega arith
+fit_octets ms n (Some m) e f = (f n m e).octets
+
+pub octets_few : (ns : List ℕ) (ms : List Message) → AreFit ms → octets_of ns ms ≤ 273 * length ns
+octets_few [] ms f = omega arith
+octets_few (n ∷ ns) ms f = omega (arith, fit_octets ms n (slice_get ms n) refl f, octets_few ns ms f)
+
+-- a message that comes to stand elsewhere keeps its octets
+
+octets_one : (n k : ℕ) (f : Fate) (ms : List Message) → octets_at n (restood_one k f ms) ≡ octets_at n ms
+octets_one n k f ms = grind (arith, updated_same, updated_other)
+
+octets_after_one : (ns : List ℕ) (k : ℕ) (f : Fate) (ms : List Message) → octets_of ns (restood_one k f ms) ≡ octets_of ns ms
+octets_after_one [] k f ms = refl
+octets_after_one (n ∷ ns) k f ms = omega (arith, octets_one n k f ms, octets_after_one ns k f ms)
+
+pub octets_stay : (ns ks : List ℕ) (f : Fate) (ms : List Message) → octets_of ns (restood ks f ms) ≡ octets_of ns ms
+octets_stay ns [] f ms = refl
+octets_stay ns (k ∷ ks) f ms = octets_stay ns ks f (restood_one k f ms) ∙ octets_after_one ns k f ms
+
+pub octets_more : (xs : List ℕ) (i n : ℕ) (ms : List Message) → slice_get xs i ≡ Some n → octets_of (take (i + 1) xs) ms ≡ octets_of (take i xs) ms + octets_at n ms
+octets_more xs i n ms e = omega (arith, ap (λ (ns : List ℕ). octets_of ns ms) (take_get xs i n e), octets-append (take i xs) (n ∷ []) ms)
+
+pub octets_kept : (n : ℕ) (ks : List ℕ) (f : Fate) (ms : List Message) → octets_at n (restood ks f ms) ≡ octets_at n ms
+octets_kept n ks f ms = omega (arith, octets_stay (n ∷ []) ks f ms)
+
+pub ruleset laws = (octets_kept, fate_moves, fate_stays, length-restood)

@@ -1,5 +1,5 @@
 -- The queues in which messages stand, as lists of their numbers. Read this file first.
-use Rattle.std.specs.Prelude.{ℕ, ◌+◌, ◌<◌, ◌≤◌, ◌==◌, Bool, true, false, List, [], length, slice_get, slice_index_or, Option, Some, None, if◌then◌else◌}
+use Rattle.std.specs.Prelude.{◌≡◌, ℕ, ◌+◌, ◌<◌, ◌≤◌, ◌==◌, Bool, true, false, List, [], length, replicate, slice_get, slice_index_or, Option, Some, None, if◌then◌else◌}
 use Rattle.l2_window.specs.Window.{fsn_before_first}
 use Rattle.set_events.specs.declared.answer.Fate.{Fate}
 use Rattle.set_events.specs.declared.answer.Fate.TheVariants.{Waiting, Unacked, Acked, Held, Parked, Back, Discarded}
@@ -22,6 +22,16 @@ pub record Lists : Type 0 where
   pub parked : List ℕ
   -- what waits for the acknowledgement of each changeback, by its code
   pub back : List (List ℕ)
+
+-- of a link that has had no life yet: FSN 127 counts as acknowledged (Q.703 5.2.1)
+abbrev pub no_lists : LinkLists
+no_lists = record { last = 127; unacked = []; unsent = []; held = [] }
+
+-- of so many links and codes, with nothing in any queue
+pub record AreEmpty (count codes : ℕ) (q : Lists) : Type 0 where
+  pub links : q.links ≡ replicate count no_lists
+  pub parked : q.parked ≡ []
+  pub back : q.back ≡ replicate codes []
 
 -- Each fate that isn't final has its queue.
 
@@ -149,13 +159,7 @@ TakesRoom to count old new = (fate : Fate) → room_at fate old ≤ room_at fate
 
 -- so many can come to stand there otherwise than by being sent: there is room for them, or they stand in no queue
 abbrev pub CanTake : Fate → ℕ → Rooms → Type 0
-CanTake (Waiting l) count r = count ≤ room_at (Waiting l) r
-CanTake (Held l) count r = count ≤ room_at (Held l) r
-CanTake Parked count r = count ≤ room_at Parked r
-CanTake (Back c) count r = count ≤ room_at (Back c) r
-CanTake (Unacked l) count r = ⊥
-CanTake (Acked l) count r = Unit {0}
-CanTake (Discarded cause) count r = Unit {0}
+CanTake to count r = is_standing to ≡ true → (IsQueued to) × (count ≤ room_at to r)
 
 -- so many links have room for so many more that wait, and for as many that are held
 abbrev pub HaveRoom : ℕ → ℕ → Rooms → Type 0

@@ -35,14 +35,14 @@ impl Model for Buffers {
 }
 
 impl Link {
-    ghost use Rattle.std.specs.Prelude.{◌≡◌, [], IfOk, map, replicate};
+    ghost use Rattle.std.specs.Prelude.{◌≡◌, IfOk, map, replicate};
     ghost use Rattle.set_queues.specs.Kept.{lists_of};
+    ghost use Rattle.set_queues.specs.Buffers.{no_lists};
 
     /// So many links, with nothing in their queues.
     #[tactic(auto, using(crate::proofs::Updates::map_push_same))]
     fn no_messages(alloc: Global, links: u8) -> Result<Vec<Link>, AllocError>
-        ensures { IfOk result (λ made. map lists_of made.items ≡ replicate links
-            (record { last = 127; unacked = []; unsent = []; held = [] })) }
+        ensures { IfOk result (λ made. map lists_of made.items ≡ replicate links no_lists) }
     {
         let mut made = Vec::new(alloc);
         for _ in 0..links {
@@ -56,15 +56,12 @@ impl Link {
 
 impl Buffers {
     ghost use Rattle.std.specs.Prelude.{◌≡◌, ◌≢◌, ◌↔◌, ◌+◌, ◌%◌, ◌<◌, ◌≤◌, ◌++◌, [], ◌∷◌, IsOk, IfOk, OnOk, OnErr, length, replicate, drop, slice_get};
-    ghost use Rattle.set_queues.specs.Buffers.{IsKnown, IsQueued, CanTake, KeepsRoom, TakesRoom, HaveRoom, queue_at, with_queue, last_at, room_at};
+    ghost use Rattle.set_queues.specs.Buffers.{AreEmpty, IsKnown, IsQueued, CanTake, KeepsRoom, TakesRoom, HaveRoom, queue_at, with_queue, last_at, room_at};
     ghost use Rattle.set_queues.specs.Sending.{IsSending};
 
     /// The queues of so many links, all empty.
     pub(crate) fn new(alloc: Global, links: u8) -> Result<Buffers, AllocError>
-        ensures links { IfOk result (λ buffers. buffers.lists.links ≡ replicate links
-            (record { last = 127; unacked = []; unsent = []; held = [] })) }
-        ensures parked { IfOk result (λ buffers. buffers.lists.parked ≡ []) }
-        ensures back { IfOk result (λ buffers. buffers.lists.back ≡ replicate 256 []) }
+        ensures { IfOk result (λ buffers. AreEmpty links 256 buffers.lists) }
     {
         let links = Link::no_messages(alloc, links)?;
         let back = no_backs(alloc)?;

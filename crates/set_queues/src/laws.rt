@@ -18,7 +18,7 @@ pub fn each_number_stands_once()
 
 /// A message that moves has its new fate, and every other keeps its own; none changes its octets, and
 /// none is lost.
-#[tactic(auto, using(crate::proofs::Weighing::laws))]
+#[tactic(auto, using(crate::proofs::Tallies::laws))]
 pub fn fates_move_with_their_numbers()
     ensures { FatesMoveWithTheirNumbers }
 {}

@@ -9,7 +9,7 @@ use super::messages::Messages;
 use set_events::Fate;
 
 /// The octets of the first `count` unacknowledged bodies of the link.
-#[tactic(auto, using(crate::proofs::Weighing::fit_octets, crate::proofs::Weighing::octets_more, crate::proofs::Standing::none_past))]
+#[tactic(auto, using(crate::proofs::Tallies::fit_octets, crate::proofs::Tallies::octets_more, crate::proofs::Standing::none_past))]
 pub(crate) fn weigh(buffers: &Buffers, messages: &Messages, link: u8, count: u8) -> u32
     requires known { link < length buffers.now.lists.links }
     requires few { count ≤ length (queue_at (Fate.Unacked link) buffers.now.lists) }

@@ -2,4 +2,4 @@ use Rattle.set_queues.proofs.Soundness.{kept_new}
 use Rattle.set_queues.proofs.queues.Queues.new.Goals as goal
 
 pub invariant_of-result : goal.invariant_of-result
-invariant_of-result c = rw c.new-2.ensures (kept_new _ c.args.links (record { links = c.in_ok-new.ensures.links; parked = c.in_ok-new.ensures.parked; back = c.in_ok-new.ensures.back }) c.requires.0 c.requires.1)
+invariant_of-result c = rw c.new-2.ensures (kept_new _ c.args.links c.in_ok-new.ensures c.requires.0 c.requires.1)
