@@ -58,9 +58,3 @@ counts_of messages = record {
 -- how many of the users' messages of a stream aren't sent yet
 abbrev pub unsent_of : ℕ → List Message → ℕ
 unsent_of stream messages = length (filter (λ m. is_of stream m.kind && is_unsent m.fate) messages)
-
--- what contracts see of the messages that are kept
-pub record MessagesState : Type 0 where
-  pub messages : List Message
-  -- how many more want no memory
-  pub room : ℕ

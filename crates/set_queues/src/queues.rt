@@ -6,8 +6,8 @@ ghost use Rattle.set_queues.specs.Settling.{fate_on};
 use super::backs::{count_back, oldest_back};
 use super::buffers::Buffers;
 use super::message::Message;
-use super::messages::Messages;
-use super::moving::pass;
+use super::moving::{pass, restand};
+use super::tally::{Tally, enter};
 use super::weight::{weigh, weigh_less, weigh_more, weigh_none};
 use l2_window::{Queue, Window, WindowFault};
 use set_events::{Counts, DiscardCause, Fate};
@@ -25,24 +25,29 @@ use std::marker::Model;
 #[derive(Drop)]
 pub struct Queues {
     buffers: Buffers,
-    messages: Messages,
+    /// The messages by their numbers, and how many of the users' stand in each place.
+    messages: Vec<Message>,
+    tally: Tally,
     /// The octets of the unacknowledged bodies of each link.
     octets: [u32; 16],
 }
 
 impl Model for Queues {
+    ghost use Rattle.std.specs.Prelude.{◌-◌, vec_len, vec_capacity};
     ghost use Rattle.set_queues.specs.Queues.{QueuesState, AreKept};
+    ghost use Rattle.set_queues.specs.Tally.{IsTally};
 
     ghost Value = { QueuesState };
 
     ghost view = { λ q. record {
       lists = q.buffers.lists;
-      messages = q.messages.messages;
+      messages = q.messages.items;
       rooms = q.buffers.rooms;
-      room = q.messages.room;
+      room = vec_capacity q.messages - vec_len q.messages;
     } };
 
-    ghost invariant = { λ q. AreKept q.buffers.lists q.messages.messages q.octets };
+    ghost invariant = { λ q. (AreKept q.buffers.lists q.messages.items q.octets)
+        × (IsTally q.tally q.messages.items) };
 }
 
 impl Queues {
@@ -69,7 +74,19 @@ impl Queues {
     {
         Ok(Queues {
             buffers: Buffers::new(alloc, links)?,
-            messages: Messages::new(alloc),
+            messages: Vec::new(alloc),
+            tally: Tally {
+                counts: Counts {
+                    waiting: 0,
+                    unacked: 0,
+                    acked: 0,
+                    held: 0,
+                    parked: 0,
+                    back: 0,
+                    discarded: 0,
+                },
+                unsent: [0; 16],
+            },
             octets: [0; 16],
         })
     }
@@ -103,14 +120,14 @@ impl Queues {
     pub fn message(&self, number: u64) -> Option<Message>
         ensures { result ≡ slice_get self.now.messages number }
     {
-        self.messages.message(number)
+        self.messages.get(number as usize).copied()
     }
 
     /// Where the message of this number stands, if there is one.
     pub fn fate_of(&self, number: u64) -> Option<Fate>
         ensures { result ≡ fate_at number self.now.messages }
     {
-        match self.messages.message(number) {
+        match self.message(number) {
             Some(message) => Some(message.fate),
             None => None,
         }
@@ -120,7 +137,7 @@ impl Queues {
     pub fn counts(&self) -> Counts
         ensures { result ≡ counts_of self.now.messages }
     {
-        self.messages.counts()
+        self.tally.counts
     }
 
     /// How many of the users' messages of this stream aren't sent yet.
@@ -128,7 +145,7 @@ impl Queues {
         requires { stream < 16 }
         ensures { result ≡ unsent_of stream self.now.messages }
     {
-        self.messages.unsent(stream)
+        self.tally.unsent[usize::from(stream)]
     }
 
     /// The octets of the unacknowledged bodies of the link.
@@ -250,6 +267,7 @@ impl Queues {
     ///
     /// Conditions: that queue is one in which messages can wait; there is room in it, and for one
     /// message more.
+    #[tactic(auto, using(crate::proofs::Tallies::count_few))]
     pub fn add(&mut self, message: Message) -> u64
         requires fit { IsFit message }
         requires known { IsKnown message.fate self.old.lists }
@@ -263,7 +281,9 @@ impl Queues {
         ensures room { self.old.room ≤ self.new.room + 1 }
         ensures rooms { TakesRoom message.fate 1 self.old.rooms self.new.rooms }
     {
-        let number = self.messages.add(message);
+        let number = self.len() as u64;
+        enter(&mut self.tally, message);
+        self.messages.push_reserved(message);
         self.buffers.push(message.fate, number);
         number
     }
@@ -293,7 +313,12 @@ impl Queues {
         ensures err { OnErr result (self.new ≡ self.old) }
     {
         let (number, fsn) = self.buffers.send(link)?;
-        let octets = self.messages.restand(number, Fate::Unacked { link });
+        let octets = restand(
+            &mut self.messages,
+            &mut self.tally,
+            number,
+            Fate::Unacked { link },
+        );
         weigh_more(&mut self.octets, link, octets);
         Ok((number, fsn))
     }
@@ -325,6 +350,7 @@ impl Queues {
         pass(
             &mut self.buffers,
             &mut self.messages,
+            &mut self.tally,
             from,
             usize::from(count),
             Fate::Acked { link },
@@ -376,7 +402,14 @@ impl Queues {
         ensures room { self.new.room ≡ self.old.room }
     {
         let from = Fate::Back { code };
-        pass(&mut self.buffers, &mut self.messages, from, 1, to);
+        pass(
+            &mut self.buffers,
+            &mut self.messages,
+            &mut self.tally,
+            from,
+            1,
+            to,
+        );
         self.buffers.drop_back(code);
     }
 
@@ -410,7 +443,14 @@ impl Queues {
         ensures room { self.new.room ≡ self.old.room }
     {
         let count = self.buffers.len(from);
-        pass(&mut self.buffers, &mut self.messages, from, count, to);
+        pass(
+            &mut self.buffers,
+            &mut self.messages,
+            &mut self.tally,
+            from,
+            count,
+            to,
+        );
         self.buffers.clear(from);
         weigh_none(&mut self.octets, from);
     }

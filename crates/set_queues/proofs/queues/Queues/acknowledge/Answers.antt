@@ -5,8 +5,11 @@ use Rattle.set_queues.proofs.Soundness.{given_all, kept_as, kept_acked}
 use Rattle.set_queues.proofs.queues.Queues.acknowledge.Goals as goal
 
 pub pass-requires-clause-given : goal.pass-requires-clause-given
-pass-requires-clause-given c = given_all _ _ (Unacked c.args.link) c.self.invariant.sound refl
+pass-requires-clause-given c = given_all _ _ (Unacked c.args.link) c.self.invariant.0.sound refl
 
 pub invariant_of-self : goal.invariant_of-self
-invariant_of-self c = rw (c.pass.ensures.messages, c.from.ensures) (kept_as _ _ _ _ (grind (arith, of_link)) (
-    kept_acked _ _ _ _ c.args.link c.in-Some.count c.args.fsn c.self.invariant (rw (← c.self.view_is) at c.requires.known) (rw c.weigh-octets.ensures at c.weigh_less.ensures)))
+invariant_of-self c = (
+  rw (c.pass.ensures.messages, c.from.ensures) (kept_as _ _ _ _ (grind (arith, of_link)) (
+      kept_acked _ _ _ _ c.args.link c.in-Some.count c.args.fsn c.self.invariant.0 (rw (← c.self.view_is) at c.requires.known) (rw c.weigh-octets.ensures at c.weigh_less.ensures))),
+  c.pass.ensures.counted,
+)

@@ -4,4 +4,4 @@ use Rattle.set_queues.proofs.Soundness.{kept_as, kept_with_last}
 use Rattle.set_queues.proofs.queues.Queues.reset.Goals as goal
 
 pub invariant_of-self : goal.invariant_of-self
-invariant_of-self c = kept_as _ _ _ _ (grind (arith, of_link)) (kept_with_last _ _ _ c.args.link 127 c.self.invariant)
+invariant_of-self c = (kept_as _ _ _ _ (grind (arith, of_link)) (kept_with_last _ _ _ c.args.link 127 c.self.invariant.0), c.self.invariant.1)
