@@ -6,7 +6,8 @@ ghost use Rattle.set_queues.specs.Settling.{fate_on};
 use super::backs::{count_back, oldest_back};
 use super::buffers::Buffers;
 use super::message::Message;
-use super::moving::{pass, restand};
+use super::messages::Messages;
+use super::moving::pass;
 use super::tally::{Tally, enter};
 use super::weight::{weigh, weigh_less, weigh_more, weigh_none};
 use l2_window::{Queue, Window, WindowFault};
@@ -25,9 +26,7 @@ use std::marker::Model;
 #[derive(Drop)]
 pub struct Queues {
     buffers: Buffers,
-    /// The messages by their numbers, and how many of the users' stand in each place.
-    messages: Vec<Message>,
-    tally: Tally,
+    messages: Messages,
     /// The octets of the unacknowledged bodies of each link.
     octets: [u32; 16],
 }
@@ -41,13 +40,13 @@ impl Model for Queues {
 
     ghost view = { λ q. record {
       lists = q.buffers.lists;
-      messages = q.messages.items;
+      messages = q.messages.all.items;
       rooms = q.buffers.rooms;
-      room = vec_capacity q.messages - vec_len q.messages;
+      room = vec_capacity q.messages.all - vec_len q.messages.all;
     } };
 
-    ghost invariant = { λ q. (AreKept q.buffers.lists q.messages.items q.octets)
-        × (IsTally q.tally q.messages.items) };
+    ghost invariant = { λ q. (AreKept q.buffers.lists q.messages.all.items q.octets)
+        × (IsTally q.messages.tally q.messages.all.items) };
 }
 
 impl Queues {
@@ -74,18 +73,20 @@ impl Queues {
     {
         Ok(Queues {
             buffers: Buffers::new(alloc, links)?,
-            messages: Vec::new(alloc),
-            tally: Tally {
-                counts: Counts {
-                    waiting: 0,
-                    unacked: 0,
-                    acked: 0,
-                    held: 0,
-                    parked: 0,
-                    back: 0,
-                    discarded: 0,
+            messages: Messages {
+                all: Vec::new(alloc),
+                tally: Tally {
+                    counts: Counts {
+                        waiting: 0,
+                        unacked: 0,
+                        acked: 0,
+                        held: 0,
+                        parked: 0,
+                        back: 0,
+                        discarded: 0,
+                    },
+                    unsent: [0; 16],
                 },
-                unsent: [0; 16],
             },
             octets: [0; 16],
         })
@@ -113,14 +114,14 @@ impl Queues {
         ensures value { result ≡ length self.now.messages }
         ensures few { result < 2 ^ 63 }
     {
-        self.messages.len()
+        self.messages.all.len()
     }
 
     /// What is kept of the message of this number, if there is one.
     pub fn message(&self, number: u64) -> Option<Message>
         ensures { result ≡ slice_get self.now.messages number }
     {
-        self.messages.get(number as usize).copied()
+        self.messages.all.get(number as usize).copied()
     }
 
     /// Where the message of this number stands, if there is one.
@@ -137,7 +138,7 @@ impl Queues {
     pub fn counts(&self) -> Counts
         ensures { result ≡ counts_of self.now.messages }
     {
-        self.tally.counts
+        self.messages.tally.counts
     }
 
     /// How many of the users' messages of this stream aren't sent yet.
@@ -145,7 +146,7 @@ impl Queues {
         requires { stream < 16 }
         ensures { result ≡ unsent_of stream self.now.messages }
     {
-        self.tally.unsent[usize::from(stream)]
+        self.messages.tally.unsent[usize::from(stream)]
     }
 
     /// The octets of the unacknowledged bodies of the link.
@@ -216,7 +217,7 @@ impl Queues {
             ≡ self.old.messages) × (self.new.rooms ≡ self.old.rooms) }
         ensures kept { self.old.room ≤ self.new.room }
     {
-        self.messages.reserve(messages)
+        self.messages.all.reserve(messages)
     }
 
     /// Makes room for so many more in that queue.
@@ -282,8 +283,8 @@ impl Queues {
         ensures rooms { TakesRoom message.fate 1 self.old.rooms self.new.rooms }
     {
         let number = self.len() as u64;
-        enter(&mut self.tally, message);
-        self.messages.push_reserved(message);
+        enter(&mut self.messages.tally, message);
+        self.messages.all.push_reserved(message);
         self.buffers.push(message.fate, number);
         number
     }
@@ -313,12 +314,7 @@ impl Queues {
         ensures err { OnErr result (self.new ≡ self.old) }
     {
         let (number, fsn) = self.buffers.send(link)?;
-        let octets = restand(
-            &mut self.messages,
-            &mut self.tally,
-            number,
-            Fate::Unacked { link },
-        );
+        let octets = self.messages.restand(number, Fate::Unacked { link });
         weigh_more(&mut self.octets, link, octets);
         Ok((number, fsn))
     }
@@ -327,7 +323,7 @@ impl Queues {
     ///
     /// Refusal: 3 [`WindowFault::Unreasonable`], where the FSN is neither that last acknowledged nor
     /// that of an unacknowledged message.
-    #[tactic(auto, using(crate::proofs::Soundness::leaving, crate::proofs::Linked::of_link))]
+    #[tactic(auto, using(crate::proofs::Soundness::leaving))]
     pub fn acknowledge(&mut self, link: u8, fsn: u8) -> Result<u8, WindowFault>
         requires known { link < length self.old.lists.links }
         requires fsn { fsn < 128 }
@@ -350,17 +346,13 @@ impl Queues {
         pass(
             &mut self.buffers,
             &mut self.messages,
-            &mut self.tally,
             from,
             usize::from(count),
             Fate::Acked { link },
         );
         weigh_less(&mut self.octets, link, octets);
-        let buffers = &mut self.buffers;
-        match buffers.links[usize::from(link)].window.ack(fsn) {
-            Ok(acked) => Ok(acked),
-            Err(_) => unreachable!(),
-        }
+        self.buffers.ack(link, fsn);
+        Ok(count)
     }
 
     /// All that stand in one queue stand last in the other from now on, in their order. It wants no
@@ -402,14 +394,7 @@ impl Queues {
         ensures room { self.new.room ≡ self.old.room }
     {
         let from = Fate::Back { code };
-        pass(
-            &mut self.buffers,
-            &mut self.messages,
-            &mut self.tally,
-            from,
-            1,
-            to,
-        );
+        pass(&mut self.buffers, &mut self.messages, from, 1, to);
         self.buffers.drop_back(code);
     }
 
@@ -443,14 +428,7 @@ impl Queues {
         ensures room { self.new.room ≡ self.old.room }
     {
         let count = self.buffers.len(from);
-        pass(
-            &mut self.buffers,
-            &mut self.messages,
-            &mut self.tally,
-            from,
-            count,
-            to,
-        );
+        pass(&mut self.buffers, &mut self.messages, from, count, to);
         self.buffers.clear(from);
         weigh_none(&mut self.octets, from);
     }

@@ -1,36 +1,26 @@
 //! The octets of unacknowledged bodies, which the cyclic method counts (Q.703 6.4).
 ghost use Rattle.std.specs.Prelude.{◌≡◌, ◌+◌, ◌-◌, ◌^◌, ◌==◌, ◌≤◌, ◌<◌, ℕ, length, take, slice_index, if◌then◌else◌};
-ghost use Rattle.set_queues.specs.Messages.{octets_at, octets_of};
+ghost use Rattle.set_queues.specs.Messages.{octets_of};
 ghost use Rattle.set_queues.specs.Buffers.{queue_at, same_fate};
 ghost use Rattle.set_queues.specs.Tally.{AreFit};
 
 use super::buffers::Buffers;
-use super::message::Message;
+use super::messages::Messages;
 use set_events::Fate;
-
-/// The octets of the body of the message of this number, 0 where there is none.
-fn octets_at(messages: &Vec<Message>, number: u64) -> u16
-    ensures { result ≡ octets_at number messages.now.items }
-{
-    match messages.get(number as usize) {
-        Some(message) => message.octets,
-        None => 0,
-    }
-}
 
 /// The octets of the first `count` unacknowledged bodies of the link.
 #[tactic(auto, using(crate::proofs::Tallies::fit_octets, crate::proofs::Tallies::octets_more, crate::proofs::Standing::none_past))]
-pub(crate) fn weigh(buffers: &Buffers, messages: &Vec<Message>, link: u8, count: u8) -> u32
+pub(crate) fn weigh(buffers: &Buffers, messages: &Messages, link: u8, count: u8) -> u32
     requires known { link < length buffers.now.lists.links }
     requires few { count ≤ length (queue_at (Fate.Unacked link) buffers.now.lists) }
-    requires fit { AreFit messages.now.items }
+    requires fit { AreFit messages.now.all.items }
     ensures { result ≡ octets_of (take count (queue_at
-        (Fate.Unacked link) buffers.now.lists)) messages.now.items }
+        (Fate.Unacked link) buffers.now.lists)) messages.now.all.items }
 {
     let mut octets = 0;
     for place in 0..count {
         match buffers.at(Fate::Unacked { link }, usize::from(place)) {
-            Some(number) => octets += u32::from(octets_at(messages, number)),
+            Some(number) => octets += u32::from(messages.octets(number)),
             None => unreachable!(),
         }
     }

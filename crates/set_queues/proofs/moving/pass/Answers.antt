@@ -11,7 +11,7 @@ loop-place-preserved c =
     let got : slice_get (queue_at c.args.from c.args.buffers.now.lists) c.loop-place.place ≡ Some c.in-Some.number = ap (λ (ns : List ℕ). slice_get ns c.loop-place.place) (sym same) ∙ sym c.at.ensures ∙ c.in-Some.is in
     record {
       lists = queue_next c.args.to _ _ _ _ _ _ _ c.requires.other c.loop-place.invariant.lists got c.push.ensures.lists;
-      messages = restood_next (queue_at c.args.from c.args.buffers.now.lists) c.loop-place.place c.in-Some.number c.args.to c.args.messages.now.items _ _ c.loop-place.invariant.messages got c.restand.ensures.messages;
+      messages = restood_next (queue_at c.args.from c.args.buffers.now.lists) c.loop-place.place c.in-Some.number c.args.to c.args.messages.now.all.items _ _ c.loop-place.invariant.messages got c.restand.ensures.messages;
       rooms = λ fate. room_sum (same_fate c.args.to fate) _ _ _ c.loop-place.place 1 (c.loop-place.invariant.rooms fate) (c.push.ensures.room fate);
       counted = c.restand.ensures.counted;
       room = c.restand.ensures.room ∙ c.loop-place.invariant.room;

@@ -7,8 +7,8 @@ use Rattle.set_queues.proofs.moving.pass.Given as goal
 abbrev pub invariant-loop-place : goal.invariant-loop-place
 invariant-loop-place l = record {
   lists : l.buffers.lists ≡ with_queue l.to (queue_at l.to l.initial.buffers.lists ++ take l.place (queue_at l.from l.initial.buffers.lists)) l.initial.buffers.lists;
-  messages : l.messages.items ≡ restood (take l.place (queue_at l.from l.initial.buffers.lists)) l.to l.initial.messages.items;
+  messages : l.messages.all.items ≡ restood (take l.place (queue_at l.from l.initial.buffers.lists)) l.to l.initial.messages.all.items;
   rooms : TakesRoom l.to l.place l.initial.buffers.rooms l.buffers.rooms;
-  counted : IsTally l.tally l.messages.items;
-  room : vec_capacity l.messages - vec_len l.messages ≡ vec_capacity l.initial.messages - vec_len l.initial.messages;
+  counted : IsTally l.messages.tally l.messages.all.items;
+  room : vec_capacity l.messages.all - vec_len l.messages.all ≡ vec_capacity l.initial.messages.all - vec_len l.initial.messages.all;
 }

@@ -6,6 +6,6 @@ use Rattle.set_queues.proofs.weight.weigh.Given as goal
 
 abbrev pub invariant-loop-place : goal.invariant-loop-place
 invariant-loop-place l = record {
-  octets : l.octets ≡ octets_of (take l.place (queue_at (Unacked l.link) l.buffers.lists)) l.messages.items;
+  octets : l.octets ≡ octets_of (take l.place (queue_at (Unacked l.link) l.buffers.lists)) l.messages.all.items;
   few : l.octets ≤ 273 * l.place;
 }

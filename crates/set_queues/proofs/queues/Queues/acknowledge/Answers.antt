@@ -1,15 +1,15 @@
-use Rattle.std.proofs.Common.{arith, refl}
+use Rattle.std.proofs.Common.{refl, sym}
 use Rattle.set_events.specs.declared.answer.Fate.TheVariants.{Unacked}
-use Rattle.set_queues.proofs.Linked.{of_link}
-use Rattle.set_queues.proofs.Soundness.{given_all, kept_as, kept_acked}
+use Rattle.set_queues.proofs.Soundness.{given_all, kept_acked}
 use Rattle.set_queues.proofs.queues.Queues.acknowledge.Goals as goal
 
 pub pass-requires-clause-given : goal.pass-requires-clause-given
 pass-requires-clause-given c = given_all _ _ (Unacked c.args.link) c.self.invariant.0.sound refl
 
 pub invariant_of-self : goal.invariant_of-self
-invariant_of-self c = (
-  rw (c.pass.ensures.messages, c.from.ensures) (kept_as _ _ _ _ (grind (arith, of_link)) (
-      kept_acked _ _ _ _ c.args.link c.in-Some.count c.args.fsn c.self.invariant.0 (rw (← c.self.view_is) at c.requires.known) (rw c.weigh-octets.ensures at c.weigh_less.ensures))),
-  c.pass.ensures.counted,
-)
+invariant_of-self c =
+    let same = sym (rw (c.window.ensures.last, ← c.self.view_is) at c.in-Some.ensures.value.1) in (
+      rw (c.ack.ensures.lists, c.pass.ensures.lists, same, c.pass.ensures.messages, c.from.ensures) (
+          kept_acked _ _ _ _ c.args.link c.in-Some.count c.args.fsn c.self.invariant.0 (rw (← c.self.view_is) at c.requires.known) (rw c.weigh-octets.ensures at c.weigh_less.ensures)),
+      c.pass.ensures.counted,
+    )

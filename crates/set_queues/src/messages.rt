@@ -1,0 +1,48 @@
+//! Where each message stands, with the counts of all of them.
+use super::message::Message;
+use super::tally::{Tally, enter, leave};
+use set_events::Fate;
+
+/// The messages of a set by their numbers 0, 1, .., and how many of the users' stand in each place.
+#[derive(Drop)]
+pub(crate) struct Messages {
+    pub(crate) all: Vec<Message>,
+    pub(crate) tally: Tally,
+}
+
+impl Messages {
+    ghost use Rattle.std.specs.Prelude.{◌≡◌, ◌-◌, ◌<◌, ◌≤◌, length, vec_len, vec_capacity};
+    ghost use Rattle.set_queues.specs.Messages.{restood_one, octets_at};
+    ghost use Rattle.set_queues.specs.Tally.{IsTally};
+
+    /// The octets of the body of the message of this number, 0 where there is none.
+    pub(crate) fn octets(&self, number: u64) -> u16
+        ensures { result ≡ octets_at number self.now.all.items }
+    {
+        match self.all.get(number as usize) {
+            Some(message) => message.octets,
+            None => 0,
+        }
+    }
+
+    /// The message of this number stands there from now on; the octets of its body.
+    #[tactic(auto, using(crate::proofs::Tallies::restands))]
+    pub(crate) fn restand(&mut self, number: u64, fate: Fate) -> u16
+        requires counted { IsTally self.old.tally self.old.all.items }
+        requires given { number < length self.old.all.items }
+        ensures counted { IsTally self.new.tally self.new.all.items }
+        ensures messages { self.new.all.items ≡ restood_one number fate self.old.all.items }
+        ensures octets { result ≡ octets_at number self.old.all.items }
+        ensures fits { result ≤ 273 }
+        ensures room { vec_capacity self.new.all - vec_len self.new.all
+            ≡ vec_capacity self.old.all - vec_len self.old.all }
+    {
+        let place = number as usize;
+        let was = self.all[place];
+        let now = Message { fate, ..was };
+        leave(&mut self.tally, was);
+        enter(&mut self.tally, now);
+        self.all[place] = now;
+        was.octets
+    }
+}
