@@ -5,10 +5,9 @@ use Rattle.set_events.specs.declared.answer.Fate.{Fate}
 use Rattle.set_events.specs.declared.answer.Fate.TheVariants.{Waiting, Unacked, Acked}
 use Rattle.set_queues.specs.declared.message.Message.{Message}
 use Rattle.set_queues.specs.Counts.{one_if}
-use Rattle.set_queues.specs.Messages.{restood_one, restood, octets_at, octets_of}
+use Rattle.set_queues.specs.Messages.{restood_one, restood, octets_at, octets_of, IsFit}
 use Rattle.set_queues.specs.Backs.{passed_first}
 use Rattle.set_queues.specs.Sending.{first_sent, acknowledged, reach}
-use Rattle.set_queues.specs.Tally.{IsFit}
 use Rattle.set_queues.specs.Buffers.{no_lists, AreEmpty, LinkLists, Lists, is_standing, same_fate, queue_at, with_queue, with_last, list_in, IsKnown, IsQueued, Rooms, CanTake}
 use Rattle.set_queues.specs.Queues.{occurs, stands, passed, AreTied, AreGiven, AreSound, AreNarrow, AreWeighed, AreKept}
 use Rattle.set_queues.proofs.Updates.{length-updated, updated_same, updated_other, get_push}

@@ -4,9 +4,7 @@ pub mod Buffers
 pub mod Counts
 pub mod Kept
 pub mod Kind
-pub mod Laws
 pub mod Messages
 pub mod Queues
 pub mod Sending
 pub mod Settling
-pub mod Tally

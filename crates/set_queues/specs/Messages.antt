@@ -1,11 +1,12 @@
 -- The messages of a set by their numbers: where each stands, whose it is, and its octets.
-use Rattle.std.specs.Prelude.{ℕ, zero, suc, ◌+◌, Bool, ◌&&◌, List, [], ◌∷◌, length, filter, slice_get, Option, Some, None}
+use Rattle.std.specs.Prelude.{ℕ, zero, suc, ◌+◌, Bool, ◌&&◌, List, [], ◌∷◌, length, filter, slice_get, Option, Some, None, ◌≡◌, ◌<◌, ◌≤◌, ◌^◌, true, slice_index}
 use Rattle.std.specs.Option.{option_map}
 use Rattle.set_events.specs.declared.answer.Fate.{Fate}
 use Rattle.set_events.specs.declared.answer.Counts.{Counts}
 use Rattle.set_queues.specs.declared.message.Message.{Message}
-use Rattle.set_queues.specs.Kind.{is_users, is_of}
-use Rattle.set_queues.specs.Counts.{waits, was_sent, was_acked, was_held, is_parked, stands_back, was_discarded, is_unsent}
+use Rattle.set_queues.specs.Kind.{is_users, is_of, is_kind}
+use Rattle.set_queues.specs.Counts.{waits, was_sent, was_acked, was_held, is_parked, stands_back, was_discarded, is_unsent, one_if, count_at, stands_at}
+use Rattle.set_queues.specs.declared.tally.Tally.{Tally}
 
 -- the element at this place changes
 abbrev pub updated : {X : Type 0} → ℕ → (X → X) → List X → List X
@@ -58,3 +59,46 @@ counts_of messages = record {
 -- how many of the users' messages of a stream aren't sent yet
 abbrev pub unsent_of : ℕ → List Message → ℕ
 unsent_of stream messages = length (filter (λ m. is_of stream m.kind && is_unsent m.fate) messages)
+
+-- THE RUNNING COUNTS of a list of messages
+
+-- a user's message that stands where the test tells
+abbrev pub is_there : (Fate → Bool) → Message → Bool
+is_there test m = is_users m.kind && test m.fate
+
+-- one of the stream that isn't sent yet
+abbrev pub is_queued : ℕ → Message → Bool
+is_queued stream m = is_of stream m.kind && is_unsent m.fate
+
+-- no body is longer than a unit's, and a stream has four bits
+pub record IsFit (m : Message) : Type 0 where
+  pub octets : m.octets ≤ 273
+  pub known : is_kind m.kind ≡ true
+
+abbrev pub AreFit : List Message → Type 0
+AreFit messages = (number : ℕ) (m : Message) → slice_get messages number ≡ Some m → IsFit m
+
+-- each count is the length of its filter, and every message is fit
+pub record IsTally (tally : Tally) (messages : List Message) : Type 0 where
+  pub counts : (place : Fate) → count_at place tally.counts ≡ count_of (stands_at place) messages
+  pub unsent : (stream : ℕ) → stream < 16 → slice_index tally.unsent stream
+      ≡ unsent_of stream messages
+  pub fit : AreFit messages
+
+-- new counts this message too
+pub record IsMore (m : Message) (old new : Tally) : Type 0 where
+  pub counts : (place : Fate) → count_at place new.counts ≡ count_at place old.counts
+      + one_if (is_there (stands_at place) m)
+  pub unsent : (stream : ℕ) → stream < 16 → slice_index new.unsent stream
+      ≡ slice_index old.unsent stream + one_if (is_queued stream m)
+
+-- the message is counted
+pub record IsAmong (m : Message) (tally : Tally) : Type 0 where
+  pub counts : (place : Fate) → one_if (is_there (stands_at place) m) ≤ count_at place tally.counts
+  pub unsent : (stream : ℕ) → stream < 16 → one_if (is_queued stream m)
+      ≤ slice_index tally.unsent stream
+
+-- far from the end of their range
+pub record AreFew (tally : Tally) : Type 0 where
+  pub counts : (place : Fate) → count_at place tally.counts < 2 ^ 63
+  pub unsent : (stream : ℕ) → stream < 16 → slice_index tally.unsent stream < 2 ^ 63

@@ -1,6 +1,6 @@
 //! Laws of the lists, over definitions alone.
 ghost use Rattle.set_queues.specs.Settling.{SettlingMovesTheQueues};
-ghost use Rattle.set_queues.specs.Laws.{EachNumberStandsOnce, FatesMoveWithTheirNumbers};
+ghost use Rattle.set_queues.specs.Queues.{EachNumberStandsOnce, FatesMoveWithTheirNumbers};
 
 /// A link that settles has no message left; all that stood on it stand last where they went: first those
 /// that were sent, then those that waited, then those that were held, each in their order; and no other

@@ -40,20 +40,17 @@
 //! This crate decides nothing: which messages are sent, acknowledged or moved, and when, is the
 //! caller's to know. It reads no clock, does no IO and takes no lock.
 //!
-//! The files: `message` what is kept of one; `messages` all of them with their counts (`tally`,
-//! `counting`); `buffers` the queues; `backs` what waits for the changebacks of one home; `moving` the
-//! first of a queue that go elsewhere; `weight` the octets of unacknowledged bodies;
-//! `queues` the whole; `bodies` the bodies.
+//! The files: `message` what is kept of one; `messages` all of them with their counts (`tally`), and the
+//! first of a queue that go elsewhere; `buffers` the queues; `backs` what waits for the changebacks of one
+//! home; `weight` the octets of unacknowledged bodies; `queues` the whole; `bodies` the bodies.
 #![tactic(auto)]
 
 mod backs;
 mod bodies;
 mod buffers;
-mod counting;
 mod laws;
 mod message;
 mod messages;
-mod moving;
 mod queues;
 mod tally;
 mod weight;

@@ -6,8 +6,7 @@ ghost use Rattle.set_queues.specs.Settling.{fate_on};
 use super::backs::{count_back, oldest_back};
 use super::buffers::Buffers;
 use super::message::Message;
-use super::messages::Messages;
-use super::moving::pass;
+use super::messages::{Messages, pass};
 use super::tally::{Tally, enter};
 use super::weight::{weigh, weigh_less, weigh_more, weigh_none};
 use l2_window::{Queue, Window, WindowFault};
@@ -34,7 +33,7 @@ pub struct Queues {
 impl Model for Queues {
     ghost use Rattle.std.specs.Prelude.{◌-◌, vec_len, vec_capacity};
     ghost use Rattle.set_queues.specs.Queues.{QueuesState, AreKept};
-    ghost use Rattle.set_queues.specs.Tally.{IsTally};
+    ghost use Rattle.set_queues.specs.Messages.{IsTally};
 
     ghost Value = { QueuesState };
 
@@ -53,8 +52,7 @@ impl Queues {
     ghost use Rattle.std.specs.Prelude.{◌≡◌, ◌≢◌, ◌↔◌, ◌+◌, ◌%◌, ◌<◌, ◌≤◌, ◌^◌, ◌++◌, [], ◌∷◌, Some, true, false, IsOk, IfOk, IfSome, OnOk, OnErr, length, replicate, take, slice_get};
     ghost use Rattle.std.specs.Option.{option_map};
     ghost use Rattle.std.specs.Result.{OkIff};
-    ghost use Rattle.set_queues.specs.Messages.{restood, fate_at, octets_of, counts_of, unsent_of};
-    ghost use Rattle.set_queues.specs.Tally.{IsFit};
+    ghost use Rattle.set_queues.specs.Messages.{restood, fate_at, octets_of, counts_of, unsent_of, IsFit};
     ghost use Rattle.set_queues.specs.Buffers.{IsKnown, IsQueued, CanTake, KeepsRoom, TakesRoom, HaveRoom, is_standing, same_fate, queue_at, with_queue, last_at, with_last, room_at};
     ghost use Rattle.set_queues.specs.Queues.{AreSound, passed};
     ghost use Rattle.set_queues.specs.Backs.{IsOldestOf, back_count, passed_first};

@@ -1,8 +1,7 @@
 //! The octets of unacknowledged bodies, which the cyclic method counts (Q.703 6.4).
 ghost use Rattle.std.specs.Prelude.{◌≡◌, ◌+◌, ◌-◌, ◌^◌, ◌==◌, ◌≤◌, ◌<◌, ℕ, length, take, slice_index, if◌then◌else◌};
-ghost use Rattle.set_queues.specs.Messages.{octets_of};
+ghost use Rattle.set_queues.specs.Messages.{octets_of, AreFit};
 ghost use Rattle.set_queues.specs.Buffers.{queue_at, same_fate};
-ghost use Rattle.set_queues.specs.Tally.{AreFit};
 
 use super::buffers::Buffers;
 use super::messages::Messages;

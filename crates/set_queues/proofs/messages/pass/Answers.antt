@@ -3,7 +3,7 @@ use Rattle.std.specs.Prelude.{slice_get}
 use Rattle.set_queues.specs.Buffers.{queue_at, same_fate}
 use Rattle.set_queues.proofs.Standing.{room_sum}
 use Rattle.set_queues.proofs.Passing.{queue_away, queue_next, restood_next}
-use Rattle.set_queues.proofs.moving.pass.Goals as goal
+use Rattle.set_queues.proofs.messages.pass.Goals as goal
 
 pub loop-place-preserved : goal.loop-place-preserved
 loop-place-preserved c =

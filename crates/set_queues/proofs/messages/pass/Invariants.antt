@@ -1,8 +1,7 @@
 use Rattle.std.proofs.Common.{◌≡◌, ◌-◌, ◌++◌, take, vec_len, vec_capacity}
-use Rattle.set_queues.specs.Messages.{restood}
-use Rattle.set_queues.specs.Tally.{IsTally}
+use Rattle.set_queues.specs.Messages.{restood, IsTally}
 use Rattle.set_queues.specs.Buffers.{queue_at, with_queue, TakesRoom}
-use Rattle.set_queues.proofs.moving.pass.Given as goal
+use Rattle.set_queues.proofs.messages.pass.Given as goal
 
 abbrev pub invariant-loop-place : goal.invariant-loop-place
 invariant-loop-place l = record {
