@@ -6,10 +6,10 @@ use Rattle.std.proofs.lemmas.Bool.{eq-eqb}
 use Rattle.std.proofs.lemmas.List.{length-map}
 use Rattle.std.proofs.lemmas.Option.{slice_get-map, slice_get_read, slice_get_within, get_or_from_slice_get}
 use Rattle.l2_window.specs.Queue.{QueueState}
-use Rattle.set_events.specs.declared.answer.Fate.TheVariants.{Waiting, Held, Back}
+use Rattle.set_events.specs.declared.answer.Fate.TheVariants.{Waiting, Held}
 use Rattle.set_queues.specs.declared.buffers.Link.{Link}
 use Rattle.set_queues.specs.Messages.{updated}
-use Rattle.set_queues.specs.Buffers.{LinkLists, LinkRooms, Rooms, BuffersState, room_at, room_in, list_in, number_in, KeepsRoom, TakesRoom, HaveRoom}
+use Rattle.set_queues.specs.Buffers.{LinkLists, LinkRooms, Rooms, BuffersState, room_at, room_in, list_in, number_in, KeepsRoom, HaveRoom}
 use Rattle.set_queues.specs.Kept.{lists_of, rooms_of, messages_of, room_of, state_of}
 use Rattle.set_queues.specs.declared.buffers.Buffers.TheInside.{Inside}
 use Rattle.set_queues.proofs.Updates.{updated_there, updated_other, updated_twice, map_set_updated, map_set_same, read_set}
@@ -47,23 +47,14 @@ lists_same xs l x y e h = map_set_same lists_of xs l x y e h
 pub rooms_there : (room : LinkRooms → ℕ) (xs : List Link) (l : ℕ) (x : Link) → slice_get xs l ≡ Some x → room_in room (slice_get (map rooms_of xs) l) ≡ room (rooms_of x)
 rooms_there room xs l x e = grind (arith, slice_get-map)
 
-rooms_set : (room : LinkRooms → ℕ) (xs : List Link) (l k : ℕ) (x y : Link) → slice_get xs l ≡ Some x → room_in room (slice_get (map rooms_of (slice_set xs l y)) k) ≡ cond (l == k) (room (rooms_of y)) (room_in room (slice_get (map rooms_of xs) k))
+pub rooms_set : (room : LinkRooms → ℕ) (xs : List Link) (l k : ℕ) (x y : Link) → slice_get xs l ≡ Some x → room_in room (slice_get (map rooms_of (slice_set xs l y)) k) ≡ cond (l == k) (room (rooms_of y)) (room_in room (slice_get (map rooms_of xs) k))
 rooms_set room xs l k x y e = rw (map_set_updated rooms_of (λ (z : LinkRooms). rooms_of y) xs l x y e refl) (grind (arith, updated_there, updated_other, slice_get-map))
 
 abbrev rooms : List Link → ℕ → List ℕ → Rooms
 rooms xs parked back = record { links = map rooms_of xs; parked = parked; back = back }
 
-pub room_now : (room : LinkRooms → ℕ) (xs : List Link) (l : ℕ) (x y : Link) → slice_get xs l ≡ Some x → room_in room (slice_get (map rooms_of (slice_set xs l y)) l) ≡ room (rooms_of y)
-room_now room xs l x y e = grind (arith, rooms_set, eq-eqb)
-
 pub keeps : (xs : List Link) (l : ℕ) (x y : Link) (parked : ℕ) (back : List ℕ) → slice_get xs l ≡ Some x → x.window.room ≤ y.window.room → x.held.room ≤ y.held.room → KeepsRoom (rooms xs parked back) (rooms (slice_set xs l y) parked back)
 keeps xs l x y parked back e u h fate = grind (arith, rooms_set, rooms_there)
-
-pub takes_waiting : (xs : List Link) (l : ℕ) (x y : Link) (parked : ℕ) (back : List ℕ) → slice_get xs l ≡ Some x → x.window.room ≤ y.window.room + 1 → x.held.room ≤ y.held.room → TakesRoom (Waiting l) 1 (rooms xs parked back) (rooms (slice_set xs l y) parked back)
-takes_waiting xs l x y parked back e u h fate = grind (arith, rooms_set, rooms_there)
-
-pub takes_held : (xs : List Link) (l : ℕ) (x y : Link) (parked : ℕ) (back : List ℕ) → slice_get xs l ≡ Some x → x.window.room ≤ y.window.room → x.held.room ≤ y.held.room + 1 → TakesRoom (Held l) 1 (rooms xs parked back) (rooms (slice_set xs l y) parked back)
-takes_held xs l x y parked back e u h fate = grind (arith, rooms_set, rooms_there)
 
 -- one link more has room
 pub room_each : (l n : ℕ) (old mid new : Rooms) → HaveRoom l n old → KeepsRoom old mid → n ≤ room_at (Waiting l) mid → KeepsRoom mid new → n ≤ room_at (Held l) new → HaveRoom (l + 1) n new
@@ -83,22 +74,10 @@ back_same xs c x y e h = map_set_same messages_of xs c x y e h
 pub room_there : (xs : List QueueState) (c : ℕ) (x : QueueState) → slice_get xs c ≡ Some x → get_or (map room_of xs) c 0 ≡ x.room
 room_there xs c x e = get_or_from_slice_get (map room_of xs) c (room_of x) 0 (slice_get-map room_of xs c ∙ ap (option_map room_of) e)
 
-room_read : (xs : List QueueState) (c k : ℕ) (x y : QueueState) → slice_get xs c ≡ Some x → get_or (map room_of (slice_set xs c y)) k 0 ≡ cond (c == k) y.room (get_or (map room_of xs) k 0)
+pub room_read : (xs : List QueueState) (c k : ℕ) (x y : QueueState) → slice_get xs c ≡ Some x → get_or (map room_of (slice_set xs c y)) k 0 ≡ cond (c == k) y.room (get_or (map room_of xs) k 0)
 room_read xs c k x y e = rw (map_set_updated room_of (λ (r : ℕ). y.room) xs c x y e refl) (read_set y.room (map room_of xs) c k 0 (omega (arith, slice_get_within xs c x e, length-map xs room_of)))
 
-pub room_back : (xs : List QueueState) (c : ℕ) (x y : QueueState) → slice_get xs c ≡ Some x → get_or (map room_of (slice_set xs c y)) c 0 ≡ y.room
-room_back xs c x y e = grind (arith, room_read, eq-eqb)
-
-abbrev back_rooms : List LinkRooms → ℕ → List QueueState → Rooms
-back_rooms links parked xs = record { links = links; parked = parked; back = map room_of xs }
-
-pub takes_back : (links : List LinkRooms) (parked : ℕ) (xs : List QueueState) (c : ℕ) (x y : QueueState) → slice_get xs c ≡ Some x → x.room ≤ y.room + 1 → TakesRoom (Back c) 1 (back_rooms links parked xs) (back_rooms links parked (slice_set xs c y))
-takes_back links parked xs c x y e h fate = grind (arith, room_read, room_there)
-
-pub keeps_back : (links : List LinkRooms) (parked : ℕ) (xs : List QueueState) (c : ℕ) (x y : QueueState) → slice_get xs c ≡ Some x → x.room ≤ y.room → KeepsRoom (back_rooms links parked xs) (back_rooms links parked (slice_set xs c y))
-keeps_back links parked xs c x y e h fate = grind (arith, room_read, room_there)
-
 -- what a call on a queue of a link is for the set; and one on a code's
-pub ruleset of_link = (found, within, list_there, last_there, lists_set, lists_same, rooms_there, room_now, keeps, takes_waiting, takes_held, updated_twice)
+pub ruleset of_link = (found, within, list_there, last_there, lists_set, lists_same, rooms_there, rooms_set, keeps, updated_twice, eq-eqb)
 
-pub ruleset of_code = (back_found, within_back, back_there, back_set, back_same, room_there, room_back, takes_back, keeps_back)
+pub ruleset of_code = (back_found, within_back, back_there, back_set, back_same, room_there, room_read, eq-eqb)

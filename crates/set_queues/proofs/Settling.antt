@@ -1,12 +1,10 @@
 -- A link settles: what stands on it goes elsewhere, first what was sent, then what waited, then what was held.
-use Rattle.std.proofs.Common.{refl, arith, ◌≡◌, ◌≢◌, ◌∙◌, ap, sym, subst, ◌+◌, ◌≤◌, ◌<◌, [], ◌++◌, length, ℕ, Bool, true, false, List, Option, cond, append_assoc}
+use Rattle.std.proofs.Common.{refl, arith, ◌≡◌, ◌≢◌, subst, ◌+◌, ◌≤◌, ◌<◌, [], ◌++◌, length, ℕ, Bool, true, false, Option, cond, append_assoc}
 use Rattle.std.specs.Prelude.{IfSome}
 use Rattle.std.proofs.lemmas.Bool.{eq-eqb}
 use Rattle.std.proofs.lemmas.List.{length-append}
 use Rattle.set_events.specs.declared.answer.Fate.{Fate}
 use Rattle.set_events.specs.declared.answer.Fate.TheVariants.{Waiting, Unacked, Held}
-use Rattle.set_queues.specs.declared.message.Message.{Message}
-use Rattle.set_queues.specs.Messages.{restood}
 use Rattle.set_queues.specs.Buffers.{Lists, Rooms, is_standing, same_fate, queue_at, room_at, IsKnown, IsQueued, TakesRoom}
 use Rattle.set_queues.specs.Queues.{passed}
 use Rattle.set_queues.specs.Settling.{fate_on, on, Settles}
@@ -53,12 +51,6 @@ room_left to count old new u t = subst (λ (b : Bool). room_at to old ≤ room_a
 pub on_length : (link : ℕ) (q : Lists) → length (on link q) ≡ length (queue_at (Unacked link) q) + length (queue_at (Waiting link) q) + length (queue_at (Held link) q)
 on_length link q = omega (arith, length-append (queue_at (Unacked link) q ++ queue_at (Waiting link) q) (queue_at (Held link) q), length-append (queue_at (Unacked link) q) (queue_at (Waiting link) q))
 
-pub restood_three : (us ws hs : List ℕ) (to : Fate) (ms : List Message) → restood hs to (restood ws to (restood us to ms)) ≡ restood (us ++ ws ++ hs) to ms
-restood_three us ws hs to ms = sym (restood-append (us ++ ws) hs to ms ∙ ap (restood hs to) (restood-append us ws to ms))
-
-pub rooms_three : (b : Bool) (r0 r1 r2 r3 i j k : ℕ) → r0 ≤ r1 + cond b i 0 → r1 ≤ r2 + cond b j 0 → r2 ≤ r3 + cond b k 0 → r0 ≤ r3 + cond b (i + j + k) 0
-rooms_three b r0 r1 r2 r3 i j k f g h = room_sum b r0 r2 r3 (i + j) k (room_sum b r0 r1 r2 i j f g) h
-
 -- THE LAW
 
 pub settling : (link : ℕ) (to : Fate) (q : Lists) → IsAside link to q → Settles link to q
@@ -82,4 +74,4 @@ settling link to q a =
 pub known_passed : (f from to : Fate) (q now : Lists) → now ≡ passed from to q → IsKnown f q → IsKnown f now
 known_passed f from to q now e k = rw e (known_on f q _ (passed_size q from to) k)
 
-pub ruleset settles = (passed_links, aside_of, waits_on, held_last, on_length, restood_three, rooms_three)
+pub ruleset settles = (passed_links, aside_of, waits_on, held_last, on_length, restood-append)

@@ -34,12 +34,9 @@ tally_in t xs n x h e = record {
   unsent = λ s b. omega (arith, h.unsent s b, count_in (is_queued s) xs n x e);
 }
 
-pub tally_few : (t : Tally) (xs : List Message) → IsTally t xs → length xs < 2 ^ 63 → AreFew t
-tally_few t xs h few = grind (arith, count_few)
-
--- one that left is fewer than a range's end
-pub fewer : (m : Message) (old new : Tally) → IsMore m old new → AreFew new → AreFew old
-fewer m old new i few = grind arith
+-- with one message fewer, each count is far from the end of its range
+pub few_left : (t u : Tally) (xs : List Message) (x : Message) → IsTally t xs → length xs < 2 ^ 63 → IsMore x u t → AreFew u
+few_left t u xs x h few i = grind (arith, count_few)
 
 -- every message stays fit
 pub fit_push : (xs : List Message) (y : Message) → AreFit xs → IsFit y → AreFit (xs ++ y ∷ [])
@@ -100,12 +97,9 @@ octets_few (n ∷ ns) ms f = omega (arith, fit_octets ms n (slice_get ms n) refl
 
 -- a message that comes to stand elsewhere keeps its octets
 
-octets_one : (n k : ℕ) (f : Fate) (ms : List Message) → octets_at n (restood_one k f ms) ≡ octets_at n ms
-octets_one n k f ms = grind (arith, updated_same, updated_other)
-
 octets_after_one : (ns : List ℕ) (k : ℕ) (f : Fate) (ms : List Message) → octets_of ns (restood_one k f ms) ≡ octets_of ns ms
 octets_after_one [] k f ms = refl
-octets_after_one (n ∷ ns) k f ms = omega (arith, octets_one n k f ms, octets_after_one ns k f ms)
+octets_after_one (n ∷ ns) k f ms = grind (arith, updated_same, updated_other, octets_after_one ns k f ms)
 
 pub octets_stay : (ns ks : List ℕ) (f : Fate) (ms : List Message) → octets_of ns (restood ks f ms) ≡ octets_of ns ms
 octets_stay ns [] f ms = refl

@@ -1,8 +1,5 @@
 //! The queues in which messages stand: of each link those of its window and the held ones, the parked
 //! ones, and of each changeback code those that wait for its acknowledgement.
-ghost use Rattle.std.specs.Prelude.{◌≡◌, ◌+◌, ◌<◌, ◌≤◌, ◌++◌, [], ◌∷◌, IfOk, map, replicate};
-ghost use Rattle.set_queues.specs.Kept.{messages_of};
-
 use l2_window::{Queue, Window, WindowFault};
 use set_events::Fate;
 use std::alloc::{AllocError, Global};
@@ -34,15 +31,15 @@ impl Model for Buffers {
     ghost view = { state_of };
 }
 
-impl Link {
-    ghost use Rattle.std.specs.Prelude.{◌≡◌, IfOk, map, replicate};
-    ghost use Rattle.set_queues.specs.Kept.{lists_of};
-    ghost use Rattle.set_queues.specs.Buffers.{no_lists};
+impl Buffers {
+    ghost use Rattle.std.specs.Prelude.{◌≡◌, ◌≢◌, ◌↔◌, ◌+◌, ◌%◌, ◌<◌, ◌≤◌, ◌++◌, [], ◌∷◌, IsOk, IfOk, OnOk, OnErr, length, replicate, drop, slice_get};
+    ghost use Rattle.set_queues.specs.Buffers.{AreEmpty, IsKnown, IsQueued, CanTake, KeepsRoom, TakesRoom, HaveRoom, queue_at, with_queue, last_at, room_at};
+    ghost use Rattle.set_queues.specs.Sending.{IsSending, acknowledged, reach};
 
-    /// So many links, with nothing in their queues.
+    /// The queues of so many links, all empty.
     #[tactic(auto, using(crate::proofs::Updates::map_push_same))]
-    fn no_messages(alloc: Global, links: u8) -> Result<Vec<Link>, AllocError>
-        ensures { IfOk result (λ made. map lists_of made.items ≡ replicate links no_lists) }
+    pub(crate) fn new(alloc: Global, links: u8) -> Result<Buffers, AllocError>
+        ensures { IfOk result (λ buffers. AreEmpty links 256 buffers.lists) }
     {
         let mut made = Vec::new(alloc);
         for _ in 0..links {
@@ -50,23 +47,14 @@ impl Link {
             let held = Queue::new(alloc)?;
             made.push(Link { window, held })?;
         }
-        Ok(made)
-    }
-}
-
-impl Buffers {
-    ghost use Rattle.std.specs.Prelude.{◌≡◌, ◌≢◌, ◌↔◌, ◌+◌, ◌%◌, ◌<◌, ◌≤◌, ◌++◌, [], ◌∷◌, IsOk, IfOk, OnOk, OnErr, length, replicate, drop, slice_get};
-    ghost use Rattle.set_queues.specs.Buffers.{AreEmpty, IsKnown, IsQueued, CanTake, KeepsRoom, TakesRoom, HaveRoom, queue_at, with_queue, last_at, room_at};
-    ghost use Rattle.set_queues.specs.Sending.{IsSending, acknowledged, reach};
-
-    /// The queues of so many links, all empty.
-    pub(crate) fn new(alloc: Global, links: u8) -> Result<Buffers, AllocError>
-        ensures { IfOk result (λ buffers. AreEmpty links 256 buffers.lists) }
-    {
-        let links = Link::no_messages(alloc, links)?;
-        let back = no_backs(alloc)?;
+        // a queue takes no memory while nothing stands in it
+        let mut back = Vec::new(alloc);
+        for _ in 0..256u16 {
+            let queue = Queue::new(alloc)?;
+            back.push(queue)?;
+        }
         Ok(Buffers {
-            links,
+            links: made,
             parked: Queue::new(alloc)?,
             back,
         })
@@ -236,17 +224,4 @@ impl Buffers {
             Err(_) => unreachable!(),
         }
     }
-}
-
-/// A queue for each changeback code. It takes no memory while nothing stands in it.
-#[tactic(auto, using(crate::proofs::Updates::map_push_same))]
-fn no_backs(alloc: Global) -> Result<Vec<Queue>, AllocError>
-    ensures { IfOk result (λ queues. map messages_of queues.items ≡ replicate 256 []) }
-{
-    let mut made = Vec::new(alloc);
-    for _ in 0..256u16 {
-        let queue = Queue::new(alloc)?;
-        made.push(queue)?;
-    }
-    Ok(made)
 }

@@ -1,12 +1,12 @@
 use Rattle.std.proofs.Common.{rules}
-use Rattle.set_queues.proofs.Tallies.{read_there, tally_in, tally_few, fewer, tally_set}
+use Rattle.set_queues.proofs.Tallies.{read_there, tally_in, few_left, tally_set}
 use Rattle.set_queues.proofs.messages.Messages.restand.Goals as goal
 
 pub leave-requires-clause-among : goal.leave-requires-clause-among
 leave-requires-clause-among c = tally_in _ _ c.args.number _ c.requires.counted (read_there _ c.args.number _ c.requires.given c.index-was.ensures)
 
 pub enter-requires-clause-few : goal.enter-requires-clause-few
-enter-requires-clause-few c = fewer _ _ _ c.leave.ensures (tally_few c.args.self.now.tally c.args.self.now.all.items c.requires.counted (search rules))
+enter-requires-clause-few c = few_left _ _ _ _ c.requires.counted (search rules) c.leave.ensures
 
 pub returns-clause-counted : goal.returns-clause-counted
 returns-clause-counted c = tally_set _ _ _ _ c.args.number _ c.args.fate c.requires.counted (read_there _ c.args.number _ c.requires.given c.index-was.ensures) c.leave.ensures c.enter.ensures
