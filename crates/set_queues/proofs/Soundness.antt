@@ -1,6 +1,6 @@
 -- What holds of every set's queues goes on holding.
 use Rattle.std.proofs.Common.{refl, arith, ◌≡◌, ◌∙◌, ap, ◌+◌, ◌-◌, ◌≤◌, ◌<◌, [], ◌∷◌, ◌++◌, length, ℕ, zero, suc, Bool, true, false, ◌==◌, List, Some, cond, get_or, take, drop, replicate}
-use Rattle.std.specs.Prelude.{slice_get, slice_index}
+use Rattle.std.specs.Prelude.{slice_get, slice_set, slice_index}
 use Rattle.set_events.specs.declared.answer.Fate.{Fate}
 use Rattle.set_events.specs.declared.answer.Fate.TheVariants.{Waiting, Unacked, Acked}
 use Rattle.set_queues.specs.declared.message.Message.{Message}
@@ -15,7 +15,7 @@ use Rattle.set_queues.proofs.Standing.{Moves, moved_tie, given_queue, given_at, 
 use Rattle.set_queues.proofs.Tallies.{fit_push, fit_restood}
 use Rattle.set_queues.proofs.Tallies.{octets-append, octets-split, octets_stay, octets_few}
 use Rattle.std.proofs.lemmas.Bool.Decides.{nat_tests}
-use Rattle.std.proofs.lemmas.List.{drop_all, take_all, get_or-replicate, get_or_past, length-replicate, length-append, length-take, length-drop}
+use Rattle.std.proofs.lemmas.List.{drop_all, take_all, get_or-replicate, get_or-set_same, get_or-set_other, get_or_past, length-replicate, length-append, length-take, length-drop}
 use Rattle.std.proofs.lemmas.Option.{slice_get_past}
 use Rattle.set_queues.proofs.Passing.{queue_set, queue_any, queued_stands, links_stay, known_with, queue_away, SameSize, size_stays, known_on}
 
@@ -163,7 +163,7 @@ none_in list (suc n) zero e = e
 none_in list (suc n) (suc k) e = none_in list n k e
 
 all_alike : {X : Type 0} (x : X) (n k : ℕ) → get_or (replicate n x) k x ≡ x
-all_alike x n k = grind (arith, get_or-replicate, get_or_past, length-replicate)
+all_alike x n k = grind (arith, get_or-replicate, get_or-set_same, get_or-set_other, get_or_past, length-replicate)
 
 empty_queue : (q : Lists) (n codes : ℕ) (f : Fate) → AreEmpty n codes q → queue_at f q ≡ []
 empty_queue q n codes f e = grind (arith, none_in, all_alike)
@@ -185,15 +185,18 @@ kept_new q n e low high =
 
 -- THE FIRST THAT WAITS IS SENT
 
+weight_set : (octets : List ℕ) (l v k : ℕ) → l < length octets → slice_index (slice_set octets l v) k ≡ cond (l == k) v (slice_index octets k)
+weight_set octets l v k h = grind (arith, get_or-set_same, get_or-set_other)
+
 pub given_first : (q : Lists) (ms : List Message) (l n : ℕ) → AreSound q ms → slice_get (queue_at (Waiting l) q) 0 ≡ Some n → n < length ms
 given_first q ms l n h e = given_at (queue_at (Waiting l) q) ms 0 n (given_all q ms (Waiting l) h refl) e
 
-pub kept_sent : (q : Lists) (ms : List Message) (octets octets' : List ℕ) (l n : ℕ) → AreKept q ms octets → l < length q.links → slice_get (queue_at (Waiting l) q) 0 ≡ Some n → length (queue_at (Unacked l) q) < 127 → ((k : ℕ) → k < 16 → slice_index octets' k ≡ cond (l == k) (slice_index octets k + octets_at n ms) (slice_index octets k)) → AreKept (first_sent l n q) (restood_one n (Unacked l) ms) octets'
-kept_sent q ms octets octets' l n h b first few w =
+pub kept_sent : (q : Lists) (ms : List Message) (octets : List ℕ) (l n : ℕ) → l < length octets → AreKept q ms octets → l < length q.links → slice_get (queue_at (Waiting l) q) 0 ≡ Some n → length (queue_at (Unacked l) q) < 127 → AreKept (first_sent l n q) (restood_one n (Unacked l) ms) (slice_set octets l (slice_index octets l + octets_at n ms))
+kept_sent q ms octets l n long h b first few =
     let one : take 1 (queue_at (Waiting l) q) ≡ n ∷ [] = take_get _ 0 n first in
-    rw one at (kept_moved 1 (Waiting l) (Unacked l) q ms (record { standing = refl; known = b; other = b; apart = refl }) octets octets' h
+    rw one at (kept_moved 1 (Waiting l) (Unacked l) q ms (record { standing = refl; known = b; other = b; apart = refl }) octets (slice_set octets l (slice_index octets l + octets_at n ms)) h
     (λ k t. let same = same_is (Unacked l) (Unacked k) refl t in omega (arith, few))
-    (λ k small. let now = w k (omega (arith, small, h.sound.few)) in grind arith))
+    (λ k small. let now = weight_set octets l (slice_index octets l + octets_at n ms) k long in grind (arith, nat_tests)))
 
 -- THE FIRST OF THE UNACKNOWLEDGED LEAVE, and a link has a new life
 
@@ -216,9 +219,9 @@ kept_with_last q ms octets l fsn h = record {
   weighed = λ k b. rw (queue_last (Unacked k) l fsn q) (h.weighed k (omega (arith, b, last_links l fsn q)));
 }
 
-pub kept_acked : (q : Lists) (ms : List Message) (octets octets' : List ℕ) (l k fsn : ℕ) → AreKept q ms octets → l < length q.links → ((i : ℕ) → i < 16 → slice_index octets' i ≡ cond (l == i) (slice_index octets i - octets_of (take k (queue_at (Unacked l) q)) ms) (slice_index octets i)) → AreKept (with_last l fsn (moved k (Unacked l) (Acked l) q)) (restood (take k (queue_at (Unacked l) q)) (Acked l) ms) octets'
-kept_acked q ms octets octets' l k fsn h b w = kept_with_last _ _ octets' l fsn (kept_moved k (Unacked l) (Acked l) q ms (record { standing = refl; known = b; other = tt; apart = refl }) octets octets' h (λ i t. absurd (cc)) (λ i small.
-    let now = w i (omega (arith, small, h.sound.few)) in
+pub kept_acked : (q : Lists) (ms : List Message) (octets : List ℕ) (l k fsn : ℕ) → l < length octets → AreKept q ms octets → l < length q.links → AreKept (with_last l fsn (moved k (Unacked l) (Acked l) q)) (restood (take k (queue_at (Unacked l) q)) (Acked l) ms) (slice_set octets l (slice_index octets l - octets_of (take k (queue_at (Unacked l) q)) ms))
+kept_acked q ms octets l k fsn long h b = kept_with_last _ _ _ l fsn (kept_moved k (Unacked l) (Acked l) q ms (record { standing = refl; known = b; other = tt; apart = refl }) octets (slice_set octets l (slice_index octets l - octets_of (take k (queue_at (Unacked l) q)) ms)) h (λ i t. absurd (cc)) (λ i small.
+    let now = weight_set octets l (slice_index octets l - octets_of (take k (queue_at (Unacked l) q)) ms) i long in
     let was = h.weighed i small in
     let all = octets-split k (queue_at (Unacked l) q) ms in
     grind (arith, nat_tests)))

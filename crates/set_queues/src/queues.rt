@@ -8,7 +8,7 @@ use super::buffers::Buffers;
 use super::message::Message;
 use super::messages::{Messages, pass};
 use super::tally::{Tally, enter};
-use super::weight::{weigh, weigh_less, weigh_more, weigh_none};
+use super::weight::{weigh, weigh_none};
 use l2_window::{Queue, Window, WindowFault};
 use set_events::{Counts, DiscardCause, Fate};
 use std::alloc::{AllocError, Global};
@@ -313,7 +313,7 @@ impl Queues {
     {
         let (number, fsn) = self.buffers.send(link)?;
         let octets = self.messages.restand(number, Fate::Unacked { link });
-        weigh_more(&mut self.octets, link, octets);
+        self.octets[usize::from(link)] += u32::from(octets);
         Ok((number, fsn))
     }
 
@@ -348,7 +348,7 @@ impl Queues {
             usize::from(count),
             Fate::Acked { link },
         );
-        weigh_less(&mut self.octets, link, octets);
+        self.octets[usize::from(link)] -= octets;
         self.buffers.ack(link, fsn);
         Ok(count)
     }

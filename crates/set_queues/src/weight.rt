@@ -1,5 +1,5 @@
 //! The octets of unacknowledged bodies, which the cyclic method counts (Q.703 6.4).
-ghost use Rattle.std.specs.Prelude.{◌≡◌, ◌+◌, ◌-◌, ◌^◌, ◌==◌, ◌≤◌, ◌<◌, ℕ, length, take, slice_index, if◌then◌else◌};
+ghost use Rattle.std.specs.Prelude.{◌≡◌, ◌≤◌, ◌<◌, ℕ, length, take, slice_index, if◌then◌else◌};
 ghost use Rattle.set_queues.specs.Messages.{octets_of, AreFit};
 ghost use Rattle.set_queues.specs.Buffers.{queue_at, same_fate};
 
@@ -35,25 +35,4 @@ pub(crate) fn weigh_none(octets: &mut [u32; 16], fate: Fate)
     if let Fate::Unacked { link } = fate {
         octets[usize::from(link)] = 0;
     }
-}
-
-/// So many more are unacknowledged on the link.
-pub(crate) fn weigh_more(octets: &mut [u32; 16], link: u8, more: u16)
-    requires link { link < 16 }
-    requires few { slice_index octets.old link ≤ 2 ^ 31 }
-    ensures { (other : ℕ) → other < 16 → slice_index octets.new other ≡
-        (if link == other then slice_index octets.old other
-        + more else slice_index octets.old other) }
-{
-    octets[usize::from(link)] += u32::from(more);
-}
-
-/// So many fewer are unacknowledged on the link.
-pub(crate) fn weigh_less(octets: &mut [u32; 16], link: u8, fewer: u32)
-    requires link { link < 16 }
-    requires there { fewer ≤ slice_index octets.old link }
-    ensures { (other : ℕ) → other < 16 → slice_index octets.new other ≡
-        (if link == other then slice_index octets.old other - fewer else slice_index octets.old other) }
-{
-    octets[usize::from(link)] -= fewer;
 }
