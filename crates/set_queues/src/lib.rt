@@ -42,7 +42,7 @@
 //!
 //! The files: `message` what is kept of one; `messages` all of them with their counts (`tally`), and the
 //! first of a queue that go elsewhere; `buffers` the queues; `backs` what waits for the changebacks of one
-//! home; `weight` the octets of unacknowledged bodies; `queues` the whole; `bodies` the bodies.
+//! home; `queues` the whole; `bodies` the bodies.
 #![tactic(auto)]
 
 mod backs;
@@ -53,7 +53,6 @@ mod message;
 mod messages;
 mod queues;
 mod tally;
-mod weight;
 
 pub use bodies::Bodies;
 pub use laws::{each_number_stands_once, fates_move_with_their_numbers, settling_moves_the_queues};

@@ -1,6 +1,6 @@
-//! Where each message stands, with the counts of all of them, and how the first of a queue go elsewhere.
-ghost use Rattle.std.specs.Prelude.{◌≡◌, ◌-◌, ◌≤◌, ◌++◌, false, length, take, vec_len, vec_capacity};
-ghost use Rattle.set_queues.specs.Messages.{restood, IsTally};
+//! Where each message stands, with the counts of all of them, and what is done with the first of a queue.
+ghost use Rattle.std.specs.Prelude.{◌≡◌, ◌-◌, ◌<◌, ◌≤◌, ◌++◌, false, length, take, vec_len, vec_capacity};
+ghost use Rattle.set_queues.specs.Messages.{octets_of, AreFit, restood, IsTally};
 ghost use Rattle.set_queues.specs.Buffers.{IsKnown, CanTake, TakesRoom, queue_at, with_queue, same_fate};
 ghost use Rattle.set_queues.specs.Queues.{AreGiven};
 
@@ -87,4 +87,23 @@ pub(crate) fn pass(
             None => unreachable!(),
         }
     }
+}
+
+/// The octets of the first `count` unacknowledged bodies of the link.
+#[tactic(auto, using(crate::proofs::Tallies::fit_octets, crate::proofs::Tallies::octets_more, crate::proofs::Standing::none_past))]
+pub(crate) fn weigh(buffers: &Buffers, messages: &Messages, link: u8, count: u8) -> u32
+    requires known { link < length buffers.now.lists.links }
+    requires few { count ≤ length (queue_at (Fate.Unacked link) buffers.now.lists) }
+    requires fit { AreFit messages.now.all.items }
+    ensures { result ≡ octets_of (take count (queue_at
+        (Fate.Unacked link) buffers.now.lists)) messages.now.all.items }
+{
+    let mut octets = 0;
+    for place in 0..count {
+        match buffers.at(Fate::Unacked { link }, usize::from(place)) {
+            Some(number) => octets += u32::from(messages.octets(number)),
+            None => unreachable!(),
+        }
+    }
+    octets
 }

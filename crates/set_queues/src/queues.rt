@@ -1,14 +1,13 @@
 //! Where every message of a set stands, with what the counts need.
-ghost use Rattle.std.specs.Prelude.{◌≡◌, ◌+◌, IfSome};
-ghost use Rattle.set_queues.specs.Buffers.{IsQueued};
+ghost use Rattle.std.specs.Prelude.{◌≡◌, ◌+◌, ◌<◌, ℕ, slice_index, if◌then◌else◌, IfSome};
+ghost use Rattle.set_queues.specs.Buffers.{IsQueued, same_fate};
 ghost use Rattle.set_queues.specs.Settling.{fate_on};
 
 use super::backs::{count_back, oldest_back};
 use super::buffers::Buffers;
 use super::message::Message;
-use super::messages::{Messages, pass};
+use super::messages::{Messages, pass, weigh};
 use super::tally::{Tally, enter};
-use super::weight::{weigh, weigh_none};
 use l2_window::{Queue, Window, WindowFault};
 use set_events::{Counts, DiscardCause, Fate};
 use std::alloc::{AllocError, Global};
@@ -469,6 +468,17 @@ impl Queues {
     {
         let buffers = &mut self.buffers;
         buffers.links[usize::from(link)].window.reset();
+    }
+}
+
+/// No octets are unacknowledged on the link whose queue of sent messages this is, if it is one.
+fn weigh_none(octets: &mut [u32; 16], fate: Fate)
+    requires { (link : ℕ) → fate ≡ Fate.Unacked link → link < 16 }
+    ensures { (link : ℕ) → link < 16 → slice_index octets.new link ≡ (if same_fate fate
+        (Fate.Unacked link) then 0 else slice_index octets.old link) }
+{
+    if let Fate::Unacked { link } = fate {
+        octets[usize::from(link)] = 0;
     }
 }
 
