@@ -10,7 +10,7 @@ use Rattle.set_queues.specs.Queues.{passed}
 use Rattle.set_queues.specs.Settling.{fate_on, on, Settles}
 use Rattle.set_queues.proofs.Standing.{restood-append, room_sum, same_self}
 use Rattle.set_queues.proofs.Passing.{queued_stands, known_on}
-use Rattle.set_queues.proofs.Soundness.{passed_links, passed_replaces, passed_size, unqueued}
+use Rattle.set_queues.proofs.Soundness.{passed_replaces, passed_size, unqueued}
 
 -- a place for what leaves the link
 pub record IsAside (link : ℕ) (to : Fate) (q : Lists) : Type 0 where
@@ -19,9 +19,6 @@ pub record IsAside (link : ℕ) (to : Fate) (q : Lists) : Type 0 where
   pub queued : IsQueued to
   pub unsent : same_fate to (Waiting link) ≡ false
   pub held : same_fate to (Held link) ≡ false
-
-queued_on : (target : Option ℕ) → IsQueued (fate_on target)
-queued_on target = grind arith
 
 pub aside_of : (target : Option ℕ) (link : ℕ) (to : Fate) (q : Lists) → to ≡ fate_on target → link < length q.links → IsKnown (fate_on target) q → IfSome target (λ t. t ≢ link) → IsAside link to q
 aside_of target link to q e k o a = grind arith
@@ -74,4 +71,4 @@ settling link to q a =
 pub known_passed : (f from to : Fate) (q now : Lists) → now ≡ passed from to q → IsKnown f q → IsKnown f now
 known_passed f from to q now e k = rw e (known_on f q _ (passed_size q from to) k)
 
-pub ruleset settles = (passed_links, aside_of, waits_on, held_last, on_length, restood-append)
+pub ruleset settles = (aside_of, waits_on, held_last, on_length, restood-append)

@@ -12,8 +12,7 @@ use Rattle.set_queues.specs.Buffers.{no_lists, AreEmpty, LinkLists, Lists, is_st
 use Rattle.set_queues.specs.Queues.{occurs, stands, passed, AreTied, AreGiven, AreSound, AreNarrow, AreWeighed, AreKept}
 use Rattle.set_queues.proofs.Updates.{length-updated, updated_same, updated_other, get_push}
 use Rattle.set_queues.proofs.Standing.{Moves, moved_tie, given_queue, given_at, take_get, same_is, occurs-append, occurs-split}
-use Rattle.set_queues.proofs.Tallies.{fit_push, fit_restood}
-use Rattle.set_queues.proofs.Tallies.{octets-append, octets-split, octets_stay, octets_few}
+use Rattle.set_queues.proofs.Tallies.{fit_push, fit_restood, octets-append, octets-split, octets_stay, octets_few}
 use Rattle.std.proofs.lemmas.Bool.Decides.{nat_tests}
 use Rattle.std.proofs.lemmas.List.{drop_all, take_all, get_or-replicate, get_or-set_same, get_or-set_other, get_or_past, length-replicate, length-append, length-take, length-drop}
 use Rattle.std.proofs.lemmas.Option.{slice_get_past}
@@ -64,7 +63,7 @@ module _ (k : ℕ) (from to : Fate) (q : Lists) (ms : List Message) (c : CanMove
   moved_moves f s m = go (same_fate from f) (same_fate to f) refl refl (moved_queue f s)
     where
       go : (a b : Bool) → same_fate from f ≡ a → same_fate to f ≡ b → queue_at f (moved k from to q) ≡ cond a (drop k (queue_at from q)) (cond b (queue_at to q ++ take k (queue_at from q)) (queue_at f q)) → occurs m (queue_at f (moved k from to q)) + cond a (occurs m (take k (queue_at from q))) 0 ≡ occurs m (queue_at f q) + cond b (occurs m (take k (queue_at from q))) 0
-      go true true e d g = absurd (cc (same_is from f s e, same_is to f s d, c.apart, e))
+      go true true e d g = absurd (cc (same_is from f s e, c.apart))
       go true false e d g = omega (arith, occurs-split m k (queue_at from q), ap (occurs m) g, ap (λ (x : Fate). occurs m (queue_at x q)) (same_is from f s e))
       go false true e d g = omega (arith, ap (occurs m) g, occurs-append m (queue_at to q) (take k (queue_at from q)), ap (λ (x : Fate). occurs m (queue_at x q)) (same_is to f s d))
       go false false e d g = omega (arith, ap (occurs m) g)
