@@ -1,14 +1,15 @@
 -- WHAT STANDS BACK, as streams move.
-use Rattle.std.proofs.Common.{arith, ◌≡◌, sym, subst, ◌<◌, ℕ, List, [], ◌∷◌}
+use Rattle.std.proofs.Common.{arith, ◌≡◌, sym, subst, ◌<◌, ℕ, Bool, false, not, List, [], ◌∷◌, map}
 use Rattle.set_events.specs.declared.answer.Fate.{Fate}
 use Rattle.set_events.specs.declared.answer.Fate.TheVariants.{Back}
-use Rattle.set_route.specs.declared.place.Place.TheVariants.{Changing}
+use Rattle.set_route.specs.Routing.{IsCoded, IsRouting, Routing, code_of, home_of, place_of}
 use Rattle.set_route.specs.declared.place.Code.TheVariants.{Asked}
-use Rattle.set_route.specs.Routing.{Routing, IsRouting, IsCoded, home_of, code_of, place_of}
+use Rattle.set_route.specs.declared.place.Place.TheVariants.{Changing}
+use Rattle.set_model.specs.Rows.{Row, back, fated, moved, numbers, standing, stands_back}
+use Rattle.set_model.specs.Sound.{AreBack, IsAscending, IsBackOf}
 use Rattle.set_route.proofs.Quiet.{at_place}
-use Rattle.set_model.specs.Rows.{Row, back, stands_back}
-use Rattle.set_model.specs.Sound.{IsBackOf, AreBack}
-use Rattle.set_model.proofs.Standing.{each_so, each_filter}
+use Rattle.set_model.proofs.Standing.{each_so, each_left, each_filter, ascends_filter}
+use Rattle.set_model.proofs.Moving.{moved_off}
 
 -- a stream on its way back goes to the home of its code, which is open
 pub coded_at : (r : Routing) (stream : ℕ) → IsRouting r → (to code via : ℕ) → place_of stream r ≡ Changing to code via → (home_of code ≡ to) × (code_of code r ≡ Asked)
@@ -34,3 +35,13 @@ backs_of r (x ∷ rows) b = grind (arith, backs_of r rows)
 
 pub backs_same : (r : Routing) (rows new : List Row) → back new ≡ back rows → AreBack r rows → AreBack r new
 backs_same r rows new same b = backs_of r new (subst (AreBack r) (sym same) (each_filter (λ row. IsBackOf r row row.fate) (λ row. stands_back row.fate) rows b))
+
+-- rows that move, of which none comes to stand back
+module _ (test : Fate → Bool) (fate : Row → Fate) (rows : List Row) (gone : back (map (fated fate) (standing test rows)) ≡ []) where
+  pub backs_moved : (Of : ℕ → Type 0) (old new : Routing) → StaysBack Of old new → ((f : Fate) (code : ℕ) → test f ≡ false → f ≡ Back code → Of code) → AreBack old rows → AreBack new (moved test fate rows)
+  backs_moved Of old new stays of b =
+      let kept = each_left test (λ row. IsBackOf old row row.fate) (λ row. IsBackOf new row row.fate) (λ x e. stood Of old new stays x x.fate (λ code. of x.fate code e)) (back rows) (each_filter (λ row. IsBackOf old row row.fate) (λ row. stands_back row.fate) rows b) in
+      backs_of new (moved test fate rows) (rw (moved_off test stands_back fate rows gone) kept)
+
+  pub back_order_moved : IsAscending (numbers (back rows)) → IsAscending (numbers (back (moved test fate rows)))
+  back_order_moved a = rw (moved_off test stands_back fate rows gone) (ascends_filter (λ (row : Row). not (test row.fate)) (back rows) a)

@@ -2,14 +2,15 @@
 use Rattle.std.proofs.Common.{refl, arith, ◌≡◌, ◌∙◌, ap, ◌≤◌, [], ◌∷◌, length, ℕ, Bool, true, false, ◌==◌, List, ◌++◌, map, take, drop}
 use Rattle.std.proofs.lemmas.List.{append-nil, map-append}
 use Rattle.std.proofs.lemmas.List.Elements.{filter-append}
-use Rattle.set_events.specs.declared.answer.Fate.{Fate}
-use Rattle.set_events.specs.declared.answer.Fate.TheVariants.{Waiting, Unacked, Acked, Parked, Discarded}
 use Rattle.set_events.specs.declared.answer.DiscardCause.{DiscardCause}
-use Rattle.set_model.specs.Rows.{Row, standing, is_waiting, is_unacked, is_held, is_on, is_parked, is_back, was_acked, unack, wait, held, on, parked, numbers, turned, changed, moved, all_with, appended, with_fate, fated, body_at, counts_of, total_of, IsInOrder, IsHeldLast, IsNumbered, AreFit}
-use Rattle.set_model.proofs.Places.{itself, apart_back, waiting_not_unacked, unacked_not_waiting, waiting_not_held, unacked_not_held, parked_not_on, on_not_parked, on_not_acked, parked_not_acked, waiting_on, unacked_on, held_on, on_other, not_on_waiting, not_on_unacked, not_on_held, back_not_on, back_not_parked, back_not_acked, code_back}
-use Rattle.set_model.proofs.InPlace.{InPlace, turned_there, changed_there, turned_same, changed_same, turned_ordered, changed_ordered, turned_left, turned_within, changed_left}
+use Rattle.set_events.specs.declared.answer.Fate.{Fate}
+use Rattle.set_events.specs.declared.answer.Fate.TheVariants.{Acked, Discarded, Parked, Unacked, Waiting}
+use Rattle.set_model.specs.Rows.{AreFit, IsHeldLast, IsInOrder, IsNumbered, Row, all_with, appended, body_at, changed, counts_of, fated, held, is_held, is_on, is_parked, is_unacked, is_waiting, moved, numbers, on, parked, standing, total_of, turned, unack, wait, was_acked, with_fate}
+use Rattle.set_model.proofs.Places.{itself, apart_back, unacked_not_waiting, waiting_not_held, unacked_not_held, parked_not_on, on_not_parked, on_not_acked, parked_not_acked, waiting_on, unacked_on, held_on, on_other, not_on_waiting, not_on_unacked, not_on_held}
+use Rattle.set_model.proofs.InPlace.{InPlace, turned_there, changed_there, turned_same, changed_same, turned_ordered, changed_ordered, turned_left, changed_left}
 use Rattle.set_model.proofs.Moving.{moved_length, moved_fit, moved_numbered, moved_gone, moved_same, moved_joined}
-use Rattle.set_model.proofs.Order.{order_moved, order_appended, order_sent, sent_joined, on_in_order, order_none, last_none, last_alone, last_moved, last_appended, last_sent}
+use Rattle.set_model.proofs.Filters.{fated_none}
+use Rattle.set_model.proofs.Order.{order_append, order_filter, order_appended, order_sent, sent_joined, on_in_order, order_none, last_none, last_alone, last_append, last_filter, last_fated, last_appended, last_sent}
 use Rattle.set_model.proofs.Lookups.{body_moved}
 use Rattle.set_model.proofs.Counting.{total_in_place, total_moved, acked_moved}
 use Rattle.set_model.proofs.Finding.{new_row, same_numbers}
@@ -34,8 +35,14 @@ pub record Kept (rows new : List Row) : Type 0 where
 pub kept_self : (rows : List Row) → Kept rows rows
 kept_self rows = record { fit = λ f. f; numbered = λ f. f; count = refl; bodies = λ f number. refl; total = refl; acked = omega arith }
 
-pub kept_in_place : (test : Fate → Bool) (rows new : List Row) → InPlace test rows new → ((f : Fate) → test f ≡ true → was_acked f ≡ false) → Kept rows new
+kept_in_place : (test : Fate → Bool) (rows new : List Row) → InPlace test rows new → ((f : Fate) → test f ≡ true → was_acked f ≡ false) → Kept rows new
 kept_in_place test rows new i w = search (i.fit, same_numbers, i.count, i.as_many, i.bodies, total_in_place, i.acked)
+
+pub turned_kept : (test : Fate → Bool) (to : Fate) (n : ℕ) (rows : List Row) → ((f : Fate) → test f ≡ true → was_acked f ≡ false) → Kept rows (turned test to n rows)
+turned_kept test to n rows = kept_in_place test rows (turned test to n rows) (turned_there test to n rows)
+
+pub changed_kept : (test : Fate → Bool) (to : Fate) (rows : List Row) → ((f : Fate) → test f ≡ true → was_acked f ≡ false) → Kept rows (changed test to rows)
+changed_kept test to rows = kept_in_place test rows (changed test to rows) (changed_there test to rows)
 
 pub moved_kept : (test : Fate → Bool) (fate : Row → Fate) (rows : List Row) → ((row : Row) → was_acked (fate row) ≡ false) → ((f : Fate) → test f ≡ true → was_acked f ≡ false) → Kept rows (moved test fate rows)
 moved_kept test fate rows o w = grind (arith, moved_fit, moved_numbered, moved_length, body_moved, total_moved, acked_moved)
@@ -65,7 +72,7 @@ module _ (n : ℕ) (test : Fate → Bool) (rows : List Row) (w : (f : Fate) → 
         search (changed_same, not_on_unacked, not_on_waiting, not_on_held)
 
   pub moved_untouched : (fate : Row → Fate) → ((row : Row) → is_on n (fate row) ≡ false) → Untouched n rows (moved test fate rows)
-  moved_untouched fate o = search (moved_same, not_on_unacked, not_on_waiting, not_on_held, order_moved, last_moved)
+  moved_untouched fate o = search (moved_same, not_on_unacked, not_on_waiting, not_on_held, order_append, order_filter, fated_none, last_append, last_filter, last_fated)
 
 -- A NEW MESSAGE.
 module _ (rows : List Row) (body : List ℕ) (fate : Fate) where
@@ -87,18 +94,17 @@ pub record Sent (l : ℕ) (rows new : List Row) : Type 0 where
   -- needs the order, by which nothing that was sent stands behind it
   pub unack_is : IsInOrder l rows → unack l new ≡ unack l rows ++ map (with_fate (Unacked l)) (take 1 (wait l rows))
   pub held_same : held l new ≡ held l rows
-  pub on_is : on l new ≡ turned (is_waiting l) (Unacked l) 1 (on l rows)
   pub parked_same : parked new ≡ parked rows
   pub order_kept : IsInOrder l rows → IsInOrder l new
   pub last_kept : IsHeldLast l rows → IsHeldLast l new
   pub others : (n : ℕ) → (l == n) ≡ false → Untouched n rows new
 
 -- a row on one link is on no other
-apart_on : (l n : ℕ) → (l == n) ≡ false → (f : Fate) → is_on l f ≡ true → is_on n f ≡ false
+pub apart_on : (l n : ℕ) → (l == n) ≡ false → (f : Fate) → is_on l f ≡ true → is_on n f ≡ false
 apart_on l n d f e = on_other n l (apart_back l n d) f e
 
 pub sent : (l : ℕ) (rows : List Row) → Sent l rows (turned (is_waiting l) (Unacked l) 1 rows)
-sent l rows = search (kept_in_place (is_waiting l), turned_there, on_not_acked l, waiting_on, turned_left, sent_joined, itself, turned_same, waiting_not_held, turned_within, on_not_parked l, order_sent, last_sent, turned_untouched, apart_on l)
+sent l rows = search (turned_kept, on_not_acked l, waiting_on, turned_left, sent_joined, itself, turned_same, waiting_not_held, on_not_parked l, order_sent, last_sent, turned_untouched, apart_on l)
 
 -- AN ACKNOWLEDGEMENT.
 pub record Acknowledged (l count : ℕ) (rows new : List Row) : Type 0 where
@@ -115,7 +121,7 @@ pub record Acknowledged (l count : ℕ) (rows new : List Row) : Type 0 where
 pub acknowledged : (l count : ℕ) (rows : List Row) → Acknowledged l count rows (turned (is_unacked l) (Acked l) count rows)
 acknowledged l count rows =
     let ordered = turned_ordered l (is_unacked l) (Acked l) refl refl refl count rows in
-    search (kept_in_place (is_unacked l), turned_there, on_not_acked l, unacked_on, turned_left, turned_same, unacked_not_waiting, unacked_not_held, on_not_parked l, on_in_order, ordered.in_order, ordered.held_last, turned_untouched, apart_on l)
+    search (turned_kept, on_not_acked l, unacked_on, turned_left, turned_same, unacked_not_waiting, unacked_not_held, on_not_parked l, on_in_order, ordered.in_order, ordered.held_last, turned_untouched, apart_on l)
 
 -- MESSAGES THAT ARE GIVEN UP.
 pub record GivenUp (l : ℕ) (rows new : List Row) : Type 0 where
@@ -131,7 +137,7 @@ module _ (l : ℕ) (cause : DiscardCause) (rows : List Row) where
     pub given_up : GivenUp l rows (changed test (Discarded cause) rows)
     given_up =
         let ordered = changed_ordered l test (Discarded cause) refl refl refl rows in
-        search (kept_in_place test, changed_there, changed_same, on_not_acked l, on_not_parked l, changed_untouched, apart_on l)
+        search (changed_kept, changed_same, on_not_acked l, on_not_parked l, changed_untouched, apart_on l)
 
   pub sent_given_up : GivenUp l rows (changed (is_unacked l) (Discarded cause) rows)
   sent_given_up = given_up (is_unacked l) (unacked_on l) (unacked_not_held l l)
@@ -142,14 +148,8 @@ module _ (l : ℕ) (cause : DiscardCause) (rows : List Row) where
   pub unack_gone : unack l (changed (is_unacked l) (Discarded cause) rows) ≡ []
   unack_gone = changed_left (is_unacked l) (Discarded cause) refl rows
 
-  pub wait_gone : wait l (changed (is_waiting l) (Discarded cause) rows) ≡ []
-  wait_gone = changed_left (is_waiting l) (Discarded cause) refl rows
-
   pub wait_stays : wait l (changed (is_unacked l) (Discarded cause) rows) ≡ wait l rows
   wait_stays = changed_same (is_unacked l) (is_waiting l) (Discarded cause) refl (unacked_not_waiting l l) rows
-
-  pub unack_stays : unack l (changed (is_waiting l) (Discarded cause) rows) ≡ unack l rows
-  unack_stays = changed_same (is_waiting l) (is_unacked l) (Discarded cause) refl (waiting_not_unacked l l) rows
 
 -- A LINK THAT IS LEFT BY ITS MESSAGES.
 pub record Left (l : ℕ) (to : Fate) (rows new : List Row) : Type 0 where
@@ -162,7 +162,7 @@ pub record Left (l : ℕ) (to : Fate) (rows new : List Row) : Type 0 where
   pub held_last : IsHeldLast l new
   pub others : (n : ℕ) → (l == n) ≡ false → is_on n to ≡ false → Untouched n rows new
 
-left : (l : ℕ) (to : Fate) (rows : List Row) → is_on l to ≡ false → was_acked to ≡ false → Left l to rows (moved (is_on l) (all_with to) rows)
+pub left : (l : ℕ) (to : Fate) (rows : List Row) → is_on l to ≡ false → was_acked to ≡ false → Left l to rows (moved (is_on l) (all_with to) rows)
 left l to rows o a = search (moved_gone, not_on_unacked, unacked_on, not_on_waiting, waiting_on, moved_kept, on_not_acked, not_on_held, held_on, order_none, last_alone, moved_untouched, on_other, apart_back)
 
 -- to another link
@@ -170,40 +170,19 @@ pub record MovedTo (l t : ℕ) (rows new : List Row) : Type 0 where
   pub left_is : Left l (Waiting t) rows new
   pub unack_same : unack t new ≡ unack t rows
   pub wait_is : wait t new ≡ wait t rows ++ map (with_fate (Waiting t)) (on l rows)
-  pub wait_numbers : numbers (wait t new) ≡ numbers (wait t rows) ++ numbers (on l rows)
   pub held_same : held t new ≡ held t rows
-  pub on_is : on t new ≡ on t rows ++ map (with_fate (Waiting t)) (on l rows)
   pub parked_same : parked new ≡ parked rows
-  pub order_kept : IsInOrder t rows → IsInOrder t new
-  -- a link that messages are moved to holds none
-  pub last_kept : held t rows ≡ [] → IsHeldLast t new
 
 pub moved_to : (l t : ℕ) (rows : List Row) → (l == t) ≡ false → MovedTo l t rows (moved (is_on l) (all_with (Waiting t)) rows)
-moved_to l t rows d = search (on_other, apart_back, moved_joined, itself, not_on_waiting, moved_same, not_on_held, left, not_on_unacked, numbers_joined, on_not_parked, order_moved, last_none)
+moved_to l t rows d = search (on_other, apart_back, moved_joined, itself, not_on_waiting, moved_same, not_on_held, left, not_on_unacked, on_not_parked)
 
 -- where no link is up
 pub record MovedAside (l : ℕ) (rows new : List Row) : Type 0 where
   pub left_is : Left l Parked rows new
   pub parked_is : parked new ≡ parked rows ++ map (with_fate Parked) (on l rows)
-  pub parked_numbers : numbers (parked new) ≡ numbers (parked rows) ++ numbers (on l rows)
 
 pub moved_aside : (l : ℕ) (rows : List Row) → MovedAside l rows (moved (is_on l) (all_with Parked) rows)
-moved_aside l rows = search (moved_joined, on_not_parked, left, numbers_joined)
-
--- MESSAGES THAT STOOD BACK AND WAIT FOR THEIR HOME.
-pub record Released (c l : ℕ) (rows new : List Row) : Type 0 where
-  pub kept : Kept rows new
-  pub unack_same : unack l new ≡ unack l rows
-  pub wait_is : wait l new ≡ wait l rows ++ map (with_fate (Waiting l)) (standing (is_back c) rows)
-  pub held_same : held l new ≡ held l rows
-  pub on_is : on l new ≡ on l rows ++ map (with_fate (Waiting l)) (standing (is_back c) rows)
-  pub parked_same : parked new ≡ parked rows
-  pub order_kept : IsInOrder l rows → IsInOrder l new
-  pub last_kept : held l rows ≡ [] → IsHeldLast l new
-  pub others : (n : ℕ) → (l == n) ≡ false → Untouched n rows new
-
-pub released : (c l : ℕ) (rows : List Row) → Released c l rows (moved (is_back c) (all_with (Waiting l)) rows)
-released c l rows = search (moved_kept (is_back c), moved_same, moved_joined, itself, not_on_unacked, not_on_waiting, not_on_held, back_not_on, code_back c, back_not_acked, back_not_parked, order_moved, last_none, moved_untouched)
+moved_aside l rows = search (moved_joined, on_not_parked, left)
 
 -- PARKED MESSAGES THAT FIND A LINK.
 pub record Unparked (l : ℕ) (rows new : List Row) : Type 0 where
@@ -211,12 +190,9 @@ pub record Unparked (l : ℕ) (rows new : List Row) : Type 0 where
   pub parked_none : parked new ≡ []
   pub unack_same : unack l new ≡ unack l rows
   pub wait_is : wait l new ≡ wait l rows ++ map (with_fate (Waiting l)) (parked rows)
-  pub wait_numbers : numbers (wait l new) ≡ numbers (wait l rows) ++ numbers (parked rows)
   pub held_same : held l new ≡ held l rows
-  pub on_is : on l new ≡ on l rows ++ map (with_fate (Waiting l)) (parked rows)
-  pub order_kept : IsInOrder l rows → IsInOrder l new
   pub last_kept : held l rows ≡ [] → IsHeldLast l new
   pub others : (n : ℕ) → (l == n) ≡ false → Untouched n rows new
 
 pub unparked : (l : ℕ) (rows : List Row) → Unparked l rows (moved is_parked (all_with (Waiting l)) rows)
-unparked l rows = search (parked_not_on, moved_joined, itself, not_on_waiting, moved_same, not_on_held, moved_kept, parked_not_acked, moved_gone, not_on_unacked, numbers_joined, order_moved, last_none, moved_untouched)
+unparked l rows = search (parked_not_on, moved_joined, itself, not_on_waiting, moved_same, not_on_held, moved_kept, parked_not_acked, moved_gone, not_on_unacked, last_none, moved_untouched)

@@ -1,9 +1,9 @@
 -- Filters of rows, and of rows with other fates.
-use Rattle.std.proofs.Common.{refl, arith, ◌≡◌, ap, [], ◌∷◌, length, ◌+◌, ◌≤◌, Bool, true, false, not, List, ◌++◌, map}
+use Rattle.std.proofs.Common.{refl, arith, ◌≡◌, ◌∙◌, ap, sym, [], ◌∷◌, length, ◌+◌, ◌≤◌, Bool, true, false, not, List, ◌++◌, map}
 use Rattle.std.specs.Prelude.{filter}
 use Rattle.std.proofs.lemmas.List.Filters.{length-filter_both}
 use Rattle.set_events.specs.declared.answer.Fate.{Fate}
-use Rattle.set_model.specs.Rows.{Row, standing, fated, AreFit}
+use Rattle.set_model.specs.Rows.{AreFit, Row, fated, standing}
 
 -- One filter after another.
 pub filter_comm : (p q : Row → Bool) (xs : List Row) → filter p (filter q xs) ≡ filter q (filter p xs)
@@ -14,6 +14,9 @@ filter_comm p q (x ∷ xs) = grind (arith, filter_comm p q xs)
 pub filter_within : (p q : Row → Bool) → ((x : Row) → p x ≡ true → q x ≡ true) → (xs : List Row) → filter p (filter q xs) ≡ filter p xs
 filter_within p q w [] = refl
 filter_within p q w (x ∷ xs) = grind (arith, filter_within p q w xs)
+
+pub none_within : (test other : Fate → Bool) → ((f : Fate) → test f ≡ true → other f ≡ true) → (rows : List Row) → standing other rows ≡ [] → standing test rows ≡ []
+none_within test other w rows none = sym (filter_within (λ row. test row.fate) (λ row. other row.fate) (λ row. w row.fate) rows) ∙ ap (standing test) none
 
 -- nothing passes both
 pub filter_apart : (p q : Row → Bool) → ((x : Row) → p x ≡ true → q x ≡ false) → (xs : List Row) → filter p (filter q xs) ≡ []

@@ -1,13 +1,13 @@
 -- Rows that are looked up, where each number stands in one row.
 use Rattle.std.proofs.Common.{refl, arith, ◌≡◌, ◌∙◌, ap, sym, ◌<◌, ◌≤◌, [], ◌∷◌, length, ℕ, nat_lt, ◌==◌, List, None, cond}
 use Rattle.std.specs.Prelude.{filter}
-use Rattle.std.proofs.lemmas.Bool.{lt-ltb, cases_order}
+use Rattle.std.proofs.lemmas.Bool.{cases_order}
 use Rattle.std.proofs.lemmas.Bool.Decides.{nat_tests}
 use Rattle.std.proofs.lemmas.List.{length-append, length_push}
 use Rattle.std.proofs.lemmas.List.Elements.{filter-append}
 use Rattle.set_events.specs.declared.answer.Fate.{Fate}
+use Rattle.set_model.specs.Rows.{AreFit, IsNumbered, Row, appended, row_of}
 use Rattle.set_model.proofs.Filters.{fit_append}
-use Rattle.set_model.specs.Rows.{Row, appended, row_of, IsNumbered, AreFit}
 
 -- the rows of a number
 abbrev pub with_number : ℕ → List Row → List Row
@@ -20,9 +20,9 @@ not_found number (x ∷ rows) e = grind (arith, not_found number rows)
 
 pub is_found : (number : ℕ) (rows : List Row) → IsNumbered rows → number < length rows → row_of number rows ≡ None → ⊥
 is_found number rows numbered below e =
-    let one : length (with_number number rows) ≡ 1 = rw (lt-ltb number (length rows) below) at (numbered number) in
-    let none : length (with_number number rows) ≡ 0 = ap length (not_found number rows e) in
-    omega (arith, one, none)
+    let none = ap length (not_found number rows e) in
+    let one = numbered number in
+    grind (arith, nat_tests)
 
 -- A new row has the next number.
 abbrev pub new_row : ℕ → List ℕ → Fate → Row

@@ -1,8 +1,8 @@
 -- Rows that get another fate in their places: the first n where a test tells, or all.
-use Rattle.std.proofs.Common.{refl, arith, ◌≡◌, ap, ◌≤◌, [], ◌∷◌, length, ℕ, zero, suc, Bool, true, false, List, drop, cond}
+use Rattle.std.proofs.Common.{refl, arith, ◌≡◌, ◌≤◌, [], ◌∷◌, length, ℕ, zero, suc, Bool, true, false, List, drop}
 use Rattle.std.specs.Prelude.{filter}
 use Rattle.set_events.specs.declared.answer.Fate.{Fate}
-use Rattle.set_model.specs.Rows.{Row, standing, users, was_acked, is_waiting, is_unacked, is_held, unack, wait, turned, changed, with_fate, body_at, AreFit, IsInOrder, IsHeldLast}
+use Rattle.set_model.specs.Rows.{AreFit, IsHeldLast, IsInOrder, Row, body_at, changed, is_held, is_unacked, is_waiting, standing, turned, unack, users, wait, was_acked, with_fate}
 
 -- What is kept where a row stays, and where one turns, is kept by both changes.
 module _ (test : Fate → Bool) (fate : Fate) (P : List Row → List Row → Type 0) (none : P [] []) (stays : (x : Row) (xs ys : List Row) → P xs ys → P (x ∷ xs) (x ∷ ys)) (turns : (x : Row) (xs ys : List Row) → test x.fate ≡ true → P xs ys → P (x ∷ xs) (with_fate fate x ∷ ys)) where
@@ -29,9 +29,6 @@ pub record InPlace (test : Fate → Bool) (xs ys : List Row) : Type 0 where
   pub acked : ((f : Fate) → test f ≡ true → was_acked f ≡ false) → length (standing was_acked (users xs)) ≤ length (standing was_acked (users ys))
 
 module _ (test : Fate → Bool) (fate : Fate) where
-  none_there : InPlace test [] []
-  none_there = record { count = refl; fit = λ a. a; as_many = λ p same. refl; bodies = λ number. refl; acked = λ w. omega arith }
-
   stays_there : (x : Row) (xs ys : List Row) → InPlace test xs ys → InPlace test (x ∷ xs) (x ∷ ys)
   stays_there x xs ys p = grind arith
 
@@ -39,44 +36,32 @@ module _ (test : Fate → Bool) (fate : Fate) where
   turns_there x xs ys h p = grind arith
 
   pub turned_there : (n : ℕ) (rows : List Row) → InPlace test rows (turned test fate n rows)
-  turned_there n rows = where_turned test fate (InPlace test) none_there stays_there turns_there n rows
+  turned_there n rows = where_turned test fate (InPlace test) (grind arith) stays_there turns_there n rows
 
   pub changed_there : (rows : List Row) → InPlace test rows (changed test fate rows)
-  changed_there rows = where_changed test fate (InPlace test) none_there stays_there turns_there rows
+  changed_there rows = where_changed test fate (InPlace test) (grind arith) stays_there turns_there rows
 
 -- A PLACE where none turns and none comes.
 module _ (test other : Fate → Bool) (fate : Fate) (o : other fate ≡ false) (w : (f : Fate) → test f ≡ true → other f ≡ false) where
-  abbrev Same : List Row → List Row → Type 0
-  Same xs ys = standing other ys ≡ standing other xs
-
-  stays_out : (x : Row) (xs ys : List Row) → Same xs ys → Same (x ∷ xs) (x ∷ ys)
-  stays_out x xs ys p = ap (λ (zs : List Row). cond (other x.fate) (x ∷ zs) zs) p
-
-  turns_out : (x : Row) (xs ys : List Row) → test x.fate ≡ true → Same xs ys → Same (x ∷ xs) (with_fate fate x ∷ ys)
-  turns_out x xs ys h p = rw (o, w x.fate h) p
-
   pub turned_same : (n : ℕ) (rows : List Row) → standing other (turned test fate n rows) ≡ standing other rows
-  turned_same n rows = where_turned test fate Same refl stays_out turns_out n rows
+  turned_same zero rows = refl
+  turned_same (suc n) [] = refl
+  turned_same (suc n) (x ∷ rows) = grind (arith, turned_same n rows, turned_same (suc n) rows)
 
   pub changed_same : (rows : List Row) → standing other (changed test fate rows) ≡ standing other rows
-  changed_same rows = where_changed test fate Same refl stays_out turns_out rows
+  changed_same [] = refl
+  changed_same (x ∷ rows) = grind (arith, changed_same rows)
 
 -- a place where none comes has no more than before
 module _ (test other : Fate → Bool) (fate : Fate) (none : other fate ≡ false) where
-  abbrev Fewer : List Row → List Row → Type 0
-  Fewer xs ys = length (standing other ys) ≤ length (standing other xs)
-
-  fewer_stays : (x : Row) (xs ys : List Row) → Fewer xs ys → Fewer (x ∷ xs) (x ∷ ys)
-  fewer_stays x xs ys p = grind arith
-
-  fewer_turns : (x : Row) (xs ys : List Row) → test x.fate ≡ true → Fewer xs ys → Fewer (x ∷ xs) (with_fate fate x ∷ ys)
-  fewer_turns x xs ys t p = grind arith
-
   pub fewer_turned : (n : ℕ) (rows : List Row) → length (standing other (turned test fate n rows)) ≤ length (standing other rows)
-  fewer_turned n rows = where_turned test fate Fewer (omega arith) fewer_stays fewer_turns n rows
+  fewer_turned zero rows = omega arith
+  fewer_turned (suc n) [] = omega arith
+  fewer_turned (suc n) (x ∷ rows) = grind (arith, fewer_turned n rows, fewer_turned (suc n) rows)
 
   pub fewer_changed : (rows : List Row) → length (standing other (changed test fate rows)) ≤ length (standing other rows)
-  fewer_changed rows = where_changed test fate Fewer (omega arith) fewer_stays fewer_turns rows
+  fewer_changed [] = omega arith
+  fewer_changed (x ∷ rows) = grind (arith, fewer_changed rows)
 
 -- A LINK'S ORDER, where none comes to wait or to be held, and none to be unacknowledged.
 module _ (n : ℕ) (test : Fate → Bool) (fate : Fate) (u : is_unacked n fate ≡ false) (v : is_waiting n fate ≡ false) (h : is_held n fate ≡ false) where
@@ -86,9 +71,6 @@ module _ (n : ℕ) (test : Fate → Bool) (fate : Fate) (u : is_unacked n fate �
     pub in_order : IsInOrder n xs → IsInOrder n ys
     pub held_last : IsHeldLast n xs → IsHeldLast n ys
 
-  nothing : Ordered [] []
-  nothing = record { unack_none = λ e. e; wait_none = λ e. e; in_order = λ o. o; held_last = λ o. o }
-
   stays_in : (x : Row) (xs ys : List Row) → Ordered xs ys → Ordered (x ∷ xs) (x ∷ ys)
   stays_in x xs ys p = grind arith
 
@@ -96,22 +78,16 @@ module _ (n : ℕ) (test : Fate → Bool) (fate : Fate) (u : is_unacked n fate �
   turns_off x xs ys t p = grind arith
 
   pub turned_ordered : (k : ℕ) (rows : List Row) → Ordered rows (turned test fate k rows)
-  turned_ordered k rows = where_turned test fate Ordered nothing stays_in turns_off k rows
+  turned_ordered k rows = where_turned test fate Ordered (grind arith) stays_in turns_off k rows
 
   pub changed_ordered : (rows : List Row) → Ordered rows (changed test fate rows)
-  changed_ordered rows = where_changed test fate Ordered nothing stays_in turns_off rows
+  changed_ordered rows = where_changed test fate Ordered (grind arith) stays_in turns_off rows
 
 -- those that turned left their place
 pub turned_left : (test : Fate → Bool) (fate : Fate) → test fate ≡ false → (n : ℕ) (rows : List Row) → standing test (turned test fate n rows) ≡ drop n (standing test rows)
 turned_left test fate o zero rows = refl
 turned_left test fate o (suc n) [] = refl
 turned_left test fate o (suc n) (x ∷ rows) = grind (arith, turned_left test fate o n rows, turned_left test fate o (suc n) rows)
-
--- a place that takes in where they turn and where they come
-pub turned_within : (test other : Fate → Bool) (fate : Fate) → other fate ≡ true → ((f : Fate) → test f ≡ true → other f ≡ true) → (n : ℕ) (rows : List Row) → standing other (turned test fate n rows) ≡ turned test fate n (standing other rows)
-turned_within test other fate o w zero rows = refl
-turned_within test other fate o w (suc n) [] = refl
-turned_within test other fate o w (suc n) (x ∷ rows) = grind (arith, turned_within test other fate o w n rows, turned_within test other fate o w (suc n) rows)
 
 -- nothing turns where no row stands
 pub turned_nothing : (test : Fate → Bool) (fate : Fate) (n : ℕ) (rows : List Row) → standing test rows ≡ [] → turned test fate n rows ≡ rows

@@ -9,17 +9,14 @@ pub mod Gaining
 pub mod InPlace
 pub mod LinkCount
 pub mod Lists
-pub mod Live
 pub mod Lookups
 pub mod Moving
 pub mod Order
 pub mod Places
-pub mod Plain
 pub mod Ranging
 pub mod Settling
 pub mod SoundBack
 pub mod SoundLink
-pub mod SoundMoves
 pub mod SoundNew
 pub mod Soundness
 pub mod Standing

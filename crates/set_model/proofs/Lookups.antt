@@ -1,11 +1,10 @@
 -- What is found under a number, before and after a change.
-use Rattle.std.proofs.Common.{refl, arith, ◌≡◌, ◌∙◌, ap, ◌<◌, ◌≤◌, [], ◌∷◌, length, ℕ, zero, suc, Bool, true, false, nat_lt, List, Option, Some, cond}
+use Rattle.std.proofs.Common.{refl, arith, ◌≡◌, ap, ◌<◌, ◌≤◌, [], ◌∷◌, length, ℕ, zero, suc, Bool, List, Some, cond}
 use Rattle.std.proofs.lemmas.Bool.Decides.{nat_tests}
 use Rattle.std.specs.Prelude.{slice_get, filter}
 use Rattle.std.specs.Option.{option_map}
-use Rattle.std.proofs.lemmas.Bool.{ltb-true}
 use Rattle.set_events.specs.declared.answer.Fate.{Fate}
-use Rattle.set_model.specs.Rows.{Row, moved, fated, numbers, row_of, place, body_at, IsNumbered}
+use Rattle.set_model.specs.Rows.{IsNumbered, Row, body_at, fated, moved, numbers, place, row_of}
 use Rattle.set_model.proofs.Moving.{filter_moved}
 use Rattle.set_model.proofs.Finding.{with_number}
 
@@ -24,61 +23,39 @@ row_is_first number (x ∷ rows) = grind (arith, row_is_first number rows)
 
 -- A MOVE: the row of a number is the one that it was, with the fate if it moved.
 module _ (test : Fate → Bool) (fate : Row → Fate) where
-  one_moved : (x : Row) → moved test fate (x ∷ []) ≡ moved_row test fate x ∷ []
-  one_moved x = grind arith
-
   few_moved : (rows : List Row) → length rows ≤ 1 → slice_get (moved test fate rows) 0 ≡ option_map (moved_row test fate) (slice_get rows 0)
   few_moved [] l = refl
-  few_moved (x ∷ []) l = ap (λ (ys : List Row). slice_get ys 0) (one_moved x)
+  few_moved (x ∷ []) l = grind arith
   few_moved (x ∷ y ∷ rows) l = absurd (omega (arith, l))
 
   row_moved : (number : ℕ) (rows : List Row) → IsNumbered rows → row_of number (moved test fate rows) ≡ option_map (moved_row test fate) (row_of number rows)
   row_moved number rows numbered = grind (arith, row_is_first, filter_moved, few_moved)
 
-  place_then : (row : Option Row) → option_map (λ r. r.fate) (option_map (moved_row test fate) row) ≡ option_map (λ r. cond (test r.fate) (fate r) r.fate) row
-  place_then row = grind arith
-
-  body_then : (row : Option Row) → option_map (λ r. r.body) (option_map (moved_row test fate) row) ≡ option_map (λ r. r.body) row
-  body_then row = grind arith
-
   pub place_moved : (number : ℕ) (rows : List Row) → IsNumbered rows → place number (moved test fate rows) ≡ option_map (λ r. cond (test r.fate) (fate r) r.fate) (row_of number rows)
-  place_moved number rows numbered = ap (option_map (λ r. r.fate)) (row_moved number rows numbered) ∙ place_then (row_of number rows)
+  place_moved number rows numbered = grind (arith, row_moved)
 
   pub body_moved : (number : ℕ) (rows : List Row) → IsNumbered rows → body_at number (moved test fate rows) ≡ body_at number rows
-  body_moved number rows numbered = ap (option_map (λ r. r.body)) (row_moved number rows numbered) ∙ body_then (row_of number rows)
+  body_moved number rows numbered = grind (arith, row_moved)
 
 -- UNIQUE: a row of a filter is the one that its number finds.
-in_list : (p : Row → Bool) (rows : List Row) (i : ℕ) (row : Row) → slice_get (filter p rows) i ≡ Some row → (j : ℕ) × (slice_get rows j ≡ Some row)
-in_list p [] i row e = absurd cc
-in_list p (x ∷ rows) i row e = go (p x) refl i e (λ k f. in_list p rows k row f)
-  where
-    go : (b : Bool) → p x ≡ b → (i : ℕ) → slice_get (filter p (x ∷ rows)) i ≡ Some row → ((k : ℕ) → slice_get (filter p rows) k ≡ Some row → (j : ℕ) × (slice_get rows j ≡ Some row)) → (j : ℕ) × (slice_get (x ∷ rows) j ≡ Some row)
-    go true h zero e later = let f : Some x ≡ Some row = rw h at e in (0, f)
-    go true h (suc k) e later = let g = later k (rw h at e) in (suc g.0, g.1)
-    go false h k e later = let g = later k (rw h at e) in (suc g.0, g.1)
-
 pub no_rows : (xs : List Row) → length xs ≡ 0 → xs ≡ []
 no_rows [] e = refl
 no_rows (x ∷ xs) e = absurd (omega (arith, e))
 
-found_in : (rows : List Row) (j k : ℕ) (row : Row) → slice_get rows j ≡ Some row → row.number ≡ k → length (with_number k rows) ≤ 1 → with_number k rows ≡ row ∷ []
-found_in [] j k row e n l = absurd cc
-found_in (x ∷ rows) zero k row e n l = grind (arith, nat_tests, no_rows (with_number k rows))
-found_in (x ∷ rows) (suc j) k row e n l = grind (arith, nat_tests, no_rows (with_number k rows), found_in rows j k row e n)
+found_in : (p : Row → Bool) (rows : List Row) (i k : ℕ) (row : Row) → slice_get (filter p rows) i ≡ Some row → row.number ≡ k → length (with_number k rows) ≤ 1 → with_number k rows ≡ row ∷ []
+found_in p [] i k row e n l = absurd cc
+found_in p (x ∷ rows) zero k row e n l = grind (arith, nat_tests, no_rows (with_number k rows), found_in p rows zero k row)
+found_in p (x ∷ rows) (suc i) k row e n l = grind (arith, nat_tests, no_rows (with_number k rows), found_in p rows i k row, found_in p rows (suc i) k row)
 
 pub row_in_filter : (p : Row → Bool) (rows : List Row) (i k : ℕ) (row : Row) → IsNumbered rows → slice_get (filter p rows) i ≡ Some row → row.number ≡ k → row_of k rows ≡ Some row
-row_in_filter p rows i k row numbered e n = grind (arith, in_list, row_is_first, found_in)
+row_in_filter p rows i k row numbered e n = let one = found_in p rows i k row e n (at_most_one k rows numbered) in grind (arith, row_is_first)
 
 -- the number of a row in a filter is below the length
 pub number_below : (p : Row → Bool) (rows : List Row) (i : ℕ) (row : Row) → IsNumbered rows → slice_get (filter p rows) i ≡ Some row → row.number < length rows
 number_below p rows i row numbered e =
-    let there = in_list p rows i row e in
-    let one = found_in rows there.0 row.number row there.1 refl (at_most_one row.number rows numbered) in
-    go (nat_lt row.number (length rows)) refl (ap length one)
-  where
-    go : (b : Bool) → nat_lt row.number (length rows) ≡ b → length (with_number row.number rows) ≡ 1 → row.number < length rows
-    go true h l = ltb-true row.number (length rows) h
-    go false h l = let none : length (with_number row.number rows) ≡ 0 = rw h at (numbered row.number) in absurd (omega (arith, none, l))
+    let one = ap length (found_in p rows i row.number row e refl (at_most_one row.number rows numbered)) in
+    let known = numbered row.number in
+    grind (arith, nat_tests)
 
 pub row_at_number : (rows : List Row) (i number : ℕ) → slice_get (numbers rows) i ≡ Some number → (row : Row) × (slice_get rows i ≡ Some row) × (row.number ≡ number)
 row_at_number [] i number e = absurd cc

@@ -1,17 +1,16 @@
 -- Rows that leave their places and stand at the end, each with its fate.
 use Rattle.std.proofs.Common.{refl, arith, ◌≡◌, ◌∙◌, ap, [], ◌∷◌, length, Bool, true, false, not, List, ◌++◌, map}
 use Rattle.std.specs.Prelude.{filter}
-use Rattle.std.proofs.lemmas.Bool.{not_from_true, not_from_false}
+use Rattle.std.proofs.lemmas.Bool.{not_from_true}
 use Rattle.std.proofs.lemmas.List.{append-nil, length-append, length-map}
 use Rattle.std.proofs.lemmas.List.Elements.{filter-append}
 use Rattle.set_events.specs.declared.answer.Fate.{Fate}
-use Rattle.set_model.specs.Rows.{Row, standing, moved, fated, IsNumbered, AreFit}
+use Rattle.set_model.specs.Rows.{AreFit, IsNumbered, Row, fated, moved, standing}
 use Rattle.set_model.proofs.Filters.{filter_comm, filter_within, filter_apart, filter_fated, fated_all, fated_none, both_lengths, fit_append, fit_filter, fit_fated}
-use Rattle.set_model.proofs.Places.{contra}
 
 module _ (test : Fate → Bool) (fate : Row → Fate) where
   pub moved_length : (rows : List Row) → length (moved test fate rows) ≡ length rows
-  moved_length rows = search (length-append, length-map, both_lengths)
+  moved_length rows = grind (arith, length-append, length-map, both_lengths)
 
   -- a test that doesn't look at the fate keeps the rows of the move that the list kept
   pub filter_moved : (p : Row → Bool) → ((x : Row) → p (fated fate x) ≡ p x) → (rows : List Row) → filter p (moved test fate rows) ≡ moved test fate (filter p rows)
@@ -32,8 +31,8 @@ module _ (test other : Fate → Bool) (fate : Row → Fate) (rows : List Row) wh
   parts = filter-append (λ (row : Row). other row.fate) (standing (λ f. not (test f)) rows) (map (fated fate) (standing test rows))
 
   -- those that stay where none goes
-  others_stay : ((f : Fate) → test f ≡ true → other f ≡ false) → standing other (standing (λ f. not (test f)) rows) ≡ standing other rows
-  others_stay w = filter_within (λ (row : Row). other row.fate) (λ (row : Row). not (test row.fate)) (λ x e. not_from_false (test x.fate) (contra (test x.fate) (other x.fate) (w x.fate) e)) rows
+  pub others_stay : ((f : Fate) → test f ≡ true → other f ≡ false) → standing other (standing (λ f. not (test f)) rows) ≡ standing other rows
+  others_stay w = filter_within (λ (row : Row). other row.fate) (λ (row : Row). not (test row.fate)) (λ x e. grind (arith, w)) rows
 
   -- a place from which all rows go
   pub moved_gone : ((row : Row) → other (fate row) ≡ false) → ((f : Fate) → other f ≡ true → test f ≡ true) → standing other (moved test fate rows) ≡ []

@@ -1,10 +1,10 @@
 -- A link's messages stay in order: what was sent stands before what waits, and that before what is held.
-use Rattle.std.proofs.Common.{arith, refl, ◌≡◌, ◌∙◌, ap, [], ◌∷◌, length, ℕ, Bool, true, false, ◌==◌, List, ◌++◌, map, take, cond}
+use Rattle.std.proofs.Common.{arith, refl, ◌≡◌, [], ◌∷◌, length, ℕ, Bool, true, false, ◌==◌, List, ◌++◌, map, take}
 use Rattle.std.specs.Prelude.{filter}
 use Rattle.std.proofs.lemmas.List.Elements.{filter-append}
 use Rattle.set_events.specs.declared.answer.Fate.{Fate}
 use Rattle.set_events.specs.declared.answer.Fate.TheVariants.{Unacked}
-use Rattle.set_model.specs.Rows.{Row, standing, is_waiting, is_unacked, is_held, is_on, unack, wait, held, on, turned, moved, appended, with_fate, fated, IsInOrder, IsHeldLast}
+use Rattle.set_model.specs.Rows.{IsHeldLast, IsInOrder, Row, appended, fated, held, is_unacked, is_waiting, on, turned, unack, wait, with_fate}
 use Rattle.set_model.proofs.Filters.{filter_comm, fated_none}
 use Rattle.set_model.proofs.InPlace.{turned_nothing}
 use Rattle.set_model.proofs.Finding.{new_row}
@@ -16,10 +16,7 @@ order_none n (x ∷ rows) e = grind (arith, order_none n rows)
 
 pub order_append : (n : ℕ) (xs ys : List Row) → IsInOrder n xs → unack n ys ≡ [] → IsInOrder n (xs ++ ys)
 order_append n [] ys o e = order_none n ys e
-order_append n (x ∷ xs) ys o e = (
-  λ w. filter-append (λ (row : Row). is_unacked n row.fate) xs ys ∙ ap (λ (zs : List Row). zs ++ unack n ys) (o.0 w) ∙ e,
-  order_append n xs ys o.1 e,
-)
+order_append n (x ∷ xs) ys o e = grind (arith, filter-append, order_append n xs ys o.1 e)
 
 -- where some rows leave
 pub order_filter : (n : ℕ) (keep : Row → Bool) (rows : List Row) → IsInOrder n rows → IsInOrder n (filter keep rows)
@@ -28,9 +25,6 @@ order_filter n keep (x ∷ rows) o = grind (arith, filter_comm, order_filter n k
 
 pub order_appended : (n : ℕ) (rows : List Row) (body : List ℕ) (fate : Fate) → is_unacked n fate ≡ false → IsInOrder n rows → IsInOrder n (appended rows body fate)
 order_appended n rows body fate u o = order_append n rows (new_row (length rows) body fate ∷ []) o (rw u refl)
-
-pub order_moved : (n : ℕ) (test : Fate → Bool) (fate : Row → Fate) (rows : List Row) → ((row : Row) → is_unacked n (fate row) ≡ false) → IsInOrder n rows → IsInOrder n (moved test fate rows)
-order_moved n test fate rows u o = search (order_append, order_filter, fated_none)
 
 -- THE FIRST MESSAGE THAT WAITS IS SENT.
 pub order_sent : (l : ℕ) (rows : List Row) → IsInOrder l rows → IsInOrder l (turned (is_waiting l) (Unacked l) 1 rows)
@@ -43,13 +37,9 @@ sent_joined l [] s o = refl
 sent_joined l (x ∷ rows) s o = grind (arith, sent_joined l rows s o.1)
 
 -- WHAT IS ON A LINK, IN ORDER: first what was sent, then what waits, then what is held.
-on_step : (l : ℕ) (f : Fate) (x : Row) (all u w h : List Row) → (is_waiting l f ≡ true → u ≡ []) → (is_held l f ≡ true → (u ≡ []) × (w ≡ [])) → all ≡ u ++ w ++ h
-    → cond (is_on l f) (x ∷ all) all ≡ cond (is_unacked l f) (x ∷ u) u ++ cond (is_waiting l f) (x ∷ w) w ++ cond (is_held l f) (x ∷ h) h
-on_step l f x all u w h a b p = grind arith
-
 pub on_in_order : (l : ℕ) (rows : List Row) → IsInOrder l rows → IsHeldLast l rows → on l rows ≡ unack l rows ++ wait l rows ++ held l rows
 on_in_order l [] o h = refl
-on_in_order l (x ∷ rows) o h = on_step l x.fate x (on l rows) (unack l rows) (wait l rows) (held l rows) o.0 h.0 (on_in_order l rows o.1 h.1)
+on_in_order l (x ∷ rows) o h = grind (arith, on_in_order l rows o.1 h.1)
 
 -- WHAT IS HELD STAYS LAST.
 pub last_none : (n : ℕ) (rows : List Row) → held n rows ≡ [] → IsHeldLast n rows
@@ -58,38 +48,22 @@ last_none n (x ∷ rows) e = grind (arith, last_none n rows)
 
 pub last_append : (n : ℕ) (xs ys : List Row) → IsHeldLast n xs → unack n ys ≡ [] → wait n ys ≡ [] → IsHeldLast n ys → IsHeldLast n (xs ++ ys)
 last_append n [] ys a u w b = b
-last_append n (x ∷ xs) ys a u w b = (
-  λ h. (
-    filter-append (λ (row : Row). is_unacked n row.fate) xs ys ∙ ap (λ (zs : List Row). zs ++ unack n ys) (a.0 h).0 ∙ u,
-    filter-append (λ (row : Row). is_waiting n row.fate) xs ys ∙ ap (λ (zs : List Row). zs ++ wait n ys) (a.0 h).1 ∙ w,
-  ),
-  last_append n xs ys a.1 u w b,
-)
+last_append n (x ∷ xs) ys a u w b = grind (arith, filter-append, last_append n xs ys a.1 u w b)
 
 pub last_filter : (n : ℕ) (keep : Row → Bool) (rows : List Row) → IsHeldLast n rows → IsHeldLast n (filter keep rows)
 last_filter n keep [] a = tt
 last_filter n keep (x ∷ rows) a = grind (arith, filter_comm, last_filter n keep rows a.1)
 
-last_fated : (n : ℕ) (fate : Row → Fate) (rows : List Row) → ((row : Row) → is_unacked n (fate row) ≡ false) → ((row : Row) → is_waiting n (fate row) ≡ false) → IsHeldLast n (map (fated fate) rows)
+pub last_fated : (n : ℕ) (fate : Row → Fate) (rows : List Row) → ((row : Row) → is_unacked n (fate row) ≡ false) → ((row : Row) → is_waiting n (fate row) ≡ false) → IsHeldLast n (map (fated fate) rows)
 last_fated n fate [] u w = tt
 last_fated n fate (x ∷ rows) u w = (λ h. (fated_none (is_unacked n) fate u rows, fated_none (is_waiting n) fate w rows), last_fated n fate rows u w)
 
 pub last_appended : (n : ℕ) (rows : List Row) (body : List ℕ) (fate : Fate) → is_unacked n fate ≡ false → is_waiting n fate ≡ false → IsHeldLast n rows → IsHeldLast n (appended rows body fate)
 last_appended n rows body fate u w a = last_append n rows (new_row (length rows) body fate ∷ []) a (rw u refl) (rw w refl) (λ h. (refl, refl), tt)
 
-pub last_moved : (n : ℕ) (test : Fate → Bool) (fate : Row → Fate) (rows : List Row) → ((row : Row) → is_unacked n (fate row) ≡ false) → ((row : Row) → is_waiting n (fate row) ≡ false) → IsHeldLast n rows → IsHeldLast n (moved test fate rows)
-last_moved n test fate rows u w a = search (last_append, last_filter, fated_none, last_fated)
-
 pub last_sent : (l : ℕ) (rows : List Row) → IsHeldLast l rows → IsHeldLast l (turned (is_waiting l) (Unacked l) 1 rows)
 last_sent l [] a = a
-last_sent l (x ∷ rows) a = go (is_waiting l x.fate) refl (last_sent l rows a.1)
-  where
-    same : standing (is_waiting l) rows ≡ [] → turned (is_waiting l) (Unacked l) 1 rows ≡ rows
-    same e = turned_nothing (is_waiting l) (Unacked l) 1 rows e
-
-    go : (b : Bool) → is_waiting l x.fate ≡ b → IsHeldLast l (turned (is_waiting l) (Unacked l) 1 rows) → IsHeldLast l (turned (is_waiting l) (Unacked l) 1 (x ∷ rows))
-    go true t p = rw t (λ e. absurd cc, a.1)
-    go false t p = rw t (λ e. (ap (unack l) (same (a.0 e).1) ∙ (a.0 e).0, ap (wait l) (same (a.0 e).1) ∙ (a.0 e).1), p)
+last_sent l (x ∷ rows) a = let same = turned_nothing (is_waiting l) (Unacked l) 1 rows in grind (arith, same, last_sent l rows a.1)
 
 -- where nothing was sent on the link and nothing waits for it
 pub last_alone : (n : ℕ) (rows : List Row) → unack n rows ≡ [] → wait n rows ≡ [] → IsHeldLast n rows

@@ -2,15 +2,12 @@
 use Rattle.std.proofs.Common.{arith, refl, ◌≡◌, ◌≢◌, ◌∙◌, sym, ℕ, Bool, true, false, ◌==◌}
 use Rattle.std.proofs.lemmas.Bool.{eq-eqb, ne_eqb, eqb-false}
 use Rattle.set_events.specs.declared.answer.Fate.{Fate}
-use Rattle.set_model.specs.Rows.{is_waiting, is_unacked, is_held, is_on, is_parked, is_back, is_back_to, stands_back, was_acked}
+use Rattle.set_model.specs.Rows.{is_back, is_back_to, is_held, is_on, is_parked, is_unacked, is_waiting, stands_back, was_acked}
 
 pub false_true : {P : Type 0} (b : Bool) → b ≡ false → b ≡ true → P
 false_true b f t = let no : true ≡ false = sym t ∙ f in absurd cc
 
 -- the other way round
-pub contra : (a b : Bool) → (a ≡ true → b ≡ false) → b ≡ true → a ≡ false
-contra a b h e = grind arith
-
 pub apart : (l n : ℕ) → l ≢ n → (l == n) ≡ false
 apart l n d = ne_eqb l n d
 
@@ -80,9 +77,6 @@ back_not_acked f e = grind arith
 
 pub on_not_back : (l : ℕ) (f : Fate) → is_on l f ≡ true → stands_back f ≡ false
 on_not_back l f e = grind arith
-
-pub parked_not_back : (f : Fate) → is_parked f ≡ true → stands_back f ≡ false
-parked_not_back f e = grind arith
 
 -- by a code, or by the home of one
 pub code_back : (c : ℕ) (f : Fate) → is_back c f ≡ true → stands_back f ≡ true

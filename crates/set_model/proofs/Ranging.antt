@@ -1,27 +1,27 @@
 -- The whole numbers of the links stay in range: an event sends at most one message, and accepts at most one body.
-use Rattle.std.proofs.Common.{refl, arith, ◌≡◌, ap, ◌≤◌, ℕ, zero, suc, ◌+◌, Bool, false, List, [], ◌∷◌, length, slice_get, slice_set, Option, Some}
+use Rattle.std.proofs.Common.{refl, arith, ◌≡◌, ap, ◌≤◌, zero-le, ℕ, zero, suc, ◌+◌, Bool, false, List, [], ◌∷◌, length, slice_get, slice_set, Option, Some}
+use Rattle.std.proofs.Math.Nat.{le_refl}
 use Rattle.std.proofs.lemmas.List.{append-nil, length-map, length-drop}
 use Rattle.std.proofs.lemmas.List.Elements.{filter-append}
+use Rattle.set_model.specs.Step.{step, one_if, rows_sent}
 use Rattle.l2_units.specs.declared.unit.Header.{Header}
-use Rattle.l2_units.specs.Grammar.{head_of as header_in}
-use Rattle.l2_window.specs.Window.{WindowState}
-use Rattle.l3_orders.specs.Grammar.{text}
 use Rattle.set_events.specs.declared.answer.Fate.{Fate}
-use Rattle.set_events.specs.declared.answer.Fate.TheVariants.{Waiting, Unacked, Acked, Discarded}
+use Rattle.set_events.specs.declared.answer.Fate.TheVariants.{Acked, Unacked}
 use Rattle.set_events.specs.declared.event.Event.{Event}
+use Rattle.set_route.specs.Routing.{Routing}
 use Rattle.set_route.specs.declared.place.Place.{Place}
-use Rattle.set_route.specs.Routing.{place_of, home_of}
-use Rattle.set_model.specs.Rows.{Row, standing, unack, is_unacked, is_waiting, is_parked, is_on, is_back, is_back_to, turned, moved, all_with, appended, octets_in, stream_of}
-use Rattle.set_model.specs.State.{LinkState, State, target, fate_at, window_of}
-use Rattle.set_model.specs.Control.{Control, Choice, first, choice_of, acked_by, part_of}
-use Rattle.set_model.specs.Changeover.{fate_on, left_link, out_of_service, turned_back, settled_link, acknowledged as acknowledged_link}
-use Rattle.set_model.specs.Step.{rows_sent, one_if, is_msu, risen_link, step}
-use Rattle.set_model.specs.Sound.{WholeNumbers, one_more, AreFewOn, AreAtMost, AreFew}
+use Rattle.set_model.specs.Changeover.{fate_on}
+use Rattle.set_model.specs.Control.{Choice, first, part_of}
+use Rattle.set_model.specs.Rows.{Row, appended, is_unacked, is_waiting, moved, standing, turned, unack}
+use Rattle.set_model.specs.Sound.{AreAtMost, AreFew, WholeNumbers, one_more}
+use Rattle.set_model.specs.State.{LinkState, State, fate_at, window_of}
+use Rattle.set_model.specs.declared.phase.Phase.{Phase}
+use Rattle.set_model.proofs.Controlling.{part_acked}
 use Rattle.set_model.proofs.Events.{appended_out}
 use Rattle.set_model.proofs.Filters.{filter_comm, fewer_filter, fated_none}
 use Rattle.set_model.proofs.InPlace.{turned_left, fewer_turned, fewer_changed}
 use Rattle.set_model.proofs.Lists.{each_set}
-use Rattle.set_model.proofs.Walk.{KeptBy, step_walks}
+use Rattle.set_model.proofs.Walk.{IsAt, step_walks}
 
 -- no more come than turn
 few_turned : (test other : Fate → Bool) (fate : Fate) (n : ℕ) (rows : List Row) → length (standing other (turned test fate n rows)) ≤ length (standing other rows) + n
@@ -30,106 +30,67 @@ few_turned test other fate (suc n) [] = omega arith
 few_turned test other fate (suc n) (x ∷ rows) = grind (arith, few_turned test other fate n rows, few_turned test other fate (suc n) rows)
 
 -- a move makes no unacknowledged ones
-few_moved_by : (test : Fate → Bool) (fate : Row → Fate) (m : ℕ) (rows : List Row) → ((row : Row) → is_unacked m (fate row) ≡ false) → length (unack m (moved test fate rows)) ≤ length (unack m rows)
-few_moved_by test fate m rows none = grind (arith, filter-append, fated_none, append-nil, filter_comm, fewer_filter)
-
-few_moved : (test : Fate → Bool) (to : Fate) (m : ℕ) (rows : List Row) → is_unacked m to ≡ false → length (unack m (moved test (all_with to) rows)) ≤ length (unack m rows)
-few_moved test to m rows none = few_moved_by test (all_with to) m rows (λ row. none)
+few_moved : (test : Fate → Bool) (fate : Row → Fate) (m : ℕ) (rows : List Row) → ((row : Row) → is_unacked m (fate row) ≡ false) → length (unack m (moved test fate rows)) ≤ length (unack m rows)
+few_moved test fate m rows none = grind (arith, filter-append, fated_none, append-nil, filter_comm, fewer_filter)
 
 pub not_sent : (m : ℕ) (to : Option ℕ) → is_unacked m (fate_on to) ≡ false
 not_sent m to = grind arith
 
-pub part_acked : (control : Control) (w : WindowState) (head : Header) (msu : Bool) → (part_of control w head msu).acked ≡ acked_by control w head
-part_acked control w head msu = grind arith
-
--- A processed unit acknowledges no more than there are.
-module _ (n : ℕ) (link : LinkState) (rows : List Row) (head : Header) where
-  abbrev window : WindowState
-  window = window_of n link rows
-
-  sent_length : length window.unacked ≡ length (unack n rows)
-  sent_length = length-map (unack n rows) (λ (row : Row). row.number)
-
-  pub acked_few : (msu : Bool) → (part_of link.control window head msu).acked ≤ length (unack n rows)
-  acked_few msu = grind (arith, part_acked, sent_length)
-
--- A LINK THAT CHANGES, and the others.
-few_set : (k : ℕ → WholeNumbers) (n : ℕ) (link link' : LinkState) (s : State) (rows : List Row) → slice_get s.links n ≡ Some link → link'.acked + length (unack n rows) ≤ link.acked + length (unack n s.rows) → link'.accepted ≤ link.accepted → ((m : ℕ) → length (unack m rows) ≤ length (unack m s.rows)) → AreAtMost k s → AreAtMost k (record s { links = slice_set s.links n link'; rows = rows })
-few_set k n link link' s rows there sent accepted fewer few =
-    each_set (λ m other. AreFewOn (k m) m other rows) s.links n link'
-    (let f = few n link there in let most = f.sent in let enough = f.accepted in record { sent = omega (arith, sent, most); accepted = omega (arith, accepted, enough) })
-    (λ m other d at. let f = few m other at in let most = f.sent in let less = fewer m in record { sent = omega (arith, most, less); accepted = f.accepted })
-
-few_rows : (k : ℕ → WholeNumbers) (s : State) (rows : List Row) → ((m : ℕ) → length (unack m rows) ≤ length (unack m s.rows)) → AreAtMost k s → AreAtMost k (record s { rows = rows })
-few_rows k s rows fewer few m link there = let f = few m link there in let sent = f.sent in let less = fewer m in record { sent = omega (arith, sent, less); accepted = f.accepted }
-
-same_appended : (m : ℕ) (rows : List Row) (body : List ℕ) (fate : Fate) → is_unacked m fate ≡ false → length (unack m (appended rows body fate)) ≤ length (unack m rows)
-same_appended m rows body fate none = let same = ap length (appended_out rows body fate (is_unacked m) none) in omega (arith, same)
-
 pub offered_out : (m : ℕ) (place : Place) (s : State) → is_unacked m (fate_at place s) ≡ false
 offered_out m place s = grind arith
 
-few_back : (n m : ℕ) (s : State) → length (unack m (turned_back n s).rows) ≤ length (unack m s.rows)
-few_back n m s = few_moved_by (is_back_to n) (λ row. fate_at (place_of (stream_of row.body) s.routing) s) m s.rows (λ row. offered_out m (place_of (stream_of row.body) s.routing) s)
+few_appended : (m : ℕ) (rows : List Row) (body : List ℕ) (fate : Fate) → is_unacked m fate ≡ false → length (unack m (appended rows body fate)) ≤ length (unack m rows)
+few_appended m rows body fate none = let same = ap length (appended_out rows body fate (is_unacked m) none) in omega (arith, same)
 
-small : (Known : ℕ → Type 0) (May : Type 0) → KeptBy Known May (λ s t. (k : ℕ → WholeNumbers) → AreAtMost k s → AreAtMost k t)
-small Known May = record {
-  same = λ s k few. few;
-  after = λ a b c p q k few. q k (p k few);
-  delivers = λ body s k few. few;
-  queues = λ order s k few. few_rows k s _ (λ m. same_appended m s.rows (text order s.settings.sio s.settings.dpc s.settings.opc) (fate_on (target s.links)) (not_sent m (target s.links))) few;
-  leaves = λ blind n link s known at k few. let back = λ (m : ℕ). few_back n m (out_of_service blind n link s) in let less = back n in few_set k n link (left_link blind link) s _ at.there (omega (arith, less)) (omega arith) back few;
-  acknowledges = λ count n link s known at fits k few.
-      let left = length-drop count (unack n s.rows) in
-      let gone = ap length (turned_left (is_unacked n) (Acked n) refl count s.rows) in
-      few_set k n link (acknowledged_link count link) s _ at.there (omega (arith, left, gone, fits)) (omega arith) (λ m. fewer_turned (is_unacked n) (is_unacked m) (Acked n) refl count s.rows) few;
-  gives_up_sent = λ cause n link s known at k few. few_rows k s _ (λ m. fewer_changed (is_unacked n) (is_unacked m) (Discarded cause) refl s.rows) few;
-  gives_up_waiting = λ cause n link s known at k few. few_rows k s _ (λ m. fewer_changed (is_waiting n) (is_unacked m) (Discarded cause) refl s.rows) few;
-  declares = λ may home alternative s up can k few. few_rows k s _ (λ m. same_appended m s.rows _ (Waiting alternative) refl) few;
-  releases = λ code s known k few. few_rows k s _ (λ m. few_moved (is_back code) (Waiting (home_of code)) m s.rows refl) few;
-  moves_off = λ n link s known at k few. let off = λ (m : ℕ). few_moved (is_on n) (fate_on (target s.links)) m s.rows (not_sent m (target s.links)) in let less = off n in few_set k n link (settled_link link) s _ at.there (omega (arith, less)) (omega arith) off few;
-}
+-- A processed unit acknowledges no more than there are.
+pub acked_few : (n : ℕ) (link : LinkState) (rows : List Row) (head : Header) (msu : Bool) → (part_of link.control (window_of n link rows) head msu).acked ≤ length (unack n rows)
+acked_few n link rows head msu = grind (arith, part_acked, length-map)
 
-one_low : (b : Bool) → one_if b ≤ 1
-one_low b = grind arith
+-- THE NUMBERS OF EACH LINK grow by at most so many.
+pub record GrowBy (more : ℕ) (s t : State) : Type 0 where
+  pub each : (n : ℕ) (new : LinkState) → slice_get t.links n ≡ Some new → (old : LinkState) × (slice_get s.links n ≡ Some old) × (new.acked + length (unack n t.rows) ≤ old.acked + length (unack n s.rows) + more) × (new.accepted ≤ old.accepted + more)
+
+grow_then : (more : ℕ) (s t u : State) → GrowBy more s t → GrowBy 0 t u → GrowBy more s u
+grow_then more s t u p q = record { each = λ n new at. let y = q.each n new at in let x = p.each n y.0 y.1 in (x.0, x.1, omega (arith, x.2, y.2), omega (arith, x.3, y.3)) }
+
+module _ (more : ℕ) (s : State) (rows : List Row) (routing : Routing) (inbox : List (List ℕ)) (few : (m : ℕ) → length (unack m rows) ≤ length (unack m s.rows) + more) where
+  grow_rows : GrowBy more s (record s { rows = rows; routing = routing; inbox = inbox })
+  grow_rows = record { each = λ n new at. (new, at, omega (arith, few n), omega arith) }
+
+  -- a link that changes, and the others
+  grow_set : (n : ℕ) (link link' : LinkState) (phase : Phase) → IsAt n link phase s → link'.acked + length (unack n rows) ≤ link.acked + length (unack n s.rows) + more → link'.accepted ≤ link.accepted + more → GrowBy more s (record s { links = slice_set s.links n link'; rows = rows; routing = routing })
+  grow_set n link link' phase at sent accepted = record { each = each_set (λ m new. (old : LinkState) × (slice_get s.links m ≡ Some old) × (new.acked + length (unack m rows) ≤ old.acked + length (unack m s.rows) + more) × (new.accepted ≤ old.accepted + more)) s.links n link' (link, at.there, sent, accepted) (λ m other d there. (other, there, omega (arith, few m), omega arith)) }
+
+at_most : (a b more : ℕ) → a ≤ b → a ≤ b + more
+at_most a b more few = omega arith
+
+sum_at_most : (d c a b more : ℕ) → d ≤ c → a ≤ b + more → d + a ≤ c + b + more
+sum_at_most d c a b more e few = omega arith
+
+one_low : (a more : ℕ) (b : Bool) → 1 ≤ more → a + one_if b ≤ a + more
+one_low a more b some = grind arith
 
 few_sent : (choice : Choice) (m n : ℕ) (rows : List Row) → length (unack m (rows_sent choice n rows)) ≤ length (unack m rows) + 1
 few_sent first m n rows = few_turned (is_waiting n) (is_unacked m) (Unacked n) 1 rows
 few_sent _ m n rows = omega arith
 
-wider : (k : ℕ → WholeNumbers) (s : State) → AreAtMost k s → AreAtMost (λ n. one_more (k n)) s
-wider k s few m link there = let f = few m link there in let a = f.sent in let b = f.accepted in record { sent = omega (arith, a); accepted = omega (arith, b) }
+-- what is acknowledged was sent
+acked_at_most : (more c n count : ℕ) (rows : List Row) → count ≤ length (unack n rows) → c + count + length (unack n (turned (is_unacked n) (Acked n) count rows)) ≤ c + length (unack n rows) + more
+acked_at_most more c n count rows fits =
+    let left = length-drop count (unack n rows) in
+    let gone = ap length (turned_left (is_unacked n) (Acked n) refl count rows) in
+    omega (arith, left, gone)
 
--- a link that changes, where each has one unacknowledged message more at most
-few_more : (k : ℕ → WholeNumbers) (n : ℕ) (link link' : LinkState) (s : State) (rows : List Row) → slice_get s.links n ≡ Some link → link'.acked + length (unack n rows) ≤ link.acked + length (unack n s.rows) + 1 → link'.accepted ≤ link.accepted + 1 → ((m : ℕ) → length (unack m rows) ≤ length (unack m s.rows) + 1) → AreAtMost k s → (m : ℕ) (other : LinkState) → slice_get (slice_set s.links n link') m ≡ Some other → AreFewOn (one_more (k m)) m other rows
-few_more k n link link' s rows there sent accepted more few =
-    each_set (λ m other. AreFewOn (one_more (k m)) m other rows) s.links n link'
-    (let f = few n link there in let most = f.sent in let enough = f.accepted in record { sent = omega (arith, sent, most); accepted = omega (arith, accepted, enough) })
-    (λ m other d at. let f = few m other at in let most = f.sent in let enough = f.accepted in let less = more m in record { sent = omega (arith, most, less); accepted = omega (arith, enough) })
+ruleset grows = (le_refl, zero-le, grow_then, grow_rows, grow_set, at_most, sum_at_most, one_low, acked_at_most, few_moved, few_appended, fewer_turned, fewer_changed, not_sent, offered_out, few_sent, acked_few, arith)
+
+step_grows : (s : State) (event : Event) → GrowBy 1 s (step s event).state
+step_grows s event = step_walks s (GrowBy 0) (GrowBy 1 s) event (search grows)
 
 pub step_at_most : (s : State) (event : Event) (k : ℕ → WholeNumbers) → AreAtMost k s → AreAtMost (λ n. one_more (k n)) (step s event).state
-step_at_most s event k few = step_walks s (λ t u. (j : ℕ → WholeNumbers) → AreAtMost j t → AreAtMost j u) (AreAtMost (λ n. one_more (k n))) event (record {
-  small = small _ _;
-  unmoved = wider k s few;
-  rests = λ t u p q. q (λ n. one_more (k n)) p;
-  offers = λ body e none. few_rows (λ n. one_more (k n)) s _ (λ m. same_appended m s.rows body _ (offered_out m (place_of (stream_of body) s.routing) s)) (wider k s few);
-  takes = λ body rest e there. wider k s few;
-  sends = λ n link e at.
-      let choice = choice_of (octets_in (unack n s.rows)) link.control (window_of n link s.rows) in
-      let most = few_sent choice n n s.rows in
-      few_more k n link _ s (rows_sent choice n s.rows) at.there (omega (arith, most)) (omega arith) (λ m. few_sent choice m n s.rows) few;
-  hears = λ n unit link e at.
-      let part = part_of link.control (window_of n link s.rows) (header_in unit) (is_msu unit) in
-      let fits : part.acked ≤ length (unack n s.rows) = acked_few n link s.rows (header_in unit) (is_msu unit) in
-      let left = length-drop part.acked (unack n s.rows) in
-      let gone = ap length (turned_left (is_unacked n) (Acked n) refl part.acked s.rows) in
-      let one = one_low part.accept in
-      few_more k n link _ s (turned (is_unacked n) (Acked n) part.acked s.rows) at.there (omega (arith, left, gone, fits)) (omega (arith, one)) (λ m. let less = fewer_turned (is_unacked n) (is_unacked m) (Acked n) refl part.acked s.rows in omega (arith, less)) few;
-  rises = λ n link e at.
-      let same = λ (m : ℕ). few_moved is_parked (Waiting n) m s.rows refl in
-      let mine = same n in
-      few_more k n link (risen_link s.settings.method) s (moved is_parked (all_with (Waiting n)) s.rows) at.there (omega (arith, mine)) (omega arith) (λ m. let less = same m in omega (arith, less)) few;
-})
+step_at_most s event k few n link there =
+    let g = (step_grows s event).each n link there in
+    let f = few n g.0 g.1 in
+    record { sent = omega (arith, f.sent, g.2); accepted = omega (arith, f.accepted, g.3) }
 
 pub step_few : (s : State) (event : Event) (events : ℕ) → AreFew events s → AreFew (events + 1) (step s event).state
 step_few s event events few = step_at_most s event (λ n. record { sent = events; accepted = events }) few

@@ -1,36 +1,140 @@
--- WHAT HOLDS OF EVERY STATE is kept when a link is left, and by a changeback.
-use Rattle.std.proofs.Common.{⊎_elim, refl, arith, ◌≡◌, ◌≢◌, ◌∙◌, ap, sym, subst, ◌<◌, ℕ, ◌%◌, ◌==◌, Bool, true, false, not, ◌&&◌, List, [], slice_get, Some, if◌then◌else◌, map}
-use Rattle.std.proofs.lemmas.Bool.{eqb-true, and_parts, and_right as and_false, cond-false, cond_both, cases_Bool}
+-- WHAT HOLDS OF EVERY STATE is kept when a link comes up, when it is left, and when its messages leave it, and by a
+-- changeback.
 use Rattle.std.proofs.lemmas.Bool.Decides.{nat_tests}
-use Rattle.std.proofs.lemmas.List.{length-set, append-nil}
-use Rattle.l3_orders.specs.declared.order.Order.TheVariants.{Cbd}
+use Rattle.std.proofs.Common.{refl, arith, ◌≡◌, ◌≢◌, ◌∙◌, ap, sym, ◌<◌, ℕ, ◌%◌, ◌==◌, true, false, List, [], map, slice_get, slice_set, Option, None, Some, IfSome, ⊎_elim, subst, Bool, not}
+use Rattle.std.proofs.lemmas.Bool.{eqb-false, cond_both, eqb-true, and_parts, and_right as and_false, cond-false, cases_Bool}
+use Rattle.std.proofs.lemmas.List.{length-set}
+use Rattle.set_route.specs.Routing.{settled, IsRouting, Routing, asked, code_for, code_of, given_back, has_messages, home_of, place_left, place_of, place_on, place_raised, place_settled, raised, via_settled}
 use Rattle.l3_orders.specs.Grammar.{text}
+use Rattle.l3_orders.specs.declared.order.Order.TheVariants.{Cbd}
 use Rattle.set_events.specs.declared.answer.Fate.{Fate}
-use Rattle.set_events.specs.declared.answer.Fate.TheVariants.{Waiting, Held, Back}
-use Rattle.set_route.specs.declared.place.Place.{Place}
-use Rattle.set_route.specs.declared.place.Place.TheVariants.{On, Changing, Nowhere}
+use Rattle.set_events.specs.declared.answer.Fate.TheVariants.{Back, Waiting}
 use Rattle.set_route.specs.declared.place.Code.TheVariants.{Asked}
-use Rattle.set_route.specs.Routing.{Routing, IsRouting, code_for, home_of, code_of, place_of, place_left, runs_on, asked, place_back, given_back}
+use Rattle.set_route.specs.declared.place.Place.{Place}
+use Rattle.set_route.specs.declared.place.Place.TheVariants.{Changing, Nowhere, On}
+use Rattle.set_model.specs.Changeover.{can_declare, declared, fate_on, left_by, left_link, moved_over, out_of_service, released, settled_link}
+use Rattle.set_model.specs.Rows.{Row, all_with, back, fated, is_back, is_back_to, is_held, is_on, is_parked, is_unacked, is_waiting, moved, on, parked, standing, stands_back, stream_of, unack}
+use Rattle.set_model.specs.Sound.{AreBack, IsBackOf, IsPlaced, IsSound, IsSoundLink}
+use Rattle.set_model.specs.State.{LinkState, State, fate_at, has_phase_settled, has_phase_up, is_up, link_is_up, target}
+use Rattle.set_model.specs.Step.{risen_link, rises}
+use Rattle.set_model.specs.declared.phase.Phase.TheVariants.{Down, Settled, Up}
 use Rattle.set_route.proofs.Alone.{alone, codes_alone}
-use Rattle.set_route.proofs.Places.{left_sound, asked_sound, back_sound}
-use Rattle.set_model.specs.declared.phase.Phase.TheVariants.{Up}
-use Rattle.set_model.specs.Rows.{Row, standing, is_waiting, is_unacked, is_held, is_on, is_back, is_back_to, stands_back, stream_of, unack, held, on, back, parked, numbers, moved, all_with, fated, IsHeldLast}
-use Rattle.set_model.specs.State.{LinkState, State, is_up, link_is_up, has_phase_up, has_phase_settled, fate_at}
-use Rattle.set_model.specs.Changeover.{left_link, out_of_service, left_by, can_declare, declared, released}
-use Rattle.set_model.specs.Sound.{IsSoundLink, IsPlaced, IsAscending, IsBackOf, AreBack, IsSound}
-use Rattle.set_model.proofs.Backs.{coded_at, backs_of, stood, backs_kept}
-use Rattle.set_model.proofs.Events.{Released, released as released_rows, untouched_self}
-use Rattle.set_model.proofs.Filters.{fated_none}
-use Rattle.set_model.proofs.Finding.{numbered_appended, fit_appended}
-use Rattle.set_model.proofs.Lists.{get_set_other, within}
-use Rattle.set_model.proofs.Moving.{moved_numbered, moved_fit, moved_same, moved_more, moved_off, moved_nothing}
-use Rattle.set_model.proofs.Order.{order_moved, last_none, last_moved}
-use Rattle.set_model.proofs.Places.{false_true, not_on_unacked, not_on_held, back_not_on, home_back}
-use Rattle.set_model.proofs.Ranging.{offered_out}
-use Rattle.set_model.proofs.SoundLink.{up_unsettled, up_same, down_sound, link_untouched, links_set, placed_set, up_before}
-use Rattle.set_model.proofs.SoundNew.{link_appended, none_parked, order_fits, backs_appended, back_appended}
-use Rattle.set_model.proofs.Standing.{each_left, each_filter, gone_none, none_standing, ascends_filter}
+use Rattle.set_route.proofs.Places.{raised_sound, settled_sound, left_sound, asked_sound, back_sound}
+use Rattle.set_model.proofs.Backs.{coded_at, backs_moved, back_order_moved, backs_kept}
+use Rattle.set_model.proofs.Events.{apart_on, left, unparked, untouched_self}
+use Rattle.set_model.proofs.Lists.{get_set_same, get_set_other, within}
+use Rattle.set_model.proofs.Moving.{moved_numbered, moved_fit, moved_same, moved_more, moved_nothing}
+use Rattle.set_model.proofs.Order.{order_none}
+use Rattle.set_model.proofs.Places.{unacked_on, held_on, false_true, not_on_waiting, on_not_parked, back_not_on, back_not_parked, code_back, home_back}
+use Rattle.set_model.proofs.Filters.{none_within, fated_none}
+use Rattle.set_model.proofs.Ranging.{not_sent, offered_out}
+use Rattle.set_model.proofs.Targets.{target_up, target_off, target_open, target_unheld, target_elsewhere, none_up}
 use Rattle.set_model.proofs.Walk.{IsAt}
+use Rattle.set_model.proofs.SoundLink.{up_unsettled, settled_down, link_moved, links_by, links_set, placed_set, up_before, up_after}
+use Rattle.set_model.proofs.Finding.{numbered_appended, fit_appended}
+use Rattle.set_model.proofs.SoundNew.{link_appended, none_parked, order_fits, backs_appended}
+use Rattle.set_model.proofs.Standing.{gone_none, none_standing, ascends_appended}
+
+-- A LINK COMES UP.
+module _ (n : ℕ) (link : LinkState) (s : State) (at : IsAt n link Settled s) (t : IsSound s) where
+  abbrev risen_rows : List Row
+  risen_rows = moved is_parked (all_with (Waiting n)) s.rows
+
+  abbrev risen : LinkState
+  risen = risen_link s.settings.method
+
+  empty : on n s.rows ≡ []
+  empty = (t.links n link at.there).settled (ap has_phase_settled at.phase_is)
+
+  risen_one : IsSoundLink s.settings.method n risen risen_rows
+  risen_one =
+      let u = unparked n s.rows in
+      let none : unack n risen_rows ≡ [] = u.unack_same ∙ none_within (is_unacked n) (is_on n) (unacked_on n) s.rows empty in
+      let unheld = none_within (is_held n) (is_on n) (held_on n) s.rows empty in
+      search (arith, none, order_none, u.last_kept, u.held_same)
+
+  risen_there : IsPlaced (slice_set s.links n risen) (On n)
+  risen_there = (risen, get_set_same s.links n risen (within s.links n link at.there), refl)
+
+  risen_placed : (k : ℕ) → k < 16 → IsPlaced (slice_set s.links n risen) (place_of k (raised n s.routing))
+  risen_placed k few = let stays = placed_set s.links n link risen (place_of k s.routing) at.there refl (t.placed k few) in rw ((alone s.routing k t.routing few).raised_place n) (grind (arith, stays, risen_there))
+
+  risen_runs : (j : ℕ) (other : LinkState) → slice_get (slice_set s.links n risen) j ≡ Some other → has_phase_up other.phase ≡ true → (k : ℕ) → k < 16 → place_of k (raised n s.routing) ≢ Nowhere
+  risen_runs j other there up k few = rw ((alone s.routing k t.routing few).raised_place n) (grind arith)
+
+  risen_backs : AreBack (raised n s.routing) risen_rows
+  risen_backs = backs_moved is_parked (all_with (Waiting n)) s.rows (fated_none stands_back (all_with (Waiting n)) (λ x. refl) (standing is_parked s.rows)) (λ code. Unit {0}) s.routing (raised n s.routing) (λ k few code via of e. (via, (alone s.routing k t.routing few).raised_place n ∙ ap (place_raised n (k % s.routing.links) (has_messages k s.routing)) e)) (λ f code e g. tt) t.backs
+
+  pub rises_sound : IsSound (rises n s Settled).state
+  rises_sound =
+      let u = unparked n s.rows in
+      let links = links_set s.settings.method s.links n risen s.rows risen_rows risen_one u.others t.links in
+      let below = within s.links n link at.there in
+      let known : n < s.routing.links = omega (arith, below, t.count, t.routed) in
+      search (raised_sound, length-set, u.kept.numbered, u.kept.fit, risen_placed, risen_runs, up_after, t.homes_up, risen_backs, back_order_moved, fated_none)
+
+-- A LINK IS LEFT BY ITS MESSAGES.
+module _ (n : ℕ) (link : LinkState) (s : State) (at : IsAt n link Down s) (t : IsSound s) where
+  abbrev to_link : Option ℕ
+  to_link = target s.links
+
+  abbrev off_rows : List Row
+  off_rows = moved (is_on n) (all_with (fate_on to_link)) s.rows
+
+  is_down : has_phase_up link.phase ≡ false
+  is_down = ap has_phase_up at.phase_is
+
+  -- it is empty, since the target is another link
+  settled_one : IsSoundLink s.settings.method n (settled_link link) off_rows
+  settled_one =
+      let l = t.links n link at.there in
+      let m = left n (fate_on to_link) s.rows (target_off s.links n (ap link_is_up at.there ∙ is_down)) (target_open to_link) in
+      grind arith
+
+  -- what a link sees of it
+  link_left : (k : ℕ) (other : LinkState) → slice_get (slice_set s.links n (settled_link link)) k ≡ Some other → IsSoundLink s.settings.method k other off_rows
+  link_left = links_by s.settings.method s.links n (settled_link link) off_rows settled_one (λ k other d here. let out = λ (is_down : has_phase_up other.phase ≡ false). target_off s.links k (ap link_is_up here ∙ is_down) in link_moved s.settings.method k other (is_on n) (all_with (fate_on to_link)) s.rows (apart_on n k d)
+      (fated_none (is_unacked k) (all_with (fate_on to_link)) (λ x. not_sent k to_link) (standing (is_on n) s.rows)) (λ u. fated_none (is_held k) (all_with (fate_on to_link)) (λ x. target_unheld to_link k) (standing (is_on n) s.rows)) (λ f. fated_none (is_waiting k) (all_with (fate_on to_link)) (λ x. not_on_waiting k (fate_on to_link) (out f)) (standing (is_on n) s.rows))
+      (λ e. fated_none (is_on k) (all_with (fate_on to_link)) (λ x. out (settled_down other.phase e)) (standing (is_on n) s.rows)) (t.links k other here))
+
+  on_target : (to : Option ℕ) → target s.links ≡ to → IsPlaced (slice_set s.links n (settled_link link)) (place_on to)
+  on_target v0 e = grind (arith, nat_tests, target_up, get_set_other, eqb-false, up_unsettled)
+
+  on_other : (l : ℕ) → (l == n) ≡ false → IsPlaced s.links (On l) → IsPlaced (slice_set s.links n (settled_link link)) (On l)
+  on_other l d p = (p.0, get_set_other s.links n l (settled_link link) (λ same. eqb-false l n d (sym same)) ∙ p.1, p.2)
+
+  over_place : (to : Option ℕ) → target s.links ≡ to → (place : Place) → ((home code via : ℕ) → place ≡ Changing home code via → to ≡ None → ⊥) → IsPlaced s.links place → IsPlaced (slice_set s.links n (settled_link link)) (place_settled n to place)
+  over_place to e Nowhere some p = tt
+  over_place None e (Changing home code via) some p = absurd (some home code via refl refl)
+  over_place (Some r) e (Changing home code via) some p = cond_both (via == n) r via (λ (k : ℕ). IsPlaced (slice_set s.links n (settled_link link)) (On k)) (λ f. on_target (Some r) e) (λ f. on_other via f p)
+  over_place to e (On l) some p = cond_both (l == n) (place_on to) (On l) (IsPlaced (slice_set s.links n (settled_link link))) (λ f. on_target to e) (λ f. on_other l f p)
+
+  target_below : IfSome (target s.links) (λ r. r < s.routing.links)
+  target_below = grind (arith, target_up, within)
+
+  over_backs : AreBack (settled n to_link s.routing) off_rows
+  over_backs = backs_moved (is_on n) (all_with (fate_on to_link)) s.rows (fated_none stands_back (all_with (fate_on to_link)) (λ x. target_elsewhere to_link) (standing (is_on n) s.rows)) (λ code. Unit {0}) s.routing (settled n to_link s.routing) (λ k few code via of e. (via_settled n to_link via, (alone s.routing k t.routing few).settled_place n to_link ∙ ap (place_settled n to_link) e)) (λ f code e g. tt) t.backs
+
+  -- a stream on its way back has a home that is up, so there is a target
+  over_placed : (k : ℕ) → k < 16 → IsPlaced (slice_set s.links n (settled_link link)) (place_of k (settled n (target s.links) s.routing))
+  over_placed k few = rw ((alone s.routing k t.routing few).settled_place n (target s.links)) (over_place (target s.links) refl (place_of k s.routing) (λ home code via e none. grind (arith, nat_tests, coded_at, none_up)) (t.placed k few))
+
+  -- while a link is up there is a target
+  up_then : (k : ℕ) (other : LinkState) → slice_get (slice_set s.links n (settled_link link)) k ≡ Some other → has_phase_up other.phase ≡ true → (parked s.rows ≡ []) × (target s.links ≢ None) × ((j : ℕ) → j < 16 → place_of j s.routing ≢ Nowhere)
+  up_then k other here up =
+      let old = up_before s.links n link (settled_link link) at.there (λ e. absurd cc) k other here up in
+      (t.none_aside k old.0 old.1 old.2, (λ e. false_true (has_phase_up old.0.phase) (none_up s.links k old.0 e old.1) old.2), t.all_run k old.0 old.1 old.2)
+
+  over_parked : (k : ℕ) (other : LinkState) → slice_get (slice_set s.links n (settled_link link)) k ≡ Some other → has_phase_up other.phase ≡ true → parked off_rows ≡ []
+  over_parked k other here up = let b = up_then k other here up in moved_same (is_on n) is_parked (all_with (fate_on to_link)) s.rows (λ x. grind (arith, b.1)) (on_not_parked n) ∙ b.0
+
+  over_runs : (j : ℕ) (other : LinkState) → slice_get (slice_set s.links n (settled_link link)) j ≡ Some other → has_phase_up other.phase ≡ true → (k : ℕ) → k < 16 → place_of k (settled n (target s.links) s.routing) ≢ Nowhere
+  over_runs j other here up k few = let b = up_then j other here up in let runs = b.2 k few in rw ((alone s.routing k t.routing few).settled_place n (target s.links)) (grind (arith, runs))
+
+  pub moves_off_sound : IsSound (moved_over n link s)
+  moves_off_sound =
+      let stays : has_phase_up link.phase ≡ true → has_phase_up (settled_link link).phase ≡ true = false_true (has_phase_up link.phase) is_down in
+      search (settled_sound, link_left, target_below, length-set, moved_numbered, moved_fit, over_placed, over_parked, over_runs, up_after, t.homes_up, over_backs, back_order_moved, fated_none, target_elsewhere)
 
 -- a code in use is below 256
 in_use_below : (r : Routing) → IsRouting r → (code : ℕ) → code_of code r ≡ Asked → code < 256
@@ -41,9 +145,6 @@ up_link n s e = grind arith
 
 -- where a message goes whose stream runs on a link: to wait for it if it's up, else to be held for it
 module _ (s : State) where
-  on_either : (other : Fate → Bool) (via : ℕ) → other (Waiting via) ≡ false → other (Held via) ≡ false → other (fate_at (On via) s) ≡ false
-  on_either other via a b = grind arith
-
   pub up_not_held : (k : ℕ) → is_up k s ≡ true → (p : Place) → is_held k (fate_at p s) ≡ false
   up_not_held k up p = grind arith
 
@@ -76,11 +177,7 @@ module _ (blind : Bool) (n : ℕ) (link : LinkState) (s : State) (at : IsAt n li
   gone other h = gone_none (is_back_to n) fate (λ row. IsBackOf s.routing row row.fate) other (λ x e b. let g = goes x e b in ap (λ (p : Place). other (fate_at p mid)) g.1 ∙ h g.0 g.2) s.rows t.backs
 
   mid_links : (k : ℕ) (other : LinkState) → slice_get mid.links k ≡ Some other → IsSoundLink s.settings.method k other s.rows
-  mid_links =
-      let l = t.links n link at.there in
-      links_set s.settings.method s.links n (left_link blind link) s.rows s.rows
-      (down_sound s.settings.method n (left_link blind link) s.rows refl refl l.window l.counted l.method l.in_order l.held_last)
-      (λ k d. untouched_self k s.rows) t.links
+  mid_links = links_set s.settings.method s.links n (left_link blind link) s.rows s.rows (let l = t.links n link at.there in grind arith) (λ k d. untouched_self k s.rows) t.links
 
   -- a link that is up was so before
   before : (k : ℕ) (other : LinkState) → slice_get mid.links k ≡ Some other → has_phase_up other.phase ≡ true → (old : LinkState) × (slice_get s.links k ≡ Some old) × (has_phase_up old.phase ≡ true)
@@ -90,24 +187,8 @@ module _ (blind : Bool) (n : ℕ) (link : LinkState) (s : State) (at : IsAt n li
   off k f e = back_not_on k f (home_back n f e)
 
   left_link_sound : (k : ℕ) (other : LinkState) → slice_get mid.links k ≡ Some other → IsSoundLink s.settings.method k other new
-  left_link_sound k other there =
-      let l = mid_links k other there in
-      let order = order_moved k (is_back_to n) fate s.rows (λ x. offered_out k _ mid) l.in_order in
-      let held_last = last (has_phase_up other.phase) refl in
-      search (unack_same, held_same, on_same, l.none_held, l.in_range, l.settled)
-    where
-      unack_same : unack k new ≡ unack k s.rows
-      unack_same = moved_same (is_back_to n) (is_unacked k) fate s.rows (λ x. offered_out k _ mid) (λ f e. not_on_unacked k f (off k f e))
-
-      held_same : has_phase_up other.phase ≡ true → held k new ≡ held k s.rows
-      held_same e = moved_same (is_back_to n) (is_held k) fate s.rows (λ x. up_not_held mid k (ap link_is_up there ∙ e) _) (λ f g. not_on_held k f (off k f g))
-
-      last : (b : Bool) → has_phase_up other.phase ≡ b → IsHeldLast k new
-      last true e = last_none k new (held_same e ∙ (mid_links k other there).none_held e)
-      last false e = last_moved k (is_back_to n) fate s.rows (λ x. offered_out k _ mid) (λ x. down_not_waiting mid k (ap link_is_up there ∙ e) _) (mid_links k other there).held_last
-
-      on_same : has_phase_settled other.phase ≡ true → on k new ≡ on k s.rows
-      on_same e = grind (arith, moved_more, gone, append-nil, off)
+  left_link_sound k other there = link_moved s.settings.method k other (is_back_to n) fate s.rows (off k) (fated_none (is_unacked k) fate (λ x. offered_out k _ mid) _) (λ u. fated_none (is_held k) fate (λ x. up_not_held mid k (ap link_is_up there ∙ u) _) _)
+      (λ d. fated_none (is_waiting k) fate (λ x. down_not_waiting mid k (ap link_is_up there ∙ d) _) _) (λ e. gone (is_on k) (λ via p. grind (arith, nat_tests))) (mid_links k other there)
 
   left_parked : (k : ℕ) (other : LinkState) → slice_get mid.links k ≡ Some other → has_phase_up other.phase ≡ true → parked new ≡ []
   left_parked k other there up = grind (arith, nat_tests, before, moved_more, gone)
@@ -123,22 +204,14 @@ module _ (blind : Bool) (n : ℕ) (link : LinkState) (s : State) (at : IsAt n li
       let below = in_use_below mid.routing (left_sound n s.routing t.routing) code e in
       grind (arith, nat_tests, (codes_alone s.routing code t.routing below).left_code n, t.homes_up code, get_set_other)
 
-  left_back : back new ≡ standing (λ f. not (is_back_to n f)) (back s.rows)
-  left_back = moved_off (is_back_to n) stands_back fate s.rows (gone stands_back (λ via p. on_either mid stands_back via refl refl))
+  left_gone : back (map (fated fate) (standing (is_back_to n) s.rows)) ≡ []
+  left_gone = gone stands_back (λ via p. grind arith)
 
   left_backs : AreBack mid.routing new
-  left_backs =
-      backs_of mid.routing new
-      (subst (AreBack mid.routing) (sym left_back) (each_left (is_back_to n) (λ row. IsBackOf s.routing row row.fate) (λ row. IsBackOf mid.routing row row.fate) stays (back s.rows) (each_filter (λ row. IsBackOf s.routing row row.fate) (λ row. stands_back row.fate) s.rows t.backs)))
-    where
-      stays : (x : Row) → is_back_to n x.fate ≡ false → IsBackOf s.routing x x.fate → IsBackOf mid.routing x x.fate
-      stays x e b = stood (λ code. (home_of code == n) ≡ false) s.routing mid.routing (λ k few code via of f. (via, (alone s.routing k t.routing few).left_place n ∙ ap (place_left n) f ∙ cond-false (home_of code == n) (On via) (Changing (home_of code) code via) of)) x x.fate (λ code f. sym (ap (is_back_to n) f) ∙ e) b
-
-  left_order : IsAscending (numbers (back new))
-  left_order = rw left_back (ascends_filter (λ (row : Row). not (is_back_to n row.fate)) (back s.rows) t.back_order)
+  left_backs = backs_moved (is_back_to n) fate s.rows left_gone (λ code. (home_of code == n) ≡ false) s.routing mid.routing (λ k few code via of f. (via, (alone s.routing k t.routing few).left_place n ∙ ap (place_left n) f ∙ cond-false (home_of code == n) (On via) (Changing (home_of code) code via) of)) (λ f code e g. sym (ap (is_back_to n) g) ∙ e) t.backs
 
   pub leaves : IsSound (left_by blind n link s)
-  leaves = search (left_sound, length-set, moved_numbered, moved_fit, left_link_sound, left_placed, left_parked, left_runs, left_homes, left_backs, left_order)
+  leaves = search (left_sound, length-set, moved_numbered, moved_fit, left_link_sound, left_placed, left_parked, left_runs, left_homes, left_backs, back_order_moved, left_gone)
 
 -- A DECLARATION.
 -- the link that it goes out on is up
@@ -158,12 +231,6 @@ module _ (home alternative : ℕ) (s : State) (up : is_up home s ≡ true) (may 
   below : (n : ℕ) → is_up n s ≡ true → n < s.routing.links
   below n e = grind (arith, within)
 
-  home_below : home < s.routing.links
-  home_below = below home up
-
-  alternative_below : alternative < s.routing.links
-  alternative_below = below alternative (ap link_is_up there.1 ∙ there.2)
-
   asked_placed : (k : ℕ) → k < 16 → IsPlaced s.links (place_of k runs)
   asked_placed k few = let p = t.placed k few in rw ((alone s.routing k t.routing few).asked_place home alternative) (grind (arith, p, there, up_unsettled))
 
@@ -172,19 +239,17 @@ module _ (home alternative : ℕ) (s : State) (up : is_up home s ≡ true) (may 
 
   asked_homes : (code : ℕ) → code_of code runs ≡ Asked → is_up (home_of code) s ≡ true
   asked_homes code e =
-      let few : s.routing.links < 17 = let most = t.routing.at_most_16 in omega (arith, most) in
-      let below = in_use_below runs (asked_sound home alternative s.routing home_below alternative_below t.routing) code e in
-      let is = (codes_alone s.routing code t.routing below).asked_code home alternative (omega (arith, few, home_below)) (omega (arith, few, alternative_below)) in
-      grind (arith, nat_tests, is, up, few, alternative_below, t.homes_up code)
+      let low = below home up in
+      let other_low = below alternative (alternative_up home alternative s may) in
+      let in_use = in_use_below runs (asked_sound home alternative s.routing low other_low t.routing) code e in
+      let is = (codes_alone s.routing code t.routing in_use).asked_code home alternative (omega (arith, t.routing.at_most_16, low)) (omega (arith, t.routing.at_most_16, other_low)) in
+      grind (arith, nat_tests, is, up, t.routing.at_most_16, other_low, t.homes_up code)
 
   asked_backs : AreBack runs s.rows
-  asked_backs = backs_kept (λ code. Unit {0}) s.routing runs (λ k few code via of e. (via, (alone s.routing k t.routing few).asked_place home alternative ∙ still k (place_of k s.routing) code via e)) (λ code. tt) s.rows t.backs
-    where
-      still : (k : ℕ) (place : Place) (code via : ℕ) → place ≡ Changing (home_of code) code via → (if (k % s.routing.links == home) && runs_on alternative place then Changing home (code_for home alternative) alternative else place) ≡ Changing (home_of code) code via
-      still k place code via e = rw (e, and_false (k % s.routing.links == home) false refl) refl
+  asked_backs = backs_kept (λ code. Unit {0}) s.routing runs (λ k few code via of e. (via, rw ((alone s.routing k t.routing few).asked_place home alternative, e, and_false (k % s.routing.links == home) false refl) refl)) (λ code. tt) s.rows t.backs
 
   pub declares : IsSound (declared home alternative s)
-  declares = search (asked_sound, home_below, alternative_below, numbered_appended, fit_appended, order_fits, link_appended, there, asked_placed, none_parked, asked_run, asked_homes, backs_appended, asked_backs, back_appended)
+  declares = search (asked_sound, below, alternative_up, numbered_appended, fit_appended, order_fits, link_appended, there, asked_placed, none_parked, asked_run, asked_homes, backs_appended, asked_backs, ascends_appended)
 
 -- WHAT STOOD BACK WAITS FOR ITS HOME.
 module _ (code : ℕ) (s : State) (t : IsSound s) where
@@ -195,36 +260,26 @@ module _ (code : ℕ) (s : State) (t : IsSound s) where
   gone_rows = moved (is_back code) (all_with (Waiting home)) s.rows
 
   -- where its home isn't up nothing stands back by the code
-  pub none_back : is_up home s ≡ false → gone_rows ≡ s.rows
-  none_back down = grind (arith, nat_tests, moved_nothing, none_standing, eqb-true, coded_at, false_true)
+  none_stands : is_up home s ≡ false → standing (is_back code) s.rows ≡ []
+  none_stands down = none_standing (λ row. IsBackOf s.routing row row.fate) (is_back code) (λ x e b. grind (arith, nat_tests, coded_at, t.homes_up)) s.rows t.backs
 
-  abbrev r : Released code home s.rows gone_rows
-  r = released_rows code home s.rows
+  pub none_back : is_up home s ≡ false → gone_rows ≡ s.rows
+  none_back down = moved_nothing (is_back code) (all_with (Waiting home)) s.rows (none_stands down)
+
+  -- none comes to a link that isn't up
+  none_comes : (k : ℕ) (other : LinkState) → slice_get s.links k ≡ Some other → has_phase_up other.phase ≡ false → (test : Fate → Bool) → ((home == k) ≡ false → test (Waiting home) ≡ false) → standing test (map (fated (all_with (Waiting home))) (standing (is_back code) s.rows)) ≡ []
+  none_comes k other there down test out =
+      ⊎_elim (λ e. rw (none_stands (ap (λ (j : ℕ). is_up j s) (eqb-true home k e) ∙ ap link_is_up there ∙ down)) refl) (λ e. fated_none test (all_with (Waiting home)) (λ x. out e) (standing (is_back code) s.rows)) (cases_Bool (home == k))
 
   back_links : (k : ℕ) (other : LinkState) → slice_get s.links k ≡ Some other → IsSoundLink s.settings.method k other gone_rows
-  back_links k other there = go (is_up home s) refl
-    where
-      at_home : is_up home s ≡ true → (home == k) ≡ true → IsSoundLink s.settings.method k other gone_rows
-      at_home up e =
-          let same : home ≡ k = eqb-true home k e in
-          let l = t.links k other there in
-          up_same s.settings.method k other s.rows gone_rows (ap link_is_up (sym there) ∙ ap (λ (j : ℕ). is_up j s) (sym same) ∙ up) (subst (λ (j : ℕ). unack j gone_rows ≡ unack j s.rows) same r.unack_same)
-          (subst (λ (j : ℕ). held j gone_rows ≡ held j s.rows) same r.held_same) (order_moved k (is_back code) (all_with (Waiting home)) s.rows (λ x. refl) l.in_order) l
-
-      go : (b : Bool) → is_up home s ≡ b → IsSoundLink s.settings.method k other gone_rows
-      go false down = subst (λ (rows : List Row). IsSoundLink s.settings.method k other rows) (sym (none_back down)) (t.links k other there)
-      go true up = ⊎_elim (at_home up) (λ e. link_untouched s.settings.method k other s.rows gone_rows (r.others k e) (t.links k other there)) (cases_Bool (home == k))
+  back_links k other there = link_moved s.settings.method k other (is_back code) (all_with (Waiting home)) s.rows (λ f e. back_not_on k f (code_back code f e)) (fated_none (is_unacked k) (all_with (Waiting home)) (λ x. refl) (standing (is_back code) s.rows)) (λ u. fated_none (is_held k) (all_with (Waiting home)) (λ x. refl) (standing (is_back code) s.rows))
+      (λ d. none_comes k other there d (is_waiting k) (λ e. e)) (λ e. none_comes k other there (settled_down other.phase e) (is_on k) (λ f. f)) (t.links k other there)
 
   back_placed : (k : ℕ) → k < 16 → IsPlaced s.links (place_of k (given_back code s.routing))
-  back_placed k few = rw ((alone s.routing k t.routing few).back_place code) (go (place_of k s.routing) refl (t.placed k few))
-    where
-      go : (place : Place) → place_of k s.routing ≡ place → IsPlaced s.links place → IsPlaced s.links (place_back code place)
-      go Nowhere e p = tt
-      go (On l) e p = p
-      go (Changing to c via) e p =
-          let coded = coded_at s.routing k t.routing to c via e in
-          let l = up_link to s (ap (λ (j : ℕ). is_up j s) (sym coded.0) ∙ t.homes_up c coded.1) in
-          cond_both (c == code) (On to) (Changing to c via) (IsPlaced s.links) (λ f. (l.0, l.1, up_unsettled l.0.phase l.2)) (λ f. p)
+  back_placed k few =
+      let there = t.placed k few in
+      let home_there = λ (to c via : ℕ) (e : place_of k s.routing ≡ Changing to c via). let coded = coded_at s.routing k t.routing to c via e in up_link to s (ap (λ (j : ℕ). is_up j s) (sym coded.0) ∙ t.homes_up c coded.1) in
+      rw ((alone s.routing k t.routing few).back_place code) (grind (arith, there, home_there, up_unsettled))
 
   back_runs : (n : ℕ) (link : LinkState) → slice_get s.links n ≡ Some link → has_phase_up link.phase ≡ true → (k : ℕ) → k < 16 → place_of k (given_back code s.routing) ≢ Nowhere
   back_runs n link at up k few = let runs = t.all_run n link at up k few in rw ((alone s.routing k t.routing few).back_place code) (grind (arith, runs))
@@ -232,19 +287,8 @@ module _ (code : ℕ) (s : State) (t : IsSound s) where
   back_homes : (c : ℕ) → code_of c (given_back code s.routing) ≡ Asked → is_up (home_of c) s ≡ true
   back_homes c e = grind (arith, nat_tests, (codes_alone s.routing c t.routing (in_use_below (given_back code s.routing) (back_sound code s.routing t.routing) c e)).back_code code, t.homes_up c)
 
-  back_after : back gone_rows ≡ standing (λ f. not (is_back code f)) (back s.rows)
-  back_after = moved_off (is_back code) stands_back (all_with (Waiting home)) s.rows (fated_none stands_back (all_with (Waiting home)) (λ x. refl) (standing (is_back code) s.rows))
-
   back_backs : AreBack (given_back code s.routing) gone_rows
-  back_backs =
-      backs_of (given_back code s.routing) gone_rows
-      (subst (AreBack (given_back code s.routing)) (sym back_after) (each_left (is_back code) (λ row. IsBackOf s.routing row row.fate) (λ row. IsBackOf (given_back code s.routing) row row.fate) stays (back s.rows) (each_filter (λ row. IsBackOf s.routing row row.fate) (λ row. stands_back row.fate) s.rows t.backs)))
-    where
-      stays : (x : Row) → is_back code x.fate ≡ false → IsBackOf s.routing x x.fate → IsBackOf (given_back code s.routing) x x.fate
-      stays x e b = stood (λ c. (c == code) ≡ false) s.routing (given_back code s.routing) (λ k few c via of f. (via, rw ((alone s.routing k t.routing few).back_place code, f, of) refl)) x x.fate (λ c f. sym (ap (is_back code) f) ∙ e) b
-
-  back_numbers : IsAscending (numbers (back gone_rows))
-  back_numbers = rw back_after (ascends_filter (λ (row : Row). not (is_back code row.fate)) (back s.rows) t.back_order)
+  back_backs = backs_moved (is_back code) (all_with (Waiting home)) s.rows (fated_none stands_back (all_with (Waiting home)) (λ x. refl) (standing (is_back code) s.rows)) (λ c. (c == code) ≡ false) s.routing (given_back code s.routing) (λ k few c via of f. (via, rw ((alone s.routing k t.routing few).back_place code, f, of) refl)) (λ f c e g. sym (ap (is_back code) g) ∙ e) t.backs
 
   pub releases : IsSound (released code s)
-  releases = search (back_sound, moved_numbered, moved_fit, back_links, back_placed, r.parked_same, t.none_aside, back_runs, back_homes, back_backs, back_numbers)
+  releases = search (back_sound, moved_numbered, moved_fit, back_links, back_placed, moved_same, back_not_parked, code_back, t.none_aside, back_runs, back_homes, back_backs, back_order_moved, fated_none)

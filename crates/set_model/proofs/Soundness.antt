@@ -1,97 +1,78 @@
 -- EVERY STEP KEEPS WHAT HOLDS OF EVERY SET'S STATE, and a new set has it.
-use Rattle.std.proofs.Common.{refl, arith, ◌≡◌, ◌∙◌, ap, sym, subst, ℕ, zero, suc, ◌%◌, Bool, true, List, [], ◌∷◌, length, map, slice_get, Some, cond, replicate, slice_index_or}
+use Rattle.std.proofs.Common.{refl, arith, ◌≡◌, ◌∙◌, ap, sym, subst, ℕ, ◌<◌, zero, suc, ◌%◌, Bool, List, [], ◌∷◌, map, slice_get, Some, cond, replicate, slice_index_or}
+use Rattle.std.proofs.lemmas.List.{length-replicate}
 use Rattle.std.proofs.lemmas.Bool.{le-ltb}
-use Rattle.std.proofs.lemmas.Option.{same_Some}
-use Rattle.set_events.specs.declared.event.Event.{Event}
-use Rattle.set_route.specs.declared.place.Place.TheVariants.{Nowhere}
-use Rattle.set_route.specs.declared.place.Code.{Code}
-use Rattle.set_route.specs.declared.place.Code.TheVariants.{Free, Asked}
-use Rattle.set_route.specs.declared.stream.Stream.{Stream}
-use Rattle.set_route.specs.Routing.{new_stream, new_routing, stream_numbers, code_of}
-use Rattle.set_route.proofs.Places.{new_sound}
-use Rattle.set_model.specs.Rows.{numbers}
-use Rattle.set_model.specs.State.{LinkState, State, Settings, new_link, opened_with, has_phase_up}
 use Rattle.set_model.specs.Step.{step}
+use Rattle.set_events.specs.declared.event.Event.{Event}
+use Rattle.set_events.specs.declared.event.Event.TheVariants.{Offer}
+use Rattle.set_route.specs.Routing.{new_stream, stream_numbers}
+use Rattle.set_route.specs.declared.place.Code.{Code}
+use Rattle.set_route.specs.declared.place.Code.TheVariants.{Asked, Free}
+use Rattle.set_route.specs.declared.place.Place.TheVariants.{Nowhere}
+use Rattle.set_route.specs.declared.stream.Stream.{Stream}
 use Rattle.set_model.specs.Laws.{RunsStraight}
-use Rattle.set_model.specs.Sound.{IsSoundLink, IsPlaced, IsSettings, IsSound, IsAsked, AreFew}
+use Rattle.set_model.specs.Rows.{numbers, stream_of}
+use Rattle.set_model.specs.Sound.{AreFew, IsAsked, IsPlaced, IsSettings, IsSound}
+use Rattle.set_model.specs.State.{LinkState, Settings, State, new_link, opened_with}
+use Rattle.set_route.proofs.Places.{new_sound}
 use Rattle.set_model.proofs.Events.{sent_given_up, waiting_given_up}
 use Rattle.set_model.proofs.Places.{false_true, unacked_on, waiting_on}
 use Rattle.set_model.proofs.InPlace.{fewer_changed}
 use Rattle.set_model.proofs.Walk.{KeptBy, step_walks}
-use Rattle.set_model.proofs.SoundBack.{leaves, declares, releases}
+use Rattle.set_model.proofs.SoundBack.{leaves, declares, releases, rises_sound, moves_off_sound}
 use Rattle.set_model.proofs.SoundLink.{with_inbox, acknowledges, gives_up, sends_sound, hears_sound}
 use Rattle.set_model.proofs.SoundNew.{queues, offers}
-use Rattle.set_model.proofs.SoundMoves.{rises_sound, moves_off_sound}
 
 -- THE STEP.
-pub sound_small : (Known : ℕ → Type 0) (May : Type 0) → KeptBy Known May (λ s u. IsSound s → IsSound u)
-sound_small Known May = search (with_inbox, queues, leaves, acknowledges, gives_up, unacked_on, sent_given_up, fewer_changed, waiting_on, waiting_given_up, moves_off_sound, declares, releases)
+pub asked_by : (event : Event) (body : List ℕ) → IsAsked event → event ≡ Offer body → stream_of body < 16
+asked_by event body asked e = subst IsAsked e asked
+
+pub ruleset sounds = (with_inbox, queues, leaves, acknowledges, gives_up, unacked_on, sent_given_up, fewer_changed, waiting_on, waiting_given_up, moves_off_sound, declares, releases, offers, asked_by, sends_sound, hears_sound, rises_sound)
+
+small : (Known : ℕ → Type 0) (May : Type 0) → KeptBy Known May (λ s u. IsSound s → IsSound u)
+small Known May = search sounds
 
 pub step_sound : (s : State) (event : Event) → IsAsked event → IsSound s → IsSound (step s event).state
-step_sound s event asked t = step_walks s (λ a b. IsSound a → IsSound b) IsSound event (record {
-  small = sound_small _ _;
-  unmoved = t;
-  rests = λ a b p q. q p;
-  offers = λ body e none. offers s body (subst IsAsked e asked) none t;
-  takes = λ body rest e there. with_inbox s rest t;
-  sends = λ n link e at. sends_sound n link s at t;
-  hears = λ n unit link e at. hears_sound n link s at t unit;
-  rises = λ n link e at. rises_sound n link s at t;
-})
+step_sound s event asked t = step_walks s (λ a b. IsSound a → IsSound b) IsSound event (search (small, sounds, t))
 
 -- A NEW SET.
 get_or_replicate : (n : ℕ) (c : Code) (k : ℕ) → slice_index_or (replicate n c) k c ≡ c
 get_or_replicate zero c k = refl
-get_or_replicate (suc n) c zero = refl
-get_or_replicate (suc n) c (suc k) = get_or_replicate n c k
+get_or_replicate (suc n) c k = grind (arith, get_or_replicate n c)
 
 new_there : (k n : ℕ) (link other : LinkState) → slice_get (replicate k link) n ≡ Some other → other ≡ link
 new_there zero n link other e = absurd cc
-new_there (suc k) zero link other e = sym (same_Some link other e)
+new_there (suc k) zero link other e = grind arith
 new_there (suc k) (suc n) link other e = new_there k n link other e
-
-new_length : (k : ℕ) (link : LinkState) → length (replicate k link) ≡ k
-new_length zero link = refl
-new_length (suc k) link = ap suc (new_length k link)
 
 new_place : (links : ℕ) (numbers : List ℕ) (stream : ℕ) → slice_index_or (map (λ (s : Stream). s.place) (map (λ s. new_stream (s % links)) numbers)) stream Nowhere ≡ Nowhere
 new_place links [] stream = refl
-new_place links (n ∷ numbers) zero = refl
-new_place links (n ∷ numbers) (suc stream) = new_place links numbers stream
-
-opened_free : (links code : ℕ) → code_of code (new_routing links) ≡ Free
-opened_free links code = get_or_replicate 256 Free code
+new_place links (n ∷ numbers) stream = grind (arith, new_place links numbers)
 
 module _ (settings : Settings) (is : IsSettings settings) where
   new_one : (n : ℕ) (link : LinkState) → slice_get (replicate settings.links (new_link settings.method)) n ≡ Some link → link ≡ new_link settings.method
   new_one n link there = new_there settings.links n (new_link settings.method) link there
-
-  new_sound_link : (n : ℕ) → IsSoundLink settings.method n (new_link settings.method) []
-  new_sound_link n = grind arith
-
-  none_rises : {P : Type 0} (n : ℕ) (link : LinkState) → slice_get (replicate settings.links (new_link settings.method)) n ≡ Some link → has_phase_up link.phase ≡ true → P
-  none_rises n link there rising = false_true (has_phase_up link.phase) (ap (λ (l : LinkState). has_phase_up l.phase) (new_one n link there)) rising
 
   pub opened_sound : IsSound (opened_with settings)
   opened_sound = record {
     managed = is.managed;
     routing = new_sound settings.links is.some_link is.at_most_16;
     routed = refl;
-    count = new_length settings.links (new_link settings.method);
+    count = length-replicate settings.links (new_link settings.method);
     numbered = λ number. sym (ap (λ (b : Bool). cond b 1 0) (le-ltb number 0 (omega arith)));
     fit = tt;
-    links = λ n link there. rw (new_one n link there) (new_sound_link n);
+    links = λ n link there. rw (new_one n link there) (grind arith);
     placed = λ stream low. subst (IsPlaced _) (sym (new_place settings.links stream_numbers stream)) tt;
     none_aside = λ n link there rising. refl;
-    all_run = λ n link there rising. none_rises n link there rising;
-    homes_up = λ code e. let no : Free ≡ Asked = sym (opened_free settings.links code) ∙ e in absurd cc;
+    all_run = λ n link there rising. grind (arith, new_one);
+    homes_up = λ code e. let no : Free ≡ Asked = sym (get_or_replicate 256 Free code) ∙ e in absurd cc;
     backs = tt;
     back_order = tt;
   }
 
   -- no changeback is under way
   pub opened_straight : RunsStraight (opened_with settings)
-  opened_straight = search opened_free
+  opened_straight = search get_or_replicate
 
   pub opened_few : AreFew 0 (opened_with settings)
   opened_few n link there = rw (new_one n link there) (record { sent = omega arith; accepted = omega arith })

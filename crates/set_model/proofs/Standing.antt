@@ -1,10 +1,13 @@
 -- FACTS OF EACH ROW, and what changes of rows do to them.
-use Rattle.std.proofs.Common.{arith, refl, ◌≡◌, ℕ, Bool, true, false, not, List, [], ◌∷◌, ◌++◌, length, map}
+use Rattle.std.proofs.Common.{arith, refl, ◌≡◌, ◌<◌, ℕ, suc, Bool, true, false, not, List, [], ◌∷◌, ◌++◌, length, map, slice_get, Some}
 use Rattle.std.specs.Prelude.{filter}
+use Rattle.std.proofs.lemmas.List.{append-nil, map-append}
+use Rattle.std.proofs.lemmas.List.Elements.{filter-append}
 use Rattle.set_events.specs.declared.answer.Fate.{Fate}
-use Rattle.set_model.specs.Rows.{Row, standing, numbers, fated, appended, Each}
+use Rattle.set_model.specs.Rows.{Each, IsNumbered, Row, appended, fated, numbers, standing}
 use Rattle.set_model.specs.Sound.{AreAbove, IsAscending}
 use Rattle.set_model.proofs.Finding.{new_row}
+use Rattle.set_model.proofs.Lookups.{found_by_number}
 
 pub each_so : (P Q : Row → Type 0) → ((x : Row) → P x → Q x) → (rows : List Row) → Each P rows → Each Q rows
 each_so P Q so [] e = tt
@@ -44,8 +47,24 @@ above_filter k p (x ∷ rows) a = grind (arith, above_filter k p rows a.1)
 
 pub ascends_filter : (p : Row → Bool) (rows : List Row) → IsAscending (numbers rows) → IsAscending (numbers (filter p rows))
 ascends_filter p [] a = tt
-ascends_filter p (x ∷ rows) a = go (p x) refl (ascends_filter p rows a.1)
+ascends_filter p (x ∷ rows) a = grind (arith, above_filter x.number p rows a.0, ascends_filter p rows a.1)
+
+-- a number above all others stands last
+ascends_end : (k : ℕ) (ns : List ℕ) → ((i m : ℕ) → slice_get ns i ≡ Some m → m < k) → IsAscending ns → IsAscending (ns ++ k ∷ [])
+ascends_end k [] below a = (tt, tt)
+ascends_end k (n ∷ ns) below a = (above_end ns a.0, ascends_end k ns (λ i m e. below (suc i) m e) a.1)
   where
-    go : (b : Bool) → p x ≡ b → IsAscending (numbers (filter p rows)) → IsAscending (numbers (filter p (x ∷ rows)))
-    go true h e = rw h (above_filter x.number p rows a.0, e)
-    go false h e = rw h e
+    above_end : (ms : List ℕ) → AreAbove n ms → AreAbove n (ms ++ k ∷ [])
+    above_end [] b = (below 0 n refl, tt)
+    above_end (m ∷ ms) b = (b.0, above_end ms b.1)
+
+-- as that of a new message does
+pub ascends_appended : (p : Row → Bool) (rows : List Row) (body : List ℕ) (fate : Fate) → IsNumbered rows → IsAscending (numbers (filter p rows)) → IsAscending (numbers (filter p (appended rows body fate)))
+ascends_appended p rows body fate numbered a = go (p x) refl
+  where
+    x : Row
+    x = new_row (length rows) body fate
+
+    go : (b : Bool) → p x ≡ b → IsAscending (numbers (filter p (appended rows body fate)))
+    go true h = rw (filter-append p rows (x ∷ []), h, map-append) (ascends_end (length rows) (numbers (filter p rows)) (λ i m e. (found_by_number p rows i m numbered e).below) a)
+    go false h = rw (filter-append p rows (x ∷ []), h, append-nil) a

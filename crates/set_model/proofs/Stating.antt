@@ -1,14 +1,13 @@
 -- The laws of the list of rows.
-use Rattle.std.proofs.Common.{refl, arith, ◌≡◌, ap, ◌<◌, [], ◌∷◌, length, ℕ, Bool, ◌==◌, List, ◌++◌, Some}
-use Rattle.std.specs.Option.{option_map}
+use Rattle.std.proofs.Common.{refl, arith, ◌≡◌, [], ◌∷◌, ℕ, Bool, List, ◌++◌, Some}
 use Rattle.std.proofs.lemmas.List.{drop_at}
 use Rattle.set_events.specs.declared.answer.Fate.{Fate}
-use Rattle.set_model.specs.Rows.{Row, turned, changed, appended, row_of, IsNumbered}
-use Rattle.set_model.specs.Laws.{SameMessages, MessagesStay, MovesTheLinksRows}
+use Rattle.set_model.specs.Laws.{MessagesStay, MovesTheLinksRows, SameMessages}
+use Rattle.set_model.specs.Rows.{IsNumbered, Row, changed, row_of, turned}
 use Rattle.set_model.proofs.Filters.{both_lengths}
 use Rattle.set_model.proofs.InPlace.{InPlace, turned_there, changed_there}
 use Rattle.set_model.proofs.Moving.{moved_length, moved_numbered}
-use Rattle.set_model.proofs.Finding.{new_row, is_found, numbered_appended, with_number, same_numbers}
+use Rattle.set_model.proofs.Finding.{is_found, numbered_appended, with_number, same_numbers}
 use Rattle.set_model.proofs.Lookups.{no_rows, body_moved, place_moved}
 use Rattle.set_model.proofs.Events.{numbers_fated}
 
@@ -21,22 +20,16 @@ found_after : (number : ℕ) (rows more : List Row) → with_number number rows 
 found_after number [] more e = refl
 found_after number (y ∷ rows) more e = grind (arith, found_after number rows more)
 
-pub row_stays : (number : ℕ) (rows : List Row) (body : List ℕ) (fate : Fate) → IsNumbered rows → number < length rows → row_of number (appended rows body fate) ≡ row_of number rows
-row_stays number rows body fate numbered below = grind (arith, is_found, found_first)
-
-pub row_new : (rows : List Row) (body : List ℕ) (fate : Fate) → IsNumbered rows → row_of (length rows) (appended rows body fate) ≡ Some (new_row (length rows) body fate)
-row_new rows body fate numbered = grind (arith, no_rows, found_after)
-
 in_place_stays : (test : Fate → Bool) (rows new : List Row) → IsNumbered rows → InPlace test rows new → SameMessages rows new
-in_place_stays test rows new numbered i = record { count = i.count; bodies = i.bodies; numbered = same_numbers rows new i.count (λ number. i.as_many (λ (row : Row). row.number == number) (λ f x. refl)) numbered }
+in_place_stays test rows new numbered i = search (i.count, i.bodies, same_numbers, i.as_many, numbered)
 
 pub messages_stay : (test : Fate → Bool) (to : Fate) (fate : Row → Fate) (rows : List Row) → IsNumbered rows → MessagesStay test to fate rows
 messages_stay test to fate rows numbered = record {
   turned_stay = λ n. in_place_stays test rows (turned test to n rows) numbered (turned_there test to n rows);
   changed_stay = in_place_stays test rows (changed test to rows) numbered (changed_there test to rows);
-  moved_stay = record { count = moved_length test fate rows; bodies = λ number. body_moved test fate number rows numbered; numbered = moved_numbered test fate rows numbered };
-  others_stay = λ body number below. ap (option_map (λ (r : Row). r.body)) (row_stays number rows body to numbered below);
-  new_found = λ body. ap (option_map (λ (r : Row). r.body)) (row_new rows body to numbered);
+  moved_stay = search (moved_length, body_moved, moved_numbered);
+  others_stay = λ body number below. grind (arith, is_found, found_first);
+  new_found = λ body. grind (arith, no_rows, found_after);
   appended_numbered = λ body. numbered_appended rows body to numbered;
 }
 

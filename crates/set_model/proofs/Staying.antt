@@ -1,79 +1,79 @@
--- What no event does to a message.
-use Rattle.std.proofs.Common.{refl, arith, ◌≡◌, ◌≤◌, ◌<◌, length, ℕ, List, Bool, false}
+-- WHAT NO EVENT DOES to a message; and only what users offer counts as a new one.
+use Rattle.std.proofs.Common.{arith, ◌≡◌, ◌∙◌, ap, sym, ◌≤◌, ◌<◌, length, ℕ, ◌==◌, Bool, true, false, List}
 use Rattle.std.proofs.lemmas.List.{length_push}
+use Rattle.set_model.specs.Step.{step, rows_sent}
+use Rattle.l3_orders.specs.Grammar.{text}
+use Rattle.l3_orders.specs.declared.order.Order.{Order}
 use Rattle.set_events.specs.declared.answer.Fate.{Fate}
 use Rattle.set_events.specs.declared.event.Event.{Event}
-use Rattle.l3_orders.specs.Grammar.{text}
-use Rattle.set_model.specs.Rows.{Row, is_on, is_back, is_back_to, moved, appended, body_at, IsNumbered}
-use Rattle.set_model.specs.State.{State, target}
+use Rattle.set_events.specs.declared.event.Event.TheVariants.{Offer}
+use Rattle.set_route.specs.Routing.{Routing}
+use Rattle.set_route.specs.declared.place.Place.{Place}
 use Rattle.set_model.specs.Control.{Choice, first}
-use Rattle.set_model.specs.Changeover.{fate_on}
-use Rattle.set_model.specs.Step.{rows_sent, step}
 use Rattle.set_model.specs.Laws.{KeepsMessages}
-use Rattle.set_model.proofs.Events.{Kept, sent, acknowledged, sent_given_up, waiting_given_up, unparked}
+use Rattle.set_model.specs.Rows.{IsNumbered, Row, appended, body_at, counts_of, is_unacked, is_waiting, service_indicator, total_of, was_acked}
+use Rattle.set_model.specs.Sound.{IsManaged}
+use Rattle.set_model.specs.State.{Settings, State, fate_at}
+use Rattle.set_model.proofs.Counting.{total_appended, acked_appended}
+use Rattle.set_model.proofs.Events.{Kept, kept_self, turned_kept, changed_kept, moved_kept}
 use Rattle.set_model.proofs.Finding.{new_row, numbered_appended}
-use Rattle.set_model.proofs.Lookups.{body_moved}
-use Rattle.set_model.proofs.Moving.{moved_length, moved_numbered}
+use Rattle.set_model.proofs.Places.{on_not_acked, parked_not_acked, back_not_acked, home_back, code_back}
 use Rattle.set_model.proofs.Stating.{messages_stay}
-use Rattle.set_model.proofs.Walk.{KeptBy, step_walks}
+use Rattle.set_model.proofs.Targets.{target_open}
+use Rattle.set_model.proofs.Walk.{step_walks}
 
--- rows of the same messages, with new ones or none
-pub record Stays (rows new : List Row) : Type 0 where
-  pub count : length rows ≤ length new
-  pub bodies : IsNumbered rows → (number : ℕ) → number < length rows → body_at number new ≡ body_at number rows
-  pub numbered : IsNumbered rows → IsNumbered new
+abbrev pub is_offer : Event → Bool
+is_offer (Offer body) = true
+is_offer _ = false
 
-stays_self : (rows : List Row) → Stays rows rows
-stays_self rows = record { count = omega arith; bodies = λ numbered number below. refl; numbered = λ numbered. numbered }
+-- a state with the messages of another one, and new ones or none: where Free, none of a user
+pub record Grows (Free : Type 0) (s t : State) : Type 0 where
+  pub settings_same : t.settings ≡ s.settings
+  pub count : length s.rows ≤ length t.rows
+  pub bodies : IsNumbered s.rows → (number : ℕ) → number < length s.rows → body_at number t.rows ≡ body_at number s.rows
+  pub numbered : IsNumbered s.rows → IsNumbered t.rows
+  pub acked : (counts_of s.rows).acked ≤ (counts_of t.rows).acked
+  pub total : Free → IsManaged s.settings → total_of (counts_of t.rows) ≡ total_of (counts_of s.rows)
 
-stays_then : (rows mid new : List Row) → Stays rows mid → Stays mid new → Stays rows new
-stays_then rows mid new a b = grind arith
+module _ (Free : Type 0) where
+  grows_then : (a b c : State) → Grows Free a b → Grows Free b c → Grows Free a c
+  grows_then a b c p q = grind arith
 
-stays_kept : (rows new : List Row) → Kept rows new → Stays rows new
-stays_kept rows new k = let same = k.count in record { count = omega (arith, same); bodies = λ numbered number below. k.bodies numbered number; numbered = k.numbered }
+  grows_kept : (s t : State) → t.settings ≡ s.settings → Kept s.rows t.rows → Grows Free s t
+  grows_kept s t same k = grind arith
 
-stays_moved : (test : Fate → Bool) (fate : Row → Fate) (rows : List Row) → Stays rows (moved test fate rows)
-stays_moved test fate rows = grind (arith, moved_length, body_moved, moved_numbered)
+  grows_appended : (s : State) (routing : Routing) (body : List ℕ) (fate : Fate) → (Free → IsManaged s.settings → (service_indicator body == 0) ≡ true) → Grows Free s (record s { rows = appended s.rows body fate; routing = routing })
+  grows_appended s routing body fate order =
+      let longer = length_push s.rows (new_row (length s.rows) body fate) in
+      let stay = λ (numbered : IsNumbered s.rows). (messages_stay (λ f. false) fate (λ row. fate) s.rows numbered).others_stay body in
+      let same = λ (free : Free) (managed : IsManaged s.settings). let is = order free managed in total_appended s.rows body fate in
+      grind (arith, longer, stay, same, numbered_appended, acked_appended, order)
 
-stays_appended : (rows : List Row) (body : List ℕ) (fate : Fate) → Stays rows (appended rows body fate)
-stays_appended rows body fate =
-    let longer = length_push rows (new_row (length rows) body fate) in
-    record {
-      count = omega (arith, longer);
-      bodies = λ numbered number below. (messages_stay (λ f. false) fate (λ row. fate) rows numbered).others_stay body number below;
-      numbered = numbered_appended rows body fate;
-    }
+-- an order is the management's
+order_managed : (order : Order) (settings : Settings) → IsManaged settings → (service_indicator (text order settings.sio settings.dpc settings.opc) == 0) ≡ true
+order_managed order settings m = grind arith
 
-sent_stays : (choice : Choice) (n : ℕ) (rows : List Row) → Stays rows (rows_sent choice n rows)
-sent_stays first n rows = stays_kept _ _ (sent n rows).kept
-sent_stays _ n rows = stays_self rows
+-- where a message goes whose stream runs there, it isn't acknowledged
+fate_open : (p : Place) (s : State) → was_acked (fate_at p s) ≡ false
+fate_open p s = grind arith
 
-small : (Known : ℕ → Type 0) (May : Type 0) → KeptBy Known May (λ s t. Stays s.rows t.rows)
-small Known May = record {
-  same = λ s. stays_self s.rows;
-  after = λ a b c p q. stays_then a.rows b.rows c.rows p q;
-  delivers = λ body s. stays_self s.rows;
-  queues = λ order s. stays_appended s.rows (text order s.settings.sio s.settings.dpc s.settings.opc) (fate_on (target s.links));
-  leaves = λ blind n link s known at. stays_moved (is_back_to n) _ s.rows;
-  acknowledges = λ count n link s known at few. stays_kept _ _ (acknowledged n count s.rows).kept;
-  gives_up_sent = λ cause n link s known at. stays_kept _ _ (sent_given_up n cause s.rows).kept;
-  gives_up_waiting = λ cause n link s known at. stays_kept _ _ (waiting_given_up n cause s.rows).kept;
-  moves_off = λ n link s known at. stays_moved (is_on n) _ s.rows;
-  declares = λ may home alternative s up can. stays_appended s.rows _ _;
-  releases = λ code s known. stays_moved (is_back code) _ s.rows;
-}
+unacked_open : (n : ℕ) (f : Fate) → is_unacked n f ≡ true → was_acked f ≡ false
+unacked_open n f e = grind arith
 
-pub step_stays : (s : State) (event : Event) → Stays s.rows (step s event).state.rows
-step_stays s event = step_walks s (λ t u. Stays t.rows u.rows) (λ t. Stays s.rows t.rows) event (record {
-  small = small _ _;
-  unmoved = stays_self s.rows;
-  rests = λ t u p q. stays_then s.rows t.rows u.rows p q;
-  offers = λ body e none. stays_appended s.rows body _;
-  takes = λ body rest e there. stays_self s.rows;
-  sends = λ n link e at. sent_stays _ n s.rows;
-  hears = λ n unit link e at. stays_kept _ _ (acknowledged n _ s.rows).kept;
-  rises = λ n link e at. stays_kept _ _ (unparked n s.rows).kept;
-})
+waiting_open : (n : ℕ) (f : Fate) → is_waiting n f ≡ true → was_acked f ≡ false
+waiting_open n f e = grind arith
+
+sent_kept : (choice : Choice) (n : ℕ) (rows : List Row) → Kept rows (rows_sent choice n rows)
+sent_kept first n rows = search (turned_kept, waiting_open)
+sent_kept _ n rows = kept_self rows
+
+none_offered : (event : Event) (body : List ℕ) → event ≡ Offer body → is_offer event ≡ false → (service_indicator body == 0) ≡ true
+none_offered event body e other = absurd (let no : true ≡ false = sym (ap is_offer e) ∙ other in cc)
+
+ruleset grows = (grows_then, grows_kept, grows_appended, order_managed, turned_kept, changed_kept, moved_kept, sent_kept, kept_self, unacked_open, waiting_open, on_not_acked, target_open, parked_not_acked, back_not_acked, home_back, code_back, fate_open, none_offered)
+
+pub step_grows : (s : State) (event : Event) → Grows (is_offer event ≡ false) s (step s event).state
+step_grows s event = step_walks s (Grows (is_offer event ≡ false)) (Grows (is_offer event ≡ false) s) event (search grows)
 
 pub keeps_messages : (s : State) (event : Event) → IsNumbered s.rows → KeepsMessages s.rows (step s event).state.rows
-keeps_messages s event numbered = let t = step_stays s event in record { count = t.count; bodies = t.bodies numbered; numbered = t.numbered numbered }
+keeps_messages s event numbered = grind (arith, step_grows)

@@ -1,8 +1,8 @@
 -- The sealed step is its cases.
 use Rattle.std.proofs.Common.{refl, ◌≡◌}
+use Rattle.set_model.specs.Step.{stepped, step}
 use Rattle.set_events.specs.declared.event.Event.{Event}
 use Rattle.set_model.specs.State.{State}
-use Rattle.set_model.specs.Step.{stepped, step}
 
 pub step_is : (s : State) (event : Event) → step s event ≡ stepped s event
 unfolding step

@@ -1,130 +1,229 @@
--- WHILE NO CHANGEBACK IS UNDER WAY the messages of each stream stay together, where it runs.
-use Rattle.std.proofs.Common.{refl, arith, ◌≡◌, ◌∙◌, ap, sym, ◌<◌, ℕ, ◌%◌, ◌==◌, Bool, true, false, not, ◌&&◌, ◌||◌, List, length, Option, None}
-use Rattle.std.proofs.lemmas.Bool.{cond_both, eqb-true}
+-- WHILE NO CHANGEBACK IS UNDER WAY the messages of each stream stay together, where it runs, and in the order of their
+-- numbers: leaving a link changes nothing but that link, and what is acknowledged by a code nothing at all.
+use Rattle.std.proofs.Common.{refl, arith, ◌≡◌, ◌∙◌, ap, sym, ℕ, Bool, true, false, not, ◌&&◌, List, [], ◌∷◌, length, map, cond, ◌<◌, ◌%◌, ◌==◌, ◌||◌, Option, None}
+use Rattle.std.proofs.lemmas.List.{append-nil, map-append}
+use Rattle.std.proofs.lemmas.List.Elements.{filter-append}
 use Rattle.l3_orders.specs.declared.order.Order.{Order}
-use Rattle.l3_orders.specs.Grammar.{text}
 use Rattle.set_events.specs.declared.answer.Fate.{Fate}
-use Rattle.set_events.specs.declared.answer.Fate.TheVariants.{Waiting, Acked}
+use Rattle.set_events.specs.declared.answer.Fate.TheVariants.{Unacked, Waiting}
 use Rattle.set_events.specs.declared.event.Event.{Event}
 use Rattle.set_route.specs.declared.place.Place.{Place}
-use Rattle.set_route.specs.declared.place.Place.TheVariants.{On, Changing, Nowhere}
-use Rattle.set_route.specs.Routing.{NoneOpen, settled, place_of, has_messages, place_raised, place_settled, place_on}
-use Rattle.set_route.proofs.Alone.{alone}
-use Rattle.set_route.proofs.Quiet.{never_changing}
-use Rattle.set_model.specs.Rows.{Row, is_unacked, is_on, is_parked, is_users, stream_of, moved, all_with}
-use Rattle.set_model.specs.State.{State, fate_at, target}
-use Rattle.set_model.specs.Changeover.{fate_on, queued}
-use Rattle.set_model.specs.Control.{Choice, again, first, fill}
-use Rattle.set_model.specs.Step.{offered, rows_sent, step}
-use Rattle.set_model.specs.Sound.{is_unfinished, stands_at, is_live, IsManaged, IsSoundStream, IsSound, AreTogether, BeginsNone, IsAsked}
+use Rattle.set_route.specs.declared.place.Place.TheVariants.{Changing, Nowhere, On}
+use Rattle.set_model.specs.Changeover.{fate_on, left_by, queued, released}
+use Rattle.set_model.specs.Control.{Choice, first}
 use Rattle.set_model.specs.Laws.{RunsStraight}
+use Rattle.set_model.specs.Rows.{IsNumbered, Row, all_with, appended, changed, fated, is_back, is_back_to, is_on, is_parked, is_waiting, moved, numbers, standing, stands_back, stream_of, turned, with_fate}
+use Rattle.set_model.specs.Sound.{AreAbove, AreTogether, BeginsNone, IsAscending, IsAsked, IsBackOf, IsSound, IsSoundStream, astray, is_astray, is_live, is_unfinished, live, stands_at}
+use Rattle.set_model.specs.State.{LinkState, State, fate_at, target}
+use Rattle.set_model.specs.declared.phase.Phase.TheVariants.{Up}
+use Rattle.set_model.proofs.Filters.{filter_within, none_within}
 use Rattle.set_model.proofs.Finding.{new_row}
-use Rattle.set_model.proofs.Live.{stream_turned, stream_changed, stream_sent, stream_appended, stream_goes, stream_remains, stream_empty}
-use Rattle.set_model.proofs.Places.{itself, apart_back, on_other, on_not_parked, parked_not_on}
-use Rattle.set_model.proofs.Plain.{PlainKept, Quietly, plain_walks}
+use Rattle.set_model.proofs.InPlace.{where_turned, where_changed}
+use Rattle.set_model.proofs.Standing.{ascends_appended, none_standing}
+use Rattle.set_model.proofs.Places.{false_true, itself, on_not_parked, code_back, home_back}
+use Rattle.std.proofs.lemmas.Bool.Decides.{nat_tests}
+use Rattle.std.proofs.lemmas.Bool.{cond_both}
+use Rattle.set_route.specs.Routing.{settled, runs_on, NoneOpen, has_messages, place_of, place_raised, place_settled, raised}
+use Rattle.set_model.specs.Step.{step, offered, rows_sent}
+use Rattle.set_route.proofs.Alone.{alone}
+use Rattle.set_route.proofs.Quiet.{left_quiet, back_quiet, never_changing}
+use Rattle.set_model.proofs.Moving.{moved_nothing}
+use Rattle.set_model.proofs.SoundBack.{leaves as leaves_sound, releases as releases_sound}
+use Rattle.set_model.proofs.Soundness.{sounds}
+use Rattle.set_model.proofs.Walk.{IsAt, step_walks}
 
--- NO STREAM IS ON ITS WAY BACK.
-never : (s : State) → IsSound s → NoneOpen s.routing → (k to code via : ℕ) → place_of k s.routing ≡ Changing to code via → ⊥
-never s t none k to code via e = never_changing k to code via s.routing t.routing none e
+alive_of : (a b : Bool) → (a && b) ≡ true → a ≡ true
+alive_of a b e = grind arith
+
+-- ROWS THAT CHANGE IN THEIR PLACES: no more are live than before, nor astray.
+record Less (xs ys away gone : List Row) : Type 0 where
+  pub above : (k : ℕ) → AreAbove k (numbers xs) → AreAbove k (numbers ys)
+  pub ascends : IsAscending (numbers xs) → IsAscending (numbers ys)
+  pub none : xs ≡ [] → ys ≡ []
+  pub none_away : away ≡ [] → gone ≡ []
+
+less_one : (b b' c c' : Bool) (x y : Row) (xs ys away gone : List Row) → y.number ≡ x.number → (b' ≡ true → b ≡ true) → (c' ≡ true → c ≡ true) → Less xs ys away gone → Less (cond b (x ∷ xs) xs) (cond b' (y ∷ ys) ys) (cond c (x ∷ away) away) (cond c' (y ∷ gone) gone)
+less_one b b' c c' x y xs ys away gone same live there p = record {
+  above = λ k a. grind (arith, p.above k);
+  ascends = λ a. grind (arith, p.above x.number);
+  none = λ e. grind arith;
+  none_away = λ e. grind arith;
+}
+
+-- where one gets the fate it's finished, or stays where it is
+abbrev pub Fits : Place → (Fate → Bool) → Fate → Type 0
+Fits place test fate =
+    (f : Fate) → test f ≡ true → is_unfinished fate ≡ true
+    → (is_unfinished f ≡ true) × (stands_at place f ≡ stands_at place fate)
+
+pub fits_finished : (place : Place) (test : Fate → Bool) (fate : Fate) → is_unfinished fate ≡ false → Fits place test fate
+fits_finished place test fate done f e alive = false_true (is_unfinished fate) done alive
+
+module _ (stream : ℕ) (place : Place) (test : Fate → Bool) (fate : Fate) (fits : Fits place test fate) where
+  abbrev Fewer : List Row → List Row → Type 0
+  Fewer xs ys = Less (live stream xs) (live stream ys) (astray stream place xs) (astray stream place ys)
+
+  one_same : (x y : Row) (xs ys : List Row) → y.number ≡ x.number → (is_live stream y ≡ true → is_live stream x ≡ true) → (is_astray stream place y ≡ true → is_astray stream place x ≡ true) → Fewer xs ys → Fewer (x ∷ xs) (y ∷ ys)
+  one_same x y xs ys = less_one (is_live stream x) (is_live stream y) (is_astray stream place x) (is_astray stream place y) x y (live stream xs) (live stream ys) (astray stream place xs) (astray stream place ys)
+
+  turns : (x : Row) (xs ys : List Row) → test x.fate ≡ true → Fewer xs ys → Fewer (x ∷ xs) (with_fate fate x ∷ ys)
+  turns x xs ys t p = one_same x (with_fate fate x) xs ys refl (λ e. grind (arith, fits)) (λ e. grind (arith, fits)) p
+
+  finished : (used : Bool) (xs ys : List Row) → Fewer xs ys → IsSoundStream stream place used xs → IsSoundStream stream place used ys
+  finished used xs ys p t = record { in_order = p.ascends t.in_order; together = p.none_away t.together; unused = λ e. p.none (t.unused e) }
+
+  pub stream_turned : (used : Bool) (n : ℕ) (rows : List Row) → IsSoundStream stream place used rows → IsSoundStream stream place used (turned test fate n rows)
+  stream_turned used n rows = finished used rows (turned test fate n rows) (where_turned test fate Fewer (grind arith) (λ x xs ys. one_same x x xs ys refl (λ e. e) (λ e. e)) turns n rows)
+
+  pub stream_changed : (used : Bool) (rows : List Row) → IsSoundStream stream place used rows → IsSoundStream stream place used (changed test fate rows)
+  stream_changed used rows = finished used rows (changed test fate rows) (where_changed test fate Fewer (grind arith) (λ x xs ys. one_same x x xs ys refl (λ e. e) (λ e. e)) turns rows)
+
+-- A NEW MESSAGE has a number above all others.
+pub stream_appended : (stream : ℕ) (place : Place) (used used' : Bool) (rows : List Row) (body : List ℕ) (fate : Fate) → IsNumbered rows → IsSoundStream stream place used rows → (is_live stream (new_row (length rows) body fate) ≡ true → (stands_at place fate ≡ true) × (used' ≡ true)) → (used' ≡ false → used ≡ false) → IsSoundStream stream place used' (appended rows body fate)
+stream_appended stream place used used' rows body fate numbered t fits grows = record {
+  in_order = ascends_appended (is_live stream) rows body fate numbered t.in_order;
+  together = rw (filter-append (is_astray stream place) rows (new_row (length rows) body fate ∷ []), t.together) (grind (arith, fits));
+  unused = λ e. rw (filter-append (is_live stream) rows (new_row (length rows) body fate ∷ []), t.unused (grows e)) (grind (arith, fits));
+}
+
+-- the same numbers
+no_numbers : (xs ys : List Row) → numbers ys ≡ numbers xs → xs ≡ [] → ys ≡ []
+no_numbers xs [] e none = refl
+no_numbers xs (y ∷ ys) e none = absurd (let no : y.number ∷ numbers ys ≡ [] = e ∙ ap numbers none in cc)
+
+pub same_stream : (stream : ℕ) (place place' : Place) (used : Bool) (xs ys : List Row) → numbers (live stream ys) ≡ numbers (live stream xs) → astray stream place' ys ≡ [] → IsSoundStream stream place used xs → IsSoundStream stream place' used ys
+same_stream stream place place' used xs ys same away t = grind (arith, no_numbers)
+
+-- a live row that isn't astray stands there
+stands_there : (live there : Bool) (x : Row) (xs : List Row) → live ≡ true → cond (live && not there) (x ∷ xs) xs ≡ [] → there ≡ true
+stands_there live there x xs l e = grind arith
+
+-- ROWS THAT MOVE: all live ones of a stream do, or none.
+module _ (stream : ℕ) (place place' : Place) (test : Fate → Bool) (to : Fate) (goes : Bool) (open_there : (f : Fate) → test f ≡ true → is_unfinished f ≡ true) (open_to : is_unfinished to ≡ true) (all : (f : Fate) → stands_at place f ≡ true → test f ≡ goes) (comes : goes ≡ true → stands_at place' to ≡ true) (stays : goes ≡ false → (f : Fate) → stands_at place f ≡ true → stands_at place' f ≡ true) where
+  abbrev kept : List Row → List Row
+  kept rows = standing (λ f. not (test f)) rows
+
+  abbrev gone : List Row → List Row
+  gone rows = map (fated (all_with to)) (standing test rows)
+
+  -- what a filter sees of the two parts of a move
+  pub record Parts (rows : List Row) : Type 0 where
+    pub kept_live : numbers (live stream (kept rows)) ≡ cond goes [] (numbers (live stream rows))
+    pub kept_astray : astray stream place' (kept rows) ≡ []
+    pub gone_live : numbers (live stream (gone rows)) ≡ cond goes (numbers (live stream rows)) []
+    pub gone_astray : astray stream place' (gone rows) ≡ []
+
+  parts : (rows : List Row) → astray stream place rows ≡ [] → Parts rows
+  parts [] e = grind arith
+  parts (x ∷ rows) e = one (test x.fate) (is_live stream x) refl refl (parts rows (grind arith))
+    where
+      one : (a b : Bool) → test x.fate ≡ a → is_live stream x ≡ b → Parts rows → Parts (x ∷ rows)
+      one true b t l g = grind arith
+      one false false t l g = grind arith
+      one false true t l g =
+          let stood = stands_there (is_live stream x) (stands_at place x.fate) x (astray stream place rows) l e in
+          let stay : goes ≡ false = sym (all x.fate stood) ∙ t in
+          let there = stays stay x.fate stood in
+          grind (arith, stay, there)
+
+  pub stream_moves : (used : Bool) (rows : List Row) → IsSoundStream stream place used rows → IsSoundStream stream place' used (moved test (all_with to) rows)
+  stream_moves used rows t =
+      let g = parts rows t.together in
+      same_stream stream place place' used rows (moved test (all_with to) rows) (rw (filter-append (is_live stream) (kept rows) (gone rows), map-append) (grind (arith, append-nil)))
+      (rw (filter-append (is_astray stream place') (kept rows) (gone rows), g.kept_astray) g.gone_astray) t
+
+-- a stream with no live message can run anywhere
+pub stream_empty : (stream : ℕ) (place place' : Place) (used : Bool) (rows : List Row) → live stream rows ≡ [] → IsSoundStream stream place used rows → IsSoundStream stream place' used rows
+stream_empty stream place place' used rows none t = grind (arith, filter_within, alive_of)
+
+-- NOTHING STANDS BACK, so leaving a link turns nothing back.
+module _ (s : State) (t : IsSound s) (none : NoneOpen s.routing) where
+  pub none_back : standing stands_back s.rows ≡ []
+  none_back = none_standing (λ row. IsBackOf s.routing row row.fate) stands_back (λ x e b. grind (arith, never_changing)) s.rows t.backs
+
+  none_for : (test : Fate → Bool) → ((f : Fate) → test f ≡ true → stands_back f ≡ true) → standing test s.rows ≡ []
+  none_for test w = none_within test stands_back w s.rows none_back
+
+-- a sound set of which that holds, and whose streams are together
+pub record Quiet (s : State) : Type 0 where
+  pub sound : IsSound s
+  pub none_open : NoneOpen s.routing
+  pub together : AreTogether s
+
+still : (s t : State) → IsSound t → t.rows ≡ s.rows → t.routing ≡ s.routing → NoneOpen s.routing → AreTogether s → Quiet t
+still s t sound rows routing none r = record { sound = sound; none_open = rw routing none; together = λ k low. rw (rows, routing) (r k low) }
+
+leaves : (blind : Bool) (n : ℕ) (link : LinkState) (s : State) → IsAt n link Up s → IsSound s → NoneOpen s.routing → AreTogether s → Quiet (left_by blind n link s)
+leaves blind n link s at t none r = still s _ (leaves_sound blind n link s at t) (moved_nothing (is_back_to n) _ s.rows (none_for s t none (is_back_to n) (home_back n))) (left_quiet n s.routing t.routing none) none r
+
+releases : (code : ℕ) (s : State) → IsSound s → NoneOpen s.routing → AreTogether s → Quiet (released code s)
+releases code s t none r = still s _ (releases_sound code s t) (moved_nothing (is_back code) _ s.rows (none_for s t none (is_back code) (code_back code))) (back_quiet code s.routing t.routing none) none r
 
 -- AN ORDER is of no stream.
-no_users : (order : Order) (s : State) (fate : Fate) (stream : ℕ) → IsManaged s.settings → is_live stream (new_row (length s.rows) (text order s.settings.sio s.settings.dpc s.settings.opc) fate) ≡ false
-no_users order s fate stream m = grind arith
-
-queues : (order : Order) (s : State) → Quietly s → AreTogether s → AreTogether (queued order s)
-queues order s quiet r stream low =
-    stream_appended stream (place_of stream s.routing) (has_messages stream s.routing) (has_messages stream s.routing) s.rows _ (fate_on (target s.links)) quiet.0.numbered (r stream low)
-    (λ e. let no : true ≡ false = sym e ∙ no_users order s (fate_on (target s.links)) stream quiet.0.managed in absurd cc) (λ e. e)
+queues : (order : Order) (s : State) → IsSound s → AreTogether s → AreTogether (queued order s)
+queues order s t r stream low =
+    stream_appended stream (place_of stream s.routing) (has_messages stream s.routing) (has_messages stream s.routing) s.rows _ (fate_on (target s.links)) t.numbered (r stream low) (λ e. grind (arith, t.managed)) (λ e. e)
 
 -- AN OFFER goes where its stream runs.
-stands_offer : (place : Place) (s : State) → ((to code via : ℕ) → place ≡ Changing to code via → ⊥) → stands_at place (fate_at place s) ≡ true
-stands_offer place s away = grind arith
-
-of_stream : (a b c : Bool) → (a && (b && c)) ≡ true → b ≡ true
-of_stream a b c e = grind arith
-
-or_right : (a b : Bool) → (a || b) ≡ false → b ≡ false
-or_right a b e = grind arith
-
 offers : (s : State) (body : List ℕ) → IsSound s → NoneOpen s.routing → AreTogether s → AreTogether (offered None s body).state
 offers s body t none r k few =
-    let stream = stream_of body in
-    let place = place_of stream s.routing in
-    let fate = fate_at place s in
+    let place = place_of (stream_of body) s.routing in
     let a = alone s.routing k t.routing few in
-    rw (a.accepted_place stream, a.accepted_messages stream) (stream_appended k (place_of k s.routing) (has_messages k s.routing) ((k == stream) || has_messages k s.routing) s.rows body fate t.numbered (r k few)
-    (λ e.
-    let same : stream ≡ k = eqb-true stream k (of_stream (is_users (new_row (length s.rows) body fate)) (stream == k) (is_unfinished fate) e) in
-    (ap (λ (j : ℕ). stands_at (place_of j s.routing) fate) (sym same) ∙ stands_offer place s (λ to code via f. never s t none stream to code via f), ap (λ (j : ℕ). (j == stream) || has_messages k s.routing) (sym same) ∙ ap (λ (b : Bool). b || has_messages k s.routing) (itself stream)))
-    (λ e. or_right (k == stream) (has_messages k s.routing) e))
+    let never = λ (to code via : ℕ). never_changing (stream_of body) to code via s.routing t.routing none in
+    rw (a.accepted_place (stream_of body), a.accepted_messages (stream_of body)) (stream_appended k (place_of k s.routing) (has_messages k s.routing) ((k == stream_of body) || has_messages k s.routing) s.rows body (fate_at place s) t.numbered (r k few) (λ e. grind (arith, nat_tests, never)) (λ e. grind arith))
 
 -- A LINK COMES UP.
-parked_unfinished : (f : Fate) → is_parked f ≡ true → is_unfinished f ≡ true
-parked_unfinished f e = grind arith
-
-not_used : (a used : Bool) → (a && not used) ≡ true → used ≡ false
-not_used a used e = grind arith
-
 module _ (n : ℕ) (rows : List Row) where
   abbrev risen : List Row
   risen = moved is_parked (all_with (Waiting n)) rows
 
   stream_risen : (k home : ℕ) (used : Bool) (place : Place) → ((to code via : ℕ) → place ≡ Changing to code via → ⊥) → IsSoundStream k place used rows → IsSoundStream k (place_raised n home used place) used risen
-  stream_risen k home used Nowhere away p = stream_goes k Nowhere (On n) is_parked (Waiting n) parked_unfinished refl (λ f e. e) (itself n) used rows p
+  stream_risen k home used Nowhere away p = stream_moves k Nowhere (On n) is_parked (Waiting n) true (λ f e. grind arith) refl (λ f e. e) (λ e. itself n) (λ e. absurd cc) used rows p
   stream_risen k home used (Changing to code via) away p = absurd (away to code via refl)
   stream_risen k home used (On l) away p =
-      let remains = stream_remains k (On l) (On l) is_parked (Waiting n) parked_unfinished refl (λ f e. on_not_parked l f e) used rows refl p in
-      cond_both ((home == n) && not used) (On n) (On l) (λ (at : Place). IsSoundStream k at used risen) (λ e. stream_empty k (On l) (On n) used risen (remains.unused (not_used (home == n) used e)) remains) (λ e. remains)
+      let remains = stream_moves k (On l) (On l) is_parked (Waiting n) false (λ f e. grind arith) refl (λ f e. on_not_parked l f e) (λ e. absurd cc) (λ e f h. h) used rows p in
+      cond_both ((home == n) && not used) (On n) (On l) (λ (at : Place). IsSoundStream k at used risen) (λ e. stream_empty k (On l) (On n) used risen (remains.unused (grind arith)) remains) (λ e. remains)
 
 -- A LINK IS LEFT BY ITS MESSAGES.
-on_unfinished : (n : ℕ) (f : Fate) → is_on n f ≡ true → is_unfinished f ≡ true
-on_unfinished n f e = grind arith
-
-target_unfinished : (to : Option ℕ) → is_unfinished (fate_on to) ≡ true
-target_unfinished to = grind arith
-
-target_stands : (to : Option ℕ) → stands_at (place_on to) (fate_on to) ≡ true
-target_stands to = grind arith
-
 module _ (n : ℕ) (to : Option ℕ) (rows : List Row) where
   abbrev off : List Row
   off = moved (is_on n) (all_with (fate_on to)) rows
 
   stream_left : (k : ℕ) (used : Bool) (place : Place) → ((home code via : ℕ) → place ≡ Changing home code via → ⊥) → IsSoundStream k place used rows → IsSoundStream k (place_settled n to place) used off
-  stream_left k used Nowhere away p = stream_remains k Nowhere Nowhere (is_on n) (fate_on to) (on_unfinished n) (target_unfinished to) (λ f e. parked_not_on n f e) used rows refl p
-  stream_left k used (Changing home code via) away p = absurd (away home code via refl)
-  stream_left k used (On l) away p =
-      cond_both (l == n) (place_on to) (On l) (λ (at : Place). IsSoundStream k at used off)
-      (λ e. stream_goes k (On l) (place_on to) (is_on n) (fate_on to) (on_unfinished n) (target_unfinished to) (λ f there. rw (← eqb-true l n e) there) (target_stands to) used rows p)
-      (λ e. stream_remains k (On l) (On l) (is_on n) (fate_on to) (on_unfinished n) (target_unfinished to) (λ f there. on_other n l (apart_back l n e) f there) used rows refl p)
+  stream_left k used place away p = stream_moves k place (place_settled n to place) (is_on n) (fate_on to) (runs_on n place) (λ f e. grind arith) (grind arith) (λ f e. grind (arith, nat_tests)) (λ e. grind arith) (λ e f h. grind (arith, nat_tests)) used rows p
 
-moves_off : (n : ℕ) (s : State) → Quietly s → AreTogether s → (k : ℕ) → k < 16 → IsSoundStream k (place_of k (settled n (target s.links) s.routing)) (has_messages k (settled n (target s.links) s.routing)) (off n (target s.links) s.rows)
-moves_off n s quiet r k low =
-    let a = alone s.routing k quiet.0.routing low in
-    rw (a.settled_place n (target s.links), a.settled_messages n (target s.links)) (stream_left n (target s.links) s.rows k (has_messages k s.routing) (place_of k s.routing) (never s quiet.0 quiet.1 k) (r k low))
+moves_off : (n : ℕ) (s : State) → IsSound s → NoneOpen s.routing → AreTogether s → (k : ℕ) → k < 16 → IsSoundStream k (place_of k (settled n (target s.links) s.routing)) (has_messages k (settled n (target s.links) s.routing)) (off n (target s.links) s.rows)
+moves_off n s t none r k low =
+    let a = alone s.routing k t.routing low in
+    rw (a.settled_place n (target s.links), a.settled_messages n (target s.links)) (stream_left n (target s.links) s.rows k (has_messages k s.routing) (place_of k s.routing) (λ to code via. never_changing k to code via s.routing t.routing none) (r k low))
+
+rises : (n : ℕ) (s : State) → IsSound s → NoneOpen s.routing → AreTogether s → (k : ℕ) → k < 16 → IsSoundStream k (place_of k (raised n s.routing)) (has_messages k (raised n s.routing)) (risen n s.rows)
+rises n s t none r k low =
+    let a = alone s.routing k t.routing low in
+    rw (a.raised_place n, a.raised_messages n) (stream_risen n s.rows k (k % s.routing.links) (has_messages k s.routing) (place_of k s.routing) (λ to code via. never_changing k to code via s.routing t.routing none) (r k low))
 
 -- SENDING.
 sends : (choice : Choice) (n : ℕ) (s : State) → AreTogether s → (stream : ℕ) → stream < 16 → IsSoundStream stream (place_of stream s.routing) (has_messages stream s.routing) (rows_sent choice n s.rows)
-sends (again place) n s r stream low = r stream low
-sends fill n s r stream low = r stream low
-sends first n s r stream low = stream_sent stream (place_of stream s.routing) n (has_messages stream s.routing) s.rows (r stream low)
+sends first n s r stream low = stream_turned stream (place_of stream s.routing) (is_waiting n) (Unacked n) (λ f e alive. grind arith) (has_messages stream s.routing) 1 s.rows (r stream low)
+sends _ n s r stream low = r stream low
 
 -- THE STEP.
-small : (Known : ℕ → Type 0) → PlainKept Known (λ s u. AreTogether s → AreTogether u)
-small Known = search (queues, stream_turned, stream_changed, moves_off)
+abbrev StaysQuiet : State → State → Type 0
+StaysQuiet s t = IsSound s → NoneOpen s.routing → AreTogether s → Quiet t
+
+then_quiet : (a b c : State) → StaysQuiet a b → StaysQuiet b c → StaysQuiet a c
+then_quiet a b c p q sound none r = let m = p sound none r in q m.sound m.none_open m.together
+
+rests_quiet : (a b : State) → Quiet a → StaysQuiet a b → Quiet b
+rests_quiet a b q then = then q.sound q.none_open q.together
+
+begins_none : (May : Type 0) (s : State) → (May → ⊥) → May → Quiet s
+begins_none May s none may = absurd (none may)
+
+ruleset straight = (then_quiet, rests_quiet, leaves, releases, queues, stream_turned, stream_changed, fits_finished, moves_off, offers, sends, rises)
 
 pub step_straight : (s : State) (event : Event) → IsAsked event → BeginsNone event → IsSound s → RunsStraight s → RunsStraight (step s event).state
 step_straight s event asked begins t r =
-    let end = plain_walks s (λ a b. AreTogether a → AreTogether b) AreTogether event asked begins (t, r.none_open) (record {
-      small = small _;
-      unmoved = r.together;
-      rests = λ a b p q. q p;
-      offers = λ body e free. offers s body t r.none_open r.together;
-      takes = λ body rest e there. r.together;
-      sends = λ n link e at. sends _ n s r.together;
-      hears = λ n unit link e at k low. stream_turned k (place_of k s.routing) (is_unacked n) (Acked n) refl (has_messages k s.routing) _ s.rows (r.together k low);
-      rises = λ n link e at k low.
-          let a = alone s.routing k t.routing low in
-          rw (a.raised_place n, a.raised_messages n) (stream_risen n s.rows k (k % s.routing.links) (has_messages k s.routing) (place_of k s.routing) (never s t r.none_open k) (r.together k low));
-    }) in
-    record { none_open = end.0.1; together = end.1 }
+    let stood = r.together in
+    let end = step_walks s StaysQuiet Quiet event (search (sounds, straight, begins_none, stood, begins)) in
+    record { none_open = end.none_open; together = end.together }

@@ -1,31 +1,28 @@
 -- THE WALK over the cases of the step, once: what each small change keeps, every event keeps.
-use Rattle.std.proofs.Common.{refl, arith, ◌≡◌, subst, ◌<◌, ◌≤◌, length, ℕ, zero, suc, ◌+◌, ◌==◌, Bool, true, false, ◌⊎◌, List, [], ◌∷◌, ◌++◌, slice_get, Option, Some, None, inl, inr}
+use Rattle.std.proofs.Common.{refl, arith, ◌≡◌, subst, ◌<◌, ◌≤◌, length, ℕ, zero, suc, ◌+◌, Bool, true, false, ◌⊎◌, List, [], ◌∷◌, ◌++◌, slice_get, Option, Some, None, inl, inr}
 use Rattle.std.proofs.lemmas.Bool.{cond_both}
-use Rattle.l2_units.specs.declared.unit.Unit.{Unit as SignalUnit}
+use Rattle.set_model.specs.Step.{step, Outcome, after_control, brought, comes_back, controls, gives_up, heard, in_service, is_msu, next, offer_refusal, offered, rises, runs_out, taken, takes, with_known}
 use Rattle.l2_units.specs.Grammar.{head_of as header_in}
+use Rattle.l2_units.specs.declared.unit.Unit.{Unit as SignalUnit}
+use Rattle.l3_orders.specs.Grammar.{link_of, order_of}
 use Rattle.l3_orders.specs.declared.order.Order.{Order}
-use Rattle.l3_orders.specs.declared.order.Order.TheVariants.{Coo, Coa, Cbd, Cba, Eco, Eca}
-use Rattle.l3_orders.specs.Grammar.{order_of, link_of}
+use Rattle.l3_orders.specs.declared.order.Order.TheVariants.{Cba, Cbd, Coa, Coo, Eca, Eco}
 use Rattle.set_events.specs.declared.answer.DiscardCause.{DiscardCause}
-use Rattle.set_events.specs.declared.answer.DiscardCause.TheVariants.{Emergency, Unreasonable, NoAnswer as NoAnswerCame}
-use Rattle.set_events.specs.declared.answer.Fate.{Fate}
+use Rattle.set_events.specs.declared.answer.DiscardCause.TheVariants.{Emergency, NoAnswer as NoAnswerCame, Unreasonable}
 use Rattle.set_events.specs.declared.answer.Fate.TheVariants.{Discarded}
-use Rattle.set_events.specs.declared.answer.Refusal.{Refusal as SetRefusal}
 use Rattle.set_events.specs.declared.event.Event.{Event}
-use Rattle.set_events.specs.declared.event.Event.TheVariants.{Offer, Take, Find, Next, Heard, Up as UpEvent, Down as DownEvent, DownBlind, NoAnswer, Restore, BackTimeout}
-use Rattle.set_route.specs.declared.place.Code.{Code}
-use Rattle.set_route.specs.Routing.{code_for, home_of, code_of}
-use Rattle.set_model.specs.declared.phase.Phase.{Phase}
-use Rattle.set_model.specs.declared.phase.Phase.TheVariants.{Up, Down, Settled}
-use Rattle.set_model.specs.declared.reached.Reached.{Reached}
-use Rattle.set_model.specs.declared.reached.Reached.TheVariants.{Upto, Unknown, Unanswered}
-use Rattle.set_model.specs.Rows.{unack, is_unacked, is_waiting, changed, place, service_indicator}
-use Rattle.set_model.specs.State.{LinkState, State, is_up, window_of, last_accepted}
+use Rattle.set_events.specs.declared.event.Event.TheVariants.{BackTimeout, Down as DownEvent, DownBlind, Find, Heard, Next, NoAnswer, Offer, Restore, Take, Up as UpEvent}
+use Rattle.set_route.specs.Routing.{code_for, home_of}
+use Rattle.set_model.specs.Changeover.{Obeyed, acknowledged_by, answered, at_link, can_declare, changed_over, declared, declared_from, is_reasonable, leaving_order, left_by, left_link, moved_over, order_obeyed, queued, released, released_from, reply_of, settled, some_in_use}
 use Rattle.set_model.specs.Control.{part_of}
-use Rattle.set_model.specs.Changeover.{Obeyed, queued, left_by, left_link, leaving_order, is_reasonable, acknowledged_by, moved_over, settled, reply_of, changed_over, answered, at_link, can_declare, declared, declared_from, released, released_from, some_in_use, acknowledged_back, order_obeyed, obeyed}
-use Rattle.set_model.specs.Step.{Outcome, offer_refusal, offered, taken, found, with_known, in_service, next, is_msu, brought, takes, after_control, controls, heard, rises, gives_up, comes_back, runs_out, step}
 use Rattle.set_model.specs.Frame.{BringsAbout, BringsBackTo, Concerns}
+use Rattle.set_model.specs.Rows.{changed, is_unacked, is_waiting, unack}
 use Rattle.set_model.specs.Sound.{BeginsNone}
+use Rattle.set_model.specs.State.{LinkState, State, is_up, last_accepted, window_of}
+use Rattle.set_model.specs.declared.phase.Phase.{Phase}
+use Rattle.set_model.specs.declared.phase.Phase.TheVariants.{Down, Settled, Up}
+use Rattle.set_model.specs.declared.reached.Reached.{Reached}
+use Rattle.set_model.specs.declared.reached.Reached.TheVariants.{Unanswered, Unknown, Upto}
 use Rattle.set_model.proofs.Lists.{within, get_set_same}
 
 -- where a link stands, left or in service
@@ -74,10 +71,8 @@ module _ (Known : ℕ → Type 0) (May : Type 0) (R : State → State → Type 0
   -- orders
   over_walks : (reached : Reached) (n : ℕ) (link : LinkState) (phase : Phase) (s : State) → Known n → IsAt n link phase s → R s (changed_over reached n link phase s).state
   over_walks reached n link Up s known at =
-      let left = left_by false n link s in
-      let told = queued (Coa n (last_accepted link)) left in
-      k.after s told (settled reached n (left_link false link) told) (k.after s left told (k.leaves false n link s known at) (k.queues (Coa n (last_accepted link)) left))
-      (settle_walks reached n (left_link false link) told known (record { there = get_set_same s.links n (left_link false link) (within s.links n link at.there); phase_is = refl }))
+      let told = queued (Coa n (last_accepted link)) (left_by false n link s) in
+      k.after s told _ (k.after s _ told (k.leaves false n link s known at) (k.queues (Coa n (last_accepted link)) (left_by false n link s))) (settle_walks reached n (left_link false link) told known (record { there = get_set_same s.links n (left_link false link) (within s.links n link at.there); phase_is = refl }))
   over_walks reached n link Down s known at = settle_walks reached n link s known at
   over_walks reached n link Settled s known at = k.queues (reply_of n link) s
 
@@ -88,9 +83,6 @@ module _ (Known : ℕ → Type 0) (May : Type 0) (R : State → State → Type 0
   at_walks n s f all there e = grind arith
 
   -- changeback
-  back_walks : (code : ℕ) (c : Code) (s : State) → Known (home_of code) → R s (acknowledged_back code c s).state
-  back_walks code c s known = grind arith
-
   pub declare_walks : May → (home alternative n : ℕ) (s : State) → is_up home s ≡ true → R s (declared_from home alternative n s)
   declare_walks may home alternative zero s up = k.same s
   declare_walks may home alternative (suc n) s up =
@@ -110,15 +102,10 @@ module _ (Known : ℕ → Type 0) (May : Type 0) (R : State → State → Type 0
   obeys_walks (Coa n fsn) s known = at_walks n s (λ link. answered (Upto fsn) n link link.phase s) (λ link e. answer_walks (Upto fsn) n link link.phase s (known n (inl refl)) (record { there = e; phase_is = refl })) (slice_get s.links n) refl
   obeys_walks (Eca n) s known = at_walks n s (λ link. answered Unknown n link link.phase s) (λ link e. answer_walks Unknown n link link.phase s (known n (inl refl)) (record { there = e; phase_is = refl })) (slice_get s.links n) refl
   obeys_walks (Cbd n code) s known = k.queues (Cba n code) s
-  obeys_walks (Cba n code) s known = back_walks code (code_of code s.routing) s (known (home_of code) (inr (n, code, refl, refl)))
-
-  obeyed_walks : (order : Option Order) (s : State) → ((o : Order) → order ≡ Some o → (n : ℕ) → Touches o n → Known n) → R s (obeyed order s).state
-  obeyed_walks None s known = k.same s
-  obeyed_walks (Some order) s known = obeys_walks order s (known order refl)
+  obeys_walks (Cba n code) s known = let there = known (home_of code) (inr (n, code, refl, refl)) in grind arith
 
   pub takes_walks : (body : Option (List ℕ)) (s : State) → ((b : List ℕ) → body ≡ Some b → (o : Order) → order_of b ≡ Some o → (n : ℕ) → Touches o n → Known n) → R s (takes body s).state
-  takes_walks None s known = k.same s
-  takes_walks (Some body) s known = cond_both (service_indicator body == 0) _ _ (λ (o : Obeyed). R s o.state) (λ e. obeyed_walks (order_of body) s (known body refl)) (λ e. k.delivers body s)
+  takes_walks body s known = grind (arith, obeys_walks)
 
 -- what the first small change of an event leads to, and what each one after it keeps
 pub record WalkedBy (s : State) (event : Event) (R : State → State → Type 0) (S : State → Type 0) : Type 0 where
@@ -144,40 +131,25 @@ module _ (s : State) (R : State → State → Type 0) (S : State → Type 0) whe
   in_walks : (n : ℕ) (f : LinkState → Outcome) → S s → ((link : LinkState) → IsAt n link Up s → S (f link).state) → S (in_service n s f).state
   in_walks n f unmoved all = grind arith
 
-  offer_walks : (body : List ℕ) → WalkedBy s (Offer body) R S → (o : Option SetRefusal) → offer_refusal s.rows body ≡ o → S (offered o s body).state
-  offer_walks body w o e = grind arith
-
   take_walks : WalkedBy s Take R S → (inbox : List (List ℕ)) → s.inbox ≡ inbox → S (taken inbox s).state
   take_walks w inbox e = grind arith
-
-  find_walks : S s → (fate : Option Fate) → S (found fate s).state
-  find_walks unmoved fate = grind arith
 
   hear_walks : (n : ℕ) (unit : SignalUnit) (link : LinkState) → WalkedBy s (Heard n unit) R S → IsAt n link Up s → S (controls unit n s link).state
   hear_walks n unit link w at =
       let part = part_of link.control (window_of n link s.rows) (header_in unit) (is_msu unit) in
-      let mid = after_control part (header_in unit) unit n s link in
-      w.rests mid (controls unit n s link).state (w.hears n unit link refl at)
-      (takes_walks (λ m. Concerns (Heard n unit) m s) (BeginsNone (Heard n unit) → ⊥) R w.small (brought part.accept unit) mid (λ b e o f m g. inr (brought_either part.accept unit b e o f m g)))
-
-  heard_walks : (n : ℕ) (unit : SignalUnit) (link : LinkState) → WalkedBy s (Heard n unit) R S → IsAt n link Up s → S (heard unit n s link).state
-  heard_walks n unit link w at = grind (arith, hear_walks)
+      w.rests _ (controls unit n s link).state (w.hears n unit link refl at)
+      (takes_walks (λ m. Concerns (Heard n unit) m s) (BeginsNone (Heard n unit) → ⊥) R w.small (brought part.accept unit) _ (λ b e o f m g. inr (brought_either part.accept unit b e o f m g)))
 
   rise_walks : (n : ℕ) (link : LinkState) (phase : Phase) → WalkedBy s (UpEvent n) R S → IsAt n link phase s → S (rises n s phase).state
   rise_walks n link phase w at = grind arith
 
   give_walks : (n : ℕ) (link : LinkState) (phase : Phase) → WalkedBy s (NoAnswer n) R S → IsAt n link phase s → S (gives_up n s link phase).state
-  give_walks n link Up w at = w.unmoved
-  give_walks n link Settled w at = w.unmoved
   give_walks n link Down w at = w.rests s (settled Unanswered n link s) w.unmoved (settle_walks (λ m. Concerns (NoAnswer n) m s) (BeginsNone (NoAnswer n) → ⊥) R w.small Unanswered n link s refl at)
+  give_walks n link _ w at = w.unmoved
 
   fall_walks : (event : Event) (blind : Bool) (n : ℕ) (link : LinkState) → WalkedBy s event R S → Concerns event n s → IsAt n link Up s → S (queued (leaving_order blind n link) (left_by blind n link s))
   fall_walks event blind n link w known at =
-      let left = left_by blind n link s in
-      w.rests s (queued (leaving_order blind n link) left) w.unmoved (w.small.after s left (queued (leaving_order blind n link) left) (w.small.leaves blind n link s known at) (w.small.queues (leaving_order blind n link) left))
-
-  restore_walks : (n : ℕ) (link : LinkState) → WalkedBy s (Restore n) R S → IsAt n link Up s → S (comes_back n s).state
-  restore_walks n link w at = grind (arith, declare_walks)
+      w.rests s _ w.unmoved (w.small.after s (left_by blind n link s) _ (w.small.leaves blind n link s known at) (w.small.queues (leaving_order blind n link) (left_by blind n link s)))
 
   timeout_walks : (n : ℕ) → WalkedBy s (BackTimeout n) R S → S (runs_out n s).state
   timeout_walks n w =
@@ -186,14 +158,14 @@ module _ (s : State) (R : State → State → Type 0) (S : State → Type 0) whe
 
   pub step_walks : (event : Event) → WalkedBy s event R S → S (step s event).state
   unfolding step
-  step_walks (Offer body) w = offer_walks body w (offer_refusal s.rows body) refl
+  step_walks (Offer body) w = grind arith
   step_walks Take w = take_walks w s.inbox refl
-  step_walks (Find number) w = find_walks w.unmoved (place number s.rows)
+  step_walks (Find number) w = grind arith
   step_walks (Next n) w = in_walks n (next n s) w.unmoved (λ link at. w.sends n link refl at)
-  step_walks (Heard n unit) w = in_walks n (heard unit n s) w.unmoved (λ link at. heard_walks n unit link w at)
+  step_walks (Heard n unit) w = in_walks n (heard unit n s) w.unmoved (λ link at. grind (arith, hear_walks))
   step_walks (UpEvent n) w = on_walks n (λ link. rises n s link.phase) w.unmoved (λ link there. rise_walks n link link.phase w (record { there = there; phase_is = refl }))
   step_walks (DownEvent n) w = in_walks n _ w.unmoved (λ link at. fall_walks (DownEvent n) false n link w refl at)
   step_walks (DownBlind n) w = in_walks n _ w.unmoved (λ link at. fall_walks (DownBlind n) true n link w refl at)
   step_walks (NoAnswer n) w = on_walks n (λ link. gives_up n s link link.phase) w.unmoved (λ link there. give_walks n link link.phase w (record { there = there; phase_is = refl }))
-  step_walks (Restore n) w = in_walks n (λ link. comes_back n s) w.unmoved (λ link at. restore_walks n link w at)
+  step_walks (Restore n) w = in_walks n (λ link. comes_back n s) w.unmoved (λ link at. grind (arith, declare_walks))
   step_walks (BackTimeout n) w = on_walks n (λ link. runs_out n s) w.unmoved (λ link there. timeout_walks n w)

@@ -24,6 +24,7 @@ pub fn no_event_changes_a_message()
 
 /// Once a link has settled no message stands on it: none that was sent and isn't acknowledged, none that
 /// waits for it, and none that is held for it (Q.704 5.5).
+#[tactic(auto, using(crate::proofs::Settling::settled_empty))]
 pub fn a_settled_link_is_empty()
     ensures { ASettledLinkIsEmpty }
 {}
@@ -40,6 +41,7 @@ pub fn settling_moves_the_rest()
 /// state, when a link that was left settles by a reasonable FSN, the rest of what was sent goes first,
 /// then what waited, then what was held. They stand behind all that waited for the target before, or,
 /// where no link is up, behind what was parked (Q.704 5.5).
+#[tactic(auto, using(crate::proofs::Settling::diverts_the_rest))]
 pub fn a_changeover_diverts_the_rest()
     ensures { AChangeoverDivertsTheRest }
 {}
@@ -85,6 +87,7 @@ pub fn a_window_moves_as_its_control()
 
 /// While no changeback is under way, and none begins, the messages of each stream that aren't finished
 /// stand together where the stream runs, in the order of their numbers.
+#[tactic(auto, using(crate::proofs::Straight::step_straight))]
 pub fn streams_stay_together()
     ensures { StreamsStayTogether }
 {}

@@ -2,4 +2,4 @@ use Rattle.set_model.proofs.Stating.{moves_rows}
 use Rattle.set_model.proofs.laws.a_move_moves_the_links_rows.Goals as goal
 
 pub returns : goal.returns
-returns c link fate rows numbered = moves_rows link fate rows numbered
+returns c = moves_rows

@@ -2,4 +2,4 @@ use Rattle.set_model.proofs.Ranging.{step_at_most}
 use Rattle.set_model.proofs.laws.a_step_counts.Goals as goal
 
 pub returns : goal.returns
-returns c s event most few = step_at_most s event most few
+returns c = step_at_most

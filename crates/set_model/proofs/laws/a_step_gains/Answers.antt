@@ -2,4 +2,4 @@ use Rattle.set_model.proofs.Gaining.{step_gains}
 use Rattle.set_model.proofs.laws.a_step_gains.Goals as goal
 
 pub returns : goal.returns
-returns c s event managed = step_gains s event managed
+returns c = step_gains

@@ -2,4 +2,4 @@ use Rattle.set_model.proofs.Stating.{messages_stay}
 use Rattle.set_model.proofs.laws.no_message_changes.Goals as goal
 
 pub returns : goal.returns
-returns c test to fate rows numbered = messages_stay test to fate rows numbered
+returns c = messages_stay

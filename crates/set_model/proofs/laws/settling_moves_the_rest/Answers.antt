@@ -2,4 +2,4 @@ use Rattle.set_model.proofs.Settling.{moves_the_rest}
 use Rattle.set_model.proofs.laws.settling_moves_the_rest.Goals as goal
 
 pub returns : goal.returns
-returns c fsn number link s there reasonable = moves_the_rest fsn number link s there reasonable
+returns c = moves_the_rest
