@@ -1,5 +1,5 @@
 -- THE OLDEST that stands back for a link is the first of the rows that do; and where it goes.
-use Rattle.std.proofs.Common.{refl, arith, ◌≡◌, ◌∙◌, ap, sym, subst, ◌/◌, ◌≤◌, ◌<◌, [], ◌∷◌, length, ℕ, Bool, true, ◌==◌, ◌⊎◌, List, Some, None}
+use Rattle.std.proofs.Common.{refl, arith, ◌≡◌, ◌∙◌, ap, sym, subst, ◌/◌, ◌≤◌, ◌<◌, [], ◌∷◌, length, ℕ, Bool, true, ◌==◌, ◌⊎◌, List, Option, Some, None, false}
 use Rattle.std.specs.Prelude.{slice_get, filter}
 use Rattle.std.specs.Option.{option_map}
 use Rattle.std.proofs.lemmas.Bool.{eq-eqb, ne_eqb, not-true}
@@ -13,7 +13,7 @@ use Rattle.set_queues.specs.Backs.{IsOldest}
 use Rattle.set_queues.specs.Buffers.{Lists, queue_at}
 use Rattle.set_route.specs.declared.place.Place.TheVariants.{On}
 use Rattle.set_route.specs.Routing.{home_of, place_of}
-use Rattle.set_model.specs.Rows.{Row, standing, is_back, is_back_to, numbers, service_indicator, stream_of, Each}
+use Rattle.set_model.specs.Rows.{Row, standing, is_back, is_back_to, body_at, numbers, service_indicator, stream_of, Each}
 use Rattle.set_model.specs.Sound.{AreAbove, IsAscending}
 use Rattle.set_model.specs.State.{State, fate_at, link_count}
 use Rattle.set_model.proofs.Filters.{filter_comm, filter_within}
@@ -118,45 +118,37 @@ module _ (home code : ℕ) (q : Lists) (ms : List Message) (rows : List Row) (s 
         first = h.1;
       }
 
--- WHERE THE OLDEST GOES: its stream runs on a link
-pub record IsWay (k : Kept) (s : State) (code first : ℕ) : Type 0 where
+-- WHERE THE OLDEST GOES: it's a user's message, and its stream runs on a link
+pub record IsWay (k : Kept) (s : State) (code number : ℕ) : Type 0 where
   pub row : Row
   pub there : slice_get (standing (is_back code) s.rows) 0 ≡ Some row
   pub few : stream_of row.body < 16
   pub via : ℕ
   pub place_is : place_of (stream_of row.body) s.routing ≡ On via
   pub low : via < link_count s
-  pub kind_is : (m : Message) → slice_get k.messages first ≡ Some m → m.kind ≡ User (stream_of row.body)
-  pub found : slice_get k.messages first ≡ None → ⊥
+  pub message : Message
+  pub message_is : slice_get k.messages number ≡ Some message
+  pub kind_is : message.kind ≡ User (stream_of row.body)
 
-pub way : (home code first : ℕ) (k : Kept) (s : State) → StandsFor k s → IsTurning home s → code / 16 ≡ home → slice_get (queue_at (Back code) k.lists) 0 ≡ Some first → IsWay k s code first
-way home code first k s f t of e =
-    let there = found_by_number (λ (row : Row). is_back code row.fate) s.rows 0 first f.stands.numbered (sym (ap (λ (ns : List ℕ). slice_get ns 0) (f.stands.queues (Back code))) ∙ e) in
-    let h = head_of (standing (is_back code) s.rows) there.row there.there in
-    let back = passes (λ (row : Row). is_back code row.fate) s.rows h.0 there.row h.1 in
-    let own = subst (Each (IsTurningRow home s)) h.1 (each_filter (IsTurningRow home s) (λ (row : Row). is_back code row.fate) s.rows t.each) in
-    let turns = own.0 (back_home home code of there.row.fate back) in
-    let label : option_map label_in (slice_get k.messages first) ≡ Some (label_of there.row.body) = f.stands.labels first ∙ ap (option_map label_of) there.body_is in
-    record {
-      row = there.row;
-      there = there.there;
-      few = turns.1;
-      via = turns.2;
-      place_is = turns.3;
-      low = turns.4;
-      kind_is = λ m at. ap (λ l. l.kind) (same_Some (label_in m) (label_of there.row.body) (sym (ap (option_map label_in) at) ∙ label)) ∙ rw (not-true (service_indicator there.row.body == 0) turns.0) refl;
-      found = λ none. let no : None ≡ Some (label_of there.row.body) = sym (ap (option_map label_in) none) ∙ label in cc;
-    }
+users_label : (body : List ℕ) (o : Option Message) → option_map label_in o ≡ Some (label_of body) → (service_indicator body == 0) ≡ false → (m : Message) × (o ≡ Some m) × (m.kind ≡ User (stream_of body))
+users_label body None e users = absurd cc
+users_label body (Some m) e users = (m, refl, ap (λ l. l.kind) (same_Some (label_in m) (label_of body) e) ∙ rw users refl)
+
+pub way : {home code : ℕ} {k : Kept} {s : State} → StandsFor k s → IsTurning home s → (o : IsOldest home code k.lists) → IsWay k s code o.number
+way {home} {code} {k} {s} f t o =
+    let x = first_of home code k.lists k.messages s.rows f.stands o t.order in
+    let own = subst (Each (IsTurningRow home s)) x.of_code (each_filter (IsTurningRow home s) (λ (row : Row). is_back code row.fate) s.rows t.each) in
+    let turns = own.0 (back_home home code o.of_home x.row.fate (passes (λ (row : Row). is_back code row.fate) s.rows x.after x.row x.of_code)) in
+    let body : body_at o.number s.rows ≡ Some x.row.body = ap (option_map (λ (row : Row). row.body)) (row_is_first o.number s.rows ∙ ap (λ (ys : List Row). slice_get ys 0) (subst (λ (n : ℕ). with_number n s.rows ≡ x.row ∷ []) x.number_is x.one)) in
+    let m = users_label x.row.body (slice_get k.messages o.number) (f.stands.labels o.number ∙ ap (option_map label_of) body) (not-true (service_indicator x.row.body == 0) turns.0) in
+    record { row = x.row; there = ap (λ (ys : List Row). slice_get ys 0) x.of_code; few = turns.1; via = turns.2; place_is = turns.3; low = turns.4; message = m.0; message_is = m.1; kind_is = m.2 }
 
 -- it waits for a link, or is held for it
 abbrev pub IsOnLink : ℕ → Fate → Type 0
 IsOnLink links to = (via : ℕ) × (via < links) × ((to ≡ Waiting via) ⊎ (to ≡ Held via))
 
-runs_on : (via : ℕ) (to : Fate) (s : State) → to ≡ fate_at (On via) s → (to ≡ Waiting via) ⊎ (to ≡ Held via)
-runs_on via to s e = grind arith
-
 pub on_way : (links via : ℕ) (to : Fate) (s : State) → link_count s ≡ links → via < link_count s → to ≡ fate_at (On via) s → IsOnLink links to
-on_way links via to s many low e = (via, omega (arith, many, low), runs_on via to s e)
-
-pub same_user : (a b : ℕ) → User a ≡ User b → a ≡ b
-same_user a b e = cc
+on_way links via to s many low e = (via, omega (arith, many, low), runs_on)
+  where
+    runs_on : (to ≡ Waiting via) ⊎ (to ≡ Held via)
+    runs_on = grind arith
