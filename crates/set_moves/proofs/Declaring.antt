@@ -1,5 +1,5 @@
 -- A declaration goes out on each link from which streams come back.
-use Rattle.std.proofs.Common.{add-one, refl, arith, ◌≡◌, ◌∙◌, ap, sym, subst, ◌≤◌, ◌<◌, ◌+◌, ◌-◌, ℕ, zero, suc, true, false, Bool, length, if◌then◌else◌}
+use Rattle.std.proofs.Common.{add-one, refl, arith, ◌≡◌, ◌∙◌, ap, sym, subst, ◌≤◌, ◌<◌, ◌+◌, ◌-◌, ◌||◌, ℕ, zero, suc, true, false, Bool, length, if◌then◌else◌}
 use Rattle.std.proofs.lemmas.Bool.{ne_eqb}
 use Rattle.std.proofs.lemmas.List.{length-map}
 use Rattle.set_events.specs.declared.answer.Answer.{Answer}
@@ -19,15 +19,25 @@ use Rattle.set_moves.specs.Declaring.{HasRoomFrom}
 use Rattle.set_moves.specs.Parts.{Becomes, Gives, kept_of, link_of}
 use Rattle.set_moves.proofs.Admitting.{IsIn, served}
 
--- ONE LINK MORE
-pub declared_next : (home first n : ℕ) (s : State) → declared_from home first (suc n) s ≡ declared_if home (first + n) (declared_from home first n s)
-declared_next home first zero s = grind arith
-declared_next home first (suc n) s = grind (arith, declared_next home (suc first) n (declared_if home first s))
+-- SO MANY STEPS, from one on: the last of them comes last
+module _ (run : ℕ → ℕ → State → State) (step : ℕ → State → State) (none : (from : ℕ) (s : State) → run from 0 s ≡ s) (next : (from n : ℕ) (s : State) → run from (suc n) s ≡ run (suc from) n (step from s)) where
+  last_step : (n from : ℕ) (s : State) → run from (n + 1) s ≡ step (from + n) (run from n s)
+  last_step zero from s = grind (arith, none, next)
+  last_step (suc n) from s = grind (arith, next, last_step n (suc from) (step from s))
 
-pub becomes_next : (home n : ℕ) (old now new : Parts) → Becomes old now (declared_from home 0 n) → Becomes now new (declared_if home n) → Becomes old new (declared_from home 0 (n + 1))
-becomes_next home n old now new before next s f =
-    let here : 0 + n ≡ n = omega arith in
-    rw (add-one, declared_next home 0 n s, here) (next (declared_from home 0 n s) (before s f))
+  pub becomes_next : (n from at : ℕ) (old now new : Parts) → at ≡ from + n → Becomes old now (run from n) → Becomes now new (step at) → Becomes old new (run from (n + 1))
+  becomes_next n from at old now new is before last s f = rw (last_step n from s, ← is) (last (run from n s) (before s f))
+
+-- WHETHER ANY OF SO MANY IS SUCH, from one on
+module _ (some : ℕ → ℕ → Bool) (such : ℕ → Bool) (none : (from : ℕ) → some from 0 ≡ false) (next : (from n : ℕ) → some from (suc n) ≡ (such from || some (suc from) n)) where
+  pub none_more : (n from at : ℕ) → at ≡ from + n → some from n ≡ false → such at ≡ false → some from (n + 1) ≡ false
+  none_more zero from at is e f = grind (arith, none, next)
+  none_more (suc n) from at is e f = grind (arith, next, none_more n (suc from) at)
+
+  pub found_at : (n m from at : ℕ) → at ≡ from + n → such at ≡ true → n < m → some from m ≡ true
+  found_at n zero from at is e low = absurd (omega arith)
+  found_at zero (suc m) from at is e low = grind (arith, next)
+  found_at (suc n) (suc m) from at is e low = grind (arith, next, found_at n m (suc from) at)
 
 -- ROOM on the links that are left, once one was taken
 pub room_after : (n : ℕ) (old new : Parts) → HasRoomFrom n old → new.links ≡ old.links → TakesRoom (Waiting n) 1 old.queues.rooms new.queues.rooms → old.queues.room ≤ new.queues.room + 1 → ((more : ℕ) → CanHold (more + 1) old.bodies → CanHold more new.bodies) → n < 16
@@ -39,29 +49,6 @@ room_after n old new r links takes message body low = record {
       let kept = rw (ne_eqb n link (λ e. omega (arith, e, far))) at (takes (Waiting link)) in
       omega (arith, r.each link (omega (arith, far)) (omega (arith, low, ap (λ ls. length ls.items) links)), kept);
 }
-
--- WHETHER ANY LINK IS SUCH, of so many
-pub some_here : (home first n : ℕ) (s : State) → can_declare home first s ≡ true → 0 < n → some_declare home first n s ≡ true
-some_here home first n s e h = grind arith
-
-pub some_next : (home first n : ℕ) (s : State) → can_declare home first s ≡ false → some_declare home first (suc n) s ≡ some_declare home (suc first) n s
-some_next home first n s e = rw e refl
-
--- none of the first links is
-abbrev pub NoneSoFar : ℕ → ℕ → State → Type 0
-NoneSoFar home n s = (m : ℕ) → n + m ≡ link_count s → some_declare home 0 (link_count s) s ≡ some_declare home n m s
-
-pub none_next : (home n : ℕ) (s : State) → can_declare home n s ≡ false → NoneSoFar home n s → NoneSoFar home (n + 1) s
-none_next home n s e far m h =
-    let next : suc n ≡ n + 1 = omega arith in
-    far (suc m) (omega (arith, h)) ∙ some_next home n m s e ∙ ap (λ (a : ℕ). some_declare home a m s) next
-
-pub found_here : (home n : ℕ) (s : State) → n < link_count s → can_declare home n s ≡ true → NoneSoFar home n s → some_declare home 0 (link_count s) s ≡ true
-found_here home n s low e far =
-    far (link_count s - n) (omega (arith, low)) ∙ some_here home n (link_count s - n) s e (omega (arith, low))
-
-pub none_of_all : (home n : ℕ) (s : State) → n ≡ link_count s → NoneSoFar home n s → some_declare home 0 (link_count s) s ≡ false
-none_of_all home n s e far = far 0 (omega (arith, e))
 
 pub count_is : (parts : Parts) (s : State) → StandsFor (kept_of parts) s → link_count s ≡ length parts.links.items
 count_is parts s f = sym (ap length f.links) ∙ length-map parts.links.items link_of

@@ -79,11 +79,10 @@ pub fn time_out(parts: &mut Parts, number: u8, answer: &mut Answer) -> Result<()
 }
 
 /// Whether streams can come back from some link.
-#[tactic(auto, using(crate::proofs::Declaring::count_is, crate::proofs::Declaring::found_here))]
 fn has_alternative(parts: &Parts, number: u8) -> bool
-    requires holds { Holds (kept_of parts.now) }
+    requires whole { IsWhole parts.now }
     requires known { number < length parts.now.links.items }
-    ensures { (s : State) → Agrees (kept_of parts.now) s
+    ensures { (s : State) → StandsFor (kept_of parts.now) s
         → result ≡ some_declare number 0 (link_count s) s }
 {
     for alternative in 0..parts.links.len() as u8 {

@@ -1,13 +1,20 @@
-use Rattle.std.proofs.Common.{arith, ◌∙◌, sym}
-use Rattle.set_moves.proofs.Declaring.{none_next, none_of_all, count_is}
+use Rattle.std.proofs.Common.{arith, refl, ◌≡◌, ◌∙◌, sym, ap}
+use Rattle.set_model.specs.Changeover.{can_declare, some_declare}
+use Rattle.set_model.specs.State.{link_count}
+use Rattle.set_moves.proofs.Declaring.{none_more, found_at, count_is}
 use Rattle.set_moves.proofs.changeback.has_alternative.Goals as goal
 
 pub loop-alternative-preserved : goal.loop-alternative-preserved
-loop-alternative-preserved c = λ s f. none_next c.args.number c.loop-alternative.alternative s (sym (c.may_declare.ensures.value s f) ∙ c.if-may_declare.false) (c.loop-alternative.invariant s f)
+loop-alternative-preserved c = λ s f.
+    none_more (λ from n. some_declare c.args.number from n s) (λ from. can_declare c.args.number from s) (λ from. refl) (λ from n. refl) c.loop-alternative.alternative 0 c.loop-alternative.alternative (omega arith) (c.loop-alternative.invariant s f) (sym (c.may_declare.ensures.value s f) ∙ c.if-may_declare.false)
+
+pub returns-then-may_declare : goal.returns-then-may_declare
+returns-then-may_declare c = λ s f.
+    let count = count_is c.args.parts.now s f in
+    sym (found_at (λ from n. some_declare c.args.number from n s) (λ from. can_declare c.args.number from s) (λ from. refl) (λ from n. refl) c.loop-alternative.alternative (link_count s) 0 c.loop-alternative.alternative (omega arith) (sym (c.may_declare.ensures.value s f) ∙ c.if-may_declare.true) (omega arith))
 
 pub returns : goal.returns
-returns c = λ s a.
-    let most = c.loop-alternative.auto.alternative-end in
-    let many = c.len-alternative-end.ensures in
-    let count = count_is c.args.parts.now s a.stands in
-    sym (none_of_all c.args.number c.loop-alternative.alternative s (omega (arith, c.loop-alternative-test.false, most, many, count)) (c.loop-alternative.invariant s a.stands))
+returns c = λ s f.
+    let count = count_is c.args.parts.now s f in
+    let all : link_count s ≡ c.loop-alternative.alternative = omega arith in
+    sym (ap (λ n. some_declare c.args.number 0 n s) all ∙ c.loop-alternative.invariant s f)

@@ -1,8 +1,9 @@
+use Rattle.std.proofs.Common.{◌≡◌, false}
+use Rattle.set_model.specs.Changeover.{some_declare}
 use Rattle.set_model.specs.State.{State}
 use Rattle.set_moves.specs.Agreement.{StandsFor}
 use Rattle.set_moves.specs.Parts.{kept_of}
-use Rattle.set_moves.proofs.Declaring.{NoneSoFar}
 use Rattle.set_moves.proofs.changeback.has_alternative.Given as goal
 
 abbrev pub invariant-loop-alternative : goal.invariant-loop-alternative
-invariant-loop-alternative l = (s : State) → StandsFor (kept_of l.parts) s → NoneSoFar l.number l.alternative s
+invariant-loop-alternative l = (s : State) → StandsFor (kept_of l.parts) s → some_declare l.number 0 l.alternative s ≡ false

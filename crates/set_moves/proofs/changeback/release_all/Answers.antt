@@ -1,4 +1,4 @@
-use Rattle.std.proofs.Common.{arith, ◌≡◌, ◌≤◌, ◌∙◌, ap, ℕ, ◌+◌, ◌*◌, ◌-◌, length, add-one, zero, suc}
+use Rattle.std.proofs.Common.{arith, refl, ◌≡◌, ◌≤◌, ◌∙◌, ap, ℕ, ◌+◌, ◌*◌, ◌-◌, length, add-one, zero, suc}
 use Rattle.set_events.specs.declared.answer.Fate.TheVariants.{Waiting, Back}
 use Rattle.set_queues.specs.Backs.{back_from, back_count}
 use Rattle.set_queues.specs.Buffers.{Lists, queue_at, room_at}
@@ -6,17 +6,8 @@ use Rattle.set_queues.proofs.CodeQueues.{back_more, back_grows}
 use Rattle.set_route.specs.Routing.{home_of}
 use Rattle.set_model.specs.Changeover.{released_from, released}
 use Rattle.set_model.specs.State.{State}
+use Rattle.set_moves.proofs.Declaring.{becomes_next}
 use Rattle.set_moves.proofs.changeback.release_all.Goals as goal
-
--- one more
-released_last : (code n : ℕ) (s : State) → released_from code (suc n) s ≡ released (code + n) (released_from code n s)
-released_last code zero s = grind arith
-released_last code (suc n) s =
-    let next : code + suc n ≡ suc code + n = omega arith in
-    rw next (released_last (suc code) n (released code s))
-
-released_more : (code n : ℕ) (s : State) → released_from code (n + 1) s ≡ released (code + n) (released_from code n s)
-released_more code n s = rw add-one (released_last code n s)
 
 -- what waits for one of the codes waits for all
 enough : (home i room : ℕ) (q : Lists) → i + 1 ≤ 16 → back_count home q ≤ room + back_from (16 * home) i q → length (queue_at (Back (16 * home + i)) q) ≤ room
@@ -43,5 +34,5 @@ loop-alternative-preserved c =
       links = c.release.ensures.links ∙ c.loop-alternative.invariant.links;
       room = omega (arith, back_more (16 * h) i c.args.parts.now.queues.lists, rw home at c.release.ensures.rooms, same);
       later = λ j far. c.release.ensures.others (16 * h + j) (λ e. omega (arith, e, far)) ∙ c.loop-alternative.invariant.later j (omega (arith, far));
-      stands = λ s f. rw (released_more (16 * h) i s, ← is) (c.release.ensures.stands (released_from (16 * h) i s) (c.loop-alternative.invariant.stands s f));
+      stands = becomes_next released_from released (λ from s. refl) (λ from n s. refl) i (16 * h) c.changeback_code.result c.args.parts.now c.loop-alternative.parts c.release.new.parts is c.loop-alternative.invariant.stands c.release.ensures.stands;
     }

@@ -17,7 +17,7 @@ has_alternative-requires-clause-known c = (serves c.args.parts.now.links.items c
 pub returns-then-not-has_alternative-clause-ok : goal.returns-then-not-has_alternative-clause-ok
 returns-then-not-has_alternative-clause-ok c = λ s a.
     let h = serves c.args.parts.now.links.items c.args.number (ap (λ links. service_refusal (slice_get links c.args.number)) (sym c.deref.ensures.value) ∙ sym c.out_of_service.ensures ∙ c.in_default.is) in
-    come_back false s c.args.number (Refused Nothing) c.args.parts.now (is_in c.args.parts.now s c.args.number Up a h) (sym (c.has_alternative.ensures s a) ∙ c.if-not-has_alternative.true) (record { answer_is = refl; stands = a.stands })
+    come_back false s c.args.number (Refused Nothing) c.args.parts.now (is_in c.args.parts.now s c.args.number Up a h) (sym (c.has_alternative.ensures s a.stands) ∙ c.if-not-has_alternative.true) (record { answer_is = refl; stands = a.stands })
 
 pub declare_all-requires-clause-home : goal.declare_all-requires-clause-home
 declare_all-requires-clause-home c =
@@ -29,7 +29,7 @@ returns-clause-ok c = λ s a.
     let n = c.args.number in
     let h = serves c.args.parts.now.links.items n (ap (λ links. service_refusal (slice_get links n)) (sym c.deref.ensures.value) ∙ sym c.out_of_service.ensures ∙ c.in_default.is) in
     let now = agrees_same c.args.parts.now c.make_room_declared.new.parts s c.make_room_declared.ensures.same a in
-    come_back true s n Done c.declare_all.new.parts (is_in c.args.parts.now s n Up a h) (sym (c.has_alternative.ensures s a) ∙ c.if-not-has_alternative.false) (record {
+    come_back true s n Done c.declare_all.new.parts (is_in c.args.parts.now s n Up a h) (sym (c.has_alternative.ensures s a.stands) ∙ c.if-not-has_alternative.false) (record {
       answer_is = refl;
       stands = rw (count_is c.make_room_declared.new.parts s now.stands) (c.declare_all.ensures.stands s now.stands);
     })
