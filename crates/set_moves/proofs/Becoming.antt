@@ -1,5 +1,5 @@
 -- What is kept after a call stands for what became of the state.
-use Rattle.std.proofs.Common.{refl, arith, ◌≡◌, ◌∙◌, ap, sym, subst, ◌≤◌, [], ◌∷◌, List, ℕ, false, length, Some, slice_get, slice_set, ◌+◌, ◌-◌, ◌%◌, true}
+use Rattle.std.proofs.Common.{arith, ◌≡◌, ◌∙◌, ap, sym, subst, ◌≤◌, [], ◌∷◌, List, ℕ, false, length, Some, slice_get, slice_set, ◌+◌, ◌-◌, ◌%◌, true}
 use Rattle.std.proofs.lemmas.Bool.{le-leb, lt-leb}
 use Rattle.std.proofs.lemmas.List.{length-map}
 use Rattle.set_events.specs.declared.answer.Fate.TheVariants.{Unacked, Waiting, Parked}
@@ -12,9 +12,8 @@ use Rattle.set_route.specs.Routing.{Routing}
 use Rattle.set_model.specs.Rows.{Row, turned, is_waiting, is_parked, moved, all_with, IsInOrder, unack}
 use Rattle.set_model.specs.Changeover.{reached_by, is_reasonable}
 use Rattle.set_model.specs.State.{State, LinkState, with_link}
-use Rattle.set_model.proofs.Lists.{set_same}
 use Rattle.set_moves.specs.Agreement.{Kept, StandsFor}
-use Rattle.set_moves.proofs.States.{kept_is, link_for, sent_for, risen_for}
+use Rattle.set_moves.proofs.States.{kept_is, link_for, sent_for, risen_for, has_queues}
 
 -- new keeps this, and all else as old
 pub record Becoming (old new : Kept) (lists : Lists) (messages : List Message) (bodies : List (List ℕ)) (links : List LinkState) (routing : Routing) : Type 0 where
@@ -54,9 +53,7 @@ pub sent_then : (old new : Kept) (s : State) (n message : ℕ) (link : LinkState
     → Becoming old new (first_sent n message old.lists) (restood (message ∷ []) (Unacked n) old.messages) old.bodies s.links old.routing
     → StandsFor new (record s { rows = turned (is_waiting n) (Unacked n) 1 s.rows })
 sent_then old new s n message link f order there first b =
-    let same : slice_set s.links n link ≡ s.links = set_same s.links n link there in
-    becomes old new _ _ _ _ _ _ b (subst (λ links. StandsFor (record old { lists = first_sent n message old.lists; messages = restood (message ∷ []) (Unacked n) old.messages; links = links }) (record s { rows = turned (is_waiting n) (Unacked n) 1 s.rows; links = links })) same
-    (sent_for old s n message link link f order there refl first))
+    becomes old new _ _ _ _ _ _ b (subst (λ links. StandsFor (record old { lists = first_sent n message old.lists; messages = restood (message ∷ []) (Unacked n) old.messages; links = links }) (record s { rows = turned (is_waiting n) (Unacked n) 1 s.rows })) f.links (sent_for old s n message f order (has_queues old s n link f there) first))
 
 -- A LINK COMES UP
 pub risen_then : (old new : Kept) (s : State) (n : ℕ) (link link' : LinkState) (routing : Routing) → StandsFor old s → slice_get s.links n ≡ Some link → link'.acked ≡ 0

@@ -1,5 +1,5 @@
 -- A declaration goes out on each link from which streams come back.
-use Rattle.std.proofs.Common.{add-one, refl, arith, ◌≡◌, ◌∙◌, ap, sym, subst, ◌≤◌, ◌<◌, ◌+◌, ◌-◌, ◌||◌, ℕ, zero, suc, true, false, Bool, length, if◌then◌else◌}
+use Rattle.std.proofs.Common.{arith, ◌≡◌, ◌∙◌, ap, sym, subst, ◌≤◌, ◌<◌, ◌+◌, ◌-◌, ◌||◌, ℕ, zero, suc, true, false, Bool, length, if◌then◌else◌}
 use Rattle.std.proofs.lemmas.Bool.{ne_eqb}
 use Rattle.std.proofs.lemmas.List.{length-map}
 use Rattle.set_events.specs.declared.answer.Answer.{Answer}
@@ -10,7 +10,7 @@ use Rattle.set_queues.specs.Bodies.{CanHold}
 use Rattle.set_queues.specs.Buffers.{TakesRoom}
 use Rattle.set_route.specs.Routing.{Routing, asked}
 use Rattle.set_model.specs.declared.phase.Phase.TheVariants.{Up}
-use Rattle.set_model.specs.Changeover.{can_declare, declared_if, declared_from, some_declare}
+use Rattle.set_model.specs.Changeover.{declared_from, some_declare}
 use Rattle.set_model.specs.State.{State, link_count}
 use Rattle.set_model.specs.Step.{refused, in_service, comes_back}
 use Rattle.set_moves.specs.declared.parts.Parts.{Parts}

@@ -4,12 +4,10 @@ pub mod Declaring
 pub mod Leaving
 pub mod Less
 pub mod Links
-pub mod Occurring
 pub mod Oldest
 pub mod Rooms
 pub mod RowsAt
 pub mod Shifting
-pub mod Standing
 pub mod States
 pub mod Targets
 pub mod TurnedQueues

@@ -1,5 +1,5 @@
 -- THE OLDEST that stands back for a link is the first of the rows that do; and where it goes.
-use Rattle.std.proofs.Common.{refl, arith, ◌≡◌, ◌∙◌, ap, sym, subst, ◌/◌, ◌≤◌, ◌<◌, [], ◌∷◌, length, ℕ, Bool, true, ◌==◌, ◌⊎◌, List, Option, Some, None, false}
+use Rattle.std.proofs.Common.{refl, arith, ◌≡◌, ◌∙◌, ap, sym, subst, ◌≤◌, ◌<◌, [], ◌∷◌, length, ℕ, Bool, true, ◌==◌, ◌⊎◌, List, Option, Some, None, false}
 use Rattle.std.specs.Prelude.{slice_get, filter}
 use Rattle.std.specs.Option.{option_map}
 use Rattle.std.proofs.lemmas.Bool.{eq-eqb, ne_eqb, not-true}

@@ -14,7 +14,7 @@ use Rattle.set_model.proofs.Filters.{filter_comm, filter_within, filter_apart}
 use Rattle.set_model.proofs.Finding.{with_number, same_numbers}
 use Rattle.set_model.proofs.Lookups.{row_is_first}
 use Rattle.set_model.proofs.Standing.{each_append, each_filter}
-use Rattle.set_moves.proofs.Occurring.{GoesTo}
+use Rattle.set_moves.proofs.RowsAt.{GoesTo}
 
 -- all but those of this number
 abbrev pub without : ℕ → List Row → List Row

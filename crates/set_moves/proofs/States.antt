@@ -1,29 +1,90 @@
 -- WHAT IS KEPT STANDS FOR THE STATE, before and after each small change.
-use Rattle.std.proofs.Common.{refl, arith, ◌≡◌, ◌≢◌, ◌∙◌, ap, sym, ◌<◌, [], ◌∷◌, length, ℕ, zero, suc, ◌+◌, ◌-◌, ◌%◌, ◌==◌, true, false, List, ◌++◌, Option, Some, take, drop}
+use Rattle.std.proofs.Common.{refl, arith, ◌≡◌, ◌∙◌, ap, sym, subst, ◌≤◌, ◌<◌, [], ◌∷◌, length, ℕ, zero, suc, ◌==◌, Bool, true, false, List, ◌++◌, Option, Some, None, take, drop, cond, ◌≢◌, ◌+◌, ◌-◌, ◌%◌}
 use Rattle.std.specs.Prelude.{slice_get, slice_set}
-use Rattle.std.proofs.lemmas.List.{length-append}
+use Rattle.std.specs.Option.{option_map}
+use Rattle.std.proofs.lemmas.Bool.{cases_eq}
+use Rattle.std.proofs.lemmas.List.{length-append, map-append}
+use Rattle.std.proofs.lemmas.List.Folds.{find-append}
 use Rattle.std.proofs.lemmas.Bool.Decides.{nat_tests}
 use Rattle.set_events.specs.declared.answer.Fate.{Fate}
 use Rattle.set_events.specs.declared.answer.Fate.TheVariants.{Waiting, Unacked, Acked, Held, Parked, Back, Discarded}
 use Rattle.set_events.specs.declared.answer.DiscardCause.{DiscardCause}
 use Rattle.set_queues.specs.declared.message.Message.{Message}
-use Rattle.set_queues.specs.Buffers.{LinkLists, Lists, is_standing, queue_at, with_queue, last_at, with_last, number_in, IsKnown}
-use Rattle.set_queues.specs.Messages.{restood}
-use Rattle.set_queues.specs.Queues.{passed}
+use Rattle.set_queues.specs.Buffers.{Lists, is_standing, same_fate, queue_at, with_queue, IsKnown, LinkLists, last_at, with_last, number_in, IsQueued}
+use Rattle.set_queues.specs.Messages.{with_fate as message_with, restood_one, restood, fate_at}
 use Rattle.set_queues.specs.Sending.{first_sent, acknowledged as acked_lists, reach}
+use Rattle.set_queues.specs.Queues.{occurs, passed}
 use Rattle.set_queues.specs.Settling.{on as on_lists, settled}
-use Rattle.set_queues.proofs.Updates.{updated_there, updated_other}
-use Rattle.set_queues.proofs.Passing.{links_stay, list_kept, kept_last}
-use Rattle.set_queues.proofs.Settling.{IsAside}
-use Rattle.set_queues.proofs.Soundness.{passed_links, sent_links, acked_links, queue_last, last_links}
-use Rattle.set_route.specs.Routing.{Routing}
-use Rattle.set_model.specs.Rows.{Row, is_waiting, is_unacked, is_on, is_parked, is_back, turned, changed, moved, all_with, appended, IsInOrder, IsHeldLast}
+use Rattle.set_queues.proofs.Updates.{updated_same, updated_other, updated_there}
+use Rattle.set_queues.proofs.Standing.{same_is, length-restood, fate_stays, fate_moves}
+use Rattle.set_queues.proofs.Passing.{queue_set, links_stay, list_kept, kept_last}
+use Rattle.set_queues.proofs.Soundness.{both_replaced, passed_replaces, queue_last, passed_links, sent_links, acked_links, last_links}
+use Rattle.set_queues.proofs.Settling.{IsAside, settling}
+use Rattle.set_model.specs.Rows.{Row, standing, is_waiting, is_unacked, is_on, is_parked, is_back, wait, on, numbers, turned, changed, moved, all_with, appended, row_of, place, IsNumbered, IsInOrder, IsHeldLast}
 use Rattle.set_model.specs.Changeover.{fate_on}
+use Rattle.set_model.specs.Laws.{SameMessages}
+use Rattle.set_model.proofs.Finding.{new_row, numbered_appended, with_number, is_found}
+use Rattle.set_model.proofs.Lookups.{row_is_first, no_rows}
+use Rattle.set_model.proofs.Order.{on_in_order}
+use Rattle.set_moves.specs.Agreement.{Stands, rows_at, label_in, label_of, kind_of, Kept, StandsFor}
+use Rattle.set_moves.proofs.RowsAt.{final_none, Shifts, appended_at, sent_shifts, turned_shifts, changed_shifts, moved_shifts, sent_of_one, is_there}
+use Rattle.set_route.specs.Routing.{Routing}
 use Rattle.set_model.specs.State.{LinkState, State}
-use Rattle.set_model.proofs.Events.{Kept as RowsKept}
-use Rattle.set_model.proofs.Lists.{at_set, length_set, within}
-use Rattle.set_moves.specs.Agreement.{Kept, Stands, StandsFor}
-use Rattle.set_moves.proofs.Standing.{Moves, get_push, row_push, message_of, appended_stands, sent_stands, acked_stands, sent_up_stands, waiting_up_stands, unparked_stands, released_stands, on_numbers, settled_stands}
+use Rattle.set_model.proofs.Lists.{at_set, length_set, within, present}
+
+-- A message that comes to stand elsewhere keeps its label.
+label_with : (to : Fate) (o : Option Message) → option_map label_in (option_map (message_with to) o) ≡ option_map label_in o
+label_with to o = grind arith
+
+label_one : (n k : ℕ) (to : Fate) (ms : List Message) → option_map label_in (slice_get (restood_one k to ms) n) ≡ option_map label_in (slice_get ms n)
+label_one n k to ms = grind (arith, nat_tests, cases_eq, updated_same, label_with, updated_other)
+
+pub labels_stay : (n : ℕ) (ns : List ℕ) (to : Fate) (ms : List Message) → option_map label_in (slice_get (restood ns to ms) n) ≡ option_map label_in (slice_get ms n)
+labels_stay n [] to ms = refl
+labels_stay n (k ∷ ns) to ms = labels_stay n ns to (restood_one k to ms) ∙ label_one n k to ms
+
+-- a final fate has no queue
+only_standing : (q : Lists) (rows : List Row) → ((f : Fate) → is_standing f ≡ true → queue_at f q ≡ numbers (rows_at f rows)) → (f : Fate) → queue_at f q ≡ numbers (rows_at f rows)
+only_standing q rows h f = grind (arith, h)
+
+-- THE QUEUES STAND FOR THE ROWS, which are the same messages,
+pub record Moves (q : Lists) (ms : List Message) (rows new : List Row) : Type 0 where
+  pub stands : Stands q ms new
+  pub same : SameMessages rows new
+
+-- where the queues change as the places of the rows do
+pub shifts_stand : {q q' : Lists} {ms : List Message} {rows new : List Row} {test : Fate → Bool} {to : Fate} {ns xs left joined : List ℕ} → Stands q ms rows → Shifts test to ns left joined rows new
+    → ((f : Fate) → is_standing f ≡ true → queue_at f q' ≡ cond (test f) left (cond (same_fate to f) joined (queue_at f q))) → xs ≡ ns → Moves q' (restood xs to ms) rows new
+shifts_stand {q} {q'} {ms} {rows} {new} {test} {to} {ns} {xs} {left} {joined} s shifts queues e = subst (λ (ys : List ℕ). Moves q' (restood ys to ms) rows new) (sym e) (record {
+  stands = record {
+    queues = only_standing q' new (λ f t. queues f t ∙ ap (λ (ys : List ℕ). cond (test f) left (cond (same_fate to f) joined ys)) (s.queues f) ∙ sym (shifts.places f t));
+    fates = λ n. fate n (occurs n ns) refl;
+    labels = λ n. labels_stay n ns to ms ∙ s.labels n ∙ ap (option_map label_of) (sym (shifts.messages.bodies n));
+    count = length-restood ns to ms ∙ s.count ∙ sym shifts.messages.count;
+    numbered = shifts.messages.numbered;
+  };
+  same = shifts.messages;
+})
+  where
+    fate : (n k : ℕ) → occurs n ns ≡ k → fate_at n (restood ns to ms) ≡ place n new
+    fate n zero e = fate_stays n ns to ms e ∙ s.fates n ∙ sym ((shifts.goes n).stays e)
+    fate n (suc k) e = fate_moves n ns to ms (shifts.given ms s.count) (omega (arith, e)) ∙ sym ((shifts.goes n).goes (omega (arith, e)))
+
+-- A NEW MESSAGE
+pub get_push : {X : Type 0} (xs : List X) (x : X) (n : ℕ) → slice_get (xs ++ x ∷ []) n ≡ cond (length xs == n) (Some x) (slice_get xs n)
+get_push [] x n = grind (arith, nat_tests)
+get_push (y ∷ xs) x zero = grind (arith, nat_tests)
+get_push (y ∷ xs) x (suc n) = grind (arith, nat_tests, get_push xs x n)
+
+-- its number is the first that no row had
+none_at : (n : ℕ) (rows : List Row) → IsNumbered rows → length rows ≤ n → row_of n rows ≡ None
+none_at n rows numbered far = let none = no_rows (with_number n rows) in grind (arith, nat_tests, row_is_first, none, numbered)
+
+pub row_push : (n : ℕ) (rows : List Row) (body : List ℕ) (fate : Fate) → IsNumbered rows → row_of n (appended rows body fate) ≡ cond (length rows == n) (Some (new_row (length rows) body fate)) (row_of n rows)
+row_push n rows body fate numbered = find-append (λ (r : Row). r.number == n) rows (new_row (length rows) body fate ∷ []) ∙ grind (arith, nat_tests, none_at, is_found)
+
+abbrev pub message_of : List ℕ → Fate → Message
+message_of body fate = record { fate = fate; kind = kind_of body; octets = length body }
 
 -- A value that is kept so.
 pub kept_is : (k : Kept) (lists : Lists) (messages : List Message) (bodies : List (List ℕ)) (links : List LinkState) (routing : Routing) (inbox : List (List ℕ)) → k.lists ≡ lists → k.messages ≡ messages → k.bodies ≡ bodies → k.links ≡ links → k.routing ≡ routing → k.inbox ≡ inbox
@@ -37,27 +98,19 @@ last_stays (Unacked l) xs q n = list_kept number_in (λ (z : LinkLists). record 
 last_stays (Held l) xs q n = list_kept number_in (λ (z : LinkLists). record z { held = xs }) q.links l n (kept_last (λ (z : LinkLists). record z { held = xs }) (λ x. refl)) (l == n) refl
 last_stays _ xs q n = refl
 
-pub last_passed : (from to : Fate) (q : Lists) (n : ℕ) → last_at n (passed from to q) ≡ last_at n q
-last_passed from to q n = last_stays from [] (with_queue to (queue_at to q ++ queue_at from q) q) n ∙ last_stays to (queue_at to q ++ queue_at from q) q n
+last_passed : (from to : Fate) (q : Lists) (n : ℕ) → last_at n (passed from to q) ≡ last_at n q
+last_passed from to q n = search last_stays
 
-pub last_settled : (l : ℕ) (to : Fate) (q : Lists) (n : ℕ) → last_at n (settled l to q) ≡ last_at n q
-last_settled l to q n = last_passed (Held l) to (passed (Waiting l) to (passed (Unacked l) to q)) n ∙ last_passed (Waiting l) to (passed (Unacked l) to q) n ∙ last_passed (Unacked l) to q n
+last_settled : (l : ℕ) (to : Fate) (q : Lists) (n : ℕ) → last_at n (settled l to q) ≡ last_at n q
+last_settled l to q n = search last_passed
 
-pub settled_links : (l : ℕ) (to : Fate) (q : Lists) → length (settled l to q).links ≡ length q.links
-settled_links l to q = passed_links (passed (Waiting l) to (passed (Unacked l) to q)) (Held l) to ∙ passed_links (passed (Unacked l) to q) (Waiting l) to ∙ passed_links q (Unacked l) to
+settled_links : (l : ℕ) (to : Fate) (q : Lists) → length (settled l to q).links ≡ length q.links
+settled_links l to q = search passed_links
 
-pub last_sent : (l message : ℕ) (q : Lists) (n : ℕ) → last_at n (first_sent l message q) ≡ last_at n q
-last_sent l message q n = last_stays (Waiting l) (drop 1 (queue_at (Waiting l) q)) (with_queue (Unacked l) (queue_at (Unacked l) q ++ message ∷ []) q) n ∙ last_stays (Unacked l) (queue_at (Unacked l) q ++ message ∷ []) q n
-
-present : {X : Type 0} (xs : List X) (n : ℕ) → n < length xs → (x : X) × (slice_get xs n ≡ Some x)
-present [] n h = absurd (omega arith)
-present (x ∷ xs) zero h = (x, refl)
-present (x ∷ xs) (suc n) h = present xs n (omega arith)
-
-pub last_here : (l fsn : ℕ) (q : Lists) → l < length q.links → last_at l (with_last l fsn q) ≡ fsn
+last_here : (l fsn : ℕ) (q : Lists) → l < length q.links → last_at l (with_last l fsn q) ≡ fsn
 last_here l fsn q h = let x = present q.links l h in ap number_in (updated_there (λ (z : LinkLists). record z { last = fsn }) q.links l x.0 x.1)
 
-pub last_there : (l fsn : ℕ) (q : Lists) (n : ℕ) → l ≢ n → last_at n (with_last l fsn q) ≡ last_at n q
+last_there : (l fsn : ℕ) (q : Lists) (n : ℕ) → l ≢ n → last_at n (with_last l fsn q) ≡ last_at n q
 last_there l fsn q n ne = ap number_in (updated_other (λ (z : LinkLists). record z { last = fsn }) q.links l n ne)
 
 -- the FSNs of links of which one changed
@@ -68,54 +121,54 @@ fsns_set s lists n link' others own m link there = grind (arith, nat_tests, at_s
 -- A NEW MESSAGE.
 pub appended_for : (k : Kept) (s : State) (body : List ℕ) (fate : Fate) → StandsFor k s → is_standing fate ≡ true → IsKnown fate k.lists
     → StandsFor (record k { lists = with_queue fate (queue_at fate k.lists ++ length k.messages ∷ []) k.lists; messages = k.messages ++ message_of body fate ∷ []; bodies = k.bodies ++ body ∷ [] }) (record s { rows = appended s.rows body fate })
-appended_for k s body fate f standing known = record {
-  settings = f.settings;
-  stands = appended_stands k.lists k.messages s.rows body fate f.stands standing known;
-  bodies = λ n. let old = f.bodies n in grind (arith, get_push k.bodies body n, row_push n s.rows body fate f.stands.numbered, f.held_bodies, f.stands.count, old);
-  held_bodies = let more = length-append k.bodies (body ∷ []) in let many = length-append k.messages (message_of body fate ∷ []) in let same = f.held_bodies in omega (arith, more, many, same);
-  links = f.links;
-  as_many = links_stay fate (queue_at fate k.lists ++ length k.messages ∷ []) k.lists ∙ f.as_many;
-  fsns = λ n link there. last_stays fate (queue_at fate k.lists ++ length k.messages ∷ []) k.lists n ∙ f.fsns n link there;
-  routing = f.routing;
-  inbox = f.inbox;
-}
+appended_for k s body fate f standing known =
+    let q : Lists = with_queue fate (queue_at fate k.lists ++ length k.messages ∷ []) k.lists in
+    let more = length-append k.messages (message_of body fate ∷ []) in
+    record {
+      settings = f.settings;
+      stands = record {
+        queues = only_standing q (appended s.rows body fate) (λ g t. grind (arith, f.stands, same_is, queue_set, appended_at));
+        fates = λ n. let old = f.stands.fates n in grind (arith, get_push k.messages (message_of body fate) n, row_push n s.rows body fate f.stands.numbered, f.stands.count, old);
+        labels = λ n. let old = f.stands.labels n in grind (arith, get_push k.messages (message_of body fate) n, row_push n s.rows body fate f.stands.numbered, f.stands.count, old);
+        count = omega (arith, more, f.stands.count, length-append s.rows (new_row (length s.rows) body fate ∷ []));
+        numbered = numbered_appended s.rows body fate f.stands.numbered;
+      };
+      bodies = λ n. let old = f.bodies n in grind (arith, get_push k.bodies body n, row_push n s.rows body fate f.stands.numbered, f.held_bodies, f.stands.count, old);
+      held_bodies = omega (arith, more, f.held_bodies, length-append k.bodies (body ∷ []));
+      links = f.links;
+      as_many = links_stay fate (queue_at fate k.lists ++ length k.messages ∷ []) k.lists ∙ f.as_many;
+      fsns = λ n link there. last_stays fate (queue_at fate k.lists ++ length k.messages ∷ []) k.lists n ∙ f.fsns n link there;
+      routing = f.routing;
+      inbox = f.inbox;
+    }
 
--- MESSAGES COME TO STAND ELSEWHERE, and routing may change.
+-- MESSAGES COME TO STAND ELSEWHERE, and links and routing may change.
 module _ (k : Kept) (s : State) (f : StandsFor k s) (lists : Lists) (messages : List Message) (new : List Row) (moves : Moves lists messages s.rows new) (as_many : length lists.links ≡ length k.lists.links) (routing routing' : Routing) (way : routing ≡ routing') where
-  as_many_bodies : length k.bodies ≡ length messages
-  as_many_bodies = let now = moves.stands.count in let then = moves.same.count in let before = f.stands.count in let bodies = f.held_bodies in omega (arith, now, then, before, bodies)
-
-  -- no link changes
-  pub queues_for : ((n : ℕ) → last_at n lists ≡ last_at n k.lists) → StandsFor (record k { lists = lists; messages = messages; routing = routing }) (record s { rows = new; routing = routing' })
-  queues_for last = record {
+  moved_for : (links : List LinkState) → length links ≡ length s.links → ((m : ℕ) (link : LinkState) → slice_get links m ≡ Some link → last_at m lists ≡ (link.acked + 127) % 128)
+      → StandsFor (record k { lists = lists; messages = messages; links = links; routing = routing }) (record s { rows = new; links = links; routing = routing' })
+  moved_for links many fsns = record {
     settings = f.settings;
     stands = moves.stands;
     bodies = λ n. f.bodies n ∙ sym (moves.same.bodies n);
-    held_bodies = as_many_bodies;
-    links = f.links;
-    as_many = as_many ∙ f.as_many;
-    fsns = λ n link there. last n ∙ f.fsns n link there;
+    held_bodies = omega (arith, moves.stands.count, moves.same.count, f.stands.count, f.held_bodies);
+    links = refl;
+    as_many = as_many ∙ f.as_many ∙ sym many;
+    fsns = fsns;
     routing = way;
     inbox = f.inbox;
   }
+
+  -- no link changes
+  pub queues_for : ((n : ℕ) → last_at n lists ≡ last_at n k.lists) → StandsFor (record k { lists = lists; messages = messages; routing = routing }) (record s { rows = new; routing = routing' })
+  queues_for last = subst (λ links. StandsFor (record k { lists = lists; messages = messages; links = links; routing = routing }) (record s { rows = new; routing = routing' })) (sym f.links) (moved_for s.links refl (λ n link there. last n ∙ f.fsns n link there))
 
   -- one does
   link_and_queues_for : (n : ℕ) (link' : LinkState) → ((m : ℕ) → n ≢ m → last_at m lists ≡ last_at m k.lists) → last_at n lists ≡ (link'.acked + 127) % 128
       → StandsFor (record k { lists = lists; messages = messages; links = slice_set s.links n link'; routing = routing }) (record s { rows = new; links = slice_set s.links n link'; routing = routing' })
-  link_and_queues_for n link' others own = record {
-    settings = f.settings;
-    stands = moves.stands;
-    bodies = λ m. f.bodies m ∙ sym (moves.same.bodies m);
-    held_bodies = as_many_bodies;
-    links = refl;
-    as_many = as_many ∙ f.as_many ∙ sym (length_set s.links n link');
-    fsns = fsns_set s lists n link' (λ m other ne at. others m ne ∙ f.fsns m other at) own;
-    routing = way;
-    inbox = f.inbox;
-  }
+  link_and_queues_for n link' others own = moved_for (slice_set s.links n link') (length_set s.links n link') (fsns_set s lists n link' (λ m other ne at. others m ne ∙ f.fsns m other at) own)
 
 -- a link on which nothing more was acknowledged
-still : (k : Kept) (s : State) (n : ℕ) (link link' : LinkState) → StandsFor k s → slice_get s.links n ≡ Some link → link'.acked ≡ link.acked → last_at n k.lists ≡ (link'.acked + 127) % 128
+pub still : (k : Kept) (s : State) (n : ℕ) (link link' : LinkState) → StandsFor k s → slice_get s.links n ≡ Some link → link'.acked ≡ link.acked → last_at n k.lists ≡ (link'.acked + 127) % 128
 still k s n link link' f there e = f.fsns n link there ∙ ap (λ (a : ℕ). (a + 127) % 128) (sym e)
 
 -- A LINK CHANGES, but for what was acknowledged on it.
@@ -126,15 +179,21 @@ link_for k s n link link' routing f there e =
     link_and_queues_for k s f _ _ _ nothing refl routing routing refl n link' (λ m ne. refl) (still k s n link link' f there e)
 
 -- there are queues of each link
-has_queues : (k : Kept) (s : State) (n : ℕ) (link : LinkState) → StandsFor k s → slice_get s.links n ≡ Some link → n < length k.lists.links
+pub has_queues : (k : Kept) (s : State) (n : ℕ) (link : LinkState) → StandsFor k s → slice_get s.links n ≡ Some link → n < length k.lists.links
 has_queues k s n link f there = let low = within s.links n link there in let many = f.as_many in omega (arith, low, many)
 
--- A FIRST SENDING, under a control that goes on.
-pub sent_for : (k : Kept) (s : State) (n message : ℕ) (link link' : LinkState) → StandsFor k s → IsInOrder n s.rows → slice_get s.links n ≡ Some link → link'.acked ≡ link.acked → slice_get (queue_at (Waiting n) k.lists) 0 ≡ Some message
-    → StandsFor (record k { lists = first_sent n message k.lists; messages = restood (message ∷ []) (Unacked n) k.messages; links = slice_set s.links n link' }) (record s { rows = turned (is_waiting n) (Unacked n) 1 s.rows; links = slice_set s.links n link' })
-sent_for k s n message link link' f order there e first =
-    link_and_queues_for k s f _ _ _ (sent_stands n message k.lists k.messages s.rows f.stands order (has_queues k s n link f there) first) (sent_links k.lists n message) _ _ f.routing n link'
-    (λ m ne. last_sent n message k.lists m) (last_sent n message k.lists n ∙ still k s n link link' f there e)
+-- A FIRST SENDING: the first that waits stands last among the unacknowledged.
+pub sent_for : (k : Kept) (s : State) (n message : ℕ) → StandsFor k s → IsInOrder n s.rows → n < length k.lists.links → slice_get (queue_at (Waiting n) k.lists) 0 ≡ Some message
+    → StandsFor (record k { lists = first_sent n message k.lists; messages = restood (message ∷ []) (Unacked n) k.messages }) (record s { rows = turned (is_waiting n) (Unacked n) 1 s.rows })
+sent_for k s n message f order known first =
+    let waits = f.stands.queues (Waiting n) in
+    let sent = f.stands.queues (Unacked n) in
+    let taken : message ∷ [] ≡ take 1 (numbers (wait n s.rows)) = one (queue_at (Waiting n) k.lists) first ∙ ap (take 1) waits in
+    queues_for k s f _ _ _ (shifts_stand f.stands (sent_shifts n s.rows f.stands.numbered order)
+    (λ g t. both_replaced k.lists (Waiting n) (Unacked n) (drop 1 (queue_at (Waiting n) k.lists)) (queue_at (Unacked n) k.lists ++ message ∷ []) known known g t ∙ grind (arith, nat_tests, waits, sent, taken)) taken) (sent_links k.lists n message) _ _ f.routing (λ m. search last_stays)
+  where
+    one : (xs : List ℕ) → slice_get xs 0 ≡ Some message → message ∷ [] ≡ take 1 xs
+    one xs e = grind arith
 
 -- AN ACKNOWLEDGEMENT, under a link that counts it.
 reached : (acked fsn : ℕ) → fsn < 128 → (acked + (fsn + 128 - (acked + 127) % 128) % 128 + 127) % 128 ≡ fsn
@@ -145,48 +204,70 @@ pub acked_for : (k : Kept) (s : State) (n fsn : ℕ) (link link' : LinkState) �
     (record s { rows = turned (is_unacked n) (Acked n) (reach n fsn k.lists) s.rows; links = slice_set s.links n link' })
 acked_for k s n fsn link link' f there h e =
     let count : ℕ = reach n fsn k.lists in
-    let mid : Lists = with_queue (Unacked n) (drop count (queue_at (Unacked n) k.lists)) k.lists in
+    let left : List ℕ = drop count (queue_at (Unacked n) k.lists) in
+    let mid : Lists = with_queue (Unacked n) left k.lists in
     let known = has_queues k s n link f there in
-    let inner : n < length mid.links = let many = links_stay (Unacked n) (drop count (queue_at (Unacked n) k.lists)) k.lists in omega (arith, known, many) in
+    let inner : n < length mid.links = omega (arith, known, links_stay (Unacked n) left k.lists) in
     let counted : (link'.acked + 127) % 128 ≡ fsn = ap (λ (a : ℕ). (a + 127) % 128) (e ∙ ap (λ (last : ℕ). link.acked + (fsn + 128 - last) % 128) (f.fsns n link there)) ∙ reached link.acked fsn h in
-    link_and_queues_for k s f _ _ _ (acked_stands n fsn k.lists k.messages s.rows f.stands known) (acked_links k.lists n fsn) _ _ f.routing n link'
-    (λ m ne. last_there n fsn mid m ne ∙ last_stays (Unacked n) (drop count (queue_at (Unacked n) k.lists)) k.lists m) (last_here n fsn mid inner ∙ sym counted)
+    link_and_queues_for k s f _ _ _ (shifts_stand f.stands (turned_shifts (is_unacked n) (Acked n) s.rows f.stands.numbered refl count refl (sent_of_one n))
+    (λ g t. queue_last g n fsn mid ∙ queue_set (Unacked n) g left k.lists refl known ∙ grind (arith, nat_tests, f.stands)) (ap (take count) (f.stands.queues (Unacked n)))) (acked_links k.lists n fsn) _ _ f.routing n link'
+    (λ m ne. last_there n fsn mid m ne ∙ last_stays (Unacked n) left k.lists m) (last_here n fsn mid inner ∙ sym counted)
 
--- MESSAGES THAT ARE GIVEN UP.
-pub sent_up_for : (k : Kept) (s : State) (n : ℕ) (cause : DiscardCause) → StandsFor k s → n < length k.lists.links
-    → StandsFor (record k { lists = with_queue (Unacked n) [] k.lists; messages = restood (queue_at (Unacked n) k.lists) (Discarded cause) k.messages }) (record s { rows = changed (is_unacked n) (Discarded cause) s.rows })
-sent_up_for k s n cause f known =
-    queues_for k s f _ _ _ (sent_up_stands n cause k.lists k.messages s.rows f.stands known) (links_stay (Unacked n) [] k.lists) _ _ f.routing (λ m. last_stays (Unacked n) [] k.lists m)
+-- ALL OF A QUEUE of a link are given up.
+pub given_up_for : (k : Kept) (s : State) (from : Fate) (test : Fate → Bool) (cause : DiscardCause) → StandsFor k s → is_standing from ≡ true → IsKnown from k.lists → ((g : Fate) → test g ≡ is_there from g) → rows_at from s.rows ≡ standing test s.rows
+    → StandsFor (record k { lists = with_queue from [] k.lists; messages = restood (queue_at from k.lists) (Discarded cause) k.messages }) (record s { rows = changed test (Discarded cause) s.rows })
+given_up_for k s from test cause f stood known is same =
+    queues_for k s f _ _ _ (shifts_stand f.stands (changed_shifts test (Discarded cause) s.rows f.stands.numbered (is (Discarded cause) ∙ final_none (Discarded cause) from refl stood) refl (λ g h t e. is h ∙ grind (arith, same_is)))
+    (λ g t. queue_set from g [] k.lists stood known ∙ grind (arith, nat_tests, same_is, is g)) (f.stands.queues from ∙ ap numbers same)) (links_stay from [] k.lists) _ _ f.routing (λ m. last_stays from [] k.lists m)
 
-pub waiting_up_for : (k : Kept) (s : State) (n : ℕ) (cause : DiscardCause) → StandsFor k s → n < length k.lists.links
-    → StandsFor (record k { lists = with_queue (Waiting n) [] k.lists; messages = restood (queue_at (Waiting n) k.lists) (Discarded cause) k.messages }) (record s { rows = changed (is_waiting n) (Discarded cause) s.rows })
-waiting_up_for k s n cause f known =
-    queues_for k s f _ _ _ (waiting_up_stands n cause k.lists k.messages s.rows f.stands known) (links_stay (Waiting n) [] k.lists) _ _ f.routing (λ m. last_stays (Waiting n) [] k.lists m)
+-- A LINK SETTLES: what stands on it goes to another place.
+on_numbers : (l : ℕ) (q : Lists) (ms : List Message) (rows : List Row) → Stands q ms rows → IsInOrder l rows → IsHeldLast l rows → on_lists l q ≡ numbers (on l rows)
+on_numbers l q ms rows s o last =
+    let sent = s.queues (Unacked l) in
+    let waits = s.queues (Waiting l) in
+    let held = s.queues (Held l) in
+    grind (arith, on_in_order, map-append, sent, waits, held)
 
--- A LINK SETTLES.
+settled_at : (l : ℕ) (to : Fate) (q : Lists) → IsAside l to q → (f : Fate) → is_standing f ≡ true → queue_at f (settled l to q) ≡ cond (is_on l f) [] (cond (same_fate to f) (queue_at to q ++ on_lists l q) (queue_at f q))
+settled_at l to q a f t = let w = settling l to q a in let e = w.elsewhere f t in grind (arith, nat_tests, same_is, w, e)
+
 pub settled_for : (k : Kept) (s : State) (n : ℕ) (target : Option ℕ) (link link' : LinkState) (routing : Routing) → StandsFor k s → IsInOrder n s.rows → IsHeldLast n s.rows → slice_get s.links n ≡ Some link → link'.acked ≡ link.acked
-    → IsAside n (fate_on target) k.lists → ((t : ℕ) → target ≡ Some t → (n == t) ≡ false) → RowsKept s.rows (moved (is_on n) (all_with (fate_on target)) s.rows)
+    → IsAside n (fate_on target) k.lists → ((t : ℕ) → target ≡ Some t → (n == t) ≡ false)
     → StandsFor (record k { lists = settled n (fate_on target) k.lists; messages = restood (on_lists n k.lists) (fate_on target) k.messages; links = slice_set s.links n link'; routing = routing })
     (record s { rows = moved (is_on n) (all_with (fate_on target)) s.rows; links = slice_set s.links n link'; routing = routing })
-settled_for k s n target link link' routing f order last there e aside apart kept =
-    let stands = settled_stands n k.lists k.messages s.rows f.stands (on_numbers n k.lists k.messages s.rows f.stands order last) target aside apart in
-    link_and_queues_for k s f _ _ _ stands (settled_links n (fate_on target) k.lists) routing routing refl n link'
-    (λ m ne. last_settled n (fate_on target) k.lists m) (last_settled n (fate_on target) k.lists n ∙ still k s n link link' f there e)
+settled_for k s n target link link' routing f order last there e aside apart =
+    let to = fate_on target in
+    let off : is_on n to ≡ false = grind (arith, nat_tests) in
+    let stood : is_standing to ≡ true = grind arith in
+    let ns = on_numbers n k.lists k.messages s.rows f.stands order last in
+    let joined : queue_at to k.lists ++ on_lists n k.lists ≡ numbers (rows_at to s.rows) ++ numbers (on n s.rows) = cc (f.stands.queues to, ns) in
+    link_and_queues_for k s f _ _ _ (shifts_stand f.stands (moved_shifts (is_on n) to s.rows f.stands.numbered off stood)
+    (λ g t. settled_at n to k.lists aside g t ∙ ap (λ (ys : List ℕ). cond (is_on n g) [] (cond (same_fate to g) ys (queue_at g k.lists))) joined) ns) (settled_links n to k.lists) routing routing refl n link'
+    (λ m ne. last_settled n to k.lists m) (last_settled n to k.lists n ∙ still k s n link link' f there e)
 
--- A LINK COMES UP, and what was parked waits for it.
+-- ALL OF A PLACE WAIT FOR A LINK: what was parked, or stood back by a code.
+passed_moves : (from to : Fate) (test : Fate → Bool) (q : Lists) (ms : List Message) (rows : List Row) → Stands q ms rows → is_standing from ≡ true → IsKnown from q → IsKnown to q → IsQueued to → is_standing to ≡ true → test to ≡ false → ((g : Fate) → is_standing g ≡ true → test g ≡ same_fate from g) → rows_at from rows ≡ standing test rows
+    → Moves (passed from to q) (restood (queue_at from q) to ms) rows (moved test (all_with to) rows)
+passed_moves from to test q ms rows s stood known other queued there off is same =
+    let ns : queue_at from q ≡ numbers (standing test rows) = s.queues from ∙ ap numbers same in
+    let joined : queue_at to q ++ queue_at from q ≡ numbers (rows_at to rows) ++ numbers (standing test rows) = cc (s.queues to, ns) in
+    shifts_stand s (moved_shifts test to rows s.numbered off there)
+    (λ g t. passed_replaces q from to stood known other queued g t ∙ rw (is g t, joined) refl) ns
+
+-- a link comes up, and what was parked waits for it
 pub risen_for : (k : Kept) (s : State) (n : ℕ) (link link' : LinkState) (routing : Routing) → StandsFor k s → slice_get s.links n ≡ Some link → link'.acked ≡ 0
     → StandsFor (record k { lists = passed Parked (Waiting n) (with_last n 127 k.lists); messages = restood (queue_at Parked k.lists) (Waiting n) k.messages; links = slice_set s.links n link'; routing = routing })
     (record s { rows = moved is_parked (all_with (Waiting n)) s.rows; links = slice_set s.links n link'; routing = routing })
 risen_for k s n link link' routing f there e =
     let reset : Lists = with_last n 127 k.lists in
     let known = has_queues k s n link f there in
-    let inner : n < length reset.links = let many = last_links n 127 k.lists in omega (arith, known, many) in
+    let inner : n < length reset.links = omega (arith, known, last_links n 127 k.lists) in
     let stands : Stands reset k.messages s.rows = record { queues = λ g. queue_last g n 127 k.lists ∙ f.stands.queues g; fates = f.stands.fates; labels = f.stands.labels; count = f.stands.count; numbered = f.stands.numbered } in
-    link_and_queues_for k s f _ _ _ (unparked_stands n reset k.messages s.rows stands inner) (passed_links reset Parked (Waiting n) ∙ last_links n 127 k.lists) routing routing refl n link'
+    link_and_queues_for k s f _ _ _ (passed_moves Parked (Waiting n) is_parked reset k.messages s.rows stands refl tt inner tt refl refl (λ g t. grind arith) refl) (passed_links reset Parked (Waiting n) ∙ last_links n 127 k.lists) routing routing refl n link'
     (λ m ne. last_passed Parked (Waiting n) reset m ∙ last_there n 127 k.lists m ne) (last_passed Parked (Waiting n) reset n ∙ last_here n 127 k.lists known ∙ sym (ap (λ (a : ℕ). (a + 127) % 128) e))
 
--- WHAT STOOD BACK by a code waits for its home.
+-- what stood back by a code waits for its home
 pub released_for : (k : Kept) (s : State) (c l : ℕ) (routing : Routing) → StandsFor k s → c < length k.lists.back → l < length k.lists.links
     → StandsFor (record k { lists = passed (Back c) (Waiting l) k.lists; messages = restood (queue_at (Back c) k.lists) (Waiting l) k.messages; routing = routing }) (record s { rows = moved (is_back c) (all_with (Waiting l)) s.rows; routing = routing })
 released_for k s c l routing f code known =
-    queues_for k s f _ _ _ (released_stands c l k.lists k.messages s.rows f.stands code known) (passed_links k.lists (Back c) (Waiting l)) routing routing refl (λ m. last_passed (Back c) (Waiting l) k.lists m)
+    queues_for k s f _ _ _ (passed_moves (Back c) (Waiting l) (is_back c) k.lists k.messages s.rows f.stands refl code known tt refl refl (λ g t. grind (arith, nat_tests)) refl) (passed_links k.lists (Back c) (Waiting l)) routing routing refl (λ m. last_passed (Back c) (Waiting l) k.lists m)

@@ -26,8 +26,7 @@ use Rattle.set_moves.specs.Turning.{IsTurning, IsTurningRow, TurnedOn, TurnedSoF
 use Rattle.set_moves.proofs.Becoming.{Becoming, becomes}
 use Rattle.set_moves.proofs.RowsAt.{Shifts, is_there, rows_as}
 use Rattle.set_moves.proofs.Shifting.{shifted, shifted_messages, shifted_goes, shifted_stands, shifted_each, rest_stands, moved_same, moved_as}
-use Rattle.set_moves.proofs.Standing.{Moves, shifts_stand}
-use Rattle.set_moves.proofs.States.{queues_for, last_stays}
+use Rattle.set_moves.proofs.States.{Moves, shifts_stand, queues_for, last_stays}
 use Rattle.set_moves.proofs.Oldest.{IsFirst, IsOnLink, first_of, first_back}
 use Rattle.set_moves.proofs.TurnedQueues.{Goes, either, goes_to, taken, queue_then, links_then, some_back}
 use Rattle.set_moves.specs.declared.parts.Parts.{Parts}
@@ -68,7 +67,7 @@ module _ (home code : ℕ) (to : Fate) (k : Kept) (s : State) (f : StandsFor k s
       let back = f.stands.queues (Back code) in
       let same = x.number_is in
       let joined : queue_at to k.lists ++ o.number ∷ [] ≡ numbers (rows_at to s.rows) ++ row.number ∷ [] = cc (f.stands.queues to, same) in
-      shifts_stand k.lists then k.messages s.rows after (is_back code) to _ _ _ _ f.stands turned
+      shifts_stand f.stands turned
       (λ g t. queue_then code o.number to k.lists goes g ∙ ap (λ (ns : List ℕ). cond (same_fate (Back code) g) (drop 1 (queue_at (Back code) k.lists)) (cond (same_fate to g) ns (queue_at g k.lists))) joined ∙ grind (arith, nat_tests, back))
       (taken code o.number to k.lists goes ∙ ap (λ (n : ℕ). n ∷ []) (sym same))
 

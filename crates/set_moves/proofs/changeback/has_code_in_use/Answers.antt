@@ -1,5 +1,5 @@
-use Rattle.std.proofs.Common.{arith, refl, ◌≡◌, ◌∙◌, ap, sym, ℕ, ◌+◌, ◌*◌, not}
-use Rattle.set_route.specs.Routing.{Routing, code_of, is_free}
+use Rattle.std.proofs.Common.{arith, refl, ◌≡◌, ◌∙◌, ap, sym, ◌*◌, not}
+use Rattle.set_route.specs.Routing.{code_of, is_free}
 use Rattle.set_model.specs.Changeover.{some_in_use}
 use Rattle.set_moves.proofs.Declaring.{none_more, found_at}
 use Rattle.set_moves.proofs.changeback.has_code_in_use.Goals as goal

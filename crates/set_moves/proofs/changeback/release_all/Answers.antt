@@ -1,11 +1,10 @@
-use Rattle.std.proofs.Common.{arith, refl, ◌≡◌, ◌≤◌, ◌∙◌, ap, ℕ, ◌+◌, ◌*◌, ◌-◌, length, add-one, zero, suc}
+use Rattle.std.proofs.Common.{arith, refl, ◌≡◌, ◌≤◌, ◌∙◌, ap, ℕ, ◌+◌, ◌*◌, ◌-◌, length}
 use Rattle.set_events.specs.declared.answer.Fate.TheVariants.{Waiting, Back}
 use Rattle.set_queues.specs.Backs.{back_from, back_count}
 use Rattle.set_queues.specs.Buffers.{Lists, queue_at, room_at}
 use Rattle.set_queues.proofs.CodeQueues.{back_more, back_grows}
 use Rattle.set_route.specs.Routing.{home_of}
 use Rattle.set_model.specs.Changeover.{released_from, released}
-use Rattle.set_model.specs.State.{State}
 use Rattle.set_moves.proofs.Declaring.{becomes_next}
 use Rattle.set_moves.proofs.changeback.release_all.Goals as goal
 

@@ -4,9 +4,8 @@ use Rattle.set_queues.specs.declared.message.Kind.{Kind}
 use Rattle.set_queues.proofs.Passing.{queued_stands}
 use Rattle.set_moves.specs.Agreement.{kind_of}
 use Rattle.set_moves.specs.Parts.{kept_of}
-use Rattle.set_moves.proofs.Standing.{message_of}
 use Rattle.set_moves.proofs.Becoming.{becomes}
-use Rattle.set_moves.proofs.States.{appended_for}
+use Rattle.set_moves.proofs.States.{message_of, appended_for}
 use Rattle.set_moves.proofs.parts.stand_last.Goals as goal
 
 is : (fate : Fate) (body : List ℕ) (kind : Kind) (octets : ℕ) → kind ≡ kind_of body → octets ≡ length body → record { fate = fate; kind = kind; octets = octets } ≡ message_of body fate

@@ -2,17 +2,19 @@ use Rattle.std.proofs.Common.{rules, refl, arith, []}
 use Rattle.set_events.specs.declared.answer.Fate.TheVariants.{Unacked, Waiting}
 use Rattle.set_queues.proofs.Passing.{links_stay}
 use Rattle.set_moves.specs.Parts.{kept_of}
+use Rattle.set_model.specs.Rows.{is_unacked, is_waiting}
+use Rattle.set_moves.proofs.RowsAt.{sent_there, waits_there}
 use Rattle.set_moves.proofs.Becoming.{becomes}
 use Rattle.set_moves.proofs.Less.{cleared_less, less_then, on_less}
-use Rattle.set_moves.proofs.States.{sent_up_for, waiting_up_for}
+use Rattle.set_moves.proofs.States.{given_up_for}
 use Rattle.set_moves.proofs.settling.discard.Goals as goal
 
 pub returns-clause-stands : goal.returns-clause-stands
 returns-clause-stands c = λ s f.
     let many = links_stay (Unacked c.args.number) [] c.args.parts.now.queues.lists in
     let mid = kept_of (record c.args.parts.now { queues = c.discard.new.self }) in
-    let first = becomes (kept_of c.args.parts.now) mid _ _ _ _ _ _ (search rules) (sent_up_for (kept_of c.args.parts.now) s c.args.number c.args.cause f (omega arith)) in
-    becomes mid _ _ _ _ _ _ _ (search rules) (waiting_up_for mid _ c.args.number c.args.cause first (grind arith))
+    let first = becomes (kept_of c.args.parts.now) mid _ _ _ _ _ _ (search rules) (given_up_for (kept_of c.args.parts.now) s (Unacked c.args.number) (is_unacked c.args.number) c.args.cause f refl (omega arith) (sent_there c.args.number) refl) in
+    becomes mid _ _ _ _ _ _ _ (search rules) (given_up_for mid _ (Waiting c.args.number) (is_waiting c.args.number) c.args.cause first refl (grind arith) (waits_there c.args.number) refl)
 
 pub returns-clause-fewer : goal.returns-clause-fewer
 returns-clause-fewer c =

@@ -6,9 +6,11 @@ use Rattle.set_queues.proofs.Passing.{links_stay}
 use Rattle.set_model.specs.Changeover.{acknowledged}
 use Rattle.set_model.specs.State.{LinkState}
 use Rattle.set_moves.specs.Agreement.{StandsFor}
+use Rattle.set_model.specs.Rows.{is_unacked}
+use Rattle.set_moves.proofs.RowsAt.{sent_there}
 use Rattle.set_moves.specs.Parts.{kept_of}
 use Rattle.set_moves.proofs.Becoming.{becomes, reach_is, is_reached, is_unreached}
-use Rattle.set_moves.proofs.States.{acked_for, sent_up_for}
+use Rattle.set_moves.proofs.States.{acked_for, given_up_for}
 use Rattle.set_moves.proofs.Links.{link_set}
 use Rattle.set_moves.proofs.Less.{cleared_less, on_less}
 use Rattle.set_moves.proofs.settling.judge.Goals as goal
@@ -28,7 +30,7 @@ returns-in-Err-clause-stands c = λ s link there f.
     (c.discard.ensures.stands s (subst (λ q. StandsFor (record (kept_of c.args.parts.now) { lists = q.lists; messages = q.messages }) s) (sym c.in-Err.ensures.err) f))
 
 pub returns-in-Unknown-clause-stands : goal.returns-in-Unknown-clause-stands
-returns-in-Unknown-clause-stands c = λ s link there f. rw c.in-Unknown.is (becomes (kept_of c.args.parts.now) _ _ _ _ _ _ _ (search rules) (sent_up_for (kept_of c.args.parts.now) s c.args.number Emergency f (omega arith)))
+returns-in-Unknown-clause-stands c = λ s link there f. rw c.in-Unknown.is (becomes (kept_of c.args.parts.now) _ _ _ _ _ _ _ (search rules) (given_up_for (kept_of c.args.parts.now) s (Unacked c.args.number) (is_unacked c.args.number) Emergency f refl (omega arith) (sent_there c.args.number) refl))
 
 pub returns-in-Unknown-clause-fewer : goal.returns-in-Unknown-clause-fewer
 returns-in-Unknown-clause-fewer c = search (rules, cleared_less, on_less)

@@ -1,22 +1,16 @@
-use Rattle.std.proofs.Common.{rules, refl, ◌≡◌, ◌≢◌, ◌∙◌, ap, sym, subst, ℕ, Option, Some, None, false, ◌==◌, map, length, ◌<◌}
+use Rattle.std.proofs.Common.{rules, refl, ◌≡◌, ◌≢◌, ◌∙◌, ap, sym, subst, ℕ, Option, Some, map, length, ◌<◌}
 use Rattle.std.specs.Prelude.{IfSome}
 use Rattle.set_queues.specs.Messages.{restood}
 use Rattle.set_queues.specs.Settling.{on as on_lists, settled as settled_lists}
 use Rattle.set_route.specs.Routing.{Routing, settled as streams_settled}
-use Rattle.set_model.specs.Changeover.{settled_link, fate_on}
-use Rattle.set_model.specs.Rows.{moved, is_on, all_with}
-use Rattle.set_model.specs.State.{State, target}
-use Rattle.set_model.proofs.Events.{Kept, moved_to, moved_aside}
+use Rattle.set_model.specs.Changeover.{settled_link}
+use Rattle.set_model.specs.State.{target}
 use Rattle.set_moves.specs.Parts.{link_of, kept_of}
 use Rattle.set_moves.proofs.Becoming.{becomes}
 use Rattle.set_moves.proofs.States.{settled_for}
 use Rattle.set_moves.proofs.Links.{link_set}
 use Rattle.set_moves.proofs.Targets.{out_of, apart_some, aside_for, apart_of, same_fates}
 use Rattle.set_moves.proofs.settling.move_all.Goals as goal
-
-moved_rows : (n : ℕ) (t : Option ℕ) (s : State) → ((k : ℕ) → t ≡ Some k → (n == k) ≡ false) → Kept s.rows (moved (is_on n) (all_with (fate_on t)) s.rows)
-moved_rows n None s apart = (moved_aside n s.rows).left_is.kept
-moved_rows n (Some t) s apart = (moved_to n t s.rows (apart t refl)).left_is.kept
 
 pub settle-requires-clause-apart : goal.settle-requires-clause-apart
 settle-requires-clause-apart c = apart_some c.target_of-target.result c.args.number (λ t e. out_of c.args.parts.now.links.items c.args.number c.requires.known c.requires.out t (sym (c.target_of-target.ensures.value ∙ ap (λ links. target (map link_of links)) c.deref.ensures.value) ∙ e))
@@ -37,5 +31,5 @@ returns c = record {
       let one = a.sound.links n link there in
       let aside = aside_for (target s.links) n q.lists (length c.args.parts.now.links.items) c.requires.whole.as_many c.requires.known below apart in
       let off = apart_of (target s.links) n apart in
-      becomes (kept_of c.args.parts.now) _ _ _ _ _ _ _ (search (rules, lists, messages, set, routes)) (settled_for (kept_of c.args.parts.now) s n (target s.links) link (settled_link link) (streams_settled n (target s.links) s.routing) a.stands one.in_order one.held_last there refl aside off (moved_rows n (target s.links) s off));
+      becomes (kept_of c.args.parts.now) _ _ _ _ _ _ _ (search (rules, lists, messages, set, routes)) (settled_for (kept_of c.args.parts.now) s n (target s.links) link (settled_link link) (streams_settled n (target s.links) s.routing) a.stands one.in_order one.held_last there refl aside off);
 }
