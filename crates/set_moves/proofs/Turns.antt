@@ -22,7 +22,7 @@ use Rattle.set_model.proofs.Finding.{with_number}
 use Rattle.set_model.proofs.Lookups.{no_rows}
 use Rattle.set_model.proofs.Moving.{moved_nothing}
 use Rattle.set_moves.specs.Agreement.{Kept, Stands, StandsFor, rows_at}
-use Rattle.set_moves.specs.Turning.{IsTurning, IsTurningRow, TurnedOn, TurnedSoFar, TakesTurns}
+use Rattle.set_moves.specs.Turning.{IsTurning, IsTurningRow, TurnsOn, TakesTurns}
 use Rattle.set_moves.proofs.Becoming.{Becoming, becomes}
 use Rattle.set_moves.proofs.RowsAt.{Shifts, is_there, rows_as}
 use Rattle.set_moves.proofs.Shifting.{shifted, shifted_messages, shifted_goes, shifted_stands, shifted_each, rest_stands, moved_same, moved_as}
@@ -86,42 +86,35 @@ module _ (home code : ℕ) (to : Fate) (k : Kept) (s : State) (f : StandsFor k s
   same_way : (p : Place) → fate_at p next ≡ fate_at p s
   same_way p = grind arith
 
-  pub turned_on : IsTurning home s → to ≡ fate row → TurnedOn home 1 s next
+  pub turned_on : IsTurning home s → to ≡ fate row → IsTurning home next × (turned_back home next ≡ turned_back home s)
   turned_on t way =
       let off : is_back_to home to ≡ false = either (λ f. is_back_to home f ≡ false) to on.0 on.2 refl refl in
       let on_back : is_back_to home row.fate ≡ true = ap (is_back_to home) x.fate_is ∙ eq-eqb (home_of code) home o.of_home in
       let rest_is : standing (is_back_to home) after ≡ x.rest = rest_stands (is_back_to home) fate to row x.rest s.rows way x.one x.first on_back off in
       let moved_is : moved (is_back_to home) fate after ≡ moved (is_back_to home) fate s.rows = moved_same (is_back_to home) fate to row x.rest s.rows way x.one x.first on_back off in
-      record {
-        turning = record {
-          each = shifted_each to row s.rows x.one (IsTurningRow home s) t.each (λ e. absurd (let no : true ≡ false = sym e ∙ off in cc));
-          order = subst (λ (ys : List Row). IsAscending (numbers ys)) (sym rest_is) (subst (λ (ys : List Row). IsAscending (numbers ys)) x.first t.order).1;
-        };
-        same = ap (λ (rows : List Row). record s { rows = rows }) (moved_as (is_back_to home) (λ r. fate_at (place_of (stream_of r.body) s.routing) next) fate (λ r. same_way (place_of (stream_of r.body) s.routing)) after ∙ moved_is);
-        fewer = let now = ap length rest_is in let before : length (standing (is_back_to home) s.rows) ≡ suc (length x.rest) = ap length x.first in omega (arith, now, before);
-      }
+      (record {
+        each = shifted_each to row s.rows x.one (IsTurningRow home s) t.each (λ e. absurd (let no : true ≡ false = sym e ∙ off in cc));
+        order = subst (λ (ys : List Row). IsAscending (numbers ys)) (sym rest_is) (subst (λ (ys : List Row). IsAscending (numbers ys)) x.first t.order).1;
+      }, ap (λ (rows : List Row). record s { rows = rows }) (moved_as (is_back_to home) (λ r. fate_at (place_of (stream_of r.body) s.routing) next) fate (λ r. same_way (place_of (stream_of r.body) s.routing)) after ∙ moved_is))
 
 pub turned_first : (home code links : ℕ) (to : Fate) (old new : Kept) (s : State) → StandsFor old s → IsTurning home s → IsOldest home code old.lists → IsOnLink links to → length old.lists.links ≡ links
     → ((row : Row) → slice_get (standing (is_back code) s.rows) 0 ≡ Some row → to ≡ fate_at (place_of (stream_of row.body) s.routing) s)
     → Becoming old new (passed_first (Back code) to old.lists) (restood (take 1 (queue_at (Back code) old.lists)) to old.messages) old.bodies old.links old.routing
-    → TurnedSoFar home 1 s new
+    → TurnsOn home s new
 turned_first home code links to old new s f t o on many way b =
     let here : IsOnLink (length old.lists.links) to = (on.0, omega (arith, on.1, many), on.2) in
-    let x = first_of home code old.lists old.messages s.rows f.stands o t.order in (
-      next home code to old s f o here x,
-      becomes old new _ _ _ _ _ (next home code to old s f o here x) b (stands_for home code to old s f o here x),
-      turned_on home code to old s f o here x t (way x.row (ap (λ (ys : List Row). slice_get ys 0) x.of_code)),
-    )
+    let x = first_of home code old.lists old.messages s.rows f.stands o t.order in
+    let on = turned_on home code to old s f o here x t (way x.row (ap (λ (ys : List Row). slice_get ys 0) x.of_code)) in
+    record {
+      state = next home code to old s f o here x;
+      stands = becomes old new _ _ _ _ _ (next home code to old s f o here x) b (stands_for home code to old s f o here x);
+      turning = on.0;
+      same = on.1;
+    }
 
--- SO MANY TURNED BACK
-pub then_turned : (home i : ℕ) (s : State) (mid new : Kept) → TurnedSoFar home i s mid → ((t : State) → StandsFor mid t → IsTurning home t → TurnedSoFar home 1 t new) → TurnedSoFar home (i + 1) s new
-then_turned home i s mid new so one = grind arith
+-- ALL TURN BACK
 
--- none is left to turn
-pub all_turned : (home i : ℕ) (s : State) (k : Kept) → (so : TurnedSoFar home i s k) → standing (is_back_to home) so.0.rows ≡ [] → StandsFor k (turned_back home s)
-all_turned home i s k so left = grind (arith, moved_nothing)
-
-pub none_left : (home : ℕ) (q : Lists) (ms : List Message) (rows : List Row) → Stands q ms rows → NoneBack home q → standing (is_back_to home) rows ≡ []
+none_left : (home : ℕ) (q : Lists) (ms : List Message) (rows : List Row) → Stands q ms rows → NoneBack home q → standing (is_back_to home) rows ≡ []
 none_left home q ms rows s nothing = go (standing (is_back_to home) rows) refl
   where
     go : (xs : List Row) → standing (is_back_to home) rows ≡ xs → standing (is_back_to home) rows ≡ []
@@ -131,31 +124,25 @@ none_left home q ms rows s nothing = go (standing (is_back_to home) rows) refl
         let no : None ≡ Some y.number = sym (ap (λ (ns : List ℕ). slice_get ns 0) (nothing b.0 b.1)) ∙ b.2 in
         absurd cc
 
--- as many turned as there are messages
-pub all_left : (home i : ℕ) (s : State) (k : Kept) → (so : TurnedSoFar home i s k) → length s.rows ≡ i → standing (is_back_to home) so.0.rows ≡ []
-all_left home i s k so many = grind (arith, fewer_filter, no_rows)
-
--- THE LOOP: so many turned back
-pub record Turning (home i : ℕ) (old now : Parts) : Type 0 where
+-- the loop: so many turned back
+pub record Turning (home : ℕ) (old now : Parts) : Type 0 where
   pub whole : IsWhole now
   pub links : now.links ≡ old.links
   pub bodies : now.bodies ≡ old.bodies
-  pub so_far : (s : State) → StandsFor (kept_of old) s → IsTurning home s → TurnedSoFar home i s (kept_of now)
-  pub turns : TakesTurns i old.queues now.queues
-  pub fewer : back_from (16 * home) 16 now.queues.lists + i ≡ back_from (16 * home) 16 old.queues.lists
+  pub so_far : (s : State) → StandsFor (kept_of old) s → IsTurning home s → TurnsOn home s (kept_of now)
+  pub turned : ℕ
+  pub turns : TakesTurns turned old.queues now.queues
+  pub fewer : back_from (16 * home) 16 now.queues.lists + turned ≡ back_from (16 * home) 16 old.queues.lists
 
-module _ (home i : ℕ) (old now : Parts) (g : Turning home i old now) where
+module _ (home : ℕ) (old now : Parts) (g : Turning home old now) where
   pub room_for_one : (code : ℕ) → IsOldest home code now.queues.lists → HaveRoom (length old.links.items) (back_from (16 * home) 16 old.queues.lists) old.queues.rooms → HaveRoom (length now.links.items) 1 now.queues.rooms
   room_for_one code o room link low =
       let enough = room link (omega (arith, low, ap (λ links. length links.items) g.links)) in
       omega (arith, enough, g.turns.rooms (Waiting link), g.turns.rooms (Held link), some_back home code now.queues.lists o, g.fewer)
 
+  -- none is left to turn
   pub turned_all : NoneBack home now.queues.lists → (s : State) → StandsFor (kept_of old) s → IsTurning home s → StandsFor (kept_of now) (turned_back home s)
   turned_all nothing s f t =
       let so = g.so_far s f t in
-      all_turned home i s (kept_of now) so (none_left home now.queues.lists now.queues.messages so.0.rows so.1.stands nothing)
-
-  pub turned_each : length old.queues.messages ≡ i → (s : State) → StandsFor (kept_of old) s → IsTurning home s → StandsFor (kept_of now) (turned_back home s)
-  turned_each many s f t =
-      let so = g.so_far s f t in
-      all_turned home i s (kept_of now) so (all_left home i s (kept_of now) so (sym f.stands.count ∙ many))
+      let none = none_left home now.queues.lists now.queues.messages so.state.rows so.stands.stands nothing in
+      subst (λ u. StandsFor (kept_of now) u) (ap (λ (rows : List Row). record so.state { rows = rows }) (sym (moved_nothing (is_back_to home) _ so.state.rows none)) ∙ so.same) so.stands

@@ -26,14 +26,12 @@ pub record IsTurning (number : ℕ) (s : State) : Type 0 where
 abbrev pub CanTurn : ℕ → Kept → Type 0
 CanTurn number k = (s : State) × StandsFor k s × IsTurning number s
 
--- so many turned back: what is left to turn makes the same of the state
-pub record TurnedOn (number count : ℕ) (s t : State) : Type 0 where
-  pub turning : IsTurning number t
-  pub same : turned_back number t ≡ turned_back number s
-  pub fewer : length (standing (is_back_to number) t.rows) + count ≡ length (standing (is_back_to number) s.rows)
-
-abbrev pub TurnedSoFar : ℕ → ℕ → State → Kept → Type 0
-TurnedSoFar number count s k = (t : State) × StandsFor k t × TurnedOn number count s t
+-- what is kept stands for a state in which what is left to turn makes the same of it
+pub record TurnsOn (number : ℕ) (s : State) (k : Kept) : Type 0 where
+  pub state : State
+  pub stands : StandsFor k state
+  pub turning : IsTurning number state
+  pub same : turned_back number state ≡ turned_back number s
 
 -- so many turns take so much room of each queue, and put at most so many on a link
 pub record TakesTurns (count : ℕ) (old new : QueuesState) : Type 0 where

@@ -8,7 +8,7 @@ ghost use Rattle.set_model.specs.Rows.{Row, is_back, standing, stream_of};
 ghost use Rattle.set_model.specs.State.{State, fate_at};
 ghost use Rattle.set_moves.specs.Agreement.{StandsFor};
 ghost use Rattle.set_moves.specs.Parts.{IsWhole, kept_of};
-ghost use Rattle.set_moves.specs.Turning.{IsTurning, CanTurn, TurnedSoFar, TakesTurns};
+ghost use Rattle.set_moves.specs.Turning.{IsTurning, CanTurn, TurnsOn, TakesTurns};
 ghost use Rattle.set_moves.specs.Room.{CanTurnBack};
 
 use super::parts::{Parts, fate_of_new};
@@ -29,11 +29,8 @@ pub(crate) fn turn_back(parts: &mut Parts, number: u8)
     ensures bodies { parts.new.bodies ≡ parts.old.bodies }
     ensures whole { IsWhole parts.new }
 {
-    for _ in 0..parts.queues.len() {
-        match parts.queues.oldest_back(number) {
-            Some(code) => turn_first(parts, number, code),
-            None => return,
-        }
+    while let Some(code) = parts.queues.oldest_back(number) {
+        turn_first(parts, number, code);
     }
 }
 
@@ -44,7 +41,7 @@ fn turn_first(parts: &mut Parts, number: u8, code: u8)
     requires turning { CanTurn number (kept_of parts.old) }
     requires room { HaveRoom (length parts.old.links.items) 1 parts.old.queues.rooms }
     ensures stands { (s : State) → StandsFor (kept_of parts.old) s → IsTurning number s
-        → TurnedSoFar number 1 s (kept_of parts.new) }
+        → TurnsOn number s (kept_of parts.new) }
     ensures turns { TakesTurns 1 parts.old.queues parts.new.queues }
     ensures fewer { back_count number parts.new.queues.lists + 1 ≡ back_count number
         parts.old.queues.lists }

@@ -1,5 +1,9 @@
+use Rattle.set_queues.specs.Backs.{back_count}
 use Rattle.set_moves.proofs.Turns.{Turning}
 use Rattle.set_moves.proofs.turning.turn_back.Given as goal
 
-abbrev pub invariant-loop : goal.invariant-loop
-invariant-loop l = Turning l.number l.counter l.initial.parts l.parts
+abbrev pub invariant-loop-code : goal.invariant-loop-code
+invariant-loop-code l = Turning l.number l.initial.parts l.parts
+
+abbrev pub decreases-loop-code : goal.decreases-loop-code
+decreases-loop-code l = back_count l.number l.parts.queues.lists
