@@ -1,5 +1,5 @@
 -- What an event of a link does where the link is there, and as the event needs it.
-use Rattle.std.proofs.Common.{arith, refl, ◌≡◌, ◌∙◌, ap, sym, subst, ◌≤◌, ℕ, List, length, slice_get, Option, Some, None, Bool, if◌then◌else◌}
+use Rattle.std.proofs.Common.{arith, refl, ◌≡◌, ◌∙◌, ap, sym, subst, ◌≤◌, ℕ, List, length, slice_get, Option, Some, None, Bool, if◌then◌else◌, false}
 use Rattle.std.specs.Prelude.{IfSome}
 use Rattle.std.specs.Option.{option_map}
 use Rattle.std.proofs.lemmas.Option.{slice_get_past, slice_get-map}
@@ -13,7 +13,7 @@ use Rattle.set_moves.specs.declared.parts.Parts.{Parts}
 use Rattle.set_model.specs.declared.phase.Phase.{Phase}
 use Rattle.set_model.specs.declared.phase.Phase.TheVariants.{Up, Down, Settled}
 use Rattle.set_moves.specs.Agreement.{StandsFor, Agrees}
-use Rattle.set_moves.specs.Refusing.{service_refusal, rising_refusal, waiting_refusal}
+use Rattle.set_moves.specs.Refusing.{service_refusal}
 use Rattle.set_events.specs.declared.answer.Took.{Took}
 use Rattle.set_events.specs.declared.answer.Took.TheVariants.{Ignored}
 use Rattle.set_model.specs.declared.reached.Reached.{Reached}
@@ -21,23 +21,20 @@ use Rattle.set_model.specs.declared.reached.Reached.TheVariants.{Unanswered}
 use Rattle.set_moves.specs.Room.{SameButRoom}
 use Rattle.set_model.specs.Changeover.{Obeyed, ignored, at_link, settled, answered}
 pub use Rattle.set_moves.specs.Parts.{IsHere}
-use Rattle.set_moves.specs.Parts.{Gives, Obeys, link_of, kept_of}
+use Rattle.set_moves.specs.Parts.{Gives, Obeys, link_of, kept_of, AtLink, IsOut}
 use Rattle.set_model.specs.State.{LinkState, State, has_phase_up}
 use Rattle.set_model.specs.Step.{Outcome, refused, with_known, on_link, in_service, rises, falls, gives_up}
-use Rattle.set_model.proofs.Lists.{within}
+use Rattle.set_model.proofs.Lists.{within, same_at}
 
 -- A link that an event needs as it is.
 is_here : (links : List Link) (n : ℕ) (phase : Phase) (link : Link) → slice_get links n ≡ Some link → link.phase ≡ phase → IsHere links n phase
 is_here links n phase link e p = record { link = link; there = e; phase_is = p; known = within links n link e }
 
-pub serves : (links : List Link) (n : ℕ) → service_refusal (slice_get links n) ≡ None → IsHere links n Up
-serves links n none = grind (arith, nat_tests, is_here)
-
-pub can_rise : (links : List Link) (n : ℕ) → rising_refusal (slice_get links n) ≡ None → IsHere links n Settled
-can_rise links n none = grind (arith, nat_tests, is_here)
-
-pub can_wait : (links : List Link) (n : ℕ) → waiting_refusal (slice_get links n) ≡ None → IsHere links n Down
-can_wait links n none = grind (arith, nat_tests, is_here)
+pub serves : {links read : List Link} {n : ℕ} {o : Option SetRefusal} → read ≡ links → o ≡ service_refusal (slice_get read n) → o ≡ None → IsHere links n Up
+serves {links} {read} {n} same is none = serving links n (rw (← same) (sym is ∙ none))
+  where
+    serving : (links : List Link) (n : ℕ) → service_refusal (slice_get links n) ≡ None → IsHere links n Up
+    serving links n none = grind (arith, nat_tests, is_here)
 
 -- The same of the state that the links stand for.
 pub record IsIn (s : State) (n : ℕ) (phase : Phase) : Type 0 where
@@ -61,55 +58,43 @@ pub served : (s : State) (n : ℕ) (outcome : LinkState → Outcome) (answer : A
 served s n outcome answer parts i g = rw i.there (rw (ap has_phase_up i.phase_is) g)
 
 -- A refusal changes nothing.
-module _ (parts : Parts) (s : State) (a : Agrees (kept_of parts) s) (n : ℕ) (why : SetRefusal) where
-  abbrev kept : Option Link
-  kept = slice_get parts.links.items n
+module _ (parts : Parts) (s : State) (a : Agrees (kept_of parts) s) (n : ℕ) (outcome : LinkState → Outcome) where
+  refuses : (why : SetRefusal) → with_known (option_map link_of (slice_get parts.links.items n)) s outcome ≡ refused s why → Gives (on_link n s outcome) (Refused why) parts
+  refuses why e = rw (links_at parts s n a, e) (record { answer_is = refl; stands = a.stands })
 
-  refuses : (outcome : LinkState → Outcome) → with_known (option_map link_of kept) s outcome ≡ refused s why → Gives (on_link n s outcome) (Refused why) parts
-  refuses outcome e = rw (links_at parts s n a) (rw e (record { answer_is = refl; stands = a.stands }))
+  pub unknown : length parts.links.items ≤ n → Gives (on_link n s outcome) (Refused NoSuchLink) parts
+  unknown few = refuses NoSuchLink (rw (slice_get_past parts.links.items n few) refl)
 
-  pub unknown : NoSuchLink ≡ why → (outcome : LinkState → Outcome) → length parts.links.items ≤ n → Gives (on_link n s outcome) (Refused why) parts
-  unknown same outcome few = refuses outcome (rw (slice_get_past parts.links.items n few) (ap (refused s) same))
+not_served : (s : State) (why : SetRefusal) (outcome : LinkState → Outcome) (o : Option Link) → service_refusal o ≡ Some why → with_known (option_map link_of o) s (λ link. if has_phase_up link.phase then outcome link else refused s NotUp) ≡ refused s why
+not_served s why outcome o is = grind arith
 
-  not_served : (outcome : LinkState → Outcome) (o : Option Link) → service_refusal o ≡ Some why → with_known (option_map link_of o) s (λ link. if has_phase_up link.phase then outcome link else refused s NotUp) ≡ refused s why
-  not_served outcome o is = grind arith
+pub unserved : {read : List Link} {o : Option SetRefusal} {why : SetRefusal} (parts : Parts) (s : State) (n : ℕ) (outcome : LinkState → Outcome) → Agrees (kept_of parts) s → read ≡ parts.links.items → o ≡ service_refusal (slice_get read n) → o ≡ Some why → Gives (in_service n s outcome) (Refused why) parts
+unserved {read} {o} {why} parts s n outcome a same e is = refuses parts s a n _ why (not_served s why outcome (slice_get parts.links.items n) (rw (← same) (sym e ∙ is)))
 
-  pub unserved : (outcome : LinkState → Outcome) → service_refusal (slice_get parts.links.items n) ≡ Some why → Gives (in_service n s outcome) (Refused why) parts
-  unserved outcome is = refuses _ (not_served outcome kept is)
+-- An order changes nothing at a link that it isn't for, as its phase or that there is none tells,
+pub ignores : {o : Option Phase} (parts : Parts) (n : ℕ) (obeyed : LinkState → Phase → State → Obeyed) → o ≡ option_map (λ (l : Link). l.phase) (slice_get parts.links.items n) → ((phase : Phase) → o ≡ Some phase → (link : LinkState) (s : State) → obeyed link phase s ≡ ignored s)
+    → (s : State) → Agrees (kept_of parts) s → Obeys (at_link n s (λ link. obeyed link link.phase s) (slice_get s.links n)) Ignored parts
+ignores parts n obeyed is none s a = rw (links_at parts s n a) (rw (nothing (slice_get parts.links.items n) (λ link e. none link.phase (is ∙ ap (option_map (λ (l : Link). l.phase)) e) (link_of link) s)) (record { took_is = refl; stands = a.stands }))
+  where
+    nothing : (o : Option Link) → ((link : Link) → o ≡ Some link → obeyed (link_of link) link.phase s ≡ ignored s) → at_link n s (λ link. obeyed link link.phase s) (option_map link_of o) ≡ ignored s
+    nothing None h = refl
+    nothing (Some link) h = h link refl
 
-  not_raised : (o : Option Link) → rising_refusal o ≡ Some why → with_known (option_map link_of o) s (λ link. rises n s link.phase) ≡ refused s why
-  not_raised o is = grind arith
-
-  pub unraised : rising_refusal (slice_get parts.links.items n) ≡ Some why → Gives (on_link n s (λ link. rises n s link.phase)) (Refused why) parts
-  unraised is = refuses _ (not_raised kept is)
-
-  not_waited : (o : Option Link) → waiting_refusal o ≡ Some why → with_known (option_map link_of o) s (λ link. gives_up n s link link.phase) ≡ refused s why
-  not_waited o is = grind arith
-
-  pub unwaited : waiting_refusal (slice_get parts.links.items n) ≡ Some why → Gives (on_link n s (λ link. gives_up n s link link.phase)) (Refused why) parts
-  unwaited is = refuses _ (not_waited kept is)
-
--- An order changes nothing at a link that it isn't for.
-pub ignores : (parts : Parts) (s : State) (n : ℕ) (obeyed : LinkState → Obeyed) → Agrees (kept_of parts) s → at_link n s obeyed (option_map link_of (slice_get parts.links.items n)) ≡ ignored s → Obeys (at_link n s obeyed (slice_get s.links n)) Ignored parts
-ignores parts s n obeyed a e = rw (links_at parts s n a) (rw e (record { took_is = refl; stands = a.stands }))
-
-pub not_there : (s : State) (n : ℕ) (obeyed : LinkState → Obeyed) (o : Option Link) → option_map (λ (l : Link). l.phase) o ≡ None → at_link n s obeyed (option_map link_of o) ≡ ignored s
-not_there s n obeyed o none = grind arith
-
--- an acknowledgement for which the link doesn't wait, or with no such link
-pub unanswered : (s : State) (n : ℕ) (reached : Reached) (o : Option Link) → (option_map (λ (l : Link). l.phase) o ≡ Some Down → ⊥) → at_link n s (λ link. answered reached n link link.phase s) (option_map link_of o) ≡ ignored s
-unanswered s n reached o other = grind arith
-
--- What becomes of an order at a link in its phase.
-pub obeyed_at : (parts new : Parts) (s : State) (n : ℕ) (phase : Phase) (obeyed : LinkState → Phase → Obeyed) (took : Took) → Agrees (kept_of parts) s → IsHere parts.links.items n phase
-    → ((link : LinkState) → slice_get s.links n ≡ Some link → link.phase ≡ phase → Obeys (obeyed link phase) took new) → Obeys (at_link n s (λ link. obeyed link link.phase) (slice_get s.links n)) took new
-obeyed_at parts new s n phase obeyed took a h done =
+-- and is obeyed at one in its phase
+pub obeyed_at : {new : Parts} {n : ℕ} {phase : Phase} {took : Took} (parts : Parts) (obeyed : LinkState → Phase → State → Obeyed) → IsHere parts.links.items n phase
+    → ((s : State) (link : LinkState) → slice_get s.links n ≡ Some link → link.phase ≡ phase → Agrees (kept_of parts) s → Obeys (obeyed link phase s) took new)
+    → (s : State) → Agrees (kept_of parts) s → Obeys (at_link n s (λ link. obeyed link link.phase s) (slice_get s.links n)) took new
+obeyed_at {new} {n} {phase} {took} parts obeyed h done s a =
     let i = is_in parts s n phase a h in
-    rw i.there (subst (λ p. Obeys (obeyed i.link p) took new) (sym i.phase_is) (done i.link i.there i.phase_is))
+    rw i.there (subst (λ p. Obeys (obeyed i.link p s) took new) (sym i.phase_is) (done s i.link i.there i.phase_is a))
 
 pub phase_here : (links : List Link) (n : ℕ) (o : Option Link) → slice_get links n ≡ o → IfSome (option_map (λ (l : Link). l.phase) o) (IsHere links n)
 phase_here links n None e = tt
 phase_here links n (Some link) e = is_here links n link.phase link e refl
+
+-- a link that is out
+pub out_at : (links : List Link) (n : ℕ) (phase : Phase) → IsHere links n phase → has_phase_up phase ≡ false → AtLink n links IsOut
+out_at links n phase h e link there = ap (λ (l : Link). has_phase_up l.phase) (same_at links n h.link link h.there there) ∙ ap has_phase_up h.phase_is ∙ e
 
 -- After room was taken.
 pub agrees_same : (old new : Parts) (s : State) → SameButRoom old new → Agrees (kept_of old) s → Agrees (kept_of new) s

@@ -1,14 +1,11 @@
 pub mod Admitting
 pub mod Becoming
 pub mod Declaring
-pub mod Leaving
 pub mod Less
 pub mod Links
-pub mod Oldest
 pub mod Rooms
 pub mod RowsAt
 pub mod Shifting
 pub mod States
 pub mod Targets
-pub mod TurnedQueues
 pub mod Turns

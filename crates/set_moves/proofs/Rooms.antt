@@ -9,7 +9,7 @@ use Rattle.set_queues.specs.Buffers.{Lists, IsKnown, IsQueued, TakesRoom, same_f
 use Rattle.set_queues.specs.Backs.{back_count}
 use Rattle.set_queues.specs.Settling.{on}
 use Rattle.set_queues.proofs.Passing.{queue_other, queued_stands}
-use Rattle.set_queues.proofs.Settling.{room_left}
+use Rattle.set_queues.proofs.Settling.{IsAside, room_left}
 use Rattle.set_route.specs.Target.{target_of}
 use Rattle.set_model.specs.declared.phase.Phase.{Phase}
 use Rattle.set_model.specs.declared.phase.Phase.TheVariants.{Down}
@@ -22,8 +22,7 @@ use Rattle.set_moves.specs.Agreement.{Holds}
 use Rattle.set_moves.specs.Parts.{IsWhole, IsCounted, AreCounted, AtLink, IsOut, link_of, kept_of}
 use Rattle.set_moves.specs.Room.{HasRoom, IsReady, SameButRoom, target_beside}
 use Rattle.set_moves.specs.Turning.{TakesTurns}
-use Rattle.set_moves.proofs.Admitting.{IsHere}
-use Rattle.set_moves.proofs.Leaving.{out_at}
+use Rattle.set_moves.proofs.Admitting.{IsHere, out_at}
 use Rattle.set_moves.proofs.Targets.{ups}
 
 ups_of : List Link → List Bool
@@ -48,15 +47,15 @@ has_room n parts fate r e = grind arith
 queued_on : (o : Option ℕ) → IsQueued (fate_on o)
 queued_on o = grind arith
 
--- what stands on a link that is out isn't touched by what waits for the target
-off_on : (o : Option ℕ) (n : ℕ) → ((t : ℕ) → o ≡ Some t → n ≢ t) → (same_fate (fate_on o) (Unacked n) ≡ false) × (same_fate (fate_on o) (Waiting n) ≡ false) × (same_fate (fate_on o) (Held n) ≡ false)
-off_on o n apart = grind arith
-
-pub on_same : (o : Option ℕ) (n : ℕ) (xs : List ℕ) (q new : Lists) → IsKnown (fate_on o) q → ((t : ℕ) → o ≡ Some t → n ≢ t) → new ≡ with_queue (fate_on o) xs q → on n new ≡ on n q
-on_same o n xs q new known apart e =
-    let off = off_on o n apart in
-    let other : (f : Fate) → same_fate (fate_on o) f ≡ false → queue_at f new ≡ queue_at f q = λ f apart. ap (queue_at f) e ∙ queue_other (fate_on o) f xs q (queued_stands (fate_on o) (queued_on o)) known apart in
-    rw (other (Unacked n) off.0, other (Waiting n) off.1, other (Held n) off.2) refl
+-- what stands on a link isn't touched by what waits elsewhere
+pub on_same : (n : ℕ) (to : Fate) (xs : List ℕ) (q new : Lists) → IsAside n to q → new ≡ with_queue to xs q → on n new ≡ on n q
+on_same n to xs q new a e =
+    let stands = queued_stands to a.queued in
+    let sent : same_fate to (Unacked n) ≡ false = off_sent to a.queued in
+    rw (e, queue_other to (Unacked n) xs q stands a.other sent, queue_other to (Waiting n) xs q stands a.other a.unsent, queue_other to (Held n) xs q stands a.other a.held) refl
+  where
+    off_sent : (to : Fate) → IsQueued to → same_fate to (Unacked n) ≡ false
+    off_sent to h = grind arith
 
 -- THE WHOLE NUMBERS of a list in which one link changed otherwise
 pub counted_set : (bound : ℕ) (links new : List Link) (n : ℕ) (link : Link) → AreCounted bound links → new ≡ slice_set links n link → IsCounted bound link → AreCounted bound new
@@ -65,10 +64,6 @@ counted_set bound links new n link all e one m other there = grind (arith, nat_t
 -- A SET IS WHOLE that stands for a state.
 pub whole_of : (parts : Parts) → Holds (kept_of parts) → IsWhole parts
 whole_of parts h = grind (arith, length-map)
-
--- the target's queue is one of the set's
-pub known_target : (o : Option ℕ) (q : Lists) (links read : List Link) → read ≡ links → length q.links ≡ length links → IfSome o (λ to. to < length read) → IsKnown (fate_on o) q
-known_target o q links read e many below = grind arith
 
 pub here_room : (parts : Parts) (n orders : ℕ) (phase : Phase) → IsHere parts.links.items n phase → has_phase_up phase ≡ false → IsReady n orders parts → length (on n parts.queues.lists) ≤ room_at (fate_on (target (map link_of parts.links.items))) parts.queues.rooms
 here_room parts n orders phase h down r = grind (arith, beside_out, out_at)
@@ -107,6 +102,3 @@ room_after n old left new low r turns beside same elsewhere takes =
 pub wider : (bound more : ℕ) (links : List Link) → bound ≤ more → AreCounted bound links → AreCounted more links
 wider bound more links h all n link there = let k = all n link there in record { acked = let low = k.acked in omega (arith, h, low); accepted = let low = k.accepted in omega (arith, h, low) }
 
--- what is whole stays so where room alone changes
-pub whole_still : (old new : Parts) → SameButRoom old new → IsWhole old → IsWhole new
-whole_still old new same whole = grind arith

@@ -119,9 +119,6 @@ rows_as (Back c) rows s = standing_as (is_back c) (is_there (Back c)) (back_ther
 rows_as (Acked l) rows s = absurd cc
 rows_as (Discarded cause) rows s = absurd cc
 
-pub none_final : (fate to : Fate) → is_standing fate ≡ true → is_standing to ≡ false → same_fate fate to ≡ false
-none_final fate to s t = grind arith
-
 pub final_none : (to fate : Fate) → is_standing to ≡ false → is_standing fate ≡ true → same_fate to fate ≡ false
 final_none to fate t s = grind arith
 
@@ -154,9 +151,6 @@ numbers-take n rows = rw (take-map (λ (row : Row). row.number) n rows) refl
 -- the test tells of one place alone
 abbrev pub IsOfOne : (Fate → Bool) → Type 0
 IsOfOne test = (f g : Fate) → is_standing f ≡ true → test f ≡ true → test g ≡ is_there f g
-
-pub waits_of_one : (l : ℕ) → IsOfOne (is_waiting l)
-waits_of_one l f g s e = grind (arith, nat_tests)
 
 pub sent_of_one : (l : ℕ) → IsOfOne (is_unacked l)
 sent_of_one l f g s e = grind (arith, nat_tests)

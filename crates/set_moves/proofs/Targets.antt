@@ -1,9 +1,10 @@
 -- The link that messages are moved to.
-use Rattle.std.proofs.Common.{◌≡◌, ◌≢◌, ◌∙◌, ap, sym, List, map, ℕ, false, slice_get, Some, Option, length, ◌<◌, arith, ◌==◌}
+use Rattle.std.proofs.Common.{◌≡◌, ◌≢◌, ◌∙◌, ap, sym, subst, List, map, ℕ, false, slice_get, Some, Option, length, ◌<◌, arith, ◌==◌}
 use Rattle.std.specs.Prelude.{IfSome}
 use Rattle.std.proofs.lemmas.Bool.{ne_eqb}
 use Rattle.std.proofs.lemmas.Simd.{map-map}
 use Rattle.set_moves.specs.declared.link.Link.{Link}
+use Rattle.set_events.specs.declared.answer.Fate.{Fate}
 use Rattle.set_queues.specs.Buffers.{Lists, IsKnown}
 use Rattle.set_queues.specs.Settling.{fate_on as fate_there}
 use Rattle.set_queues.proofs.Settling.{IsAside, aside_of}
@@ -33,24 +34,26 @@ out_of links n known out t is =
     let x = present links n known in
     up_target (map link_of links) n t (link_of x.0) (map_at link_of links n x.0 x.1) (out x.0 x.1) is
 
-pub apart_some : (o : Option ℕ) (n : ℕ) → ((t : ℕ) → o ≡ Some t → n ≢ t) → IfSome o (λ to. to ≢ n)
-apart_some o n apart = grind arith
-
-same_there : (o : Option ℕ) → fate_on o ≡ fate_there o
+pub same_there : (o : Option ℕ) → fate_on o ≡ fate_there o
 same_there o = grind arith
 
-known_there : (o : Option ℕ) (q : Lists) (count : ℕ) → length q.links ≡ count → IfSome o (λ to. to < count) → IsKnown (fate_there o) q
-known_there o q count e low = grind arith
+-- the place of what leaves a link that is out of service: it's known, and no queue of the link
+pub record IsPlace (n : ℕ) (o : Option ℕ) (to : Fate) (q : Lists) : Type 0 where
+  pub aside : IsAside n to q
+  pub apart : IfSome o (λ t. t ≢ n)
+  pub off : (t : ℕ) → o ≡ Some t → (n == t) ≡ false
 
--- where the messages of a link go that is out of service
-pub aside_for : (o : Option ℕ) (n : ℕ) (q : Lists) (count : ℕ) → length q.links ≡ count → n < count → IfSome o (λ to. to < count) → ((t : ℕ) → o ≡ Some t → n ≢ t) → IsAside n (fate_on o) q
-aside_for o n q count e low below apart = aside_of o n (fate_on o) q (same_there o) (omega (arith, e, low)) (known_there o q count e below) (apart_some o n apart)
+pub place_for : {links read : List Link} (n : ℕ) (o : Option ℕ) (to : Fate) (q : Lists) → read ≡ links → o ≡ target (map link_of read) → IfSome o (λ t. t < length read) → to ≡ fate_there o → length q.links ≡ length links → n < length links → AtLink n links IsOut → IsPlace n o to q
+place_for {links} {read} n o to q same is below there many known out =
+    let other : (t : ℕ) → o ≡ Some t → n ≢ t = λ t e. out_of links n known out t (ap (λ ls. target (map link_of ls)) (sym same) ∙ sym is ∙ e) in
+    let apart = apart_some o other in
+    record { aside = aside_of o n to q there (omega (arith, many, known)) (known_there o (omega arith) (subst (λ ls. IfSome o (λ t. t < length ls)) same below)) apart; apart = apart; off = λ t e. ne_eqb n t (other t e) }
+  where
+    apart_some : (o : Option ℕ) → ((t : ℕ) → o ≡ Some t → n ≢ t) → IfSome o (λ t. t ≢ n)
+    apart_some o apart = grind arith
 
-pub apart_of : (o : Option ℕ) (n : ℕ) → ((t : ℕ) → o ≡ Some t → n ≢ t) → (t : ℕ) → o ≡ Some t → (n == t) ≡ false
-apart_of o n apart t e = ne_eqb n t (apart t e)
-
-pub same_fates : (o p : Option ℕ) → o ≡ p → fate_there o ≡ fate_on p
-same_fates o p e = sym (same_there o) ∙ ap fate_on e
+    known_there : (o : Option ℕ) → length links ≡ length q.links → IfSome o (λ t. t < length links) → IsKnown (fate_there o) q
+    known_there o e low = grind arith
 
 -- a link of a list with the same phases
 pub phase_at : (old new : List Link) (n : ℕ) (link : Link) → map (λ (l : Link). l.phase) new ≡ map (λ (l : Link). l.phase) old → slice_get new n ≡ Some link → (x : Link) × (slice_get old n ≡ Some x) × (x.phase ≡ link.phase)

@@ -1,36 +1,267 @@
--- WHAT STANDS BACK FOR A LINK turns back: the oldest, and so all of it, the oldest first.
-use Rattle.std.proofs.Common.{refl, arith, ◌≡◌, ◌∙◌, ap, sym, subst, [], ◌∷◌, ◌++◌, length, ℕ, suc, Bool, true, false, List, Some, cond, take, drop, ◌+◌, ◌*◌, None}
-use Rattle.std.specs.Prelude.{slice_get}
-use Rattle.std.proofs.lemmas.Bool.{eq-eqb}
+-- WHAT STANDS BACK FOR A LINK turns back: the oldest, which is the first of the rows that do, and so all of it, the oldest
+-- first.
+use Rattle.std.proofs.Common.{refl, arith, ◌≡◌, ◌∙◌, ap, sym, subst, [], ◌∷◌, ◌++◌, length, ℕ, suc, Bool, true, false, List, Some, cond, take, drop, ◌+◌, ◌*◌, None, ◌-◌, ◌%◌, ◌≤◌, ◌<◌, zero, ◌==◌, ◌⊎◌, Option}
+use Rattle.std.specs.Prelude.{slice_get, filter}
+use Rattle.std.proofs.lemmas.Bool.{eq-eqb, cases_eq, cases_lt, ne_eqb, not-true}
 use Rattle.std.proofs.lemmas.Bool.Decides.{nat_tests}
-use Rattle.std.proofs.lemmas.List.{append-nil, map-append}
+use Rattle.std.proofs.lemmas.List.{append-nil, map-append, length-append, get_or_past}
 use Rattle.set_events.specs.declared.answer.Fate.{Fate}
-use Rattle.set_events.specs.declared.answer.Fate.TheVariants.{Waiting, Held, Back}
+use Rattle.set_events.specs.declared.answer.Fate.TheVariants.{Waiting, Held, Back, Unacked}
 use Rattle.set_queues.specs.Backs.{passed_first, IsOldest, back_from, NoneBack}
-use Rattle.set_queues.specs.Buffers.{Lists, is_standing, same_fate, queue_at, with_queue, last_at, HaveRoom}
+use Rattle.set_queues.specs.Buffers.{Lists, is_standing, same_fate, queue_at, with_queue, last_at, HaveRoom, Rooms, room_at, IsKnown, IsQueued, TakesRoom}
 use Rattle.set_queues.specs.Messages.{restood}
 use Rattle.set_queues.proofs.Standing.{same_is}
 use Rattle.set_queues.specs.declared.message.Message.{Message}
 use Rattle.set_route.specs.declared.place.Place.{Place}
 use Rattle.set_route.specs.Routing.{home_of, place_of}
-use Rattle.set_model.specs.Rows.{Row, standing, is_back, is_back_to, numbers, moved, stream_of}
-use Rattle.set_model.specs.Sound.{IsAscending}
-use Rattle.set_model.specs.State.{State, fate_at}
+use Rattle.set_model.specs.Rows.{Row, standing, is_back, is_back_to, numbers, moved, stream_of, body_at, service_indicator, Each}
+use Rattle.set_model.specs.Sound.{IsAscending, AreAbove}
+use Rattle.set_model.specs.State.{State, fate_at, link_count}
 use Rattle.set_model.specs.Changeover.{turned_back}
-use Rattle.set_model.proofs.Filters.{fewer_filter}
+use Rattle.set_model.proofs.Filters.{fewer_filter, filter_comm, filter_within}
 use Rattle.set_model.proofs.Finding.{with_number}
-use Rattle.set_model.proofs.Lookups.{no_rows}
+use Rattle.set_model.proofs.Lookups.{no_rows, Found, found_by_number, at_most_one, row_is_first}
 use Rattle.set_model.proofs.Moving.{moved_nothing}
-use Rattle.set_moves.specs.Agreement.{Kept, Stands, StandsFor, rows_at}
+use Rattle.set_moves.specs.Agreement.{Kept, Stands, StandsFor, rows_at, label_in, label_of}
 use Rattle.set_moves.specs.Turning.{IsTurning, IsTurningRow, TurnsOn, TakesTurns}
 use Rattle.set_moves.proofs.Becoming.{Becoming, becomes}
 use Rattle.set_moves.proofs.RowsAt.{Shifts, is_there, rows_as}
 use Rattle.set_moves.proofs.Shifting.{shifted, shifted_messages, shifted_goes, shifted_stands, shifted_each, rest_stands, moved_same, moved_as}
 use Rattle.set_moves.proofs.States.{Moves, shifts_stand, queues_for, last_stays}
-use Rattle.set_moves.proofs.Oldest.{IsFirst, IsOnLink, first_of, first_back}
-use Rattle.set_moves.proofs.TurnedQueues.{Goes, either, goes_to, taken, queue_then, links_then, some_back}
 use Rattle.set_moves.specs.declared.parts.Parts.{Parts}
 use Rattle.set_moves.specs.Parts.{IsWhole, kept_of}
+use Rattle.set_queues.specs.Queues.{QueuesState}
+use Rattle.set_queues.specs.Settling.{on as on_lists}
+use Rattle.set_queues.proofs.CodeQueues.{back_none, back_more, back_grows}
+use Rattle.set_queues.proofs.Passing.{queue_set, known_on, size_stays, links_stay, queued_stands}
+use Rattle.set_queues.proofs.Settling.{on_length}
+use Rattle.std.specs.Option.{option_map}
+use Rattle.std.proofs.lemmas.Option.{same_Some}
+use Rattle.set_queues.specs.declared.message.Kind.TheVariants.{User}
+use Rattle.set_route.specs.declared.place.Place.TheVariants.{On}
+use Rattle.set_model.proofs.Standing.{each_filter}
+use Rattle.set_queues.proofs.Soundness.{both_replaced}
+
+-- LISTS
+
+pub head_of : {X : Type 0} (xs : List X) (x : X) → slice_get xs 0 ≡ Some x → (rest : List X) × (xs ≡ x ∷ rest)
+head_of [] x e = absurd cc
+head_of (y ∷ xs) x e = (xs, ap (λ z. z ∷ xs) (same_Some y x e))
+
+single : (xs : List Row) (x : Row) → slice_get xs 0 ≡ Some x → length xs ≤ 1 → xs ≡ x ∷ []
+single [] x e l = absurd cc
+single (y ∷ []) x e l = ap (λ z. z ∷ []) (same_Some y x e)
+single (y ∷ z ∷ xs) x e l = absurd (omega (arith, l))
+
+pub passes : (p : Row → Bool) (xs rest : List Row) (x : Row) → filter p xs ≡ x ∷ rest → p x ≡ true
+passes p [] rest x e = absurd cc
+passes p (z ∷ xs) rest x e = grind (arith, passes p xs rest x)
+
+none_above : (k m : ℕ) (xs : List Row) → k ≤ m → AreAbove m (numbers xs) → with_number k xs ≡ []
+none_above k m [] low a = refl
+none_above k m (x ∷ xs) low a = let above = a.0 in rw (ne_eqb x.number k (λ e. omega (arith, e, low, above))) (none_above k m xs low a.1)
+
+-- the only one of its number stands first, where the numbers rise and none before has a lower one
+first_least : (n : ℕ) (xs : List Row) (x : Row) → with_number n xs ≡ x ∷ [] → IsAscending (numbers xs) → ((y : Row) (rest : List Row) → xs ≡ y ∷ rest → n ≤ y.number) → slice_get xs 0 ≡ Some x
+first_least n [] x e up low = absurd cc
+first_least n (y ∷ rest) x e up low = grind (arith, nat_tests, none_above n y.number rest (low y rest refl) up.0)
+
+-- FATES
+
+back_is : (c : ℕ) (f : Fate) → is_back c f ≡ true → f ≡ Back c
+back_is c f e = grind arith
+
+back_of : (home : ℕ) (f : Fate) → is_back_to home f ≡ true → (c : ℕ) × (f ≡ Back c) × (home_of c ≡ home)
+back_of home f e = grind arith
+
+-- what waits for a code of the home waits for the home
+pub back_home : (home c : ℕ) → home_of c ≡ home → (f : Fate) → is_back c f ≡ true → is_back_to home f ≡ true
+back_home home c of f e = ap (is_back_to home) (back_is c f e) ∙ eq-eqb (home_of c) home of
+
+-- the first of those that stand back for the home stands first of its code
+pub first_back : (home : ℕ) (q : Lists) (ms : List Message) (rows rest : List Row) (y : Row) → Stands q ms rows → standing (is_back_to home) rows ≡ y ∷ rest → (c : ℕ) × (home_of c ≡ home) × (slice_get (queue_at (Back c) q) 0 ≡ Some y.number)
+first_back home q ms rows rest y s e =
+    let b = back_of home y.fate (passes (λ (row : Row). is_back_to home row.fate) rows rest y e) in
+    let own : is_back b.0 y.fate ≡ true = ap (is_back b.0) b.1 ∙ eq-eqb b.0 b.0 refl in
+    let there : standing (is_back b.0) rows ≡ standing (is_back b.0) (y ∷ rest) = sym (filter_within (λ (row : Row). is_back b.0 row.fate) (λ (row : Row). is_back_to home row.fate) (λ r f. back_home home b.0 b.2 r.fate f) rows) ∙ ap (standing (is_back b.0)) e in
+    let heads : standing (is_back b.0) (y ∷ rest) ≡ y ∷ standing (is_back b.0) rest = rw own refl in
+    (b.0, b.2, ap (λ (ns : List ℕ). slice_get ns 0) (s.queues (Back b.0) ∙ ap numbers (there ∙ heads)))
+
+-- THE OLDEST that stands back for the home is the first of the rows that do.
+pub record IsFirst (home code number : ℕ) (rows : List Row) : Type 0 where
+  pub row : Row
+  pub number_is : row.number ≡ number
+  pub fate_is : row.fate ≡ Back code
+  pub one : with_number row.number rows ≡ row ∷ []
+  pub below : row.number < length rows
+  pub after : List Row
+  pub of_code : standing (is_back code) rows ≡ row ∷ after
+  pub rest : List Row
+  pub first : standing (is_back_to home) rows ≡ row ∷ rest
+
+module _ (home code : ℕ) (q : Lists) (ms : List Message) (rows : List Row) (s : Stands q ms rows) (o : IsOldest home code q) (order : IsAscending (numbers (standing (is_back_to home) rows))) where
+  found : Found (λ (row : Row). is_back code row.fate) rows 0 o.number
+  found = found_by_number (λ (row : Row). is_back code row.fate) rows 0 o.number s.numbered (sym (ap (λ (ns : List ℕ). slice_get ns 0) (s.queues (Back code))) ∙ o.first)
+
+  abbrev x : Row
+  x = found.row
+
+  code_rows : (rest : List Row) × (standing (is_back code) rows ≡ x ∷ rest)
+  code_rows = head_of (standing (is_back code) rows) x found.there
+
+  fate_of : x.fate ≡ Back code
+  fate_of = back_is code x.fate (passes (λ (row : Row). is_back code row.fate) rows code_rows.0 x code_rows.1)
+
+  only : with_number o.number rows ≡ x ∷ []
+  only = single (with_number o.number rows) x (sym (row_is_first o.number rows) ∙ found.row_is) (at_most_one o.number rows s.numbered)
+
+  in_home : with_number o.number (standing (is_back_to home) rows) ≡ x ∷ []
+  in_home = filter_comm (λ (row : Row). row.number == o.number) (λ (row : Row). is_back_to home row.fate) rows ∙ ap (standing (is_back_to home)) only ∙ rw (ap (is_back_to home) fate_of ∙ eq-eqb (home_of code) home o.of_home) refl
+
+  -- none that stands before it has a lower number
+  least : (y : Row) (rest : List Row) → standing (is_back_to home) rows ≡ y ∷ rest → o.number ≤ y.number
+  least y rest e = let b = first_back home q ms rows rest y s e in o.least b.0 y.number b.1 b.2
+
+  pub first_of : IsFirst home code o.number rows
+  first_of =
+      let h = head_of (standing (is_back_to home) rows) x (first_least o.number (standing (is_back_to home) rows) x in_home order least) in
+      record {
+        row = x;
+        number_is = found.number_is;
+        fate_is = fate_of;
+        one = subst (λ (n : ℕ). with_number n rows ≡ x ∷ []) (sym found.number_is) only;
+        below = let low = found.below in let same = found.number_is in omega (arith, low, same);
+        after = code_rows.0;
+        of_code = code_rows.1;
+        rest = h.0;
+        first = h.1;
+      }
+
+-- WHERE THE OLDEST GOES: it's a user's message, and its stream runs on a link
+pub record IsWay (k : Kept) (s : State) (code number : ℕ) : Type 0 where
+  pub row : Row
+  pub there : slice_get (standing (is_back code) s.rows) 0 ≡ Some row
+  pub few : stream_of row.body < 16
+  pub via : ℕ
+  pub place_is : place_of (stream_of row.body) s.routing ≡ On via
+  pub low : via < link_count s
+  pub message : Message
+  pub message_is : slice_get k.messages number ≡ Some message
+  pub kind_is : message.kind ≡ User (stream_of row.body)
+
+users_label : (body : List ℕ) (o : Option Message) → option_map label_in o ≡ Some (label_of body) → (service_indicator body == 0) ≡ false → (m : Message) × (o ≡ Some m) × (m.kind ≡ User (stream_of body))
+users_label body None e users = absurd cc
+users_label body (Some m) e users = (m, refl, ap (λ l. l.kind) (same_Some (label_in m) (label_of body) e) ∙ rw users refl)
+
+pub way : {home code : ℕ} {k : Kept} {s : State} → StandsFor k s → IsTurning home s → (o : IsOldest home code k.lists) → IsWay k s code o.number
+way {home} {code} {k} {s} f t o =
+    let x = first_of home code k.lists k.messages s.rows f.stands o t.order in
+    let own = subst (Each (IsTurningRow home s)) x.of_code (each_filter (IsTurningRow home s) (λ (row : Row). is_back code row.fate) s.rows t.each) in
+    let turns = own.0 (back_home home code o.of_home x.row.fate (passes (λ (row : Row). is_back code row.fate) s.rows x.after x.row x.of_code)) in
+    let body : body_at o.number s.rows ≡ Some x.row.body = ap (option_map (λ (row : Row). row.body)) (row_is_first o.number s.rows ∙ ap (λ (ys : List Row). slice_get ys 0) (subst (λ (n : ℕ). with_number n s.rows ≡ x.row ∷ []) x.number_is x.one)) in
+    let m = users_label x.row.body (slice_get k.messages o.number) (f.stands.labels o.number ∙ ap (option_map label_of) body) (not-true (service_indicator x.row.body == 0) turns.0) in
+    record { row = x.row; there = ap (λ (ys : List Row). slice_get ys 0) x.of_code; few = turns.1; via = turns.2; place_is = turns.3; low = turns.4; message = m.0; message_is = m.1; kind_is = m.2 }
+
+-- it waits for a link, or is held for it
+abbrev pub IsOnLink : ℕ → Fate → Type 0
+IsOnLink links to = (via : ℕ) × (via < links) × ((to ≡ Waiting via) ⊎ (to ≡ Held via))
+
+pub on_way : (links via : ℕ) (to : Fate) (s : State) → link_count s ≡ links → via < link_count s → to ≡ fate_at (On via) s → IsOnLink links to
+on_way links via to s many low e = (via, omega (arith, many, low), runs_on)
+  where
+    runs_on : (to ≡ Waiting via) ⊎ (to ≡ Held via)
+    runs_on = grind arith
+
+-- a queue that holds something is one of a code
+pub known_code : (code k : ℕ) (q : Lists) → slice_get (queue_at (Back code) q) 0 ≡ Some k → code < length q.back
+known_code code k q e = grind (arith, nat_tests, cases_lt, get_or_past)
+
+-- THE QUEUES when the first of a code's goes to another
+pub record Goes (code number : ℕ) (to : Fate) (q : Lists) : Type 0 where
+  pub first : slice_get (queue_at (Back code) q) 0 ≡ Some number
+  pub known : IsKnown to q
+  pub queued : IsQueued to
+  pub apart : same_fate to (Back code) ≡ false
+
+module _ (code number : ℕ) (to : Fate) (q : Lists) (g : Goes code number to q) where
+  pub taken : take 1 (queue_at (Back code) q) ≡ number ∷ []
+  taken = let h = head_of (queue_at (Back code) q) number g.first in ap (take 1) h.1
+
+  pub queue_then : (f : Fate) → is_standing f ≡ true → queue_at f (passed_first (Back code) to q) ≡ cond (same_fate (Back code) f) (drop 1 (queue_at (Back code) q)) (cond (same_fate to f) (queue_at to q ++ number ∷ []) (queue_at f q))
+  queue_then f s = rw (← taken) (both_replaced q (Back code) to _ _ (known_code code number q g.first) g.known f s)
+
+  -- HOW MANY WAIT for the codes of a home: one less
+  pub code_then : length (queue_at (Back code) (passed_first (Back code) to q)) + 1 ≡ length (queue_at (Back code) q)
+  code_then =
+      let h = head_of (queue_at (Back code) q) number g.first in
+      let own : queue_at (Back code) (passed_first (Back code) to q) ≡ drop 1 (queue_at (Back code) q) = queue_then (Back code) refl ∙ rw (eq-eqb code code refl) refl in
+      omega (arith, ap length (own ∙ ap (drop 1) h.1), ap length h.1)
+
+  pub other_then : (c : ℕ) → (code ≡ c → ⊥) → same_fate to (Back c) ≡ false → queue_at (Back c) (passed_first (Back code) to q) ≡ queue_at (Back c) q
+  other_then c ne off = queue_then (Back c) refl ∙ rw (ne_eqb code c ne, off) refl
+
+back_suc : (code n : ℕ) (q : Lists) → back_from code (suc n) q ≡ back_from code n q + length (queue_at (Back (code + n)) q)
+unfolding back_from
+back_suc code n q = refl
+
+module _ (code : ℕ) (q q' : Lists) (others : (c : ℕ) → (code ≡ c → ⊥) → queue_at (Back c) q' ≡ queue_at (Back c) q) where
+  back_same : (from n : ℕ) → from + n ≤ code → back_from from n q' ≡ back_from from n q
+  back_same from zero low = grind (arith, back_none)
+  back_same from (suc n) low = grind (arith, back_suc, back_same from n (omega (arith, low)), others (from + n))
+
+  pub back_less : length (queue_at (Back code) q') + 1 ≡ length (queue_at (Back code) q) → (from n : ℕ) → from ≤ code → code < from + n → back_from from n q' + 1 ≡ back_from from n q
+  back_less less from zero low high = absurd (omega (arith, low, high))
+  back_less less from (suc n) low high = grind (arith, nat_tests, cases_eq, back_suc, back_same, back_less less from n low)
+
+-- TO A LINK: it waits for it, or is held for it
+pub either : (P : Fate → Type 0) (to : Fate) (via : ℕ) → (to ≡ Waiting via) ⊎ (to ≡ Held via) → P (Waiting via) → P (Held via) → P to
+either P to via h3 w h = grind arith
+
+pub goes_to : (home code links : ℕ) (to : Fate) (q : Lists) (o : IsOldest home code q) → IsOnLink links to → length q.links ≡ links → Goes code o.number to q
+goes_to home code links to q o on many =
+    let known : on.0 < length q.links = omega (arith, on.1, many) in
+    record { first = o.first; known = either (λ f. IsKnown f q) to on.0 on.2 known known; queued = either IsQueued to on.0 on.2 tt tt; apart = either (λ f. same_fate f (Back code) ≡ false) to on.0 on.2 refl refl }
+
+pub fewer_back : (home code links : ℕ) (to : Fate) (q q' : Lists) → IsOldest home code q → IsOnLink links to → length q.links ≡ links → q' ≡ passed_first (Back code) to q → back_from (16 * home) 16 q' + 1 ≡ back_from (16 * home) 16 q
+fewer_back home code links to q q' o on many e =
+    let g = goes_to home code links to q o on many in
+    let of = o.of_home in
+    subst (λ (z : Lists). back_from (16 * home) 16 z + 1 ≡ back_from (16 * home) 16 q) (sym e)
+    (back_less code q (passed_first (Back code) to q) (λ c ne. other_then code o.number to q g c ne (either (λ f. same_fate f (Back c) ≡ false) to on.0 on.2 refl refl)) (code_then code o.number to q g) (16 * home) 16 (omega (arith, of)) (omega (arith, of)))
+
+-- ROOM
+pub turns_then : (a b : ℕ) (old mid new : QueuesState) → length mid.lists.links ≡ length old.lists.links → TakesTurns a old mid → TakesTurns b mid new → TakesTurns (a + b) old new
+turns_then a b old mid new many t u = grind arith
+
+taken_one : (to fate : Fate) (old new : Rooms) → TakesRoom to 1 old new → room_at fate old ≤ room_at fate new + 1
+taken_one to fate old new t = grind arith
+
+module _ (code number via : ℕ) (to : Fate) (q : Lists) (g : Goes code number to q) (is : (to ≡ Waiting via) ⊎ (to ≡ Held via)) where
+  grown : (f : Fate) → is_standing f ≡ true → same_fate (Back code) f ≡ false → length (queue_at f (passed_first (Back code) to q)) ≤ length (queue_at f q) + cond (same_fate to f) 1 0
+  grown f standing off = grind (arith, nat_tests, queue_then code number to q g f standing, same_is to f standing, length-append)
+
+  on_then : (m : ℕ) → length (on_lists m (passed_first (Back code) to q)) ≤ length (on_lists m q) + 1
+  on_then m =
+      let one : cond (via == m) 1 0 ≤ 1 = grind arith in
+      let few = either (λ f. cond (same_fate f (Unacked m)) 1 0 + cond (same_fate f (Waiting m)) 1 0 + cond (same_fate f (Held m)) 1 0 ≤ 1) to via is (omega (arith, one)) (omega (arith, one)) in
+      omega (arith, on_length m q, on_length m (passed_first (Back code) to q), grown (Unacked m) refl refl, grown (Waiting m) refl refl, grown (Held m) refl refl, few)
+
+pub turns_one : (home code links : ℕ) (to : Fate) (old new : QueuesState) → IsOldest home code old.lists → IsOnLink links to → length old.lists.links ≡ links → new.lists ≡ passed_first (Back code) to old.lists → TakesRoom to 1 old.rooms new.rooms → new.room ≡ old.room → TakesTurns 1 old new
+turns_one home code links to old new o on many e rooms room = record {
+  room = room;
+  rooms = λ f. taken_one to f old.rooms new.rooms rooms;
+  on_link = λ n low. subst (λ (z : Lists). length (on_lists n z) ≤ length (on_lists n old.lists) + 1) (sym e) (on_then code o.number on.0 to old.lists (goes_to home code links to old.lists o on many) on.2 n);
+}
+
+pub links_then : (from to : Fate) (q q' : Lists) → q' ≡ passed_first from to q → length q'.links ≡ length q.links
+links_then from to q q' e = ap (λ (z : Lists). length z.links) e ∙ links_stay from (drop 1 (queue_at from q)) (with_queue to (queue_at to q ++ take 1 (queue_at from q)) q) ∙ links_stay to (queue_at to q ++ take 1 (queue_at from q)) q
+
+pub some_back : (home code : ℕ) (q : Lists) → IsOldest home code q → 1 ≤ back_from (16 * home) 16 q
+some_back home code q o =
+    let h = head_of (queue_at (Back code) q) o.number o.first in
+    let is : 16 * home + code % 16 ≡ code = omega (arith, o.of_home) in
+    let first : back_from (16 * home) (code % 16 + 1) q ≤ back_from (16 * home) 16 q = back_grows (16 * home) (code % 16 + 1) (15 - code % 16) 16 q (omega arith) in
+    omega (arith, first, back_more (16 * home) (code % 16) q, ap (λ (c : ℕ). length (queue_at (Back c) q)) is, ap length h.1)
 
 -- the numbers of a fate's rows, where the first that stood back by the code came to another
 module _ (code : ℕ) (to : Fate) (x : Row) (rest rows : List Row) (one : with_number x.number rows ≡ x ∷ []) (is : x.fate ≡ Back code) (of_code : standing (is_back code) rows ≡ x ∷ rest) (apart : same_fate to (Back code) ≡ false) where
@@ -68,7 +299,7 @@ module _ (home code : ℕ) (to : Fate) (k : Kept) (s : State) (f : StandsFor k s
       let same = x.number_is in
       let joined : queue_at to k.lists ++ o.number ∷ [] ≡ numbers (rows_at to s.rows) ++ row.number ∷ [] = cc (f.stands.queues to, same) in
       shifts_stand f.stands turned
-      (λ g t. queue_then code o.number to k.lists goes g ∙ ap (λ (ns : List ℕ). cond (same_fate (Back code) g) (drop 1 (queue_at (Back code) k.lists)) (cond (same_fate to g) ns (queue_at g k.lists))) joined ∙ grind (arith, nat_tests, back))
+      (λ g t. queue_then code o.number to k.lists goes g t ∙ ap (λ (ns : List ℕ). cond (same_fate (Back code) g) (drop 1 (queue_at (Back code) k.lists)) (cond (same_fate to g) ns (queue_at g k.lists))) joined ∙ grind (arith, nat_tests, back))
       (taken code o.number to k.lists goes ∙ ap (λ (n : ℕ). n ∷ []) (sym same))
 
   last_then : (n : ℕ) → last_at n then ≡ last_at n k.lists

@@ -1,9 +1,7 @@
 -- Why an event is refused, told by the link.
 use Rattle.std.specs.Prelude.{ℕ, ◌==◌, nat_lt, nat_le, List, length, Option, Some, None, if◌then◌else◌}
 use Rattle.set_events.specs.declared.answer.Refusal.{Refusal as SetRefusal}
-use Rattle.set_events.specs.declared.answer.Refusal.TheVariants.{TooShort, TooLong, Reserved, StreamFull, NotUp, NotDown, Unsettled, Nothing, NoSuchLink}
-use Rattle.set_model.specs.declared.phase.Phase.{Phase}
-use Rattle.set_model.specs.declared.phase.Phase.TheVariants.{Up, Down, Settled}
+use Rattle.set_events.specs.declared.answer.Refusal.TheVariants.{TooShort, TooLong, Reserved, StreamFull, NotUp, NoSuchLink}
 use Rattle.set_model.specs.Rows.{service_indicator}
 use Rattle.set_model.specs.State.{has_phase_up}
 use Rattle.set_moves.specs.declared.link.Link.{Link}
@@ -12,20 +10,6 @@ use Rattle.set_moves.specs.declared.link.Link.{Link}
 abbrev pub service_refusal : Option Link → Option SetRefusal
 service_refusal None = Some NoSuchLink
 service_refusal (Some link) = if has_phase_up link.phase then None else Some NotUp
-
-abbrev pub refusal_in : Phase → Option SetRefusal → Option SetRefusal → Option SetRefusal → Option SetRefusal
-refusal_in Up up down settled = up
-refusal_in Down up down settled = down
-refusal_in Settled up down settled = settled
-
--- why a link can't come up, and why no answer is waited for, if so
-abbrev pub rising_refusal : Option Link → Option SetRefusal
-rising_refusal None = Some NoSuchLink
-rising_refusal (Some link) = refusal_in link.phase (Some NotDown) (Some Unsettled) None
-
-abbrev pub waiting_refusal : Option Link → Option SetRefusal
-waiting_refusal None = Some NoSuchLink
-waiting_refusal (Some link) = refusal_in link.phase (Some Nothing) None (Some Nothing)
 
 -- why an offer is refused, told by how many messages of its stream aren't sent yet
 abbrev pub refusal_by : ℕ → List ℕ → Option SetRefusal

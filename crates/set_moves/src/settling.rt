@@ -3,9 +3,10 @@ ghost use Rattle.std.specs.Prelude.{◌≡◌, ◌<◌, ◌≤◌, ◌^◌, leng
 ghost use Rattle.set_queues.specs.Buffers.{KeepsRoom, room_at};
 ghost use Rattle.set_queues.specs.Settling.{on};
 ghost use Rattle.set_model.specs.Changeover.{settled, judged, discarded, moved_over, fate_on};
+ghost use Rattle.set_model.specs.Rows.{IsInOrder, IsHeldLast};
 ghost use Rattle.set_model.specs.State.{State, LinkState, target};
 ghost use Rattle.set_moves.specs.Agreement.{StandsFor, Agrees};
-ghost use Rattle.set_moves.specs.Parts.{IsWhole, AreCounted, AtLink, IsOut, IsReach, Becomes, BecomesAt, AgreedBecomes, link_of, kept_of};
+ghost use Rattle.set_moves.specs.Parts.{IsWhole, AreCounted, AtLink, IsOut, IsReach, Becomes, BecomesAt, link_of, kept_of};
 ghost use Rattle.set_model.specs.declared.phase.Phase.TheVariants.{Down};
 
 use super::parts::{Parts, target_of};
@@ -81,7 +82,9 @@ fn move_all(parts: &mut Parts, number: u8)
     requires out { AtLink number parts.old.links.items IsOut }
     requires room { length (on number parts.old.queues.lists) ≤ room_at (fate_on
         (target (map link_of parts.old.links.items))) parts.old.queues.rooms }
-    ensures stands { AgreedBecomes number parts.old parts.new (moved_over number) }
+    ensures stands { (s : State) (link : LinkState) → slice_get s.links number ≡ Some link
+        → IsInOrder number s.rows → IsHeldLast number s.rows → StandsFor (kept_of parts.old) s
+        → StandsFor (kept_of parts.new) (moved_over number link s) }
 {
     let target = target_of(&parts.links);
     parts.queues.settle(number, target);

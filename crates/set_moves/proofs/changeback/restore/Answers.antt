@@ -1,35 +1,31 @@
-use Rattle.std.proofs.Common.{refl, ◌∙◌, ap, sym, slice_get, true, false}
+use Rattle.std.proofs.Common.{refl, ◌∙◌, sym, true, false}
 use Rattle.set_events.specs.declared.answer.Answer.TheVariants.{Refused, Done}
 use Rattle.set_events.specs.declared.answer.Refusal.TheVariants.{Nothing}
 use Rattle.set_model.specs.Step.{comes_back}
 use Rattle.set_model.specs.declared.phase.Phase.TheVariants.{Up}
-use Rattle.set_moves.specs.Refusing.{service_refusal}
-use Rattle.set_moves.proofs.Admitting.{serves, unserved, is_in, here_same, agrees_same}
+use Rattle.set_moves.proofs.Admitting.{serves, unserved, is_in, agrees_same}
 use Rattle.set_moves.proofs.Declaring.{come_back, count_is}
 use Rattle.set_moves.proofs.changeback.restore.Goals as goal
 
 pub returns-in-Some-clause-ok : goal.returns-in-Some-clause-ok
-returns-in-Some-clause-ok c = λ s a. unserved c.args.parts.now s a c.args.number c.in-Some.why (λ link. comes_back c.args.number s) (ap (λ links. service_refusal (slice_get links c.args.number)) (sym c.deref.ensures.value) ∙ sym c.out_of_service.ensures ∙ c.in-Some.is)
+returns-in-Some-clause-ok c = λ s a. unserved c.args.parts.now s c.args.number (λ link. comes_back c.args.number s) a c.deref.ensures.value c.out_of_service.ensures c.in-Some.is
 
 pub has_alternative-requires-clause-known : goal.has_alternative-requires-clause-known
-has_alternative-requires-clause-known c = (serves c.args.parts.now.links.items c.args.number (ap (λ links. service_refusal (slice_get links c.args.number)) (sym c.deref.ensures.value) ∙ sym c.out_of_service.ensures ∙ c.in_default.is)).known
+has_alternative-requires-clause-known c = (serves c.deref.ensures.value c.out_of_service.ensures c.in_default.is).known
 
 pub returns-then-not-has_alternative-clause-ok : goal.returns-then-not-has_alternative-clause-ok
 returns-then-not-has_alternative-clause-ok c = λ s a.
-    let h = serves c.args.parts.now.links.items c.args.number (ap (λ links. service_refusal (slice_get links c.args.number)) (sym c.deref.ensures.value) ∙ sym c.out_of_service.ensures ∙ c.in_default.is) in
+    let h = serves c.deref.ensures.value c.out_of_service.ensures c.in_default.is in
     come_back false s c.args.number (Refused Nothing) c.args.parts.now (is_in c.args.parts.now s c.args.number Up a h) (sym (c.has_alternative.ensures s a.stands) ∙ c.if-not-has_alternative.true) (record { answer_is = refl; stands = a.stands })
 
 pub declare_all-requires-clause-home : goal.declare_all-requires-clause-home
-declare_all-requires-clause-home c =
-    let h = serves c.args.parts.now.links.items c.args.number (ap (λ links. service_refusal (slice_get links c.args.number)) (sym c.deref.ensures.value) ∙ sym c.out_of_service.ensures ∙ c.in_default.is) in
-    (here_same c.args.parts.now c.make_room_declared.new.parts c.args.number Up c.make_room_declared.ensures.same h).known
+declare_all-requires-clause-home c = rw c.make_room_declared.ensures.same.links (serves c.deref.ensures.value c.out_of_service.ensures c.in_default.is).known
 
 pub returns-clause-ok : goal.returns-clause-ok
 returns-clause-ok c = λ s a.
-    let n = c.args.number in
-    let h = serves c.args.parts.now.links.items n (ap (λ links. service_refusal (slice_get links n)) (sym c.deref.ensures.value) ∙ sym c.out_of_service.ensures ∙ c.in_default.is) in
+    let h = serves c.deref.ensures.value c.out_of_service.ensures c.in_default.is in
     let now = agrees_same c.args.parts.now c.make_room_declared.new.parts s c.make_room_declared.ensures.same a in
-    come_back true s n Done c.declare_all.new.parts (is_in c.args.parts.now s n Up a h) (sym (c.has_alternative.ensures s a.stands) ∙ c.if-not-has_alternative.false) (record {
+    come_back true s c.args.number Done c.declare_all.new.parts (is_in c.args.parts.now s c.args.number Up a h) (sym (c.has_alternative.ensures s a.stands) ∙ c.if-not-has_alternative.false) (record {
       answer_is = refl;
       stands = rw (count_is c.make_room_declared.new.parts s now.stands) (c.declare_all.ensures.stands s now.stands);
     })

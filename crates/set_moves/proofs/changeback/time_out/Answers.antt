@@ -25,7 +25,7 @@ run_out b old parts s n answer a known is g =
     rw (links_at old s n a ∙ ap (option_map link_of) x.1) (rw same (subst (λ (k : ℕ). Gives (if b then record { answer = Done; state = released_from k 16 s } else refused s Nothing) answer parts) first g))
 
 pub returns-then-from-len-clause-ok : goal.returns-then-from-len-clause-ok
-returns-then-from-len-clause-ok c = λ s a. unknown c.args.parts.now s a c.args.number NoSuchLink refl (λ link. runs_out c.args.number s) (omega arith)
+returns-then-from-len-clause-ok c = λ s a. unknown c.args.parts.now s a c.args.number (λ link. runs_out c.args.number s) (omega arith)
 
 pub returns-then-not-has_code_in_use-clause-ok : goal.returns-then-not-has_code_in_use-clause-ok
 returns-then-not-has_code_in_use-clause-ok c = λ s a.

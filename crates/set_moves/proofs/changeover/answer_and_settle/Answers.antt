@@ -21,29 +21,21 @@ queue-requires-clause-room c =
     let left = is_left false c.args.number c.args.parts.now c.leave.new.parts c.requires.known c.leave.ensures.links in
     has_room_left c.args.number c.args.parts.now c.leave.new.parts c.requires.room c.leave.ensures.turns c.leave.ensures.bodies left.target_is
 
-pub settle-requires-clause-known : goal.settle-requires-clause-known
-settle-requires-clause-known c =
-    let left = is_left false c.args.number c.args.parts.now c.leave.new.parts c.requires.known c.leave.ensures.links in
-    rw (c.queue.ensures.links, left.many) c.requires.known
-
-pub settle-requires-clause-counted : goal.settle-requires-clause-counted
-settle-requires-clause-counted c =
-    let left = is_left false c.args.number c.args.parts.now c.leave.new.parts c.requires.known c.leave.ensures.links in
-    rw c.queue.ensures.links (left.counted _ c.requires.counted)
-
-pub settle-requires-clause-out : goal.settle-requires-clause-out
-settle-requires-clause-out c =
-    let left = is_left false c.args.number c.args.parts.now c.leave.new.parts c.requires.known c.leave.ensures.links in
-    rw c.queue.ensures.links left.out
-
-pub settle-requires-clause-room : goal.settle-requires-clause-room
-settle-requires-clause-room c =
+pub settle-requires : goal.settle-requires
+settle-requires c =
     let n = c.args.number in
     let left = is_left false n c.args.parts.now c.leave.new.parts c.requires.known c.leave.ensures.links in
     let whole = whole_of c.args.parts.now c.requires.holds in
     let elsewhere = c.queue.ensures.elsewhere n (rw left.many c.requires.known) left.out in
     let same = ap (λ ls. target (map link_of ls.items)) c.queue.ensures.links in
-    room_after n c.args.parts.now c.leave.new.parts c.queue.new.parts (omega arith) c.requires.room c.leave.ensures.turns left.target_is same elsewhere c.queue.ensures.rooms
+    record {
+      whole = c.queue.ensures.whole;
+      counted = rw c.queue.ensures.links (left.counted _ c.requires.counted);
+      reached = c.requires.reached;
+      known = rw (c.queue.ensures.links, left.many) c.requires.known;
+      out = rw c.queue.ensures.links left.out;
+      room = room_after n c.args.parts.now c.leave.new.parts c.queue.new.parts (omega arith) c.requires.room c.leave.ensures.turns left.target_is same elsewhere c.queue.ensures.rooms;
+    }
 
 pub returns : goal.returns
 returns c = record {

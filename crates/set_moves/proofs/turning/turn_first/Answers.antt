@@ -1,7 +1,7 @@
 use Rattle.std.proofs.Common.{rules, arith, length}
 use Rattle.set_events.specs.declared.answer.Fate.TheVariants.{Back}
 use Rattle.set_moves.specs.Parts.{kept_of}
-use Rattle.set_moves.proofs.TurnedQueues.{turns_one, fewer_back, links_then}
+use Rattle.set_moves.proofs.Turns.{turns_one, fewer_back, links_then}
 use Rattle.set_moves.proofs.Turns.{turned_first}
 use Rattle.set_moves.proofs.turning.turn_first.Goals as goal
 

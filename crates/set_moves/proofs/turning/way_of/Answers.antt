@@ -4,7 +4,7 @@ use Rattle.set_route.specs.declared.place.Place.{Place}
 use Rattle.set_route.specs.Routing.{place_of}
 use Rattle.set_model.specs.Rows.{Row, stream_of}
 use Rattle.set_model.specs.State.{fate_at}
-use Rattle.set_moves.proofs.Oldest.{way, on_way}
+use Rattle.set_moves.proofs.Turns.{way, on_way}
 use Rattle.set_moves.proofs.turning.way_of.Goals as goal
 
 pub unreachable-requires-in_default-message : goal.unreachable-requires-in_default-message
