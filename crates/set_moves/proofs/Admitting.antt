@@ -16,10 +16,9 @@ use Rattle.set_moves.specs.Agreement.{StandsFor, Agrees}
 use Rattle.set_moves.specs.Refusing.{service_refusal}
 use Rattle.set_events.specs.declared.answer.Took.{Took}
 use Rattle.set_events.specs.declared.answer.Took.TheVariants.{Ignored}
-use Rattle.set_model.specs.declared.reached.Reached.{Reached}
 use Rattle.set_model.specs.declared.reached.Reached.TheVariants.{Unanswered}
 use Rattle.set_moves.specs.Room.{SameButRoom}
-use Rattle.set_model.specs.Changeover.{Obeyed, ignored, at_link, settled, answered}
+use Rattle.set_model.specs.Changeover.{Obeyed, ignored, at_link, settled}
 pub use Rattle.set_moves.specs.Parts.{IsHere}
 use Rattle.set_moves.specs.Parts.{Gives, Obeys, link_of, kept_of, AtLink, IsOut}
 use Rattle.set_model.specs.State.{LinkState, State, has_phase_up}

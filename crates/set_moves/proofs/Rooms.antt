@@ -1,11 +1,10 @@
 -- Room that was taken, as orders and moved messages need it.
-use Rattle.std.proofs.Common.{arith, ◌≡◌, ◌≢◌, ◌∙◌, refl, ap, sym, ◌≤◌, ◌<◌, ℕ, Bool, false, List, map, length, Option, Some, slice_get, slice_set}
-use Rattle.std.specs.Prelude.{IfSome}
+use Rattle.std.proofs.Common.{arith, ◌≡◌, ◌∙◌, refl, ap, sym, ◌≤◌, ◌<◌, ℕ, Bool, false, List, map, length, Option, Some, slice_get, slice_set}
 use Rattle.std.proofs.lemmas.List.{length-map}
 use Rattle.std.proofs.lemmas.Bool.Decides.{nat_tests}
 use Rattle.set_events.specs.declared.answer.Fate.{Fate}
 use Rattle.set_events.specs.declared.answer.Fate.TheVariants.{Waiting, Unacked, Held}
-use Rattle.set_queues.specs.Buffers.{Lists, IsKnown, IsQueued, TakesRoom, same_fate, queue_at, with_queue, room_at}
+use Rattle.set_queues.specs.Buffers.{Lists, IsQueued, TakesRoom, same_fate, with_queue, room_at}
 use Rattle.set_queues.specs.Backs.{back_count}
 use Rattle.set_queues.specs.Settling.{on}
 use Rattle.set_queues.proofs.Passing.{queue_other, queued_stands}
@@ -20,7 +19,7 @@ use Rattle.set_moves.specs.declared.link.Link.{Link}
 use Rattle.set_moves.specs.declared.parts.Parts.{Parts}
 use Rattle.set_moves.specs.Agreement.{Holds}
 use Rattle.set_moves.specs.Parts.{IsWhole, IsCounted, AreCounted, AtLink, IsOut, link_of, kept_of}
-use Rattle.set_moves.specs.Room.{HasRoom, IsReady, SameButRoom, target_beside}
+use Rattle.set_moves.specs.Room.{HasRoom, IsReady, target_beside}
 use Rattle.set_moves.specs.Turning.{TakesTurns}
 use Rattle.set_moves.proofs.Admitting.{IsHere, out_at}
 use Rattle.set_moves.proofs.Targets.{ups}
@@ -101,4 +100,3 @@ room_after n old left new low r turns beside same elsewhere takes =
 
 pub wider : (bound more : ℕ) (links : List Link) → bound ≤ more → AreCounted bound links → AreCounted more links
 wider bound more links h all n link there = let k = all n link there in record { acked = let low = k.acked in omega (arith, h, low); accepted = let low = k.accepted in omega (arith, h, low) }
-

@@ -1,6 +1,6 @@
 -- WHAT STANDS BACK FOR A LINK turns back: the oldest, which is the first of the rows that do, and so all of it, the oldest
 -- first.
-use Rattle.std.proofs.Common.{refl, arith, ◌≡◌, ◌∙◌, ap, sym, subst, [], ◌∷◌, ◌++◌, length, ℕ, suc, Bool, true, false, List, Some, cond, take, drop, ◌+◌, ◌*◌, None, ◌-◌, ◌%◌, ◌≤◌, ◌<◌, zero, ◌==◌, ◌⊎◌, Option}
+use Rattle.std.proofs.Common.{inl, refl, arith, ◌≡◌, ◌∙◌, ap, sym, subst, [], ◌∷◌, ◌++◌, length, ℕ, suc, Bool, true, false, List, Some, cond, take, drop, ◌+◌, ◌*◌, None, ◌-◌, ◌%◌, ◌≤◌, ◌<◌, zero, ◌==◌, ◌⊎◌, Option}
 use Rattle.std.specs.Prelude.{slice_get, filter}
 use Rattle.std.proofs.lemmas.Bool.{eq-eqb, cases_eq, cases_lt, ne_eqb, not-true}
 use Rattle.std.proofs.lemmas.Bool.Decides.{nat_tests}
@@ -18,9 +18,9 @@ use Rattle.set_model.specs.Rows.{Row, standing, is_back, is_back_to, numbers, mo
 use Rattle.set_model.specs.Sound.{IsAscending, AreAbove}
 use Rattle.set_model.specs.State.{State, fate_at, link_count}
 use Rattle.set_model.specs.Changeover.{turned_back}
-use Rattle.set_model.proofs.Filters.{fewer_filter, filter_comm, filter_within}
+use Rattle.set_model.proofs.Filters.{filter_comm, filter_within}
 use Rattle.set_model.proofs.Finding.{with_number}
-use Rattle.set_model.proofs.Lookups.{no_rows, Found, found_by_number, at_most_one, row_is_first}
+use Rattle.set_model.proofs.Lookups.{Found, found_by_number, at_most_one, row_is_first}
 use Rattle.set_model.proofs.Moving.{moved_nothing}
 use Rattle.set_moves.specs.Agreement.{Kept, Stands, StandsFor, rows_at, label_in, label_of}
 use Rattle.set_moves.specs.Turning.{IsTurning, IsTurningRow, TurnsOn, TakesTurns}
@@ -33,7 +33,7 @@ use Rattle.set_moves.specs.Parts.{IsWhole, kept_of}
 use Rattle.set_queues.specs.Queues.{QueuesState}
 use Rattle.set_queues.specs.Settling.{on as on_lists}
 use Rattle.set_queues.proofs.CodeQueues.{back_none, back_more, back_grows}
-use Rattle.set_queues.proofs.Passing.{queue_set, known_on, size_stays, links_stay, queued_stands}
+use Rattle.set_queues.proofs.Passing.{links_stay}
 use Rattle.set_queues.proofs.Settling.{on_length}
 use Rattle.std.specs.Option.{option_map}
 use Rattle.std.proofs.lemmas.Option.{same_Some}
@@ -176,30 +176,6 @@ on_way links via to s many low e = (via, omega (arith, many, low), runs_on)
 pub known_code : (code k : ℕ) (q : Lists) → slice_get (queue_at (Back code) q) 0 ≡ Some k → code < length q.back
 known_code code k q e = grind (arith, nat_tests, cases_lt, get_or_past)
 
--- THE QUEUES when the first of a code's goes to another
-pub record Goes (code number : ℕ) (to : Fate) (q : Lists) : Type 0 where
-  pub first : slice_get (queue_at (Back code) q) 0 ≡ Some number
-  pub known : IsKnown to q
-  pub queued : IsQueued to
-  pub apart : same_fate to (Back code) ≡ false
-
-module _ (code number : ℕ) (to : Fate) (q : Lists) (g : Goes code number to q) where
-  pub taken : take 1 (queue_at (Back code) q) ≡ number ∷ []
-  taken = let h = head_of (queue_at (Back code) q) number g.first in ap (take 1) h.1
-
-  pub queue_then : (f : Fate) → is_standing f ≡ true → queue_at f (passed_first (Back code) to q) ≡ cond (same_fate (Back code) f) (drop 1 (queue_at (Back code) q)) (cond (same_fate to f) (queue_at to q ++ number ∷ []) (queue_at f q))
-  queue_then f s = rw (← taken) (both_replaced q (Back code) to _ _ (known_code code number q g.first) g.known f s)
-
-  -- HOW MANY WAIT for the codes of a home: one less
-  pub code_then : length (queue_at (Back code) (passed_first (Back code) to q)) + 1 ≡ length (queue_at (Back code) q)
-  code_then =
-      let h = head_of (queue_at (Back code) q) number g.first in
-      let own : queue_at (Back code) (passed_first (Back code) to q) ≡ drop 1 (queue_at (Back code) q) = queue_then (Back code) refl ∙ rw (eq-eqb code code refl) refl in
-      omega (arith, ap length (own ∙ ap (drop 1) h.1), ap length h.1)
-
-  pub other_then : (c : ℕ) → (code ≡ c → ⊥) → same_fate to (Back c) ≡ false → queue_at (Back c) (passed_first (Back code) to q) ≡ queue_at (Back c) q
-  other_then c ne off = queue_then (Back c) refl ∙ rw (ne_eqb code c ne, off) refl
-
 back_suc : (code n : ℕ) (q : Lists) → back_from code (suc n) q ≡ back_from code n q + length (queue_at (Back (code + n)) q)
 unfolding back_from
 back_suc code n q = refl
@@ -213,21 +189,44 @@ module _ (code : ℕ) (q q' : Lists) (others : (c : ℕ) → (code ≡ c → ⊥
   back_less less from zero low high = absurd (omega (arith, low, high))
   back_less less from (suc n) low high = grind (arith, nat_tests, cases_eq, back_suc, back_same, back_less less from n low)
 
--- TO A LINK: it waits for it, or is held for it
+-- THE FIRST OF A CODE'S GOES TO A LINK: it waits for it, or is held for it
 pub either : (P : Fate → Type 0) (to : Fate) (via : ℕ) → (to ≡ Waiting via) ⊎ (to ≡ Held via) → P (Waiting via) → P (Held via) → P to
 either P to via h3 w h = grind arith
 
-pub goes_to : (home code links : ℕ) (to : Fate) (q : Lists) (o : IsOldest home code q) → IsOnLink links to → length q.links ≡ links → Goes code o.number to q
-goes_to home code links to q o on many =
-    let known : on.0 < length q.links = omega (arith, on.1, many) in
-    record { first = o.first; known = either (λ f. IsKnown f q) to on.0 on.2 known known; queued = either IsQueued to on.0 on.2 tt tt; apart = either (λ f. same_fate f (Back code) ≡ false) to on.0 on.2 refl refl }
+module _ (home code : ℕ) (to : Fate) (q : Lists) (o : IsOldest home code q) (on : IsOnLink (length q.links) to) where
+  abbrev gone : Lists
+  gone = passed_first (Back code) to q
 
-pub fewer_back : (home code links : ℕ) (to : Fate) (q q' : Lists) → IsOldest home code q → IsOnLink links to → length q.links ≡ links → q' ≡ passed_first (Back code) to q → back_from (16 * home) 16 q' + 1 ≡ back_from (16 * home) 16 q
-fewer_back home code links to q q' o on many e =
-    let g = goes_to home code links to q o on many in
-    let of = o.of_home in
-    subst (λ (z : Lists). back_from (16 * home) 16 z + 1 ≡ back_from (16 * home) 16 q) (sym e)
-    (back_less code q (passed_first (Back code) to q) (λ c ne. other_then code o.number to q g c ne (either (λ f. same_fate f (Back c) ≡ false) to on.0 on.2 refl refl)) (code_then code o.number to q g) (16 * home) 16 (omega (arith, of)) (omega (arith, of)))
+  pub apart : (c : ℕ) → same_fate to (Back c) ≡ false
+  apart c = either (λ f. same_fate f (Back c) ≡ false) to on.0 on.2 refl refl
+
+  pub taken : take 1 (queue_at (Back code) q) ≡ o.number ∷ []
+  taken = ap (take 1) (head_of (queue_at (Back code) q) o.number o.first).1
+
+  pub queue_then : (f : Fate) → is_standing f ≡ true → queue_at f gone ≡ cond (same_fate (Back code) f) (drop 1 (queue_at (Back code) q)) (cond (same_fate to f) (queue_at to q ++ o.number ∷ []) (queue_at f q))
+  queue_then f s = rw (← taken) (both_replaced q (Back code) to _ _ (known_code code o.number q o.first) (either (λ f. IsKnown f q) to on.0 on.2 on.1 on.1) f s)
+
+  -- how many wait for the codes of the home: one less
+  code_then : length (queue_at (Back code) gone) + 1 ≡ length (queue_at (Back code) q)
+  code_then =
+      let h = head_of (queue_at (Back code) q) o.number o.first in
+      let own : queue_at (Back code) gone ≡ drop 1 (queue_at (Back code) q) = queue_then (Back code) refl ∙ rw (eq-eqb code code refl) refl in
+      omega (arith, ap length (own ∙ ap (drop 1) h.1), ap length h.1)
+
+  pub fewer_back : back_from (16 * home) 16 gone + 1 ≡ back_from (16 * home) 16 q
+  fewer_back =
+      let of = o.of_home in
+      back_less code q gone (λ c ne. queue_then (Back c) refl ∙ rw (ne_eqb code c ne, apart c) refl) code_then (16 * home) 16 (omega (arith, of)) (omega (arith, of))
+
+  -- and at most one more stands on a link
+  grown : (f : Fate) → is_standing f ≡ true → same_fate (Back code) f ≡ false → length (queue_at f gone) ≤ length (queue_at f q) + cond (same_fate to f) 1 0
+  grown f standing off = grind (arith, nat_tests, queue_then f standing, same_is to f standing, length-append)
+
+  on_then : (m : ℕ) → length (on_lists m gone) ≤ length (on_lists m q) + 1
+  on_then m =
+      let one : cond (on.0 == m) 1 0 ≤ 1 = grind arith in
+      let few = either (λ f. cond (same_fate f (Unacked m)) 1 0 + cond (same_fate f (Waiting m)) 1 0 + cond (same_fate f (Held m)) 1 0 ≤ 1) to on.0 on.2 (omega (arith, one)) (omega (arith, one)) in
+      omega (arith, on_length m q, on_length m gone, grown (Unacked m) refl refl, grown (Waiting m) refl refl, grown (Held m) refl refl, few)
 
 -- ROOM
 pub turns_then : (a b : ℕ) (old mid new : QueuesState) → length mid.lists.links ≡ length old.lists.links → TakesTurns a old mid → TakesTurns b mid new → TakesTurns (a + b) old new
@@ -236,32 +235,15 @@ turns_then a b old mid new many t u = grind arith
 taken_one : (to fate : Fate) (old new : Rooms) → TakesRoom to 1 old new → room_at fate old ≤ room_at fate new + 1
 taken_one to fate old new t = grind arith
 
-module _ (code number via : ℕ) (to : Fate) (q : Lists) (g : Goes code number to q) (is : (to ≡ Waiting via) ⊎ (to ≡ Held via)) where
-  grown : (f : Fate) → is_standing f ≡ true → same_fate (Back code) f ≡ false → length (queue_at f (passed_first (Back code) to q)) ≤ length (queue_at f q) + cond (same_fate to f) 1 0
-  grown f standing off = grind (arith, nat_tests, queue_then code number to q g f standing, same_is to f standing, length-append)
-
-  on_then : (m : ℕ) → length (on_lists m (passed_first (Back code) to q)) ≤ length (on_lists m q) + 1
-  on_then m =
-      let one : cond (via == m) 1 0 ≤ 1 = grind arith in
-      let few = either (λ f. cond (same_fate f (Unacked m)) 1 0 + cond (same_fate f (Waiting m)) 1 0 + cond (same_fate f (Held m)) 1 0 ≤ 1) to via is (omega (arith, one)) (omega (arith, one)) in
-      omega (arith, on_length m q, on_length m (passed_first (Back code) to q), grown (Unacked m) refl refl, grown (Waiting m) refl refl, grown (Held m) refl refl, few)
-
-pub turns_one : (home code links : ℕ) (to : Fate) (old new : QueuesState) → IsOldest home code old.lists → IsOnLink links to → length old.lists.links ≡ links → new.lists ≡ passed_first (Back code) to old.lists → TakesRoom to 1 old.rooms new.rooms → new.room ≡ old.room → TakesTurns 1 old new
-turns_one home code links to old new o on many e rooms room = record {
+pub turns_one : (home code : ℕ) (to : Fate) (old new : QueuesState) → IsOldest home code old.lists → IsOnLink (length old.lists.links) to → new.lists ≡ passed_first (Back code) to old.lists → TakesRoom to 1 old.rooms new.rooms → new.room ≡ old.room → TakesTurns 1 old new
+turns_one home code to old new o on e rooms room = record {
   room = room;
   rooms = λ f. taken_one to f old.rooms new.rooms rooms;
-  on_link = λ n low. subst (λ (z : Lists). length (on_lists n z) ≤ length (on_lists n old.lists) + 1) (sym e) (on_then code o.number on.0 to old.lists (goes_to home code links to old.lists o on many) on.2 n);
+  on_link = λ n low. rw e (on_then home code to old.lists o on n);
 }
 
 pub links_then : (from to : Fate) (q q' : Lists) → q' ≡ passed_first from to q → length q'.links ≡ length q.links
-links_then from to q q' e = ap (λ (z : Lists). length z.links) e ∙ links_stay from (drop 1 (queue_at from q)) (with_queue to (queue_at to q ++ take 1 (queue_at from q)) q) ∙ links_stay to (queue_at to q ++ take 1 (queue_at from q)) q
-
-pub some_back : (home code : ℕ) (q : Lists) → IsOldest home code q → 1 ≤ back_from (16 * home) 16 q
-some_back home code q o =
-    let h = head_of (queue_at (Back code) q) o.number o.first in
-    let is : 16 * home + code % 16 ≡ code = omega (arith, o.of_home) in
-    let first : back_from (16 * home) (code % 16 + 1) q ≤ back_from (16 * home) 16 q = back_grows (16 * home) (code % 16 + 1) (15 - code % 16) 16 q (omega arith) in
-    omega (arith, first, back_more (16 * home) (code % 16) q, ap (λ (c : ℕ). length (queue_at (Back c) q)) is, ap length h.1)
+links_then from to q q' e = rw e (search links_stay)
 
 -- the numbers of a fate's rows, where the first that stood back by the code came to another
 module _ (code : ℕ) (to : Fate) (x : Row) (rest rows : List Row) (one : with_number x.number rows ≡ x ∷ []) (is : x.fate ≡ Back code) (of_code : standing (is_back code) rows ≡ x ∷ rest) (apart : same_fate to (Back code) ≡ false) where
@@ -272,9 +254,12 @@ module _ (code : ℕ) (to : Fate) (x : Row) (rest rows : List Row) (one : with_n
   turned_place g t b d e h = let there = shifted_stands to x rows one (is_there g) rest (first_there g t) in let from : is_there g x.fate ≡ b = grind (arith, nat_tests) in rw (rows_as g _ t, there, from, h) (grind (arith, append-nil, map-append, same_is, rows_as, of_code))
 
 -- ONE TURNS BACK
-module _ (home code : ℕ) (to : Fate) (k : Kept) (s : State) (f : StandsFor k s) (o : IsOldest home code k.lists) (on : IsOnLink (length k.lists.links) to) (x : IsFirst home code o.number s.rows) where
+module _ (home code : ℕ) (to : Fate) (k : Kept) (s : State) (f : StandsFor k s) (t : IsTurning home s) (o : IsOldest home code k.lists) (on : IsOnLink (length k.lists.links) to) where
+  abbrev it : IsFirst home code o.number s.rows
+  it = first_of home code k.lists k.messages s.rows f.stands o t.order
+
   abbrev row : Row
-  row = x.row
+  row = it.row
 
   abbrev after : List Row
   after = shifted to row s.rows
@@ -282,31 +267,22 @@ module _ (home code : ℕ) (to : Fate) (k : Kept) (s : State) (f : StandsFor k s
   abbrev then : Lists
   then = passed_first (Back code) to k.lists
 
-  goes : Goes code o.number to k.lists
-  goes = goes_to home code (length k.lists.links) to k.lists o on refl
-
   turned : Shifts (is_back code) to (row.number ∷ []) (drop 1 (numbers (standing (is_back code) s.rows))) (numbers (rows_at to s.rows) ++ row.number ∷ []) s.rows after
   turned = record {
-    places = λ g t. turned_place code to row x.after s.rows x.one x.fate_is x.of_code goes.apart g t (is_back code g) (same_fate to g) refl refl;
-    messages = shifted_messages to row s.rows x.one f.stands.numbered;
-    goes = λ n. shifted_goes to row s.rows x.one n;
-    given = λ ms many. (omega (arith, x.below, many), tt);
+    places = λ g b. turned_place code to row it.after s.rows it.one it.fate_is it.of_code (apart home code to k.lists o on code) g b (is_back code g) (same_fate to g) refl refl;
+    messages = shifted_messages to row s.rows it.one f.stands.numbered;
+    goes = λ n. shifted_goes to row s.rows it.one n;
+    given = λ ms many. (omega (arith, it.below, many), tt);
   }
 
-  pub moves_then : Moves then (restood (take 1 (queue_at (Back code) k.lists)) to k.messages) s.rows after
+  moves_then : Moves then (restood (take 1 (queue_at (Back code) k.lists)) to k.messages) s.rows after
   moves_then =
       let back = f.stands.queues (Back code) in
-      let same = x.number_is in
+      let same = it.number_is in
       let joined : queue_at to k.lists ++ o.number ∷ [] ≡ numbers (rows_at to s.rows) ++ row.number ∷ [] = cc (f.stands.queues to, same) in
       shifts_stand f.stands turned
-      (λ g t. queue_then code o.number to k.lists goes g t ∙ ap (λ (ns : List ℕ). cond (same_fate (Back code) g) (drop 1 (queue_at (Back code) k.lists)) (cond (same_fate to g) ns (queue_at g k.lists))) joined ∙ grind (arith, nat_tests, back))
-      (taken code o.number to k.lists goes ∙ ap (λ (n : ℕ). n ∷ []) (sym same))
-
-  last_then : (n : ℕ) → last_at n then ≡ last_at n k.lists
-  last_then n = last_stays (Back code) (drop 1 (queue_at (Back code) k.lists)) (with_queue to (queue_at to k.lists ++ take 1 (queue_at (Back code) k.lists)) k.lists) n ∙ last_stays to (queue_at to k.lists ++ take 1 (queue_at (Back code) k.lists)) k.lists n
-
-  pub stands_for : StandsFor (record k { lists = then; messages = restood (take 1 (queue_at (Back code) k.lists)) to k.messages }) (record s { rows = after })
-  stands_for = queues_for k s f _ _ _ moves_then (links_then (Back code) to k.lists then refl) _ _ f.routing last_then
+      (λ g b. queue_then home code to k.lists o on g b ∙ ap (λ (ns : List ℕ). cond (same_fate (Back code) g) (drop 1 (queue_at (Back code) k.lists)) (cond (same_fate to g) ns (queue_at g k.lists))) joined ∙ grind (arith, nat_tests, back))
+      (taken home code to k.lists o on ∙ ap (λ (n : ℕ). n ∷ []) (sym same))
 
   abbrev fate : Row → Fate
   fate r = fate_at (place_of (stream_of r.body) s.routing) s
@@ -317,31 +293,22 @@ module _ (home code : ℕ) (to : Fate) (k : Kept) (s : State) (f : StandsFor k s
   same_way : (p : Place) → fate_at p next ≡ fate_at p s
   same_way p = grind arith
 
-  pub turned_on : IsTurning home s → to ≡ fate row → IsTurning home next × (turned_back home next ≡ turned_back home s)
-  turned_on t way =
-      let off : is_back_to home to ≡ false = either (λ f. is_back_to home f ≡ false) to on.0 on.2 refl refl in
-      let on_back : is_back_to home row.fate ≡ true = ap (is_back_to home) x.fate_is ∙ eq-eqb (home_of code) home o.of_home in
-      let rest_is : standing (is_back_to home) after ≡ x.rest = rest_stands (is_back_to home) fate to row x.rest s.rows way x.one x.first on_back off in
-      let moved_is : moved (is_back_to home) fate after ≡ moved (is_back_to home) fate s.rows = moved_same (is_back_to home) fate to row x.rest s.rows way x.one x.first on_back off in
-      (record {
-        each = shifted_each to row s.rows x.one (IsTurningRow home s) t.each (λ e. absurd (let no : true ≡ false = sym e ∙ off in cc));
-        order = subst (λ (ys : List Row). IsAscending (numbers ys)) (sym rest_is) (subst (λ (ys : List Row). IsAscending (numbers ys)) x.first t.order).1;
-      }, ap (λ (rows : List Row). record s { rows = rows }) (moved_as (is_back_to home) (λ r. fate_at (place_of (stream_of r.body) s.routing) next) fate (λ r. same_way (place_of (stream_of r.body) s.routing)) after ∙ moved_is))
-
-pub turned_first : (home code links : ℕ) (to : Fate) (old new : Kept) (s : State) → StandsFor old s → IsTurning home s → IsOldest home code old.lists → IsOnLink links to → length old.lists.links ≡ links
-    → ((row : Row) → slice_get (standing (is_back code) s.rows) 0 ≡ Some row → to ≡ fate_at (place_of (stream_of row.body) s.routing) s)
-    → Becoming old new (passed_first (Back code) to old.lists) (restood (take 1 (queue_at (Back code) old.lists)) to old.messages) old.bodies old.links old.routing
-    → TurnsOn home s new
-turned_first home code links to old new s f t o on many way b =
-    let here : IsOnLink (length old.lists.links) to = (on.0, omega (arith, on.1, many), on.2) in
-    let x = first_of home code old.lists old.messages s.rows f.stands o t.order in
-    let on = turned_on home code to old s f o here x t (way x.row (ap (λ (ys : List Row). slice_get ys 0) x.of_code)) in
-    record {
-      state = next home code to old s f o here x;
-      stands = becomes old new _ _ _ _ _ (next home code to old s f o here x) b (stands_for home code to old s f o here x);
-      turning = on.0;
-      same = on.1;
-    }
+  pub turned_first : (new : Kept) → ((r : Row) → slice_get (standing (is_back code) s.rows) 0 ≡ Some r → to ≡ fate r) → Becoming k new then (restood (take 1 (queue_at (Back code) k.lists)) to k.messages) k.bodies k.links k.routing → TurnsOn home s new
+  turned_first new way b =
+      let way_is = way row (ap (λ (ys : List Row). slice_get ys 0) it.of_code) in
+      let off : is_back_to home to ≡ false = either (λ g. is_back_to home g ≡ false) to on.0 on.2 refl refl in
+      let on_back : is_back_to home row.fate ≡ true = ap (is_back_to home) it.fate_is ∙ eq-eqb (home_of code) home o.of_home in
+      let rest_is : standing (is_back_to home) after ≡ it.rest = rest_stands (is_back_to home) fate to row it.rest s.rows way_is it.one it.first on_back off in
+      let moved_is : moved (is_back_to home) fate after ≡ moved (is_back_to home) fate s.rows = moved_same (is_back_to home) fate to row it.rest s.rows way_is it.one it.first on_back off in
+      record {
+        state = next;
+        stands = becomes k new _ _ _ _ _ next b (queues_for k s f _ _ _ moves_then (links_then (Back code) to k.lists then refl) _ _ f.routing (λ n. search last_stays));
+        turning = record {
+          each = shifted_each to row s.rows it.one (IsTurningRow home s) t.each (λ e. absurd (let no : true ≡ false = sym e ∙ off in cc));
+          order = subst (λ (ys : List Row). IsAscending (numbers ys)) (sym rest_is) (subst (λ (ys : List Row). IsAscending (numbers ys)) it.first t.order).1;
+        };
+        same = ap (λ (rows : List Row). record s { rows = rows }) (moved_as (is_back_to home) (λ r. fate_at (place_of (stream_of r.body) s.routing) next) fate (λ r. same_way (place_of (stream_of r.body) s.routing)) after ∙ moved_is);
+      }
 
 -- ALL TURN BACK
 
@@ -369,7 +336,8 @@ module _ (home : ℕ) (old now : Parts) (g : Turning home old now) where
   pub room_for_one : (code : ℕ) → IsOldest home code now.queues.lists → HaveRoom (length old.links.items) (back_from (16 * home) 16 old.queues.lists) old.queues.rooms → HaveRoom (length now.links.items) 1 now.queues.rooms
   room_for_one code o room link low =
       let enough = room link (omega (arith, low, ap (λ links. length links.items) g.links)) in
-      omega (arith, enough, g.turns.rooms (Waiting link), g.turns.rooms (Held link), some_back home code now.queues.lists o, g.fewer)
+      let here : link < length now.queues.lists.links = rw g.whole.as_many low in
+      omega (arith, enough, g.turns.rooms (Waiting link), g.turns.rooms (Held link), fewer_back home code (Waiting link) now.queues.lists o (link, here, inl refl), g.fewer)
 
   -- none is left to turn
   pub turned_all : NoneBack home now.queues.lists → (s : State) → StandsFor (kept_of old) s → IsTurning home s → StandsFor (kept_of now) (turned_back home s)

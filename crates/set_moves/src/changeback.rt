@@ -131,7 +131,8 @@ fn declare_all(parts: &mut Parts, home: u8)
     }
 }
 
-/// A declaration goes out on that link, if streams of this home can come back from it.
+/// A declaration goes out on that link, if streams of this home can come back from it: they are on their way
+/// back then.
 fn declare_if_due(parts: &mut Parts, home: u8, alternative: u8)
     requires whole { IsWhole parts.old }
     requires home { home < length parts.old.links.items }
@@ -142,27 +143,9 @@ fn declare_if_due(parts: &mut Parts, home: u8, alternative: u8)
     ensures links { parts.new.links ≡ parts.old.links }
     ensures whole { IsWhole parts.new }
 {
-    if may_declare(parts, home, alternative) {
-        declare(parts, home, alternative);
+    if !may_declare(parts, home, alternative) {
+        return;
     }
-}
-
-/// A declaration goes out on that link: its streams of this home are on their way back.
-fn declare(parts: &mut Parts, home: u8, alternative: u8)
-    requires whole { IsWhole parts.old }
-    requires home { home < length parts.old.links.items }
-    requires alternative { alternative < length parts.old.links.items }
-    requires asks { can_ask home alternative parts.old.routes ≡ true }
-    requires room { HasRoom (Fate.Waiting alternative) parts.old }
-    ensures stands { Becomes parts.old parts.new (declared home alternative) }
-    ensures rooms { TakesRoom (Fate.Waiting alternative) 1 parts.old.queues.rooms
-        parts.new.queues.rooms }
-    ensures message { parts.old.queues.room ≤ parts.new.queues.room + 1 }
-    ensures body { (more : ℕ) → CanHold (more + 1) parts.old.bodies
-        → CanHold more parts.new.bodies }
-    ensures links { parts.new.links ≡ parts.old.links }
-    ensures whole { IsWhole parts.new }
-{
     let declaration = Order::Cbd {
         link: home,
         code: changeback_code(home, alternative),

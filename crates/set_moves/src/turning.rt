@@ -61,7 +61,7 @@ fn way_of(parts: &Parts, number: u8, code: u8) -> Fate
     ensures value { (s : State) (row : Row) → StandsFor (kept_of parts.now) s → IsTurning number s
         → slice_get (standing (is_back code) s.rows) 0 ≡ Some row
         → result ≡ fate_at (place_of (stream_of row.body) s.routing) s }
-    ensures on_link { (via : ℕ) × (via < length parts.now.links.items)
+    ensures on_link { (via : ℕ) × (via < length parts.now.queues.lists.links)
         × ((result ≡ Fate.Waiting via) ⊎ (result ≡ Fate.Held via)) }
 {
     let Some(first) = parts.queues.number_at(Fate::Back { code }, 0) else {

@@ -1,7 +1,7 @@
 use Rattle.std.proofs.Common.{refl, rules, arith, ◌∙◌, sym, true, false, ◌≡◌, ap, subst, ◌<◌, ℕ, ◌*◌, Bool, length, if◌then◌else◌}
 use Rattle.std.specs.Option.{option_map}
 use Rattle.set_events.specs.declared.answer.Answer.TheVariants.{Refused, Done}
-use Rattle.set_events.specs.declared.answer.Refusal.TheVariants.{Nothing, NoSuchLink}
+use Rattle.set_events.specs.declared.answer.Refusal.TheVariants.{Nothing}
 use Rattle.set_events.specs.declared.answer.Answer.{Answer}
 use Rattle.set_model.specs.Step.{runs_out, on_link, refused}
 use Rattle.set_model.specs.Changeover.{released_from, some_in_use}

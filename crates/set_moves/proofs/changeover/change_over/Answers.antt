@@ -1,4 +1,4 @@
-use Rattle.std.proofs.Common.{refl, ◌≡◌, Some}
+use Rattle.std.proofs.Common.{refl}
 use Rattle.set_model.specs.declared.phase.Phase.TheVariants.{Down}
 use Rattle.set_model.specs.Changeover.{changed_over}
 use Rattle.set_moves.proofs.Admitting.{ignores, obeyed_at}

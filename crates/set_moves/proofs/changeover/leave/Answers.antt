@@ -1,4 +1,4 @@
-use Rattle.std.proofs.Common.{sym, length, subst, ℕ, arith, ◌≡◌, ◌∙◌, ap, ◌<◌, Bool, true, false, List, slice_get, Some}
+use Rattle.std.proofs.Common.{sym, length, subst, ℕ, arith, ◌≡◌, ◌∙◌, ap, ◌<◌, Bool, true, List, slice_get, Some}
 use Rattle.set_model.specs.Changeover.{out_of_service}
 use Rattle.set_queues.specs.Backs.{back_count}
 use Rattle.set_queues.specs.Queues.{QueuesState}
@@ -8,7 +8,7 @@ use Rattle.set_events.specs.declared.answer.Fate.{Fate}
 use Rattle.set_route.specs.Routing.{Routing}
 use Rattle.set_model.specs.declared.phase.Phase.TheVariants.{Up}
 use Rattle.set_model.specs.Rows.{Row, is_back_to, stands_back, stream_of, is_users, numbers, back}
-use Rattle.set_model.specs.State.{LinkState, State, has_phase_up}
+use Rattle.set_model.specs.State.{LinkState, State}
 use Rattle.set_model.specs.Sound.{IsAscending, IsBackOf}
 use Rattle.set_model.proofs.Filters.{filter_within}
 use Rattle.set_model.proofs.Lists.{within, present, same_at}
@@ -16,11 +16,9 @@ use Rattle.set_model.proofs.Places.{home_back}
 use Rattle.set_model.proofs.SoundBack.{goes}
 use Rattle.set_model.proofs.Standing.{each_so, ascends_filter}
 use Rattle.set_model.proofs.Walk.{IsAt}
-use Rattle.set_moves.specs.declared.link.Link.{Link}
 use Rattle.set_moves.specs.declared.parts.Parts.{Parts}
 use Rattle.set_moves.specs.Agreement.{Agrees, Holds}
-use Rattle.set_model.specs.declared.phase.Phase.{Phase}
-use Rattle.set_moves.specs.Parts.{AtLink, IsOut, BecomesAt, kept_of}
+use Rattle.set_moves.specs.Parts.{AtLink, BecomesAt, kept_of}
 use Rattle.set_moves.specs.Turning.{IsTurningRow, IsTurning, CanTurn}
 use Rattle.set_moves.proofs.Admitting.{IsHere, is_in}
 use Rattle.set_moves.proofs.changeover.leave.Goals as goal

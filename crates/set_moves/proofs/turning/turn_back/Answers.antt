@@ -1,5 +1,4 @@
 use Rattle.std.proofs.Common.{arith, rules, refl, ◌+◌, ◌∙◌, ap, sym, length}
-use Rattle.set_moves.specs.Parts.{kept_of}
 use Rattle.set_moves.proofs.Turns.{turns_then, room_for_one, turned_all}
 use Rattle.set_moves.proofs.turning.turn_back.Goals as goal
 

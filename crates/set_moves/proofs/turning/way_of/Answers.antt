@@ -31,5 +31,5 @@ returns-clause-on_link c =
     let f = c.requires.turning.1 in
     let w = way f c.requires.turning.2 c.requires.oldest in
     let same : c.in-User.stream ≡ stream_of w.row.body = cc in
-    on_way (length c.args.parts.now.links.items) w.via c.fate_of_new.result s (sym f.as_many ∙ c.requires.whole.as_many) w.low
+    on_way (length c.args.parts.now.queues.lists.links) w.via c.fate_of_new.result s (sym f.as_many) w.low
     (c.fate_of_new.ensures.value s f ∙ ap (λ (stream : ℕ). fate_at (place_of stream s.routing) s) same ∙ ap (λ (p : Place). fate_at p s) w.place_is)
