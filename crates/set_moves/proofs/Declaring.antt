@@ -8,15 +8,17 @@ use Rattle.set_events.specs.declared.answer.Refusal.TheVariants.{Nothing}
 use Rattle.set_events.specs.declared.answer.Fate.TheVariants.{Waiting}
 use Rattle.set_queues.specs.Bodies.{CanHold}
 use Rattle.set_queues.specs.Buffers.{TakesRoom}
-use Rattle.set_route.specs.Routing.{Routing, asked}
+use Rattle.set_events.specs.declared.answer.Took.TheVariants.{Order}
+use Rattle.set_route.specs.declared.place.Code.{Code}
+use Rattle.set_route.specs.Routing.{Routing, asked, is_free}
 use Rattle.set_model.specs.declared.phase.Phase.TheVariants.{Up}
-use Rattle.set_model.specs.Changeover.{declared_from, some_declare}
+use Rattle.set_model.specs.Changeover.{acknowledged_back, released, declared_from, some_declare}
 use Rattle.set_model.specs.State.{State, link_count}
 use Rattle.set_model.specs.Step.{refused, in_service, comes_back}
 use Rattle.set_moves.specs.declared.parts.Parts.{Parts}
 use Rattle.set_moves.specs.Agreement.{StandsFor}
 use Rattle.set_moves.specs.Declaring.{HasRoomFrom}
-use Rattle.set_moves.specs.Parts.{Becomes, Gives, kept_of, link_of}
+use Rattle.set_moves.specs.Parts.{Becomes, Gives, Obeys, kept_of, link_of}
 use Rattle.set_moves.proofs.Admitting.{IsIn, served}
 
 -- SO MANY STEPS, from one on: the last of them comes last
@@ -60,3 +62,7 @@ asked_links b home alternative r now e = grind arith
 pub come_back : (b : Bool) (s : State) (n : ℕ) (answer : Answer) (parts : Parts) (i : IsIn s n Up) → some_declare n 0 (link_count s) s ≡ b
     → Gives (if b then record { answer = Done; state = declared_from n 0 (link_count s) s } else refused s Nothing) answer parts → Gives (in_service n s (λ link. comes_back n s)) answer parts
 come_back b s n answer parts i is g = served s n (λ link. comes_back n s) answer parts i (rw is g)
+
+-- an acknowledgement of a code that is in use
+pub in_use : (code : ℕ) (x : Code) (s : State) (parts : Parts) → is_free x ≡ false → StandsFor (kept_of parts) (released code s) → Obeys (acknowledged_back code x s) Order parts
+in_use code x s parts used stands = grind arith

@@ -5,7 +5,6 @@ pub mod Less
 pub mod Links
 pub mod Rooms
 pub mod RowsAt
-pub mod Shifting
 pub mod States
 pub mod Targets
 pub mod Turns

@@ -93,10 +93,7 @@ is_left blind n old new known links =
 pub room_after : (n : ℕ) (old left new : Parts) → n < length old.queues.lists.links → IsReady n 1 old → TakesTurns (back_count n old.queues.lists) old.queues left.queues → target (map link_of left.links.items) ≡ target_beside n old.links.items → target (map link_of new.links.items) ≡ target (map link_of left.links.items)
     → on n new.queues.lists ≡ on n left.queues.lists → TakesRoom (fate_on (target (map link_of left.links.items))) 1 left.queues.rooms new.queues.rooms
     → length (on n new.queues.lists) ≤ room_at (fate_on (target (map link_of new.links.items))) new.queues.rooms
-room_after n old left new low r turns beside same elsewhere takes =
-    let to = fate_on (target_beside n old.links.items) in
-    let left_room = room_left to 1 left.queues.rooms new.queues.rooms (queued_on (target_beside n old.links.items)) (rw beside at takes) in
-    rw (same ∙ beside) (omega (arith, turns.on_link n low, turns.rooms to, r.place, ap length elsewhere, left_room))
+room_after n old left new low r turns beside same elsewhere takes = grind (arith, room_left, queued_on)
 
 pub wider : (bound more : ℕ) (links : List Link) → bound ≤ more → AreCounted bound links → AreCounted more links
 wider bound more links h all n link there = let k = all n link there in record { acked = let low = k.acked in omega (arith, h, low); accepted = let low = k.accepted in omega (arith, h, low) }

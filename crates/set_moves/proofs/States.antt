@@ -121,42 +121,13 @@ fsns_set s lists n link' others own m link there = grind (arith, nat_tests, at_s
 -- A NEW MESSAGE.
 pub appended_for : (k : Kept) (s : State) (body : List ℕ) (fate : Fate) → StandsFor k s → is_standing fate ≡ true → IsKnown fate k.lists
     → StandsFor (record k { lists = with_queue fate (queue_at fate k.lists ++ length k.messages ∷ []) k.lists; messages = k.messages ++ message_of body fate ∷ []; bodies = k.bodies ++ body ∷ [] }) (record s { rows = appended s.rows body fate })
-appended_for k s body fate f standing known =
-    let q : Lists = with_queue fate (queue_at fate k.lists ++ length k.messages ∷ []) k.lists in
-    let more = length-append k.messages (message_of body fate ∷ []) in
-    record {
-      settings = f.settings;
-      stands = record {
-        queues = only_standing q (appended s.rows body fate) (λ g t. grind (arith, f.stands, same_is, queue_set, appended_at));
-        fates = λ n. let old = f.stands.fates n in grind (arith, get_push k.messages (message_of body fate) n, row_push n s.rows body fate f.stands.numbered, f.stands.count, old);
-        labels = λ n. let old = f.stands.labels n in grind (arith, get_push k.messages (message_of body fate) n, row_push n s.rows body fate f.stands.numbered, f.stands.count, old);
-        count = omega (arith, more, f.stands.count, length-append s.rows (new_row (length s.rows) body fate ∷ []));
-        numbered = numbered_appended s.rows body fate f.stands.numbered;
-      };
-      bodies = λ n. let old = f.bodies n in grind (arith, get_push k.bodies body n, row_push n s.rows body fate f.stands.numbered, f.held_bodies, f.stands.count, old);
-      held_bodies = omega (arith, more, f.held_bodies, length-append k.bodies (body ∷ []));
-      links = f.links;
-      as_many = links_stay fate (queue_at fate k.lists ++ length k.messages ∷ []) k.lists ∙ f.as_many;
-      fsns = λ n link there. last_stays fate (queue_at fate k.lists ++ length k.messages ∷ []) k.lists n ∙ f.fsns n link there;
-      routing = f.routing;
-      inbox = f.inbox;
-    }
+appended_for k s body fate f standing known = grind (arith, nat_tests, length-append, only_standing, same_is, queue_set, appended_at, get_push, row_push, numbered_appended, links_stay, last_stays)
 
 -- MESSAGES COME TO STAND ELSEWHERE, and links and routing may change.
 module _ (k : Kept) (s : State) (f : StandsFor k s) (lists : Lists) (messages : List Message) (new : List Row) (moves : Moves lists messages s.rows new) (as_many : length lists.links ≡ length k.lists.links) (routing routing' : Routing) (way : routing ≡ routing') where
   moved_for : (links : List LinkState) → length links ≡ length s.links → ((m : ℕ) (link : LinkState) → slice_get links m ≡ Some link → last_at m lists ≡ (link.acked + 127) % 128)
       → StandsFor (record k { lists = lists; messages = messages; links = links; routing = routing }) (record s { rows = new; links = links; routing = routing' })
-  moved_for links many fsns = record {
-    settings = f.settings;
-    stands = moves.stands;
-    bodies = λ n. f.bodies n ∙ sym (moves.same.bodies n);
-    held_bodies = omega (arith, moves.stands.count, moves.same.count, f.stands.count, f.held_bodies);
-    links = refl;
-    as_many = as_many ∙ f.as_many ∙ sym many;
-    fsns = fsns;
-    routing = way;
-    inbox = f.inbox;
-  }
+  moved_for links many fsns = grind (arith, nat_tests)
 
   -- no link changes
   pub queues_for : ((n : ℕ) → last_at n lists ≡ last_at n k.lists) → StandsFor (record k { lists = lists; messages = messages; routing = routing }) (record s { rows = new; routing = routing' })

@@ -1,6 +1,6 @@
 -- WHAT STANDS BACK FOR A LINK turns back: the oldest, which is the first of the rows that do, and so all of it, the oldest
 -- first.
-use Rattle.std.proofs.Common.{inl, refl, arith, ◌≡◌, ◌∙◌, ap, sym, subst, [], ◌∷◌, ◌++◌, length, ℕ, suc, Bool, true, false, List, Some, cond, take, drop, ◌+◌, ◌*◌, None, ◌-◌, ◌%◌, ◌≤◌, ◌<◌, zero, ◌==◌, ◌⊎◌, Option}
+use Rattle.std.proofs.Common.{inl, refl, arith, ◌≡◌, ◌∙◌, ap, sym, subst, [], ◌∷◌, ◌++◌, length, ℕ, suc, Bool, true, false, List, Some, cond, take, drop, ◌+◌, ◌*◌, None, ◌≤◌, ◌<◌, zero, ◌==◌, ◌⊎◌, Option}
 use Rattle.std.specs.Prelude.{slice_get, filter}
 use Rattle.std.proofs.lemmas.Bool.{eq-eqb, cases_eq, cases_lt, ne_eqb, not-true}
 use Rattle.std.proofs.lemmas.Bool.Decides.{nat_tests}
@@ -8,7 +8,7 @@ use Rattle.std.proofs.lemmas.List.{append-nil, map-append, length-append, get_or
 use Rattle.set_events.specs.declared.answer.Fate.{Fate}
 use Rattle.set_events.specs.declared.answer.Fate.TheVariants.{Waiting, Held, Back, Unacked}
 use Rattle.set_queues.specs.Backs.{passed_first, IsOldest, back_from, NoneBack}
-use Rattle.set_queues.specs.Buffers.{Lists, is_standing, same_fate, queue_at, with_queue, last_at, HaveRoom, Rooms, room_at, IsKnown, IsQueued, TakesRoom}
+use Rattle.set_queues.specs.Buffers.{Lists, is_standing, same_fate, queue_at, HaveRoom, Rooms, room_at, IsKnown, TakesRoom}
 use Rattle.set_queues.specs.Messages.{restood}
 use Rattle.set_queues.proofs.Standing.{same_is}
 use Rattle.set_queues.specs.declared.message.Message.{Message}
@@ -25,14 +25,13 @@ use Rattle.set_model.proofs.Moving.{moved_nothing}
 use Rattle.set_moves.specs.Agreement.{Kept, Stands, StandsFor, rows_at, label_in, label_of}
 use Rattle.set_moves.specs.Turning.{IsTurning, IsTurningRow, TurnsOn, TakesTurns}
 use Rattle.set_moves.proofs.Becoming.{Becoming, becomes}
-use Rattle.set_moves.proofs.RowsAt.{Shifts, is_there, rows_as}
-use Rattle.set_moves.proofs.Shifting.{shifted, shifted_messages, shifted_goes, shifted_stands, shifted_each, rest_stands, moved_same, moved_as}
+use Rattle.set_moves.proofs.RowsAt.{Shifts, is_there, rows_as, shifted, shifted_messages, shifted_goes, shifted_stands, shifted_each, rest_stands, moved_rest, moved_as}
 use Rattle.set_moves.proofs.States.{Moves, shifts_stand, queues_for, last_stays}
 use Rattle.set_moves.specs.declared.parts.Parts.{Parts}
 use Rattle.set_moves.specs.Parts.{IsWhole, kept_of}
 use Rattle.set_queues.specs.Queues.{QueuesState}
 use Rattle.set_queues.specs.Settling.{on as on_lists}
-use Rattle.set_queues.proofs.CodeQueues.{back_none, back_more, back_grows}
+use Rattle.set_queues.proofs.CodeQueues.{back_none}
 use Rattle.set_queues.proofs.Passing.{links_stay}
 use Rattle.set_queues.proofs.Settling.{on_length}
 use Rattle.std.specs.Option.{option_map}
@@ -299,7 +298,7 @@ module _ (home code : ℕ) (to : Fate) (k : Kept) (s : State) (f : StandsFor k s
       let off : is_back_to home to ≡ false = either (λ g. is_back_to home g ≡ false) to on.0 on.2 refl refl in
       let on_back : is_back_to home row.fate ≡ true = ap (is_back_to home) it.fate_is ∙ eq-eqb (home_of code) home o.of_home in
       let rest_is : standing (is_back_to home) after ≡ it.rest = rest_stands (is_back_to home) fate to row it.rest s.rows way_is it.one it.first on_back off in
-      let moved_is : moved (is_back_to home) fate after ≡ moved (is_back_to home) fate s.rows = moved_same (is_back_to home) fate to row it.rest s.rows way_is it.one it.first on_back off in
+      let moved_is : moved (is_back_to home) fate after ≡ moved (is_back_to home) fate s.rows = moved_rest (is_back_to home) fate to row it.rest s.rows way_is it.one it.first on_back off in
       record {
         state = next;
         stands = becomes k new _ _ _ _ _ next b (queues_for k s f _ _ _ moves_then (links_then (Back code) to k.lists then refl) _ _ f.routing (λ n. search last_stays));

@@ -3,7 +3,7 @@ ghost use Rattle.std.specs.Prelude.{◌≡◌, ◌≢◌, ◌+◌, ◌*◌, ◌<
 ghost use Rattle.set_queues.specs.Buffers.{TakesRoom, room_at};
 ghost use Rattle.set_queues.specs.Backs.{back_count};
 ghost use Rattle.set_queues.specs.Bodies.{CanHold};
-ghost use Rattle.set_route.specs.Routing.{code_of, home_of, is_free, can_ask};
+ghost use Rattle.set_route.specs.Routing.{code_for, code_of, home_of, is_free, can_ask};
 ghost use Rattle.set_model.specs.Changeover.{released, released_from, acknowledged_back, can_declare, declared, declared_if, declared_from, some_declare, some_in_use};
 ghost use Rattle.set_model.specs.State.{State, link_count};
 ghost use Rattle.set_model.specs.Step.{on_link, in_service, comes_back, runs_out};
@@ -79,6 +79,7 @@ pub fn time_out(parts: &mut Parts, number: u8, answer: &mut Answer) -> Result<()
 }
 
 /// Whether streams can come back from some link.
+#[tactic(auto, using(crate::proofs::Declaring::count_is))]
 fn has_alternative(parts: &Parts, number: u8) -> bool
     requires whole { IsWhole parts.now }
     requires known { number < length parts.now.links.items }
@@ -159,7 +160,7 @@ fn declare_if_due(parts: &mut Parts, home: u8, alternative: u8)
 fn has_code_in_use(parts: &Parts, home: u8) -> bool
     requires { home < 16 }
     ensures { (s : State) → StandsFor (kept_of parts.now) s
-        → result ≡ some_in_use (16 * home) 16 s }
+        → result ≡ some_in_use (code_for home 0) 16 s }
 {
     for alternative in 0..16u8 {
         if !is_unused(parts.routes.code(changeback_code(home, alternative))) {
@@ -175,7 +176,8 @@ fn release_all(parts: &mut Parts, home: u8)
     requires known { home < length parts.old.links.items }
     requires room { back_count home parts.old.queues.lists ≤ room_at (Fate.Waiting home)
         parts.old.queues.rooms }
-    ensures stands { Becomes parts.old parts.new (released_from (16 * home) 16) }
+    ensures stands { Becomes parts.old parts.new
+        (released_from (code_for home 0) 16) }
 {
     for alternative in 0..16u8 {
         release(parts, changeback_code(home, alternative));
@@ -206,6 +208,7 @@ fn release(parts: &mut Parts, code: u8)
 
 /// An acknowledgement of a changeback brings home what stood back by its code; of a code in no use it's
 /// ignored (Q.704 6.3).
+#[tactic(auto, using(crate::proofs::Declaring::in_use))]
 pub(crate) fn acknowledge_back(parts: &mut Parts, code: u8) -> Took
     requires holds { Holds (kept_of parts.old) }
     requires room { home_of code < length parts.old.links.items

@@ -54,8 +54,9 @@ pub(crate) fn body_of(order: &Order, config: &SetConfig) -> ArrayVec<u8, LONGEST
     write_order(order, config.sio, config.dpc, config.opc)
 }
 
-/// The link is left: out of service, its messages stay on it until it settles (Q.704 5.3). What stood back for it
-/// goes where its streams run.
+/// The link is left: out of service, its messages stay on it until it settles (Q.704 5.3). Streams on their way back
+/// to it run where they came from, and what stood back for it goes there.
+#[tactic(auto, using(crate::proofs::Links::found, set_model::proofs::Lists::same_at))]
 pub fn leave(parts: &mut Parts, number: u8, blind: bool)
     requires holds { Holds (kept_of parts.old) }
     requires known { number < length parts.old.links.items }
@@ -69,26 +70,11 @@ pub fn leave(parts: &mut Parts, number: u8, blind: bool)
     ensures bodies { parts.new.bodies ≡ parts.old.bodies }
     ensures whole { IsWhole parts.new }
 {
-    take_out(parts, number, blind);
-    turn_back(parts, number);
-}
-
-/// The link is out of service, and streams on their way back to it run where they came from.
-#[tactic(auto, using(crate::proofs::Links::found, set_model::proofs::Lists::same_at))]
-fn take_out(parts: &mut Parts, number: u8, blind: bool)
-    requires whole { IsWhole parts.old }
-    requires known { number < length parts.old.links.items }
-    ensures stands { BecomesAt number parts.old parts.new (out_of_service blind number) }
-    ensures links { AtLink number parts.old.links.items (λ link. parts.new.links.items
-        ≡ slice_set parts.old.links.items number (record link { phase = Down; blind = blind })) }
-    ensures queues { parts.new.queues ≡ parts.old.queues }
-    ensures bodies { parts.new.bodies ≡ parts.old.bodies }
-    ensures whole { IsWhole parts.new }
-{
     let link = &mut parts.links[usize::from(number)];
     link.phase = Phase::Down;
     link.blind = blind;
     parts.routes.divert(number);
+    turn_back(parts, number);
 }
 
 /// An order is carried out (Q.704 5.4, 5.6).

@@ -1,4 +1,4 @@
-use Rattle.std.proofs.Common.{arith, refl, ◌≡◌, ◌∙◌, sym, ap}
+use Rattle.std.proofs.Common.{arith, refl, ◌∙◌, sym}
 use Rattle.set_model.specs.Changeover.{can_declare, some_declare}
 use Rattle.set_model.specs.State.{link_count}
 use Rattle.set_moves.proofs.Declaring.{none_more, found_at, count_is}
@@ -12,9 +12,3 @@ pub returns-then-may_declare : goal.returns-then-may_declare
 returns-then-may_declare c = λ s f.
     let count = count_is c.args.parts.now s f in
     sym (found_at (λ from n. some_declare c.args.number from n s) (λ from. can_declare c.args.number from s) (λ from. refl) (λ from n. refl) c.loop-alternative.alternative (link_count s) 0 c.loop-alternative.alternative (omega arith) (sym (c.may_declare.ensures.value s f) ∙ c.if-may_declare.true) (omega arith))
-
-pub returns : goal.returns
-returns c = λ s f.
-    let count = count_is c.args.parts.now s f in
-    let all : link_count s ≡ c.loop-alternative.alternative = omega arith in
-    sym (ap (λ n. some_declare c.args.number 0 n s) all ∙ c.loop-alternative.invariant s f)

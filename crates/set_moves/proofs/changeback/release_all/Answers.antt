@@ -3,7 +3,7 @@ use Rattle.set_events.specs.declared.answer.Fate.TheVariants.{Waiting, Back}
 use Rattle.set_queues.specs.Backs.{back_from, back_count}
 use Rattle.set_queues.specs.Buffers.{Lists, queue_at, room_at}
 use Rattle.set_queues.proofs.CodeQueues.{back_more, back_grows}
-use Rattle.set_route.specs.Routing.{home_of}
+use Rattle.set_route.specs.Routing.{code_for, home_of}
 use Rattle.set_model.specs.Changeover.{released_from, released}
 use Rattle.set_moves.proofs.Declaring.{becomes_next}
 use Rattle.set_moves.proofs.changeback.release_all.Goals as goal
@@ -33,5 +33,5 @@ loop-alternative-preserved c =
       links = c.release.ensures.links ∙ c.loop-alternative.invariant.links;
       room = omega (arith, back_more (16 * h) i c.args.parts.now.queues.lists, rw home at c.release.ensures.rooms, same);
       later = λ j far. c.release.ensures.others (16 * h + j) (λ e. omega (arith, e, far)) ∙ c.loop-alternative.invariant.later j (omega (arith, far));
-      stands = becomes_next released_from released (λ from s. refl) (λ from n s. refl) i (16 * h) c.changeback_code.result c.args.parts.now c.loop-alternative.parts c.release.new.parts is c.loop-alternative.invariant.stands c.release.ensures.stands;
+      stands = becomes_next released_from released (λ from s. refl) (λ from n s. refl) i (code_for h 0) c.changeback_code.result c.args.parts.now c.loop-alternative.parts c.release.new.parts (omega arith) c.loop-alternative.invariant.stands c.release.ensures.stands;
     }

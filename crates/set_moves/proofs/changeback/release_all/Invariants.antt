@@ -2,6 +2,7 @@ use Rattle.std.proofs.Common.{◌≡◌, ◌≤◌, ◌+◌, ◌*◌, ℕ}
 use Rattle.set_events.specs.declared.answer.Fate.TheVariants.{Waiting, Back}
 use Rattle.set_queues.specs.Backs.{back_from, back_count}
 use Rattle.set_queues.specs.Buffers.{queue_at, room_at}
+use Rattle.set_route.specs.Routing.{code_for}
 use Rattle.set_model.specs.Changeover.{released_from}
 use Rattle.set_moves.specs.Parts.{IsWhole, Becomes}
 use Rattle.set_moves.proofs.changeback.release_all.Given as goal
@@ -12,5 +13,5 @@ invariant-loop-alternative l = record {
   links : l.parts.links ≡ l.initial.parts.links;
   room : back_count l.home l.initial.parts.queues.lists ≤ room_at (Waiting l.home) l.parts.queues.rooms + back_from (16 * l.home) l.alternative l.initial.parts.queues.lists;
   later : (j : ℕ) → l.alternative ≤ j → queue_at (Back (16 * l.home + j)) l.parts.queues.lists ≡ queue_at (Back (16 * l.home + j)) l.initial.parts.queues.lists;
-  stands : Becomes l.initial.parts l.parts (released_from (16 * l.home) l.alternative);
+  stands : Becomes l.initial.parts l.parts (released_from (code_for l.home 0) l.alternative);
 }

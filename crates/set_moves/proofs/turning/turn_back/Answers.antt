@@ -1,20 +1,9 @@
-use Rattle.std.proofs.Common.{arith, rules, refl, ◌+◌, ◌∙◌, ap, sym, length}
+use Rattle.std.proofs.Common.{arith, ◌+◌, ◌∙◌, ap, sym, length}
 use Rattle.set_moves.proofs.Turns.{turns_then, room_for_one, turned_all}
 use Rattle.set_moves.proofs.turning.turn_back.Goals as goal
 
 pub turn_first-requires-clause-room : goal.turn_first-requires-clause-room
 turn_first-requires-clause-room c = room_for_one c.args.number c.args.parts.now c.loop-code.parts c.loop-code.invariant c.in-Some.code c.in-Some.ensures c.requires.room
-
-pub loop-code-init : goal.loop-code-init
-loop-code-init c = record {
-  whole = c.requires.whole;
-  links = refl;
-  bodies = refl;
-  so_far = λ s f t. record { state = s; stands = f; turning = t; same = refl };
-  turned = 0;
-  turns = search rules;
-  fewer = omega arith;
-}
 
 pub loop-code-preserved : goal.loop-code-preserved
 loop-code-preserved c =
