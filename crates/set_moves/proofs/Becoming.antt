@@ -1,5 +1,5 @@
 -- What is kept after a call stands for what became of the state.
-use Rattle.std.proofs.Common.{arith, ◌≡◌, ◌∙◌, ap, sym, subst, ◌≤◌, [], ◌∷◌, List, ℕ, false, length, Some, slice_get, slice_set, ◌+◌, ◌-◌, ◌%◌, true}
+use Rattle.std.proofs.Common.{arith, ◌≡◌, ◌∙◌, ap, subst, ◌≤◌, [], ◌∷◌, List, ℕ, false, length, Some, slice_get, slice_set, ◌+◌, ◌-◌, ◌%◌, true}
 use Rattle.std.proofs.lemmas.Bool.{le-leb, lt-leb}
 use Rattle.std.proofs.lemmas.List.{length-map}
 use Rattle.set_events.specs.declared.answer.Fate.TheVariants.{Unacked, Waiting, Parked}
@@ -13,7 +13,7 @@ use Rattle.set_model.specs.Rows.{Row, turned, is_waiting, is_parked, moved, all_
 use Rattle.set_model.specs.Changeover.{reached_by, is_reasonable}
 use Rattle.set_model.specs.State.{State, LinkState, with_link}
 use Rattle.set_moves.specs.Agreement.{Kept, StandsFor}
-use Rattle.set_moves.proofs.States.{kept_is, link_for, sent_for, risen_for, has_queues}
+use Rattle.set_moves.proofs.States.{link_for, sent_for, risen_for, has_queues}
 
 -- new keeps this, and all else as old
 pub record Becoming (old new : Kept) (lists : Lists) (messages : List Message) (bodies : List (List ℕ)) (links : List LinkState) (routing : Routing) : Type 0 where
@@ -27,7 +27,7 @@ pub record Becoming (old new : Kept) (lists : Lists) (messages : List Message) (
 
 module _ (old new : Kept) (lists : Lists) (messages : List Message) (bodies : List (List ℕ)) (links : List LinkState) (routing : Routing) (s : State) where
   pub becomes : Becoming old new lists messages bodies links routing → StandsFor (record old { lists = lists; messages = messages; bodies = bodies; links = links; routing = routing }) s → StandsFor new s
-  becomes b f = subst (λ k. StandsFor k s) (ap (λ settings. record { settings = settings; lists = lists; messages = messages; bodies = bodies; links = links; routing = routing; inbox = old.inbox }) (sym b.settings_same) ∙ kept_is new lists messages bodies links routing old.inbox b.lists_are b.messages_are b.bodies_are b.links_are b.routing_is b.inbox_same) f
+  becomes b f = grind arith
 
 -- WHAT REACHED THE FAR END: how far an FSN reaches, as the queues and as the rows tell it
 module _ (k : Kept) (s : State) (n fsn : ℕ) (link : LinkState) (f : StandsFor k s) (there : slice_get s.links n ≡ Some link) where

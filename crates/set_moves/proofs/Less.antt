@@ -1,6 +1,5 @@
 -- Queues that got no longer.
-use Rattle.std.proofs.Common.{refl, arith, ◌≡◌, ◌∙◌, ap, subst, sym, ◌≤◌, ◌<◌, ℕ, Bool, true, List, [], length, drop, cond}
-use Rattle.std.proofs.lemmas.Bool.{eqb-true}
+use Rattle.std.proofs.Common.{refl, arith, ◌≡◌, ◌≤◌, ◌<◌, ℕ, true, List, [], length, drop}
 use Rattle.std.proofs.lemmas.List.{length-drop}
 use Rattle.std.proofs.lemmas.Bool.Decides.{nat_tests}
 use Rattle.set_events.specs.declared.answer.Fate.{Fate}
@@ -15,22 +14,18 @@ use Rattle.set_queues.proofs.Soundness.{queue_last}
 abbrev pub NoLonger : Lists → Lists → Type 0
 NoLonger q q' = (f : Fate) → length (queue_at f q') ≤ length (queue_at f q)
 
-shorter : (b : Bool) (xs ys : List ℕ) → length xs ≤ length ys → length (cond b xs ys) ≤ length ys
-shorter b xs ys h = grind arith
+same_queue : (g f : Fate) → is_standing g ≡ true → same_fate g f ≡ true → g ≡ f
+same_queue g f s e = grind (arith, nat_tests)
+
+-- a queue is replaced by one that is no longer
+replaced_less : (g : Fate) (xs : List ℕ) (q : Lists) → is_standing g ≡ true → IsKnown g q → length xs ≤ length (queue_at g q) → NoLonger q (with_queue g xs q)
+replaced_less g xs q s h few f = let same = same_queue g f s in grind (arith, queue_set g f xs q s h)
 
 pub cleared_less : (g : Fate) (q q' : Lists) → q' ≡ with_queue g [] q → is_standing g ≡ true → IsKnown g q → NoLonger q q'
-cleared_less g q q' e s h f = rw (e, queue_set g f [] q s h) (shorter (same_fate g f) [] (queue_at f q) (omega arith))
-
-dropped : (b : Bool) (k : ℕ) (xs ys : List ℕ) → (b ≡ true → xs ≡ ys) → length (cond b (drop k xs) ys) ≤ length ys
-dropped b k xs ys same = grind (arith, nat_tests, length-drop)
-
-same_unacked : (l : ℕ) (f : Fate) → same_fate (Unacked l) f ≡ true → Unacked l ≡ f
-same_unacked l f e = grind (arith, nat_tests, eqb-true)
+cleared_less g q q' e s h f = rw e (replaced_less g [] q s h (omega arith) f)
 
 pub acked_less : (l fsn : ℕ) (q : Lists) → l < length q.links → NoLonger q (acknowledged l fsn q)
-acked_less l fsn q h f =
-    subst (λ (xs : List ℕ). length xs ≤ length (queue_at f q)) (sym (queue_last f l fsn (with_queue (Unacked l) (drop (reach l fsn q) (queue_at (Unacked l) q)) q) ∙ queue_set (Unacked l) f (drop (reach l fsn q) (queue_at (Unacked l) q)) q refl h))
-    (dropped (same_fate (Unacked l) f) (reach l fsn q) (queue_at (Unacked l) q) (queue_at f q) (λ e. ap (λ (x : Fate). queue_at x q) (same_unacked l f e)))
+acked_less l fsn q h f = rw (queue_last f l fsn _) (replaced_less (Unacked l) (drop (reach l fsn q) (queue_at (Unacked l) q)) q refl h (omega (arith, length-drop (reach l fsn q) (queue_at (Unacked l) q))) f)
 
 pub less_then : (a b c : Lists) → NoLonger a b → NoLonger b c → NoLonger a c
 less_then a b c p r f = let x = p f in let y = r f in omega (arith, x, y)

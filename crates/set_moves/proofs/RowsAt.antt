@@ -1,6 +1,6 @@
 -- WHAT STANDS IN EACH PLACE after rows came to stand elsewhere, the numbers of one queue after another; and where each
 -- number stands then.
-use Rattle.std.proofs.Common.{arith, refl, ◌≡◌, ◌∙◌, ap, sym, ◌≤◌, ◌<◌, [], ◌∷◌, length, ℕ, zero, suc, Bool, true, false, List, ◌++◌, Option, Some, take, drop, cond, not, ◌==◌}
+use Rattle.std.proofs.Common.{arith, refl, ◌≡◌, ◌∙◌, ap, sym, ◌≤◌, ◌<◌, [], ◌∷◌, length, ℕ, zero, suc, Bool, true, false, List, ◌++◌, Option, Some, None, take, drop, cond, not, ◌==◌}
 use Rattle.std.specs.List.{drop-map}
 use Rattle.std.proofs.lemmas.Bool.Decides.{nat_tests}
 use Rattle.std.proofs.lemmas.List.{map-append, take-map, append-nil, append_assoc, length-append}
@@ -22,8 +22,8 @@ use Rattle.set_queues.specs.Queues.{occurs, AreGiven}
 use Rattle.set_queues.proofs.Standing.{same_is, occurs-split, occurs_here, occurs_not}
 use Rattle.set_model.proofs.Filters.{fewer_filter, filter_comm, filter_within, filter_apart}
 use Rattle.set_model.proofs.Finding.{with_number, same_numbers}
-use Rattle.set_model.proofs.Lookups.{at_most_one, row_is_first, place_moved, number_below}
-use Rattle.std.proofs.lemmas.Bool.{cases_eq, eq-eqb, eqb-true, not_from_true}
+use Rattle.set_model.proofs.Lookups.{at_most_one, row_is_first, place_moved, no_rows}
+use Rattle.std.proofs.lemmas.Bool.{cases_eq, cases_lt, eq-eqb, eqb-true, not_from_true}
 use Rattle.std.proofs.lemmas.List.Filters.{length-filter_both}
 use Rattle.set_model.proofs.Standing.{each_append, each_filter}
 
@@ -47,9 +47,6 @@ module _ (test : Fate → Bool) (to : Fate) where
   goes_first n (suc k) [] one = record { stays = λ e. refl; goes = λ e. absurd (omega (arith, e)) }
   goes_first n (suc k) (x ∷ rows) one = let none = none_picked (λ (row : Row). test row.fate) (suc k) n rows in grind (arith, nat_tests, goes_first n k rows, goes_first n (suc k) rows, none)
 
-  pub turned_goes : (n k : ℕ) (rows : List Row) → IsNumbered rows → GoesTo (take k (numbers (standing test rows))) to n rows (turned test to k rows)
-  turned_goes n k rows numbered = goes_first n k rows (at_most_one n rows numbered)
-
   -- all of them, in their places
   place_changed : (n : ℕ) (rows : List Row) → place n (changed test to rows) ≡ option_map (λ (row : Row). cond (test row.fate) to row.fate) (row_of n rows)
   place_changed n [] = refl
@@ -66,27 +63,19 @@ module _ (test : Fate → Bool) (to : Fate) where
       let way = told_first (with_number n rows) _ _ _ _ (at_most_one n rows numbered) (occurs_picked (λ (row : Row). test row.fate) n rows) (row_is_first n rows) refl e in
       record { stays = way.0; goes = way.1 }
 
-  pub changed_goes : (n : ℕ) (rows : List Row) → IsNumbered rows → GoesTo (numbers (standing test rows)) to n rows (changed test to rows)
-  changed_goes n rows numbered = told n rows (changed test to rows) numbered (place_changed n rows)
+-- WHAT STANDS SOMEWHERE was given out.
+pub none_at : (n : ℕ) (rows : List Row) → IsNumbered rows → length rows ≤ n → row_of n rows ≡ None
+none_at n rows numbered far = let none = no_rows (with_number n rows) in grind (arith, nat_tests, row_is_first, none, numbered)
 
-  pub moved_goes : (n : ℕ) (rows : List Row) → IsNumbered rows → GoesTo (numbers (standing test rows)) to n rows (moved test (all_with to) rows)
-  moved_goes n rows numbered = told n rows (moved test (all_with to) rows) numbered (place_moved test (all_with to) n rows numbered)
+given_where : (ns : List ℕ) (ms : List Message) → ((n : ℕ) → 0 < occurs n ns → n < length ms) → AreGiven ns ms
+given_where [] ms below = tt
+given_where (n ∷ ns) ms below = (below n (omega (arith, occurs_here n n refl)), given_where ns ms (λ m h. below m (omega (arith, h))))
 
--- WHAT ROWS ARE NUMBERED BY was given out.
-given_rows : (xs : List Row) (ms : List Message) → ((i : ℕ) (row : Row) → slice_get xs i ≡ Some row → row.number < length ms) → AreGiven (numbers xs) ms
-given_rows [] ms below = tt
-given_rows (x ∷ xs) ms below = (below 0 x refl, given_rows xs ms (λ i row e. below (suc i) row e))
+placed_below : (n : ℕ) (to : Fate) (rows : List Row) → IsNumbered rows → place n rows ≡ Some to → n < length rows
+placed_below n to rows numbered there = grind (arith, nat_tests, cases_lt, none_at)
 
-given_take : (k : ℕ) (ns : List ℕ) (ms : List Message) → AreGiven ns ms → AreGiven (take k ns) ms
-given_take zero ns ms g = tt
-given_take (suc k) [] ms g = tt
-given_take (suc k) (n ∷ ns) ms g = (g.0, given_take k ns ms g.1)
-
-pub given_all : (p : Row → Bool) (ms : List Message) (rows : List Row) → IsNumbered rows → length ms ≡ length rows → AreGiven (numbers (filter p rows)) ms
-given_all p ms rows numbered many = given_rows (filter p rows) ms (λ i row e. let below = number_below p rows i row numbered e in omega (arith, below, many))
-
-pub given_first : (k : ℕ) (p : Row → Bool) (ms : List Message) (rows : List Row) → IsNumbered rows → length ms ≡ length rows → AreGiven (take k (numbers (filter p rows))) ms
-given_first k p ms rows numbered many = given_take k (numbers (filter p rows)) ms (given_all p ms rows numbered many)
+pub given_all : (ns : List ℕ) (to : Fate) (ms : List Message) (rows new : List Row) → IsNumbered new → length ms ≡ length new → ((n : ℕ) → GoesTo ns to n rows new) → AreGiven ns ms
+given_all ns to ms rows new numbered many goes = given_where ns ms (λ n h. omega (arith, many, placed_below n to new numbered ((goes n).goes h)))
 
 -- BY FATE
 
@@ -95,15 +84,6 @@ waits_there l fate = grind arith
 
 pub sent_there : (l : ℕ) (fate : Fate) → is_unacked l fate ≡ same_fate fate (Unacked l)
 sent_there l fate = grind arith
-
-pub held_there : (l : ℕ) (fate : Fate) → is_held l fate ≡ same_fate fate (Held l)
-held_there l fate = grind arith
-
-pub parked_there : (fate : Fate) → is_parked fate ≡ same_fate fate Parked
-parked_there fate = grind arith
-
-pub back_there : (c : ℕ) (fate : Fate) → is_back c fate ≡ same_fate fate (Back c)
-back_there c fate = grind arith
 
 -- the rows of a fate that isn't final are those that have it
 abbrev pub is_there : Fate → Fate → Bool
@@ -115,9 +95,9 @@ standing_as p q e rows = filter_agree (λ (row : Row). p row.fate) (λ (row : Ro
 pub rows_as : (f : Fate) (rows : List Row) → is_standing f ≡ true → rows_at f rows ≡ standing (is_there f) rows
 rows_as (Waiting l) rows s = standing_as (is_waiting l) (is_there (Waiting l)) (waits_there l) rows
 rows_as (Unacked l) rows s = standing_as (is_unacked l) (is_there (Unacked l)) (sent_there l) rows
-rows_as (Held l) rows s = standing_as (is_held l) (is_there (Held l)) (held_there l) rows
-rows_as Parked rows s = standing_as is_parked (is_there Parked) parked_there rows
-rows_as (Back c) rows s = standing_as (is_back c) (is_there (Back c)) (back_there c) rows
+rows_as (Held l) rows s = standing_as (is_held l) (is_there (Held l)) (λ fate. grind arith) rows
+rows_as Parked rows s = standing_as is_parked (is_there Parked) (λ fate. grind arith) rows
+rows_as (Back c) rows s = standing_as (is_back c) (is_there (Back c)) (λ fate. grind arith) rows
 rows_as (Acked l) rows s = absurd cc
 rows_as (Discarded cause) rows s = absurd cc
 
@@ -134,7 +114,6 @@ pub record Shifts (test : Fate → Bool) (to : Fate) (ns left joined : List ℕ)
   pub places : (f : Fate) → is_standing f ≡ true → numbers (rows_at f new) ≡ cond (test f) left (cond (same_fate to f) joined (numbers (rows_at f rows)))
   pub messages : SameMessages rows new
   pub goes : (n : ℕ) → GoesTo ns to n rows new
-  pub given : (ms : List Message) → length ms ≡ length rows → AreGiven ns ms
 
 -- a place from which they go takes in no other
 within : (test : Fate → Bool) (f : Fate) → is_standing f ≡ true → test f ≡ true → (g : Fate) → is_there f g ≡ true → test g ≡ true
@@ -163,16 +142,14 @@ module _ (test : Fate → Bool) (to : Fate) (rows : List Row) (numbered : IsNumb
   turned_shifts n final one = record {
     places = λ f s. grind (arith, rows_as, standing_as test (is_there f), one f, turned_left, numbers-drop, turned_same test (is_there f) to (final_none to f final s), elsewhere test f s, final_none);
     messages = (messages_stay test to (all_with to) rows numbered).turned_stay n;
-    goes = λ k. turned_goes test to k n rows numbered;
-    given = λ ms many. given_first n (λ row. test row.fate) ms rows numbered many;
+    goes = λ k. goes_first test to k n rows (at_most_one k rows numbered);
   }
 
   pub changed_shifts : is_standing to ≡ false → IsOfOne test → Shifts test to (numbers (standing test rows)) [] [] rows (changed test to rows)
   changed_shifts final one = record {
     places = λ f s. grind (arith, rows_as, standing_as test (is_there f), one f, changed_left, changed_same test (is_there f) to (final_none to f final s), elsewhere test f s, final_none);
     messages = (messages_stay test to (all_with to) rows numbered).changed_stay;
-    goes = λ k. changed_goes test to k rows numbered;
-    given = λ ms many. given_all (λ row. test row.fate) ms rows numbered many;
+    goes = λ k. told test to k rows _ numbered (place_changed test to k rows);
   }
 
   -- to another place: all of one or more, behind those that stand there
@@ -186,8 +163,7 @@ module _ (test : Fate → Bool) (to : Fate) (rows : List Row) (numbered : IsNumb
   moved_shifts there = record {
     places = λ f s. moved_place f s (test f) (same_fate to f) refl refl;
     messages = (messages_stay test to (all_with to) rows numbered).moved_stay;
-    goes = λ k. moved_goes test to k rows numbered;
-    given = λ ms many. given_all (λ row. test row.fate) ms rows numbered many;
+    goes = λ k. told test to k rows _ numbered (place_moved test (all_with to) k rows numbered);
   }
 
 -- the first that waits is sent: it stands last among the unacknowledged
@@ -204,8 +180,7 @@ module _ (l : ℕ) (rows : List Row) (numbered : IsNumbered rows) (order : IsInO
   sent_shifts = record {
     places = λ f s. sent_place f s (is_waiting l f) (same_fate (Unacked l) f) refl refl;
     messages = (messages_stay (is_waiting l) (Unacked l) (all_with (Unacked l)) rows numbered).turned_stay 1;
-    goes = λ k. turned_goes (is_waiting l) (Unacked l) k 1 rows numbered;
-    given = λ ms many. given_first 1 (λ row. is_waiting l row.fate) ms rows numbered many;
+    goes = λ k. goes_first (is_waiting l) (Unacked l) k 1 rows (at_most_one k rows numbered);
   }
 
 -- ONE ROW leaves its place and stands at the end, with another fate.
@@ -250,24 +225,13 @@ module _ (to : Fate) (x : Row) (rows : List Row) (one : with_number x.number row
   with_other n ne = grind (arith, nat_tests, filter-append, without, k, y, with_number, filter_within, append-nil, eqb-true)
 
   count : length new ≡ length rows
-  count =
-      let own : length (with_number k rows) ≡ 1 = ap length one in
-      omega (arith, length-filter_both (λ (row : Row). row.number == k) (λ (row : Row). not (row.number == k)) (λ row. refl) rows, own, length-append (without k rows) (y ∷ []))
-
-  row_own : row_of k new ≡ Some y
-  row_own = row_is_first k new ∙ ap (λ (ys : List Row). slice_get ys 0) with_own
-
-  row_old : row_of k rows ≡ Some x
-  row_old = row_is_first k rows ∙ ap (λ (ys : List Row). slice_get ys 0) one
-
-  row_other : (n : ℕ) → (k ≡ n → ⊥) → row_of n new ≡ row_of n rows
-  row_other n ne = row_is_first n new ∙ ap (λ (ys : List Row). slice_get ys 0) (with_other n ne) ∙ sym (row_is_first n rows)
+  count = omega (arith, ap length one, length-filter_both (λ (row : Row). row.number == k) (λ (row : Row). not (row.number == k)) (λ row. refl) rows, length-append (without k rows) (y ∷ []))
 
   pub shifted_messages : IsNumbered rows → SameMessages rows new
-  shifted_messages numbered = grind (arith, cases_eq, count, row_old, row_other, row_own, same_numbers, with_number, with_other, with_own)
+  shifted_messages numbered = grind (arith, cases_eq, count, row_is_first, one, same_numbers, with_number, with_other, with_own)
 
   pub shifted_goes : (n : ℕ) → GoesTo (k ∷ []) to n rows new
-  shifted_goes n = grind (arith, nat_tests, cases_eq, k, GoesTo, new, occurs_here, row_own, row_other, occurs_not)
+  shifted_goes n = grind (arith, nat_tests, cases_eq, k, GoesTo, new, occurs_here, row_is_first, with_own, with_other, occurs_not)
 
   -- BY FATE: it's gone where it stood first, and comes behind the others
   left : (test : Fate → Bool) (rest : List Row) (b : Bool) → test x.fate ≡ b → (b ≡ true → standing test rows ≡ x ∷ rest) → without k (standing test rows) ≡ cond b rest (standing test rows)

@@ -27,21 +27,15 @@ use Rattle.set_model.proofs.Finding.{new_row, numbered_appended, with_number, is
 use Rattle.set_model.proofs.Lookups.{row_is_first, no_rows}
 use Rattle.set_model.proofs.Order.{on_in_order}
 use Rattle.set_moves.specs.Agreement.{Stands, rows_at, label_in, label_of, kind_of, Kept, StandsFor}
-use Rattle.set_moves.proofs.RowsAt.{final_none, Shifts, appended_at, sent_shifts, turned_shifts, changed_shifts, moved_shifts, sent_of_one, is_there}
+use Rattle.set_moves.proofs.RowsAt.{given_all, none_at, final_none, Shifts, appended_at, sent_shifts, turned_shifts, changed_shifts, moved_shifts, sent_of_one, is_there}
 use Rattle.set_route.specs.Routing.{Routing}
 use Rattle.set_model.specs.State.{LinkState, State}
 use Rattle.set_model.proofs.Lists.{at_set, length_set, within, present}
 
 -- A message that comes to stand elsewhere keeps its label.
-label_with : (to : Fate) (o : Option Message) → option_map label_in (option_map (message_with to) o) ≡ option_map label_in o
-label_with to o = grind arith
-
-label_one : (n k : ℕ) (to : Fate) (ms : List Message) → option_map label_in (slice_get (restood_one k to ms) n) ≡ option_map label_in (slice_get ms n)
-label_one n k to ms = grind (arith, nat_tests, cases_eq, updated_same, label_with, updated_other)
-
-pub labels_stay : (n : ℕ) (ns : List ℕ) (to : Fate) (ms : List Message) → option_map label_in (slice_get (restood ns to ms) n) ≡ option_map label_in (slice_get ms n)
+labels_stay : (n : ℕ) (ns : List ℕ) (to : Fate) (ms : List Message) → option_map label_in (slice_get (restood ns to ms) n) ≡ option_map label_in (slice_get ms n)
 labels_stay n [] to ms = refl
-labels_stay n (k ∷ ns) to ms = labels_stay n ns to (restood_one k to ms) ∙ label_one n k to ms
+labels_stay n (k ∷ ns) to ms = labels_stay n ns to (restood_one k to ms) ∙ grind (arith, nat_tests, cases_eq, updated_same, updated_other)
 
 -- a final fate has no queue
 only_standing : (q : Lists) (rows : List Row) → ((f : Fate) → is_standing f ≡ true → queue_at f q ≡ numbers (rows_at f rows)) → (f : Fate) → queue_at f q ≡ numbers (rows_at f rows)
@@ -68,7 +62,7 @@ shifts_stand {q} {q'} {ms} {rows} {new} {test} {to} {ns} {xs} {left} {joined} s 
   where
     fate : (n k : ℕ) → occurs n ns ≡ k → fate_at n (restood ns to ms) ≡ place n new
     fate n zero e = fate_stays n ns to ms e ∙ s.fates n ∙ sym ((shifts.goes n).stays e)
-    fate n (suc k) e = fate_moves n ns to ms (shifts.given ms s.count) (omega (arith, e)) ∙ sym ((shifts.goes n).goes (omega (arith, e)))
+    fate n (suc k) e = fate_moves n ns to ms (given_all ns to ms rows new shifts.messages.numbered (s.count ∙ sym shifts.messages.count) shifts.goes) (omega (arith, e)) ∙ sym ((shifts.goes n).goes (omega (arith, e)))
 
 -- A NEW MESSAGE
 pub get_push : {X : Type 0} (xs : List X) (x : X) (n : ℕ) → slice_get (xs ++ x ∷ []) n ≡ cond (length xs == n) (Some x) (slice_get xs n)
@@ -77,19 +71,11 @@ get_push (y ∷ xs) x zero = grind (arith, nat_tests)
 get_push (y ∷ xs) x (suc n) = grind (arith, nat_tests, get_push xs x n)
 
 -- its number is the first that no row had
-none_at : (n : ℕ) (rows : List Row) → IsNumbered rows → length rows ≤ n → row_of n rows ≡ None
-none_at n rows numbered far = let none = no_rows (with_number n rows) in grind (arith, nat_tests, row_is_first, none, numbered)
-
 pub row_push : (n : ℕ) (rows : List Row) (body : List ℕ) (fate : Fate) → IsNumbered rows → row_of n (appended rows body fate) ≡ cond (length rows == n) (Some (new_row (length rows) body fate)) (row_of n rows)
 row_push n rows body fate numbered = find-append (λ (r : Row). r.number == n) rows (new_row (length rows) body fate ∷ []) ∙ grind (arith, nat_tests, none_at, is_found)
 
 abbrev pub message_of : List ℕ → Fate → Message
 message_of body fate = record { fate = fate; kind = kind_of body; octets = length body }
-
--- A value that is kept so.
-pub kept_is : (k : Kept) (lists : Lists) (messages : List Message) (bodies : List (List ℕ)) (links : List LinkState) (routing : Routing) (inbox : List (List ℕ)) → k.lists ≡ lists → k.messages ≡ messages → k.bodies ≡ bodies → k.links ≡ links → k.routing ≡ routing → k.inbox ≡ inbox
-    → record { settings = k.settings; lists = lists; messages = messages; bodies = bodies; links = links; routing = routing; inbox = inbox } ≡ k
-kept_is k lists messages bodies links routing inbox a b c d e f = rw (sym a, sym b, sym c, sym d, sym e, sym f) refl
 
 -- THE FSN LAST ACKNOWLEDGED on each link.
 pub last_stays : (f : Fate) (xs : List ℕ) (q : Lists) (n : ℕ) → last_at n (with_queue f xs q) ≡ last_at n q
@@ -104,19 +90,11 @@ last_passed from to q n = search last_stays
 last_settled : (l : ℕ) (to : Fate) (q : Lists) (n : ℕ) → last_at n (settled l to q) ≡ last_at n q
 last_settled l to q n = search last_passed
 
-settled_links : (l : ℕ) (to : Fate) (q : Lists) → length (settled l to q).links ≡ length q.links
-settled_links l to q = search passed_links
-
 last_here : (l fsn : ℕ) (q : Lists) → l < length q.links → last_at l (with_last l fsn q) ≡ fsn
 last_here l fsn q h = let x = present q.links l h in ap number_in (updated_there (λ (z : LinkLists). record z { last = fsn }) q.links l x.0 x.1)
 
 last_there : (l fsn : ℕ) (q : Lists) (n : ℕ) → l ≢ n → last_at n (with_last l fsn q) ≡ last_at n q
 last_there l fsn q n ne = ap number_in (updated_other (λ (z : LinkLists). record z { last = fsn }) q.links l n ne)
-
--- the FSNs of links of which one changed
-fsns_set : (s : State) (lists : Lists) (n : ℕ) (link' : LinkState) → ((m : ℕ) (link : LinkState) → n ≢ m → slice_get s.links m ≡ Some link → last_at m lists ≡ (link.acked + 127) % 128) → last_at n lists ≡ (link'.acked + 127) % 128
-    → (m : ℕ) (link : LinkState) → slice_get (slice_set s.links n link') m ≡ Some link → last_at m lists ≡ (link.acked + 127) % 128
-fsns_set s lists n link' others own m link there = grind (arith, nat_tests, at_set)
 
 -- A NEW MESSAGE.
 pub appended_for : (k : Kept) (s : State) (body : List ℕ) (fate : Fate) → StandsFor k s → is_standing fate ≡ true → IsKnown fate k.lists
@@ -136,7 +114,7 @@ module _ (k : Kept) (s : State) (f : StandsFor k s) (lists : Lists) (messages : 
   -- one does
   link_and_queues_for : (n : ℕ) (link' : LinkState) → ((m : ℕ) → n ≢ m → last_at m lists ≡ last_at m k.lists) → last_at n lists ≡ (link'.acked + 127) % 128
       → StandsFor (record k { lists = lists; messages = messages; links = slice_set s.links n link'; routing = routing }) (record s { rows = new; links = slice_set s.links n link'; routing = routing' })
-  link_and_queues_for n link' others own = moved_for (slice_set s.links n link') (length_set s.links n link') (fsns_set s lists n link' (λ m other ne at. others m ne ∙ f.fsns m other at) own)
+  link_and_queues_for n link' others own = moved_for (slice_set s.links n link') (length_set s.links n link') (λ m link there. grind (arith, nat_tests, at_set, f.fsns))
 
 -- a link on which nothing more was acknowledged
 pub still : (k : Kept) (s : State) (n : ℕ) (link link' : LinkState) → StandsFor k s → slice_get s.links n ≡ Some link → link'.acked ≡ link.acked → last_at n k.lists ≡ (link'.acked + 127) % 128
@@ -213,7 +191,7 @@ settled_for k s n target link link' routing f order last there e aside apart =
     let ns = on_numbers n k.lists k.messages s.rows f.stands order last in
     let joined : queue_at to k.lists ++ on_lists n k.lists ≡ numbers (rows_at to s.rows) ++ numbers (on n s.rows) = cc (f.stands.queues to, ns) in
     link_and_queues_for k s f _ _ _ (shifts_stand f.stands (moved_shifts (is_on n) to s.rows f.stands.numbered off stood)
-    (λ g t. settled_at n to k.lists aside g t ∙ ap (λ (ys : List ℕ). cond (is_on n g) [] (cond (same_fate to g) ys (queue_at g k.lists))) joined) ns) (settled_links n to k.lists) routing routing refl n link'
+    (λ g t. settled_at n to k.lists aside g t ∙ ap (λ (ys : List ℕ). cond (is_on n g) [] (cond (same_fate to g) ys (queue_at g k.lists))) joined) ns) (search passed_links) routing routing refl n link'
     (λ m ne. last_settled n to k.lists m) (last_settled n to k.lists n ∙ still k s n link link' f there e)
 
 -- ALL OF A PLACE WAIT FOR A LINK: what was parked, or stood back by a code.

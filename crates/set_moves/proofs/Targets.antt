@@ -26,13 +26,12 @@ pub same_target : (old new : List Link) → map (λ (link : Link). link.phase) n
 same_target old new e = ap target_of (ups new ∙ same_ups old new e ∙ sym (ups old))
 
 -- the target is up, so it's no link that isn't
-pub up_target : (links : List LinkState) (n t : ℕ) (link : LinkState) → slice_get links n ≡ Some link → has_phase_up link.phase ≡ false → target links ≡ Some t → n ≢ t
-up_target links n t link there out is e = grind (arith, same_at, target_up)
-
-pub out_of : (links : List Link) (n : ℕ) → n < length links → AtLink n links IsOut → (t : ℕ) → target (map link_of links) ≡ Some t → n ≢ t
+out_of : (links : List Link) (n : ℕ) → n < length links → AtLink n links IsOut → (t : ℕ) → target (map link_of links) ≡ Some t → n ≢ t
 out_of links n known out t is =
     let x = present links n known in
-    up_target (map link_of links) n t (link_of x.0) (map_at link_of links n x.0 x.1) (out x.0 x.1) is
+    let there = map_at link_of links n x.0 x.1 in
+    let down = out x.0 x.1 in
+    grind (arith, same_at, target_up)
 
 pub same_there : (o : Option ℕ) → fate_on o ≡ fate_there o
 same_there o = grind arith

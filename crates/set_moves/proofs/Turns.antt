@@ -231,13 +231,10 @@ module _ (home code : ℕ) (to : Fate) (q : Lists) (o : IsOldest home code q) (o
 pub turns_then : (a b : ℕ) (old mid new : QueuesState) → length mid.lists.links ≡ length old.lists.links → TakesTurns a old mid → TakesTurns b mid new → TakesTurns (a + b) old new
 turns_then a b old mid new many t u = grind arith
 
-taken_one : (to fate : Fate) (old new : Rooms) → TakesRoom to 1 old new → room_at fate old ≤ room_at fate new + 1
-taken_one to fate old new t = grind arith
-
 pub turns_one : (home code : ℕ) (to : Fate) (old new : QueuesState) → IsOldest home code old.lists → IsOnLink (length old.lists.links) to → new.lists ≡ passed_first (Back code) to old.lists → TakesRoom to 1 old.rooms new.rooms → new.room ≡ old.room → TakesTurns 1 old new
 turns_one home code to old new o on e rooms room = record {
   room = room;
-  rooms = λ f. taken_one to f old.rooms new.rooms rooms;
+  rooms = λ f. let taken = rooms f in grind arith;
   on_link = λ n low. rw e (on_then home code to old.lists o on n);
 }
 
@@ -271,7 +268,6 @@ module _ (home code : ℕ) (to : Fate) (k : Kept) (s : State) (f : StandsFor k s
     places = λ g b. turned_place code to row it.after s.rows it.one it.fate_is it.of_code (apart home code to k.lists o on code) g b (is_back code g) (same_fate to g) refl refl;
     messages = shifted_messages to row s.rows it.one f.stands.numbered;
     goes = λ n. shifted_goes to row s.rows it.one n;
-    given = λ ms many. (omega (arith, it.below, many), tt);
   }
 
   moves_then : Moves then (restood (take 1 (queue_at (Back code) k.lists)) to k.messages) s.rows after
