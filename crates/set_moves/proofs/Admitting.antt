@@ -1,5 +1,5 @@
 -- What an event of a link does where the link is there, and as the event needs it.
-use Rattle.std.proofs.Common.{arith, refl, ◌≡◌, ◌∙◌, ap, sym, subst, ◌≤◌, ℕ, List, length, slice_get, Option, Some, None, Bool, if◌then◌else◌, false}
+use Rattle.std.proofs.Common.{arith, refl, ◌≡◌, ◌∙◌, ap, sym, subst, ◌≤◌, ℕ, List, length, slice_get, Option, Some, None, Bool, if◌then◌else◌, false, ◌<◌}
 use Rattle.std.specs.Prelude.{IfSome}
 use Rattle.std.specs.Option.{option_map}
 use Rattle.std.proofs.lemmas.Option.{slice_get_past, slice_get-map}
@@ -18,22 +18,22 @@ use Rattle.set_events.specs.declared.answer.Took.{Took}
 use Rattle.set_events.specs.declared.answer.Took.TheVariants.{Ignored}
 use Rattle.set_model.specs.declared.reached.Reached.TheVariants.{Unanswered}
 use Rattle.set_moves.specs.Room.{SameButRoom}
-use Rattle.set_model.specs.Changeover.{Obeyed, ignored, at_link, settled}
+use Rattle.set_model.specs.Changeover.{Obeyed, ignored, at_link, settled, answered}
 pub use Rattle.set_moves.specs.Parts.{IsHere}
 use Rattle.set_moves.specs.Parts.{Gives, Obeys, link_of, kept_of, AtLink, IsOut}
 use Rattle.set_model.specs.State.{LinkState, State, has_phase_up}
 use Rattle.set_model.specs.Step.{Outcome, refused, with_known, on_link, in_service, rises, falls, gives_up}
-use Rattle.set_model.proofs.Lists.{within, same_at}
+use Rattle.set_model.proofs.Lists.{within, same_at, present}
+use Rattle.set_model.specs.declared.reached.Reached.{Reached}
 
 -- A link that an event needs as it is.
 is_here : (links : List Link) (n : ℕ) (phase : Phase) (link : Link) → slice_get links n ≡ Some link → link.phase ≡ phase → IsHere links n phase
 is_here links n phase link e p = record { link = link; there = e; phase_is = p; known = within links n link e }
 
 pub serves : {links read : List Link} {n : ℕ} {o : Option SetRefusal} → read ≡ links → o ≡ service_refusal (slice_get read n) → o ≡ None → IsHere links n Up
-serves {links} {read} {n} same is none = serving links n (rw (← same) (sym is ∙ none))
-  where
-    serving : (links : List Link) (n : ℕ) → service_refusal (slice_get links n) ≡ None → IsHere links n Up
-    serving links n none = grind (arith, nat_tests, is_here)
+serves {links} {read} {n} same is none =
+    let e : service_refusal (slice_get links n) ≡ None = rw (← same) (sym is ∙ none) in
+    grind (arith, nat_tests, is_here)
 
 -- The same of the state that the links stand for.
 pub record IsIn (s : State) (n : ℕ) (phase : Phase) : Type 0 where
@@ -55,6 +55,10 @@ is_in parts s n phase a h = record {
 -- What is answered there.
 pub served : (s : State) (n : ℕ) (outcome : LinkState → Outcome) (answer : Answer) (parts : Parts) (i : IsIn s n Up) → Gives (outcome i.link) answer parts → Gives (in_service n s outcome) answer parts
 served s n outcome answer parts i g = rw i.there (rw (ap has_phase_up i.phase_is) g)
+
+-- what is answered, where the link is there
+pub known_here : (old parts : Parts) (s : State) (n : ℕ) (answer : Answer) (outcome : Outcome) → Agrees (kept_of old) s → n < length old.links.items → Gives outcome answer parts → Gives (on_link n s (λ link. outcome)) answer parts
+known_here old parts s n answer outcome a known g = rw (links_at old s n a ∙ ap (option_map link_of) (present old.links.items n known).1) g
 
 -- A refusal changes nothing.
 module _ (parts : Parts) (s : State) (a : Agrees (kept_of parts) s) (n : ℕ) (outcome : LinkState → Outcome) where
@@ -78,6 +82,10 @@ ignores parts n obeyed is none s a = rw (links_at parts s n a) (rw (nothing (sli
     nothing : (o : Option Link) → ((link : Link) → o ≡ Some link → obeyed (link_of link) link.phase s ≡ ignored s) → at_link n s (λ link. obeyed link link.phase s) (option_map link_of o) ≡ ignored s
     nothing None h = refl
     nothing (Some link) h = h link refl
+
+-- as at one for which no acknowledgement is waited for,
+pub unanswered : (reached : Reached) (n : ℕ) (o : Option Phase) → (o ≡ Some Down → ⊥) → (phase : Phase) → o ≡ Some phase → (link : LinkState) (s : State) → answered reached n link phase s ≡ ignored s
+unanswered reached n o other phase is link s = grind arith
 
 -- and is obeyed at one in its phase
 pub obeyed_at : {new : Parts} {n : ℕ} {phase : Phase} {took : Took} (parts : Parts) (obeyed : LinkState → Phase → State → Obeyed) → IsHere parts.links.items n phase

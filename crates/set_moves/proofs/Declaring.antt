@@ -2,24 +2,18 @@
 use Rattle.std.proofs.Common.{arith, ◌≡◌, ◌∙◌, ap, sym, subst, ◌≤◌, ◌<◌, ◌+◌, ◌-◌, ◌||◌, ℕ, zero, suc, true, false, Bool, length, if◌then◌else◌}
 use Rattle.std.proofs.lemmas.Bool.{ne_eqb}
 use Rattle.std.proofs.lemmas.List.{length-map}
-use Rattle.set_events.specs.declared.answer.Answer.{Answer}
-use Rattle.set_events.specs.declared.answer.Answer.TheVariants.{Done}
-use Rattle.set_events.specs.declared.answer.Refusal.TheVariants.{Nothing}
 use Rattle.set_events.specs.declared.answer.Fate.TheVariants.{Waiting}
 use Rattle.set_queues.specs.Bodies.{CanHold}
 use Rattle.set_queues.specs.Buffers.{TakesRoom}
 use Rattle.set_events.specs.declared.answer.Took.TheVariants.{Order}
 use Rattle.set_route.specs.declared.place.Code.{Code}
 use Rattle.set_route.specs.Routing.{Routing, asked, is_free}
-use Rattle.set_model.specs.declared.phase.Phase.TheVariants.{Up}
-use Rattle.set_model.specs.Changeover.{acknowledged_back, released, declared_from, some_declare}
+use Rattle.set_model.specs.Changeover.{acknowledged_back, released}
 use Rattle.set_model.specs.State.{State, link_count}
-use Rattle.set_model.specs.Step.{refused, in_service, comes_back}
 use Rattle.set_moves.specs.declared.parts.Parts.{Parts}
 use Rattle.set_moves.specs.Agreement.{StandsFor}
-use Rattle.set_moves.specs.Declaring.{HasRoomFrom}
-use Rattle.set_moves.specs.Parts.{Becomes, Gives, Obeys, kept_of, link_of}
-use Rattle.set_moves.proofs.Admitting.{IsIn, served}
+use Rattle.set_moves.specs.Room.{HasRoomFrom}
+use Rattle.set_moves.specs.Parts.{Becomes, Obeys, kept_of, link_of}
 
 -- SO MANY STEPS, from one on: the last of them comes last
 module _ (run : ℕ → ℕ → State → State) (step : ℕ → State → State) (none : (from : ℕ) (s : State) → run from 0 s ≡ s) (next : (from n : ℕ) (s : State) → run from (suc n) s ≡ run (suc from) n (step from s)) where
@@ -57,11 +51,6 @@ count_is parts s f = sym (ap length f.links) ∙ length-map parts.links.items li
 
 pub asked_links : (b : Bool) (home alternative : ℕ) (r now : Routing) → now ≡ (if b then asked home alternative r else r) → now.links ≡ r.links
 asked_links b home alternative r now e = grind arith
-
--- WHAT IS ANSWERED
-pub come_back : (b : Bool) (s : State) (n : ℕ) (answer : Answer) (parts : Parts) (i : IsIn s n Up) → some_declare n 0 (link_count s) s ≡ b
-    → Gives (if b then record { answer = Done; state = declared_from n 0 (link_count s) s } else refused s Nothing) answer parts → Gives (in_service n s (λ link. comes_back n s)) answer parts
-come_back b s n answer parts i is g = served s n (λ link. comes_back n s) answer parts i (rw is g)
 
 -- an acknowledgement of a code that is in use
 pub in_use : (code : ℕ) (x : Code) (s : State) (parts : Parts) → is_free x ≡ false → StandsFor (kept_of parts) (released code s) → Obeys (acknowledged_back code x s) Order parts

@@ -27,9 +27,6 @@ cleared_less g q q' e s h f = rw e (replaced_less g [] q s h (omega arith) f)
 pub acked_less : (l fsn : ℕ) (q : Lists) → l < length q.links → NoLonger q (acknowledged l fsn q)
 acked_less l fsn q h f = rw (queue_last f l fsn _) (replaced_less (Unacked l) (drop (reach l fsn q) (queue_at (Unacked l) q)) q refl h (omega (arith, length-drop (reach l fsn q) (queue_at (Unacked l) q))) f)
 
-pub less_then : (a b c : Lists) → NoLonger a b → NoLonger b c → NoLonger a c
-less_then a b c p r f = let x = p f in let y = r f in omega (arith, x, y)
-
 -- so does what stands on a link
 pub on_less : (n : ℕ) (q q' : Lists) → NoLonger q q' → length (on n q') ≤ length (on n q)
 on_less n q q' less = let u = less (Unacked n) in let w = less (Waiting n) in let h = less (Held n) in omega (arith, u, w, h, on_length n q, on_length n q')

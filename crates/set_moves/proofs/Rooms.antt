@@ -50,11 +50,9 @@ queued_on o = grind arith
 pub on_same : (n : ℕ) (to : Fate) (xs : List ℕ) (q new : Lists) → IsAside n to q → new ≡ with_queue to xs q → on n new ≡ on n q
 on_same n to xs q new a e =
     let stands = queued_stands to a.queued in
-    let sent : same_fate to (Unacked n) ≡ false = off_sent to a.queued in
+    let queued = a.queued in
+    let sent : same_fate to (Unacked n) ≡ false = grind arith in
     rw (e, queue_other to (Unacked n) xs q stands a.other sent, queue_other to (Waiting n) xs q stands a.other a.unsent, queue_other to (Held n) xs q stands a.other a.held) refl
-  where
-    off_sent : (to : Fate) → IsQueued to → same_fate to (Unacked n) ≡ false
-    off_sent to h = grind arith
 
 -- THE WHOLE NUMBERS of a list in which one link changed otherwise
 pub counted_set : (bound : ℕ) (links new : List Link) (n : ℕ) (link : Link) → AreCounted bound links → new ≡ slice_set links n link → IsCounted bound link → AreCounted bound new

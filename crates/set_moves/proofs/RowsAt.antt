@@ -126,9 +126,6 @@ elsewhere test f s e g h = grind (arith, same_is)
 numbers-drop : (n : ℕ) (rows : List Row) → numbers (drop n rows) ≡ drop n (numbers rows)
 numbers-drop n rows = rw (drop-map (λ (row : Row). row.number) n rows) refl
 
-numbers-take : (n : ℕ) (rows : List Row) → numbers (take n rows) ≡ take n (numbers rows)
-numbers-take n rows = rw (take-map (λ (row : Row). row.number) n rows) refl
-
 -- the test tells of one place alone
 abbrev pub IsOfOne : (Fate → Bool) → Type 0
 IsOfOne test = (f g : Fate) → is_standing f ≡ true → test f ≡ true → test g ≡ is_there f g
@@ -173,7 +170,7 @@ module _ (l : ℕ) (rows : List Row) (numbered : IsNumbered rows) (order : IsInO
 
   sent_place : (f : Fate) → is_standing f ≡ true → (b d : Bool) → is_waiting l f ≡ b → same_fate (Unacked l) f ≡ d → numbers (rows_at f after) ≡ cond b (drop 1 (numbers (wait l rows))) (cond d (numbers (unack l rows) ++ take 1 (numbers (wait l rows))) (numbers (rows_at f rows)))
   sent_place f s true d e h = let left = (sent l rows).wait_is in let here : Waiting l ≡ f = grind (arith, nat_tests) in rw (← here) (ap numbers left ∙ numbers-drop 1 (wait l rows))
-  sent_place f s false true e h = let joined = (sent l rows).unack_is order in let here : Unacked l ≡ f = same_is (Unacked l) f s h in rw (← here) (ap numbers joined ∙ numbers_joined (all_with (Unacked l)) (unack l rows) (take 1 (wait l rows)) ∙ ap (λ (ns : List ℕ). numbers (unack l rows) ++ ns) (numbers-take 1 (wait l rows)))
+  sent_place f s false true e h = let joined = (sent l rows).unack_is order in let here : Unacked l ≡ f = same_is (Unacked l) f s h in rw (← here) (ap numbers joined ∙ numbers_joined (all_with (Unacked l)) (unack l rows) (take 1 (wait l rows)) ∙ ap (λ (ns : List ℕ). numbers (unack l rows) ++ ns) (sym (take-map (λ (row : Row). row.number) 1 (wait l rows))))
   sent_place f s false false e h = ap numbers (rows_as f after s ∙ turned_same (is_waiting l) (is_there f) (Unacked l) h (elsewhere (is_waiting l) f s e) 1 rows ∙ sym (rows_as f rows s))
 
   pub sent_shifts : Shifts (is_waiting l) (Unacked l) (take 1 (numbers (wait l rows))) (drop 1 (numbers (wait l rows))) (numbers (unack l rows) ++ take 1 (numbers (wait l rows))) rows after

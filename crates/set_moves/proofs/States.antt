@@ -1,5 +1,5 @@
 -- WHAT IS KEPT STANDS FOR THE STATE, before and after each small change.
-use Rattle.std.proofs.Common.{refl, arith, ◌≡◌, ◌∙◌, ap, sym, subst, ◌≤◌, ◌<◌, [], ◌∷◌, length, ℕ, zero, suc, ◌==◌, Bool, true, false, List, ◌++◌, Option, Some, None, take, drop, cond, ◌≢◌, ◌+◌, ◌-◌, ◌%◌}
+use Rattle.std.proofs.Common.{refl, arith, ◌≡◌, ◌∙◌, ap, sym, subst, ◌<◌, [], ◌∷◌, length, ℕ, zero, suc, ◌==◌, Bool, true, false, List, ◌++◌, Option, Some, take, drop, cond, ◌≢◌, ◌+◌, ◌-◌, ◌%◌}
 use Rattle.std.specs.Prelude.{slice_get, slice_set}
 use Rattle.std.specs.Option.{option_map}
 use Rattle.std.proofs.lemmas.Bool.{cases_eq}
@@ -11,7 +11,7 @@ use Rattle.set_events.specs.declared.answer.Fate.TheVariants.{Waiting, Unacked, 
 use Rattle.set_events.specs.declared.answer.DiscardCause.{DiscardCause}
 use Rattle.set_queues.specs.declared.message.Message.{Message}
 use Rattle.set_queues.specs.Buffers.{Lists, is_standing, same_fate, queue_at, with_queue, IsKnown, LinkLists, last_at, with_last, number_in, IsQueued}
-use Rattle.set_queues.specs.Messages.{with_fate as message_with, restood_one, restood, fate_at}
+use Rattle.set_queues.specs.Messages.{restood_one, restood, fate_at}
 use Rattle.set_queues.specs.Sending.{first_sent, acknowledged as acked_lists, reach}
 use Rattle.set_queues.specs.Queues.{occurs, passed}
 use Rattle.set_queues.specs.Settling.{on as on_lists, settled}
@@ -23,8 +23,7 @@ use Rattle.set_queues.proofs.Settling.{IsAside, settling}
 use Rattle.set_model.specs.Rows.{Row, standing, is_waiting, is_unacked, is_on, is_parked, is_back, wait, on, numbers, turned, changed, moved, all_with, appended, row_of, place, IsNumbered, IsInOrder, IsHeldLast}
 use Rattle.set_model.specs.Changeover.{fate_on}
 use Rattle.set_model.specs.Laws.{SameMessages}
-use Rattle.set_model.proofs.Finding.{new_row, numbered_appended, with_number, is_found}
-use Rattle.set_model.proofs.Lookups.{row_is_first, no_rows}
+use Rattle.set_model.proofs.Finding.{new_row, numbered_appended, is_found}
 use Rattle.set_model.proofs.Order.{on_in_order}
 use Rattle.set_moves.specs.Agreement.{Stands, rows_at, label_in, label_of, kind_of, Kept, StandsFor}
 use Rattle.set_moves.proofs.RowsAt.{given_all, none_at, final_none, Shifts, appended_at, sent_shifts, turned_shifts, changed_shifts, moved_shifts, sent_of_one, is_there}
@@ -79,10 +78,7 @@ message_of body fate = record { fate = fate; kind = kind_of body; octets = lengt
 
 -- THE FSN LAST ACKNOWLEDGED on each link.
 pub last_stays : (f : Fate) (xs : List ℕ) (q : Lists) (n : ℕ) → last_at n (with_queue f xs q) ≡ last_at n q
-last_stays (Waiting l) xs q n = list_kept number_in (λ (z : LinkLists). record z { unsent = xs }) q.links l n (kept_last (λ (z : LinkLists). record z { unsent = xs }) (λ x. refl)) (l == n) refl
-last_stays (Unacked l) xs q n = list_kept number_in (λ (z : LinkLists). record z { unacked = xs }) q.links l n (kept_last (λ (z : LinkLists). record z { unacked = xs }) (λ x. refl)) (l == n) refl
-last_stays (Held l) xs q n = list_kept number_in (λ (z : LinkLists). record z { held = xs }) q.links l n (kept_last (λ (z : LinkLists). record z { held = xs }) (λ x. refl)) (l == n) refl
-last_stays _ xs q n = refl
+last_stays f xs q n = grind (arith, nat_tests, cases_eq, updated_same, updated_other)
 
 last_passed : (from to : Fate) (q : Lists) (n : ℕ) → last_at n (passed from to q) ≡ last_at n q
 last_passed from to q n = search last_stays
@@ -171,11 +167,7 @@ given_up_for k s from test cause f stood known is same =
 
 -- A LINK SETTLES: what stands on it goes to another place.
 on_numbers : (l : ℕ) (q : Lists) (ms : List Message) (rows : List Row) → Stands q ms rows → IsInOrder l rows → IsHeldLast l rows → on_lists l q ≡ numbers (on l rows)
-on_numbers l q ms rows s o last =
-    let sent = s.queues (Unacked l) in
-    let waits = s.queues (Waiting l) in
-    let held = s.queues (Held l) in
-    grind (arith, on_in_order, map-append, sent, waits, held)
+on_numbers l q ms rows s o last = grind (arith, on_in_order, map-append, s.queues (Unacked l), s.queues (Waiting l), s.queues (Held l))
 
 settled_at : (l : ℕ) (to : Fate) (q : Lists) → IsAside l to q → (f : Fate) → is_standing f ≡ true → queue_at f (settled l to q) ≡ cond (is_on l f) [] (cond (same_fate to f) (queue_at to q ++ on_lists l q) (queue_at f q))
 settled_at l to q a f t = let w = settling l to q a in let e = w.elsewhere f t in grind (arith, nat_tests, same_is, w, e)

@@ -1,5 +1,5 @@
 -- The link that messages are moved to.
-use Rattle.std.proofs.Common.{◌≡◌, ◌≢◌, ◌∙◌, ap, sym, subst, List, map, ℕ, false, slice_get, Some, Option, length, ◌<◌, arith, ◌==◌}
+use Rattle.std.proofs.Common.{◌≡◌, ◌≢◌, ◌∙◌, ap, sym, List, map, ℕ, false, slice_get, Some, Option, length, ◌<◌, arith, ◌==◌}
 use Rattle.std.specs.Prelude.{IfSome}
 use Rattle.std.proofs.lemmas.Bool.{ne_eqb}
 use Rattle.std.proofs.lemmas.Simd.{map-map}
@@ -45,14 +45,10 @@ pub record IsPlace (n : ℕ) (o : Option ℕ) (to : Fate) (q : Lists) : Type 0 w
 pub place_for : {links read : List Link} (n : ℕ) (o : Option ℕ) (to : Fate) (q : Lists) → read ≡ links → o ≡ target (map link_of read) → IfSome o (λ t. t < length read) → to ≡ fate_there o → length q.links ≡ length links → n < length links → AtLink n links IsOut → IsPlace n o to q
 place_for {links} {read} n o to q same is below there many known out =
     let other : (t : ℕ) → o ≡ Some t → n ≢ t = λ t e. out_of links n known out t (ap (λ ls. target (map link_of ls)) (sym same) ∙ sym is ∙ e) in
-    let apart = apart_some o other in
-    record { aside = aside_of o n to q there (omega (arith, many, known)) (known_there o (omega arith) (subst (λ ls. IfSome o (λ t. t < length ls)) same below)) apart; apart = apart; off = λ t e. ne_eqb n t (other t e) }
-  where
-    apart_some : (o : Option ℕ) → ((t : ℕ) → o ≡ Some t → n ≢ t) → IfSome o (λ t. t ≢ n)
-    apart_some o apart = grind arith
-
-    known_there : (o : Option ℕ) → length links ≡ length q.links → IfSome o (λ t. t < length links) → IsKnown (fate_there o) q
-    known_there o e low = grind arith
+    let apart : IfSome o (λ t. t ≢ n) = grind arith in
+    let low : IfSome o (λ t. t < length links) = rw same at below in
+    let known_to : IsKnown (fate_there o) q = grind arith in
+    record { aside = aside_of o n to q there (omega (arith, many, known)) known_to apart; apart = apart; off = λ t e. ne_eqb n t (other t e) }
 
 -- a link of a list with the same phases
 pub phase_at : (old new : List Link) (n : ℕ) (link : Link) → map (λ (l : Link). l.phase) new ≡ map (λ (l : Link). l.phase) old → slice_get new n ≡ Some link → (x : Link) × (slice_get old n ≡ Some x) × (x.phase ≡ link.phase)

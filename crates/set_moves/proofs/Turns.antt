@@ -1,6 +1,6 @@
 -- WHAT STANDS BACK FOR A LINK turns back: the oldest, which is the first of the rows that do, and so all of it, the oldest
 -- first.
-use Rattle.std.proofs.Common.{inl, refl, arith, ◌≡◌, ◌∙◌, ap, sym, subst, [], ◌∷◌, ◌++◌, length, ℕ, suc, Bool, true, false, List, Some, cond, take, drop, ◌+◌, ◌*◌, None, ◌≤◌, ◌<◌, zero, ◌==◌, ◌⊎◌, Option}
+use Rattle.std.proofs.Common.{inl, refl, arith, ◌≡◌, ◌∙◌, ap, sym, subst, [], ◌∷◌, ◌++◌, length, ℕ, suc, Bool, true, false, List, Some, cond, take, drop, ◌+◌, ◌*◌, None, ◌≤◌, ◌<◌, zero, ◌==◌, ◌⊎◌, Option, slice_get}
 use Rattle.std.specs.Prelude.{slice_get, filter}
 use Rattle.std.proofs.lemmas.Bool.{eq-eqb, cases_eq, cases_lt, ne_eqb, not-true}
 use Rattle.std.proofs.lemmas.Bool.Decides.{nat_tests}
@@ -8,27 +8,27 @@ use Rattle.std.proofs.lemmas.List.{append-nil, map-append, length-append, get_or
 use Rattle.set_events.specs.declared.answer.Fate.{Fate}
 use Rattle.set_events.specs.declared.answer.Fate.TheVariants.{Waiting, Held, Back, Unacked}
 use Rattle.set_queues.specs.Backs.{passed_first, IsOldest, back_from, NoneBack}
-use Rattle.set_queues.specs.Buffers.{Lists, is_standing, same_fate, queue_at, HaveRoom, Rooms, room_at, IsKnown, TakesRoom}
+use Rattle.set_queues.specs.Buffers.{Lists, is_standing, same_fate, queue_at, HaveRoom, IsKnown, TakesRoom}
 use Rattle.set_queues.specs.Messages.{restood}
 use Rattle.set_queues.proofs.Standing.{same_is}
 use Rattle.set_queues.specs.declared.message.Message.{Message}
 use Rattle.set_route.specs.declared.place.Place.{Place}
-use Rattle.set_route.specs.Routing.{home_of, place_of}
-use Rattle.set_model.specs.Rows.{Row, standing, is_back, is_back_to, numbers, moved, stream_of, body_at, service_indicator, Each}
-use Rattle.set_model.specs.Sound.{IsAscending, AreAbove}
-use Rattle.set_model.specs.State.{State, fate_at, link_count}
-use Rattle.set_model.specs.Changeover.{turned_back}
+use Rattle.set_route.specs.Routing.{home_of, place_of, Routing}
+use Rattle.set_model.specs.Rows.{Row, standing, is_back, is_back_to, numbers, moved, stream_of, body_at, service_indicator, Each, stands_back, is_users, back}
+use Rattle.set_model.specs.Sound.{IsAscending, AreAbove, IsBackOf}
+use Rattle.set_model.specs.State.{State, fate_at, link_count, LinkState}
+use Rattle.set_model.specs.Changeover.{turned_back, out_of_service}
 use Rattle.set_model.proofs.Filters.{filter_comm, filter_within}
 use Rattle.set_model.proofs.Finding.{with_number}
 use Rattle.set_model.proofs.Lookups.{Found, found_by_number, at_most_one, row_is_first}
 use Rattle.set_model.proofs.Moving.{moved_nothing}
-use Rattle.set_moves.specs.Agreement.{Kept, Stands, StandsFor, rows_at, label_in, label_of}
-use Rattle.set_moves.specs.Turning.{IsTurning, IsTurningRow, TurnsOn, TakesTurns}
+use Rattle.set_moves.specs.Agreement.{Kept, Stands, StandsFor, rows_at, label_in, label_of, Agrees, Holds}
+use Rattle.set_moves.specs.Turning.{IsTurning, IsTurningRow, TurnsOn, TakesTurns, CanTurn}
 use Rattle.set_moves.proofs.Becoming.{Becoming, becomes}
 use Rattle.set_moves.proofs.RowsAt.{Shifts, is_there, rows_as, shifted, shifted_messages, shifted_goes, shifted_stands, shifted_each, rest_stands, moved_rest, moved_as}
 use Rattle.set_moves.proofs.States.{Moves, shifts_stand, queues_for, last_stays}
 use Rattle.set_moves.specs.declared.parts.Parts.{Parts}
-use Rattle.set_moves.specs.Parts.{IsWhole, kept_of}
+use Rattle.set_moves.specs.Parts.{IsWhole, kept_of, AtLink, OfStates}
 use Rattle.set_queues.specs.Queues.{QueuesState}
 use Rattle.set_queues.specs.Settling.{on as on_lists}
 use Rattle.set_queues.proofs.CodeQueues.{back_none}
@@ -38,8 +38,14 @@ use Rattle.std.specs.Option.{option_map}
 use Rattle.std.proofs.lemmas.Option.{same_Some}
 use Rattle.set_queues.specs.declared.message.Kind.TheVariants.{User}
 use Rattle.set_route.specs.declared.place.Place.TheVariants.{On}
-use Rattle.set_model.proofs.Standing.{each_filter}
+use Rattle.set_model.proofs.Standing.{each_filter, each_so, ascends_filter}
 use Rattle.set_queues.proofs.Soundness.{both_replaced}
+use Rattle.set_model.specs.declared.phase.Phase.TheVariants.{Up}
+use Rattle.set_model.proofs.Lists.{within, present, same_at}
+use Rattle.set_model.proofs.Places.{home_back}
+use Rattle.set_model.proofs.SoundBack.{goes}
+use Rattle.set_model.proofs.Walk.{IsAt}
+use Rattle.set_moves.proofs.Admitting.{IsHere, is_in}
 
 -- LISTS
 
@@ -92,7 +98,6 @@ pub record IsFirst (home code number : ℕ) (rows : List Row) : Type 0 where
   pub number_is : row.number ≡ number
   pub fate_is : row.fate ≡ Back code
   pub one : with_number row.number rows ≡ row ∷ []
-  pub below : row.number < length rows
   pub after : List Row
   pub of_code : standing (is_back code) rows ≡ row ∷ after
   pub rest : List Row
@@ -129,7 +134,6 @@ module _ (home code : ℕ) (q : Lists) (ms : List Message) (rows : List Row) (s 
         number_is = found.number_is;
         fate_is = fate_of;
         one = subst (λ (n : ℕ). with_number n rows ≡ x ∷ []) (sym found.number_is) only;
-        below = let low = found.below in let same = found.number_is in omega (arith, low, same);
         after = code_rows.0;
         of_code = code_rows.1;
         rest = h.0;
@@ -166,10 +170,7 @@ abbrev pub IsOnLink : ℕ → Fate → Type 0
 IsOnLink links to = (via : ℕ) × (via < links) × ((to ≡ Waiting via) ⊎ (to ≡ Held via))
 
 pub on_way : (links via : ℕ) (to : Fate) (s : State) → link_count s ≡ links → via < link_count s → to ≡ fate_at (On via) s → IsOnLink links to
-on_way links via to s many low e = (via, omega (arith, many, low), runs_on)
-  where
-    runs_on : (to ≡ Waiting via) ⊎ (to ≡ Held via)
-    runs_on = grind arith
+on_way links via to s many low e = (via, omega (arith, many, low), grind arith)
 
 -- a queue that holds something is one of a code
 pub known_code : (code k : ℕ) (q : Lists) → slice_get (queue_at (Back code) q) 0 ≡ Some k → code < length q.back
@@ -307,15 +308,12 @@ module _ (home code : ℕ) (to : Fate) (k : Kept) (s : State) (f : StandsFor k s
 
 -- ALL TURN BACK
 
-none_left : (home : ℕ) (q : Lists) (ms : List Message) (rows : List Row) → Stands q ms rows → NoneBack home q → standing (is_back_to home) rows ≡ []
-none_left home q ms rows s nothing = go (standing (is_back_to home) rows) refl
-  where
-    go : (xs : List Row) → standing (is_back_to home) rows ≡ xs → standing (is_back_to home) rows ≡ []
-    go [] e = e
-    go (y ∷ rest) e =
-        let b = first_back home q ms rows rest y s e in
-        let no : None ≡ Some y.number = sym (ap (λ (ns : List ℕ). slice_get ns 0) (nothing b.0 b.1)) ∙ b.2 in
-        absurd cc
+none_left : (home : ℕ) (q : Lists) (ms : List Message) (rows xs : List Row) → Stands q ms rows → NoneBack home q → standing (is_back_to home) rows ≡ xs → standing (is_back_to home) rows ≡ []
+none_left home q ms rows [] s nothing e = e
+none_left home q ms rows (y ∷ rest) s nothing e =
+    let b = first_back home q ms rows rest y s e in
+    let no : None ≡ Some y.number = sym (ap (λ (ns : List ℕ). slice_get ns 0) (nothing b.0 b.1)) ∙ b.2 in
+    absurd cc
 
 -- the loop: so many turned back
 pub record Turning (home : ℕ) (old now : Parts) : Type 0 where
@@ -338,5 +336,34 @@ module _ (home : ℕ) (old now : Parts) (g : Turning home old now) where
   pub turned_all : NoneBack home now.queues.lists → (s : State) → StandsFor (kept_of old) s → IsTurning home s → StandsFor (kept_of now) (turned_back home s)
   turned_all nothing s f t =
       let so = g.so_far s f t in
-      let none = none_left home now.queues.lists now.queues.messages so.state.rows so.stands.stands nothing in
+      let none = none_left home now.queues.lists now.queues.messages so.state.rows _ so.stands.stands nothing refl in
       subst (λ u. StandsFor (kept_of now) u) (ap (λ (rows : List Row). record so.state { rows = rows }) (sym (moved_nothing (is_back_to home) _ so.state.rows none)) ∙ so.same) so.stands
+
+-- A LINK THAT IS LEFT: what stood back for it can turn.
+
+-- a message that stands back is a user's
+users_of : (n : ℕ) (r : Routing) (x : Row) (f : Fate) → is_back_to n f ≡ true → IsBackOf r x f → (is_users x ≡ true) × (stream_of x.body < 16)
+users_of n r x f e b = grind arith
+
+pub here_up : (parts : Parts) (n : ℕ) → n < length parts.links.items → AtLink n parts.links.items (λ link. link.phase ≡ Up) → IsHere parts.links.items n Up
+here_up parts n known up = let x = present parts.links.items n known in record { link = x.0; there = x.1; phase_is = up x.0 x.1; known = known }
+
+pub turning_of : (blind : Bool) (n : ℕ) (parts : Parts) (link : LinkState) (s : State) → IsHere parts.links.items n Up → slice_get s.links n ≡ Some link → Agrees (kept_of parts) s → IsTurning n (out_of_service blind n link s)
+turning_of blind n parts link s here there a =
+    let i = is_in parts s n Up a here in
+    let same : link ≡ i.link = same_at s.links n i.link link i.there there in
+    let at : IsAt n link Up s = record { there = there; phase_is = ap (λ (l : LinkState). l.phase) same ∙ i.phase_is } in
+    record {
+      each = each_so (λ row. IsBackOf s.routing row row.fate) (IsTurningRow n (out_of_service blind n link s)) (λ x b e.
+          let g = goes blind n link s at a.sound x e b in
+          let u = users_of n s.routing x x.fate e b in
+          (u.0, u.1, g.0, g.1, within (out_of_service blind n link s).links g.0 g.2.0 g.2.1)) s.rows a.sound.backs;
+      order = subst (λ (xs : List Row). IsAscending (numbers xs)) (filter_within (λ (row : Row). is_back_to n row.fate) (λ (row : Row). stands_back row.fate) (λ x e. home_back n x.fate e) s.rows) (ascends_filter (λ (row : Row). is_back_to n row.fate) (back s.rows) a.sound.back_order);
+    }
+
+pub can_turn : (blind : Bool) (n : ℕ) (old : Parts) (new : Kept) → IsHere old.links.items n Up → Holds (kept_of old) → OfStates n old (λ link s. StandsFor new (out_of_service blind n link s)) → CanTurn n new
+can_turn blind n old new here h stands =
+    let s = h.0 in
+    let a = h.1 in
+    let i = is_in old s n Up a here in
+    (out_of_service blind n i.link s, stands s i.link i.there a.stands, turning_of blind n old i.link s here i.there a)

@@ -1,5 +1,5 @@
 -- ROOM that an event takes before it changes anything.
-use Rattle.std.specs.Prelude.{◌≡◌, ℕ, ◌+◌, ◌*◌, ◌<◌, ◌≤◌, false, List, length, map, Option, slice_set}
+use Rattle.std.specs.Prelude.{◌≡◌, ℕ, ◌+◌, ◌-◌, ◌*◌, ◌<◌, ◌≤◌, false, List, length, map, Option, slice_set}
 use Rattle.l3_orders.specs.declared.order.Order.{Order}
 use Rattle.l3_orders.specs.declared.order.Order.TheVariants.{Coo, Coa, Cbd, Cba, Eco, Eca}
 use Rattle.set_events.specs.declared.answer.Fate.{Fate}
@@ -41,6 +41,13 @@ pub record HasRoom (fate : Fate) (parts : Parts) : Type 0 where
   pub message : 0 < parts.queues.room
   pub body : CanHold 1 parts.bodies
   pub place : 0 < room_at fate parts.queues.rooms
+
+-- for one declaration on each link from this one on
+pub record HasRoomFrom (first : ℕ) (parts : Parts) : Type 0 where
+  pub message : 16 ≤ first + parts.queues.room
+  pub body : CanHold (16 - first) parts.bodies
+  pub each : (link : ℕ) → first ≤ link → link < length parts.links.items
+      → 0 < room_at (Waiting link) parts.queues.rooms
 
 -- for all that stand on the link where they go once it's out of service, and for so many orders
 pub record IsReady (number orders : ℕ) (parts : Parts) : Type 0 where

@@ -3,14 +3,13 @@ ghost use Rattle.std.specs.Prelude.{◌≡◌, ◌≢◌, ◌+◌, ◌*◌, ◌<
 ghost use Rattle.set_queues.specs.Buffers.{TakesRoom, room_at};
 ghost use Rattle.set_queues.specs.Backs.{back_count};
 ghost use Rattle.set_queues.specs.Bodies.{CanHold};
-ghost use Rattle.set_route.specs.Routing.{code_for, code_of, home_of, is_free, can_ask};
+ghost use Rattle.set_route.specs.Routing.{code_for, code_of, home_of, is_free};
 ghost use Rattle.set_model.specs.Changeover.{released, released_from, acknowledged_back, can_declare, declared, declared_if, declared_from, some_declare, some_in_use};
 ghost use Rattle.set_model.specs.State.{State, link_count};
 ghost use Rattle.set_model.specs.Step.{on_link, in_service, comes_back, runs_out};
 ghost use Rattle.set_moves.specs.Agreement.{Agrees, Holds, StandsFor};
-ghost use Rattle.set_moves.specs.Declaring.{HasRoomFrom};
 ghost use Rattle.set_moves.specs.Parts.{Answers, Becomes, IsWhole, Obeys, kept_of};
-ghost use Rattle.set_moves.specs.Room.{HasRoom, SameButRoom, back_at, home_room};
+ghost use Rattle.set_moves.specs.Room.{HasRoomFrom, SameButRoom, back_at, home_room};
 
 use super::changeover::body_of;
 use super::parts::{Parts, out_of_service, phase_of, stand_last};
@@ -98,9 +97,8 @@ fn has_alternative(parts: &Parts, number: u8) -> bool
 fn may_declare(parts: &Parts, home: u8, alternative: u8) -> bool
     requires home { home < 16 }
     requires alternative { alternative < 16 }
-    ensures value { (s : State) → StandsFor (kept_of parts.now) s
+    ensures { (s : State) → StandsFor (kept_of parts.now) s
         → result ≡ can_declare home alternative s }
-    ensures asks { result ≡ true → can_ask home alternative parts.now.routes ≡ true }
 {
     alternative != home
         && phase_of(&parts.links, alternative) == Some(Phase::Up)

@@ -1,6 +1,6 @@
 use Rattle.std.proofs.Common.{◌≡◌}
 use Rattle.set_model.specs.Changeover.{declared_from}
-use Rattle.set_moves.specs.Declaring.{HasRoomFrom}
+use Rattle.set_moves.specs.Room.{HasRoomFrom}
 use Rattle.set_moves.specs.Parts.{Becomes, IsWhole}
 use Rattle.set_moves.proofs.changeback.declare_all.Given as goal
 

@@ -6,9 +6,9 @@ use Rattle.set_moves.proofs.changeback.has_alternative.Goals as goal
 
 pub loop-alternative-preserved : goal.loop-alternative-preserved
 loop-alternative-preserved c = λ s f.
-    none_more (λ from n. some_declare c.args.number from n s) (λ from. can_declare c.args.number from s) (λ from. refl) (λ from n. refl) c.loop-alternative.alternative 0 c.loop-alternative.alternative (omega arith) (c.loop-alternative.invariant s f) (sym (c.may_declare.ensures.value s f) ∙ c.if-may_declare.false)
+    none_more (λ from n. some_declare c.args.number from n s) (λ from. can_declare c.args.number from s) (λ from. refl) (λ from n. refl) c.loop-alternative.alternative 0 c.loop-alternative.alternative (omega arith) (c.loop-alternative.invariant s f) (sym (c.may_declare.ensures s f) ∙ c.if-may_declare.false)
 
 pub returns-then-may_declare : goal.returns-then-may_declare
 returns-then-may_declare c = λ s f.
     let count = count_is c.args.parts.now s f in
-    sym (found_at (λ from n. some_declare c.args.number from n s) (λ from. can_declare c.args.number from s) (λ from. refl) (λ from n. refl) c.loop-alternative.alternative (link_count s) 0 c.loop-alternative.alternative (omega arith) (sym (c.may_declare.ensures.value s f) ∙ c.if-may_declare.true) (omega arith))
+    sym (found_at (λ from n. some_declare c.args.number from n s) (λ from. can_declare c.args.number from s) (λ from. refl) (λ from n. refl) c.loop-alternative.alternative (link_count s) 0 c.loop-alternative.alternative (omega arith) (sym (c.may_declare.ensures s f) ∙ c.if-may_declare.true) (omega arith))

@@ -1,15 +1,9 @@
-use Rattle.std.proofs.Common.{arith, rules, refl, ◌≡◌, ℕ, Option, Some}
-use Rattle.set_model.specs.declared.phase.Phase.{Phase}
+use Rattle.std.proofs.Common.{rules, refl, ◌≡◌, Some}
 use Rattle.set_model.specs.declared.phase.Phase.TheVariants.{Down}
-use Rattle.set_model.specs.declared.reached.Reached.{Reached}
-use Rattle.set_model.specs.Changeover.{answered, ignored}
-use Rattle.set_model.specs.State.{LinkState, State}
-use Rattle.set_moves.proofs.Admitting.{ignores, obeyed_at}
+use Rattle.set_model.specs.Changeover.{answered}
+use Rattle.set_moves.proofs.Admitting.{ignores, obeyed_at, unanswered}
 use Rattle.set_moves.proofs.Rooms.{here_room}
 use Rattle.set_moves.proofs.changeover.answer.Goals as goal
-
-unanswered : (reached : Reached) (n : ℕ) (o : Option Phase) → (o ≡ Some Down → ⊥) → (phase : Phase) → o ≡ Some phase → (link : LinkState) (s : State) → answered reached n link phase s ≡ ignored s
-unanswered reached n o other phase is link s = grind arith
 
 pub returns-then-ne : goal.returns-then-ne
 returns-then-ne c = record { stands = ignores c.args.parts.now c.args.number (answered c.args.reached c.args.number) c.phase_at.ensures.value (unanswered c.args.reached c.args.number c.phase_at.result (search rules)) }

@@ -5,7 +5,7 @@ use Rattle.set_moves.specs.Parts.{kept_of}
 use Rattle.set_model.specs.Rows.{is_unacked, is_waiting}
 use Rattle.set_moves.proofs.RowsAt.{sent_there, waits_there}
 use Rattle.set_moves.proofs.Becoming.{becomes}
-use Rattle.set_moves.proofs.Less.{cleared_less, less_then, on_less}
+use Rattle.set_moves.proofs.Less.{cleared_less, on_less}
 use Rattle.set_moves.proofs.States.{given_up_for}
 use Rattle.set_moves.proofs.settling.discard.Goals as goal
 
@@ -22,7 +22,7 @@ returns-clause-fewer c =
     let q = c.args.parts.now.queues.lists in
     let mid = c.discard.new.self.lists in
     let many = links_stay (Unacked n) [] q in
-    on_less n q _ (less_then q mid _ (cleared_less (Unacked n) q mid c.discard.ensures.lists refl (omega arith)) (cleared_less (Waiting n) mid _ c.discard-2.ensures.lists refl (grind arith)))
+    on_less n q c.discard-2.new.self.lists (λ f. omega (arith, cleared_less (Unacked n) q mid c.discard.ensures.lists refl (omega arith) f, cleared_less (Waiting n) mid _ c.discard-2.ensures.lists refl (grind arith) f))
 
 pub discard-requires-2-clause-known : goal.discard-requires-2-clause-known
 discard-requires-2-clause-known c = let many = links_stay (Unacked c.args.number) [] c.args.parts.now.queues.lists in grind arith
