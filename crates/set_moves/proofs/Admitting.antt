@@ -1,5 +1,5 @@
 -- What an event of a link does where the link is there, and as the event needs it.
-use Rattle.std.proofs.Common.{arith, refl, ◌≡◌, ◌∙◌, ap, sym, subst, ◌≤◌, ℕ, List, length, slice_get, Option, Some, None, Bool, if◌then◌else◌, false, ◌<◌}
+use Rattle.std.proofs.Common.{arith, refl, ◌≡◌, ◌∙◌, ap, sym, subst, ◌≤◌, ℕ, List, length, slice_get, Option, Some, None, Bool, false, ◌<◌}
 use Rattle.std.specs.Prelude.{IfSome}
 use Rattle.std.specs.Option.{option_map}
 use Rattle.std.proofs.lemmas.Option.{slice_get_past, slice_get-map}
@@ -7,7 +7,7 @@ use Rattle.std.proofs.lemmas.Bool.Decides.{nat_tests}
 use Rattle.set_events.specs.declared.answer.Answer.{Answer}
 use Rattle.set_events.specs.declared.answer.Answer.TheVariants.{Refused, Done}
 use Rattle.set_events.specs.declared.answer.Refusal.{Refusal as SetRefusal}
-use Rattle.set_events.specs.declared.answer.Refusal.TheVariants.{NotUp, NoSuchLink}
+use Rattle.set_events.specs.declared.answer.Refusal.TheVariants.{NoSuchLink}
 use Rattle.set_moves.specs.declared.link.Link.{Link}
 use Rattle.set_moves.specs.declared.parts.Parts.{Parts}
 use Rattle.set_model.specs.declared.phase.Phase.{Phase}
@@ -68,11 +68,10 @@ module _ (parts : Parts) (s : State) (a : Agrees (kept_of parts) s) (n : ℕ) (o
   pub unknown : length parts.links.items ≤ n → Gives (on_link n s outcome) (Refused NoSuchLink) parts
   unknown few = refuses NoSuchLink (rw (slice_get_past parts.links.items n few) refl)
 
-not_served : (s : State) (why : SetRefusal) (outcome : LinkState → Outcome) (o : Option Link) → service_refusal o ≡ Some why → with_known (option_map link_of o) s (λ link. if has_phase_up link.phase then outcome link else refused s NotUp) ≡ refused s why
-not_served s why outcome o is = grind arith
-
 pub unserved : {read : List Link} {o : Option SetRefusal} {why : SetRefusal} (parts : Parts) (s : State) (n : ℕ) (outcome : LinkState → Outcome) → Agrees (kept_of parts) s → read ≡ parts.links.items → o ≡ service_refusal (slice_get read n) → o ≡ Some why → Gives (in_service n s outcome) (Refused why) parts
-unserved {read} {o} {why} parts s n outcome a same e is = refuses parts s a n _ why (not_served s why outcome (slice_get parts.links.items n) (rw (← same) (sym e ∙ is)))
+unserved {read} {o} {why} parts s n outcome a same e is =
+    let here : service_refusal (slice_get parts.links.items n) ≡ Some why = rw (← same) (sym e ∙ is) in
+    refuses parts s a n _ why (grind arith)
 
 -- An order changes nothing at a link that it isn't for, as its phase or that there is none tells,
 pub ignores : {o : Option Phase} (parts : Parts) (n : ℕ) (obeyed : LinkState → Phase → State → Obeyed) → o ≡ option_map (λ (l : Link). l.phase) (slice_get parts.links.items n) → ((phase : Phase) → o ≡ Some phase → (link : LinkState) (s : State) → obeyed link phase s ≡ ignored s)

@@ -1,13 +1,13 @@
 -- A declaration goes out on each link from which streams come back.
-use Rattle.std.proofs.Common.{arith, ◌≡◌, ◌∙◌, ap, sym, subst, ◌≤◌, ◌<◌, ◌+◌, ◌-◌, ◌||◌, ℕ, zero, suc, true, false, Bool, length, if◌then◌else◌}
-use Rattle.std.proofs.lemmas.Bool.{ne_eqb}
+use Rattle.std.proofs.Common.{arith, ◌≡◌, ◌∙◌, ap, sym, subst, ◌≤◌, ◌<◌, ◌+◌, ◌-◌, ◌||◌, ℕ, zero, suc, true, false, Bool, length}
+use Rattle.std.proofs.lemmas.Bool.Decides.{nat_tests}
 use Rattle.std.proofs.lemmas.List.{length-map}
 use Rattle.set_events.specs.declared.answer.Fate.TheVariants.{Waiting}
 use Rattle.set_queues.specs.Bodies.{CanHold}
 use Rattle.set_queues.specs.Buffers.{TakesRoom}
 use Rattle.set_events.specs.declared.answer.Took.TheVariants.{Order}
 use Rattle.set_route.specs.declared.place.Code.{Code}
-use Rattle.set_route.specs.Routing.{Routing, asked, is_free}
+use Rattle.set_route.specs.Routing.{is_free}
 use Rattle.set_model.specs.Changeover.{acknowledged_back, released}
 use Rattle.set_model.specs.State.{State, link_count}
 use Rattle.set_moves.specs.declared.parts.Parts.{Parts}
@@ -41,16 +41,11 @@ pub room_after : (n : ℕ) (old new : Parts) → HasRoomFrom n old → new.links
 room_after n old new r links takes message body low = record {
   message = let m = r.message in omega (arith, m, message);
   body = body (16 - (n + 1)) (subst (λ (more : ℕ). CanHold more old.bodies) (let same : 16 - n ≡ 16 - (n + 1) + 1 = omega (arith, low) in same) r.body);
-  each = λ link far low.
-      let kept = rw (ne_eqb n link (λ e. omega (arith, e, far))) at (takes (Waiting link)) in
-      omega (arith, r.each link (omega (arith, far)) (omega (arith, low, ap (λ ls. length ls.items) links)), kept);
+  each = λ link far low. let kept = takes (Waiting link) in grind (arith, nat_tests, r.each link);
 }
 
 pub count_is : (parts : Parts) (s : State) → StandsFor (kept_of parts) s → link_count s ≡ length parts.links.items
 count_is parts s f = sym (ap length f.links) ∙ length-map parts.links.items link_of
-
-pub asked_links : (b : Bool) (home alternative : ℕ) (r now : Routing) → now ≡ (if b then asked home alternative r else r) → now.links ≡ r.links
-asked_links b home alternative r now e = grind arith
 
 -- an acknowledgement of a code that is in use
 pub in_use : (code : ℕ) (x : Code) (s : State) (parts : Parts) → is_free x ≡ false → StandsFor (kept_of parts) (released code s) → Obeys (acknowledged_back code x s) Order parts

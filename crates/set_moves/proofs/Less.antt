@@ -4,7 +4,7 @@ use Rattle.std.proofs.lemmas.List.{length-drop}
 use Rattle.std.proofs.lemmas.Bool.Decides.{nat_tests}
 use Rattle.set_events.specs.declared.answer.Fate.{Fate}
 use Rattle.set_events.specs.declared.answer.Fate.TheVariants.{Waiting, Unacked, Held}
-use Rattle.set_queues.specs.Buffers.{Lists, is_standing, same_fate, queue_at, with_queue, IsKnown}
+use Rattle.set_queues.specs.Buffers.{Lists, is_standing, queue_at, with_queue, IsKnown}
 use Rattle.set_queues.specs.Sending.{acknowledged, reach}
 use Rattle.set_queues.specs.Settling.{on}
 use Rattle.set_queues.proofs.Passing.{queue_set}
@@ -14,12 +14,9 @@ use Rattle.set_queues.proofs.Soundness.{queue_last}
 abbrev pub NoLonger : Lists → Lists → Type 0
 NoLonger q q' = (f : Fate) → length (queue_at f q') ≤ length (queue_at f q)
 
-same_queue : (g f : Fate) → is_standing g ≡ true → same_fate g f ≡ true → g ≡ f
-same_queue g f s e = grind (arith, nat_tests)
-
 -- a queue is replaced by one that is no longer
 replaced_less : (g : Fate) (xs : List ℕ) (q : Lists) → is_standing g ≡ true → IsKnown g q → length xs ≤ length (queue_at g q) → NoLonger q (with_queue g xs q)
-replaced_less g xs q s h few f = let same = same_queue g f s in grind (arith, queue_set g f xs q s h)
+replaced_less g xs q s h few f = grind (arith, nat_tests, queue_set g f xs q s h)
 
 pub cleared_less : (g : Fate) (q q' : Lists) → q' ≡ with_queue g [] q → is_standing g ≡ true → IsKnown g q → NoLonger q q'
 cleared_less g q q' e s h f = rw e (replaced_less g [] q s h (omega arith) f)

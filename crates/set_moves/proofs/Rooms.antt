@@ -1,15 +1,14 @@
 -- Room that was taken, as orders and moved messages need it.
-use Rattle.std.proofs.Common.{arith, ◌≡◌, ◌∙◌, refl, ap, sym, ◌≤◌, ◌<◌, ℕ, Bool, false, List, map, length, Option, Some, slice_get, slice_set}
+use Rattle.std.proofs.Common.{arith, ◌≡◌, ◌∙◌, refl, ap, ◌≤◌, ◌<◌, ℕ, Bool, false, List, map, length, slice_get, slice_set}
 use Rattle.std.proofs.lemmas.List.{length-map}
 use Rattle.std.proofs.lemmas.Bool.Decides.{nat_tests}
 use Rattle.set_events.specs.declared.answer.Fate.{Fate}
 use Rattle.set_events.specs.declared.answer.Fate.TheVariants.{Waiting, Unacked, Held}
-use Rattle.set_queues.specs.Buffers.{Lists, IsQueued, TakesRoom, same_fate, with_queue, room_at}
+use Rattle.set_queues.specs.Buffers.{Lists, TakesRoom, same_fate, with_queue, room_at}
 use Rattle.set_queues.specs.Backs.{back_count}
 use Rattle.set_queues.specs.Settling.{on}
 use Rattle.set_queues.proofs.Passing.{queue_other, queued_stands}
 use Rattle.set_queues.proofs.Settling.{IsAside, room_left}
-use Rattle.set_route.specs.Target.{target_of}
 use Rattle.set_model.specs.declared.phase.Phase.{Phase}
 use Rattle.set_model.specs.declared.phase.Phase.TheVariants.{Down}
 use Rattle.set_model.specs.Changeover.{fate_on}
@@ -32,8 +31,9 @@ pub beside_out : (links : List Link) (n : ℕ) → n < length links → AtLink n
 unfolding ups_of
 beside_out links n known out =
     let x = present links n known in
-    let here : slice_get (ups_of links) n ≡ Some false = map_at (λ (link : Link). has_phase_up link.phase) links n x.0 x.1 ∙ ap (λ (b : Bool). Some b) (out x.0 x.1) in
-    ap target_of (set_same (ups_of links) n false here ∙ sym (ups links))
+    let down = out x.0 x.1 in
+    let there = map_at (λ (link : Link). has_phase_up link.phase) links n x.0 x.1 in
+    grind (arith, set_same, ups)
 
 pub beside_left : (links new : List Link) (n : ℕ) (link : Link) → new ≡ slice_set links n link → has_phase_up link.phase ≡ false → target (map link_of new) ≡ target_beside n links
 unfolding ups_of
@@ -42,9 +42,6 @@ beside_left links new n link e out = grind (arith, map_set, ups, ups_of)
 -- ROOM for an order, and then for all that stand on the link
 pub has_room : (n : ℕ) (parts : Parts) (fate : Fate) → IsReady n 1 parts → fate ≡ fate_on (target_beside n parts.links.items) → HasRoom fate parts
 has_room n parts fate r e = grind arith
-
-queued_on : (o : Option ℕ) → IsQueued (fate_on o)
-queued_on o = grind arith
 
 -- what stands on a link isn't touched by what waits elsewhere
 pub on_same : (n : ℕ) (to : Fate) (xs : List ℕ) (q new : Lists) → IsAside n to q → new ≡ with_queue to xs q → on n new ≡ on n q
@@ -91,7 +88,7 @@ is_left blind n old new known links =
 pub room_after : (n : ℕ) (old left new : Parts) → n < length old.queues.lists.links → IsReady n 1 old → TakesTurns (back_count n old.queues.lists) old.queues left.queues → target (map link_of left.links.items) ≡ target_beside n old.links.items → target (map link_of new.links.items) ≡ target (map link_of left.links.items)
     → on n new.queues.lists ≡ on n left.queues.lists → TakesRoom (fate_on (target (map link_of left.links.items))) 1 left.queues.rooms new.queues.rooms
     → length (on n new.queues.lists) ≤ room_at (fate_on (target (map link_of new.links.items))) new.queues.rooms
-room_after n old left new low r turns beside same elsewhere takes = grind (arith, room_left, queued_on)
+room_after n old left new low r turns beside same elsewhere takes = grind (arith, room_left)
 
 pub wider : (bound more : ℕ) (links : List Link) → bound ≤ more → AreCounted bound links → AreCounted more links
 wider bound more links h all n link there = let k = all n link there in record { acked = let low = k.acked in omega (arith, h, low); accepted = let low = k.accepted in omega (arith, h, low) }

@@ -1,5 +1,4 @@
--- WHAT STANDS IN EACH PLACE after rows came to stand elsewhere, the numbers of one queue after another; and where each
--- number stands then.
+-- WHAT STANDS IN EACH PLACE after rows came to stand elsewhere, queue after queue, and where each number stands then.
 use Rattle.std.proofs.Common.{arith, refl, ◌≡◌, ◌∙◌, ap, sym, ◌≤◌, ◌<◌, [], ◌∷◌, length, ℕ, zero, suc, Bool, true, false, List, ◌++◌, Option, Some, None, take, drop, cond, not, ◌==◌}
 use Rattle.std.specs.List.{drop-map}
 use Rattle.std.proofs.lemmas.Bool.Decides.{nat_tests}
@@ -32,9 +31,6 @@ occurs_picked : (p : Row → Bool) (n : ℕ) (rows : List Row) → occurs n (num
 occurs_picked p n [] = refl
 occurs_picked p n (x ∷ rows) = grind (arith, occurs_picked p n rows)
 
-none_picked : (p : Row → Bool) (k n : ℕ) (rows : List Row) → length (with_number n rows) ≡ 0 → occurs n (take k (numbers (filter p rows))) ≡ 0
-none_picked p k n rows e = omega (arith, e, occurs-split n k (numbers (filter p rows)), occurs_picked p n rows, fewer_filter p (with_number n rows))
-
 -- WHERE A NUMBER STANDS when those of a list have come to stand elsewhere
 pub record GoesTo (ns : List ℕ) (to : Fate) (n : ℕ) (rows new : List Row) : Type 0 where
   pub stays : occurs n ns ≡ 0 → place n new ≡ place n rows
@@ -45,7 +41,7 @@ module _ (test : Fate → Bool) (to : Fate) where
   goes_first : (n k : ℕ) (rows : List Row) → length (with_number n rows) ≤ 1 → GoesTo (take k (numbers (standing test rows))) to n rows (turned test to k rows)
   goes_first n zero rows one = record { stays = λ e. refl; goes = λ e. absurd (omega (arith, e)) }
   goes_first n (suc k) [] one = record { stays = λ e. refl; goes = λ e. absurd (omega (arith, e)) }
-  goes_first n (suc k) (x ∷ rows) one = let none = none_picked (λ (row : Row). test row.fate) (suc k) n rows in grind (arith, nat_tests, goes_first n k rows, goes_first n (suc k) rows, none)
+  goes_first n (suc k) (x ∷ rows) one = let few = fewer_filter (λ (row : Row). test row.fate) (with_number n rows) in grind (arith, nat_tests, goes_first n k rows, goes_first n (suc k) rows, occurs-split n (suc k) (numbers (standing test rows)), occurs-split n k (numbers (standing test rows)), occurs_picked (λ (row : Row). test row.fate) n rows)
 
   -- all of them, in their places
   place_changed : (n : ℕ) (rows : List Row) → place n (changed test to rows) ≡ option_map (λ (row : Row). cond (test row.fate) to row.fate) (row_of n rows)
@@ -71,14 +67,10 @@ given_where : (ns : List ℕ) (ms : List Message) → ((n : ℕ) → 0 < occurs 
 given_where [] ms below = tt
 given_where (n ∷ ns) ms below = (below n (omega (arith, occurs_here n n refl)), given_where ns ms (λ m h. below m (omega (arith, h))))
 
-placed_below : (n : ℕ) (to : Fate) (rows : List Row) → IsNumbered rows → place n rows ≡ Some to → n < length rows
-placed_below n to rows numbered there = grind (arith, nat_tests, cases_lt, none_at)
-
 pub given_all : (ns : List ℕ) (to : Fate) (ms : List Message) (rows new : List Row) → IsNumbered new → length ms ≡ length new → ((n : ℕ) → GoesTo ns to n rows new) → AreGiven ns ms
-given_all ns to ms rows new numbered many goes = given_where ns ms (λ n h. omega (arith, many, placed_below n to new numbered ((goes n).goes h)))
+given_all ns to ms rows new numbered many goes = given_where ns ms (λ n h. let there = (goes n).goes h in grind (arith, nat_tests, cases_lt, none_at n new))
 
 -- BY FATE
-
 pub waits_there : (l : ℕ) (fate : Fate) → is_waiting l fate ≡ same_fate fate (Waiting l)
 waits_there l fate = grind arith
 
@@ -115,29 +107,19 @@ pub record Shifts (test : Fate → Bool) (to : Fate) (ns left joined : List ℕ)
   pub messages : SameMessages rows new
   pub goes : (n : ℕ) → GoesTo ns to n rows new
 
--- a place from which they go takes in no other
-within : (test : Fate → Bool) (f : Fate) → is_standing f ≡ true → test f ≡ true → (g : Fate) → is_there f g ≡ true → test g ≡ true
-within test f s e g h = grind (arith, same_is)
-
 -- where they don't stand
 elsewhere : (test : Fate → Bool) (f : Fate) → is_standing f ≡ true → test f ≡ false → (g : Fate) → test g ≡ true → is_there f g ≡ false
 elsewhere test f s e g h = grind (arith, same_is)
-
-numbers-drop : (n : ℕ) (rows : List Row) → numbers (drop n rows) ≡ drop n (numbers rows)
-numbers-drop n rows = rw (drop-map (λ (row : Row). row.number) n rows) refl
 
 -- the test tells of one place alone
 abbrev pub IsOfOne : (Fate → Bool) → Type 0
 IsOfOne test = (f g : Fate) → is_standing f ≡ true → test f ≡ true → test g ≡ is_there f g
 
-pub sent_of_one : (l : ℕ) → IsOfOne (is_unacked l)
-sent_of_one l f g s e = grind (arith, nat_tests)
-
 module _ (test : Fate → Bool) (to : Fate) (rows : List Row) (numbered : IsNumbered rows) (off : test to ≡ false) where
   -- to a final fate: the first so many of one place, or all of it
   pub turned_shifts : (n : ℕ) → is_standing to ≡ false → IsOfOne test → Shifts test to (take n (numbers (standing test rows))) (drop n (numbers (standing test rows))) [] rows (turned test to n rows)
   turned_shifts n final one = record {
-    places = λ f s. grind (arith, rows_as, standing_as test (is_there f), one f, turned_left, numbers-drop, turned_same test (is_there f) to (final_none to f final s), elsewhere test f s, final_none);
+    places = λ f s. grind (arith, rows_as, standing_as test (is_there f), one f, turned_left, drop-map, turned_same test (is_there f) to (final_none to f final s), elsewhere test f s, final_none);
     messages = (messages_stay test to (all_with to) rows numbered).turned_stay n;
     goes = λ k. goes_first test to k n rows (at_most_one k rows numbered);
   }
@@ -151,7 +133,7 @@ module _ (test : Fate → Bool) (to : Fate) (rows : List Row) (numbered : IsNumb
 
   -- to another place: all of one or more, behind those that stand there
   moved_place : (f : Fate) → is_standing f ≡ true → (b d : Bool) → test f ≡ b → same_fate to f ≡ d → numbers (rows_at f (moved test (all_with to) rows)) ≡ cond b [] (cond d (numbers (rows_at to rows) ++ numbers (standing test rows)) (numbers (rows_at f rows)))
-  moved_place f s true d e h = let away : same_fate to f ≡ false = grind (arith, same_is) in ap numbers (rows_as f _ s ∙ moved_gone test (is_there f) (all_with to) rows (λ x. away) (within test f s e))
+  moved_place f s true d e h = let away : same_fate to f ≡ false = grind (arith, same_is) in ap numbers (rows_as f _ s ∙ moved_gone test (is_there f) (all_with to) rows (λ x. away) (λ g h. grind (arith, same_is)))
   moved_place f s false true e h = let same : to ≡ f = same_is to f s h in
       ap numbers (rows_as f _ s ∙ moved_joined test (is_there f) (all_with to) rows (λ x. h) (elsewhere test f s e)) ∙ numbers_joined (all_with to) _ (standing test rows) ∙ rw (same, rows_as f rows s) refl
   moved_place f s false false e h = ap numbers (rows_as f _ s ∙ moved_same test (is_there f) (all_with to) rows (λ x. h) (elsewhere test f s e) ∙ sym (rows_as f rows s))
@@ -169,7 +151,7 @@ module _ (l : ℕ) (rows : List Row) (numbered : IsNumbered rows) (order : IsInO
   after = turned (is_waiting l) (Unacked l) 1 rows
 
   sent_place : (f : Fate) → is_standing f ≡ true → (b d : Bool) → is_waiting l f ≡ b → same_fate (Unacked l) f ≡ d → numbers (rows_at f after) ≡ cond b (drop 1 (numbers (wait l rows))) (cond d (numbers (unack l rows) ++ take 1 (numbers (wait l rows))) (numbers (rows_at f rows)))
-  sent_place f s true d e h = let left = (sent l rows).wait_is in let here : Waiting l ≡ f = grind (arith, nat_tests) in rw (← here) (ap numbers left ∙ numbers-drop 1 (wait l rows))
+  sent_place f s true d e h = let left = (sent l rows).wait_is in let here : Waiting l ≡ f = grind (arith, nat_tests) in rw (← here) (ap numbers left ∙ rw (drop-map (λ (row : Row). row.number) 1 (wait l rows)) refl)
   sent_place f s false true e h = let joined = (sent l rows).unack_is order in let here : Unacked l ≡ f = same_is (Unacked l) f s h in rw (← here) (ap numbers joined ∙ numbers_joined (all_with (Unacked l)) (unack l rows) (take 1 (wait l rows)) ∙ ap (λ (ns : List ℕ). numbers (unack l rows) ++ ns) (sym (take-map (λ (row : Row). row.number) 1 (wait l rows))))
   sent_place f s false false e h = ap numbers (rows_as f after s ∙ turned_same (is_waiting l) (is_there f) (Unacked l) h (elsewhere (is_waiting l) f s e) 1 rows ∙ sym (rows_as f rows s))
 
@@ -195,14 +177,7 @@ none_dropped p (x ∷ xs) e = grind (arith, none_dropped p xs)
 
 -- one that drops the first alone
 first_dropped : (x : Row) (rest : List Row) → with_number x.number (x ∷ rest) ≡ x ∷ [] → without x.number (x ∷ rest) ≡ rest
-first_dropped x rest one =
-    let own = eq-eqb x.number x.number refl in
-    let same : x ∷ with_number x.number rest ≡ x ∷ [] = rw own at one in
-    let none : with_number x.number rest ≡ [] = cc in
-    rw own (none_dropped (λ (row : Row). row.number == x.number) rest none)
-
-one_stands : (test : Fate → Bool) (y : Row) → standing test (y ∷ []) ≡ cond (test y.fate) (y ∷ []) []
-one_stands test y = grind arith
+first_dropped x rest one = let none = none_dropped (λ (row : Row). row.number == x.number) rest in grind (arith, nat_tests)
 
 module _ (to : Fate) (x : Row) (rows : List Row) (one : with_number x.number rows ≡ x ∷ []) where
   abbrev k : ℕ
@@ -231,18 +206,15 @@ module _ (to : Fate) (x : Row) (rows : List Row) (one : with_number x.number row
   shifted_goes n = grind (arith, nat_tests, cases_eq, k, GoesTo, new, occurs_here, row_is_first, with_own, with_other, occurs_not)
 
   -- BY FATE: it's gone where it stood first, and comes behind the others
-  left : (test : Fate → Bool) (rest : List Row) (b : Bool) → test x.fate ≡ b → (b ≡ true → standing test rows ≡ x ∷ rest) → without k (standing test rows) ≡ cond b rest (standing test rows)
-  left test rest b is first = go b (own ∙ ap (λ (c : Bool). cond c (x ∷ []) []) is) first
-    where
-      own : with_number k (standing test rows) ≡ cond (test x.fate) (x ∷ []) []
-      own = filter_comm (λ (row : Row). row.number == k) (λ (row : Row). test row.fate) rows ∙ ap (standing test) one ∙ one_stands test x
+  picked : (test : Fate → Bool) → with_number k (standing test rows) ≡ cond (test x.fate) (x ∷ []) []
+  picked test = filter_comm (λ (row : Row). row.number == k) (λ (row : Row). test row.fate) rows ∙ ap (standing test) one ∙ grind arith
 
-      go : (b : Bool) → with_number k (standing test rows) ≡ cond b (x ∷ []) [] → (b ≡ true → standing test rows ≡ x ∷ rest) → without k (standing test rows) ≡ cond b rest (standing test rows)
-      go true e first = rw (first refl) (first_dropped x rest (ap (with_number k) (sym (first refl)) ∙ e))
-      go false e first = none_dropped (λ (row : Row). row.number == k) (standing test rows) e
+  left : (test : Fate → Bool) (rest : List Row) (b : Bool) → test x.fate ≡ b → (b ≡ true → standing test rows ≡ x ∷ rest) → without k (standing test rows) ≡ cond b rest (standing test rows)
+  left test rest true is first = rw (first refl) (first_dropped x rest (ap (with_number k) (sym (first refl)) ∙ picked test ∙ rw is refl))
+  left test rest false is first = none_dropped (λ (row : Row). row.number == k) (standing test rows) (picked test ∙ rw is refl)
 
   pub shifted_stands : (test : Fate → Bool) (rest : List Row) → (test x.fate ≡ true → standing test rows ≡ x ∷ rest) → standing test new ≡ cond (test x.fate) rest (standing test rows) ++ cond (test to) (y ∷ []) []
-  shifted_stands test rest first = grind (arith, filter-append, filter_comm, left, one_stands)
+  shifted_stands test rest first = grind (arith, filter-append, filter_comm, left)
 
   pub shifted_each : (P : Row → Type 0) → Each P rows → P y → Each P new
   shifted_each P a p = each_append P (without k rows) (y ∷ []) (each_filter P (λ (row : Row). not (row.number == k)) rows a) (p, tt)

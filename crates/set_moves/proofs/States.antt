@@ -1,5 +1,5 @@
 -- WHAT IS KEPT STANDS FOR THE STATE, before and after each small change.
-use Rattle.std.proofs.Common.{refl, arith, ◌≡◌, ◌∙◌, ap, sym, subst, ◌<◌, [], ◌∷◌, length, ℕ, zero, suc, ◌==◌, Bool, true, false, List, ◌++◌, Option, Some, take, drop, cond, ◌≢◌, ◌+◌, ◌-◌, ◌%◌}
+use Rattle.std.proofs.Common.{refl, arith, ◌≡◌, ◌∙◌, ap, sym, subst, ◌<◌, [], ◌∷◌, length, ℕ, zero, suc, ◌==◌, Bool, true, false, List, ◌++◌, Option, Some, take, drop, cond, ◌≢◌, ◌+◌, ◌%◌}
 use Rattle.std.specs.Prelude.{slice_get, slice_set}
 use Rattle.std.specs.Option.{option_map}
 use Rattle.std.proofs.lemmas.Bool.{cases_eq}
@@ -17,7 +17,7 @@ use Rattle.set_queues.specs.Queues.{occurs, passed}
 use Rattle.set_queues.specs.Settling.{on as on_lists, settled}
 use Rattle.set_queues.proofs.Updates.{updated_same, updated_other, updated_there}
 use Rattle.set_queues.proofs.Standing.{same_is, length-restood, fate_stays, fate_moves}
-use Rattle.set_queues.proofs.Passing.{queue_set, links_stay, list_kept, kept_last}
+use Rattle.set_queues.proofs.Passing.{queue_set, links_stay}
 use Rattle.set_queues.proofs.Soundness.{both_replaced, passed_replaces, queue_last, passed_links, sent_links, acked_links, last_links}
 use Rattle.set_queues.proofs.Settling.{IsAside, settling}
 use Rattle.set_model.specs.Rows.{Row, standing, is_waiting, is_unacked, is_on, is_parked, is_back, wait, on, numbers, turned, changed, moved, all_with, appended, row_of, place, IsNumbered, IsInOrder, IsHeldLast}
@@ -26,7 +26,7 @@ use Rattle.set_model.specs.Laws.{SameMessages}
 use Rattle.set_model.proofs.Finding.{new_row, numbered_appended, is_found}
 use Rattle.set_model.proofs.Order.{on_in_order}
 use Rattle.set_moves.specs.Agreement.{Stands, rows_at, label_in, label_of, kind_of, Kept, StandsFor}
-use Rattle.set_moves.proofs.RowsAt.{given_all, none_at, final_none, Shifts, appended_at, sent_shifts, turned_shifts, changed_shifts, moved_shifts, sent_of_one, is_there}
+use Rattle.set_moves.proofs.RowsAt.{given_all, none_at, final_none, Shifts, appended_at, sent_shifts, turned_shifts, changed_shifts, moved_shifts, is_there}
 use Rattle.set_route.specs.Routing.{Routing}
 use Rattle.set_model.specs.State.{LinkState, State}
 use Rattle.set_model.proofs.Lists.{at_set, length_set, within, present}
@@ -133,17 +133,11 @@ pub sent_for : (k : Kept) (s : State) (n message : ℕ) → StandsFor k s → Is
 sent_for k s n message f order known first =
     let waits = f.stands.queues (Waiting n) in
     let sent = f.stands.queues (Unacked n) in
-    let taken : message ∷ [] ≡ take 1 (numbers (wait n s.rows)) = one (queue_at (Waiting n) k.lists) first ∙ ap (take 1) waits in
+    let taken : message ∷ [] ≡ take 1 (numbers (wait n s.rows)) = grind arith in
     queues_for k s f _ _ _ (shifts_stand f.stands (sent_shifts n s.rows f.stands.numbered order)
     (λ g t. both_replaced k.lists (Waiting n) (Unacked n) (drop 1 (queue_at (Waiting n) k.lists)) (queue_at (Unacked n) k.lists ++ message ∷ []) known known g t ∙ grind (arith, nat_tests, waits, sent, taken)) taken) (sent_links k.lists n message) _ _ f.routing (λ m. search last_stays)
-  where
-    one : (xs : List ℕ) → slice_get xs 0 ≡ Some message → message ∷ [] ≡ take 1 xs
-    one xs e = grind arith
 
 -- AN ACKNOWLEDGEMENT, under a link that counts it.
-reached : (acked fsn : ℕ) → fsn < 128 → (acked + (fsn + 128 - (acked + 127) % 128) % 128 + 127) % 128 ≡ fsn
-reached acked fsn h = omega (arith, h)
-
 pub acked_for : (k : Kept) (s : State) (n fsn : ℕ) (link link' : LinkState) → StandsFor k s → slice_get s.links n ≡ Some link → fsn < 128 → link'.acked ≡ link.acked + reach n fsn k.lists
     → StandsFor (record k { lists = acked_lists n fsn k.lists; messages = restood (take (reach n fsn k.lists) (queue_at (Unacked n) k.lists)) (Acked n) k.messages; links = slice_set s.links n link' })
     (record s { rows = turned (is_unacked n) (Acked n) (reach n fsn k.lists) s.rows; links = slice_set s.links n link' })
@@ -153,8 +147,8 @@ acked_for k s n fsn link link' f there h e =
     let mid : Lists = with_queue (Unacked n) left k.lists in
     let known = has_queues k s n link f there in
     let inner : n < length mid.links = omega (arith, known, links_stay (Unacked n) left k.lists) in
-    let counted : (link'.acked + 127) % 128 ≡ fsn = ap (λ (a : ℕ). (a + 127) % 128) (e ∙ ap (λ (last : ℕ). link.acked + (fsn + 128 - last) % 128) (f.fsns n link there)) ∙ reached link.acked fsn h in
-    link_and_queues_for k s f _ _ _ (shifts_stand f.stands (turned_shifts (is_unacked n) (Acked n) s.rows f.stands.numbered refl count refl (sent_of_one n))
+    let counted : (link'.acked + 127) % 128 ≡ fsn = omega (arith, h, e, f.fsns n link there) in
+    link_and_queues_for k s f _ _ _ (shifts_stand f.stands (turned_shifts (is_unacked n) (Acked n) s.rows f.stands.numbered refl count refl (λ f g s e. grind (arith, nat_tests)))
     (λ g t. queue_last g n fsn mid ∙ queue_set (Unacked n) g left k.lists refl known ∙ grind (arith, nat_tests, f.stands)) (ap (take count) (f.stands.queues (Unacked n)))) (acked_links k.lists n fsn) _ _ f.routing n link'
     (λ m ne. last_there n fsn mid m ne ∙ last_stays (Unacked n) left k.lists m) (last_here n fsn mid inner ∙ sym counted)
 
@@ -181,9 +175,7 @@ settled_for k s n target link link' routing f order last there e aside apart =
     let off : is_on n to ≡ false = grind (arith, nat_tests) in
     let stood : is_standing to ≡ true = grind arith in
     let ns = on_numbers n k.lists k.messages s.rows f.stands order last in
-    let joined : queue_at to k.lists ++ on_lists n k.lists ≡ numbers (rows_at to s.rows) ++ numbers (on n s.rows) = cc (f.stands.queues to, ns) in
-    link_and_queues_for k s f _ _ _ (shifts_stand f.stands (moved_shifts (is_on n) to s.rows f.stands.numbered off stood)
-    (λ g t. settled_at n to k.lists aside g t ∙ ap (λ (ys : List ℕ). cond (is_on n g) [] (cond (same_fate to g) ys (queue_at g k.lists))) joined) ns) (search passed_links) routing routing refl n link'
+    link_and_queues_for k s f _ _ _ (shifts_stand f.stands (moved_shifts (is_on n) to s.rows f.stands.numbered off stood) (λ g t. grind (arith, nat_tests, settled_at n to k.lists aside g t, f.stands.queues to, ns)) ns) (search passed_links) routing routing refl n link'
     (λ m ne. last_settled n to k.lists m) (last_settled n to k.lists n ∙ still k s n link link' f there e)
 
 -- ALL OF A PLACE WAIT FOR A LINK: what was parked, or stood back by a code.
@@ -191,9 +183,7 @@ passed_moves : (from to : Fate) (test : Fate → Bool) (q : Lists) (ms : List Me
     → Moves (passed from to q) (restood (queue_at from q) to ms) rows (moved test (all_with to) rows)
 passed_moves from to test q ms rows s stood known other queued there off is same =
     let ns : queue_at from q ≡ numbers (standing test rows) = s.queues from ∙ ap numbers same in
-    let joined : queue_at to q ++ queue_at from q ≡ numbers (rows_at to rows) ++ numbers (standing test rows) = cc (s.queues to, ns) in
-    shifts_stand s (moved_shifts test to rows s.numbered off there)
-    (λ g t. passed_replaces q from to stood known other queued g t ∙ rw (is g t, joined) refl) ns
+    shifts_stand s (moved_shifts test to rows s.numbered off there) (λ g t. grind (arith, nat_tests, passed_replaces q from to stood known other queued g t, is g t, s.queues to, ns)) ns
 
 -- a link comes up, and what was parked waits for it
 pub risen_for : (k : Kept) (s : State) (n : ℕ) (link link' : LinkState) (routing : Routing) → StandsFor k s → slice_get s.links n ≡ Some link → link'.acked ≡ 0

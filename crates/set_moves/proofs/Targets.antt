@@ -25,14 +25,6 @@ same_ups old new e = sym (map-map has_phase_up (λ (link : Link). link.phase) ne
 pub same_target : (old new : List Link) → map (λ (link : Link). link.phase) new ≡ map (λ (link : Link). link.phase) old → target (map link_of new) ≡ target (map link_of old)
 same_target old new e = ap target_of (ups new ∙ same_ups old new e ∙ sym (ups old))
 
--- the target is up, so it's no link that isn't
-out_of : (links : List Link) (n : ℕ) → n < length links → AtLink n links IsOut → (t : ℕ) → target (map link_of links) ≡ Some t → n ≢ t
-out_of links n known out t is =
-    let x = present links n known in
-    let there = map_at link_of links n x.0 x.1 in
-    let down = out x.0 x.1 in
-    grind (arith, same_at, target_up)
-
 pub same_there : (o : Option ℕ) → fate_on o ≡ fate_there o
 same_there o = grind arith
 
@@ -44,7 +36,10 @@ pub record IsPlace (n : ℕ) (o : Option ℕ) (to : Fate) (q : Lists) : Type 0 w
 
 pub place_for : {links read : List Link} (n : ℕ) (o : Option ℕ) (to : Fate) (q : Lists) → read ≡ links → o ≡ target (map link_of read) → IfSome o (λ t. t < length read) → to ≡ fate_there o → length q.links ≡ length links → n < length links → AtLink n links IsOut → IsPlace n o to q
 place_for {links} {read} n o to q same is below there many known out =
-    let other : (t : ℕ) → o ≡ Some t → n ≢ t = λ t e. out_of links n known out t (ap (λ ls. target (map link_of ls)) (sym same) ∙ sym is ∙ e) in
+    let x = present links n known in
+    let there_is = map_at link_of links n x.0 x.1 in
+    let down = out x.0 x.1 in
+    let other : (t : ℕ) → o ≡ Some t → n ≢ t = λ t e. grind (arith, same_at, target_up) in
     let apart : IfSome o (λ t. t ≢ n) = grind arith in
     let low : IfSome o (λ t. t < length links) = rw same at below in
     let known_to : IsKnown (fate_there o) q = grind arith in

@@ -1,5 +1,4 @@
--- WHAT STANDS BACK FOR A LINK turns back: the oldest, which is the first of the rows that do, and so all of it, the oldest
--- first.
+-- WHAT STANDS BACK FOR A LINK turns back: the oldest, the first of the rows that do, and so all of it, one by one.
 use Rattle.std.proofs.Common.{inl, refl, arith, ◌≡◌, ◌∙◌, ap, sym, subst, [], ◌∷◌, ◌++◌, length, ℕ, suc, Bool, true, false, List, Some, cond, take, drop, ◌+◌, ◌*◌, None, ◌≤◌, ◌<◌, zero, ◌==◌, ◌⊎◌, Option, slice_get}
 use Rattle.std.specs.Prelude.{slice_get, filter}
 use Rattle.std.proofs.lemmas.Bool.{eq-eqb, cases_eq, cases_lt, ne_eqb, not-true}
@@ -8,12 +7,11 @@ use Rattle.std.proofs.lemmas.List.{append-nil, map-append, length-append, get_or
 use Rattle.set_events.specs.declared.answer.Fate.{Fate}
 use Rattle.set_events.specs.declared.answer.Fate.TheVariants.{Waiting, Held, Back, Unacked}
 use Rattle.set_queues.specs.Backs.{passed_first, IsOldest, back_from, NoneBack}
-use Rattle.set_queues.specs.Buffers.{Lists, is_standing, same_fate, queue_at, HaveRoom, IsKnown, TakesRoom}
+use Rattle.set_queues.specs.Buffers.{Lists, is_standing, same_fate, queue_at, HaveRoom, TakesRoom}
 use Rattle.set_queues.specs.Messages.{restood}
 use Rattle.set_queues.proofs.Standing.{same_is}
 use Rattle.set_queues.specs.declared.message.Message.{Message}
-use Rattle.set_route.specs.declared.place.Place.{Place}
-use Rattle.set_route.specs.Routing.{home_of, place_of, Routing}
+use Rattle.set_route.specs.Routing.{home_of, place_of}
 use Rattle.set_model.specs.Rows.{Row, standing, is_back, is_back_to, numbers, moved, stream_of, body_at, service_indicator, Each, stands_back, is_users, back}
 use Rattle.set_model.specs.Sound.{IsAscending, AreAbove, IsBackOf}
 use Rattle.set_model.specs.State.{State, fate_at, link_count, LinkState}
@@ -87,10 +85,8 @@ back_home home c of f e = ap (is_back_to home) (back_is c f e) ∙ eq-eqb (home_
 pub first_back : (home : ℕ) (q : Lists) (ms : List Message) (rows rest : List Row) (y : Row) → Stands q ms rows → standing (is_back_to home) rows ≡ y ∷ rest → (c : ℕ) × (home_of c ≡ home) × (slice_get (queue_at (Back c) q) 0 ≡ Some y.number)
 first_back home q ms rows rest y s e =
     let b = back_of home y.fate (passes (λ (row : Row). is_back_to home row.fate) rows rest y e) in
-    let own : is_back b.0 y.fate ≡ true = ap (is_back b.0) b.1 ∙ eq-eqb b.0 b.0 refl in
-    let there : standing (is_back b.0) rows ≡ standing (is_back b.0) (y ∷ rest) = sym (filter_within (λ (row : Row). is_back b.0 row.fate) (λ (row : Row). is_back_to home row.fate) (λ r f. back_home home b.0 b.2 r.fate f) rows) ∙ ap (standing (is_back b.0)) e in
-    let heads : standing (is_back b.0) (y ∷ rest) ≡ y ∷ standing (is_back b.0) rest = rw own refl in
-    (b.0, b.2, ap (λ (ns : List ℕ). slice_get ns 0) (s.queues (Back b.0) ∙ ap numbers (there ∙ heads)))
+    let within = filter_within (λ (row : Row). is_back b.0 row.fate) (λ (row : Row). is_back_to home row.fate) (λ r f. back_home home b.0 b.2 r.fate f) rows in
+    (b.0, b.2, grind (arith, nat_tests, s.queues (Back b.0)))
 
 -- THE OLDEST that stands back for the home is the first of the rows that do.
 pub record IsFirst (home code number : ℕ) (rows : List Row) : Type 0 where
@@ -119,16 +115,10 @@ module _ (home code : ℕ) (q : Lists) (ms : List Message) (rows : List Row) (s 
   only : with_number o.number rows ≡ x ∷ []
   only = single (with_number o.number rows) x (sym (row_is_first o.number rows) ∙ found.row_is) (at_most_one o.number rows s.numbered)
 
-  in_home : with_number o.number (standing (is_back_to home) rows) ≡ x ∷ []
-  in_home = filter_comm (λ (row : Row). row.number == o.number) (λ (row : Row). is_back_to home row.fate) rows ∙ ap (standing (is_back_to home)) only ∙ rw (ap (is_back_to home) fate_of ∙ eq-eqb (home_of code) home o.of_home) refl
-
-  -- none that stands before it has a lower number
-  least : (y : Row) (rest : List Row) → standing (is_back_to home) rows ≡ y ∷ rest → o.number ≤ y.number
-  least y rest e = let b = first_back home q ms rows rest y s e in o.least b.0 y.number b.1 b.2
-
   pub first_of : IsFirst home code o.number rows
   first_of =
-      let h = head_of (standing (is_back_to home) rows) x (first_least o.number (standing (is_back_to home) rows) x in_home order least) in
+      let in_home : with_number o.number (standing (is_back_to home) rows) ≡ x ∷ [] = filter_comm (λ (row : Row). row.number == o.number) (λ (row : Row). is_back_to home row.fate) rows ∙ ap (standing (is_back_to home)) only ∙ rw (ap (is_back_to home) fate_of ∙ eq-eqb (home_of code) home o.of_home) refl in
+      let h = head_of (standing (is_back_to home) rows) x (first_least o.number (standing (is_back_to home) rows) x in_home order (λ y rest e. let b = first_back home q ms rows rest y s e in o.least b.0 y.number b.1 b.2)) in
       record {
         row = x;
         number_is = found.number_is;
@@ -172,10 +162,6 @@ IsOnLink links to = (via : ℕ) × (via < links) × ((to ≡ Waiting via) ⊎ (t
 pub on_way : (links via : ℕ) (to : Fate) (s : State) → link_count s ≡ links → via < link_count s → to ≡ fate_at (On via) s → IsOnLink links to
 on_way links via to s many low e = (via, omega (arith, many, low), grind arith)
 
--- a queue that holds something is one of a code
-pub known_code : (code k : ℕ) (q : Lists) → slice_get (queue_at (Back code) q) 0 ≡ Some k → code < length q.back
-known_code code k q e = grind (arith, nat_tests, cases_lt, get_or_past)
-
 back_suc : (code n : ℕ) (q : Lists) → back_from code (suc n) q ≡ back_from code n q + length (queue_at (Back (code + n)) q)
 unfolding back_from
 back_suc code n q = refl
@@ -190,43 +176,38 @@ module _ (code : ℕ) (q q' : Lists) (others : (c : ℕ) → (code ≡ c → ⊥
   back_less less from (suc n) low high = grind (arith, nat_tests, cases_eq, back_suc, back_same, back_less less from n low)
 
 -- THE FIRST OF A CODE'S GOES TO A LINK: it waits for it, or is held for it
-pub either : (P : Fate → Type 0) (to : Fate) (via : ℕ) → (to ≡ Waiting via) ⊎ (to ≡ Held via) → P (Waiting via) → P (Held via) → P to
-either P to via h3 w h = grind arith
-
 module _ (home code : ℕ) (to : Fate) (q : Lists) (o : IsOldest home code q) (on : IsOnLink (length q.links) to) where
   abbrev gone : Lists
   gone = passed_first (Back code) to q
 
   pub apart : (c : ℕ) → same_fate to (Back c) ≡ false
-  apart c = either (λ f. same_fate f (Back c) ≡ false) to on.0 on.2 refl refl
+  apart c = let to_link = on.2 in grind arith
 
   pub taken : take 1 (queue_at (Back code) q) ≡ o.number ∷ []
   taken = ap (take 1) (head_of (queue_at (Back code) q) o.number o.first).1
 
   pub queue_then : (f : Fate) → is_standing f ≡ true → queue_at f gone ≡ cond (same_fate (Back code) f) (drop 1 (queue_at (Back code) q)) (cond (same_fate to f) (queue_at to q ++ o.number ∷ []) (queue_at f q))
-  queue_then f s = rw (← taken) (both_replaced q (Back code) to _ _ (known_code code o.number q o.first) (either (λ f. IsKnown f q) to on.0 on.2 on.1 on.1) f s)
+  queue_then f s =
+      let to_link = on.2 in
+      let low = on.1 in
+      let first = o.first in
+      let known : code < length q.back = grind (arith, nat_tests, cases_lt, get_or_past) in
+      rw (← taken) (both_replaced q (Back code) to _ _ known (grind arith) f s)
 
-  -- how many wait for the codes of the home: one less
-  code_then : length (queue_at (Back code) gone) + 1 ≡ length (queue_at (Back code) q)
-  code_then =
-      let h = head_of (queue_at (Back code) q) o.number o.first in
-      let own : queue_at (Back code) gone ≡ drop 1 (queue_at (Back code) q) = queue_then (Back code) refl ∙ rw (eq-eqb code code refl) refl in
-      omega (arith, ap length (own ∙ ap (drop 1) h.1), ap length h.1)
-
+  -- one less waits for the codes of the home
   pub fewer_back : back_from (16 * home) 16 gone + 1 ≡ back_from (16 * home) 16 q
   fewer_back =
       let of = o.of_home in
-      back_less code q gone (λ c ne. queue_then (Back c) refl ∙ rw (ne_eqb code c ne, apart c) refl) code_then (16 * home) 16 (omega (arith, of)) (omega (arith, of))
+      let h = (head_of (queue_at (Back code) q) o.number o.first).1 in
+      let less : length (queue_at (Back code) gone) + 1 ≡ length (queue_at (Back code) q) = grind (arith, nat_tests, queue_then (Back code) refl) in
+      back_less code q gone (λ c ne. queue_then (Back c) refl ∙ rw (ne_eqb code c ne, apart c) refl) less (16 * home) 16 (omega (arith, of)) (omega (arith, of))
 
   -- and at most one more stands on a link
   grown : (f : Fate) → is_standing f ≡ true → same_fate (Back code) f ≡ false → length (queue_at f gone) ≤ length (queue_at f q) + cond (same_fate to f) 1 0
   grown f standing off = grind (arith, nat_tests, queue_then f standing, same_is to f standing, length-append)
 
   on_then : (m : ℕ) → length (on_lists m gone) ≤ length (on_lists m q) + 1
-  on_then m =
-      let one : cond (on.0 == m) 1 0 ≤ 1 = grind arith in
-      let few = either (λ f. cond (same_fate f (Unacked m)) 1 0 + cond (same_fate f (Waiting m)) 1 0 + cond (same_fate f (Held m)) 1 0 ≤ 1) to on.0 on.2 (omega (arith, one)) (omega (arith, one)) in
-      omega (arith, on_length m q, on_length m gone, grown (Unacked m) refl refl, grown (Waiting m) refl refl, grown (Held m) refl refl, few)
+  on_then m = let to_link = on.2 in grind (arith, nat_tests, on_length m q, on_length m gone, grown (Unacked m) refl refl, grown (Waiting m) refl refl, grown (Held m) refl refl)
 
 -- ROOM
 pub turns_then : (a b : ℕ) (old mid new : QueuesState) → length mid.lists.links ≡ length old.lists.links → TakesTurns a old mid → TakesTurns b mid new → TakesTurns (a + b) old new
@@ -238,9 +219,6 @@ turns_one home code to old new o on e rooms room = record {
   rooms = λ f. let taken = rooms f in grind arith;
   on_link = λ n low. rw e (on_then home code to old.lists o on n);
 }
-
-pub links_then : (from to : Fate) (q q' : Lists) → q' ≡ passed_first from to q → length q'.links ≡ length q.links
-links_then from to q q' e = rw e (search links_stay)
 
 -- the numbers of a fate's rows, where the first that stood back by the code came to another
 module _ (code : ℕ) (to : Fate) (x : Row) (rest rows : List Row) (one : with_number x.number rows ≡ x ∷ []) (is : x.fate ≡ Back code) (of_code : standing (is_back code) rows ≡ x ∷ rest) (apart : same_fate to (Back code) ≡ false) where
@@ -273,12 +251,8 @@ module _ (home code : ℕ) (to : Fate) (k : Kept) (s : State) (f : StandsFor k s
 
   moves_then : Moves then (restood (take 1 (queue_at (Back code) k.lists)) to k.messages) s.rows after
   moves_then =
-      let back = f.stands.queues (Back code) in
       let same = it.number_is in
-      let joined : queue_at to k.lists ++ o.number ∷ [] ≡ numbers (rows_at to s.rows) ++ row.number ∷ [] = cc (f.stands.queues to, same) in
-      shifts_stand f.stands turned
-      (λ g b. queue_then home code to k.lists o on g b ∙ ap (λ (ns : List ℕ). cond (same_fate (Back code) g) (drop 1 (queue_at (Back code) k.lists)) (cond (same_fate to g) ns (queue_at g k.lists))) joined ∙ grind (arith, nat_tests, back))
-      (taken home code to k.lists o on ∙ ap (λ (n : ℕ). n ∷ []) (sym same))
+      shifts_stand f.stands turned (λ g b. grind (arith, nat_tests, queue_then home code to k.lists o on g b, f.stands.queues (Back code), f.stands.queues to)) (taken home code to k.lists o on ∙ ap (λ (n : ℕ). n ∷ []) (sym same))
 
   abbrev fate : Row → Fate
   fate r = fate_at (place_of (stream_of r.body) s.routing) s
@@ -286,28 +260,25 @@ module _ (home code : ℕ) (to : Fate) (k : Kept) (s : State) (f : StandsFor k s
   abbrev next : State
   next = record s { rows = after }
 
-  same_way : (p : Place) → fate_at p next ≡ fate_at p s
-  same_way p = grind arith
-
   pub turned_first : (new : Kept) → ((r : Row) → slice_get (standing (is_back code) s.rows) 0 ≡ Some r → to ≡ fate r) → Becoming k new then (restood (take 1 (queue_at (Back code) k.lists)) to k.messages) k.bodies k.links k.routing → TurnsOn home s new
   turned_first new way b =
       let way_is = way row (ap (λ (ys : List Row). slice_get ys 0) it.of_code) in
-      let off : is_back_to home to ≡ false = either (λ g. is_back_to home g ≡ false) to on.0 on.2 refl refl in
+      let to_link = on.2 in
+      let off : is_back_to home to ≡ false = grind arith in
       let on_back : is_back_to home row.fate ≡ true = ap (is_back_to home) it.fate_is ∙ eq-eqb (home_of code) home o.of_home in
       let rest_is : standing (is_back_to home) after ≡ it.rest = rest_stands (is_back_to home) fate to row it.rest s.rows way_is it.one it.first on_back off in
       let moved_is : moved (is_back_to home) fate after ≡ moved (is_back_to home) fate s.rows = moved_rest (is_back_to home) fate to row it.rest s.rows way_is it.one it.first on_back off in
       record {
         state = next;
-        stands = becomes k new _ _ _ _ _ next b (queues_for k s f _ _ _ moves_then (links_then (Back code) to k.lists then refl) _ _ f.routing (λ n. search last_stays));
+        stands = becomes k new _ _ _ _ _ next b (queues_for k s f _ _ _ moves_then (search links_stay) _ _ f.routing (λ n. search last_stays));
         turning = record {
           each = shifted_each to row s.rows it.one (IsTurningRow home s) t.each (λ e. absurd (let no : true ≡ false = sym e ∙ off in cc));
           order = subst (λ (ys : List Row). IsAscending (numbers ys)) (sym rest_is) (subst (λ (ys : List Row). IsAscending (numbers ys)) it.first t.order).1;
         };
-        same = ap (λ (rows : List Row). record s { rows = rows }) (moved_as (is_back_to home) (λ r. fate_at (place_of (stream_of r.body) s.routing) next) fate (λ r. same_way (place_of (stream_of r.body) s.routing)) after ∙ moved_is);
+        same = ap (λ (rows : List Row). record s { rows = rows }) (moved_as (is_back_to home) (λ r. fate_at (place_of (stream_of r.body) s.routing) next) fate (λ r. grind arith) after ∙ moved_is);
       }
 
 -- ALL TURN BACK
-
 none_left : (home : ℕ) (q : Lists) (ms : List Message) (rows xs : List Row) → Stands q ms rows → NoneBack home q → standing (is_back_to home) rows ≡ xs → standing (is_back_to home) rows ≡ []
 none_left home q ms rows [] s nothing e = e
 none_left home q ms rows (y ∷ rest) s nothing e =
@@ -340,11 +311,6 @@ module _ (home : ℕ) (old now : Parts) (g : Turning home old now) where
       subst (λ u. StandsFor (kept_of now) u) (ap (λ (rows : List Row). record so.state { rows = rows }) (sym (moved_nothing (is_back_to home) _ so.state.rows none)) ∙ so.same) so.stands
 
 -- A LINK THAT IS LEFT: what stood back for it can turn.
-
--- a message that stands back is a user's
-users_of : (n : ℕ) (r : Routing) (x : Row) (f : Fate) → is_back_to n f ≡ true → IsBackOf r x f → (is_users x ≡ true) × (stream_of x.body < 16)
-users_of n r x f e b = grind arith
-
 pub here_up : (parts : Parts) (n : ℕ) → n < length parts.links.items → AtLink n parts.links.items (λ link. link.phase ≡ Up) → IsHere parts.links.items n Up
 here_up parts n known up = let x = present parts.links.items n known in record { link = x.0; there = x.1; phase_is = up x.0 x.1; known = known }
 
@@ -356,8 +322,8 @@ turning_of blind n parts link s here there a =
     record {
       each = each_so (λ row. IsBackOf s.routing row row.fate) (IsTurningRow n (out_of_service blind n link s)) (λ x b e.
           let g = goes blind n link s at a.sound x e b in
-          let u = users_of n s.routing x x.fate e b in
-          (u.0, u.1, g.0, g.1, within (out_of_service blind n link s).links g.0 g.2.0 g.2.1)) s.rows a.sound.backs;
+          let users : (is_users x ≡ true) × (stream_of x.body < 16) = grind arith in
+          (users.0, users.1, g.0, g.1, within (out_of_service blind n link s).links g.0 g.2.0 g.2.1)) s.rows a.sound.backs;
       order = subst (λ (xs : List Row). IsAscending (numbers xs)) (filter_within (λ (row : Row). is_back_to n row.fate) (λ (row : Row). stands_back row.fate) (λ x e. home_back n x.fate e) s.rows) (ascends_filter (λ (row : Row). is_back_to n row.fate) (back s.rows) a.sound.back_order);
     }
 

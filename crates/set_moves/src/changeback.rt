@@ -1,10 +1,9 @@
 //! Changeback: streams come back to a link, and their messages with them (Q.704 6).
 ghost use Rattle.std.specs.Prelude.{◌≡◌, ◌≢◌, ◌+◌, ◌*◌, ◌<◌, ◌≤◌, ℕ, true, length, Some, OnErr, OnOk};
-ghost use Rattle.set_queues.specs.Buffers.{TakesRoom, room_at};
+ghost use Rattle.set_queues.specs.Buffers.{room_at};
 ghost use Rattle.set_queues.specs.Backs.{back_count};
-ghost use Rattle.set_queues.specs.Bodies.{CanHold};
 ghost use Rattle.set_route.specs.Routing.{code_for, code_of, home_of, is_free};
-ghost use Rattle.set_model.specs.Changeover.{released, released_from, acknowledged_back, can_declare, declared, declared_if, declared_from, some_declare, some_in_use};
+ghost use Rattle.set_model.specs.Changeover.{released, released_from, acknowledged_back, can_declare, declared_if, declared_from, some_declare, some_in_use};
 ghost use Rattle.set_model.specs.State.{State, link_count};
 ghost use Rattle.set_model.specs.Step.{on_link, in_service, comes_back, runs_out};
 ghost use Rattle.set_moves.specs.Agreement.{Agrees, Holds, StandsFor};

@@ -1,11 +1,11 @@
 //! Changeover: a link is left, orders tell the far end, and the link settles (Q.704 5). Orders of changeback are
 //! carried out here too (Q.704 6).
-ghost use Rattle.std.specs.Prelude.{◌≡◌, ◌<◌, ◌≤◌, ◌^◌, ◌%◌, ℕ, false, length, slice_get, slice_set, Some};
+ghost use Rattle.std.specs.Prelude.{◌≡◌, ◌<◌, ◌≤◌, ◌^◌, ℕ, false, length, slice_get, slice_set, Some};
 ghost use Rattle.l3_orders.specs.Grammar.{IsOrder, text};
 ghost use Rattle.set_queues.specs.Backs.{back_count};
 ghost use Rattle.set_queues.specs.Buffers.{TakesRoom};
 ghost use Rattle.set_queues.specs.Settling.{on};
-ghost use Rattle.set_model.specs.Changeover.{queued, out_of_service, left_by, settled, left_link, order_obeyed, changed_over, answered, reply_of, at_link};
+ghost use Rattle.set_model.specs.Changeover.{queued, left_by, settled, left_link, order_obeyed, changed_over, answered, reply_of, at_link};
 ghost use Rattle.set_model.specs.State.{State, LinkState, last_accepted};
 ghost use Rattle.set_model.specs.declared.phase.Phase.TheVariants.{Up, Down};
 ghost use Rattle.set_moves.specs.Agreement.{StandsFor, Agrees, Holds};

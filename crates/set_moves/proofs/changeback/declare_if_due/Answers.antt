@@ -2,7 +2,7 @@ use Rattle.std.proofs.Common.{arith, length, ◌++◌, [], ◌∷◌}
 use Rattle.set_events.specs.declared.answer.Fate.TheVariants.{Waiting}
 use Rattle.set_queues.specs.Buffers.{queue_at}
 use Rattle.set_queues.proofs.Passing.{links_stay}
-use Rattle.set_moves.proofs.Declaring.{asked_links, room_after}
+use Rattle.set_moves.proofs.Declaring.{room_after}
 use Rattle.set_moves.proofs.changeback.declare_if_due.Goals as goal
 
 pub returns-clause-room : goal.returns-clause-room
@@ -11,5 +11,5 @@ returns-clause-room c = room_after c.args.alternative c.args.parts.now _ c.requi
 pub returns-clause-whole : goal.returns-clause-whole
 returns-clause-whole c =
     let many = links_stay (Waiting c.args.alternative) (queue_at (Waiting c.args.alternative) c.args.parts.now.queues.lists ++ length c.args.parts.now.queues.messages ∷ []) c.args.parts.now.queues.lists in
-    let routed = asked_links c.ask.result c.args.home c.args.alternative c.stand_last.new.parts.routes c.ask.new.self c.ask.ensures.change in
+    let change = c.ask.ensures.change in
     grind arith

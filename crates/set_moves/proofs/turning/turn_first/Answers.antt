@@ -1,7 +1,7 @@
-use Rattle.std.proofs.Common.{rules, arith}
-use Rattle.set_events.specs.declared.answer.Fate.TheVariants.{Back}
+use Rattle.std.proofs.Common.{rules, arith, ◌≡◌, length}
+use Rattle.set_queues.proofs.Passing.{links_stay}
 use Rattle.set_moves.specs.Parts.{kept_of}
-use Rattle.set_moves.proofs.Turns.{turned_first, turns_one, fewer_back, links_then}
+use Rattle.set_moves.proofs.Turns.{turned_first, turns_one, fewer_back}
 use Rattle.set_moves.proofs.turning.turn_first.Goals as goal
 
 pub returns-clause-stands : goal.returns-clause-stands
@@ -14,4 +14,4 @@ pub returns-clause-fewer : goal.returns-clause-fewer
 returns-clause-fewer c = rw c.turn_back.ensures.lists (fewer_back c.args.number c.args.code c.way_of-to.result c.args.parts.now.queues.lists c.requires.oldest c.way_of-to.ensures.on_link)
 
 pub returns-clause-whole : goal.returns-clause-whole
-returns-clause-whole c = let many = links_then (Back c.args.code) c.way_of-to.result c.args.parts.now.queues.lists c.turn_back.new.self.lists c.turn_back.ensures.lists in grind arith
+returns-clause-whole c = let many : length c.turn_back.new.self.lists.links ≡ length c.args.parts.now.queues.lists.links = rw c.turn_back.ensures.lists (search links_stay) in grind arith
