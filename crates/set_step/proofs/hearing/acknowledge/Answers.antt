@@ -16,11 +16,4 @@ returns-clause-stands c = λ k s link counted there e f.
     rw (c.in-Ok.ensures.lists, c.in-Ok.ensures.messages, reaches.count_is) (acked_for (record k { lists = q; messages = c.args.queues.now.messages }) s c.args.number c.args.bsn link counted f there c.requires.bsn (e ∙ ap (λ (i : ℕ). link.acked + i) reaches.count_is))
 
 pub returns-clause-keeps : goal.returns-clause-keeps
-returns-clause-keeps c =
-    let q = c.args.queues.now.lists in
-    record {
-      message = c.in-Ok.ensures.rooms.1;
-      rooms = c.in-Ok.ensures.rooms.0;
-      fewer = λ k. on_less k q c.acknowledge.new.self.lists (rw c.in-Ok.ensures.lists (acked_less c.args.number c.args.bsn q c.requires.known));
-      backs = λ code. ap (queue_at (Back code)) c.in-Ok.ensures.lists;
-    }
+returns-clause-keeps c = grind (arith, nat_tests, on_less, acked_less, c.in-Ok.ensures.rooms.1, c.in-Ok.ensures.rooms.0, c.in-Ok.ensures.lists, c.requires.known)

@@ -1,4 +1,5 @@
-use Rattle.std.proofs.Common.{◌∙◌, sym}
+use Rattle.std.proofs.Common.{◌∙◌, sym, arith}
+use Rattle.std.proofs.lemmas.Bool.Decides.{nat_tests}
 use Rattle.set_moves.specs.Parts.{kept_of}
 use Rattle.set_step.proofs.Told.{delivered, message_taken, nothing_brought, not_accepted, order_taken, no_order_taken}
 use Rattle.set_step.proofs.hearing.take_in.Goals as goal
@@ -10,14 +11,10 @@ pub returns-then-not-has_message : goal.returns-then-not-has_message
 returns-then-not-has_message c = λ s a. nothing_brought c.args.parts.now s c.args.accept c.args.unit.now (sym c.has_message.ensures ∙ c.if-not-has_message.true) a.stands
 
 pub returns-in-Some : goal.returns-in-Some
-returns-in-Some c = λ s a. rw c.if-not-accept.false
-    (message_taken (record c.args.parts.now { inbox = c.push_back_reserved.new.self }) s c.args.unit.now c.in-Some.message (sym c.requires.message ∙ c.in-Some.is)
-    (delivered (kept_of c.args.parts.now) s c.push_back_reserved.new.self.items c.in-Some.message a.stands c.push_back_reserved.ensures.items))
+returns-in-Some c = grind (arith, nat_tests, message_taken, delivered, c.if-not-accept.false, c.requires.message, c.in-Some.is, c.push_back_reserved.ensures.items)
 
 pub returns-in-Some-order : goal.returns-in-Some-order
-returns-in-Some-order c = λ s a. rw c.if-not-accept.false
-    (order_taken c.obey.new.parts s c.args.unit.now c.in-Some-order.order c.obey.result (sym c.has_message.ensures ∙ c.if-not-has_message.false) (sym c.requires.message ∙ c.in_default.is) (sym c.requires.order ∙ c.in-Some-order.is) (c.obey.ensures.stands s a))
+returns-in-Some-order c = λ s a. grind (arith, nat_tests, order_taken, c.if-not-accept.false, c.has_message.ensures, c.if-not-has_message.false, c.requires.message, c.in_default.is, c.requires.order, c.in-Some-order.is, c.obey.ensures.stands)
 
 pub returns-in-None : goal.returns-in-None
-returns-in-None c = λ s a. rw c.if-not-accept.false
-    (no_order_taken c.args.parts.now s c.args.unit.now (sym c.has_message.ensures ∙ c.if-not-has_message.false) (sym c.requires.message ∙ c.in_default.is) (sym c.requires.order ∙ c.in-None.is) a.stands)
+returns-in-None c = grind (arith, nat_tests, no_order_taken, c.if-not-accept.false, c.has_message.ensures, c.if-not-has_message.false, c.requires.message, c.in_default.is, c.requires.order, c.in-None.is)

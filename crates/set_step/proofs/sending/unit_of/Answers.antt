@@ -1,4 +1,6 @@
 use Rattle.l2_window.specs.declared.control.Choice.TheVariants.{First}
+use Rattle.std.proofs.Common.{arith}
+use Rattle.std.proofs.lemmas.Bool.Decides.{nat_tests}
 use Rattle.set_events.specs.declared.answer.Fate.TheVariants.{Waiting, Unacked}
 use Rattle.set_model.specs.Control.{control_after}
 use Rattle.set_model.specs.Rows.{octets_in, unack}
@@ -28,10 +30,7 @@ returns-in-First c = λ s link there a.
     (c.send_first.ensures (goes_on n First link s) link' (get_set_same s.links n link' (within s.links n link there)) stands (a.sound.links n link there).in_order)
 
 pub returns-in-Fill : goal.returns-in-Fill
-returns-in-Fill c = λ s link there a.
-    fill_given c.args.number link s c.go_on-head-in-Fill.new.parts c.go_on-head-in-Fill.result (c.in-Fill.ensures.chosen s link there a)
-    (rw c.in-Fill.is at (c.go_on-head-in-Fill.ensures.head s link there a))
-    (rw c.in-Fill.is at (c.go_on-head-in-Fill.ensures.stands s link there a))
+returns-in-Fill c = grind (arith, nat_tests, fill_given, c.in-Fill.ensures.chosen, c.in-Fill.is, c.go_on-head-in-Fill.ensures.head, c.go_on-head-in-Fill.ensures.stands)
 
 pub body_at-body-requires-in-First-clause-place : goal.body_at-body-requires-in-First-clause-place
 body_at-body-requires-in-First-clause-place c = let there : IsThere First c.args.number c.args.parts.now.queues.lists = rw c.in-First.is at c.choice_for-choice.ensures.there in there.0

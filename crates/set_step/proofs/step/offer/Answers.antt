@@ -1,4 +1,5 @@
-use Rattle.std.proofs.Common.{refl, ◌≡◌, ◌∙◌, ap, sym, subst, List, ℕ, length, Option, Some, None}
+use Rattle.std.proofs.Common.{refl, ◌≡◌, ◌∙◌, ap, sym, subst, List, ℕ, length, Option, Some, None, arith}
+use Rattle.std.proofs.lemmas.Bool.Decides.{nat_tests}
 use Rattle.set_events.specs.declared.answer.Answer.TheVariants.{Refused, Accepted}
 use Rattle.set_events.specs.declared.answer.Fate.{Fate}
 use Rattle.set_events.specs.declared.answer.Refusal.{Refusal as SetRefusal}
@@ -32,12 +33,7 @@ returns-in-Some-clause-ok c = λ s a.
 
 accepted_so : (parts : Parts) (s : State) (body read : List ℕ) (fate : Fate) (number : ℕ) → offer_refusal s.rows body ≡ None → read ≡ body → fate ≡ fate_at (place_of (stream_of body) s.routing) s → number ≡ length s.rows
     → StandsFor (kept_of parts) (record s { rows = appended s.rows read fate; routing = accepted (stream_of read) s.routing }) → Gives (offered (offer_refusal s.rows body) s body) (Accepted number) parts
-accepted_so parts s body read fate number none same there is stands =
-    subst (λ (o : Option SetRefusal). Gives (offered o s body) (Accepted number) parts) (sym none) (record {
-      answer_is = ap Accepted is;
-      stands = subst (λ (f : Fate). StandsFor (kept_of parts) (record s { rows = appended s.rows body f; routing = accepted (stream_of body) s.routing })) there
-          (subst (λ (b : List ℕ). StandsFor (kept_of parts) (record s { rows = appended s.rows b fate; routing = accepted (stream_of b) s.routing })) same stands);
-    })
+accepted_so parts s body read fate number none same there is stands = grind (arith, nat_tests)
 
 pub returns-clause-ok : goal.returns-clause-ok
 returns-clause-ok c = λ s a.

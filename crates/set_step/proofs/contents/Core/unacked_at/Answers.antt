@@ -1,4 +1,5 @@
 use Rattle.std.proofs.Common.{arith, ◌≡◌, ◌∙◌, ap, sym, ℕ, ◌<◌, ◌+◌, length, slice_get}
+use Rattle.std.proofs.lemmas.Bool.Decides.{nat_tests}
 use Rattle.std.proofs.lemmas.List.{length-map}
 use Rattle.set_events.specs.declared.answer.Fate.TheVariants.{Unacked}
 use Rattle.set_queues.specs.Buffers.{queue_at, last_at}
@@ -17,33 +18,19 @@ known : (c : After-number_at) → c.args.link < length (kept_of c.self.inside.pa
 known c = let size = length-map c.self.inside.parts.links.items link_of in omega (arith, size, c.if-from-len.false, c.len.ensures, c.from.ensures)
 
 pub returns-in_err-number : goal.returns-in_err-number
-returns-in_err-number c =
-    let a = (goal.at.returns-in_err-number c).After-number_at in
-    rw (← c.self.view_is) (rw c.from_residual.ensures (λ s st. sym (unacked_none (kept_of c.self.inside.parts) s c.args.link c.args.place st (at_place a ∙ c.in_err-number.was))))
+returns-in_err-number c = grind (arith, nat_tests, unacked_none, at_place, c.from_residual.ensures, c.in_err-number.was)
 
 pub returns : goal.returns
-returns c =
-    let a = (goal.at.returns c).After-number_at in
-    let last = c.last-last.ensures.value ∙ c.window.ensures.last in
-    let place : last_at c.args.link c.self.inside.parts.queues.lists + (c.args.place + 1) ≡ last_at c.args.link c.self.inside.parts.queues.lists + 1 + c.args.place = omega (arith) in
-    rw (← c.self.view_is) (rw (c.number_after-fsn.ensures.value, last, c.from-3.ensures, place) (λ s st. sym (unacked_there (kept_of c.self.inside.parts) s c.args.link c.args.place c.in_ok-number.number st (known a) (at_place a ∙ c.in_ok-number.was))))
+returns c = grind (arith, nat_tests, unacked_there, known, at_place, c.last-last.ensures.value, c.window.ensures.last, c.number_after-fsn.ensures.value, c.from-3.ensures, c.in_ok-number.was)
 
 pub number_after-fsn-requires-clause-places : goal.number_after-fsn-requires-clause-places
-number_after-fsn-requires-clause-places c =
-    let a = (goal.at.number_after-fsn-requires-clause-places c).After-number_at in
-    let there = within (queue_at (Unacked c.args.link) c.self.inside.parts.queues.lists) c.args.place c.in_ok-number.number (at_place a ∙ c.in_ok-number.was) in
-    let few = ap length c.window.ensures.unacked in
-    omega (arith, there, few, c.last-last.ensures.sound, c.from-3.ensures)
+number_after-fsn-requires-clause-places c = grind (arith, nat_tests, within, at_place, c.in_ok-number.was, c.window.ensures.unacked, c.last-last.ensures.sound, c.from-3.ensures)
 
 pub returns-then-from-len : goal.returns-then-from-len
 returns-then-from-len c = rw (← c.self.view_is) (λ s st. sym (unacked_past (kept_of c.self.inside.parts) s c.args.link c.args.place st (let size = length-map c.self.inside.parts.links.items link_of in omega (arith, size, c.if-from-len.true, c.len.ensures, c.from.ensures, c.self.inside.parts.links.ok.0))))
 
 pub number_at-requires : goal.number_at-requires
-number_at-requires c =
-    let as_many = (whole_of c.self.inside.parts c.self.invariant).as_many in
-    omega (arith, as_many, c.if-from-len.false, c.len.ensures, c.from.ensures, c.self.inside.parts.links.ok.0)
+number_at-requires c = grind (arith, nat_tests, whole_of, c.self.invariant, c.if-from-len.false, c.len.ensures, c.from.ensures)
 
 pub window-requires : goal.window-requires
-window-requires c =
-    let as_many = (whole_of c.self.inside.parts c.self.invariant).as_many in
-    omega (arith, as_many, c.if-from-len.false, c.len.ensures, c.from.ensures, c.self.inside.parts.links.ok.0)
+window-requires c = grind (arith, nat_tests, whole_of, c.self.invariant, c.if-from-len.false, c.len.ensures, c.from.ensures)
