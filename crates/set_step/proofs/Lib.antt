@@ -1,10 +1,4 @@
-pub mod Bodies
 pub mod Carrying
-pub mod Choosing
-pub mod Chosen
 pub mod Counting
 pub mod Fresh
-pub mod Heard
 pub mod Reading
-pub mod Refusals
-pub mod Told

@@ -1,4 +1,2 @@
 pub mod Answering
 pub mod Faults
-pub mod Hearing
-pub mod Sending

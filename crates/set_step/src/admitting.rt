@@ -1,25 +1,12 @@
 //! Why an event of a link is refused, and what it may count on where it isn't.
 ghost use Rattle.std.specs.Prelude.{◌≡◌, ◌<◌, length, IfNone, IfSome};
-ghost use Rattle.set_model.specs.State.{State, LinkState};
-ghost use Rattle.set_model.specs.Step.{Outcome, on_link, in_service, rises, gives_up};
-ghost use Rattle.set_model.specs.declared.phase.Phase.TheVariants.{Up, Down, Settled};
-ghost use Rattle.set_moves.specs.Agreement.{Agrees};
-ghost use Rattle.set_moves.specs.Parts.{Answers, AtLink, Gives, kept_of};
+ghost use Rattle.set_model.specs.Step.{on_link, rises, gives_up};
+ghost use Rattle.set_model.specs.declared.phase.Phase.TheVariants.{Down, Settled};
+ghost use Rattle.set_moves.specs.Parts.{Answers, AtLink};
 
 use set_events::{Answer, Refusal};
 use set_model::Phase;
-use set_moves::{Parts, out_of_service, phase_of};
-
-/// Why an event that needs the link in service is refused, if it is.
-pub(crate) fn unserved(parts: &Parts, number: u8) -> Option<Refusal>
-    ensures refused { IfSome result (λ why. (s : State) (next : LinkState → Outcome)
-        → Agrees (kept_of parts.now) s
-        → Gives (in_service number s next) (Answer.Refused why) parts.now) }
-    ensures known { IfNone result (number < length parts.now.links.items) }
-    ensures up { IfNone result (AtLink number parts.now.links.items (λ link. link.phase ≡ Up)) }
-{
-    out_of_service(&parts.links, number)
-}
+use set_moves::{Parts, phase_of};
 
 /// Why a link can't come up, if it can't.
 pub(crate) fn unraised(parts: &Parts, number: u8) -> Option<Refusal>

@@ -14,11 +14,10 @@
 //!
 //! An event costs what it moves, however many messages there ever were (`tools/set-bench`).
 //!
-//! What is kept, and the moves of changeover and changeback, stand in `set_moves`. [`is_asked`] is the law by which
-//! whatever is offered is of one of the 16 streams, as the model asks of an event.
+//! What is kept, and the moves of changeover and changeback, stand in `set_moves`; the units that are sent and heard in
+//! `set_traffic`. [`is_asked`] is the law by which whatever is offered is of one of the 16 streams, as the model asks of an event.
 //!
-//! The files: `admitting` why an event of a link is refused; `sending` and `hearing` what a link's terminal asks and
-//! tells; `step` the case of each event; `contents` the whole.
+//! The files: `admitting` why a link doesn't come up or isn't given up; `step` the case of each event; `contents` the whole.
 //!
 //! This crate reads no clock, waits for nothing, takes no lock and does no IO. A call that may want memory
 //! takes it before it changes anything.
@@ -27,8 +26,6 @@
 mod admitting;
 mod contents;
 mod fault;
-mod hearing;
-mod sending;
 mod step;
 
 pub use contents::Core;

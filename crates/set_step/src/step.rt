@@ -15,9 +15,7 @@ ghost use Rattle.set_moves.specs.Parts.{Answers, AreCounted, Becomes, BecomesAt,
 ghost use Rattle.set_moves.specs.Refusing.{refusal_by};
 ghost use Rattle.set_moves.specs.Room.{HasRoom, IsReady};
 
-use super::admitting::{unraised, unserved, unwaited};
-use super::hearing::hear;
-use super::sending::send_next;
+use super::admitting::{unraised, unwaited};
 use l2_units::LONGEST_BODY;
 use l3_orders::Order;
 use set_events::{Answer, Body, Event, Fate, Refusal};
@@ -27,6 +25,7 @@ use set_moves::{
     service_indicator, settle, stand_last, stream_of_body, time_out,
 };
 use set_queues::Queues;
+use set_traffic::{hear, send_next, unserved};
 use std::alloc::AllocError;
 
 /// What is answered to an event is put into `answer`: an answer has room for a unit, and one that is handed on by value is
@@ -249,7 +248,7 @@ fn bring_up(parts: &mut Parts, number: u8, answer: &mut Answer) -> Result<(), Al
 }
 
 /// The settled link is in service from now on.
-#[tactic(auto, using(crate::proofs::Refusals::queue_there))]
+#[tactic(auto, using(set_traffic::proofs::Refusals::queue_there))]
 fn rise(parts: &mut Parts, number: u8)
     requires holds { Holds (kept_of parts.old) }
     requires known { number < length parts.old.links.items }

@@ -1,6 +1,6 @@
 use Rattle.set_model.specs.declared.phase.Phase.TheVariants.{Settled}
 use Rattle.set_moves.proofs.Admitting.{agrees_same, risen_done}
-use Rattle.set_step.proofs.Refusals.{in_state}
+use Rattle.set_traffic.proofs.Refusals.{in_state}
 use Rattle.set_step.proofs.step.bring_up.Goals as goal
 
 pub returns-clause-ok : goal.returns-clause-ok

@@ -2,7 +2,7 @@ use Rattle.std.proofs.Common.{refl}
 use Rattle.set_model.specs.declared.phase.Phase.TheVariants.{Down}
 use Rattle.set_moves.proofs.Admitting.{agrees_same, here_same, given_done}
 use Rattle.set_moves.proofs.Rooms.{here_room}
-use Rattle.set_step.proofs.Refusals.{here_at, in_state}
+use Rattle.set_traffic.proofs.Refusals.{here_at, in_state}
 use Rattle.set_step.proofs.step.give_up.Goals as goal
 
 pub returns-clause-ok : goal.returns-clause-ok

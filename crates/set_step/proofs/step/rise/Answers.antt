@@ -15,7 +15,7 @@ use Rattle.set_moves.specs.declared.parts.Parts.{Parts}
 use Rattle.set_moves.specs.Agreement.{Holds}
 use Rattle.set_moves.specs.Parts.{AtLink, link_of, kept_of}
 use Rattle.set_moves.proofs.Becoming.{risen_then}
-use Rattle.set_step.proofs.Refusals.{queue_there}
+use Rattle.set_traffic.proofs.Refusals.{queue_there}
 use Rattle.set_step.proofs.step.rise.Goals as goal
 
 -- nothing stands on a link that settled

@@ -1,8 +1,8 @@
-use Rattle.std.proofs.Common.{arith, ◌≡◌, ◌∙◌, ap, sym, ℕ, ◌<◌, ◌+◌, length, slice_get}
+use Rattle.std.proofs.Common.{arith, ◌≡◌, ◌∙◌, ap, sym, ℕ, ◌<◌, length, slice_get}
 use Rattle.std.proofs.lemmas.Bool.Decides.{nat_tests}
 use Rattle.std.proofs.lemmas.List.{length-map}
 use Rattle.set_events.specs.declared.answer.Fate.TheVariants.{Unacked}
-use Rattle.set_queues.specs.Buffers.{queue_at, last_at}
+use Rattle.set_queues.specs.Buffers.{queue_at}
 use Rattle.set_model.proofs.Lists.{within}
 use Rattle.set_moves.specs.Parts.{kept_of, link_of}
 use Rattle.set_step.proofs.Reading.{unacked_there, unacked_none, unacked_past}

@@ -1,0 +1,17 @@
+use Rattle.std.proofs.Common.{arith, ◌∙◌, ap, ◌+◌, ℕ}
+use Rattle.std.proofs.lemmas.Bool.Decides.{nat_tests}
+use Rattle.set_moves.proofs.Less.{acked_less, on_less}
+use Rattle.set_moves.proofs.States.{acked_for, link_for}
+use Rattle.set_traffic.proofs.hearing.acknowledge.Goals as goal
+
+pub returns-then-acked-eq0-clause-stands : goal.returns-then-acked-eq0-clause-stands
+returns-then-acked-eq0-clause-stands c = λ k s link counted there e f. rw c.if-acked-eq0.true (rw f.routing (link_for _ s c.args.number link counted s.routing f there (omega (arith, e, c.if-acked-eq0.true))))
+
+pub returns-clause-stands : goal.returns-clause-stands
+returns-clause-stands c = λ k s link counted there e f.
+    let q = c.args.queues.now.lists in
+    let reaches = c.requires.reach (grind (arith, nat_tests, c.if-acked-eq0.false)) in
+    rw (c.in-Ok.ensures.lists, c.in-Ok.ensures.messages, reaches.count_is) (acked_for (record k { lists = q; messages = c.args.queues.now.messages }) s c.args.number c.args.bsn link counted f there c.requires.bsn (e ∙ ap (λ (i : ℕ). link.acked + i) reaches.count_is))
+
+pub returns-clause-keeps : goal.returns-clause-keeps
+returns-clause-keeps c = grind (arith, nat_tests, on_less, acked_less, c.in-Ok.ensures.rooms.1, c.in-Ok.ensures.rooms.0, c.in-Ok.ensures.lists, c.requires.known)

@@ -1,0 +1,45 @@
+use Rattle.std.proofs.Common.{refl, arith, ap, sym, subst, List, slice_set}
+use Rattle.std.proofs.lemmas.Bool.Decides.{nat_tests}
+use Rattle.l2_units.specs.Grammar.{head_of}
+use Rattle.set_model.specs.Step.{is_msu, after_control}
+use Rattle.set_model.specs.State.{LinkState, window_of}
+use Rattle.set_moves.specs.Agreement.{StandsFor}
+use Rattle.set_moves.specs.Parts.{kept_of}
+use Rattle.set_traffic.proofs.Choosing.{window_is}
+use Rattle.set_traffic.proofs.Heard.{part_reaches, part_told, link_told, heard_link}
+use Rattle.set_moves.proofs.Links.{found, link_set, set_view, stands_for}
+use Rattle.set_moves.proofs.Rooms.{counted_set, wider}
+use Rattle.set_traffic.proofs.hearing.control_hears.Goals as goal
+
+pub hear_at-part-requires : goal.hear_at-part-requires
+hear_at-part-requires c = c.requires.counted c.args.number _ (found c.args.parts.now.links.items c.args.number c.from.result c.index_mut-link.result.now c.from.ensures c.requires.known c.index_mut-link.ensures.value)
+
+pub acknowledge-requires-clause-reach : goal.acknowledge-requires-clause-reach
+acknowledge-requires-clause-reach c = λ some. rw c.hear_at-part.ensures.part (part_reaches c.index_mut-link.result.now.control c.window-window.result.now c.header_in-head.result c.has_message.result c.args.parts.now.queues.lists c.args.number c.window-window.ensures.last c.window-window.ensures.unacked (rw c.hear_at-part.ensures.part at some))
+
+pub returns-clause-part : goal.returns-clause-part
+returns-clause-part c = λ s link there f.
+    let n = c.args.number in
+    let x = c.index_mut-link.result.now in
+    let w = c.window-window.result.now in
+    let is = window_is (kept_of c.args.parts.now) s n link w f there c.window-window.ensures.last c.window-window.ensures.unacked c.window-window.ensures.unsent in
+    let same = stands_for c.args.parts.now.links.items n c.from.result x c.from.ensures c.requires.known c.index_mut-link.ensures.value s.links link f.links there in
+    part_told w (window_of n link s.rows) is c.header_in-head.result (head_of c.args.unit.now) c.header_in-head.ensures c.has_message.result (is_msu c.args.unit.now) c.has_message.ensures x.control link.control (ap (λ (l : LinkState). l.control) same) c.hear_at-part.result c.hear_at-part.ensures.part
+
+pub returns-clause-stands : goal.returns-clause-stands
+returns-clause-stands c = λ s link there f.
+    let n = c.args.number in
+    let x = c.index_mut-link.result.now in
+    let w = c.window-window.result.now in
+    let is = window_is (kept_of c.args.parts.now) s n link w f there c.window-window.ensures.last c.window-window.ensures.unacked c.window-window.ensures.unsent in
+    let heard = heard_link c.hear_at-part.result (head_of c.args.unit.now) c.args.unit.now n s link in
+    let links = link_set c.args.parts.now.links.items n c.from.result x c.from.ensures c.requires.known c.index_mut-link.ensures.value c.hear_at-part.new.link s.links link heard f.links there
+    (λ e. link_told w (window_of n link s.rows) is c.header_in-head.result (head_of c.args.unit.now) c.header_in-head.ensures c.has_message.result (is_msu c.args.unit.now) c.has_message.ensures x c.hear_at-part.new.link link c.hear_at-part.result e c.hear_at-part.ensures.link) in
+    subst (λ (ls : List LinkState). StandsFor (record (kept_of c.args.parts.now) { lists = c.acknowledge.new.queues.lists; messages = c.acknowledge.new.queues.messages; links = ls }) (after_control c.hear_at-part.result (head_of c.args.unit.now) c.args.unit.now n s link)) (sym links)
+    (c.acknowledge.ensures.stands (kept_of c.args.parts.now) s link heard there refl f)
+
+pub returns-clause-counted : goal.returns-clause-counted
+returns-clause-counted c = counted_set 2305843009213693952 c.args.parts.now.links.items _ c.args.number c.hear_at-part.new.link (wider 1152921504606846976 2305843009213693952 c.args.parts.now.links.items (omega arith) c.requires.counted) (ap (λ k. slice_set c.args.parts.now.links.items k c.hear_at-part.new.link) c.from.ensures) c.hear_at-part.ensures.counted
+
+pub returns-clause-keeps : goal.returns-clause-keeps
+returns-clause-keeps c = grind (arith, nat_tests, set_view, c.acknowledge.ensures.keeps, c.from.ensures, c.requires.known, c.index_mut-link.ensures.value, c.hear_at-part.ensures.link)

@@ -1,0 +1,59 @@
+use Rattle.std.proofs.Common.{refl, ◌≡◌}
+use Rattle.l2_units.specs.Grammar.{head_of as header_in}
+use Rattle.set_events.specs.declared.answer.Answer.TheVariants.{Heard as HeardBack, Refused}
+use Rattle.set_events.specs.declared.answer.Refusal.TheVariants.{Nothing}
+use Rattle.set_model.specs.declared.phase.Phase.TheVariants.{Up}
+use Rattle.set_model.specs.Control.{part_of}
+use Rattle.set_model.specs.State.{State, window_of}
+use Rattle.set_model.specs.Step.{heard as heard_of, after_control, is_msu}
+use Rattle.set_moves.specs.Agreement.{StandsFor, Agrees}
+use Rattle.set_traffic.specs.Hearing.{order_brought, message_brought}
+use Rattle.set_moves.specs.Parts.{kept_of}
+use Rattle.set_moves.proofs.Admitting.{IsIn, served}
+use Rattle.set_traffic.proofs.Refusals.{in_state}
+use Rattle.set_traffic.proofs.Told.{heard_gives, heard_controls, heard_sound, place_still, spacious_still}
+use Rattle.set_traffic.proofs.hearing.hear.Goals as goal
+use Rattle.set_traffic.proofs.hearing.hear.Goals.{After-control_hears-part}
+
+-- the link of a state that agreed, what its control told, and the state after it, which the parts agree with
+module _ (c : After-control_hears-part) (s : State) (a : Agrees (kept_of c.args.parts.now) s) where
+  at : IsIn s c.args.number Up
+  at = in_state c.args.parts.now s c.args.number Up a c.in_default.ensures.known c.in_default.ensures.up
+
+  stood : StandsFor (kept_of c.make_space.new.parts) s
+  stood = rw c.in_ok-message.ensures.same a.stands
+
+  told : c.control_hears-part.result ≡ part_of at.link.control (window_of c.args.number at.link s.rows) (header_in c.args.unit.now) (is_msu c.args.unit.now)
+  told = c.control_hears-part.ensures.part s at.link at.there stood
+
+  after : Agrees (kept_of c.control_hears-part.new.parts) (after_control c.control_hears-part.result (header_in c.args.unit.now) c.args.unit.now c.args.number s at.link)
+  after = record {
+    stands = c.control_hears-part.ensures.stands s at.link at.there stood;
+    sound = heard_sound c.args.number s at.link c.args.unit.now c.control_hears-part.result told (record { there = at.there; phase_is = at.phase_is }) a.sound;
+  }
+
+pub take_in-took-requires-clause-holds : goal.take_in-took-requires-clause-holds
+take_in-took-requires-clause-holds c = (_, after (goal.at.take_in-took-requires-clause-holds c).After-control_hears-part c.requires.holds.0 c.requires.holds.1)
+
+pub take_in-took-requires-clause-inbox : goal.take_in-took-requires-clause-inbox
+take_in-took-requires-clause-inbox c = place_still (message_brought c.args.unit.now) c.make_space.new.parts c.control_hears-part.new.parts c.control_hears-part.ensures.keeps.inbox c.in_ok-message.ensures.inbox
+
+pub take_in-took-requires-clause-room : goal.take_in-took-requires-clause-room
+take_in-took-requires-clause-room c = spacious_still (order_brought c.args.unit.now) c.make_space.new.parts c.control_hears-part.new.parts c.control_hears-part.ensures.keeps c.in_ok-message.ensures.room
+
+pub returns-clause-ok : goal.returns-clause-ok
+returns-clause-ok c = λ s a.
+    let n = c.args.number in
+    let unit = c.args.unit.now in
+    let so = (goal.at.returns-clause-ok c).After-control_hears-part in
+    let i = at so s a in
+    let gives = heard_gives n s i.link unit c.control_hears-part.result c.take_in-took.result c.report_on.result c.take_in-took.new.parts (told so s a) c.report_on.ensures (c.take_in-took.ensures _ (after so s a)) in
+    served s n (heard_of unit n s) (HeardBack c.report_on.result) c.take_in-took.new.parts i
+    (rw (heard_controls n s i.link unit (λ head status e. c.in_default-unit.not-Lssu head status e)) gives)
+
+pub returns-in-Lssu-clause-ok : goal.returns-in-Lssu-clause-ok
+returns-in-Lssu-clause-ok c = λ s a.
+    let n = c.args.number in
+    let i = in_state c.args.parts.now s n Up a c.in_default.ensures.known c.in_default.ensures.up in
+    served s n (heard_of c.args.unit.now n s) (Refused Nothing) c.args.parts.now i
+    (rw c.in-Lssu.is (record { answer_is = refl; stands = a.stands }))

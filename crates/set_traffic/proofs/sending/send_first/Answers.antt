@@ -1,0 +1,23 @@
+use Rattle.std.proofs.Common.{refl, arith, ◌≡◌, ◌≢◌, ap, ◌<◌, List, ℕ, [], length, true, false}
+use Rattle.set_events.specs.declared.answer.Fate.TheVariants.{Waiting}
+use Rattle.set_queues.specs.Buffers.{queue_at}
+use Rattle.set_moves.specs.Parts.{kept_of}
+use Rattle.set_moves.proofs.Becoming.{sent_then}
+use Rattle.set_traffic.proofs.sending.send_first.Goals as goal
+
+some : (xs : List ℕ) → 0 < length xs → xs ≢ []
+some xs h e = let none : length xs ≡ 0 = ap length e in omega (arith, h, none)
+
+pub unreachable-requires : goal.unreachable-requires
+unreachable-requires c = let no : false ≡ true = c.in-Err.ensures.succeeds (some (queue_at (Waiting c.args.number) c.args.parts.now.queues.lists) c.requires.some) c.requires.few in absurd (cc)
+
+pub returns : goal.returns
+returns c = λ s link there f order. sent_then (kept_of c.args.parts.now) _ s c.args.number c.in-Ok.field-0.0 link f order there c.in-Ok.ensures.sent.first (record {
+  settings_same = refl;
+  lists_are = c.in-Ok.ensures.sent.lists;
+  messages_are = c.in-Ok.ensures.messages;
+  bodies_are = refl;
+  links_are = f.links;
+  routing_is = refl;
+  inbox_same = refl;
+})

@@ -1,0 +1,271 @@
+//! What a heard unit does to a set.
+ghost use Rattle.std.specs.Prelude.{◌≡◌, ◌<◌, ◌≤◌, ◌^◌, false, length, Some, IsOk, IfOk, IfSome, OnErr, OnOk};
+ghost use Rattle.l2_units.specs.Grammar.{head_of as header_of};
+ghost use Rattle.l3_orders.specs.Grammar.{IsOrder};
+ghost use Rattle.set_route.specs.Routing.{home_of};
+ghost use Rattle.set_model.specs.Control.{part_of};
+ghost use Rattle.set_model.specs.State.{State, window_of};
+ghost use Rattle.set_model.specs.Step.{in_service, heard, is_msu, brought, takes, after_control, report_of};
+ghost use Rattle.set_moves.specs.Agreement.{Agrees, Holds};
+ghost use Rattle.set_traffic.specs.Hearing.{Acknowledges, HasPlace, IsSpacious, KeepsQueues, KeepsSpace, ReachesTo, counted_at, order_brought, message_brought};
+ghost use Rattle.set_moves.specs.Parts.{Answers, AreCounted, IsCounted, IsWhole, OfStates, BecomesAt, Obeys, kept_of};
+ghost use Rattle.set_moves.specs.Room.{IsReady, IsSpaciousFor, SameButRoom, back_at, home_room};
+
+use super::admitting::unserved;
+use l2_units::{Header, Unit, header_in};
+use l2_window::{HeardPart, Window};
+use l3_orders::{Order, read_order};
+use set_events::{Answer, Fate, Refusal, Report, Took};
+use set_moves::{
+    HeardBody, Link, Parts, make_room, make_room_beside, obey, service_indicator, target_of,
+};
+use set_queues::{Queues, fate_on};
+use set_route::home_of_code;
+use std::alloc::AllocError;
+
+/// A unit was heard: a FISU or MSU acknowledges, may bring a body, and may ask for retransmission.
+/// An LSSU is refused, since the error control has nothing to do with it.
+///
+/// All memory that the body may want is taken first, so a fault leaves everything as it was.
+pub fn hear(
+    parts: &mut Parts,
+    number: u8,
+    unit: &Unit,
+    answer: &mut Answer,
+) -> Result<(), AllocError>
+    requires holds { Holds (kept_of parts.old) }
+    requires counted { AreCounted (2 ^ 60) parts.old.links.items }
+    ensures ok { OnOk result (Answers parts.old parts.new answer.new (λ s. in_service number s
+        (heard unit.now number s))) }
+    ensures err { OnErr result (kept_of parts.new ≡ kept_of parts.old) }
+    ensures none { is_msu unit.now ≡ false → IsOk result }
+{
+    if let Some(why) = unserved(parts, number) {
+        *answer = Answer::Refused { why };
+        return Ok(());
+    }
+    if let Unit::Lssu { .. } = unit {
+        *answer = Answer::Refused {
+            why: Refusal::Nothing,
+        };
+        return Ok(());
+    }
+    let order = order_in(unit);
+    let message = make_space(parts, unit, order)?;
+    let part = control_hears(parts, number, unit);
+    let took = take_in(parts, part.accept, unit, order, message);
+    *answer = Answer::Heard {
+        report: report_on(part, took),
+    };
+    Ok(())
+}
+
+/// Takes the memory that the unit's body may want: for a message in the inbox, which is the result, or for an order
+/// that answers it and for the messages that it may move. A fill-in unit wants none.
+fn make_space(
+    parts: &mut Parts,
+    unit: &Unit,
+    order: Option<Order>,
+) -> Result<Option<HeardBody>, AllocError>
+    requires whole { IsWhole parts.old }
+    requires order { order ≡ order_brought unit.now }
+    ensures message { IfOk result (λ message. message ≡ message_brought unit.now) }
+    ensures inbox { OnOk result (HasPlace (message_brought unit.now) parts.new) }
+    ensures room { OnOk result (IsSpacious (order_brought unit.now) parts.new) }
+    ensures same { kept_of parts.new ≡ kept_of parts.old }
+    ensures links { parts.new.links ≡ parts.old.links }
+    ensures none { is_msu unit.now ≡ false → IsOk result }
+{
+    let message = make_message_space(parts, unit)?;
+    if let Some(order) = order {
+        make_room_for(parts, &order)?;
+    }
+    Ok(message)
+}
+
+/// Takes a place in the inbox for the message that the unit brings users, if it brings one, and memory for its body.
+fn make_message_space(parts: &mut Parts, unit: &Unit) -> Result<Option<HeardBody>, AllocError>
+    ensures message { IfOk result (λ message. message ≡ message_brought unit.now) }
+    ensures inbox { OnOk result (HasPlace (message_brought unit.now) parts.new) }
+    ensures same { kept_of parts.new ≡ kept_of parts.old }
+    ensures parts { parts.new ≡ record parts.old { inbox = parts.new.inbox } }
+    ensures none { is_msu unit.now ≡ false → IsOk result }
+{
+    let Unit::Msu { body, .. } = unit else {
+        return Ok(None);
+    };
+    if service_indicator(body.as_slice()) == 0 {
+        return Ok(None);
+    }
+    parts.inbox.reserve(1)?;
+    let message = HeardBody::new(*parts.links.allocator(), body)?;
+    Ok(Some(message))
+}
+
+/// Takes room for what an order moves, and for the one that answers it. Nothing else changes, also where
+/// memory is refused.
+fn make_room_for(parts: &mut Parts, order: &Order) -> Result<(), AllocError>
+    requires whole { IsWhole parts.old }
+    ensures room { OnOk result (IsSpaciousFor order.now parts.new) }
+    ensures same { SameButRoom parts.old parts.new }
+{
+    match *order {
+        Order::Cbd { .. } => {
+            let fate = fate_on(target_of(&parts.links));
+            make_room(parts, fate)
+        }
+        Order::Cba { code, .. } => make_room_back(parts, code),
+        Order::Coo { link, .. }
+        | Order::Coa { link, .. }
+        | Order::Eco { link }
+        | Order::Eca { link } => make_room_about(parts, link),
+    }
+}
+
+/// Takes room for what stands on the link, if there is such a link, and for an order.
+fn make_room_about(parts: &mut Parts, link: u8) -> Result<(), AllocError>
+    requires whole { IsWhole parts.old }
+    ensures room { OnOk result (link < length parts.new.links.items → IsReady link 1 parts.new) }
+    ensures same { SameButRoom parts.old parts.new }
+{
+    if usize::from(link) >= parts.links.len() {
+        return Ok(());
+    }
+    make_room_beside(parts, link, 1)
+}
+
+/// Takes room in the queue of the code's home, if there is such a link, for what waits for the code's
+/// acknowledgement.
+fn make_room_back(parts: &mut Parts, code: u8) -> Result<(), AllocError>
+    requires whole { IsWhole parts.old }
+    ensures room { OnOk result
+        (home_of code < length parts.new.links.items
+        → length (back_at code parts.new) ≤ home_room code parts.new) }
+    ensures same { SameButRoom parts.old parts.new }
+{
+    let home = home_of_code(code);
+    if usize::from(home) >= parts.links.len() {
+        return Ok(());
+    }
+    parts.queues.is_sound();
+    let back = parts.queues.count_at(Fate::Back { code });
+    parts.queues.reserve_at(Fate::Waiting { link: home }, back)
+}
+
+/// The order that the unit's body stands for, if it brings one.
+fn order_in(unit: &Unit) -> Option<Order>
+    ensures value { result ≡ order_brought unit.now }
+    ensures fits { IfSome result IsOrder }
+{
+    match unit {
+        Unit::Msu { body, .. } => read_order(body.as_slice()).ok(),
+        _ => None,
+    }
+}
+
+/// The control hears the unit: acknowledged messages are the first ones, and so many.
+#[tactic(auto, using(crate::proofs::Refusals::queue_there))]
+fn control_hears(parts: &mut Parts, number: u8, unit: &Unit) -> HeardPart
+    requires holds { Holds (kept_of parts.old) }
+    requires counted { AreCounted (2 ^ 60) parts.old.links.items }
+    requires known { number < length parts.old.links.items }
+    ensures part { OfStates number parts.old
+        (λ link s. result ≡ part_of link.control (window_of number link s.rows)
+        (header_of unit.now) (is_msu unit.now)) }
+    ensures stands { BecomesAt number parts.old parts.new (λ link s.
+        after_control result (header_of unit.now) unit.now number s link) }
+    ensures counted { AreCounted (2 ^ 61) parts.new.links.items }
+    ensures keeps { KeepsSpace parts.old parts.new }
+{
+    let window = parts.queues.window(number);
+    let head = header_in(unit);
+    let link = &mut parts.links[usize::from(number)];
+    let part = hear_at(link, window, head, has_message(unit));
+    acknowledge(&mut parts.queues, number, head.bsn, part.acked);
+    part
+}
+
+/// The link's control hears the unit, and the link counts.
+fn hear_at(link: &mut Link, window: &Window, head: Header, is_msu: bool) -> HeardPart
+    requires { IsCounted (2 ^ 60) link.old }
+    ensures part { result ≡ part_of link.old.control window.now head is_msu }
+    ensures link { link.new ≡ counted_at result window.now head is_msu link.old }
+    ensures counted { IsCounted (2 ^ 61) link.new }
+{
+    let part = link.control.hear(window, head, is_msu);
+    link.acked += u64::from(part.acked);
+    link.accepted += u64::from(part.accept);
+    part
+}
+
+/// So many messages of the link are acknowledged, if any are: those up to this BSN.
+fn acknowledge(queues: &mut Queues, number: u8, bsn: u8, acked: u8)
+    requires known { number < length queues.old.lists.links }
+    requires bsn { bsn < 128 }
+    requires reach { 0 < acked → ReachesTo bsn acked number queues.old.lists }
+    ensures stands { Acknowledges acked number queues.old queues.new }
+    ensures keeps { KeepsQueues queues.old queues.new }
+{
+    if acked == 0 {
+        return;
+    }
+    match queues.acknowledge(number, bsn) {
+        Ok(_) => (),
+        Err(_) => unreachable!(),
+    }
+}
+
+/// Whether the unit is an MSU.
+fn has_message(unit: &Unit) -> bool
+    ensures { result ≡ is_msu unit.now }
+{
+    matches!(unit, Unit::Msu { .. })
+}
+
+/// Where the unit's body goes, if it's accepted: to the users' inbox, or if it's the management's, to
+/// the rules of changeover. `message` is the body that the inbox keeps, and `order` is what it stands for in the rules.
+fn take_in(
+    parts: &mut Parts,
+    accept: bool,
+    unit: &Unit,
+    order: Option<Order>,
+    message: Option<HeardBody>,
+) -> Took
+    requires order { order ≡ order_brought unit.now }
+    requires fits { IfSome order IsOrder }
+    requires holds { Holds (kept_of parts.old) }
+    requires counted { AreCounted (2 ^ 61) parts.old.links.items }
+    requires message { message ≡ message_brought unit.now }
+    requires inbox { HasPlace (message_brought unit.now) parts.old }
+    requires room { IsSpacious (order_brought unit.now) parts.old }
+    ensures { (s : State) → Agrees (kept_of parts.old) s
+        → Obeys (takes (brought accept unit.now) s) result parts.new }
+{
+    if !accept {
+        return Took::Nothing;
+    }
+    if !has_message(unit) {
+        return Took::Nothing;
+    }
+    if let Some(message) = message {
+        parts.inbox.push_back_reserved(message);
+        return Took::Message;
+    }
+    match order {
+        Some(order) => obey(parts, order),
+        None => Took::Ignored,
+    }
+}
+
+/// The report of what the control found, with what became of the body.
+fn report_on(part: HeardPart, took: Took) -> Report
+    ensures { result ≡ report_of part took }
+{
+    Report {
+        acked: part.acked,
+        took,
+        asked: part.asked,
+        resend: part.resend,
+        fault: part.fault,
+    }
+}
