@@ -1,8 +1,8 @@
 //! Why an event of a link is refused, and what it may count on where it isn't.
-ghost use Rattle.std.specs.Prelude.{◌≡◌, ◌<◌, length, IfNone, IfSome};
+ghost use Rattle.std.specs.Prelude.{IfNone, IfSome};
 ghost use Rattle.set_model.specs.Step.{on_link, rises, gives_up};
 ghost use Rattle.set_model.specs.declared.phase.Phase.TheVariants.{Down, Settled};
-ghost use Rattle.set_moves.specs.Parts.{Answers, AtLink};
+ghost use Rattle.set_moves.specs.Parts.{Answers, IsHere};
 
 use set_events::{Answer, Refusal};
 use set_model::Phase;
@@ -12,9 +12,7 @@ use set_moves::{Parts, phase_of};
 pub(crate) fn unraised(parts: &Parts, number: u8) -> Option<Refusal>
     ensures refused { IfSome result (λ why. Answers parts.now parts.now (Answer.Refused why)
         (λ s. on_link number s (λ link. rises number s link.phase))) }
-    ensures known { IfNone result (number < length parts.now.links.items) }
-    ensures settled { IfNone result (AtLink number parts.now.links.items
-        (λ link. link.phase ≡ Settled)) }
+    ensures here { IfNone result (IsHere parts.now.links.items number Settled) }
 {
     match phase_of(&parts.links, number) {
         None => Some(Refusal::NoSuchLink),
@@ -28,8 +26,7 @@ pub(crate) fn unraised(parts: &Parts, number: u8) -> Option<Refusal>
 pub(crate) fn unwaited(parts: &Parts, number: u8) -> Option<Refusal>
     ensures refused { IfSome result (λ why. Answers parts.now parts.now (Answer.Refused why)
         (λ s. on_link number s (λ link. gives_up number s link link.phase))) }
-    ensures known { IfNone result (number < length parts.now.links.items) }
-    ensures down { IfNone result (AtLink number parts.now.links.items (λ link. link.phase ≡ Down)) }
+    ensures here { IfNone result (IsHere parts.now.links.items number Down) }
 {
     match phase_of(&parts.links, number) {
         None => Some(Refusal::NoSuchLink),

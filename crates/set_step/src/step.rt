@@ -11,7 +11,7 @@ ghost use Rattle.set_model.specs.Rows.{appended, place, stream_of};
 ghost use Rattle.set_model.specs.declared.phase.Phase.TheVariants.{Up, Settled};
 ghost use Rattle.set_moves.specs.Agreement.{Holds};
 ghost use Rattle.set_step.specs.Faults.{wants_none};
-ghost use Rattle.set_moves.specs.Parts.{Answers, AreCounted, Becomes, BecomesAt, AgreedBecomes, AtLink, link_of, kept_of};
+ghost use Rattle.set_moves.specs.Parts.{Answers, AreCounted, Becomes, BecomesAt, AgreedBecomes, IsHere, link_of, kept_of};
 ghost use Rattle.set_moves.specs.Refusing.{refusal_by};
 ghost use Rattle.set_moves.specs.Room.{HasRoom, IsReady};
 
@@ -200,8 +200,7 @@ fn take_down(
 fn fall(parts: &mut Parts, number: u8, blind: bool)
     requires holds { Holds (kept_of parts.old) }
     requires counted { AreCounted (2 ^ 60) parts.old.links.items }
-    requires known { number < length parts.old.links.items }
-    requires up { AtLink number parts.old.links.items (λ link. link.phase ≡ Up) }
+    requires here { IsHere parts.old.links.items number Up }
     requires room { IsReady number 1 parts.old }
     ensures stands { AgreedBecomes number parts.old parts.new (λ link s.
         queued (leaving_order blind number link) (left_by blind number link s)) }
@@ -251,8 +250,7 @@ fn bring_up(parts: &mut Parts, number: u8, answer: &mut Answer) -> Result<(), Al
 #[tactic(auto, using(set_traffic::proofs::Refusals::queue_there))]
 fn rise(parts: &mut Parts, number: u8)
     requires holds { Holds (kept_of parts.old) }
-    requires known { number < length parts.old.links.items }
-    requires settled { AtLink number parts.old.links.items (λ link. link.phase ≡ Settled) }
+    requires here { IsHere parts.old.links.items number Settled }
     requires room { length parts.old.queues.lists.parked ≤ room_at (Fate.Waiting number)
         parts.old.queues.rooms }
     ensures stands { BecomesAt number parts.old parts.new

@@ -1,16 +1,14 @@
 use Rattle.std.proofs.Common.{refl}
 use Rattle.set_model.specs.declared.phase.Phase.TheVariants.{Down}
-use Rattle.set_moves.proofs.Admitting.{agrees_same, here_same, given_done}
+use Rattle.set_moves.proofs.Admitting.{agrees_same, here_same, is_in, given_done}
 use Rattle.set_moves.proofs.Rooms.{here_room}
-use Rattle.set_traffic.proofs.Refusals.{here_at, in_state}
 use Rattle.set_step.proofs.step.give_up.Goals as goal
 
 pub returns-clause-ok : goal.returns-clause-ok
 returns-clause-ok c = λ s a.
-    let i = in_state c.args.parts.now s c.args.number Down a c.in_default.ensures.known c.in_default.ensures.down in
+    let i = is_in c.args.parts.now s c.args.number Down a c.in_default.ensures.here in
     given_done s c.args.number c.settle.new.parts i (c.settle.ensures.stands s i.link i.there i.phase_is (agrees_same c.args.parts.now _ s c.in_ok-make_room_beside.ensures.same a))
 
 pub settle-requires-clause-room : goal.settle-requires-clause-room
 settle-requires-clause-room c =
-    let here = here_at c.args.parts.now.links.items c.args.number Down c.in_default.ensures.known c.in_default.ensures.down in
-    here_room c.make_room_beside.new.parts c.args.number 0 Down (here_same c.args.parts.now c.make_room_beside.new.parts c.args.number Down c.in_ok-make_room_beside.ensures.same here) refl c.in_ok-make_room_beside.ensures.room
+    here_room c.make_room_beside.new.parts c.args.number 0 Down (here_same c.args.parts.now c.make_room_beside.new.parts c.args.number Down c.in_ok-make_room_beside.ensures.same c.in_default.ensures.here) refl c.in_ok-make_room_beside.ensures.room

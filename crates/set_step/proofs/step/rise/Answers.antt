@@ -9,32 +9,32 @@ use Rattle.set_model.specs.declared.phase.Phase.TheVariants.{Settled}
 use Rattle.set_model.specs.Rows.{numbers}
 use Rattle.set_model.specs.State.{Settings}
 use Rattle.set_model.specs.Step.{risen_link}
-use Rattle.set_model.proofs.Lists.{map_at, map_set, present}
+use Rattle.set_model.proofs.Lists.{map_set}
 use Rattle.set_model.proofs.Settling.{settled_empty}
 use Rattle.set_moves.specs.declared.parts.Parts.{Parts}
 use Rattle.set_moves.specs.Agreement.{Holds}
-use Rattle.set_moves.specs.Parts.{AtLink, link_of, kept_of}
+use Rattle.set_moves.specs.Parts.{IsHere, link_of, kept_of}
+use Rattle.set_moves.proofs.Admitting.{is_in}
 use Rattle.set_moves.proofs.Becoming.{risen_then}
 use Rattle.set_traffic.proofs.Refusals.{queue_there}
 use Rattle.set_step.proofs.step.rise.Goals as goal
 
 -- nothing stands on a link that settled
-empty : (parts : Parts) (n : ℕ) → Holds (kept_of parts) → n < length parts.links.items → AtLink n parts.links.items (λ link. link.phase ≡ Settled) → (queue_at (Unacked n) parts.queues.lists ≡ []) × (queue_at (Waiting n) parts.queues.lists ≡ [])
-empty parts n holds known settled =
+empty : (parts : Parts) (n : ℕ) → Holds (kept_of parts) → IsHere parts.links.items n Settled → (queue_at (Unacked n) parts.queues.lists ≡ []) × (queue_at (Waiting n) parts.queues.lists ≡ [])
+empty parts n holds here =
     let a = holds.1 in
-    let x = present parts.links.items n known in
-    let there = sym (ap (λ links. slice_get links n) a.stands.links) ∙ map_at link_of parts.links.items n x.0 x.1 in
-    let e = settled_empty holds.0 n (link_of x.0) a.sound there (settled x.0 x.1) in
+    let i = is_in parts holds.0 n Settled a here in
+    let e = settled_empty holds.0 n i.link a.sound i.there i.phase_is in
     (a.stands.stands.queues (Unacked n) ∙ ap numbers e.unack_none, a.stands.stands.queues (Waiting n) ∙ ap numbers e.wait_none)
 
 pub reset-requires-clause-unacked : goal.reset-requires-clause-unacked
-reset-requires-clause-unacked c = (empty c.args.parts.now c.args.number c.requires.holds c.requires.known c.requires.settled).0
+reset-requires-clause-unacked c = (empty c.args.parts.now c.args.number c.requires.holds c.requires.here).0
 
 pub reset-requires-clause-unsent : goal.reset-requires-clause-unsent
-reset-requires-clause-unsent c = (empty c.args.parts.now c.args.number c.requires.holds c.requires.known c.requires.settled).1
+reset-requires-clause-unsent c = (empty c.args.parts.now c.args.number c.requires.holds c.requires.here).1
 
 pub divert-requires-clause-other : goal.divert-requires-clause-other
-divert-requires-clause-other c = omega (arith, queue_there c.args.parts.now c.args.number c.requires.holds c.requires.known, ap (λ (q : Lists). length q.links) c.reset.ensures.lists, last_links c.args.number 127 c.args.parts.now.queues.lists)
+divert-requires-clause-other c = omega (arith, queue_there c.args.parts.now c.args.number c.requires.holds c.requires.here.known, ap (λ (q : Lists). length q.links) c.reset.ensures.lists, last_links c.args.number 127 c.args.parts.now.queues.lists)
 
 pub divert-requires-clause-room : goal.divert-requires-clause-room
 divert-requires-clause-room c =

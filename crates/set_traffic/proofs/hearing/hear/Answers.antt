@@ -9,8 +9,7 @@ use Rattle.set_model.specs.Step.{heard as heard_of, after_control, is_msu}
 use Rattle.set_moves.specs.Agreement.{StandsFor, Agrees}
 use Rattle.set_traffic.specs.Hearing.{order_brought, message_brought}
 use Rattle.set_moves.specs.Parts.{kept_of}
-use Rattle.set_moves.proofs.Admitting.{IsIn, served}
-use Rattle.set_traffic.proofs.Refusals.{in_state}
+use Rattle.set_moves.proofs.Admitting.{IsIn, is_in, served}
 use Rattle.set_traffic.proofs.Told.{heard_gives, heard_controls, heard_sound, place_still, spacious_still}
 use Rattle.set_traffic.proofs.hearing.hear.Goals as goal
 use Rattle.set_traffic.proofs.hearing.hear.Goals.{After-control_hears-part}
@@ -18,7 +17,7 @@ use Rattle.set_traffic.proofs.hearing.hear.Goals.{After-control_hears-part}
 -- the link of a state that agreed, what its control told, and the state after it, which the parts agree with
 module _ (c : After-control_hears-part) (s : State) (a : Agrees (kept_of c.args.parts.now) s) where
   at : IsIn s c.args.number Up
-  at = in_state c.args.parts.now s c.args.number Up a c.in_default.ensures.known c.in_default.ensures.up
+  at = is_in c.args.parts.now s c.args.number Up a c.in_default.ensures.here
 
   stood : StandsFor (kept_of c.make_space.new.parts) s
   stood = rw c.in_ok-message.ensures.same a.stands
@@ -54,6 +53,6 @@ returns-clause-ok c = λ s a.
 pub returns-in-Lssu-clause-ok : goal.returns-in-Lssu-clause-ok
 returns-in-Lssu-clause-ok c = λ s a.
     let n = c.args.number in
-    let i = in_state c.args.parts.now s n Up a c.in_default.ensures.known c.in_default.ensures.up in
+    let i = is_in c.args.parts.now s n Up a c.in_default.ensures.here in
     served s n (heard_of c.args.unit.now n s) (Refused Nothing) c.args.parts.now i
     (rw c.in-Lssu.is (record { answer_is = refl; stands = a.stands }))
