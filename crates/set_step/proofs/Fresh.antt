@@ -33,15 +33,6 @@ replicated zero k x = grind (arith, nat_tests)
 replicated (suc n) zero x = grind (arith, nat_tests)
 replicated (suc n) (suc k) x = grind (arith, nat_tests, replicated n k x)
 
-none_in : (list : LinkLists → List ℕ) (n k : ℕ) → list new_lists ≡ [] → list_in list (slice_get (replicate n new_lists) k) ≡ []
-none_in list n k e = grind (arith, nat_tests, replicated n k new_lists)
-
-fsn_in : (n k : ℕ) (link other : LinkState) → slice_get (replicate n link) k ≡ Some other → number_in (slice_get (replicate n new_lists) k) ≡ 127
-fsn_in n k link other e = grind (arith, nat_tests, replicated n k new_lists, replicated n k link)
-
-new_there : (n k : ℕ) (link other : LinkState) → slice_get (replicate n link) k ≡ Some other → other ≡ link
-new_there n k link other e = grind (arith, nat_tests, replicated n k link)
-
 abbrev nothing : List ℕ
 nothing = []
 
@@ -54,14 +45,8 @@ no_back zero c = refl
 no_back (suc n) zero = refl
 no_back (suc n) (suc c) = no_back n c
 
-empty : (n : ℕ) (fate : Fate) → queue_at fate (no_lists n) ≡ []
-empty n (Waiting l) = none_in (λ (z : LinkLists). z.unsent) n l refl
-empty n (Unacked l) = none_in (λ (z : LinkLists). z.unacked) n l refl
-empty n (Held l) = none_in (λ (z : LinkLists). z.held) n l refl
-empty n Parked = refl
-empty n (Back c) = no_back 256 c
-empty n (Acked l) = refl
-empty n (Discarded c) = refl
+empty : (n codes : ℕ) (fate : Fate) → queue_at fate (record { links = replicate n new_lists; parked = []; back = replicate codes nothing }) ≡ []
+empty n codes fate = grind (arith, nat_tests, replicated, no_back)
 
 none_stands : (fate : Fate) → numbers (rows_at fate []) ≡ []
 none_stands fate = grind arith
@@ -78,28 +63,13 @@ new_kept config = record {
   inbox = [];
 }
 
-module _ (config : SetConfig) where
-  settings_fit : IsSettings (settings_of config)
-  settings_fit = record { some_link = config.has_links; at_most_16 = config.links_in_range; managed = config.management }
+new_agrees : (config : SetConfig) → Agrees (new_kept config) (new_state config)
+new_agrees config = grind (arith, nat_tests, empty config.links 256, none_stands, length-replicate, replicated, opened_sound (settings_of config))
 
-  stands_new : Stands (no_lists config.links) [] []
-  stands_new = grind (arith, nat_tests, empty, none_stands, le-ltb)
-
-  pub new_agrees : Agrees (new_kept config) (new_state config)
-  new_agrees = record {
-    stands = record {
-      settings = refl;
-      stands = stands_new;
-      bodies = λ number. refl;
-      held_bodies = refl;
-      links = refl;
-      as_many = length-replicate config.links new_lists ∙ sym (length-replicate config.links (new_link config.method));
-      fsns = λ number link there. fsn_in config.links number (new_link config.method) link there ∙ sym (ap (λ (l : LinkState). (l.acked + 127) % 128) (new_there config.links number (new_link config.method) link there));
-      routing = refl;
-      inbox = refl;
-    };
-    sound = opened_sound (settings_of config) settings_fit;
-  }
+-- links that stand for new ones, queues with nothing, and nothing else
+pub opened : (config : SetConfig) (parts : Parts) → parts.config ≡ config → map link_of parts.links.items ≡ replicate config.links (new_link config.method) → parts.queues.lists.links ≡ replicate config.links new_lists → parts.queues.lists.parked ≡ [] → parts.queues.lists.back ≡ replicate 256 nothing → parts.queues.messages ≡ [] → parts.bodies.items ≡ [] → parts.routes ≡ new_routing config.links → parts.inbox.items ≡ []
+    → Agrees (kept_of parts) (new_state config)
+opened config parts c links queues parked back messages bodies routes inbox = let same : kept_of parts ≡ new_kept config = grind arith in rw same (new_agrees config)
 
 -- AFTER AN EVENT
 
@@ -116,7 +86,3 @@ counted_of parts h number link there =
     let sent = few.sent in
     let accepted = few.accepted in
     record { acked = omega (arith, sent); accepted = omega (arith, accepted) }
-
--- what is kept at first: links that stand for new ones, queues with nothing, and nothing else
-pub new_is : (config : SetConfig) (parts : Parts) → parts.config ≡ config → map link_of parts.links.items ≡ replicate config.links (new_link config.method) → parts.queues.lists.links ≡ replicate config.links new_lists → parts.queues.lists.parked ≡ [] → parts.queues.lists.back ≡ replicate 256 nothing → parts.queues.messages ≡ [] → parts.bodies.items ≡ [] → parts.routes ≡ new_routing config.links → parts.inbox.items ≡ [] → kept_of parts ≡ new_kept config
-new_is config parts c links queues parked back messages bodies routes inbox = grind arith

@@ -48,14 +48,8 @@ none_at rows place none = grind (arith, nat_tests, map_at)
 -- it's found under its number
 unacked_one : (k : Kept) (s : State) (n place number : ℕ) (link : LinkState) → StandsFor k s → slice_get s.links n ≡ Some link → slice_get (queue_at (Unacked n) k.lists) place ≡ Some number → unacked_in s n place ≡ Some (numbered number ((last_at n k.lists + 1 + place) % 128))
 unacked_one k s n place number link st there at =
-    let rows = s.rows in
-    let r = row_at_number (unack n rows) place number (ap (λ (ns : List ℕ). slice_get ns place) (sym (st.stands.queues (Unacked n))) ∙ at) in
-    let last = st.fsns n link there in
-    let fsn : (link.acked + place) % 128 ≡ (last_at n k.lists + 1 + place) % 128 = omega (arith, last) in
-    ap (λ (o : Option LinkState). unacked_of o n place rows) there
-    ∙ ap (option_map (λ (row : Row). numbered row.number ((link.acked + place) % 128))) r.1
-    ∙ ap (λ (i : ℕ). Some (numbered i ((link.acked + place) % 128))) r.2
-    ∙ ap (λ (i : ℕ). Some (numbered number i)) fsn
+    let r = row_at_number (unack n s.rows) place number (ap (λ (ns : List ℕ). slice_get ns place) (sym (st.stands.queues (Unacked n))) ∙ at) in
+    grind (arith, nat_tests, r.1, r.2, st.fsns n link there)
 
 pub unacked_there : (k : Kept) (s : State) (n place number : ℕ) → StandsFor k s → n < length k.links → slice_get (queue_at (Unacked n) k.lists) place ≡ Some number → unacked_in s n place ≡ Some (numbered number ((last_at n k.lists + 1 + place) % 128))
 unacked_there k s n place number st low at =
@@ -64,11 +58,7 @@ unacked_there k s n place number st low at =
 
 -- there is none at that place
 pub unacked_none : (k : Kept) (s : State) (n place : ℕ) → StandsFor k s → slice_get (queue_at (Unacked n) k.lists) place ≡ None → unacked_in s n place ≡ None
-unacked_none k s n place st at = go (slice_get s.links n) (none_at (unack n s.rows) place (ap (λ (ns : List ℕ). slice_get ns place) (sym (st.stands.queues (Unacked n))) ∙ at))
-  where
-    go : (o : Option LinkState) → slice_get (unack n s.rows) place ≡ None → unacked_of o n place s.rows ≡ None
-    go None none = refl
-    go (Some link) none = ap (option_map (λ (row : Row). numbered row.number ((link.acked + place) % 128))) none
+unacked_none k s n place st at = grind (arith, nat_tests, none_at (unack n s.rows) place, st.stands.queues (Unacked n))
 
 -- nor on a link that isn't there
 pub unacked_past : (k : Kept) (s : State) (n place : ℕ) → StandsFor k s → length k.links ≤ n → unacked_in s n place ≡ None
