@@ -1,3 +1,4 @@
 pub mod Config
 pub mod Method
 pub mod Numbers
+pub mod Places

@@ -5,6 +5,7 @@ use Rattle.std.specs.Option.{option_map}
 use Rattle.set_events.specs.declared.answer.Fate.{Fate}
 use Rattle.set_events.specs.declared.answer.Fate.TheVariants.{Waiting, Unacked, Acked, Held, Parked, Back, Discarded}
 use Rattle.set_events.specs.declared.answer.Counts.{Counts}
+pub use Rattle.set_events.specs.Places.{waits, was_sent, was_acked, was_held, is_parked, stands_back, was_discarded, is_unsent}
 use Rattle.set_route.specs.Routing.{home_of}
 
 -- A message: the number under which it was accepted, its octets, and its fate, the one place where it stands.
@@ -42,44 +43,6 @@ is_back code _ = false
 abbrev pub is_back_to : ℕ → Fate → Bool
 is_back_to home (Back c) = home_of c == home
 is_back_to home _ = false
-
--- On any link, or on none.
-
-abbrev pub waits : Fate → Bool
-waits (Waiting l) = true
-waits _ = false
-
-abbrev pub was_sent : Fate → Bool
-was_sent (Unacked l) = true
-was_sent _ = false
-
-abbrev pub was_acked : Fate → Bool
-was_acked (Acked l) = true
-was_acked _ = false
-
-abbrev pub was_held : Fate → Bool
-was_held (Held l) = true
-was_held _ = false
-
-abbrev pub is_parked : Fate → Bool
-is_parked Parked = true
-is_parked _ = false
-
-abbrev pub stands_back : Fate → Bool
-stands_back (Back c) = true
-stands_back _ = false
-
-abbrev pub was_discarded : Fate → Bool
-was_discarded (Discarded cause) = true
-was_discarded _ = false
-
--- not sent yet
-abbrev pub is_unsent : Fate → Bool
-is_unsent (Waiting l) = true
-is_unsent (Held l) = true
-is_unsent Parked = true
-is_unsent (Back c) = true
-is_unsent _ = false
 
 -- The filters. Rows stay in their order.
 

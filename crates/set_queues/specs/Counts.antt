@@ -3,48 +3,11 @@ use Rattle.std.specs.Prelude.{◌≡◌, ℕ, ◌+◌, Bool, true, false}
 use Rattle.set_events.specs.declared.answer.Fate.{Fate}
 use Rattle.set_events.specs.declared.answer.Fate.TheVariants.{Waiting, Unacked, Acked, Held, Parked, Back, Discarded}
 use Rattle.set_events.specs.declared.answer.Counts.{Counts}
+pub use Rattle.set_events.specs.Places.{waits, was_sent, was_acked, was_held, is_parked, stands_back, was_discarded, is_unsent}
 
 abbrev pub one_if : Bool → ℕ
 one_if true = 1
 one_if false = 0
-
--- On any link, or on none.
-
-abbrev pub waits : Fate → Bool
-waits (Waiting l) = true
-waits _ = false
-
-abbrev pub was_sent : Fate → Bool
-was_sent (Unacked l) = true
-was_sent _ = false
-
-abbrev pub was_acked : Fate → Bool
-was_acked (Acked l) = true
-was_acked _ = false
-
-abbrev pub was_held : Fate → Bool
-was_held (Held l) = true
-was_held _ = false
-
-abbrev pub is_parked : Fate → Bool
-is_parked Parked = true
-is_parked _ = false
-
-abbrev pub stands_back : Fate → Bool
-stands_back (Back c) = true
-stands_back _ = false
-
-abbrev pub was_discarded : Fate → Bool
-was_discarded (Discarded cause) = true
-was_discarded _ = false
-
--- not sent yet
-abbrev pub is_unsent : Fate → Bool
-is_unsent (Waiting l) = true
-is_unsent (Held l) = true
-is_unsent Parked = true
-is_unsent (Back c) = true
-is_unsent _ = false
 
 -- the count of the place
 abbrev pub count_at : Fate → Counts → ℕ

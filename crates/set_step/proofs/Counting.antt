@@ -6,7 +6,7 @@ use Rattle.std.proofs.lemmas.Bool.Decides.{nat_tests}
 use Rattle.set_events.specs.declared.answer.Fate.{Fate}
 use Rattle.set_queues.specs.declared.message.Message.{Message}
 use Rattle.set_queues.specs.Buffers.{Lists}
-use Rattle.set_queues.specs.Counts.{one_if, is_unsent as unsent_there}
+use Rattle.set_queues.specs.Counts.{one_if}
 use Rattle.set_queues.specs.Kind.{is_of}
 use Rattle.set_queues.specs.Messages.{unsent_of}
 use Rattle.set_model.specs.Rows.{Row, row_of, unsent, is_unsent, stream_of, service_indicator, IsNumbered}
@@ -81,17 +81,9 @@ module _ (f : Label → Fate → Bool) where
   counted q ms rows s = as_many (λ (m : Message). f (label_in m) m.fate) (λ (r : Row). f (label_of r.body) r.fate) ms rows s.count s.numbered (λ n. by_label (slice_get ms n) (row_of n rows) (s.fates n) (s.labels n))
 
 -- THE UNSENT MESSAGES of a stream
-same_filter : (p r : Row → Bool) → ((row : Row) → p row ≡ r row) → (rows : List Row) → length (filter p rows) ≡ length (filter r rows)
-same_filter p r e [] = refl
-same_filter p r e (x ∷ rows) = grind (arith, same_filter p r e rows)
-
-of_stream : (b c : Bool) (stream : ℕ) (body : List ℕ) (u : Bool) → (service_indicator body == 0) ≡ b → (stream_of body == stream) ≡ c → (is_of stream (kind_of body) && u) ≡ (not (service_indicator body == 0) && ((stream_of body == stream) && u))
-of_stream b c stream body u e g = grind arith
-
-same_unsent : (fate : Fate) → unsent_there fate ≡ is_unsent fate
-same_unsent fate = grind arith
+of_stream : (stream : ℕ) (rows : List Row) → length (filter (λ (r : Row). is_of stream (kind_of r.body) && is_unsent r.fate) rows) ≡ length (unsent stream rows)
+of_stream stream [] = refl
+of_stream stream (x ∷ rows) = grind (arith, nat_tests, of_stream stream rows)
 
 pub unsent_is : (stream : ℕ) (q : Lists) (ms : List Message) (rows : List Row) → Stands q ms rows → unsent_of stream ms ≡ length (unsent stream rows)
-unsent_is stream q ms rows s =
-    counted (λ l fate. is_of stream l.kind && unsent_there fate) q ms rows s
-    ∙ same_filter _ _ (λ row. of_stream (service_indicator row.body == 0) (stream_of row.body == stream) stream row.body (unsent_there row.fate) refl refl ∙ ap (λ (u : Bool). not (service_indicator row.body == 0) && ((stream_of row.body == stream) && u)) (same_unsent row.fate)) rows
+unsent_is stream q ms rows s = counted (λ l fate. is_of stream l.kind && is_unsent fate) q ms rows s ∙ of_stream stream rows

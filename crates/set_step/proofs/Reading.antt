@@ -8,10 +8,9 @@ use Rattle.set_events.specs.declared.answer.Fate.{Fate}
 use Rattle.set_events.specs.declared.answer.Fate.TheVariants.{Unacked}
 use Rattle.set_queues.specs.declared.message.Message.{Message}
 use Rattle.set_queues.specs.Buffers.{Lists, queue_at, last_at}
-use Rattle.set_queues.specs.Counts.{waits, was_sent, was_acked, was_held, is_parked, stands_back, was_discarded}
 use Rattle.set_queues.specs.Kind.{is_users}
 use Rattle.set_queues.specs.Messages.{count_of, counts_of}
-use Rattle.set_model.specs.Rows.{Row, standing, users, numbers, unack, counts_of as counts_in, waits as waits_in, was_sent as was_sent_in, was_acked as was_acked_in, was_held as was_held_in, is_parked as is_parked_in, stands_back as stands_back_in, was_discarded as was_discarded_in}
+use Rattle.set_model.specs.Rows.{Row, standing, users, numbers, unack, counts_of as counts_in}
 use Rattle.set_model.specs.State.{State, LinkState, unacked_of, unacked_in}
 use Rattle.set_model.specs.declared.numbered.Numbered.{Numbered}
 use Rattle.set_model.proofs.Lists.{map_at, present}
@@ -20,23 +19,14 @@ use Rattle.set_moves.specs.Agreement.{Kept, StandsFor, Stands, kind_of}
 use Rattle.set_step.proofs.Counting.{counted}
 
 -- THE USERS' MESSAGES of one place
-two_filters : (test like : Fate → Bool) → ((fate : Fate) → test fate ≡ like fate) → (rows : List Row) → length (filter (λ (r : Row). is_users (kind_of r.body) && test r.fate) rows) ≡ length (standing like (users rows))
-two_filters test like same [] = refl
-two_filters test like same (x ∷ rows) = grind (arith, two_filters test like same rows)
-
-in_place : (test like : Fate → Bool) → ((fate : Fate) → test fate ≡ like fate) → (q : Lists) (ms : List Message) (rows : List Row) → Stands q ms rows → count_of test ms ≡ length (standing like (users rows))
-in_place test like same q ms rows s = counted (λ l fate. is_users l.kind && test fate) q ms rows s ∙ two_filters test like same rows
+users_there : (test : Fate → Bool) (rows : List Row) → length (filter (λ (r : Row). is_users (kind_of r.body) && test r.fate) rows) ≡ length (standing test (users rows))
+users_there test [] = refl
+users_there test (x ∷ rows) = grind (arith, users_there test rows)
 
 pub counts_are : (q : Lists) (ms : List Message) (rows : List Row) → Stands q ms rows → counts_of ms ≡ counts_in rows
 counts_are q ms rows s =
-    let waiting = in_place waits waits_in (λ fate. grind arith) q ms rows s in
-    let unacked = in_place was_sent was_sent_in (λ fate. grind arith) q ms rows s in
-    let acked = in_place was_acked was_acked_in (λ fate. grind arith) q ms rows s in
-    let held = in_place was_held was_held_in (λ fate. grind arith) q ms rows s in
-    let parked = in_place is_parked is_parked_in (λ fate. grind arith) q ms rows s in
-    let back = in_place stands_back stands_back_in (λ fate. grind arith) q ms rows s in
-    let discarded = in_place was_discarded was_discarded_in (λ fate. grind arith) q ms rows s in
-    cc
+    let in_place : (test : Fate → Bool) → count_of test ms ≡ length (standing test (users rows)) = λ test. counted (λ l fate. is_users l.kind && test fate) q ms rows s ∙ users_there test rows in
+    grind (arith, in_place)
 
 -- THE UNACKNOWLEDGED MESSAGES of a link
 abbrev numbered : ℕ → ℕ → Numbered
