@@ -1,5 +1,5 @@
 -- WHERE A MESSAGE STANDS by its fate, on any link, or on none.
-use Rattle.std.specs.Prelude.{Bool, true, false}
+use Rattle.std.specs.Prelude.{ℕ, Bool, true, false, Option, Some, None}
 use Rattle.set_events.specs.declared.answer.Fate.{Fate}
 use Rattle.set_events.specs.declared.answer.Fate.TheVariants.{Waiting, Unacked, Acked, Held, Parked, Back, Discarded}
 
@@ -38,3 +38,13 @@ is_unsent (Held l) = true
 is_unsent Parked = true
 is_unsent (Back c) = true
 is_unsent _ = false
+
+-- one, if it is so
+abbrev pub one_if : Bool → ℕ
+one_if true = 1
+one_if false = 0
+
+-- where a message goes that is moved: it waits for this link, or is parked where there is none
+abbrev pub fate_on : Option ℕ → Fate
+fate_on (Some link) = Waiting link
+fate_on None = Parked

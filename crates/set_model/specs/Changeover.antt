@@ -7,6 +7,7 @@ use Rattle.l3_orders.specs.declared.order.Order.TheVariants.{Coo, Coa, Cbd, Cba,
 use Rattle.l3_orders.specs.Grammar.{text}
 use Rattle.set_events.specs.declared.answer.Fate.{Fate}
 use Rattle.set_events.specs.declared.answer.Fate.TheVariants.{Waiting, Acked, Parked, Discarded}
+pub use Rattle.set_events.specs.Places.{fate_on}
 use Rattle.set_events.specs.declared.answer.DiscardCause.{DiscardCause}
 use Rattle.set_events.specs.declared.answer.DiscardCause.TheVariants.{Emergency, Unreasonable, NoAnswer}
 use Rattle.set_events.specs.declared.answer.Took.{Took}
@@ -20,11 +21,6 @@ use Rattle.set_model.specs.declared.phase.Phase.TheVariants.{Up, Down, Settled}
 use Rattle.set_model.specs.declared.reached.Reached.{Reached}
 use Rattle.set_model.specs.declared.reached.Reached.TheVariants.{Upto, Unknown, Unanswered}
 use Rattle.set_model.specs.State.{LinkState, State, is_up, fate_at, target, window_of, last_accepted, Settings}
-
--- where a message goes that is moved: it waits for the target, or is parked where no link is up
-abbrev pub fate_on : Option ℕ → Fate
-fate_on (Some link) = Waiting link
-fate_on None = Parked
 
 -- QUEUE: an order stands last, as a row of its own, for the target, in the octets that this set writes
 abbrev pub text_by : Order → Settings → List ℕ

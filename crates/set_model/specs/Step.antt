@@ -10,6 +10,7 @@ use Rattle.l2_signals.specs.declared.cause.ControlFault.{ControlFault}
 use Rattle.l2_signals.specs.declared.cause.ControlFault.TheVariants.{Bsn, Fib}
 use Rattle.set_events.specs.declared.answer.Fate.{Fate}
 use Rattle.set_events.specs.declared.answer.Fate.TheVariants.{Waiting, Unacked, Acked}
+pub use Rattle.set_events.specs.Places.{one_if}
 use Rattle.set_events.specs.declared.answer.Took.{Took}
 use Rattle.set_events.specs.declared.answer.Took.TheVariants.{Nothing as NothingTaken, Message}
 use Rattle.set_events.specs.declared.answer.Report.{Report}
@@ -146,11 +147,6 @@ report_of part took = record {
   resend = part.resend;
   fault = fault_of part.fault;
 }
-
--- how many bodies a unit brought
-abbrev pub one_if : Bool → ℕ
-one_if true = 1
-one_if false = 0
 
 -- what the control makes of the unit: acknowledged messages are the first ones, and so many
 abbrev pub after_control : HeardPart → Header → SignalUnit → ℕ → State → LinkState → State

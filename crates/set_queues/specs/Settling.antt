@@ -1,14 +1,10 @@
 -- A link settles: what stands on it goes elsewhere (Q.704 5.5).
 use Rattle.std.specs.Prelude.{◌≡◌, ℕ, ◌++◌, List, [], Option, Some, None, true, false}
 use Rattle.set_events.specs.declared.answer.Fate.{Fate}
-use Rattle.set_events.specs.declared.answer.Fate.TheVariants.{Waiting, Unacked, Held, Parked}
+use Rattle.set_events.specs.declared.answer.Fate.TheVariants.{Waiting, Unacked, Held}
+pub use Rattle.set_events.specs.Places.{fate_on}
 use Rattle.set_queues.specs.Buffers.{Lists, IsKnown, IsQueued, is_standing, same_fate, queue_at}
 use Rattle.set_queues.specs.Queues.{passed}
-
--- where it goes: it waits for the target, or is parked where there is none
-abbrev pub fate_on : Option ℕ → Fate
-fate_on (Some link) = Waiting link
-fate_on None = Parked
 
 -- what stands on a link: first what was sent, then what waits, then what is held
 abbrev pub on : ℕ → Lists → List ℕ
