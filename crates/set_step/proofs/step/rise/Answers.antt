@@ -1,3 +1,4 @@
+use Rattle.std.proofs.lemmas.Bool.Decides.{nat_tests}
 use Rattle.std.proofs.Common.{refl, arith, ◌≡◌, ◌∙◌, ap, slice_set, ℕ, [], length, map}
 use Rattle.set_events.specs.declared.answer.Fate.TheVariants.{Unacked, Waiting, Parked}
 use Rattle.set_queues.specs.Buffers.{Lists, queue_at}
@@ -47,14 +48,5 @@ pub returns : goal.returns
 returns c = record {
   stands = λ s link there f.
       let n = c.args.number in
-      let k = kept_of c.args.parts.now in
-      risen_then k _ s n link (risen_link s.settings.method) (raised n s.routing) f there refl (record {
-        settings_same = refl;
-        lists_are = c.divert.ensures.lists ∙ ap (λ q. passed Parked (Waiting n) q) c.reset.ensures.lists;
-        messages_are = c.divert.ensures.messages ∙ ap (λ (q : Lists). restood q.parked (Waiting n) c.reset.new.self.messages) c.reset.ensures.lists ∙ ap (λ ms. restood c.args.parts.now.queues.lists.parked (Waiting n) ms) c.reset.ensures.same.0;
-        bodies_are = refl;
-        links_are = ap (λ i. map link_of (slice_set c.args.parts.now.links.items i c.rise.new.self)) c.from.ensures ∙ map_set link_of c.args.parts.now.links.items n c.rise.new.self ∙ ap (λ ls. slice_set ls n (link_of c.rise.new.self)) f.links ∙ ap (slice_set s.links n) (ap link_of c.rise.ensures ∙ ap (λ (settings : Settings). risen_link settings.method) f.settings);
-        routing_is = c.raise.ensures ∙ ap (raised n) f.routing;
-        inbox_same = refl;
-      });
+      risen_then (kept_of c.args.parts.now) _ s n link (risen_link s.settings.method) (raised n s.routing) f there refl (grind (arith, nat_tests, map_set, c.divert.ensures.lists, c.divert.ensures.messages, c.reset.ensures.lists, c.reset.ensures.same.0, c.from.ensures, c.rise.ensures, c.raise.ensures, f.links, f.settings, f.routing));
 }
