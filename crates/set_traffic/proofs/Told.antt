@@ -93,18 +93,10 @@ same_back n old new k = same_from (16 * n) 16 old new k
 
 pub ready_still : (n orders : ℕ) (old new : Parts) → KeepsSpace old new → IsReady n orders old → IsReady n orders new
 ready_still n orders old new k r = record {
-  message = rw (k.queues.message) r.message;
-  body = rw (k.bodies) r.body;
-  place = subst (λ (o : Option ℕ). length (on n new.queues.lists) + orders + 2 * back_count n new.queues.lists ≤ room_at (fate_on o) new.queues.rooms) (sym (same_beside n old new k))
-      (let fewer = k.queues.fewer n in let room = k.queues.rooms (fate_on (target_beside n old.links.items)) in let enough = r.place in let back = same_back n old new k in omega (arith, fewer, room, enough, back));
-  each = λ link low.
-      let had = r.each link (let many = as_many old new k in omega (arith, many, low)) in
-      let back = same_back n old new k in
-      let w = k.queues.rooms (Waiting link) in
-      let h = k.queues.rooms (Held link) in
-      let here = had.0 in
-      let there = had.1 in
-      (omega (arith, w, here, back), omega (arith, h, there, back));
+  message = rw k.queues.message r.message;
+  body = rw k.bodies r.body;
+  place = grind (arith, same_beside n old new k, same_back n old new k, k.queues.fewer n, k.queues.rooms (fate_on (target_beside n old.links.items)), r.place);
+  each = λ link low. grind (arith, as_many old new k, same_back n old new k, k.queues.rooms (Waiting link), k.queues.rooms (Held link), r.each link);
 }
 
 pub place_still : (message : Option (List ℕ)) (old new : Parts) → new.inbox ≡ old.inbox → HasPlace message old → HasPlace message new

@@ -1,4 +1,5 @@
-use Rattle.std.proofs.Common.{refl, ◌∙◌, ap, sym, slice_get}
+use Rattle.std.proofs.lemmas.Bool.Decides.{nat_tests}
+use Rattle.std.proofs.Common.{arith, refl, ◌∙◌, ap, sym, slice_get}
 use Rattle.set_model.specs.Control.{control_after}
 use Rattle.set_model.specs.Rows.{octets_in, unack}
 use Rattle.set_model.specs.State.{LinkState, window_of}
@@ -37,12 +38,5 @@ returns-clause-stands c = λ s link there a.
     let control = ap (λ (l : LinkState). l.control) (stands_for c.args.parts.now.links.items n c.from.result x c.from.ensures c.requires.known c.index_mut.ensures.value s.links link a.stands.links there) in
     let after = c.send.ensures.state ∙ after_is c.window-window.result.now (window_of n link s.rows) is c.octets-octets.result (octets_in (unack n s.rows)) c.args.choice x.control link.control (weighs k s n c.octets-octets.result a c.octets-octets.ensures) control in
     let link' = record link { control = control_after c.args.choice (octets_in (unack n s.rows)) link.control (window_of n link s.rows) } in
-    link_then k _ s n link link' a.stands there refl (record {
-      settings_same = refl;
-      lists_are = refl;
-      messages_are = refl;
-      bodies_are = refl;
-      links_are = link_set c.args.parts.now.links.items n c.from.result x c.from.ensures c.requires.known c.index_mut.ensures.value _ s.links link link' a.stands.links there (λ e. ap (λ (l : LinkState). record l { control = c.send.new.self }) e ∙ ap (λ control. record link { control = control }) after);
-      routing_is = a.stands.routing;
-      inbox_same = refl;
-    })
+    let links = link_set c.args.parts.now.links.items n c.from.result x c.from.ensures c.requires.known c.index_mut.ensures.value _ s.links link link' a.stands.links there (λ e. ap (λ (l : LinkState). record l { control = c.send.new.self }) e ∙ ap (λ control. record link { control = control }) after) in
+    link_then k _ s n link link' a.stands there refl (search (links, a.stands.routing))

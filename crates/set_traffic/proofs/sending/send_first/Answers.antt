@@ -12,12 +12,4 @@ pub unreachable-requires : goal.unreachable-requires
 unreachable-requires c = let no : false ≡ true = c.in-Err.ensures.succeeds (some (queue_at (Waiting c.args.number) c.args.parts.now.queues.lists) c.requires.some) c.requires.few in absurd (cc)
 
 pub returns : goal.returns
-returns c = λ s link there f order. sent_then (kept_of c.args.parts.now) _ s c.args.number c.in-Ok.field-0.0 link f order there c.in-Ok.ensures.sent.first (record {
-  settings_same = refl;
-  lists_are = c.in-Ok.ensures.sent.lists;
-  messages_are = c.in-Ok.ensures.messages;
-  bodies_are = refl;
-  links_are = f.links;
-  routing_is = refl;
-  inbox_same = refl;
-})
+returns c = λ s link there f order. sent_then (kept_of c.args.parts.now) _ s c.args.number c.in-Ok.field-0.0 link f order there c.in-Ok.ensures.sent.first (grind (arith, c.in-Ok.ensures.sent.lists, c.in-Ok.ensures.messages, f.links))
