@@ -83,10 +83,7 @@ as_many old new k = sym (length-map new.links.items (λ (l : Link). l.phase)) �
 same_from : (code n : ℕ) (old new : Parts) → KeepsSpace old new → back_from code n new.queues.lists ≡ back_from code n old.queues.lists
 unfolding back_from
 same_from code zero old new k = refl
-same_from code (suc n) old new k =
-    let rest = same_from code n old new k in
-    let last = ap length (k.queues.backs (code + n)) in
-    omega (arith, rest, last)
+same_from code (suc n) old new k = omega (arith, same_from code n old new k, ap length (k.queues.backs (code + n)))
 
 same_back : (n : ℕ) (old new : Parts) → KeepsSpace old new → back_count n new.queues.lists ≡ back_count n old.queues.lists
 same_back n old new k = same_from (16 * n) 16 old new k
@@ -107,22 +104,12 @@ spacious_still None old new k p = tt
 spacious_still (Some order) old new k p = for_order order p
   where
     about : (link : ℕ) → (link < length old.links.items → IsReady link 1 old) → link < length new.links.items → IsReady link 1 new
-    about link r low = ready_still link 1 old new k (r (let many = as_many old new k in omega (arith, many, low)))
+    about link r low = ready_still link 1 old new k (r (rw (as_many old new k) at low))
 
     for_order : (order : Order) → IsSpaciousFor order old → IsSpaciousFor order new
     for_order (Coo link number) r = about link r
     for_order (Coa link number) r = about link r
     for_order (Eco link) r = about link r
     for_order (Eca link) r = about link r
-    for_order (Cbd link code) r =
-        let same = same_target old.links.items new.links.items k.phases in
-        subst (λ (o : Option ℕ). HasRoom (fate_on o) new) (sym same) (record {
-          message = rw (k.queues.message) r.message;
-          body = rw (k.bodies) r.body;
-          place = let had = r.place in let more = k.queues.rooms (fate_on (target (map link_kept old.links.items))) in omega (arith, had, more);
-        })
-    for_order (Cba link code) r = λ low.
-        let had = r (let many = as_many old new k in omega (arith, many, low)) in
-        let more = k.queues.rooms (Waiting (home_of code)) in
-        let same = ap length (k.queues.backs code) in
-        omega (arith, had, more, same)
+    for_order (Cbd link code) r = grind (arith, same_target old.links.items new.links.items k.phases, k.queues.message, k.bodies, k.queues.rooms (fate_on (target (map link_kept old.links.items))), r.message, r.body, r.place)
+    for_order (Cba link code) r = λ low. grind (arith, r, as_many old new k, k.queues.rooms (Waiting (home_of code)), k.queues.backs code)
