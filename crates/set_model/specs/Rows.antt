@@ -3,7 +3,7 @@
 use Rattle.std.specs.Prelude.{◌≡◌, ℕ, suc, zero, ◌==◌, ◌+◌, ◌%◌, ◌/◌, ◌≤◌, nat_lt, Bool, true, false, not, ◌&&◌, List, [], ◌∷◌, ◌++◌, length, filter, map, find, Option, slice_index, if◌then◌else◌}
 use Rattle.std.specs.Option.{option_map}
 use Rattle.set_events.specs.declared.answer.Fate.{Fate}
-use Rattle.set_events.specs.declared.answer.Fate.TheVariants.{Waiting, Unacked, Acked, Held, Parked, Back, Discarded}
+use Rattle.set_events.specs.declared.answer.Fate.TheVariants.{Waiting, Unacked, Held, Back}
 use Rattle.set_events.specs.declared.answer.Counts.{Counts}
 pub use Rattle.set_events.specs.Places.{waits, was_sent, was_acked, was_held, is_parked, stands_back, was_discarded, is_unsent}
 use Rattle.set_route.specs.Routing.{home_of}

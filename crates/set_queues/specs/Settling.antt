@@ -1,5 +1,5 @@
 -- A link settles: what stands on it goes elsewhere (Q.704 5.5).
-use Rattle.std.specs.Prelude.{◌≡◌, ℕ, ◌++◌, List, [], Option, Some, None, true, false}
+use Rattle.std.specs.Prelude.{◌≡◌, ℕ, ◌++◌, List, [], true, false}
 use Rattle.set_events.specs.declared.answer.Fate.{Fate}
 use Rattle.set_events.specs.declared.answer.Fate.TheVariants.{Waiting, Unacked, Held}
 pub use Rattle.set_events.specs.Places.{fate_on}
