@@ -1,25 +1,24 @@
 -- A set of which nothing was asked, and what holds after each event.
-use Rattle.std.proofs.Common.{refl, arith, ◌≡◌, ◌∙◌, ap, sym, subst, ℕ, zero, suc, ◌^◌, ◌+◌, ◌%◌, List, [], map, slice_get, Some, None, nat_lt, if◌then◌else◌}
+use Rattle.std.proofs.Common.{◌≡◌, true, false, IsOk, Result, refl, arith, subst, ℕ, zero, suc, ◌^◌, List, [], map, slice_get, Some, None, nat_lt, if◌then◌else◌}
+use Rattle.set_events.specs.declared.event.Event.{Event}
+use Rattle.set_step.specs.Faults.{wants_none}
 use Rattle.std.specs.Prelude.{replicate, slice_index_or}
 use Rattle.std.proofs.lemmas.List.{length-replicate}
-use Rattle.std.proofs.lemmas.Bool.{le-ltb}
 use Rattle.std.proofs.lemmas.Bool.Decides.{nat_tests}
 use Rattle.set_events.specs.declared.answer.Answer.{Answer}
 use Rattle.set_events.specs.declared.answer.Fate.{Fate}
-use Rattle.set_events.specs.declared.answer.Fate.TheVariants.{Waiting, Unacked, Acked, Held, Parked, Back, Discarded}
 use Rattle.set_events.specs.declared.config.SetConfig.{SetConfig}
-use Rattle.set_events.specs.declared.event.Event.{Event}
-use Rattle.set_queues.specs.Buffers.{Lists, LinkLists, queue_at, list_in, number_in}
+use Rattle.set_queues.specs.Buffers.{Lists, LinkLists, queue_at}
 use Rattle.set_route.specs.Routing.{new_routing}
 use Rattle.set_model.specs.Rows.{numbers}
-use Rattle.set_model.specs.Sound.{IsSettings, IsAsked}
+use Rattle.set_model.specs.Sound.{IsAsked}
 use Rattle.set_model.specs.State.{State, LinkState, settings_of, new_link, new_state}
 use Rattle.set_model.specs.Step.{step, stepped}
 use Rattle.set_model.proofs.Lists.{map_at}
 use Rattle.set_model.proofs.Soundness.{opened_sound, step_sound}
 use Rattle.set_model.proofs.Stepping.{step_is}
 use Rattle.set_moves.specs.declared.parts.Parts.{Parts}
-use Rattle.set_moves.specs.Agreement.{Kept, Agrees, Holds, HoldsFew, Stands, rows_at}
+use Rattle.set_moves.specs.Agreement.{Kept, Agrees, Holds, HoldsFew, rows_at}
 use Rattle.set_step.specs.Answering.{AnswersFor}
 use Rattle.set_moves.specs.Parts.{Answers, AreCounted, kept_of, link_of}
 
@@ -72,6 +71,10 @@ pub opened : (config : SetConfig) (parts : Parts) → parts.config ≡ config �
 opened config parts c links queues parked back messages bodies routes inbox = let same : kept_of parts ≡ new_kept config = grind arith in rw same (new_agrees config)
 
 -- AFTER AN EVENT
+
+-- an event that may want memory is no other
+pub may_want : {E : Type 0} (result : Result (Unit {0}) E) (event known : Event) → event ≡ known → wants_none known ≡ false → wants_none event ≡ true → IsOk result
+may_want result event known is wants none = cc
 
 pub answers_for : (old new : Parts) (event : Event) (answer : Answer) → IsAsked event → Answers old new answer (λ s. stepped s event) → (s : State) → Agrees (kept_of old) s → AnswersFor (step s event) answer (kept_of new)
 answers_for old new event answer asked ok s a = grind (arith, nat_tests, step_is, step_sound, a.sound)

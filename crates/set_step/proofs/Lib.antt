@@ -1,4 +1,2 @@
-pub mod Carrying
-pub mod Counting
 pub mod Fresh
 pub mod Reading

@@ -30,7 +30,7 @@ use std::alloc::AllocError;
 
 /// What is answered to an event is put into `answer`: an answer has room for a unit, and one that is handed on by value is
 /// copied each time. On a fault nothing of the parts has changed.
-#[tactic(auto, using(crate::proofs::Carrying::may_want))]
+#[tactic(auto, using(crate::proofs::Fresh::may_want))]
 pub(crate) fn carry_out(
     parts: &mut Parts,
     event: &Event,
@@ -247,7 +247,7 @@ fn bring_up(parts: &mut Parts, number: u8, answer: &mut Answer) -> Result<(), Al
 }
 
 /// The settled link is in service from now on.
-#[tactic(auto, using(set_traffic::proofs::Refusals::queue_there))]
+#[tactic(auto, using(set_traffic::proofs::Controls::queue_there))]
 fn rise(parts: &mut Parts, number: u8)
     requires holds { Holds (kept_of parts.old) }
     requires here { IsHere parts.old.links.items number Settled }

@@ -1,6 +1,3 @@
 pub mod Bodies
-pub mod Choosing
-pub mod Chosen
-pub mod Heard
-pub mod Refusals
+pub mod Controls
 pub mod Told

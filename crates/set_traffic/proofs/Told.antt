@@ -1,5 +1,5 @@
 -- What a heard unit brings, as the step has it; and that hearing takes no room.
-use Rattle.std.proofs.Common.{refl, arith, ◌≡◌, ◌∙◌, ap, sym, subst, ◌≤◌, ◌<◌, ◌+◌, ◌*◌, ◌++◌, [], ◌∷◌, List, ℕ, zero, suc, Bool, true, false, length, map, Option, Some, None, slice_set}
+use Rattle.std.proofs.Common.{refl, arith, ◌≡◌, ◌∙◌, ap, sym, subst, ◌<◌, ◌+◌, ◌*◌, ◌++◌, [], ◌∷◌, List, ℕ, zero, suc, Bool, true, false, length, map, Option, Some, None, slice_set}
 use Rattle.std.proofs.lemmas.List.{length-map}
 use Rattle.std.proofs.lemmas.Bool.Decides.{nat_tests}
 use Rattle.l2_signals.specs.declared.status.Status.{Status}
@@ -16,9 +16,7 @@ use Rattle.set_events.specs.declared.answer.Report.{Report}
 use Rattle.set_events.specs.declared.answer.Took.{Took}
 use Rattle.set_events.specs.declared.answer.Took.TheVariants.{Message, Nothing, Ignored}
 use Rattle.set_queues.specs.Backs.{back_from, back_count}
-use Rattle.set_queues.specs.Buffers.{room_at}
 use Rattle.set_route.specs.Routing.{home_of}
-use Rattle.set_queues.specs.Settling.{on}
 use Rattle.set_route.specs.Target.{target_of}
 use Rattle.set_model.specs.declared.phase.Phase.TheVariants.{Up}
 use Rattle.set_model.specs.Control.{part_of}
@@ -33,7 +31,7 @@ use Rattle.set_moves.specs.declared.parts.Parts.{Parts}
 use Rattle.set_moves.specs.Agreement.{Kept, StandsFor}
 use Rattle.set_traffic.specs.Hearing.{HasPlace, IsSpacious, KeepsSpace, order_brought, message_brought}
 use Rattle.set_moves.specs.Parts.{Gives, Obeys, kept_of, link_of as link_kept}
-use Rattle.set_moves.specs.Room.{HasRoom, IsReady, IsSpaciousFor, target_beside}
+use Rattle.set_moves.specs.Room.{IsReady, IsSpaciousFor, target_beside}
 use Rattle.set_moves.proofs.Targets.{same_ups, same_target}
 
 -- THE INBOX

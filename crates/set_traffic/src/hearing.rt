@@ -164,7 +164,7 @@ fn order_in(unit: &Unit) -> Option<Order>
 }
 
 /// The control hears the unit: acknowledged messages are the first ones, and so many.
-#[tactic(auto, using(crate::proofs::Refusals::queue_there))]
+#[tactic(auto, using(crate::proofs::Controls::queue_there))]
 fn control_hears(parts: &mut Parts, number: u8, unit: &Unit) -> HeardPart
     requires holds { Holds (kept_of parts.old) }
     requires counted { AreCounted (2 ^ 60) parts.old.links.items }

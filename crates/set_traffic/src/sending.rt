@@ -32,7 +32,7 @@ pub fn send_next(parts: &mut Parts, number: u8, answer: &mut Answer)
 }
 
 /// The next unit of a link that is in service.
-#[tactic(auto, using(crate::proofs::Refusals::queue_there))]
+#[tactic(auto, using(crate::proofs::Controls::queue_there))]
 fn unit_of(parts: &mut Parts, number: u8) -> Unit
     requires holds { Holds (kept_of parts.old) }
     requires known { number < length parts.old.links.items }
@@ -60,7 +60,7 @@ fn unit_of(parts: &mut Parts, number: u8) -> Unit
 }
 
 /// What the link's control chooses.
-#[tactic(auto, using(crate::proofs::Refusals::queue_there))]
+#[tactic(auto, using(crate::proofs::Controls::queue_there))]
 fn choice_for(parts: &Parts, number: u8) -> Choice
     requires holds { Holds (kept_of parts.now) }
     requires known { number < length parts.now.links.items }
@@ -75,7 +75,7 @@ fn choice_for(parts: &Parts, number: u8) -> Choice
 }
 
 /// The link's control goes on as that is sent, before the message moves: the header of the unit.
-#[tactic(auto, using(crate::proofs::Refusals::queue_there))]
+#[tactic(auto, using(crate::proofs::Controls::queue_there))]
 fn go_on(parts: &mut Parts, number: u8, choice: Choice) -> Header
     requires holds { Holds (kept_of parts.old) }
     requires known { number < length parts.old.links.items }

@@ -13,7 +13,7 @@ use Rattle.set_moves.specs.Agreement.{Kept, StandsFor, Agrees}
 use Rattle.set_moves.specs.Refusing.{refusal_by}
 use Rattle.set_moves.specs.Parts.{Gives, kept_of}
 use Rattle.set_moves.proofs.Admitting.{agrees_same}
-use Rattle.set_step.proofs.Counting.{unsent_is}
+use Rattle.set_step.proofs.Reading.{unsent_is}
 use Rattle.set_moves.proofs.Rooms.{whole_of}
 use Rattle.set_step.proofs.step.offer.Goals as goal
 

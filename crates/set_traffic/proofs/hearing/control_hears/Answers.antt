@@ -5,8 +5,7 @@ use Rattle.set_model.specs.Step.{is_msu, after_control}
 use Rattle.set_model.specs.State.{LinkState, window_of}
 use Rattle.set_moves.specs.Agreement.{StandsFor}
 use Rattle.set_moves.specs.Parts.{kept_of}
-use Rattle.set_traffic.proofs.Choosing.{window_is}
-use Rattle.set_traffic.proofs.Heard.{part_reaches, part_told, link_told, heard_link}
+use Rattle.set_traffic.proofs.Controls.{window_is, part_reaches, part_told, link_told, heard_link}
 use Rattle.set_moves.proofs.Links.{found, link_set, set_view, stands_for}
 use Rattle.set_moves.proofs.Rooms.{counted_set, wider}
 use Rattle.set_traffic.proofs.hearing.control_hears.Goals as goal

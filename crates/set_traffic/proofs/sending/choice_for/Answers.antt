@@ -2,7 +2,7 @@ use Rattle.std.proofs.Common.{◌∙◌, ap}
 use Rattle.set_model.specs.State.{LinkState, window_of}
 use Rattle.set_model.specs.Rows.{octets_in, unack}
 use Rattle.set_moves.specs.Parts.{kept_of}
-use Rattle.set_traffic.proofs.Choosing.{window_is, choice_is, weighs}
+use Rattle.set_traffic.proofs.Controls.{window_is, choice_is, weighs}
 use Rattle.set_moves.proofs.Links.{stands_for}
 use Rattle.set_traffic.proofs.sending.choice_for.Goals as goal
 

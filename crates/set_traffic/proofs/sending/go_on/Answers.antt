@@ -1,12 +1,11 @@
-use Rattle.std.proofs.lemmas.Bool.Decides.{nat_tests}
-use Rattle.std.proofs.Common.{arith, refl, ◌∙◌, ap, sym, slice_get}
+use Rattle.std.proofs.Common.{refl, ◌∙◌, ap, sym, slice_get}
 use Rattle.set_model.specs.Control.{control_after}
 use Rattle.set_model.specs.Rows.{octets_in, unack}
 use Rattle.set_model.specs.State.{LinkState, window_of}
 use Rattle.set_model.proofs.Lists.{map_at}
 use Rattle.set_moves.specs.Parts.{link_of, kept_of}
 use Rattle.set_moves.proofs.Becoming.{link_then}
-use Rattle.set_traffic.proofs.Choosing.{window_is, choice_is, after_is, head_is, weighs}
+use Rattle.set_traffic.proofs.Controls.{window_is, choice_is, after_is, head_is, weighs}
 use Rattle.set_moves.proofs.Links.{found, link_set, stands_for}
 use Rattle.set_traffic.proofs.sending.go_on.Goals as goal
 

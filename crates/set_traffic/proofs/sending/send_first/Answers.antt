@@ -1,4 +1,4 @@
-use Rattle.std.proofs.Common.{refl, arith, ◌≡◌, ◌≢◌, ap, ◌<◌, List, ℕ, [], length, true, false}
+use Rattle.std.proofs.Common.{arith, ◌≡◌, ◌≢◌, ap, ◌<◌, List, ℕ, [], length, true, false}
 use Rattle.set_events.specs.declared.answer.Fate.TheVariants.{Waiting}
 use Rattle.set_queues.specs.Buffers.{queue_at}
 use Rattle.set_moves.specs.Parts.{kept_of}

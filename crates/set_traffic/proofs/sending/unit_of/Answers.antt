@@ -9,7 +9,7 @@ use Rattle.set_model.proofs.Lists.{within, get_set_same}
 use Rattle.set_traffic.specs.Sending.{goes_on, IsThere}
 use Rattle.set_moves.specs.Parts.{kept_of}
 use Rattle.set_traffic.proofs.Bodies.{row_there}
-use Rattle.set_traffic.proofs.Chosen.{again_given, first_given, fill_given}
+use Rattle.set_traffic.proofs.Controls.{again_given, first_given, fill_given}
 use Rattle.set_traffic.proofs.sending.unit_of.Goals as goal
 
 pub returns-in-Again : goal.returns-in-Again
