@@ -94,6 +94,7 @@ impl Core {
     }
 
     /// How many links the set has.
+    #[tactic(auto, using(set_moves::proofs::Links::length_links))]
     pub fn links(&self) -> u8
         ensures { (s : State) → StandsFor self.now s → result ≡ link_count s }
     {
@@ -149,6 +150,7 @@ impl Core {
 }
 
 /// The links of a set, none of which was up.
+#[tactic(auto, using(set_queues::proofs::Updates::map_push_same))]
 fn new_links(alloc: Global, config: &SetConfig) -> Result<Vec<Link>, AllocError>
     ensures { IfOk result
         (λ links. map link_of links.items ≡ replicate config.now.links
