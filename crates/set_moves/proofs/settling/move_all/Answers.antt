@@ -1,6 +1,4 @@
-use Rattle.std.proofs.Common.{rules, refl, ◌≡◌, ◌∙◌, ap, sym, map}
-use Rattle.set_queues.specs.Messages.{restood}
-use Rattle.set_queues.specs.Settling.{on as on_lists, settled as settled_lists}
+use Rattle.std.proofs.Common.{rules, refl, ◌≡◌, ◌∙◌, ap, map}
 use Rattle.set_route.specs.Routing.{Routing, settled as streams_settled}
 use Rattle.set_model.specs.Changeover.{settled_link, fate_on}
 use Rattle.set_model.specs.State.{target}
@@ -8,11 +6,11 @@ use Rattle.set_moves.specs.Parts.{link_of, kept_of}
 use Rattle.set_moves.proofs.Becoming.{becomes}
 use Rattle.set_moves.proofs.States.{settled_for}
 use Rattle.set_moves.proofs.Links.{link_set}
-use Rattle.set_moves.proofs.Targets.{place_for, same_there}
+use Rattle.set_moves.proofs.Targets.{place_for}
 use Rattle.set_moves.proofs.settling.move_all.Goals as goal
 
 pub settle-requires-clause-apart : goal.settle-requires-clause-apart
-settle-requires-clause-apart c = (place_for c.args.number c.target_of-target.result (fate_on c.target_of-target.result) c.args.parts.now.queues.lists c.deref.ensures.value c.target_of-target.ensures.value c.target_of-target.ensures.below (same_there c.target_of-target.result) c.requires.whole.as_many c.requires.known c.requires.out).apart
+settle-requires-clause-apart c = (place_for c.args.number c.target_of-target.result (fate_on c.target_of-target.result) c.args.parts.now.queues.lists c.deref.ensures.value c.target_of-target.ensures.value c.target_of-target.ensures.below refl c.requires.whole.as_many c.requires.known c.requires.out).apart
 
 pub returns : goal.returns
 returns c = record {
@@ -21,10 +19,8 @@ returns c = record {
       let q = c.args.parts.now.queues in
       let o = c.target_of-target.result in
       let is : o ≡ target s.links = c.target_of-target.ensures.value ∙ ap (λ links. target (map link_of links)) c.deref.ensures.value ∙ ap target f.links in
-      let place = place_for n o (fate_on o) q.lists c.deref.ensures.value c.target_of-target.ensures.value c.target_of-target.ensures.below (same_there o) c.requires.whole.as_many c.requires.known c.requires.out in
-      let lists = c.settle.ensures.lists ∙ ap (λ fate. settled_lists n fate q.lists) (sym (same_there o)) in
-      let messages = c.settle.ensures.messages ∙ ap (λ fate. restood (on_lists n q.lists) fate q.messages) (sym (same_there o)) in
+      let place = place_for n o (fate_on o) q.lists c.deref.ensures.value c.target_of-target.ensures.value c.target_of-target.ensures.below refl c.requires.whole.as_many c.requires.known c.requires.out in
       let set = link_set c.args.parts.now.links.items n c.from.result c.index_mut.result.now c.from.ensures c.requires.known c.index_mut.ensures.value _ s.links link (settled_link link) f.links there (λ e. ap settled_link e) in
       let routes = c.settle-2.ensures ∙ ap (λ (r : Routing). streams_settled n o r) f.routing in
-      rw (← is) (becomes (kept_of c.args.parts.now) _ _ _ _ _ _ _ (search (rules, lists, messages, set, routes)) (settled_for (kept_of c.args.parts.now) s n o link (settled_link link) (streams_settled n o s.routing) f order last there refl place.aside place.off));
+      rw (← is) (becomes (kept_of c.args.parts.now) _ _ _ _ _ _ _ (search (rules, c.settle.ensures.lists, c.settle.ensures.messages, set, routes)) (settled_for (kept_of c.args.parts.now) s n o link (settled_link link) (streams_settled n o s.routing) f order last there refl place.aside place.off));
 }
