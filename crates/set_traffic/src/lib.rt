@@ -5,8 +5,9 @@
 //! order to the rules of changeover and changeback (`set_moves`). [`unserved`] says why either is refused: a link that isn't there, or
 //! isn't in service.
 //!
-//! Contracts say of every state of the model (`set_model`) that the set agreed with that it agrees with what the model's step
-//! makes of it, and answers as that step does. A unit costs what it moves, however many messages there ever were.
+//! Contracts say of every state of the model (`set_model`) that the set agreed with that it stands for what the model's step
+//! makes of it, and answers as that step does. A unit costs what it moves, however many messages there ever were
+//! (`tools/set-bench`).
 //!
 //! The files: `admitting` why a link's event is refused; `sending` what is sent next; `hearing` what a heard unit does.
 //!
