@@ -8,11 +8,11 @@ use Rattle.set_events.specs.declared.answer.Fate.TheVariants.{Acked, Discarded, 
 use Rattle.set_model.specs.Rows.{AreFit, IsHeldLast, IsInOrder, IsNumbered, Row, all_with, appended, body_at, changed, counts_of, fated, held, is_held, is_on, is_parked, is_unacked, is_waiting, moved, numbers, on, parked, standing, total_of, turned, unack, wait, was_acked, with_fate}
 use Rattle.set_model.proofs.Places.{itself, apart_back, unacked_not_waiting, waiting_not_held, unacked_not_held, parked_not_on, on_not_parked, on_not_acked, parked_not_acked, waiting_on, unacked_on, held_on, on_other, not_on_waiting, not_on_unacked, not_on_held}
 use Rattle.set_model.proofs.InPlace.{InPlace, turned_there, changed_there, turned_same, changed_same, turned_ordered, changed_ordered, turned_left, changed_left}
-use Rattle.set_model.proofs.Moving.{moved_length, moved_fit, moved_numbered, moved_gone, moved_same, moved_joined}
-use Rattle.set_model.proofs.Filters.{fated_none}
+use Rattle.set_model.proofs.Moving.{moved_length, moved_fit, moved_numbered, moved_gone, moved_same, moved_joined, moved_count}
+use Rattle.set_model.proofs.Filters.{fated_none, filter_comm}
 use Rattle.set_model.proofs.Order.{order_append, order_filter, order_appended, order_sent, sent_joined, on_in_order, order_none, last_none, last_alone, last_append, last_filter, last_fated, last_appended, last_sent}
 use Rattle.set_model.proofs.Lookups.{body_moved}
-use Rattle.set_model.proofs.Counting.{total_in_place, total_moved, acked_moved}
+use Rattle.set_model.proofs.Counting.{total_is}
 use Rattle.set_model.proofs.Finding.{new_row, same_numbers}
 
 -- Rows that got their fates have the same numbers and octets.
@@ -36,7 +36,7 @@ pub kept_self : (rows : List Row) → Kept rows rows
 kept_self rows = record { fit = λ f. f; numbered = λ f. f; count = refl; bodies = λ f number. refl; total = refl; acked = omega arith }
 
 kept_in_place : (test : Fate → Bool) (rows new : List Row) → InPlace test rows new → ((f : Fate) → test f ≡ true → was_acked f ≡ false) → Kept rows new
-kept_in_place test rows new i w = search (i.fit, same_numbers, i.count, i.as_many, i.bodies, total_in_place, i.acked)
+kept_in_place test rows new i w = grind (arith, total_is, same_numbers)
 
 pub turned_kept : (test : Fate → Bool) (to : Fate) (n : ℕ) (rows : List Row) → ((f : Fate) → test f ≡ true → was_acked f ≡ false) → Kept rows (turned test to n rows)
 turned_kept test to n rows = kept_in_place test rows (turned test to n rows) (turned_there test to n rows)
@@ -45,7 +45,7 @@ pub changed_kept : (test : Fate → Bool) (to : Fate) (rows : List Row) → ((f 
 changed_kept test to rows = kept_in_place test rows (changed test to rows) (changed_there test to rows)
 
 pub moved_kept : (test : Fate → Bool) (fate : Row → Fate) (rows : List Row) → ((row : Row) → was_acked (fate row) ≡ false) → ((f : Fate) → test f ≡ true → was_acked f ≡ false) → Kept rows (moved test fate rows)
-moved_kept test fate rows o w = grind (arith, moved_fit, moved_numbered, moved_length, body_moved, total_moved, acked_moved)
+moved_kept test fate rows o w = grind (arith, moved_fit, moved_numbered, moved_length, body_moved, total_is, moved_count, filter_comm, moved_same)
 
 -- Nothing that link n sees changed.
 pub record Untouched (n : ℕ) (rows new : List Row) : Type 0 where

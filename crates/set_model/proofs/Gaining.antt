@@ -7,8 +7,10 @@ use Rattle.set_events.specs.declared.event.Event.TheVariants.{Find, Offer, Take}
 use Rattle.set_model.specs.Rows.{Row, counts_of, service_indicator}
 use Rattle.set_model.specs.Sound.{IsManaged}
 use Rattle.set_model.specs.State.{State}
-use Rattle.set_model.proofs.Counting.{total_appended, acked_appended, acked_appended_open}
+use Rattle.set_model.proofs.Counting.{total_appended, acked_appended}
 use Rattle.set_model.proofs.Staying.{is_offer, step_grows}
+use Rattle.std.proofs.lemmas.List.Elements.{filter-append}
+use Rattle.std.proofs.lemmas.List.{length-append}
 
 -- only an offer is answered by a message
 abbrev pub AcceptsNone : Event → Answer → Type 0
@@ -31,7 +33,7 @@ step_gains s event m = let grown = step_grows s event in let none = accepts_none
 -- WHAT USERS ASK acknowledges nothing.
 pub offer_acknowledges_none : (s : State) (body : List ℕ) → (counts_of (step s (Offer body)).state.rows).acked ≡ (counts_of s.rows).acked
 unfolding step
-offer_acknowledges_none s body = grind (arith, acked_appended_open)
+offer_acknowledges_none s body = grind (arith, filter-append, length-append)
 
 pub take_acknowledges_none : (s : State) → (counts_of (step s Take).state.rows).acked ≡ (counts_of s.rows).acked
 unfolding step

@@ -16,7 +16,7 @@ use Rattle.set_model.specs.Sound.{AreFew, IsAsked, IsPlaced, IsSettings, IsSound
 use Rattle.set_model.specs.State.{LinkState, Settings, State, new_link, opened_with}
 use Rattle.set_route.proofs.Places.{new_sound}
 use Rattle.set_model.proofs.Events.{sent_given_up, waiting_given_up}
-use Rattle.set_model.proofs.Places.{false_true, unacked_on, waiting_on}
+use Rattle.set_model.proofs.Places.{unacked_on, waiting_on}
 use Rattle.set_model.proofs.InPlace.{fewer_changed}
 use Rattle.set_model.proofs.Walk.{KeptBy, step_walks}
 use Rattle.set_model.proofs.SoundBack.{leaves, declares, releases, rises_sound, moves_off_sound}
