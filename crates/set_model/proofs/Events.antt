@@ -9,8 +9,8 @@ use Rattle.set_model.specs.Rows.{AreFit, IsHeldLast, IsInOrder, IsNumbered, Row,
 use Rattle.set_model.proofs.Places.{itself, apart_back, unacked_not_waiting, waiting_not_held, unacked_not_held, parked_not_on, on_not_parked, on_not_acked, parked_not_acked, waiting_on, unacked_on, held_on, on_other, not_on_waiting, not_on_unacked, not_on_held}
 use Rattle.set_model.proofs.InPlace.{InPlace, turned_there, changed_there, turned_same, changed_same, turned_ordered, changed_ordered, turned_left, changed_left}
 use Rattle.set_model.proofs.Moving.{moved_length, moved_fit, moved_numbered, moved_gone, moved_same, moved_joined, moved_count}
-use Rattle.set_model.proofs.Filters.{fated_none, filter_comm}
-use Rattle.set_model.proofs.Order.{order_append, order_filter, order_appended, order_sent, sent_joined, on_in_order, order_none, last_none, last_alone, last_append, last_filter, last_fated, last_appended, last_sent}
+use Rattle.set_model.proofs.Filters.{filter_comm, filter_within}
+use Rattle.set_model.proofs.Order.{order_filter, order_sent, sent_joined, on_in_order, order_none, last_none, last_alone, last_filter, last_sent, order_on, last_on}
 use Rattle.set_model.proofs.Lookups.{body_moved}
 use Rattle.set_model.proofs.Counting.{total_is}
 use Rattle.set_model.proofs.Finding.{new_row, same_numbers}
@@ -59,20 +59,9 @@ pub record Untouched (n : ℕ) (rows new : List Row) : Type 0 where
 pub untouched_self : (n : ℕ) (rows : List Row) → Untouched n rows rows
 untouched_self n rows = record { unack_same = refl; wait_same = refl; held_same = refl; on_same = refl; order_kept = λ o. o; last_kept = λ o. o }
 
-module _ (n : ℕ) (test : Fate → Bool) (rows : List Row) (w : (f : Fate) → test f ≡ true → is_on n f ≡ false) where
-  module _ (fate : Fate) (o : is_on n fate ≡ false) where
-    pub turned_untouched : (k : ℕ) → Untouched n rows (turned test fate k rows)
-    turned_untouched k =
-        let kept = turned_ordered n test fate (not_on_unacked n fate o) (not_on_waiting n fate o) (not_on_held n fate o) k rows in
-        search (turned_same, not_on_unacked, not_on_waiting, not_on_held)
-
-    pub changed_untouched : Untouched n rows (changed test fate rows)
-    changed_untouched =
-        let kept = changed_ordered n test fate (not_on_unacked n fate o) (not_on_waiting n fate o) (not_on_held n fate o) rows in
-        search (changed_same, not_on_unacked, not_on_waiting, not_on_held)
-
-  pub moved_untouched : (fate : Row → Fate) → ((row : Row) → is_on n (fate row) ≡ false) → Untouched n rows (moved test fate rows)
-  moved_untouched fate o = search (moved_same, not_on_unacked, not_on_waiting, not_on_held, order_append, order_filter, fated_none, last_append, last_filter, last_fated)
+-- where what is on it is the same
+pub untouched : (n : ℕ) (rows new : List Row) → on n new ≡ on n rows → Untouched n rows new
+untouched n rows new same = grind (arith, filter_within, order_on, last_on, order_filter, last_filter)
 
 -- A NEW MESSAGE.
 module _ (rows : List Row) (body : List ℕ) (fate : Fate) where
@@ -85,7 +74,7 @@ module _ (rows : List Row) (body : List ℕ) (fate : Fate) where
 
   -- a link that it doesn't stand on
   pub appended_untouched : (n : ℕ) → is_on n fate ≡ false → Untouched n rows (appended rows body fate)
-  appended_untouched n o = search (appended_out, not_on_unacked, not_on_waiting, not_on_held, order_appended, last_appended)
+  appended_untouched n o = search (untouched, appended_out)
 
 -- A FIRST SENDING.
 pub record Sent (l : ℕ) (rows new : List Row) : Type 0 where
@@ -104,7 +93,7 @@ pub apart_on : (l n : ℕ) → (l == n) ≡ false → (f : Fate) → is_on l f �
 apart_on l n d f e = on_other n l (apart_back l n d) f e
 
 pub sent : (l : ℕ) (rows : List Row) → Sent l rows (turned (is_waiting l) (Unacked l) 1 rows)
-sent l rows = search (turned_kept, on_not_acked l, waiting_on, turned_left, sent_joined, itself, turned_same, waiting_not_held, on_not_parked l, order_sent, last_sent, turned_untouched, apart_on l)
+sent l rows = search (turned_kept, on_not_acked l, waiting_on, turned_left, sent_joined, itself, turned_same, waiting_not_held, on_not_parked l, order_sent, last_sent, untouched, apart_on l)
 
 -- AN ACKNOWLEDGEMENT.
 pub record Acknowledged (l count : ℕ) (rows new : List Row) : Type 0 where
@@ -121,7 +110,7 @@ pub record Acknowledged (l count : ℕ) (rows new : List Row) : Type 0 where
 pub acknowledged : (l count : ℕ) (rows : List Row) → Acknowledged l count rows (turned (is_unacked l) (Acked l) count rows)
 acknowledged l count rows =
     let ordered = turned_ordered l (is_unacked l) (Acked l) refl refl refl count rows in
-    search (turned_kept, on_not_acked l, unacked_on, turned_left, turned_same, unacked_not_waiting, unacked_not_held, on_not_parked l, on_in_order, ordered.in_order, ordered.held_last, turned_untouched, apart_on l)
+    search (turned_kept, on_not_acked l, unacked_on, turned_left, turned_same, unacked_not_waiting, unacked_not_held, on_not_parked l, on_in_order, ordered.in_order, ordered.held_last, untouched, apart_on l)
 
 -- MESSAGES THAT ARE GIVEN UP.
 pub record GivenUp (l : ℕ) (rows new : List Row) : Type 0 where
@@ -137,7 +126,7 @@ module _ (l : ℕ) (cause : DiscardCause) (rows : List Row) where
     pub given_up : GivenUp l rows (changed test (Discarded cause) rows)
     given_up =
         let ordered = changed_ordered l test (Discarded cause) refl refl refl rows in
-        search (changed_kept, changed_same, on_not_acked l, on_not_parked l, changed_untouched, apart_on l)
+        search (changed_kept, changed_same, on_not_acked l, on_not_parked l, untouched, apart_on l)
 
   pub sent_given_up : GivenUp l rows (changed (is_unacked l) (Discarded cause) rows)
   sent_given_up = given_up (is_unacked l) (unacked_on l) (unacked_not_held l l)
@@ -163,7 +152,7 @@ pub record Left (l : ℕ) (to : Fate) (rows new : List Row) : Type 0 where
   pub others : (n : ℕ) → (l == n) ≡ false → is_on n to ≡ false → Untouched n rows new
 
 pub left : (l : ℕ) (to : Fate) (rows : List Row) → is_on l to ≡ false → was_acked to ≡ false → Left l to rows (moved (is_on l) (all_with to) rows)
-left l to rows o a = search (moved_gone, not_on_unacked, unacked_on, not_on_waiting, waiting_on, moved_kept, on_not_acked, not_on_held, held_on, order_none, last_alone, moved_untouched, on_other, apart_back)
+left l to rows o a = search (moved_gone, not_on_unacked, unacked_on, not_on_waiting, waiting_on, moved_kept, on_not_acked, not_on_held, held_on, order_none, last_alone, untouched, moved_same, on_other, apart_back)
 
 -- to another link
 pub record MovedTo (l t : ℕ) (rows new : List Row) : Type 0 where
@@ -195,4 +184,4 @@ pub record Unparked (l : ℕ) (rows new : List Row) : Type 0 where
   pub others : (n : ℕ) → (l == n) ≡ false → Untouched n rows new
 
 pub unparked : (l : ℕ) (rows : List Row) → Unparked l rows (moved is_parked (all_with (Waiting l)) rows)
-unparked l rows = search (parked_not_on, moved_joined, itself, not_on_waiting, moved_same, not_on_held, moved_kept, parked_not_acked, moved_gone, not_on_unacked, last_none, moved_untouched)
+unparked l rows = search (parked_not_on, moved_joined, itself, not_on_waiting, moved_same, not_on_held, moved_kept, parked_not_acked, moved_gone, not_on_unacked, last_none, untouched)

@@ -1,13 +1,11 @@
 -- A link's messages stay in order: what was sent stands before what waits, and that before what is held.
-use Rattle.std.proofs.Common.{arith, refl, ◌≡◌, [], ◌∷◌, length, ℕ, Bool, true, false, ◌==◌, List, ◌++◌, map, take}
+use Rattle.std.proofs.Common.{arith, refl, ◌≡◌, [], ◌∷◌, ℕ, Bool, true, ◌==◌, List, ◌++◌, map, take}
 use Rattle.std.specs.Prelude.{filter}
 use Rattle.std.proofs.lemmas.List.Elements.{filter-append}
-use Rattle.set_events.specs.declared.answer.Fate.{Fate}
 use Rattle.set_events.specs.declared.answer.Fate.TheVariants.{Unacked}
-use Rattle.set_model.specs.Rows.{IsHeldLast, IsInOrder, Row, appended, fated, held, is_unacked, is_waiting, on, turned, unack, wait, with_fate}
-use Rattle.set_model.proofs.Filters.{filter_comm, fated_none}
+use Rattle.set_model.specs.Rows.{IsHeldLast, IsInOrder, Row, held, is_waiting, on, turned, unack, wait, with_fate}
+use Rattle.set_model.proofs.Filters.{filter_comm, filter_within}
 use Rattle.set_model.proofs.InPlace.{turned_nothing}
-use Rattle.set_model.proofs.Finding.{new_row}
 
 -- where nothing was sent on the link
 pub order_none : (n : ℕ) (rows : List Row) → unack n rows ≡ [] → IsInOrder n rows
@@ -22,9 +20,6 @@ order_append n (x ∷ xs) ys o e = grind (arith, filter-append, order_append n x
 pub order_filter : (n : ℕ) (keep : Row → Bool) (rows : List Row) → IsInOrder n rows → IsInOrder n (filter keep rows)
 order_filter n keep [] o = tt
 order_filter n keep (x ∷ rows) o = grind (arith, filter_comm, order_filter n keep rows o.1)
-
-pub order_appended : (n : ℕ) (rows : List Row) (body : List ℕ) (fate : Fate) → is_unacked n fate ≡ false → IsInOrder n rows → IsInOrder n (appended rows body fate)
-order_appended n rows body fate u o = order_append n rows (new_row (length rows) body fate ∷ []) o (rw u refl)
 
 -- THE FIRST MESSAGE THAT WAITS IS SENT.
 pub order_sent : (l : ℕ) (rows : List Row) → IsInOrder l rows → IsInOrder l (turned (is_waiting l) (Unacked l) 1 rows)
@@ -54,13 +49,6 @@ pub last_filter : (n : ℕ) (keep : Row → Bool) (rows : List Row) → IsHeldLa
 last_filter n keep [] a = tt
 last_filter n keep (x ∷ rows) a = grind (arith, filter_comm, last_filter n keep rows a.1)
 
-pub last_fated : (n : ℕ) (fate : Row → Fate) (rows : List Row) → ((row : Row) → is_unacked n (fate row) ≡ false) → ((row : Row) → is_waiting n (fate row) ≡ false) → IsHeldLast n (map (fated fate) rows)
-last_fated n fate [] u w = tt
-last_fated n fate (x ∷ rows) u w = (λ h. (fated_none (is_unacked n) fate u rows, fated_none (is_waiting n) fate w rows), last_fated n fate rows u w)
-
-pub last_appended : (n : ℕ) (rows : List Row) (body : List ℕ) (fate : Fate) → is_unacked n fate ≡ false → is_waiting n fate ≡ false → IsHeldLast n rows → IsHeldLast n (appended rows body fate)
-last_appended n rows body fate u w a = last_append n rows (new_row (length rows) body fate ∷ []) a (rw u refl) (rw w refl) (λ h. (refl, refl), tt)
-
 pub last_sent : (l : ℕ) (rows : List Row) → IsHeldLast l rows → IsHeldLast l (turned (is_waiting l) (Unacked l) 1 rows)
 last_sent l [] a = a
 last_sent l (x ∷ rows) a = let same = turned_nothing (is_waiting l) (Unacked l) 1 rows in grind (arith, same, last_sent l rows a.1)
@@ -69,3 +57,12 @@ last_sent l (x ∷ rows) a = let same = turned_nothing (is_waiting l) (Unacked l
 pub last_alone : (n : ℕ) (rows : List Row) → unack n rows ≡ [] → wait n rows ≡ [] → IsHeldLast n rows
 last_alone n [] u w = tt
 last_alone n (x ∷ rows) u w = grind (arith, last_alone n rows)
+
+-- A LINK SEES ONLY WHAT IS ON IT.
+pub order_on : (n : ℕ) (rows : List Row) → IsInOrder n (on n rows) → IsInOrder n rows
+order_on n [] o = tt
+order_on n (x ∷ rows) o = grind (arith, filter_within, order_on n rows)
+
+pub last_on : (n : ℕ) (rows : List Row) → IsHeldLast n (on n rows) → IsHeldLast n rows
+last_on n [] a = tt
+last_on n (x ∷ rows) a = grind (arith, filter_within, last_on n rows)

@@ -16,7 +16,7 @@ use Rattle.set_model.specs.Sound.{IsManaged}
 use Rattle.set_model.specs.State.{Settings, State, fate_at}
 use Rattle.set_model.proofs.Counting.{total_appended, acked_appended}
 use Rattle.set_model.proofs.Events.{Kept, kept_self, turned_kept, changed_kept, moved_kept}
-use Rattle.set_model.proofs.Finding.{new_row, numbered_appended}
+use Rattle.set_model.proofs.Finding.{numbered_appended}
 use Rattle.set_model.proofs.Places.{on_not_acked, parked_not_acked, back_not_acked, home_back, code_back}
 use Rattle.set_model.proofs.Stating.{messages_stay}
 use Rattle.set_model.proofs.Targets.{target_open}
@@ -44,10 +44,8 @@ module _ (Free : Type 0) where
 
   grows_appended : (s : State) (routing : Routing) (body : List ℕ) (fate : Fate) → (Free → IsManaged s.settings → (service_indicator body == 0) ≡ true) → Grows Free s (record s { rows = appended s.rows body fate; routing = routing })
   grows_appended s routing body fate order =
-      let longer = length_push s.rows (new_row (length s.rows) body fate) in
       let stay = λ (numbered : IsNumbered s.rows). (messages_stay (λ f. false) fate (λ row. fate) s.rows numbered).others_stay body in
-      let same = λ (free : Free) (managed : IsManaged s.settings). let is = order free managed in total_appended s.rows body fate in
-      grind (arith, longer, stay, same, numbered_appended, acked_appended, order)
+      grind (arith, length_push, stay, total_appended, numbered_appended, acked_appended, order)
 
 -- an order is the management's
 order_managed : (order : Order) (settings : Settings) → IsManaged settings → (service_indicator (text order settings.sio settings.dpc settings.opc) == 0) ≡ true
