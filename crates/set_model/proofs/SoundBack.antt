@@ -1,8 +1,8 @@
 -- WHAT HOLDS OF EVERY STATE is kept when a link comes up, when it is left, and when its messages leave it, and by a
 -- changeback.
 use Rattle.std.proofs.lemmas.Bool.Decides.{nat_tests}
-use Rattle.std.proofs.Common.{refl, arith, ◌≡◌, ◌≢◌, ◌∙◌, ap, sym, ◌<◌, ℕ, ◌%◌, ◌==◌, true, false, List, [], map, slice_get, slice_set, Option, None, Some, IfSome, ⊎_elim, subst, Bool, not}
-use Rattle.std.proofs.lemmas.Bool.{eqb-false, cond_both, eqb-true, and_parts, and_right as and_false, cond-false, cases_Bool}
+use Rattle.std.proofs.Common.{refl, arith, ◌≡◌, ◌≢◌, ◌∙◌, ap, sym, ◌<◌, ℕ, ◌%◌, ◌==◌, true, false, List, [], map, slice_get, slice_set, Option, None, Some, IfSome, subst, Bool, not}
+use Rattle.std.proofs.lemmas.Bool.{eqb-false, cond_both, and_parts, and_right as and_false, cond-false}
 use Rattle.std.proofs.lemmas.List.{length-set}
 use Rattle.set_route.specs.Routing.{settled, IsRouting, Routing, asked, code_for, code_of, given_back, has_messages, home_of, place_left, place_of, place_on, place_raised, place_settled, raised, via_settled}
 use Rattle.l3_orders.specs.Grammar.{text}
@@ -93,9 +93,8 @@ module _ (n : ℕ) (link : LinkState) (s : State) (at : IsAt n link Down s) (t :
 
   -- what a link sees of it
   link_left : (k : ℕ) (other : LinkState) → slice_get (slice_set s.links n (settled_link link)) k ≡ Some other → IsSoundLink s.settings.method k other off_rows
-  link_left = links_by s.settings.method s.links n (settled_link link) off_rows settled_one (λ k other d here. let out = λ (is_down : has_phase_up other.phase ≡ false). target_off s.links k (ap link_is_up here ∙ is_down) in link_moved s.settings.method k other (is_on n) (all_with (fate_on to_link)) s.rows (apart_on n k d)
-      (fated_none (is_unacked k) (all_with (fate_on to_link)) (λ x. not_sent k to_link) (standing (is_on n) s.rows)) (λ u. fated_none (is_held k) (all_with (fate_on to_link)) (λ x. target_unheld to_link k) (standing (is_on n) s.rows)) (λ f. fated_none (is_waiting k) (all_with (fate_on to_link)) (λ x. not_on_waiting k (fate_on to_link) (out f)) (standing (is_on n) s.rows))
-      (λ e. fated_none (is_on k) (all_with (fate_on to_link)) (λ x. out (settled_down other.phase e)) (standing (is_on n) s.rows)) (t.links k other here))
+  link_left = links_by s.settings.method s.links n (settled_link link) off_rows settled_one (λ k other d here. let out = λ (is_down : has_phase_up other.phase ≡ false). target_off s.links k (ap link_is_up here ∙ is_down) in link_moved s.settings.method k other (is_on n) (all_with (fate_on to_link)) s.routing s.rows t.backs (apart_on n k d)
+      (λ x. not_sent k to_link) (λ u x. target_unheld to_link k) (λ f x e b. not_on_waiting k (fate_on to_link) (out f)) (λ e x f b. out (settled_down other.phase e)) (t.links k other here))
 
   on_target : (to : Option ℕ) → target s.links ≡ to → IsPlaced (slice_set s.links n (settled_link link)) (place_on to)
   on_target v0 e = grind (arith, nat_tests, target_up, get_set_other, eqb-false, up_unsettled)
@@ -187,8 +186,7 @@ module _ (blind : Bool) (n : ℕ) (link : LinkState) (s : State) (at : IsAt n li
   off k f e = back_not_on k f (home_back n f e)
 
   left_link_sound : (k : ℕ) (other : LinkState) → slice_get mid.links k ≡ Some other → IsSoundLink s.settings.method k other new
-  left_link_sound k other there = link_moved s.settings.method k other (is_back_to n) fate s.rows (off k) (fated_none (is_unacked k) fate (λ x. offered_out k _ mid) _) (λ u. fated_none (is_held k) fate (λ x. up_not_held mid k (ap link_is_up there ∙ u) _) _)
-      (λ d. fated_none (is_waiting k) fate (λ x. down_not_waiting mid k (ap link_is_up there ∙ d) _) _) (λ e. gone (is_on k) (λ via p. grind (arith, nat_tests))) (mid_links k other there)
+  left_link_sound k other there = link_moved s.settings.method k other (is_back_to n) fate s.routing s.rows t.backs (off k) (λ x. offered_out k _ mid) (λ u x. up_not_held mid k (ap link_is_up there ∙ u) _) (λ d x e b. down_not_waiting mid k (ap link_is_up there ∙ d) _) (λ e x f b. grind (arith, nat_tests, goes x f b)) (mid_links k other there)
 
   left_parked : (k : ℕ) (other : LinkState) → slice_get mid.links k ≡ Some other → has_phase_up other.phase ≡ true → parked new ≡ []
   left_parked k other there up = grind (arith, nat_tests, before, moved_more, gone)
@@ -267,13 +265,8 @@ module _ (code : ℕ) (s : State) (t : IsSound s) where
   none_back down = moved_nothing (is_back code) (all_with (Waiting home)) s.rows (none_stands down)
 
   -- none comes to a link that isn't up
-  none_comes : (k : ℕ) (other : LinkState) → slice_get s.links k ≡ Some other → has_phase_up other.phase ≡ false → (test : Fate → Bool) → ((home == k) ≡ false → test (Waiting home) ≡ false) → standing test (map (fated (all_with (Waiting home))) (standing (is_back code) s.rows)) ≡ []
-  none_comes k other there down test out =
-      ⊎_elim (λ e. rw (none_stands (ap (λ (j : ℕ). is_up j s) (eqb-true home k e) ∙ ap link_is_up there ∙ down)) refl) (λ e. fated_none test (all_with (Waiting home)) (λ x. out e) (standing (is_back code) s.rows)) (cases_Bool (home == k))
-
   back_links : (k : ℕ) (other : LinkState) → slice_get s.links k ≡ Some other → IsSoundLink s.settings.method k other gone_rows
-  back_links k other there = link_moved s.settings.method k other (is_back code) (all_with (Waiting home)) s.rows (λ f e. back_not_on k f (code_back code f e)) (fated_none (is_unacked k) (all_with (Waiting home)) (λ x. refl) (standing (is_back code) s.rows)) (λ u. fated_none (is_held k) (all_with (Waiting home)) (λ x. refl) (standing (is_back code) s.rows))
-      (λ d. none_comes k other there d (is_waiting k) (λ e. e)) (λ e. none_comes k other there (settled_down other.phase e) (is_on k) (λ f. f)) (t.links k other there)
+  back_links k other there = link_moved s.settings.method k other (is_back code) (all_with (Waiting home)) s.routing s.rows t.backs (λ f e. back_not_on k f (code_back code f e)) (λ x. refl) (λ u x. refl) (λ d x e b. grind (arith, nat_tests, coded_at, t.homes_up)) (λ d x e b. grind (arith, nat_tests, coded_at, t.homes_up)) (t.links k other there)
 
   back_placed : (k : ℕ) → k < 16 → IsPlaced s.links (place_of k (given_back code s.routing))
   back_placed k few =

@@ -18,20 +18,22 @@ use Rattle.set_route.specs.declared.place.Place.TheVariants.{Changing, Nowhere, 
 use Rattle.set_model.specs.Changeover.{acknowledged as acknowledged_link, acknowledged_by}
 use Rattle.set_model.specs.Control.{Choice, accepted_of, acked_by, choice_of, control_after, control_heard, first, part_of}
 use Rattle.set_model.specs.Rows.{IsHeldLast, IsInOrder, Row, back, changed, fated, held, is_held, is_on, is_unacked, is_waiting, moved, numbers, octets_in, on, standing, stands_back, turned, unack, wait}
-use Rattle.set_model.specs.Sound.{IsInRange, IsOf, IsPlaced, IsSound, IsSoundLink}
+use Rattle.set_model.specs.Sound.{IsInRange, IsOf, IsPlaced, IsSound, IsSoundLink, AreBack, IsBackOf}
 use Rattle.set_model.specs.State.{LinkState, State, has_phase_settled, has_phase_up, last_accepted, link_is_up, window_of}
 use Rattle.set_model.specs.Step.{after_control, is_msu, next, one_if, rows_sent}
 use Rattle.set_model.specs.declared.phase.Phase.{Phase}
 use Rattle.set_model.specs.declared.phase.Phase.TheVariants.{Down, Up}
 use Rattle.set_model.proofs.Controlling.{first_chosen, range_after, part_acked, part_accept, accepted_heard, range_heard}
 use Rattle.set_model.proofs.Backs.{backs_same}
-use Rattle.set_model.proofs.Events.{kept_self, Untouched, untouched_self, sent, acknowledged, GivenUp}
+use Rattle.set_model.proofs.Events.{kept_self, Untouched, untouched_self, sent, acknowledged, GivenUp, untouched}
 use Rattle.set_model.proofs.InPlace.{turned_same, changed_same}
-use Rattle.set_model.proofs.Order.{order_append, order_filter, last_none, last_append, last_filter, last_alone}
+use Rattle.set_model.proofs.Order.{order_append, last_none, last_append, last_alone}
 use Rattle.set_model.proofs.Moving.{others_stay}
 use Rattle.set_model.proofs.Lists.{at_set, each_set, get_set_same, get_set_other, set_same, within}
-use Rattle.set_model.proofs.Places.{false_true, not_on_unacked, not_on_waiting, not_on_held, waiting_on, unacked_on, on_not_back}
+use Rattle.set_model.proofs.Places.{false_true, waiting_on, unacked_on, on_not_back}
 use Rattle.set_model.proofs.Walk.{IsAt}
+use Rattle.set_model.proofs.Standing.{gone_none}
+use Rattle.set_route.specs.Routing.{Routing}
 
 -- PHASES.
 pub up_unsettled : (phase : Phase) → has_phase_up phase ≡ true → has_phase_settled phase ≡ false
@@ -99,10 +101,13 @@ module _ (m : Method) (k : ℕ) (link : LinkState) (rows come : List Row) (sent 
       let settled : has_phase_settled link.phase ≡ true → on k (base ++ come) ≡ [] = λ e. splits (is_on k) ∙ rw (u.on_same, l.settled e, gone e) refl in
       search (unack_same, order_append, u.order_kept, l.in_range)
 
--- those that move leave the others where they were
-pub link_moved : (m : Method) (k : ℕ) (link : LinkState) (test : Fate → Bool) (fate : Row → Fate) (rows : List Row) → ((f : Fate) → test f ≡ true → is_on k f ≡ false) → unack k (map (fated fate) (standing test rows)) ≡ [] → (has_phase_up link.phase ≡ true → held k (map (fated fate) (standing test rows)) ≡ [])
-    → (has_phase_up link.phase ≡ false → wait k (map (fated fate) (standing test rows)) ≡ []) → (has_phase_settled link.phase ≡ true → on k (map (fated fate) (standing test rows)) ≡ []) → IsSoundLink m k link rows → IsSoundLink m k link (moved test fate rows)
-link_moved m k link test fate rows off sent holds waits gone l = link_more m k link rows (map (fated fate) (standing test rows)) sent holds waits gone (standing (λ f. not (test f)) rows) (search (others_stay, order_filter, last_filter, off, not_on_unacked, not_on_waiting, not_on_held)) l
+-- those that move leave the others where they were; of what goes it is known that its stream is on its way back
+pub link_moved : (m : Method) (k : ℕ) (link : LinkState) (test : Fate → Bool) (fate : Row → Fate) (routing : Routing) (rows : List Row) → AreBack routing rows → ((f : Fate) → test f ≡ true → is_on k f ≡ false) → ((x : Row) → is_unacked k (fate x) ≡ false) → (has_phase_up link.phase ≡ true → (x : Row) → is_held k (fate x) ≡ false)
+    → (has_phase_up link.phase ≡ false → (x : Row) → test x.fate ≡ true → IsBackOf routing x x.fate → is_waiting k (fate x) ≡ false) → (has_phase_settled link.phase ≡ true → (x : Row) → test x.fate ≡ true → IsBackOf routing x x.fate → is_on k (fate x) ≡ false) → IsSoundLink m k link rows → IsSoundLink m k link (moved test fate rows)
+link_moved m k link test fate routing rows backs off sent holds waits gone l =
+    let none = λ (other : Fate → Bool) (so : (x : Row) → test x.fate ≡ true → IsBackOf routing x x.fate → other (fate x) ≡ false). gone_none test fate (λ row. IsBackOf routing row row.fate) other so rows backs in
+    let stay = untouched k rows (standing (λ f. not (test f)) rows) (others_stay test (is_on k) fate rows off) in
+    link_more m k link rows (map (fated fate) (standing test rows)) (none (is_unacked k) (λ x e b. sent x)) (λ u. none (is_held k) (λ x e b. holds u x)) (λ d. none (is_waiting k) (waits d)) (λ e. none (is_on k) (gone e)) _ stay l
 
 -- WHAT IS ACKNOWLEDGED OR GIVEN UP on a link that was left.
 acknowledged_few : (count n : ℕ) (rows : List Row) → length (unack n rows) ≤ 127 → length (unack n (turned (is_unacked n) (Acked n) count rows)) ≤ 127
