@@ -1,21 +1,21 @@
 -- WHAT HOLDS OF EVERY STATE is kept when a link comes up, when it is left, and when its messages leave it, and by a
 -- changeback.
 use Rattle.std.proofs.lemmas.Bool.Decides.{nat_tests}
-use Rattle.std.proofs.Common.{refl, arith, ◌≡◌, ◌≢◌, ◌∙◌, ap, sym, ◌<◌, ℕ, ◌%◌, ◌==◌, true, false, List, [], map, slice_get, slice_set, Option, None, Some, IfSome, subst, Bool, not}
-use Rattle.std.proofs.lemmas.Bool.{eqb-false, cond_both, and_parts, and_right as and_false, cond-false}
+use Rattle.std.proofs.Common.{refl, arith, ◌≡◌, ◌≢◌, ◌∙◌, ap, ◌<◌, ℕ, ◌%◌, ◌==◌, true, false, List, [], map, slice_get, slice_set, Option, None, Some, IfSome, Bool, not}
+use Rattle.std.proofs.lemmas.Bool.{eqb-false, and_parts}
 use Rattle.std.proofs.lemmas.List.{length-set}
-use Rattle.set_route.specs.Routing.{settled, IsRouting, Routing, asked, code_for, code_of, given_back, has_messages, home_of, place_left, place_of, place_on, place_raised, place_settled, raised, via_settled}
+use Rattle.set_route.specs.Routing.{settled, IsRouting, Routing, asked, code_for, code_of, given_back, home_of, place_of, place_settled, raised}
 use Rattle.l3_orders.specs.Grammar.{text}
 use Rattle.l3_orders.specs.declared.order.Order.TheVariants.{Cbd}
 use Rattle.set_events.specs.declared.answer.Fate.{Fate}
-use Rattle.set_events.specs.declared.answer.Fate.TheVariants.{Back, Waiting}
+use Rattle.set_events.specs.declared.answer.Fate.TheVariants.{Waiting, Back}
 use Rattle.set_route.specs.declared.place.Code.TheVariants.{Asked}
 use Rattle.set_route.specs.declared.place.Place.{Place}
 use Rattle.set_route.specs.declared.place.Place.TheVariants.{Changing, Nowhere, On}
 use Rattle.set_model.specs.Changeover.{can_declare, declared, fate_on, left_by, left_link, moved_over, out_of_service, released, settled_link}
-use Rattle.set_model.specs.Rows.{Row, all_with, back, fated, is_back, is_back_to, is_held, is_on, is_parked, is_unacked, is_waiting, moved, on, parked, standing, stands_back, stream_of, unack}
+use Rattle.set_model.specs.Rows.{Row, all_with, back, fated, is_back, is_back_to, is_held, is_on, is_parked, is_waiting, moved, parked, standing, stands_back, stream_of}
 use Rattle.set_model.specs.Sound.{AreBack, IsBackOf, IsPlaced, IsSound, IsSoundLink}
-use Rattle.set_model.specs.State.{LinkState, State, fate_at, has_phase_settled, has_phase_up, is_up, link_is_up, target}
+use Rattle.set_model.specs.State.{LinkState, State, fate_at, has_phase_up, is_up, link_is_up, target}
 use Rattle.set_model.specs.Step.{risen_link, rises}
 use Rattle.set_model.specs.declared.phase.Phase.TheVariants.{Down, Settled, Up}
 use Rattle.set_route.proofs.Alone.{alone, codes_alone}
@@ -25,15 +25,16 @@ use Rattle.set_model.proofs.Events.{apart_on, left, unparked, untouched_self}
 use Rattle.set_model.proofs.Lists.{get_set_same, get_set_other, within}
 use Rattle.set_model.proofs.Moving.{moved_numbered, moved_fit, moved_same, moved_more, moved_nothing}
 use Rattle.set_model.proofs.Order.{order_none}
-use Rattle.set_model.proofs.Places.{unacked_on, held_on, false_true, not_on_waiting, on_not_parked, back_not_on, back_not_parked, code_back, home_back}
-use Rattle.set_model.proofs.Filters.{none_within, fated_none}
+use Rattle.set_model.proofs.Places.{false_true, not_on_waiting, on_not_parked, back_not_on, back_not_parked, code_back, home_back}
+use Rattle.set_model.proofs.Filters.{fated_none}
 use Rattle.set_model.proofs.Ranging.{not_sent, offered_out}
 use Rattle.set_model.proofs.Targets.{target_up, target_off, target_open, target_unheld, target_elsewhere, none_up}
 use Rattle.set_model.proofs.Walk.{IsAt}
 use Rattle.set_model.proofs.SoundLink.{up_unsettled, settled_down, link_moved, links_by, links_set, placed_set, up_before, up_after}
 use Rattle.set_model.proofs.Finding.{numbered_appended, fit_appended}
-use Rattle.set_model.proofs.SoundNew.{link_appended, none_parked, order_fits, backs_appended}
+use Rattle.set_model.proofs.SoundNew.{link_appended, none_parked, order_fits, backs_appended, IsOpen}
 use Rattle.set_model.proofs.Standing.{gone_none, none_standing, ascends_appended}
+use Rattle.set_model.proofs.Settling.{settled_empty}
 
 -- A LINK COMES UP.
 module _ (n : ℕ) (link : LinkState) (s : State) (at : IsAt n link Settled s) (t : IsSound s) where
@@ -43,27 +44,20 @@ module _ (n : ℕ) (link : LinkState) (s : State) (at : IsAt n link Settled s) (
   abbrev risen : LinkState
   risen = risen_link s.settings.method
 
-  empty : on n s.rows ≡ []
-  empty = (t.links n link at.there).settled (ap has_phase_settled at.phase_is)
-
   risen_one : IsSoundLink s.settings.method n risen risen_rows
-  risen_one =
-      let u = unparked n s.rows in
-      let none : unack n risen_rows ≡ [] = u.unack_same ∙ none_within (is_unacked n) (is_on n) (unacked_on n) s.rows empty in
-      let unheld = none_within (is_held n) (is_on n) (held_on n) s.rows empty in
-      search (arith, none, order_none, u.last_kept, u.held_same)
-
-  risen_there : IsPlaced (slice_set s.links n risen) (On n)
-  risen_there = (risen, get_set_same s.links n risen (within s.links n link at.there), refl)
+  risen_one = let u = unparked n s.rows in let e = settled_empty s n link t at.there at.phase_is in grind (arith, order_none)
 
   risen_placed : (k : ℕ) → k < 16 → IsPlaced (slice_set s.links n risen) (place_of k (raised n s.routing))
-  risen_placed k few = let stays = placed_set s.links n link risen (place_of k s.routing) at.there refl (t.placed k few) in rw ((alone s.routing k t.routing few).raised_place n) (grind (arith, stays, risen_there))
+  risen_placed k few =
+      let stays = placed_set s.links n link risen (place_of k s.routing) at.there refl (t.placed k few) in
+      let there = get_set_same s.links n risen (within s.links n link at.there) in
+      rw ((alone s.routing k t.routing few).raised_place n) (grind (arith, stays, there))
 
   risen_runs : (j : ℕ) (other : LinkState) → slice_get (slice_set s.links n risen) j ≡ Some other → has_phase_up other.phase ≡ true → (k : ℕ) → k < 16 → place_of k (raised n s.routing) ≢ Nowhere
   risen_runs j other there up k few = rw ((alone s.routing k t.routing few).raised_place n) (grind arith)
 
   risen_backs : AreBack (raised n s.routing) risen_rows
-  risen_backs = backs_moved is_parked (all_with (Waiting n)) s.rows (fated_none stands_back (all_with (Waiting n)) (λ x. refl) (standing is_parked s.rows)) (λ code. Unit {0}) s.routing (raised n s.routing) (λ k few code via of e. (via, (alone s.routing k t.routing few).raised_place n ∙ ap (place_raised n (k % s.routing.links) (has_messages k s.routing)) e)) (λ f code e g. tt) t.backs
+  risen_backs = backs_moved is_parked (all_with (Waiting n)) s.rows (fated_none stands_back (all_with (Waiting n)) (λ x. refl) (standing is_parked s.rows)) (λ code. Unit {0}) s.routing (raised n s.routing) (λ k few code via of e. grind (arith, (alone s.routing k t.routing few).raised_place n)) (λ f code e g. tt) t.backs
 
   pub rises_sound : IsSound (rises n s Settled).state
   rises_sound =
@@ -96,23 +90,14 @@ module _ (n : ℕ) (link : LinkState) (s : State) (at : IsAt n link Down s) (t :
   link_left = links_by s.settings.method s.links n (settled_link link) off_rows settled_one (λ k other d here. let out = λ (is_down : has_phase_up other.phase ≡ false). target_off s.links k (ap link_is_up here ∙ is_down) in link_moved s.settings.method k other (is_on n) (all_with (fate_on to_link)) s.routing s.rows t.backs (apart_on n k d)
       (λ x. not_sent k to_link) (λ u x. target_unheld to_link k) (λ f x e b. not_on_waiting k (fate_on to_link) (out f)) (λ e x f b. out (settled_down other.phase e)) (t.links k other here))
 
-  on_target : (to : Option ℕ) → target s.links ≡ to → IsPlaced (slice_set s.links n (settled_link link)) (place_on to)
-  on_target v0 e = grind (arith, nat_tests, target_up, get_set_other, eqb-false, up_unsettled)
-
-  on_other : (l : ℕ) → (l == n) ≡ false → IsPlaced s.links (On l) → IsPlaced (slice_set s.links n (settled_link link)) (On l)
-  on_other l d p = (p.0, get_set_other s.links n l (settled_link link) (λ same. eqb-false l n d (sym same)) ∙ p.1, p.2)
-
   over_place : (to : Option ℕ) → target s.links ≡ to → (place : Place) → ((home code via : ℕ) → place ≡ Changing home code via → to ≡ None → ⊥) → IsPlaced s.links place → IsPlaced (slice_set s.links n (settled_link link)) (place_settled n to place)
-  over_place to e Nowhere some p = tt
-  over_place None e (Changing home code via) some p = absurd (some home code via refl refl)
-  over_place (Some r) e (Changing home code via) some p = cond_both (via == n) r via (λ (k : ℕ). IsPlaced (slice_set s.links n (settled_link link)) (On k)) (λ f. on_target (Some r) e) (λ f. on_other via f p)
-  over_place to e (On l) some p = cond_both (l == n) (place_on to) (On l) (IsPlaced (slice_set s.links n (settled_link link))) (λ f. on_target to e) (λ f. on_other l f p)
+  over_place to e place some p = grind (arith, nat_tests, target_up, get_set_other, eqb-false, up_unsettled)
 
   target_below : IfSome (target s.links) (λ r. r < s.routing.links)
   target_below = grind (arith, target_up, within)
 
   over_backs : AreBack (settled n to_link s.routing) off_rows
-  over_backs = backs_moved (is_on n) (all_with (fate_on to_link)) s.rows (fated_none stands_back (all_with (fate_on to_link)) (λ x. target_elsewhere to_link) (standing (is_on n) s.rows)) (λ code. Unit {0}) s.routing (settled n to_link s.routing) (λ k few code via of e. (via_settled n to_link via, (alone s.routing k t.routing few).settled_place n to_link ∙ ap (place_settled n to_link) e)) (λ f code e g. tt) t.backs
+  over_backs = backs_moved (is_on n) (all_with (fate_on to_link)) s.rows (fated_none stands_back (all_with (fate_on to_link)) (λ x. target_elsewhere to_link) (standing (is_on n) s.rows)) (λ code. Unit {0}) s.routing (settled n to_link s.routing) (λ k few code via of e. grind (arith, (alone s.routing k t.routing few).settled_place n to_link)) (λ f code e g. tt) t.backs
 
   -- a stream on its way back has a home that is up, so there is a target
   over_placed : (k : ℕ) → k < 16 → IsPlaced (slice_set s.links n (settled_link link)) (place_of k (settled n (target s.links) s.routing))
@@ -139,9 +124,6 @@ module _ (n : ℕ) (link : LinkState) (s : State) (at : IsAt n link Down s) (t :
 in_use_below : (r : Routing) → IsRouting r → (code : ℕ) → code_of code r ≡ Asked → code < 256
 in_use_below r sound code e = grind arith
 
-up_link : (n : ℕ) (s : State) → is_up n s ≡ true → (link : LinkState) × (slice_get s.links n ≡ Some link) × (has_phase_up link.phase ≡ true)
-up_link n s e = grind arith
-
 -- where a message goes whose stream runs on a link: to wait for it if it's up, else to be held for it
 module _ (s : State) where
   pub up_not_held : (k : ℕ) → is_up k s ≡ true → (p : Place) → is_held k (fate_at p s) ≡ false
@@ -166,10 +148,7 @@ module _ (blind : Bool) (n : ℕ) (link : LinkState) (s : State) (at : IsAt n li
   goes x e b = go x.fate e b
     where
       go : (f : Fate) → is_back_to n f ≡ true → IsBackOf s.routing x f → (via : ℕ) × (place_of (stream_of x.body) mid.routing ≡ On via) × IsPlaced mid.links (On via)
-      go (Back c) e b =
-          let from : IsPlaced s.links (Changing (home_of c) c b.2) = subst (IsPlaced s.links) b.3 (t.placed (stream_of x.body) b.1) in
-          let back : place_left n (Changing (home_of c) c b.2) ≡ On b.2 = rw e refl in
-          (b.2, (alone s.routing (stream_of x.body) t.routing b.1).left_place n ∙ ap (place_left n) b.3 ∙ back, placed_set s.links n link (left_link blind link) (On b.2) at.there refl from)
+      go (Back c) e b = (b.2, grind (arith, (alone s.routing (stream_of x.body) t.routing b.1).left_place n), placed_set s.links n link (left_link blind link) (On b.2) at.there refl (rw b.3 at (t.placed (stream_of x.body) b.1)))
       go _ e b = absurd cc
 
   gone : (other : Fate → Bool) → ((via : ℕ) → IsPlaced mid.links (On via) → other (fate_at (On via) mid) ≡ false) → standing other (map (fated fate) (standing (is_back_to n) s.rows)) ≡ []
@@ -206,7 +185,7 @@ module _ (blind : Bool) (n : ℕ) (link : LinkState) (s : State) (at : IsAt n li
   left_gone = gone stands_back (λ via p. grind arith)
 
   left_backs : AreBack mid.routing new
-  left_backs = backs_moved (is_back_to n) fate s.rows left_gone (λ code. (home_of code == n) ≡ false) s.routing mid.routing (λ k few code via of f. (via, (alone s.routing k t.routing few).left_place n ∙ ap (place_left n) f ∙ cond-false (home_of code == n) (On via) (Changing (home_of code) code via) of)) (λ f code e g. sym (ap (is_back_to n) g) ∙ e) t.backs
+  left_backs = backs_moved (is_back_to n) fate s.rows left_gone (λ code. (home_of code == n) ≡ false) s.routing mid.routing (λ k few code via of f. grind (arith, (alone s.routing k t.routing few).left_place n)) (λ f code e g. grind arith) t.backs
 
   pub leaves : IsSound (left_by blind n link s)
   leaves = search (left_sound, length-set, moved_numbered, moved_fit, left_link_sound, left_placed, left_parked, left_runs, left_homes, left_backs, back_order_moved, left_gone)
@@ -223,14 +202,11 @@ module _ (home alternative : ℕ) (s : State) (up : is_up home s ≡ true) (may 
   abbrev body : List ℕ
   body = text (Cbd home (code_for home alternative)) s.settings.sio s.settings.dpc s.settings.opc
 
-  there : (link : LinkState) × (slice_get s.links alternative ≡ Some link) × (has_phase_up link.phase ≡ true)
-  there = up_link alternative s (alternative_up home alternative s may)
-
   below : (n : ℕ) → is_up n s ≡ true → n < s.routing.links
   below n e = grind (arith, within)
 
   asked_placed : (k : ℕ) → k < 16 → IsPlaced s.links (place_of k runs)
-  asked_placed k few = let p = t.placed k few in rw ((alone s.routing k t.routing few).asked_place home alternative) (grind (arith, p, there, up_unsettled))
+  asked_placed k few = let p = t.placed k few in let out = alternative_up home alternative s may in rw ((alone s.routing k t.routing few).asked_place home alternative) (grind (arith, p, out, up_unsettled))
 
   asked_run : (n : ℕ) (link : LinkState) → slice_get s.links n ≡ Some link → has_phase_up link.phase ≡ true → (k : ℕ) → k < 16 → place_of k runs ≢ Nowhere
   asked_run n link at rising k few = let runs = t.all_run n link at rising k few in rw ((alone s.routing k t.routing few).asked_place home alternative) (grind (arith, runs))
@@ -240,14 +216,16 @@ module _ (home alternative : ℕ) (s : State) (up : is_up home s ≡ true) (may 
       let low = below home up in
       let other_low = below alternative (alternative_up home alternative s may) in
       let in_use = in_use_below runs (asked_sound home alternative s.routing low other_low t.routing) code e in
-      let is = (codes_alone s.routing code t.routing in_use).asked_code home alternative (omega (arith, t.routing.at_most_16, low)) (omega (arith, t.routing.at_most_16, other_low)) in
-      grind (arith, nat_tests, is, up, t.routing.at_most_16, other_low, t.homes_up code)
+      grind (arith, nat_tests, (codes_alone s.routing code t.routing in_use).asked_code home alternative, up, t.routing.at_most_16, low, other_low, t.homes_up code)
 
   asked_backs : AreBack runs s.rows
-  asked_backs = backs_kept (λ code. Unit {0}) s.routing runs (λ k few code via of e. (via, rw ((alone s.routing k t.routing few).asked_place home alternative, e, and_false (k % s.routing.links == home) false refl) refl)) (λ code. tt) s.rows t.backs
+  asked_backs = backs_kept (λ code. Unit {0}) s.routing runs (λ k few code via of e. grind (arith, nat_tests, (alone s.routing k t.routing few).asked_place home alternative)) (λ code. tt) s.rows t.backs
 
   pub declares : IsSound (declared home alternative s)
-  declares = search (asked_sound, below, alternative_up, numbered_appended, fit_appended, order_fits, link_appended, there, asked_placed, none_parked, asked_run, asked_homes, backs_appended, asked_backs, ascends_appended)
+  declares =
+      let out = alternative_up home alternative s may in
+      let opened : IsOpen (Waiting alternative) s.links = grind (arith, out) in
+      search (asked_sound, below, out, numbered_appended, fit_appended, order_fits, link_appended, opened, asked_placed, none_parked, asked_run, asked_homes, backs_appended, asked_backs, ascends_appended)
 
 -- WHAT STOOD BACK WAITS FOR ITS HOME.
 module _ (code : ℕ) (s : State) (t : IsSound s) where
@@ -269,10 +247,7 @@ module _ (code : ℕ) (s : State) (t : IsSound s) where
   back_links k other there = link_moved s.settings.method k other (is_back code) (all_with (Waiting home)) s.routing s.rows t.backs (λ f e. back_not_on k f (code_back code f e)) (λ x. refl) (λ u x. refl) (λ d x e b. grind (arith, nat_tests, coded_at, t.homes_up)) (λ d x e b. grind (arith, nat_tests, coded_at, t.homes_up)) (t.links k other there)
 
   back_placed : (k : ℕ) → k < 16 → IsPlaced s.links (place_of k (given_back code s.routing))
-  back_placed k few =
-      let there = t.placed k few in
-      let home_there = λ (to c via : ℕ) (e : place_of k s.routing ≡ Changing to c via). let coded = coded_at s.routing k t.routing to c via e in up_link to s (ap (λ (j : ℕ). is_up j s) (sym coded.0) ∙ t.homes_up c coded.1) in
-      rw ((alone s.routing k t.routing few).back_place code) (grind (arith, there, home_there, up_unsettled))
+  back_placed k few = let there = t.placed k few in rw ((alone s.routing k t.routing few).back_place code) (grind (arith, nat_tests, there, coded_at, t.homes_up, up_unsettled))
 
   back_runs : (n : ℕ) (link : LinkState) → slice_get s.links n ≡ Some link → has_phase_up link.phase ≡ true → (k : ℕ) → k < 16 → place_of k (given_back code s.routing) ≢ Nowhere
   back_runs n link at up k few = let runs = t.all_run n link at up k few in rw ((alone s.routing k t.routing few).back_place code) (grind (arith, runs))
@@ -281,7 +256,7 @@ module _ (code : ℕ) (s : State) (t : IsSound s) where
   back_homes c e = grind (arith, nat_tests, (codes_alone s.routing c t.routing (in_use_below (given_back code s.routing) (back_sound code s.routing t.routing) c e)).back_code code, t.homes_up c)
 
   back_backs : AreBack (given_back code s.routing) gone_rows
-  back_backs = backs_moved (is_back code) (all_with (Waiting home)) s.rows (fated_none stands_back (all_with (Waiting home)) (λ x. refl) (standing (is_back code) s.rows)) (λ c. (c == code) ≡ false) s.routing (given_back code s.routing) (λ k few c via of f. (via, rw ((alone s.routing k t.routing few).back_place code, f, of) refl)) (λ f c e g. sym (ap (is_back code) g) ∙ e) t.backs
+  back_backs = backs_moved (is_back code) (all_with (Waiting home)) s.rows (fated_none stands_back (all_with (Waiting home)) (λ x. refl) (standing (is_back code) s.rows)) (λ c. (c == code) ≡ false) s.routing (given_back code s.routing) (λ k few c via of f. grind (arith, (alone s.routing k t.routing few).back_place code)) (λ f c e g. grind arith) t.backs
 
   pub releases : IsSound (released code s)
   releases = search (back_sound, moved_numbered, moved_fit, back_links, back_placed, moved_same, back_not_parked, code_back, t.none_aside, back_runs, back_homes, back_backs, back_order_moved, fated_none)
