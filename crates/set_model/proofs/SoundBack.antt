@@ -4,14 +4,12 @@ use Rattle.std.proofs.lemmas.Bool.Decides.{nat_tests}
 use Rattle.std.proofs.Common.{refl, arith, ◌≡◌, ◌≢◌, ◌∙◌, ap, ◌<◌, ℕ, ◌%◌, ◌==◌, true, false, List, [], map, slice_get, slice_set, Option, None, Some, IfSome, Bool, not}
 use Rattle.std.proofs.lemmas.Bool.{eqb-false, and_parts}
 use Rattle.std.proofs.lemmas.List.{length-set}
-use Rattle.set_route.specs.Routing.{settled, IsRouting, Routing, asked, code_for, code_of, given_back, home_of, place_of, place_settled, raised}
-use Rattle.l3_orders.specs.Grammar.{text}
-use Rattle.l3_orders.specs.declared.order.Order.TheVariants.{Cbd}
+use Rattle.set_route.specs.Routing.{settled, IsRouting, Routing, asked, code_of, given_back, home_of, place_of, raised, place_settled}
 use Rattle.set_events.specs.declared.answer.Fate.{Fate}
 use Rattle.set_events.specs.declared.answer.Fate.TheVariants.{Waiting, Back}
 use Rattle.set_route.specs.declared.place.Code.TheVariants.{Asked}
 use Rattle.set_route.specs.declared.place.Place.{Place}
-use Rattle.set_route.specs.declared.place.Place.TheVariants.{Changing, Nowhere, On}
+use Rattle.set_route.specs.declared.place.Place.TheVariants.{Nowhere, On, Changing}
 use Rattle.set_model.specs.Changeover.{can_declare, declared, fate_on, left_by, left_link, moved_over, out_of_service, released, settled_link}
 use Rattle.set_model.specs.Rows.{Row, all_with, back, fated, is_back, is_back_to, is_held, is_on, is_parked, is_waiting, moved, parked, standing, stands_back, stream_of}
 use Rattle.set_model.specs.Sound.{AreBack, IsBackOf, IsPlaced, IsSound, IsSoundLink}
@@ -57,7 +55,7 @@ module _ (n : ℕ) (link : LinkState) (s : State) (at : IsAt n link Settled s) (
   risen_runs j other there up k few = rw ((alone s.routing k t.routing few).raised_place n) (grind arith)
 
   risen_backs : AreBack (raised n s.routing) risen_rows
-  risen_backs = backs_moved is_parked (all_with (Waiting n)) s.rows (fated_none stands_back (all_with (Waiting n)) (λ x. refl) (standing is_parked s.rows)) (λ code. Unit {0}) s.routing (raised n s.routing) (λ k few code via of e. grind (arith, (alone s.routing k t.routing few).raised_place n)) (λ f code e g. tt) t.backs
+  risen_backs = backs_moved is_parked (all_with (Waiting n)) s.rows (fated_none stands_back (all_with (Waiting n)) (λ x. refl) (standing is_parked s.rows)) s.routing (raised n s.routing) (λ k few code via of e. grind (arith, (alone s.routing k t.routing few).raised_place n)) t.backs
 
   pub rises_sound : IsSound (rises n s Settled).state
   rises_sound =
@@ -90,14 +88,11 @@ module _ (n : ℕ) (link : LinkState) (s : State) (at : IsAt n link Down s) (t :
   link_left = links_by s.settings.method s.links n (settled_link link) off_rows settled_one (λ k other d here. let out = λ (is_down : has_phase_up other.phase ≡ false). target_off s.links k (ap link_is_up here ∙ is_down) in link_moved s.settings.method k other (is_on n) (all_with (fate_on to_link)) s.routing s.rows t.backs (apart_on n k d)
       (λ x. not_sent k to_link) (λ u x. target_unheld to_link k) (λ f x e b. not_on_waiting k (fate_on to_link) (out f)) (λ e x f b. out (settled_down other.phase e)) (t.links k other here))
 
+  over_backs : AreBack (settled n to_link s.routing) off_rows
+  over_backs = backs_moved (is_on n) (all_with (fate_on to_link)) s.rows (fated_none stands_back (all_with (fate_on to_link)) (λ x. target_elsewhere to_link) (standing (is_on n) s.rows)) s.routing (settled n to_link s.routing) (λ k few code via of e. grind (arith, (alone s.routing k t.routing few).settled_place n to_link)) t.backs
+
   over_place : (to : Option ℕ) → target s.links ≡ to → (place : Place) → ((home code via : ℕ) → place ≡ Changing home code via → to ≡ None → ⊥) → IsPlaced s.links place → IsPlaced (slice_set s.links n (settled_link link)) (place_settled n to place)
   over_place to e place some p = grind (arith, nat_tests, target_up, get_set_other, eqb-false, up_unsettled)
-
-  target_below : IfSome (target s.links) (λ r. r < s.routing.links)
-  target_below = grind (arith, target_up, within)
-
-  over_backs : AreBack (settled n to_link s.routing) off_rows
-  over_backs = backs_moved (is_on n) (all_with (fate_on to_link)) s.rows (fated_none stands_back (all_with (fate_on to_link)) (λ x. target_elsewhere to_link) (standing (is_on n) s.rows)) (λ code. Unit {0}) s.routing (settled n to_link s.routing) (λ k few code via of e. grind (arith, (alone s.routing k t.routing few).settled_place n to_link)) (λ f code e g. tt) t.backs
 
   -- a stream on its way back has a home that is up, so there is a target
   over_placed : (k : ℕ) → k < 16 → IsPlaced (slice_set s.links n (settled_link link)) (place_of k (settled n (target s.links) s.routing))
@@ -118,7 +113,8 @@ module _ (n : ℕ) (link : LinkState) (s : State) (at : IsAt n link Down s) (t :
   pub moves_off_sound : IsSound (moved_over n link s)
   moves_off_sound =
       let stays : has_phase_up link.phase ≡ true → has_phase_up (settled_link link).phase ≡ true = false_true (has_phase_up link.phase) is_down in
-      search (settled_sound, link_left, target_below, length-set, moved_numbered, moved_fit, over_placed, over_parked, over_runs, up_after, t.homes_up, over_backs, back_order_moved, fated_none, target_elsewhere)
+      let below : IfSome (target s.links) (λ r. r < s.routing.links) = grind (arith, target_up, within) in
+      search (settled_sound, link_left, below, length-set, moved_numbered, moved_fit, over_placed, over_parked, over_runs, up_after, t.homes_up, over_backs, back_order_moved, fated_none, target_elsewhere)
 
 -- a code in use is below 256
 in_use_below : (r : Routing) → IsRouting r → (code : ℕ) → code_of code r ≡ Asked → code < 256
@@ -161,11 +157,8 @@ module _ (blind : Bool) (n : ℕ) (link : LinkState) (s : State) (at : IsAt n li
   before : (k : ℕ) (other : LinkState) → slice_get mid.links k ≡ Some other → has_phase_up other.phase ≡ true → (old : LinkState) × (slice_get s.links k ≡ Some old) × (has_phase_up old.phase ≡ true)
   before = up_before s.links n link (left_link blind link) at.there (λ e. absurd cc)
 
-  off : (k : ℕ) (f : Fate) → is_back_to n f ≡ true → is_on k f ≡ false
-  off k f e = back_not_on k f (home_back n f e)
-
   left_link_sound : (k : ℕ) (other : LinkState) → slice_get mid.links k ≡ Some other → IsSoundLink s.settings.method k other new
-  left_link_sound k other there = link_moved s.settings.method k other (is_back_to n) fate s.routing s.rows t.backs (off k) (λ x. offered_out k _ mid) (λ u x. up_not_held mid k (ap link_is_up there ∙ u) _) (λ d x e b. down_not_waiting mid k (ap link_is_up there ∙ d) _) (λ e x f b. grind (arith, nat_tests, goes x f b)) (mid_links k other there)
+  left_link_sound k other there = link_moved s.settings.method k other (is_back_to n) fate s.routing s.rows t.backs (λ f e. back_not_on k f (home_back n f e)) (λ x. offered_out k _ mid) (λ u x. up_not_held mid k (ap link_is_up there ∙ u) _) (λ d x e b. down_not_waiting mid k (ap link_is_up there ∙ d) _) (λ e x f b. grind (arith, nat_tests, goes x f b)) (mid_links k other there)
 
   left_parked : (k : ℕ) (other : LinkState) → slice_get mid.links k ≡ Some other → has_phase_up other.phase ≡ true → parked new ≡ []
   left_parked k other there up = grind (arith, nat_tests, before, moved_more, gone)
@@ -185,7 +178,7 @@ module _ (blind : Bool) (n : ℕ) (link : LinkState) (s : State) (at : IsAt n li
   left_gone = gone stands_back (λ via p. grind arith)
 
   left_backs : AreBack mid.routing new
-  left_backs = backs_moved (is_back_to n) fate s.rows left_gone (λ code. (home_of code == n) ≡ false) s.routing mid.routing (λ k few code via of f. grind (arith, (alone s.routing k t.routing few).left_place n)) (λ f code e g. grind arith) t.backs
+  left_backs = backs_moved (is_back_to n) fate s.rows left_gone s.routing mid.routing (λ k few code via of f. grind (arith, (alone s.routing k t.routing few).left_place n)) t.backs
 
   pub leaves : IsSound (left_by blind n link s)
   leaves = search (left_sound, length-set, moved_numbered, moved_fit, left_link_sound, left_placed, left_parked, left_runs, left_homes, left_backs, back_order_moved, left_gone)
@@ -198,9 +191,6 @@ alternative_up home alternative s may = (and_parts (is_up alternative s) _ (and_
 module _ (home alternative : ℕ) (s : State) (up : is_up home s ≡ true) (may : can_declare home alternative s ≡ true) (t : IsSound s) where
   abbrev runs : Routing
   runs = asked home alternative s.routing
-
-  abbrev body : List ℕ
-  body = text (Cbd home (code_for home alternative)) s.settings.sio s.settings.dpc s.settings.opc
 
   below : (n : ℕ) → is_up n s ≡ true → n < s.routing.links
   below n e = grind (arith, within)
@@ -219,7 +209,7 @@ module _ (home alternative : ℕ) (s : State) (up : is_up home s ≡ true) (may 
       grind (arith, nat_tests, (codes_alone s.routing code t.routing in_use).asked_code home alternative, up, t.routing.at_most_16, low, other_low, t.homes_up code)
 
   asked_backs : AreBack runs s.rows
-  asked_backs = backs_kept (λ code. Unit {0}) s.routing runs (λ k few code via of e. grind (arith, nat_tests, (alone s.routing k t.routing few).asked_place home alternative)) (λ code. tt) s.rows t.backs
+  asked_backs = backs_kept s.routing runs (λ k few code via of e. grind (arith, nat_tests, (alone s.routing k t.routing few).asked_place home alternative)) s.rows t.backs
 
   pub declares : IsSound (declared home alternative s)
   declares =
@@ -236,11 +226,8 @@ module _ (code : ℕ) (s : State) (t : IsSound s) where
   gone_rows = moved (is_back code) (all_with (Waiting home)) s.rows
 
   -- where its home isn't up nothing stands back by the code
-  none_stands : is_up home s ≡ false → standing (is_back code) s.rows ≡ []
-  none_stands down = none_standing (λ row. IsBackOf s.routing row row.fate) (is_back code) (λ x e b. grind (arith, nat_tests, coded_at, t.homes_up)) s.rows t.backs
-
   pub none_back : is_up home s ≡ false → gone_rows ≡ s.rows
-  none_back down = moved_nothing (is_back code) (all_with (Waiting home)) s.rows (none_stands down)
+  none_back down = moved_nothing (is_back code) (all_with (Waiting home)) s.rows (none_standing (λ row. IsBackOf s.routing row row.fate) (is_back code) (λ x e b. grind (arith, nat_tests, coded_at, t.homes_up)) s.rows t.backs)
 
   -- none comes to a link that isn't up
   back_links : (k : ℕ) (other : LinkState) → slice_get s.links k ≡ Some other → IsSoundLink s.settings.method k other gone_rows
@@ -256,7 +243,7 @@ module _ (code : ℕ) (s : State) (t : IsSound s) where
   back_homes c e = grind (arith, nat_tests, (codes_alone s.routing c t.routing (in_use_below (given_back code s.routing) (back_sound code s.routing t.routing) c e)).back_code code, t.homes_up c)
 
   back_backs : AreBack (given_back code s.routing) gone_rows
-  back_backs = backs_moved (is_back code) (all_with (Waiting home)) s.rows (fated_none stands_back (all_with (Waiting home)) (λ x. refl) (standing (is_back code) s.rows)) (λ c. (c == code) ≡ false) s.routing (given_back code s.routing) (λ k few c via of f. grind (arith, (alone s.routing k t.routing few).back_place code)) (λ f c e g. grind arith) t.backs
+  back_backs = backs_moved (is_back code) (all_with (Waiting home)) s.rows (fated_none stands_back (all_with (Waiting home)) (λ x. refl) (standing (is_back code) s.rows)) s.routing (given_back code s.routing) (λ k few c via of f. grind (arith, (alone s.routing k t.routing few).back_place code)) t.backs
 
   pub releases : IsSound (released code s)
   releases = search (back_sound, moved_numbered, moved_fit, back_links, back_placed, moved_same, back_not_parked, code_back, t.none_aside, back_runs, back_homes, back_backs, back_order_moved, fated_none)

@@ -78,7 +78,7 @@ module _ (s : State) (body : List ℕ) (t : IsSound s) (low : stream_of body < 1
 
   offer_backs : AreBack runs (appended s.rows body (fate_at (place_of stream s.routing) s))
   offer_backs =
-      let kept = backs_kept (λ code. Unit {0}) s.routing runs (λ k few code via of e. (via, same_place k few ∙ e)) (λ code. tt) s.rows t.backs in
+      let kept = backs_kept s.routing runs (λ k few code via of e. (via, same_place k few ∙ e)) s.rows t.backs in
       each_appended (λ row. IsBackOf runs row row.fate) s.rows body _ (one_back _ refl) kept
 
 pub offers : (s : State) (body : List ℕ) → stream_of body < 16 → offer_refusal s.rows body ≡ None → IsSound s → IsSound (offered None s body).state
