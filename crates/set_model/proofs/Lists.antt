@@ -1,5 +1,5 @@
 -- What a list holds when one place of it is set.
-use Rattle.std.proofs.Common.{refl, arith, ◌≡◌, ◌≢◌, ◌==◌, false, ◌∙◌, ap, sym, ◌<◌, [], ◌∷◌, length, ℕ, zero, suc, List, map, slice_get, slice_set, slice_index_or, Some, ◌⊎◌}
+use Rattle.std.proofs.Common.{refl, arith, ◌≡◌, ◌≢◌, ◌==◌, false, ◌∙◌, ap, sym, ◌<◌, [], ◌∷◌, length, ℕ, zero, suc, List, map, slice_get, slice_set, slice_index_or, Some, ◌⊎◌, cond}
 use Rattle.std.proofs.lemmas.Option.{same_Some, get_or_from_slice_get, slice_get-get_or, slice_get-map, slice_get_within}
 use Rattle.std.proofs.lemmas.Bool.Decides.{nat_tests}
 use Rattle.std.proofs.lemmas.List.{length-set, map-set, set-get_or, get_or-set_same}
@@ -31,19 +31,22 @@ set_twice [] n x y = refl
 set_twice (z ∷ xs) zero x y = refl
 set_twice (z ∷ xs) (suc n) x y = ap (λ rest. z ∷ rest) (set_twice xs n x y)
 
+-- only what is in the list is found
+pub within : {X : Type 0} (xs : List X) (n : ℕ) (x : X) → slice_get xs n ≡ Some x → n < length xs
+within xs n x there = slice_get_within xs n x there
+
 -- where one place is set, each place holds what was set or what it held
 pub at_set : {X : Type 0} (xs : List X) (n m : ℕ) (x y : X) → slice_get (slice_set xs n x) m ≡ Some y → ((m ≡ n) × (y ≡ x)) ⊎ ((m ≢ n) × (slice_get xs m ≡ Some y))
 at_set [] n m x y there = absurd cc
 at_set (z ∷ xs) zero m x y there = grind arith
 at_set (z ∷ xs) (suc n) m x y there = grind (arith, at_set xs n)
 
+pub set_at : {X : Type 0} (xs : List X) (n m : ℕ) (x y : X) → slice_get xs m ≡ Some y → slice_get (slice_set xs n x) m ≡ Some (cond (n == m) x y)
+set_at xs n m x y there = grind (arith, nat_tests, get_set_same, get_set_other, within)
+
 -- what holds of the new element and of the others holds of each
 pub each_set : {X : Type 0} (P : ℕ → X → Type 0) (xs : List X) (n : ℕ) (x : X) → P n x → ((m : ℕ) (y : X) → (n == m) ≡ false → slice_get xs m ≡ Some y → P m y) → (m : ℕ) (y : X) → slice_get (slice_set xs n x) m ≡ Some y → P m y
 each_set P xs n x one others m y there = grind (arith, nat_tests, at_set)
-
--- only what is in the list is found
-pub within : {X : Type 0} (xs : List X) (n : ℕ) (x : X) → slice_get xs n ≡ Some x → n < length xs
-within xs n x there = slice_get_within xs n x there
 
 -- a place that is set to something of the same image
 pub map_set_same : {X Y : Type 0} (f : X → Y) (xs : List X) (n : ℕ) (x y : X) → slice_get xs n ≡ Some x → f y ≡ f x → map f (slice_set xs n y) ≡ map f xs

@@ -1,6 +1,6 @@
 -- WHAT HOLDS OF EVERY STATE is kept by a change of one link, with rows that change in their places.
-use Rattle.std.proofs.Common.{⊎_elim, refl, arith, ◌≡◌, ◌∙◌, ap, sym, subst, ◌<◌, ◌≤◌, ℕ, ◌+◌, ◌%◌, ◌==◌, Bool, true, false, not, List, [], ◌++◌, length, drop, map, slice_get, slice_set, Some}
-use Rattle.std.proofs.lemmas.Bool.{cases_Bool, eqb-true, eqb-false}
+use Rattle.std.proofs.Common.{⊎_elim, refl, arith, ◌≡◌, ◌∙◌, ap, sym, subst, ◌<◌, ◌≤◌, ℕ, ◌+◌, ◌%◌, ◌==◌, Bool, true, false, not, List, [], ◌++◌, length, drop, map, slice_get, slice_set, Some, cond}
+use Rattle.std.proofs.lemmas.Bool.{cases_Bool, eqb-false}
 use Rattle.std.proofs.lemmas.Bool.Decides.{nat_tests}
 use Rattle.std.proofs.lemmas.List.{append-nil, length-map, length-append, length-drop, length-set, length-take}
 use Rattle.std.proofs.lemmas.List.Elements.{filter-append}
@@ -14,10 +14,9 @@ use Rattle.set_events.specs.declared.answer.Fate.{Fate}
 use Rattle.set_events.specs.declared.answer.Fate.TheVariants.{Acked, Discarded, Unacked}
 use Rattle.set_events.specs.declared.config.Method.{Method}
 use Rattle.set_route.specs.declared.place.Place.{Place}
-use Rattle.set_route.specs.declared.place.Place.TheVariants.{Changing, Nowhere, On}
 use Rattle.set_model.specs.Changeover.{acknowledged as acknowledged_link, acknowledged_by}
 use Rattle.set_model.specs.Control.{Choice, accepted_of, acked_by, choice_of, control_after, control_heard, first, part_of}
-use Rattle.set_model.specs.Rows.{IsHeldLast, IsInOrder, Row, back, changed, fated, held, is_held, is_on, is_unacked, is_waiting, moved, numbers, octets_in, on, standing, stands_back, turned, unack, wait}
+use Rattle.set_model.specs.Rows.{IsHeldLast, Row, back, changed, fated, held, is_held, is_on, is_unacked, is_waiting, moved, octets_in, on, standing, stands_back, turned, unack, wait}
 use Rattle.set_model.specs.Sound.{IsInRange, IsOf, IsPlaced, IsSound, IsSoundLink, AreBack, IsBackOf}
 use Rattle.set_model.specs.State.{LinkState, State, has_phase_settled, has_phase_up, last_accepted, link_is_up, window_of}
 use Rattle.set_model.specs.Step.{after_control, is_msu, next, one_if, rows_sent}
@@ -29,11 +28,12 @@ use Rattle.set_model.proofs.Events.{kept_self, Untouched, untouched_self, sent, 
 use Rattle.set_model.proofs.InPlace.{turned_same, changed_same}
 use Rattle.set_model.proofs.Order.{order_append, last_none, last_append, last_alone}
 use Rattle.set_model.proofs.Moving.{others_stay}
-use Rattle.set_model.proofs.Lists.{at_set, each_set, get_set_same, get_set_other, set_same, within}
-use Rattle.set_model.proofs.Places.{false_true, waiting_on, unacked_on, on_not_back}
+use Rattle.set_model.proofs.Lists.{at_set, each_set, get_set_same, get_set_other, set_same, within, set_at}
+use Rattle.set_model.proofs.Places.{false_true, waiting_on, on_not_back}
 use Rattle.set_model.proofs.Walk.{IsAt}
 use Rattle.set_model.proofs.Standing.{gone_none}
 use Rattle.set_route.specs.Routing.{Routing}
+use Rattle.set_route.specs.declared.place.Place.TheVariants.{Changing, Nowhere, On}
 
 -- PHASES.
 pub up_unsettled : (phase : Phase) → has_phase_up phase ≡ true → has_phase_settled phase ≡ false
@@ -43,23 +43,15 @@ pub settled_down : (phase : Phase) → has_phase_settled phase ≡ true → has_
 settled_down phase e = grind arith
 
 -- THE LINK THAT CHANGES, and the others, which don't see how the rows change.
-pub links_by : (m : Method) (links : List LinkState) (n : ℕ) (link : LinkState) (new : List Row) → IsSoundLink m n link new → ((k : ℕ) (other : LinkState) → (n == k) ≡ false → slice_get links k ≡ Some other → IsSoundLink m k other new)
-    → (k : ℕ) (other : LinkState) → slice_get (slice_set links n link) k ≡ Some other → IsSoundLink m k other new
-links_by m links n link new = each_set (λ k other. IsSoundLink m k other new) links n link
-
 pub links_set : (m : Method) (links : List LinkState) (n : ℕ) (link : LinkState) (rows new : List Row) → IsSoundLink m n link new → ((k : ℕ) → (n == k) ≡ false → Untouched k rows new) → ((k : ℕ) (other : LinkState) → slice_get links k ≡ Some other → IsSoundLink m k other rows)
     → (k : ℕ) (other : LinkState) → slice_get (slice_set links n link) k ≡ Some other → IsSoundLink m k other new
-links_set m links n link rows new one others all = links_by m links n link new one (λ k other d there. let u = others k d in let l = all k other there in grind arith)
+links_set m links n link rows new one others all = each_set (λ k other. IsSoundLink m k other new) links n link one (λ k other d there. let u = others k d in let l = all k other there in grind arith)
 
 -- a place stays one, where the link that changes isn't settled
-placed_on : (links : List LinkState) (n : ℕ) (link link' : LinkState) (l : ℕ) → slice_get links n ≡ Some link → has_phase_settled link'.phase ≡ false → IsPlaced links (On l) → IsPlaced (slice_set links n link') (On l)
-placed_on links n link link' l there unsettled p =
-    ⊎_elim (λ e. (link', grind (arith, eqb-true, get_set_same, within), unsettled)) (λ e. (p.0, get_set_other links n l link' (eqb-false n l e) ∙ p.1, p.2)) (cases_Bool (n == l))
-
 pub placed_set : (links : List LinkState) (n : ℕ) (link link' : LinkState) (place : Place) → slice_get links n ≡ Some link → has_phase_settled link'.phase ≡ false → IsPlaced links place → IsPlaced (slice_set links n link') place
 placed_set links n link link' Nowhere there unsettled p = tt
-placed_set links n link link' (On l) there unsettled p = placed_on links n link link' l there unsettled p
-placed_set links n link link' (Changing to code l) there unsettled p = placed_on links n link link' l there unsettled p
+placed_set links n link link' (On l) there unsettled p = (cond (n == l) link' p.0, set_at links n l link' p.0 p.1, grind (arith, p.2))
+placed_set links n link link' (Changing to code l) there unsettled p = (cond (n == l) link' p.0, set_at links n l link' p.0 p.1, grind (arith, p.2))
 
 -- a link that is up was there before, where the one that changes isn't up anew
 pub up_before : (links : List LinkState) (n : ℕ) (link link' : LinkState) → slice_get links n ≡ Some link → (has_phase_up link'.phase ≡ true → has_phase_up link.phase ≡ true) → (k : ℕ) (other : LinkState) → slice_get (slice_set links n link') k ≡ Some other → has_phase_up other.phase ≡ true → (old : LinkState) × (slice_get links k ≡ Some old) × (has_phase_up old.phase ≡ true)
@@ -110,24 +102,17 @@ link_moved m k link test fate routing rows backs off sent holds waits gone l =
     link_more m k link rows (map (fated fate) (standing test rows)) (none (is_unacked k) (λ x e b. sent x)) (λ u. none (is_held k) (λ x e b. holds u x)) (λ d. none (is_waiting k) (waits d)) (λ e. none (is_on k) (gone e)) _ stay l
 
 -- WHAT IS ACKNOWLEDGED OR GIVEN UP on a link that was left.
-acknowledged_few : (count n : ℕ) (rows : List Row) → length (unack n rows) ≤ 127 → length (unack n (turned (is_unacked n) (Acked n) count rows)) ≤ 127
-acknowledged_few count n rows few = let left = length-drop count (unack n rows) in let gone = ap length (acknowledged n count rows).unack_is in omega (arith, left, gone, few)
-
-acknowledged_back : (count n : ℕ) (rows : List Row) → back (turned (is_unacked n) (Acked n) count rows) ≡ back rows
-acknowledged_back count n rows = turned_same (is_unacked n) stands_back (Acked n) refl (λ f e. on_not_back n f (unacked_on n f e)) count rows
-
 pub acknowledges : (count n : ℕ) (link : LinkState) (s : State) → IsAt n link Down s → IsSound s → IsSound (acknowledged_by count n link s)
 acknowledges count n link s at t =
     let l = t.links n link at.there in
     let a = acknowledged n count s.rows in
-    changes n link (acknowledged_link count link) s (turned (is_unacked n) (Acked n) count s.rows) t at.there refl (ap has_phase_settled at.phase_is) (assumption) (acknowledged_back count n s.rows) (acknowledged_few count n s.rows l.window) l.counted l.method (false_true (has_phase_up link.phase) (ap has_phase_up at.phase_is))
+    changes n link (acknowledged_link count link) s (turned (is_unacked n) (Acked n) count s.rows) t at.there refl (ap has_phase_settled at.phase_is) (assumption) (turned_same (is_unacked n) stands_back (Acked n) refl (λ f e. grind arith) count s.rows) (grind (arith, length-drop, a.unack_is, l.window)) l.counted l.method (false_true (has_phase_up link.phase) (ap has_phase_up at.phase_is))
 
 pub gives_up : (test : Fate → Bool) (cause : DiscardCause) (n : ℕ) (link : LinkState) (s : State) → ((f : Fate) → test f ≡ true → is_on n f ≡ true) → GivenUp n s.rows (changed test (Discarded cause) s.rows) → length (unack n (changed test (Discarded cause) s.rows)) ≤ length (unack n s.rows) → IsAt n link Down s → IsSound s → IsSound (record s { rows = changed test (Discarded cause) s.rows })
 gives_up test cause n link s on_link g fewer at t =
     let l = t.links n link at.there in
-    let few = l.window in
     let back_same = changed_same test stands_back (Discarded cause) refl (λ f e. on_not_back n f (on_link f e)) s.rows in
-    let sound = changes n link link s (changed test (Discarded cause) s.rows) t at.there refl (ap has_phase_settled at.phase_is) g back_same (omega (arith, few, fewer)) l.counted l.method (false_true (has_phase_up link.phase) (ap has_phase_up at.phase_is)) in
+    let sound = changes n link link s (changed test (Discarded cause) s.rows) t at.there refl (ap has_phase_settled at.phase_is) g back_same (omega (arith, l.window, fewer)) l.counted l.method (false_true (has_phase_up link.phase) (ap has_phase_up at.phase_is)) in
     subst (λ (links : List LinkState). IsSound (record s { links = links; rows = changed test (Discarded cause) s.rows })) (set_same s.links n link at.there) sound
 
 -- SENDING: what the rows keep where nothing is sent for the first time too.
@@ -136,9 +121,6 @@ sent_by first n rows = let d = sent n rows in (assumption, turned_same (is_waiti
 sent_by _ n rows = let k = kept_self rows in let u = λ (m : ℕ). untouched_self m rows in (search (k, u), refl)
 
 -- how many are unacknowledged then
-count_sent : (n : ℕ) (rows : List Row) → IsInOrder n rows → 0 < length (wait n rows) → length (unack n (turned (is_waiting n) (Unacked n) 1 rows)) ≡ length (unack n rows) + 1
-count_sent n rows order some = rw ((sent n rows).unack_is order) (simp (length-append, length-map, length-take) (omega arith))
-
 module _ (n : ℕ) (link : LinkState) (s : State) (at : IsAt n link Up s) (t : IsSound s) where
   abbrev window : WindowState
   window = window_of n link s.rows
@@ -159,11 +141,7 @@ module _ (n : ℕ) (link : LinkState) (s : State) (at : IsAt n link Up s) (t : I
   old_range = subst (IsInRange link.control) (sym same_count) (l.in_range (ap has_phase_up at.phase_is))
 
   counts : (choice : Choice) → choice_of octets link.control window ≡ choice → (length (unack n s.rows) ≤ length (unack n (rows_sent choice n s.rows))) × (choice ≡ first → length (unack n (rows_sent choice n s.rows)) ≡ length (unack n s.rows) + 1) × (length (unack n (rows_sent choice n s.rows)) ≤ 127)
-  counts first e =
-      let chosen = first_chosen octets link.control window e in
-      let waits : length (numbers (wait n s.rows)) ≡ length (wait n s.rows) = length-map (wait n s.rows) (λ (row : Row). row.number) in
-      let count = count_sent n s.rows l.in_order (omega (arith, waits, chosen.0)) in
-      (omega (arith, count), λ f. count, omega (arith, count, chosen.1, same_count))
+  counts first e = grind (arith, first_chosen octets link.control window e, length-map, length-append, length-take, (sent n s.rows).unack_is l.in_order)
   counts _ e = (omega arith, λ f. absurd cc, l.window)
 
   pub sends_sound : IsSound (next n s link).state
@@ -187,15 +165,11 @@ module _ (n : ℕ) (link : LinkState) (s : State) (at : IsAt n link Up s) (t : I
 
     -- as many are left as in the control's window
     left_count : length (drop (acked_by link.control window head) window.unacked) ≡ length (unack n (turned (is_unacked n) (Acked n) part.acked s.rows))
-    left_count =
-        let gone = ap length (acknowledged n part.acked s.rows).unack_is in
-        let a = length-drop (acked_by link.control window head) window.unacked in
-        let b = length-drop part.acked (unack n s.rows) in
-        omega (arith, gone, a, b, part_acked link.control window head (is_msu unit), same_count)
+    left_count = grind (arith, (acknowledged n part.acked s.rows).unack_is, length-drop, part_acked, same_count)
 
     pub hears_sound : IsSound (after_control part head unit n s link)
     hears_sound =
         let a = acknowledged n part.acked s.rows in
-        changes n link heard_link s (turned (is_unacked n) (Acked n) part.acked s.rows) t at.there refl not_settled (assumption) (acknowledged_back part.acked n s.rows) (acknowledged_few part.acked n s.rows l.window)
+        changes n link heard_link s (turned (is_unacked n) (Acked n) part.acked s.rows) t at.there refl not_settled (assumption) (turned_same (is_unacked n) stands_back (Acked n) refl (λ f e. grind arith) part.acked s.rows) (grind (arith, length-drop, a.unack_is, l.window))
         (accepted_heard link.control window head (is_msu unit) link.accepted l.counted ∙ ap (λ (b : Bool). (link.accepted + one_if b + 127) % 128) (sym (part_accept link.control window head (is_msu unit))))
         (grind (arith, l.method)) (λ u. subst (IsInRange (control_heard link.control window head (is_msu unit))) left_count (range_heard link.control window head (is_msu unit) old_range))
