@@ -23,7 +23,7 @@ use Rattle.set_model.proofs.Events.{apart_on, left, unparked, untouched_self}
 use Rattle.set_model.proofs.Lists.{get_set_same, get_set_other, within, each_set}
 use Rattle.set_model.proofs.Moving.{moved_numbered, moved_fit, moved_same, moved_more, moved_nothing}
 use Rattle.set_model.proofs.Order.{order_none}
-use Rattle.set_model.proofs.Places.{false_true, not_on_waiting, on_not_parked, back_not_on, back_not_parked, code_back, home_back}
+use Rattle.set_model.proofs.Places.{false_true, not_on_waiting, back_not_on, back_not_parked, code_back, home_back, on_not_parked}
 use Rattle.set_model.proofs.Filters.{fated_none}
 use Rattle.set_model.proofs.Ranging.{not_sent, offered_out}
 use Rattle.set_model.proofs.Targets.{target_up, target_off, target_open, target_unheld, target_elsewhere, none_up}
@@ -99,16 +99,11 @@ module _ (n : ℕ) (link : LinkState) (s : State) (at : IsAt n link Down s) (t :
   over_placed k few = rw ((alone s.routing k t.routing few).settled_place n (target s.links)) (over_place (target s.links) refl (place_of k s.routing) (λ home code via e none. grind (arith, nat_tests, coded_at, none_up)) (t.placed k few))
 
   -- while a link is up there is a target
-  up_then : (k : ℕ) (other : LinkState) → slice_get (slice_set s.links n (settled_link link)) k ≡ Some other → has_phase_up other.phase ≡ true → (parked s.rows ≡ []) × (target s.links ≢ None) × ((j : ℕ) → j < 16 → place_of j s.routing ≢ Nowhere)
-  up_then k other here up =
-      let old = up_before s.links n link (settled_link link) at.there (λ e. absurd cc) k other here up in
-      (t.none_aside k old.0 old.1 old.2, (λ e. false_true (has_phase_up old.0.phase) (none_up s.links k old.0 e old.1) old.2), t.all_run k old.0 old.1 old.2)
-
   over_parked : (k : ℕ) (other : LinkState) → slice_get (slice_set s.links n (settled_link link)) k ≡ Some other → has_phase_up other.phase ≡ true → parked off_rows ≡ []
-  over_parked k other here up = let b = up_then k other here up in moved_same (is_on n) is_parked (all_with (fate_on to_link)) s.rows (λ x. grind (arith, b.1)) (on_not_parked n) ∙ b.0
+  over_parked = up_before s.links n link (settled_link link) at.there (λ e. absurd cc) (λ k old here up. moved_same (is_on n) is_parked (all_with (fate_on to_link)) s.rows (λ x. grind (arith, none_up)) (on_not_parked n) ∙ t.none_aside k old here up)
 
   over_runs : (j : ℕ) (other : LinkState) → slice_get (slice_set s.links n (settled_link link)) j ≡ Some other → has_phase_up other.phase ≡ true → (k : ℕ) → k < 16 → place_of k (settled n (target s.links) s.routing) ≢ Nowhere
-  over_runs j other here up k few = let b = up_then j other here up in let runs = b.2 k few in rw ((alone s.routing k t.routing few).settled_place n (target s.links)) (grind (arith, runs))
+  over_runs = up_before s.links n link (settled_link link) at.there (λ e. absurd cc) (λ j old here up k few. let runs = t.all_run j old here up k few in rw ((alone s.routing k t.routing few).settled_place n (target s.links)) (grind (arith, none_up, runs)))
 
   pub moves_off_sound : IsSound (moved_over n link s)
   moves_off_sound =
@@ -153,21 +148,17 @@ module _ (blind : Bool) (n : ℕ) (link : LinkState) (s : State) (at : IsAt n li
   mid_links : (k : ℕ) (other : LinkState) → slice_get mid.links k ≡ Some other → IsSoundLink s.settings.method k other s.rows
   mid_links = links_set s.settings.method s.links n (left_link blind link) s.rows s.rows (let l = t.links n link at.there in grind arith) (λ k d. untouched_self k s.rows) t.links
 
-  -- a link that is up was so before
-  before : (k : ℕ) (other : LinkState) → slice_get mid.links k ≡ Some other → has_phase_up other.phase ≡ true → (old : LinkState) × (slice_get s.links k ≡ Some old) × (has_phase_up old.phase ≡ true)
-  before = up_before s.links n link (left_link blind link) at.there (λ e. absurd cc)
-
   left_link_sound : (k : ℕ) (other : LinkState) → slice_get mid.links k ≡ Some other → IsSoundLink s.settings.method k other new
   left_link_sound k other there = link_moved s.settings.method k other (is_back_to n) fate s.routing s.rows t.backs (λ f e. back_not_on k f (home_back n f e)) (λ x. offered_out k _ mid) (λ u x. up_not_held mid k (ap link_is_up there ∙ u) _) (λ d x e b. down_not_waiting mid k (ap link_is_up there ∙ d) _) (λ e x f b. grind (arith, nat_tests, goes x f b)) (mid_links k other there)
 
   left_parked : (k : ℕ) (other : LinkState) → slice_get mid.links k ≡ Some other → has_phase_up other.phase ≡ true → parked new ≡ []
-  left_parked k other there up = grind (arith, nat_tests, before, moved_more, gone)
+  left_parked = up_before s.links n link (left_link blind link) at.there (λ e. absurd cc) (λ k old here up. grind (arith, nat_tests, moved_more, gone, t.none_aside k old here up))
 
   left_placed : (k : ℕ) → k < 16 → IsPlaced mid.links (place_of k mid.routing)
   left_placed k few = let stays = placed_set s.links n link (left_link blind link) (place_of k s.routing) at.there refl (t.placed k few) in rw ((alone s.routing k t.routing few).left_place n) (grind (arith, stays))
 
   left_runs : (j : ℕ) (other : LinkState) → slice_get mid.links j ≡ Some other → has_phase_up other.phase ≡ true → (k : ℕ) → k < 16 → place_of k mid.routing ≢ Nowhere
-  left_runs j other there up k few e = let old = before j other there up in t.all_run j old.0 old.1 old.2 k few (grind (arith, (alone s.routing k t.routing few).left_place n))
+  left_runs = up_before s.links n link (left_link blind link) at.there (λ e. absurd cc) (λ j old here up k few. let runs = t.all_run j old here up k few in grind (arith, (alone s.routing k t.routing few).left_place n, runs))
 
   left_homes : (code : ℕ) → code_of code mid.routing ≡ Asked → is_up (home_of code) mid ≡ true
   left_homes code e =

@@ -1,7 +1,6 @@
 -- WHAT HOLDS OF EVERY STATE is kept by a change of one link, with rows that change in their places.
-use Rattle.std.proofs.Common.{⊎_elim, refl, arith, ◌≡◌, ◌∙◌, ap, sym, subst, ◌<◌, ◌≤◌, ℕ, ◌+◌, ◌%◌, ◌==◌, Bool, true, false, not, List, [], ◌++◌, length, drop, map, slice_get, slice_set, Some, cond}
-use Rattle.std.proofs.lemmas.Bool.{cases_Bool, eqb-false}
-use Rattle.std.proofs.lemmas.Bool.Decides.{nat_tests}
+use Rattle.std.proofs.Common.{refl, arith, ◌≡◌, ◌∙◌, ap, sym, subst, ◌<◌, ◌≤◌, ℕ, ◌+◌, ◌%◌, ◌==◌, Bool, true, false, not, List, [], ◌++◌, length, drop, map, slice_get, slice_set, Some, cond}
+use Rattle.std.proofs.lemmas.Bool.{eqb-false}
 use Rattle.std.proofs.lemmas.List.{append-nil, length-map, length-append, length-drop, length-set, length-take}
 use Rattle.std.proofs.lemmas.List.Elements.{filter-append}
 use Rattle.l2_units.specs.Grammar.{head_of as header_in}
@@ -16,13 +15,13 @@ use Rattle.set_events.specs.declared.config.Method.{Method}
 use Rattle.set_route.specs.declared.place.Place.{Place}
 use Rattle.set_model.specs.Changeover.{acknowledged as acknowledged_link, acknowledged_by}
 use Rattle.set_model.specs.Control.{Choice, accepted_of, acked_by, choice_of, control_after, control_heard, first, part_of}
-use Rattle.set_model.specs.Rows.{IsHeldLast, Row, back, changed, fated, held, is_held, is_on, is_unacked, is_waiting, moved, octets_in, on, standing, stands_back, turned, unack, wait}
+use Rattle.set_model.specs.Rows.{Row, back, changed, fated, held, is_held, is_on, is_unacked, is_waiting, moved, octets_in, on, standing, stands_back, turned, unack, wait}
 use Rattle.set_model.specs.Sound.{IsInRange, IsOf, IsPlaced, IsSound, IsSoundLink, AreBack, IsBackOf}
 use Rattle.set_model.specs.State.{LinkState, State, has_phase_settled, has_phase_up, last_accepted, link_is_up, window_of}
 use Rattle.set_model.specs.Step.{after_control, is_msu, next, one_if, rows_sent}
 use Rattle.set_model.specs.declared.phase.Phase.{Phase}
 use Rattle.set_model.specs.declared.phase.Phase.TheVariants.{Down, Up}
-use Rattle.set_model.proofs.Controlling.{first_chosen, range_after, part_acked, part_accept, accepted_heard, range_heard}
+use Rattle.set_model.proofs.Controlling.{first_chosen, range_after, part_acked, range_heard}
 use Rattle.set_model.proofs.Backs.{backs_same}
 use Rattle.set_model.proofs.Events.{kept_self, Untouched, untouched_self, sent, acknowledged, GivenUp, untouched}
 use Rattle.set_model.proofs.InPlace.{turned_same, changed_same}
@@ -34,6 +33,7 @@ use Rattle.set_model.proofs.Walk.{IsAt}
 use Rattle.set_model.proofs.Standing.{gone_none}
 use Rattle.set_route.specs.Routing.{Routing}
 use Rattle.set_route.specs.declared.place.Place.TheVariants.{Changing, Nowhere, On}
+use Rattle.std.proofs.lemmas.Bool.Decides.{nat_tests}
 
 -- PHASES.
 pub up_unsettled : (phase : Phase) → has_phase_up phase ≡ true → has_phase_settled phase ≡ false
@@ -53,9 +53,9 @@ placed_set links n link link' Nowhere there unsettled p = tt
 placed_set links n link link' (On l) there unsettled p = (cond (n == l) link' p.0, set_at links n l link' p.0 p.1, grind (arith, p.2))
 placed_set links n link link' (Changing to code l) there unsettled p = (cond (n == l) link' p.0, set_at links n l link' p.0 p.1, grind (arith, p.2))
 
--- a link that is up was there before, where the one that changes isn't up anew
-pub up_before : (links : List LinkState) (n : ℕ) (link link' : LinkState) → slice_get links n ≡ Some link → (has_phase_up link'.phase ≡ true → has_phase_up link.phase ≡ true) → (k : ℕ) (other : LinkState) → slice_get (slice_set links n link') k ≡ Some other → has_phase_up other.phase ≡ true → (old : LinkState) × (slice_get links k ≡ Some old) × (has_phase_up old.phase ≡ true)
-up_before links n link link' there same k other at up = grind (arith, nat_tests, at_set)
+-- what is so while a link is up stays so, where the one that changes isn't up anew
+pub up_before : {X : Type 0} (links : List LinkState) (n : ℕ) (link link' : LinkState) → slice_get links n ≡ Some link → (has_phase_up link'.phase ≡ true → has_phase_up link.phase ≡ true) → ((k : ℕ) (old : LinkState) → slice_get links k ≡ Some old → has_phase_up old.phase ≡ true → X) → (k : ℕ) (other : LinkState) → slice_get (slice_set links n link') k ≡ Some other → has_phase_up other.phase ≡ true → X
+up_before links n link link' there same so k other at up = grind (arith, at_set)
 
 -- and one that was up is, where the one that changes stays so
 pub up_after : (links : List LinkState) (n : ℕ) (link link' : LinkState) → slice_get links n ≡ Some link → (has_phase_up link.phase ≡ true → has_phase_up link'.phase ≡ true) → (k : ℕ) → link_is_up (slice_get links k) ≡ true → link_is_up (slice_get (slice_set links n link') k) ≡ true
@@ -71,11 +71,10 @@ changes n link link' s new t there same unsettled g back_same few counted method
     let unheld = λ (u : has_phase_up link'.phase ≡ true). g.held_same ∙ l.none_held (sym up ∙ u) in
     let still : has_phase_settled link'.phase ≡ true → on n new ≡ [] = false_true (has_phase_settled link'.phase) settled in
     let one : IsSoundLink s.settings.method n link' new = search (g.order_kept, g.last_kept, unheld, still) in
-    let before = up_before s.links n link link' there (λ e. sym up ∙ e) in
+    let aside = up_before s.links n link link' there (λ e. sym up ∙ e) (λ k old here rising. g.parked_same ∙ t.none_aside k old here rising) in
+    let run = up_before s.links n link link' there (λ e. sym up ∙ e) t.all_run in
     let stays = up_after s.links n link link' there (λ e. up ∙ e) in
     let links = links_set s.settings.method s.links n link' s.rows new one g.others t.links in
-    let aside = λ (k : ℕ) (other : LinkState) (at : slice_get (slice_set s.links n link') k ≡ Some other) (rising : has_phase_up other.phase ≡ true). let old = before k other at rising in g.parked_same ∙ t.none_aside k old.0 old.1 old.2 in
-    let run = λ (k : ℕ) (other : LinkState) (at : slice_get (slice_set s.links n link') k ≡ Some other) (rising : has_phase_up other.phase ≡ true). let old = before k other at rising in t.all_run k old.0 old.1 old.2 in
     search (length-set, g.kept.numbered, g.kept.fit, placed_set, t.placed, t.homes_up, backs_same, back_same)
 
 -- the inbox is no part of it
@@ -85,13 +84,7 @@ with_inbox s inbox t = assumption
 -- ROWS THAT COME TO STAND LAST, behind those that a link has.
 module _ (m : Method) (k : ℕ) (link : LinkState) (rows come : List Row) (sent : unack k come ≡ []) (holds : has_phase_up link.phase ≡ true → held k come ≡ []) (waits : has_phase_up link.phase ≡ false → wait k come ≡ []) (gone : has_phase_settled link.phase ≡ true → on k come ≡ []) where
   pub link_more : (base : List Row) → Untouched k rows base → IsSoundLink m k link rows → IsSoundLink m k link (base ++ come)
-  link_more base u l =
-      let splits = λ (test : Fate → Bool). filter-append (λ row. test row.fate) base come in
-      let unack_same : unack k (base ++ come) ≡ unack k rows = splits (is_unacked k) ∙ rw (sent, u.unack_same) (append-nil (unack k rows)) in
-      let none_held : has_phase_up link.phase ≡ true → held k (base ++ come) ≡ [] = λ up. splits (is_held k) ∙ rw (u.held_same, l.none_held up, holds up) refl in
-      let held_last : IsHeldLast k (base ++ come) = ⊎_elim (λ up. last_none k (base ++ come) (none_held up)) (λ d. last_append k base come (u.last_kept l.held_last) sent (waits d) (last_alone k come sent (waits d))) (cases_Bool (has_phase_up link.phase)) in
-      let settled : has_phase_settled link.phase ≡ true → on k (base ++ come) ≡ [] = λ e. splits (is_on k) ∙ rw (u.on_same, l.settled e, gone e) refl in
-      search (unack_same, order_append, u.order_kept, l.in_range)
+  link_more base u l =      grind (arith, filter-append, append-nil, order_append, last_none, last_append, last_alone)
 
 -- those that move leave the others where they were; of what goes it is known that its stream is on its way back
 pub link_moved : (m : Method) (k : ℕ) (link : LinkState) (test : Fate → Bool) (fate : Row → Fate) (routing : Routing) (rows : List Row) → AreBack routing rows → ((f : Fate) → test f ≡ true → is_on k f ≡ false) → ((x : Row) → is_unacked k (fate x) ≡ false) → (has_phase_up link.phase ≡ true → (x : Row) → is_held k (fate x) ≡ false)
@@ -131,9 +124,6 @@ module _ (n : ℕ) (link : LinkState) (s : State) (at : IsAt n link Up s) (t : I
   l : IsSoundLink s.settings.method n link s.rows
   l = t.links n link at.there
 
-  not_settled : has_phase_settled link.phase ≡ false
-  not_settled = ap has_phase_settled at.phase_is
-
   same_count : length window.unacked ≡ length (unack n s.rows)
   same_count = length-map (unack n s.rows) (λ (row : Row). row.number)
 
@@ -149,7 +139,7 @@ module _ (n : ℕ) (link : LinkState) (s : State) (at : IsAt n link Up s) (t : I
       let choice = choice_of octets link.control window in
       let c = counts choice refl in
       let d = sent_by choice n s.rows in
-      changes n link (record link { control = control_after choice octets link.control window }) s (rows_sent choice n s.rows) t at.there refl not_settled d.0 d.1 c.2 (grind (arith, l.counted)) (grind (arith, l.method))
+      changes n link (record link { control = control_after choice octets link.control window }) s (rows_sent choice n s.rows) t at.there refl (ap has_phase_settled at.phase_is) d.0 d.1 c.2 (grind (arith, l.counted)) (grind (arith, l.method))
       (λ u. range_after choice octets link.control window (length (unack n (rows_sent choice n s.rows))) refl (rw same_count c.0) (rw same_count c.1) old_range)
 
   -- HEARING.
@@ -170,6 +160,6 @@ module _ (n : ℕ) (link : LinkState) (s : State) (at : IsAt n link Up s) (t : I
     pub hears_sound : IsSound (after_control part head unit n s link)
     hears_sound =
         let a = acknowledged n part.acked s.rows in
-        changes n link heard_link s (turned (is_unacked n) (Acked n) part.acked s.rows) t at.there refl not_settled (assumption) (turned_same (is_unacked n) stands_back (Acked n) refl (λ f e. grind arith) part.acked s.rows) (grind (arith, length-drop, a.unack_is, l.window))
-        (accepted_heard link.control window head (is_msu unit) link.accepted l.counted ∙ ap (λ (b : Bool). (link.accepted + one_if b + 127) % 128) (sym (part_accept link.control window head (is_msu unit))))
+        changes n link heard_link s (turned (is_unacked n) (Acked n) part.acked s.rows) t at.there refl (ap has_phase_settled at.phase_is) (assumption) (turned_same (is_unacked n) stands_back (Acked n) refl (λ f e. grind arith) part.acked s.rows) (grind (arith, length-drop, a.unack_is, l.window))
+        (grind (arith, nat_tests, head.fsn, l.counted))
         (grind (arith, l.method)) (λ u. subst (IsInRange (control_heard link.control window head (is_msu unit))) left_count (range_heard link.control window head (is_msu unit) old_range))
