@@ -1,14 +1,12 @@
 -- What the control's own step does to the window, the FSN last accepted, and the cursor.
-use Rattle.std.proofs.lemmas.Bool.Decides.{nat_tests}
 use Rattle.std.proofs.Common.{arith, ◌≡◌, ◌≢◌, ◌<◌, ◌≤◌, ℕ, ◌+◌, ◌%◌, Bool, length, drop}
 use Rattle.std.proofs.lemmas.Bool.{ltb-true}
 use Rattle.std.proofs.lemmas.List.{length-drop}
 use Rattle.l2_pcr.specs.Pcr as cyclic
 use Rattle.l2_units.specs.declared.unit.Header.{Header}
 use Rattle.l2_window.specs.Window.{WindowState}
-use Rattle.set_model.specs.Control.{Choice, Control, accepted_of, acked_by, choice_of, control_after, control_heard, first, is_accepted, part_of, window_heard}
+use Rattle.set_model.specs.Control.{Choice, Control, acked_by, choice_of, control_after, control_heard, first, part_of}
 use Rattle.set_model.specs.Sound.{IsInRange}
-use Rattle.set_model.specs.Step.{one_if}
 
 -- a first sending is chosen only where something waits, and fewer than 127 are unacknowledged
 pub first_chosen : (o : ℕ) (control : Control) (w : WindowState) → choice_of o control w ≡ first → (0 < length w.unsent) × (length w.unacked < 127)
@@ -23,17 +21,6 @@ range_after choice o control w count e more one r = grind (arith, round_in)
 -- HEARING.
 pub part_acked : (control : Control) (w : WindowState) (head : Header) (msu : Bool) → (part_of control w head msu).acked ≡ acked_by control w head
 part_acked control w head msu = grind arith
-
-pub part_accept : (control : Control) (w : WindowState) (head : Header) (msu : Bool) → (part_of control w head msu).accept ≡ is_accepted control w head msu
-part_accept control w head msu = grind arith
-
--- the number last acknowledged
-pub last_heard : (control : Control) (w : WindowState) (head : Header) (acked : ℕ) → w.last ≡ (acked + 127) % 128 → (window_heard control w head).last ≡ (acked + acked_by control w head + 127) % 128
-last_heard control w head acked e = grind arith
-
--- the FSN last accepted
-pub accepted_heard : (control : Control) (w : WindowState) (head : Header) (msu : Bool) (n : ℕ) → accepted_of control ≡ (n + 127) % 128 → accepted_of (control_heard control w head msu) ≡ (n + one_if (is_accepted control w head msu) + 127) % 128
-accepted_heard v0 w head msu n e = grind (arith, nat_tests, head.fsn)
 
 -- the cursor, or the place in the cycle
 pub range_heard : (control : Control) (w : WindowState) (head : Header) (msu : Bool) → IsInRange control (length w.unacked) → IsInRange (control_heard control w head msu) (length (drop (acked_by control w head) w.unacked))

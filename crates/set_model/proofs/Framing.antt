@@ -1,5 +1,5 @@
 -- WHAT AN EVENT LEAVES ALONE, and how it moves the window of its own link.
-use Rattle.std.proofs.Common.{arith, refl, ◌≡◌, ◌∙◌, ap, sym, subst, ℕ, ◌+◌, ◌==◌, Bool, true, false, List, [], ◌∷◌, ◌++◌, length, map, take, drop, slice_get, slice_set, Option, Some, None, append_assoc, inl}
+use Rattle.std.proofs.Common.{arith, refl, ◌≡◌, ◌∙◌, ap, sym, subst, ℕ, ◌+◌, ◌==◌, Bool, true, false, List, [], ◌∷◌, ◌++◌, length, map, take, drop, slice_get, Option, Some, append_assoc, inl, None}
 use Rattle.std.proofs.lemmas.Bool.{eqb-false}
 use Rattle.std.proofs.lemmas.Bool.Decides.{nat_tests}
 use Rattle.std.proofs.lemmas.List.Elements.{filter-append}
@@ -9,8 +9,6 @@ use Rattle.l2_units.specs.Grammar.{head_of as header_in}
 use Rattle.l2_units.specs.declared.unit.Unit.{Unit as SignalUnit}
 use Rattle.l2_window.specs.Window.{WindowState}
 use Rattle.l2_window.specs.declared.control.HeardPart.{HeardPart}
-use Rattle.l3_orders.specs.Grammar.{link_of, order_of}
-use Rattle.l3_orders.specs.declared.order.Order.{Order}
 use Rattle.set_events.specs.declared.answer.DiscardCause.{DiscardCause}
 use Rattle.set_events.specs.declared.answer.Fate.{Fate}
 use Rattle.set_events.specs.declared.answer.Fate.TheVariants.{Acked, Unacked, Waiting}
@@ -23,7 +21,7 @@ use Rattle.set_model.specs.Rows.{IsInOrder, Row, appended, fated, held, is_held,
 use Rattle.set_model.specs.Sound.{IsSound}
 use Rattle.set_model.specs.State.{LinkState, State, is_up, link_is_up, target, window_of}
 use Rattle.set_model.specs.declared.phase.Phase.TheVariants.{Up}
-use Rattle.set_model.proofs.Controlling.{part_acked, last_heard}
+use Rattle.set_model.proofs.Controlling.{part_acked}
 use Rattle.set_model.proofs.Events.{Untouched, untouched_self, apart_on, sent, acknowledged, sent_given_up, waiting_given_up, unparked, appended_out, numbers_joined}
 use Rattle.set_model.proofs.Filters.{fated_none}
 use Rattle.set_model.proofs.Finding.{new_row}
@@ -34,6 +32,8 @@ use Rattle.set_model.proofs.Ranging.{offered_out, not_sent}
 use Rattle.set_model.proofs.SoundBack.{up_not_held, down_not_waiting, alternative_up}
 use Rattle.set_model.proofs.Targets.{target_off, target_unheld}
 use Rattle.set_model.proofs.Walk.{step_walks, brought_by}
+use Rattle.l3_orders.specs.declared.order.Order.{Order}
+use Rattle.l3_orders.specs.Grammar.{order_of, link_of}
 
 -- ALONE: a link has the messages that it had, and more behind them.
 alone_more : (n : ℕ) (s t : State) (come : List Row) → slice_get t.links n ≡ slice_get s.links n → unack n t.rows ≡ unack n s.rows → wait n t.rows ≡ wait n s.rows ++ wait n come → held n t.rows ≡ held n s.rows ++ held n come → (is_up n s ≡ false → wait n come ≡ []) → (is_up n s ≡ true → held n come ≡ []) → LeavesAlone n s t
@@ -41,9 +41,6 @@ alone_more n s t come link sent waits holds no_wait no_held = record { link_same
 
 alone_by : (n : ℕ) (s t : State) → slice_get t.links n ≡ slice_get s.links n → Untouched n s.rows t.rows → LeavesAlone n s t
 alone_by n s t links u = alone_more n s t [] links u.unack_same (u.wait_same ∙ sym (append-nil (wait n s.rows))) (u.held_same ∙ sym (append-nil (held n s.rows))) (λ e. refl) (λ e. refl)
-
-alone_self : (n : ℕ) (s : State) → LeavesAlone n s s
-alone_self n s = alone_by n s s refl (untouched_self n s.rows)
 
 alone_then : (n : ℕ) (a b c : State) → LeavesAlone n a b → LeavesAlone n b c → LeavesAlone n a c
 alone_then n a b c p q = record {
@@ -58,9 +55,6 @@ alone_then n a b c p q = record {
 }
 
 -- a link that changes is another
-set_other : (n m : ℕ) (link : LinkState) (links : List LinkState) → (m == n) ≡ false → slice_get (slice_set links m link) n ≡ slice_get links n
-set_other n m link links d = get_set_other links m n link (eqb-false m n d)
-
 -- a new message comes to wait for the link, or to be held for it
 alone_appended : (n : ℕ) (body : List ℕ) (fate : Fate) (s : State) (routing : Routing) → is_unacked n fate ≡ false → (is_up n s ≡ false → is_waiting n fate ≡ false) → (is_up n s ≡ true → is_held n fate ≡ false) → LeavesAlone n s (record s { rows = appended s.rows body fate; routing = routing })
 alone_appended n body fate s routing unsent waits holds =
@@ -100,7 +94,7 @@ leaves_alone n s event free =
     let sent_up = λ (m : ℕ) (cause : DiscardCause) (rows : List Row). (sent_given_up m cause rows).others in
     let waiting_up = λ (m : ℕ) (cause : DiscardCause) (rows : List Row). (waiting_given_up m cause rows).others in
     let risen = λ (m : ℕ) (rows : List Row). (unparked m rows).others in
-    step_walks s (LeavesAlone n) (LeavesAlone n s) event (search (up_waits, alternative_up, alone_moved, back_not_on, code_back, home_back, apart_on, not_sent, off_waits, target_unheld, alone_self, alone_then, alone_by, untouched_self, alone_appended, offered_out, up_not_held, down_not_waiting, off n event s free, concerned, inl, set_other, sent_alone) depth 7)
+    step_walks s (LeavesAlone n) (LeavesAlone n s) event (search (up_waits, alternative_up, alone_moved, back_not_on, code_back, home_back, apart_on, not_sent, off_waits, target_unheld, alone_then, alone_by, untouched_self, alone_appended, offered_out, up_not_held, down_not_waiting, off n event s free, concerned, inl, get_set_other, eqb-false, sent_alone) depth 7)
 
 -- THE WINDOW.
 pub numbers-drop : (d : ℕ) (rows : List Row) → numbers (drop d rows) ≡ drop d (numbers rows)
@@ -129,15 +123,11 @@ module _ (n : ℕ) (link : LinkState) (s : State) where
     window_is =
         let a = acknowledged n part.acked s.rows in
         let by = part_acked link.control window (header_in unit) (is_msu unit) in
-        let last = last_heard link.control window (header_in unit) link.acked refl in
-        grind (arith, numbers-drop, a.unack_is, a.wait_same)
-
-no_order : (body : List ℕ) (t : State) → ((o : Order) → order_of body ≡ Some o → ⊥) → ((takes (Some body) t).state.links ≡ t.links) × ((takes (Some body) t).state.rows ≡ t.rows)
-no_order body t none = grind arith
+        grind (arith, by, numbers-drop, a.unack_is, a.wait_same)
 
 none_brought : (unit : SignalUnit) → ((about : ℕ) → BringsAbout about unit → ⊥) → (accept : Bool) (t : State) (body : Option (List ℕ)) → brought accept unit ≡ body → ((takes body t).state.links ≡ t.links) × ((takes body t).state.rows ≡ t.rows)
 none_brought unit none accept t None e = (refl, refl)
-none_brought unit none accept t (Some body) e = no_order body t (λ o f. none (link_of o) (brought_by accept unit body e o f (link_of o) refl))
+none_brought unit none accept t (Some body) e = let no = λ (o : Order) (f : order_of body ≡ Some o). none (link_of o) (brought_by accept unit body e o f (link_of o) refl) in grind (arith, no)
 
 pub window_moves : (n : ℕ) (link : LinkState) (s : State) → IsSound s → slice_get s.links n ≡ Some link → link.phase ≡ Up → MovesAsItsControl n link s
 window_moves n link s t there up =
