@@ -54,7 +54,6 @@ alone_then n a b c p q = record {
   none_later = λ e. rw (p.none_later e, q.none_later (ap link_is_up p.link_same ∙ e)) refl;
 }
 
--- a link that changes is another
 -- a new message comes to wait for the link, or to be held for it
 alone_appended : (n : ℕ) (body : List ℕ) (fate : Fate) (s : State) (routing : Routing) → is_unacked n fate ≡ false → (is_up n s ≡ false → is_waiting n fate ≡ false) → (is_up n s ≡ true → is_held n fate ≡ false) → LeavesAlone n s (record s { rows = appended s.rows body fate; routing = routing })
 alone_appended n body fate s routing unsent waits holds =
