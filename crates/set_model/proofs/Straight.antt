@@ -1,7 +1,7 @@
 -- WHILE NO CHANGEBACK IS UNDER WAY the messages of each stream stay together, where it runs, and in the order of their
 -- numbers: leaving a link changes nothing but that link, and what is acknowledged by a code nothing at all.
 use Rattle.std.proofs.Common.{refl, arith, ◌≡◌, ◌∙◌, ap, sym, ℕ, Bool, true, false, not, ◌&&◌, List, [], ◌∷◌, length, map, cond, ◌<◌, ◌%◌, ◌==◌, ◌||◌, Option, None}
-use Rattle.std.proofs.lemmas.List.{append-nil, map-append}
+use Rattle.std.proofs.lemmas.List.{append-nil, map-append, length-map}
 use Rattle.std.proofs.lemmas.List.Elements.{filter-append}
 use Rattle.l3_orders.specs.declared.order.Order.{Order}
 use Rattle.set_events.specs.declared.answer.Fate.{Fate}
@@ -31,9 +31,7 @@ use Rattle.set_model.proofs.Moving.{moved_nothing}
 use Rattle.set_model.proofs.SoundBack.{leaves as leaves_sound, releases as releases_sound}
 use Rattle.set_model.proofs.Soundness.{sounds}
 use Rattle.set_model.proofs.Walk.{IsAt, step_walks}
-
-alive_of : (a b : Bool) → (a && b) ≡ true → a ≡ true
-alive_of a b e = grind arith
+use Rattle.set_model.proofs.Lookups.{no_rows}
 
 -- ROWS THAT CHANGE IN THEIR PLACES: no more are live than before, nor astray.
 record Less (xs ys away gone : List Row) : Type 0 where
@@ -43,12 +41,7 @@ record Less (xs ys away gone : List Row) : Type 0 where
   pub none_away : away ≡ [] → gone ≡ []
 
 less_one : (b b' c c' : Bool) (x y : Row) (xs ys away gone : List Row) → y.number ≡ x.number → (b' ≡ true → b ≡ true) → (c' ≡ true → c ≡ true) → Less xs ys away gone → Less (cond b (x ∷ xs) xs) (cond b' (y ∷ ys) ys) (cond c (x ∷ away) away) (cond c' (y ∷ gone) gone)
-less_one b b' c c' x y xs ys away gone same live there p = record {
-  above = λ k a. grind (arith, p.above k);
-  ascends = λ a. grind (arith, p.above x.number);
-  none = λ e. grind arith;
-  none_away = λ e. grind arith;
-}
+less_one b b' c c' x y xs ys away gone same live there p = record { above = λ k a. grind (arith, p.above k); ascends = λ a. grind (arith, p.above x.number); none = λ e. grind arith; none_away = λ e. grind arith }
 
 -- where one gets the fate it's finished, or stays where it is
 abbrev pub Fits : Place → (Fate → Bool) → Fate → Type 0
@@ -63,20 +56,20 @@ module _ (stream : ℕ) (place : Place) (test : Fate → Bool) (fate : Fate) (fi
   abbrev Fewer : List Row → List Row → Type 0
   Fewer xs ys = Less (live stream xs) (live stream ys) (astray stream place xs) (astray stream place ys)
 
-  one_same : (x y : Row) (xs ys : List Row) → y.number ≡ x.number → (is_live stream y ≡ true → is_live stream x ≡ true) → (is_astray stream place y ≡ true → is_astray stream place x ≡ true) → Fewer xs ys → Fewer (x ∷ xs) (y ∷ ys)
-  one_same x y xs ys = less_one (is_live stream x) (is_live stream y) (is_astray stream place x) (is_astray stream place y) x y (live stream xs) (live stream ys) (astray stream place xs) (astray stream place ys)
+  stays : (x : Row) (xs ys : List Row) → Fewer xs ys → Fewer (x ∷ xs) (x ∷ ys)
+  stays x xs ys = less_one (is_live stream x) (is_live stream x) (is_astray stream place x) (is_astray stream place x) x x (live stream xs) (live stream ys) (astray stream place xs) (astray stream place ys) refl (λ e. e) (λ e. e)
 
   turns : (x : Row) (xs ys : List Row) → test x.fate ≡ true → Fewer xs ys → Fewer (x ∷ xs) (with_fate fate x ∷ ys)
-  turns x xs ys t p = one_same x (with_fate fate x) xs ys refl (λ e. grind (arith, fits)) (λ e. grind (arith, fits)) p
+  turns x xs ys t = less_one (is_live stream x) (is_live stream (with_fate fate x)) (is_astray stream place x) (is_astray stream place (with_fate fate x)) x (with_fate fate x) (live stream xs) (live stream ys) (astray stream place xs) (astray stream place ys) refl (λ e. grind (arith, fits)) (λ e. grind (arith, fits))
 
   finished : (used : Bool) (xs ys : List Row) → Fewer xs ys → IsSoundStream stream place used xs → IsSoundStream stream place used ys
   finished used xs ys p t = record { in_order = p.ascends t.in_order; together = p.none_away t.together; unused = λ e. p.none (t.unused e) }
 
   pub stream_turned : (used : Bool) (n : ℕ) (rows : List Row) → IsSoundStream stream place used rows → IsSoundStream stream place used (turned test fate n rows)
-  stream_turned used n rows = finished used rows (turned test fate n rows) (where_turned test fate Fewer (grind arith) (λ x xs ys. one_same x x xs ys refl (λ e. e) (λ e. e)) turns n rows)
+  stream_turned used n rows = finished used rows (turned test fate n rows) (where_turned test fate Fewer (grind arith) stays turns n rows)
 
   pub stream_changed : (used : Bool) (rows : List Row) → IsSoundStream stream place used rows → IsSoundStream stream place used (changed test fate rows)
-  stream_changed used rows = finished used rows (changed test fate rows) (where_changed test fate Fewer (grind arith) (λ x xs ys. one_same x x xs ys refl (λ e. e) (λ e. e)) turns rows)
+  stream_changed used rows = finished used rows (changed test fate rows) (where_changed test fate Fewer (grind arith) stays turns rows)
 
 -- A NEW MESSAGE has a number above all others.
 pub stream_appended : (stream : ℕ) (place : Place) (used used' : Bool) (rows : List Row) (body : List ℕ) (fate : Fate) → IsNumbered rows → IsSoundStream stream place used rows → (is_live stream (new_row (length rows) body fate) ≡ true → (stands_at place fate ≡ true) × (used' ≡ true)) → (used' ≡ false → used ≡ false) → IsSoundStream stream place used' (appended rows body fate)
@@ -87,16 +80,8 @@ stream_appended stream place used used' rows body fate numbered t fits grows = r
 }
 
 -- the same numbers
-no_numbers : (xs ys : List Row) → numbers ys ≡ numbers xs → xs ≡ [] → ys ≡ []
-no_numbers xs [] e none = refl
-no_numbers xs (y ∷ ys) e none = absurd (let no : y.number ∷ numbers ys ≡ [] = e ∙ ap numbers none in cc)
-
 pub same_stream : (stream : ℕ) (place place' : Place) (used : Bool) (xs ys : List Row) → numbers (live stream ys) ≡ numbers (live stream xs) → astray stream place' ys ≡ [] → IsSoundStream stream place used xs → IsSoundStream stream place' used ys
-same_stream stream place place' used xs ys same away t = grind (arith, no_numbers)
-
--- a live row that isn't astray stands there
-stands_there : (live there : Bool) (x : Row) (xs : List Row) → live ≡ true → cond (live && not there) (x ∷ xs) xs ≡ [] → there ≡ true
-stands_there live there x xs l e = grind arith
+same_stream stream place place' used xs ys same away t = let as_many = ap length same in grind (arith, no_rows, length-map, as_many)
 
 -- ROWS THAT MOVE: all live ones of a stream do, or none.
 module _ (stream : ℕ) (place place' : Place) (test : Fate → Bool) (to : Fate) (goes : Bool) (open_there : (f : Fate) → test f ≡ true → is_unfinished f ≡ true) (open_to : is_unfinished to ≡ true) (all : (f : Fate) → stands_at place f ≡ true → test f ≡ goes) (comes : goes ≡ true → stands_at place' to ≡ true) (stays : goes ≡ false → (f : Fate) → stands_at place f ≡ true → stands_at place' f ≡ true) where
@@ -121,7 +106,7 @@ module _ (stream : ℕ) (place place' : Place) (test : Fate → Bool) (to : Fate
       one true b t l g = grind arith
       one false false t l g = grind arith
       one false true t l g =
-          let stood = stands_there (is_live stream x) (stands_at place x.fate) x (astray stream place rows) l e in
+          let stood : stands_at place x.fate ≡ true = grind (arith, l) in
           let stay : goes ≡ false = sym (all x.fate stood) ∙ t in
           let there = stays stay x.fate stood in
           grind (arith, stay, there)
@@ -134,7 +119,7 @@ module _ (stream : ℕ) (place place' : Place) (test : Fate → Bool) (to : Fate
 
 -- a stream with no live message can run anywhere
 pub stream_empty : (stream : ℕ) (place place' : Place) (used : Bool) (rows : List Row) → live stream rows ≡ [] → IsSoundStream stream place used rows → IsSoundStream stream place' used rows
-stream_empty stream place place' used rows none t = grind (arith, filter_within, alive_of)
+stream_empty stream place place' used rows none t = let away = filter_within (is_astray stream place') (is_live stream) (λ x e. grind arith) rows in grind (arith, away)
 
 -- NOTHING STANDS BACK, so leaving a link turns nothing back.
 module _ (s : State) (t : IsSound s) (none : NoneOpen s.routing) where
