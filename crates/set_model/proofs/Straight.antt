@@ -73,11 +73,7 @@ module _ (stream : ℕ) (place : Place) (test : Fate → Bool) (fate : Fate) (fi
 
 -- A NEW MESSAGE has a number above all others.
 pub stream_appended : (stream : ℕ) (place : Place) (used used' : Bool) (rows : List Row) (body : List ℕ) (fate : Fate) → IsNumbered rows → IsSoundStream stream place used rows → (is_live stream (new_row (length rows) body fate) ≡ true → (stands_at place fate ≡ true) × (used' ≡ true)) → (used' ≡ false → used ≡ false) → IsSoundStream stream place used' (appended rows body fate)
-stream_appended stream place used used' rows body fate numbered t fits grows = record {
-  in_order = ascends_appended (is_live stream) rows body fate numbered t.in_order;
-  together = rw (filter-append (is_astray stream place) rows (new_row (length rows) body fate ∷ []), t.together) (grind (arith, fits));
-  unused = λ e. rw (filter-append (is_live stream) rows (new_row (length rows) body fate ∷ []), t.unused (grows e)) (grind (arith, fits));
-}
+stream_appended stream place used used' rows body fate numbered t fits grows = grind (arith, filter-append, ascends_appended, fits)
 
 -- the same numbers
 pub same_stream : (stream : ℕ) (place place' : Place) (used : Bool) (xs ys : List Row) → numbers (live stream ys) ≡ numbers (live stream xs) → astray stream place' ys ≡ [] → IsSoundStream stream place used xs → IsSoundStream stream place' used ys
@@ -103,19 +99,17 @@ module _ (stream : ℕ) (place place' : Place) (test : Fate → Bool) (to : Fate
   parts (x ∷ rows) e = one (test x.fate) (is_live stream x) refl refl (parts rows (grind arith))
     where
       one : (a b : Bool) → test x.fate ≡ a → is_live stream x ≡ b → Parts rows → Parts (x ∷ rows)
-      one true b t l g = grind arith
-      one false false t l g = grind arith
       one false true t l g =
           let stood : stands_at place x.fate ≡ true = grind (arith, l) in
           let stay : goes ≡ false = sym (all x.fate stood) ∙ t in
           let there = stays stay x.fate stood in
           grind (arith, stay, there)
+      one a b t l g = grind arith
 
   pub stream_moves : (used : Bool) (rows : List Row) → IsSoundStream stream place used rows → IsSoundStream stream place' used (moved test (all_with to) rows)
   stream_moves used rows t =
       let g = parts rows t.together in
-      same_stream stream place place' used rows (moved test (all_with to) rows) (rw (filter-append (is_live stream) (kept rows) (gone rows), map-append) (grind (arith, append-nil)))
-      (rw (filter-append (is_astray stream place') (kept rows) (gone rows), g.kept_astray) g.gone_astray) t
+      same_stream stream place place' used rows (moved test (all_with to) rows) (grind (arith, filter-append, map-append, append-nil, g)) (grind (arith, filter-append, g)) t
 
 -- a stream with no live message can run anywhere
 pub stream_empty : (stream : ℕ) (place place' : Place) (used : Bool) (rows : List Row) → live stream rows ≡ [] → IsSoundStream stream place used rows → IsSoundStream stream place' used rows
@@ -123,11 +117,8 @@ stream_empty stream place place' used rows none t = let away = filter_within (is
 
 -- NOTHING STANDS BACK, so leaving a link turns nothing back.
 module _ (s : State) (t : IsSound s) (none : NoneOpen s.routing) where
-  pub none_back : standing stands_back s.rows ≡ []
-  none_back = none_standing (λ row. IsBackOf s.routing row row.fate) stands_back (λ x e b. grind (arith, never_changing)) s.rows t.backs
-
   none_for : (test : Fate → Bool) → ((f : Fate) → test f ≡ true → stands_back f ≡ true) → standing test s.rows ≡ []
-  none_for test w = none_within test stands_back w s.rows none_back
+  none_for test w = none_within test stands_back w s.rows (none_standing (λ row. IsBackOf s.routing row row.fate) stands_back (λ x e b. grind (arith, never_changing)) s.rows t.backs)
 
 -- a sound set of which that holds, and whose streams are together
 pub record Quiet (s : State) : Type 0 where
