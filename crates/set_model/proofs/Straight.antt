@@ -1,6 +1,6 @@
 -- WHILE NO CHANGEBACK IS UNDER WAY the messages of each stream stay together, where it runs, and in the order of their
 -- numbers: leaving a link changes nothing but that link, and what is acknowledged by a code nothing at all.
-use Rattle.std.proofs.Common.{refl, arith, ◌≡◌, ◌∙◌, ap, sym, ℕ, Bool, true, false, not, ◌&&◌, List, [], ◌∷◌, length, map, cond, ◌<◌, ◌%◌, ◌==◌, ◌||◌, Option, None}
+use Rattle.std.proofs.Common.{refl, arith, ◌≡◌, ◌∙◌, ap, sym, ℕ, Bool, true, false, not, ◌&&◌, List, [], ◌∷◌, length, map, cond, ◌<◌, ◌%◌, ◌==◌, ◌||◌, None}
 use Rattle.std.proofs.lemmas.List.{append-nil, map-append, length-map}
 use Rattle.std.proofs.lemmas.List.Elements.{filter-append}
 use Rattle.l3_orders.specs.declared.order.Order.{Order}
@@ -161,17 +161,11 @@ module _ (n : ℕ) (rows : List Row) where
       cond_both ((home == n) && not used) (On n) (On l) (λ (at : Place). IsSoundStream k at used risen) (λ e. stream_empty k (On l) (On n) used risen (remains.unused (grind arith)) remains) (λ e. remains)
 
 -- A LINK IS LEFT BY ITS MESSAGES.
-module _ (n : ℕ) (to : Option ℕ) (rows : List Row) where
-  abbrev off : List Row
-  off = moved (is_on n) (all_with (fate_on to)) rows
-
-  stream_left : (k : ℕ) (used : Bool) (place : Place) → ((home code via : ℕ) → place ≡ Changing home code via → ⊥) → IsSoundStream k place used rows → IsSoundStream k (place_settled n to place) used off
-  stream_left k used place away p = stream_moves k place (place_settled n to place) (is_on n) (fate_on to) (runs_on n place) (λ f e. grind arith) (grind arith) (λ f e. grind (arith, nat_tests)) (λ e. grind arith) (λ e f h. grind (arith, nat_tests)) used rows p
-
-moves_off : (n : ℕ) (s : State) → IsSound s → NoneOpen s.routing → AreTogether s → (k : ℕ) → k < 16 → IsSoundStream k (place_of k (settled n (target s.links) s.routing)) (has_messages k (settled n (target s.links) s.routing)) (off n (target s.links) s.rows)
+moves_off : (n : ℕ) (s : State) → IsSound s → NoneOpen s.routing → AreTogether s → (k : ℕ) → k < 16 → IsSoundStream k (place_of k (settled n (target s.links) s.routing)) (has_messages k (settled n (target s.links) s.routing)) (moved (is_on n) (all_with (fate_on (target s.links))) s.rows)
 moves_off n s t none r k low =
     let a = alone s.routing k t.routing low in
-    rw (a.settled_place n (target s.links), a.settled_messages n (target s.links)) (stream_left n (target s.links) s.rows k (has_messages k s.routing) (place_of k s.routing) (λ to code via. never_changing k to code via s.routing t.routing none) (r k low))
+    let never = λ (to code via : ℕ). never_changing k to code via s.routing t.routing none in
+    rw (a.settled_place n (target s.links), a.settled_messages n (target s.links)) (stream_moves k (place_of k s.routing) (place_settled n (target s.links) (place_of k s.routing)) (is_on n) (fate_on (target s.links)) (runs_on n (place_of k s.routing)) (λ f e. grind arith) (grind arith) (λ f e. grind (arith, nat_tests, never)) (λ e. grind arith) (λ e f h. grind (arith, nat_tests, never)) (has_messages k s.routing) s.rows (r k low))
 
 rises : (n : ℕ) (s : State) → IsSound s → NoneOpen s.routing → AreTogether s → (k : ℕ) → k < 16 → IsSoundStream k (place_of k (raised n s.routing)) (has_messages k (raised n s.routing)) (risen n s.rows)
 rises n s t none r k low =
