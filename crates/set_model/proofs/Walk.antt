@@ -1,5 +1,5 @@
 -- THE WALK over the cases of the step, once: what each small change keeps, every event keeps.
-use Rattle.std.proofs.Common.{refl, arith, ◌≡◌, subst, ◌<◌, ◌≤◌, length, ℕ, zero, suc, ◌+◌, Bool, true, false, ◌⊎◌, List, [], ◌∷◌, ◌++◌, slice_get, Option, Some, None, inl, inr}
+use Rattle.std.proofs.Common.{refl, arith, ◌≡◌, subst, ◌<◌, ◌≤◌, length, ℕ, zero, suc, ◌+◌, Bool, true, false, ◌⊎◌, List, [], ◌∷◌, ◌++◌, slice_get, Option, Some, None, inr}
 use Rattle.std.proofs.lemmas.Bool.{cond_both}
 use Rattle.set_model.specs.Step.{step, Outcome, after_control, brought, comes_back, controls, gives_up, heard, in_service, is_msu, next, offer_refusal, offered, rises, runs_out, taken, takes, with_known}
 use Rattle.l2_units.specs.Grammar.{head_of as header_in}
@@ -13,7 +13,7 @@ use Rattle.set_events.specs.declared.answer.Fate.TheVariants.{Discarded}
 use Rattle.set_events.specs.declared.event.Event.{Event}
 use Rattle.set_events.specs.declared.event.Event.TheVariants.{BackTimeout, Down as DownEvent, DownBlind, Find, Heard, Next, NoAnswer, Offer, Restore, Take, Up as UpEvent}
 use Rattle.set_route.specs.Routing.{code_for, home_of}
-use Rattle.set_model.specs.Changeover.{Obeyed, acknowledged_by, answered, at_link, can_declare, changed_over, declared, declared_from, is_reasonable, leaving_order, left_by, left_link, moved_over, order_obeyed, queued, released, released_from, reply_of, settled, some_in_use}
+use Rattle.set_model.specs.Changeover.{acknowledged_by, answered, can_declare, changed_over, declared, declared_from, is_reasonable, leaving_order, left_by, left_link, moved_over, order_obeyed, queued, released, released_from, reply_of, settled, some_in_use}
 use Rattle.set_model.specs.Control.{part_of}
 use Rattle.set_model.specs.Frame.{BringsAbout, BringsBackTo, Concerns}
 use Rattle.set_model.specs.Rows.{changed, is_unacked, is_waiting, unack}
@@ -79,9 +79,6 @@ module _ (Known : ℕ → Type 0) (May : Type 0) (R : State → State → Type 0
   answer_walks : (reached : Reached) (n : ℕ) (link : LinkState) (phase : Phase) (s : State) → Known n → IsAt n link phase s → R s (answered reached n link phase s).state
   answer_walks reached n link phase s known at = grind (arith, settle_walks)
 
-  at_walks : (n : ℕ) (s : State) (f : LinkState → Obeyed) → ((link : LinkState) → slice_get s.links n ≡ Some link → R s (f link).state) → (there : Option LinkState) → slice_get s.links n ≡ there → R s (at_link n s f there).state
-  at_walks n s f all there e = grind arith
-
   -- changeback
   pub declare_walks : May → (home alternative n : ℕ) (s : State) → is_up home s ≡ true → R s (declared_from home alternative n s)
   declare_walks may home alternative zero s up = k.same s
@@ -97,10 +94,10 @@ module _ (Known : ℕ → Type 0) (May : Type 0) (R : State → State → Type 0
       (release_walks (suc code) n (released code s) (λ j below. let next : code + suc j ≡ suc code + j = omega arith in subst (λ (c : ℕ). Known (home_of c)) next (known (suc j) (omega (arith, below)))))
 
   pub obeys_walks : (order : Order) (s : State) → ((n : ℕ) → Touches order n → Known n) → R s (order_obeyed order s).state
-  obeys_walks (Coo n fsn) s known = at_walks n s (λ link. changed_over (Upto fsn) n link link.phase s) (λ link e. over_walks (Upto fsn) n link link.phase s (known n (inl refl)) (record { there = e; phase_is = refl })) (slice_get s.links n) refl
-  obeys_walks (Eco n) s known = at_walks n s (λ link. changed_over Unknown n link link.phase s) (λ link e. over_walks Unknown n link link.phase s (known n (inl refl)) (record { there = e; phase_is = refl })) (slice_get s.links n) refl
-  obeys_walks (Coa n fsn) s known = at_walks n s (λ link. answered (Upto fsn) n link link.phase s) (λ link e. answer_walks (Upto fsn) n link link.phase s (known n (inl refl)) (record { there = e; phase_is = refl })) (slice_get s.links n) refl
-  obeys_walks (Eca n) s known = at_walks n s (λ link. answered Unknown n link link.phase s) (λ link e. answer_walks Unknown n link link.phase s (known n (inl refl)) (record { there = e; phase_is = refl })) (slice_get s.links n) refl
+  obeys_walks (Coo n fsn) s known = grind (arith, over_walks, known)
+  obeys_walks (Eco n) s known = grind (arith, over_walks, known)
+  obeys_walks (Coa n fsn) s known = grind (arith, answer_walks, known)
+  obeys_walks (Eca n) s known = grind (arith, answer_walks, known)
   obeys_walks (Cbd n code) s known = k.queues (Cba n code) s
   obeys_walks (Cba n code) s known = let there = known (home_of code) (inr (n, code, refl, refl)) in grind arith
 
