@@ -19,10 +19,7 @@ not_found number [] e = refl
 not_found number (x ∷ rows) e = grind (arith, not_found number rows)
 
 pub is_found : (number : ℕ) (rows : List Row) → IsNumbered rows → number < length rows → row_of number rows ≡ None → ⊥
-is_found number rows numbered below e =
-    let none = ap length (not_found number rows e) in
-    let one = numbered number in
-    grind (arith, nat_tests)
+is_found number rows numbered below e = let one = numbered number in grind (arith, nat_tests, not_found, one)
 
 -- A new row has the next number.
 abbrev pub new_row : ℕ → List ℕ → Fate → Row

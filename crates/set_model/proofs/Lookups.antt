@@ -1,5 +1,5 @@
 -- What is found under a number, before and after a change.
-use Rattle.std.proofs.Common.{refl, arith, ◌≡◌, ap, ◌<◌, ◌≤◌, [], ◌∷◌, length, ℕ, zero, suc, Bool, List, Some, cond}
+use Rattle.std.proofs.Common.{refl, arith, ◌≡◌, ◌<◌, ◌≤◌, [], ◌∷◌, length, ℕ, zero, suc, Bool, List, Some, cond}
 use Rattle.std.proofs.lemmas.Bool.Decides.{nat_tests}
 use Rattle.std.specs.Prelude.{slice_get, filter}
 use Rattle.std.specs.Option.{option_map}
@@ -52,10 +52,7 @@ row_in_filter p rows i k row numbered e n = let one = found_in p rows i k row e 
 
 -- the number of a row in a filter is below the length
 pub number_below : (p : Row → Bool) (rows : List Row) (i : ℕ) (row : Row) → IsNumbered rows → slice_get (filter p rows) i ≡ Some row → row.number < length rows
-number_below p rows i row numbered e =
-    let one = ap length (found_in p rows i row.number row e refl (at_most_one row.number rows numbered)) in
-    let known = numbered row.number in
-    grind (arith, nat_tests)
+number_below p rows i row numbered e = let known = numbered row.number in grind (arith, nat_tests, found_in p rows i row.number row e refl (at_most_one row.number rows numbered), known)
 
 pub row_at_number : (rows : List Row) (i number : ℕ) → slice_get (numbers rows) i ≡ Some number → (row : Row) × (slice_get rows i ≡ Some row) × (row.number ≡ number)
 row_at_number [] i number e = absurd cc

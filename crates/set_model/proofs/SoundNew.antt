@@ -19,7 +19,7 @@ use Rattle.set_model.proofs.Backs.{coded_at, backs_kept}
 use Rattle.set_model.proofs.Events.{appended_out, untouched_self}
 use Rattle.set_model.proofs.Finding.{new_row, numbered_appended, fit_appended}
 use Rattle.set_model.proofs.Gaining.{offer_fits}
-use Rattle.set_model.proofs.Standing.{each_appended, ascends_appended}
+use Rattle.set_model.proofs.Standing.{ascends_appended, each_append}
 use Rattle.set_model.proofs.Targets.{target_up, target_elsewhere, none_up}
 use Rattle.set_model.proofs.SoundLink.{link_more}
 
@@ -48,7 +48,7 @@ order_fits order s = grind arith
 
 -- a message that doesn't stand back
 pub backs_appended : (routing : Routing) (rows : List Row) (body : List ℕ) (fate : Fate) → stands_back fate ≡ false → AreBack routing rows → AreBack routing (appended rows body fate)
-backs_appended routing rows body fate elsewhere b = grind (arith, each_appended)
+backs_appended routing rows body fate elsewhere b = grind (arith, each_append)
 
 pub queues : (order : Order) (s : State) → IsSound s → IsSound (queued order s)
 queues order s t = search (open_target, numbered_appended, fit_appended, order_fits, link_appended, none_parked, backs_appended, target_elsewhere, ascends_appended)
@@ -79,7 +79,7 @@ module _ (s : State) (body : List ℕ) (t : IsSound s) (low : stream_of body < 1
   offer_backs : AreBack runs (appended s.rows body (fate_at (place_of stream s.routing) s))
   offer_backs =
       let kept = backs_kept s.routing runs (λ k few code via of e. (via, same_place k few ∙ e)) s.rows t.backs in
-      each_appended (λ row. IsBackOf runs row row.fate) s.rows body _ (one_back _ refl) kept
+      each_append _ s.rows _ kept (one_back _ refl, tt)
 
 pub offers : (s : State) (body : List ℕ) → stream_of body < 16 → offer_refusal s.rows body ≡ None → IsSound s → IsSound (offered None s body).state
 offers s body low free t =

@@ -42,17 +42,13 @@ get_or_replicate (suc n) c k = grind (arith, get_or_replicate n c)
 
 new_there : (k n : ℕ) (link other : LinkState) → slice_get (replicate k link) n ≡ Some other → other ≡ link
 new_there zero n link other e = absurd cc
-new_there (suc k) zero link other e = grind arith
-new_there (suc k) (suc n) link other e = new_there k n link other e
+new_there (suc k) n link other e = grind (arith, new_there k)
 
 new_place : (links : ℕ) (numbers : List ℕ) (stream : ℕ) → slice_index_or (map (λ (s : Stream). s.place) (map (λ s. new_stream (s % links)) numbers)) stream Nowhere ≡ Nowhere
 new_place links [] stream = refl
 new_place links (n ∷ numbers) stream = grind (arith, new_place links numbers)
 
 module _ (settings : Settings) (is : IsSettings settings) where
-  new_one : (n : ℕ) (link : LinkState) → slice_get (replicate settings.links (new_link settings.method)) n ≡ Some link → link ≡ new_link settings.method
-  new_one n link there = new_there settings.links n (new_link settings.method) link there
-
   pub opened_sound : IsSound (opened_with settings)
   opened_sound = record {
     managed = is.managed;
@@ -61,10 +57,10 @@ module _ (settings : Settings) (is : IsSettings settings) where
     count = length-replicate settings.links (new_link settings.method);
     numbered = λ number. sym (ap (λ (b : Bool). cond b 1 0) (le-ltb number 0 (omega arith)));
     fit = tt;
-    links = λ n link there. rw (new_one n link there) (grind arith);
+    links = λ n link there. grind (arith, new_there);
     placed = λ stream low. subst (IsPlaced _) (sym (new_place settings.links stream_numbers stream)) tt;
     none_aside = λ n link there rising. refl;
-    all_run = λ n link there rising. grind (arith, new_one);
+    all_run = λ n link there rising. grind (arith, new_there);
     homes_up = λ code e. let no : Free ≡ Asked = sym (get_or_replicate 256 Free code) ∙ e in absurd cc;
     backs = tt;
     back_order = tt;
@@ -75,4 +71,4 @@ module _ (settings : Settings) (is : IsSettings settings) where
   opened_straight = search get_or_replicate
 
   pub opened_few : AreFew 0 (opened_with settings)
-  opened_few n link there = rw (new_one n link there) (record { sent = omega arith; accepted = omega arith })
+  opened_few n link there = grind (arith, new_there)

@@ -17,9 +17,6 @@ pub each_append : (P : Row → Type 0) (xs ys : List Row) → Each P xs → Each
 each_append P [] ys a b = b
 each_append P (x ∷ xs) ys a b = (a.0, each_append P xs ys a.1 b)
 
-pub each_appended : (P : Row → Type 0) (rows : List Row) (body : List ℕ) (fate : Fate) → P (new_row (length rows) body fate) → Each P rows → Each P (appended rows body fate)
-each_appended P rows body fate p a = each_append P rows (new_row (length rows) body fate ∷ []) a (p, tt)
-
 pub each_filter : (P : Row → Type 0) (p : Row → Bool) (rows : List Row) → Each P rows → Each P (filter p rows)
 each_filter P p [] e = tt
 each_filter P p (x ∷ rows) e = grind (arith, each_filter P p rows e.1)
