@@ -44,24 +44,18 @@ module _ (test : Fate → Bool) (fate : Fate) where
 -- A PLACE where none turns and none comes.
 module _ (test other : Fate → Bool) (fate : Fate) (o : other fate ≡ false) (w : (f : Fate) → test f ≡ true → other f ≡ false) where
   pub turned_same : (n : ℕ) (rows : List Row) → standing other (turned test fate n rows) ≡ standing other rows
-  turned_same zero rows = refl
-  turned_same (suc n) [] = refl
-  turned_same (suc n) (x ∷ rows) = grind (arith, turned_same n rows, turned_same (suc n) rows)
+  turned_same = where_turned test fate (λ xs ys. standing other ys ≡ standing other xs) refl (λ x xs ys p. grind arith) (λ x xs ys h p. grind arith)
 
   pub changed_same : (rows : List Row) → standing other (changed test fate rows) ≡ standing other rows
-  changed_same [] = refl
-  changed_same (x ∷ rows) = grind (arith, changed_same rows)
+  changed_same = where_changed test fate (λ xs ys. standing other ys ≡ standing other xs) refl (λ x xs ys p. grind arith) (λ x xs ys h p. grind arith)
 
 -- a place where none comes has no more than before
 module _ (test other : Fate → Bool) (fate : Fate) (none : other fate ≡ false) where
   pub fewer_turned : (n : ℕ) (rows : List Row) → length (standing other (turned test fate n rows)) ≤ length (standing other rows)
-  fewer_turned zero rows = omega arith
-  fewer_turned (suc n) [] = omega arith
-  fewer_turned (suc n) (x ∷ rows) = grind (arith, fewer_turned n rows, fewer_turned (suc n) rows)
+  fewer_turned = where_turned test fate (λ xs ys. length (standing other ys) ≤ length (standing other xs)) (omega arith) (λ x xs ys p. grind arith) (λ x xs ys h p. grind arith)
 
   pub fewer_changed : (rows : List Row) → length (standing other (changed test fate rows)) ≤ length (standing other rows)
-  fewer_changed [] = omega arith
-  fewer_changed (x ∷ rows) = grind (arith, fewer_changed rows)
+  fewer_changed = where_changed test fate (λ xs ys. length (standing other ys) ≤ length (standing other xs)) (omega arith) (λ x xs ys p. grind arith) (λ x xs ys h p. grind arith)
 
 -- A LINK'S ORDER, where none comes to wait or to be held, and none to be unacknowledged.
 module _ (n : ℕ) (test : Fate → Bool) (fate : Fate) (u : is_unacked n fate ≡ false) (v : is_waiting n fate ≡ false) (h : is_held n fate ≡ false) where
@@ -91,9 +85,7 @@ turned_left test fate o (suc n) (x ∷ rows) = grind (arith, turned_left test fa
 
 -- nothing turns where no row stands
 pub turned_nothing : (test : Fate → Bool) (fate : Fate) (n : ℕ) (rows : List Row) → standing test rows ≡ [] → turned test fate n rows ≡ rows
-turned_nothing test fate zero rows e = refl
-turned_nothing test fate (suc n) [] e = refl
-turned_nothing test fate (suc n) (x ∷ rows) e = grind (arith, turned_nothing test fate (suc n) rows)
+turned_nothing test fate = where_turned test fate (λ xs ys. standing test xs ≡ [] → ys ≡ xs) (λ e. refl) (λ x xs ys p e. grind arith) (λ x xs ys h p e. grind arith)
 
 -- all that changed left their place
 pub changed_left : (test : Fate → Bool) (fate : Fate) → test fate ≡ false → (rows : List Row) → standing test (changed test fate rows) ≡ []

@@ -11,10 +11,8 @@ get_set_same xs n x few = slice_get-get_or (slice_set xs n x) n x (omega (arith,
 
 pub get_set_other : {X : Type 0} (xs : List X) (n m : ℕ) (x : X) → n ≢ m → slice_get (slice_set xs n x) m ≡ slice_get xs m
 get_set_other [] n m x other = refl
-get_set_other (y ∷ xs) zero zero x other = absurd (other refl)
-get_set_other (y ∷ xs) zero (suc m) x other = refl
-get_set_other (y ∷ xs) (suc n) zero x other = refl
-get_set_other (y ∷ xs) (suc n) (suc m) x other = get_set_other xs n m x (λ same. other (ap suc same))
+get_set_other (y ∷ xs) zero m x other = grind arith
+get_set_other (y ∷ xs) (suc n) m x other = grind (arith, get_set_other xs n)
 
 pub map_set : {X Y : Type 0} (f : X → Y) (xs : List X) (n : ℕ) (x : X) → map f (slice_set xs n x) ≡ slice_set (map f xs) n (f x)
 map_set f xs n x = map-set f xs n x
@@ -70,5 +68,4 @@ map_at f xs n x there = slice_get-map f xs n ∙ ap (option_map f) there
 
 pub present : {X : Type 0} (xs : List X) (n : ℕ) → n < length xs → (x : X) × (slice_get xs n ≡ Some x)
 present [] n few = absurd (omega (arith, few))
-present (x ∷ xs) zero few = (x, refl)
-present (x ∷ xs) (suc n) few = present xs n (omega (arith, few))
+present (x ∷ xs) n few = (slice_index_or (x ∷ xs) n x, slice_get-get_or (x ∷ xs) n x few)

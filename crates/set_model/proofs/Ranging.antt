@@ -1,5 +1,5 @@
 -- The whole numbers of the links stay in range: an event sends at most one message, and accepts at most one body.
-use Rattle.std.proofs.Common.{refl, arith, ◌≡◌, ap, ◌≤◌, zero-le, ℕ, zero, suc, ◌+◌, Bool, false, List, [], ◌∷◌, length, slice_get, slice_set, Option, Some}
+use Rattle.std.proofs.Common.{arith, ◌≡◌, ap, ◌≤◌, zero-le, ℕ, zero, suc, ◌+◌, Bool, false, List, [], ◌∷◌, length, slice_get, slice_set, Option, Some}
 use Rattle.std.proofs.Math.Nat.{le_refl}
 use Rattle.std.proofs.lemmas.List.{append-nil, length-map, length-drop}
 use Rattle.std.proofs.lemmas.List.Elements.{filter-append}
@@ -76,10 +76,7 @@ few_sent _ m n rows = omega arith
 
 -- what is acknowledged was sent
 acked_at_most : (more c n count : ℕ) (rows : List Row) → count ≤ length (unack n rows) → c + count + length (unack n (turned (is_unacked n) (Acked n) count rows)) ≤ c + length (unack n rows) + more
-acked_at_most more c n count rows fits =
-    let left = length-drop count (unack n rows) in
-    let gone = ap length (turned_left (is_unacked n) (Acked n) refl count rows) in
-    omega (arith, left, gone)
+acked_at_most more c n count rows fits = grind (arith, turned_left, length-drop)
 
 ruleset grows = (le_refl, zero-le, grow_then, grow_rows, grow_set, at_most, sum_at_most, one_low, acked_at_most, few_moved, few_appended, fewer_turned, fewer_changed, not_sent, offered_out, few_sent, acked_few, arith)
 
