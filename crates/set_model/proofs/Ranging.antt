@@ -1,5 +1,5 @@
 -- The whole numbers of the links stay in range: an event sends at most one message, and accepts at most one body.
-use Rattle.std.proofs.Common.{arith, ◌≡◌, ap, ◌≤◌, zero-le, ℕ, zero, suc, ◌+◌, Bool, false, List, [], ◌∷◌, length, slice_get, slice_set, Option, Some}
+use Rattle.std.proofs.Common.{arith, ◌≡◌, ◌≤◌, zero-le, ℕ, zero, suc, ◌+◌, Bool, false, List, [], ◌∷◌, length, slice_get, slice_set, Option, Some}
 use Rattle.std.proofs.Math.Nat.{le_refl}
 use Rattle.std.proofs.lemmas.List.{append-nil, length-map, length-drop}
 use Rattle.std.proofs.lemmas.List.Elements.{filter-append}
@@ -40,7 +40,7 @@ pub offered_out : (m : ℕ) (place : Place) (s : State) → is_unacked m (fate_a
 offered_out m place s = grind arith
 
 few_appended : (m : ℕ) (rows : List Row) (body : List ℕ) (fate : Fate) → is_unacked m fate ≡ false → length (unack m (appended rows body fate)) ≤ length (unack m rows)
-few_appended m rows body fate none = let same = ap length (appended_out rows body fate (is_unacked m) none) in omega (arith, same)
+few_appended m rows body fate none = grind (arith, appended_out)
 
 -- A processed unit acknowledges no more than there are.
 pub acked_few : (n : ℕ) (link : LinkState) (rows : List Row) (head : Header) (msu : Bool) → (part_of link.control (window_of n link rows) head msu).acked ≤ length (unack n rows)
@@ -84,10 +84,7 @@ step_grows : (s : State) (event : Event) → GrowBy 1 s (step s event).state
 step_grows s event = step_walks s (GrowBy 0) (GrowBy 1 s) event (search grows)
 
 pub step_at_most : (s : State) (event : Event) (k : ℕ → WholeNumbers) → AreAtMost k s → AreAtMost (λ n. one_more (k n)) (step s event).state
-step_at_most s event k few n link there =
-    let g = (step_grows s event).each n link there in
-    let f = few n g.0 g.1 in
-    record { sent = omega (arith, f.sent, g.2); accepted = omega (arith, f.accepted, g.3) }
+step_at_most s event k few n link there = let g = (step_grows s event).each n link there in let f = few n g.0 g.1 in grind (arith, f, g)
 
 pub step_few : (s : State) (event : Event) (events : ℕ) → AreFew events s → AreFew (events + 1) (step s event).state
 step_few s event events few = step_at_most s event (λ n. record { sent = events; accepted = events }) few

@@ -1,11 +1,10 @@
 -- A LINK THAT SETTLES: what the far end has is acknowledged, and the rest of its messages move in order (Q.704 5.5).
 use Rattle.std.proofs.Common.{arith, refl, ◌≡◌, ◌≢◌, ap, sym, subst, ℕ, true, List, slice_get, Option, Some, None}
 use Rattle.std.proofs.lemmas.List.{map-append}
-use Rattle.set_events.specs.declared.answer.Fate.TheVariants.{Parked, Waiting}
 use Rattle.set_route.specs.Target.{target_of}
 use Rattle.set_model.specs.Changeover.{acknowledged as acknowledged_link, fate_on, is_reasonable, reached_by, settled}
 use Rattle.set_model.specs.Laws.{DivertsTo, IsEmptyLink, MovesTheRest, arrived, rest_of}
-use Rattle.set_model.specs.Rows.{IsHeldLast, IsInOrder, Row, all_with, is_on, moved, on, parked, wait}
+use Rattle.set_model.specs.Rows.{IsHeldLast, IsInOrder, Row, all_with, is_on, moved}
 use Rattle.set_model.specs.Sound.{IsSound}
 use Rattle.set_model.specs.State.{LinkState, State, has_phase_settled, has_phase_up, target}
 use Rattle.set_model.specs.declared.phase.Phase.TheVariants.{Down, Settled}
@@ -34,12 +33,12 @@ module _ (fsn n : ℕ) (link : LinkState) (s : State) (there : slice_get s.links
 
   diverts_by : (d : ℕ) (rows : List Row) → IsInOrder n rows → IsHeldLast n rows → (to : Option ℕ) → ((t : ℕ) → to ≡ Some t → n ≢ t) → DivertsTo to (rest_of n d rows) rows (moved (is_on n) (all_with (fate_on to)) (arrived d n rows))
   diverts_by d rows order last (Some t) other =
-      let a = acknowledged n d rows in
       let off = apart n t (other t refl) in
-      rw ((moved_to n t (arrived d n rows) off).wait_is, numbers_joined (λ row. Waiting t) (wait t (arrived d n rows)) (on n (arrived d n rows)), (a.others t off).wait_same, a.on_is order last, map-append, map-append) refl
+      let a = acknowledged n d rows in
+      grind (arith, moved_to n t (arrived d n rows) off, numbers_joined, a.others t off, a.on_is order last, map-append)
   diverts_by d rows order last None other =
       let a = acknowledged n d rows in
-      rw ((moved_aside n (arrived d n rows)).parked_is, numbers_joined (λ row. Parked) (parked (arrived d n rows)) (on n (arrived d n rows)), a.parked_same, a.on_is order last, map-append, map-append) refl
+      grind (arith, moved_aside n (arrived d n rows), numbers_joined, a.parked_same, a.on_is order last, map-append)
 
   -- a link that was left is no target
   pub no_target : link.phase ≡ Down → (t : ℕ) → target s.links ≡ Some t → n ≢ t

@@ -124,15 +124,12 @@ module _ (n : ℕ) (link : LinkState) (s : State) (at : IsAt n link Up s) (t : I
   l : IsSoundLink s.settings.method n link s.rows
   l = t.links n link at.there
 
-  same_count : length window.unacked ≡ length (unack n s.rows)
-  same_count = length-map (unack n s.rows) (λ (row : Row). row.number)
-
   old_range : IsInRange link.control (length window.unacked)
-  old_range = subst (IsInRange link.control) (sym same_count) (l.in_range (ap has_phase_up at.phase_is))
+  old_range = grind (arith, length-map, l.in_range)
 
   counts : (choice : Choice) → choice_of octets link.control window ≡ choice → (length (unack n s.rows) ≤ length (unack n (rows_sent choice n s.rows))) × (choice ≡ first → length (unack n (rows_sent choice n s.rows)) ≡ length (unack n s.rows) + 1) × (length (unack n (rows_sent choice n s.rows)) ≤ 127)
   counts first e = grind (arith, first_chosen octets link.control window e, length-map, length-append, length-take, (sent n s.rows).unack_is l.in_order)
-  counts _ e = (omega arith, λ f. absurd cc, l.window)
+  counts _ e = grind (arith, l.window)
 
   pub sends_sound : IsSound (next n s link).state
   sends_sound =
@@ -140,7 +137,7 @@ module _ (n : ℕ) (link : LinkState) (s : State) (at : IsAt n link Up s) (t : I
       let c = counts choice refl in
       let d = sent_by choice n s.rows in
       changes n link (record link { control = control_after choice octets link.control window }) s (rows_sent choice n s.rows) t at.there refl (ap has_phase_settled at.phase_is) d.0 d.1 c.2 (grind (arith, l.counted)) (grind (arith, l.method))
-      (λ u. range_after choice octets link.control window (length (unack n (rows_sent choice n s.rows))) refl (rw same_count c.0) (rw same_count c.1) old_range)
+      (λ u. range_after choice octets link.control window (length (unack n (rows_sent choice n s.rows))) refl (grind (arith, c, length-map)) (grind (arith, c, length-map)) old_range)
 
   -- HEARING.
   module _ (unit : SignalUnit) where
@@ -155,7 +152,7 @@ module _ (n : ℕ) (link : LinkState) (s : State) (at : IsAt n link Up s) (t : I
 
     -- as many are left as in the control's window
     left_count : length (drop (acked_by link.control window head) window.unacked) ≡ length (unack n (turned (is_unacked n) (Acked n) part.acked s.rows))
-    left_count = grind (arith, (acknowledged n part.acked s.rows).unack_is, length-drop, part_acked, same_count)
+    left_count = grind (arith, (acknowledged n part.acked s.rows).unack_is, length-drop, part_acked, length-map)
 
     pub hears_sound : IsSound (after_control part head unit n s link)
     hears_sound =

@@ -1,5 +1,5 @@
 -- WHAT HOLDS OF EVERY STATE is kept by a new message.
-use Rattle.std.proofs.Common.{refl, arith, ◌≡◌, ◌≢◌, ◌∙◌, ap, sym, ◌<◌, ◌≤◌, ℕ, ◌==◌, true, false, List, [], ◌∷◌, length, slice_get, Option, None, Some}
+use Rattle.std.proofs.Common.{refl, arith, ◌≡◌, ◌≢◌, ◌∙◌, ap, sym, ◌<◌, ◌≤◌, ℕ, ◌==◌, true, false, List, [], ◌∷◌, length, slice_get, None, Some}
 use Rattle.std.proofs.lemmas.Bool.Decides.{nat_tests}
 use Rattle.l3_orders.specs.Grammar.{text}
 use Rattle.l3_orders.specs.declared.order.Order.{Order}
@@ -40,9 +40,6 @@ module _ (s : State) (body : List ℕ) (t : IsSound s) where
   none_parked fate fits k other there rising = grind (arith, appended_out)
 
 -- AN ORDER goes to the target, and is of no stream.
-open_target : (s : State) (to : Option ℕ) → target s.links ≡ to → IsOpen (fate_on to) s.links
-open_target s to e = grind (arith, target_up, none_up)
-
 pub order_fits : (order : Order) (s : State) → length (text order s.settings.sio s.settings.dpc s.settings.opc) ≤ 273
 order_fits order s = grind arith
 
@@ -51,12 +48,11 @@ pub backs_appended : (routing : Routing) (rows : List Row) (body : List ℕ) (fa
 backs_appended routing rows body fate elsewhere b = grind (arith, each_append)
 
 pub queues : (order : Order) (s : State) → IsSound s → IsSound (queued order s)
-queues order s t = search (open_target, numbered_appended, fit_appended, order_fits, link_appended, none_parked, backs_appended, target_elsewhere, ascends_appended)
+queues order s t =
+    let opened : IsOpen (fate_on (target s.links)) s.links = grind (arith, target_up, none_up) in
+    search (opened, numbered_appended, fit_appended, order_fits, link_appended, none_parked, backs_appended, target_elsewhere, ascends_appended)
 
 -- AN OFFER goes where its stream runs.
-open_offer : (s : State) → IsSound s → (stream : ℕ) → stream < 16 → (place : Place) → place_of stream s.routing ≡ place → IsOpen (fate_at place s) s.links
-open_offer s t stream low place e = grind arith
-
 module _ (s : State) (body : List ℕ) (t : IsSound s) (low : stream_of body < 16) (users : (service_indicator body == 0) ≡ false) where
   abbrev stream : ℕ
   stream = stream_of body
@@ -84,6 +80,6 @@ module _ (s : State) (body : List ℕ) (t : IsSound s) (low : stream_of body < 1
 pub offers : (s : State) (body : List ℕ) → stream_of body < 16 → offer_refusal s.rows body ≡ None → IsSound s → IsSound (offered None s body).state
 offers s body low free t =
     let fits = offer_fits s.rows body free in
-    let opened = open_offer s t (stream_of body) low (place_of (stream_of body) s.routing) refl in
+    let opened : IsOpen (fate_at (place_of (stream_of body) s.routing) s) s.links = grind (arith, t.placed (stream_of body) low, t.all_run) in
     let backs = offer_backs s body t low fits.1 in
     search (accepted_sound, numbered_appended, fit_appended, link_appended, same_place, t.placed, none_parked, still_run, t.homes_up, ascends_appended)

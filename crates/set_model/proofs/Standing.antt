@@ -6,7 +6,6 @@ use Rattle.std.proofs.lemmas.List.Elements.{filter-append}
 use Rattle.set_events.specs.declared.answer.Fate.{Fate}
 use Rattle.set_model.specs.Rows.{Each, IsNumbered, Row, appended, fated, numbers, standing}
 use Rattle.set_model.specs.Sound.{AreAbove, IsAscending}
-use Rattle.set_model.proofs.Finding.{new_row}
 use Rattle.set_model.proofs.Lookups.{found_by_number}
 
 pub each_so : (P Q : Row → Type 0) → ((x : Row) → P x → Q x) → (rows : List Row) → Each P rows → Each Q rows
@@ -57,11 +56,6 @@ ascends_end k (n ∷ ns) below a = (above_end ns a.0, ascends_end k ns (λ i m e
 
 -- as that of a new message does
 pub ascends_appended : (p : Row → Bool) (rows : List Row) (body : List ℕ) (fate : Fate) → IsNumbered rows → IsAscending (numbers (filter p rows)) → IsAscending (numbers (filter p (appended rows body fate)))
-ascends_appended p rows body fate numbered a = go (p x) refl
-  where
-    x : Row
-    x = new_row (length rows) body fate
-
-    go : (b : Bool) → p x ≡ b → IsAscending (numbers (filter p (appended rows body fate)))
-    go true h = rw (filter-append p rows (x ∷ []), h, map-append) (ascends_end (length rows) (numbers (filter p rows)) (λ i m e. (found_by_number p rows i m numbered e).below) a)
-    go false h = rw (filter-append p rows (x ∷ []), h, append-nil) a
+ascends_appended p rows body fate numbered a =
+    let last = ascends_end (length rows) (numbers (filter p rows)) (λ i m e. (found_by_number p rows i m numbered e).below) a in
+    grind (arith, filter-append, map-append, append-nil, last)

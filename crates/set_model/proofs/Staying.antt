@@ -11,16 +11,17 @@ use Rattle.set_route.specs.Routing.{Routing}
 use Rattle.set_route.specs.declared.place.Place.{Place}
 use Rattle.set_model.specs.Control.{Choice, first}
 use Rattle.set_model.specs.Laws.{KeepsMessages}
-use Rattle.set_model.specs.Rows.{IsNumbered, Row, appended, body_at, counts_of, is_unacked, is_waiting, service_indicator, total_of, was_acked}
+use Rattle.set_model.specs.Rows.{IsNumbered, Row, appended, body_at, counts_of, service_indicator, total_of, was_acked}
 use Rattle.set_model.specs.Sound.{IsManaged}
 use Rattle.set_model.specs.State.{Settings, State, fate_at}
 use Rattle.set_model.proofs.Counting.{total_appended, acked_appended}
-use Rattle.set_model.proofs.Events.{Kept, kept_self, turned_kept, changed_kept, moved_kept}
+use Rattle.set_model.proofs.Events.{Kept, kept_self, moved_kept, sent, acknowledged, sent_given_up, waiting_given_up}
 use Rattle.set_model.proofs.Finding.{numbered_appended}
 use Rattle.set_model.proofs.Places.{on_not_acked, parked_not_acked, back_not_acked, home_back, code_back}
 use Rattle.set_model.proofs.Stating.{messages_stay}
 use Rattle.set_model.proofs.Targets.{target_open}
 use Rattle.set_model.proofs.Walk.{step_walks}
+use Rattle.set_events.specs.declared.answer.DiscardCause.{DiscardCause}
 
 abbrev pub is_offer : Event → Bool
 is_offer (Offer body) = true
@@ -55,23 +56,21 @@ order_managed order settings m = grind arith
 fate_open : (p : Place) (s : State) → was_acked (fate_at p s) ≡ false
 fate_open p s = grind arith
 
-unacked_open : (n : ℕ) (f : Fate) → is_unacked n f ≡ true → was_acked f ≡ false
-unacked_open n f e = grind arith
-
-waiting_open : (n : ℕ) (f : Fate) → is_waiting n f ≡ true → was_acked f ≡ false
-waiting_open n f e = grind arith
-
 sent_kept : (choice : Choice) (n : ℕ) (rows : List Row) → Kept rows (rows_sent choice n rows)
-sent_kept first n rows = search (turned_kept, waiting_open)
+sent_kept first n rows = (sent n rows).kept
 sent_kept _ n rows = kept_self rows
 
 none_offered : (event : Event) (body : List ℕ) → event ≡ Offer body → is_offer event ≡ false → (service_indicator body == 0) ≡ true
 none_offered event body e other = absurd (let no : true ≡ false = sym (ap is_offer e) ∙ other in cc)
 
-ruleset grows = (grows_then, grows_kept, grows_appended, order_managed, turned_kept, changed_kept, moved_kept, sent_kept, kept_self, unacked_open, waiting_open, on_not_acked, target_open, parked_not_acked, back_not_acked, home_back, code_back, fate_open, none_offered)
+ruleset grows = (grows_then, grows_kept, grows_appended, order_managed, moved_kept, sent_kept, kept_self, on_not_acked, target_open, parked_not_acked, back_not_acked, home_back, code_back, fate_open, none_offered)
 
 pub step_grows : (s : State) (event : Event) → Grows (is_offer event ≡ false) s (step s event).state
-step_grows s event = step_walks s (Grows (is_offer event ≡ false)) (Grows (is_offer event ≡ false) s) event (search grows)
+step_grows s event =
+    let acks = λ (n count : ℕ) (rows : List Row). (acknowledged n count rows).kept in
+    let sent_up = λ (n : ℕ) (cause : DiscardCause) (rows : List Row). (sent_given_up n cause rows).kept in
+    let waiting_up = λ (n : ℕ) (cause : DiscardCause) (rows : List Row). (waiting_given_up n cause rows).kept in
+    step_walks s (Grows (is_offer event ≡ false)) (Grows (is_offer event ≡ false) s) event (search grows)
 
 pub keeps_messages : (s : State) (event : Event) → IsNumbered s.rows → KeepsMessages s.rows (step s event).state.rows
 keeps_messages s event numbered = grind (arith, step_grows)
