@@ -1,5 +1,5 @@
 -- WHAT HOLDS OF EVERY STATE is kept by a change of one link, with rows that change in their places.
-use Rattle.std.proofs.Common.{refl, arith, ◌≡◌, ◌∙◌, ap, sym, subst, ◌<◌, ◌≤◌, ℕ, ◌+◌, ◌%◌, ◌==◌, Bool, true, false, not, List, [], ◌++◌, length, drop, map, slice_get, slice_set, Some, cond}
+use Rattle.std.proofs.Common.{refl, arith, ◌≡◌, ◌∙◌, ap, sym, subst, ◌<◌, ◌≤◌, ℕ, ◌+◌, ◌%◌, ◌==◌, Bool, true, false, List, [], ◌++◌, length, drop, map, slice_get, slice_set, Some, cond}
 use Rattle.std.proofs.lemmas.Bool.{eqb-false}
 use Rattle.std.proofs.lemmas.List.{append-nil, length-map, length-append, length-drop, length-set, length-take}
 use Rattle.std.proofs.lemmas.List.Elements.{filter-append}
@@ -68,9 +68,7 @@ changes n link link' s new t there same unsettled g back_same few counted method
     let l = t.links n link there in
     let up = ap has_phase_up same in
     let settled = ap has_phase_settled same ∙ unsettled in
-    let unheld = λ (u : has_phase_up link'.phase ≡ true). g.held_same ∙ l.none_held (sym up ∙ u) in
-    let still : has_phase_settled link'.phase ≡ true → on n new ≡ [] = false_true (has_phase_settled link'.phase) settled in
-    let one : IsSoundLink s.settings.method n link' new = search (g.order_kept, g.last_kept, unheld, still) in
+    let one : IsSoundLink s.settings.method n link' new = grind (arith, g.order_kept, g.last_kept) in
     let aside = up_before s.links n link link' there (λ e. sym up ∙ e) (λ k old here rising. g.parked_same ∙ t.none_aside k old here rising) in
     let run = up_before s.links n link link' there (λ e. sym up ∙ e) t.all_run in
     let stays = up_after s.links n link link' there (λ e. up ∙ e) in
@@ -83,16 +81,15 @@ with_inbox s inbox t = assumption
 
 -- ROWS THAT COME TO STAND LAST, behind those that a link has.
 module _ (m : Method) (k : ℕ) (link : LinkState) (rows come : List Row) (sent : unack k come ≡ []) (holds : has_phase_up link.phase ≡ true → held k come ≡ []) (waits : has_phase_up link.phase ≡ false → wait k come ≡ []) (gone : has_phase_settled link.phase ≡ true → on k come ≡ []) where
-  pub link_more : (base : List Row) → Untouched k rows base → IsSoundLink m k link rows → IsSoundLink m k link (base ++ come)
-  link_more base u l =      grind (arith, filter-append, append-nil, order_append, last_none, last_append, last_alone)
+  pub link_more : (base : List Row) → on k base ≡ on k rows → IsSoundLink m k link rows → IsSoundLink m k link (base ++ come)
+  link_more base same l = let u = untouched k rows base same in grind (arith, filter-append, append-nil, order_append, last_none, last_append, last_alone)
 
 -- those that move leave the others where they were; of what goes it is known that its stream is on its way back
 pub link_moved : (m : Method) (k : ℕ) (link : LinkState) (test : Fate → Bool) (fate : Row → Fate) (routing : Routing) (rows : List Row) → AreBack routing rows → ((f : Fate) → test f ≡ true → is_on k f ≡ false) → ((x : Row) → is_unacked k (fate x) ≡ false) → (has_phase_up link.phase ≡ true → (x : Row) → is_held k (fate x) ≡ false)
     → (has_phase_up link.phase ≡ false → (x : Row) → test x.fate ≡ true → IsBackOf routing x x.fate → is_waiting k (fate x) ≡ false) → (has_phase_settled link.phase ≡ true → (x : Row) → test x.fate ≡ true → IsBackOf routing x x.fate → is_on k (fate x) ≡ false) → IsSoundLink m k link rows → IsSoundLink m k link (moved test fate rows)
 link_moved m k link test fate routing rows backs off sent holds waits gone l =
     let none = λ (other : Fate → Bool) (so : (x : Row) → test x.fate ≡ true → IsBackOf routing x x.fate → other (fate x) ≡ false). gone_none test fate (λ row. IsBackOf routing row row.fate) other so rows backs in
-    let stay = untouched k rows (standing (λ f. not (test f)) rows) (others_stay test (is_on k) fate rows off) in
-    link_more m k link rows (map (fated fate) (standing test rows)) (none (is_unacked k) (λ x e b. sent x)) (λ u. none (is_held k) (λ x e b. holds u x)) (λ d. none (is_waiting k) (waits d)) (λ e. none (is_on k) (gone e)) _ stay l
+    link_more m k link rows (map (fated fate) (standing test rows)) (none (is_unacked k) (λ x e b. sent x)) (λ u. none (is_held k) (λ x e b. holds u x)) (λ d. none (is_waiting k) (waits d)) (λ e. none (is_on k) (gone e)) _ (others_stay test (is_on k) fate rows off) l
 
 -- WHAT IS ACKNOWLEDGED OR GIVEN UP on a link that was left.
 pub acknowledges : (count n : ℕ) (link : LinkState) (s : State) → IsAt n link Down s → IsSound s → IsSound (acknowledged_by count n link s)
@@ -113,7 +110,6 @@ sent_by : (choice : Choice) (n : ℕ) (rows : List Row) → GivenUp n rows (rows
 sent_by first n rows = let d = sent n rows in (assumption, turned_same (is_waiting n) stands_back (Unacked n) refl (λ f e. on_not_back n f (waiting_on n f e)) 1 rows)
 sent_by _ n rows = let k = kept_self rows in let u = λ (m : ℕ). untouched_self m rows in (search (k, u), refl)
 
--- how many are unacknowledged then
 module _ (n : ℕ) (link : LinkState) (s : State) (at : IsAt n link Up s) (t : IsSound s) where
   abbrev window : WindowState
   window = window_of n link s.rows
@@ -127,6 +123,7 @@ module _ (n : ℕ) (link : LinkState) (s : State) (at : IsAt n link Up s) (t : I
   old_range : IsInRange link.control (length window.unacked)
   old_range = grind (arith, length-map, l.in_range)
 
+  -- how many are unacknowledged then
   counts : (choice : Choice) → choice_of octets link.control window ≡ choice → (length (unack n s.rows) ≤ length (unack n (rows_sent choice n s.rows))) × (choice ≡ first → length (unack n (rows_sent choice n s.rows)) ≡ length (unack n s.rows) + 1) × (length (unack n (rows_sent choice n s.rows)) ≤ 127)
   counts first e = grind (arith, first_chosen octets link.control window e, length-map, length-append, length-take, (sent n s.rows).unack_is l.in_order)
   counts _ e = grind (arith, l.window)

@@ -16,7 +16,7 @@ use Rattle.set_model.specs.Step.{offer_refusal, offered}
 use Rattle.set_route.proofs.Alone.{alone}
 use Rattle.set_route.proofs.Places.{accepted_sound}
 use Rattle.set_model.proofs.Backs.{coded_at, backs_kept}
-use Rattle.set_model.proofs.Events.{appended_out, untouched_self}
+use Rattle.set_model.proofs.Events.{appended_out}
 use Rattle.set_model.proofs.Finding.{new_row, numbered_appended, fit_appended}
 use Rattle.set_model.proofs.Gaining.{offer_fits}
 use Rattle.set_model.proofs.Standing.{ascends_appended, each_append}
@@ -34,7 +34,7 @@ IsOpen _ links = ⊥
 
 module _ (s : State) (body : List ℕ) (t : IsSound s) where
   pub link_appended : (fate : Fate) → IsOpen fate s.links → (k : ℕ) (other : LinkState) → slice_get s.links k ≡ Some other → IsSoundLink s.settings.method k other (appended s.rows body fate)
-  link_appended fate fits k other there = link_more s.settings.method k other s.rows (new_row (length s.rows) body fate ∷ []) (grind arith) (λ u. grind (arith, nat_tests)) (λ d. grind (arith, nat_tests)) (λ e. grind (arith, nat_tests)) s.rows (untouched_self k s.rows) (t.links k other there)
+  link_appended fate fits k other there = link_more s.settings.method k other s.rows (new_row (length s.rows) body fate ∷ []) (grind arith) (λ u. grind (arith, nat_tests)) (λ d. grind (arith, nat_tests)) (λ e. grind (arith, nat_tests)) s.rows refl (t.links k other there)
 
   pub none_parked : (fate : Fate) → IsOpen fate s.links → (k : ℕ) (other : LinkState) → slice_get s.links k ≡ Some other → has_phase_up other.phase ≡ true → parked (appended s.rows body fate) ≡ []
   none_parked fate fits k other there rising = grind (arith, appended_out)
