@@ -1,5 +1,5 @@
 -- WHAT AN EVENT LEAVES ALONE, and how it moves the window of its own link.
-use Rattle.std.proofs.Common.{arith, refl, ◌≡◌, ◌∙◌, ap, sym, subst, ℕ, ◌+◌, ◌==◌, Bool, true, false, List, [], ◌∷◌, ◌++◌, length, map, take, drop, slice_get, Option, Some, append_assoc, inl, None}
+use Rattle.std.proofs.Common.{arith, refl, ◌≡◌, ◌∙◌, sym, subst, ℕ, ◌+◌, ◌==◌, Bool, true, false, List, [], ◌∷◌, ◌++◌, length, map, drop, slice_get, Option, Some, append_assoc, inl, None, ap, take}
 use Rattle.std.proofs.lemmas.Bool.{eqb-false}
 use Rattle.std.proofs.lemmas.Bool.Decides.{nat_tests}
 use Rattle.std.proofs.lemmas.List.Elements.{filter-append}
@@ -11,11 +11,11 @@ use Rattle.l2_window.specs.Window.{WindowState}
 use Rattle.l2_window.specs.declared.control.HeardPart.{HeardPart}
 use Rattle.set_events.specs.declared.answer.DiscardCause.{DiscardCause}
 use Rattle.set_events.specs.declared.answer.Fate.{Fate}
-use Rattle.set_events.specs.declared.answer.Fate.TheVariants.{Acked, Unacked, Waiting}
+use Rattle.set_events.specs.declared.answer.Fate.TheVariants.{Acked, Waiting, Unacked}
 use Rattle.set_events.specs.declared.event.Event.{Event}
 use Rattle.set_route.specs.Routing.{Routing}
 use Rattle.set_model.specs.Changeover.{fate_on}
-use Rattle.set_model.specs.Control.{Choice, again, control_heard, fill, first, part_of, window_heard}
+use Rattle.set_model.specs.Control.{Choice, control_heard, first, part_of, window_heard}
 use Rattle.set_model.specs.Frame.{BringsAbout, Concerns, LeavesAlone, MovesAsItsControl, window_after}
 use Rattle.set_model.specs.Rows.{IsInOrder, Row, appended, fated, held, is_held, is_on, is_unacked, is_waiting, moved, numbers, standing, turned, unack, wait}
 use Rattle.set_model.specs.Sound.{IsSound}
@@ -27,7 +27,7 @@ use Rattle.set_model.proofs.Filters.{fated_none}
 use Rattle.set_model.proofs.Finding.{new_row}
 use Rattle.set_model.proofs.Lists.{get_set_same, get_set_other, within}
 use Rattle.set_model.proofs.Moving.{moved_same, moved_more}
-use Rattle.set_model.proofs.Places.{apart, not_on_unacked, not_on_waiting, not_on_held, back_not_on, home_back, code_back}
+use Rattle.set_model.proofs.Places.{apart, not_on_waiting, back_not_on, home_back, code_back}
 use Rattle.set_model.proofs.Ranging.{offered_out, not_sent}
 use Rattle.set_model.proofs.SoundBack.{up_not_held, down_not_waiting, alternative_up}
 use Rattle.set_model.proofs.Targets.{target_off, target_unheld}
@@ -40,34 +40,19 @@ alone_more : (n : ℕ) (s t : State) (come : List Row) → slice_get t.links n �
 alone_more n s t come link sent waits holds no_wait no_held = record { link_same = link; unack_same = sent; more = wait n come; wait_more = waits; none_more = no_wait; later = held n come; held_later = holds; none_later = no_held }
 
 alone_by : (n : ℕ) (s t : State) → slice_get t.links n ≡ slice_get s.links n → Untouched n s.rows t.rows → LeavesAlone n s t
-alone_by n s t links u = alone_more n s t [] links u.unack_same (u.wait_same ∙ sym (append-nil (wait n s.rows))) (u.held_same ∙ sym (append-nil (held n s.rows))) (λ e. refl) (λ e. refl)
+alone_by n s t links u = alone_more n s t [] links u.unack_same (grind (arith, append-nil, u)) (grind (arith, append-nil, u)) (λ e. refl) (λ e. refl)
 
 alone_then : (n : ℕ) (a b c : State) → LeavesAlone n a b → LeavesAlone n b c → LeavesAlone n a c
-alone_then n a b c p q = record {
-  link_same = q.link_same ∙ p.link_same;
-  unack_same = q.unack_same ∙ p.unack_same;
-  more = p.more ++ q.more;
-  wait_more = q.wait_more ∙ ap (λ (xs : List Row). xs ++ q.more) p.wait_more ∙ append_assoc (wait n a.rows) p.more q.more;
-  none_more = λ e. rw (p.none_more e, q.none_more (ap link_is_up p.link_same ∙ e)) refl;
-  later = p.later ++ q.later;
-  held_later = q.held_later ∙ ap (λ (xs : List Row). xs ++ q.later) p.held_later ∙ append_assoc (held n a.rows) p.later q.later;
-  none_later = λ e. rw (p.none_later e, q.none_later (ap link_is_up p.link_same ∙ e)) refl;
-}
+alone_then n a b c p q = record { link_same = grind arith; unack_same = grind arith; more = p.more ++ q.more; wait_more = grind (arith, append_assoc); none_more = λ e. grind arith; later = p.later ++ q.later; held_later = grind (arith, append_assoc); none_later = λ e. grind arith }
 
 -- a new message comes to wait for the link, or to be held for it
 alone_appended : (n : ℕ) (body : List ℕ) (fate : Fate) (s : State) (routing : Routing) → is_unacked n fate ≡ false → (is_up n s ≡ false → is_waiting n fate ≡ false) → (is_up n s ≡ true → is_held n fate ≡ false) → LeavesAlone n s (record s { rows = appended s.rows body fate; routing = routing })
-alone_appended n body fate s routing unsent waits holds =
-    let x = new_row (length s.rows) body fate in
-    let splits = λ (p : Row → Bool). filter-append p s.rows (x ∷ []) in
-    alone_more n s _ (x ∷ []) refl (appended_out s.rows body fate (is_unacked n) unsent) (splits (λ row. is_waiting n row.fate)) (splits (λ row. is_held n row.fate)) (λ e. rw (waits e) refl) (λ e. rw (holds e) refl)
+alone_appended n body fate s routing unsent waits holds = alone_more n s _ (new_row (length s.rows) body fate ∷ []) refl (appended_out s.rows body fate (is_unacked n) unsent) (grind (arith, filter-append)) (grind (arith, filter-append)) (λ e. grind (arith, waits)) (λ e. grind (arith, holds))
 
 -- rows of other places that move come to wait for the link, or to be held for it
 alone_moved : (n : ℕ) (test : Fate → Bool) (fate : Row → Fate) (s : State) (links : List LinkState) (routing : Routing) → slice_get links n ≡ slice_get s.links n → ((f : Fate) → test f ≡ true → is_on n f ≡ false) → ((x : Row) → is_unacked n (fate x) ≡ false)
     → (link_is_up (slice_get links n) ≡ false → (x : Row) → is_waiting n (fate x) ≡ false) → (link_is_up (slice_get links n) ≡ true → (x : Row) → is_held n (fate x) ≡ false) → LeavesAlone n s (record s { links = links; rows = moved test fate s.rows; routing = routing })
-alone_moved n test fate s links routing same off unsent waits holds =
-    alone_more n s _ (map (fated fate) (standing test s.rows)) same (moved_same test (is_unacked n) fate s.rows unsent (λ f e. not_on_unacked n f (off f e)))
-    (moved_more test (is_waiting n) fate s.rows (λ f e. not_on_waiting n f (off f e))) (moved_more test (is_held n) fate s.rows (λ f e. not_on_held n f (off f e)))
-    (λ e. fated_none (is_waiting n) fate (waits (ap link_is_up same ∙ e)) (standing test s.rows)) (λ e. fated_none (is_held n) fate (holds (ap link_is_up same ∙ e)) (standing test s.rows))
+alone_moved n test fate s links routing same off unsent waits holds = alone_more n s _ (map (fated fate) (standing test s.rows)) same (grind (arith, moved_same)) (grind (arith, moved_more)) (grind (arith, moved_more)) (λ e. grind (arith, fated_none, waits)) (λ e. grind (arith, fated_none, holds))
 
 -- what waits for a link that is up waits for no other
 up_waits : (to n : ℕ) (s : State) → is_up to s ≡ true → is_up n s ≡ false → is_waiting n (Waiting to) ≡ false
@@ -77,8 +62,7 @@ off_waits : (n : ℕ) (links new : List LinkState) → slice_get new n ≡ slice
 off_waits n links new same down = not_on_waiting n (fate_on (target links)) (target_off links n (rw same at down))
 
 sent_alone : (n m : ℕ) (choice : Choice) (rows : List Row) → (m == n) ≡ false → Untouched n rows (rows_sent choice m rows)
-sent_alone n m first rows d = (sent m rows).others n d
-sent_alone n m _ rows d = untouched_self n rows
+sent_alone n m choice rows d = let first = (sent m rows).others n d in let same = untouched_self n rows in grind arith
 
 concerned : (event by : Event) (m : ℕ) (s : State) → event ≡ by → Concerns by m s → Concerns event m s
 concerned event by m s e known = subst (λ (v : Event). Concerns v m s) (sym e) known
@@ -104,12 +88,11 @@ module _ (n : ℕ) (link : LinkState) (s : State) where
   window = window_of n link s.rows
 
   window_sent : (choice : Choice) → IsInOrder n s.rows → window_of n link (rows_sent choice n s.rows) ≡ window_after choice window
-  window_sent (again place) order = refl
-  window_sent fill order = refl
   window_sent first order =
       let d = sent n s.rows in
       let unacked = ap numbers (d.unack_is order) ∙ numbers_joined (λ row. Unacked n) (unack n s.rows) (take 1 (wait n s.rows)) in
       grind (arith, take-map, numbers-drop, d.wait_is)
+  window_sent _ order = grind arith
 
   module _ (unit : SignalUnit) where
     abbrev part : HeardPart
@@ -121,8 +104,7 @@ module _ (n : ℕ) (link : LinkState) (s : State) where
     window_is : window_of n heard_link (turned (is_unacked n) (Acked n) part.acked s.rows) ≡ window_heard link.control window (header_in unit)
     window_is =
         let a = acknowledged n part.acked s.rows in
-        let by = part_acked link.control window (header_in unit) (is_msu unit) in
-        grind (arith, by, numbers-drop, a.unack_is, a.wait_same)
+        grind (arith, part_acked, numbers-drop, a.unack_is, a.wait_same)
 
 none_brought : (unit : SignalUnit) → ((about : ℕ) → BringsAbout about unit → ⊥) → (accept : Bool) (t : State) (body : Option (List ℕ)) → brought accept unit ≡ body → ((takes body t).state.links ≡ t.links) × ((takes body t).state.rows ≡ t.rows)
 none_brought unit none accept t None e = (refl, refl)
