@@ -7,10 +7,10 @@ use Rattle.set_events.specs.declared.event.Event.TheVariants.{Find, Offer, Take}
 use Rattle.set_model.specs.Rows.{Row, counts_of, service_indicator}
 use Rattle.set_model.specs.Sound.{IsManaged}
 use Rattle.set_model.specs.State.{State}
-use Rattle.set_model.proofs.Counting.{total_appended, acked_appended}
 use Rattle.set_model.proofs.Staying.{is_offer, step_grows}
 use Rattle.std.proofs.lemmas.List.Elements.{filter-append}
 use Rattle.std.proofs.lemmas.List.{length-append}
+use Rattle.set_model.proofs.Counting.{total_is}
 
 -- only an offer is answered by a message
 abbrev pub AcceptsNone : Event → Answer → Type 0
@@ -27,7 +27,7 @@ offer_fits rows body e = grind arith
 
 pub step_gains : (s : State) (event : Event) → IsManaged s.settings → Gains s event (step s event).answer (step s event).state
 unfolding step
-step_gains s (Offer body) m = grind (arith, total_appended, acked_appended)
+step_gains s (Offer body) m = grind (arith, total_is, filter-append, length-append)
 step_gains s event m = let grown = step_grows s event in let none = accepts_none s event refl in grind arith
 
 -- WHAT USERS ASK acknowledges nothing.

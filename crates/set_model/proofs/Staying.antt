@@ -1,6 +1,6 @@
 -- WHAT NO EVENT DOES to a message; and only what users offer counts as a new one.
 use Rattle.std.proofs.Common.{arith, ◌≡◌, ◌∙◌, ap, sym, ◌≤◌, ◌<◌, length, ℕ, ◌==◌, Bool, true, false, List}
-use Rattle.std.proofs.lemmas.List.{length_push}
+use Rattle.std.proofs.lemmas.List.{length_push, length-append}
 use Rattle.set_model.specs.Step.{step, rows_sent}
 use Rattle.l3_orders.specs.Grammar.{text}
 use Rattle.l3_orders.specs.declared.order.Order.{Order}
@@ -14,7 +14,6 @@ use Rattle.set_model.specs.Laws.{KeepsMessages}
 use Rattle.set_model.specs.Rows.{IsNumbered, Row, appended, body_at, counts_of, service_indicator, total_of, was_acked}
 use Rattle.set_model.specs.Sound.{IsManaged}
 use Rattle.set_model.specs.State.{Settings, State, fate_at}
-use Rattle.set_model.proofs.Counting.{total_appended, acked_appended}
 use Rattle.set_model.proofs.Events.{Kept, kept_self, moved_kept, sent, acknowledged, sent_given_up, waiting_given_up}
 use Rattle.set_model.proofs.Finding.{numbered_appended}
 use Rattle.set_model.proofs.Places.{on_not_acked, parked_not_acked, back_not_acked, home_back, code_back}
@@ -22,6 +21,8 @@ use Rattle.set_model.proofs.Stating.{messages_stay}
 use Rattle.set_model.proofs.Targets.{target_open}
 use Rattle.set_model.proofs.Walk.{step_walks}
 use Rattle.set_events.specs.declared.answer.DiscardCause.{DiscardCause}
+use Rattle.set_model.proofs.Counting.{total_is}
+use Rattle.std.proofs.lemmas.List.Elements.{filter-append}
 
 abbrev pub is_offer : Event → Bool
 is_offer (Offer body) = true
@@ -46,7 +47,7 @@ module _ (Free : Type 0) where
   grows_appended : (s : State) (routing : Routing) (body : List ℕ) (fate : Fate) → (Free → IsManaged s.settings → (service_indicator body == 0) ≡ true) → Grows Free s (record s { rows = appended s.rows body fate; routing = routing })
   grows_appended s routing body fate order =
       let stay = λ (numbered : IsNumbered s.rows). (messages_stay (λ f. false) fate (λ row. fate) s.rows numbered).others_stay body in
-      grind (arith, length_push, stay, total_appended, numbered_appended, acked_appended, order)
+      grind (arith, length_push, stay, total_is, filter-append, length-append, numbered_appended, order)
 
 -- an order is the management's
 order_managed : (order : Order) (settings : Settings) → IsManaged settings → (service_indicator (text order settings.sio settings.dpc settings.opc) == 0) ≡ true

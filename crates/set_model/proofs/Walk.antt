@@ -1,5 +1,5 @@
 -- THE WALK over the cases of the step, once: what each small change keeps, every event keeps.
-use Rattle.std.proofs.Common.{refl, arith, ◌≡◌, subst, ◌<◌, ◌≤◌, length, ℕ, zero, suc, ◌+◌, Bool, true, false, ◌⊎◌, List, [], ◌∷◌, ◌++◌, slice_get, Option, Some, None, inr}
+use Rattle.std.proofs.Common.{refl, arith, ◌≡◌, ◌<◌, ◌≤◌, length, ℕ, zero, suc, ◌+◌, Bool, true, false, ◌⊎◌, List, [], ◌∷◌, ◌++◌, slice_get, Option, Some, None, inr}
 use Rattle.std.proofs.lemmas.Bool.{cond_both}
 use Rattle.set_model.specs.Step.{step, Outcome, after_control, brought, comes_back, controls, gives_up, heard, in_service, is_msu, next, offer_refusal, offered, rises, runs_out, taken, takes, with_known}
 use Rattle.l2_units.specs.Grammar.{head_of as header_in}
@@ -86,12 +86,11 @@ module _ (Known : ℕ → Type 0) (May : Type 0) (R : State → State → Type 0
       cond_both (can_declare home alternative s) (declared home alternative s) s (λ (u : State). R s (declared_from home (suc alternative) n u))
       (λ e. k.after s (declared home alternative s) _ (k.declares may home alternative s up e) (declare_walks may home (suc alternative) n (declared home alternative s) up)) (λ e. declare_walks may home (suc alternative) n s up)
 
-  pub release_walks : (code n : ℕ) (s : State) → ((j : ℕ) → j < n → Known (home_of (code + j))) → R s (released_from code n s)
+  pub release_walks : (code n : ℕ) (s : State) → ((c : ℕ) → code ≤ c → c < code + n → Known (home_of c)) → R s (released_from code n s)
   release_walks code zero s known = k.same s
   release_walks code (suc n) s known =
-      let here : code + 0 ≡ code = omega arith in
-      k.after s (released code s) _ (k.releases code s (subst (λ (c : ℕ). Known (home_of c)) here (known 0 (omega arith))))
-      (release_walks (suc code) n (released code s) (λ j below. let next : code + suc j ≡ suc code + j = omega arith in subst (λ (c : ℕ). Known (home_of c)) next (known (suc j) (omega (arith, below)))))
+      k.after s (released code s) _ (k.releases code s (known code (omega arith) (omega arith)))
+      (release_walks (suc code) n (released code s) (λ c low high. known c (omega (arith, low)) (omega (arith, high))))
 
   pub obeys_walks : (order : Order) (s : State) → ((n : ℕ) → Touches order n → Known n) → R s (order_obeyed order s).state
   obeys_walks (Coo n fsn) s known = grind (arith, over_walks, known)
@@ -151,7 +150,7 @@ module _ (s : State) (R : State → State → Type 0) (S : State → Type 0) whe
   timeout_walks : (n : ℕ) → WalkedBy s (BackTimeout n) R S → S (runs_out n s).state
   timeout_walks n w =
       cond_both (some_in_use (code_for n 0) 16 s) _ _ (λ (o : Outcome). S o.state)
-      (λ e. w.rests s _ w.unmoved (release_walks (λ m. Concerns (BackTimeout n) m s) (BeginsNone (BackTimeout n) → ⊥) R w.small (code_for n 0) 16 s (λ j below. omega (arith, below)))) (λ e. w.unmoved)
+      (λ e. w.rests s _ w.unmoved (release_walks (λ m. Concerns (BackTimeout n) m s) (BeginsNone (BackTimeout n) → ⊥) R w.small (code_for n 0) 16 s (λ c low high. omega (arith, low, high)))) (λ e. w.unmoved)
 
   pub step_walks : (event : Event) → WalkedBy s event R S → S (step s event).state
   unfolding step
