@@ -1,7 +1,6 @@
 -- Filters of rows, and of rows with other fates.
-use Rattle.std.proofs.Common.{refl, arith, ◌≡◌, ◌∙◌, ap, sym, [], ◌∷◌, length, ◌+◌, ◌≤◌, Bool, true, false, not, List, ◌++◌, map}
+use Rattle.std.proofs.Common.{refl, arith, ◌≡◌, ◌∙◌, ap, sym, [], ◌∷◌, length, ◌+◌, ◌≤◌, Bool, true, false, List, ◌++◌, map}
 use Rattle.std.specs.Prelude.{filter}
-use Rattle.std.proofs.lemmas.List.Filters.{length-filter_both}
 use Rattle.set_events.specs.declared.answer.Fate.{Fate}
 use Rattle.set_model.specs.Rows.{AreFit, Row, fated, standing}
 
@@ -39,10 +38,6 @@ fated_all test fate h (x ∷ xs) = rw (h x) (ap (λ (ys : List Row). fated fate 
 pub fated_none : (test : Fate → Bool) (fate : Row → Fate) → ((x : Row) → test (fate x) ≡ false) → (xs : List Row) → standing test (map (fated fate) xs) ≡ []
 fated_none test fate h [] = refl
 fated_none test fate h (x ∷ xs) = rw (h x) (fated_none test fate h xs)
-
--- each row passes the test or its negation
-pub both_lengths : (test : Fate → Bool) (xs : List Row) → length (standing (λ f. not (test f)) xs) + length (standing test xs) ≡ length xs
-both_lengths test xs = grind (arith, length-filter_both)
 
 -- Bodies.
 pub fit_append : (xs ys : List Row) → AreFit xs → AreFit ys → AreFit (xs ++ ys)

@@ -1,10 +1,10 @@
 -- What a step brings: each accepted message stands in one place more, and what is acknowledged stays so.
-use Rattle.std.proofs.Common.{refl, arith, ◌≡◌, ◌≤◌, length, ℕ, ◌==◌, false, List, None}
-use Rattle.set_model.specs.Step.{step, Gains, messages_in, octets_of, offer_refusal}
+use Rattle.std.proofs.Common.{refl, arith, ◌≡◌, ◌≤◌, ℕ, ◌==◌, false, List}
+use Rattle.set_model.specs.Step.{step, Gains, messages_in, octets_of}
 use Rattle.set_events.specs.declared.answer.Answer.{Answer}
 use Rattle.set_events.specs.declared.event.Event.{Event}
 use Rattle.set_events.specs.declared.event.Event.TheVariants.{Find, Offer, Take}
-use Rattle.set_model.specs.Rows.{Row, counts_of, service_indicator}
+use Rattle.set_model.specs.Rows.{counts_of}
 use Rattle.set_model.specs.Sound.{IsManaged}
 use Rattle.set_model.specs.State.{State}
 use Rattle.set_model.proofs.Staying.{is_offer, step_grows}
@@ -19,11 +19,6 @@ AcceptsNone event answer = (messages_in answer ≡ 0) × (octets_of event answer
 pub accepts_none : (s : State) (event : Event) → is_offer event ≡ false → AcceptsNone event (step s event).answer
 unfolding step
 accepts_none s event e = grind arith
-
--- AN OFFER.
--- an offered body that isn't refused has at most 273 octets, and is a user's
-pub offer_fits : (rows : List Row) (body : List ℕ) → offer_refusal rows body ≡ None → (length body ≤ 273) × ((service_indicator body == 0) ≡ false)
-offer_fits rows body e = grind arith
 
 pub step_gains : (s : State) (event : Event) → IsManaged s.settings → Gains s event (step s event).answer (step s event).state
 unfolding step

@@ -29,17 +29,11 @@ pub record InPlace (test : Fate → Bool) (xs ys : List Row) : Type 0 where
   pub acked : ((f : Fate) → test f ≡ true → was_acked f ≡ false) → length (standing was_acked (users xs)) ≤ length (standing was_acked (users ys))
 
 module _ (test : Fate → Bool) (fate : Fate) where
-  stays_there : (x : Row) (xs ys : List Row) → InPlace test xs ys → InPlace test (x ∷ xs) (x ∷ ys)
-  stays_there x xs ys p = grind arith
-
-  turns_there : (x : Row) (xs ys : List Row) → test x.fate ≡ true → InPlace test xs ys → InPlace test (x ∷ xs) (with_fate fate x ∷ ys)
-  turns_there x xs ys h p = grind arith
-
   pub turned_there : (n : ℕ) (rows : List Row) → InPlace test rows (turned test fate n rows)
-  turned_there n rows = where_turned test fate (InPlace test) (grind arith) stays_there turns_there n rows
+  turned_there n rows = where_turned test fate (InPlace test) (grind arith) (λ x xs ys p. grind arith) (λ x xs ys h p. grind arith) n rows
 
   pub changed_there : (rows : List Row) → InPlace test rows (changed test fate rows)
-  changed_there rows = where_changed test fate (InPlace test) (grind arith) stays_there turns_there rows
+  changed_there rows = where_changed test fate (InPlace test) (grind arith) (λ x xs ys p. grind arith) (λ x xs ys h p. grind arith) rows
 
 -- A PLACE where none turns and none comes.
 module _ (test other : Fate → Bool) (fate : Fate) (o : other fate ≡ false) (w : (f : Fate) → test f ≡ true → other f ≡ false) where
@@ -65,17 +59,11 @@ module _ (n : ℕ) (test : Fate → Bool) (fate : Fate) (u : is_unacked n fate �
     pub in_order : IsInOrder n xs → IsInOrder n ys
     pub held_last : IsHeldLast n xs → IsHeldLast n ys
 
-  stays_in : (x : Row) (xs ys : List Row) → Ordered xs ys → Ordered (x ∷ xs) (x ∷ ys)
-  stays_in x xs ys p = grind arith
-
-  turns_off : (x : Row) (xs ys : List Row) → test x.fate ≡ true → Ordered xs ys → Ordered (x ∷ xs) (with_fate fate x ∷ ys)
-  turns_off x xs ys t p = grind arith
-
   pub turned_ordered : (k : ℕ) (rows : List Row) → Ordered rows (turned test fate k rows)
-  turned_ordered k rows = where_turned test fate Ordered (grind arith) stays_in turns_off k rows
+  turned_ordered k rows = where_turned test fate Ordered (grind arith) (λ x xs ys p. grind arith) (λ x xs ys e p. grind arith) k rows
 
   pub changed_ordered : (rows : List Row) → Ordered rows (changed test fate rows)
-  changed_ordered rows = where_changed test fate Ordered (grind arith) stays_in turns_off rows
+  changed_ordered rows = where_changed test fate Ordered (grind arith) (λ x xs ys p. grind arith) (λ x xs ys e p. grind arith) rows
 
 -- those that turned left their place
 pub turned_left : (test : Fate → Bool) (fate : Fate) → test fate ≡ false → (n : ℕ) (rows : List Row) → standing test (turned test fate n rows) ≡ drop n (standing test rows)

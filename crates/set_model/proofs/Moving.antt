@@ -6,11 +6,12 @@ use Rattle.std.proofs.lemmas.List.{append-nil, length-append, length-map}
 use Rattle.std.proofs.lemmas.List.Elements.{filter-append}
 use Rattle.set_events.specs.declared.answer.Fate.{Fate}
 use Rattle.set_model.specs.Rows.{AreFit, IsNumbered, Row, fated, moved, standing}
-use Rattle.set_model.proofs.Filters.{filter_comm, filter_within, filter_apart, filter_fated, fated_all, fated_none, both_lengths, fit_append, fit_filter, fit_fated}
+use Rattle.set_model.proofs.Filters.{filter_comm, filter_within, filter_apart, filter_fated, fated_all, fated_none, fit_append, fit_filter, fit_fated}
+use Rattle.std.proofs.lemmas.List.Filters.{length-filter_both}
 
 module _ (test : Fate → Bool) (fate : Row → Fate) where
   pub moved_length : (rows : List Row) → length (moved test fate rows) ≡ length rows
-  moved_length rows = grind (arith, length-append, length-map, both_lengths)
+  moved_length rows = grind (arith, length-append, length-map, length-filter_both)
 
   -- a test that doesn't look at the fate keeps the rows of the move that the list kept
   pub filter_moved : (p : Row → Bool) → ((x : Row) → p (fated fate x) ≡ p x) → (rows : List Row) → filter p (moved test fate rows) ≡ moved test fate (filter p rows)

@@ -28,7 +28,7 @@ use Rattle.set_model.proofs.Filters.{fated_none}
 use Rattle.set_model.proofs.Ranging.{not_sent, offered_out}
 use Rattle.set_model.proofs.Targets.{target_up, target_off, target_open, target_unheld, target_elsewhere, none_up}
 use Rattle.set_model.proofs.Walk.{IsAt}
-use Rattle.set_model.proofs.SoundLink.{up_unsettled, settled_down, link_moved, links_set, placed_set, up_before, up_after}
+use Rattle.set_model.proofs.SoundLink.{up_unsettled, link_moved, links_set, placed_set, up_before, up_after}
 use Rattle.set_model.proofs.Finding.{numbered_appended, fit_appended}
 use Rattle.set_model.proofs.SoundNew.{link_appended, none_parked, order_fits, backs_appended, IsOpen}
 use Rattle.set_model.proofs.Standing.{gone_none, none_standing, ascends_appended}
@@ -86,7 +86,7 @@ module _ (n : ℕ) (link : LinkState) (s : State) (at : IsAt n link Down s) (t :
   -- what a link sees of it
   link_left : (k : ℕ) (other : LinkState) → slice_get (slice_set s.links n (settled_link link)) k ≡ Some other → IsSoundLink s.settings.method k other off_rows
   link_left = each_set (λ k other. IsSoundLink s.settings.method k other off_rows) s.links n (settled_link link) settled_one (λ k other d here. let out = λ (is_down : has_phase_up other.phase ≡ false). target_off s.links k (ap link_is_up here ∙ is_down) in link_moved s.settings.method k other (is_on n) (all_with (fate_on to_link)) s.routing s.rows t.backs (apart_on n k d)
-      (λ x. not_sent k to_link) (λ u x. target_unheld to_link k) (λ f x e b. not_on_waiting k (fate_on to_link) (out f)) (λ e x f b. out (settled_down other.phase e)) (t.links k other here))
+      (λ x. not_sent k to_link) (λ u x. target_unheld to_link k) (λ f x e b. not_on_waiting k (fate_on to_link) (out f)) (λ e x f b. out (grind (arith, e))) (t.links k other here))
 
   over_backs : AreBack (settled n to_link s.routing) off_rows
   over_backs = backs_moved (is_on n) (all_with (fate_on to_link)) s.rows (fated_none stands_back (all_with (fate_on to_link)) (λ x. target_elsewhere to_link) (standing (is_on n) s.rows)) s.routing (settled n to_link s.routing) (λ k few code via of e. grind (arith, (alone s.routing k t.routing few).settled_place n to_link)) t.backs

@@ -1,5 +1,5 @@
 -- WHAT HOLDS OF EVERY STATE is kept by a change of one link, with rows that change in their places.
-use Rattle.std.proofs.Common.{refl, arith, ◌≡◌, ◌∙◌, ap, sym, subst, ◌<◌, ◌≤◌, ℕ, ◌+◌, ◌%◌, ◌==◌, Bool, true, false, List, [], ◌++◌, length, drop, map, slice_get, slice_set, Some, cond}
+use Rattle.std.proofs.Common.{refl, arith, ◌≡◌, ◌∙◌, ap, sym, subst, ◌<◌, ◌≤◌, ℕ, ◌+◌, ◌%◌, ◌==◌, Bool, true, false, List, [], ◌++◌, length, map, slice_get, slice_set, Some, cond}
 use Rattle.std.proofs.lemmas.Bool.{eqb-false}
 use Rattle.std.proofs.lemmas.List.{append-nil, length-map, length-append, length-drop, length-set, length-take}
 use Rattle.std.proofs.lemmas.List.Elements.{filter-append}
@@ -14,7 +14,7 @@ use Rattle.set_events.specs.declared.answer.Fate.TheVariants.{Acked, Discarded, 
 use Rattle.set_events.specs.declared.config.Method.{Method}
 use Rattle.set_route.specs.declared.place.Place.{Place}
 use Rattle.set_model.specs.Changeover.{acknowledged as acknowledged_link, acknowledged_by}
-use Rattle.set_model.specs.Control.{Choice, accepted_of, acked_by, choice_of, control_after, control_heard, first, part_of}
+use Rattle.set_model.specs.Control.{Choice, accepted_of, choice_of, control_after, control_heard, first, part_of}
 use Rattle.set_model.specs.Rows.{Row, back, changed, fated, held, is_held, is_on, is_unacked, is_waiting, moved, octets_in, on, standing, stands_back, turned, unack, wait}
 use Rattle.set_model.specs.Sound.{IsInRange, IsOf, IsPlaced, IsSound, IsSoundLink, AreBack, IsBackOf}
 use Rattle.set_model.specs.State.{LinkState, State, has_phase_settled, has_phase_up, last_accepted, link_is_up, window_of}
@@ -38,9 +38,6 @@ use Rattle.std.proofs.lemmas.Bool.Decides.{nat_tests}
 -- PHASES.
 pub up_unsettled : (phase : Phase) → has_phase_up phase ≡ true → has_phase_settled phase ≡ false
 up_unsettled phase e = grind arith
-
-pub settled_down : (phase : Phase) → has_phase_settled phase ≡ true → has_phase_up phase ≡ false
-settled_down phase e = grind arith
 
 -- THE LINK THAT CHANGES, and the others, which don't see how the rows change.
 pub links_set : (m : Method) (links : List LinkState) (n : ℕ) (link : LinkState) (rows new : List Row) → IsSoundLink m n link new → ((k : ℕ) → (n == k) ≡ false → Untouched k rows new) → ((k : ℕ) (other : LinkState) → slice_get links k ≡ Some other → IsSoundLink m k other rows)
@@ -147,13 +144,8 @@ module _ (n : ℕ) (link : LinkState) (s : State) (at : IsAt n link Up s) (t : I
     abbrev heard_link : LinkState
     heard_link = record link { acked = link.acked + part.acked; accepted = link.accepted + one_if part.accept; control = control_heard link.control window head (is_msu unit) }
 
-    -- as many are left as in the control's window
-    left_count : length (drop (acked_by link.control window head) window.unacked) ≡ length (unack n (turned (is_unacked n) (Acked n) part.acked s.rows))
-    left_count = grind (arith, (acknowledged n part.acked s.rows).unack_is, length-drop, part_acked, length-map)
-
     pub hears_sound : IsSound (after_control part head unit n s link)
     hears_sound =
         let a = acknowledged n part.acked s.rows in
         changes n link heard_link s (turned (is_unacked n) (Acked n) part.acked s.rows) t at.there refl (ap has_phase_settled at.phase_is) (assumption) (turned_same (is_unacked n) stands_back (Acked n) refl (λ f e. grind arith) part.acked s.rows) (grind (arith, length-drop, a.unack_is, l.window))
-        (grind (arith, nat_tests, head.fsn, l.counted))
-        (grind (arith, l.method)) (λ u. subst (IsInRange (control_heard link.control window head (is_msu unit))) left_count (range_heard link.control window head (is_msu unit) old_range))
+        (grind (arith, nat_tests, head.fsn, l.counted)) (grind (arith, l.method)) (λ u. grind (arith, range_heard link.control window head (is_msu unit) old_range, a.unack_is, length-drop, part_acked, length-map))

@@ -18,7 +18,6 @@ use Rattle.set_route.proofs.Places.{accepted_sound}
 use Rattle.set_model.proofs.Backs.{coded_at, backs_kept}
 use Rattle.set_model.proofs.Events.{appended_out}
 use Rattle.set_model.proofs.Finding.{new_row, numbered_appended, fit_appended}
-use Rattle.set_model.proofs.Gaining.{offer_fits}
 use Rattle.set_model.proofs.Standing.{ascends_appended, each_append}
 use Rattle.set_model.proofs.Targets.{target_up, target_elsewhere, none_up}
 use Rattle.set_model.proofs.SoundLink.{link_more}
@@ -79,7 +78,7 @@ module _ (s : State) (body : List ℕ) (t : IsSound s) (low : stream_of body < 1
 
 pub offers : (s : State) (body : List ℕ) → stream_of body < 16 → offer_refusal s.rows body ≡ None → IsSound s → IsSound (offered None s body).state
 offers s body low free t =
-    let fits = offer_fits s.rows body free in
+    let fits : (length body ≤ 273) × ((service_indicator body == 0) ≡ false) = grind (arith, free) in
     let opened : IsOpen (fate_at (place_of (stream_of body) s.routing) s) s.links = grind (arith, t.placed (stream_of body) low, t.all_run) in
     let backs = offer_backs s body t low fits.1 in
     search (accepted_sound, numbered_appended, fit_appended, link_appended, same_place, t.placed, none_parked, still_run, t.homes_up, ascends_appended)

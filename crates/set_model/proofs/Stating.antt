@@ -4,12 +4,12 @@ use Rattle.std.proofs.lemmas.List.{drop_at}
 use Rattle.set_events.specs.declared.answer.Fate.{Fate}
 use Rattle.set_model.specs.Laws.{MessagesStay, MovesTheLinksRows, SameMessages}
 use Rattle.set_model.specs.Rows.{IsNumbered, Row, changed, row_of, turned}
-use Rattle.set_model.proofs.Filters.{both_lengths}
 use Rattle.set_model.proofs.InPlace.{InPlace, turned_there, changed_there}
 use Rattle.set_model.proofs.Moving.{moved_length, moved_numbered}
 use Rattle.set_model.proofs.Finding.{is_found, numbered_appended, with_number, same_numbers}
 use Rattle.set_model.proofs.Lookups.{no_rows, body_moved, place_moved}
 use Rattle.set_model.proofs.Events.{numbers_fated}
+use Rattle.std.proofs.lemmas.List.Filters.{length-filter_both}
 
 -- a row that is found stays found when another comes behind it
 found_first : (number : ℕ) (rows more : List Row) (x : Row) → row_of number rows ≡ Some x → row_of number (rows ++ more) ≡ Some x
@@ -34,4 +34,4 @@ messages_stay test to fate rows numbered = record {
 }
 
 pub moves_rows : (link : ℕ) (fate : Row → Fate) (rows : List Row) → IsNumbered rows → MovesTheLinksRows link fate rows
-moves_rows link fate rows numbered = grind (arith, both_lengths, drop_at, numbers_fated, place_moved)
+moves_rows link fate rows numbered = grind (arith, length-filter_both, drop_at, numbers_fated, place_moved)
