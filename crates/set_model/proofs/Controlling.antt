@@ -5,7 +5,7 @@ use Rattle.std.proofs.lemmas.List.{length-drop}
 use Rattle.l2_pcr.specs.Pcr as cyclic
 use Rattle.l2_units.specs.declared.unit.Header.{Header}
 use Rattle.l2_window.specs.Window.{WindowState}
-use Rattle.set_model.specs.Control.{Choice, Control, acked_by, choice_of, control_after, control_heard, first, part_of}
+use Rattle.set_model.specs.Control.{Choice, Control, acked_by, choice_of, control_after, control_heard, first}
 use Rattle.set_model.specs.Sound.{IsInRange}
 
 -- a first sending is chosen only where something waits, and fewer than 127 are unacknowledged
@@ -17,10 +17,6 @@ round_in n place d = grind arith
 
 pub range_after : (choice : Choice) (o : ℕ) (control : Control) (w : WindowState) (count : ℕ) → choice_of o control w ≡ choice → length w.unacked ≤ count → (choice ≡ first → count ≡ length w.unacked + 1) → IsInRange control (length w.unacked) → IsInRange (control_after choice o control w) count
 range_after choice o control w count e more one r = grind (arith, round_in)
-
--- HEARING.
-pub part_acked : (control : Control) (w : WindowState) (head : Header) (msu : Bool) → (part_of control w head msu).acked ≡ acked_by control w head
-part_acked control w head msu = grind arith
 
 -- the cursor, or the place in the cycle
 pub range_heard : (control : Control) (w : WindowState) (head : Header) (msu : Bool) → IsInRange control (length w.unacked) → IsInRange (control_heard control w head msu) (length (drop (acked_by control w head) w.unacked))

@@ -21,7 +21,6 @@ use Rattle.set_model.specs.Rows.{IsInOrder, Row, appended, fated, held, is_held,
 use Rattle.set_model.specs.Sound.{IsSound}
 use Rattle.set_model.specs.State.{LinkState, State, is_up, link_is_up, target, window_of}
 use Rattle.set_model.specs.declared.phase.Phase.TheVariants.{Up}
-use Rattle.set_model.proofs.Controlling.{part_acked}
 use Rattle.set_model.proofs.Events.{Untouched, untouched_self, apart_on, sent, acknowledged, sent_given_up, waiting_given_up, unparked, appended_out, numbers_joined}
 use Rattle.set_model.proofs.Filters.{fated_none}
 use Rattle.set_model.proofs.Finding.{new_row}
@@ -104,7 +103,7 @@ module _ (n : ℕ) (link : LinkState) (s : State) where
     window_is : window_of n heard_link (turned (is_unacked n) (Acked n) part.acked s.rows) ≡ window_heard link.control window (header_in unit)
     window_is =
         let a = acknowledged n part.acked s.rows in
-        grind (arith, part_acked, numbers-drop, a.unack_is, a.wait_same)
+        grind (arith, numbers-drop, a.unack_is, a.wait_same)
 
 none_brought : (unit : SignalUnit) → ((about : ℕ) → BringsAbout about unit → ⊥) → (accept : Bool) (t : State) (body : Option (List ℕ)) → brought accept unit ≡ body → ((takes body t).state.links ≡ t.links) × ((takes body t).state.rows ≡ t.rows)
 none_brought unit none accept t None e = (refl, refl)

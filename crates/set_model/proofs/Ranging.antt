@@ -16,7 +16,6 @@ use Rattle.set_model.specs.Rows.{Row, appended, is_unacked, is_waiting, moved, s
 use Rattle.set_model.specs.Sound.{AreAtMost, AreFew, WholeNumbers, one_more}
 use Rattle.set_model.specs.State.{LinkState, State, fate_at, window_of}
 use Rattle.set_model.specs.declared.phase.Phase.{Phase}
-use Rattle.set_model.proofs.Controlling.{part_acked}
 use Rattle.set_model.proofs.Events.{appended_out}
 use Rattle.set_model.proofs.Filters.{filter_comm, fewer_filter, fated_none}
 use Rattle.set_model.proofs.InPlace.{turned_left, fewer_turned, fewer_changed}
@@ -44,7 +43,7 @@ few_appended m rows body fate none = grind (arith, appended_out)
 
 -- A processed unit acknowledges no more than there are.
 pub acked_few : (n : ℕ) (link : LinkState) (rows : List Row) (head : Header) (msu : Bool) → (part_of link.control (window_of n link rows) head msu).acked ≤ length (unack n rows)
-acked_few n link rows head msu = grind (arith, part_acked, length-map)
+acked_few n link rows head msu = grind (arith, length-map)
 
 -- THE NUMBERS OF EACH LINK grow by at most so many.
 pub record GrowBy (more : ℕ) (s t : State) : Type 0 where

@@ -21,7 +21,7 @@ use Rattle.set_model.specs.State.{LinkState, State, has_phase_settled, has_phase
 use Rattle.set_model.specs.Step.{after_control, is_msu, next, one_if, rows_sent}
 use Rattle.set_model.specs.declared.phase.Phase.{Phase}
 use Rattle.set_model.specs.declared.phase.Phase.TheVariants.{Down, Up}
-use Rattle.set_model.proofs.Controlling.{first_chosen, range_after, part_acked, range_heard}
+use Rattle.set_model.proofs.Controlling.{first_chosen, range_after, range_heard}
 use Rattle.set_model.proofs.Backs.{backs_same}
 use Rattle.set_model.proofs.Events.{kept_self, Untouched, untouched_self, sent, acknowledged, GivenUp, untouched}
 use Rattle.set_model.proofs.InPlace.{turned_same, changed_same}
@@ -130,8 +130,7 @@ module _ (n : ℕ) (link : LinkState) (s : State) (at : IsAt n link Up s) (t : I
       let choice = choice_of octets link.control window in
       let c = counts choice refl in
       let d = sent_by choice n s.rows in
-      changes n link (record link { control = control_after choice octets link.control window }) s (rows_sent choice n s.rows) t at.there refl (ap has_phase_settled at.phase_is) d.0 d.1 c.2 (grind (arith, l.counted)) (grind (arith, l.method))
-      (λ u. range_after choice octets link.control window (length (unack n (rows_sent choice n s.rows))) refl (grind (arith, c, length-map)) (grind (arith, c, length-map)) old_range)
+      changes n link (record link { control = control_after choice octets link.control window }) s (rows_sent choice n s.rows) t at.there refl (ap has_phase_settled at.phase_is) d.0 d.1 c.2 (grind (arith, l.counted)) (grind (arith, l.method)) (λ u. grind (arith, range_after, c, old_range, length-map))
 
   -- HEARING.
   module _ (unit : SignalUnit) where
@@ -148,4 +147,4 @@ module _ (n : ℕ) (link : LinkState) (s : State) (at : IsAt n link Up s) (t : I
     hears_sound =
         let a = acknowledged n part.acked s.rows in
         changes n link heard_link s (turned (is_unacked n) (Acked n) part.acked s.rows) t at.there refl (ap has_phase_settled at.phase_is) (assumption) (turned_same (is_unacked n) stands_back (Acked n) refl (λ f e. grind arith) part.acked s.rows) (grind (arith, length-drop, a.unack_is, l.window))
-        (grind (arith, nat_tests, head.fsn, l.counted)) (grind (arith, l.method)) (λ u. grind (arith, range_heard link.control window head (is_msu unit) old_range, a.unack_is, length-drop, part_acked, length-map))
+        (grind (arith, nat_tests, head.fsn, l.counted)) (grind (arith, l.method)) (λ u. grind (arith, range_heard link.control window head (is_msu unit) old_range, a.unack_is, length-drop, length-map))
