@@ -4,7 +4,6 @@ use Rattle.std.proofs.lemmas.Bool.{eqb-false}
 use Rattle.std.proofs.lemmas.List.{append-nil, length-map, length-append, length-drop, length-set, length-take}
 use Rattle.std.proofs.lemmas.List.Elements.{filter-append}
 use Rattle.l2_units.specs.Grammar.{head_of as header_in}
-use Rattle.l2_units.specs.declared.unit.Header.{Header}
 use Rattle.l2_units.specs.declared.unit.Unit.{Unit as SignalUnit}
 use Rattle.l2_window.specs.Window.{WindowState}
 use Rattle.l2_window.specs.declared.control.HeardPart.{HeardPart}
@@ -13,12 +12,12 @@ use Rattle.set_events.specs.declared.answer.Fate.{Fate}
 use Rattle.set_events.specs.declared.answer.Fate.TheVariants.{Acked, Discarded, Unacked}
 use Rattle.set_events.specs.declared.config.Method.{Method}
 use Rattle.set_route.specs.declared.place.Place.{Place}
-use Rattle.set_model.specs.Changeover.{acknowledged as acknowledged_link, acknowledged_by}
-use Rattle.set_model.specs.Control.{Choice, accepted_of, choice_of, control_after, control_heard, first, part_of}
-use Rattle.set_model.specs.Rows.{Row, back, changed, fated, held, is_held, is_on, is_unacked, is_waiting, moved, octets_in, on, standing, stands_back, turned, unack, wait}
+use Rattle.set_model.specs.Changeover.{acknowledged_by}
+use Rattle.set_model.specs.Control.{Choice, accepted_of, choice_of, first, part_of}
+use Rattle.set_model.specs.Rows.{Row, back, changed, fated, held, is_held, is_on, is_unacked, is_waiting, moved, octets_in, on, standing, stands_back, unack, wait}
 use Rattle.set_model.specs.Sound.{IsInRange, IsOf, IsPlaced, IsSound, IsSoundLink, AreBack, IsBackOf}
 use Rattle.set_model.specs.State.{LinkState, State, has_phase_settled, has_phase_up, last_accepted, link_is_up, window_of}
-use Rattle.set_model.specs.Step.{after_control, is_msu, next, one_if, rows_sent}
+use Rattle.set_model.specs.Step.{after_control, is_msu, next, rows_sent}
 use Rattle.set_model.specs.declared.phase.Phase.{Phase}
 use Rattle.set_model.specs.declared.phase.Phase.TheVariants.{Down, Up}
 use Rattle.set_model.proofs.Controlling.{first_chosen, range_after, range_heard}
@@ -93,7 +92,7 @@ pub acknowledges : (count n : ℕ) (link : LinkState) (s : State) → IsAt n lin
 acknowledges count n link s at t =
     let l = t.links n link at.there in
     let a = acknowledged n count s.rows in
-    changes n link (acknowledged_link count link) s (turned (is_unacked n) (Acked n) count s.rows) t at.there refl (ap has_phase_settled at.phase_is) (assumption) (turned_same (is_unacked n) stands_back (Acked n) refl (λ f e. grind arith) count s.rows) (grind (arith, length-drop, a.unack_is, l.window)) l.counted l.method (false_true (has_phase_up link.phase) (ap has_phase_up at.phase_is))
+    changes n link _ s _ t at.there refl (ap has_phase_settled at.phase_is) (assumption) (turned_same (is_unacked n) stands_back (Acked n) refl (λ f e. grind arith) count s.rows) (grind (arith, length-drop, a.unack_is, l.window)) l.counted l.method (false_true (has_phase_up link.phase) (ap has_phase_up at.phase_is))
 
 pub gives_up : (test : Fate → Bool) (cause : DiscardCause) (n : ℕ) (link : LinkState) (s : State) → ((f : Fate) → test f ≡ true → is_on n f ≡ true) → GivenUp n s.rows (changed test (Discarded cause) s.rows) → length (unack n (changed test (Discarded cause) s.rows)) ≤ length (unack n s.rows) → IsAt n link Down s → IsSound s → IsSound (record s { rows = changed test (Discarded cause) s.rows })
 gives_up test cause n link s on_link g fewer at t =
@@ -130,21 +129,15 @@ module _ (n : ℕ) (link : LinkState) (s : State) (at : IsAt n link Up s) (t : I
       let choice = choice_of octets link.control window in
       let c = counts choice refl in
       let d = sent_by choice n s.rows in
-      changes n link (record link { control = control_after choice octets link.control window }) s (rows_sent choice n s.rows) t at.there refl (ap has_phase_settled at.phase_is) d.0 d.1 c.2 (grind (arith, l.counted)) (grind (arith, l.method)) (λ u. grind (arith, range_after, c, old_range, length-map))
+      changes n link _ s _ t at.there refl (ap has_phase_settled at.phase_is) d.0 d.1 c.2 (grind (arith, l.counted)) (grind (arith, l.method)) (λ u. grind (arith, range_after, c, old_range, length-map))
 
   -- HEARING.
   module _ (unit : SignalUnit) where
-    abbrev head : Header
-    head = header_in unit
-
     abbrev part : HeardPart
-    part = part_of link.control window head (is_msu unit)
+    part = part_of link.control window (header_in unit) (is_msu unit)
 
-    abbrev heard_link : LinkState
-    heard_link = record link { acked = link.acked + part.acked; accepted = link.accepted + one_if part.accept; control = control_heard link.control window head (is_msu unit) }
-
-    pub hears_sound : IsSound (after_control part head unit n s link)
+    pub hears_sound : IsSound (after_control part (header_in unit) unit n s link)
     hears_sound =
         let a = acknowledged n part.acked s.rows in
-        changes n link heard_link s (turned (is_unacked n) (Acked n) part.acked s.rows) t at.there refl (ap has_phase_settled at.phase_is) (assumption) (turned_same (is_unacked n) stands_back (Acked n) refl (λ f e. grind arith) part.acked s.rows) (grind (arith, length-drop, a.unack_is, l.window))
-        (grind (arith, nat_tests, head.fsn, l.counted)) (grind (arith, l.method)) (λ u. grind (arith, range_heard link.control window head (is_msu unit) old_range, a.unack_is, length-drop, length-map))
+        changes n link _ s _ t at.there refl (ap has_phase_settled at.phase_is) (assumption) (turned_same (is_unacked n) stands_back (Acked n) refl (λ f e. grind arith) part.acked s.rows) (grind (arith, length-drop, a.unack_is, l.window))
+        (grind (arith, nat_tests, (header_in unit).fsn, l.counted)) (grind (arith, l.method)) (λ u. grind (arith, range_heard link.control window (header_in unit) (is_msu unit) old_range, a.unack_is, length-drop, length-map))
