@@ -4,20 +4,17 @@ use Rattle.std.proofs.lemmas.Bool.{eqb-false}
 use Rattle.std.proofs.lemmas.Bool.Decides.{nat_tests}
 use Rattle.std.proofs.lemmas.List.Elements.{filter-append}
 use Rattle.std.proofs.lemmas.List.{append-nil, drop-map, take-map}
-use Rattle.set_model.specs.Step.{step, brought, is_msu, one_if, rows_sent, takes}
-use Rattle.l2_units.specs.Grammar.{head_of as header_in}
+use Rattle.set_model.specs.Step.{step, brought, rows_sent, takes}
 use Rattle.l2_units.specs.declared.unit.Unit.{Unit as SignalUnit}
-use Rattle.l2_window.specs.Window.{WindowState}
-use Rattle.l2_window.specs.declared.control.HeardPart.{HeardPart}
 use Rattle.set_events.specs.declared.answer.DiscardCause.{DiscardCause}
 use Rattle.set_events.specs.declared.answer.Fate.{Fate}
-use Rattle.set_events.specs.declared.answer.Fate.TheVariants.{Acked, Waiting, Unacked}
+use Rattle.set_events.specs.declared.answer.Fate.TheVariants.{Waiting, Unacked}
 use Rattle.set_events.specs.declared.event.Event.{Event}
 use Rattle.set_route.specs.Routing.{Routing}
 use Rattle.set_model.specs.Changeover.{fate_on}
-use Rattle.set_model.specs.Control.{Choice, control_heard, first, part_of, window_heard}
+use Rattle.set_model.specs.Control.{Choice, first}
 use Rattle.set_model.specs.Frame.{BringsAbout, Concerns, LeavesAlone, MovesAsItsControl, window_after}
-use Rattle.set_model.specs.Rows.{IsInOrder, Row, appended, fated, held, is_held, is_on, is_unacked, is_waiting, moved, numbers, standing, turned, unack, wait}
+use Rattle.set_model.specs.Rows.{IsInOrder, Row, appended, fated, held, is_held, is_on, is_unacked, is_waiting, moved, numbers, standing, unack, wait}
 use Rattle.set_model.specs.Sound.{IsSound}
 use Rattle.set_model.specs.State.{LinkState, State, is_up, link_is_up, target, window_of}
 use Rattle.set_model.specs.declared.phase.Phase.TheVariants.{Up}
@@ -82,28 +79,12 @@ leaves_alone n s event free =
 pub numbers-drop : (d : ℕ) (rows : List Row) → numbers (drop d rows) ≡ drop d (numbers rows)
 numbers-drop d rows = sym (drop-map (λ (row : Row). row.number) d rows)
 
-module _ (n : ℕ) (link : LinkState) (s : State) where
-  abbrev window : WindowState
-  window = window_of n link s.rows
-
-  window_sent : (choice : Choice) → IsInOrder n s.rows → window_of n link (rows_sent choice n s.rows) ≡ window_after choice window
-  window_sent first order =
-      let d = sent n s.rows in
-      let unacked = ap numbers (d.unack_is order) ∙ numbers_joined (λ row. Unacked n) (unack n s.rows) (take 1 (wait n s.rows)) in
-      grind (arith, take-map, numbers-drop, d.wait_is)
-  window_sent _ order = grind arith
-
-  module _ (unit : SignalUnit) where
-    abbrev part : HeardPart
-    part = part_of link.control window (header_in unit) (is_msu unit)
-
-    abbrev heard_link : LinkState
-    heard_link = record link { acked = link.acked + part.acked; accepted = link.accepted + one_if part.accept; control = control_heard link.control window (header_in unit) (is_msu unit) }
-
-    window_is : window_of n heard_link (turned (is_unacked n) (Acked n) part.acked s.rows) ≡ window_heard link.control window (header_in unit)
-    window_is =
-        let a = acknowledged n part.acked s.rows in
-        grind (arith, numbers-drop, a.unack_is, a.wait_same)
+window_sent : (n : ℕ) (link : LinkState) (choice : Choice) (rows : List Row) → IsInOrder n rows → window_of n link (rows_sent choice n rows) ≡ window_after choice (window_of n link rows)
+window_sent n link first rows order =
+    let d = sent n rows in
+    let unacked = ap numbers (d.unack_is order) ∙ numbers_joined (λ row. Unacked n) (unack n rows) (take 1 (wait n rows)) in
+    grind (arith, take-map, numbers-drop, d.wait_is)
+window_sent n link _ rows order = grind arith
 
 none_brought : (unit : SignalUnit) → ((about : ℕ) → BringsAbout about unit → ⊥) → (accept : Bool) (t : State) (body : Option (List ℕ)) → brought accept unit ≡ body → ((takes body t).state.links ≡ t.links) × ((takes body t).state.rows ≡ t.rows)
 none_brought unit none accept t None e = (refl, refl)
@@ -113,7 +94,7 @@ pub window_moves : (n : ℕ) (link : LinkState) (s : State) → IsSound s → sl
 window_moves n link s t there up =
     let few = within s.links n link there in
     record {
-      sent = (_, get_set_same s.links n _ few, refl, window_sent n link s _ (t.links n link there).in_order);
-      heard = λ unit. (heard_link n link s unit, get_set_same s.links n _ few, refl, window_is n link s unit);
-      no_more = λ unit none. none_brought unit none (part n link s unit).accept _ _ refl;
+      sent = (_, get_set_same s.links n _ few, refl, window_sent n link _ s.rows (t.links n link there).in_order);
+      heard = λ unit. let acks = λ (count : ℕ). acknowledged n count s.rows in (_, get_set_same s.links n _ few, refl, grind (arith, numbers-drop, acks));
+      no_more = λ unit none. none_brought unit none _ _ _ refl;
     }
