@@ -63,17 +63,14 @@ sent_alone n m choice rows d = let first = (sent m rows).others n d in let same 
 concerned : (event by : Event) (m : ℕ) (s : State) → event ≡ by → Concerns by m s → Concerns event m s
 concerned event by m s e known = subst (λ (v : Event). Concerns v m s) (sym e) known
 
-module _ (n : ℕ) (event : Event) (s : State) (free : Concerns event n s → ⊥) where
-  off : (m : ℕ) → Concerns event m s → (m == n) ≡ false
-  off m known = apart m n (λ same. free (subst (λ (k : ℕ). Concerns event k s) same known))
-
 pub leaves_alone : (n : ℕ) (s : State) (event : Event) → (Concerns event n s → ⊥) → LeavesAlone n s (step s event).state
 leaves_alone n s event free =
+    let off = λ (m : ℕ) (known : Concerns event m s). apart m n (λ same. free (subst (λ (k : ℕ). Concerns event k s) same known)) in
     let acked = λ (m count : ℕ) (rows : List Row). (acknowledged m count rows).others in
     let sent_up = λ (m : ℕ) (cause : DiscardCause) (rows : List Row). (sent_given_up m cause rows).others in
     let waiting_up = λ (m : ℕ) (cause : DiscardCause) (rows : List Row). (waiting_given_up m cause rows).others in
     let risen = λ (m : ℕ) (rows : List Row). (unparked m rows).others in
-    step_walks s (LeavesAlone n) (LeavesAlone n s) event (search (up_waits, alternative_up, alone_moved, back_not_on, code_back, home_back, apart_on, not_sent, off_waits, target_unheld, alone_then, alone_by, untouched_self, alone_appended, offered_out, up_not_held, down_not_waiting, off n event s free, concerned, inl, get_set_other, eqb-false, sent_alone) depth 7)
+    step_walks s (LeavesAlone n) (LeavesAlone n s) event (search (up_waits, alternative_up, alone_moved, back_not_on, code_back, home_back, apart_on, not_sent, off_waits, target_unheld, alone_then, alone_by, untouched_self, alone_appended, offered_out, up_not_held, down_not_waiting, off, concerned, inl, get_set_other, eqb-false, sent_alone) depth 7)
 
 -- THE WINDOW.
 pub numbers-drop : (d : ℕ) (rows : List Row) → numbers (drop d rows) ≡ drop d (numbers rows)

@@ -1,24 +1,17 @@
 -- The laws of the list of rows.
-use Rattle.std.proofs.Common.{refl, arith, ◌≡◌, [], ◌∷◌, ℕ, Bool, List, ◌++◌, Some}
+use Rattle.std.proofs.Common.{arith, ◌≡◌, [], ◌∷◌, ℕ, Bool, List, ◌++◌}
 use Rattle.std.proofs.lemmas.List.{drop_at}
 use Rattle.set_events.specs.declared.answer.Fate.{Fate}
 use Rattle.set_model.specs.Laws.{MessagesStay, MovesTheLinksRows, SameMessages}
-use Rattle.set_model.specs.Rows.{IsNumbered, Row, changed, row_of, turned}
+use Rattle.set_model.specs.Rows.{IsNumbered, Row, changed, turned}
 use Rattle.set_model.proofs.InPlace.{InPlace, turned_there, changed_there}
 use Rattle.set_model.proofs.Moving.{moved_length, moved_numbered}
-use Rattle.set_model.proofs.Finding.{is_found, numbered_appended, with_number, same_numbers}
-use Rattle.set_model.proofs.Lookups.{no_rows, body_moved, place_moved}
+use Rattle.set_model.proofs.Finding.{is_found, numbered_appended, same_numbers}
+use Rattle.set_model.proofs.Lookups.{no_rows, body_moved, place_moved, row_is_first}
 use Rattle.set_model.proofs.Events.{numbers_fated}
 use Rattle.std.proofs.lemmas.List.Filters.{length-filter_both}
-
--- a row that is found stays found when another comes behind it
-found_first : (number : ℕ) (rows more : List Row) (x : Row) → row_of number rows ≡ Some x → row_of number (rows ++ more) ≡ Some x
-found_first number [] more x e = absurd cc
-found_first number (y ∷ rows) more x e = grind (arith, found_first number rows more x)
-
-found_after : (number : ℕ) (rows more : List Row) → with_number number rows ≡ [] → row_of number (rows ++ more) ≡ row_of number more
-found_after number [] more e = refl
-found_after number (y ∷ rows) more e = grind (arith, found_after number rows more)
+use Rattle.std.proofs.lemmas.List.Folds.{find-append}
+use Rattle.std.proofs.lemmas.Bool.Decides.{nat_tests}
 
 in_place_stays : (test : Fate → Bool) (rows new : List Row) → IsNumbered rows → InPlace test rows new → SameMessages rows new
 in_place_stays test rows new numbered i = search (i.count, i.bodies, same_numbers, i.as_many, numbered)
@@ -28,8 +21,8 @@ messages_stay test to fate rows numbered = record {
   turned_stay = λ n. in_place_stays test rows (turned test to n rows) numbered (turned_there test to n rows);
   changed_stay = in_place_stays test rows (changed test to rows) numbered (changed_there test to rows);
   moved_stay = search (moved_length, body_moved, moved_numbered);
-  others_stay = λ body number below. grind (arith, is_found, found_first);
-  new_found = λ body. grind (arith, no_rows, found_after);
+  others_stay = λ body number below. grind (arith, is_found, find-append);
+  new_found = λ body. grind (arith, nat_tests, row_is_first, no_rows, find-append, numbered);
   appended_numbered = λ body. numbered_appended rows body to numbered;
 }
 
