@@ -1,7 +1,6 @@
 -- Rows that are looked up, where each number stands in one row.
 use Rattle.std.proofs.Common.{refl, arith, ◌≡◌, ◌∙◌, ap, sym, ◌<◌, ◌≤◌, [], ◌∷◌, length, ℕ, nat_lt, ◌==◌, List, None, cond}
 use Rattle.std.specs.Prelude.{filter}
-use Rattle.std.proofs.lemmas.Bool.{cases_order}
 use Rattle.std.proofs.lemmas.Bool.Decides.{nat_tests}
 use Rattle.std.proofs.lemmas.List.{length-append, length_push}
 use Rattle.std.proofs.lemmas.List.Elements.{filter-append}
@@ -26,7 +25,7 @@ abbrev pub new_row : ℕ → List ℕ → Fate → Row
 new_row number body fate = record { number = number; body = body; fate = fate }
 
 pub numbered_appended : (rows : List Row) (body : List ℕ) (fate : Fate) → IsNumbered rows → IsNumbered (appended rows body fate)
-numbered_appended rows body fate numbered number = grind (arith, nat_tests, filter-append, length-append, cases_order, nat_tests, length_push)
+numbered_appended rows body fate numbered number = grind (arith, nat_tests, filter-append, length-append, length_push)
 
 pub fit_appended : (rows : List Row) (body : List ℕ) (fate : Fate) → AreFit rows → length body ≤ 273 → AreFit (appended rows body fate)
 fit_appended rows body fate a f = fit_append rows (new_row (length rows) body fate ∷ []) a (f, tt)

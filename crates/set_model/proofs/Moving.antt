@@ -1,7 +1,6 @@
 -- Rows that leave their places and stand at the end, each with its fate.
 use Rattle.std.proofs.Common.{refl, arith, ◌≡◌, ◌∙◌, ap, [], ◌∷◌, length, Bool, true, false, not, List, ◌++◌, map}
 use Rattle.std.specs.Prelude.{filter}
-use Rattle.std.proofs.lemmas.Bool.{not_from_true}
 use Rattle.std.proofs.lemmas.List.{append-nil, length-append, length-map}
 use Rattle.std.proofs.lemmas.List.Elements.{filter-append}
 use Rattle.set_events.specs.declared.answer.Fate.{Fate}
@@ -37,7 +36,7 @@ module _ (test other : Fate → Bool) (fate : Row → Fate) (rows : List Row) wh
 
   -- a place from which all rows go
   pub moved_gone : ((row : Row) → other (fate row) ≡ false) → ((f : Fate) → other f ≡ true → test f ≡ true) → standing other (moved test fate rows) ≡ []
-  moved_gone h w = search (parts, filter_apart, not_from_true, fated_none)
+  moved_gone h w = grind (arith, parts, filter_apart, fated_none)
 
   -- a place where none goes and none comes
   pub moved_same : ((row : Row) → other (fate row) ≡ false) → ((f : Fate) → test f ≡ true → other f ≡ false) → standing other (moved test fate rows) ≡ standing other rows

@@ -2,7 +2,7 @@
 -- changeback.
 use Rattle.std.proofs.lemmas.Bool.Decides.{nat_tests}
 use Rattle.std.proofs.Common.{refl, arith, ◌≡◌, ◌≢◌, ◌∙◌, ap, ◌<◌, ℕ, ◌%◌, ◌==◌, true, false, List, [], map, slice_get, slice_set, Option, None, Some, IfSome, Bool, not}
-use Rattle.std.proofs.lemmas.Bool.{eqb-false, and_parts}
+use Rattle.std.proofs.lemmas.Bool.{and_parts}
 use Rattle.std.proofs.lemmas.List.{length-set}
 use Rattle.set_route.specs.Routing.{settled, IsRouting, Routing, asked, code_of, given_back, home_of, place_of, raised, place_settled}
 use Rattle.set_events.specs.declared.answer.Fate.{Fate}
@@ -92,7 +92,7 @@ module _ (n : ℕ) (link : LinkState) (s : State) (at : IsAt n link Down s) (t :
   over_backs = backs_moved (is_on n) (all_with (fate_on to_link)) s.rows (fated_none stands_back (all_with (fate_on to_link)) (λ x. target_elsewhere to_link) (standing (is_on n) s.rows)) s.routing (settled n to_link s.routing) (λ k few code via of e. grind (arith, (alone s.routing k t.routing few).settled_place n to_link)) t.backs
 
   over_place : (to : Option ℕ) → target s.links ≡ to → (place : Place) → ((home code via : ℕ) → place ≡ Changing home code via → to ≡ None → ⊥) → IsPlaced s.links place → IsPlaced (slice_set s.links n (settled_link link)) (place_settled n to place)
-  over_place to e place some p = grind (arith, nat_tests, target_up, get_set_other, eqb-false, up_unsettled)
+  over_place to e place some p = grind (arith, nat_tests, target_up, get_set_other, up_unsettled)
 
   -- a stream on its way back has a home that is up, so there is a target
   over_placed : (k : ℕ) → k < 16 → IsPlaced (slice_set s.links n (settled_link link)) (place_of k (settled n (target s.links) s.routing))

@@ -1,6 +1,5 @@
 -- WHAT HOLDS OF EVERY STATE is kept by a change of one link, with rows that change in their places.
 use Rattle.std.proofs.Common.{refl, arith, ◌≡◌, ◌∙◌, ap, sym, subst, ◌<◌, ◌≤◌, ℕ, ◌+◌, ◌%◌, ◌==◌, Bool, true, false, List, [], ◌++◌, length, map, slice_get, slice_set, Some, cond}
-use Rattle.std.proofs.lemmas.Bool.{eqb-false}
 use Rattle.std.proofs.lemmas.List.{append-nil, length-map, length-append, length-drop, length-set, length-take}
 use Rattle.std.proofs.lemmas.List.Elements.{filter-append}
 use Rattle.l2_units.specs.Grammar.{head_of as header_in}
@@ -55,7 +54,7 @@ up_before links n link link' there same so k other at up = grind (arith, at_set)
 
 -- and one that was up is, where the one that changes stays so
 pub up_after : (links : List LinkState) (n : ℕ) (link link' : LinkState) → slice_get links n ≡ Some link → (has_phase_up link.phase ≡ true → has_phase_up link'.phase ≡ true) → (k : ℕ) → link_is_up (slice_get links k) ≡ true → link_is_up (slice_get (slice_set links n link') k) ≡ true
-up_after links n link link' there stays k up = grind (arith, get_set_same, within, get_set_other, eqb-false)
+up_after links n link link' there stays k up = grind (arith, nat_tests, get_set_same, within, get_set_other)
 
 -- A CHANGE OF ONE LINK, with rows that change in their places, none of them parked, nor back.
 changes : (n : ℕ) (link link' : LinkState) (s : State) (new : List Row) → IsSound s → slice_get s.links n ≡ Some link → link'.phase ≡ link.phase → has_phase_settled link.phase ≡ false → GivenUp n s.rows new → back new ≡ back s.rows → length (unack n new) ≤ 127 → accepted_of link'.control ≡ last_accepted link' → IsOf s.settings.method link'.control

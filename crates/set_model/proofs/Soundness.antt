@@ -1,7 +1,6 @@
 -- EVERY STEP KEEPS WHAT HOLDS OF EVERY SET'S STATE, and a new set has it.
-use Rattle.std.proofs.Common.{refl, arith, ◌≡◌, ◌∙◌, ap, sym, subst, ℕ, ◌<◌, zero, suc, ◌%◌, Bool, List, [], ◌∷◌, map, slice_get, Some, cond, replicate, slice_index_or}
+use Rattle.std.proofs.Common.{refl, arith, ◌≡◌, ◌∙◌, sym, subst, ℕ, ◌<◌, zero, suc, ◌%◌, List, [], ◌∷◌, map, slice_get, Some, replicate, slice_index_or}
 use Rattle.std.proofs.lemmas.List.{length-replicate}
-use Rattle.std.proofs.lemmas.Bool.{le-ltb}
 use Rattle.set_model.specs.Step.{step}
 use Rattle.set_events.specs.declared.event.Event.{Event}
 use Rattle.set_events.specs.declared.event.Event.TheVariants.{Offer}
@@ -22,6 +21,7 @@ use Rattle.set_model.proofs.Walk.{KeptBy, step_walks}
 use Rattle.set_model.proofs.SoundBack.{leaves, declares, releases, rises_sound, moves_off_sound}
 use Rattle.set_model.proofs.SoundLink.{with_inbox, acknowledges, gives_up, sends_sound, hears_sound}
 use Rattle.set_model.proofs.SoundNew.{queues, offers}
+use Rattle.std.proofs.lemmas.Bool.Decides.{nat_tests}
 
 -- THE STEP.
 pub asked_by : (event : Event) (body : List ℕ) → IsAsked event → event ≡ Offer body → stream_of body < 16
@@ -55,7 +55,7 @@ module _ (settings : Settings) (is : IsSettings settings) where
     routing = new_sound settings.links is.some_link is.at_most_16;
     routed = refl;
     count = length-replicate settings.links (new_link settings.method);
-    numbered = λ number. sym (ap (λ (b : Bool). cond b 1 0) (le-ltb number 0 (omega arith)));
+    numbered = λ number. grind (arith, nat_tests);
     fit = tt;
     links = λ n link there. grind (arith, new_there);
     placed = λ stream low. subst (IsPlaced _) (sym (new_place settings.links stream_numbers stream)) tt;

@@ -1,7 +1,6 @@
 -- The link that messages are moved to.
 use Rattle.std.proofs.Common.{arith, ◌≡◌, subst, ℕ, Bool, true, false, List, map, slice_get, Option, Some, None}
 use Rattle.std.proofs.lemmas.Bool.Decides.{nat_tests}
-use Rattle.std.proofs.lemmas.Bool.{false_from_ne_true}
 use Rattle.set_route.specs.Target.{IsTarget}
 use Rattle.set_model.specs.Changeover.{fate_on}
 use Rattle.set_model.specs.Rows.{is_held, is_on, stands_back, was_acked}
@@ -17,8 +16,7 @@ target_up links to e = at_map (λ (l : LinkState). has_phase_up l.phase) links t
 
 -- where there is none, no link is up
 pub none_up : (links : List LinkState) (n : ℕ) (link : LinkState) → target links ≡ None → slice_get links n ≡ Some link → has_phase_up link.phase ≡ false
-none_up links n link e there =
-    false_from_ne_true (has_phase_up link.phase) (λ h. subst (IsTarget (ups links)) e (target_is (ups links)) n (rw h at (map_at (λ (l : LinkState). has_phase_up l.phase) links n link there)))
+none_up links n link e there = let is = subst (IsTarget (ups links)) e (target_is (ups links)) n in grind (arith, map_at, is)
 
 -- what goes there goes to no link that isn't up
 pub target_off : (links : List LinkState) (n : ℕ) → link_is_up (slice_get links n) ≡ false → is_on n (fate_on (target links)) ≡ false
