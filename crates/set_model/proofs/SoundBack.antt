@@ -28,7 +28,7 @@ use Rattle.set_model.proofs.Filters.{fated_none}
 use Rattle.set_model.proofs.Ranging.{not_sent, offered_out}
 use Rattle.set_model.proofs.Targets.{target_up, target_off, target_open, target_unheld, target_elsewhere, none_up}
 use Rattle.set_model.proofs.Walk.{IsAt}
-use Rattle.set_model.proofs.SoundLink.{up_unsettled, link_moved, links_set, placed_set, up_before, up_after}
+use Rattle.set_model.proofs.SoundLink.{link_moved, links_set, placed_set, up_before, up_after}
 use Rattle.set_model.proofs.Finding.{numbered_appended, fit_appended}
 use Rattle.set_model.proofs.SoundNew.{link_appended, none_parked, order_fits, backs_appended, IsOpen}
 use Rattle.set_model.proofs.Standing.{gone_none, none_standing, ascends_appended}
@@ -92,7 +92,7 @@ module _ (n : ℕ) (link : LinkState) (s : State) (at : IsAt n link Down s) (t :
   over_backs = backs_moved (is_on n) (all_with (fate_on to_link)) s.rows (fated_none stands_back (all_with (fate_on to_link)) (λ x. target_elsewhere to_link) (standing (is_on n) s.rows)) s.routing (settled n to_link s.routing) (λ k few code via of e. grind (arith, (alone s.routing k t.routing few).settled_place n to_link)) t.backs
 
   over_place : (to : Option ℕ) → target s.links ≡ to → (place : Place) → ((home code via : ℕ) → place ≡ Changing home code via → to ≡ None → ⊥) → IsPlaced s.links place → IsPlaced (slice_set s.links n (settled_link link)) (place_settled n to place)
-  over_place to e place some p = grind (arith, nat_tests, target_up, get_set_other, up_unsettled)
+  over_place to e place some p = grind (arith, nat_tests, target_up, get_set_other)
 
   -- a stream on its way back has a home that is up, so there is a target
   over_placed : (k : ℕ) → k < 16 → IsPlaced (slice_set s.links n (settled_link link)) (place_of k (settled n (target s.links) s.routing))
@@ -187,7 +187,7 @@ module _ (home alternative : ℕ) (s : State) (up : is_up home s ≡ true) (may 
   below n e = grind (arith, within)
 
   asked_placed : (k : ℕ) → k < 16 → IsPlaced s.links (place_of k runs)
-  asked_placed k few = let p = t.placed k few in let out = alternative_up home alternative s may in rw ((alone s.routing k t.routing few).asked_place home alternative) (grind (arith, p, out, up_unsettled))
+  asked_placed k few = let p = t.placed k few in let out = alternative_up home alternative s may in rw ((alone s.routing k t.routing few).asked_place home alternative) (grind (arith, p, out))
 
   asked_run : (n : ℕ) (link : LinkState) → slice_get s.links n ≡ Some link → has_phase_up link.phase ≡ true → (k : ℕ) → k < 16 → place_of k runs ≢ Nowhere
   asked_run n link at rising k few = let runs = t.all_run n link at rising k few in rw ((alone s.routing k t.routing few).asked_place home alternative) (grind (arith, runs))
@@ -225,7 +225,7 @@ module _ (code : ℕ) (s : State) (t : IsSound s) where
   back_links k other there = link_moved s.settings.method k other (is_back code) (all_with (Waiting home)) s.routing s.rows t.backs (λ f e. back_not_on k f (code_back code f e)) (λ x. refl) (λ u x. refl) (λ d x e b. grind (arith, nat_tests, coded_at, t.homes_up)) (λ d x e b. grind (arith, nat_tests, coded_at, t.homes_up)) (t.links k other there)
 
   back_placed : (k : ℕ) → k < 16 → IsPlaced s.links (place_of k (given_back code s.routing))
-  back_placed k few = let there = t.placed k few in rw ((alone s.routing k t.routing few).back_place code) (grind (arith, nat_tests, there, coded_at, t.homes_up, up_unsettled))
+  back_placed k few = let there = t.placed k few in rw ((alone s.routing k t.routing few).back_place code) (grind (arith, nat_tests, there, coded_at, t.homes_up))
 
   back_runs : (n : ℕ) (link : LinkState) → slice_get s.links n ≡ Some link → has_phase_up link.phase ≡ true → (k : ℕ) → k < 16 → place_of k (given_back code s.routing) ≢ Nowhere
   back_runs n link at up k few = let runs = t.all_run n link at up k few in rw ((alone s.routing k t.routing few).back_place code) (grind (arith, runs))

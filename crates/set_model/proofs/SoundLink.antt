@@ -17,7 +17,6 @@ use Rattle.set_model.specs.Rows.{Row, back, changed, fated, held, is_held, is_on
 use Rattle.set_model.specs.Sound.{IsInRange, IsOf, IsPlaced, IsSound, IsSoundLink, AreBack, IsBackOf}
 use Rattle.set_model.specs.State.{LinkState, State, has_phase_settled, has_phase_up, last_accepted, link_is_up, window_of}
 use Rattle.set_model.specs.Step.{after_control, is_msu, next, rows_sent}
-use Rattle.set_model.specs.declared.phase.Phase.{Phase}
 use Rattle.set_model.specs.declared.phase.Phase.TheVariants.{Down, Up}
 use Rattle.set_model.proofs.Controlling.{first_chosen, range_after, range_heard}
 use Rattle.set_model.proofs.Backs.{backs_same}
@@ -32,10 +31,6 @@ use Rattle.set_model.proofs.Standing.{gone_none}
 use Rattle.set_route.specs.Routing.{Routing}
 use Rattle.set_route.specs.declared.place.Place.TheVariants.{Changing, Nowhere, On}
 use Rattle.std.proofs.lemmas.Bool.Decides.{nat_tests}
-
--- PHASES.
-pub up_unsettled : (phase : Phase) → has_phase_up phase ≡ true → has_phase_settled phase ≡ false
-up_unsettled phase e = grind arith
 
 -- THE LINK THAT CHANGES, and the others, which don't see how the rows change.
 pub links_set : (m : Method) (links : List LinkState) (n : ℕ) (link : LinkState) (rows new : List Row) → IsSoundLink m n link new → ((k : ℕ) → (n == k) ≡ false → Untouched k rows new) → ((k : ℕ) (other : LinkState) → slice_get links k ≡ Some other → IsSoundLink m k other rows)
