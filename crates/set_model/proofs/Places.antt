@@ -75,9 +75,6 @@ back_not_parked f e = grind arith
 pub back_not_acked : (f : Fate) → stands_back f ≡ true → was_acked f ≡ false
 back_not_acked f e = grind arith
 
-pub on_not_back : (l : ℕ) (f : Fate) → is_on l f ≡ true → stands_back f ≡ false
-on_not_back l f e = grind arith
-
 -- by a code, or by the home of one
 pub code_back : (c : ℕ) (f : Fate) → is_back c f ≡ true → stands_back f ≡ true
 code_back c f e = grind arith

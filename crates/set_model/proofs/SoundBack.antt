@@ -23,7 +23,7 @@ use Rattle.set_model.proofs.Events.{apart_on, left, unparked, untouched_self}
 use Rattle.set_model.proofs.Lists.{get_set_same, get_set_other, within, each_set}
 use Rattle.set_model.proofs.Moving.{moved_numbered, moved_fit, moved_same, moved_more, moved_nothing}
 use Rattle.set_model.proofs.Order.{order_none}
-use Rattle.set_model.proofs.Places.{false_true, not_on_waiting, back_not_on, back_not_parked, code_back, home_back, on_not_parked}
+use Rattle.set_model.proofs.Places.{false_true, not_on_waiting, back_not_on, back_not_parked, code_back, home_back}
 use Rattle.set_model.proofs.Filters.{fated_none}
 use Rattle.set_model.proofs.Ranging.{not_sent, offered_out}
 use Rattle.set_model.proofs.Targets.{target_up, target_off, target_open, target_unheld, target_elsewhere, none_up}
@@ -48,8 +48,7 @@ module _ (n : ℕ) (link : LinkState) (s : State) (at : IsAt n link Settled s) (
   risen_placed : (k : ℕ) → k < 16 → IsPlaced (slice_set s.links n risen) (place_of k (raised n s.routing))
   risen_placed k few =
       let stays = placed_set s.links n link risen (place_of k s.routing) at.there refl (t.placed k few) in
-      let there = get_set_same s.links n risen (within s.links n link at.there) in
-      rw ((alone s.routing k t.routing few).raised_place n) (grind (arith, stays, there))
+      rw ((alone s.routing k t.routing few).raised_place n) (grind (arith, stays, get_set_same s.links n risen (within s.links n link at.there)))
 
   risen_runs : (j : ℕ) (other : LinkState) → slice_get (slice_set s.links n risen) j ≡ Some other → has_phase_up other.phase ≡ true → (k : ℕ) → k < 16 → place_of k (raised n s.routing) ≢ Nowhere
   risen_runs j other there up k few = rw ((alone s.routing k t.routing few).raised_place n) (grind arith)
@@ -61,8 +60,7 @@ module _ (n : ℕ) (link : LinkState) (s : State) (at : IsAt n link Settled s) (
   rises_sound =
       let u = unparked n s.rows in
       let links = links_set s.settings.method s.links n risen s.rows risen_rows risen_one u.others t.links in
-      let below = within s.links n link at.there in
-      let known : n < s.routing.links = omega (arith, below, t.count, t.routed) in
+      let known : n < s.routing.links = omega (arith, within s.links n link at.there, t.count, t.routed) in
       search (raised_sound, length-set, u.kept.numbered, u.kept.fit, risen_placed, risen_runs, up_after, t.homes_up, risen_backs, back_order_moved, fated_none)
 
 -- A LINK IS LEFT BY ITS MESSAGES.
@@ -73,14 +71,11 @@ module _ (n : ℕ) (link : LinkState) (s : State) (at : IsAt n link Down s) (t :
   abbrev off_rows : List Row
   off_rows = moved (is_on n) (all_with (fate_on to_link)) s.rows
 
-  is_down : has_phase_up link.phase ≡ false
-  is_down = ap has_phase_up at.phase_is
-
   -- it is empty, since the target is another link
   settled_one : IsSoundLink s.settings.method n (settled_link link) off_rows
   settled_one =
       let l = t.links n link at.there in
-      let m = left n (fate_on to_link) s.rows (target_off s.links n (ap link_is_up at.there ∙ is_down)) (target_open to_link) in
+      let m = left n (fate_on to_link) s.rows (target_off s.links n (grind arith)) (target_open to_link) in
       grind arith
 
   -- what a link sees of it
@@ -100,14 +95,14 @@ module _ (n : ℕ) (link : LinkState) (s : State) (at : IsAt n link Down s) (t :
 
   -- while a link is up there is a target
   over_parked : (k : ℕ) (other : LinkState) → slice_get (slice_set s.links n (settled_link link)) k ≡ Some other → has_phase_up other.phase ≡ true → parked off_rows ≡ []
-  over_parked = up_before s.links n link (settled_link link) at.there (λ e. absurd cc) (λ k old here up. moved_same (is_on n) is_parked (all_with (fate_on to_link)) s.rows (λ x. grind (arith, none_up)) (on_not_parked n) ∙ t.none_aside k old here up)
+  over_parked = up_before s.links n link (settled_link link) at.there (λ e. absurd cc) (λ k old here up. moved_same (is_on n) is_parked (all_with (fate_on to_link)) s.rows (λ x. grind (arith, none_up)) (λ f e. grind arith) ∙ t.none_aside k old here up)
 
   over_runs : (j : ℕ) (other : LinkState) → slice_get (slice_set s.links n (settled_link link)) j ≡ Some other → has_phase_up other.phase ≡ true → (k : ℕ) → k < 16 → place_of k (settled n (target s.links) s.routing) ≢ Nowhere
   over_runs = up_before s.links n link (settled_link link) at.there (λ e. absurd cc) (λ j old here up k few. let runs = t.all_run j old here up k few in rw ((alone s.routing k t.routing few).settled_place n (target s.links)) (grind (arith, none_up, runs)))
 
   pub moves_off_sound : IsSound (moved_over n link s)
   moves_off_sound =
-      let stays : has_phase_up link.phase ≡ true → has_phase_up (settled_link link).phase ≡ true = false_true (has_phase_up link.phase) is_down in
+      let stays : has_phase_up link.phase ≡ true → has_phase_up (settled_link link).phase ≡ true = false_true (has_phase_up link.phase) (ap has_phase_up at.phase_is) in
       let below : IfSome (target s.links) (λ r. r < s.routing.links) = grind (arith, target_up, within) in
       search (settled_sound, link_left, below, length-set, moved_numbered, moved_fit, over_placed, over_parked, over_runs, up_after, t.homes_up, over_backs, back_order_moved, fated_none, target_elsewhere)
 

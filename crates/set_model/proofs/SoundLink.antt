@@ -25,7 +25,7 @@ use Rattle.set_model.proofs.InPlace.{turned_same, changed_same}
 use Rattle.set_model.proofs.Order.{order_append, last_none, last_append, last_alone}
 use Rattle.set_model.proofs.Moving.{others_stay}
 use Rattle.set_model.proofs.Lists.{at_set, each_set, get_set_same, get_set_other, set_same, within, set_at}
-use Rattle.set_model.proofs.Places.{false_true, waiting_on, on_not_back}
+use Rattle.set_model.proofs.Places.{false_true}
 use Rattle.set_model.proofs.Walk.{IsAt}
 use Rattle.set_model.proofs.Standing.{gone_none}
 use Rattle.set_route.specs.Routing.{Routing}
@@ -91,13 +91,13 @@ acknowledges count n link s at t =
 pub gives_up : (test : Fate → Bool) (cause : DiscardCause) (n : ℕ) (link : LinkState) (s : State) → ((f : Fate) → test f ≡ true → is_on n f ≡ true) → GivenUp n s.rows (changed test (Discarded cause) s.rows) → length (unack n (changed test (Discarded cause) s.rows)) ≤ length (unack n s.rows) → IsAt n link Down s → IsSound s → IsSound (record s { rows = changed test (Discarded cause) s.rows })
 gives_up test cause n link s on_link g fewer at t =
     let l = t.links n link at.there in
-    let back_same = changed_same test stands_back (Discarded cause) refl (λ f e. on_not_back n f (on_link f e)) s.rows in
+    let back_same = changed_same test stands_back (Discarded cause) refl (λ f e. grind (arith, on_link f e)) s.rows in
     let sound = changes n link link s (changed test (Discarded cause) s.rows) t at.there refl (ap has_phase_settled at.phase_is) g back_same (omega (arith, l.window, fewer)) l.counted l.method (false_true (has_phase_up link.phase) (ap has_phase_up at.phase_is)) in
     subst (λ (links : List LinkState). IsSound (record s { links = links; rows = changed test (Discarded cause) s.rows })) (set_same s.links n link at.there) sound
 
 -- SENDING: what the rows keep where nothing is sent for the first time too.
 sent_by : (choice : Choice) (n : ℕ) (rows : List Row) → GivenUp n rows (rows_sent choice n rows) × (back (rows_sent choice n rows) ≡ back rows)
-sent_by first n rows = let d = sent n rows in (assumption, turned_same (is_waiting n) stands_back (Unacked n) refl (λ f e. on_not_back n f (waiting_on n f e)) 1 rows)
+sent_by first n rows = let d = sent n rows in (assumption, turned_same (is_waiting n) stands_back (Unacked n) refl (λ f e. grind arith) 1 rows)
 sent_by _ n rows = let k = kept_self rows in let u = λ (m : ℕ). untouched_self m rows in (search (k, u), refl)
 
 module _ (n : ℕ) (link : LinkState) (s : State) (at : IsAt n link Up s) (t : IsSound s) where

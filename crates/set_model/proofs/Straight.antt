@@ -20,7 +20,7 @@ use Rattle.set_model.proofs.Filters.{filter_within, none_within}
 use Rattle.set_model.proofs.Finding.{new_row}
 use Rattle.set_model.proofs.InPlace.{where_turned, where_changed}
 use Rattle.set_model.proofs.Standing.{ascends_appended, none_standing}
-use Rattle.set_model.proofs.Places.{false_true, itself, on_not_parked, code_back, home_back}
+use Rattle.set_model.proofs.Places.{false_true, itself, code_back, home_back}
 use Rattle.std.proofs.lemmas.Bool.Decides.{nat_tests}
 use Rattle.std.proofs.lemmas.Bool.{cond_both}
 use Rattle.set_route.specs.Routing.{settled, runs_on, NoneOpen, has_messages, place_of, place_raised, place_settled, raised}
@@ -157,7 +157,7 @@ module _ (n : ℕ) (rows : List Row) where
   stream_risen k home used Nowhere away p = stream_moves k Nowhere (On n) is_parked (Waiting n) true (λ f e. grind arith) refl (λ f e. e) (λ e. itself n) (λ e. absurd cc) used rows p
   stream_risen k home used (Changing to code via) away p = absurd (away to code via refl)
   stream_risen k home used (On l) away p =
-      let remains = stream_moves k (On l) (On l) is_parked (Waiting n) false (λ f e. grind arith) refl (λ f e. on_not_parked l f e) (λ e. absurd cc) (λ e f h. h) used rows p in
+      let remains = stream_moves k (On l) (On l) is_parked (Waiting n) false (λ f e. grind arith) refl (λ f e. grind arith) (λ e. absurd cc) (λ e f h. h) used rows p in
       cond_both ((home == n) && not used) (On n) (On l) (λ (at : Place). IsSoundStream k at used risen) (λ e. stream_empty k (On l) (On n) used risen (remains.unused (grind arith)) remains) (λ e. remains)
 
 -- A LINK IS LEFT BY ITS MESSAGES.
