@@ -8,7 +8,7 @@ use Rattle.set_events.specs.declared.answer.Fate.TheVariants.{Acked, Discarded, 
 use Rattle.set_model.specs.Rows.{AreFit, IsHeldLast, IsInOrder, IsNumbered, Row, all_with, appended, body_at, changed, counts_of, fated, held, is_held, is_on, is_parked, is_unacked, is_waiting, moved, numbers, on, parked, standing, total_of, turned, unack, wait, was_acked, with_fate}
 use Rattle.set_model.proofs.Places.{itself, apart_back, unacked_not_waiting, waiting_not_held, unacked_not_held, parked_not_on, on_not_parked, on_not_acked, parked_not_acked, waiting_on, unacked_on, held_on, on_other, not_on_waiting, not_on_unacked, not_on_held}
 use Rattle.set_model.proofs.InPlace.{InPlace, turned_there, changed_there, turned_same, changed_same, turned_ordered, changed_ordered, turned_left, changed_left}
-use Rattle.set_model.proofs.Moving.{moved_length, moved_fit, moved_numbered, moved_gone, moved_same, moved_joined, moved_count}
+use Rattle.set_model.proofs.Moving.{moved_length, moved_fit, moved_numbered, moved_gone, moved_same, moved_joined, filter_moved}
 use Rattle.set_model.proofs.Filters.{filter_comm, filter_within}
 use Rattle.set_model.proofs.Order.{order_filter, order_sent, sent_joined, on_in_order, order_none, last_none, last_alone, last_filter, last_sent, order_on, last_on}
 use Rattle.set_model.proofs.Lookups.{body_moved}
@@ -45,7 +45,7 @@ pub changed_kept : (test : Fate → Bool) (to : Fate) (rows : List Row) → ((f 
 changed_kept test to rows = kept_in_place test rows (changed test to rows) (changed_there test to rows)
 
 pub moved_kept : (test : Fate → Bool) (fate : Row → Fate) (rows : List Row) → ((row : Row) → was_acked (fate row) ≡ false) → ((f : Fate) → test f ≡ true → was_acked f ≡ false) → Kept rows (moved test fate rows)
-moved_kept test fate rows o w = grind (arith, moved_fit, moved_numbered, moved_length, body_moved, total_is, moved_count, filter_comm, moved_same)
+moved_kept test fate rows o w = grind (arith, moved_fit, moved_numbered, moved_length, body_moved, total_is, filter_moved, filter_comm, moved_same)
 
 -- Nothing that link n sees changed.
 pub record Untouched (n : ℕ) (rows new : List Row) : Type 0 where

@@ -6,12 +6,9 @@ use Rattle.set_model.specs.Rows.{AreFit, IsHeldLast, IsInOrder, Row, body_at, ch
 
 -- What is kept where a row stays, and where one turns, is kept by both changes.
 module _ (test : Fate → Bool) (fate : Fate) (P : List Row → List Row → Type 0) (none : P [] []) (stays : (x : Row) (xs ys : List Row) → P xs ys → P (x ∷ xs) (x ∷ ys)) (turns : (x : Row) (xs ys : List Row) → test x.fate ≡ true → P xs ys → P (x ∷ xs) (with_fate fate x ∷ ys)) where
-  all_stay : (rows : List Row) → P rows rows
-  all_stay [] = none
-  all_stay (x ∷ rows) = stays x rows rows (all_stay rows)
-
   pub where_turned : (n : ℕ) (rows : List Row) → P rows (turned test fate n rows)
-  where_turned zero rows = all_stay rows
+  where_turned zero [] = none
+  where_turned zero (x ∷ rows) = stays x rows rows (where_turned zero rows)
   where_turned (suc n) [] = none
   where_turned (suc n) (x ∷ rows) = grind (arith, where_turned n rows, where_turned (suc n) rows)
 

@@ -16,11 +16,8 @@ module _ (test : Fate → Bool) (fate : Row → Fate) where
   pub filter_moved : (p : Row → Bool) → ((x : Row) → p (fated fate x) ≡ p x) → (rows : List Row) → filter p (moved test fate rows) ≡ moved test fate (filter p rows)
   filter_moved p same rows = search (filter-append, filter_comm, filter_fated)
 
-  pub moved_count : (p : Row → Bool) → ((x : Row) → p (fated fate x) ≡ p x) → (rows : List Row) → length (filter p (moved test fate rows)) ≡ length (filter p rows)
-  moved_count p same rows = ap length (filter_moved p same rows) ∙ moved_length (filter p rows)
-
   pub moved_numbered : (rows : List Row) → IsNumbered rows → IsNumbered (moved test fate rows)
-  moved_numbered rows numbered number = search (moved_count, moved_length)
+  moved_numbered rows numbered number = grind (arith, filter_moved, moved_length, numbered)
 
   pub moved_fit : (rows : List Row) → AreFit rows → AreFit (moved test fate rows)
   moved_fit rows a = search (fit_append, fit_filter, fit_fated)
