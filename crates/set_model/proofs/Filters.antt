@@ -1,5 +1,5 @@
 -- Filters of rows, and of rows with other fates.
-use Rattle.std.proofs.Common.{refl, arith, ◌≡◌, ◌∙◌, ap, sym, [], ◌∷◌, length, ◌+◌, ◌≤◌, Bool, true, false, List, ◌++◌, map}
+use Rattle.std.proofs.Common.{refl, arith, ◌≡◌, ◌∙◌, ap, sym, [], ◌∷◌, length, ◌≤◌, Bool, true, false, List, ◌++◌, map}
 use Rattle.std.specs.Prelude.{filter}
 use Rattle.set_events.specs.declared.answer.Fate.{Fate}
 use Rattle.set_model.specs.Rows.{AreFit, Row, fated, standing}

@@ -1,16 +1,18 @@
 -- WHAT AN EVENT LEAVES ALONE, and how it moves the window of its own link.
-use Rattle.std.proofs.Common.{arith, refl, ◌≡◌, ◌∙◌, sym, subst, ℕ, ◌+◌, ◌==◌, Bool, true, false, List, [], ◌∷◌, ◌++◌, length, map, drop, slice_get, Option, Some, append_assoc, inl, None, ap, take}
+use Rattle.std.proofs.Common.{arith, refl, ◌≡◌, ◌∙◌, sym, subst, ℕ, ◌==◌, Bool, true, false, List, [], ◌∷◌, ◌++◌, length, map, drop, slice_get, Option, Some, append_assoc, inl, None, ap, take}
 use Rattle.std.proofs.lemmas.Bool.{eqb-false}
 use Rattle.std.proofs.lemmas.Bool.Decides.{nat_tests}
 use Rattle.std.proofs.lemmas.List.Elements.{filter-append}
 use Rattle.std.proofs.lemmas.List.{append-nil, drop-map, take-map}
-use Rattle.set_model.specs.Step.{step, brought, rows_sent, takes}
 use Rattle.l2_units.specs.declared.unit.Unit.{Unit as SignalUnit}
+use Rattle.l3_orders.specs.declared.order.Order.{Order}
+use Rattle.l3_orders.specs.Grammar.{order_of, link_of}
 use Rattle.set_events.specs.declared.answer.DiscardCause.{DiscardCause}
 use Rattle.set_events.specs.declared.answer.Fate.{Fate}
 use Rattle.set_events.specs.declared.answer.Fate.TheVariants.{Waiting, Unacked}
 use Rattle.set_events.specs.declared.event.Event.{Event}
 use Rattle.set_route.specs.Routing.{Routing}
+use Rattle.set_model.specs.Step.{step, brought, rows_sent, takes}
 use Rattle.set_model.specs.Changeover.{fate_on}
 use Rattle.set_model.specs.Control.{Choice, first}
 use Rattle.set_model.specs.Frame.{BringsAbout, Concerns, LeavesAlone, MovesAsItsControl, window_after}
@@ -28,8 +30,6 @@ use Rattle.set_model.proofs.Ranging.{offered_out, not_sent}
 use Rattle.set_model.proofs.SoundBack.{up_not_held, down_not_waiting, alternative_up}
 use Rattle.set_model.proofs.Targets.{target_off, target_unheld}
 use Rattle.set_model.proofs.Walk.{step_walks, brought_by}
-use Rattle.l3_orders.specs.declared.order.Order.{Order}
-use Rattle.l3_orders.specs.Grammar.{order_of, link_of}
 
 -- ALONE: a link has the messages that it had, and more behind them.
 alone_more : (n : ℕ) (s t : State) (come : List Row) → slice_get t.links n ≡ slice_get s.links n → unack n t.rows ≡ unack n s.rows → wait n t.rows ≡ wait n s.rows ++ wait n come → held n t.rows ≡ held n s.rows ++ held n come → (is_up n s ≡ false → wait n come ≡ []) → (is_up n s ≡ true → held n come ≡ []) → LeavesAlone n s t

@@ -1,15 +1,15 @@
 -- What a step brings: each accepted message stands in one place more, and what is acknowledged stays so.
-use Rattle.std.proofs.Common.{refl, arith, ◌≡◌, ◌≤◌, ℕ, ◌==◌, false, List}
-use Rattle.set_model.specs.Step.{step, Gains, messages_in, octets_of}
+use Rattle.std.proofs.Common.{refl, arith, ◌≡◌, ℕ, false, List}
+use Rattle.std.proofs.lemmas.List.Elements.{filter-append}
+use Rattle.std.proofs.lemmas.List.{length-append}
 use Rattle.set_events.specs.declared.answer.Answer.{Answer}
 use Rattle.set_events.specs.declared.event.Event.{Event}
 use Rattle.set_events.specs.declared.event.Event.TheVariants.{Find, Offer, Take}
+use Rattle.set_model.specs.Step.{step, Gains, messages_in, octets_of}
 use Rattle.set_model.specs.Rows.{counts_of}
 use Rattle.set_model.specs.Sound.{IsManaged}
 use Rattle.set_model.specs.State.{State}
 use Rattle.set_model.proofs.Staying.{is_offer, step_grows}
-use Rattle.std.proofs.lemmas.List.Elements.{filter-append}
-use Rattle.std.proofs.lemmas.List.{length-append}
 use Rattle.set_model.proofs.Counting.{total_is}
 
 -- only an offer is answered by a message

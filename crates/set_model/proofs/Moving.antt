@@ -3,10 +3,10 @@ use Rattle.std.proofs.Common.{refl, arith, ◌≡◌, ◌∙◌, ap, [], ◌∷�
 use Rattle.std.specs.Prelude.{filter}
 use Rattle.std.proofs.lemmas.List.{append-nil, length-append, length-map}
 use Rattle.std.proofs.lemmas.List.Elements.{filter-append}
+use Rattle.std.proofs.lemmas.List.Filters.{length-filter_both}
 use Rattle.set_events.specs.declared.answer.Fate.{Fate}
 use Rattle.set_model.specs.Rows.{AreFit, IsNumbered, Row, fated, moved, standing}
 use Rattle.set_model.proofs.Filters.{filter_comm, filter_within, filter_apart, filter_fated, fated_all, fated_none, fit_append, fit_filter, fit_fated}
-use Rattle.std.proofs.lemmas.List.Filters.{length-filter_both}
 
 module _ (test : Fate → Bool) (fate : Row → Fate) where
   pub moved_length : (rows : List Row) → length (moved test fate rows) ≡ length rows

@@ -1,7 +1,8 @@
 -- WHAT HOLDS OF EVERY STATE is kept by a change of one link, with rows that change in their places.
-use Rattle.std.proofs.Common.{refl, arith, ◌≡◌, ◌∙◌, ap, sym, subst, ◌<◌, ◌≤◌, ℕ, ◌+◌, ◌%◌, ◌==◌, Bool, true, false, List, [], ◌++◌, length, map, slice_get, slice_set, Some, cond}
+use Rattle.std.proofs.Common.{refl, arith, ◌≡◌, ◌∙◌, ap, sym, subst, ◌≤◌, ℕ, ◌+◌, ◌==◌, Bool, true, false, List, [], ◌++◌, length, map, slice_get, slice_set, Some, cond}
 use Rattle.std.proofs.lemmas.List.{append-nil, length-map, length-append, length-drop, length-set, length-take}
 use Rattle.std.proofs.lemmas.List.Elements.{filter-append}
+use Rattle.std.proofs.lemmas.Bool.Decides.{nat_tests}
 use Rattle.l2_units.specs.Grammar.{head_of as header_in}
 use Rattle.l2_units.specs.declared.unit.Unit.{Unit as SignalUnit}
 use Rattle.l2_window.specs.Window.{WindowState}
@@ -11,6 +12,8 @@ use Rattle.set_events.specs.declared.answer.Fate.{Fate}
 use Rattle.set_events.specs.declared.answer.Fate.TheVariants.{Acked, Discarded, Unacked}
 use Rattle.set_events.specs.declared.config.Method.{Method}
 use Rattle.set_route.specs.declared.place.Place.{Place}
+use Rattle.set_route.specs.Routing.{Routing}
+use Rattle.set_route.specs.declared.place.Place.TheVariants.{Changing, Nowhere, On}
 use Rattle.set_model.specs.Changeover.{acknowledged_by}
 use Rattle.set_model.specs.Control.{Choice, accepted_of, choice_of, first, part_of}
 use Rattle.set_model.specs.Rows.{Row, back, changed, fated, held, is_held, is_on, is_unacked, is_waiting, moved, octets_in, on, standing, stands_back, unack, wait}
@@ -28,9 +31,6 @@ use Rattle.set_model.proofs.Lists.{at_set, each_set, get_set_same, get_set_other
 use Rattle.set_model.proofs.Places.{false_true}
 use Rattle.set_model.proofs.Walk.{IsAt}
 use Rattle.set_model.proofs.Standing.{gone_none}
-use Rattle.set_route.specs.Routing.{Routing}
-use Rattle.set_route.specs.declared.place.Place.TheVariants.{Changing, Nowhere, On}
-use Rattle.std.proofs.lemmas.Bool.Decides.{nat_tests}
 
 -- THE LINK THAT CHANGES, and the others, which don't see how the rows change.
 pub links_set : (m : Method) (links : List LinkState) (n : ℕ) (link : LinkState) (rows new : List Row) → IsSoundLink m n link new → ((k : ℕ) → (n == k) ≡ false → Untouched k rows new) → ((k : ℕ) (other : LinkState) → slice_get links k ≡ Some other → IsSoundLink m k other rows)

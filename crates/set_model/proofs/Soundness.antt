@@ -1,7 +1,7 @@
 -- EVERY STEP KEEPS WHAT HOLDS OF EVERY SET'S STATE, and a new set has it.
 use Rattle.std.proofs.Common.{refl, arith, ◌≡◌, ◌∙◌, sym, subst, ℕ, ◌<◌, zero, suc, ◌%◌, List, [], ◌∷◌, map, slice_get, Some, replicate, slice_index_or}
 use Rattle.std.proofs.lemmas.List.{length-replicate}
-use Rattle.set_model.specs.Step.{step}
+use Rattle.std.proofs.lemmas.Bool.Decides.{nat_tests}
 use Rattle.set_events.specs.declared.event.Event.{Event}
 use Rattle.set_events.specs.declared.event.Event.TheVariants.{Offer}
 use Rattle.set_route.specs.Routing.{new_stream, stream_numbers}
@@ -9,6 +9,7 @@ use Rattle.set_route.specs.declared.place.Code.{Code}
 use Rattle.set_route.specs.declared.place.Code.TheVariants.{Asked, Free}
 use Rattle.set_route.specs.declared.place.Place.TheVariants.{Nowhere}
 use Rattle.set_route.specs.declared.stream.Stream.{Stream}
+use Rattle.set_model.specs.Step.{step}
 use Rattle.set_model.specs.Laws.{RunsStraight}
 use Rattle.set_model.specs.Rows.{numbers, stream_of}
 use Rattle.set_model.specs.Sound.{AreFew, IsAsked, IsPlaced, IsSettings, IsSound}
@@ -21,7 +22,6 @@ use Rattle.set_model.proofs.Walk.{KeptBy, step_walks}
 use Rattle.set_model.proofs.SoundBack.{leaves, declares, releases, rises_sound, moves_off_sound}
 use Rattle.set_model.proofs.SoundLink.{with_inbox, acknowledges, gives_up, sends_sound, hears_sound}
 use Rattle.set_model.proofs.SoundNew.{queues, offers}
-use Rattle.std.proofs.lemmas.Bool.Decides.{nat_tests}
 
 -- THE STEP.
 pub asked_by : (event : Event) (body : List ℕ) → IsAsked event → event ≡ Offer body → stream_of body < 16

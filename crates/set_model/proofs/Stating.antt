@@ -1,6 +1,9 @@
 -- The laws of the list of rows.
-use Rattle.std.proofs.Common.{arith, ◌≡◌, [], ◌∷◌, ℕ, Bool, List, ◌++◌}
+use Rattle.std.proofs.Common.{arith, ℕ, Bool, List}
 use Rattle.std.proofs.lemmas.List.{drop_at}
+use Rattle.std.proofs.lemmas.List.Filters.{length-filter_both}
+use Rattle.std.proofs.lemmas.List.Folds.{find-append}
+use Rattle.std.proofs.lemmas.Bool.Decides.{nat_tests}
 use Rattle.set_events.specs.declared.answer.Fate.{Fate}
 use Rattle.set_model.specs.Laws.{MessagesStay, MovesTheLinksRows}
 use Rattle.set_model.specs.Rows.{IsNumbered, Row}
@@ -9,9 +12,6 @@ use Rattle.set_model.proofs.Moving.{moved_length, moved_numbered}
 use Rattle.set_model.proofs.Finding.{is_found, numbered_appended, same_numbers}
 use Rattle.set_model.proofs.Lookups.{no_rows, body_moved, place_moved, row_is_first}
 use Rattle.set_model.proofs.Events.{numbers_fated}
-use Rattle.std.proofs.lemmas.List.Filters.{length-filter_both}
-use Rattle.std.proofs.lemmas.List.Folds.{find-append}
-use Rattle.std.proofs.lemmas.Bool.Decides.{nat_tests}
 
 pub messages_stay : (test : Fate → Bool) (to : Fate) (fate : Row → Fate) (rows : List Row) → IsNumbered rows → MessagesStay test to fate rows
 messages_stay test to fate rows numbered = record {

@@ -1,14 +1,16 @@
 -- WHAT NO EVENT DOES to a message; and only what users offer counts as a new one.
 use Rattle.std.proofs.Common.{arith, ◌≡◌, ◌∙◌, ap, sym, ◌≤◌, ◌<◌, length, ℕ, ◌==◌, Bool, true, false, List}
 use Rattle.std.proofs.lemmas.List.{length_push, length-append}
-use Rattle.set_model.specs.Step.{step, rows_sent}
+use Rattle.std.proofs.lemmas.List.Elements.{filter-append}
 use Rattle.l3_orders.specs.Grammar.{text}
 use Rattle.l3_orders.specs.declared.order.Order.{Order}
 use Rattle.set_events.specs.declared.answer.Fate.{Fate}
 use Rattle.set_events.specs.declared.event.Event.{Event}
 use Rattle.set_events.specs.declared.event.Event.TheVariants.{Offer}
+use Rattle.set_events.specs.declared.answer.DiscardCause.{DiscardCause}
 use Rattle.set_route.specs.Routing.{Routing}
 use Rattle.set_route.specs.declared.place.Place.{Place}
+use Rattle.set_model.specs.Step.{step, rows_sent}
 use Rattle.set_model.specs.Control.{Choice, first}
 use Rattle.set_model.specs.Laws.{KeepsMessages}
 use Rattle.set_model.specs.Rows.{IsNumbered, Row, appended, body_at, counts_of, service_indicator, total_of, was_acked}
@@ -20,9 +22,7 @@ use Rattle.set_model.proofs.Places.{on_not_acked, parked_not_acked, back_not_ack
 use Rattle.set_model.proofs.Stating.{messages_stay}
 use Rattle.set_model.proofs.Targets.{target_open}
 use Rattle.set_model.proofs.Walk.{step_walks}
-use Rattle.set_events.specs.declared.answer.DiscardCause.{DiscardCause}
 use Rattle.set_model.proofs.Counting.{total_is}
-use Rattle.std.proofs.lemmas.List.Elements.{filter-append}
 
 abbrev pub is_offer : Event → Bool
 is_offer (Offer body) = true

@@ -3,12 +3,15 @@
 use Rattle.std.proofs.Common.{refl, arith, ◌≡◌, ◌∙◌, ap, sym, ℕ, Bool, true, false, not, ◌&&◌, List, [], ◌∷◌, length, map, cond, ◌<◌, ◌%◌, ◌==◌, ◌||◌, None}
 use Rattle.std.proofs.lemmas.List.{append-nil, map-append, length-map}
 use Rattle.std.proofs.lemmas.List.Elements.{filter-append}
+use Rattle.std.proofs.lemmas.Bool.Decides.{nat_tests}
+use Rattle.std.proofs.lemmas.Bool.{cond_both}
 use Rattle.l3_orders.specs.declared.order.Order.{Order}
 use Rattle.set_events.specs.declared.answer.Fate.{Fate}
 use Rattle.set_events.specs.declared.answer.Fate.TheVariants.{Unacked, Waiting}
 use Rattle.set_events.specs.declared.event.Event.{Event}
 use Rattle.set_route.specs.declared.place.Place.{Place}
 use Rattle.set_route.specs.declared.place.Place.TheVariants.{Changing, Nowhere, On}
+use Rattle.set_route.specs.Routing.{settled, runs_on, NoneOpen, has_messages, place_of, place_raised, place_settled, raised}
 use Rattle.set_model.specs.Changeover.{fate_on, left_by, queued, released}
 use Rattle.set_model.specs.Control.{Choice, first}
 use Rattle.set_model.specs.Laws.{RunsStraight}
@@ -16,17 +19,14 @@ use Rattle.set_model.specs.Rows.{IsNumbered, Row, all_with, appended, changed, f
 use Rattle.set_model.specs.Sound.{AreAbove, AreTogether, BeginsNone, IsAscending, IsAsked, IsBackOf, IsSound, IsSoundStream, astray, is_astray, is_live, is_unfinished, live, stands_at}
 use Rattle.set_model.specs.State.{LinkState, State, fate_at, target}
 use Rattle.set_model.specs.declared.phase.Phase.TheVariants.{Up}
+use Rattle.set_model.specs.Step.{step, offered, rows_sent}
+use Rattle.set_route.proofs.Alone.{alone}
+use Rattle.set_route.proofs.Quiet.{left_quiet, back_quiet, never_changing}
 use Rattle.set_model.proofs.Filters.{filter_within, none_within}
 use Rattle.set_model.proofs.Finding.{new_row}
 use Rattle.set_model.proofs.InPlace.{where_turned, where_changed}
 use Rattle.set_model.proofs.Standing.{ascends_appended, none_standing}
 use Rattle.set_model.proofs.Places.{false_true, itself, code_back, home_back}
-use Rattle.std.proofs.lemmas.Bool.Decides.{nat_tests}
-use Rattle.std.proofs.lemmas.Bool.{cond_both}
-use Rattle.set_route.specs.Routing.{settled, runs_on, NoneOpen, has_messages, place_of, place_raised, place_settled, raised}
-use Rattle.set_model.specs.Step.{step, offered, rows_sent}
-use Rattle.set_route.proofs.Alone.{alone}
-use Rattle.set_route.proofs.Quiet.{left_quiet, back_quiet, never_changing}
 use Rattle.set_model.proofs.Moving.{moved_nothing}
 use Rattle.set_model.proofs.SoundBack.{leaves as leaves_sound, releases as releases_sound}
 use Rattle.set_model.proofs.Soundness.{sounds}

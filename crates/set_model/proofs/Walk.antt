@@ -1,7 +1,6 @@
 -- THE WALK over the cases of the step, once: what each small change keeps, every event keeps.
 use Rattle.std.proofs.Common.{refl, arith, ◌≡◌, ◌<◌, ◌≤◌, length, ℕ, zero, suc, ◌+◌, Bool, true, false, ◌⊎◌, List, [], ◌∷◌, ◌++◌, slice_get, Option, Some, None, inr}
 use Rattle.std.proofs.lemmas.Bool.{cond_both}
-use Rattle.set_model.specs.Step.{step, Outcome, after_control, brought, comes_back, controls, gives_up, heard, in_service, is_msu, next, offer_refusal, offered, rises, runs_out, taken, takes, with_known}
 use Rattle.l2_units.specs.Grammar.{head_of as header_in}
 use Rattle.l2_units.specs.declared.unit.Unit.{Unit as SignalUnit}
 use Rattle.l3_orders.specs.Grammar.{link_of, order_of}
@@ -13,6 +12,7 @@ use Rattle.set_events.specs.declared.answer.Fate.TheVariants.{Discarded}
 use Rattle.set_events.specs.declared.event.Event.{Event}
 use Rattle.set_events.specs.declared.event.Event.TheVariants.{BackTimeout, Down as DownEvent, DownBlind, Find, Heard, Next, NoAnswer, Offer, Restore, Take, Up as UpEvent}
 use Rattle.set_route.specs.Routing.{code_for, home_of}
+use Rattle.set_model.specs.Step.{step, Outcome, after_control, brought, comes_back, controls, gives_up, heard, in_service, is_msu, next, offer_refusal, offered, rises, runs_out, taken, takes, with_known}
 use Rattle.set_model.specs.Changeover.{acknowledged_by, answered, can_declare, changed_over, declared, declared_from, is_reasonable, leaving_order, left_by, left_link, moved_over, order_obeyed, queued, released, released_from, reply_of, settled, some_in_use}
 use Rattle.set_model.specs.Control.{part_of}
 use Rattle.set_model.specs.Frame.{BringsAbout, BringsBackTo, Concerns}
