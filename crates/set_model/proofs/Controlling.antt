@@ -1,4 +1,4 @@
--- What the control's own step does to the window, the FSN last accepted, and the cursor.
+-- What the control chooses to send for the first time, and where its cursor, or its place in the cycle, is after each step.
 use Rattle.std.proofs.Common.{arith, ◌≡◌, ◌≢◌, ◌<◌, ◌≤◌, ℕ, ◌+◌, Bool, length, drop}
 use Rattle.std.proofs.lemmas.List.{length-drop}
 use Rattle.std.proofs.lemmas.Bool.Decides.{nat_tests}
