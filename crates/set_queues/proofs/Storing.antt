@@ -1,6 +1,7 @@
 -- A body is found where it was put, and a further one leaves the earlier ones.
-use Rattle.std.proofs.Common.{arith, ◌≡◌, ◌≤◌, ◌<◌, ◌+◌, ◌∙◌, ap, refl, sym, ℕ, zero, suc, List, [], ◌∷◌, ◌++◌, length, Some}
+use Rattle.std.proofs.Common.{get_or, arith, ◌≡◌, ◌≤◌, ◌<◌, ◌+◌, ◌∙◌, ap, refl, sym, ℕ, zero, suc, List, [], ◌∷◌, ◌++◌, length, Some}
 use Rattle.std.specs.Prelude.{slice_get, slice_index}
+use Rattle.std.proofs.lemmas.Grind.{get_or_default_zero}
 use Rattle.std.specs.List.{between}
 use Rattle.std.proofs.lemmas.List.{take_all, take-append-le, drop-append-le, drop_at, length-append, length-drop}
 use Rattle.set_queues.specs.Bodies.{bodies_in, AreAll}
@@ -44,3 +45,7 @@ pub found : (i start : ℕ) (ends octets : List ℕ) → AreAll start ends octet
 found i start [] octets all h = absurd (omega arith)
 found zero start (end ∷ ends) octets all h = (refl, all.0, starts_within end ends octets all.1)
 found (suc i) start (end ∷ ends) octets all h = found i end ends octets all.1 (omega arith)
+
+-- the ends that the code reads
+pub spans : (i : ℕ) (ends seen octets : List ℕ) (start end : ℕ) → seen ≡ ends → AreAll 0 ends octets → i < length (bodies_in 0 ends octets) → start ≡ slice_index (0 ∷ seen) i → end ≡ get_or ends i end → (start ≤ end) × (end ≤ length octets)
+spans i ends seen octets start end e all h s t = let f = found i 0 ends octets all h in let d = get_or_default_zero ends i end (omega (arith, length_bodies 0 ends octets)) in rw (s, t, e, d) (f.1, f.2)
