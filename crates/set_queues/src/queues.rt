@@ -449,9 +449,9 @@ impl Queues {
         ensures room { self.new.room ≡ self.old.room }
     {
         let to = fate_on(target);
-        self.divert(Fate::Unacked { link }, to);
-        self.divert(Fate::Waiting { link }, to);
-        self.divert(Fate::Held { link }, to);
+        self.pass_all(Fate::Unacked { link }, to);
+        self.pass_all(Fate::Waiting { link }, to);
+        self.pass_all(Fate::Held { link }, to);
     }
 
     /// A new life of the link: FSN 127 counts as acknowledged again (Q.703 5.2.1).
