@@ -1,7 +1,13 @@
-use Rattle.std.proofs.Common.{arith}
-use Rattle.set_queues.proofs.Linked.{of_link}
+use Rattle.std.proofs.Common.{arith, refl}
+use Rattle.set_queues.proofs.Linked.{of_link, found, list_there}
 use Rattle.set_queues.proofs.Soundness.{kept_as, kept_with_last}
 use Rattle.set_queues.proofs.queues.Queues.reset.Goals as goal
+
+pub reset-requires : goal.reset-requires
+reset-requires c =
+    let link = found c.buffers.inside _ _ c.args.link c.index_mut.result.now refl (rw (← c.self.view_is, ← c.buffers.view_is) at c.requires.known) c.from.ensures c.index_mut.ensures.value in
+    let facts = rw (← c.self.view_is, ← c.buffers.view_is) at c.requires in
+    record { unacked = cc (list_there (λ x. x.unacked) _ _ _ link); unsent = cc (list_there (λ x. x.unsent) _ _ _ link) }
 
 pub invariant_of-self : goal.invariant_of-self
 invariant_of-self c = (kept_as _ _ _ _ (grind (arith, of_link)) (kept_with_last _ _ _ c.args.link 127 c.self.invariant.0), c.self.invariant.1)
