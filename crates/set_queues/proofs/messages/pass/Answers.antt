@@ -1,8 +1,8 @@
-use Rattle.std.proofs.Common.{◌≡◌, ◌∙◌, ap, sym, List, ℕ, Some}
+use Rattle.std.proofs.Common.{arith, ◌≡◌, ◌∙◌, ap, sym, List, ℕ, Some}
 use Rattle.std.specs.Prelude.{slice_get}
 use Rattle.set_queues.specs.Buffers.{queue_at, same_fate}
-use Rattle.set_queues.proofs.Standing.{room_sum}
-use Rattle.set_queues.proofs.Passing.{queue_away, queue_next, restood_next}
+use Rattle.set_queues.proofs.Standing.{room_sum, given_at, length-restood}
+use Rattle.set_queues.proofs.Passing.{queue_away, queue_next, restood_next, known_with, takes_one}
 use Rattle.set_queues.proofs.messages.pass.Goals as goal
 
 pub loop-place-preserved : goal.loop-place-preserved
@@ -16,3 +16,12 @@ loop-place-preserved c =
       counted = c.restand.ensures.counted;
       room = c.restand.ensures.room ∙ c.loop-place.invariant.room;
     }
+
+pub restand-requires-clause-given : goal.restand-requires-clause-given
+restand-requires-clause-given c = grind (arith, queue_away, given_at, length-restood)
+
+pub push-requires : goal.push-requires
+push-requires c = record {
+  known = known_with c.args.to c.args.to _ _ _ c.loop-place.invariant.lists c.requires.other;
+  room = takes_one c.args.to c.args.count c.loop-place.place _ _ c.requires.room c.loop-place.invariant.rooms c.loop-place-test.true;
+}

@@ -1,5 +1,6 @@
 use Rattle.std.proofs.Common.{arith, refl, sym, ◌<◌, length}
 use Rattle.set_events.specs.declared.answer.Fate.TheVariants.{Unacked}
+use Rattle.set_queues.proofs.Tallies.{octets-split}
 use Rattle.set_queues.proofs.Soundness.{given_all, kept_acked}
 use Rattle.set_queues.proofs.queues.Queues.acknowledge.Goals as goal
 
@@ -14,3 +15,12 @@ invariant_of-self c =
           kept_acked _ _ _ c.args.link c.in-Some.count c.args.fsn (omega (arith, c.self.invariant.0.sound.few)) c.self.invariant.0 known),
       c.pass.ensures.counted,
     )
+
+pub overflow_sub-self : goal.overflow_sub-self
+overflow_sub-self c = let weighed = c.self.invariant.0.weighed c.args.link (rw (← c.self.view_is) at c.requires.known) in grind (arith, octets-split)
+
+pub ack-requires : goal.ack-requires
+ack-requires c = rw c.pass.ensures.lists (record { known = rw (← c.self.view_is) at c.requires.known; fsn = c.requires.fsn; reasonable = grind arith })
+
+pub weigh-octets-requires : goal.weigh-octets-requires
+weigh-octets-requires c = record { known = rw (← c.self.view_is) at c.requires.known; few = grind arith; fit = c.self.invariant.0.sound.fit }

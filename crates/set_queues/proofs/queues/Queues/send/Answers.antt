@@ -1,5 +1,6 @@
 use Rattle.std.proofs.Common.{arith, ◌<◌, length}
-use Rattle.set_queues.proofs.Soundness.{kept_sent}
+use Rattle.set_queues.proofs.Tallies.{octets_few}
+use Rattle.set_queues.proofs.Soundness.{given_first, kept_sent}
 use Rattle.set_queues.proofs.queues.Queues.send.Goals as goal
 
 pub invariant_of-self-2 : goal.invariant_of-self-2
@@ -10,3 +11,9 @@ invariant_of-self-2 c =
           kept_sent _ _ _ c.args.link c.in_ok-number.number (omega (arith, c.self.invariant.0.sound.few)) c.self.invariant.0 known sent.first c.in_ok-number.ensures.few),
       c.restand-octets.ensures.counted,
     )
+
+pub restand-octets-requires-clause-given : goal.restand-octets-requires-clause-given
+restand-octets-requires-clause-given c = given_first _ _ c.args.link _ c.self.invariant.0.sound c.in_ok-number.ensures.sent.first
+
+pub overflow_add-self : goal.overflow_add-self
+overflow_add-self c = let weighed = c.self.invariant.0.weighed c.args.link (rw (← c.self.view_is) at c.requires) in grind (arith, octets_few)
