@@ -13,12 +13,6 @@ use Rattle.set_queues.proofs.Updates.{there, length-updated, updated_same, updat
 use Rattle.std.proofs.lemmas.List.{append-nil}
 use Rattle.set_queues.proofs.Standing.{same_self, take_get, given_at, none_past, room_sum, length-restood, restood-append}
 
-pub list_kept : {Y : Type 0} (get : Option LinkLists → Y) (f : LinkLists → LinkLists) (ls : List LinkLists) (l k : ℕ) → ((o : Option LinkLists) → get (option_map f o) ≡ get o) → (b : Bool) → (l == k) ≡ b → get (slice_get (updated l f ls) k) ≡ get (slice_get ls k)
-list_kept get f ls l k e b t = grind (arith, updated_same, updated_other)
-
-pub kept_last : (f : LinkLists → LinkLists) → ((x : LinkLists) → (f x).last ≡ x.last) → (o : Option LinkLists) → number_in (option_map f o) ≡ number_in o
-kept_last f e o = grind arith
-
 pub queue_set : (g f : Fate) (numbers : List ℕ) (q : Lists) → is_standing g ≡ true → IsKnown g q → queue_at f (with_queue g numbers q) ≡ cond (same_fate g f) numbers (queue_at f q)
 queue_set (Waiting l) f ns q s h = let x = there q.links l h in grind (arith, updated_there, updated_other)
 queue_set (Unacked l) f ns q s h = let x = there q.links l h in grind (arith, updated_there, updated_other)

@@ -5,7 +5,7 @@ use Rattle.set_events.specs.declared.answer.Fate.{Fate}
 use Rattle.set_events.specs.declared.answer.Fate.TheVariants.{Waiting, Unacked, Acked}
 use Rattle.set_queues.specs.declared.message.Message.{Message}
 use Rattle.set_queues.specs.Counts.{one_if}
-use Rattle.set_queues.specs.Messages.{restood_one, restood, octets_at, octets_of, IsFit}
+use Rattle.set_queues.specs.Messages.{restood_one, restood, octets_at, octets_of, IsFit, AreFit}
 use Rattle.set_queues.specs.Backs.{passed_first}
 use Rattle.set_queues.specs.Sending.{first_sent, acknowledged, reach}
 use Rattle.set_queues.specs.Buffers.{no_lists, AreEmpty, LinkLists, Lists, is_standing, same_fate, queue_at, with_queue, with_last, list_in, IsKnown, IsQueued, Rooms, CanTake}
@@ -39,6 +39,10 @@ passed_size q from to = both_size q from to [] (queue_at to q ++ queue_at from q
 
 pub given_all : (q : Lists) (ms : List Message) (from : Fate) → AreSound q ms → is_standing from ≡ true → AreGiven (queue_at from q) ms
 given_all q ms from h s = given_queue q ms from h.tied s (queue_at from q) (λ m. omega arith)
+
+-- of as many links and codes
+sound_on : (q q' : Lists) (ms ms' : List Message) → AreSound q ms → SameSize q q' → AreNarrow q' → AreTied q' ms' → AreFit ms' → AreSound q' ms'
+sound_on q q' ms ms' s e n t f = record { one = omega (arith, s.one, e.links); few = omega (arith, s.few, e.links); codes = e.back ∙ s.codes; narrow = n; tied = t; fit = f }
 
 -- THE FIRST SO MANY OF A QUEUE stand last in another place
 
@@ -82,17 +86,10 @@ module _ (k : ℕ) (from to : Fate) (q : Lists) (ms : List Message) (c : CanMove
   pub kept_moved : (octets octets' : List ℕ) → AreKept q ms octets → ((l : ℕ) → same_fate to (Unacked l) ≡ true → length (queue_at to q) + k ≤ 127) → Weighs k from to q ms octets octets' → AreKept (moved k from to q) (restood (take k (queue_at from q)) to ms) octets'
   kept_moved octets octets' h n w =
       let s = h.sound in
-      let size = both_size q from to (drop k (queue_at from q)) (queue_at to q ++ take k (queue_at from q)) in
       let within : (m : ℕ) → occurs m (take k (queue_at from q)) ≤ occurs m (queue_at from q) = λ m. omega (arith, occurs-split m k (queue_at from q)) in
+      let tied = moved_tie q (moved k from to q) ms (take k (queue_at from q)) from to s.tied c.standing (given_queue q ms from s.tied c.standing _ within) within moved_moves in
       record {
-        sound = record {
-          one = omega (arith, s.one, size.links);
-          few = omega (arith, s.few, size.links);
-          codes = size.back ∙ s.codes;
-          narrow = narrow_moved s.narrow n;
-          tied = moved_tie q (moved k from to q) ms (take k (queue_at from q)) from to s.tied c.standing (given_queue q ms from s.tied c.standing _ within) within moved_moves;
-          fit = fit_restood (take k (queue_at from q)) to ms s.fit;
-        };
+        sound = sound_on q _ ms _ s (both_size q from to _ _) (narrow_moved s.narrow n) tied (fit_restood (take k (queue_at from q)) to ms s.fit);
         weighed = weighed_moved octets octets' h.weighed w;
       }
 
@@ -143,14 +140,7 @@ kept_added q ms octets x h fit k u =
     let size = size_stays x.fate (queue_at x.fate q ++ length ms ∷ []) q in
     let same : (l : ℕ) → queue_at (Unacked l) (with_queue x.fate (queue_at x.fate q ++ length ms ∷ []) q) ≡ queue_at (Unacked l) q = λ l. queue_away x.fate (Unacked l) _ q _ refl k (unqueued x.fate l u) in
     record {
-      sound = record {
-        one = omega (arith, s.one, size.links);
-        few = omega (arith, s.few, size.links);
-        codes = size.back ∙ s.codes;
-        narrow = λ l. rw (same l) (s.narrow l);
-        tied = added_tie q ms x s.tied k;
-        fit = fit_push ms x s.fit fit;
-      };
+      sound = sound_on q _ ms _ s size (λ l. rw (same l) (s.narrow l)) (added_tie q ms x s.tied k) (fit_push ms x s.fit fit);
       weighed = λ l b. rw (same l, octets_push (queue_at (Unacked l) q) ms x (given_all q ms (Unacked l) s refl)) (h.weighed l (omega (arith, b, size.links)));
     }
 
@@ -207,14 +197,7 @@ last_links l fsn q = length-updated (λ (z : LinkLists). record z { last = fsn }
 
 pub kept_with_last : (q : Lists) (ms : List Message) (octets : List ℕ) (l fsn : ℕ) → AreKept q ms octets → AreKept (with_last l fsn q) ms octets
 kept_with_last q ms octets l fsn h = record {
-  sound = record {
-    one = omega (arith, h.sound.one, last_links l fsn q);
-    few = omega (arith, h.sound.few, last_links l fsn q);
-    codes = h.sound.codes;
-    narrow = λ k. rw (queue_last (Unacked k) l fsn q) (h.sound.narrow k);
-    tied = λ f s m. rw (queue_last f l fsn q) (h.sound.tied f s m);
-    fit = h.sound.fit;
-  };
+  sound = sound_on q _ ms ms h.sound (record { links = last_links l fsn q; back = refl }) (λ k. rw (queue_last (Unacked k) l fsn q) (h.sound.narrow k)) (λ f s m. rw (queue_last f l fsn q) (h.sound.tied f s m)) h.sound.fit;
   weighed = λ k b. rw (queue_last (Unacked k) l fsn q) (h.weighed k (omega (arith, b, last_links l fsn q)));
 }
 
@@ -235,5 +218,3 @@ sent_links q l n = (both_size q (Waiting l) (Unacked l) (drop 1 (queue_at (Waiti
 
 pub acked_links : (q : Lists) (l fsn : ℕ) → length (acknowledged l fsn q).links ≡ length q.links
 acked_links q l fsn = last_links l fsn (with_queue (Unacked l) (drop (reach l fsn q) (queue_at (Unacked l) q)) q) ∙ links_stay (Unacked l) (drop (reach l fsn q) (queue_at (Unacked l) q)) q
-
-pub ruleset leaving = (given_all, given_first, known_with, octets_few, octets-split)

@@ -4,6 +4,7 @@ use Rattle.std.specs.Prelude.{slice_get}
 use Rattle.std.proofs.lemmas.Bool.Decides.{nat_tests}
 use Rattle.std.proofs.lemmas.Bool.{eq-eqb, ne_eqb}
 use Rattle.std.proofs.lemmas.Option.{slice_get_within, slice_get_past, slice_get-get_or, get_or_from_slice_get}
+use Rattle.std.proofs.lemmas.List.{take-append-drop}
 use Rattle.std.proofs.lemmas.Grind.{take_at_read}
 use Rattle.set_events.specs.declared.answer.Fate.{Fate}
 use Rattle.set_queues.specs.declared.message.Message.{Message}
@@ -24,9 +25,7 @@ occurs-append m [] ys = omega arith
 occurs-append m (x ∷ xs) ys = omega (arith, occurs-append m xs ys)
 
 pub occurs-split : (m k : ℕ) (xs : List ℕ) → occurs m (take k xs) + occurs m (drop k xs) ≡ occurs m xs
-occurs-split m zero xs = omega arith
-occurs-split m (suc k) [] = omega arith
-occurs-split m (suc k) (x ∷ xs) = omega (arith, occurs-split m k xs)
+occurs-split m k xs = omega (arith, occurs-append m (take k xs) (drop k xs), ap (occurs m) (take-append-drop k xs))
 
 pub occurs_here : (x m : ℕ) → x ≡ m → one_if (x == m) ≡ 1
 occurs_here x m e = ap one_if (eq-eqb x m e)

@@ -1,6 +1,7 @@
 -- The running counts of a list of messages, when one of them changes or joins, and the octets of their bodies.
 use Rattle.std.proofs.Common.{◌^◌, arith, ◌≡◌, ◌+◌, ◌≤◌, ◌<◌, [], ◌∷◌, ◌++◌, length, ℕ, zero, suc, Bool, List, Option, Some, None, get_or, refl, ◌∙◌, ap, ◌*◌, take, drop}
 use Rattle.std.specs.Prelude.{filter, slice_get, slice_set}
+use Rattle.std.proofs.lemmas.List.{take-append-drop}
 use Rattle.std.proofs.lemmas.Option.{slice_get_read}
 use Rattle.set_queues.specs.declared.message.Message.{Message}
 use Rattle.set_events.specs.declared.answer.Fate.{Fate}
@@ -83,9 +84,7 @@ octets-append [] ys ms = omega arith
 octets-append (x ∷ xs) ys ms = omega (arith, octets-append xs ys ms)
 
 pub octets-split : (k : ℕ) (xs : List ℕ) (ms : List Message) → octets_of (take k xs) ms + octets_of (drop k xs) ms ≡ octets_of xs ms
-octets-split zero xs ms = omega arith
-octets-split (suc k) [] ms = omega arith
-octets-split (suc k) (x ∷ xs) ms = omega (arith, octets-split k xs ms)
+octets-split k xs ms = omega (arith, octets-append (take k xs) (drop k xs) ms, ap (λ (ns : List ℕ). octets_of ns ms) (take-append-drop k xs))
 
 pub fit_octets : (ms : List Message) (n : ℕ) (o : Option Message) → slice_get ms n ≡ o → AreFit ms → octets_in o ≤ 273
 fit_octets ms n None e f = omega arith

@@ -37,7 +37,6 @@ impl Buffers {
     ghost use Rattle.set_queues.specs.Sending.{IsSending, acknowledged, reach};
 
     /// The queues of so many links, all empty.
-    #[tactic(auto, using(crate::proofs::Updates::map_push_same))]
     pub(crate) fn new(alloc: Global, links: u8) -> Result<Buffers, AllocError>
         ensures { IfOk result (λ buffers. AreEmpty links 256 buffers.lists) }
     {

@@ -291,7 +291,6 @@ impl Queues {
     ///
     /// Refusals, in this order: 1 [`WindowFault::Empty`] with none that waits, 2
     /// [`WindowFault::Full`] with 127 unacknowledged.
-    #[tactic(auto, using(crate::proofs::Soundness::leaving))]
     pub fn send(&mut self, link: u8) -> Result<(u64, u8), WindowFault>
         requires { link < length self.old.lists.links }
         ensures empty { (result ≡ Err WindowFault.Empty) ↔ (queue_at
@@ -320,7 +319,6 @@ impl Queues {
     ///
     /// Refusal: 3 [`WindowFault::Unreasonable`], where the FSN is neither that last acknowledged nor
     /// that of an unacknowledged message.
-    #[tactic(auto, using(crate::proofs::Soundness::leaving))]
     pub fn acknowledge(&mut self, link: u8, fsn: u8) -> Result<u8, WindowFault>
         requires known { link < length self.old.lists.links }
         requires fsn { fsn < 128 }
@@ -377,7 +375,6 @@ impl Queues {
     /// the other queue from now on. It wants no memory.
     ///
     /// Conditions: one waits for it; the other is a queue in which messages can wait, with room for one.
-    #[tactic(auto, using(crate::proofs::Soundness::leaving))]
     pub fn turn_back(&mut self, code: u8, to: Fate)
         requires some { queue_at (Fate.Back code) self.old.lists ≢ [] }
         requires other { IsKnown to self.old.lists }
@@ -410,7 +407,6 @@ impl Queues {
 
     /// All that stand in one queue have another fate from now on, and stand last there, in their order, if
     /// it isn't final.
-    #[tactic(auto, using(crate::proofs::Soundness::leaving))]
     fn pass_all(&mut self, from: Fate, to: Fate)
         requires standing { is_standing from ≡ true }
         requires known { IsKnown from self.old.lists }
