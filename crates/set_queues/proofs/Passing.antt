@@ -81,4 +81,4 @@ restood_next ys i m f ms now new e g n = rw (n, e, take_get ys i m g, restood-ap
 pub takes_one : (f : Fate) (n i : ℕ) (old now : Rooms) → CanTake f n old → TakesRoom f i old now → i < n → CanTake f 1 now
 takes_one f n i old now c t h = let there = t f in grind (arith, eq-eqb)
 
-pub ruleset passing = (queue_id, queue_away, known_with, queue_next, restood_next, takes_one, take_get, given_at, none_past, room_sum, append-nil, length-restood)
+pub ruleset passing = (queue_id, queue_away, known_with, none_past, append-nil)

@@ -59,13 +59,6 @@ impl Buffers {
         })
     }
 
-    /// How many links there are.
-    pub(crate) fn links(&self) -> usize
-        ensures { result ≡ length self.now.lists.links }
-    {
-        self.links.len()
-    }
-
     /// How many messages stand there.
     #[tactic(auto, using(crate::proofs::Linked::of_link, crate::proofs::Linked::of_code))]
     pub(crate) fn len(&self, fate: Fate) -> usize
@@ -127,7 +120,7 @@ impl Buffers {
         if messages == 0 {
             return Ok(());
         }
-        for link in 0..self.links() as u8 {
+        for link in 0..self.links.len() as u8 {
             self.reserve(Fate::Waiting { link }, messages)?;
             self.reserve(Fate::Held { link }, messages)?;
         }

@@ -103,7 +103,7 @@ impl Queues {
         ensures value { result ≡ length self.now.lists.links }
         ensures few { (1 ≤ result) × (result ≤ 16) }
     {
-        self.buffers.links()
+        self.buffers.links.len()
     }
 
     /// How many messages there are: their numbers are those below it.
