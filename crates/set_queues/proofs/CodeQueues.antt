@@ -92,3 +92,5 @@ back_few code n q ms tie =
           (λ m. omega (arith, all_occur code n m q ms tie, hits_few code n (fate_at m ms)))
           (λ m b. rw (all_occur code n m q ms tie, slice_get_past ms m b) (hits_none code n)),
     )
+
+pub ruleset backs = (back_none, back_more, back_below, back_few)

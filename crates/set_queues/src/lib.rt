@@ -41,7 +41,7 @@
 //! caller's to know. It reads no clock, does no IO and takes no lock.
 //!
 //! The files: `message` what is kept of one; `messages` all of them with their counts (`tally`), and the
-//! first of a queue that go elsewhere; `buffers` the queues; `backs` what waits for the changebacks of one
+//! first of a queue that go elsewhere; `buffers` the queues; `backs` the oldest that waits for a changeback of one
 //! home; `queues` the whole; `bodies` the bodies.
 #![tactic(auto)]
 

@@ -3,7 +3,7 @@ ghost use Rattle.std.specs.Prelude.{◌≡◌, ◌+◌, ◌<◌, ℕ, slice_inde
 ghost use Rattle.set_queues.specs.Buffers.{IsQueued, same_fate};
 ghost use Rattle.set_queues.specs.Settling.{fate_on};
 
-use super::backs::{count_back, oldest_back};
+use super::backs::older;
 use super::buffers::Buffers;
 use super::message::Message;
 use super::messages::{Messages, pass, weigh};
@@ -186,7 +186,7 @@ impl Queues {
 
     /// How many messages wait for the acknowledgement of a changeback of this home, 0 to 15: for one of
     /// the codes 16 * home to 16 * home + 15.
-    #[tactic(auto, using(crate::proofs::CodeQueues::back_few))]
+    #[tactic(auto, using(crate::proofs::CodeQueues::backs))]
     pub fn back_count(&self, home: u8) -> usize
         requires { home < 16 }
         ensures value { result ≡ back_count home self.now.lists }
@@ -194,7 +194,12 @@ impl Queues {
     {
         // no count is out of range, since there are fewer than 2^63 messages
         self.len();
-        count_back(&self.buffers, home)
+        let mut count = 0;
+        for place in 0..16u8 {
+            let code = 16 * home + place;
+            count += self.buffers.len(Fate::Back { code });
+        }
+        count
     }
 
     /// The changeback code of this home, 0 to 15, for whose acknowledgement the oldest message waits:
@@ -204,7 +209,14 @@ impl Queues {
         requires { home < 16 }
         ensures { IsOldestOf home result self.now.lists }
     {
-        oldest_back(&self.buffers, home)
+        let mut oldest = None;
+        for place in 0..16u8 {
+            oldest = older(&self.buffers, oldest, home, place);
+        }
+        match oldest {
+            Some((code, _)) => Some(code),
+            None => None,
+        }
     }
 
     /// Makes room for so many new messages.

@@ -1,6 +1,0 @@
-use Rattle.std.proofs.Common.{◌*◌}
-use Rattle.set_queues.specs.Backs.{IsOldestOfSome}
-use Rattle.set_queues.proofs.backs.oldest_back.Given as goal
-
-abbrev pub invariant-loop-place : goal.invariant-loop-place
-invariant-loop-place l = IsOldestOfSome (16 * l.home) l.place l.oldest l.buffers.lists
