@@ -109,24 +109,6 @@ impl Buffers {
         }
     }
 
-    /// Makes room for so many more that wait for each link, and for as many that are held for it. The
-    /// messages stay where they stand.
-    pub(crate) fn reserve_each(&mut self, messages: usize) -> Result<(), AllocError>
-        requires few { length self.old.lists.links ≤ 16 }
-        ensures room { OnOk result (HaveRoom (length self.new.lists.links) messages self.new.rooms) }
-        ensures same { self.new.lists ≡ self.old.lists }
-        ensures kept { KeepsRoom self.old.rooms self.new.rooms }
-    {
-        if messages == 0 {
-            return Ok(());
-        }
-        for link in 0..self.links.len() as u8 {
-            self.reserve(Fate::Waiting { link }, messages)?;
-            self.reserve(Fate::Held { link }, messages)?;
-        }
-        Ok(())
-    }
-
     /// The message stands there, behind the others, if the fate isn't final.
     #[tactic(auto, using(crate::proofs::Linked::of_link, crate::proofs::Linked::of_code))]
     pub(crate) fn push(&mut self, fate: Fate, message: u64)

@@ -249,7 +249,14 @@ impl Queues {
             ≡ self.old.messages) × (self.new.room ≡ self.old.room) }
         ensures kept { KeepsRoom self.old.rooms self.new.rooms }
     {
-        self.buffers.reserve_each(messages)
+        if messages == 0 {
+            return Ok(());
+        }
+        for link in 0..self.links() as u8 {
+            self.reserve_at(Fate::Waiting { link }, messages)?;
+            self.reserve_at(Fate::Held { link }, messages)?;
+        }
+        Ok(())
     }
 
     /// Makes room in that queue for all that stand on the link, and so many more: what settling it may
