@@ -1,5 +1,5 @@
 -- What waits for the acknowledgements of changebacks: how many wait for a home's codes.
-use Rattle.std.proofs.Common.{refl, arith, ◌≡◌, sym, ◌+◌, ◌-◌, ◌≤◌, ◌<◌, [], ◌∷◌, ◌++◌, length, ℕ, zero, suc, true, false, ◌==◌, List, Option, Some, None, add-one}
+use Rattle.std.proofs.Common.{refl, arith, ◌≡◌, sym, ◌+◌, ◌-◌, ◌≤◌, ◌<◌, [], ◌∷◌, ◌++◌, length, ℕ, zero, suc, true, false, Bool, ◌&&◌, nat_le, nat_lt, ◌==◌, List, Option, Some, None, add-one}
 use Rattle.std.specs.List.{AllByRecursion, IsDistinct, list_any}
 use Rattle.std.proofs.lemmas.Bool.Decides.{nat_tests}
 use Rattle.std.proofs.lemmas.Map.Steps.{length-le_from_distinct_below}
@@ -59,29 +59,20 @@ abbrev all_back : ℕ → ℕ → Lists → List ℕ
 all_back code zero q = []
 all_back code (suc n) q = all_back code n q ++ queue_at (Back (code + n)) q
 
-abbrev hits : ℕ → ℕ → Option Fate → ℕ
-hits code zero fate = 0
-hits code (suc n) fate = hits code n fate + one_if (has_fate (Back (code + n)) fate)
+abbrev is_in : ℕ → ℕ → Option Fate → Bool
+is_in code n (Some (Back d)) = nat_le code d && nat_lt d (code + n)
+is_in code n _ = false
+
+in_more : (code n : ℕ) (fate : Option Fate) → one_if (is_in code (suc n) fate) ≡ one_if (is_in code n fate) + one_if (has_fate (Back (code + n)) fate)
+in_more code n fate = grind (arith, nat_tests)
 
 all_length : (code n : ℕ) (q : Lists) → length (all_back code n q) ≡ back_from code n q
 all_length code zero q = sym (back_none code q)
 all_length code (suc n) q = omega (arith, length-append (all_back code n q) (queue_at (Back (code + n)) q), all_length code n q, back_suc code n q)
 
-all_occur : (code n m : ℕ) (q : Lists) (ms : List Message) → AreTied q ms → occurs m (all_back code n q) ≡ hits code n (fate_at m ms)
-all_occur code zero m q ms tie = refl
-all_occur code (suc n) m q ms tie = omega (arith, occurs-append m (all_back code n q) (queue_at (Back (code + n)) q), all_occur code n m q ms tie, tie (Back (code + n)) refl m)
-
-hits_before : (code n d : ℕ) → code + n ≤ d → hits code n (Some (Back d)) ≡ 0
-hits_before code zero d h = refl
-hits_before code (suc n) d h = grind (arith, hits_before code n d)
-
-hits_few : (code n : ℕ) (fate : Option Fate) → hits code n fate ≤ 1
-hits_few code zero fate = omega arith
-hits_few code (suc n) fate = grind (arith, hits_before, hits_few code n fate)
-
-hits_none : (code n : ℕ) → hits code n None ≡ 0
-hits_none code zero = refl
-hits_none code (suc n) = grind (arith, hits_none code n)
+all_occur : (code n m : ℕ) (q : Lists) (ms : List Message) → AreTied q ms → occurs m (all_back code n q) ≡ one_if (is_in code n (fate_at m ms))
+all_occur code zero m q ms tie = grind (arith, nat_tests)
+all_occur code (suc n) m q ms tie = omega (arith, occurs-append m (all_back code n q) (queue_at (Back (code + n)) q), all_occur code n m q ms tie, tie (Back (code + n)) refl m, in_more code n (fate_at m ms))
 
 pub back_few : (code n : ℕ) (q : Lists) (ms : List Message) → AreTied q ms → back_from code n q ≤ length ms
 back_few code n q ms tie =
@@ -89,8 +80,8 @@ back_few code n q ms tie =
       arith,
       all_length code n q,
       few_in (length ms) (all_back code n q)
-          (λ m. omega (arith, all_occur code n m q ms tie, hits_few code n (fate_at m ms)))
-          (λ m b. rw (all_occur code n m q ms tie, slice_get_past ms m b) (hits_none code n)),
+          (λ m. grind (arith, all_occur code n m q ms tie))
+          (λ m b. rw (all_occur code n m q ms tie, slice_get_past ms m b) refl),
     )
 
 pub ruleset backs = (back_none, back_more, back_below, back_few)

@@ -11,7 +11,7 @@ use Rattle.set_queues.specs.Sending.{first_sent, acknowledged, reach}
 use Rattle.set_queues.specs.Buffers.{no_lists, AreEmpty, LinkLists, Lists, is_standing, same_fate, queue_at, with_queue, with_last, list_in, IsKnown, IsQueued, Rooms, CanTake}
 use Rattle.set_queues.specs.Queues.{occurs, stands, passed, AreTied, AreGiven, AreSound, AreNarrow, AreWeighed, AreKept}
 use Rattle.set_queues.proofs.Updates.{length-updated, updated_same, updated_other, get_push}
-use Rattle.set_queues.proofs.Standing.{Moves, moved_tie, given_queue, given_at, take_get, same_is, occurs-append, occurs-split}
+use Rattle.set_queues.proofs.Standing.{Moves, moved_tie, given_queue, take_get, same_is, occurs-append, occurs-split}
 use Rattle.set_queues.proofs.Tallies.{fit_push, fit_restood, octets-append, octets-split, octets_stay, octets_few}
 use Rattle.std.proofs.lemmas.Bool.Decides.{nat_tests}
 use Rattle.std.proofs.lemmas.List.{drop_all, take_all, get_or-replicate, get_or-set_same, get_or-set_other, get_or_past, length-replicate, length-append, length-take, length-drop}
@@ -176,9 +176,6 @@ kept_new q n e low high =
 
 weight_set : (octets : List ℕ) (l v k : ℕ) → l < length octets → slice_index (slice_set octets l v) k ≡ cond (l == k) v (slice_index octets k)
 weight_set octets l v k h = grind (arith, get_or-set_same, get_or-set_other)
-
-pub given_first : (q : Lists) (ms : List Message) (l n : ℕ) → AreSound q ms → slice_get (queue_at (Waiting l) q) 0 ≡ Some n → n < length ms
-given_first q ms l n h e = given_at (queue_at (Waiting l) q) ms 0 n (given_all q ms (Waiting l) h refl) e
 
 pub kept_sent : (q : Lists) (ms : List Message) (octets : List ℕ) (l n : ℕ) → l < length octets → AreKept q ms octets → l < length q.links → slice_get (queue_at (Waiting l) q) 0 ≡ Some n → length (queue_at (Unacked l) q) < 127 → AreKept (first_sent l n q) (restood_one n (Unacked l) ms) (slice_set octets l (slice_index octets l + octets_at n ms))
 kept_sent q ms octets l n long h b first few =

@@ -1,6 +1,8 @@
-use Rattle.std.proofs.Common.{arith, ◌<◌, length}
+use Rattle.std.proofs.Common.{arith, refl, ◌<◌, length}
 use Rattle.set_queues.proofs.Tallies.{octets_few}
-use Rattle.set_queues.proofs.Soundness.{given_first, kept_sent}
+use Rattle.set_events.specs.declared.answer.Fate.TheVariants.{Waiting}
+use Rattle.set_queues.proofs.Standing.{given_at}
+use Rattle.set_queues.proofs.Soundness.{given_all, kept_sent}
 use Rattle.set_queues.proofs.queues.Queues.send.Goals as goal
 
 pub invariant_of-self-2 : goal.invariant_of-self-2
@@ -13,7 +15,7 @@ invariant_of-self-2 c =
     )
 
 pub restand-octets-requires-clause-given : goal.restand-octets-requires-clause-given
-restand-octets-requires-clause-given c = given_first _ _ c.args.link _ c.self.invariant.0.sound c.in_ok-number.ensures.sent.first
+restand-octets-requires-clause-given c = given_at _ _ 0 _ (given_all _ _ (Waiting c.args.link) c.self.invariant.0.sound refl) c.in_ok-number.ensures.sent.first
 
 pub overflow_add-self : goal.overflow_add-self
 overflow_add-self c = let weighed = c.self.invariant.0.weighed c.args.link (rw (← c.self.view_is) at c.requires) in grind (arith, octets_few)
