@@ -21,13 +21,6 @@ found fields value i l x v b n e = grind (arith, length-map, slice_get_read)
 pub back_found : (fields : Inside) (value : BuffersState) (i c : ℕ) (x : QueueState) → state_of fields ≡ value → c < length value.lists.back → i ≡ c → x ≡ get_or fields.back.items i x → slice_get fields.back.items c ≡ Some x
 back_found fields value i c x v b n e = grind (arith, length-map, slice_get_read)
 
--- an index of this number is within the list
-pub within : (fields : Inside) (value : BuffersState) (i l : ℕ) → state_of fields ≡ value → l < length value.lists.links → i ≡ l → i < vec_len fields.links
-within fields value i l v b n = grind (arith, length-map)
-
-pub within_back : (fields : Inside) (value : BuffersState) (i c : ℕ) → state_of fields ≡ value → c < length value.lists.back → i ≡ c → i < vec_len fields.back
-within_back fields value i c v b n = grind (arith, length-map)
-
 -- THE QUEUES OF ONE LINK: its lists, and when it's set to another
 
 pub list_there : (list : LinkLists → List ℕ) (xs : List Link) (l : ℕ) (x : Link) → slice_get xs l ≡ Some x → list_in list (slice_get (map lists_of xs) l) ≡ list (lists_of x)
@@ -78,6 +71,6 @@ pub room_read : (xs : List QueueState) (c k : ℕ) (x y : QueueState) → slice_
 room_read xs c k x y e = rw (map_set_updated room_of (λ (r : ℕ). y.room) xs c x y e refl) (read_set y.room (map room_of xs) c k 0 (omega (arith, slice_get_within xs c x e, length-map xs room_of)))
 
 -- what a call on a queue of a link is for the set; and one on a code's
-pub ruleset of_link = (found, within, list_there, last_there, lists_set, lists_same, rooms_there, rooms_set, keeps, updated_twice, eq-eqb)
+pub ruleset of_link = (found, length-map, list_there, last_there, lists_set, lists_same, rooms_there, rooms_set, keeps, updated_twice, eq-eqb)
 
-pub ruleset of_code = (back_found, within_back, back_there, back_set, back_same, room_there, room_read, eq-eqb)
+pub ruleset of_code = (back_found, length-map, back_there, back_set, back_same, room_there, room_read, eq-eqb)
