@@ -1,5 +1,5 @@
 -- What waits for the acknowledgements of changebacks: how many wait for a home's codes.
-use Rattle.std.proofs.Common.{refl, arith, ◌≡◌, sym, ◌+◌, ◌-◌, ◌≤◌, ◌<◌, [], ◌∷◌, ◌++◌, length, ℕ, zero, suc, true, false, Bool, ◌&&◌, nat_le, nat_lt, ◌==◌, List, Option, Some, None, add-one}
+use Rattle.std.proofs.Common.{refl, arith, ◌≡◌, sym, ◌+◌, ◌-◌, ◌≤◌, ◌<◌, [], ◌∷◌, ◌++◌, length, ℕ, zero, suc, true, false, Bool, ◌&&◌, nat_le, nat_lt, ◌==◌, List, Option, Some, add-one}
 use Rattle.std.specs.List.{AllByRecursion, IsDistinct, list_any}
 use Rattle.std.proofs.lemmas.Bool.Decides.{nat_tests}
 use Rattle.std.proofs.lemmas.Map.Steps.{length-le_from_distinct_below}

@@ -1,6 +1,6 @@
 -- The queues of one link change: what that is for the lists and the rooms of a set.
 use Rattle.std.proofs.Common.{refl, arith, ◌≡◌, ◌∙◌, ap, ◌+◌, ◌≤◌, ◌<◌, length, map, ℕ, ◌==◌, [], List, Some, cond, get_or}
-use Rattle.std.specs.Prelude.{slice_get, slice_set, vec_len}
+use Rattle.std.specs.Prelude.{slice_get, slice_set}
 use Rattle.std.specs.Option.{option_map}
 use Rattle.std.proofs.lemmas.Bool.{eq-eqb}
 use Rattle.std.proofs.lemmas.List.{length-map}

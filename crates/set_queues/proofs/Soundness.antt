@@ -12,11 +12,11 @@ use Rattle.set_queues.specs.Buffers.{no_lists, AreEmpty, LinkLists, Lists, is_st
 use Rattle.set_queues.specs.Queues.{occurs, stands, passed, AreTied, AreGiven, AreSound, AreNarrow, AreWeighed, AreKept}
 use Rattle.set_queues.proofs.Updates.{length-updated, updated_same, updated_other, get_push}
 use Rattle.set_queues.proofs.Standing.{Moves, moved_tie, given_queue, take_get, same_is, occurs-append, occurs-split}
-use Rattle.set_queues.proofs.Tallies.{fit_push, fit_restood, octets-append, octets-split, octets_stay, octets_few}
+use Rattle.set_queues.proofs.Tallies.{fit_push, fit_restood, octets-append, octets-split, octets_stay}
 use Rattle.std.proofs.lemmas.Bool.Decides.{nat_tests}
 use Rattle.std.proofs.lemmas.List.{drop_all, take_all, get_or-replicate, get_or-set_same, get_or-set_other, get_or_past, length-replicate, length-append, length-take, length-drop}
 use Rattle.std.proofs.lemmas.Option.{slice_get_past}
-use Rattle.set_queues.proofs.Passing.{queue_set, queue_any, queued_stands, links_stay, known_with, queue_away, SameSize, size_stays, known_on}
+use Rattle.set_queues.proofs.Passing.{queue_any, links_stay, queue_away, SameSize, size_stays, known_on}
 
 -- two queues change: messages leave the one and join the other
 abbrev pub Replaces : Lists → Lists → Fate → Fate → List ℕ → List ℕ → Type 0

@@ -6,7 +6,12 @@ use super::buffers::Buffers;
 use set_events::Fate;
 
 /// The code and the number of the oldest, where one code of the home more is looked at.
-pub(crate) fn older(buffers: &Buffers, oldest: Option<(u8, u64)>, home: u8, place: u8) -> Option<(u8, u64)>
+pub(crate) fn older(
+    buffers: &Buffers,
+    oldest: Option<(u8, u64)>,
+    home: u8,
+    place: u8,
+) -> Option<(u8, u64)>
     requires home { home < 16 }
     requires place { place < 16 }
     requires codes { length buffers.now.lists.back ≡ 256 }
