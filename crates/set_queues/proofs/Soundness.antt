@@ -154,7 +154,7 @@ none_in list (suc n) (suc k) e = none_in list n k e
 all_alike : {X : Type 0} (x : X) (n k : ℕ) → get_or (replicate n x) k x ≡ x
 all_alike x n k = grind (arith, get_or-replicate, get_or-set_same, get_or-set_other, get_or_past, length-replicate)
 
-empty_queue : (q : Lists) (n codes : ℕ) (f : Fate) → AreEmpty n codes q → queue_at f q ≡ []
+pub empty_queue : (q : Lists) (n codes : ℕ) (f : Fate) → AreEmpty n codes q → queue_at f q ≡ []
 empty_queue q n codes f e = grind (arith, none_in, all_alike)
 
 pub kept_new : (q : Lists) (n : ℕ) → AreEmpty n 256 q → 1 ≤ n → n ≤ 16 → AreKept q [] (replicate 16 0)

@@ -1,5 +1,5 @@
 use Rattle.std.proofs.Common.{arith, refl}
-use Rattle.set_queues.proofs.Linked.{of_link, found, list_there}
+use Rattle.set_queues.proofs.Linked.{found, list_there, lists_set}
 use Rattle.set_queues.proofs.Soundness.{kept_as, kept_with_last}
 use Rattle.set_queues.proofs.queues.Queues.reset.Goals as goal
 
@@ -10,4 +10,4 @@ reset-requires c =
     record { unacked = cc (list_there (λ x. x.unacked) _ _ _ link); unsent = cc (list_there (λ x. x.unsent) _ _ _ link) }
 
 pub invariant_of-self : goal.invariant_of-self
-invariant_of-self c = (kept_as _ _ _ _ (grind (arith, of_link)) (kept_with_last _ _ _ c.args.link 127 c.self.invariant.0), c.self.invariant.1)
+invariant_of-self c = (kept_as _ _ _ _ (grind (arith, found, lists_set)) (kept_with_last _ _ _ c.args.link 127 c.self.invariant.0), c.self.invariant.1)
