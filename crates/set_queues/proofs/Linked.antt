@@ -6,10 +6,10 @@ use Rattle.std.proofs.lemmas.Bool.{eq-eqb}
 use Rattle.std.proofs.lemmas.List.{length-map}
 use Rattle.std.proofs.lemmas.Option.{slice_get-map, slice_get_read, slice_get_within, get_or_from_slice_get}
 use Rattle.l2_window.specs.Queue.{QueueState}
-use Rattle.set_events.specs.declared.answer.Fate.TheVariants.{Waiting, Held}
+use Rattle.set_events.specs.declared.answer.Fate.TheVariants.{Waiting, Unacked, Held}
 use Rattle.set_queues.specs.declared.buffers.Link.{Link}
 use Rattle.set_queues.specs.Messages.{updated}
-use Rattle.set_queues.specs.Buffers.{LinkLists, LinkRooms, Rooms, BuffersState, room_at, room_in, list_in, number_in, KeepsRoom, HaveRoom}
+use Rattle.set_queues.specs.Buffers.{LinkLists, LinkRooms, Rooms, BuffersState, queue_at, last_at, room_at, room_in, list_in, number_in, KeepsRoom, HaveRoom}
 use Rattle.set_queues.specs.Kept.{lists_of, rooms_of, messages_of, room_of, state_of}
 use Rattle.set_queues.specs.declared.buffers.Buffers.TheInside.{Inside}
 use Rattle.set_queues.proofs.Updates.{updated_there, updated_other, updated_twice, map_set_updated, map_set_same, read_set}
@@ -39,6 +39,18 @@ lists_same xs l x y e h = map_set_same lists_of xs l x y e h
 
 pub rooms_there : (room : LinkRooms → ℕ) (xs : List Link) (l : ℕ) (x : Link) → slice_get xs l ≡ Some x → room_in room (slice_get (map rooms_of xs) l) ≡ room (rooms_of x)
 rooms_there room xs l x e = grind (arith, slice_get-map)
+
+-- what is told of a link whose window an index reads
+pub record IsRead (x : Link) (l : ℕ) (value : BuffersState) : Type 0 where
+  pub last : last_at l value.lists ≡ x.window.last
+  pub unacked : queue_at (Unacked l) value.lists ≡ x.window.unacked
+  pub unsent : queue_at (Waiting l) value.lists ≡ x.window.unsent
+  pub room : room_at (Waiting l) value.rooms ≡ x.window.room
+
+pub is_read : (fields : Inside) (value : BuffersState) (i l : ℕ) (x : Link) → state_of fields ≡ value → l < length value.lists.links → i ≡ l → x ≡ get_or fields.links.items i x → IsRead x l value
+is_read fields value i l x v b n e =
+    let there = found fields value i l x v b n e in
+    rw (← v) (record { last = last_there _ l x there; unacked = list_there (λ y. y.unacked) _ l x there; unsent = list_there (λ y. y.unsent) _ l x there; room = rooms_there (λ y. y.unsent) _ l x there })
 
 pub rooms_set : (room : LinkRooms → ℕ) (xs : List Link) (l k : ℕ) (x y : Link) → slice_get xs l ≡ Some x → room_in room (slice_get (map rooms_of (slice_set xs l y)) k) ≡ cond (l == k) (room (rooms_of y)) (room_in room (slice_get (map rooms_of xs) k))
 rooms_set room xs l k x y e = rw (map_set_updated rooms_of (λ (z : LinkRooms). rooms_of y) xs l x y e refl) (grind (arith, updated_there, updated_other, slice_get-map))
