@@ -1,7 +1,9 @@
 -- The running counts of a list of messages, when one of them changes or joins, and the octets of their bodies.
 use Rattle.std.proofs.Common.{◌^◌, arith, ◌≡◌, ◌+◌, ◌≤◌, ◌<◌, [], ◌∷◌, ◌++◌, length, ℕ, zero, suc, Bool, List, Option, Some, None, get_or, refl, ◌∙◌, ap, ◌*◌, take, drop}
 use Rattle.std.specs.Prelude.{filter, slice_get, slice_set}
-use Rattle.std.proofs.lemmas.List.{take-append-drop}
+use Rattle.std.proofs.lemmas.List.{take-append-drop, length-append}
+use Rattle.std.proofs.lemmas.List.Elements.{filter-append}
+use Rattle.std.proofs.lemmas.List.Sums.{length-filter, count_by-le-length}
 use Rattle.std.proofs.lemmas.Option.{slice_get_read}
 use Rattle.set_queues.specs.declared.message.Message.{Message}
 use Rattle.set_events.specs.declared.answer.Fate.{Fate}
@@ -17,8 +19,7 @@ count_set p (z ∷ xs) zero x y e = grind arith
 count_set p (z ∷ xs) (suc n) x y e = grind (arith, count_set p xs n x y e)
 
 pub count_push : (p : Message → Bool) (xs : List Message) (y : Message) → length (filter p (xs ++ y ∷ [])) ≡ length (filter p xs) + one_if (p y)
-count_push p [] y = grind arith
-count_push p (x ∷ xs) y = grind (arith, count_push p xs y)
+count_push p xs y = simp (filter-append, length-append) (grind arith)
 
 pub count_in : (p : Message → Bool) (xs : List Message) (n : ℕ) (x : Message) → slice_get xs n ≡ Some x → one_if (p x) ≤ length (filter p xs)
 count_in p [] n x e = absurd (cc)
@@ -26,8 +27,7 @@ count_in p (z ∷ xs) zero x e = grind arith
 count_in p (z ∷ xs) (suc n) x e = grind (arith, count_in p xs n x e)
 
 pub count_few : (p : Message → Bool) (xs : List Message) → length (filter p xs) ≤ length xs
-count_few p [] = omega arith
-count_few p (x ∷ xs) = grind (arith, count_few p xs)
+count_few p xs = rw length-filter (count_by-le-length p xs)
 
 pub tally_in : (t : Tally) (xs : List Message) (n : ℕ) (x : Message) → IsTally t xs → slice_get xs n ≡ Some x → IsAmong x t
 tally_in t xs n x h e = record {
