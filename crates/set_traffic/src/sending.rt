@@ -1,13 +1,14 @@
 //! What a link's terminal sends next.
-ghost use Rattle.std.specs.Prelude.{◌≡◌, ◌<◌, ◌≤◌, length, slice_get, Some};
+ghost use Rattle.std.specs.Prelude.{◌≡◌, ◌<◌, ◌≤◌, true, List, length, slice_get, Some};
+ghost use Rattle.std.specs.Option.{option_map};
 ghost use Rattle.l2_window.specs.Control.{fsn_of};
-ghost use Rattle.set_queues.specs.Buffers.{IsKnown, queue_at};
-ghost use Rattle.set_model.specs.Rows.{Row, IsInOrder, is_waiting, turned};
+ghost use Rattle.set_queues.specs.Buffers.{IsKnown, is_standing, queue_at};
+ghost use Rattle.set_model.specs.Rows.{IsInOrder, is_waiting, turned};
 ghost use Rattle.set_model.specs.Control.{head_of};
 ghost use Rattle.set_model.specs.State.{State, LinkState, window_of};
 ghost use Rattle.set_model.specs.Step.{next, in_service};
-ghost use Rattle.set_moves.specs.Agreement.{Agrees, Holds, StandsFor, rows_at};
-ghost use Rattle.set_moves.specs.Parts.{Answers, AnswersAt, OfAgreed, AgreedBecomes, kept_of};
+ghost use Rattle.set_moves.specs.Agreement.{Holds, StandsFor, rows_at};
+ghost use Rattle.set_moves.specs.Parts.{Answers, AnswersAt, OfStates, BecomesAt, kept_of};
 ghost use Rattle.set_traffic.specs.Sending.{IsThere, choice_in, goes_on};
 
 use super::admitting::unserved;
@@ -39,66 +40,49 @@ fn unit_of(parts: &mut Parts, number: u8) -> Unit
     ensures { AnswersAt number parts.old parts.new (Answer.Sent result)
         (λ link s. next number s link) }
 {
-    let choice = choice_for(parts, number);
+    let (choice, head) = go_on(parts, number);
     match choice {
         Choice::Again { place } => {
             let body = body_at(parts, Fate::Unacked { link: number }, place);
-            let head = go_on(parts, number, choice);
             Unit::Msu { head, body }
         }
         Choice::First => {
             let body = body_at(parts, Fate::Waiting { link: number }, 0);
-            let head = go_on(parts, number, choice);
             send_first(parts, number);
             Unit::Msu { head, body }
         }
-        Choice::Fill => {
-            let head = go_on(parts, number, choice);
-            Unit::Fisu { head }
-        }
+        Choice::Fill => Unit::Fisu { head },
     }
 }
 
-/// What the link's control chooses.
+/// The link's control chooses, and goes on as that is sent, before the message moves: the choice, and the header of the unit.
 #[tactic(auto, using(crate::proofs::Controls::queue_there))]
-fn choice_for(parts: &Parts, number: u8) -> Choice
-    requires holds { Holds (kept_of parts.now) }
-    requires known { number < length parts.now.links.items }
-    ensures chosen { OfAgreed number parts.now (λ link s. result ≡ choice_in number link s) }
-    ensures there { IsThere result number parts.now.queues.lists }
-{
-    let window = parts.queues.window(number);
-    let octets = parts.queues.octets(number);
-    parts.links[usize::from(number)]
-        .control
-        .choice(window, octets)
-}
-
-/// The link's control goes on as that is sent, before the message moves: the header of the unit.
-#[tactic(auto, using(crate::proofs::Controls::queue_there))]
-fn go_on(parts: &mut Parts, number: u8, choice: Choice) -> Header
+fn go_on(parts: &mut Parts, number: u8) -> (Choice, Header)
     requires holds { Holds (kept_of parts.old) }
     requires known { number < length parts.old.links.items }
-    requires chosen { OfAgreed number parts.old (λ link s. choice ≡ choice_in number link s) }
-    ensures head { OfAgreed number parts.old (λ link s.
-        result ≡ head_of link.control (fsn_of choice (window_of number link s.rows))) }
-    ensures stands { AgreedBecomes number parts.old parts.new (goes_on number choice) }
-    ensures queues { parts.new.queues ≡ parts.old.queues }
+    ensures chosen { OfStates number parts.old (λ link s. result.0 ≡ choice_in number link s) }
+    ensures there { IsThere result.0 number parts.old.queues.lists }
+    ensures head { OfStates number parts.old (λ link s.
+        result.1 ≡ head_of link.control (fsn_of result.0 (window_of number link s.rows))) }
+    ensures stands { BecomesAt number parts.old parts.new (goes_on number result.0) }
+    ensures same { parts.new ≡ record parts.old { links = parts.new.links } }
 {
     let window = parts.queues.window(number);
     let octets = parts.queues.octets(number);
-    parts.links[usize::from(number)]
-        .control
-        .send(choice, window, octets)
+    let control = &mut parts.links[usize::from(number)].control;
+    let choice = control.choice(window, octets);
+    let head = control.send(choice, window, octets);
+    (choice, head)
 }
 
-/// The body of the message at this place of a queue.
+/// The body of the message at this place of a queue, whatever the links have come to.
 fn body_at(parts: &Parts, fate: Fate, place: usize) -> ArrayVec<u8, LONGEST_BODY>
-    requires holds { Holds (kept_of parts.now) }
+    requires holds { (links : List LinkState) × Holds (record (kept_of parts.now) { links = links }) }
     requires known { IsKnown fate parts.now.queues.lists }
+    requires standing { is_standing fate ≡ true }
     requires place { place < length (queue_at fate parts.now.queues.lists) }
-    ensures { (s : State) (row : Row) → Agrees (kept_of parts.now) s
-        → slice_get (rows_at fate s.rows) place ≡ Some row → result.items ≡ row.body }
+    ensures { (s : State) → StandsFor (kept_of parts.now) s
+        → option_map (λ row. row.body) (slice_get (rows_at fate s.rows) place) ≡ Some result.items }
 {
     match parts.queues.number_at(fate, place) {
         Some(message) => body_of(parts.bodies.body(message)),
@@ -111,9 +95,8 @@ fn send_first(parts: &mut Parts, number: u8)
     requires known { number < length parts.old.queues.lists.links }
     requires some { 0 < length (queue_at (Fate.Waiting number) parts.old.queues.lists) }
     requires few { length (queue_at (Fate.Unacked number) parts.old.queues.lists) < 127 }
-    ensures { (s : State) (link : LinkState) → slice_get s.links number ≡ Some link
-        → StandsFor (kept_of parts.old) s
-        → IsInOrder number s.rows → StandsFor (kept_of parts.new)
+    ensures { (s : State) → StandsFor (kept_of parts.old) s → IsInOrder number s.rows
+        → StandsFor (kept_of parts.new)
         (record s { rows = turned (is_waiting number) (Fate.Unacked number) 1 s.rows }) }
 {
     match parts.queues.send(number) {

@@ -1,6 +1,7 @@
 use Rattle.std.proofs.Common.{arith, ◌≡◌, ◌≢◌, ap, ◌<◌, List, ℕ, [], length, true, false}
 use Rattle.set_events.specs.declared.answer.Fate.TheVariants.{Waiting}
 use Rattle.set_queues.specs.Buffers.{queue_at}
+use Rattle.set_model.proofs.Lists.{present}
 use Rattle.set_moves.specs.Parts.{kept_of}
 use Rattle.set_moves.proofs.Becoming.{sent_then}
 use Rattle.set_traffic.proofs.sending.send_first.Goals as goal
@@ -12,4 +13,6 @@ pub unreachable-requires : goal.unreachable-requires
 unreachable-requires c = let no : false ≡ true = c.in-Err.ensures.succeeds (some (queue_at (Waiting c.args.number) c.args.parts.now.queues.lists) c.requires.some) c.requires.few in absurd (cc)
 
 pub returns : goal.returns
-returns c = λ s link there f order. sent_then (kept_of c.args.parts.now) _ s c.args.number c.in-Ok.field-0.0 link f order there c.in-Ok.ensures.sent.first (grind (arith, c.in-Ok.ensures.sent.lists, c.in-Ok.ensures.messages, f.links))
+returns c = λ s f order.
+    let link = present s.links c.args.number (omega (arith, c.requires.known, f.as_many)) in
+    sent_then (kept_of c.args.parts.now) _ s c.args.number c.in-Ok.field-0.0 link.0 f order link.1 c.in-Ok.ensures.sent.first (grind (arith, c.in-Ok.ensures.sent.lists, c.in-Ok.ensures.messages, f.links))
