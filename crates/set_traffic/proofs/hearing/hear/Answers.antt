@@ -1,16 +1,22 @@
-use Rattle.std.proofs.Common.{refl, ◌≡◌}
+use Rattle.std.proofs.Common.{refl, arith, ◌≡◌, ◌∙◌, ap, sym, subst, ℕ}
+use Rattle.l2_signals.specs.declared.status.Status.{Status}
+use Rattle.l2_units.specs.declared.unit.Header.{Header}
+use Rattle.l2_units.specs.declared.unit.Unit.{Unit as SignalUnit}
+use Rattle.l2_units.specs.declared.unit.Unit.TheVariants.{Lssu}
 use Rattle.l2_units.specs.Grammar.{head_of as header_in}
 use Rattle.set_events.specs.declared.answer.Answer.TheVariants.{Heard as HeardBack, Refused}
 use Rattle.set_events.specs.declared.answer.Refusal.TheVariants.{Nothing}
 use Rattle.set_model.specs.declared.phase.Phase.TheVariants.{Up}
 use Rattle.set_model.specs.Control.{part_of}
-use Rattle.set_model.specs.State.{State, window_of}
-use Rattle.set_model.specs.Step.{heard as heard_of, after_control, is_msu}
+use Rattle.set_model.specs.Sound.{IsSound}
+use Rattle.set_model.specs.State.{LinkState, State, window_of}
+use Rattle.set_model.specs.Step.{heard as heard_of, controls, after_control, report_of, is_msu}
 use Rattle.set_moves.specs.Agreement.{StandsFor, Agrees}
 use Rattle.set_traffic.specs.Hearing.{order_brought, message_brought}
 use Rattle.set_moves.specs.Parts.{kept_of}
 use Rattle.set_moves.proofs.Admitting.{IsIn, is_in, served}
-use Rattle.set_traffic.proofs.Told.{heard_gives, heard_controls, heard_sound, place_still, spacious_still}
+use Rattle.set_model.proofs.SoundLink.{hears_sound}
+use Rattle.set_traffic.proofs.Told.{place_still, spacious_still}
 use Rattle.set_traffic.proofs.hearing.hear.Goals as goal
 use Rattle.set_traffic.proofs.hearing.hear.Goals.{After-control_hears-part}
 
@@ -28,7 +34,7 @@ module _ (c : After-control_hears-part) (s : State) (a : Agrees (kept_of c.args.
   after : Agrees (kept_of c.control_hears-part.new.parts) (after_control c.control_hears-part.result (header_in c.args.unit.now) c.args.unit.now c.args.number s at.link)
   after = record {
     stands = c.control_hears-part.ensures.stands s at.link at.there stood;
-    sound = heard_sound c.args.number s at.link c.args.unit.now c.control_hears-part.result told (record { there = at.there; phase_is = at.phase_is }) a.sound;
+    sound = subst (λ part. IsSound (after_control part (header_in c.args.unit.now) c.args.unit.now c.args.number s at.link)) (sym told) (hears_sound c.args.number at.link s (record { there = at.there; phase_is = at.phase_is }) a.sound c.args.unit.now);
   }
 
 pub take_in-took-requires-clause-holds : goal.take_in-took-requires-clause-holds
@@ -38,7 +44,11 @@ pub take_in-took-requires-clause-inbox : goal.take_in-took-requires-clause-inbox
 take_in-took-requires-clause-inbox c = place_still (message_brought c.args.unit.now) c.make_space.new.parts c.control_hears-part.new.parts c.control_hears-part.ensures.keeps.inbox c.in_ok-message.ensures.inbox
 
 pub take_in-took-requires-clause-room : goal.take_in-took-requires-clause-room
-take_in-took-requires-clause-room c = spacious_still (order_brought c.args.unit.now) c.make_space.new.parts c.control_hears-part.new.parts c.control_hears-part.ensures.keeps c.in_ok-message.ensures.room
+take_in-took-requires-clause-room c = spacious_still c.make_space.new.parts c.control_hears-part.new.parts c.control_hears-part.ensures.keeps (order_brought c.args.unit.now) c.in_ok-message.ensures.room
+
+-- a unit that is no LSSU is the control's
+is_controls : (unit : SignalUnit) (n : ℕ) (s : State) (link : LinkState) → ((head : Header) (status : Status) → unit ≡ Lssu head status → ⊥) → heard_of unit n s link ≡ controls unit n s link
+is_controls unit n s link other = grind arith
 
 pub returns-clause-ok : goal.returns-clause-ok
 returns-clause-ok c = λ s a.
@@ -46,9 +56,9 @@ returns-clause-ok c = λ s a.
     let unit = c.args.unit.now in
     let so = (goal.at.returns-clause-ok c).After-control_hears-part in
     let i = at so s a in
-    let gives = heard_gives n s i.link unit c.control_hears-part.result c.take_in-took.result c.report_on.result c.take_in-took.new.parts (told so s a) c.report_on.ensures (c.take_in-took.ensures _ (after so s a)) in
+    let o = c.take_in-took.ensures _ (after so s a) in
     served s n (heard_of unit n s) (HeardBack c.report_on.result) c.take_in-took.new.parts i
-    (rw (heard_controls n s i.link unit (λ head status e. c.in_default-unit.not-Lssu head status e)) gives)
+    (rw (is_controls unit n s i.link (λ head status e. c.in_default-unit.not-Lssu head status e), ← told so s a) (record { answer_is = ap HeardBack (c.report_on.ensures ∙ ap (report_of c.control_hears-part.result) o.took_is); stands = o.stands }))
 
 pub returns-in-Lssu-clause-ok : goal.returns-in-Lssu-clause-ok
 returns-in-Lssu-clause-ok c = λ s a.
