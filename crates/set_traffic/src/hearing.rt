@@ -1,15 +1,14 @@
 //! What a heard unit does to a set.
-ghost use Rattle.std.specs.Prelude.{◌≡◌, ◌<◌, ◌≤◌, ◌^◌, false, length, Some, IsOk, IfOk, IfSome, OnErr, OnOk};
+ghost use Rattle.std.specs.Prelude.{◌≡◌, ◌<◌, ◌^◌, false, length, None, IsOk, IfOk, IfSome, OnErr, OnOk};
 ghost use Rattle.l2_units.specs.Grammar.{head_of as header_of};
 ghost use Rattle.l3_orders.specs.Grammar.{IsOrder};
-ghost use Rattle.set_route.specs.Routing.{home_of};
 ghost use Rattle.set_model.specs.Control.{part_of};
 ghost use Rattle.set_model.specs.State.{State, window_of};
 ghost use Rattle.set_model.specs.Step.{in_service, heard, is_msu, brought, takes, after_control, report_of};
 ghost use Rattle.set_moves.specs.Agreement.{Agrees, Holds};
 ghost use Rattle.set_traffic.specs.Hearing.{Acknowledges, HasPlace, IsSpacious, KeepsQueues, KeepsSpace, ReachesTo, counted_at, order_brought, message_brought};
 ghost use Rattle.set_moves.specs.Parts.{Answers, AreCounted, IsCounted, IsWhole, OfStates, BecomesAt, Obeys, kept_of};
-ghost use Rattle.set_moves.specs.Room.{IsReady, IsSpaciousFor, SameButRoom, back_at, home_room};
+ghost use Rattle.set_moves.specs.Room.{SameButRoom};
 
 use super::admitting::unserved;
 use l2_units::{Header, Unit, header_in};
@@ -51,36 +50,14 @@ pub fn hear(
         return Ok(());
     }
     let order = order_in(unit);
-    let message = make_space(parts, unit, order)?;
+    let message = make_message_space(parts, unit)?;
+    make_room_for(parts, order)?;
     let part = control_hears(parts, number, unit);
     let took = take_in(parts, part.accept, unit, order, message);
     *answer = Answer::Heard {
         report: report_on(part, took),
     };
     Ok(())
-}
-
-/// Takes the memory that the unit's body may want: for a message in the inbox, which is the result, or for an order
-/// that answers it and for the messages that it may move. A fill-in unit wants none.
-fn make_space(
-    parts: &mut Parts,
-    unit: &Unit,
-    order: Option<Order>,
-) -> Result<Option<HeardBody>, AllocError>
-    requires whole { IsWhole parts.old }
-    requires order { order ≡ order_brought unit.now }
-    ensures message { IfOk result (λ message. message ≡ message_brought unit.now) }
-    ensures inbox { OnOk result (HasPlace (message_brought unit.now) parts.new) }
-    ensures room { OnOk result (IsSpacious (order_brought unit.now) parts.new) }
-    ensures same { kept_of parts.new ≡ kept_of parts.old }
-    ensures links { parts.new.links ≡ parts.old.links }
-    ensures none { is_msu unit.now ≡ false → IsOk result }
-{
-    let message = make_message_space(parts, unit)?;
-    if let Some(order) = order {
-        make_room_for(parts, &order)?;
-    }
-    Ok(message)
 }
 
 /// Takes a place in the inbox for the message that the unit brings users, if it brings one, and memory for its body.
@@ -102,54 +79,43 @@ fn make_message_space(parts: &mut Parts, unit: &Unit) -> Result<Option<HeardBody
     Ok(Some(message))
 }
 
-/// Takes room for what an order moves, and for the one that answers it. Nothing else changes, also where
-/// memory is refused.
-fn make_room_for(parts: &mut Parts, order: &Order) -> Result<(), AllocError>
+/// Takes room for what an order moves, if there is one, and for the one that answers it. Nothing else changes, also
+/// where memory is refused.
+fn make_room_for(parts: &mut Parts, order: Option<Order>) -> Result<(), AllocError>
     requires whole { IsWhole parts.old }
-    ensures room { OnOk result (IsSpaciousFor order.now parts.new) }
+    ensures room { OnOk result (IsSpacious order parts.new) }
     ensures same { SameButRoom parts.old parts.new }
+    ensures none { order ≡ None → IsOk result }
 {
-    match *order {
-        Order::Cbd { .. } => {
+    match order {
+        None => Ok(()),
+        Some(Order::Cbd { .. }) => {
             let fate = fate_on(target_of(&parts.links));
             make_room(parts, fate)
         }
-        Order::Cba { code, .. } => make_room_back(parts, code),
-        Order::Coo { link, .. }
-        | Order::Coa { link, .. }
-        | Order::Eco { link }
-        | Order::Eca { link } => make_room_about(parts, link),
+        // what waits for the code's acknowledgement goes home, if there is such a link
+        Some(Order::Cba { code, .. }) => {
+            let home = home_of_code(code);
+            if usize::from(home) >= parts.links.len() {
+                return Ok(());
+            }
+            parts.queues.is_sound();
+            let back = parts.queues.count_at(Fate::Back { code });
+            parts.queues.reserve_at(Fate::Waiting { link: home }, back)
+        }
+        // what stands on the link goes elsewhere, if there is such a link, and an order with it
+        Some(
+            Order::Coo { link, .. }
+            | Order::Coa { link, .. }
+            | Order::Eco { link }
+            | Order::Eca { link },
+        ) => {
+            if usize::from(link) >= parts.links.len() {
+                return Ok(());
+            }
+            make_room_beside(parts, link, 1)
+        }
     }
-}
-
-/// Takes room for what stands on the link, if there is such a link, and for an order.
-fn make_room_about(parts: &mut Parts, link: u8) -> Result<(), AllocError>
-    requires whole { IsWhole parts.old }
-    ensures room { OnOk result (link < length parts.new.links.items → IsReady link 1 parts.new) }
-    ensures same { SameButRoom parts.old parts.new }
-{
-    if usize::from(link) >= parts.links.len() {
-        return Ok(());
-    }
-    make_room_beside(parts, link, 1)
-}
-
-/// Takes room in the queue of the code's home, if there is such a link, for what waits for the code's
-/// acknowledgement.
-fn make_room_back(parts: &mut Parts, code: u8) -> Result<(), AllocError>
-    requires whole { IsWhole parts.old }
-    ensures room { OnOk result
-        (home_of code < length parts.new.links.items
-        → length (back_at code parts.new) ≤ home_room code parts.new) }
-    ensures same { SameButRoom parts.old parts.new }
-{
-    let home = home_of_code(code);
-    if usize::from(home) >= parts.links.len() {
-        return Ok(());
-    }
-    parts.queues.is_sound();
-    let back = parts.queues.count_at(Fate::Back { code });
-    parts.queues.reserve_at(Fate::Waiting { link: home }, back)
 }
 
 /// The order that the unit's body stands for, if it brings one.
@@ -237,7 +203,7 @@ fn take_in(
     requires counted { AreCounted (2 ^ 61) parts.old.links.items }
     requires message { message ≡ message_brought unit.now }
     requires inbox { HasPlace (message_brought unit.now) parts.old }
-    requires room { IsSpacious (order_brought unit.now) parts.old }
+    requires room { IsSpacious order parts.old }
     ensures { (s : State) → Agrees (kept_of parts.old) s
         → Obeys (takes (brought accept unit.now) s) result parts.new }
 {

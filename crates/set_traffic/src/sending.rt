@@ -1,5 +1,5 @@
 //! What a link's terminal sends next.
-ghost use Rattle.std.specs.Prelude.{◌≡◌, ◌<◌, ◌≤◌, true, List, length, slice_get, Some};
+ghost use Rattle.std.specs.Prelude.{◌≡◌, ◌<◌, true, List, length, slice_get, Some};
 ghost use Rattle.std.specs.Option.{option_map};
 ghost use Rattle.l2_window.specs.Control.{fsn_of};
 ghost use Rattle.set_queues.specs.Buffers.{IsKnown, is_standing, queue_at};
@@ -55,7 +55,7 @@ fn unit_of(parts: &mut Parts, number: u8) -> Unit
     }
 }
 
-/// The link's control chooses, and goes on as that is sent, before the message moves: the choice, and the header of the unit.
+/// The link's control chooses, and goes on as that is sent, before the message moves: the choice and the unit's header.
 #[tactic(auto, using(crate::proofs::Controls::queue_there))]
 fn go_on(parts: &mut Parts, number: u8) -> (Choice, Header)
     requires holds { Holds (kept_of parts.old) }

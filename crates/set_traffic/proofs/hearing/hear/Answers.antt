@@ -12,7 +12,7 @@ use Rattle.set_model.specs.Sound.{IsSound}
 use Rattle.set_model.specs.State.{LinkState, State, window_of}
 use Rattle.set_model.specs.Step.{heard as heard_of, controls, after_control, report_of, is_msu}
 use Rattle.set_moves.specs.Agreement.{StandsFor, Agrees}
-use Rattle.set_traffic.specs.Hearing.{order_brought, message_brought}
+use Rattle.set_traffic.specs.Hearing.{message_brought}
 use Rattle.set_moves.specs.Parts.{kept_of}
 use Rattle.set_moves.proofs.Admitting.{IsIn, is_in, served}
 use Rattle.set_model.proofs.SoundLink.{hears_sound}
@@ -25,8 +25,8 @@ module _ (c : After-control_hears-part) (s : State) (a : Agrees (kept_of c.args.
   at : IsIn s c.args.number Up
   at = is_in c.args.parts.now s c.args.number Up a c.in_default.ensures.here
 
-  stood : StandsFor (kept_of c.make_space.new.parts) s
-  stood = rw c.in_ok-message.ensures.same a.stands
+  stood : StandsFor (kept_of c.make_room_for.new.parts) s
+  stood = rw (c.in_ok-make_room_for.ensures.same.kept, c.in_ok-message.ensures.same) a.stands
 
   told : c.control_hears-part.result ≡ part_of at.link.control (window_of c.args.number at.link s.rows) (header_in c.args.unit.now) (is_msu c.args.unit.now)
   told = c.control_hears-part.ensures.part s at.link at.there stood
@@ -41,10 +41,10 @@ pub take_in-took-requires-clause-holds : goal.take_in-took-requires-clause-holds
 take_in-took-requires-clause-holds c = (_, after (goal.at.take_in-took-requires-clause-holds c).After-control_hears-part c.requires.holds.0 c.requires.holds.1)
 
 pub take_in-took-requires-clause-inbox : goal.take_in-took-requires-clause-inbox
-take_in-took-requires-clause-inbox c = place_still (message_brought c.args.unit.now) c.make_space.new.parts c.control_hears-part.new.parts c.control_hears-part.ensures.keeps.inbox c.in_ok-message.ensures.inbox
+take_in-took-requires-clause-inbox c = place_still (message_brought c.args.unit.now) c.make_message_space.new.parts c.control_hears-part.new.parts (c.control_hears-part.ensures.keeps.inbox ∙ c.in_ok-make_room_for.ensures.same.inbox) c.in_ok-message.ensures.inbox
 
 pub take_in-took-requires-clause-room : goal.take_in-took-requires-clause-room
-take_in-took-requires-clause-room c = spacious_still c.make_space.new.parts c.control_hears-part.new.parts c.control_hears-part.ensures.keeps (order_brought c.args.unit.now) c.in_ok-message.ensures.room
+take_in-took-requires-clause-room c = spacious_still c.make_room_for.new.parts c.control_hears-part.new.parts c.control_hears-part.ensures.keeps c.order_in-order.result c.in_ok-make_room_for.ensures.room
 
 -- a unit that is no LSSU is the control's
 is_controls : (unit : SignalUnit) (n : ℕ) (s : State) (link : LinkState) → ((head : Header) (status : Status) → unit ≡ Lssu head status → ⊥) → heard_of unit n s link ≡ controls unit n s link
