@@ -31,6 +31,7 @@ pub(crate) fn unwaited(parts: &Parts, number: u8) -> Option<Refusal>
     match phase_of(&parts.links, number) {
         None => Some(Refusal::NoSuchLink),
         Some(Phase::Down) => None,
-        Some(Phase::Up | Phase::Settled) => Some(Refusal::Nothing),
+        Some(Phase::Up) => Some(Refusal::Nothing),
+        Some(Phase::Settled) => Some(Refusal::Nothing),
     }
 }

@@ -57,6 +57,8 @@ impl Core {
     {
         let links = new_links(alloc, config)?;
         let queues = Queues::new(alloc, config.links)?;
+        // with no message, each is empty
+        queues.is_sound();
         Ok(Core {
             parts: Parts {
                 config: *config,

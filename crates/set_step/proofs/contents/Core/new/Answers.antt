@@ -11,7 +11,7 @@ abbrev parts_of : After-new-4 → Parts
 parts_of c = record { config = c.args.config.now; links = c.in_ok-links.links; queues = c.in_ok-queues.queues; bodies = c.new-2.result; routes = c.new-3.result; inbox = c.new-4.result }
 
 agrees : (c : After-new-4) → Agrees (kept_of (parts_of c)) (new_state c.args.config.now)
-agrees c = opened c.args.config.now (parts_of c) refl c.in_ok-links.ensures c.in_ok-queues.ensures.links c.in_ok-queues.ensures.parked c.in_ok-queues.ensures.back c.in_ok-queues.ensures.messages c.new-2.ensures c.new-3.ensures c.new-4.ensures.items
+agrees c = opened c.args.config.now (parts_of c) refl c.in_ok-links.ensures c.in_ok-queues.ensures.links c.is_sound.ensures c.in_ok-queues.ensures.messages c.new-2.ensures c.new-3.ensures c.new-4.ensures.items
 
 pub invariant_of-result : goal.invariant_of-result
 invariant_of-result c = (new_state c.args.config.now, agrees c)
