@@ -1,7 +1,7 @@
 use Rattle.std.proofs.Common.{refl}
 use Rattle.set_model.specs.declared.phase.Phase.TheVariants.{Down}
 use Rattle.set_moves.proofs.Admitting.{agrees_same, here_same, is_in, given_done}
-use Rattle.set_moves.proofs.Rooms.{here_room}
+use Rattle.set_moves.proofs.Rooms.{here_room, whole_of}
 use Rattle.set_step.proofs.step.give_up.Goals as goal
 
 pub returns-clause-ok : goal.returns-clause-ok
@@ -12,3 +12,6 @@ returns-clause-ok c = λ s a.
 pub settle-requires-clause-room : goal.settle-requires-clause-room
 settle-requires-clause-room c =
     here_room c.make_room_beside.new.parts c.args.number 0 Down (here_same c.args.parts.now c.make_room_beside.new.parts c.args.number Down c.in_ok-make_room_beside.ensures.same c.in_default.ensures.here) refl c.in_ok-make_room_beside.ensures.room
+
+pub make_room_beside-requires-clause-whole : goal.make_room_beside-requires-clause-whole
+make_room_beside-requires-clause-whole c = whole_of c.args.parts.now c.requires.holds

@@ -1,6 +1,7 @@
 use Rattle.std.proofs.lemmas.Bool.Decides.{nat_tests}
 use Rattle.std.proofs.Common.{refl, arith, ◌≡◌, ◌∙◌, ap, ℕ, [], length}
-use Rattle.set_events.specs.declared.answer.Fate.TheVariants.{Unacked, Waiting}
+use Rattle.set_events.specs.declared.answer.Fate.TheVariants.{Unacked, Waiting, Parked}
+use Rattle.set_queues.specs.Queues.{passed}
 use Rattle.set_queues.specs.Buffers.{Lists, queue_at}
 use Rattle.set_queues.proofs.Soundness.{last_links}
 use Rattle.set_route.specs.Routing.{raised}
@@ -45,5 +46,13 @@ pub returns : goal.returns
 returns c = record {
   stands = λ s link there f.
       let n = c.args.number in
-      risen_then (kept_of c.args.parts.now) _ s n link (risen_link s.settings.method) (raised n s.routing) f there refl (grind (arith, nat_tests, map_set, c.divert.ensures.lists, c.divert.ensures.messages, c.reset.ensures.lists, c.reset.ensures.same.0, c.from.ensures, c.rise.ensures, c.raise.ensures, f.links, f.settings, f.routing));
+      risen_then (kept_of c.args.parts.now) _ s n link (risen_link s.settings.method) (raised n s.routing) f there refl (record {
+        settings_same = refl;
+        lists_are = c.divert.ensures.lists ∙ ap (passed Parked (Waiting n)) c.reset.ensures.lists;
+        messages_are = rw (c.divert.ensures.messages, c.reset.ensures.lists, c.reset.ensures.same.0) refl;
+        bodies_are = refl;
+        links_are = rw (map_set, f.links, c.from.ensures, c.rise.ensures, ← f.settings) refl;
+        routing_is = c.raise.ensures ∙ ap (raised n) f.routing;
+        inbox_same = refl;
+      });
 }

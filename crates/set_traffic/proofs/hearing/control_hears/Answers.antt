@@ -1,9 +1,9 @@
 use Rattle.std.proofs.Common.{refl, arith, ◌≡◌, ◌+◌, ap, sym, subst, List, Some, slice_get, slice_set}
-use Rattle.std.proofs.lemmas.Bool.Decides.{nat_tests}
 use Rattle.l2_units.specs.Grammar.{head_of}
 use Rattle.set_model.specs.Control.{control_heard}
 use Rattle.set_model.specs.Step.{is_msu, one_if, after_control}
 use Rattle.set_model.specs.State.{LinkState, State, window_of}
+use Rattle.set_moves.specs.declared.link.Link.{Link}
 use Rattle.set_moves.specs.Agreement.{StandsFor}
 use Rattle.set_moves.specs.Parts.{kept_of}
 use Rattle.set_traffic.proofs.Controls.{TellsAs, told, part_reaches}
@@ -40,4 +40,9 @@ pub returns-clause-counted : goal.returns-clause-counted
 returns-clause-counted c = counted_set 2305843009213693952 c.args.parts.now.links.items _ c.args.number c.hear_at-part.new.link (wider 1152921504606846976 2305843009213693952 c.args.parts.now.links.items (omega arith) c.requires.counted) (ap (λ k. slice_set c.args.parts.now.links.items k c.hear_at-part.new.link) c.from.ensures) c.hear_at-part.ensures.counted
 
 pub returns-clause-keeps : goal.returns-clause-keeps
-returns-clause-keeps c = grind (arith, nat_tests, set_view, c.acknowledge.ensures.keeps, c.from.ensures, c.requires.known, c.index_mut-link.ensures.value, c.hear_at-part.ensures.link)
+returns-clause-keeps c = record {
+  queues = c.acknowledge.ensures.keeps;
+  bodies = refl;
+  phases = set_view c.args.parts.now.links.items c.args.number c.from.result c.index_mut-link.result.now c.from.ensures c.requires.known c.index_mut-link.ensures.value (λ l. l.phase) c.hear_at-part.new.link (ap (λ (l : Link). l.phase) c.hear_at-part.ensures.link);
+  inbox = refl;
+}

@@ -14,6 +14,7 @@ use Rattle.set_model.specs.Step.{heard as heard_of, controls, after_control, rep
 use Rattle.set_moves.specs.Agreement.{StandsFor, Agrees}
 use Rattle.set_traffic.specs.Hearing.{message_brought}
 use Rattle.set_moves.specs.Parts.{kept_of}
+use Rattle.set_moves.proofs.Rooms.{whole_of}
 use Rattle.set_moves.proofs.Admitting.{IsIn, is_in, served}
 use Rattle.set_model.proofs.SoundLink.{hears_sound}
 use Rattle.set_traffic.proofs.Told.{place_still, spacious_still}
@@ -36,6 +37,9 @@ module _ (c : After-control_hears-part) (s : State) (a : Agrees (kept_of c.args.
     stands = c.control_hears-part.ensures.stands s at.link at.there stood;
     sound = subst (λ part. IsSound (after_control part (header_in c.args.unit.now) c.args.unit.now c.args.number s at.link)) (sym told) (hears_sound c.args.number at.link s (record { there = at.there; phase_is = at.phase_is }) a.sound c.args.unit.now);
   }
+
+pub make_room_for-requires : goal.make_room_for-requires
+make_room_for-requires c = record { whole = whole_of c.make_message_space.new.parts (rw c.in_ok-message.ensures.same c.requires.holds) }
 
 pub take_in-took-requires-clause-holds : goal.take_in-took-requires-clause-holds
 take_in-took-requires-clause-holds c = (_, after (goal.at.take_in-took-requires-clause-holds c).After-control_hears-part c.requires.holds.0 c.requires.holds.1)

@@ -1,6 +1,6 @@
-use Rattle.std.proofs.Common.{◌∙◌, refl, sym, arith}
+use Rattle.std.proofs.Common.{◌∙◌, refl, sym}
 use Rattle.set_events.specs.declared.answer.Took.TheVariants.{Ignored}
-use Rattle.std.proofs.lemmas.Bool.Decides.{nat_tests}
+use Rattle.set_moves.specs.Parts.{kept_of}
 use Rattle.set_traffic.proofs.Told.{delivered, message_taken, nothing_taken, for_management}
 use Rattle.set_traffic.proofs.hearing.take_in.Goals as goal
 
@@ -11,7 +11,7 @@ pub returns-then-not-has_message : goal.returns-then-not-has_message
 returns-then-not-has_message c = λ s a. nothing_taken c.args.parts.now s c.args.unit.now c.args.accept (rw (c.if-not-accept.false, ← c.has_message.ensures, c.if-not-has_message.true) refl) a.stands
 
 pub returns-in-Some : goal.returns-in-Some
-returns-in-Some c = grind (arith, nat_tests, message_taken, delivered, c.if-not-accept.false, c.requires.message, c.in-Some.is, c.push_back_reserved.ensures.items)
+returns-in-Some c = λ s a. rw c.if-not-accept.false (message_taken _ s c.args.unit.now c.in-Some.message (sym c.requires.message ∙ c.in-Some.is) (delivered (kept_of c.args.parts.now) s _ c.in-Some.message a.stands c.push_back_reserved.ensures.items))
 
 pub returns-in-Some-order : goal.returns-in-Some-order
 returns-in-Some-order c = λ s a. rw c.if-not-accept.false (for_management c.obey.new.parts s c.args.unit.now c.obey.result (sym c.has_message.ensures ∙ c.if-not-has_message.false) (sym c.requires.message ∙ c.in_default.is) (rw (← c.requires.order, c.in-Some-order.is) (c.obey.ensures.stands s a)))

@@ -1,5 +1,4 @@
-use Rattle.std.proofs.Common.{arith}
-use Rattle.std.proofs.lemmas.Bool.Decides.{nat_tests}
+use Rattle.std.proofs.Common.{refl}
 use Rattle.l2_window.specs.declared.control.Choice.TheVariants.{First}
 use Rattle.set_moves.specs.Parts.{kept_of}
 use Rattle.set_traffic.specs.Sending.{goes_on}
@@ -19,7 +18,7 @@ returns-in-First c = λ s link there a.
     (rw c.in-First.is (with_body _ _ c.body_at-body-in-First.result (c.body_at-body-in-First.ensures _ stands))) (rw c.in-First.is (c.send_first.ensures (goes_on c.args.number First link s) stands (a.sound.links c.args.number link there).in_order))
 
 pub returns-in-Fill : goal.returns-in-Fill
-returns-in-Fill c = λ s link there a. grind (arith, nat_tests, given, c.go_on-choice.ensures.stands, c.go_on-choice.ensures.chosen, c.go_on-choice.ensures.head)
+returns-in-Fill c = λ s link there a. given c.args.number link s _ c.go_on-choice.result.0 c.go_on-choice.result.1 _ (c.go_on-choice.ensures.chosen s link there a.stands) (c.go_on-choice.ensures.head s link there a.stands) (rw c.in-Fill.is refl) (rw c.in-Fill.is (rw c.in-Fill.is at (c.go_on-choice.ensures.stands s link there a.stands)))
 
 pub body_at-body-requires-clause-holds : goal.body_at-body-requires-clause-holds
 body_at-body-requires-clause-holds c = ((kept_of c.args.parts.now).links, rw c.go_on-choice.ensures.same c.requires.holds)
