@@ -152,7 +152,6 @@ impl Core {
 }
 
 /// The links of a set, none of which was up.
-#[tactic(auto, using(set_queues::proofs::Updates::map_push_same))]
 fn new_links(alloc: Global, config: &SetConfig) -> Result<Vec<Link>, AllocError>
     ensures { IfOk result
         (λ links. map link_of links.items ≡ replicate config.now.links

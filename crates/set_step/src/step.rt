@@ -247,7 +247,6 @@ fn bring_up(parts: &mut Parts, number: u8, answer: &mut Answer) -> Result<(), Al
 }
 
 /// The settled link is in service from now on.
-#[tactic(auto, using(set_traffic::proofs::Controls::queue_there))]
 fn rise(parts: &mut Parts, number: u8)
     requires holds { Holds (kept_of parts.old) }
     requires here { IsHere parts.old.links.items number Settled }

@@ -1,15 +1,14 @@
-use Rattle.std.proofs.Common.{refl, ◌≡◌, ◌∙◌, ap, sym, subst, List, ℕ, length, Option, Some, None, arith}
+use Rattle.std.proofs.Common.{refl, ◌≡◌, ◌∙◌, ap, sym, List, ℕ, length, None, arith}
 use Rattle.std.proofs.lemmas.Bool.Decides.{nat_tests}
-use Rattle.set_events.specs.declared.answer.Answer.TheVariants.{Refused, Accepted}
+use Rattle.set_events.specs.declared.answer.Answer.TheVariants.{Accepted}
 use Rattle.set_events.specs.declared.answer.Fate.{Fate}
-use Rattle.set_events.specs.declared.answer.Refusal.{Refusal as SetRefusal}
 use Rattle.set_queues.specs.Messages.{unsent_of}
 use Rattle.set_route.specs.Routing.{place_of, accepted}
 use Rattle.set_model.specs.Rows.{appended, stream_of}
 use Rattle.set_model.specs.State.{State, fate_at}
 use Rattle.set_model.specs.Step.{offered, offer_refusal}
 use Rattle.set_moves.specs.declared.parts.Parts.{Parts}
-use Rattle.set_moves.specs.Agreement.{Kept, StandsFor, Agrees}
+use Rattle.set_moves.specs.Agreement.{Kept, StandsFor}
 use Rattle.set_moves.specs.Refusing.{refusal_by}
 use Rattle.set_moves.specs.Parts.{Gives, kept_of}
 use Rattle.set_moves.proofs.Admitting.{agrees_same}
@@ -24,12 +23,7 @@ same_refusal : (k : Kept) (s : State) (body : List ℕ) → StandsFor k s → re
 same_refusal k s body f = ap (λ n. refusal_by n body) (unsent_is (stream_of body) k.lists k.messages s.rows f.stands)
 
 pub returns-in-Some-clause-ok : goal.returns-in-Some-clause-ok
-returns-in-Some-clause-ok c = λ s a.
-    let body = c.args.body.now in
-    refused_so c.args.parts.now s body c.in-Some.why a (sym (same_refusal (kept_of c.args.parts.now) s body a.stands) ∙ sym c.refusal_of.ensures ∙ c.in-Some.is)
-  where
-    refused_so : (parts : Parts) (s : State) (body : List ℕ) (why : SetRefusal) → Agrees (kept_of parts) s → offer_refusal s.rows body ≡ Some why → Gives (offered (offer_refusal s.rows body) s body) (Refused why) parts
-    refused_so parts s body why a e = subst (λ (o : Option SetRefusal). Gives (offered o s body) (Refused why) parts) (sym e) (record { answer_is = refl; stands = a.stands })
+returns-in-Some-clause-ok c = λ s a. rw (← same_refusal (kept_of c.args.parts.now) s c.args.body.now a.stands, ← c.refusal_of.ensures, c.in-Some.is) (record { answer_is = refl; stands = a.stands })
 
 accepted_so : (parts : Parts) (s : State) (body read : List ℕ) (fate : Fate) (number : ℕ) → offer_refusal s.rows body ≡ None → read ≡ body → fate ≡ fate_at (place_of (stream_of body) s.routing) s → number ≡ length s.rows
     → StandsFor (kept_of parts) (record s { rows = appended s.rows read fate; routing = accepted (stream_of read) s.routing }) → Gives (offered (offer_refusal s.rows body) s body) (Accepted number) parts

@@ -1,4 +1,3 @@
-use Rattle.std.proofs.lemmas.Bool.Decides.{nat_tests}
 use Rattle.std.proofs.Common.{refl, arith, ◌≡◌, ◌∙◌, ap, ℕ, [], length}
 use Rattle.set_events.specs.declared.answer.Fate.TheVariants.{Unacked, Waiting, Parked}
 use Rattle.set_queues.specs.Queues.{passed}
@@ -15,6 +14,7 @@ use Rattle.set_moves.specs.Agreement.{Holds}
 use Rattle.set_moves.specs.Parts.{IsHere, kept_of}
 use Rattle.set_moves.proofs.Admitting.{is_in}
 use Rattle.set_moves.proofs.Becoming.{risen_then}
+use Rattle.set_moves.proofs.Rooms.{whole_of}
 use Rattle.set_traffic.proofs.Controls.{queue_there}
 use Rattle.set_step.proofs.step.rise.Goals as goal
 
@@ -25,6 +25,12 @@ empty parts n holds here =
     let i = is_in parts holds.0 n Settled a here in
     let e = settled_empty holds.0 n i.link a.sound i.there i.phase_is in
     (a.stands.stands.queues (Unacked n) ∙ ap numbers e.unack_none, a.stands.stands.queues (Waiting n) ∙ ap numbers e.wait_none)
+
+pub reset-requires-clause-known : goal.reset-requires-clause-known
+reset-requires-clause-known c = queue_there c.args.parts.now c.args.number c.requires.holds c.requires.here.known
+
+pub raise-requires : goal.raise-requires
+raise-requires c = omega (arith, (whole_of c.args.parts.now c.requires.holds).routed, c.requires.here.known)
 
 pub reset-requires-clause-unacked : goal.reset-requires-clause-unacked
 reset-requires-clause-unacked c = (empty c.args.parts.now c.args.number c.requires.holds c.requires.here).0
