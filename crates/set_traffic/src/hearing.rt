@@ -130,11 +130,10 @@ fn order_in(unit: &Unit) -> Option<Order>
 }
 
 /// The control hears the unit: acknowledged messages are the first ones, and so many.
-#[tactic(auto, using(crate::proofs::Controls::queue_there))]
 fn control_hears(parts: &mut Parts, number: u8, unit: &Unit) -> HeardPart
-    requires holds { Holds (kept_of parts.old) }
     requires counted { AreCounted (2 ^ 60) parts.old.links.items }
     requires known { number < length parts.old.links.items }
+    requires queue { number < length parts.old.queues.lists.links }
     ensures part { OfStates number parts.old
         (λ link s. result ≡ part_of link.control (window_of number link s.rows)
         (header_of unit.now) (is_msu unit.now)) }

@@ -33,7 +33,6 @@ pub fn send_next(parts: &mut Parts, number: u8, answer: &mut Answer)
 }
 
 /// The next unit of a link that is in service.
-#[tactic(auto, using(crate::proofs::Controls::queue_there))]
 fn unit_of(parts: &mut Parts, number: u8) -> Unit
     requires holds { Holds (kept_of parts.old) }
     requires known { number < length parts.old.links.items }
@@ -56,12 +55,12 @@ fn unit_of(parts: &mut Parts, number: u8) -> Unit
 }
 
 /// The link's control chooses, and goes on as that is sent, before the message moves: the choice and the unit's header.
-#[tactic(auto, using(crate::proofs::Controls::queue_there))]
 fn go_on(parts: &mut Parts, number: u8) -> (Choice, Header)
-    requires holds { Holds (kept_of parts.old) }
     requires known { number < length parts.old.links.items }
+    requires queue { number < length parts.old.queues.lists.links }
     ensures chosen { OfStates number parts.old (λ link s. result.0 ≡ choice_in number link s) }
-    ensures there { IsThere result.0 number parts.old.queues.lists }
+    ensures queue { number < length parts.new.queues.lists.links }
+    ensures there { IsThere result.0 number parts.new.queues.lists }
     ensures head { OfStates number parts.old (λ link s.
         result.1 ≡ head_of link.control (fsn_of result.0 (window_of number link s.rows))) }
     ensures stands { BecomesAt number parts.old parts.new (goes_on number result.0) }

@@ -17,6 +17,7 @@ use Rattle.set_moves.specs.Parts.{kept_of}
 use Rattle.set_moves.proofs.Rooms.{whole_of}
 use Rattle.set_moves.proofs.Admitting.{IsIn, is_in, served}
 use Rattle.set_model.proofs.SoundLink.{hears_sound}
+use Rattle.set_traffic.proofs.Controls.{queue_there}
 use Rattle.set_traffic.proofs.Told.{place_still, spacious_still}
 use Rattle.set_traffic.proofs.hearing.hear.Goals as goal
 use Rattle.set_traffic.proofs.hearing.hear.Goals.{After-control_hears-part}
@@ -40,6 +41,9 @@ module _ (c : After-control_hears-part) (s : State) (a : Agrees (kept_of c.args.
 
 pub make_room_for-requires : goal.make_room_for-requires
 make_room_for-requires c = record { whole = whole_of c.make_message_space.new.parts (rw c.in_ok-message.ensures.same c.requires.holds) }
+
+pub control_hears-part-requires-clause-queue : goal.control_hears-part-requires-clause-queue
+control_hears-part-requires-clause-queue c = queue_there c.make_room_for.new.parts c.args.number (rw (c.in_ok-make_room_for.ensures.same.kept, c.in_ok-message.ensures.same) c.requires.holds) (rw (c.in_ok-make_room_for.ensures.same.links, c.in_ok-message.ensures.parts) c.in_default.ensures.here.known)
 
 pub take_in-took-requires-clause-holds : goal.take_in-took-requires-clause-holds
 take_in-took-requires-clause-holds c = (_, after (goal.at.take_in-took-requires-clause-holds c).After-control_hears-part c.requires.holds.0 c.requires.holds.1)
