@@ -30,7 +30,7 @@ replicated zero k x = grind (arith, nat_tests)
 replicated (suc n) zero x = grind (arith, nat_tests)
 replicated (suc n) (suc k) x = grind (arith, nat_tests, replicated n k x)
 
--- so no queue holds one
+-- of no messages none stands in a queue
 none_given : (ns : List ℕ) → AreGiven ns [] → ns ≡ []
 none_given [] given = refl
 none_given (n ∷ ns) given = absurd (omega (arith, given.0))

@@ -84,9 +84,10 @@ fn offer(parts: &mut Parts, body: &Body, answer: &mut Answer) -> Result<(), Allo
         *answer = Answer::Refused { why };
         return Ok(());
     }
-    let fate = fate_of_new(parts, stream_of_body(body.octets()));
+    let octets = body.octets();
+    let fate = fate_of_new(parts, stream_of_body(octets));
     make_room(parts, fate)?;
-    let number = accept(parts, body.octets(), fate);
+    let number = accept(parts, octets, fate);
     *answer = Answer::Accepted { number };
     Ok(())
 }

@@ -1,16 +1,13 @@
-use Rattle.std.proofs.Common.{refl, ◌≡◌, ◌∙◌, ap, sym, List, ℕ, length, None, arith}
-use Rattle.std.proofs.lemmas.Bool.Decides.{nat_tests}
+use Rattle.std.proofs.Common.{refl, ◌≡◌, ◌∙◌, ap, List, ℕ}
 use Rattle.set_events.specs.declared.answer.Answer.TheVariants.{Accepted}
-use Rattle.set_events.specs.declared.answer.Fate.{Fate}
 use Rattle.set_queues.specs.Messages.{unsent_of}
-use Rattle.set_route.specs.Routing.{place_of, accepted}
-use Rattle.set_model.specs.Rows.{appended, stream_of}
+use Rattle.set_route.specs.Routing.{place_of}
+use Rattle.set_model.specs.Rows.{stream_of}
 use Rattle.set_model.specs.State.{State, fate_at}
-use Rattle.set_model.specs.Step.{offered, offer_refusal}
-use Rattle.set_moves.specs.declared.parts.Parts.{Parts}
+use Rattle.set_model.specs.Step.{offer_refusal}
 use Rattle.set_moves.specs.Agreement.{Kept, StandsFor}
 use Rattle.set_moves.specs.Refusing.{refusal_by}
-use Rattle.set_moves.specs.Parts.{Gives, kept_of}
+use Rattle.set_moves.specs.Parts.{kept_of}
 use Rattle.set_moves.proofs.Admitting.{agrees_same}
 use Rattle.set_step.proofs.Reading.{unsent_is}
 use Rattle.set_moves.proofs.Rooms.{whole_of}
@@ -25,21 +22,14 @@ same_refusal k s body f = ap (λ n. refusal_by n body) (unsent_is (stream_of bod
 pub returns-in-Some-clause-ok : goal.returns-in-Some-clause-ok
 returns-in-Some-clause-ok c = λ s a. rw (← same_refusal (kept_of c.args.parts.now) s c.args.body.now a.stands, ← c.refusal_of.ensures, c.in-Some.is) (record { answer_is = refl; stands = a.stands })
 
-accepted_so : (parts : Parts) (s : State) (body read : List ℕ) (fate : Fate) (number : ℕ) → offer_refusal s.rows body ≡ None → read ≡ body → fate ≡ fate_at (place_of (stream_of body) s.routing) s → number ≡ length s.rows
-    → StandsFor (kept_of parts) (record s { rows = appended s.rows read fate; routing = accepted (stream_of read) s.routing }) → Gives (offered (offer_refusal s.rows body) s body) (Accepted number) parts
-accepted_so parts s body read fate number none same there is stands = grind (arith, nat_tests)
-
 pub returns-clause-ok : goal.returns-clause-ok
 returns-clause-ok c = λ s a.
-    let body = c.args.body.now in
-    let same = c.in_ok-make_room.ensures.same in
-    let now = agrees_same c.args.parts.now c.make_room.new.parts s same a in
-    accepted_so c.accept-number.new.parts s body c.octets-2.result.now c.fate_of_new-fate.result c.accept-number.result
-    (sym (same_refusal (kept_of c.args.parts.now) s body a.stands) ∙ sym c.refusal_of.ensures ∙ c.in_default.is)
-    c.octets-2.ensures
-    (c.fate_of_new-fate.ensures.value s a.stands ∙ ap (λ stream. fate_at (place_of stream s.routing) s) (c.stream_of_body.ensures.value ∙ ap stream_of c.octets.ensures))
-    (c.accept-number.ensures.number ∙ now.stands.stands.count)
-    (c.accept-number.ensures.stands s now.stands)
+    let now = agrees_same c.args.parts.now c.make_room.new.parts s c.in_ok-make_room.ensures.same a in
+    let fate = c.fate_of_new-fate.ensures.value s a.stands ∙ ap (λ stream. fate_at (place_of stream s.routing) s) c.stream_of_body.ensures.value in
+    rw (← same_refusal (kept_of c.args.parts.now) s c.args.body.now a.stands, ← c.refusal_of.ensures, c.in_default.is) (record {
+      answer_is = ap Accepted (c.accept-number.ensures.number ∙ now.stands.stands.count);
+      stands = rw (fate, c.octets-octets.ensures) at (c.accept-number.ensures.stands s now.stands);
+    })
 
 pub accept-number-requires-clause-known : goal.accept-number-requires-clause-known
 accept-number-requires-clause-known c = rw (ap (λ (k : Kept). k.lists) c.make_room.ensures.same.kept) c.fate_of_new-fate.ensures.known
