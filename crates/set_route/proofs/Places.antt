@@ -10,7 +10,7 @@ use Rattle.set_route.specs.declared.place.Place.TheVariants.{On, Changing, Nowhe
 use Rattle.set_route.specs.declared.place.Code.{Code}
 use Rattle.set_route.specs.declared.place.Code.TheVariants.{Free, Asked, Spent}
 use Rattle.set_route.specs.declared.stream.Stream.{Stream}
-use Rattle.set_route.specs.Routing.{Routing, IsRouting, IsPlaceOf, IsCoded, stream_numbers, new_stream, new_routing, used_at, accepted, place_raised, stream_raised, raised, place_on, via_settled, place_settled, stream_settled, settled, code_for, home_of, code_of, place_left, stream_left, code_left, codes_left, left, is_away, stream_asked, asked, place_back, stream_back, given_back, given_back_from, cleared}
+use Rattle.set_route.specs.Routing.{Routing, IsRouting, IsPlaceOf, IsCoded, stream_numbers, new_stream, new_routing, used_at, accepted, place_raised, stream_raised, raised, place_on, via_settled, place_settled, stream_settled, settled, code_for, home_of, code_of, place_left, stream_left, code_left, codes_left, left, is_away, stream_asked, asked, place_back, stream_back, given_back}
 use Rattle.set_route.proofs.Codes.{by_test, codes_at, length-codes_left, set_at, freed_at, all_free, free_left, free_freed}
 
 -- a stream runs on a link of the set
@@ -224,13 +224,6 @@ back_sound code r sound =
     (length-set r.codes code Free ∙ sound.all_codes)
     (λ n used. sound.known n (λ free. used (freed_at r.codes n code ∙ free_freed (n == code) (code_of n r) free)))
     sound
-
-back_from_sound : (code many : ℕ) (r : Routing) → IsRouting r → IsRouting (given_back_from code many r)
-back_from_sound code zero r sound = sound
-back_from_sound code (suc n) r sound = back_from_sound (suc code) n (given_back code r) (back_sound code r sound)
-
-pub cleared_sound : (home : ℕ) (r : Routing) → IsRouting r → IsRouting (cleared home r)
-cleared_sound home r sound = back_from_sound (code_for home 0) 16 r sound
 
 -- Offer.
 pub used_is : (streams : List Stream) (stream : ℕ) (d : Stream) → stream < length streams → set streams stream (record (get_or streams stream d) { used = true }) ≡ used_at stream streams
