@@ -1,5 +1,5 @@
 //! What sets come to together.
-ghost use Rattle.std.specs.Prelude.{◌≡◌, ◌≤◌, ◌^◌, length, All, sum_by};
+ghost use Rattle.std.specs.Prelude.{◌≡◌, ◌≤◌, ◌^◌, length, All};
 ghost use Rattle.bank_core.specs.Totals.{IsInRange, accepted_in_all, placed_in_all, all_are_legal};
 
 /// What a set came to, or several of them together.

@@ -1,7 +1,7 @@
 //! Where a list of entries leaves the history of a set.
 ghost use Rattle.std.specs.Prelude.{◌≡◌, ◌<◌, ◌≤◌, ◌↔◌, [], length, IfOk, IfErr, OnOk, MatchOption};
 ghost use Rattle.set_model.specs.State.{new_state};
-ghost use Rattle.set_model.specs.History.{IsLegal, books_of, longest_history, new_set};
+ghost use Rattle.set_model.specs.History.{IsLegal, books_of, longest_history};
 ghost use Rattle.history_audit.specs.FirstWrong.{IsFirstWrong};
 
 use set_core::{SetCore, SetFault, audit};

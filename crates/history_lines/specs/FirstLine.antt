@@ -10,7 +10,7 @@ use Rattle.set_model.specs.State.{Settings}
 use Rattle.figures.specs.Figures.{hex_text}
 use Rattle.play_script.specs.declared.script.Values.{Values}
 use Rattle.play_script.specs.Script.{first_line}
-use Rattle.history_text.specs.Entries.{entries_text, EntriesFit}
+use Rattle.history_text.specs.Entries.{entries_text}
 
 abbrev pub method_text : Method → List ℕ
 method_text Basic = codes "basic"

@@ -1,8 +1,7 @@
 //! A history from its text.
-ghost use Rattle.std.specs.Prelude.{◌≡◌, ◌+◌, ◌≤◌, ◌^◌, ◌≢◌, [], length, MatchResult};
-ghost use Rattle.text_lines.specs.Lines.{lines_of};
+ghost use Rattle.std.specs.Prelude.{◌≡◌, ◌+◌, ◌≤◌, ◌^◌, ◌≢◌, [], MatchResult};
 ghost use Rattle.history_lines.specs.Cutting.{IsCut};
-ghost use Rattle.history_lines.specs.Telling.{told_from, told_in_all, history_in, nothing_told, telling_of, Stops};
+ghost use Rattle.history_lines.specs.Telling.{told_in_all, history_in, telling_of, Stops};
 
 use super::fault::UnreadableEntry;
 use super::told::Told;

@@ -1,5 +1,5 @@
 //! What the lines so far tell.
-ghost use Rattle.std.specs.Prelude.{◌≡◌, ◌++◌, ◌∷◌, [], IfOk, MatchResult, Some, None};
+ghost use Rattle.std.specs.Prelude.{◌≡◌, ◌++◌, ◌∷◌, [], IfOk, Some, None};
 ghost use Rattle.set_model.specs.State.{settings_of};
 ghost use Rattle.std.specs.Option.{option_map};
 ghost use Rattle.history_text.specs.Reading.{entry_of};
@@ -38,7 +38,7 @@ impl Model for Told {
 }
 
 impl Told {
-    ghost use Rattle.std.specs.Prelude.{◌≡◌, Some, None, MatchResult};
+    ghost use Rattle.std.specs.Prelude.{◌≡◌, Some, None};
     ghost use Rattle.history_lines.specs.Telling.{nothing_told, opened, entered, with_line, IsRead};
 
     /// Before the first line.

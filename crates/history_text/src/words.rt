@@ -1,7 +1,7 @@
 //! The words of a line, and what single words stand for.
 ghost use Rattle.std.specs.Prelude.{◌≡◌, ◌<◌, IfOk, length, position};
-ghost use Rattle.std.specs.Option.{option_map, ForSome};
-ghost use Rattle.history_text.specs.Reading.{until, behind, is_gap, is_sign, is_arrow, word, others, value, told, body_in};
+ghost use Rattle.std.specs.Option.{ForSome};
+ghost use Rattle.history_text.specs.Reading.{behind, is_gap, is_sign, is_arrow, word, others, told, body_in};
 
 use figures::{is_word, read_octets};
 use set_events::Body;

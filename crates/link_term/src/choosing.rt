@@ -1,5 +1,5 @@
 //! What a terminal sends next (Q.703 11.2, 12.1).
-ghost use Rattle.std.specs.Prelude.{◌≡◌, ◌<◌, ◌==◌, List, nat_lt, true, length, Some, None, IfOk};
+ghost use Rattle.std.specs.Prelude.{◌≡◌, ◌<◌, ◌==◌, List, true, length, IfOk};
 ghost use Rattle.l2_units.specs.declared.unit.Unit.TheVariants.{Fisu as FisuUnit};
 ghost use Rattle.link_term.specs.Filling.{next_asked, message_counted, served, Fills, FillsBits, Sends};
 ghost use Rattle.link_term.specs.Talking.{Talks};

@@ -1,6 +1,5 @@
 //! The door of a set that threads share.
 ghost use Rattle.std.specs.Prelude.{◌≡◌, [], ◌∷◌, ◌++◌};
-ghost use Rattle.set_events.specs.declared.event.Actor.TheVariants.{Terminal};
 ghost use Rattle.link_term.specs.Seats.{link_in};
 
 use super::door::{Door, Gate};

@@ -1,5 +1,5 @@
 //! Two ends, and the units under way between them.
-ghost use Rattle.std.specs.Prelude.{◌≡◌, ◌<◌, ◌↔◌, IfErr, IfOk, IsErr, IsTrue, MatchResult, Ok};
+ghost use Rattle.std.specs.Prelude.{◌≡◌, ◌<◌, ◌↔◌, IfErr, IfOk, IsTrue, MatchResult, Ok};
 ghost use Rattle.set_model.specs.History.{IsActor, new_set};
 ghost use Rattle.set_model.specs.State.{link_count};
 ghost use Rattle.set_step.specs.declared.fault.SetFault.TheVariants.{NoMemory};

@@ -1,5 +1,5 @@
 //! A script whose faults are explained.
-ghost use Rattle.std.specs.Prelude.{◌≡◌, IfOk, MatchResult, string_bytes};
+ghost use Rattle.std.specs.Prelude.{◌≡◌, IfOk, string_bytes};
 ghost use Rattle.std.specs.Option.{option_map};
 ghost use Rattle.printing.specs.declared.fault.Stop.TheVariants.{Input, Memory};
 ghost use Rattle.script_explain.specs.Explaining.{said, undone, unread, IsExplanation};

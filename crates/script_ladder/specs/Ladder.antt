@@ -9,7 +9,6 @@ use Rattle.l3_orders.specs.Grammar.{order_of}
 use Rattle.decode_text.specs.Decoding.{order_words}
 use Rattle.set_events.specs.declared.event.Event.{Event}
 use Rattle.set_events.specs.declared.event.Event.TheVariants.{Offer, Take, Find, Next, Heard as HeardEvent, Up as UpEvent, Down, DownBlind, NoAnswer, Restore, BackTimeout}
-use Rattle.set_events.specs.declared.answer.Answer.{Answer}
 use Rattle.set_events.specs.declared.answer.Answer.TheVariants.{Accepted, Taken, Found, Sent, Heard, Done, Refused}
 use Rattle.set_events.specs.declared.answer.Counts.{Counts}
 use Rattle.set_events.specs.declared.answer.Report.{Report}
@@ -23,7 +22,7 @@ use Rattle.world_steps.specs.declared.step.Step.TheVariants.{Act, Emit, Arrive, 
 use Rattle.world_steps.specs.declared.step.Shown.{Shown}
 use Rattle.world_steps.specs.declared.step.Shown.TheVariants.{Up, Lost, Answered}
 use Rattle.pair_model.specs.World.{World, line_to, at_end, counts_at}
-use Rattle.answer_texts.specs.Texts.{shown_text, took_text, fault_code, end_text}
+use Rattle.answer_texts.specs.Texts.{shown_text, took_text, fault_code}
 use Rattle.figures.specs.Figures.{bit}
 use Rattle.printing.specs.Printing.{Printed}
 use Rattle.script_text.specs.declared.fault.ScriptFault.{ScriptFault}

@@ -1,5 +1,5 @@
 //! What an end's words are for what a step asked and showed.
-ghost use Rattle.std.specs.Prelude.{◌≡◌, IfOk, codes, if◌then◌else◌};
+ghost use Rattle.std.specs.Prelude.{◌≡◌, IfOk, if◌then◌else◌};
 ghost use Rattle.script_ladder.specs.Ladder.{done_words, is_done, link_words, plain, report_in, without_end};
 
 use answer_texts::write_shown;

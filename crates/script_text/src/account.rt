@@ -1,5 +1,5 @@
 //! What is told of a script.
-ghost use Rattle.std.specs.Prelude.{◌≡◌, ◌++◌, Some, None, MatchResult};
+ghost use Rattle.std.specs.Prelude.{◌≡◌, ◌++◌, MatchResult};
 ghost use Rattle.pair_model.specs.World.{World};
 ghost use Rattle.world_steps.specs.declared.step.Step.{Step};
 ghost use Rattle.script_text.specs.Scripts.{Told};

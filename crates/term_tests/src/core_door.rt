@@ -1,5 +1,5 @@
 //! A door round a bare set, and what the tests open terminals with.
-ghost use Rattle.std.specs.Prelude.{◌≡◌, ◌<◌, [], IfOk};
+ghost use Rattle.std.specs.Prelude.{◌≡◌, ◌<◌, []};
 
 use line_ring::Line;
 use link_term::{Command, Door, Faults, OpenGate, SetFault, Terminal, Timers};

@@ -1,5 +1,5 @@
 //! Terminals whose door fails: each later call answers Failed.
-ghost use Rattle.std.specs.Prelude.{◌≡◌, [], ◌∷◌, ◌++◌, ◌<◌, IfOk, IfErr};
+ghost use Rattle.std.specs.Prelude.{◌≡◌, [], ◌∷◌, ◌++◌, ◌<◌};
 
 use super::core_door::{CoreDoor, LONG, door_of, holds, started_at};
 use line_ring::{Line, LossyLine};
