@@ -13,7 +13,6 @@ use Rattle.set_moves.specs.declared.parts.Parts.{Parts}
 use Rattle.set_model.specs.declared.phase.Phase.{Phase}
 use Rattle.set_model.specs.declared.phase.Phase.TheVariants.{Up, Down, Settled}
 use Rattle.set_moves.specs.Agreement.{StandsFor, Agrees}
-use Rattle.set_moves.specs.Refusing.{service_refusal}
 use Rattle.set_events.specs.declared.answer.Took.{Took}
 use Rattle.set_events.specs.declared.answer.Took.TheVariants.{Ignored}
 use Rattle.set_model.specs.declared.reached.Reached.TheVariants.{Unanswered}
@@ -29,11 +28,6 @@ use Rattle.set_model.specs.declared.reached.Reached.{Reached}
 -- A link that an event needs as it is.
 is_here : (links : List Link) (n : ℕ) (phase : Phase) (link : Link) → slice_get links n ≡ Some link → link.phase ≡ phase → IsHere links n phase
 is_here links n phase link e p = record { link = link; there = e; phase_is = p; known = within links n link e }
-
-pub serves : {links read : List Link} {n : ℕ} {o : Option SetRefusal} → read ≡ links → o ≡ service_refusal (slice_get read n) → o ≡ None → IsHere links n Up
-serves {links} {read} {n} same is none =
-    let e : service_refusal (slice_get links n) ≡ None = rw (← same) (sym is ∙ none) in
-    grind (arith, nat_tests, is_here)
 
 -- The same of the state that the links stand for.
 pub record IsIn (s : State) (n : ℕ) (phase : Phase) : Type 0 where
@@ -67,11 +61,6 @@ module _ (parts : Parts) (s : State) (a : Agrees (kept_of parts) s) (n : ℕ) (o
 
   pub unknown : length parts.links.items ≤ n → Gives (on_link n s outcome) (Refused NoSuchLink) parts
   unknown few = refuses NoSuchLink (rw (slice_get_past parts.links.items n few) refl)
-
-pub unserved : {read : List Link} {o : Option SetRefusal} {why : SetRefusal} (parts : Parts) (s : State) (n : ℕ) (outcome : LinkState → Outcome) → Agrees (kept_of parts) s → read ≡ parts.links.items → o ≡ service_refusal (slice_get read n) → o ≡ Some why → Gives (in_service n s outcome) (Refused why) parts
-unserved {read} {o} {why} parts s n outcome a same e is =
-    let here : service_refusal (slice_get parts.links.items n) ≡ Some why = rw (← same) (sym e ∙ is) in
-    refuses parts s a n _ why (grind arith)
 
 -- An order changes nothing at a link that it isn't for, as its phase or that there is none tells,
 pub ignores : {o : Option Phase} (parts : Parts) (n : ℕ) (obeyed : LinkState → Phase → State → Obeyed) → o ≡ option_map (λ (l : Link). l.phase) (slice_get parts.links.items n) → ((phase : Phase) → o ≡ Some phase → (link : LinkState) (s : State) → obeyed link phase s ≡ ignored s)

@@ -67,14 +67,7 @@ module _ (n : ℕ) (link : LinkState) (s : State) (there : slice_get s.links n �
   pub is_judged : (reached : Reached) → IsJudged reached n link s
   is_judged Unknown = record { ordered = sent_up Emergency; there = there }
   is_judged Unanswered = record { ordered = both_up NoAnswer; there = there }
-  is_judged (Upto fsn) = go (is_reasonable fsn n link s.rows) refl
-    where
-      go : (b : Bool) → is_reasonable fsn n link s.rows ≡ b → IsJudged (Upto fsn) n link s
-      go true e =
-          let count = reached_by fsn n link s.rows in
-          let g = acked_rows n count s.rows in
-          record { ordered = rw e (g.order_kept o.0, g.last_kept o.1); there = rw e (get_set_same s.links n (acknowledged count link) (within s.links n link there)) }
-      go false e = record { ordered = rw e (both_up Unreasonable); there = rw e there }
+  is_judged (Upto fsn) = let g = acked_rows n (reached_by fsn n link s.rows) s.rows in let given_up = both_up Unreasonable in grind (arith, get_set_same, within, g.order_kept o.0, g.last_kept o.1)
 
 -- A LINK'S CONTROL GOES ON
 pub link_then : (old new : Kept) (s : State) (n : ℕ) (link link' : LinkState) → StandsFor old s → slice_get s.links n ≡ Some link → link'.acked ≡ link.acked → Becoming old new old.lists old.messages old.bodies (slice_set s.links n link') s.routing

@@ -1,6 +1,5 @@
 pub mod Agreement
 pub mod Controls
 pub mod Parts
-pub mod Refusing
 pub mod Room
 pub mod Turning

@@ -2,7 +2,7 @@
 ghost use Rattle.std.specs.Prelude.{◌≡◌, ◌≢◌, ◌+◌, ◌*◌, ◌<◌, ◌≤◌, ℕ, true, length, Some, OnErr, OnOk};
 ghost use Rattle.set_queues.specs.Buffers.{room_at};
 ghost use Rattle.set_queues.specs.Backs.{back_count};
-ghost use Rattle.set_route.specs.Routing.{code_for, code_of, home_of, is_free};
+ghost use Rattle.set_route.specs.Routing.{code_for, code_of, home_of};
 ghost use Rattle.set_model.specs.Changeover.{released, released_from, acknowledged_back, can_declare, declared_if, declared_from, some_declare, some_in_use};
 ghost use Rattle.set_model.specs.State.{State, link_count};
 ghost use Rattle.set_model.specs.Step.{on_link, in_service, comes_back, runs_out};
@@ -10,9 +10,8 @@ ghost use Rattle.set_moves.specs.Agreement.{Agrees, Holds, StandsFor};
 ghost use Rattle.set_moves.specs.Parts.{Answers, Becomes, IsWhole, Obeys, kept_of};
 ghost use Rattle.set_moves.specs.Room.{HasRoomFrom, SameButRoom, back_at, home_room};
 
-use super::changeover::body_of;
-use super::parts::{Parts, out_of_service, phase_of, stand_last};
-use l3_orders::Order;
+use super::parts::{Parts, unserved, phase_of, stand_last};
+use l3_orders::{Order, write_order};
 use set_events::{Answer, Fate, Refusal, Took};
 use set_model::Phase;
 use set_route::{Code, changeback_code, home_of_code};
@@ -23,17 +22,17 @@ const MOST_LINKS: usize = 16;
 
 /// Streams whose home this link is are to come back to it: a declaration on every other link that is up,
 /// the lowest-numbered first, where streams of this home run and its code is free.
+#[tactic(auto, using(crate::proofs::Rooms::whole_of))]
 pub fn restore(parts: &mut Parts, number: u8, answer: &mut Answer) -> Result<(), AllocError>
     requires holds { Holds (kept_of parts.old) }
     ensures ok { OnOk result (Answers parts.old parts.new answer.new
         (λ s. in_service number s (λ link. comes_back number s))) }
     ensures err { OnErr result (kept_of parts.new ≡ kept_of parts.old) }
 {
-    if let Some(why) = out_of_service(&parts.links, number) {
+    if let Some(why) = unserved(parts, number) {
         *answer = Answer::Refused { why };
         return Ok(());
     }
-    parts.is_whole();
     if !has_alternative(parts, number) {
         *answer = Answer::Refused {
             why: Refusal::Nothing,
@@ -48,13 +47,13 @@ pub fn restore(parts: &mut Parts, number: u8, answer: &mut Answer) -> Result<(),
 
 /// No acknowledgement came: what stands back for this link waits for it, code by code, and all its codes
 /// are free (own).
+#[tactic(auto, using(crate::proofs::Rooms::whole_of))]
 pub fn time_out(parts: &mut Parts, number: u8, answer: &mut Answer) -> Result<(), AllocError>
     requires holds { Holds (kept_of parts.old) }
     ensures ok { OnOk result (Answers parts.old parts.new answer.new
         (λ s. on_link number s (λ link. runs_out number s))) }
     ensures err { OnErr result (kept_of parts.new ≡ kept_of parts.old) }
 {
-    parts.is_whole();
     if usize::from(number) >= parts.links.len() {
         *answer = Answer::Refused {
             why: Refusal::NoSuchLink,
@@ -100,7 +99,7 @@ fn may_declare(parts: &Parts, home: u8, alternative: u8) -> bool
         → result ≡ can_declare home alternative s }
 {
     alternative != home
-        && phase_of(&parts.links, alternative) == Some(Phase::Up)
+        && phase_of(parts, alternative) == Some(Phase::Up)
         && parts.routes.can_ask(home, alternative)
 }
 
@@ -148,7 +147,8 @@ fn declare_if_due(parts: &mut Parts, home: u8, alternative: u8)
         link: home,
         code: changeback_code(home, alternative),
     };
-    let body = body_of(&declaration, &parts.config);
+    let config = &parts.config;
+    let body = write_order(&declaration, config.sio, config.dpc, config.opc);
     stand_last(parts, body.as_slice(), Fate::Waiting { link: alternative });
     parts.routes.ask(home, alternative);
 }
@@ -160,7 +160,7 @@ fn has_code_in_use(parts: &Parts, home: u8) -> bool
         → result ≡ some_in_use (code_for home 0) 16 s }
 {
     for alternative in 0..16u8 {
-        if !is_unused(parts.routes.code(changeback_code(home, alternative))) {
+        if parts.routes.code(changeback_code(home, alternative)) != Code::Free {
             return true;
         }
     }
@@ -205,7 +205,7 @@ fn release(parts: &mut Parts, code: u8)
 
 /// An acknowledgement of a changeback brings home what stood back by its code; of a code in no use it's
 /// ignored (Q.704 6.3).
-#[tactic(auto, using(crate::proofs::Declaring::in_use))]
+#[tactic(auto, using(crate::proofs::Declaring::in_use, crate::proofs::Rooms::whole_of))]
 pub(crate) fn acknowledge_back(parts: &mut Parts, code: u8) -> Took
     requires holds { Holds (kept_of parts.old) }
     requires room { home_of code < length parts.old.links.items
@@ -213,18 +213,10 @@ pub(crate) fn acknowledge_back(parts: &mut Parts, code: u8) -> Took
     ensures stands { (s : State) → Agrees (kept_of parts.old) s
         → Obeys (acknowledged_back code (code_of code s.routing) s) result parts.new }
 {
-    parts.is_whole();
     parts.routes.is_sound();
-    if is_unused(parts.routes.code(code)) {
+    if parts.routes.code(code) == Code::Free {
         return Took::Ignored;
     }
     release(parts, code);
     Took::Order
-}
-
-/// Whether a code is in no use.
-fn is_unused(code: Code) -> bool
-    ensures { result ≡ is_free code }
-{
-    matches!(code, Code::Free)
 }

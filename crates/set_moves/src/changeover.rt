@@ -1,7 +1,7 @@
 //! Changeover: a link is left, orders tell the far end, and the link settles (Q.704 5). Orders of changeback are
 //! carried out here too (Q.704 6).
 ghost use Rattle.std.specs.Prelude.{◌≡◌, ◌<◌, ◌≤◌, ◌^◌, ℕ, false, length, slice_get, slice_set, Some};
-ghost use Rattle.l3_orders.specs.Grammar.{IsOrder, text};
+ghost use Rattle.l3_orders.specs.Grammar.{IsOrder};
 ghost use Rattle.set_queues.specs.Backs.{back_count};
 ghost use Rattle.set_queues.specs.Buffers.{TakesRoom};
 ghost use Rattle.set_queues.specs.Settling.{on};
@@ -14,14 +14,11 @@ ghost use Rattle.set_moves.specs.Room.{HasRoom, IsReady, IsSpaciousFor, CanTurnB
 ghost use Rattle.set_moves.specs.Turning.{TakesTurns};
 
 use super::changeback::acknowledge_back;
-use super::link::Link;
-use super::parts::{Parts, phase_at, stand_last, target_of};
+use super::parts::{Parts, phase_of, stand_last, target_of};
 use super::settling::settle;
 use super::turning::turn_back;
-use arrayvec::ArrayVec;
-use l2_units::LONGEST_BODY;
 use l3_orders::{Order, write_order};
-use set_events::{SetConfig, Took};
+use set_events::Took;
 use set_model::{Phase, Reached};
 use set_queues::fate_on;
 
@@ -41,17 +38,9 @@ pub fn queue(parts: &mut Parts, order: Order)
     ensures whole { IsWhole parts.new }
 {
     let fate = fate_on(target_of(&parts.links));
-    let body = body_of(&order, &parts.config);
+    let config = &parts.config;
+    let body = write_order(&order, config.sio, config.dpc, config.opc);
     stand_last(parts, body.as_slice(), fate);
-}
-
-/// The octets of an order.
-pub(crate) fn body_of(order: &Order, config: &SetConfig) -> ArrayVec<u8, LONGEST_BODY>
-    requires { IsOrder order.now }
-    ensures text { result.items ≡ text order.now config.now.sio config.now.dpc config.now.opc }
-    ensures fits { length result.items ≤ 273 }
-{
-    write_order(order, config.sio, config.dpc, config.opc)
 }
 
 /// The link is left: out of service, its messages stay on it until it settles (Q.704 5.3). Streams on their way back
@@ -101,6 +90,7 @@ pub fn obey(parts: &mut Parts, order: Order) -> Took
 
 /// A changeover order: a link that is up is left and answered for; a link that was left settles, with
 /// no answer (own); for one that settled already the answer of its last life goes out again (own).
+#[tactic(auto, using(crate::proofs::Rooms::whole_of))]
 fn change_over(parts: &mut Parts, number: u8, reached: Reached) -> Took
     requires holds { Holds (kept_of parts.old) }
     requires counted { AreCounted (2 ^ 61) parts.old.links.items }
@@ -112,8 +102,7 @@ fn change_over(parts: &mut Parts, number: u8, reached: Reached) -> Took
         (λ link. changed_over reached number link link.phase s) (slice_get s.links number)) result
         parts.new }
 {
-    parts.is_whole();
-    match phase_at(parts, number) {
+    match phase_of(parts, number) {
         None => return Took::Ignored,
         Some(Phase::Up) => answer_and_settle(parts, number, reached),
         Some(Phase::Down) => settle(parts, number, reached),
@@ -158,27 +147,20 @@ fn reply_again(parts: &mut Parts, number: u8)
     ensures stands { BecomesAt number parts.old parts.new
         (λ link s. queued (reply_of number link) s) }
 {
-    let order = reply(&parts.links[usize::from(number)], number);
+    let link = &parts.links[usize::from(number)];
+    let order = if link.blind {
+        Order::Eca { link: number }
+    } else {
+        Order::Coa {
+            link: number,
+            number: link.last_accepted(),
+        }
+    };
     queue(parts, order);
 }
 
-/// The answer of a link that settled, as its last life would have given it (own).
-fn reply(link: &Link, number: u8) -> Order
-    requires number { number < 16 }
-    requires counted { link.now.accepted < 2 ^ 62 }
-    ensures order { result ≡ reply_of number (link_of link.now) }
-    ensures fits { IsOrder result }
-{
-    if link.blind {
-        return Order::Eca { link: number };
-    }
-    Order::Coa {
-        link: number,
-        number: link.last_accepted(),
-    }
-}
-
 /// An acknowledgement settles a link that waits for one (Q.704 5.4.3, 5.6.3).
+#[tactic(auto, using(crate::proofs::Rooms::whole_of))]
 fn answer(parts: &mut Parts, number: u8, reached: Reached) -> Took
     requires holds { Holds (kept_of parts.old) }
     requires counted { AreCounted (2 ^ 61) parts.old.links.items }
@@ -187,8 +169,7 @@ fn answer(parts: &mut Parts, number: u8, reached: Reached) -> Took
     ensures stands { (s : State) → Agrees (kept_of parts.old) s → Obeys (at_link number s (λ link.
         answered reached number link link.phase s) (slice_get s.links number)) result parts.new }
 {
-    parts.is_whole();
-    if phase_at(parts, number) != Some(Phase::Down) {
+    if phase_of(parts, number) != Some(Phase::Down) {
         return Took::Ignored;
     }
     settle(parts, number, reached);

@@ -1,21 +1,21 @@
 //! What a set keeps, and what is common to all events: the target, room, and a new message.
-ghost use Rattle.std.specs.Prelude.{◌≡◌, ◌+◌, ◌*◌, ◌<◌, ◌≤◌, ◌++◌, ℕ, [], ◌∷◌, map, length, IfSome, OnOk, slice_get, true, false};
+ghost use Rattle.std.specs.Prelude.{◌≡◌, ◌+◌, ◌*◌, ◌<◌, ◌≤◌, ◌++◌, ℕ, [], ◌∷◌, map, length, IfNone, IfSome, OnOk, slice_get, true, false};
 ghost use Rattle.std.specs.Option.{option_map};
 ghost use Rattle.set_queues.specs.Buffers.{IsKnown, IsQueued, TakesRoom, queue_at, room_at, with_queue};
 ghost use Rattle.set_queues.specs.Bodies.{CanHold};
-ghost use Rattle.set_queues.specs.Kind.{is_kind};
 ghost use Rattle.set_model.specs.Rows.{appended, service_indicator, stream_of};
 ghost use Rattle.set_route.specs.Routing.{place_of};
-ghost use Rattle.set_model.specs.State.{State, fate_at, target, has_phase_up};
-ghost use Rattle.set_moves.specs.Agreement.{StandsFor, Holds, kind_of};
-ghost use Rattle.set_moves.specs.Parts.{IsWhole, IsHere, Becomes, link_of, kept_of};
-ghost use Rattle.set_moves.specs.Refusing.{service_refusal};
+ghost use Rattle.set_model.specs.State.{State, LinkState, fate_at, target, has_phase_up};
+ghost use Rattle.set_model.specs.Step.{Outcome, in_service};
+ghost use Rattle.set_model.specs.declared.phase.Phase.TheVariants.{Up};
+ghost use Rattle.set_moves.specs.Agreement.{StandsFor, Agrees, Holds};
+ghost use Rattle.set_moves.specs.Parts.{IsWhole, IsHere, Gives, Becomes, link_of, kept_of};
 ghost use Rattle.set_moves.specs.Room.{HasRoom, IsReady, SameButRoom, target_beside};
 
 use super::inbox::Inbox;
 use super::link::Link;
 use arrayvec::ArrayVec;
-use set_events::{Fate, Refusal, SetConfig};
+use set_events::{Answer, Fate, Refusal, SetConfig};
 use set_model::Phase;
 use set_queues::{Bodies, Kind, Message, Queues, fate_on};
 use set_route::{Place, Routes};
@@ -36,16 +36,6 @@ pub struct Parts {
     pub routes: Routes,
     /// The messages heard for users.
     pub inbox: Inbox,
-}
-
-impl Parts {
-    /// A law: what holds a state is whole.
-    pub(crate) fn is_whole(&self)
-        requires { Holds (kept_of self.now) }
-        ensures { IsWhole self.now }
-    {
-        let _ = &self.links;
-    }
 }
 
 /// The lowest-numbered link that is up, if any (own).
@@ -83,30 +73,26 @@ fn up_links(links: &[Link]) -> ArrayVec<bool, 16>
 }
 
 /// Where the link of this number stands in its life, if there is one.
-pub fn phase_of(links: &[Link], number: u8) -> Option<Phase>
-    ensures { result ≡ option_map (λ link. link.phase) (slice_get links.now number) }
-{
-    Some(links.get(usize::from(number))?.phase)
-}
-
-/// Where that link of the set stands in its life, if there is one.
 #[tactic(auto, using(crate::proofs::Admitting::phase_here))]
-pub(crate) fn phase_at(parts: &Parts, number: u8) -> Option<Phase>
+pub fn phase_of(parts: &Parts, number: u8) -> Option<Phase>
     ensures value { result ≡ option_map (λ link. link.phase)
         (slice_get parts.now.links.items number) }
     ensures here { IfSome result (IsHere parts.now.links.items number) }
 {
-    phase_of(&parts.links, number)
+    Some(parts.links.get(usize::from(number))?.phase)
 }
 
-/// Why an event of this link that needs it in service is refused, if it is.
-pub fn out_of_service(links: &[Link], number: u8) -> Option<Refusal>
-    ensures { result ≡ service_refusal (slice_get links.now number) }
+/// Why an event that needs the link in service is refused, if it is.
+pub fn unserved(parts: &Parts, number: u8) -> Option<Refusal>
+    ensures refused { IfSome result (λ why. (s : State) (next : LinkState → Outcome)
+        → Agrees (kept_of parts.now) s
+        → Gives (in_service number s next) (Answer.Refused why) parts.now) }
+    ensures here { IfNone result (IsHere parts.now.links.items number Up) }
 {
-    match links.get(usize::from(number)) {
+    match phase_of(parts, number) {
         None => Some(Refusal::NoSuchLink),
-        Some(link) if link.phase != Phase::Up => Some(Refusal::NotUp),
-        Some(_) => None,
+        Some(Phase::Up) => None,
+        Some(Phase::Down | Phase::Settled) => Some(Refusal::NotUp),
     }
 }
 
@@ -133,20 +119,13 @@ pub fn make_room_beside(parts: &mut Parts, number: u8, orders: usize) -> Result<
 {
     let fate = fate_on(other_target(&parts.links, number));
     let back = parts.queues.back_count(number);
-    let Some(more) = with_turns(orders, back) else {
-        return Err(AllocError);
-    };
+    // twice, since what turns may go through two queues
+    let turns = back.checked_mul(2).ok_or(AllocError)?;
+    let more = turns.checked_add(orders).ok_or(AllocError)?;
     parts.bodies.reserve(orders)?;
     parts.queues.reserve(orders)?;
     parts.queues.reserve_each(back)?;
     parts.queues.reserve_all(fate, number, more)
-}
-
-/// So many orders, and twice what stands back, if that can be counted: what turns may go through two queues.
-fn with_turns(orders: usize, back: usize) -> Option<usize>
-    ensures { IfSome result (λ more. more ≡ orders + 2 * back) }
-{
-    back.checked_add(back)?.checked_add(orders)
 }
 
 /// Takes room in the link's queue for all that is parked. Nothing else changes, also where memory is
@@ -181,26 +160,19 @@ pub fn stand_last(parts: &mut Parts, body: &[u8], fate: Fate) -> u64
     ensures links { parts.new.links ≡ parts.old.links }
     ensures routes { parts.new.routes ≡ parts.old.routes }
 {
+    let kind = match service_indicator(body) {
+        0 => Kind::Order,
+        _ => Kind::User {
+            stream: stream_of_body(body),
+        },
+    };
     let message = Message {
         fate,
-        kind: kind_of_body(body),
+        kind,
         octets: body.len() as u16,
     };
     parts.bodies.add(body);
     parts.queues.add(message)
-}
-
-/// Whose a body is.
-fn kind_of_body(body: &[u8]) -> Kind
-    ensures value { result ≡ kind_of body.now }
-    ensures known { is_kind result ≡ true }
-{
-    if service_indicator(body) == 0 {
-        return Kind::Order;
-    }
-    Kind::User {
-        stream: stream_of_body(body),
-    }
 }
 
 /// The service indicator of a body: the low four bits of its SIO (Q.704 14.2.1), 0 where there is none.
@@ -235,7 +207,7 @@ pub fn fate_of_new(parts: &Parts, stream: u8) -> Fate
 {
     parts.queues.is_sound();
     match parts.routes.place(stream) {
-        Place::On { link } if phase_of(&parts.links, link) == Some(Phase::Up) => {
+        Place::On { link } if phase_of(parts, link) == Some(Phase::Up) => {
             Fate::Waiting { link }
         }
         Place::On { link } => Fate::Held { link },

@@ -14,7 +14,7 @@ pub(crate) fn unraised(parts: &Parts, number: u8) -> Option<Refusal>
         (λ s. on_link number s (λ link. rises number s link.phase))) }
     ensures here { IfNone result (IsHere parts.now.links.items number Settled) }
 {
-    match phase_of(&parts.links, number) {
+    match phase_of(parts, number) {
         None => Some(Refusal::NoSuchLink),
         Some(Phase::Up) => Some(Refusal::NotDown),
         Some(Phase::Down) => Some(Refusal::Unsettled),
@@ -28,7 +28,7 @@ pub(crate) fn unwaited(parts: &Parts, number: u8) -> Option<Refusal>
         (λ s. on_link number s (λ link. gives_up number s link link.phase))) }
     ensures here { IfNone result (IsHere parts.now.links.items number Down) }
 {
-    match phase_of(&parts.links, number) {
+    match phase_of(parts, number) {
         None => Some(Refusal::NoSuchLink),
         Some(Phase::Down) => None,
         Some(Phase::Up) => Some(Refusal::Nothing),

@@ -107,14 +107,14 @@ impl Core {
     pub fn is_up(&self, link: u8) -> bool
         ensures { (s : State) → StandsFor self.now s → result ≡ is_up_in link s }
     {
-        phase_of(&self.parts.links, link) == Some(Phase::Up)
+        phase_of(&self.parts, link) == Some(Phase::Up)
     }
 
     /// Whether this link of the set is settled, as one is that never was up.
     pub fn is_settled(&self, link: u8) -> bool
         ensures { (s : State) → StandsFor self.now s → result ≡ is_settled_in link s }
     {
-        phase_of(&self.parts.links, link) == Some(Phase::Settled)
+        phase_of(&self.parts, link) == Some(Phase::Settled)
     }
 
     /// Where the message of this number stands; none has it: `None`.

@@ -11,8 +11,8 @@ ghost use Rattle.set_model.specs.Rows.{appended, place, stream_of};
 ghost use Rattle.set_model.specs.declared.phase.Phase.TheVariants.{Up, Settled};
 ghost use Rattle.set_moves.specs.Agreement.{Holds};
 ghost use Rattle.set_step.specs.Faults.{wants_none};
+ghost use Rattle.set_step.specs.Refusing.{refusal_by};
 ghost use Rattle.set_moves.specs.Parts.{Answers, AreCounted, Becomes, BecomesAt, AgreedBecomes, IsHere, link_of, kept_of};
-ghost use Rattle.set_moves.specs.Refusing.{refusal_by};
 ghost use Rattle.set_moves.specs.Room.{HasRoom, IsReady};
 
 use super::admitting::{unraised, unwaited};
@@ -22,10 +22,10 @@ use set_events::{Answer, Body, Event, Fate, Refusal};
 use set_model::Reached;
 use set_moves::{
     Link, Parts, fate_of_new, leave, make_room, make_room_beside, make_room_parked, queue, restore,
-    service_indicator, settle, stand_last, stream_of_body, time_out,
+    service_indicator, settle, stand_last, stream_of_body, time_out, unserved,
 };
 use set_queues::Queues;
-use set_traffic::{hear, send_next, unserved};
+use set_traffic::{hear, send_next};
 use std::alloc::AllocError;
 
 /// What is answered to an event is put into `answer`: an answer has room for a unit, and one that is handed on by value is

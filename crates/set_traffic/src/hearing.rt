@@ -10,13 +10,13 @@ ghost use Rattle.set_traffic.specs.Hearing.{Acknowledges, HasPlace, IsSpacious, 
 ghost use Rattle.set_moves.specs.Parts.{Answers, AreCounted, IsCounted, IsWhole, OfStates, BecomesAt, Obeys, kept_of};
 ghost use Rattle.set_moves.specs.Room.{SameButRoom};
 
-use super::admitting::unserved;
 use l2_units::{Header, Unit, header_in};
 use l2_window::{HeardPart, Window};
 use l3_orders::{Order, read_order};
 use set_events::{Answer, Fate, Refusal, Report, Took};
 use set_moves::{
     HeardBody, Link, Parts, make_room, make_room_beside, obey, service_indicator, target_of,
+    unserved,
 };
 use set_queues::{Queues, fate_on};
 use set_route::home_of_code;

@@ -2,23 +2,21 @@
 //!
 //! [`send_next`] gives the unit that the link's error control chooses of the link's queues, and moves the message that is sent
 //! for the first time. [`hear`] acknowledges, counts, and hands on what the unit brings: a message to the users' inbox, an
-//! order to the rules of changeover and changeback (`set_moves`). [`unserved`] says why either is refused: a link that isn't there, or
+//! order to the rules of changeover and changeback (`set_moves`). Either is refused at a link that isn't there, or
 //! isn't in service.
 //!
 //! Contracts say of every state of the model (`set_model`) that the set agreed with that it stands for what the model's step
 //! makes of it, and answers as that step does. A unit costs what it moves, however many messages there ever were
 //! (`tools/set-bench`).
 //!
-//! The files: `admitting` why a link's event is refused; `sending` what is sent next; `hearing` what a heard unit does.
+//! The files: `sending` what is sent next; `hearing` what a heard unit does.
 //!
 //! This crate reads no clock, waits for nothing, takes no lock and does no IO. A call that may want memory takes it before it
 //! changes anything.
 #![tactic(auto)]
 
-mod admitting;
 mod hearing;
 mod sending;
 
-pub use admitting::unserved;
 pub use hearing::hear;
 pub use sending::send_next;

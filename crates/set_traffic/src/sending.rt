@@ -11,12 +11,11 @@ ghost use Rattle.set_moves.specs.Agreement.{Holds, StandsFor, rows_at};
 ghost use Rattle.set_moves.specs.Parts.{Answers, AnswersAt, OfStates, BecomesAt, kept_of};
 ghost use Rattle.set_traffic.specs.Sending.{IsThere, choice_in, goes_on};
 
-use super::admitting::unserved;
 use arrayvec::ArrayVec;
 use l2_units::{Header, LONGEST_BODY, Unit, body_of};
 use l2_window::Choice;
 use set_events::{Answer, Fate};
-use set_moves::Parts;
+use set_moves::{Parts, unserved};
 
 /// The next unit to send.
 pub fn send_next(parts: &mut Parts, number: u8, answer: &mut Answer)

@@ -6,15 +6,15 @@ use Rattle.set_moves.proofs.Rooms.{here_room}
 use Rattle.set_moves.proofs.changeover.answer.Goals as goal
 
 pub returns-then-ne : goal.returns-then-ne
-returns-then-ne c = record { stands = ignores c.args.parts.now c.args.number (answered c.args.reached c.args.number) c.phase_at.ensures.value (unanswered c.args.reached c.args.number c.phase_at.result (search rules)) }
+returns-then-ne c = record { stands = ignores c.args.parts.now c.args.number (answered c.args.reached c.args.number) c.phase_of.ensures.value (unanswered c.args.reached c.args.number c.phase_of.result (search rules)) }
 
 pub settle-requires-clause-room : goal.settle-requires-clause-room
 settle-requires-clause-room c =
-    let e : c.phase_at.result ≡ Some Down = search rules in
-    let h = rw e at c.phase_at.ensures.here in
+    let e : c.phase_of.result ≡ Some Down = search rules in
+    let h = rw e at c.phase_of.ensures.here in
     here_room c.args.parts.now c.args.number 1 Down h refl (c.requires.room h.known)
 
 pub returns : goal.returns
 returns c =
-    let e : c.phase_at.result ≡ Some Down = search rules in
-    record { stands = obeyed_at c.args.parts.now (answered c.args.reached c.args.number) (rw e at c.phase_at.ensures.here) (λ s link there is a. record { took_is = refl; stands = c.settle.ensures.stands s link there is a }) }
+    let e : c.phase_of.result ≡ Some Down = search rules in
+    record { stands = obeyed_at c.args.parts.now (answered c.args.reached c.args.number) (rw e at c.phase_of.ensures.here) (λ s link there is a. record { took_is = refl; stands = c.settle.ensures.stands s link there is a }) }

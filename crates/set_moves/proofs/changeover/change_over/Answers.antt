@@ -6,7 +6,7 @@ use Rattle.set_moves.proofs.Rooms.{here_room}
 use Rattle.set_moves.proofs.changeover.change_over.Goals as goal
 
 pub returns-in-None : goal.returns-in-None
-returns-in-None c = record { stands = ignores c.args.parts.now c.args.number (changed_over c.args.reached c.args.number) c.phase_at.ensures.value (λ phase e link s. let none = c.in-None.is in absurd cc) }
+returns-in-None c = record { stands = ignores c.args.parts.now c.args.number (changed_over c.args.reached c.args.number) c.phase_of.ensures.value (λ phase e link s. let none = c.in-None.is in absurd cc) }
 
 pub settle-requires-clause-room : goal.settle-requires-clause-room
 settle-requires-clause-room c =

@@ -20,7 +20,7 @@ returns-clause-room c = on_ok c.reserve_all.result (λ enough.
     record {
       message = omega (arith, c.in_ok-reserve-2.ensures.room, c.reserve_all.ensures.same.2, c.in_ok-reserve_each.ensures.same.2);
       body = c.in_ok-reserve.ensures.room;
-      place = rw (← fate) (omega (arith, enough, c.in-Some.ensures, back, ap (λ (l : Lists). length (on n l)) c.reserve_all.ensures.same.0));
+      place = rw (← fate) (grind (arith, enough, c.ok_or.ensures, c.checked_mul.ensures, c.ok_or-2.ensures, c.checked_add.ensures, c.in_ok-turns.is, c.in_ok-more.is, back, ap (λ (l : Lists). length (on n l)) c.reserve_all.ensures.same.0));
       each = λ link low.
           let had = c.in_ok-reserve_each.ensures.room link (omega (arith, low, ap (λ (l : Lists). length l.links) before ∙ c.requires.whole.as_many)) in
           omega (arith, had, back, c.reserve_all.ensures.kept (Waiting link), c.reserve_all.ensures.kept (Held link));

@@ -6,7 +6,7 @@ use Rattle.set_model.specs.Rows.{stream_of}
 use Rattle.set_model.specs.State.{State, fate_at}
 use Rattle.set_model.specs.Step.{offer_refusal}
 use Rattle.set_moves.specs.Agreement.{Kept, StandsFor}
-use Rattle.set_moves.specs.Refusing.{refusal_by}
+use Rattle.set_step.specs.Refusing.{refusal_by}
 use Rattle.set_moves.specs.Parts.{kept_of}
 use Rattle.set_moves.proofs.Admitting.{agrees_same}
 use Rattle.set_step.proofs.Reading.{unsent_is}
