@@ -1,10 +1,7 @@
 pub mod Admitting
-pub mod Becoming
 pub mod Declaring
-pub mod Less
 pub mod Links
 pub mod Rooms
 pub mod RowsAt
 pub mod States
-pub mod Targets
 pub mod Turns

@@ -1,14 +1,14 @@
 -- Room that was taken, as orders and moved messages need it.
-use Rattle.std.proofs.Common.{arith, ◌≡◌, ◌∙◌, refl, ap, ◌≤◌, ◌<◌, ℕ, Bool, false, List, map, length, slice_get, slice_set}
-use Rattle.std.proofs.lemmas.List.{length-map}
+use Rattle.std.proofs.Common.{arith, ◌≡◌, ◌∙◌, refl, ap, ◌≤◌, ◌<◌, ℕ, Bool, false, List, map, length, slice_get, slice_set, true, [], drop}
+use Rattle.std.proofs.lemmas.List.{length-map, length-drop}
 use Rattle.std.proofs.lemmas.Bool.Decides.{nat_tests}
 use Rattle.set_events.specs.declared.answer.Fate.{Fate}
 use Rattle.set_events.specs.declared.answer.Fate.TheVariants.{Waiting, Unacked, Held}
-use Rattle.set_queues.specs.Buffers.{Lists, TakesRoom, same_fate, with_queue, room_at}
+use Rattle.set_queues.specs.Buffers.{Lists, TakesRoom, same_fate, with_queue, room_at, is_standing, queue_at, IsKnown}
 use Rattle.set_queues.specs.Backs.{back_count}
 use Rattle.set_queues.specs.Settling.{on}
-use Rattle.set_queues.proofs.Passing.{queue_other, queued_stands}
-use Rattle.set_queues.proofs.Settling.{IsAside, room_left}
+use Rattle.set_queues.proofs.Passing.{queue_other, queued_stands, queue_set}
+use Rattle.set_queues.proofs.Settling.{IsAside, room_left, on_length}
 use Rattle.set_model.specs.declared.phase.Phase.{Phase}
 use Rattle.set_model.specs.declared.phase.Phase.TheVariants.{Down}
 use Rattle.set_model.specs.Changeover.{fate_on}
@@ -21,7 +21,9 @@ use Rattle.set_moves.specs.Parts.{IsWhole, IsCounted, AreCounted, AtLink, IsOut,
 use Rattle.set_moves.specs.Room.{HasRoom, IsReady, target_beside}
 use Rattle.set_moves.specs.Turning.{TakesTurns}
 use Rattle.set_moves.proofs.Admitting.{IsHere, out_at}
-use Rattle.set_moves.proofs.Targets.{ups}
+use Rattle.set_moves.proofs.Links.{ups}
+use Rattle.set_queues.specs.Sending.{acknowledged, reach}
+use Rattle.set_queues.proofs.Soundness.{queue_last}
 
 ups_of : List Link → List Bool
 ups_of links = map (λ (link : Link). has_phase_up link.phase) links
@@ -92,3 +94,22 @@ room_after n old left new low r turns beside same elsewhere takes = grind (arith
 
 pub wider : (bound more : ℕ) (links : List Link) → bound ≤ more → AreCounted bound links → AreCounted more links
 wider bound more links h all n link there = let k = all n link there in record { acked = let low = k.acked in omega (arith, h, low); accepted = let low = k.accepted in omega (arith, h, low) }
+
+-- Queues that got no longer.
+
+abbrev pub NoLonger : Lists → Lists → Type 0
+NoLonger q q' = (f : Fate) → length (queue_at f q') ≤ length (queue_at f q)
+
+-- a queue is replaced by one that is no longer
+replaced_less : (g : Fate) (xs : List ℕ) (q : Lists) → is_standing g ≡ true → IsKnown g q → length xs ≤ length (queue_at g q) → NoLonger q (with_queue g xs q)
+replaced_less g xs q s h few f = grind (arith, nat_tests, queue_set g f xs q s h)
+
+pub cleared_less : (g : Fate) (q q' : Lists) → q' ≡ with_queue g [] q → is_standing g ≡ true → IsKnown g q → NoLonger q q'
+cleared_less g q q' e s h f = rw e (replaced_less g [] q s h (omega arith) f)
+
+pub acked_less : (l fsn : ℕ) (q : Lists) → l < length q.links → NoLonger q (acknowledged l fsn q)
+acked_less l fsn q h f = rw (queue_last f l fsn _) (replaced_less (Unacked l) (drop (reach l fsn q) (queue_at (Unacked l) q)) q refl h (omega (arith, length-drop (reach l fsn q) (queue_at (Unacked l) q))) f)
+
+-- so does what stands on a link
+pub on_less : (n : ℕ) (q q' : Lists) → NoLonger q q' → length (on n q') ≤ length (on n q)
+on_less n q q' less = let u = less (Unacked n) in let w = less (Waiting n) in let h = less (Held n) in omega (arith, u, w, h, on_length n q, on_length n q')

@@ -22,9 +22,8 @@ use Rattle.set_model.proofs.Lookups.{Found, found_by_number, at_most_one, row_is
 use Rattle.set_model.proofs.Moving.{moved_nothing}
 use Rattle.set_moves.specs.Agreement.{Kept, Stands, StandsFor, rows_at, label_in, label_of, Agrees, Holds}
 use Rattle.set_moves.specs.Turning.{IsTurning, IsTurningRow, TurnsOn, TakesTurns, CanTurn}
-use Rattle.set_moves.proofs.Becoming.{Becoming, becomes}
+use Rattle.set_moves.proofs.States.{Becoming, becomes, Moves, shifts_stand, queues_for, last_stays}
 use Rattle.set_moves.proofs.RowsAt.{Shifts, is_there, rows_as, shifted, shifted_messages, shifted_goes, shifted_stands, shifted_each, rest_stands, moved_rest, moved_as}
-use Rattle.set_moves.proofs.States.{Moves, shifts_stand, queues_for, last_stays}
 use Rattle.set_moves.specs.declared.parts.Parts.{Parts}
 use Rattle.set_moves.specs.Parts.{IsWhole, kept_of, AtLink, OfStates}
 use Rattle.set_queues.specs.Queues.{QueuesState}
@@ -222,11 +221,11 @@ turns_one home code to old new o on e rooms room = record {
 
 -- the numbers of a fate's rows, where the first that stood back by the code came to another
 module _ (code : ℕ) (to : Fate) (x : Row) (rest rows : List Row) (one : with_number x.number rows ≡ x ∷ []) (is : x.fate ≡ Back code) (of_code : standing (is_back code) rows ≡ x ∷ rest) (apart : same_fate to (Back code) ≡ false) where
-  first_there : (g : Fate) → is_standing g ≡ true → is_there g x.fate ≡ true → standing (is_there g) rows ≡ x ∷ rest
-  first_there g t h = let here : Back code ≡ g = grind (arith, same_is) in sym (rows_as g rows t) ∙ rw (← here) of_code
-
   turned_place : (g : Fate) → is_standing g ≡ true → (b d : Bool) → is_back code g ≡ b → same_fate to g ≡ d → numbers (rows_at g (shifted to x rows)) ≡ cond b (drop 1 (numbers (standing (is_back code) rows))) (cond d (numbers (rows_at to rows) ++ x.number ∷ []) (numbers (rows_at g rows)))
-  turned_place g t b d e h = let there = shifted_stands to x rows one (is_there g) rest (first_there g t) in let from : is_there g x.fate ≡ b = grind (arith, nat_tests) in rw (rows_as g _ t, there, from, h) (grind (arith, append-nil, map-append, same_is, rows_as, of_code))
+  turned_place g t b d e h =
+      let there = shifted_stands to x rows one (is_there g) rest (λ i. let here : Back code ≡ g = grind (arith, same_is) in sym (rows_as g rows t) ∙ rw (← here) of_code) in
+      let from : is_there g x.fate ≡ b = grind (arith, nat_tests) in
+      rw (rows_as g (shifted to x rows) t, there, from, h) (grind (arith, append-nil, map-append, same_is, rows_as, of_code))
 
 -- ONE TURNS BACK
 module _ (home code : ℕ) (to : Fate) (k : Kept) (s : State) (f : StandsFor k s) (t : IsTurning home s) (o : IsOldest home code k.lists) (on : IsOnLink (length k.lists.links) to) where

@@ -10,7 +10,7 @@ ghost use Rattle.set_moves.specs.Agreement.{Agrees, Holds, StandsFor};
 ghost use Rattle.set_moves.specs.Parts.{Answers, Becomes, IsWhole, Obeys, kept_of};
 ghost use Rattle.set_moves.specs.Room.{HasRoomFrom, SameButRoom, back_at, home_room};
 
-use super::parts::{Parts, unserved, phase_of, stand_last};
+use super::parts::{Parts, phase_of, stand_last, unserved};
 use l3_orders::{Order, write_order};
 use set_events::{Answer, Fate, Refusal, Took};
 use set_model::Phase;

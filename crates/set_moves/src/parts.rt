@@ -39,7 +39,7 @@ pub struct Parts {
 }
 
 /// The lowest-numbered link that is up, if any (own).
-#[tactic(auto, using(crate::proofs::Targets::ups))]
+#[tactic(auto, using(crate::proofs::Links::ups))]
 pub fn target_of(links: &[Link]) -> Option<u8>
     requires { length links.now ≤ 16 }
     ensures value { result ≡ target (map link_of links.now) }
@@ -207,9 +207,7 @@ pub fn fate_of_new(parts: &Parts, stream: u8) -> Fate
 {
     parts.queues.is_sound();
     match parts.routes.place(stream) {
-        Place::On { link } if phase_of(parts, link) == Some(Phase::Up) => {
-            Fate::Waiting { link }
-        }
+        Place::On { link } if phase_of(parts, link) == Some(Phase::Up) => { Fate::Waiting { link } }
         Place::On { link } => Fate::Held { link },
         Place::Changing { code, .. } => Fate::Back { code },
         Place::Nowhere => Fate::Parked,

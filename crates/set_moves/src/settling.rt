@@ -16,7 +16,7 @@ use set_model::{Phase, Reached};
 /// The link settles: what reached the far end is acknowledged, and what stands on it is moved.
 ///
 /// Conditions: a link of the set that isn't up, and room for all that stand on it where they go.
-#[tactic(auto, using(crate::proofs::Targets::phase_at, crate::proofs::Targets::same_target))]
+#[tactic(auto, using(crate::proofs::Links::phase_at, crate::proofs::Links::same_target))]
 pub fn settle(parts: &mut Parts, number: u8, reached: Reached)
     requires whole { IsWhole parts.old }
     requires counted { AreCounted (2 ^ 61) parts.old.links.items }
@@ -34,7 +34,7 @@ pub fn settle(parts: &mut Parts, number: u8, reached: Reached)
 }
 
 /// What reached the far end is acknowledged, or what might be doubled is discarded (own).
-#[tactic(auto, using(crate::proofs::Less::acked_less, crate::proofs::Less::on_less, crate::proofs::Links::set_view, set_model::proofs::Lists::length_set, set_queues::proofs::Soundness::acked_links))]
+#[tactic(auto, using(crate::proofs::Rooms::acked_less, crate::proofs::Rooms::on_less, crate::proofs::Links::set_view, set_model::proofs::Lists::length_set, set_queues::proofs::Soundness::acked_links))]
 fn judge(parts: &mut Parts, number: u8, reached: Reached)
     requires whole { IsWhole parts.old }
     requires counted { AreCounted (2 ^ 61) parts.old.links.items }

@@ -20,7 +20,7 @@ use Rattle.set_moves.specs.Agreement.{Kept, StandsFor}
 use Rattle.set_traffic.specs.Hearing.{HasPlace, IsSpacious, KeepsSpace, order_brought, message_brought}
 use Rattle.set_moves.specs.Parts.{Obeys, kept_of, link_of as link_kept}
 use Rattle.set_moves.specs.Room.{IsReady, target_beside}
-use Rattle.set_moves.proofs.Targets.{same_ups, same_target}
+use Rattle.set_moves.proofs.Links.{same_ups, same_target}
 
 -- THE INBOX
 pub delivered : (k : Kept) (s : State) (inbox : List (List ℕ)) (message : List ℕ) → StandsFor k s → inbox ≡ k.inbox ++ message ∷ [] → StandsFor (record k { inbox = inbox }) (record s { inbox = s.inbox ++ message ∷ [] })

@@ -6,8 +6,7 @@ use Rattle.set_queues.proofs.Soundness.{passed_links, passed_replaces}
 use Rattle.set_events.specs.declared.answer.Fate.TheVariants.{Waiting, Back}
 use Rattle.set_route.specs.Routing.{given_back}
 use Rattle.set_moves.specs.Parts.{kept_of}
-use Rattle.set_moves.proofs.Becoming.{becomes}
-use Rattle.set_moves.proofs.States.{released_for}
+use Rattle.set_moves.proofs.States.{becomes, released_for}
 use Rattle.set_moves.proofs.changeback.release.Goals as goal
 
 pub returns-clause-stands : goal.returns-clause-stands

@@ -3,10 +3,8 @@ use Rattle.set_route.specs.Routing.{Routing, settled as streams_settled}
 use Rattle.set_model.specs.Changeover.{settled_link, fate_on}
 use Rattle.set_model.specs.State.{target}
 use Rattle.set_moves.specs.Parts.{link_of, kept_of}
-use Rattle.set_moves.proofs.Becoming.{becomes}
-use Rattle.set_moves.proofs.States.{settled_for}
-use Rattle.set_moves.proofs.Links.{link_set}
-use Rattle.set_moves.proofs.Targets.{place_for}
+use Rattle.set_moves.proofs.States.{becomes, settled_for}
+use Rattle.set_moves.proofs.Links.{link_set, place_for}
 use Rattle.set_moves.proofs.settling.move_all.Goals as goal
 
 pub settle-requires-clause-apart : goal.settle-requires-clause-apart

@@ -1,5 +1,5 @@
 use Rattle.set_model.specs.Changeover.{judged, judged_link}
-use Rattle.set_moves.proofs.Becoming.{is_judged}
+use Rattle.set_moves.proofs.States.{is_judged}
 use Rattle.set_moves.proofs.settling.settle.Goals as goal
 
 pub returns : goal.returns

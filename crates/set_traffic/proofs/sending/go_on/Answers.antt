@@ -4,7 +4,7 @@ use Rattle.set_model.specs.Rows.{octets_in, unack}
 use Rattle.set_model.specs.State.{State, LinkState, window_of}
 use Rattle.set_moves.specs.Agreement.{StandsFor}
 use Rattle.set_moves.specs.Parts.{kept_of}
-use Rattle.set_moves.proofs.Becoming.{link_then}
+use Rattle.set_moves.proofs.States.{link_then}
 use Rattle.set_moves.proofs.Links.{link_set}
 use Rattle.set_traffic.proofs.Bodies.{weight_is}
 use Rattle.set_traffic.proofs.Controls.{TellsAs, told}

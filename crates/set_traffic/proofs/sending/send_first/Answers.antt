@@ -3,7 +3,7 @@ use Rattle.set_events.specs.declared.answer.Fate.TheVariants.{Waiting}
 use Rattle.set_queues.specs.Buffers.{queue_at}
 use Rattle.set_model.proofs.Lists.{present}
 use Rattle.set_moves.specs.Parts.{kept_of}
-use Rattle.set_moves.proofs.Becoming.{sent_then}
+use Rattle.set_moves.proofs.States.{sent_then}
 use Rattle.set_traffic.proofs.sending.send_first.Goals as goal
 
 some : (xs : List ℕ) → 0 < length xs → xs ≢ []
