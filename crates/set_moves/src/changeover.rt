@@ -148,13 +148,13 @@ fn reply_again(parts: &mut Parts, number: u8)
         (λ link s. queued (reply_of number link) s) }
 {
     let link = &parts.links[usize::from(number)];
-    let order = if link.blind {
-        Order::Eca { link: number }
-    } else {
-        Order::Coa {
-            link: number,
-            number: link.last_accepted(),
-        }
+    if link.blind {
+        queue(parts, Order::Eca { link: number });
+        return;
+    }
+    let order = Order::Coa {
+        link: number,
+        number: link.last_accepted(),
     };
     queue(parts, order);
 }
