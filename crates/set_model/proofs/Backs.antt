@@ -1,11 +1,8 @@
 -- WHAT STANDS BACK, as streams move.
 use Rattle.std.proofs.Common.{arith, ◌≡◌, sym, subst, ◌<◌, ℕ, Bool, false, not, List, [], ◌∷◌, map, refl}
-use Rattle.set_events.specs.declared.answer.Fate.{Fate}
-use Rattle.set_events.specs.declared.answer.Fate.TheVariants.{Back}
 use Rattle.set_route.specs.Routing.{IsCoded, IsRouting, Routing, code_of, home_of, place_of}
-use Rattle.set_route.specs.declared.place.Code.TheVariants.{Asked}
-use Rattle.set_route.specs.declared.place.Place.TheVariants.{Changing}
-use Rattle.set_model.specs.Rows.{Row, back, fated, moved, numbers, standing, stands_back}
+use Rattle.set_model.specs.State.{Asked, Changing}
+use Rattle.set_model.specs.Rows.{Fate, Back, Row, back, fated, moved, numbers, standing, stands_back}
 use Rattle.set_model.specs.Sound.{AreBack, IsAscending, IsBackOf}
 use Rattle.set_route.proofs.Quiet.{at_place}
 use Rattle.set_model.proofs.Standing.{each_so, each_left, each_filter, ascends_filter}

@@ -3,9 +3,8 @@ use Rattle.std.proofs.Common.{arith, ◌≡◌, ◌≢◌, ◌<◌, ◌≤◌, �
 use Rattle.std.proofs.lemmas.List.{length-drop}
 use Rattle.std.proofs.lemmas.Bool.Decides.{nat_tests}
 use Rattle.l2_pcr.specs.Pcr as cyclic
-use Rattle.l2_units.specs.declared.unit.Header.{Header}
 use Rattle.l2_window.specs.Window.{WindowState}
-use Rattle.set_model.specs.Control.{Choice, Control, acked_by, choice_of, control_after, control_heard, first}
+use Rattle.set_model.specs.Control.{Header, Choice, Control, acked_by, choice_of, control_after, control_heard, first}
 use Rattle.set_model.specs.Sound.{IsInRange}
 
 -- a first sending is chosen only where something waits, and fewer than 127 are unacknowledged

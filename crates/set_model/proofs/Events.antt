@@ -2,10 +2,7 @@
 use Rattle.std.proofs.Common.{refl, arith, ◌≡◌, ◌∙◌, ap, ◌≤◌, [], ◌∷◌, length, ℕ, Bool, true, false, ◌==◌, List, ◌++◌, map, take, drop}
 use Rattle.std.proofs.lemmas.List.{append-nil, map-append}
 use Rattle.std.proofs.lemmas.List.Elements.{filter-append}
-use Rattle.set_events.specs.declared.answer.DiscardCause.{DiscardCause}
-use Rattle.set_events.specs.declared.answer.Fate.{Fate}
-use Rattle.set_events.specs.declared.answer.Fate.TheVariants.{Acked, Discarded, Parked, Unacked, Waiting}
-use Rattle.set_model.specs.Rows.{AreFit, IsHeldLast, IsInOrder, IsNumbered, Row, all_with, appended, body_at, changed, counts_of, fated, held, is_held, is_on, is_parked, is_unacked, is_waiting, moved, numbers, on, parked, standing, total_of, turned, unack, wait, was_acked, with_fate}
+use Rattle.set_model.specs.Rows.{DiscardCause, Fate, Acked, Discarded, Parked, Unacked, Waiting, AreFit, IsHeldLast, IsInOrder, IsNumbered, Row, all_with, appended, body_at, changed, counts_of, fated, held, is_held, is_on, is_parked, is_unacked, is_waiting, moved, numbers, on, parked, standing, total_of, turned, unack, wait, was_acked, with_fate}
 use Rattle.set_model.proofs.Places.{itself, apart_back, unacked_not_waiting, waiting_not_held, unacked_not_held, parked_not_on, on_not_parked, on_not_acked, parked_not_acked, waiting_on, unacked_on, held_on, on_other, not_on_waiting, not_on_unacked, not_on_held}
 use Rattle.set_model.proofs.InPlace.{InPlace, turned_there, changed_there, turned_same, changed_same, turned_ordered, changed_ordered, turned_left, changed_left}
 use Rattle.set_model.proofs.Moving.{moved_length, moved_fit, moved_numbered, moved_gone, moved_same, moved_joined, filter_moved}

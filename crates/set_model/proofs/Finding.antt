@@ -1,11 +1,9 @@
 -- Rows that are looked up, where each number stands in one row.
-use Rattle.std.proofs.Common.{refl, arith, ◌≡◌, ◌∙◌, ap, sym, ◌<◌, ◌≤◌, [], ◌∷◌, length, ℕ, nat_lt, ◌==◌, List, None, cond}
-use Rattle.std.specs.Prelude.{filter}
+use Rattle.std.proofs.Common.{refl, arith, ◌≡◌, ◌∙◌, ap, sym, ◌<◌, ◌≤◌, [], ◌∷◌, length, ℕ, nat_lt, ◌==◌, List, None, cond, filter}
 use Rattle.std.proofs.lemmas.Bool.Decides.{nat_tests}
 use Rattle.std.proofs.lemmas.List.{length-append, length_push}
 use Rattle.std.proofs.lemmas.List.Elements.{filter-append}
-use Rattle.set_events.specs.declared.answer.Fate.{Fate}
-use Rattle.set_model.specs.Rows.{AreFit, IsNumbered, Row, appended, row_of}
+use Rattle.set_model.specs.Rows.{Fate, AreFit, IsNumbered, Row, appended, row_of}
 use Rattle.set_model.proofs.Filters.{fit_append}
 
 -- the rows of a number

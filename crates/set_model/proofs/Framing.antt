@@ -4,22 +4,15 @@ use Rattle.std.proofs.lemmas.Bool.{eqb-false}
 use Rattle.std.proofs.lemmas.Bool.Decides.{nat_tests}
 use Rattle.std.proofs.lemmas.List.Elements.{filter-append}
 use Rattle.std.proofs.lemmas.List.{append-nil, drop-map, take-map}
-use Rattle.l2_units.specs.declared.unit.Unit.{Unit as SignalUnit}
-use Rattle.l3_orders.specs.declared.order.Order.{Order}
 use Rattle.l3_orders.specs.Grammar.{order_of, link_of}
-use Rattle.set_events.specs.declared.answer.DiscardCause.{DiscardCause}
-use Rattle.set_events.specs.declared.answer.Fate.{Fate}
-use Rattle.set_events.specs.declared.answer.Fate.TheVariants.{Waiting, Unacked}
-use Rattle.set_events.specs.declared.event.Event.{Event}
 use Rattle.set_route.specs.Routing.{Routing}
-use Rattle.set_model.specs.Step.{step, brought, rows_sent, takes}
-use Rattle.set_model.specs.Changeover.{fate_on}
+use Rattle.set_model.specs.Step.{SignalUnit, Event, step, brought, rows_sent, takes}
+use Rattle.set_model.specs.Changeover.{Order, fate_on}
 use Rattle.set_model.specs.Control.{Choice, first}
 use Rattle.set_model.specs.Frame.{BringsAbout, Concerns, LeavesAlone, MovesAsItsControl, window_after}
-use Rattle.set_model.specs.Rows.{IsInOrder, Row, appended, fated, held, is_held, is_on, is_unacked, is_waiting, moved, numbers, standing, unack, wait}
+use Rattle.set_model.specs.Rows.{DiscardCause, Fate, Waiting, Unacked, IsInOrder, Row, appended, fated, held, is_held, is_on, is_unacked, is_waiting, moved, numbers, standing, unack, wait}
 use Rattle.set_model.specs.Sound.{IsSound}
-use Rattle.set_model.specs.State.{LinkState, State, is_up, link_is_up, target, window_of}
-use Rattle.set_model.specs.declared.phase.Phase.TheVariants.{Up}
+use Rattle.set_model.specs.State.{Up, LinkState, State, is_up, link_is_up, target, window_of}
 use Rattle.set_model.proofs.Events.{Untouched, untouched_self, apart_on, sent, acknowledged, sent_given_up, waiting_given_up, unparked, appended_out, numbers_joined}
 use Rattle.set_model.proofs.Filters.{fated_none}
 use Rattle.set_model.proofs.Finding.{new_row}

@@ -2,10 +2,7 @@
 use Rattle.std.proofs.Common.{refl, arith, ◌≡◌, ℕ, false, List}
 use Rattle.std.proofs.lemmas.List.Elements.{filter-append}
 use Rattle.std.proofs.lemmas.List.{length-append}
-use Rattle.set_events.specs.declared.answer.Answer.{Answer}
-use Rattle.set_events.specs.declared.event.Event.{Event}
-use Rattle.set_events.specs.declared.event.Event.TheVariants.{Find, Offer, Take}
-use Rattle.set_model.specs.Step.{step, Gains, messages_in, octets_of}
+use Rattle.set_model.specs.Step.{Answer, Event, Find, Offer, Take, step, Gains, messages_in, octets_of}
 use Rattle.set_model.specs.Rows.{counts_of}
 use Rattle.set_model.specs.Sound.{IsManaged}
 use Rattle.set_model.specs.State.{State}

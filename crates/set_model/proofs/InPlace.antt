@@ -1,8 +1,6 @@
 -- Rows that get another fate in their places: the first n where a test tells, or all.
-use Rattle.std.proofs.Common.{refl, arith, ◌≡◌, ◌≤◌, [], ◌∷◌, length, ℕ, zero, suc, Bool, true, false, List, drop}
-use Rattle.std.specs.Prelude.{filter}
-use Rattle.set_events.specs.declared.answer.Fate.{Fate}
-use Rattle.set_model.specs.Rows.{AreFit, IsHeldLast, IsInOrder, Row, body_at, changed, is_held, is_unacked, is_waiting, standing, turned, unack, users, wait, was_acked, with_fate}
+use Rattle.std.proofs.Common.{refl, arith, ◌≡◌, ◌≤◌, [], ◌∷◌, length, ℕ, zero, suc, Bool, true, false, List, drop, filter}
+use Rattle.set_model.specs.Rows.{Fate, AreFit, IsHeldLast, IsInOrder, Row, body_at, changed, is_held, is_unacked, is_waiting, standing, turned, unack, users, wait, was_acked, with_fate}
 
 -- What is kept where a row stays, and where one turns, is kept by both changes.
 module _ (test : Fate → Bool) (fate : Fate) (P : List Row → List Row → Type 0) (none : P [] []) (stays : (x : Row) (xs ys : List Row) → P xs ys → P (x ∷ xs) (x ∷ ys)) (turns : (x : Row) (xs ys : List Row) → test x.fate ≡ true → P xs ys → P (x ∷ xs) (with_fate fate x ∷ ys)) where

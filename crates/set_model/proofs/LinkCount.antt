@@ -1,8 +1,7 @@
 -- No event changes how many links a set has.
 use Rattle.std.proofs.Common.{arith, ◌≡◌, length}
 use Rattle.std.proofs.lemmas.List.{length-set}
-use Rattle.set_model.specs.Step.{step}
-use Rattle.set_events.specs.declared.event.Event.{Event}
+use Rattle.set_model.specs.Step.{Event, step}
 use Rattle.set_model.specs.State.{State}
 use Rattle.set_model.proofs.Walk.{step_walks}
 

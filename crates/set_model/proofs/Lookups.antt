@@ -1,10 +1,7 @@
 -- What is found under a number, before and after a change.
-use Rattle.std.proofs.Common.{refl, arith, ◌≡◌, ◌<◌, ◌≤◌, [], ◌∷◌, length, ℕ, zero, suc, Bool, List, Some, cond}
+use Rattle.std.proofs.Common.{refl, arith, ◌≡◌, ◌<◌, ◌≤◌, [], ◌∷◌, length, ℕ, zero, suc, Bool, List, Some, cond, slice_get, filter, option_map}
 use Rattle.std.proofs.lemmas.Bool.Decides.{nat_tests}
-use Rattle.std.specs.Prelude.{slice_get, filter}
-use Rattle.std.specs.Option.{option_map}
-use Rattle.set_events.specs.declared.answer.Fate.{Fate}
-use Rattle.set_model.specs.Rows.{IsNumbered, Row, body_at, fated, moved, numbers, place, row_of}
+use Rattle.set_model.specs.Rows.{Fate, IsNumbered, Row, body_at, fated, moved, numbers, place, row_of}
 use Rattle.set_model.proofs.Moving.{filter_moved}
 use Rattle.set_model.proofs.Finding.{with_number}
 

@@ -1,11 +1,9 @@
 -- Rows that leave their places and stand at the end, each with its fate.
-use Rattle.std.proofs.Common.{refl, arith, ◌≡◌, ◌∙◌, ap, [], ◌∷◌, length, Bool, true, false, not, List, ◌++◌, map}
-use Rattle.std.specs.Prelude.{filter}
+use Rattle.std.proofs.Common.{refl, arith, ◌≡◌, ◌∙◌, ap, [], ◌∷◌, length, Bool, true, false, not, List, ◌++◌, map, filter}
 use Rattle.std.proofs.lemmas.List.{append-nil, length-append, length-map}
 use Rattle.std.proofs.lemmas.List.Elements.{filter-append}
 use Rattle.std.proofs.lemmas.List.Filters.{length-filter_both}
-use Rattle.set_events.specs.declared.answer.Fate.{Fate}
-use Rattle.set_model.specs.Rows.{AreFit, IsNumbered, Row, fated, moved, standing}
+use Rattle.set_model.specs.Rows.{Fate, AreFit, IsNumbered, Row, fated, moved, standing}
 use Rattle.set_model.proofs.Filters.{filter_comm, filter_within, filter_apart, filter_fated, fated_all, fated_none, fit_append, fit_filter, fit_fated}
 
 module _ (test : Fate → Bool) (fate : Row → Fate) where

@@ -1,9 +1,7 @@
 -- A link's messages stay in order: what was sent stands before what waits, and that before what is held.
-use Rattle.std.proofs.Common.{arith, refl, ◌≡◌, [], ◌∷◌, ℕ, Bool, true, ◌==◌, List, ◌++◌, map, take}
-use Rattle.std.specs.Prelude.{filter}
+use Rattle.std.proofs.Common.{arith, refl, ◌≡◌, [], ◌∷◌, ℕ, Bool, true, ◌==◌, List, ◌++◌, map, take, filter}
 use Rattle.std.proofs.lemmas.List.Elements.{filter-append}
-use Rattle.set_events.specs.declared.answer.Fate.TheVariants.{Unacked}
-use Rattle.set_model.specs.Rows.{IsHeldLast, IsInOrder, Row, held, is_waiting, on, turned, unack, wait, with_fate}
+use Rattle.set_model.specs.Rows.{Unacked, IsHeldLast, IsInOrder, Row, held, is_waiting, on, turned, unack, wait, with_fate}
 use Rattle.set_model.proofs.Filters.{filter_comm, filter_within}
 use Rattle.set_model.proofs.InPlace.{turned_nothing}
 

@@ -3,19 +3,13 @@ use Rattle.std.proofs.Common.{arith, ◌≡◌, ◌≤◌, zero-le, ℕ, zero, s
 use Rattle.std.proofs.Math.Nat.{le_refl}
 use Rattle.std.proofs.lemmas.List.{append-nil, length-map, length-drop}
 use Rattle.std.proofs.lemmas.List.Elements.{filter-append}
-use Rattle.l2_units.specs.declared.unit.Header.{Header}
-use Rattle.set_events.specs.declared.answer.Fate.{Fate}
-use Rattle.set_events.specs.declared.answer.Fate.TheVariants.{Acked, Unacked}
-use Rattle.set_events.specs.declared.event.Event.{Event}
 use Rattle.set_route.specs.Routing.{Routing}
-use Rattle.set_route.specs.declared.place.Place.{Place}
-use Rattle.set_model.specs.Step.{step, one_if, rows_sent}
+use Rattle.set_model.specs.Step.{Event, step, one_if, rows_sent}
 use Rattle.set_model.specs.Changeover.{fate_on}
-use Rattle.set_model.specs.Control.{Choice, first, part_of}
-use Rattle.set_model.specs.Rows.{Row, appended, is_unacked, is_waiting, moved, standing, turned, unack}
+use Rattle.set_model.specs.Control.{Header, Choice, first, part_of}
+use Rattle.set_model.specs.Rows.{Fate, Acked, Unacked, Row, appended, is_unacked, is_waiting, moved, standing, turned, unack}
 use Rattle.set_model.specs.Sound.{AreAtMost, AreFew, WholeNumbers, one_more}
-use Rattle.set_model.specs.State.{LinkState, State, fate_at, window_of}
-use Rattle.set_model.specs.declared.phase.Phase.{Phase}
+use Rattle.set_model.specs.State.{Place, Phase, LinkState, State, fate_at, window_of}
 use Rattle.set_model.proofs.Events.{appended_out}
 use Rattle.set_model.proofs.Filters.{filter_comm, fewer_filter, fated_none}
 use Rattle.set_model.proofs.InPlace.{turned_left, fewer_turned, fewer_changed}

@@ -2,13 +2,11 @@
 use Rattle.std.proofs.Common.{arith, refl, ◌≡◌, ◌≢◌, ap, sym, subst, ℕ, true, List, slice_get, Option, Some, None}
 use Rattle.std.proofs.lemmas.List.{map-append}
 use Rattle.set_route.specs.Target.{target_of}
-use Rattle.set_model.specs.Changeover.{acknowledged as acknowledged_link, fate_on, is_reasonable, reached_by, settled}
+use Rattle.set_model.specs.Changeover.{Upto, acknowledged as acknowledged_link, fate_on, is_reasonable, reached_by, settled}
 use Rattle.set_model.specs.Laws.{DivertsTo, IsEmptyLink, MovesTheRest, arrived, rest_of}
 use Rattle.set_model.specs.Rows.{IsHeldLast, IsInOrder, Row, all_with, is_on, moved}
 use Rattle.set_model.specs.Sound.{IsSound}
-use Rattle.set_model.specs.State.{LinkState, State, has_phase_settled, has_phase_up, target}
-use Rattle.set_model.specs.declared.phase.Phase.TheVariants.{Down, Settled}
-use Rattle.set_model.specs.declared.reached.Reached.TheVariants.{Upto}
+use Rattle.set_model.specs.State.{Down, Settled, LinkState, State, has_phase_settled, has_phase_up, target}
 use Rattle.set_model.proofs.Events.{acknowledged, moved_to, moved_aside, numbers_joined}
 use Rattle.set_model.proofs.Filters.{none_within}
 use Rattle.set_model.proofs.Lists.{map_set_same}

@@ -4,23 +4,14 @@ use Rattle.std.proofs.lemmas.List.{append-nil, length-map, length-append, length
 use Rattle.std.proofs.lemmas.List.Elements.{filter-append}
 use Rattle.std.proofs.lemmas.Bool.Decides.{nat_tests}
 use Rattle.l2_units.specs.Grammar.{head_of as header_in}
-use Rattle.l2_units.specs.declared.unit.Unit.{Unit as SignalUnit}
 use Rattle.l2_window.specs.Window.{WindowState}
-use Rattle.l2_window.specs.declared.control.HeardPart.{HeardPart}
-use Rattle.set_events.specs.declared.answer.DiscardCause.{DiscardCause}
-use Rattle.set_events.specs.declared.answer.Fate.{Fate}
-use Rattle.set_events.specs.declared.answer.Fate.TheVariants.{Acked, Discarded, Unacked}
-use Rattle.set_events.specs.declared.config.Method.{Method}
-use Rattle.set_route.specs.declared.place.Place.{Place}
 use Rattle.set_route.specs.Routing.{Routing}
-use Rattle.set_route.specs.declared.place.Place.TheVariants.{Changing, Nowhere, On}
 use Rattle.set_model.specs.Changeover.{acknowledged_by}
-use Rattle.set_model.specs.Control.{Choice, accepted_of, choice_of, first, part_of}
-use Rattle.set_model.specs.Rows.{Row, back, changed, fated, held, is_held, is_on, is_unacked, is_waiting, moved, octets_in, on, standing, stands_back, unack, wait}
+use Rattle.set_model.specs.Control.{HeardPart, Method, Choice, accepted_of, choice_of, first, part_of}
+use Rattle.set_model.specs.Rows.{DiscardCause, Fate, Acked, Discarded, Unacked, Row, back, changed, fated, held, is_held, is_on, is_unacked, is_waiting, moved, octets_in, on, standing, stands_back, unack, wait}
 use Rattle.set_model.specs.Sound.{IsInRange, IsOf, IsPlaced, IsSound, IsSoundLink, AreBack, IsBackOf}
-use Rattle.set_model.specs.State.{LinkState, State, has_phase_settled, has_phase_up, last_accepted, link_is_up, window_of}
-use Rattle.set_model.specs.Step.{after_control, is_msu, next, rows_sent}
-use Rattle.set_model.specs.declared.phase.Phase.TheVariants.{Down, Up}
+use Rattle.set_model.specs.State.{Place, Changing, Nowhere, On, Down, Up, LinkState, State, has_phase_settled, has_phase_up, last_accepted, link_is_up, window_of}
+use Rattle.set_model.specs.Step.{SignalUnit, after_control, is_msu, next, rows_sent}
 use Rattle.set_model.proofs.Controlling.{first_chosen, range_after, range_heard}
 use Rattle.set_model.proofs.Backs.{backs_same}
 use Rattle.set_model.proofs.Events.{kept_self, Untouched, untouched_self, sent, acknowledged, GivenUp, untouched}

@@ -2,16 +2,11 @@
 use Rattle.std.proofs.Common.{refl, arith, ◌≡◌, ◌≢◌, ◌∙◌, ap, sym, ◌<◌, ◌≤◌, ℕ, ◌==◌, true, false, List, [], ◌∷◌, length, slice_get, None, Some}
 use Rattle.std.proofs.lemmas.Bool.Decides.{nat_tests}
 use Rattle.l3_orders.specs.Grammar.{text}
-use Rattle.l3_orders.specs.declared.order.Order.{Order}
-use Rattle.set_events.specs.declared.answer.Fate.{Fate}
-use Rattle.set_events.specs.declared.answer.Fate.TheVariants.{Back, Held, Parked, Waiting}
 use Rattle.set_route.specs.Routing.{Routing, accepted, place_of}
-use Rattle.set_route.specs.declared.place.Place.{Place}
-use Rattle.set_route.specs.declared.place.Place.TheVariants.{Changing, Nowhere}
-use Rattle.set_model.specs.Changeover.{fate_on, queued}
-use Rattle.set_model.specs.Rows.{Row, appended, parked, service_indicator, stands_back, stream_of}
+use Rattle.set_model.specs.Changeover.{Order, fate_on, queued}
+use Rattle.set_model.specs.Rows.{Fate, Back, Held, Parked, Waiting, Row, appended, parked, service_indicator, stands_back, stream_of}
 use Rattle.set_model.specs.Sound.{AreBack, IsBackOf, IsSound, IsSoundLink}
-use Rattle.set_model.specs.State.{LinkState, State, fate_at, has_phase_settled, has_phase_up, target}
+use Rattle.set_model.specs.State.{Place, Changing, Nowhere, LinkState, State, fate_at, has_phase_settled, has_phase_up, target}
 use Rattle.set_model.specs.Step.{offer_refusal, offered}
 use Rattle.set_route.proofs.Alone.{alone}
 use Rattle.set_route.proofs.Places.{accepted_sound}

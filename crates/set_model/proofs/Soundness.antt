@@ -2,18 +2,13 @@
 use Rattle.std.proofs.Common.{refl, arith, ◌≡◌, ◌∙◌, sym, subst, ℕ, ◌<◌, zero, suc, ◌%◌, List, [], ◌∷◌, map, slice_get, Some, replicate, slice_index_or}
 use Rattle.std.proofs.lemmas.List.{length-replicate}
 use Rattle.std.proofs.lemmas.Bool.Decides.{nat_tests}
-use Rattle.set_events.specs.declared.event.Event.{Event}
-use Rattle.set_events.specs.declared.event.Event.TheVariants.{Offer}
 use Rattle.set_route.specs.Routing.{new_stream, stream_numbers}
-use Rattle.set_route.specs.declared.place.Code.{Code}
-use Rattle.set_route.specs.declared.place.Code.TheVariants.{Asked, Free}
-use Rattle.set_route.specs.declared.place.Place.TheVariants.{Nowhere}
 use Rattle.set_route.specs.declared.stream.Stream.{Stream}
-use Rattle.set_model.specs.Step.{step}
+use Rattle.set_model.specs.Step.{Event, Offer, step}
 use Rattle.set_model.specs.Laws.{RunsStraight}
 use Rattle.set_model.specs.Rows.{numbers, stream_of}
 use Rattle.set_model.specs.Sound.{AreFew, IsAsked, IsPlaced, IsSettings, IsSound}
-use Rattle.set_model.specs.State.{LinkState, Settings, State, new_link, opened_with}
+use Rattle.set_model.specs.State.{Code, Asked, Free, Nowhere, LinkState, Settings, State, new_link, opened_with}
 use Rattle.set_route.proofs.Places.{new_sound}
 use Rattle.set_model.proofs.Events.{sent_given_up, waiting_given_up}
 use Rattle.set_model.proofs.Places.{unacked_on, waiting_on}

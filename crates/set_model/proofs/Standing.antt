@@ -1,10 +1,8 @@
 -- FACTS OF EACH ROW, and what changes of rows do to them.
-use Rattle.std.proofs.Common.{arith, refl, ◌≡◌, ◌<◌, ℕ, suc, Bool, true, false, not, List, [], ◌∷◌, ◌++◌, length, map, slice_get, Some}
-use Rattle.std.specs.Prelude.{filter}
+use Rattle.std.proofs.Common.{arith, refl, ◌≡◌, ◌<◌, ℕ, suc, Bool, true, false, not, List, [], ◌∷◌, ◌++◌, length, map, slice_get, Some, filter}
 use Rattle.std.proofs.lemmas.List.{append-nil, map-append}
 use Rattle.std.proofs.lemmas.List.Elements.{filter-append}
-use Rattle.set_events.specs.declared.answer.Fate.{Fate}
-use Rattle.set_model.specs.Rows.{Each, IsNumbered, Row, appended, fated, numbers, standing}
+use Rattle.set_model.specs.Rows.{Fate, Each, IsNumbered, Row, appended, fated, numbers, standing}
 use Rattle.set_model.specs.Sound.{AreAbove, IsAscending}
 use Rattle.set_model.proofs.Lookups.{found_by_number}
 

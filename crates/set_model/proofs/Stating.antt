@@ -4,9 +4,8 @@ use Rattle.std.proofs.lemmas.List.{drop_at}
 use Rattle.std.proofs.lemmas.List.Filters.{length-filter_both}
 use Rattle.std.proofs.lemmas.List.Folds.{find-append}
 use Rattle.std.proofs.lemmas.Bool.Decides.{nat_tests}
-use Rattle.set_events.specs.declared.answer.Fate.{Fate}
 use Rattle.set_model.specs.Laws.{MessagesStay, MovesTheLinksRows}
-use Rattle.set_model.specs.Rows.{IsNumbered, Row}
+use Rattle.set_model.specs.Rows.{Fate, IsNumbered, Row}
 use Rattle.set_model.proofs.InPlace.{turned_there, changed_there}
 use Rattle.set_model.proofs.Moving.{moved_length, moved_numbered}
 use Rattle.set_model.proofs.Finding.{is_found, numbered_appended, same_numbers}

@@ -3,19 +3,14 @@ use Rattle.std.proofs.Common.{arith, ◌≡◌, ◌∙◌, ap, sym, ◌≤◌, �
 use Rattle.std.proofs.lemmas.List.{length_push, length-append}
 use Rattle.std.proofs.lemmas.List.Elements.{filter-append}
 use Rattle.l3_orders.specs.Grammar.{text}
-use Rattle.l3_orders.specs.declared.order.Order.{Order}
-use Rattle.set_events.specs.declared.answer.Fate.{Fate}
-use Rattle.set_events.specs.declared.event.Event.{Event}
-use Rattle.set_events.specs.declared.event.Event.TheVariants.{Offer}
-use Rattle.set_events.specs.declared.answer.DiscardCause.{DiscardCause}
+use Rattle.set_model.specs.Changeover.{Order}
 use Rattle.set_route.specs.Routing.{Routing}
-use Rattle.set_route.specs.declared.place.Place.{Place}
-use Rattle.set_model.specs.Step.{step, rows_sent}
+use Rattle.set_model.specs.Step.{Event, Offer, step, rows_sent}
 use Rattle.set_model.specs.Control.{Choice, first}
 use Rattle.set_model.specs.Laws.{KeepsMessages}
-use Rattle.set_model.specs.Rows.{IsNumbered, Row, appended, body_at, counts_of, service_indicator, total_of, was_acked}
+use Rattle.set_model.specs.Rows.{Fate, DiscardCause, IsNumbered, Row, appended, body_at, counts_of, service_indicator, total_of, was_acked}
 use Rattle.set_model.specs.Sound.{IsManaged}
-use Rattle.set_model.specs.State.{Settings, State, fate_at}
+use Rattle.set_model.specs.State.{Place, Settings, State, fate_at}
 use Rattle.set_model.proofs.Events.{Kept, kept_self, moved_kept, sent, acknowledged, sent_given_up, waiting_given_up}
 use Rattle.set_model.proofs.Finding.{numbered_appended}
 use Rattle.set_model.proofs.Places.{on_not_acked, parked_not_acked, back_not_acked, home_back, code_back}

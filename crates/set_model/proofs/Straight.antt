@@ -5,21 +5,14 @@ use Rattle.std.proofs.lemmas.List.{append-nil, map-append, length-map}
 use Rattle.std.proofs.lemmas.List.Elements.{filter-append}
 use Rattle.std.proofs.lemmas.Bool.Decides.{nat_tests}
 use Rattle.std.proofs.lemmas.Bool.{cond_both}
-use Rattle.l3_orders.specs.declared.order.Order.{Order}
-use Rattle.set_events.specs.declared.answer.Fate.{Fate}
-use Rattle.set_events.specs.declared.answer.Fate.TheVariants.{Unacked, Waiting}
-use Rattle.set_events.specs.declared.event.Event.{Event}
-use Rattle.set_route.specs.declared.place.Place.{Place}
-use Rattle.set_route.specs.declared.place.Place.TheVariants.{Changing, Nowhere, On}
 use Rattle.set_route.specs.Routing.{settled, runs_on, NoneOpen, has_messages, place_of, place_raised, place_settled, raised}
-use Rattle.set_model.specs.Changeover.{fate_on, left_by, queued, released}
+use Rattle.set_model.specs.Changeover.{Order, fate_on, left_by, queued, released}
 use Rattle.set_model.specs.Control.{Choice, first}
 use Rattle.set_model.specs.Laws.{RunsStraight}
-use Rattle.set_model.specs.Rows.{IsNumbered, Row, all_with, appended, changed, fated, is_back, is_back_to, is_on, is_parked, is_waiting, moved, numbers, standing, stands_back, stream_of, turned, with_fate}
+use Rattle.set_model.specs.Rows.{Fate, Unacked, Waiting, IsNumbered, Row, all_with, appended, changed, fated, is_back, is_back_to, is_on, is_parked, is_waiting, moved, numbers, standing, stands_back, stream_of, turned, with_fate}
 use Rattle.set_model.specs.Sound.{AreAbove, AreTogether, BeginsNone, IsAscending, IsAsked, IsBackOf, IsSound, IsSoundStream, astray, is_astray, is_live, is_unfinished, live, stands_at}
-use Rattle.set_model.specs.State.{LinkState, State, fate_at, target}
-use Rattle.set_model.specs.declared.phase.Phase.TheVariants.{Up}
-use Rattle.set_model.specs.Step.{step, offered, rows_sent}
+use Rattle.set_model.specs.State.{Place, Changing, Nowhere, On, Up, LinkState, State, fate_at, target}
+use Rattle.set_model.specs.Step.{Event, step, offered, rows_sent}
 use Rattle.set_route.proofs.Alone.{alone}
 use Rattle.set_route.proofs.Quiet.{left_quiet, back_quiet, never_changing}
 use Rattle.set_model.proofs.Filters.{filter_within, none_within}

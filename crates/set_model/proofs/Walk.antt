@@ -2,27 +2,15 @@
 use Rattle.std.proofs.Common.{refl, arith, ◌≡◌, ◌<◌, ◌≤◌, length, ℕ, zero, suc, ◌+◌, Bool, true, false, ◌⊎◌, List, [], ◌∷◌, ◌++◌, slice_get, Option, Some, None, inr}
 use Rattle.std.proofs.lemmas.Bool.{cond_both}
 use Rattle.l2_units.specs.Grammar.{head_of as header_in}
-use Rattle.l2_units.specs.declared.unit.Unit.{Unit as SignalUnit}
 use Rattle.l3_orders.specs.Grammar.{link_of, order_of}
-use Rattle.l3_orders.specs.declared.order.Order.{Order}
-use Rattle.l3_orders.specs.declared.order.Order.TheVariants.{Cba, Cbd, Coa, Coo, Eca, Eco}
-use Rattle.set_events.specs.declared.answer.DiscardCause.{DiscardCause}
-use Rattle.set_events.specs.declared.answer.DiscardCause.TheVariants.{Emergency, NoAnswer as NoAnswerCame, Unreasonable}
-use Rattle.set_events.specs.declared.answer.Fate.TheVariants.{Discarded}
-use Rattle.set_events.specs.declared.event.Event.{Event}
-use Rattle.set_events.specs.declared.event.Event.TheVariants.{BackTimeout, Down as DownEvent, DownBlind, Find, Heard, Next, NoAnswer, Offer, Restore, Take, Up as UpEvent}
 use Rattle.set_route.specs.Routing.{code_for, home_of}
-use Rattle.set_model.specs.Step.{step, Outcome, after_control, brought, comes_back, controls, gives_up, heard, in_service, is_msu, next, offer_refusal, offered, rises, runs_out, taken, takes, with_known}
-use Rattle.set_model.specs.Changeover.{acknowledged_by, answered, can_declare, changed_over, declared, declared_from, is_reasonable, leaving_order, left_by, left_link, moved_over, order_obeyed, queued, released, released_from, reply_of, settled, some_in_use}
+use Rattle.set_model.specs.Step.{SignalUnit, Event, BackTimeout, DownEvent, DownBlind, Find, Heard, Next, NoAnswer, Offer, Restore, Take, UpEvent, step, Outcome, after_control, brought, comes_back, controls, gives_up, heard, in_service, is_msu, next, offer_refusal, offered, rises, runs_out, taken, takes, with_known}
+use Rattle.set_model.specs.Changeover.{Order, Cba, Cbd, Coa, Coo, Eca, Eco, Reached, Unanswered, Unknown, Upto, acknowledged_by, answered, can_declare, changed_over, declared, declared_from, is_reasonable, leaving_order, left_by, left_link, moved_over, order_obeyed, queued, released, released_from, reply_of, settled, some_in_use}
 use Rattle.set_model.specs.Control.{part_of}
 use Rattle.set_model.specs.Frame.{BringsAbout, BringsBackTo, Concerns}
-use Rattle.set_model.specs.Rows.{changed, is_unacked, is_waiting, unack}
+use Rattle.set_model.specs.Rows.{DiscardCause, Emergency, NoAnswer as NoAnswerCame, Unreasonable, Discarded, changed, is_unacked, is_waiting, unack}
 use Rattle.set_model.specs.Sound.{BeginsNone}
-use Rattle.set_model.specs.State.{LinkState, State, is_up, last_accepted, window_of}
-use Rattle.set_model.specs.declared.phase.Phase.{Phase}
-use Rattle.set_model.specs.declared.phase.Phase.TheVariants.{Down, Settled, Up}
-use Rattle.set_model.specs.declared.reached.Reached.{Reached}
-use Rattle.set_model.specs.declared.reached.Reached.TheVariants.{Unanswered, Unknown, Upto}
+use Rattle.set_model.specs.State.{Phase, Down, Settled, Up, LinkState, State, is_up, last_accepted, window_of}
 use Rattle.set_model.proofs.Lists.{within, get_set_same}
 
 -- where a link stands, left or in service

@@ -2,24 +2,17 @@
 -- end got, the rest is moved to another link; and when it's back, its streams come back to it.
 use Rattle.std.specs.Prelude.{ℕ, zero, suc, Bool, true, false, not, ◌&&◌, ◌||◌, ◌+◌, ◌==◌, nat_le, List, length, slice_get, slice_set, Option, None, Some, if◌then◌else◌}
 use Rattle.l2_window.specs.Window.{distance_to}
-use Rattle.l3_orders.specs.declared.order.Order.{Order}
-use Rattle.l3_orders.specs.declared.order.Order.TheVariants.{Coo, Coa, Cbd, Cba, Eco, Eca}
+pub use Rattle.l3_orders.specs.declared.order.Order.{Order}
+pub use Rattle.l3_orders.specs.declared.order.Order.TheVariants.{Coo, Coa, Cbd, Cba, Eco, Eca}
 use Rattle.l3_orders.specs.Grammar.{text}
-use Rattle.set_events.specs.declared.answer.Fate.TheVariants.{Waiting, Acked, Discarded}
 pub use Rattle.set_events.specs.Places.{fate_on}
-use Rattle.set_events.specs.declared.answer.DiscardCause.{DiscardCause}
-use Rattle.set_events.specs.declared.answer.DiscardCause.TheVariants.{Emergency, Unreasonable, NoAnswer}
 use Rattle.set_events.specs.declared.answer.Took.{Took}
 use Rattle.set_events.specs.declared.answer.Took.TheVariants.{Order as TookOrder, Ignored}
-use Rattle.set_model.specs.Rows.{Row, all_with, unack, stream_of, is_unacked, is_waiting, is_on, is_back, is_back_to, turned, changed, moved, appended}
-use Rattle.set_route.specs.declared.place.Code.{Code}
-use Rattle.set_route.specs.declared.place.Code.TheVariants.{Free, Asked, Spent}
+use Rattle.set_model.specs.Rows.{Waiting, Acked, Discarded, DiscardCause, Emergency, Unreasonable, NoAnswer, Row, all_with, unack, stream_of, is_unacked, is_waiting, is_on, is_back, is_back_to, turned, changed, moved, appended}
 use Rattle.set_route.specs.Routing.{place_of, code_for, home_of, code_of, is_free, can_ask, asked, given_back, left, settled as streams_settled}
-use Rattle.set_model.specs.declared.phase.Phase.{Phase}
-use Rattle.set_model.specs.declared.phase.Phase.TheVariants.{Up, Down, Settled}
-use Rattle.set_model.specs.declared.reached.Reached.{Reached}
-use Rattle.set_model.specs.declared.reached.Reached.TheVariants.{Upto, Unknown, Unanswered}
-use Rattle.set_model.specs.State.{LinkState, State, is_up, fate_at, target, window_of, last_accepted, Settings}
+pub use Rattle.set_model.specs.declared.reached.Reached.{Reached}
+pub use Rattle.set_model.specs.declared.reached.Reached.TheVariants.{Upto, Unknown, Unanswered}
+use Rattle.set_model.specs.State.{Phase, Up, Down, Settled, Code, Free, Asked, Spent, LinkState, State, is_up, fate_at, target, window_of, last_accepted, Settings}
 
 -- QUEUE: an order stands last, as a row of its own, for the target, in the octets that this set writes
 abbrev pub text_by : Order → Settings → List ℕ

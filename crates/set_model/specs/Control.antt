@@ -1,14 +1,14 @@
 -- THE ERROR CONTROL OF A LINK, by its method (Q.703 5 and 6). What each control chooses and hears
 -- stands beside it, in l2_basic and l2_pcr; here the two are joined.
 use Rattle.std.specs.Prelude.{ℕ, Bool}
-use Rattle.l2_units.specs.declared.unit.Header.{Header}
+pub use Rattle.l2_units.specs.declared.unit.Header.{Header}
 use Rattle.l2_window.specs.Window.{WindowState}
 use Rattle.l2_window.specs.Control.{acked_where, window_where}
-use Rattle.l2_window.specs.declared.control.HeardPart.{HeardPart}
+pub use Rattle.l2_window.specs.declared.control.HeardPart.{HeardPart}
 use Rattle.l2_basic.specs.Basic as basic
 use Rattle.l2_pcr.specs.Pcr as cyclic
-use Rattle.set_events.specs.declared.config.Method.{Method}
-use Rattle.set_events.specs.declared.config.Method.TheVariants.{Basic as BasicMethod, Cyclic as CyclicMethod}
+pub use Rattle.set_events.specs.declared.config.Method.{Method}
+pub use Rattle.set_events.specs.declared.config.Method.TheVariants.{Basic as BasicMethod, Cyclic as CyclicMethod}
 -- what is sent next: the unacknowledged message at a place again, the first unsent one, or a FISU
 pub use Rattle.l2_window.specs.declared.control.Choice.{Choice}
 pub use Rattle.l2_window.specs.declared.control.Choice.TheVariants.{Again as again, First as first, Fill as fill}

@@ -1,21 +1,15 @@
 -- WHICH LINKS AN EVENT CONCERNS, what it leaves alone on all others, and what it does to the window of its own.
 use Rattle.std.specs.Prelude.{◌≡◌, ℕ, false, List, [], ◌++◌, take, drop, slice_get, true, Some, ◌⊎◌}
-use Rattle.l2_units.specs.declared.unit.Unit.{Unit as SignalUnit}
-use Rattle.l2_units.specs.declared.unit.Unit.TheVariants.{Fisu, Lssu, Msu}
 use Rattle.l2_units.specs.Grammar.{head_of as header_in}
 use Rattle.l2_window.specs.Window.{WindowState}
 use Rattle.l3_orders.specs.declared.order.Order.{Order}
 use Rattle.l3_orders.specs.declared.order.Order.TheVariants.{Cba}
 use Rattle.l3_orders.specs.Grammar.{order_of, link_of}
-use Rattle.set_events.specs.declared.event.Event.{Event}
-use Rattle.set_events.specs.declared.event.Event.TheVariants.{Offer, Take, Find, Next, Heard, Up as UpEvent, Down as DownEvent, DownBlind, NoAnswer, Restore, BackTimeout}
-use Rattle.set_route.specs.declared.place.Place.TheVariants.{On}
 use Rattle.set_route.specs.Routing.{place_of, home_of}
-use Rattle.set_model.specs.declared.phase.Phase.TheVariants.{Up}
 use Rattle.set_model.specs.Rows.{Row, stream_of, unack, wait, held, octets_in}
 use Rattle.set_model.specs.Control.{Choice, again, first, fill, choice_of, control_after, window_heard, part_of, control_heard}
-use Rattle.set_model.specs.State.{LinkState, State, is_up, window_of}
-use Rattle.set_model.specs.Step.{next, after_control, controls, is_msu, step}
+use Rattle.set_model.specs.State.{On, Up, LinkState, State, is_up, window_of}
+use Rattle.set_model.specs.Step.{SignalUnit, Fisu, Lssu, Msu, Event, Offer, Take, Find, Next, Heard, UpEvent, DownEvent, DownBlind, NoAnswer, Restore, BackTimeout, next, after_control, controls, is_msu, step}
 use Rattle.set_model.specs.Sound.{IsSound}
 
 -- the unit brings an order about this link

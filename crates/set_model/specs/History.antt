@@ -1,15 +1,13 @@
 -- A SET WITH ITS HISTORY: what it holds, and all that was ever asked of it and answered.
 use Rattle.std.specs.Prelude.{◌≡◌, ◌<◌, ℕ, zero, suc, Bool, false, ◌==◌, ◌+◌, List, [], ◌∷◌, ◌++◌, if◌then◌else◌, ◌^◌}
-use Rattle.set_events.specs.declared.answer.Answer.{Answer}
 use Rattle.set_events.specs.declared.books.Books.{Books}
 use Rattle.set_events.specs.declared.config.SetConfig.{SetConfig}
 use Rattle.set_events.specs.declared.event.Actor.{Actor}
 use Rattle.set_events.specs.declared.event.Actor.TheVariants.{User, Terminal}
-use Rattle.set_events.specs.declared.event.Event.{Event}
 use Rattle.set_events.specs.declared.history.Entry.{Entry}
 use Rattle.set_model.specs.State.{State, new_state}
 use Rattle.set_model.specs.Rows.{counts_of}
-use Rattle.set_model.specs.Step.{step, messages_in, octets_of}
+use Rattle.set_model.specs.Step.{Answer, Event, step, messages_in, octets_of}
 
 -- what the set held when it was opened, what it holds now, and the entries from the one to the other
 pub record LinkSet : Type 0 where

@@ -1,16 +1,10 @@
 -- LAWS of the rows and of the step: of every state and every event.
-use Rattle.std.specs.Prelude.{◌≡◌, ℕ, ◌-◌, ◌<◌, ◌≤◌, Bool, true, not, List, [], ◌++◌, length, map, drop, slice_get, Option, Some, None, if◌then◌else◌}
-use Rattle.std.specs.Option.{option_map}
-use Rattle.set_events.specs.declared.answer.Fate.{Fate}
-use Rattle.set_events.specs.declared.answer.Fate.TheVariants.{Acked}
-use Rattle.set_events.specs.declared.event.Event.{Event}
+use Rattle.std.specs.Prelude.{◌≡◌, ℕ, ◌-◌, ◌<◌, ◌≤◌, Bool, true, not, List, [], ◌++◌, length, map, drop, slice_get, Option, Some, None, if◌then◌else◌, option_map}
 use Rattle.set_route.specs.Routing.{NoneOpen}
-use Rattle.set_model.specs.declared.phase.Phase.TheVariants.{Down, Settled}
-use Rattle.set_model.specs.declared.reached.Reached.TheVariants.{Upto}
-use Rattle.set_model.specs.Rows.{Row, standing, is_unacked, is_on, unack, wait, held, on, parked, numbers, with_fate, turned, changed, moved, appended, row_of, place, body_at, IsNumbered}
-use Rattle.set_model.specs.State.{LinkState, State, Settings, opened_with, target}
-use Rattle.set_model.specs.Changeover.{fate_on, reached_by, is_reasonable, settled}
-use Rattle.set_model.specs.Step.{step, Gains}
+use Rattle.set_model.specs.Rows.{Fate, Acked, Row, standing, is_unacked, is_on, unack, wait, held, on, parked, numbers, with_fate, turned, changed, moved, appended, row_of, place, body_at, IsNumbered}
+use Rattle.set_model.specs.State.{Down, Settled, LinkState, State, Settings, opened_with, target}
+use Rattle.set_model.specs.Changeover.{Upto, fate_on, reached_by, is_reasonable, settled}
+use Rattle.set_model.specs.Step.{Event, step, Gains}
 use Rattle.set_model.specs.Sound.{IsSettings, IsSound, AreTogether, BeginsNone, IsAsked, WholeNumbers, one_more, AreAtMost, AreFew, IsManaged}
 
 -- THE ROWS.

@@ -1,12 +1,13 @@
 -- THE ROWS OF A SET: its messages, each in exactly one place, as one list in the order of queueing. Read this file
 -- first.
-use Rattle.std.specs.Prelude.{◌≡◌, ℕ, suc, zero, ◌==◌, ◌+◌, ◌%◌, ◌/◌, ◌≤◌, nat_lt, Bool, true, false, not, ◌&&◌, List, [], ◌∷◌, ◌++◌, length, filter, map, find, Option, slice_index, if◌then◌else◌}
-use Rattle.std.specs.Option.{option_map}
-use Rattle.set_events.specs.declared.answer.Fate.{Fate}
-use Rattle.set_events.specs.declared.answer.Fate.TheVariants.{Waiting, Unacked, Held, Back}
+use Rattle.std.specs.Prelude.{◌≡◌, ℕ, suc, zero, ◌==◌, ◌+◌, ◌%◌, ◌/◌, ◌≤◌, nat_lt, Bool, true, false, not, ◌&&◌, List, [], ◌∷◌, ◌++◌, length, filter, map, find, Option, slice_index, if◌then◌else◌, option_map}
+pub use Rattle.set_events.specs.declared.answer.Fate.{Fate}
+pub use Rattle.set_events.specs.declared.answer.Fate.TheVariants.{Waiting, Unacked, Held, Back, Acked, Discarded, Parked}
 use Rattle.set_events.specs.declared.answer.Counts.{Counts}
 pub use Rattle.set_events.specs.Places.{waits, was_sent, was_acked, was_held, is_parked, stands_back, was_discarded, is_unsent}
 use Rattle.set_route.specs.Routing.{home_of}
+pub use Rattle.set_events.specs.declared.answer.DiscardCause.{DiscardCause}
+pub use Rattle.set_events.specs.declared.answer.DiscardCause.TheVariants.{Emergency, NoAnswer, Unreasonable}
 
 -- A message: the number under which it was accepted, its octets, and its fate, the one place where it stands.
 pub record Row : Type 0 where

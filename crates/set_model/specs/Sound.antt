@@ -1,18 +1,11 @@
 -- WHAT HOLDS OF EVERY SET'S STATE. Every event keeps it.
 use Rattle.std.specs.Prelude.{◌≡◌, ◌≢◌, ℕ, Bool, true, false, not, ◌==◌, ◌&&◌, ◌||◌, ◌+◌, ◌%◌, ◌≤◌, ◌<◌, List, [], ◌∷◌, length, filter, slice_get, Some}
-use Rattle.set_events.specs.declared.answer.Fate.{Fate}
-use Rattle.set_events.specs.declared.answer.Fate.TheVariants.{Waiting, Unacked, Acked, Held, Parked, Back, Discarded}
-use Rattle.set_events.specs.declared.config.Method.{Method}
-use Rattle.set_events.specs.declared.config.Method.TheVariants.{Basic as BasicMethod, Cyclic as CyclicMethod}
 use Rattle.set_events.specs.declared.event.Event.{Event}
 use Rattle.set_events.specs.declared.event.Event.TheVariants.{Offer, Restore}
-use Rattle.set_route.specs.declared.place.Place.{Place}
-use Rattle.set_route.specs.declared.place.Place.TheVariants.{On, Changing, Nowhere}
-use Rattle.set_route.specs.declared.place.Code.TheVariants.{Asked}
 use Rattle.set_route.specs.Routing.{Routing, IsRouting, home_of, code_of, place_of, has_messages, most_links}
-use Rattle.set_model.specs.Rows.{Row, is_on, is_back, is_parked, is_users, stream_of, unack, held, on, back, parked, numbers, Each, IsNumbered, AreFit, IsInOrder, IsHeldLast}
-use Rattle.set_model.specs.Control.{Control, Basic, Cyclic, accepted_of}
-use Rattle.set_model.specs.State.{LinkState, State, Settings, is_up, has_phase_up, has_phase_settled, last_accepted}
+use Rattle.set_model.specs.Rows.{Fate, Waiting, Unacked, Acked, Held, Parked, Back, Discarded, Row, is_on, is_back, is_parked, is_users, stream_of, unack, held, on, back, parked, numbers, Each, IsNumbered, AreFit, IsInOrder, IsHeldLast}
+use Rattle.set_model.specs.Control.{Method, BasicMethod, CyclicMethod, Control, Basic, Cyclic, accepted_of}
+use Rattle.set_model.specs.State.{Place, On, Changing, Nowhere, Asked, LinkState, State, Settings, is_up, has_phase_up, has_phase_settled, last_accepted}
 use Rattle.l2_window.specs.Window.{most_unacked}
 
 -- A LINK.

@@ -1,21 +1,19 @@
 -- WHAT A SET OF LINKS HOLDS. Read this file first, after the rows.
-use Rattle.std.specs.Prelude.{ℕ, Bool, true, false, ◌+◌, ◌%◌, List, [], length, map, Option, None, Some, slice_get, slice_set, replicate, if◌then◌else◌}
+use Rattle.std.specs.Prelude.{ℕ, Bool, true, false, ◌+◌, ◌%◌, List, [], length, map, Option, None, Some, slice_get, slice_set, replicate, if◌then◌else◌, option_map}
 use Rattle.l2_window.specs.Window.{WindowState, fsn_count, fsn_before_first}
-use Rattle.std.specs.Option.{option_map}
 use Rattle.set_events.specs.declared.answer.Counts.{Counts}
-use Rattle.set_events.specs.declared.answer.Fate.{Fate}
-use Rattle.set_events.specs.declared.answer.Fate.TheVariants.{Waiting, Held, Parked, Back}
 use Rattle.set_events.specs.declared.config.SetConfig.{SetConfig}
-use Rattle.set_events.specs.declared.config.Method.{Method}
-use Rattle.set_model.specs.Rows.{Row, unack, wait, numbers}
-use Rattle.set_route.specs.declared.place.Place.{Place}
-use Rattle.set_route.specs.declared.place.Place.TheVariants.{On, Changing, Nowhere}
+use Rattle.set_model.specs.Rows.{Fate, Waiting, Held, Parked, Back, Row, unack, wait, numbers}
+pub use Rattle.set_route.specs.declared.place.Place.{Place}
+pub use Rattle.set_route.specs.declared.place.Place.TheVariants.{On, Changing, Nowhere}
 use Rattle.set_route.specs.Routing.{Routing, new_routing}
 use Rattle.set_route.specs.Target.{target_of}
 use Rattle.set_model.specs.declared.numbered.Numbered.{Numbered}
-use Rattle.set_model.specs.declared.phase.Phase.{Phase}
-use Rattle.set_model.specs.declared.phase.Phase.TheVariants.{Up, Down, Settled}
-use Rattle.set_model.specs.Control.{Control, start_of}
+pub use Rattle.set_model.specs.declared.phase.Phase.{Phase}
+pub use Rattle.set_model.specs.declared.phase.Phase.TheVariants.{Up, Down, Settled}
+use Rattle.set_model.specs.Control.{Method, Control, start_of}
+pub use Rattle.set_route.specs.declared.place.Code.TheVariants.{Free, Asked, Spent}
+pub use Rattle.set_route.specs.declared.place.Code.{Code}
 
 -- a link: whether it is in service, left and unanswered, or settled, which it is at first; and of its present life,
 -- or its last one

@@ -1,34 +1,26 @@
 -- THE STEP OF A SET: what it answers to an event, and what it holds then.
 use Rattle.std.specs.Prelude.{◌≡◌, ◌≤◌, ℕ, Bool, true, false, ◌==◌, ◌+◌, nat_lt, nat_le, List, [], ◌∷◌, ◌++◌, length, slice_get, Option, Some, None, slice_set, if◌then◌else◌}
-use Rattle.l2_units.specs.declared.unit.Header.{Header}
-use Rattle.l2_units.specs.declared.unit.Unit.{Unit as SignalUnit}
-use Rattle.l2_units.specs.declared.unit.Unit.TheVariants.{Fisu, Lssu, Msu}
+pub use Rattle.l2_units.specs.declared.unit.Unit.{Unit as SignalUnit}
+pub use Rattle.l2_units.specs.declared.unit.Unit.TheVariants.{Fisu, Lssu, Msu}
 use Rattle.l2_units.specs.Grammar.{head_of as header_in}
-use Rattle.l2_window.specs.declared.control.HeardPart.{HeardPart}
 use Rattle.l3_orders.specs.Grammar.{order_of}
 use Rattle.l2_signals.specs.declared.cause.ControlFault.{ControlFault}
 use Rattle.l2_signals.specs.declared.cause.ControlFault.TheVariants.{Bsn, Fib}
-use Rattle.set_events.specs.declared.answer.Fate.{Fate}
-use Rattle.set_events.specs.declared.answer.Fate.TheVariants.{Waiting, Unacked, Acked}
 pub use Rattle.set_events.specs.Places.{one_if}
-use Rattle.set_events.specs.declared.answer.Took.{Took}
-use Rattle.set_events.specs.declared.answer.Took.TheVariants.{Nothing as NothingTaken, Message}
+pub use Rattle.set_events.specs.declared.answer.Took.{Took}
+pub use Rattle.set_events.specs.declared.answer.Took.TheVariants.{Nothing as NothingTaken, Message, Ignored, Order}
 use Rattle.set_events.specs.declared.answer.Report.{Report}
-use Rattle.set_events.specs.declared.answer.Refusal.{Refusal as SetRefusal}
-use Rattle.set_events.specs.declared.answer.Refusal.TheVariants.{TooShort, TooLong, Reserved, StreamFull, NotUp, NotDown, Unsettled, UnknownNumber, Nothing, NoSuchLink}
-use Rattle.set_events.specs.declared.answer.Answer.{Answer}
-use Rattle.set_events.specs.declared.answer.Answer.TheVariants.{Accepted, Taken, Found, Sent, Heard as HeardBack, Done, Refused}
-use Rattle.set_events.specs.declared.event.Event.{Event}
-use Rattle.set_events.specs.declared.event.Event.TheVariants.{Offer, Take, Find, Next, Heard, Up as UpEvent, Down as DownEvent, DownBlind, NoAnswer, Restore, BackTimeout}
-use Rattle.set_events.specs.declared.config.Method.{Method}
+pub use Rattle.set_events.specs.declared.answer.Refusal.{Refusal as SetRefusal}
+pub use Rattle.set_events.specs.declared.answer.Refusal.TheVariants.{TooShort, TooLong, Reserved, StreamFull, NotUp, NotDown, Unsettled, UnknownNumber, Nothing, NoSuchLink}
+pub use Rattle.set_events.specs.declared.answer.Answer.{Answer}
+pub use Rattle.set_events.specs.declared.answer.Answer.TheVariants.{Accepted, Taken, Found, Sent, Heard as HeardBack, Done, Refused}
+pub use Rattle.set_events.specs.declared.event.Event.{Event}
+pub use Rattle.set_events.specs.declared.event.Event.TheVariants.{Offer, Take, Find, Next, Heard, Up as UpEvent, Down as DownEvent, DownBlind, NoAnswer, Restore, BackTimeout}
 use Rattle.set_route.specs.Routing.{place_of, code_for, accepted, raised}
-use Rattle.set_model.specs.Rows.{Row, all_with, unack, wait, is_unacked, is_waiting, is_parked, octets_in, unsent, stream_of, service_indicator, turned, moved, appended, place, counts_of, total_of}
-use Rattle.set_model.specs.declared.phase.Phase.{Phase}
-use Rattle.set_model.specs.declared.phase.Phase.TheVariants.{Up, Down, Settled}
-use Rattle.set_model.specs.declared.reached.Reached.TheVariants.{Unanswered}
-use Rattle.set_model.specs.State.{LinkState, State, with_link, link_count, has_phase_up, fate_at, window_of}
-use Rattle.set_model.specs.Control.{Choice, again, first, fill, start_of, choice_of, fsn_of, head_of, control_after, part_of, control_heard}
-use Rattle.set_model.specs.Changeover.{Obeyed, left_by, leaving_order, queued, settled, declared_from, some_declare, released_from, some_in_use, obeyed}
+use Rattle.set_model.specs.Rows.{Fate, Waiting, Unacked, Acked, Row, all_with, unack, wait, is_unacked, is_waiting, is_parked, octets_in, unsent, stream_of, service_indicator, turned, moved, appended, place, counts_of, total_of}
+use Rattle.set_model.specs.State.{Phase, Up, Down, Settled, LinkState, State, with_link, link_count, has_phase_up, fate_at, window_of}
+use Rattle.set_model.specs.Control.{Header, Method, HeardPart, Choice, again, first, fill, start_of, choice_of, fsn_of, head_of, control_after, part_of, control_heard}
+use Rattle.set_model.specs.Changeover.{Unanswered, Obeyed, left_by, leaving_order, queued, settled, declared_from, some_declare, released_from, some_in_use, obeyed}
 
 -- what is answered, and what the set holds then
 pub record Outcome : Type 0 where

@@ -1,28 +1,14 @@
 -- What an event of a link does where the link is there, and as the event needs it.
-use Rattle.std.proofs.Common.{arith, refl, ◌≡◌, ◌∙◌, ap, sym, subst, ◌≤◌, ℕ, List, length, slice_get, Option, Some, None, Bool, false, ◌<◌}
-use Rattle.std.specs.Prelude.{IfSome}
-use Rattle.std.specs.Option.{option_map}
+use Rattle.std.proofs.Common.{arith, refl, ◌≡◌, ◌∙◌, ap, sym, subst, ◌≤◌, ℕ, List, length, slice_get, Option, Some, None, Bool, false, ◌<◌, IfSome, option_map}
 use Rattle.std.proofs.lemmas.Option.{slice_get_past, slice_get-map}
-use Rattle.set_events.specs.declared.answer.Answer.{Answer}
-use Rattle.set_events.specs.declared.answer.Answer.TheVariants.{Refused, Done}
-use Rattle.set_events.specs.declared.answer.Refusal.{Refusal as SetRefusal}
-use Rattle.set_events.specs.declared.answer.Refusal.TheVariants.{NoSuchLink}
-use Rattle.set_moves.specs.declared.link.Link.{Link}
-use Rattle.set_moves.specs.declared.parts.Parts.{Parts}
-use Rattle.set_model.specs.declared.phase.Phase.{Phase}
-use Rattle.set_model.specs.declared.phase.Phase.TheVariants.{Up, Down, Settled}
 use Rattle.set_moves.specs.Agreement.{StandsFor, Agrees}
-use Rattle.set_events.specs.declared.answer.Took.{Took}
-use Rattle.set_events.specs.declared.answer.Took.TheVariants.{Ignored}
-use Rattle.set_model.specs.declared.reached.Reached.TheVariants.{Unanswered}
 use Rattle.set_moves.specs.Room.{SameButRoom}
 use Rattle.set_model.specs.Changeover.{Obeyed, ignored, at_link, settled, answered}
-pub use Rattle.set_moves.specs.Parts.{IsHere}
+pub use Rattle.set_moves.specs.Parts.{Link, Parts, Phase, Up, Down, Settled, Unanswered, Reached, IsHere}
 use Rattle.set_moves.specs.Parts.{Gives, Obeys, link_of, kept_of, AtLink, IsOut}
 use Rattle.set_model.specs.State.{LinkState, State, has_phase_up}
-use Rattle.set_model.specs.Step.{Outcome, refused, with_known, on_link, in_service, rises, falls, gives_up}
+use Rattle.set_model.specs.Step.{Answer, Refused, Done, SetRefusal, NoSuchLink, Took, Ignored, Outcome, refused, with_known, on_link, in_service, rises, falls, gives_up}
 use Rattle.set_model.proofs.Lists.{within, same_at, present}
-use Rattle.set_model.specs.declared.reached.Reached.{Reached}
 
 -- A link that an event needs as it is.
 is_here : (links : List Link) (n : ℕ) (phase : Phase) (link : Link) → slice_get links n ≡ Some link → link.phase ≡ phase → IsHere links n phase

@@ -2,18 +2,15 @@
 use Rattle.std.proofs.Common.{arith, ◌≡◌, ◌∙◌, ap, sym, subst, ◌≤◌, ◌<◌, ◌+◌, ◌-◌, ◌||◌, ℕ, zero, suc, true, false, Bool, length}
 use Rattle.std.proofs.lemmas.Bool.Decides.{nat_tests}
 use Rattle.std.proofs.lemmas.List.{length-map}
-use Rattle.set_events.specs.declared.answer.Fate.TheVariants.{Waiting}
 use Rattle.set_queues.specs.Bodies.{CanHold}
-use Rattle.set_queues.specs.Buffers.{TakesRoom}
-use Rattle.set_events.specs.declared.answer.Took.TheVariants.{Order}
-use Rattle.set_route.specs.declared.place.Code.{Code}
+use Rattle.set_queues.specs.Buffers.{Waiting, TakesRoom}
+use Rattle.set_model.specs.Step.{Order}
 use Rattle.set_route.specs.Routing.{is_free}
 use Rattle.set_model.specs.Changeover.{acknowledged_back, released}
-use Rattle.set_model.specs.State.{State, link_count}
-use Rattle.set_moves.specs.declared.parts.Parts.{Parts}
+use Rattle.set_model.specs.State.{Code, State, link_count}
 use Rattle.set_moves.specs.Agreement.{StandsFor}
 use Rattle.set_moves.specs.Room.{HasRoomFrom}
-use Rattle.set_moves.specs.Parts.{Becomes, Obeys, kept_of, link_of}
+use Rattle.set_moves.specs.Parts.{Parts, Becomes, Obeys, kept_of, link_of}
 
 -- SO MANY STEPS, from one on: the last of them comes last
 module _ (run : ℕ → ℕ → State → State) (step : ℕ → State → State) (none : (from : ℕ) (s : State) → run from 0 s ≡ s) (next : (from n : ℕ) (s : State) → run from (suc n) s ≡ run (suc from) n (step from s)) where

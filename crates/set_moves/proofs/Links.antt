@@ -1,18 +1,14 @@
 -- One link of the list changes, and what the list stands for with it.
-use Rattle.std.proofs.Common.{arith, ◌≡◌, ◌∙◌, ap, sym, ◌<◌, ℕ, List, map, length, slice_get, slice_set, slice_index_or, Some, ◌≢◌, false, Option, ◌==◌}
+use Rattle.std.proofs.Common.{arith, ◌≡◌, ◌∙◌, ap, sym, ◌<◌, ℕ, List, map, length, slice_get, slice_set, slice_index_or, Some, ◌≢◌, false, Option, ◌==◌, IfSome}
 use Rattle.std.proofs.lemmas.Option.{same_Some}
-use Rattle.set_moves.specs.declared.link.Link.{Link}
-use Rattle.set_moves.specs.Parts.{link_of, kept_of, AtLink, IsOut}
+use Rattle.set_moves.specs.Parts.{Link, Parts, link_of, kept_of, AtLink, IsOut}
 use Rattle.std.proofs.lemmas.List.{length-map}
-use Rattle.set_moves.specs.declared.parts.Parts.{Parts}
 use Rattle.set_moves.specs.Agreement.{Kept, StandsFor}
 use Rattle.set_model.specs.State.{LinkState, State, link_count, has_phase_up, target}
 use Rattle.set_model.proofs.Lists.{here, map_at, map_set, map_set_same, same_at, at_map, present}
-use Rattle.std.specs.Prelude.{IfSome}
 use Rattle.std.proofs.lemmas.Bool.{ne_eqb}
 use Rattle.std.proofs.lemmas.Simd.{map-map}
-use Rattle.set_events.specs.declared.answer.Fate.{Fate}
-use Rattle.set_queues.specs.Buffers.{Lists, IsKnown}
+use Rattle.set_queues.specs.Buffers.{Fate, Lists, IsKnown}
 use Rattle.set_queues.proofs.Settling.{IsAside, aside_of}
 use Rattle.set_model.specs.Changeover.{fate_on}
 use Rattle.set_route.specs.Target.{target_of}

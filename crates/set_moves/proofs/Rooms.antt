@@ -2,22 +2,16 @@
 use Rattle.std.proofs.Common.{arith, ◌≡◌, ◌∙◌, refl, ap, ◌≤◌, ◌<◌, ℕ, Bool, false, List, map, length, slice_get, slice_set, true, [], drop}
 use Rattle.std.proofs.lemmas.List.{length-map, length-drop}
 use Rattle.std.proofs.lemmas.Bool.Decides.{nat_tests}
-use Rattle.set_events.specs.declared.answer.Fate.{Fate}
-use Rattle.set_events.specs.declared.answer.Fate.TheVariants.{Waiting, Unacked, Held}
-use Rattle.set_queues.specs.Buffers.{Lists, TakesRoom, same_fate, with_queue, room_at, is_standing, queue_at, IsKnown}
+use Rattle.set_queues.specs.Buffers.{Fate, Waiting, Unacked, Held, Lists, TakesRoom, same_fate, with_queue, room_at, is_standing, queue_at, IsKnown}
 use Rattle.set_queues.specs.Backs.{back_count}
 use Rattle.set_queues.specs.Settling.{on}
 use Rattle.set_queues.proofs.Passing.{queue_other, queued_stands, queue_set}
 use Rattle.set_queues.proofs.Settling.{IsAside, room_left, on_length}
-use Rattle.set_model.specs.declared.phase.Phase.{Phase}
-use Rattle.set_model.specs.declared.phase.Phase.TheVariants.{Down}
 use Rattle.set_model.specs.Changeover.{fate_on}
 use Rattle.set_model.specs.State.{target, has_phase_up}
 use Rattle.set_model.proofs.Lists.{map_at, map_set, set_same, present, same_at, at_set, get_set_same, length_set}
-use Rattle.set_moves.specs.declared.link.Link.{Link}
-use Rattle.set_moves.specs.declared.parts.Parts.{Parts}
 use Rattle.set_moves.specs.Agreement.{Holds}
-use Rattle.set_moves.specs.Parts.{IsWhole, IsCounted, AreCounted, AtLink, IsOut, link_of, kept_of}
+use Rattle.set_moves.specs.Parts.{Phase, Down, Link, Parts, IsWhole, IsCounted, AreCounted, AtLink, IsOut, link_of, kept_of}
 use Rattle.set_moves.specs.Room.{HasRoom, IsReady, target_beside}
 use Rattle.set_moves.specs.Turning.{TakesTurns}
 use Rattle.set_moves.proofs.Admitting.{IsHere, out_at}

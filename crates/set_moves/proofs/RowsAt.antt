@@ -1,21 +1,16 @@
 -- WHAT STANDS IN EACH PLACE after rows came to stand elsewhere, queue after queue, and where each number stands then.
-use Rattle.std.proofs.Common.{arith, refl, ◌≡◌, ◌∙◌, ap, sym, ◌≤◌, ◌<◌, [], ◌∷◌, length, ℕ, zero, suc, Bool, true, false, List, ◌++◌, Option, Some, None, take, drop, cond, not, ◌==◌}
+use Rattle.std.proofs.Common.{arith, refl, ◌≡◌, ◌∙◌, ap, sym, ◌≤◌, ◌<◌, [], ◌∷◌, length, ℕ, zero, suc, Bool, true, false, List, ◌++◌, Option, Some, None, take, drop, cond, not, ◌==◌, slice_get, filter, option_map}
 use Rattle.std.specs.List.{drop-map}
 use Rattle.std.proofs.lemmas.Bool.Decides.{nat_tests}
 use Rattle.std.proofs.lemmas.List.{map-append, take-map, append-nil, append_assoc, length-append}
-use Rattle.set_events.specs.declared.answer.Fate.{Fate}
-use Rattle.set_events.specs.declared.answer.Fate.TheVariants.{Waiting, Unacked, Acked, Held, Parked, Back, Discarded}
-use Rattle.set_queues.specs.declared.message.Message.{Message}
 use Rattle.set_queues.specs.Buffers.{is_standing, same_fate}
-use Rattle.set_model.specs.Rows.{Row, standing, is_waiting, is_unacked, is_held, is_parked, is_back, unack, wait, numbers, turned, changed, moved, all_with, appended, IsNumbered, IsInOrder, row_of, place, with_fate, fated, Each}
+use Rattle.set_model.specs.Rows.{Fate, Waiting, Unacked, Acked, Held, Parked, Back, Discarded, Row, standing, is_waiting, is_unacked, is_held, is_parked, is_back, unack, wait, numbers, turned, changed, moved, all_with, appended, IsNumbered, IsInOrder, row_of, place, with_fate, fated, Each}
 use Rattle.set_model.specs.Laws.{SameMessages}
 use Rattle.set_model.proofs.Events.{numbers_joined, appended_in, appended_out, sent}
 use Rattle.set_model.proofs.InPlace.{turned_same, turned_left, changed_same, changed_left}
 use Rattle.set_model.proofs.Moving.{moved_same, moved_gone, moved_joined}
 use Rattle.set_model.proofs.Stating.{messages_stay}
-use Rattle.set_moves.specs.Agreement.{rows_at}
-use Rattle.std.specs.Prelude.{slice_get, filter}
-use Rattle.std.specs.Option.{option_map}
+use Rattle.set_moves.specs.Agreement.{Message, rows_at}
 use Rattle.std.proofs.lemmas.List.Elements.{filter_agree, filter-append}
 use Rattle.set_queues.specs.Queues.{occurs, AreGiven}
 use Rattle.set_queues.proofs.Standing.{same_is, occurs-split, occurs_here, occurs_not}

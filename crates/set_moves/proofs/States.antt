@@ -1,15 +1,9 @@
 -- WHAT IS KEPT STANDS FOR THE STATE, before and after each small change.
-use Rattle.std.proofs.Common.{refl, arith, ◌≡◌, ◌∙◌, ap, sym, subst, ◌<◌, [], ◌∷◌, length, ℕ, zero, suc, ◌==◌, Bool, true, false, List, ◌++◌, Option, Some, take, drop, cond, ◌≢◌, ◌+◌, ◌%◌, ◌≤◌, slice_get, slice_set, ◌-◌}
-use Rattle.std.specs.Prelude.{slice_get, slice_set}
-use Rattle.std.specs.Option.{option_map}
+use Rattle.std.proofs.Common.{refl, arith, ◌≡◌, ◌∙◌, ap, sym, subst, ◌<◌, [], ◌∷◌, length, ℕ, zero, suc, ◌==◌, Bool, true, false, List, ◌++◌, Option, Some, take, drop, cond, ◌≢◌, ◌+◌, ◌%◌, ◌≤◌, slice_get, slice_set, ◌-◌, option_map}
 use Rattle.std.proofs.lemmas.Bool.{cases_eq, le-leb, lt-leb}
 use Rattle.std.proofs.lemmas.List.{length-append, map-append, length-map}
 use Rattle.std.proofs.lemmas.List.Folds.{find-append}
 use Rattle.std.proofs.lemmas.Bool.Decides.{nat_tests}
-use Rattle.set_events.specs.declared.answer.Fate.{Fate}
-use Rattle.set_events.specs.declared.answer.Fate.TheVariants.{Waiting, Unacked, Acked, Held, Parked, Back, Discarded}
-use Rattle.set_events.specs.declared.answer.DiscardCause.{DiscardCause}
-use Rattle.set_queues.specs.declared.message.Message.{Message}
 use Rattle.set_queues.specs.Buffers.{Lists, is_standing, same_fate, queue_at, with_queue, IsKnown, LinkLists, last_at, with_last, number_in, IsQueued}
 use Rattle.set_queues.specs.Messages.{restood_one, restood, fate_at}
 use Rattle.set_queues.specs.Sending.{first_sent, acknowledged as acked_lists, reach}
@@ -20,20 +14,18 @@ use Rattle.set_queues.proofs.Standing.{same_is, length-restood, fate_stays, fate
 use Rattle.set_queues.proofs.Passing.{queue_set, links_stay}
 use Rattle.set_queues.proofs.Soundness.{both_replaced, passed_replaces, queue_last, passed_links, sent_links, acked_links, last_links}
 use Rattle.set_queues.proofs.Settling.{IsAside, settling}
-use Rattle.set_model.specs.Rows.{Row, standing, is_waiting, is_unacked, is_on, is_parked, is_back, wait, on, numbers, turned, changed, moved, all_with, appended, row_of, place, IsNumbered, IsInOrder, IsHeldLast, unack}
+use Rattle.set_model.specs.Rows.{Fate, Waiting, Unacked, Acked, Held, Parked, Back, Discarded, DiscardCause, Emergency, Unreasonable, NoAnswer, Row, standing, is_waiting, is_unacked, is_on, is_parked, is_back, wait, on, numbers, turned, changed, moved, all_with, appended, row_of, place, IsNumbered, IsInOrder, IsHeldLast, unack}
 use Rattle.set_model.specs.Changeover.{fate_on, reached_by, is_reasonable, judged, judged_link}
 use Rattle.set_model.specs.Laws.{SameMessages}
 use Rattle.set_model.proofs.Finding.{new_row, numbered_appended, is_found}
 use Rattle.set_model.proofs.Order.{on_in_order}
-use Rattle.set_moves.specs.Agreement.{Stands, rows_at, label_in, label_of, kind_of, Kept, StandsFor}
+use Rattle.set_moves.specs.Agreement.{Message, Stands, rows_at, label_in, label_of, kind_of, Kept, StandsFor}
 use Rattle.set_moves.proofs.RowsAt.{given_all, none_at, final_none, Shifts, appended_at, sent_shifts, turned_shifts, changed_shifts, moved_shifts, is_there}
 use Rattle.set_route.specs.Routing.{Routing}
 use Rattle.set_model.specs.State.{LinkState, State, with_link}
 use Rattle.set_model.proofs.Lists.{at_set, length_set, within, present, get_set_same}
-use Rattle.set_model.specs.declared.reached.Reached.{Reached}
-use Rattle.set_model.specs.declared.reached.Reached.TheVariants.{Upto, Unknown, Unanswered}
+use Rattle.set_moves.specs.Parts.{Reached, Upto, Unknown, Unanswered}
 use Rattle.set_model.proofs.Events.{acknowledged as acked_rows, sent_given_up, waiting_given_up}
-use Rattle.set_events.specs.declared.answer.DiscardCause.TheVariants.{Emergency, Unreasonable, NoAnswer}
 
 -- A message that comes to stand elsewhere keeps its label.
 labels_stay : (n : ℕ) (ns : List ℕ) (to : Fate) (ms : List Message) → option_map label_in (slice_get (restood ns to ms) n) ≡ option_map label_in (slice_get ms n)

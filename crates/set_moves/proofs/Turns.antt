@@ -1,43 +1,35 @@
 -- WHAT STANDS BACK FOR A LINK turns back: the oldest, the first of the rows that do, and so all of it, one by one.
-use Rattle.std.proofs.Common.{inl, refl, arith, ◌≡◌, ◌∙◌, ap, sym, subst, [], ◌∷◌, ◌++◌, length, ℕ, suc, Bool, true, false, List, Some, cond, take, drop, ◌+◌, ◌*◌, None, ◌≤◌, ◌<◌, zero, ◌==◌, ◌⊎◌, Option, slice_get}
-use Rattle.std.specs.Prelude.{slice_get, filter}
+use Rattle.std.proofs.Common.{inl, refl, arith, ◌≡◌, ◌∙◌, ap, sym, subst, [], ◌∷◌, ◌++◌, length, ℕ, suc, Bool, true, false, List, Some, cond, take, drop, ◌+◌, ◌*◌, None, ◌≤◌, ◌<◌, zero, ◌==◌, ◌⊎◌, Option, slice_get, filter, option_map}
 use Rattle.std.proofs.lemmas.Bool.{eq-eqb, cases_eq, cases_lt, ne_eqb, not-true}
 use Rattle.std.proofs.lemmas.Bool.Decides.{nat_tests}
 use Rattle.std.proofs.lemmas.List.{append-nil, map-append, length-append, get_or_past}
-use Rattle.set_events.specs.declared.answer.Fate.{Fate}
-use Rattle.set_events.specs.declared.answer.Fate.TheVariants.{Waiting, Held, Back, Unacked}
 use Rattle.set_queues.specs.Backs.{passed_first, IsOldest, back_from, NoneBack}
 use Rattle.set_queues.specs.Buffers.{Lists, is_standing, same_fate, queue_at, HaveRoom, TakesRoom}
 use Rattle.set_queues.specs.Messages.{restood}
 use Rattle.set_queues.proofs.Standing.{same_is}
-use Rattle.set_queues.specs.declared.message.Message.{Message}
 use Rattle.set_route.specs.Routing.{home_of, place_of}
-use Rattle.set_model.specs.Rows.{Row, standing, is_back, is_back_to, numbers, moved, stream_of, body_at, service_indicator, Each, stands_back, is_users, back}
+use Rattle.set_model.specs.Rows.{Fate, Waiting, Held, Back, Unacked, Row, standing, is_back, is_back_to, numbers, moved, stream_of, body_at, service_indicator, Each, stands_back, is_users, back}
 use Rattle.set_model.specs.Sound.{IsAscending, AreAbove, IsBackOf}
-use Rattle.set_model.specs.State.{State, fate_at, link_count, LinkState}
+use Rattle.set_model.specs.State.{On, State, fate_at, link_count, LinkState}
 use Rattle.set_model.specs.Changeover.{turned_back, out_of_service}
 use Rattle.set_model.proofs.Filters.{filter_comm, filter_within}
 use Rattle.set_model.proofs.Finding.{with_number}
 use Rattle.set_model.proofs.Lookups.{Found, found_by_number, at_most_one, row_is_first}
 use Rattle.set_model.proofs.Moving.{moved_nothing}
-use Rattle.set_moves.specs.Agreement.{Kept, Stands, StandsFor, rows_at, label_in, label_of, Agrees, Holds}
+use Rattle.set_moves.specs.Agreement.{Message, Kept, Stands, StandsFor, rows_at, label_in, label_of, Agrees, Holds}
 use Rattle.set_moves.specs.Turning.{IsTurning, IsTurningRow, TurnsOn, TakesTurns, CanTurn}
 use Rattle.set_moves.proofs.States.{Becoming, becomes, Moves, shifts_stand, queues_for, last_stays}
 use Rattle.set_moves.proofs.RowsAt.{Shifts, is_there, rows_as, shifted, shifted_messages, shifted_goes, shifted_stands, shifted_each, rest_stands, moved_rest, moved_as}
-use Rattle.set_moves.specs.declared.parts.Parts.{Parts}
-use Rattle.set_moves.specs.Parts.{IsWhole, kept_of, AtLink, OfStates}
+use Rattle.set_moves.specs.Parts.{Parts, Up, IsWhole, kept_of, AtLink, OfStates}
 use Rattle.set_queues.specs.Queues.{QueuesState}
 use Rattle.set_queues.specs.Settling.{on as on_lists}
 use Rattle.set_queues.proofs.CodeQueues.{back_none}
 use Rattle.set_queues.proofs.Passing.{links_stay}
 use Rattle.set_queues.proofs.Settling.{on_length}
-use Rattle.std.specs.Option.{option_map}
 use Rattle.std.proofs.lemmas.Option.{same_Some}
 use Rattle.set_queues.specs.declared.message.Kind.TheVariants.{User}
-use Rattle.set_route.specs.declared.place.Place.TheVariants.{On}
 use Rattle.set_model.proofs.Standing.{each_filter, each_so, ascends_filter}
 use Rattle.set_queues.proofs.Soundness.{both_replaced}
-use Rattle.set_model.specs.declared.phase.Phase.TheVariants.{Up}
 use Rattle.set_model.proofs.Lists.{within, present, same_at}
 use Rattle.set_model.proofs.Places.{home_back}
 use Rattle.set_model.proofs.SoundBack.{goes}

@@ -1,11 +1,10 @@
 -- WHAT A SET KEEPS, AND HOW IT AGREES WITH THE STATE that it stands for. Read this file first.
-use Rattle.std.specs.Prelude.{◌≡◌, ℕ, ◌+◌, ◌%◌, ◌==◌, List, [], length, Some, slice_get, if◌then◌else◌}
-use Rattle.std.specs.Option.{option_map}
+use Rattle.std.specs.Prelude.{◌≡◌, ℕ, ◌+◌, ◌%◌, ◌==◌, List, [], length, Some, slice_get, if◌then◌else◌, option_map}
 use Rattle.set_events.specs.declared.answer.Fate.{Fate}
 use Rattle.set_events.specs.declared.answer.Fate.TheVariants.{Waiting, Unacked, Acked, Held, Parked, Back, Discarded}
 use Rattle.set_queues.specs.declared.message.Kind.{Kind}
 use Rattle.set_queues.specs.declared.message.Kind.TheVariants.{User, Order}
-use Rattle.set_queues.specs.declared.message.Message.{Message}
+pub use Rattle.set_queues.specs.declared.message.Message.{Message}
 use Rattle.set_queues.specs.Buffers.{Lists, queue_at, last_at}
 use Rattle.set_queues.specs.Messages.{fate_at}
 use Rattle.set_route.specs.Routing.{Routing}

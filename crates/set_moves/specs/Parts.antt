@@ -1,18 +1,17 @@
 -- THE PARTS OF A SET as contracts see them.
 use Rattle.std.specs.Prelude.{◌≡◌, ℕ, false, ◌<◌, ◌≤◌, List, length, map, Some, slice_get}
-use Rattle.set_model.specs.declared.phase.Phase.{Phase}
-use Rattle.set_model.specs.declared.reached.Reached.{Reached}
-use Rattle.set_model.specs.declared.reached.Reached.TheVariants.{Upto, Unknown, Unanswered}
+pub use Rattle.set_model.specs.declared.phase.Phase.{Phase}
+pub use Rattle.set_model.specs.declared.reached.Reached.{Reached}
+pub use Rattle.set_model.specs.declared.reached.Reached.TheVariants.{Upto, Unknown, Unanswered}
 use Rattle.set_model.specs.State.{LinkState, State, settings_of, has_phase_up}
-use Rattle.set_model.specs.Step.{Outcome}
-use Rattle.set_events.specs.declared.answer.Answer.{Answer}
-use Rattle.set_events.specs.declared.answer.Took.{Took}
+use Rattle.set_model.specs.Step.{Answer, Took, Outcome}
 use Rattle.set_model.specs.Changeover.{Obeyed}
-use Rattle.set_moves.specs.declared.link.Link.{Link}
-use Rattle.set_moves.specs.declared.parts.Parts.{Parts}
+pub use Rattle.set_moves.specs.declared.link.Link.{Link}
+pub use Rattle.set_moves.specs.declared.parts.Parts.{Parts}
 use Rattle.set_moves.specs.Agreement.{Kept, StandsFor, Agrees}
 use Rattle.l2_window.specs.Window.{fsn_count}
 use Rattle.set_route.specs.Routing.{most_links}
+pub use Rattle.set_model.specs.declared.phase.Phase.TheVariants.{Up, Down, Settled}
 
 -- what the kept link stands for
 abbrev pub link_of : Link → LinkState

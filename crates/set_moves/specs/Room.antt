@@ -1,20 +1,14 @@
 -- ROOM that an event takes before it changes anything.
 use Rattle.std.specs.Prelude.{◌≡◌, ℕ, ◌+◌, ◌-◌, ◌*◌, ◌<◌, ◌≤◌, false, List, length, map, Option, slice_set}
-use Rattle.l3_orders.specs.declared.order.Order.{Order}
-use Rattle.l3_orders.specs.declared.order.Order.TheVariants.{Coo, Coa, Cbd, Cba, Eco, Eca}
-use Rattle.set_events.specs.declared.answer.Fate.{Fate}
 use Rattle.set_queues.specs.Backs.{back_count}
 use Rattle.set_queues.specs.Bodies.{CanHold}
-use Rattle.set_events.specs.declared.answer.Fate.TheVariants.{Waiting, Back}
-use Rattle.set_queues.specs.Buffers.{HaveRoom, queue_at, room_at}
+use Rattle.set_queues.specs.Buffers.{Fate, Waiting, Back, HaveRoom, queue_at, room_at}
 use Rattle.set_queues.specs.Settling.{on}
 use Rattle.set_route.specs.Routing.{home_of}
 use Rattle.set_route.specs.Target.{target_of}
-use Rattle.set_model.specs.Changeover.{fate_on}
+use Rattle.set_model.specs.Changeover.{Order, Coo, Coa, Cbd, Cba, Eco, Eca, fate_on}
 use Rattle.set_model.specs.State.{has_phase_up, target}
-use Rattle.set_moves.specs.declared.link.Link.{Link}
-use Rattle.set_moves.specs.declared.parts.Parts.{Parts}
-use Rattle.set_moves.specs.Parts.{kept_of, link_of}
+use Rattle.set_moves.specs.Parts.{Link, Parts, kept_of, link_of}
 
 -- the link that messages go to once this one is out of service
 abbrev pub target_beside : ℕ → List Link → Option ℕ

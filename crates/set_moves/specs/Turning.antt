@@ -1,15 +1,13 @@
 -- WHAT STOOD BACK FOR A LINK THAT IS LEFT turns back.
 use Rattle.std.specs.Prelude.{◌≡◌, ◌≤◌, ◌<◌, ◌+◌, ℕ, true, length}
-use Rattle.set_events.specs.declared.answer.Fate.{Fate}
 use Rattle.set_queues.specs.Buffers.{room_at}
 use Rattle.set_queues.specs.Queues.{QueuesState}
 use Rattle.set_queues.specs.Settling.{on}
-use Rattle.set_route.specs.declared.place.Place.TheVariants.{On}
 use Rattle.set_route.specs.Routing.{place_of}
-use Rattle.set_model.specs.Rows.{Row, is_users, is_back_to, standing, stream_of, numbers, Each}
+use Rattle.set_model.specs.Rows.{Fate, Row, is_users, is_back_to, standing, stream_of, numbers, Each}
 use Rattle.set_model.specs.Changeover.{turned_back}
 use Rattle.set_model.specs.Sound.{IsAscending}
-use Rattle.set_model.specs.State.{State, link_count}
+use Rattle.set_model.specs.State.{On, State, link_count}
 use Rattle.set_moves.specs.Agreement.{Kept, StandsFor}
 
 -- what stands back for the link is a user's, and its stream runs on a link of the set

@@ -6,8 +6,7 @@ ghost use Rattle.set_model.specs.Changeover.{settled, judged, discarded, moved_o
 ghost use Rattle.set_model.specs.Rows.{IsInOrder, IsHeldLast};
 ghost use Rattle.set_model.specs.State.{State, LinkState, target};
 ghost use Rattle.set_moves.specs.Agreement.{StandsFor, Agrees};
-ghost use Rattle.set_moves.specs.Parts.{IsWhole, AreCounted, AtLink, IsOut, IsReach, Becomes, BecomesAt, link_of, kept_of};
-ghost use Rattle.set_model.specs.declared.phase.Phase.TheVariants.{Down};
+ghost use Rattle.set_moves.specs.Parts.{Down, IsWhole, AreCounted, AtLink, IsOut, IsReach, Becomes, BecomesAt, link_of, kept_of};
 
 use super::parts::{Parts, target_of};
 use set_events::{DiscardCause, Fate};

@@ -5,12 +5,9 @@ use Rattle.std.proofs.lemmas.Bool.Decides.{nat_tests}
 use Rattle.std.proofs.lemmas.Map.Steps.{length-le_from_distinct_below}
 use Rattle.std.proofs.lemmas.List.{length-append}
 use Rattle.std.proofs.lemmas.Option.{slice_get_past}
-use Rattle.set_events.specs.declared.answer.Fate.{Fate}
-use Rattle.set_events.specs.declared.answer.Fate.TheVariants.{Back}
-use Rattle.set_queues.specs.declared.message.Message.{Message}
 use Rattle.set_queues.specs.Counts.{one_if}
-use Rattle.set_queues.specs.Messages.{fate_at}
-use Rattle.set_queues.specs.Buffers.{Lists, queue_at}
+use Rattle.set_queues.specs.Messages.{Message, fate_at}
+use Rattle.set_queues.specs.Buffers.{Fate, Back, Lists, queue_at}
 use Rattle.set_queues.specs.Queues.{occurs, has_fate, AreTied}
 use Rattle.set_queues.specs.Backs.{back_from}
 use Rattle.set_queues.proofs.Standing.{occurs-append, occurs_here}

@@ -1,15 +1,12 @@
 -- The queues of one link change: what that is for the lists and the rooms of a set.
-use Rattle.std.proofs.Common.{refl, arith, ◌≡◌, ◌∙◌, ap, ◌+◌, ◌≤◌, ◌<◌, length, map, ℕ, ◌==◌, [], List, Some, cond, get_or}
-use Rattle.std.specs.Prelude.{slice_get, slice_set}
-use Rattle.std.specs.Option.{option_map}
+use Rattle.std.proofs.Common.{refl, arith, ◌≡◌, ◌∙◌, ap, ◌+◌, ◌≤◌, ◌<◌, length, map, ℕ, ◌==◌, [], List, Some, cond, get_or, slice_get, slice_set, option_map}
 use Rattle.std.proofs.lemmas.Bool.{eq-eqb}
 use Rattle.std.proofs.lemmas.List.{length-map}
 use Rattle.std.proofs.lemmas.Option.{slice_get-map, slice_get_read, slice_get_within, get_or_from_slice_get}
 use Rattle.l2_window.specs.Queue.{QueueState}
-use Rattle.set_events.specs.declared.answer.Fate.TheVariants.{Waiting, Unacked, Held}
 use Rattle.set_queues.specs.declared.buffers.Link.{Link}
 use Rattle.set_queues.specs.Messages.{updated}
-use Rattle.set_queues.specs.Buffers.{LinkLists, LinkRooms, Rooms, BuffersState, queue_at, last_at, room_at, room_in, list_in, number_in, KeepsRoom, HaveRoom}
+use Rattle.set_queues.specs.Buffers.{Waiting, Unacked, Held, LinkLists, LinkRooms, Rooms, BuffersState, queue_at, last_at, room_at, room_in, list_in, number_in, KeepsRoom, HaveRoom}
 use Rattle.set_queues.specs.Kept.{lists_of, rooms_of, messages_of, room_of, state_of}
 use Rattle.set_queues.specs.declared.buffers.Buffers.TheInside.{Inside}
 use Rattle.set_queues.proofs.Updates.{updated_there, updated_other, updated_twice, map_set_updated, map_set_same, read_set}

@@ -1,13 +1,9 @@
 -- A queue is replaced by another list.
-use Rattle.std.proofs.Common.{refl, arith, ◌≡◌, ◌∙◌, ap, ◌<◌, ◌+◌, [], ◌∷◌, ◌++◌, length, take, append_assoc, ℕ, zero, suc, Bool, true, false, ◌==◌, List, Option, Some, cond}
-use Rattle.std.specs.Prelude.{slice_get}
+use Rattle.std.proofs.Common.{refl, arith, ◌≡◌, ◌∙◌, ap, ◌<◌, ◌+◌, [], ◌∷◌, ◌++◌, length, take, append_assoc, ℕ, zero, suc, Bool, true, false, ◌==◌, List, Option, Some, cond, slice_get}
 use Rattle.std.proofs.lemmas.Bool.{eq-eqb}
 use Rattle.std.proofs.lemmas.Option.{get_or_from_slice_get}
-use Rattle.set_events.specs.declared.answer.Fate.{Fate}
-use Rattle.set_events.specs.declared.answer.Fate.TheVariants.{Waiting, Unacked, Held, Parked, Back}
-use Rattle.set_queues.specs.declared.message.Message.{Message}
-use Rattle.set_queues.specs.Messages.{restood_one, restood}
-use Rattle.set_queues.specs.Buffers.{Lists, is_standing, same_fate, queue_at, with_queue, IsKnown, IsQueued, Rooms, CanTake, TakesRoom}
+use Rattle.set_queues.specs.Messages.{Message, restood_one, restood}
+use Rattle.set_queues.specs.Buffers.{Fate, Waiting, Unacked, Held, Parked, Back, Lists, is_standing, same_fate, queue_at, with_queue, IsKnown, IsQueued, Rooms, CanTake, TakesRoom}
 use Rattle.set_queues.proofs.Updates.{there, length-updated, updated_there, updated_other, updated_twice, updated_id, read_set}
 use Rattle.std.proofs.lemmas.List.{append-nil}
 use Rattle.set_queues.proofs.Standing.{same_self, take_get, given_at, none_past, room_sum, length-restood, restood-append}

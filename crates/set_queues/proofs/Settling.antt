@@ -1,11 +1,8 @@
 -- A link settles: what stands on it goes elsewhere, first what was sent, then what waited, then what was held.
-use Rattle.std.proofs.Common.{refl, arith, ◌≡◌, ◌≢◌, subst, ◌+◌, ◌≤◌, ◌<◌, [], ◌++◌, length, ℕ, Bool, true, false, Option, cond, append_assoc}
-use Rattle.std.specs.Prelude.{IfSome}
+use Rattle.std.proofs.Common.{refl, arith, ◌≡◌, ◌≢◌, subst, ◌+◌, ◌≤◌, ◌<◌, [], ◌++◌, length, ℕ, Bool, true, false, Option, cond, append_assoc, IfSome}
 use Rattle.std.proofs.lemmas.Bool.{eq-eqb}
 use Rattle.std.proofs.lemmas.List.{length-append}
-use Rattle.set_events.specs.declared.answer.Fate.{Fate}
-use Rattle.set_events.specs.declared.answer.Fate.TheVariants.{Waiting, Unacked, Held}
-use Rattle.set_queues.specs.Buffers.{Lists, Rooms, is_standing, same_fate, queue_at, room_at, IsKnown, IsQueued, TakesRoom}
+use Rattle.set_queues.specs.Buffers.{Fate, Waiting, Unacked, Held, Lists, Rooms, is_standing, same_fate, queue_at, room_at, IsKnown, IsQueued, TakesRoom}
 use Rattle.set_queues.specs.Queues.{passed}
 use Rattle.set_queues.specs.Settling.{fate_on, on, Settles}
 use Rattle.set_queues.proofs.Standing.{restood-append, room_sum, same_self}

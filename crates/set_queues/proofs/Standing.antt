@@ -1,16 +1,13 @@
 -- Messages that come to stand elsewhere, and the queues that name them.
-use Rattle.std.proofs.Common.{refl, arith, ◌≡◌, ◌∙◌, ap, ◌+◌, ◌≤◌, ◌<◌, [], ◌∷◌, ◌++◌, length, ℕ, zero, suc, Bool, true, false, ◌==◌, List, Option, Some, None, cond, take, drop}
-use Rattle.std.specs.Prelude.{slice_get}
+use Rattle.std.proofs.Common.{refl, arith, ◌≡◌, ◌∙◌, ap, ◌+◌, ◌≤◌, ◌<◌, [], ◌∷◌, ◌++◌, length, ℕ, zero, suc, Bool, true, false, ◌==◌, List, Option, Some, None, cond, take, drop, slice_get}
 use Rattle.std.proofs.lemmas.Bool.Decides.{nat_tests}
 use Rattle.std.proofs.lemmas.Bool.{eq-eqb, ne_eqb}
 use Rattle.std.proofs.lemmas.Option.{slice_get_within, slice_get_past, slice_get-get_or, get_or_from_slice_get}
 use Rattle.std.proofs.lemmas.List.{take-append-drop}
 use Rattle.std.proofs.lemmas.Grind.{take_at_read}
-use Rattle.set_events.specs.declared.answer.Fate.{Fate}
-use Rattle.set_queues.specs.declared.message.Message.{Message}
 use Rattle.set_queues.specs.Counts.{one_if}
-use Rattle.set_queues.specs.Messages.{with_fate, restood_one, restood, fate_at}
-use Rattle.set_queues.specs.Buffers.{Lists, is_standing, same_fate, queue_at}
+use Rattle.set_queues.specs.Messages.{Message, with_fate, restood_one, restood, fate_at}
+use Rattle.set_queues.specs.Buffers.{Fate, Lists, is_standing, same_fate, queue_at}
 use Rattle.set_queues.specs.Queues.{occurs, has_fate, AreTied, AreGiven}
 use Rattle.set_queues.proofs.Updates.{there, length-updated, updated_same, updated_other}
 

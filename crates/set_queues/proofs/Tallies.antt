@@ -1,15 +1,12 @@
 -- The running counts of a list of messages, when one of them changes or joins, and the octets of their bodies.
-use Rattle.std.proofs.Common.{◌^◌, arith, ◌≡◌, ◌+◌, ◌≤◌, ◌<◌, [], ◌∷◌, ◌++◌, length, ℕ, zero, suc, Bool, List, Option, Some, None, get_or, refl, ◌∙◌, ap, ◌*◌, take, drop}
-use Rattle.std.specs.Prelude.{filter, slice_get, slice_set}
+use Rattle.std.proofs.Common.{◌^◌, arith, ◌≡◌, ◌+◌, ◌≤◌, ◌<◌, [], ◌∷◌, ◌++◌, length, ℕ, zero, suc, Bool, List, Option, Some, None, get_or, refl, ◌∙◌, ap, ◌*◌, take, drop, filter, slice_get, slice_set}
 use Rattle.std.proofs.lemmas.List.{take-append-drop, length-append}
 use Rattle.std.proofs.lemmas.List.Elements.{filter-append}
 use Rattle.std.proofs.lemmas.List.Sums.{length-filter, count_by-le-length}
 use Rattle.std.proofs.lemmas.Option.{slice_get_read}
-use Rattle.set_queues.specs.declared.message.Message.{Message}
-use Rattle.set_events.specs.declared.answer.Fate.{Fate}
-use Rattle.set_queues.specs.Messages.{with_fate, restood_one, restood, octets_in, octets_at, octets_of, is_there, is_queued, IsTally, IsMore, IsAmong, AreFew, IsFit, AreFit}
+use Rattle.set_queues.specs.Buffers.{Fate}
+use Rattle.set_queues.specs.Messages.{Message, Tally, with_fate, restood_one, restood, octets_in, octets_at, octets_of, is_there, is_queued, IsTally, IsMore, IsAmong, AreFew, IsFit, AreFit}
 use Rattle.set_queues.proofs.Updates.{set_updated, updated_same, updated_other, get_push}
-use Rattle.set_queues.specs.declared.tally.Tally.{Tally}
 use Rattle.set_queues.specs.Counts.{one_if, stands_at}
 use Rattle.set_queues.proofs.Standing.{take_get, fate_moves, fate_stays, length-restood}
 

@@ -1,10 +1,8 @@
 -- Lists of which the element at one place changes.
-use Rattle.std.proofs.Common.{refl, arith, ◌≡◌, ◌∙◌, ap, sym, ◌<◌, ◌+◌, ◌==◌, [], ◌∷◌, ◌++◌, length, map, replicate, ℕ, zero, suc, cond, get_or, List, Some}
+use Rattle.std.proofs.Common.{refl, arith, ◌≡◌, ◌∙◌, ap, sym, ◌<◌, ◌+◌, ◌==◌, [], ◌∷◌, ◌++◌, length, map, replicate, ℕ, zero, suc, cond, get_or, List, Some, slice_get, slice_set, option_map}
 use Rattle.std.proofs.Math.Seq.{map-set_same}
 use Rattle.std.proofs.lemmas.List.{map-append, replicate_more, map-set}
 use Rattle.std.proofs.lemmas.Option.{slice_get-map, get_or_from_slice_get}
-use Rattle.std.specs.Prelude.{slice_get, slice_set}
-use Rattle.std.specs.Option.{option_map}
 use Rattle.set_queues.specs.Messages.{updated}
 
 -- the element at this place

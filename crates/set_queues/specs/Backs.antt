@@ -1,8 +1,6 @@
 -- What waits for the acknowledgement of a changeback (Q.704 6.3), by the home of its code: code / 16.
 use Rattle.std.specs.Prelude.{◌≡◌, ℕ, zero, suc, ◌+◌, ◌*◌, ◌/◌, ◌<◌, ◌≤◌, ◌++◌, [], length, take, drop, slice_get, Option, Some, None}
-use Rattle.set_events.specs.declared.answer.Fate.{Fate}
-use Rattle.set_events.specs.declared.answer.Fate.TheVariants.{Back}
-use Rattle.set_queues.specs.Buffers.{Lists, queue_at, with_queue}
+use Rattle.set_queues.specs.Buffers.{Fate, Back, Lists, queue_at, with_queue}
 
 -- the first of a queue, if there is one, stands last in another
 abbrev pub passed_first : Fate → Fate → Lists → Lists

@@ -1,12 +1,11 @@
 -- The messages of a set by their numbers: where each stands, whose it is, and its octets.
-use Rattle.std.specs.Prelude.{ℕ, zero, suc, ◌+◌, Bool, ◌&&◌, List, [], ◌∷◌, length, filter, slice_get, Option, Some, None, ◌≡◌, ◌<◌, ◌≤◌, ◌^◌, true, slice_index}
-use Rattle.std.specs.Option.{option_map}
+use Rattle.std.specs.Prelude.{ℕ, zero, suc, ◌+◌, Bool, ◌&&◌, List, [], ◌∷◌, length, filter, slice_get, Option, Some, None, ◌≡◌, ◌<◌, ◌≤◌, ◌^◌, true, slice_index, option_map}
 use Rattle.set_events.specs.declared.answer.Fate.{Fate}
 use Rattle.set_events.specs.declared.answer.Counts.{Counts}
-use Rattle.set_queues.specs.declared.message.Message.{Message}
+pub use Rattle.set_queues.specs.declared.message.Message.{Message}
 use Rattle.set_queues.specs.Kind.{is_users, is_of, is_kind}
 use Rattle.set_queues.specs.Counts.{waits, was_sent, was_acked, was_held, is_parked, stands_back, was_discarded, is_unsent, one_if, count_at, stands_at}
-use Rattle.set_queues.specs.declared.tally.Tally.{Tally}
+pub use Rattle.set_queues.specs.declared.tally.Tally.{Tally}
 
 -- the element at this place changes
 abbrev pub updated : {X : Type 0} → ℕ → (X → X) → List X → List X

@@ -1,7 +1,6 @@
 -- A message is sent for the first time, and acknowledged.
 use Rattle.std.specs.Prelude.{◌≡◌, ℕ, ◌+◌, ◌-◌, ◌%◌, ◌++◌, [], ◌∷◌, drop, slice_get, Some}
-use Rattle.set_events.specs.declared.answer.Fate.TheVariants.{Waiting, Unacked}
-use Rattle.set_queues.specs.Buffers.{Lists, queue_at, with_queue, last_at, with_last}
+use Rattle.set_queues.specs.Buffers.{Waiting, Unacked, Lists, queue_at, with_queue, last_at, with_last}
 use Rattle.l2_window.specs.Window.{fsn_count}
 
 -- the first that waits stands last among the unacknowledged

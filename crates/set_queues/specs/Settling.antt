@@ -1,9 +1,7 @@
 -- A link settles: what stands on it goes elsewhere (Q.704 5.5).
 use Rattle.std.specs.Prelude.{◌≡◌, ℕ, ◌++◌, List, [], true, false}
-use Rattle.set_events.specs.declared.answer.Fate.{Fate}
-use Rattle.set_events.specs.declared.answer.Fate.TheVariants.{Waiting, Unacked, Held}
 pub use Rattle.set_events.specs.Places.{fate_on}
-use Rattle.set_queues.specs.Buffers.{Lists, IsKnown, IsQueued, is_standing, same_fate, queue_at}
+use Rattle.set_queues.specs.Buffers.{Fate, Waiting, Unacked, Held, Lists, IsKnown, IsQueued, is_standing, same_fate, queue_at}
 use Rattle.set_queues.specs.Queues.{passed}
 
 -- what stands on a link: first what was sent, then what waits, then what is held

@@ -1,21 +1,17 @@
 -- A set of which nothing was asked, and what holds after each event.
-use Rattle.std.proofs.Common.{◌≡◌, true, false, IsOk, Result, refl, arith, subst, ℕ, zero, suc, ◌^◌, List, [], ◌∷◌, map, slice_get, Some, None, nat_lt, if◌then◌else◌}
-use Rattle.set_events.specs.declared.event.Event.{Event}
+use Rattle.std.proofs.Common.{◌≡◌, true, false, IsOk, Result, refl, arith, subst, ℕ, zero, suc, ◌^◌, List, [], ◌∷◌, map, slice_get, Some, None, nat_lt, if◌then◌else◌, replicate}
 use Rattle.set_step.specs.Faults.{wants_none}
-use Rattle.std.specs.Prelude.{replicate}
 use Rattle.std.proofs.lemmas.List.{length-replicate}
 use Rattle.std.proofs.lemmas.Bool.Decides.{nat_tests}
-use Rattle.set_events.specs.declared.answer.Answer.{Answer}
-use Rattle.set_events.specs.declared.answer.Fate.{Fate}
 use Rattle.set_events.specs.declared.config.SetConfig.{SetConfig}
 use Rattle.set_queues.specs.Buffers.{Lists, no_lists, queue_at}
 use Rattle.set_queues.specs.Queues.{AreGiven, AreSound}
 use Rattle.set_queues.proofs.Soundness.{given_all}
 use Rattle.set_route.specs.Routing.{new_routing}
-use Rattle.set_model.specs.Rows.{numbers}
+use Rattle.set_model.specs.Rows.{Fate, numbers}
 use Rattle.set_model.specs.Sound.{IsAsked}
 use Rattle.set_model.specs.State.{State, LinkState, settings_of, new_link, new_state}
-use Rattle.set_model.specs.Step.{step, stepped}
+use Rattle.set_model.specs.Step.{Event, Answer, step, stepped}
 use Rattle.set_model.proofs.Lists.{map_at}
 use Rattle.set_model.proofs.Soundness.{opened_sound, step_sound}
 use Rattle.set_model.proofs.Stepping.{step_is}

@@ -1,22 +1,17 @@
 -- What is read of a set: how many messages there are of a kind and in each place, and the unacknowledged ones of a link.
-use Rattle.std.proofs.Common.{refl, arith, ◌≡◌, ◌∙◌, ap, sym, ◌≤◌, ◌+◌, [], ◌∷◌, List, ℕ, suc, length, ◌&&◌, Bool, nat_le, Option, Some, None, ◌<◌, ◌%◌}
+use Rattle.std.proofs.Common.{refl, arith, ◌≡◌, ◌∙◌, ap, sym, ◌≤◌, ◌+◌, [], ◌∷◌, List, ℕ, suc, length, ◌&&◌, Bool, nat_le, Option, Some, None, ◌<◌, ◌%◌, slice_get, filter, option_map}
 use Rattle.std.proofs.Math.Nat.{zero-add}
-use Rattle.std.specs.Prelude.{slice_get, filter}
-use Rattle.std.specs.Option.{option_map}
 use Rattle.std.proofs.lemmas.Bool.Decides.{nat_tests}
-use Rattle.set_events.specs.declared.answer.Fate.{Fate}
-use Rattle.set_queues.specs.declared.message.Message.{Message}
 use Rattle.set_queues.specs.Buffers.{Lists, queue_at, last_at}
 use Rattle.set_queues.specs.Counts.{one_if}
 use Rattle.set_queues.specs.Kind.{is_of, is_users}
 use Rattle.set_queues.specs.Messages.{unsent_of, count_of, counts_of}
-use Rattle.set_model.specs.Rows.{Row, row_of, unsent, is_unsent, IsNumbered, standing, users, counts_of as counts_in}
+use Rattle.set_model.specs.Rows.{Fate, Unacked, Row, row_of, unsent, is_unsent, IsNumbered, standing, users, counts_of as counts_in}
 use Rattle.set_model.proofs.Finding.{with_number}
 use Rattle.set_model.proofs.Lookups.{row_is_first}
-use Rattle.set_moves.specs.Agreement.{Label, Stands, kind_of, label_in, label_of, Kept, StandsFor}
+use Rattle.set_moves.specs.Agreement.{Message, Label, Stands, kind_of, label_in, label_of, Kept, StandsFor}
 use Rattle.std.proofs.lemmas.Option.{slice_get_past, slice_get-map}
 use Rattle.std.proofs.lemmas.List.Elements.{filter_agree}
-use Rattle.set_events.specs.declared.answer.Fate.TheVariants.{Unacked}
 use Rattle.set_model.specs.State.{State, LinkState, unacked_of, unacked_in}
 use Rattle.set_model.proofs.Lists.{present}
 

@@ -1,7 +1,6 @@
 -- What is answered to a state, and what is kept then.
 use Rattle.std.specs.Prelude.{◌≡◌}
-use Rattle.set_events.specs.declared.answer.Answer.{Answer}
-use Rattle.set_model.specs.Step.{Outcome}
+use Rattle.set_model.specs.Step.{Answer, Outcome}
 use Rattle.set_moves.specs.Agreement.{Kept, Agrees}
 
 -- the answer is this outcome's, and what is kept agrees with its state

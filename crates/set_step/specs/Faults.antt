@@ -1,8 +1,6 @@
 -- The numbers of a set's faults, and the events that want no memory.
 use Rattle.std.specs.Prelude.{ℕ, Bool, true, false, not}
-use Rattle.set_events.specs.declared.event.Event.{Event}
-use Rattle.set_events.specs.declared.event.Event.TheVariants.{Take, Find, Next, Heard}
-use Rattle.set_model.specs.Step.{is_msu}
+use Rattle.set_model.specs.Step.{Event, Take, Find, Next, Heard, is_msu}
 use Rattle.set_step.specs.declared.fault.SetFault.{SetFault}
 use Rattle.set_step.specs.declared.fault.SetFault.TheVariants.{NoMemory, Exhausted}
 

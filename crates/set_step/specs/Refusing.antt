@@ -1,7 +1,6 @@
 -- Why an offer is refused.
 use Rattle.std.specs.Prelude.{ℕ, ◌==◌, nat_lt, nat_le, List, length, Option, Some, None, if◌then◌else◌}
-use Rattle.set_events.specs.declared.answer.Refusal.{Refusal as SetRefusal}
-use Rattle.set_events.specs.declared.answer.Refusal.TheVariants.{TooShort, TooLong, Reserved, StreamFull}
+use Rattle.set_model.specs.Step.{SetRefusal, TooShort, TooLong, Reserved, StreamFull}
 use Rattle.set_model.specs.Rows.{service_indicator}
 
 -- told by how many messages of its stream aren't sent yet

@@ -1,8 +1,7 @@
 //! Why an event of a link is refused, and what it may count on where it isn't.
 ghost use Rattle.std.specs.Prelude.{IfNone, IfSome};
 ghost use Rattle.set_model.specs.Step.{on_link, rises, gives_up};
-ghost use Rattle.set_model.specs.declared.phase.Phase.TheVariants.{Down, Settled};
-ghost use Rattle.set_moves.specs.Parts.{Answers, IsHere};
+ghost use Rattle.set_moves.specs.Parts.{Down, Settled, Answers, IsHere};
 
 use set_events::{Answer, Refusal};
 use set_model::Phase;

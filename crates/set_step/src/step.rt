@@ -8,11 +8,10 @@ ghost use Rattle.set_model.specs.Changeover.{leaving_order, left_by, queued};
 ghost use Rattle.set_model.specs.Sound.{IsAsked};
 ghost use Rattle.set_model.specs.Step.{offer_refusal, offered, on_link, in_service, rises, falls, gives_up, taken, found, stepped};
 ghost use Rattle.set_model.specs.Rows.{appended, place, stream_of};
-ghost use Rattle.set_model.specs.declared.phase.Phase.TheVariants.{Up, Settled};
 ghost use Rattle.set_moves.specs.Agreement.{Holds};
 ghost use Rattle.set_step.specs.Faults.{wants_none};
 ghost use Rattle.set_step.specs.Refusing.{refusal_by};
-ghost use Rattle.set_moves.specs.Parts.{Answers, AreCounted, Becomes, BecomesAt, AgreedBecomes, IsHere, link_of, kept_of};
+ghost use Rattle.set_moves.specs.Parts.{Up, Settled, Answers, AreCounted, Becomes, BecomesAt, AgreedBecomes, IsHere, link_of, kept_of};
 ghost use Rattle.set_moves.specs.Room.{HasRoom, IsReady};
 
 use super::admitting::{unraised, unwaited};

@@ -1,15 +1,11 @@
 -- The bodies that the queues name, and their octets.
-use Rattle.std.proofs.Common.{refl, arith, ◌≡◌, ◌∙◌, ap, sym, ◌≤◌, [], ◌∷◌, List, ℕ, suc, true, length, Some, slice_get}
-use Rattle.std.specs.Option.{option_map}
-use Rattle.set_events.specs.declared.answer.Fate.{Fate}
-use Rattle.set_events.specs.declared.answer.Fate.TheVariants.{Unacked}
-use Rattle.set_queues.specs.declared.message.Message.{Message}
+use Rattle.std.proofs.Common.{refl, arith, ◌≡◌, ◌∙◌, ap, sym, ◌≤◌, [], ◌∷◌, List, ℕ, suc, true, length, Some, slice_get, option_map}
 use Rattle.set_queues.specs.Buffers.{is_standing, queue_at}
 use Rattle.set_queues.specs.Messages.{octets_at, octets_of}
-use Rattle.set_model.specs.Rows.{Row, is_unacked, unack, numbers, octets_in, body_at, AreFit}
+use Rattle.set_model.specs.Rows.{Fate, Unacked, Row, is_unacked, unack, numbers, octets_in, body_at, AreFit}
 use Rattle.set_model.specs.State.{State}
 use Rattle.set_model.proofs.Lookups.{Found, found_by_number, row_in_filter}
-use Rattle.set_moves.specs.Agreement.{Kept, StandsFor, rows_at}
+use Rattle.set_moves.specs.Agreement.{Message, Kept, StandsFor, rows_at}
 use Rattle.set_moves.proofs.RowsAt.{is_there, rows_as}
 
 pub fit_at : (number : ℕ) (rows : List Row) (body : List ℕ) → AreFit rows → body_at number rows ≡ Some body → length body ≤ 273

@@ -1,21 +1,15 @@
 -- What a link's control chooses, sends and hears, by the window that is kept and by the one that the rows give.
-use Rattle.std.proofs.Common.{refl, arith, ◌≡◌, ap, sym, subst, ◌<◌, ◌+◌, ◌-◌, ◌%◌, ℕ, Bool, length, Option, Some, slice_get, slice_index_or}
-use Rattle.std.specs.Option.{option_map}
+use Rattle.std.proofs.Common.{refl, arith, ◌≡◌, ap, sym, subst, ◌<◌, ◌+◌, ◌-◌, ◌%◌, ℕ, Bool, length, Option, Some, slice_get, slice_index_or, option_map}
 use Rattle.std.proofs.lemmas.Bool.Decides.{nat_tests}
 use Rattle.arrayvec.specs.declared.array_vec.ArrayVec.{ArrayVec}
-use Rattle.l2_units.specs.declared.unit.Header.{Header}
-use Rattle.l2_units.specs.declared.unit.Unit.{Unit as SignalUnit}
-use Rattle.l2_units.specs.declared.unit.Unit.TheVariants.{Msu}
 use Rattle.l2_window.specs.Window.{WindowState}
 use Rattle.l2_window.specs.Control.{fsn_of, acked_where}
 use Rattle.l2_window.specs.declared.control.Choice.{Choice}
-use Rattle.set_events.specs.declared.answer.Answer.TheVariants.{Sent}
-use Rattle.set_events.specs.declared.answer.Fate.TheVariants.{Waiting, Unacked}
 use Rattle.set_queues.specs.Buffers.{queue_at, last_at, Lists}
-use Rattle.set_model.specs.Rows.{Row}
-use Rattle.set_model.specs.Control.{Control, choice_of, head_of, control_after, part_of, control_heard}
+use Rattle.set_model.specs.Rows.{Waiting, Unacked, Row}
+use Rattle.set_model.specs.Control.{Header, Control, choice_of, head_of, control_after, part_of, control_heard}
 use Rattle.set_model.specs.State.{LinkState, State, window_of}
-use Rattle.set_model.specs.Step.{next as next_of, sends, chosen, unit_of}
+use Rattle.set_model.specs.Step.{SignalUnit, Msu, Sent, next as next_of, sends, chosen, unit_of}
 use Rattle.set_moves.specs.declared.link.Link.{Link}
 use Rattle.set_moves.specs.declared.parts.Parts.{Parts}
 use Rattle.set_moves.specs.Agreement.{Holds, StandsFor}

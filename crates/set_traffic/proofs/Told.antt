@@ -2,18 +2,13 @@
 use Rattle.std.proofs.Common.{refl, arith, ◌≡◌, ◌∙◌, ap, sym, ◌&&◌, ◌<◌, ◌+◌, ◌*◌, ◌++◌, [], ◌∷◌, List, ℕ, zero, suc, Bool, true, false, length, map, Option, Some, None, slice_set}
 use Rattle.std.proofs.lemmas.List.{length-map}
 use Rattle.std.proofs.lemmas.Bool.Decides.{nat_tests}
-use Rattle.l2_units.specs.declared.unit.Unit.{Unit as SignalUnit}
-use Rattle.l3_orders.specs.declared.order.Order.{Order}
-use Rattle.l3_orders.specs.declared.order.Order.TheVariants.{Coo, Coa, Cbd, Cba, Eco, Eca}
-use Rattle.set_events.specs.declared.answer.Fate.TheVariants.{Waiting, Held}
-use Rattle.set_events.specs.declared.answer.Took.{Took}
-use Rattle.set_events.specs.declared.answer.Took.TheVariants.{Message, Nothing}
+use Rattle.set_model.specs.Rows.{Waiting, Held}
 use Rattle.set_queues.specs.Backs.{back_from}
 use Rattle.set_route.specs.Routing.{home_of}
 use Rattle.set_route.specs.Target.{target_of}
-use Rattle.set_model.specs.Changeover.{fate_on, obeyed}
+use Rattle.set_model.specs.Changeover.{Order, Coo, Coa, Cbd, Cba, Eco, Eca, fate_on, obeyed}
 use Rattle.set_model.specs.State.{State, target}
-use Rattle.set_model.specs.Step.{takes, brought, is_msu}
+use Rattle.set_model.specs.Step.{SignalUnit, Took, Message, NothingTaken as Nothing, takes, brought, is_msu}
 use Rattle.set_moves.specs.declared.link.Link.{Link}
 use Rattle.set_moves.specs.declared.parts.Parts.{Parts}
 use Rattle.set_moves.specs.Agreement.{Kept, StandsFor}

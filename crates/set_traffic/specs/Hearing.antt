@@ -1,22 +1,17 @@
 -- What a heard unit brings, and the space that it may want.
 use Rattle.std.specs.Prelude.{◌≡◌, ℕ, Bool, ◌+◌, ◌==◌, ◌<◌, ◌≤◌, if◌then◌else◌, Option, Some, None, List, length, map, slice_get, slice_set}
 use Rattle.std.specs.VecDeque.{deque_len, deque_capacity}
-use Rattle.l2_units.specs.declared.unit.Unit.{Unit as SignalUnit}
-use Rattle.l2_units.specs.declared.unit.Unit.TheVariants.{Fisu, Lssu, Msu}
-use Rattle.l2_units.specs.declared.unit.Header.{Header}
 use Rattle.l2_window.specs.Window.{WindowState}
-use Rattle.l2_window.specs.declared.control.HeardPart.{HeardPart}
-use Rattle.l3_orders.specs.declared.order.Order.{Order}
+use Rattle.set_model.specs.Changeover.{Order}
 use Rattle.l3_orders.specs.Grammar.{order_of}
-use Rattle.set_events.specs.declared.answer.Fate.TheVariants.{Unacked, Acked, Back}
 use Rattle.set_queues.specs.Buffers.{Lists, KeepsRoom, queue_at}
 use Rattle.set_queues.specs.Queues.{QueuesState}
 use Rattle.set_queues.specs.Sending.{reach}
 use Rattle.set_queues.specs.Settling.{on}
-use Rattle.set_model.specs.Control.{control_heard}
-use Rattle.set_model.specs.Step.{one_if}
+use Rattle.set_model.specs.Control.{Header, HeardPart, control_heard}
+use Rattle.set_model.specs.Step.{SignalUnit, Fisu, Lssu, Msu, one_if}
 use Rattle.set_moves.specs.declared.link.Link.{Link}
-use Rattle.set_model.specs.Rows.{is_unacked, service_indicator, turned}
+use Rattle.set_model.specs.Rows.{Unacked, Acked, Back, is_unacked, service_indicator, turned}
 use Rattle.set_model.specs.State.{LinkState, State, with_link}
 use Rattle.set_moves.specs.Agreement.{Kept, StandsFor}
 use Rattle.set_moves.specs.declared.parts.Parts.{Parts}

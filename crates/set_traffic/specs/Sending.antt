@@ -2,10 +2,9 @@
 use Rattle.std.specs.Prelude.{ℕ, ◌<◌, length}
 use Rattle.l2_window.specs.declared.control.Choice.{Choice}
 use Rattle.l2_window.specs.declared.control.Choice.TheVariants.{Again, First, Fill}
-use Rattle.set_events.specs.declared.answer.Fate.TheVariants.{Waiting, Unacked}
 use Rattle.set_queues.specs.Buffers.{Lists, queue_at}
 use Rattle.set_model.specs.Control.{choice_of, control_after}
-use Rattle.set_model.specs.Rows.{octets_in, unack}
+use Rattle.set_model.specs.Rows.{Waiting, Unacked, octets_in, unack}
 use Rattle.set_model.specs.State.{LinkState, State, window_of, with_link}
 use Rattle.l2_window.specs.Window.{most_unacked}
 

@@ -1,6 +1,5 @@
 //! What a link's terminal sends next.
-ghost use Rattle.std.specs.Prelude.{◌≡◌, ◌<◌, true, List, length, slice_get, Some};
-ghost use Rattle.std.specs.Option.{option_map};
+ghost use Rattle.std.specs.Prelude.{◌≡◌, ◌<◌, true, List, length, slice_get, Some, option_map};
 ghost use Rattle.l2_window.specs.Control.{fsn_of};
 ghost use Rattle.set_queues.specs.Buffers.{IsKnown, is_standing, queue_at};
 ghost use Rattle.set_model.specs.Rows.{IsInOrder, is_waiting, turned};

@@ -1,9 +1,8 @@
 use Rattle.std.proofs.Common.{rules, refl, arith, ◌∙◌, ap, sym, Bool, [], cond}
 use Rattle.std.proofs.lemmas.Bool.{ne_eqb}
-use Rattle.set_queues.specs.Buffers.{queue_at}
+use Rattle.set_queues.specs.Buffers.{Waiting, Back, queue_at}
 use Rattle.set_queues.proofs.Settling.{room_left}
 use Rattle.set_queues.proofs.Soundness.{passed_links, passed_replaces}
-use Rattle.set_events.specs.declared.answer.Fate.TheVariants.{Waiting, Back}
 use Rattle.set_route.specs.Routing.{given_back}
 use Rattle.set_moves.specs.Parts.{kept_of}
 use Rattle.set_moves.proofs.States.{becomes, released_for}

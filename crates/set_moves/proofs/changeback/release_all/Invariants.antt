@@ -1,7 +1,6 @@
 use Rattle.std.proofs.Common.{◌≡◌, ◌≤◌, ◌+◌, ◌*◌, ℕ}
-use Rattle.set_events.specs.declared.answer.Fate.TheVariants.{Waiting, Back}
 use Rattle.set_queues.specs.Backs.{back_from, back_count}
-use Rattle.set_queues.specs.Buffers.{queue_at, room_at}
+use Rattle.set_queues.specs.Buffers.{Waiting, Back, queue_at, room_at}
 use Rattle.set_route.specs.Routing.{code_for}
 use Rattle.set_model.specs.Changeover.{released_from}
 use Rattle.set_moves.specs.Parts.{IsWhole, Becomes}

@@ -1,14 +1,12 @@
 use Rattle.std.proofs.Common.{refl, arith, ◌∙◌, ap, subst, ℕ, false, map}
-use Rattle.l3_orders.specs.declared.order.Order.TheVariants.{Coa}
-use Rattle.set_model.specs.declared.phase.Phase.TheVariants.{Up}
-use Rattle.set_model.specs.Changeover.{queued, left_by, left_link}
+use Rattle.set_model.specs.Changeover.{Coa, queued, left_by, left_link}
 use Rattle.set_model.specs.State.{last_accepted, target}
 use Rattle.set_model.proofs.Lists.{within, get_set_same}
 use Rattle.set_model.proofs.SoundBack.{leaves}
 use Rattle.set_model.proofs.SoundNew.{queues}
 use Rattle.set_model.proofs.Walk.{IsAt}
 use Rattle.set_moves.specs.Agreement.{StandsFor}
-use Rattle.set_moves.specs.Parts.{link_of, kept_of}
+use Rattle.set_moves.specs.Parts.{Up, link_of, kept_of}
 use Rattle.set_moves.proofs.Links.{found, stands_for}
 use Rattle.set_moves.proofs.Rooms.{whole_of, has_room_left, room_after, is_left}
 use Rattle.set_moves.proofs.changeover.answer_and_settle.Goals as goal

@@ -1,5 +1,5 @@
 use Rattle.std.proofs.Common.{refl}
-use Rattle.set_model.specs.declared.phase.Phase.TheVariants.{Down}
+use Rattle.set_moves.specs.Parts.{Down}
 use Rattle.set_model.specs.Changeover.{changed_over}
 use Rattle.set_moves.proofs.Admitting.{ignores, obeyed_at}
 use Rattle.set_moves.proofs.Rooms.{here_room}

@@ -1,14 +1,11 @@
 use Rattle.std.proofs.Common.{length, ℕ, ◌≡◌, ap, ◌<◌, Bool, refl, map, slice_set, slice_index_or}
 use Rattle.set_model.specs.Changeover.{out_of_service, left_link}
 use Rattle.set_route.specs.Routing.{left as streams_left}
-use Rattle.set_model.specs.declared.phase.Phase.TheVariants.{Down}
 use Rattle.set_model.proofs.Lists.{length_set}
-use Rattle.set_moves.specs.declared.parts.Parts.{Parts}
 use Rattle.set_moves.specs.Agreement.{StandsFor}
-use Rattle.set_moves.specs.Parts.{OfStates, kept_of, link_of}
+use Rattle.set_moves.specs.Parts.{Down, Parts, Link, OfStates, kept_of, link_of}
 use Rattle.set_moves.proofs.Links.{link_set}
 use Rattle.set_moves.proofs.States.{link_for}
-use Rattle.set_moves.specs.declared.link.Link.{Link}
 use Rattle.set_moves.proofs.Turns.{here_up, turning_of, can_turn}
 use Rattle.set_moves.proofs.changeover.leave.Goals as goal
 

@@ -1,8 +1,6 @@
-use Rattle.std.proofs.Common.{arith, ◌∙◌, ap, sym, length, Result}
-use Rattle.std.specs.Prelude.{OnOk}
+use Rattle.std.proofs.Common.{arith, ◌∙◌, ap, sym, length, Result, OnOk}
 use Rattle.set_queues.specs.Backs.{back_count}
-use Rattle.set_queues.specs.Buffers.{Lists}
-use Rattle.set_events.specs.declared.answer.Fate.TheVariants.{Waiting, Held}
+use Rattle.set_queues.specs.Buffers.{Waiting, Held, Lists}
 use Rattle.set_queues.specs.Settling.{on}
 use Rattle.set_model.specs.Changeover.{fate_on}
 use Rattle.set_moves.specs.Room.{target_beside}

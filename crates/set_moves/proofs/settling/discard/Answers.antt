@@ -1,8 +1,7 @@
 use Rattle.std.proofs.Common.{rules, refl, arith, []}
-use Rattle.set_events.specs.declared.answer.Fate.TheVariants.{Unacked, Waiting}
 use Rattle.set_queues.proofs.Passing.{links_stay}
 use Rattle.set_moves.specs.Parts.{kept_of}
-use Rattle.set_model.specs.Rows.{is_unacked, is_waiting}
+use Rattle.set_model.specs.Rows.{Unacked, Waiting, is_unacked, is_waiting}
 use Rattle.set_moves.proofs.RowsAt.{sent_there, waits_there}
 use Rattle.set_moves.proofs.States.{becomes, given_up_for}
 use Rattle.set_moves.proofs.Rooms.{cleared_less, on_less}

@@ -1,12 +1,10 @@
 use Rattle.std.proofs.Common.{rules, refl, arith, ◌≡◌, ◌∙◌, sym, subst, ◌+◌, [], ℕ}
-use Rattle.set_events.specs.declared.answer.Fate.TheVariants.{Unacked}
-use Rattle.set_events.specs.declared.answer.DiscardCause.TheVariants.{Emergency}
 use Rattle.set_queues.specs.Sending.{reach}
 use Rattle.set_queues.proofs.Passing.{links_stay}
 use Rattle.set_model.specs.Changeover.{acknowledged}
 use Rattle.set_model.specs.State.{LinkState}
 use Rattle.set_moves.specs.Agreement.{StandsFor}
-use Rattle.set_model.specs.Rows.{is_unacked}
+use Rattle.set_model.specs.Rows.{Unacked, Emergency, is_unacked}
 use Rattle.set_moves.proofs.RowsAt.{sent_there}
 use Rattle.set_moves.specs.Parts.{kept_of}
 use Rattle.set_moves.proofs.States.{becomes, reach_is, is_reached, is_unreached, acked_for, given_up_for}

@@ -1,9 +1,8 @@
 use Rattle.std.proofs.Common.{arith, ◌≡◌, ◌∙◌, ap, sym, length, ℕ}
 use Rattle.std.proofs.lemmas.Option.{same_Some}
-use Rattle.set_route.specs.declared.place.Place.{Place}
 use Rattle.set_route.specs.Routing.{place_of}
 use Rattle.set_model.specs.Rows.{Row, stream_of}
-use Rattle.set_model.specs.State.{fate_at}
+use Rattle.set_model.specs.State.{Place, fate_at}
 use Rattle.set_moves.proofs.Turns.{way, on_way}
 use Rattle.set_moves.proofs.turning.way_of.Goals as goal
 

@@ -1,5 +1,4 @@
-use Rattle.std.proofs.Common.{arith, ◌≡◌, ◌∙◌, ap, sym, List, ℕ, Some}
-use Rattle.std.specs.Prelude.{slice_get}
+use Rattle.std.proofs.Common.{arith, ◌≡◌, ◌∙◌, ap, sym, List, ℕ, Some, slice_get}
 use Rattle.set_queues.specs.Buffers.{queue_at, same_fate}
 use Rattle.set_queues.proofs.Standing.{room_sum, given_at, length-restood}
 use Rattle.set_queues.proofs.Passing.{queue_away, queue_next, restood_next, known_with, takes_one}

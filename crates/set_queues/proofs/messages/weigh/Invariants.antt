@@ -1,7 +1,6 @@
 use Rattle.std.proofs.Common.{◌≡◌, ◌≤◌, ◌*◌, take}
-use Rattle.set_events.specs.declared.answer.Fate.TheVariants.{Unacked}
 use Rattle.set_queues.specs.Messages.{octets_of}
-use Rattle.set_queues.specs.Buffers.{queue_at}
+use Rattle.set_queues.specs.Buffers.{Unacked, queue_at}
 use Rattle.set_queues.proofs.messages.weigh.Given as goal
 
 abbrev pub invariant-loop-place : goal.invariant-loop-place

@@ -1,5 +1,4 @@
-use Rattle.std.proofs.Common.{◌≡◌, map}
-use Rattle.std.specs.Prelude.{replicate}
+use Rattle.std.proofs.Common.{◌≡◌, map, replicate}
 use Rattle.set_model.specs.State.{new_link}
 use Rattle.set_moves.specs.Parts.{link_of}
 use Rattle.set_step.proofs.contents.new_links.Given as goal

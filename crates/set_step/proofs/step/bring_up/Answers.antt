@@ -1,4 +1,4 @@
-use Rattle.set_model.specs.declared.phase.Phase.TheVariants.{Settled}
+use Rattle.set_moves.specs.Parts.{Settled}
 use Rattle.set_moves.proofs.Admitting.{agrees_same, is_in, risen_done}
 use Rattle.set_step.proofs.step.bring_up.Goals as goal
 

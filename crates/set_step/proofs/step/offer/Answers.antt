@@ -1,10 +1,9 @@
 use Rattle.std.proofs.Common.{refl, ◌≡◌, ◌∙◌, ap, List, ℕ}
-use Rattle.set_events.specs.declared.answer.Answer.TheVariants.{Accepted}
 use Rattle.set_queues.specs.Messages.{unsent_of}
 use Rattle.set_route.specs.Routing.{place_of}
 use Rattle.set_model.specs.Rows.{stream_of}
 use Rattle.set_model.specs.State.{State, fate_at}
-use Rattle.set_model.specs.Step.{offer_refusal}
+use Rattle.set_model.specs.Step.{Accepted, offer_refusal}
 use Rattle.set_moves.specs.Agreement.{Kept, StandsFor}
 use Rattle.set_step.specs.Refusing.{refusal_by}
 use Rattle.set_moves.specs.Parts.{kept_of}

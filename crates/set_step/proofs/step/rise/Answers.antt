@@ -1,17 +1,15 @@
 use Rattle.std.proofs.Common.{refl, arith, ◌≡◌, ◌∙◌, ap, ℕ, [], length}
-use Rattle.set_events.specs.declared.answer.Fate.TheVariants.{Unacked, Waiting, Parked}
 use Rattle.set_queues.specs.Queues.{passed}
 use Rattle.set_queues.specs.Buffers.{Lists, queue_at}
 use Rattle.set_queues.proofs.Soundness.{last_links}
 use Rattle.set_route.specs.Routing.{raised}
-use Rattle.set_model.specs.declared.phase.Phase.TheVariants.{Settled}
-use Rattle.set_model.specs.Rows.{numbers}
+use Rattle.set_model.specs.Rows.{Unacked, Waiting, Parked, numbers}
 use Rattle.set_model.specs.Step.{risen_link}
 use Rattle.set_model.proofs.Lists.{map_set}
 use Rattle.set_model.proofs.Settling.{settled_empty}
 use Rattle.set_moves.specs.declared.parts.Parts.{Parts}
 use Rattle.set_moves.specs.Agreement.{Holds}
-use Rattle.set_moves.specs.Parts.{IsHere, kept_of}
+use Rattle.set_moves.specs.Parts.{Settled, IsHere, kept_of}
 use Rattle.set_moves.proofs.Admitting.{is_in}
 use Rattle.set_moves.proofs.States.{risen_then}
 use Rattle.set_moves.proofs.Rooms.{whole_of}

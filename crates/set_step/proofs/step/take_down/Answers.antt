@@ -1,4 +1,4 @@
-use Rattle.set_model.specs.declared.phase.Phase.TheVariants.{Up}
+use Rattle.set_moves.specs.Parts.{Up}
 use Rattle.set_moves.proofs.Admitting.{agrees_same, is_in, fallen_done}
 use Rattle.set_moves.proofs.Rooms.{whole_of}
 use Rattle.set_step.proofs.step.take_down.Goals as goal

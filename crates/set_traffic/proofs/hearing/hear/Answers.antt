@@ -1,19 +1,13 @@
 use Rattle.std.proofs.Common.{refl, arith, ◌≡◌, ◌∙◌, ap, sym, subst, ℕ}
 use Rattle.l2_signals.specs.declared.status.Status.{Status}
-use Rattle.l2_units.specs.declared.unit.Header.{Header}
-use Rattle.l2_units.specs.declared.unit.Unit.{Unit as SignalUnit}
-use Rattle.l2_units.specs.declared.unit.Unit.TheVariants.{Lssu}
 use Rattle.l2_units.specs.Grammar.{head_of as header_in}
-use Rattle.set_events.specs.declared.answer.Answer.TheVariants.{Heard as HeardBack, Refused}
-use Rattle.set_events.specs.declared.answer.Refusal.TheVariants.{Nothing}
-use Rattle.set_model.specs.declared.phase.Phase.TheVariants.{Up}
-use Rattle.set_model.specs.Control.{part_of}
+use Rattle.set_model.specs.Control.{Header, part_of}
 use Rattle.set_model.specs.Sound.{IsSound}
 use Rattle.set_model.specs.State.{LinkState, State, window_of}
-use Rattle.set_model.specs.Step.{heard as heard_of, controls, after_control, report_of, is_msu}
+use Rattle.set_model.specs.Step.{SignalUnit, Lssu, HeardBack, Refused, Nothing, heard as heard_of, controls, after_control, report_of, is_msu}
 use Rattle.set_moves.specs.Agreement.{StandsFor, Agrees}
 use Rattle.set_traffic.specs.Hearing.{message_brought}
-use Rattle.set_moves.specs.Parts.{kept_of}
+use Rattle.set_moves.specs.Parts.{Up, kept_of}
 use Rattle.set_moves.proofs.Rooms.{whole_of}
 use Rattle.set_moves.proofs.Admitting.{IsIn, is_in, served}
 use Rattle.set_model.proofs.SoundLink.{hears_sound}

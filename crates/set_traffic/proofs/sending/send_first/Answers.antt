@@ -1,6 +1,5 @@
 use Rattle.std.proofs.Common.{arith, ◌≡◌, ◌≢◌, ap, ◌<◌, List, ℕ, [], length, true, false}
-use Rattle.set_events.specs.declared.answer.Fate.TheVariants.{Waiting}
-use Rattle.set_queues.specs.Buffers.{queue_at}
+use Rattle.set_queues.specs.Buffers.{Waiting, queue_at}
 use Rattle.set_model.proofs.Lists.{present}
 use Rattle.set_moves.specs.Parts.{kept_of}
 use Rattle.set_moves.proofs.States.{sent_then}

@@ -1,5 +1,5 @@
 use Rattle.set_model.specs.Step.{next as next_of}
-use Rattle.set_model.specs.declared.phase.Phase.TheVariants.{Up}
+use Rattle.set_moves.specs.Parts.{Up}
 use Rattle.set_moves.proofs.Admitting.{is_in, served}
 use Rattle.set_traffic.proofs.sending.send_next.Goals as goal
 

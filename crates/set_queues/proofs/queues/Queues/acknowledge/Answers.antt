@@ -1,5 +1,5 @@
 use Rattle.std.proofs.Common.{arith, refl, sym, ◌<◌, length}
-use Rattle.set_events.specs.declared.answer.Fate.TheVariants.{Unacked}
+use Rattle.set_queues.specs.Buffers.{Unacked}
 use Rattle.set_queues.proofs.Tallies.{octets-split}
 use Rattle.set_queues.proofs.Soundness.{given_all, kept_acked}
 use Rattle.set_queues.proofs.queues.Queues.acknowledge.Goals as goal

@@ -1,6 +1,5 @@
 use Rattle.std.proofs.Common.{rules}
-use Rattle.set_events.specs.declared.answer.Fate.TheVariants.{Waiting, Unacked, Acked, Held, Parked, Back, Discarded}
-use Rattle.set_events.specs.declared.answer.DiscardCause.TheVariants.{Emergency}
+use Rattle.set_queues.specs.Buffers.{Waiting, Unacked, Acked, Held, Parked, Back, Discarded, Emergency}
 use Rattle.set_queues.proofs.queues.Queues.counts.Goals as goal
 
 pub returns : goal.returns

@@ -1,6 +1,6 @@
 use Rattle.std.proofs.Common.{arith, refl, ◌<◌, length}
 use Rattle.set_queues.proofs.Tallies.{octets_few}
-use Rattle.set_events.specs.declared.answer.Fate.TheVariants.{Waiting}
+use Rattle.set_queues.specs.Buffers.{Waiting}
 use Rattle.set_queues.proofs.Standing.{given_at}
 use Rattle.set_queues.proofs.Soundness.{given_all, kept_sent}
 use Rattle.set_queues.proofs.queues.Queues.send.Goals as goal

@@ -1,6 +1,5 @@
 use Rattle.std.proofs.Common.{arith, ◌∙◌, ap, length}
-use Rattle.set_events.specs.declared.answer.Fate.TheVariants.{Waiting, Unacked, Held}
-use Rattle.set_queues.specs.Buffers.{Lists, queue_at}
+use Rattle.set_queues.specs.Buffers.{Waiting, Unacked, Held, Lists, queue_at}
 use Rattle.set_queues.specs.Queues.{passed}
 use Rattle.set_queues.proofs.Settling.{IsAside, aside_of, known_passed, waits_on, held_last, on_length}
 use Rattle.set_queues.proofs.queues.Queues.settle.Goals as goal

@@ -1,9 +1,7 @@
-use Rattle.std.proofs.Common.{arith, ◌≡◌, ◌∙◌, ap, sym, ℕ, ◌+◌, ◌%◌, slice_get}
+use Rattle.std.proofs.Common.{arith, ◌≡◌, ◌∙◌, ap, sym, ℕ, ◌+◌, ◌%◌, slice_get, option_map}
 use Rattle.std.proofs.lemmas.Bool.Decides.{nat_tests}
 use Rattle.std.proofs.lemmas.List.{length-map}
-use Rattle.set_events.specs.declared.answer.Fate.TheVariants.{Unacked}
-use Rattle.std.specs.Option.{option_map}
-use Rattle.set_queues.specs.Buffers.{queue_at, last_at}
+use Rattle.set_queues.specs.Buffers.{Unacked, queue_at, last_at}
 use Rattle.set_model.specs.State.{State, unacked_in}
 use Rattle.set_moves.specs.Agreement.{StandsFor}
 use Rattle.set_model.proofs.Lists.{within}
