@@ -24,11 +24,8 @@ use Rattle.set_model.specs.State.{LinkState, State, Settings, has_phase_settled,
 use Rattle.set_model.specs.Step.{with_known, is_msu, after_control, next, offered, rises, rows_sent, step, takes}
 use Rattle.set_model.proofs.Events.{acknowledged, appended_out, sent_given_up, unack_gone, unparked}
 use Rattle.set_model.proofs.Events as events
-use Rattle.set_model.proofs.Finding.{with_number, numbered_appended}
-use Rattle.set_model.proofs.InPlace.{turned_there, turned_left, changed_same}
+use Rattle.set_model.proofs.Rows.{with_number, numbered_appended, turned_there, turned_left, changed_same, at_most_one, moved_numbered, moved_same}
 use Rattle.set_model.proofs.Lists.{get_set_same, get_set_other, same_at, within}
-use Rattle.set_model.proofs.Lookups.{at_most_one}
-use Rattle.set_model.proofs.Moving.{moved_numbered, moved_same}
 use Rattle.set_model.proofs.Places.{false_true, itself, apart_back, on_other, not_on_unacked, waiting_not_unacked, back_not_on, code_back, home_back}
 use Rattle.set_model.proofs.Ranging.{acked_few, not_sent, offered_out}
 use Rattle.set_model.proofs.Settling.{settled_empty}

@@ -10,9 +10,8 @@ use Rattle.set_route.specs.Routing as routes
 use Rattle.set_model.specs.Rows.{Row, stream_of, is_unacked, is_back_to, stands_back, standing, unack, turned, fated}
 use Rattle.set_model.specs.State.{LinkState, State, is_up, link_is_up, has_phase_up, fate_at}
 use Rattle.set_model.specs.Changeover.{out_of_service, left_by, left_link}
-use Rattle.set_model.proofs.InPlace.{turned_same}
+use Rattle.set_model.proofs.Rows.{turned_same, moved_more}
 use Rattle.set_model.proofs.Lists.{get_set_same, within}
-use Rattle.set_model.proofs.Moving.{moved_more}
 use Rattle.set_model.proofs.Places.{home_back}
 use Rattle.set_model.proofs.Ranging.{offered_out}
 use Rattle.pair_changeover.specs.Diverted.{as_left}

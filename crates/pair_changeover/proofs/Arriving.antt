@@ -18,13 +18,11 @@ use Rattle.set_model.specs.Sound.{IsSound}
 use Rattle.set_model.specs.State.{LinkState, State, is_up, is_settled, link_is_up, link_is_settled, has_phase_up, has_phase_settled, target}
 use Rattle.set_model.specs.Step.{Outcome, brought, risen_link, rises, step}
 use Rattle.set_model.proofs.Events.{Untouched, acknowledged, unparked}
-use Rattle.set_model.proofs.InPlace.{turned_same}
-use Rattle.set_model.proofs.LinkCount.{link_count_stays}
+use Rattle.set_model.proofs.Rows.{turned_same, moved_same}
+use Rattle.set_model.proofs.Walk.{link_count_stays, IsAt}
 use Rattle.set_model.proofs.Lists.{get_set_same, get_set_other, present, within}
-use Rattle.set_model.proofs.Moving.{moved_same}
 use Rattle.set_model.proofs.Places.{false_true, itself, back_not_on, back_not_parked, not_on_unacked, not_on_waiting, not_on_held}
 use Rattle.set_model.proofs.Settling.{settled_empty}
-use Rattle.set_model.proofs.Walk.{IsAt}
 use Rattle.pair_model.specs.Promises.{IsOneMethod}
 use Rattle.pair_model.specs.Run.{Message, Past, messages, past_risen}
 use Rattle.pair_model.proofs.Kept.{kept_on}

@@ -9,9 +9,8 @@ use Rattle.set_model.specs.Rows.{Row, is_on, is_waiting, is_unacked, is_held, is
 use Rattle.set_model.specs.Sound.{IsSound}
 use Rattle.set_model.specs.State.{LinkState, State, is_up, is_settled, link_is_up, link_is_settled, target}
 use Rattle.set_model.specs.Changeover.{fate_on, queued}
-use Rattle.set_model.proofs.Lists.{get_set_same, get_set_other, within}
+use Rattle.set_model.proofs.Lists.{get_set_same, get_set_other, within, target_up}
 use Rattle.set_model.proofs.Places.{false_true, itself}
-use Rattle.set_model.proofs.Targets.{target_up}
 use Rattle.pair_model.specs.Run.{Message, messages}
 use Rattle.pair_changeover.proofs.Table.{new_message, queue_waits, queue_holds, queue_apart, aside_joins, aside_apart}
 use Rattle.pair_changeover.proofs.Views.{view, pending, aside, queue, acked_on, accepted_of, accepted_on, Among, among_joined, stands_on, stands_aside, IsNoOrder, NoneAbout, Tells, Orders, Came, plain, stayed, moved, CameAside, plain_aside, was_in, plain_not, Passes, carries, Queues, queued_in}

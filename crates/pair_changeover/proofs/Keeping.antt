@@ -20,7 +20,7 @@ use Rattle.set_model.specs.Control.{Choice, again, first, fill, choice_of, contr
 use Rattle.set_model.specs.Changeover.{fate_on, queued, leaving_order, left_link, left_by, can_declare, declared, declared_from, some_declare}
 use Rattle.set_model.specs.Step.{Outcome, refused, offer_refusal, offered, taken, found, with_known, in_service, falls, comes_back, next, rows_sent, step}
 use Rattle.set_model.proofs.Events.{Untouched, untouched_self, sent, appended_out}
-use Rattle.set_model.proofs.InPlace.{turned_same}
+use Rattle.set_model.proofs.Rows.{turned_same}
 use Rattle.set_model.proofs.SoundBack.{leaves, declares, alternative_up}
 use Rattle.set_model.proofs.Walk.{IsAt}
 use Rattle.pair_changeover.proofs.Changes.{Both, acts, acts_none, stands_still, offers_acts, IsNew, to_wait, to_hold, to_park, to_back, held_none, queues_both, by_link, own_then}

@@ -11,7 +11,7 @@ use Rattle.set_model.specs.Rows.{Row, stream_of, is_unacked, is_back, is_back_to
 use Rattle.set_model.specs.Sound.{IsSound}
 use Rattle.set_model.specs.State.{LinkState, State, is_up, link_is_up, link_is_settled, fate_at}
 use Rattle.set_model.specs.Changeover.{out_of_service, left_by, left_link, released}
-use Rattle.set_model.proofs.Moving.{moved_same}
+use Rattle.set_model.proofs.Rows.{moved_same}
 use Rattle.set_model.proofs.Places.{code_back, home_back}
 use Rattle.set_model.proofs.Ranging.{offered_out}
 use Rattle.set_model.proofs.SoundBack.{up_not_held, down_not_waiting, none_back}

@@ -19,15 +19,13 @@ use Rattle.set_model.specs.Sound.{IsSound}
 use Rattle.set_model.specs.State.{LinkState, State, is_up, is_settled, link_is_up, link_is_settled, has_phase_up, last_accepted, target}
 use Rattle.set_model.specs.Changeover.{fate_on, queued, left_link, left_by, out_of_service, released, reached_by, is_reasonable, settled}
 use Rattle.set_model.proofs.Events.{appended_in, appended_out}
-use Rattle.set_model.proofs.InPlace.{turned_same}
-use Rattle.set_model.proofs.Lists.{within, map_set_same, same_at}
-use Rattle.set_model.proofs.Moving.{moved_length, moved_same}
+use Rattle.set_model.proofs.Rows.{turned_same, moved_length, moved_same}
+use Rattle.set_model.proofs.Lists.{within, map_set_same, same_at, target_up}
 use Rattle.set_model.proofs.Places.{apart, itself, home_back}
 use Rattle.set_model.proofs.Ranging.{offered_out}
 use Rattle.set_model.proofs.Settling.{no_target}
 use Rattle.set_model.proofs.SoundBack.{leaves}
 use Rattle.set_model.proofs.SoundNew as new
-use Rattle.set_model.proofs.Targets.{target_up}
 use Rattle.set_model.proofs.Walk.{IsAt}
 use Rattle.pair_model.specs.Run.{Message, messages}
 use Rattle.pair_changeover.specs.Diverted.{queue_for, as_left, answer_on}

@@ -9,10 +9,9 @@ use Rattle.set_model.specs.Sound.{IsSound}
 use Rattle.set_model.specs.State.{LinkState, State, is_up, is_settled, link_is_up, link_is_settled, has_phase_settled, target}
 use Rattle.set_model.specs.Changeover.{fate_on, acknowledged as acknowledged_link, settled_link, reached_by, is_reasonable, settled}
 use Rattle.set_model.proofs.Events.{Untouched, acknowledged, moved_to, moved_aside}
-use Rattle.set_model.proofs.Lists.{set_twice}
+use Rattle.set_model.proofs.Lists.{set_twice, target_up}
 use Rattle.set_model.proofs.Places.{apart}
 use Rattle.set_model.proofs.Settling.{moves_the_rest, no_target}
-use Rattle.set_model.proofs.Targets.{target_up}
 use Rattle.set_model.proofs.Walk.{IsAt}
 use Rattle.pair_model.specs.Run.{Message, messages}
 use Rattle.pair_changeover.proofs.Changes.{Both, Acts, far_same, by_link, own_then, other_then, held_none}

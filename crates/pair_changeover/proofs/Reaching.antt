@@ -6,9 +6,8 @@ use Rattle.set_events.specs.declared.answer.Fate.{Fate}
 use Rattle.set_events.specs.declared.answer.Fate.TheVariants.{Waiting, Unacked, Acked, Held, Parked, Back, Discarded}
 use Rattle.set_model.specs.Rows.{Row, is_unacked, is_waiting, is_held, is_parked, standing, unack, wait, held, parked, row_of, IsNumbered}
 use Rattle.set_model.specs.State.{LinkState, State, has_phase_settled}
-use Rattle.set_model.proofs.Finding.{with_number}
+use Rattle.set_model.proofs.Rows.{with_number, at_most_one, row_in_filter}
 use Rattle.set_model.proofs.Lists.{at_map, map_at}
-use Rattle.set_model.proofs.Lookups.{at_most_one, row_in_filter}
 use Rattle.pair_model.specs.Promises.{IsKeptOn}
 use Rattle.pair_model.specs.Run.{Message, Past, messages, bodies}
 use Rattle.pair_changeover.proofs.Table.{joined}

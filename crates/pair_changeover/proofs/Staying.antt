@@ -4,8 +4,7 @@ use Rattle.std.specs.Option.{option_map}
 use Rattle.std.proofs.lemmas.Option.{same_Some}
 use Rattle.set_events.specs.declared.answer.Fate.{Fate}
 use Rattle.set_model.specs.Rows.{Row, turned, changed, moved, with_fate, place, row_of, IsNumbered}
-use Rattle.set_model.proofs.InPlace.{where_turned, where_changed}
-use Rattle.set_model.proofs.Lookups.{place_moved}
+use Rattle.set_model.proofs.Rows.{where_turned, where_changed, place_moved}
 use Rattle.set_model.proofs.Places.{false_true}
 
 abbrev pub Stays : Fate → List Row → List Row → Type 0

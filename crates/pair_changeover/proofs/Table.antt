@@ -5,7 +5,7 @@ use Rattle.set_events.specs.declared.answer.Fate.{Fate}
 use Rattle.set_events.specs.declared.answer.Fate.TheVariants.{Waiting, Unacked, Acked, Parked}
 use Rattle.set_model.specs.Rows.{Row, is_on, is_waiting, is_unacked, is_held, is_parked, all_with, unack, wait, held, parked, with_fate, turned, moved, appended, IsInOrder, IsHeldLast}
 use Rattle.set_model.proofs.Events.{Untouched, acknowledged, sent, moved_to, moved_aside, unparked, appended_in, appended_out, appended_untouched}
-use Rattle.set_model.proofs.Finding.{new_row}
+use Rattle.set_model.proofs.Rows.{new_row}
 use Rattle.pair_model.specs.Run.{Message, messages}
 use Rattle.pair_changeover.proofs.Views.{queue}
 

@@ -8,8 +8,7 @@ use Rattle.set_route.specs.Routing.{Routing}
 use Rattle.set_model.specs.Rows.{Row, standing, stands_back, is_unacked, is_waiting, is_held, is_parked, service_indicator, unack, wait, held, parked, moved, fated}
 use Rattle.set_model.specs.Sound.{IsBackOf, AreBack}
 use Rattle.set_model.specs.State.{State, is_up, is_settled}
-use Rattle.set_model.proofs.Filters.{fated_none}
-use Rattle.set_model.proofs.Moving.{moved_same, moved_more}
+use Rattle.set_model.proofs.Rows.{fated_none, moved_same, moved_more}
 use Rattle.set_model.proofs.Places.{back_not_on, back_not_parked, not_on_unacked, not_on_waiting, not_on_held}
 use Rattle.pair_model.specs.Run.{Message, messages}
 use Rattle.pair_changeover.proofs.Changes.{Acts, far_same}

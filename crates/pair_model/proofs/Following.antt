@@ -29,13 +29,11 @@ use Rattle.set_model.specs.Changeover.{Obeyed, fate_on, left_link, acknowledged 
 use Rattle.set_model.specs.Step.{Outcome, refused, offer_refusal, offered, is_msu, brought, takes, after_control, controls, heard, falls, gives_up, comes_back, runs_out, with_known, in_service, step}
 use Rattle.set_model.specs.Frame.{LeavesAlone}
 use Rattle.set_model.proofs.Events.{Untouched, acknowledged, sent_given_up, waiting_given_up, moved_to, moved_aside, appended_in, appended_out, untouched_self}
-use Rattle.set_model.proofs.Finding.{new_row}
+use Rattle.set_model.proofs.Rows.{new_row, moved_same, moved_more}
 use Rattle.set_model.proofs.Framing.{leaves_alone}
-use Rattle.set_model.proofs.Lists.{get_set_same, get_set_other, same_at, within, length_set}
-use Rattle.set_model.proofs.Moving.{moved_same, moved_more}
+use Rattle.set_model.proofs.Lists.{get_set_same, get_set_other, same_at, within, length_set, target_up}
 use Rattle.set_model.proofs.Places.{false_true, itself, apart, not_on_unacked, not_on_waiting, back_not_on, code_back, home_back}
 use Rattle.set_model.proofs.Ranging.{offered_out}
-use Rattle.set_model.proofs.Targets.{target_up}
 use Rattle.set_model.proofs.Walk.{IsAt, KeptBy, Touches, settle_walks, declare_walks, obeys_walks}
 
 -- it wasn't settled before; its control, its count and its unacknowledged messages are the same; and messages may have

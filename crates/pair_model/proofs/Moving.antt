@@ -15,11 +15,10 @@ use Rattle.set_model.specs.declared.phase.Phase.TheVariants.{Up}
 use Rattle.set_model.specs.Rows.{unack}
 use Rattle.set_model.specs.State.{LinkState, State, Settings, has_phase_up, is_up, is_settled, link_is_up}
 use Rattle.set_model.specs.Step.{Outcome, refused, with_known, next, controls, report_of, step}
-use Rattle.set_model.proofs.LinkCount.{link_count_stays}
+use Rattle.set_model.proofs.Walk.{link_count_stays, IsAt}
 use Rattle.set_model.proofs.Soundness.{step_sound}
 use Rattle.set_model.proofs.Lists.{length_set}
 use Rattle.set_model.proofs.Places.{itself, apart_back}
-use Rattle.set_model.proofs.Walk.{IsAt}
 use Rattle.world_steps.specs.declared.step.Shown.TheVariants.{Answered}
 use Rattle.pair_model.specs.Run.{Past, Message, messages, first_sent, body_in, taken_by, past_sent, past_heard, past_risen, added_at, cleared_at}
 use Rattle.pair_model.specs.Promises.{IsOneMethod}

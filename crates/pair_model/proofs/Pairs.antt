@@ -8,12 +8,11 @@ use Rattle.set_events.specs.declared.event.Event.TheVariants.{Offer, Take, Find,
 use Rattle.set_model.specs.Sound.{IsSound, IsAsked}
 use Rattle.set_model.specs.State.{State, Settings}
 use Rattle.set_model.specs.Step.{step}
-use Rattle.set_model.proofs.LinkCount.{link_count_stays}
+use Rattle.set_model.proofs.Walk.{link_count_stays, KeptBy, step_walks}
 use Rattle.set_model.proofs.Lists.{get_set_same, get_set_other}
 use Rattle.set_model.proofs.Places.{false_true, itself}
 use Rattle.set_model.proofs.Soundness.{step_sound}
 use Rattle.set_model.proofs.Staying.{keeps_messages}
-use Rattle.set_model.proofs.Walk.{KeptBy, step_walks}
 use Rattle.world_steps.specs.declared.step.Shown.{Shown}
 use Rattle.pair_model.specs.World.{has_own_step}
 use Rattle.pair_model.specs.Run.{Past, past_asked}

@@ -18,10 +18,10 @@ use Rattle.set_model.specs.Rows.{Row, body_at, numbers, octets_in, is_unacked, i
 use Rattle.set_model.specs.Sound.{IsSound}
 use Rattle.set_model.specs.State.{LinkState, State, has_phase_settled, window_of}
 use Rattle.set_model.specs.Step.{Outcome, next, chosen, unit_of, step}
-use Rattle.set_model.proofs.Controlling.{first_chosen}
+use Rattle.set_model.proofs.SoundLink.{first_chosen}
 use Rattle.set_model.proofs.Framing.{window_moves, numbers-drop}
 use Rattle.set_model.proofs.Lists.{get_set_same, within, same_at}
-use Rattle.set_model.proofs.Lookups.{row_in_filter}
+use Rattle.set_model.proofs.Rows.{row_in_filter}
 use Rattle.set_model.proofs.Staying.{keeps_messages}
 use Rattle.set_model.proofs.Walk.{IsAt}
 use Rattle.pair_model.specs.Run.{Message, messages, first_sent}

@@ -15,7 +15,7 @@ use Rattle.set_model.specs.Control.{Control, start_of}
 use Rattle.set_model.specs.Laws.{KeepsMessages}
 use Rattle.set_model.specs.Rows.{Row, body_at, numbers, wait, IsNumbered}
 use Rattle.set_model.specs.State.{LinkState, State, has_phase_settled, window_of}
-use Rattle.set_model.proofs.Lookups.{row_is_first}
+use Rattle.set_model.proofs.Rows.{row_is_first}
 use Rattle.pair_model.specs.Run.{Message}
 use Rattle.pair_model.proofs.Controls.{rules}
 use Rattle.pair_model.proofs.Counts.{CountStays}

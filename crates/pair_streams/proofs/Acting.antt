@@ -19,8 +19,7 @@ use Rattle.set_model.specs.Rows.{unack, place, stream_of, standing, is_waiting, 
 use Rattle.set_model.specs.Sound.{IsSound, IsAsked}
 use Rattle.set_model.specs.State.{LinkState, State, is_up, is_settled, link_is_up, has_phase_up, window_of}
 use Rattle.set_model.specs.Step.{Outcome, refused, offer_refusal, offered, taken, found, falls, comes_back, with_known, in_service, next, rows_sent, step}
-use Rattle.set_model.proofs.InPlace.{turned_same}
-use Rattle.set_model.proofs.Moving.{moved_same}
+use Rattle.set_model.proofs.Rows.{turned_same, moved_same}
 use Rattle.set_model.proofs.Places.{itself}
 use Rattle.set_model.proofs.SoundBack.{leaves}
 use Rattle.set_model.proofs.Walk.{IsAt}

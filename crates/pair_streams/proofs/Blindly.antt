@@ -7,7 +7,7 @@ use Rattle.set_model.specs.Changeover.{fate_on, settled}
 use Rattle.set_model.specs.Rows.{Row, is_on, is_unacked, all_with, changed, place, row_of, unack}
 use Rattle.set_model.specs.Sound.{IsSound}
 use Rattle.set_model.specs.State.{LinkState, State, target}
-use Rattle.set_model.proofs.Lookups.{row_in_filter}
+use Rattle.set_model.proofs.Rows.{row_in_filter}
 use Rattle.set_model.proofs.Walk.{IsAt}
 use Rattle.pair_model.specs.Run.{Message, messages}
 use Rattle.pair_changeover.specs.Pending.{acked_on, accepted_on}

@@ -16,7 +16,7 @@ use Rattle.set_model.specs.State.{LinkState, State, link_count, is_up, link_is_u
 use Rattle.set_model.specs.Step.{comes_back, refused}
 use Rattle.set_events.specs.declared.answer.Answer.TheVariants.{Done}
 use Rattle.set_events.specs.declared.answer.Refusal.TheVariants.{Nothing}
-use Rattle.set_model.proofs.Backs.{coded_at}
+use Rattle.set_model.proofs.Order.{coded_at}
 use Rattle.set_model.proofs.Lists.{within}
 use Rattle.set_model.proofs.Places.{itself, false_true}
 use Rattle.set_model.proofs.SoundBack.{alternative_up, declares}

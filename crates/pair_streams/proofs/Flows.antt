@@ -15,7 +15,7 @@ use Rattle.set_model.specs.Sound.{IsSound}
 use Rattle.set_model.specs.State.{State, is_up, link_is_up, fate_at, target}
 use Rattle.set_model.specs.Step.{offered as offered_step}
 use Rattle.set_model.proofs.Places.{itself, apart_back}
-use Rattle.set_model.proofs.Targets.{target_up}
+use Rattle.set_model.proofs.Lists.{target_up}
 use Rattle.pair_model.specs.Run.{Message, added_at}
 use Rattle.pair_changeover.specs.Pending.{pending, aside, acked_on, accepted_on}
 use Rattle.pair_changeover.proofs.Changes.{Grows, grown, ungrown, IsNew, to_wait, to_hold, to_park, to_back, held_none}

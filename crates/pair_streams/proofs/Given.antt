@@ -12,7 +12,7 @@ use Rattle.set_model.specs.declared.phase.Phase.TheVariants.{Down}
 use Rattle.set_model.specs.Rows.{is_unacked, is_back, unack, wait, held}
 use Rattle.set_model.specs.Sound.{IsSound}
 use Rattle.set_model.specs.State.{LinkState, State}
-use Rattle.set_model.proofs.InPlace.{changed_same}
+use Rattle.set_model.proofs.Rows.{changed_same}
 use Rattle.set_model.proofs.Walk.{IsAt}
 use Rattle.pair_model.specs.Run.{Message, messages}
 use Rattle.pair_changeover.specs.Pending.{pending, aside, acked_on, accepted_on}

@@ -26,7 +26,7 @@ use Rattle.set_model.specs.Rows.{is_unacked, is_back, place, stream_of, service_
 use Rattle.set_model.specs.Sound.{IsSound}
 use Rattle.set_model.specs.State.{LinkState, State, last_accepted}
 use Rattle.set_model.specs.Step.{brought, step}
-use Rattle.set_model.proofs.InPlace.{turned_same}
+use Rattle.set_model.proofs.Rows.{turned_same}
 use Rattle.set_model.proofs.Places.{apart_back}
 use Rattle.set_model.proofs.Walk.{IsAt}
 use Rattle.pair_model.specs.Promises.{IsOneMethod}

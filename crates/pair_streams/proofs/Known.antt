@@ -19,9 +19,7 @@ use Rattle.set_model.specs.Sound.{IsManaged}
 use Rattle.set_model.specs.State.{LinkState, State, target, window_of}
 use Rattle.set_model.specs.Step.{is_msu, sends, step}
 use Rattle.set_model.proofs.Events.{acknowledged, sent, sent_given_up, waiting_given_up, unparked}
-use Rattle.set_model.proofs.Finding.{numbered_appended, new_row}
-use Rattle.set_model.proofs.Lookups.{body_moved}
-use Rattle.set_model.proofs.Moving.{moved_numbered}
+use Rattle.set_model.proofs.Rows.{numbered_appended, new_row, body_moved, moved_numbered}
 use Rattle.set_model.proofs.Walk.{KeptBy, step_walks}
 use Rattle.pair_changeover.proofs.Staying.{Stays, turned_stay, changed_stay, moved_stay, joined_stay}
 

@@ -16,8 +16,8 @@ use Rattle.set_model.specs.Rows.{Row, standing, is_waiting, is_held, is_back, is
 use Rattle.set_model.specs.Sound.{IsSound}
 use Rattle.set_model.specs.State.{State, is_up}
 use Rattle.set_model.specs.Changeover.{released}
-use Rattle.set_model.proofs.Backs.{coded_at}
-use Rattle.set_model.proofs.Moving.{moved_same}
+use Rattle.set_model.proofs.Order.{coded_at}
+use Rattle.set_model.proofs.Rows.{moved_same}
 use Rattle.set_model.proofs.Places.{apart_back, code_back, false_true, itself}
 use Rattle.set_model.proofs.SoundBack.{none_back}
 use Rattle.pair_model.specs.Run.{Message, messages}

@@ -11,8 +11,7 @@ use Rattle.set_model.specs.Rows.{Row, is_on, is_back, is_back_to, appended, move
 use Rattle.set_model.specs.State.{State, window_of}
 use Rattle.set_model.specs.Step.{is_msu, offer_refusal, offered, rows_sent, step}
 use Rattle.set_model.proofs.Events.{acknowledged, sent, sent_given_up, waiting_given_up, unparked}
-use Rattle.set_model.proofs.Finding.{new_row}
-use Rattle.set_model.proofs.Moving.{moved_length}
+use Rattle.set_model.proofs.Rows.{new_row, moved_length}
 use Rattle.set_model.proofs.Walk.{KeptBy, step_walks}
 use Rattle.world_steps.specs.declared.step.Shown.TheVariants.{Answered}
 use Rattle.pair_model.specs.Run.{Message, Past, past_asked}

@@ -24,7 +24,7 @@ use Rattle.set_model.specs.Rows.{Row, is_unacked, is_waiting, is_held, is_parked
 use Rattle.set_model.specs.Sound.{IsAsked}
 use Rattle.set_model.specs.State.{LinkState, State, Settings, is_up, is_settled, link_count, opened_with, settings_of}
 use Rattle.set_model.specs.Step.{Outcome as SetOutcome, step}
-use Rattle.set_model.proofs.Lookups.{row_in_filter}
+use Rattle.set_model.proofs.Rows.{row_in_filter}
 use Rattle.set_model.proofs.Soundness.{opened_sound, opened_straight}
 use Rattle.set_model.proofs.Walk.{IsAt}
 use Rattle.world_steps.specs.declared.step.End.{End}

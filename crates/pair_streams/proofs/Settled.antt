@@ -14,13 +14,11 @@ use Rattle.set_model.specs.Changeover.{fate_on, acknowledged_by, is_reasonable, 
 use Rattle.set_model.specs.Rows.{Row, standing, is_on, is_unacked, is_back, is_parked, turned, all_with}
 use Rattle.set_model.specs.Sound.{IsSound}
 use Rattle.set_model.specs.State.{LinkState, State, has_phase_up, is_up, link_is_up, target}
-use Rattle.set_model.proofs.Backs.{coded_at}
-use Rattle.set_model.proofs.InPlace.{turned_same}
-use Rattle.set_model.proofs.Lists.{map_set_same}
-use Rattle.set_model.proofs.Moving.{moved_same}
+use Rattle.set_model.proofs.Order.{coded_at}
+use Rattle.set_model.proofs.Rows.{turned_same, moved_same}
+use Rattle.set_model.proofs.Lists.{map_set_same, none_up}
 use Rattle.set_model.proofs.Settling.{no_target}
 use Rattle.set_model.proofs.Places.{apart, false_true, itself}
-use Rattle.set_model.proofs.Targets.{none_up}
 use Rattle.set_model.proofs.Walk.{IsAt}
 use Rattle.pair_model.specs.Run.{Message, messages}
 use Rattle.pair_changeover.specs.Pending.{pending, aside, acked_on, accepted_on}

@@ -17,8 +17,8 @@ use Rattle.set_model.specs.Rows.{Row, standing, is_waiting, is_held, is_back, is
 use Rattle.set_model.specs.Sound.{IsSound, IsBackOf}
 use Rattle.set_model.specs.State.{LinkState, State, is_up, fate_at}
 use Rattle.set_model.specs.Changeover.{out_of_service, left_by}
-use Rattle.set_model.proofs.Backs.{coded_at}
-use Rattle.set_model.proofs.Moving.{moved_more}
+use Rattle.set_model.proofs.Order.{coded_at}
+use Rattle.set_model.proofs.Rows.{moved_more}
 use Rattle.set_model.proofs.Places.{apart, home_back, false_true, itself}
 use Rattle.set_model.proofs.Walk.{IsAt}
 use Rattle.pair_model.specs.Run.{Message, messages}

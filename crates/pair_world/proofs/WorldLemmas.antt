@@ -8,7 +8,7 @@ use Rattle.set_events.specs.declared.event.Actor.{Actor}
 use Rattle.set_model.specs.History.{LinkSet, IsStep}
 use Rattle.set_model.specs.State.{State, link_count}
 use Rattle.set_step.specs.declared.fault.SetFault.{SetFault}
-use Rattle.set_model.proofs.LinkCount.{link_count_stays}
+use Rattle.set_model.proofs.Walk.{link_count_stays}
 use Rattle.std.proofs.lemmas.Option.{same_Some}
 use Rattle.world_steps.specs.declared.step.End.{End}
 use Rattle.pair_model.specs.World.{World, has_link, with_line, line_to, reaches, front_arrives, arrives}

@@ -15,7 +15,7 @@ use Rattle.set_model.specs.State.{State, new_state}
 use Rattle.set_model.specs.Sound.{IsManaged}
 use Rattle.set_model.specs.Step.{step, messages_in}
 use Rattle.set_model.specs.History.{IsLegal, after, messages_of, longest_history}
-use Rattle.set_model.proofs.Gaining.{step_gains}
+use Rattle.set_model.proofs.Staying.{step_gains}
 use Rattle.set_model.proofs.Walk.{KeptBy, step_walks}
 
 -- the settings stay

@@ -15,7 +15,7 @@ use Rattle.set_model.specs.State.{State, new_state, settings_of}
 use Rattle.set_model.specs.Sound.{AreFew}
 use Rattle.set_model.specs.Rows.{counts_of, total_of}
 use Rattle.set_model.specs.Step.{Gains, step, messages_in, octets_of}
-use Rattle.set_model.proofs.Gaining.{step_gains, AcceptsNone, accepts_none, offer_acknowledges_none, take_acknowledges_none, find_acknowledges_none}
+use Rattle.set_model.proofs.Staying.{step_gains, AcceptsNone, accepts_none, offer_acknowledges_none, take_acknowledges_none, find_acknowledges_none}
 use Rattle.set_model.proofs.Ranging.{step_few}
 use Rattle.set_model.proofs.Soundness.{opened_few}
 use Rattle.set_moves.specs.Agreement.{Kept, Agrees}

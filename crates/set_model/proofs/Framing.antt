@@ -14,14 +14,11 @@ use Rattle.set_model.specs.Rows.{DiscardCause, Fate, Waiting, Unacked, IsInOrder
 use Rattle.set_model.specs.Sound.{IsSound}
 use Rattle.set_model.specs.State.{Up, LinkState, State, is_up, link_is_up, target, window_of}
 use Rattle.set_model.proofs.Events.{Untouched, untouched_self, apart_on, sent, acknowledged, sent_given_up, waiting_given_up, unparked, appended_out, numbers_joined}
-use Rattle.set_model.proofs.Filters.{fated_none}
-use Rattle.set_model.proofs.Finding.{new_row}
-use Rattle.set_model.proofs.Lists.{get_set_same, get_set_other, within}
-use Rattle.set_model.proofs.Moving.{moved_same, moved_more}
+use Rattle.set_model.proofs.Rows.{fated_none, new_row, moved_same, moved_more}
+use Rattle.set_model.proofs.Lists.{get_set_same, get_set_other, within, target_off, target_unheld}
 use Rattle.set_model.proofs.Places.{apart, not_on_waiting, back_not_on, home_back, code_back}
 use Rattle.set_model.proofs.Ranging.{offered_out, not_sent}
 use Rattle.set_model.proofs.SoundBack.{up_not_held, down_not_waiting, alternative_up}
-use Rattle.set_model.proofs.Targets.{target_off, target_unheld}
 use Rattle.set_model.proofs.Walk.{step_walks, brought_by}
 
 -- ALONE: a link has the messages that it had, and more behind them.

@@ -1,10 +1,102 @@
--- A link's messages stay in order: what was sent stands before what waits, and that before what is held.
-use Rattle.std.proofs.Common.{arith, refl, ◌≡◌, [], ◌∷◌, ℕ, Bool, true, ◌==◌, List, ◌++◌, map, take, filter}
+-- FACTS OF EACH ROW, and what changes of rows do to them.
+use Rattle.std.proofs.Common.{arith, refl, ◌≡◌, ◌<◌, ℕ, suc, Bool, true, false, not, List, [], ◌∷◌, ◌++◌, length, map, slice_get, Some, filter, sym, subst, ◌==◌, take}
+use Rattle.std.proofs.lemmas.List.{append-nil, map-append}
 use Rattle.std.proofs.lemmas.List.Elements.{filter-append}
-use Rattle.set_model.specs.Rows.{Unacked, IsHeldLast, IsInOrder, Row, held, is_waiting, on, turned, unack, wait, with_fate}
-use Rattle.set_model.proofs.Filters.{filter_comm, filter_within}
-use Rattle.set_model.proofs.InPlace.{turned_nothing}
+use Rattle.set_model.specs.Rows.{Fate, Each, IsNumbered, Row, appended, fated, numbers, standing, Back, back, moved, stands_back, Unacked, IsHeldLast, IsInOrder, held, is_waiting, on, turned, unack, wait, with_fate}
+use Rattle.set_model.specs.Sound.{AreAbove, IsAscending, AreBack, IsBackOf}
+use Rattle.set_model.proofs.Rows.{found_by_number, moved_off, filter_comm, filter_within, turned_nothing}
+use Rattle.set_route.specs.Routing.{IsCoded, IsRouting, Routing, code_of, home_of, place_of}
+use Rattle.set_model.specs.State.{Asked, Changing}
+use Rattle.set_route.proofs.Quiet.{at_place}
 
+pub each_so : (P Q : Row → Type 0) → ((x : Row) → P x → Q x) → (rows : List Row) → Each P rows → Each Q rows
+each_so P Q so [] e = tt
+each_so P Q so (x ∷ rows) e = (so x e.0, each_so P Q so rows e.1)
+
+pub each_append : (P : Row → Type 0) (xs ys : List Row) → Each P xs → Each P ys → Each P (xs ++ ys)
+each_append P [] ys a b = b
+each_append P (x ∷ xs) ys a b = (a.0, each_append P xs ys a.1 b)
+
+pub each_filter : (P : Row → Type 0) (p : Row → Bool) (rows : List Row) → Each P rows → Each P (filter p rows)
+each_filter P p [] e = tt
+each_filter P p (x ∷ rows) e = grind (arith, each_filter P p rows e.1)
+
+-- ROWS THAT MOVE: those that stay, and those that go.
+module _ (test : Fate → Bool) where
+  pub each_left : (P Q : Row → Type 0) → ((x : Row) → test x.fate ≡ false → P x → Q x) → (rows : List Row) → Each P rows → Each Q (standing (λ f. not (test f)) rows)
+  each_left P Q so [] e = tt
+  each_left P Q so (x ∷ rows) e = grind (arith, each_left P Q so rows e.1)
+
+  -- none that goes comes to stand there
+  pub gone_none : (fate : Row → Fate) (P : Row → Type 0) (other : Fate → Bool) → ((x : Row) → test x.fate ≡ true → P x → other (fate x) ≡ false) → (rows : List Row) → Each P rows → standing other (map (fated fate) (standing test rows)) ≡ []
+  gone_none fate P other so [] e = refl
+  gone_none fate P other so (x ∷ rows) e = grind (arith, gone_none fate P other so rows e.1)
+
+-- none stands there, since what does is so
+pub none_standing : (P : Row → Type 0) (test : Fate → Bool) → ((x : Row) → test x.fate ≡ true → P x → ⊥) → (rows : List Row) → Each P rows → standing test rows ≡ []
+none_standing P test never [] e = refl
+none_standing P test never (x ∷ rows) e = grind (arith, none_standing P test never rows e.1)
+
+-- NUMBERS IN ORDER.
+above_filter : (k : ℕ) (p : Row → Bool) (rows : List Row) → AreAbove k (numbers rows) → AreAbove k (numbers (filter p rows))
+above_filter k p [] a = tt
+above_filter k p (x ∷ rows) a = grind (arith, above_filter k p rows a.1)
+
+pub ascends_filter : (p : Row → Bool) (rows : List Row) → IsAscending (numbers rows) → IsAscending (numbers (filter p rows))
+ascends_filter p [] a = tt
+ascends_filter p (x ∷ rows) a = grind (arith, above_filter x.number p rows a.0, ascends_filter p rows a.1)
+
+-- a number above all others stands last
+ascends_end : (k : ℕ) (ns : List ℕ) → ((i m : ℕ) → slice_get ns i ≡ Some m → m < k) → IsAscending ns → IsAscending (ns ++ k ∷ [])
+ascends_end k [] below a = (tt, tt)
+ascends_end k (n ∷ ns) below a = (above_end ns a.0, ascends_end k ns (λ i m e. below (suc i) m e) a.1)
+  where
+    above_end : (ms : List ℕ) → AreAbove n ms → AreAbove n (ms ++ k ∷ [])
+    above_end [] b = (below 0 n refl, tt)
+    above_end (m ∷ ms) b = (b.0, above_end ms b.1)
+
+-- as that of a new message does
+pub ascends_appended : (p : Row → Bool) (rows : List Row) (body : List ℕ) (fate : Fate) → IsNumbered rows → IsAscending (numbers (filter p rows)) → IsAscending (numbers (filter p (appended rows body fate)))
+ascends_appended p rows body fate numbered a =
+    let last = ascends_end (length rows) (numbers (filter p rows)) (λ i m e. (found_by_number p rows i m numbered e).below) a in
+    grind (arith, filter-append, map-append, append-nil, last)
+
+-- WHAT STANDS BACK, as streams move.
+-- a stream on its way back goes to the home of its code, which is open
+pub coded_at : (r : Routing) (stream : ℕ) → IsRouting r → (to code via : ℕ) → place_of stream r ≡ Changing to code via → (home_of code ≡ to) × (code_of code r ≡ Asked)
+coded_at r stream sound to code via e = subst (IsCoded r) e (at_place (IsCoded r) tt r.streams stream sound.coded)
+
+-- a stream on its way back by a code of which nothing moves stays on it
+abbrev pub StaysBack : (Fate → Bool) → Routing → Routing → Type 0
+StaysBack test old new =
+    (k : ℕ) → k < 16 → (code via : ℕ) → test (Back code) ≡ false → place_of k old ≡ Changing (home_of code) code via
+    → (via' : ℕ) × (place_of k new ≡ Changing (home_of code) code via')
+
+stood : (test : Fate → Bool) (old new : Routing) → StaysBack test old new → (x : Row) (f : Fate) → test f ≡ false → IsBackOf old x f → IsBackOf new x f
+stood test old new stays x f out b = grind arith
+
+pub backs_kept : (old new : Routing) → StaysBack (λ f. false) old new → (rows : List Row) → AreBack old rows → AreBack new rows
+backs_kept old new stays = each_so (λ row. IsBackOf old row row.fate) (λ row. IsBackOf new row row.fate) (λ x. stood (λ f. false) old new stays x x.fate refl)
+
+-- of the rows it asks only those that stand back
+pub backs_of : (r : Routing) (rows : List Row) → AreBack r (back rows) → AreBack r rows
+backs_of r [] b = tt
+backs_of r (x ∷ rows) b = grind (arith, backs_of r rows)
+
+pub backs_same : (r : Routing) (rows new : List Row) → back new ≡ back rows → AreBack r rows → AreBack r new
+backs_same r rows new same b = backs_of r new (subst (AreBack r) (sym same) (each_filter (λ row. IsBackOf r row row.fate) (λ row. stands_back row.fate) rows b))
+
+-- rows that move, of which none comes to stand back
+module _ (test : Fate → Bool) (fate : Row → Fate) (rows : List Row) (gone : back (map (fated fate) (standing test rows)) ≡ []) where
+  pub backs_moved : (old new : Routing) → StaysBack test old new → AreBack old rows → AreBack new (moved test fate rows)
+  backs_moved old new stays b =
+      let kept = each_left test (λ row. IsBackOf old row row.fate) (λ row. IsBackOf new row row.fate) (λ x. stood test old new stays x x.fate) (back rows) (each_filter (λ row. IsBackOf old row row.fate) (λ row. stands_back row.fate) rows b) in
+      backs_of new (moved test fate rows) (rw (moved_off test stands_back fate rows gone) kept)
+
+  pub back_order_moved : IsAscending (numbers (back rows)) → IsAscending (numbers (back (moved test fate rows)))
+  back_order_moved a = rw (moved_off test stands_back fate rows gone) (ascends_filter (λ (row : Row). not (test row.fate)) (back rows) a)
+
+-- A link's messages stay in order: what was sent stands before what waits, and that before what is held.
 -- where nothing was sent on the link
 pub order_none : (n : ℕ) (rows : List Row) → unack n rows ≡ [] → IsInOrder n rows
 order_none n [] e = tt

@@ -11,8 +11,7 @@ use Rattle.set_model.specs.Rows.{Fate, Acked, Unacked, Row, appended, is_unacked
 use Rattle.set_model.specs.Sound.{AreAtMost, AreFew, WholeNumbers, one_more}
 use Rattle.set_model.specs.State.{Place, Phase, LinkState, State, fate_at, window_of}
 use Rattle.set_model.proofs.Events.{appended_out}
-use Rattle.set_model.proofs.Filters.{filter_comm, fewer_filter, fated_none}
-use Rattle.set_model.proofs.InPlace.{turned_left, fewer_turned, fewer_changed}
+use Rattle.set_model.proofs.Rows.{filter_comm, fewer_filter, fated_none, turned_left, fewer_turned, fewer_changed}
 use Rattle.set_model.proofs.Lists.{each_set}
 use Rattle.set_model.proofs.Walk.{IsAt, step_walks}
 

@@ -8,10 +8,9 @@ use Rattle.set_model.specs.Rows.{IsHeldLast, IsInOrder, Row, all_with, is_on, mo
 use Rattle.set_model.specs.Sound.{IsSound}
 use Rattle.set_model.specs.State.{Down, Settled, LinkState, State, has_phase_settled, has_phase_up, target}
 use Rattle.set_model.proofs.Events.{acknowledged, moved_to, moved_aside, numbers_joined}
-use Rattle.set_model.proofs.Filters.{none_within}
-use Rattle.set_model.proofs.Lists.{map_set_same}
+use Rattle.set_model.proofs.Rows.{none_within}
+use Rattle.set_model.proofs.Lists.{map_set_same, target_up}
 use Rattle.set_model.proofs.Places.{apart, unacked_on, waiting_on, held_on}
-use Rattle.set_model.proofs.Targets.{target_up}
 
 pub settled_empty : (s : State) (n : ℕ) (link : LinkState) → IsSound s → slice_get s.links n ≡ Some link → link.phase ≡ Settled → IsEmptyLink n s.rows
 settled_empty s n link sound there settled =

@@ -12,20 +12,14 @@ use Rattle.set_model.specs.State.{Asked, Place, Nowhere, On, Changing, Down, Set
 use Rattle.set_model.specs.Step.{risen_link, rises}
 use Rattle.set_route.proofs.Alone.{alone, codes_alone}
 use Rattle.set_route.proofs.Places.{raised_sound, settled_sound, left_sound, asked_sound, back_sound}
-use Rattle.set_model.proofs.Backs.{coded_at, backs_moved, back_order_moved, backs_kept}
+use Rattle.set_model.proofs.Order.{coded_at, backs_moved, back_order_moved, backs_kept, order_none, gone_none, none_standing, ascends_appended}
 use Rattle.set_model.proofs.Events.{apart_on, left, unparked, untouched_self}
-use Rattle.set_model.proofs.Lists.{get_set_same, get_set_other, within, each_set}
-use Rattle.set_model.proofs.Moving.{moved_numbered, moved_fit, moved_same, moved_more, moved_nothing}
-use Rattle.set_model.proofs.Order.{order_none}
+use Rattle.set_model.proofs.Lists.{get_set_same, get_set_other, within, each_set, target_up, target_off, target_open, target_unheld, target_elsewhere, none_up}
+use Rattle.set_model.proofs.Rows.{moved_numbered, moved_fit, moved_same, moved_more, moved_nothing, fated_none, numbered_appended, fit_appended}
 use Rattle.set_model.proofs.Places.{false_true, not_on_waiting, back_not_on, back_not_parked, code_back, home_back}
-use Rattle.set_model.proofs.Filters.{fated_none}
 use Rattle.set_model.proofs.Ranging.{not_sent, offered_out}
-use Rattle.set_model.proofs.Targets.{target_up, target_off, target_open, target_unheld, target_elsewhere, none_up}
 use Rattle.set_model.proofs.Walk.{IsAt}
-use Rattle.set_model.proofs.SoundLink.{link_moved, links_set, placed_set, up_before, up_after}
-use Rattle.set_model.proofs.Finding.{numbered_appended, fit_appended}
-use Rattle.set_model.proofs.SoundNew.{link_appended, none_parked, order_fits, backs_appended, IsOpen}
-use Rattle.set_model.proofs.Standing.{gone_none, none_standing, ascends_appended}
+use Rattle.set_model.proofs.SoundLink.{link_moved, links_set, placed_set, up_before, up_after, link_appended, none_parked, order_fits, backs_appended, IsOpen}
 use Rattle.set_model.proofs.Settling.{settled_empty}
 
 -- A LINK COMES UP.

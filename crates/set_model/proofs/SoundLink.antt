@@ -1,28 +1,43 @@
--- WHAT HOLDS OF EVERY STATE is kept by a change of one link, with rows that change in their places.
-use Rattle.std.proofs.Common.{refl, arith, ◌≡◌, ◌∙◌, ap, sym, subst, ◌≤◌, ℕ, ◌+◌, ◌==◌, Bool, true, false, List, [], ◌++◌, length, map, slice_get, slice_set, Some, cond}
-use Rattle.std.proofs.lemmas.List.{append-nil, length-map, length-append, length-drop, length-set, length-take}
-use Rattle.std.proofs.lemmas.List.Elements.{filter-append}
+-- What the control chooses to send for the first time, and where its cursor, or its place in the cycle, is after each step.
+use Rattle.std.proofs.Common.{arith, ◌≡◌, ◌≢◌, ◌<◌, ◌≤◌, ℕ, ◌+◌, Bool, length, drop, refl, ◌∙◌, ap, sym, subst, ◌==◌, true, false, List, [], ◌++◌, map, slice_get, slice_set, Some, cond, ◌∷◌, None}
+use Rattle.std.proofs.lemmas.List.{length-drop, append-nil, length-map, length-append, length-set, length-take}
 use Rattle.std.proofs.lemmas.Bool.Decides.{nat_tests}
-use Rattle.l2_units.specs.Grammar.{head_of as header_in}
+use Rattle.l2_pcr.specs.Pcr as cyclic
 use Rattle.l2_window.specs.Window.{WindowState}
-use Rattle.set_route.specs.Routing.{Routing}
-use Rattle.set_model.specs.Changeover.{acknowledged_by}
-use Rattle.set_model.specs.Control.{HeardPart, Method, Choice, accepted_of, choice_of, first, part_of}
-use Rattle.set_model.specs.Rows.{DiscardCause, Fate, Acked, Discarded, Unacked, Row, back, changed, fated, held, is_held, is_on, is_unacked, is_waiting, moved, octets_in, on, standing, stands_back, unack, wait}
+use Rattle.set_model.specs.Control.{Header, Choice, Control, acked_by, choice_of, control_after, control_heard, first, HeardPart, Method, accepted_of, part_of}
 use Rattle.set_model.specs.Sound.{IsInRange, IsOf, IsPlaced, IsSound, IsSoundLink, AreBack, IsBackOf}
-use Rattle.set_model.specs.State.{Place, Changing, Nowhere, On, Down, Up, LinkState, State, has_phase_settled, has_phase_up, last_accepted, link_is_up, window_of}
-use Rattle.set_model.specs.Step.{SignalUnit, after_control, is_msu, next, rows_sent}
-use Rattle.set_model.proofs.Controlling.{first_chosen, range_after, range_heard}
-use Rattle.set_model.proofs.Backs.{backs_same}
-use Rattle.set_model.proofs.Events.{kept_self, Untouched, untouched_self, sent, acknowledged, GivenUp, untouched}
-use Rattle.set_model.proofs.InPlace.{turned_same, changed_same}
-use Rattle.set_model.proofs.Order.{order_append, last_none, last_append, last_alone}
-use Rattle.set_model.proofs.Moving.{others_stay}
-use Rattle.set_model.proofs.Lists.{at_set, each_set, get_set_same, get_set_other, set_same, within, set_at}
+use Rattle.std.proofs.lemmas.List.Elements.{filter-append}
+use Rattle.l2_units.specs.Grammar.{head_of as header_in}
+use Rattle.set_route.specs.Routing.{Routing, accepted, place_of}
+use Rattle.set_model.specs.Changeover.{acknowledged_by, Order, fate_on, queued}
+use Rattle.set_model.specs.Rows.{DiscardCause, Fate, Acked, Discarded, Unacked, Row, back, changed, fated, held, is_held, is_on, is_unacked, is_waiting, moved, octets_in, on, standing, stands_back, unack, wait, Back, Held, Parked, Waiting, appended, parked, service_indicator, stream_of}
+use Rattle.set_model.specs.State.{Place, Changing, Nowhere, On, Down, Up, LinkState, State, has_phase_settled, has_phase_up, last_accepted, link_is_up, window_of, fate_at, target}
+use Rattle.set_model.specs.Step.{SignalUnit, after_control, is_msu, next, rows_sent, offer_refusal, offered}
+use Rattle.set_model.proofs.Order.{backs_same, order_append, last_none, last_append, last_alone, gone_none, coded_at, backs_kept, ascends_appended, each_append}
+use Rattle.set_model.proofs.Events.{kept_self, Untouched, untouched_self, sent, acknowledged, GivenUp, untouched, appended_out}
+use Rattle.set_model.proofs.Rows.{turned_same, changed_same, others_stay, new_row, numbered_appended, fit_appended}
+use Rattle.set_model.proofs.Lists.{at_set, each_set, get_set_same, get_set_other, set_same, within, set_at, target_up, target_elsewhere, none_up}
 use Rattle.set_model.proofs.Places.{false_true}
 use Rattle.set_model.proofs.Walk.{IsAt}
-use Rattle.set_model.proofs.Standing.{gone_none}
+use Rattle.l3_orders.specs.Grammar.{text}
+use Rattle.set_route.proofs.Alone.{alone}
+use Rattle.set_route.proofs.Places.{accepted_sound}
 
+-- a first sending is chosen only where something waits, and fewer than 127 are unacknowledged
+pub first_chosen : (o : ℕ) (control : Control) (w : WindowState) → choice_of o control w ≡ first → (0 < length w.unsent) × (length w.unacked < 127)
+first_chosen o control w e = grind (arith, nat_tests)
+
+round_in : (n place : ℕ) → cyclic.round n place ≢ 0 → cyclic.round n place < n
+round_in n place d = grind arith
+
+pub range_after : (choice : Choice) (o : ℕ) (control : Control) (w : WindowState) (count : ℕ) → choice_of o control w ≡ choice → length w.unacked ≤ count → (choice ≡ first → count ≡ length w.unacked + 1) → IsInRange control (length w.unacked) → IsInRange (control_after choice o control w) count
+range_after choice o control w count e more one r = grind (arith, round_in)
+
+-- the cursor, or the place in the cycle
+pub range_heard : (control : Control) (w : WindowState) (head : Header) (msu : Bool) → IsInRange control (length w.unacked) → IsInRange (control_heard control w head msu) (length (drop (acked_by control w head) w.unacked))
+range_heard control w head msu r = grind (arith, length-drop, round_in)
+
+-- WHAT HOLDS OF EVERY STATE is kept by a change of one link, with rows that change in their places.
 -- THE LINK THAT CHANGES, and the others, which don't see how the rows change.
 pub links_set : (m : Method) (links : List LinkState) (n : ℕ) (link : LinkState) (rows new : List Row) → IsSoundLink m n link new → ((k : ℕ) → (n == k) ≡ false → Untouched k rows new) → ((k : ℕ) (other : LinkState) → slice_get links k ≡ Some other → IsSoundLink m k other rows)
     → (k : ℕ) (other : LinkState) → slice_get (slice_set links n link) k ≡ Some other → IsSoundLink m k other new
@@ -126,3 +141,65 @@ module _ (n : ℕ) (link : LinkState) (s : State) (at : IsAt n link Up s) (t : I
         let a = acknowledged n part.acked s.rows in
         changes n link _ s _ t at.there refl (ap has_phase_settled at.phase_is) (assumption) (turned_same (is_unacked n) stands_back (Acked n) refl (λ f e. grind arith) part.acked s.rows) (grind (arith, length-drop, a.unack_is, l.window))
         (grind (arith, nat_tests, (header_in unit).fsn, l.counted)) (grind (arith, l.method)) (λ u. grind (arith, range_heard link.control window (header_in unit) (is_msu unit) old_range, a.unack_is, length-drop, length-map))
+
+-- WHAT HOLDS OF EVERY STATE is kept by a new message.
+-- A NEW MESSAGE. It waits for a link that is up, is held for one that isn't settled, is parked while none is up, or
+-- stands back.
+abbrev pub IsOpen : Fate → List LinkState → Type 0
+IsOpen (Waiting number) links = (link : LinkState) × (slice_get links number ≡ Some link) × (has_phase_up link.phase ≡ true)
+IsOpen (Held number) links = (link : LinkState) × (slice_get links number ≡ Some link) × (has_phase_up link.phase ≡ false) × (has_phase_settled link.phase ≡ false)
+IsOpen Parked links = (number : ℕ) (link : LinkState) → slice_get links number ≡ Some link → has_phase_up link.phase ≡ false
+IsOpen (Back code) links = Unit {0}
+IsOpen _ links = ⊥
+
+module _ (s : State) (body : List ℕ) (t : IsSound s) where
+  pub link_appended : (fate : Fate) → IsOpen fate s.links → (k : ℕ) (other : LinkState) → slice_get s.links k ≡ Some other → IsSoundLink s.settings.method k other (appended s.rows body fate)
+  link_appended fate fits k other there = link_more s.settings.method k other s.rows (new_row (length s.rows) body fate ∷ []) (grind arith) (λ u. grind (arith, nat_tests)) (λ d. grind (arith, nat_tests)) (λ e. grind (arith, nat_tests)) s.rows refl (t.links k other there)
+
+  pub none_parked : (fate : Fate) → IsOpen fate s.links → (k : ℕ) (other : LinkState) → slice_get s.links k ≡ Some other → has_phase_up other.phase ≡ true → parked (appended s.rows body fate) ≡ []
+  none_parked fate fits k other there rising = grind (arith, appended_out)
+
+-- AN ORDER goes to the target, and is of no stream.
+pub order_fits : (order : Order) (s : State) → length (text order s.settings.sio s.settings.dpc s.settings.opc) ≤ 273
+order_fits order s = grind arith
+
+-- a message that doesn't stand back
+pub backs_appended : (routing : Routing) (rows : List Row) (body : List ℕ) (fate : Fate) → stands_back fate ≡ false → AreBack routing rows → AreBack routing (appended rows body fate)
+backs_appended routing rows body fate elsewhere b = grind (arith, each_append)
+
+pub queues : (order : Order) (s : State) → IsSound s → IsSound (queued order s)
+queues order s t =
+    let opened : IsOpen (fate_on (target s.links)) s.links = grind (arith, target_up, none_up) in
+    search (opened, numbered_appended, fit_appended, order_fits, link_appended, none_parked, backs_appended, target_elsewhere, ascends_appended)
+
+-- AN OFFER goes where its stream runs.
+module _ (s : State) (body : List ℕ) (t : IsSound s) (low : stream_of body < 16) (users : (service_indicator body == 0) ≡ false) where
+  abbrev stream : ℕ
+  stream = stream_of body
+
+  abbrev runs : Routing
+  runs = accepted stream s.routing
+
+  same_place : (k : ℕ) → k < 16 → place_of k runs ≡ place_of k s.routing
+  same_place k few = (alone s.routing k t.routing few).accepted_place stream
+
+  still_run : (n : ℕ) (link : LinkState) → slice_get s.links n ≡ Some link → has_phase_up link.phase ≡ true → (k : ℕ) → k < 16 → place_of k runs ≢ Nowhere
+  still_run n link there up k few = grind (arith, same_place)
+
+  one_back : (place : Place) → place_of stream s.routing ≡ place → IsBackOf runs (new_row (length s.rows) body (fate_at place s)) (fate_at place s)
+  one_back (Changing to code via) e =
+      let coded = coded_at s.routing stream t.routing to code via e in
+      (rw users refl, low, via, same_place stream low ∙ e ∙ ap (λ (k : ℕ). Changing k code via) (sym coded.0))
+  one_back _ e = grind arith
+
+  offer_backs : AreBack runs (appended s.rows body (fate_at (place_of stream s.routing) s))
+  offer_backs =
+      let kept = backs_kept s.routing runs (λ k few code via of e. (via, same_place k few ∙ e)) s.rows t.backs in
+      each_append _ s.rows _ kept (one_back _ refl, tt)
+
+pub offers : (s : State) (body : List ℕ) → stream_of body < 16 → offer_refusal s.rows body ≡ None → IsSound s → IsSound (offered None s body).state
+offers s body low free t =
+    let fits : (length body ≤ 273) × ((service_indicator body == 0) ≡ false) = grind (arith, free) in
+    let opened : IsOpen (fate_at (place_of (stream_of body) s.routing) s) s.links = grind (arith, t.placed (stream_of body) low, t.all_run) in
+    let backs = offer_backs s body t low fits.1 in
+    search (accepted_sound, numbered_appended, fit_appended, link_appended, same_place, t.placed, none_parked, still_run, t.homes_up, ascends_appended)

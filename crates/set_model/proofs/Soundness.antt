@@ -12,11 +12,10 @@ use Rattle.set_model.specs.State.{Code, Asked, Free, Nowhere, LinkState, Setting
 use Rattle.set_route.proofs.Places.{new_sound}
 use Rattle.set_model.proofs.Events.{sent_given_up, waiting_given_up}
 use Rattle.set_model.proofs.Places.{unacked_on, waiting_on}
-use Rattle.set_model.proofs.InPlace.{fewer_changed}
+use Rattle.set_model.proofs.Rows.{fewer_changed}
 use Rattle.set_model.proofs.Walk.{KeptBy, step_walks}
 use Rattle.set_model.proofs.SoundBack.{leaves, declares, releases, rises_sound, moves_off_sound}
-use Rattle.set_model.proofs.SoundLink.{with_inbox, acknowledges, gives_up, sends_sound, hears_sound}
-use Rattle.set_model.proofs.SoundNew.{queues, offers}
+use Rattle.set_model.proofs.SoundLink.{with_inbox, acknowledges, gives_up, sends_sound, hears_sound, queues, offers}
 
 -- THE STEP.
 pub asked_by : (event : Event) (body : List ℕ) → IsAsked event → event ≡ Offer body → stream_of body < 16

@@ -1,24 +1,39 @@
--- WHAT NO EVENT DOES to a message; and only what users offer counts as a new one.
-use Rattle.std.proofs.Common.{arith, ◌≡◌, ◌∙◌, ap, sym, ◌≤◌, ◌<◌, length, ℕ, ◌==◌, Bool, true, false, List}
-use Rattle.std.proofs.lemmas.List.{length_push, length-append}
+-- The laws of the list of rows.
+use Rattle.std.proofs.Common.{arith, ℕ, Bool, List, ◌≡◌, ◌∙◌, ap, sym, ◌≤◌, ◌<◌, length, ◌==◌, true, false, refl}
+use Rattle.std.proofs.lemmas.List.{drop_at, length_push, length-append}
+use Rattle.std.proofs.lemmas.List.Filters.{length-filter_both}
+use Rattle.std.proofs.lemmas.List.Folds.{find-append}
+use Rattle.std.proofs.lemmas.Bool.Decides.{nat_tests}
+use Rattle.set_model.specs.Laws.{MessagesStay, MovesTheLinksRows, KeepsMessages}
+use Rattle.set_model.specs.Rows.{Fate, IsNumbered, Row, DiscardCause, appended, body_at, counts_of, service_indicator, total_of, was_acked}
+use Rattle.set_model.proofs.Rows.{turned_there, changed_there, moved_length, moved_numbered, is_found, numbered_appended, same_numbers, no_rows, body_moved, place_moved, row_is_first, total_is}
+use Rattle.set_model.proofs.Events.{numbers_fated, Kept, kept_self, moved_kept, sent, acknowledged, sent_given_up, waiting_given_up}
 use Rattle.std.proofs.lemmas.List.Elements.{filter-append}
 use Rattle.l3_orders.specs.Grammar.{text}
 use Rattle.set_model.specs.Changeover.{Order}
 use Rattle.set_route.specs.Routing.{Routing}
-use Rattle.set_model.specs.Step.{Event, Offer, step, rows_sent}
+use Rattle.set_model.specs.Step.{Event, Offer, step, rows_sent, Answer, Find, Take, Gains, messages_in, octets_of}
 use Rattle.set_model.specs.Control.{Choice, first}
-use Rattle.set_model.specs.Laws.{KeepsMessages}
-use Rattle.set_model.specs.Rows.{Fate, DiscardCause, IsNumbered, Row, appended, body_at, counts_of, service_indicator, total_of, was_acked}
 use Rattle.set_model.specs.Sound.{IsManaged}
 use Rattle.set_model.specs.State.{Place, Settings, State, fate_at}
-use Rattle.set_model.proofs.Events.{Kept, kept_self, moved_kept, sent, acknowledged, sent_given_up, waiting_given_up}
-use Rattle.set_model.proofs.Finding.{numbered_appended}
 use Rattle.set_model.proofs.Places.{on_not_acked, parked_not_acked, back_not_acked, home_back, code_back}
-use Rattle.set_model.proofs.Stating.{messages_stay}
-use Rattle.set_model.proofs.Targets.{target_open}
+use Rattle.set_model.proofs.Lists.{target_open}
 use Rattle.set_model.proofs.Walk.{step_walks}
-use Rattle.set_model.proofs.Counting.{total_is}
 
+pub messages_stay : (test : Fate → Bool) (to : Fate) (fate : Row → Fate) (rows : List Row) → IsNumbered rows → MessagesStay test to fate rows
+messages_stay test to fate rows numbered = record {
+  turned_stay = λ n. let i = turned_there test to n rows in search (i.count, i.bodies, same_numbers, i.as_many, numbered);
+  changed_stay = let i = changed_there test to rows in search (i.count, i.bodies, same_numbers, i.as_many, numbered);
+  moved_stay = search (moved_length, body_moved, moved_numbered);
+  others_stay = λ body number below. grind (arith, is_found, find-append);
+  new_found = λ body. grind (arith, nat_tests, row_is_first, no_rows, find-append, numbered);
+  appended_numbered = λ body. numbered_appended rows body to numbered;
+}
+
+pub moves_rows : (link : ℕ) (fate : Row → Fate) (rows : List Row) → IsNumbered rows → MovesTheLinksRows link fate rows
+moves_rows link fate rows numbered = grind (arith, length-filter_both, drop_at, numbers_fated, place_moved)
+
+-- WHAT NO EVENT DOES to a message; and only what users offer counts as a new one.
 abbrev pub is_offer : Event → Bool
 is_offer (Offer body) = true
 is_offer _ = false
@@ -70,3 +85,30 @@ step_grows s event =
 
 pub keeps_messages : (s : State) (event : Event) → IsNumbered s.rows → KeepsMessages s.rows (step s event).state.rows
 keeps_messages s event numbered = grind (arith, step_grows)
+
+-- What a step brings: each accepted message stands in one place more, and what is acknowledged stays so.
+-- only an offer is answered by a message
+abbrev pub AcceptsNone : Event → Answer → Type 0
+AcceptsNone event answer = (messages_in answer ≡ 0) × (octets_of event answer ≡ 0)
+
+pub accepts_none : (s : State) (event : Event) → is_offer event ≡ false → AcceptsNone event (step s event).answer
+unfolding step
+accepts_none s event e = grind arith
+
+pub step_gains : (s : State) (event : Event) → IsManaged s.settings → Gains s event (step s event).answer (step s event).state
+unfolding step
+step_gains s (Offer body) m = grind (arith, total_is, filter-append, length-append)
+step_gains s event m = let grown = step_grows s event in let none = accepts_none s event refl in grind arith
+
+-- WHAT USERS ASK acknowledges nothing.
+pub offer_acknowledges_none : (s : State) (body : List ℕ) → (counts_of (step s (Offer body)).state.rows).acked ≡ (counts_of s.rows).acked
+unfolding step
+offer_acknowledges_none s body = grind (arith, filter-append, length-append)
+
+pub take_acknowledges_none : (s : State) → (counts_of (step s Take).state.rows).acked ≡ (counts_of s.rows).acked
+unfolding step
+take_acknowledges_none s = grind arith
+
+pub find_acknowledges_none : (s : State) (number : ℕ) → (counts_of (step s (Find number)).state.rows).acked ≡ (counts_of s.rows).acked
+unfolding step
+find_acknowledges_none s number = grind arith

@@ -15,16 +15,12 @@ use Rattle.set_model.specs.State.{Place, Changing, Nowhere, On, Up, LinkState, S
 use Rattle.set_model.specs.Step.{Event, step, offered, rows_sent}
 use Rattle.set_route.proofs.Alone.{alone}
 use Rattle.set_route.proofs.Quiet.{left_quiet, back_quiet, never_changing}
-use Rattle.set_model.proofs.Filters.{filter_within, none_within}
-use Rattle.set_model.proofs.Finding.{new_row}
-use Rattle.set_model.proofs.InPlace.{where_turned, where_changed}
-use Rattle.set_model.proofs.Standing.{ascends_appended, none_standing}
+use Rattle.set_model.proofs.Rows.{filter_within, none_within, new_row, where_turned, where_changed, moved_nothing, no_rows}
+use Rattle.set_model.proofs.Order.{ascends_appended, none_standing}
 use Rattle.set_model.proofs.Places.{false_true, itself, code_back, home_back}
-use Rattle.set_model.proofs.Moving.{moved_nothing}
 use Rattle.set_model.proofs.SoundBack.{leaves as leaves_sound, releases as releases_sound}
 use Rattle.set_model.proofs.Soundness.{sounds}
 use Rattle.set_model.proofs.Walk.{IsAt, step_walks}
-use Rattle.set_model.proofs.Lookups.{no_rows}
 
 -- ROWS THAT CHANGE IN THEIR PLACES: no more are live than before, nor astray.
 record Less (xs ys away gone : List Row) : Type 0 where

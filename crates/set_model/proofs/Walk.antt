@@ -4,7 +4,7 @@ use Rattle.std.proofs.lemmas.Bool.{cond_both}
 use Rattle.l2_units.specs.Grammar.{head_of as header_in}
 use Rattle.l3_orders.specs.Grammar.{link_of, order_of}
 use Rattle.set_route.specs.Routing.{code_for, home_of}
-use Rattle.set_model.specs.Step.{SignalUnit, Event, BackTimeout, DownEvent, DownBlind, Find, Heard, Next, NoAnswer, Offer, Restore, Take, UpEvent, step, Outcome, after_control, brought, comes_back, controls, gives_up, heard, in_service, is_msu, next, offer_refusal, offered, rises, runs_out, taken, takes, with_known}
+use Rattle.set_model.specs.Step.{SignalUnit, Event, BackTimeout, DownEvent, DownBlind, Find, Heard, Next, NoAnswer, Offer, Restore, Take, UpEvent, step, Outcome, after_control, brought, comes_back, controls, gives_up, heard, in_service, is_msu, next, offer_refusal, offered, rises, runs_out, taken, takes, with_known, stepped}
 use Rattle.set_model.specs.Changeover.{Order, Cba, Cbd, Coa, Coo, Eca, Eco, Reached, Unanswered, Unknown, Upto, acknowledged_by, answered, can_declare, changed_over, declared, declared_from, is_reasonable, leaving_order, left_by, left_link, moved_over, order_obeyed, queued, released, released_from, reply_of, settled, some_in_use}
 use Rattle.set_model.specs.Control.{part_of}
 use Rattle.set_model.specs.Frame.{BringsAbout, BringsBackTo, Concerns}
@@ -12,6 +12,7 @@ use Rattle.set_model.specs.Rows.{DiscardCause, Emergency, NoAnswer as NoAnswerCa
 use Rattle.set_model.specs.Sound.{BeginsNone}
 use Rattle.set_model.specs.State.{Phase, Down, Settled, Up, LinkState, State, is_up, last_accepted, window_of}
 use Rattle.set_model.proofs.Lists.{within, get_set_same}
+use Rattle.std.proofs.lemmas.List.{length-set}
 
 -- where a link stands, left or in service
 pub record IsAt (n : ℕ) (link : LinkState) (phase : Phase) (s : State) : Type 0 where
@@ -153,3 +154,12 @@ module _ (s : State) (R : State → State → Type 0) (S : State → Type 0) whe
   step_walks (NoAnswer n) w = on_walks n (λ link. gives_up n s link link.phase) w.unmoved (λ link there. give_walks n link link.phase w (record { there = there; phase_is = refl }))
   step_walks (Restore n) w = in_walks n (λ link. comes_back n s) w.unmoved (λ link at. grind (arith, declare_walks))
   step_walks (BackTimeout n) w = on_walks n (λ link. runs_out n s) w.unmoved (λ link there. timeout_walks n w)
+
+-- The sealed step is its cases.
+pub step_is : (s : State) (event : Event) → step s event ≡ stepped s event
+unfolding step
+step_is s event = refl
+
+-- No event changes how many links a set has.
+pub link_count_stays : (s : State) (event : Event) → length (step s event).state.links ≡ length s.links
+link_count_stays s event = step_walks s (λ t u. length u.links ≡ length t.links) (λ t. length t.links ≡ length s.links) event (grind (arith, length-set))

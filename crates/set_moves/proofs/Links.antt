@@ -5,14 +5,13 @@ use Rattle.set_moves.specs.Parts.{Link, Parts, link_of, kept_of, AtLink, IsOut}
 use Rattle.std.proofs.lemmas.List.{length-map}
 use Rattle.set_moves.specs.Agreement.{Kept, StandsFor}
 use Rattle.set_model.specs.State.{LinkState, State, link_count, has_phase_up, target}
-use Rattle.set_model.proofs.Lists.{here, map_at, map_set, map_set_same, same_at, at_map, present}
+use Rattle.set_model.proofs.Lists.{here, map_at, map_set, map_set_same, same_at, at_map, present, target_up}
 use Rattle.std.proofs.lemmas.Bool.{ne_eqb}
 use Rattle.std.proofs.lemmas.Simd.{map-map}
 use Rattle.set_queues.specs.Buffers.{Fate, Lists, IsKnown}
 use Rattle.set_queues.proofs.Settling.{IsAside, aside_of}
 use Rattle.set_model.specs.Changeover.{fate_on}
 use Rattle.set_route.specs.Target.{target_of}
-use Rattle.set_model.proofs.Targets.{target_up}
 
 -- the link that an index of this number read
 module _ (links : List Link) (n i : ℕ) (x : Link) (is : i ≡ n) (known : n < length links) (read : x ≡ slice_index_or links i x) where

@@ -17,7 +17,7 @@ use Rattle.set_queues.proofs.Settling.{IsAside, settling}
 use Rattle.set_model.specs.Rows.{Fate, Waiting, Unacked, Acked, Held, Parked, Back, Discarded, DiscardCause, Emergency, Unreasonable, NoAnswer, Row, standing, is_waiting, is_unacked, is_on, is_parked, is_back, wait, on, numbers, turned, changed, moved, all_with, appended, row_of, place, IsNumbered, IsInOrder, IsHeldLast, unack}
 use Rattle.set_model.specs.Changeover.{fate_on, reached_by, is_reasonable, judged, judged_link}
 use Rattle.set_model.specs.Laws.{SameMessages}
-use Rattle.set_model.proofs.Finding.{new_row, numbered_appended, is_found}
+use Rattle.set_model.proofs.Rows.{new_row, numbered_appended, is_found}
 use Rattle.set_model.proofs.Order.{on_in_order}
 use Rattle.set_moves.specs.Agreement.{Message, Stands, rows_at, label_in, label_of, kind_of, Kept, StandsFor}
 use Rattle.set_moves.proofs.RowsAt.{given_all, none_at, final_none, Shifts, appended_at, sent_shifts, turned_shifts, changed_shifts, moved_shifts, is_there}

@@ -14,7 +14,7 @@ use Rattle.set_model.specs.State.{State, LinkState, settings_of, new_link, new_s
 use Rattle.set_model.specs.Step.{Event, Answer, step, stepped}
 use Rattle.set_model.proofs.Lists.{map_at}
 use Rattle.set_model.proofs.Soundness.{opened_sound, step_sound}
-use Rattle.set_model.proofs.Stepping.{step_is}
+use Rattle.set_model.proofs.Walk.{step_is}
 use Rattle.set_moves.specs.declared.parts.Parts.{Parts}
 use Rattle.set_moves.specs.Agreement.{Agrees, Holds, HoldsFew, rows_at}
 use Rattle.set_step.specs.Answering.{AnswersFor}

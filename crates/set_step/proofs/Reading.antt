@@ -7,8 +7,7 @@ use Rattle.set_queues.specs.Counts.{one_if}
 use Rattle.set_queues.specs.Kind.{is_of, is_users}
 use Rattle.set_queues.specs.Messages.{unsent_of, count_of, counts_of}
 use Rattle.set_model.specs.Rows.{Fate, Unacked, Row, row_of, unsent, is_unsent, IsNumbered, standing, users, counts_of as counts_in}
-use Rattle.set_model.proofs.Finding.{with_number}
-use Rattle.set_model.proofs.Lookups.{row_is_first}
+use Rattle.set_model.proofs.Rows.{with_number, row_is_first}
 use Rattle.set_moves.specs.Agreement.{Message, Label, Stands, kind_of, label_in, label_of, Kept, StandsFor}
 use Rattle.std.proofs.lemmas.Option.{slice_get_past, slice_get-map}
 use Rattle.std.proofs.lemmas.List.Elements.{filter_agree}

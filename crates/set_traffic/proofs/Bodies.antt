@@ -4,7 +4,7 @@ use Rattle.set_queues.specs.Buffers.{is_standing, queue_at}
 use Rattle.set_queues.specs.Messages.{octets_at, octets_of}
 use Rattle.set_model.specs.Rows.{Fate, Unacked, Row, is_unacked, unack, numbers, octets_in, body_at, AreFit}
 use Rattle.set_model.specs.State.{State}
-use Rattle.set_model.proofs.Lookups.{Found, found_by_number, row_in_filter}
+use Rattle.set_model.proofs.Rows.{Found, found_by_number, row_in_filter}
 use Rattle.set_moves.specs.Agreement.{Message, Kept, StandsFor, rows_at}
 use Rattle.set_moves.proofs.RowsAt.{is_there, rows_as}
 

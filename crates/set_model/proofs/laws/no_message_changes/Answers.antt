@@ -1,4 +1,4 @@
-use Rattle.set_model.proofs.Stating.{messages_stay}
+use Rattle.set_model.proofs.Staying.{messages_stay}
 use Rattle.set_model.proofs.laws.no_message_changes.Goals as goal
 
 pub returns : goal.returns

@@ -3,7 +3,7 @@ use Rattle.set_model.specs.Changeover.{Coa, queued, left_by, left_link}
 use Rattle.set_model.specs.State.{last_accepted, target}
 use Rattle.set_model.proofs.Lists.{within, get_set_same}
 use Rattle.set_model.proofs.SoundBack.{leaves}
-use Rattle.set_model.proofs.SoundNew.{queues}
+use Rattle.set_model.proofs.SoundLink.{queues}
 use Rattle.set_model.proofs.Walk.{IsAt}
 use Rattle.set_moves.specs.Agreement.{StandsFor}
 use Rattle.set_moves.specs.Parts.{Up, link_of, kept_of}

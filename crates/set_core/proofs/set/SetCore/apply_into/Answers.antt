@@ -3,7 +3,7 @@ use Rattle.set_events.specs.declared.history.Entry.{Entry}
 use Rattle.set_model.specs.History.{is_user, is_terminal, after}
 use Rattle.set_model.specs.State.{State, new_state}
 use Rattle.set_model.specs.Step.{step}
-use Rattle.set_model.proofs.Gaining.{step_gains}
+use Rattle.set_model.proofs.Staying.{step_gains}
 use Rattle.set_step.specs.Answering.{AnswersFor}
 use Rattle.set_core.specs.Keeping.{IsKept}
 use Rattle.set_core.proofs.Calls.{any_few}

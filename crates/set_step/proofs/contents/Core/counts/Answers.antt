@@ -1,7 +1,6 @@
 use Rattle.std.proofs.Common.{arith, ◌≡◌, ◌∙◌, ap, length}
 use Rattle.set_model.specs.Rows.{is_users, users, total_of}
-use Rattle.set_model.proofs.Counting.{total_is}
-use Rattle.set_model.proofs.Filters.{fewer_filter}
+use Rattle.set_model.proofs.Rows.{total_is, fewer_filter}
 use Rattle.set_model.specs.State.{State}
 use Rattle.set_moves.specs.Agreement.{StandsFor}
 use Rattle.set_moves.specs.Parts.{kept_of}

@@ -1,0 +1,281 @@
+-- Filters of rows, and of rows with other fates.
+use Rattle.std.proofs.Common.{refl, arith, ◌≡◌, ◌∙◌, ap, sym, [], ◌∷◌, length, ◌≤◌, Bool, true, false, List, ◌++◌, map, filter, not, ◌+◌, ◌<◌, ℕ, nat_lt, ◌==◌, None, cond, zero, suc, drop, Some, slice_get, option_map}
+use Rattle.set_model.specs.Rows.{Fate, AreFit, Row, fated, standing, IsNumbered, moved, counts_of, is_parked, stands_back, total_of, users, waits, was_acked, was_discarded, was_held, was_sent, appended, row_of, IsHeldLast, IsInOrder, body_at, changed, is_held, is_unacked, is_waiting, turned, unack, wait, with_fate, numbers, place}
+use Rattle.std.proofs.lemmas.List.{append-nil, length-append, length-map, length_push}
+use Rattle.std.proofs.lemmas.List.Elements.{filter-append}
+use Rattle.std.proofs.lemmas.List.Filters.{length-filter_both}
+use Rattle.std.proofs.lemmas.Bool.Decides.{nat_tests}
+
+-- One filter after another.
+pub filter_comm : (p q : Row → Bool) (xs : List Row) → filter p (filter q xs) ≡ filter q (filter p xs)
+filter_comm p q [] = refl
+filter_comm p q (x ∷ xs) = grind (arith, filter_comm p q xs)
+
+-- what the first test keeps passes the second
+pub filter_within : (p q : Row → Bool) → ((x : Row) → p x ≡ true → q x ≡ true) → (xs : List Row) → filter p (filter q xs) ≡ filter p xs
+filter_within p q w [] = refl
+filter_within p q w (x ∷ xs) = grind (arith, filter_within p q w xs)
+
+pub none_within : (test other : Fate → Bool) → ((f : Fate) → test f ≡ true → other f ≡ true) → (rows : List Row) → standing other rows ≡ [] → standing test rows ≡ []
+none_within test other w rows none = sym (filter_within (λ row. test row.fate) (λ row. other row.fate) (λ row. w row.fate) rows) ∙ ap (standing test) none
+
+-- nothing passes both
+pub filter_apart : (p q : Row → Bool) → ((x : Row) → p x ≡ true → q x ≡ false) → (xs : List Row) → filter p (filter q xs) ≡ []
+filter_apart p q w [] = refl
+filter_apart p q w (x ∷ xs) = grind (arith, filter_apart p q w xs)
+
+pub fewer_filter : (p : Row → Bool) (rows : List Row) → length (filter p rows) ≤ length rows
+fewer_filter p [] = omega arith
+fewer_filter p (x ∷ rows) = grind (arith, fewer_filter p rows)
+
+-- Rows that all got their fates.
+pub filter_fated : (p : Row → Bool) (fate : Row → Fate) → ((x : Row) → p (fated fate x) ≡ p x) → (xs : List Row) → filter p (map (fated fate) xs) ≡ map (fated fate) (filter p xs)
+filter_fated p fate same [] = refl
+filter_fated p fate same (x ∷ xs) = grind (arith, filter_fated p fate same xs)
+
+pub fated_all : (test : Fate → Bool) (fate : Row → Fate) → ((x : Row) → test (fate x) ≡ true) → (xs : List Row) → standing test (map (fated fate) xs) ≡ map (fated fate) xs
+fated_all test fate h [] = refl
+fated_all test fate h (x ∷ xs) = rw (h x) (ap (λ (ys : List Row). fated fate x ∷ ys) (fated_all test fate h xs))
+
+pub fated_none : (test : Fate → Bool) (fate : Row → Fate) → ((x : Row) → test (fate x) ≡ false) → (xs : List Row) → standing test (map (fated fate) xs) ≡ []
+fated_none test fate h [] = refl
+fated_none test fate h (x ∷ xs) = rw (h x) (fated_none test fate h xs)
+
+-- Bodies.
+pub fit_append : (xs ys : List Row) → AreFit xs → AreFit ys → AreFit (xs ++ ys)
+fit_append [] ys a b = b
+fit_append (x ∷ xs) ys a b = (a.0, fit_append xs ys a.1 b)
+
+pub fit_filter : (p : Row → Bool) (xs : List Row) → AreFit xs → AreFit (filter p xs)
+fit_filter p [] a = a
+fit_filter p (x ∷ xs) a = grind (arith, fit_filter p xs a.1)
+
+pub fit_fated : (fate : Row → Fate) (xs : List Row) → AreFit xs → AreFit (map (fated fate) xs)
+fit_fated fate [] a = a
+fit_fated fate (x ∷ xs) a = (a.0, fit_fated fate xs a.1)
+
+-- Rows that leave their places and stand at the end, each with its fate.
+module _ (test : Fate → Bool) (fate : Row → Fate) where
+  pub moved_length : (rows : List Row) → length (moved test fate rows) ≡ length rows
+  moved_length rows = grind (arith, length-append, length-map, length-filter_both)
+
+  -- a test that doesn't look at the fate keeps the rows of the move that the list kept
+  pub filter_moved : (p : Row → Bool) → ((x : Row) → p (fated fate x) ≡ p x) → (rows : List Row) → filter p (moved test fate rows) ≡ moved test fate (filter p rows)
+  filter_moved p same rows = search (filter-append, filter_comm, filter_fated)
+
+  pub moved_numbered : (rows : List Row) → IsNumbered rows → IsNumbered (moved test fate rows)
+  moved_numbered rows numbered number = grind (arith, filter_moved, moved_length, numbered)
+
+  pub moved_fit : (rows : List Row) → AreFit rows → AreFit (moved test fate rows)
+  moved_fit rows a = search (fit_append, fit_filter, fit_fated)
+
+-- WHAT THE FILTERS SEE OF A MOVE.
+module _ (test other : Fate → Bool) (fate : Row → Fate) (rows : List Row) where
+  parts : standing other (moved test fate rows) ≡ standing other (standing (λ f. not (test f)) rows) ++ standing other (map (fated fate) (standing test rows))
+  parts = filter-append (λ (row : Row). other row.fate) (standing (λ f. not (test f)) rows) (map (fated fate) (standing test rows))
+
+  -- those that stay where none goes
+  pub others_stay : ((f : Fate) → test f ≡ true → other f ≡ false) → standing other (standing (λ f. not (test f)) rows) ≡ standing other rows
+  others_stay w = filter_within (λ (row : Row). other row.fate) (λ (row : Row). not (test row.fate)) (λ x e. grind (arith, w)) rows
+
+  -- a place from which all rows go
+  pub moved_gone : ((row : Row) → other (fate row) ≡ false) → ((f : Fate) → other f ≡ true → test f ≡ true) → standing other (moved test fate rows) ≡ []
+  moved_gone h w = grind (arith, parts, filter_apart, fated_none)
+
+  -- a place where none goes and none comes
+  pub moved_same : ((row : Row) → other (fate row) ≡ false) → ((f : Fate) → test f ≡ true → other f ≡ false) → standing other (moved test fate rows) ≡ standing other rows
+  moved_same h w = search (parts, others_stay, fated_none, append-nil)
+
+  -- a place where they come, behind those that stand there
+  pub moved_joined : ((row : Row) → other (fate row) ≡ true) → ((f : Fate) → test f ≡ true → other f ≡ false) → standing other (moved test fate rows) ≡ standing other rows ++ map (fated fate) (standing test rows)
+  moved_joined h w = search (parts, others_stay, fated_all)
+
+  -- a place where some of them come, behind those that stand there
+  pub moved_more : ((f : Fate) → test f ≡ true → other f ≡ false) → standing other (moved test fate rows) ≡ standing other rows ++ standing other (map (fated fate) (standing test rows))
+  moved_more w = parts ∙ ap (λ (ys : List Row). ys ++ standing other (map (fated fate) (standing test rows))) (others_stay w)
+
+  -- a place from which they go, where none of them comes
+  pub moved_off : standing other (map (fated fate) (standing test rows)) ≡ [] → standing other (moved test fate rows) ≡ standing (λ f. not (test f)) (standing other rows)
+  moved_off e = grind (arith, parts, append-nil, filter_comm)
+
+-- where no row moves
+none_move : (test : Fate → Bool) (xs : List Row) → standing test xs ≡ [] → standing (λ f. not (test f)) xs ≡ xs
+none_move test [] e = refl
+none_move test (x ∷ xs) e = grind (arith, none_move test xs)
+
+pub moved_nothing : (test : Fate → Bool) (fate : Row → Fate) (rows : List Row) → standing test rows ≡ [] → moved test fate rows ≡ rows
+moved_nothing test fate rows e = grind (arith, append-nil, none_move)
+
+-- Each message is counted in one place.
+pub all_counted : (rows : List Row) → length (standing waits rows) + length (standing was_sent rows) + length (standing was_acked rows) + length (standing was_held rows) + length (standing is_parked rows) + length (standing stands_back rows) + length (standing was_discarded rows) ≡ length rows
+all_counted [] = refl
+all_counted (x ∷ rows) = grind (arith, all_counted rows)
+
+pub total_is : (rows : List Row) → total_of (counts_of rows) ≡ length (users rows)
+total_is rows = omega (arith, all_counted (users rows))
+
+-- Rows that are looked up, where each number stands in one row.
+-- the rows of a number
+abbrev pub with_number : ℕ → List Row → List Row
+with_number number rows = filter (λ row. row.number == number) rows
+
+-- a number below the length is found
+pub not_found : (number : ℕ) (rows : List Row) → row_of number rows ≡ None → with_number number rows ≡ []
+not_found number [] e = refl
+not_found number (x ∷ rows) e = grind (arith, not_found number rows)
+
+pub is_found : (number : ℕ) (rows : List Row) → IsNumbered rows → number < length rows → row_of number rows ≡ None → ⊥
+is_found number rows numbered below e = let one = numbered number in grind (arith, nat_tests, not_found, one)
+
+-- A new row has the next number.
+abbrev pub new_row : ℕ → List ℕ → Fate → Row
+new_row number body fate = record { number = number; body = body; fate = fate }
+
+pub numbered_appended : (rows : List Row) (body : List ℕ) (fate : Fate) → IsNumbered rows → IsNumbered (appended rows body fate)
+numbered_appended rows body fate numbered number = grind (arith, nat_tests, filter-append, length-append, length_push)
+
+pub fit_appended : (rows : List Row) (body : List ℕ) (fate : Fate) → AreFit rows → length body ≤ 273 → AreFit (appended rows body fate)
+fit_appended rows body fate a f = fit_append rows (new_row (length rows) body fate ∷ []) a (f, tt)
+
+-- rows of the same numbers
+pub same_numbers : (rows new : List Row) → length new ≡ length rows → ((number : ℕ) → length (with_number number new) ≡ length (with_number number rows)) → IsNumbered rows → IsNumbered new
+same_numbers rows new long each numbered number = each number ∙ numbered number ∙ ap (λ (n : ℕ). cond (nat_lt number n) 1 0) (sym long)
+
+-- Rows that get another fate in their places: the first n where a test tells, or all.
+-- What is kept where a row stays, and where one turns, is kept by both changes.
+module _ (test : Fate → Bool) (fate : Fate) (P : List Row → List Row → Type 0) (none : P [] []) (stays : (x : Row) (xs ys : List Row) → P xs ys → P (x ∷ xs) (x ∷ ys)) (turns : (x : Row) (xs ys : List Row) → test x.fate ≡ true → P xs ys → P (x ∷ xs) (with_fate fate x ∷ ys)) where
+  pub where_turned : (n : ℕ) (rows : List Row) → P rows (turned test fate n rows)
+  where_turned zero [] = none
+  where_turned zero (x ∷ rows) = stays x rows rows (where_turned zero rows)
+  where_turned (suc n) [] = none
+  where_turned (suc n) (x ∷ rows) = grind (arith, where_turned n rows, where_turned (suc n) rows)
+
+  pub where_changed : (rows : List Row) → P rows (changed test fate rows)
+  where_changed [] = none
+  where_changed (x ∷ rows) = grind (arith, where_changed rows)
+
+-- THE MESSAGES.
+pub record InPlace (test : Fate → Bool) (xs ys : List Row) : Type 0 where
+  pub count : length ys ≡ length xs
+  pub fit : AreFit xs → AreFit ys
+  pub as_many : (p : Row → Bool) → ((f : Fate) (x : Row) → p (with_fate f x) ≡ p x) → length (filter p ys) ≡ length (filter p xs)
+  pub bodies : (number : ℕ) → body_at number ys ≡ body_at number xs
+  -- where no acknowledged one turns
+  pub acked : ((f : Fate) → test f ≡ true → was_acked f ≡ false) → length (standing was_acked (users xs)) ≤ length (standing was_acked (users ys))
+
+module _ (test : Fate → Bool) (fate : Fate) where
+  pub turned_there : (n : ℕ) (rows : List Row) → InPlace test rows (turned test fate n rows)
+  turned_there n rows = where_turned test fate (InPlace test) (grind arith) (λ x xs ys p. grind arith) (λ x xs ys h p. grind arith) n rows
+
+  pub changed_there : (rows : List Row) → InPlace test rows (changed test fate rows)
+  changed_there rows = where_changed test fate (InPlace test) (grind arith) (λ x xs ys p. grind arith) (λ x xs ys h p. grind arith) rows
+
+-- A PLACE where none turns and none comes.
+module _ (test other : Fate → Bool) (fate : Fate) (o : other fate ≡ false) (w : (f : Fate) → test f ≡ true → other f ≡ false) where
+  pub turned_same : (n : ℕ) (rows : List Row) → standing other (turned test fate n rows) ≡ standing other rows
+  turned_same = where_turned test fate (λ xs ys. standing other ys ≡ standing other xs) refl (λ x xs ys p. grind arith) (λ x xs ys h p. grind arith)
+
+  pub changed_same : (rows : List Row) → standing other (changed test fate rows) ≡ standing other rows
+  changed_same = where_changed test fate (λ xs ys. standing other ys ≡ standing other xs) refl (λ x xs ys p. grind arith) (λ x xs ys h p. grind arith)
+
+-- a place where none comes has no more than before
+module _ (test other : Fate → Bool) (fate : Fate) (none : other fate ≡ false) where
+  pub fewer_turned : (n : ℕ) (rows : List Row) → length (standing other (turned test fate n rows)) ≤ length (standing other rows)
+  fewer_turned = where_turned test fate (λ xs ys. length (standing other ys) ≤ length (standing other xs)) (omega arith) (λ x xs ys p. grind arith) (λ x xs ys h p. grind arith)
+
+  pub fewer_changed : (rows : List Row) → length (standing other (changed test fate rows)) ≤ length (standing other rows)
+  fewer_changed = where_changed test fate (λ xs ys. length (standing other ys) ≤ length (standing other xs)) (omega arith) (λ x xs ys p. grind arith) (λ x xs ys h p. grind arith)
+
+-- A LINK'S ORDER, where none comes to wait or to be held, and none to be unacknowledged.
+module _ (n : ℕ) (test : Fate → Bool) (fate : Fate) (u : is_unacked n fate ≡ false) (v : is_waiting n fate ≡ false) (h : is_held n fate ≡ false) where
+  pub record Ordered (xs ys : List Row) : Type 0 where
+    pub unack_none : unack n xs ≡ [] → unack n ys ≡ []
+    pub wait_none : wait n xs ≡ [] → wait n ys ≡ []
+    pub in_order : IsInOrder n xs → IsInOrder n ys
+    pub held_last : IsHeldLast n xs → IsHeldLast n ys
+
+  pub turned_ordered : (k : ℕ) (rows : List Row) → Ordered rows (turned test fate k rows)
+  turned_ordered k rows = where_turned test fate Ordered (grind arith) (λ x xs ys p. grind arith) (λ x xs ys e p. grind arith) k rows
+
+  pub changed_ordered : (rows : List Row) → Ordered rows (changed test fate rows)
+  changed_ordered rows = where_changed test fate Ordered (grind arith) (λ x xs ys p. grind arith) (λ x xs ys e p. grind arith) rows
+
+-- those that turned left their place
+pub turned_left : (test : Fate → Bool) (fate : Fate) → test fate ≡ false → (n : ℕ) (rows : List Row) → standing test (turned test fate n rows) ≡ drop n (standing test rows)
+turned_left test fate o zero rows = refl
+turned_left test fate o (suc n) [] = refl
+turned_left test fate o (suc n) (x ∷ rows) = grind (arith, turned_left test fate o n rows, turned_left test fate o (suc n) rows)
+
+-- nothing turns where no row stands
+pub turned_nothing : (test : Fate → Bool) (fate : Fate) (n : ℕ) (rows : List Row) → standing test rows ≡ [] → turned test fate n rows ≡ rows
+turned_nothing test fate = where_turned test fate (λ xs ys. standing test xs ≡ [] → ys ≡ xs) (λ e. refl) (λ x xs ys p e. grind arith) (λ x xs ys h p e. grind arith)
+
+-- all that changed left their place
+pub changed_left : (test : Fate → Bool) (fate : Fate) → test fate ≡ false → (rows : List Row) → standing test (changed test fate rows) ≡ []
+changed_left test fate o [] = refl
+changed_left test fate o (x ∷ rows) = grind (arith, changed_left test fate o rows)
+
+-- What is found under a number, before and after a change.
+-- the row as such a move leaves it
+abbrev pub moved_row : (Fate → Bool) → (Row → Fate) → Row → Row
+moved_row test fate row = cond (test row.fate) (fated fate row) row
+
+-- a number has one row at most
+pub at_most_one : (number : ℕ) (rows : List Row) → IsNumbered rows → length (with_number number rows) ≤ 1
+at_most_one number rows numbered = grind arith
+
+-- the row of a number is the first of its rows
+pub row_is_first : (number : ℕ) (rows : List Row) → row_of number rows ≡ slice_get (with_number number rows) 0
+row_is_first number [] = refl
+row_is_first number (x ∷ rows) = grind (arith, row_is_first number rows)
+
+-- A MOVE: the row of a number is the one that it was, with the fate if it moved.
+module _ (test : Fate → Bool) (fate : Row → Fate) where
+  few_moved : (rows : List Row) → length rows ≤ 1 → slice_get (moved test fate rows) 0 ≡ option_map (moved_row test fate) (slice_get rows 0)
+  few_moved [] l = refl
+  few_moved (x ∷ []) l = grind arith
+  few_moved (x ∷ y ∷ rows) l = absurd (omega (arith, l))
+
+  row_moved : (number : ℕ) (rows : List Row) → IsNumbered rows → row_of number (moved test fate rows) ≡ option_map (moved_row test fate) (row_of number rows)
+  row_moved number rows numbered = grind (arith, row_is_first, filter_moved, few_moved)
+
+  pub place_moved : (number : ℕ) (rows : List Row) → IsNumbered rows → place number (moved test fate rows) ≡ option_map (λ r. cond (test r.fate) (fate r) r.fate) (row_of number rows)
+  place_moved number rows numbered = grind (arith, row_moved)
+
+  pub body_moved : (number : ℕ) (rows : List Row) → IsNumbered rows → body_at number (moved test fate rows) ≡ body_at number rows
+  body_moved number rows numbered = grind (arith, row_moved)
+
+-- UNIQUE: a row of a filter is the one that its number finds.
+pub no_rows : (xs : List Row) → length xs ≡ 0 → xs ≡ []
+no_rows [] e = refl
+no_rows (x ∷ xs) e = absurd (omega (arith, e))
+
+found_in : (p : Row → Bool) (rows : List Row) (i k : ℕ) (row : Row) → slice_get (filter p rows) i ≡ Some row → row.number ≡ k → length (with_number k rows) ≤ 1 → with_number k rows ≡ row ∷ []
+found_in p [] i k row e n l = absurd cc
+found_in p (x ∷ rows) zero k row e n l = grind (arith, nat_tests, no_rows (with_number k rows), found_in p rows zero k row)
+found_in p (x ∷ rows) (suc i) k row e n l = grind (arith, nat_tests, no_rows (with_number k rows), found_in p rows i k row, found_in p rows (suc i) k row)
+
+pub row_in_filter : (p : Row → Bool) (rows : List Row) (i k : ℕ) (row : Row) → IsNumbered rows → slice_get (filter p rows) i ≡ Some row → row.number ≡ k → row_of k rows ≡ Some row
+row_in_filter p rows i k row numbered e n = let one = found_in p rows i k row e n (at_most_one k rows numbered) in grind (arith, row_is_first)
+
+-- the number of a row in a filter is below the length
+pub number_below : (p : Row → Bool) (rows : List Row) (i : ℕ) (row : Row) → IsNumbered rows → slice_get (filter p rows) i ≡ Some row → row.number < length rows
+number_below p rows i row numbered e = let known = numbered row.number in grind (arith, nat_tests, found_in p rows i row.number row e refl (at_most_one row.number rows numbered), known)
+
+pub row_at_number : (rows : List Row) (i number : ℕ) → slice_get (numbers rows) i ≡ Some number → (row : Row) × (slice_get rows i ≡ Some row) × (row.number ≡ number)
+row_at_number [] i number e = absurd cc
+row_at_number (x ∷ rows) zero number e = (x, refl, cc)
+row_at_number (x ∷ rows) (suc i) number e = row_at_number rows i number e
+
+-- Whoever keeps the numbers of a filter, as a window does, finds under each of them the row of that place.
+pub record Found (p : Row → Bool) (rows : List Row) (i number : ℕ) : Type 0 where
+  pub row : Row
+  pub there : slice_get (filter p rows) i ≡ Some row
+  pub number_is : row.number ≡ number
+  pub row_is : row_of number rows ≡ Some row
+  pub body_is : body_at number rows ≡ Some row.body
+  pub place_is : place number rows ≡ Some row.fate
+  pub below : number < length rows
+
+pub found_by_number : (p : Row → Bool) (rows : List Row) (i number : ℕ) → IsNumbered rows → slice_get (numbers (filter p rows)) i ≡ Some number → Found p rows i number
+found_by_number p rows i number numbered e = grind (arith, row_at_number, row_in_filter, number_below)
