@@ -18,7 +18,6 @@ pub fn a_move_moves_the_links_rows()
 /// No event takes a message out, or gives one another number or another body: each stands in exactly
 /// one place, before and after. So a changeover neither loses a message nor doubles one within the set
 /// (Q.704 5.1.1).
-#[tactic(auto, using(crate::proofs::Staying::keeps_messages))]
 pub fn no_event_changes_a_message()
     ensures { NoEventChangesAMessage }
 {}
@@ -48,20 +47,17 @@ pub fn a_changeover_diverts_the_rest()
 {}
 
 /// Each accepted message stands in one place more, and what is acknowledged stays so.
-#[tactic(auto, using(crate::proofs::Staying::step_gains))]
 pub fn a_step_gains()
     ensures { AStepGains }
 {}
 
 /// An event sends at most one message on each link, and accepts at most one body there, so each whole number of a
 /// link's life is at most the number of the set's events.
-#[tactic(auto, using(crate::proofs::Ranging::step_at_most))]
 pub fn a_step_counts()
     ensures { AStepCounts }
 {}
 
 /// A set that nothing was asked of is sound, and has no number yet.
-#[tactic(auto, using(crate::proofs::Soundness::opened_sound, crate::proofs::Soundness::opened_few, crate::proofs::Soundness::opened_straight))]
 pub fn a_new_set_is_sound()
     ensures { ANewSetIsSound }
 {}
@@ -72,7 +68,6 @@ pub fn a_new_set_is_sound()
 /// that isn't settled, or is on its way back from one; nothing is aside while a link is up; the home of an
 /// open changeback code is up, and what waits for its acknowledgement is of streams on their way back by
 /// it, in the order of their numbers.
-#[tactic(auto, using(crate::proofs::Soundness::step_sound))]
 pub fn every_step_keeps_a_set_sound()
     ensures { EveryStepKeepsASetSound }
 {}
@@ -80,14 +75,12 @@ pub fn every_step_keeps_a_set_sound()
 /// An event leaves all links alone that it doesn't concern: its own link, that of an order which its unit
 /// brings, and the one on which an offered message's stream runs. Messages can come to wait for another
 /// one, last, if it's up.
-#[tactic(auto, using(crate::proofs::Framing::leaves_alone))]
 pub fn an_event_leaves_the_rest_alone()
     ensures { AnEventLeavesTheRestAlone }
 {}
 
 /// What is sent and what is heard moves a link's window as its error control's own step does, and where
 /// a heard unit brings no order that is all that happens to rows and links (Q.703 5 and 6).
-#[tactic(auto, using(crate::proofs::Framing::window_moves))]
 pub fn a_window_moves_as_its_control()
     ensures { AWindowMovesAsItsControl }
 {}
