@@ -25,7 +25,7 @@ use Rattle.set_model.proofs.Places.{apart, itself, home_back}
 use Rattle.set_model.proofs.Ranging.{offered_out}
 use Rattle.set_model.proofs.Settling.{no_target}
 use Rattle.set_model.proofs.SoundBack.{leaves}
-use Rattle.set_model.proofs.SoundNew as new
+use Rattle.set_model.proofs.SoundLink as new
 use Rattle.set_model.proofs.Walk.{IsAt}
 use Rattle.pair_model.specs.Run.{Message, messages}
 use Rattle.pair_changeover.specs.Diverted.{queue_for, as_left, answer_on}

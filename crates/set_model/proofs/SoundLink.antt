@@ -8,10 +8,10 @@ use Rattle.set_model.specs.Control.{Header, Choice, Control, acked_by, choice_of
 use Rattle.set_model.specs.Sound.{IsInRange, IsOf, IsPlaced, IsSound, IsSoundLink, AreBack, IsBackOf}
 use Rattle.std.proofs.lemmas.List.Elements.{filter-append}
 use Rattle.l2_units.specs.Grammar.{head_of as header_in}
-use Rattle.set_route.specs.Routing.{Routing, accepted, place_of}
+use Rattle.set_route.specs.Routing.{IsRouting, Routing, accepted, code_of, home_of, place_of}
 use Rattle.set_model.specs.Changeover.{acknowledged_by, Order, fate_on, queued}
 use Rattle.set_model.specs.Rows.{DiscardCause, Fate, Acked, Discarded, Unacked, Row, back, changed, fated, held, is_held, is_on, is_unacked, is_waiting, moved, octets_in, on, standing, stands_back, unack, wait, Back, Held, Parked, Waiting, appended, parked, service_indicator, stream_of}
-use Rattle.set_model.specs.State.{Place, Changing, Nowhere, On, Down, Up, LinkState, State, has_phase_settled, has_phase_up, last_accepted, link_is_up, window_of, fate_at, target}
+use Rattle.set_model.specs.State.{Asked, is_up, Place, Changing, Nowhere, On, Down, Up, LinkState, State, has_phase_settled, has_phase_up, last_accepted, link_is_up, window_of, fate_at, target}
 use Rattle.set_model.specs.Step.{SignalUnit, after_control, is_msu, next, rows_sent, offer_refusal, offered}
 use Rattle.set_model.proofs.Order.{backs_same, order_append, last_none, last_append, last_alone, gone_none, coded_at, backs_kept, ascends_appended, each_append}
 use Rattle.set_model.proofs.Events.{kept_self, Untouched, untouched_self, sent, acknowledged, GivenUp, untouched, appended_out}
@@ -152,54 +152,54 @@ IsOpen Parked links = (number : ℕ) (link : LinkState) → slice_get links numb
 IsOpen (Back code) links = Unit {0}
 IsOpen _ links = ⊥
 
-module _ (s : State) (body : List ℕ) (t : IsSound s) where
-  pub link_appended : (fate : Fate) → IsOpen fate s.links → (k : ℕ) (other : LinkState) → slice_get s.links k ≡ Some other → IsSoundLink s.settings.method k other (appended s.rows body fate)
-  link_appended fate fits k other there = link_more s.settings.method k other s.rows (new_row (length s.rows) body fate ∷ []) (grind arith) (λ u. grind (arith, nat_tests)) (λ d. grind (arith, nat_tests)) (λ e. grind (arith, nat_tests)) s.rows refl (t.links k other there)
+-- WHERE A STREAM RUNS, as links and streams change, and what stands back by a code of which nothing moves.
+pub record Follows (links : List LinkState) (test : Fate → Bool) (was is : Place) : Type 0 where
+  pub placed : IsPlaced links is
+  pub runs : (number : ℕ) (link : LinkState) → slice_get links number ≡ Some link → has_phase_up link.phase ≡ true → is ≢ Nowhere
+  pub stays : (code via : ℕ) → test (Back code) ≡ false → was ≡ Changing (home_of code) code via → (via' : ℕ) × (is ≡ Changing (home_of code) code via')
 
-  pub none_parked : (fate : Fate) → IsOpen fate s.links → (k : ℕ) (other : LinkState) → slice_get s.links k ≡ Some other → has_phase_up other.phase ≡ true → parked (appended s.rows body fate) ≡ []
-  none_parked fate fits k other there rising = grind (arith, appended_out)
+module _ (s : State) (routing : Routing) (t : IsSound s) (sound : IsRouting routing) (same : routing.links ≡ s.routing.links) where
+  -- a new row
+  pub appended_sound : (body : List ℕ) (fate : Fate) → length body ≤ 273 → IsOpen fate s.links → IsBackOf s.routing (new_row (length s.rows) body fate) fate → ((k : ℕ) → k < 16 → Follows s.links (λ f. false) (place_of k s.routing) (place_of k routing))
+      → ((code : ℕ) → code_of code routing ≡ Asked → is_up (home_of code) s ≡ true) → IsSound (record s { rows = appended s.rows body fate; routing = routing })
+  appended_sound body fate fits opened is_back follows homes =
+      let links = λ (k : ℕ) (other : LinkState) (there : slice_get s.links k ≡ Some other). link_more s.settings.method k other s.rows (new_row (length s.rows) body fate ∷ []) (grind arith) (λ u. grind (arith, nat_tests)) (λ d. grind (arith, nat_tests)) (λ e. grind (arith, nat_tests)) s.rows refl (t.links k other there) in
+      let backs = backs_kept s.routing routing (λ k few. (follows k few).stays) (appended s.rows body fate) (each_append _ s.rows _ t.backs (is_back, tt)) in
+      record {
+        managed = t.managed;
+        routing = sound;
+        routed = same ∙ t.routed;
+        count = t.count;
+        numbered = numbered_appended s.rows body fate t.numbered;
+        fit = fit_appended s.rows body fate t.fit fits;
+        links = links;
+        placed = λ k few. (follows k few).placed;
+        none_aside = λ k other there rising. grind (arith, appended_out);
+        all_run = λ k other there rising stream low. (follows stream low).runs k other there rising;
+        homes_up = homes;
+        backs = backs;
+        back_order = ascends_appended (λ row. stands_back row.fate) s.rows body fate t.numbered t.back_order;
+      }
 
 -- AN ORDER goes to the target, and is of no stream.
 pub order_fits : (order : Order) (s : State) → length (text order s.settings.sio s.settings.dpc s.settings.opc) ≤ 273
 order_fits order s = grind arith
 
--- a message that doesn't stand back
-pub backs_appended : (routing : Routing) (rows : List Row) (body : List ℕ) (fate : Fate) → stands_back fate ≡ false → AreBack routing rows → AreBack routing (appended rows body fate)
-backs_appended routing rows body fate elsewhere b = grind (arith, each_append)
-
 pub queues : (order : Order) (s : State) → IsSound s → IsSound (queued order s)
 queues order s t =
-    let opened : IsOpen (fate_on (target s.links)) s.links = grind (arith, target_up, none_up) in
-    search (opened, numbered_appended, fit_appended, order_fits, link_appended, none_parked, backs_appended, target_elsewhere, ascends_appended)
+    appended_sound s s.routing t t.routing refl _ (fate_on (target s.links)) (order_fits order s) (grind (arith, target_up, none_up)) (grind arith)
+    (λ k few. record { placed = t.placed k few; runs = λ n link there up. t.all_run n link there up k few; stays = λ code via e is. (via, is) }) t.homes_up
 
 -- AN OFFER goes where its stream runs.
-module _ (s : State) (body : List ℕ) (t : IsSound s) (low : stream_of body < 16) (users : (service_indicator body == 0) ≡ false) where
-  abbrev stream : ℕ
-  stream = stream_of body
-
-  abbrev runs : Routing
-  runs = accepted stream s.routing
-
-  same_place : (k : ℕ) → k < 16 → place_of k runs ≡ place_of k s.routing
-  same_place k few = (alone s.routing k t.routing few).accepted_place stream
-
-  still_run : (n : ℕ) (link : LinkState) → slice_get s.links n ≡ Some link → has_phase_up link.phase ≡ true → (k : ℕ) → k < 16 → place_of k runs ≢ Nowhere
-  still_run n link there up k few = grind (arith, same_place)
-
-  one_back : (place : Place) → place_of stream s.routing ≡ place → IsBackOf runs (new_row (length s.rows) body (fate_at place s)) (fate_at place s)
-  one_back (Changing to code via) e =
-      let coded = coded_at s.routing stream t.routing to code via e in
-      (rw users refl, low, via, same_place stream low ∙ e ∙ ap (λ (k : ℕ). Changing k code via) (sym coded.0))
-  one_back _ e = grind arith
-
-  offer_backs : AreBack runs (appended s.rows body (fate_at (place_of stream s.routing) s))
-  offer_backs =
-      let kept = backs_kept s.routing runs (λ k few code via of e. (via, same_place k few ∙ e)) s.rows t.backs in
-      each_append _ s.rows _ kept (one_back _ refl, tt)
-
 pub offers : (s : State) (body : List ℕ) → stream_of body < 16 → offer_refusal s.rows body ≡ None → IsSound s → IsSound (offered None s body).state
 offers s body low free t =
+    let stream = stream_of body in
     let fits : (length body ≤ 273) × ((service_indicator body == 0) ≡ false) = grind (arith, free) in
-    let opened : IsOpen (fate_at (place_of (stream_of body) s.routing) s) s.links = grind (arith, t.placed (stream_of body) low, t.all_run) in
-    let backs = offer_backs s body t low fits.1 in
-    search (accepted_sound, numbered_appended, fit_appended, link_appended, same_place, t.placed, none_parked, still_run, t.homes_up, ascends_appended)
+    let placed = t.placed stream low in
+    let same = λ (k : ℕ) (few : k < 16). (alone s.routing k t.routing few).accepted_place stream in
+    appended_sound s (accepted stream s.routing) t (accepted_sound stream s.routing t.routing) refl body (fate_at (place_of stream s.routing) s) fits.0 (grind (arith, placed, t.all_run)) (one_back (place_of stream s.routing) refl)
+    (λ k few. rw (same k few) (record { placed = t.placed k few; runs = λ n link there up. t.all_run n link there up k few; stays = λ code via e is. (via, is) })) t.homes_up
+  where
+    one_back : (place : Place) → place_of (stream_of body) s.routing ≡ place → IsBackOf s.routing (new_row (length s.rows) body (fate_at place s)) (fate_at place s)
+    one_back (Changing to code via) e = let coded = coded_at s.routing (stream_of body) t.routing to code via e in grind (arith, free, low, coded)
+    one_back _ e = grind arith
