@@ -7,13 +7,14 @@ use Rattle.set_events.specs.declared.answer.Fate.TheVariants.{Discarded}
 use Rattle.set_events.specs.declared.answer.DiscardCause.TheVariants.{Emergency}
 use Rattle.set_model.specs.declared.phase.Phase.TheVariants.{Down}
 use Rattle.set_model.specs.declared.reached.Reached.TheVariants.{Upto, Unknown}
-use Rattle.set_model.specs.Rows.{Row, is_unacked, unack, wait, held, changed}
+use Rattle.set_model.specs.Rows.{Row, is_unacked, is_waiting, unack, wait, held, changed}
 use Rattle.set_model.specs.Sound.{IsSound}
 use Rattle.set_model.specs.State.{LinkState, State, is_up}
 use Rattle.set_model.specs.Changeover.{reached_by, is_reasonable, settled, settled_link}
-use Rattle.set_model.proofs.Events.{GivenUp, sent_given_up, unack_gone, wait_stays}
+use Rattle.set_model.proofs.Events.{ChangesOn, sent_given_up}
 use Rattle.set_model.proofs.Lists.{set_same}
-use Rattle.set_model.proofs.Places.{unacked_on}
+use Rattle.set_model.proofs.Places.{unacked_not_waiting}
+use Rattle.set_model.proofs.Rows.{changed_left, changed_same}
 use Rattle.set_model.proofs.SoundLink.{gives_up}
 use Rattle.set_model.proofs.Walk.{IsAt}
 use Rattle.pair_model.specs.Run.{Message, messages}
@@ -34,21 +35,21 @@ module _ (n : ℕ) (link : LinkState) (s f : State) (sound : IsSound s) (at : Is
   abbrev pub given_up : State
   given_up = record s { rows = changed (is_unacked n) (Discarded Emergency) s.rows }
 
-  does : GivenUp n s.rows given_up.rows
+  does : ChangesOn n s.rows given_up.rows
   does = sent_given_up n Emergency s.rows
 
   pub none_sent : unack n given_up.rows ≡ []
-  none_sent = unack_gone n Emergency s.rows
+  none_sent = changed_left (is_unacked n) (Discarded Emergency) refl s.rows
 
   pub given_up_at : IsAt n link Down given_up
   given_up_at = record { there = at.there; phase_is = at.phase_is }
 
   pub given_up_sound : IsSound given_up
-  given_up_sound = gives_up (is_unacked n) Emergency n link s (unacked_on n) does (rw none_sent (omega arith)) at sound
+  given_up_sound = gives_up (is_unacked n) Emergency n link s does (rw none_sent (omega arith)) at sound
 
   -- of its queue what wasn't sent is left, and other queues stay
   pub rest_is : (count : ℕ) → queue count n given_up.rows ≡ messages (wait n s.rows ++ held n s.rows)
-  rest_is count = rw (none_sent, wait_stays n Emergency s.rows, does.held_same, drop_none {X = Row} count) refl
+  rest_is count = rw (none_sent, changed_same (is_unacked n) (is_waiting n) (Discarded Emergency) refl (unacked_not_waiting n n) s.rows, does.held_same, drop_none {X = Row} count) refl
 
   pub own_rest : pending n given_up f ≡ messages (wait n s.rows ++ held n s.rows)
   own_rest = rest_is (accepted_on n f - acked_on n s)

@@ -4,7 +4,7 @@ use Rattle.std.proofs.lemmas.List.{append-nil, map-append, drop-append-le, take-
 use Rattle.set_events.specs.declared.answer.Fate.{Fate}
 use Rattle.set_events.specs.declared.answer.Fate.TheVariants.{Waiting, Unacked, Acked, Parked}
 use Rattle.set_model.specs.Rows.{Row, is_on, is_waiting, is_unacked, is_held, is_parked, all_with, unack, wait, held, parked, with_fate, turned, moved, appended, IsInOrder, IsHeldLast}
-use Rattle.set_model.proofs.Events.{Untouched, acknowledged, sent, moved_to, moved_aside, unparked, appended_in, appended_out, appended_untouched}
+use Rattle.set_model.proofs.Events.{Untouched, acknowledged, sent, moved_to, moved_aside, unparked, appended_in, appended_out, untouched}
 use Rattle.set_model.proofs.Rows.{new_row}
 use Rattle.pair_model.specs.Run.{Message, messages}
 use Rattle.pair_changeover.proofs.Views.{queue}
@@ -59,7 +59,7 @@ module _ (count link : ℕ) (rows : List Row) (body : List ℕ) (fate : Fate) wh
       (joins_held (drop count (unack link rows)) (wait link rows) (held link rows) (new_row (length rows) body fate ∷ []))
 
   pub queue_apart : is_on link fate ≡ false → queue count link (appended rows body fate) ≡ queue count link rows
-  queue_apart o = queue_untouched count link rows (appended rows body fate) (appended_untouched rows body fate link o)
+  queue_apart o = queue_untouched count link rows (appended rows body fate) (untouched link rows (appended rows body fate) (appended_out rows body fate (is_on link) o))
 
   pub aside_joins : is_parked fate ≡ true → messages (parked (appended rows body fate)) ≡ messages (parked rows) ++ new_message rows body ∷ []
   aside_joins p = ap messages (appended_in rows body fate is_parked p) ∙ joined (parked rows) (new_row (length rows) body fate ∷ [])

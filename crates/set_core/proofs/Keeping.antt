@@ -1,6 +1,7 @@
 -- What a set keeps, entry by entry.
 use Rattle.std.proofs.Common.{refl, arith, ◌≡◌, ◌∙◌, ap, sym, subst, take, drop, get_or, ◌<◌, ◌≤◌, ◌^◌, [], ◌∷◌, length, ℕ, ◌+◌, sum, List, ◌++◌, ◌↔◌}
 use Rattle.std.proofs.lemmas.List.{length-append, drop_more, take_more}
+use Rattle.std.proofs.lemmas.List.Elements.{filter-append}
 use Rattle.set_events.specs.declared.answer.Answer.{Answer}
 use Rattle.set_events.specs.declared.answer.Answer.TheVariants.{Accepted}
 use Rattle.set_events.specs.declared.answer.Counts.{Counts}
@@ -15,7 +16,7 @@ use Rattle.set_model.specs.State.{State, new_state, settings_of}
 use Rattle.set_model.specs.Sound.{AreFew}
 use Rattle.set_model.specs.Rows.{counts_of, total_of}
 use Rattle.set_model.specs.Step.{Gains, step, messages_in, octets_of}
-use Rattle.set_model.proofs.Staying.{step_gains, AcceptsNone, accepts_none, offer_acknowledges_none, take_acknowledges_none, find_acknowledges_none}
+use Rattle.set_model.proofs.Staying.{step_gains, AcceptsNone, accepts_none}
 use Rattle.set_model.proofs.Ranging.{step_few}
 use Rattle.set_model.proofs.Soundness.{opened_few}
 use Rattle.set_moves.specs.Agreement.{Kept, Agrees}
@@ -92,9 +93,10 @@ tally_more old new history entry t a c = record {
 
 -- what users ask acknowledges nothing
 asks_acknowledge_none : (s : State) (number : ℕ) (event : Event) → IsOwn (User number) event → (counts_of (step s event).state.rows).acked ≡ (counts_of s.rows).acked
-asks_acknowledge_none s number (Offer body) own = offer_acknowledges_none s body
-asks_acknowledge_none s number Take own = take_acknowledges_none s
-asks_acknowledge_none s number (Find message) own = find_acknowledges_none s message
+unfolding step
+asks_acknowledge_none s number (Offer body) own = grind (arith, filter-append, length-append)
+asks_acknowledge_none s number Take own = grind arith
+asks_acknowledge_none s number (Find message) own = grind arith
 asks_acknowledge_none s number _ own = absurd own
 
 -- what terminals ask and tell accepts nothing

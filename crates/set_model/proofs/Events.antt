@@ -2,8 +2,8 @@
 use Rattle.std.proofs.Common.{refl, arith, ◌≡◌, ◌∙◌, ap, ◌≤◌, [], ◌∷◌, length, ℕ, Bool, true, false, ◌==◌, List, ◌++◌, map, take, drop}
 use Rattle.std.proofs.lemmas.List.{append-nil, map-append}
 use Rattle.std.proofs.lemmas.List.Elements.{filter-append}
-use Rattle.set_model.specs.Rows.{DiscardCause, Fate, Acked, Discarded, Parked, Unacked, Waiting, AreFit, IsHeldLast, IsInOrder, IsNumbered, Row, all_with, appended, body_at, changed, counts_of, fated, held, is_held, is_on, is_parked, is_unacked, is_waiting, moved, numbers, on, parked, standing, total_of, turned, unack, wait, was_acked, with_fate}
-use Rattle.set_model.proofs.Places.{itself, apart_back, unacked_not_waiting, waiting_not_held, unacked_not_held, parked_not_on, on_not_parked, on_not_acked, parked_not_acked, waiting_on, unacked_on, held_on, on_other, not_on_waiting, not_on_unacked, not_on_held}
+use Rattle.set_model.specs.Rows.{DiscardCause, Fate, Acked, Discarded, Parked, Unacked, Waiting, AreFit, IsHeldLast, IsInOrder, IsNumbered, Row, all_with, appended, back, body_at, changed, counts_of, fated, held, is_held, is_on, is_parked, is_unacked, is_waiting, moved, numbers, on, parked, standing, total_of, turned, unack, wait, was_acked, with_fate}
+use Rattle.set_model.proofs.Places.{itself, apart_back, unacked_not_waiting, waiting_not_held, unacked_not_held, parked_not_on, on_not_parked, on_not_back, on_not_acked, parked_not_acked, waiting_on, unacked_on, held_on, on_other, not_on_waiting, not_on_unacked, not_on_held}
 use Rattle.set_model.proofs.Rows.{InPlace, turned_there, changed_there, turned_same, changed_same, turned_ordered, changed_ordered, turned_left, changed_left, moved_length, moved_fit, moved_numbered, moved_gone, moved_same, moved_joined, filter_moved, filter_comm, filter_within, body_moved, total_is, new_row, same_numbers}
 use Rattle.set_model.proofs.Order.{order_filter, order_sent, sent_joined, on_in_order, order_none, last_none, last_alone, last_filter, last_sent, order_on, last_on}
 
@@ -64,73 +64,57 @@ module _ (rows : List Row) (body : List ℕ) (fate : Fate) where
   pub appended_out : (test : Fate → Bool) → test fate ≡ false → standing test (appended rows body fate) ≡ standing test rows
   appended_out test h = filter-append (λ (row : Row). test row.fate) rows (new_row (length rows) body fate ∷ []) ∙ ap (λ (xs : List Row). standing test rows ++ xs) (rw h refl) ∙ append-nil (standing test rows)
 
-  -- a link that it doesn't stand on
-  pub appended_untouched : (n : ℕ) → is_on n fate ≡ false → Untouched n rows (appended rows body fate)
-  appended_untouched n o = search (untouched, appended_out)
-
--- A FIRST SENDING.
-pub record Sent (l : ℕ) (rows new : List Row) : Type 0 where
-  pub kept : Kept rows new
-  pub wait_is : wait l new ≡ drop 1 (wait l rows)
-  -- needs the order, by which nothing that was sent stands behind it
-  pub unack_is : IsInOrder l rows → unack l new ≡ unack l rows ++ map (with_fate (Unacked l)) (take 1 (wait l rows))
-  pub held_same : held l new ≡ held l rows
-  pub parked_same : parked new ≡ parked rows
-  pub order_kept : IsInOrder l rows → IsInOrder l new
-  pub last_kept : IsHeldLast l rows → IsHeldLast l new
-  pub others : (n : ℕ) → (l == n) ≡ false → Untouched n rows new
-
 -- a row on one link is on no other
 pub apart_on : (l n : ℕ) → (l == n) ≡ false → (f : Fate) → is_on l f ≡ true → is_on n f ≡ false
 apart_on l n d f e = on_other n l (apart_back l n d) f e
 
-pub sent : (l : ℕ) (rows : List Row) → Sent l rows (turned (is_waiting l) (Unacked l) 1 rows)
-sent l rows = search (turned_kept, on_not_acked l, waiting_on, turned_left, sent_joined, itself, turned_same, waiting_not_held, on_not_parked l, order_sent, last_sent, untouched, apart_on l)
-
--- AN ACKNOWLEDGEMENT.
-pub record Acknowledged (l count : ℕ) (rows new : List Row) : Type 0 where
+-- ROWS OF A LINK THAT CHANGE IN THEIR PLACES: none of them is held, and what stands elsewhere doesn't change.
+pub record ChangesOn (l : ℕ) (rows new : List Row) : Type 0 where
   pub kept : Kept rows new
-  pub unack_is : unack l new ≡ drop count (unack l rows)
-  pub wait_same : wait l new ≡ wait l rows
   pub held_same : held l new ≡ held l rows
-  pub on_is : IsInOrder l rows → IsHeldLast l rows → on l new ≡ drop count (unack l rows) ++ wait l rows ++ held l rows
   pub parked_same : parked new ≡ parked rows
+  pub back_same : back new ≡ back rows
   pub order_kept : IsInOrder l rows → IsInOrder l new
   pub last_kept : IsHeldLast l rows → IsHeldLast l new
   pub others : (n : ℕ) → (l == n) ≡ false → Untouched n rows new
+
+-- A FIRST SENDING.
+pub record Sent (l : ℕ) (rows new : List Row) : Type 0 where
+  pub in_place : ChangesOn l rows new
+  pub open in_place use *
+  pub wait_is : wait l new ≡ drop 1 (wait l rows)
+  -- needs the order, by which nothing that was sent stands behind it
+  pub unack_is : IsInOrder l rows → unack l new ≡ unack l rows ++ map (with_fate (Unacked l)) (take 1 (wait l rows))
+
+pub sent : (l : ℕ) (rows : List Row) → Sent l rows (turned (is_waiting l) (Unacked l) 1 rows)
+sent l rows = search (turned_kept, on_not_acked l, waiting_on, turned_left, sent_joined, itself, turned_same, waiting_not_held, on_not_parked l, on_not_back l, order_sent, last_sent, untouched, apart_on l)
+
+-- AN ACKNOWLEDGEMENT.
+pub record Acknowledged (l count : ℕ) (rows new : List Row) : Type 0 where
+  pub in_place : ChangesOn l rows new
+  pub open in_place use *
+  pub unack_is : unack l new ≡ drop count (unack l rows)
+  pub wait_same : wait l new ≡ wait l rows
+  pub on_is : IsInOrder l rows → IsHeldLast l rows → on l new ≡ drop count (unack l rows) ++ wait l rows ++ held l rows
 
 pub acknowledged : (l count : ℕ) (rows : List Row) → Acknowledged l count rows (turned (is_unacked l) (Acked l) count rows)
 acknowledged l count rows =
     let ordered = turned_ordered l (is_unacked l) (Acked l) refl refl refl count rows in
-    search (turned_kept, on_not_acked l, unacked_on, turned_left, turned_same, unacked_not_waiting, unacked_not_held, on_not_parked l, on_in_order, ordered.in_order, ordered.held_last, untouched, apart_on l)
+    search (turned_kept, on_not_acked l, unacked_on, turned_left, turned_same, unacked_not_waiting, unacked_not_held, on_not_parked l, on_not_back l, on_in_order, ordered.in_order, ordered.held_last, untouched, apart_on l)
 
 -- MESSAGES THAT ARE GIVEN UP.
-pub record GivenUp (l : ℕ) (rows new : List Row) : Type 0 where
-  pub kept : Kept rows new
-  pub held_same : held l new ≡ held l rows
-  pub parked_same : parked new ≡ parked rows
-  pub order_kept : IsInOrder l rows → IsInOrder l new
-  pub last_kept : IsHeldLast l rows → IsHeldLast l new
-  pub others : (n : ℕ) → (l == n) ≡ false → Untouched n rows new
-
 module _ (l : ℕ) (cause : DiscardCause) (rows : List Row) where
   module _ (test : Fate → Bool) (on_link : (f : Fate) → test f ≡ true → is_on l f ≡ true) (not_held : (f : Fate) → test f ≡ true → is_held l f ≡ false) where
-    pub given_up : GivenUp l rows (changed test (Discarded cause) rows)
+    pub given_up : ChangesOn l rows (changed test (Discarded cause) rows)
     given_up =
         let ordered = changed_ordered l test (Discarded cause) refl refl refl rows in
-        search (changed_kept, changed_same, on_not_acked l, on_not_parked l, untouched, apart_on l)
+        search (changed_kept, changed_same, on_not_acked l, on_not_parked l, on_not_back l, untouched, apart_on l)
 
-  pub sent_given_up : GivenUp l rows (changed (is_unacked l) (Discarded cause) rows)
+  pub sent_given_up : ChangesOn l rows (changed (is_unacked l) (Discarded cause) rows)
   sent_given_up = given_up (is_unacked l) (unacked_on l) (unacked_not_held l l)
 
-  pub waiting_given_up : GivenUp l rows (changed (is_waiting l) (Discarded cause) rows)
+  pub waiting_given_up : ChangesOn l rows (changed (is_waiting l) (Discarded cause) rows)
   waiting_given_up = given_up (is_waiting l) (waiting_on l) (waiting_not_held l l)
-
-  pub unack_gone : unack l (changed (is_unacked l) (Discarded cause) rows) ≡ []
-  unack_gone = changed_left (is_unacked l) (Discarded cause) refl rows
-
-  pub wait_stays : wait l (changed (is_unacked l) (Discarded cause) rows) ≡ wait l rows
-  wait_stays = changed_same (is_unacked l) (is_waiting l) (Discarded cause) refl (unacked_not_waiting l l) rows
 
 -- A LINK THAT IS LEFT BY ITS MESSAGES.
 pub record Left (l : ℕ) (to : Fate) (rows new : List Row) : Type 0 where

@@ -4,22 +4,10 @@ use Rattle.std.proofs.lemmas.List.{append-nil, map-append}
 use Rattle.std.proofs.lemmas.List.Elements.{filter-append}
 use Rattle.set_model.specs.Rows.{Fate, Each, IsNumbered, Row, appended, fated, numbers, standing, Back, back, moved, stands_back, Unacked, IsHeldLast, IsInOrder, held, is_waiting, on, turned, unack, wait, with_fate}
 use Rattle.set_model.specs.Sound.{AreAbove, IsAscending, AreBack, IsBackOf}
-use Rattle.set_model.proofs.Rows.{found_by_number, moved_off, filter_comm, filter_within, turned_nothing}
+use Rattle.set_model.proofs.Rows.{each_so, each_filter, found_by_number, moved_off, filter_comm, filter_within, turned_nothing}
 use Rattle.set_route.specs.Routing.{IsCoded, IsRouting, Routing, code_of, home_of, place_of}
 use Rattle.set_model.specs.State.{Asked, Changing}
 use Rattle.set_route.proofs.Quiet.{at_place}
-
-pub each_so : (P Q : Row → Type 0) → ((x : Row) → P x → Q x) → (rows : List Row) → Each P rows → Each Q rows
-each_so P Q so [] e = tt
-each_so P Q so (x ∷ rows) e = (so x e.0, each_so P Q so rows e.1)
-
-pub each_append : (P : Row → Type 0) (xs ys : List Row) → Each P xs → Each P ys → Each P (xs ++ ys)
-each_append P [] ys a b = b
-each_append P (x ∷ xs) ys a b = (a.0, each_append P xs ys a.1 b)
-
-pub each_filter : (P : Row → Type 0) (p : Row → Bool) (rows : List Row) → Each P rows → Each P (filter p rows)
-each_filter P p [] e = tt
-each_filter P p (x ∷ rows) e = grind (arith, each_filter P p rows e.1)
 
 -- ROWS THAT MOVE: those that stay, and those that go.
 module _ (test : Fate → Bool) where

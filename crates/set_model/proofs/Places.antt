@@ -17,9 +17,6 @@ pub itself : (l : ℕ) → (l == l) ≡ true
 itself l = eq-eqb l l refl
 
 -- Kinds of places.
-pub waiting_not_unacked : (l n : ℕ) (f : Fate) → is_waiting n f ≡ true → is_unacked l f ≡ false
-waiting_not_unacked l n f e = grind arith
-
 pub unacked_not_waiting : (l n : ℕ) (f : Fate) → is_unacked n f ≡ true → is_waiting l f ≡ false
 unacked_not_waiting l n f e = grind arith
 
@@ -31,6 +28,9 @@ unacked_not_held l n f e = grind arith
 
 pub on_not_parked : (n : ℕ) (f : Fate) → is_on n f ≡ true → is_parked f ≡ false
 on_not_parked n f e = grind arith
+
+pub on_not_back : (n : ℕ) (f : Fate) → is_on n f ≡ true → stands_back f ≡ false
+on_not_back n f e = grind arith
 
 pub parked_not_on : (l : ℕ) (f : Fate) → is_parked f ≡ true → is_on l f ≡ false
 parked_not_on l f e = grind arith

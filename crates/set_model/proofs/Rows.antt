@@ -1,6 +1,6 @@
 -- Filters of rows, and of rows with other fates.
 use Rattle.std.proofs.Common.{refl, arith, ◌≡◌, ◌∙◌, ap, sym, [], ◌∷◌, length, ◌≤◌, Bool, true, false, List, ◌++◌, map, filter, not, ◌+◌, ◌<◌, ℕ, nat_lt, ◌==◌, None, cond, zero, suc, drop, Some, slice_get, option_map}
-use Rattle.set_model.specs.Rows.{Fate, AreFit, Row, fated, standing, IsNumbered, moved, counts_of, is_parked, stands_back, total_of, users, waits, was_acked, was_discarded, was_held, was_sent, appended, row_of, IsHeldLast, IsInOrder, body_at, changed, is_held, is_unacked, is_waiting, turned, unack, wait, with_fate, numbers, place}
+use Rattle.set_model.specs.Rows.{Fate, Each, AreFit, Row, fated, standing, IsNumbered, moved, counts_of, is_parked, stands_back, total_of, users, waits, was_acked, was_discarded, was_held, was_sent, appended, row_of, IsHeldLast, IsInOrder, body_at, changed, is_held, is_unacked, is_waiting, turned, unack, wait, with_fate, numbers, place}
 use Rattle.std.proofs.lemmas.List.{append-nil, length-append, length-map, length_push}
 use Rattle.std.proofs.lemmas.List.Elements.{filter-append}
 use Rattle.std.proofs.lemmas.List.Filters.{length-filter_both}
@@ -41,14 +41,18 @@ pub fated_none : (test : Fate → Bool) (fate : Row → Fate) → ((x : Row) →
 fated_none test fate h [] = refl
 fated_none test fate h (x ∷ xs) = rw (h x) (fated_none test fate h xs)
 
--- Bodies.
-pub fit_append : (xs ys : List Row) → AreFit xs → AreFit ys → AreFit (xs ++ ys)
-fit_append [] ys a b = b
-fit_append (x ∷ xs) ys a b = (a.0, fit_append xs ys a.1 b)
+-- What holds of each row.
+pub each_so : (P Q : Row → Type 0) → ((x : Row) → P x → Q x) → (rows : List Row) → Each P rows → Each Q rows
+each_so P Q so [] e = tt
+each_so P Q so (x ∷ rows) e = (so x e.0, each_so P Q so rows e.1)
 
-pub fit_filter : (p : Row → Bool) (xs : List Row) → AreFit xs → AreFit (filter p xs)
-fit_filter p [] a = a
-fit_filter p (x ∷ xs) a = grind (arith, fit_filter p xs a.1)
+pub each_append : (P : Row → Type 0) (xs ys : List Row) → Each P xs → Each P ys → Each P (xs ++ ys)
+each_append P [] ys a b = b
+each_append P (x ∷ xs) ys a b = (a.0, each_append P xs ys a.1 b)
+
+pub each_filter : (P : Row → Type 0) (p : Row → Bool) (rows : List Row) → Each P rows → Each P (filter p rows)
+each_filter P p [] e = tt
+each_filter P p (x ∷ rows) e = grind (arith, each_filter P p rows e.1)
 
 pub fit_fated : (fate : Row → Fate) (xs : List Row) → AreFit xs → AreFit (map (fated fate) xs)
 fit_fated fate [] a = a
@@ -67,7 +71,7 @@ module _ (test : Fate → Bool) (fate : Row → Fate) where
   moved_numbered rows numbered number = grind (arith, filter_moved, moved_length, numbered)
 
   pub moved_fit : (rows : List Row) → AreFit rows → AreFit (moved test fate rows)
-  moved_fit rows a = search (fit_append, fit_filter, fit_fated)
+  moved_fit rows a = search (each_append, each_filter, fit_fated)
 
 -- WHAT THE FILTERS SEE OF A MOVE.
 module _ (test other : Fate → Bool) (fate : Row → Fate) (rows : List Row) where
@@ -135,7 +139,7 @@ pub numbered_appended : (rows : List Row) (body : List ℕ) (fate : Fate) → Is
 numbered_appended rows body fate numbered number = grind (arith, nat_tests, filter-append, length-append, length_push)
 
 pub fit_appended : (rows : List Row) (body : List ℕ) (fate : Fate) → AreFit rows → length body ≤ 273 → AreFit (appended rows body fate)
-fit_appended rows body fate a f = fit_append rows (new_row (length rows) body fate ∷ []) a (f, tt)
+fit_appended rows body fate a f = each_append _ rows (new_row (length rows) body fate ∷ []) a (f, tt)
 
 -- rows of the same numbers
 pub same_numbers : (rows new : List Row) → length new ≡ length rows → ((number : ℕ) → length (with_number number new) ≡ length (with_number number rows)) → IsNumbered rows → IsNumbered new

@@ -13,9 +13,9 @@ use Rattle.set_model.specs.Changeover.{acknowledged_by, Order, fate_on, queued}
 use Rattle.set_model.specs.Rows.{DiscardCause, Fate, Acked, Discarded, Unacked, Row, back, changed, fated, held, is_held, is_on, is_unacked, is_waiting, moved, octets_in, on, standing, stands_back, unack, wait, Back, Held, Parked, Waiting, appended, parked, service_indicator, stream_of}
 use Rattle.set_model.specs.State.{Asked, is_up, Place, Changing, Nowhere, On, Down, Up, LinkState, State, has_phase_settled, has_phase_up, last_accepted, link_is_up, window_of, fate_at, target}
 use Rattle.set_model.specs.Step.{SignalUnit, after_control, is_msu, next, rows_sent, offer_refusal, offered}
-use Rattle.set_model.proofs.Order.{backs_same, order_append, last_none, last_append, last_alone, gone_none, coded_at, backs_kept, ascends_appended, each_append}
-use Rattle.set_model.proofs.Events.{kept_self, Untouched, untouched_self, sent, acknowledged, GivenUp, untouched, appended_out}
-use Rattle.set_model.proofs.Rows.{turned_same, changed_same, others_stay, new_row, numbered_appended, fit_appended}
+use Rattle.set_model.proofs.Order.{backs_same, order_append, last_none, last_append, last_alone, gone_none, coded_at, backs_kept, ascends_appended}
+use Rattle.set_model.proofs.Events.{kept_self, Untouched, untouched_self, sent, acknowledged, ChangesOn, untouched, appended_out}
+use Rattle.set_model.proofs.Rows.{each_append, turned_same, changed_same, others_stay, new_row, numbered_appended, fit_appended}
 use Rattle.set_model.proofs.Lists.{at_set, each_set, get_set_same, get_set_other, set_same, within, set_at, target_up, target_elsewhere, none_up}
 use Rattle.set_model.proofs.Places.{false_true}
 use Rattle.set_model.proofs.Walk.{IsAt}
@@ -58,9 +58,9 @@ pub up_after : (links : List LinkState) (n : ℕ) (link link' : LinkState) → s
 up_after links n link link' there stays k up = grind (arith, nat_tests, get_set_same, within, get_set_other)
 
 -- A CHANGE OF ONE LINK, with rows that change in their places, none of them parked, nor back.
-changes : (n : ℕ) (link link' : LinkState) (s : State) (new : List Row) → IsSound s → slice_get s.links n ≡ Some link → link'.phase ≡ link.phase → has_phase_settled link.phase ≡ false → GivenUp n s.rows new → back new ≡ back s.rows → length (unack n new) ≤ 127 → accepted_of link'.control ≡ last_accepted link' → IsOf s.settings.method link'.control
+changes : (n : ℕ) (link link' : LinkState) (s : State) (new : List Row) → IsSound s → slice_get s.links n ≡ Some link → link'.phase ≡ link.phase → has_phase_settled link.phase ≡ false → ChangesOn n s.rows new → length (unack n new) ≤ 127 → accepted_of link'.control ≡ last_accepted link' → IsOf s.settings.method link'.control
     → (has_phase_up link'.phase ≡ true → IsInRange link'.control (length (unack n new))) → IsSound (record s { links = slice_set s.links n link'; rows = new })
-changes n link link' s new t there same unsettled g back_same few counted method range =
+changes n link link' s new t there same unsettled g few counted method range =
     let l = t.links n link there in
     let up = ap has_phase_up same in
     let settled = ap has_phase_settled same ∙ unsettled in
@@ -69,7 +69,7 @@ changes n link link' s new t there same unsettled g back_same few counted method
     let run = up_before s.links n link link' there (λ e. sym up ∙ e) t.all_run in
     let stays = up_after s.links n link link' there (λ e. up ∙ e) in
     let links = links_set s.settings.method s.links n link' s.rows new one g.others t.links in
-    search (length-set, g.kept.numbered, g.kept.fit, placed_set, t.placed, t.homes_up, backs_same, back_same)
+    search (length-set, g.kept.numbered, g.kept.fit, placed_set, t.placed, t.homes_up, backs_same, g.back_same)
 
 -- the inbox is no part of it
 pub with_inbox : (s : State) (inbox : List (List ℕ)) → IsSound s → IsSound (record s { inbox = inbox })
@@ -92,19 +92,18 @@ pub acknowledges : (count n : ℕ) (link : LinkState) (s : State) → IsAt n lin
 acknowledges count n link s at t =
     let l = t.links n link at.there in
     let a = acknowledged n count s.rows in
-    changes n link _ s _ t at.there refl (ap has_phase_settled at.phase_is) (assumption) (turned_same (is_unacked n) stands_back (Acked n) refl (λ f e. grind arith) count s.rows) (grind (arith, length-drop, a.unack_is, l.window)) l.counted l.method (false_true (has_phase_up link.phase) (ap has_phase_up at.phase_is))
+    changes n link _ s _ t at.there refl (ap has_phase_settled at.phase_is) a.in_place (grind (arith, length-drop, a.unack_is, l.window)) l.counted l.method (false_true (has_phase_up link.phase) (ap has_phase_up at.phase_is))
 
-pub gives_up : (test : Fate → Bool) (cause : DiscardCause) (n : ℕ) (link : LinkState) (s : State) → ((f : Fate) → test f ≡ true → is_on n f ≡ true) → GivenUp n s.rows (changed test (Discarded cause) s.rows) → length (unack n (changed test (Discarded cause) s.rows)) ≤ length (unack n s.rows) → IsAt n link Down s → IsSound s → IsSound (record s { rows = changed test (Discarded cause) s.rows })
-gives_up test cause n link s on_link g fewer at t =
+pub gives_up : (test : Fate → Bool) (cause : DiscardCause) (n : ℕ) (link : LinkState) (s : State) → ChangesOn n s.rows (changed test (Discarded cause) s.rows) → length (unack n (changed test (Discarded cause) s.rows)) ≤ length (unack n s.rows) → IsAt n link Down s → IsSound s → IsSound (record s { rows = changed test (Discarded cause) s.rows })
+gives_up test cause n link s g fewer at t =
     let l = t.links n link at.there in
-    let back_same = changed_same test stands_back (Discarded cause) refl (λ f e. grind (arith, on_link f e)) s.rows in
-    let sound = changes n link link s (changed test (Discarded cause) s.rows) t at.there refl (ap has_phase_settled at.phase_is) g back_same (omega (arith, l.window, fewer)) l.counted l.method (false_true (has_phase_up link.phase) (ap has_phase_up at.phase_is)) in
+    let sound = changes n link link s (changed test (Discarded cause) s.rows) t at.there refl (ap has_phase_settled at.phase_is) g (omega (arith, l.window, fewer)) l.counted l.method (false_true (has_phase_up link.phase) (ap has_phase_up at.phase_is)) in
     subst (λ (links : List LinkState). IsSound (record s { links = links; rows = changed test (Discarded cause) s.rows })) (set_same s.links n link at.there) sound
 
 -- SENDING: what the rows keep where nothing is sent for the first time too.
-sent_by : (choice : Choice) (n : ℕ) (rows : List Row) → GivenUp n rows (rows_sent choice n rows) × (back (rows_sent choice n rows) ≡ back rows)
-sent_by first n rows = let d = sent n rows in (assumption, turned_same (is_waiting n) stands_back (Unacked n) refl (λ f e. grind arith) 1 rows)
-sent_by _ n rows = let k = kept_self rows in let u = λ (m : ℕ). untouched_self m rows in (search (k, u), refl)
+sent_by : (choice : Choice) (n : ℕ) (rows : List Row) → ChangesOn n rows (rows_sent choice n rows)
+sent_by first n rows = (sent n rows).in_place
+sent_by _ n rows = let k = kept_self rows in let u = λ (m : ℕ). untouched_self m rows in search (k, u)
 
 module _ (n : ℕ) (link : LinkState) (s : State) (at : IsAt n link Up s) (t : IsSound s) where
   abbrev window : WindowState
@@ -128,8 +127,7 @@ module _ (n : ℕ) (link : LinkState) (s : State) (at : IsAt n link Up s) (t : I
   sends_sound =
       let choice = choice_of octets link.control window in
       let c = counts choice refl in
-      let d = sent_by choice n s.rows in
-      changes n link _ s _ t at.there refl (ap has_phase_settled at.phase_is) d.0 d.1 c.2 (grind (arith, l.counted)) (grind (arith, l.method)) (λ u. grind (arith, range_after, c, old_range, length-map))
+      changes n link _ s _ t at.there refl (ap has_phase_settled at.phase_is) (sent_by choice n s.rows) c.2 (grind (arith, l.counted)) (grind (arith, l.method)) (λ u. grind (arith, range_after, c, old_range, length-map))
 
   -- HEARING.
   module _ (unit : SignalUnit) where
@@ -139,7 +137,7 @@ module _ (n : ℕ) (link : LinkState) (s : State) (at : IsAt n link Up s) (t : I
     pub hears_sound : IsSound (after_control part (header_in unit) unit n s link)
     hears_sound =
         let a = acknowledged n part.acked s.rows in
-        changes n link _ s _ t at.there refl (ap has_phase_settled at.phase_is) (assumption) (turned_same (is_unacked n) stands_back (Acked n) refl (λ f e. grind arith) part.acked s.rows) (grind (arith, length-drop, a.unack_is, l.window))
+        changes n link _ s _ t at.there refl (ap has_phase_settled at.phase_is) a.in_place (grind (arith, length-drop, a.unack_is, l.window))
         (grind (arith, nat_tests, (header_in unit).fsn, l.counted)) (grind (arith, l.method)) (λ u. grind (arith, range_heard link.control window (header_in unit) (is_msu unit) old_range, a.unack_is, length-drop, length-map))
 
 -- WHAT HOLDS OF EVERY STATE is kept by a new message.

@@ -99,16 +99,3 @@ pub step_gains : (s : State) (event : Event) → IsManaged s.settings → Gains 
 unfolding step
 step_gains s (Offer body) m = grind (arith, total_is, filter-append, length-append)
 step_gains s event m = let grown = step_grows s event in let none = accepts_none s event refl in grind arith
-
--- WHAT USERS ASK acknowledges nothing.
-pub offer_acknowledges_none : (s : State) (body : List ℕ) → (counts_of (step s (Offer body)).state.rows).acked ≡ (counts_of s.rows).acked
-unfolding step
-offer_acknowledges_none s body = grind (arith, filter-append, length-append)
-
-pub take_acknowledges_none : (s : State) → (counts_of (step s Take).state.rows).acked ≡ (counts_of s.rows).acked
-unfolding step
-take_acknowledges_none s = grind arith
-
-pub find_acknowledges_none : (s : State) (number : ℕ) → (counts_of (step s (Find number)).state.rows).acked ≡ (counts_of s.rows).acked
-unfolding step
-find_acknowledges_none s number = grind arith

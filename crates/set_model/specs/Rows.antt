@@ -173,8 +173,7 @@ Each fact (row ∷ rows) = fact row × Each fact rows
 
 -- no body is longer than a unit's
 abbrev pub AreFit : List Row → Type 0
-AreFit [] = Unit {0}
-AreFit (row ∷ rows) = (length row.body ≤ 273) × AreFit rows
+AreFit rows = Each (λ row. length row.body ≤ 273) rows
 
 -- what callers keep of each link: no message sent on it stands behind one that waits for it
 abbrev pub IsInOrder : ℕ → List Row → Type 0

@@ -1,7 +1,6 @@
 -- WHAT A SET OF LINKS HOLDS. Read this file first, after the rows.
 use Rattle.std.specs.Prelude.{ℕ, Bool, true, false, ◌+◌, ◌%◌, List, [], length, map, Option, None, Some, slice_get, slice_set, replicate, if◌then◌else◌, option_map}
 use Rattle.l2_window.specs.Window.{WindowState, fsn_count, fsn_before_first}
-use Rattle.set_events.specs.declared.answer.Counts.{Counts}
 use Rattle.set_events.specs.declared.config.SetConfig.{SetConfig}
 use Rattle.set_model.specs.Rows.{Fate, Waiting, Held, Parked, Back, Row, unack, wait, numbers}
 pub use Rattle.set_route.specs.declared.place.Place.{Place}
@@ -140,7 +139,3 @@ unacked_of (Some link) number place rows = option_map (numbered_at place link) (
 
 abbrev pub unacked_in : State → ℕ → ℕ → Option Numbered
 unacked_in s number place = unacked_of (slice_get s.links number) number place s.rows
-
--- none in any place
-abbrev pub no_counts : Counts
-no_counts = record { waiting = 0; unacked = 0; acked = 0; held = 0; parked = 0; back = 0; discarded = 0 }

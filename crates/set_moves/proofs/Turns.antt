@@ -12,7 +12,7 @@ use Rattle.set_model.specs.Rows.{Fate, Waiting, Held, Back, Unacked, Row, standi
 use Rattle.set_model.specs.Sound.{IsAscending, AreAbove, IsBackOf}
 use Rattle.set_model.specs.State.{On, State, fate_at, link_count, LinkState}
 use Rattle.set_model.specs.Changeover.{turned_back, out_of_service}
-use Rattle.set_model.proofs.Rows.{filter_comm, filter_within, with_number, Found, found_by_number, at_most_one, row_is_first, moved_nothing}
+use Rattle.set_model.proofs.Rows.{each_filter, each_so, filter_comm, filter_within, with_number, Found, found_by_number, at_most_one, row_is_first, moved_nothing}
 use Rattle.set_moves.specs.Agreement.{Message, Kept, Stands, StandsFor, rows_at, label_in, label_of, Agrees, Holds}
 use Rattle.set_moves.specs.Turning.{IsTurning, IsTurningRow, TurnsOn, TakesTurns, CanTurn}
 use Rattle.set_moves.proofs.States.{Becoming, becomes, Moves, shifts_stand, queues_for, last_stays}
@@ -25,7 +25,7 @@ use Rattle.set_queues.proofs.Passing.{links_stay}
 use Rattle.set_queues.proofs.Settling.{on_length}
 use Rattle.std.proofs.lemmas.Option.{same_Some}
 use Rattle.set_queues.specs.declared.message.Kind.TheVariants.{User}
-use Rattle.set_model.proofs.Order.{each_filter, each_so, ascends_filter}
+use Rattle.set_model.proofs.Order.{ascends_filter}
 use Rattle.set_queues.proofs.Soundness.{both_replaced}
 use Rattle.set_model.proofs.Lists.{within, present, same_at}
 use Rattle.set_model.proofs.Places.{home_back}
