@@ -45,7 +45,7 @@ module _ (n : ℕ) (link : LinkState) (s f : State) (sound : IsSound s) (at : Is
   given_up_at = record { there = at.there; phase_is = at.phase_is }
 
   pub given_up_sound : IsSound given_up
-  given_up_sound = gives_up (is_unacked n) Emergency n link s does (rw none_sent (omega arith)) at sound
+  given_up_sound = gives_up (is_unacked n) Emergency n link s does at sound
 
   -- of its queue what wasn't sent is left, and other queues stay
   pub rest_is : (count : ℕ) → queue count n given_up.rows ≡ messages (wait n s.rows ++ held n s.rows)

@@ -27,14 +27,14 @@ pub record Kept (rows new : List Row) : Type 0 where
 pub kept_self : (rows : List Row) → Kept rows rows
 kept_self rows = record { fit = λ f. f; numbered = λ f. f; count = refl; bodies = λ f number. refl; total = refl; acked = omega arith }
 
-kept_in_place : (test : Fate → Bool) (rows new : List Row) → InPlace test rows new → ((f : Fate) → test f ≡ true → was_acked f ≡ false) → Kept rows new
-kept_in_place test rows new i w = grind (arith, total_is, same_numbers)
+kept_in_place : (test : Fate → Bool) (to : Fate) (rows new : List Row) → InPlace test to rows new → ((f : Fate) → test f ≡ true → was_acked f ≡ false) → Kept rows new
+kept_in_place test to rows new i w = grind (arith, total_is, same_numbers)
 
 pub turned_kept : (test : Fate → Bool) (to : Fate) (n : ℕ) (rows : List Row) → ((f : Fate) → test f ≡ true → was_acked f ≡ false) → Kept rows (turned test to n rows)
-turned_kept test to n rows = kept_in_place test rows (turned test to n rows) (turned_there test to n rows)
+turned_kept test to n rows = kept_in_place test to rows (turned test to n rows) (turned_there test to n rows)
 
 pub changed_kept : (test : Fate → Bool) (to : Fate) (rows : List Row) → ((f : Fate) → test f ≡ true → was_acked f ≡ false) → Kept rows (changed test to rows)
-changed_kept test to rows = kept_in_place test rows (changed test to rows) (changed_there test to rows)
+changed_kept test to rows = kept_in_place test to rows (changed test to rows) (changed_there test to rows)
 
 pub moved_kept : (test : Fate → Bool) (fate : Row → Fate) (rows : List Row) → ((row : Row) → was_acked (fate row) ≡ false) → ((f : Fate) → test f ≡ true → was_acked f ≡ false) → Kept rows (moved test fate rows)
 moved_kept test fate rows o w = grind (arith, moved_fit, moved_numbered, moved_length, body_moved, total_is, filter_moved, filter_comm, moved_same)

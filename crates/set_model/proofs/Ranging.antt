@@ -7,11 +7,11 @@ use Rattle.set_route.specs.Routing.{Routing}
 use Rattle.set_model.specs.Step.{Event, step, one_if, rows_sent}
 use Rattle.set_model.specs.Changeover.{fate_on}
 use Rattle.set_model.specs.Control.{Header, Choice, first, part_of}
-use Rattle.set_model.specs.Rows.{Fate, Acked, Unacked, Row, appended, is_unacked, is_waiting, moved, standing, turned, unack}
+use Rattle.set_model.specs.Rows.{DiscardCause, Discarded, Fate, Acked, Unacked, Row, appended, is_unacked, is_waiting, moved, standing, turned, unack}
 use Rattle.set_model.specs.Sound.{AreAtMost, AreFew, WholeNumbers, one_more}
 use Rattle.set_model.specs.State.{Place, Phase, LinkState, State, fate_at, window_of}
 use Rattle.set_model.proofs.Events.{appended_out}
-use Rattle.set_model.proofs.Rows.{filter_comm, fewer_filter, fated_none, turned_left, fewer_turned, fewer_changed}
+use Rattle.set_model.proofs.Rows.{filter_comm, fewer_filter, fated_none, turned_left, turned_there, changed_there}
 use Rattle.set_model.proofs.Lists.{each_set}
 use Rattle.set_model.proofs.Walk.{IsAt, step_walks}
 
@@ -70,10 +70,13 @@ few_sent _ m n rows = omega arith
 acked_at_most : (more c n count : ℕ) (rows : List Row) → count ≤ length (unack n rows) → c + count + length (unack n (turned (is_unacked n) (Acked n) count rows)) ≤ c + length (unack n rows) + more
 acked_at_most more c n count rows fits = grind (arith, turned_left, length-drop)
 
-ruleset grows = (le_refl, zero-le, grow_then, grow_rows, grow_set, at_most, sum_at_most, one_low, acked_at_most, few_moved, few_appended, fewer_turned, fewer_changed, not_sent, offered_out, few_sent, acked_few, arith)
+ruleset grows = (le_refl, zero-le, grow_then, grow_rows, grow_set, at_most, sum_at_most, one_low, acked_at_most, few_moved, few_appended, not_sent, offered_out, few_sent, acked_few, arith)
 
 step_grows : (s : State) (event : Event) → GrowBy 1 s (step s event).state
-step_grows s event = step_walks s (GrowBy 0) (GrowBy 1 s) event (search grows)
+step_grows s event =
+    let acked = λ (m n count : ℕ) (rows : List Row). (turned_there (is_unacked n) (Acked n) count rows).fewer (is_unacked m) in
+    let given_up = λ (m : ℕ) (test : Fate → Bool) (cause : DiscardCause) (rows : List Row). (changed_there test (Discarded cause) rows).fewer (is_unacked m) in
+    step_walks s (GrowBy 0) (GrowBy 1 s) event (search grows)
 
 pub step_at_most : (s : State) (event : Event) (k : ℕ → WholeNumbers) → AreAtMost k s → AreAtMost (λ n. one_more (k n)) (step s event).state
 step_at_most s event k few n link there = let g = (step_grows s event).each n link there in let f = few n g.0 g.1 in grind (arith, f, g)

@@ -158,37 +158,32 @@ module _ (test : Fate → Bool) (fate : Fate) (P : List Row → List Row → Typ
   where_changed [] = none
   where_changed (x ∷ rows) = grind (arith, where_changed rows)
 
--- THE MESSAGES.
-pub record InPlace (test : Fate → Bool) (xs ys : List Row) : Type 0 where
+-- WHAT SUCH A CHANGE KEEPS.
+pub record InPlace (test : Fate → Bool) (fate : Fate) (xs ys : List Row) : Type 0 where
   pub count : length ys ≡ length xs
   pub fit : AreFit xs → AreFit ys
   pub as_many : (p : Row → Bool) → ((f : Fate) (x : Row) → p (with_fate f x) ≡ p x) → length (filter p ys) ≡ length (filter p xs)
   pub bodies : (number : ℕ) → body_at number ys ≡ body_at number xs
   -- where no acknowledged one turns
   pub acked : ((f : Fate) → test f ≡ true → was_acked f ≡ false) → length (standing was_acked (users xs)) ≤ length (standing was_acked (users ys))
+  -- a place where none comes has no more than before; and where none turns either it has the same
+  pub fewer : (other : Fate → Bool) → other fate ≡ false → length (standing other ys) ≤ length (standing other xs)
+  pub same : (other : Fate → Bool) → other fate ≡ false → ((f : Fate) → test f ≡ true → other f ≡ false) → standing other ys ≡ standing other xs
 
 module _ (test : Fate → Bool) (fate : Fate) where
-  pub turned_there : (n : ℕ) (rows : List Row) → InPlace test rows (turned test fate n rows)
-  turned_there n rows = where_turned test fate (InPlace test) (grind arith) (λ x xs ys p. grind arith) (λ x xs ys h p. grind arith) n rows
+  pub turned_there : (n : ℕ) (rows : List Row) → InPlace test fate rows (turned test fate n rows)
+  turned_there n rows = where_turned test fate (InPlace test fate) (grind arith) (λ x xs ys p. grind arith) (λ x xs ys h p. grind arith) n rows
 
-  pub changed_there : (rows : List Row) → InPlace test rows (changed test fate rows)
-  changed_there rows = where_changed test fate (InPlace test) (grind arith) (λ x xs ys p. grind arith) (λ x xs ys h p. grind arith) rows
+  pub changed_there : (rows : List Row) → InPlace test fate rows (changed test fate rows)
+  changed_there rows = where_changed test fate (InPlace test fate) (grind arith) (λ x xs ys p. grind arith) (λ x xs ys h p. grind arith) rows
 
 -- A PLACE where none turns and none comes.
 module _ (test other : Fate → Bool) (fate : Fate) (o : other fate ≡ false) (w : (f : Fate) → test f ≡ true → other f ≡ false) where
   pub turned_same : (n : ℕ) (rows : List Row) → standing other (turned test fate n rows) ≡ standing other rows
-  turned_same = where_turned test fate (λ xs ys. standing other ys ≡ standing other xs) refl (λ x xs ys p. grind arith) (λ x xs ys h p. grind arith)
+  turned_same n rows = (turned_there test fate n rows).same other o w
 
   pub changed_same : (rows : List Row) → standing other (changed test fate rows) ≡ standing other rows
-  changed_same = where_changed test fate (λ xs ys. standing other ys ≡ standing other xs) refl (λ x xs ys p. grind arith) (λ x xs ys h p. grind arith)
-
--- a place where none comes has no more than before
-module _ (test other : Fate → Bool) (fate : Fate) (none : other fate ≡ false) where
-  pub fewer_turned : (n : ℕ) (rows : List Row) → length (standing other (turned test fate n rows)) ≤ length (standing other rows)
-  fewer_turned = where_turned test fate (λ xs ys. length (standing other ys) ≤ length (standing other xs)) (omega arith) (λ x xs ys p. grind arith) (λ x xs ys h p. grind arith)
-
-  pub fewer_changed : (rows : List Row) → length (standing other (changed test fate rows)) ≤ length (standing other rows)
-  fewer_changed = where_changed test fate (λ xs ys. length (standing other ys) ≤ length (standing other xs)) (omega arith) (λ x xs ys p. grind arith) (λ x xs ys h p. grind arith)
+  changed_same rows = (changed_there test fate rows).same other o w
 
 -- A LINK'S ORDER, where none comes to wait or to be held, and none to be unacknowledged.
 module _ (n : ℕ) (test : Fate → Bool) (fate : Fate) (u : is_unacked n fate ≡ false) (v : is_waiting n fate ≡ false) (h : is_held n fate ≡ false) where

@@ -15,7 +15,7 @@ use Rattle.set_model.specs.State.{Asked, is_up, Place, Changing, Nowhere, On, Do
 use Rattle.set_model.specs.Step.{SignalUnit, after_control, is_msu, next, rows_sent, offer_refusal, offered}
 use Rattle.set_model.proofs.Order.{backs_same, order_append, last_none, last_append, last_alone, gone_none, coded_at, backs_kept, ascends_appended}
 use Rattle.set_model.proofs.Events.{kept_self, Untouched, untouched_self, sent, acknowledged, ChangesOn, untouched, appended_out}
-use Rattle.set_model.proofs.Rows.{each_append, turned_same, changed_same, others_stay, new_row, numbered_appended, fit_appended}
+use Rattle.set_model.proofs.Rows.{each_append, changed_there, others_stay, new_row, numbered_appended, fit_appended}
 use Rattle.set_model.proofs.Lists.{at_set, each_set, get_set_same, get_set_other, set_same, within, set_at, target_up, target_elsewhere, none_up}
 use Rattle.set_model.proofs.Places.{false_true}
 use Rattle.set_model.proofs.Walk.{IsAt}
@@ -94,9 +94,10 @@ acknowledges count n link s at t =
     let a = acknowledged n count s.rows in
     changes n link _ s _ t at.there refl (ap has_phase_settled at.phase_is) a.in_place (grind (arith, length-drop, a.unack_is, l.window)) l.counted l.method (false_true (has_phase_up link.phase) (ap has_phase_up at.phase_is))
 
-pub gives_up : (test : Fate → Bool) (cause : DiscardCause) (n : ℕ) (link : LinkState) (s : State) → ChangesOn n s.rows (changed test (Discarded cause) s.rows) → length (unack n (changed test (Discarded cause) s.rows)) ≤ length (unack n s.rows) → IsAt n link Down s → IsSound s → IsSound (record s { rows = changed test (Discarded cause) s.rows })
-gives_up test cause n link s g fewer at t =
+pub gives_up : (test : Fate → Bool) (cause : DiscardCause) (n : ℕ) (link : LinkState) (s : State) → ChangesOn n s.rows (changed test (Discarded cause) s.rows) → IsAt n link Down s → IsSound s → IsSound (record s { rows = changed test (Discarded cause) s.rows })
+gives_up test cause n link s g at t =
     let l = t.links n link at.there in
+    let fewer = (changed_there test (Discarded cause) s.rows).fewer (is_unacked n) refl in
     let sound = changes n link link s (changed test (Discarded cause) s.rows) t at.there refl (ap has_phase_settled at.phase_is) g (omega (arith, l.window, fewer)) l.counted l.method (false_true (has_phase_up link.phase) (ap has_phase_up at.phase_is)) in
     subst (λ (links : List LinkState). IsSound (record s { links = links; rows = changed test (Discarded cause) s.rows })) (set_same s.links n link at.there) sound
 

@@ -11,7 +11,6 @@ use Rattle.set_model.specs.Sound.{AreFew, IsAsked, IsPlaced, IsSettings, IsSound
 use Rattle.set_model.specs.State.{Code, Asked, Free, Nowhere, LinkState, Settings, State, new_link, opened_with}
 use Rattle.set_route.proofs.Places.{new_sound}
 use Rattle.set_model.proofs.Events.{sent_given_up, waiting_given_up}
-use Rattle.set_model.proofs.Rows.{fewer_changed}
 use Rattle.set_model.proofs.Walk.{KeptBy, step_walks}
 use Rattle.set_model.proofs.SoundBack.{leaves, declares, releases, rises_sound, moves_off_sound}
 use Rattle.set_model.proofs.SoundLink.{with_inbox, acknowledges, gives_up, sends_sound, hears_sound, queues, offers}
@@ -20,7 +19,7 @@ use Rattle.set_model.proofs.SoundLink.{with_inbox, acknowledges, gives_up, sends
 pub asked_by : (event : Event) (body : List ℕ) → IsAsked event → event ≡ Offer body → stream_of body < 16
 asked_by event body asked e = subst IsAsked e asked
 
-pub ruleset sounds = (with_inbox, queues, leaves, acknowledges, gives_up, sent_given_up, fewer_changed, waiting_given_up, moves_off_sound, declares, releases, offers, asked_by, sends_sound, hears_sound, rises_sound)
+pub ruleset sounds = (with_inbox, queues, leaves, acknowledges, gives_up, sent_given_up, waiting_given_up, moves_off_sound, declares, releases, offers, asked_by, sends_sound, hears_sound, rises_sound)
 
 small : (Known : ℕ → Type 0) (May : Type 0) → KeptBy Known May (λ s u. IsSound s → IsSound u)
 small Known May = search sounds
