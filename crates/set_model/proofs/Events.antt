@@ -1,11 +1,11 @@
 -- WHAT EACH CHANGE DOES TO EACH LINK: the lemmas that a set's step is argued by.
-use Rattle.std.proofs.Common.{refl, arith, ◌≡◌, ◌∙◌, ap, ◌≤◌, [], ◌∷◌, length, ℕ, Bool, true, false, ◌==◌, List, ◌++◌, map, take, drop}
+use Rattle.std.proofs.Common.{refl, arith, ◌≡◌, ◌∙◌, ap, ◌≤◌, [], ◌∷◌, length, ℕ, Bool, true, false, ◌==◌, ◌||◌, List, ◌++◌, map, take, drop}
 use Rattle.std.proofs.lemmas.List.{append-nil, map-append}
 use Rattle.std.proofs.lemmas.List.Elements.{filter-append}
 use Rattle.set_model.specs.Rows.{DiscardCause, Fate, Acked, Discarded, Parked, Unacked, Waiting, AreFit, IsHeldLast, IsInOrder, IsNumbered, Row, all_with, appended, back, body_at, changed, counts_of, fated, held, is_held, is_on, is_parked, is_unacked, is_waiting, moved, numbers, on, parked, standing, total_of, turned, unack, wait, was_acked, with_fate}
 use Rattle.set_model.proofs.Places.{itself, apart_back, unacked_not_waiting, waiting_not_held, unacked_not_held, parked_not_on, on_not_parked, on_not_back, on_not_acked, parked_not_acked, waiting_on, unacked_on, held_on, on_other, not_on_waiting, not_on_unacked, not_on_held}
-use Rattle.set_model.proofs.Rows.{InPlace, turned_there, changed_there, turned_same, changed_same, turned_ordered, changed_ordered, turned_left, changed_left, moved_length, moved_fit, moved_numbered, moved_gone, moved_same, moved_joined, filter_moved, filter_comm, filter_within, body_moved, total_is, new_row, same_numbers}
-use Rattle.set_model.proofs.Order.{order_filter, order_sent, sent_joined, on_in_order, order_none, last_none, last_alone, last_filter, last_sent, order_on, last_on}
+use Rattle.set_model.proofs.Rows.{InPlace, turned_there, changed_there, turned_same, changed_same, turned_left, changed_left, moved_length, moved_fit, moved_numbered, moved_gone, moved_same, moved_joined, filter_moved, filter_comm, filter_within, body_moved, total_is, new_row, same_numbers}
+use Rattle.set_model.proofs.Order.{before_filter, before_never, before_none, before_within, order_sent, sent_joined, on_in_order}
 
 -- Rows that got their fates have the same numbers and octets.
 pub numbers_fated : (fate : Row → Fate) (xs : List Row) → numbers (map (fated fate) xs) ≡ numbers xs
@@ -53,7 +53,10 @@ untouched_self n rows = record { unack_same = refl; wait_same = refl; held_same 
 
 -- where what is on it is the same
 pub untouched : (n : ℕ) (rows new : List Row) → on n new ≡ on n rows → Untouched n rows new
-untouched n rows new same = grind (arith, filter_within, order_on, last_on, order_filter, last_filter)
+untouched n rows new same =
+    let order = before_within (is_unacked n) (is_waiting n) (is_on n) (unacked_on n) (waiting_on n) new in
+    let last = before_within (λ f. is_unacked n f || is_waiting n f) (is_held n) (is_on n) (λ f e. grind arith) (held_on n) new in
+    grind (arith, filter_within, order, last, before_filter)
 
 -- A NEW MESSAGE.
 module _ (rows : List Row) (body : List ℕ) (fate : Fate) where
@@ -87,7 +90,9 @@ pub record Sent (l : ℕ) (rows new : List Row) : Type 0 where
   pub unack_is : IsInOrder l rows → unack l new ≡ unack l rows ++ map (with_fate (Unacked l)) (take 1 (wait l rows))
 
 pub sent : (l : ℕ) (rows : List Row) → Sent l rows (turned (is_waiting l) (Unacked l) 1 rows)
-sent l rows = search (turned_kept, on_not_acked l, waiting_on, turned_left, sent_joined, itself, turned_same, waiting_not_held, on_not_parked l, on_not_back l, order_sent, last_sent, untouched, apart_on l)
+sent l rows =
+    let held_last = (turned_there (is_waiting l) (Unacked l) 1 rows).before (λ f. is_unacked l f || is_waiting l f) (is_held l) (λ f e u. grind arith) (λ f e h. grind arith) in
+    search (turned_kept, on_not_acked l, waiting_on, turned_left, sent_joined, itself, turned_same, waiting_not_held, on_not_parked l, on_not_back l, order_sent, held_last, untouched, apart_on l)
 
 -- AN ACKNOWLEDGEMENT.
 pub record Acknowledged (l count : ℕ) (rows new : List Row) : Type 0 where
@@ -99,16 +104,20 @@ pub record Acknowledged (l count : ℕ) (rows new : List Row) : Type 0 where
 
 pub acknowledged : (l count : ℕ) (rows : List Row) → Acknowledged l count rows (turned (is_unacked l) (Acked l) count rows)
 acknowledged l count rows =
-    let ordered = turned_ordered l (is_unacked l) (Acked l) refl refl refl count rows in
-    search (turned_kept, on_not_acked l, unacked_on, turned_left, turned_same, unacked_not_waiting, unacked_not_held, on_not_parked l, on_not_back l, on_in_order, ordered.in_order, ordered.held_last, untouched, apart_on l)
+    let i = turned_there (is_unacked l) (Acked l) count rows in
+    let in_order = i.before (is_unacked l) (is_waiting l) (λ f e u. grind arith) (λ f e w. grind arith) in
+    let held_last = i.before (λ f. is_unacked l f || is_waiting l f) (is_held l) (λ f e u. grind arith) (λ f e h. grind arith) in
+    search (turned_kept, on_not_acked l, unacked_on, turned_left, turned_same, unacked_not_waiting, unacked_not_held, on_not_parked l, on_not_back l, on_in_order, in_order, held_last, untouched, apart_on l)
 
 -- MESSAGES THAT ARE GIVEN UP.
 module _ (l : ℕ) (cause : DiscardCause) (rows : List Row) where
   module _ (test : Fate → Bool) (on_link : (f : Fate) → test f ≡ true → is_on l f ≡ true) (not_held : (f : Fate) → test f ≡ true → is_held l f ≡ false) where
     pub given_up : ChangesOn l rows (changed test (Discarded cause) rows)
     given_up =
-        let ordered = changed_ordered l test (Discarded cause) refl refl refl rows in
-        search (changed_kept, changed_same, on_not_acked l, on_not_parked l, on_not_back l, untouched, apart_on l)
+        let i = changed_there test (Discarded cause) rows in
+        let in_order = i.before (is_unacked l) (is_waiting l) (λ f e u. grind arith) (λ f e w. grind arith) in
+        let held_last = i.before (λ f. is_unacked l f || is_waiting l f) (is_held l) (λ f e u. grind arith) (λ f e h. grind arith) in
+        search (changed_kept, changed_same, on_not_acked l, on_not_parked l, on_not_back l, in_order, held_last, untouched, apart_on l)
 
   pub sent_given_up : ChangesOn l rows (changed (is_unacked l) (Discarded cause) rows)
   sent_given_up = given_up (is_unacked l) (unacked_on l) (unacked_not_held l l)
@@ -128,7 +137,7 @@ pub record Left (l : ℕ) (to : Fate) (rows new : List Row) : Type 0 where
   pub others : (n : ℕ) → (l == n) ≡ false → is_on n to ≡ false → Untouched n rows new
 
 pub left : (l : ℕ) (to : Fate) (rows : List Row) → is_on l to ≡ false → was_acked to ≡ false → Left l to rows (moved (is_on l) (all_with to) rows)
-left l to rows o a = search (moved_gone, not_on_unacked, unacked_on, not_on_waiting, waiting_on, moved_kept, on_not_acked, not_on_held, held_on, order_none, last_alone, untouched, moved_same, on_other, apart_back)
+left l to rows o a = search (moved_gone, not_on_unacked, unacked_on, not_on_waiting, waiting_on, moved_kept, on_not_acked, not_on_held, held_on, before_none, before_never, untouched, moved_same, on_other, apart_back)
 
 -- to another link
 pub record MovedTo (l t : ℕ) (rows new : List Row) : Type 0 where
@@ -160,4 +169,4 @@ pub record Unparked (l : ℕ) (rows new : List Row) : Type 0 where
   pub others : (n : ℕ) → (l == n) ≡ false → Untouched n rows new
 
 pub unparked : (l : ℕ) (rows : List Row) → Unparked l rows (moved is_parked (all_with (Waiting l)) rows)
-unparked l rows = search (parked_not_on, moved_joined, itself, not_on_waiting, moved_same, not_on_held, moved_kept, parked_not_acked, moved_gone, not_on_unacked, last_none, untouched)
+unparked l rows = search (parked_not_on, moved_joined, itself, not_on_waiting, moved_same, not_on_held, moved_kept, parked_not_acked, moved_gone, not_on_unacked, before_never, untouched)

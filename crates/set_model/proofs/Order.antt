@@ -1,10 +1,10 @@
 -- FACTS OF EACH ROW, and what changes of rows do to them.
-use Rattle.std.proofs.Common.{arith, refl, ◌≡◌, ◌<◌, ℕ, suc, Bool, true, false, not, List, [], ◌∷◌, ◌++◌, length, map, slice_get, Some, filter, sym, subst, ◌==◌, take}
+use Rattle.std.proofs.Common.{arith, refl, ◌≡◌, ◌<◌, ℕ, suc, Bool, true, false, not, ◌||◌, List, [], ◌∷◌, ◌++◌, length, map, slice_get, Some, filter, sym, subst, ◌==◌, take}
 use Rattle.std.proofs.lemmas.List.{append-nil, map-append}
 use Rattle.std.proofs.lemmas.List.Elements.{filter-append}
-use Rattle.set_model.specs.Rows.{Fate, Each, IsNumbered, Row, appended, fated, numbers, standing, Back, back, moved, stands_back, Unacked, IsHeldLast, IsInOrder, held, is_waiting, on, turned, unack, wait, with_fate}
+use Rattle.set_model.specs.Rows.{is_unacked, Fate, AreBefore, Each, IsNumbered, Row, appended, fated, numbers, standing, Back, back, moved, stands_back, Unacked, IsHeldLast, IsInOrder, held, is_waiting, on, turned, unack, wait, with_fate}
 use Rattle.set_model.specs.Sound.{AreAbove, IsAscending, AreBack, IsBackOf}
-use Rattle.set_model.proofs.Rows.{each_so, each_filter, found_by_number, moved_off, filter_comm, filter_within, turned_nothing}
+use Rattle.set_model.proofs.Rows.{each_so, each_filter, found_by_number, moved_off, filter_comm, filter_within, none_within}
 use Rattle.set_route.specs.Routing.{IsCoded, IsRouting, Routing, code_of, home_of, place_of}
 use Rattle.set_model.specs.State.{Asked, Changing}
 use Rattle.set_route.proofs.Quiet.{at_place}
@@ -84,20 +84,34 @@ module _ (test : Fate → Bool) (fate : Row → Fate) (rows : List Row) (gone : 
   pub back_order_moved : IsAscending (numbers (back rows)) → IsAscending (numbers (back (moved test fate rows)))
   back_order_moved a = rw (moved_off test stands_back fate rows gone) (ascends_filter (λ (row : Row). not (test row.fate)) (back rows) a)
 
--- A link's messages stay in order: what was sent stands before what waits, and that before what is held.
--- where nothing was sent on the link
-pub order_none : (n : ℕ) (rows : List Row) → unack n rows ≡ [] → IsInOrder n rows
-order_none n [] e = tt
-order_none n (x ∷ rows) e = grind (arith, order_none n rows)
+-- ROWS THAT STAND BEFORE OTHERS: on a link what was sent stands before what waits, and that before what is held.
+pub neither : (p q : Fate → Bool) (rows : List Row) → standing p rows ≡ [] → standing q rows ≡ [] → standing (λ f. p f || q f) rows ≡ []
+neither p q [] e f = refl
+neither p q (x ∷ rows) e f = grind (arith, neither p q rows)
 
-pub order_append : (n : ℕ) (xs ys : List Row) → IsInOrder n xs → unack n ys ≡ [] → IsInOrder n (xs ++ ys)
-order_append n [] ys o e = order_none n ys e
-order_append n (x ∷ xs) ys o e = grind (arith, filter-append, order_append n xs ys o.1 e)
+module _ (p q : Fate → Bool) where
+  -- where there are none, or no others
+  pub before_none : (rows : List Row) → standing p rows ≡ [] → AreBefore p q rows
+  before_none [] e = tt
+  before_none (x ∷ rows) e = grind (arith, before_none rows)
 
--- where some rows leave
-pub order_filter : (n : ℕ) (keep : Row → Bool) (rows : List Row) → IsInOrder n rows → IsInOrder n (filter keep rows)
-order_filter n keep [] o = tt
-order_filter n keep (x ∷ rows) o = grind (arith, filter_comm, order_filter n keep rows o.1)
+  pub before_never : (rows : List Row) → standing q rows ≡ [] → AreBefore p q rows
+  before_never [] e = tt
+  before_never (x ∷ rows) e = grind (arith, before_never rows)
+
+  pub before_append : (xs ys : List Row) → AreBefore p q xs → standing p ys ≡ [] → AreBefore p q (xs ++ ys)
+  before_append [] ys o e = before_none ys e
+  before_append (x ∷ xs) ys o e = grind (arith, filter-append, before_append xs ys o.1 e)
+
+  -- where some rows leave
+  pub before_filter : (keep : Row → Bool) (rows : List Row) → AreBefore p q rows → AreBefore p q (filter keep rows)
+  before_filter keep [] o = tt
+  before_filter keep (x ∷ rows) o = grind (arith, filter_comm, before_filter keep rows o.1)
+
+  -- rows of both kinds tell it alone
+  pub before_within : (r : Fate → Bool) → ((f : Fate) → p f ≡ true → r f ≡ true) → ((f : Fate) → q f ≡ true → r f ≡ true) → (rows : List Row) → AreBefore p q (standing r rows) → AreBefore p q rows
+  before_within r a b [] o = tt
+  before_within r a b (x ∷ rows) o = grind (arith, filter_within, a, b, before_within r a b rows)
 
 -- THE FIRST MESSAGE THAT WAITS IS SENT.
 pub order_sent : (l : ℕ) (rows : List Row) → IsInOrder l rows → IsInOrder l (turned (is_waiting l) (Unacked l) 1 rows)
@@ -112,35 +126,8 @@ sent_joined l (x ∷ rows) s o = grind (arith, sent_joined l rows s o.1)
 -- WHAT IS ON A LINK, IN ORDER: first what was sent, then what waits, then what is held.
 pub on_in_order : (l : ℕ) (rows : List Row) → IsInOrder l rows → IsHeldLast l rows → on l rows ≡ unack l rows ++ wait l rows ++ held l rows
 on_in_order l [] o h = refl
-on_in_order l (x ∷ rows) o h = grind (arith, on_in_order l rows o.1 h.1)
-
--- WHAT IS HELD STAYS LAST.
-pub last_none : (n : ℕ) (rows : List Row) → held n rows ≡ [] → IsHeldLast n rows
-last_none n [] e = tt
-last_none n (x ∷ rows) e = grind (arith, last_none n rows)
-
-pub last_append : (n : ℕ) (xs ys : List Row) → IsHeldLast n xs → unack n ys ≡ [] → wait n ys ≡ [] → IsHeldLast n ys → IsHeldLast n (xs ++ ys)
-last_append n [] ys a u w b = b
-last_append n (x ∷ xs) ys a u w b = grind (arith, filter-append, last_append n xs ys a.1 u w b)
-
-pub last_filter : (n : ℕ) (keep : Row → Bool) (rows : List Row) → IsHeldLast n rows → IsHeldLast n (filter keep rows)
-last_filter n keep [] a = tt
-last_filter n keep (x ∷ rows) a = grind (arith, filter_comm, last_filter n keep rows a.1)
-
-pub last_sent : (l : ℕ) (rows : List Row) → IsHeldLast l rows → IsHeldLast l (turned (is_waiting l) (Unacked l) 1 rows)
-last_sent l [] a = a
-last_sent l (x ∷ rows) a = let same = turned_nothing (is_waiting l) (Unacked l) 1 rows in grind (arith, same, last_sent l rows a.1)
-
--- where nothing was sent on the link and nothing waits for it
-pub last_alone : (n : ℕ) (rows : List Row) → unack n rows ≡ [] → wait n rows ≡ [] → IsHeldLast n rows
-last_alone n [] u w = tt
-last_alone n (x ∷ rows) u w = grind (arith, last_alone n rows)
-
--- A LINK SEES ONLY WHAT IS ON IT.
-pub order_on : (n : ℕ) (rows : List Row) → IsInOrder n (on n rows) → IsInOrder n rows
-order_on n [] o = tt
-order_on n (x ∷ rows) o = grind (arith, filter_within, order_on n rows)
-
-pub last_on : (n : ℕ) (rows : List Row) → IsHeldLast n (on n rows) → IsHeldLast n rows
-last_on n [] a = tt
-last_on n (x ∷ rows) a = grind (arith, filter_within, last_on n rows)
+on_in_order l (x ∷ rows) o h =
+    let none = λ (test : Fate → Bool) (w : (f : Fate) → test f ≡ true → (is_unacked l f || is_waiting l f) ≡ true). none_within test (λ f. is_unacked l f || is_waiting l f) w rows in
+    let unsent = none (is_unacked l) (λ f e. grind arith) in
+    let unqueued = none (is_waiting l) (λ f e. grind arith) in
+    grind (arith, on_in_order l rows o.1 h.1, unsent, unqueued)

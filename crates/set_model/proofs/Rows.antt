@@ -1,6 +1,6 @@
 -- Filters of rows, and of rows with other fates.
 use Rattle.std.proofs.Common.{refl, arith, ◌≡◌, ◌∙◌, ap, sym, [], ◌∷◌, length, ◌≤◌, Bool, true, false, List, ◌++◌, map, filter, not, ◌+◌, ◌<◌, ℕ, nat_lt, ◌==◌, None, cond, zero, suc, drop, Some, slice_get, option_map}
-use Rattle.set_model.specs.Rows.{Fate, Each, AreFit, Row, fated, standing, IsNumbered, moved, counts_of, is_parked, stands_back, total_of, users, waits, was_acked, was_discarded, was_held, was_sent, appended, row_of, IsHeldLast, IsInOrder, body_at, changed, is_held, is_unacked, is_waiting, turned, unack, wait, with_fate, numbers, place}
+use Rattle.set_model.specs.Rows.{Fate, Each, AreBefore, AreFit, Row, fated, standing, IsNumbered, moved, counts_of, is_parked, stands_back, total_of, users, waits, was_acked, was_discarded, was_held, was_sent, appended, row_of, IsHeldLast, IsInOrder, body_at, changed, is_held, is_unacked, is_waiting, turned, unack, wait, with_fate, numbers, place}
 use Rattle.std.proofs.lemmas.List.{append-nil, length-append, length-map, length_push}
 use Rattle.std.proofs.lemmas.List.Elements.{filter-append}
 use Rattle.std.proofs.lemmas.List.Filters.{length-filter_both}
@@ -169,6 +169,9 @@ pub record InPlace (test : Fate → Bool) (fate : Fate) (xs ys : List Row) : Typ
   -- a place where none comes has no more than before; and where none turns either it has the same
   pub fewer : (other : Fate → Bool) → other fate ≡ false → length (standing other ys) ≤ length (standing other xs)
   pub same : (other : Fate → Bool) → other fate ≡ false → ((f : Fate) → test f ≡ true → other f ≡ false) → standing other ys ≡ standing other xs
+  -- places to which none comes that wasn't there
+  pub none : (p : Fate → Bool) → ((f : Fate) → test f ≡ true → p fate ≡ true → p f ≡ true) → standing p xs ≡ [] → standing p ys ≡ []
+  pub before : (p q : Fate → Bool) → ((f : Fate) → test f ≡ true → p fate ≡ true → p f ≡ true) → ((f : Fate) → test f ≡ true → q fate ≡ true → q f ≡ true) → AreBefore p q xs → AreBefore p q ys
 
 module _ (test : Fate → Bool) (fate : Fate) where
   pub turned_there : (n : ℕ) (rows : List Row) → InPlace test fate rows (turned test fate n rows)
@@ -185,29 +188,11 @@ module _ (test other : Fate → Bool) (fate : Fate) (o : other fate ≡ false) (
   pub changed_same : (rows : List Row) → standing other (changed test fate rows) ≡ standing other rows
   changed_same rows = (changed_there test fate rows).same other o w
 
--- A LINK'S ORDER, where none comes to wait or to be held, and none to be unacknowledged.
-module _ (n : ℕ) (test : Fate → Bool) (fate : Fate) (u : is_unacked n fate ≡ false) (v : is_waiting n fate ≡ false) (h : is_held n fate ≡ false) where
-  pub record Ordered (xs ys : List Row) : Type 0 where
-    pub unack_none : unack n xs ≡ [] → unack n ys ≡ []
-    pub wait_none : wait n xs ≡ [] → wait n ys ≡ []
-    pub in_order : IsInOrder n xs → IsInOrder n ys
-    pub held_last : IsHeldLast n xs → IsHeldLast n ys
-
-  pub turned_ordered : (k : ℕ) (rows : List Row) → Ordered rows (turned test fate k rows)
-  turned_ordered k rows = where_turned test fate Ordered (grind arith) (λ x xs ys p. grind arith) (λ x xs ys e p. grind arith) k rows
-
-  pub changed_ordered : (rows : List Row) → Ordered rows (changed test fate rows)
-  changed_ordered rows = where_changed test fate Ordered (grind arith) (λ x xs ys p. grind arith) (λ x xs ys e p. grind arith) rows
-
 -- those that turned left their place
 pub turned_left : (test : Fate → Bool) (fate : Fate) → test fate ≡ false → (n : ℕ) (rows : List Row) → standing test (turned test fate n rows) ≡ drop n (standing test rows)
 turned_left test fate o zero rows = refl
 turned_left test fate o (suc n) [] = refl
 turned_left test fate o (suc n) (x ∷ rows) = grind (arith, turned_left test fate o n rows, turned_left test fate o (suc n) rows)
-
--- nothing turns where no row stands
-pub turned_nothing : (test : Fate → Bool) (fate : Fate) (n : ℕ) (rows : List Row) → standing test rows ≡ [] → turned test fate n rows ≡ rows
-turned_nothing test fate = where_turned test fate (λ xs ys. standing test xs ≡ [] → ys ≡ xs) (λ e. refl) (λ x xs ys p e. grind arith) (λ x xs ys h p e. grind arith)
 
 -- all that changed left their place
 pub changed_left : (test : Fate → Bool) (fate : Fate) → test fate ≡ false → (rows : List Row) → standing test (changed test fate rows) ≡ []

@@ -12,7 +12,7 @@ use Rattle.set_model.specs.State.{Asked, Place, Nowhere, On, Changing, Down, Set
 use Rattle.set_model.specs.Step.{risen_link, rises}
 use Rattle.set_route.proofs.Alone.{alone, codes_alone}
 use Rattle.set_route.proofs.Places.{raised_sound, settled_sound, left_sound, asked_sound, back_sound}
-use Rattle.set_model.proofs.Order.{coded_at, backs_moved, back_order_moved, backs_kept, order_none, gone_none, none_standing, ascends_appended}
+use Rattle.set_model.proofs.Order.{coded_at, backs_moved, back_order_moved, backs_kept, before_none, gone_none, none_standing, ascends_appended}
 use Rattle.set_model.proofs.Events.{apart_on, left, unparked, untouched_self}
 use Rattle.set_model.proofs.Lists.{get_set_same, get_set_other, within, each_set, target_up, target_off, target_open, target_unheld, target_elsewhere, none_up}
 use Rattle.set_model.proofs.Rows.{moved_numbered, moved_fit, moved_same, moved_more, moved_nothing, fated_none, numbered_appended, fit_appended}
@@ -49,7 +49,7 @@ rises_sound n link s at t =
     let new = moved is_parked (all_with (Waiting n)) s.rows in
     let u = unparked n s.rows in
     let e = settled_empty s n link t at.there at.phase_is in
-    let one : IsSoundLink s.settings.method n risen new = grind (arith, order_none) in
+    let one : IsSoundLink s.settings.method n risen new = grind (arith, before_none) in
     moved_sound s _ (raised n s.routing) is_parked (all_with (Waiting n)) t (length-set s.links n risen) (raised_sound n s.routing (omega (arith, within s.links n link at.there, t.count, t.routed)) t.routing) refl (fated_none stands_back (all_with (Waiting n)) (λ x. refl) (standing is_parked s.rows))
     (λ k few. let a = (alone s.routing k t.routing few).raised_place n in let stays = placed_set s.links n link risen (place_of k s.routing) at.there refl (t.placed k few) in record { placed = rw a (grind (arith, stays, get_set_same s.links n risen (within s.links n link at.there))); runs = λ j other there up. rw a (grind arith); stays = λ code via of e. grind (arith, a) })
     (λ code asked. up_after s.links n link risen at.there (λ up. refl) (home_of code) (t.homes_up code asked)) (λ k other there up. u.parked_none) (links_set s.settings.method s.links n risen s.rows new one u.others t.links)

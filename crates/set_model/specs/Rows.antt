@@ -1,6 +1,6 @@
 -- THE ROWS OF A SET: its messages, each in exactly one place, as one list in the order of queueing. Read this file
 -- first.
-use Rattle.std.specs.Prelude.{◌≡◌, ℕ, suc, zero, ◌==◌, ◌+◌, ◌%◌, ◌/◌, ◌≤◌, nat_lt, Bool, true, false, not, ◌&&◌, List, [], ◌∷◌, ◌++◌, length, filter, map, find, Option, slice_index, if◌then◌else◌, option_map}
+use Rattle.std.specs.Prelude.{◌≡◌, ℕ, suc, zero, ◌==◌, ◌+◌, ◌%◌, ◌/◌, ◌≤◌, nat_lt, Bool, true, false, not, ◌&&◌, ◌||◌, List, [], ◌∷◌, ◌++◌, length, filter, map, find, Option, slice_index, if◌then◌else◌, option_map}
 pub use Rattle.set_events.specs.declared.answer.Fate.{Fate}
 pub use Rattle.set_events.specs.declared.answer.Fate.TheVariants.{Waiting, Unacked, Held, Back, Acked, Discarded, Parked}
 use Rattle.set_events.specs.declared.answer.Counts.{Counts}
@@ -175,13 +175,16 @@ Each fact (row ∷ rows) = fact row × Each fact rows
 abbrev pub AreFit : List Row → Type 0
 AreFit rows = Each (λ row. length row.body ≤ 273) rows
 
+-- no row that stands where the first test tells stands behind one that stands where the other does
+abbrev pub AreBefore : (Fate → Bool) → (Fate → Bool) → List Row → Type 0
+AreBefore first other [] = Unit {0}
+AreBefore first other (row ∷ rows) =
+    (other row.fate ≡ true → standing first rows ≡ []) × AreBefore first other rows
+
 -- what callers keep of each link: no message sent on it stands behind one that waits for it
 abbrev pub IsInOrder : ℕ → List Row → Type 0
-IsInOrder link [] = Unit {0}
-IsInOrder link (row ∷ rows) = (is_waiting link row.fate ≡ true → unack link rows ≡ []) × IsInOrder link rows
+IsInOrder link rows = AreBefore (is_unacked link) (is_waiting link) rows
 
 -- and no message that waits for it, or was sent on it, stands behind one that is held for it
 abbrev pub IsHeldLast : ℕ → List Row → Type 0
-IsHeldLast link [] = Unit {0}
-IsHeldLast link (row ∷ rows) =
-    (is_held link row.fate ≡ true → (unack link rows ≡ []) × (wait link rows ≡ [])) × IsHeldLast link rows
+IsHeldLast link rows = AreBefore (λ f. is_unacked link f || is_waiting link f) (is_held link) rows
