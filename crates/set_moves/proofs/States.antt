@@ -157,7 +157,7 @@ given_up_for k s from test cause f stood known is same =
 
 -- A LINK SETTLES: what stands on it goes to another place.
 on_numbers : (l : ℕ) (q : Lists) (ms : List Message) (rows : List Row) → Stands q ms rows → IsInOrder l rows → IsHeldLast l rows → on_lists l q ≡ numbers (on l rows)
-on_numbers l q ms rows s o last = grind (arith, on_in_order, map-append, s.queues (Unacked l), s.queues (Waiting l), s.queues (Held l))
+on_numbers l q ms rows s o last = grind (arith, on_in_order l rows o last, map-append, s.queues (Unacked l), s.queues (Waiting l), s.queues (Held l))
 
 settled_at : (l : ℕ) (to : Fate) (q : Lists) → IsAside l to q → (f : Fate) → is_standing f ≡ true → queue_at f (settled l to q) ≡ cond (is_on l f) [] (cond (same_fate to f) (queue_at to q ++ on_lists l q) (queue_at f q))
 settled_at l to q a f t = let w = settling l to q a in let e = w.elsewhere f t in grind (arith, nat_tests, same_is, w, e)
