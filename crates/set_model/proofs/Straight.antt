@@ -23,14 +23,11 @@ use Rattle.set_model.proofs.Soundness.{sounds}
 use Rattle.set_model.proofs.Walk.{IsAt, step_walks}
 
 -- ROWS THAT CHANGE IN THEIR PLACES: no more are live than before, nor astray.
-record Less (xs ys away gone : List Row) : Type 0 where
-  pub above : (k : ℕ) → AreAbove k (numbers xs) → AreAbove k (numbers ys)
-  pub ascends : IsAscending (numbers xs) → IsAscending (numbers ys)
-  pub none : xs ≡ [] → ys ≡ []
-  pub none_away : away ≡ [] → gone ≡ []
-
-less_one : (b b' c c' : Bool) (x y : Row) (xs ys away gone : List Row) → y.number ≡ x.number → (b' ≡ true → b ≡ true) → (c' ≡ true → c ≡ true) → Less xs ys away gone → Less (cond b (x ∷ xs) xs) (cond b' (y ∷ ys) ys) (cond c (x ∷ away) away) (cond c' (y ∷ gone) gone)
-less_one b b' c c' x y xs ys away gone same live there p = record { above = λ k a. grind (arith, p.above k); ascends = λ a. grind (arith, p.above x.number); none = λ e. grind arith; none_away = λ e. grind arith }
+record Less (stream : ℕ) (place : Place) (xs ys : List Row) : Type 0 where
+  pub above : (k : ℕ) → AreAbove k (numbers (live stream xs)) → AreAbove k (numbers (live stream ys))
+  pub ascends : IsAscending (numbers (live stream xs)) → IsAscending (numbers (live stream ys))
+  pub none : live stream xs ≡ [] → live stream ys ≡ []
+  pub none_away : astray stream place xs ≡ [] → astray stream place ys ≡ []
 
 -- where one gets the fate it's finished, or stays where it is
 abbrev pub Fits : Place → (Fate → Bool) → Fate → Type 0
@@ -42,23 +39,17 @@ pub fits_finished : (place : Place) (test : Fate → Bool) (fate : Fate) → is_
 fits_finished place test fate done f e alive = false_true (is_unfinished fate) done alive
 
 module _ (stream : ℕ) (place : Place) (test : Fate → Bool) (fate : Fate) (fits : Fits place test fate) where
-  abbrev Fewer : List Row → List Row → Type 0
-  Fewer xs ys = Less (live stream xs) (live stream ys) (astray stream place xs) (astray stream place ys)
+  stays : (x : Row) (xs ys : List Row) → Less stream place xs ys → Less stream place (x ∷ xs) (x ∷ ys)
+  stays x xs ys p = record { above = λ k a. grind (arith, p.above k); ascends = λ a. grind (arith, p.above x.number); none = λ e. grind arith; none_away = λ e. grind arith }
 
-  stays : (x : Row) (xs ys : List Row) → Fewer xs ys → Fewer (x ∷ xs) (x ∷ ys)
-  stays x xs ys = less_one (is_live stream x) (is_live stream x) (is_astray stream place x) (is_astray stream place x) x x (live stream xs) (live stream ys) (astray stream place xs) (astray stream place ys) refl (λ e. e) (λ e. e)
-
-  turns : (x : Row) (xs ys : List Row) → test x.fate ≡ true → Fewer xs ys → Fewer (x ∷ xs) (with_fate fate x ∷ ys)
-  turns x xs ys t = less_one (is_live stream x) (is_live stream (with_fate fate x)) (is_astray stream place x) (is_astray stream place (with_fate fate x)) x (with_fate fate x) (live stream xs) (live stream ys) (astray stream place xs) (astray stream place ys) refl (λ e. grind (arith, fits)) (λ e. grind (arith, fits))
-
-  finished : (used : Bool) (xs ys : List Row) → Fewer xs ys → IsSoundStream stream place used xs → IsSoundStream stream place used ys
-  finished used xs ys p t = record { in_order = p.ascends t.in_order; together = p.none_away t.together; unused = λ e. p.none (t.unused e) }
+  turns : (x : Row) (xs ys : List Row) → test x.fate ≡ true → Less stream place xs ys → Less stream place (x ∷ xs) (with_fate fate x ∷ ys)
+  turns x xs ys t p = record { above = λ k a. grind (arith, fits, p.above k); ascends = λ a. grind (arith, fits, p.above x.number); none = λ e. grind (arith, fits); none_away = λ e. grind (arith, fits) }
 
   pub stream_turned : (used : Bool) (n : ℕ) (rows : List Row) → IsSoundStream stream place used rows → IsSoundStream stream place used (turned test fate n rows)
-  stream_turned used n rows = finished used rows (turned test fate n rows) (where_turned test fate Fewer (grind arith) stays turns n rows)
+  stream_turned used n rows t = let l = where_turned test fate (Less stream place) (grind arith) stays turns n rows in grind arith
 
   pub stream_changed : (used : Bool) (rows : List Row) → IsSoundStream stream place used rows → IsSoundStream stream place used (changed test fate rows)
-  stream_changed used rows = finished used rows (changed test fate rows) (where_changed test fate Fewer (grind arith) stays turns rows)
+  stream_changed used rows t = let l = where_changed test fate (Less stream place) (grind arith) stays turns rows in grind arith
 
 -- A NEW MESSAGE has a number above all others.
 pub stream_appended : (stream : ℕ) (place : Place) (used used' : Bool) (rows : List Row) (body : List ℕ) (fate : Fate) → IsNumbered rows → IsSoundStream stream place used rows → (is_live stream (new_row (length rows) body fate) ≡ true → (stands_at place fate ≡ true) × (used' ≡ true)) → (used' ≡ false → used ≡ false) → IsSoundStream stream place used' (appended rows body fate)
