@@ -9,7 +9,8 @@ use Rattle.set_model.specs.Sound.{IsSound}
 use Rattle.set_model.specs.State.{LinkState, State, is_up, is_settled, link_is_up, link_is_settled, has_phase_settled, target}
 use Rattle.set_model.specs.Changeover.{fate_on, acknowledged as acknowledged_link, settled_link, reached_by, is_reasonable, settled}
 use Rattle.set_model.proofs.Events.{Untouched, acknowledged, moved_to, moved_aside}
-use Rattle.set_model.proofs.Lists.{set_twice, target_up}
+use Rattle.std.proofs.lemmas.List.{set-set}
+use Rattle.set_model.proofs.Lists.{target_up}
 use Rattle.set_model.proofs.Places.{apart}
 use Rattle.set_model.proofs.Settling.{moves_the_rest, no_target}
 use Rattle.set_model.proofs.Walk.{IsAt}
@@ -89,7 +90,7 @@ module _ (fsn n : ℕ) (link : LinkState) (s f : State) (sound : IsSound s) (at 
   link_then = settled_link (acknowledged_link count link)
 
   pub links_then : after.links ≡ slice_set s.links n link_then
-  links_then = rw reasonable (set_twice s.links n (acknowledged_link count link) link_then)
+  links_then = rw reasonable (set-set s.links n (acknowledged_link count link) link_then)
 
   pub rows_then : after.rows ≡ moved_rows (is_on n) (all_with (fate_on (target s.links))) (turned (is_unacked n) (Acked n) count s.rows)
   rows_then = (moves_the_rest fsn n link s at.there reasonable).rows_are

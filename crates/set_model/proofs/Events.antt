@@ -30,12 +30,6 @@ kept_self rows = record { fit = λ f. f; numbered = λ f. f; count = refl; bodie
 kept_in_place : (test : Fate → Bool) (to : Fate) (rows new : List Row) → InPlace test to rows new → ((f : Fate) → test f ≡ true → was_acked f ≡ false) → Kept rows new
 kept_in_place test to rows new i w = grind (arith, total_is, same_numbers)
 
-pub turned_kept : (test : Fate → Bool) (to : Fate) (n : ℕ) (rows : List Row) → ((f : Fate) → test f ≡ true → was_acked f ≡ false) → Kept rows (turned test to n rows)
-turned_kept test to n rows = kept_in_place test to rows (turned test to n rows) (turned_there test to n rows)
-
-pub changed_kept : (test : Fate → Bool) (to : Fate) (rows : List Row) → ((f : Fate) → test f ≡ true → was_acked f ≡ false) → Kept rows (changed test to rows)
-changed_kept test to rows = kept_in_place test to rows (changed test to rows) (changed_there test to rows)
-
 pub moved_kept : (test : Fate → Bool) (fate : Row → Fate) (rows : List Row) → ((row : Row) → was_acked (fate row) ≡ false) → ((f : Fate) → test f ≡ true → was_acked f ≡ false) → Kept rows (moved test fate rows)
 moved_kept test fate rows o w = grind (arith, moved_fit, moved_numbered, moved_length, body_moved, total_is, filter_moved, filter_comm, moved_same)
 
@@ -91,8 +85,9 @@ pub record Sent (l : ℕ) (rows new : List Row) : Type 0 where
 
 pub sent : (l : ℕ) (rows : List Row) → Sent l rows (turned (is_waiting l) (Unacked l) 1 rows)
 sent l rows =
-    let held_last = (turned_there (is_waiting l) (Unacked l) 1 rows).before (λ f. is_unacked l f || is_waiting l f) (is_held l) (λ f e u. grind arith) (λ f e h. grind arith) in
-    search (turned_kept, on_not_acked l, waiting_on, turned_left, sent_joined, itself, turned_same, waiting_not_held, on_not_parked l, on_not_back l, order_sent, held_last, untouched, apart_on l)
+    let i = turned_there (is_waiting l) (Unacked l) 1 rows in
+    let held_last = i.before (λ f. is_unacked l f || is_waiting l f) (is_held l) (λ f e u. grind arith) (λ f e h. grind arith) in
+    search (kept_in_place, on_not_acked l, waiting_on, turned_left, sent_joined, itself, turned_same, waiting_not_held, on_not_parked l, on_not_back l, order_sent, held_last, untouched, apart_on l)
 
 -- AN ACKNOWLEDGEMENT.
 pub record Acknowledged (l count : ℕ) (rows new : List Row) : Type 0 where
@@ -107,7 +102,7 @@ acknowledged l count rows =
     let i = turned_there (is_unacked l) (Acked l) count rows in
     let in_order = i.before (is_unacked l) (is_waiting l) (λ f e u. grind arith) (λ f e w. grind arith) in
     let held_last = i.before (λ f. is_unacked l f || is_waiting l f) (is_held l) (λ f e u. grind arith) (λ f e h. grind arith) in
-    search (turned_kept, on_not_acked l, unacked_on, turned_left, turned_same, unacked_not_waiting, unacked_not_held, on_not_parked l, on_not_back l, on_in_order, in_order, held_last, untouched, apart_on l)
+    search (kept_in_place, on_not_acked l, unacked_on, turned_left, turned_same, unacked_not_waiting, unacked_not_held, on_not_parked l, on_not_back l, on_in_order, in_order, held_last, untouched, apart_on l)
 
 -- MESSAGES THAT ARE GIVEN UP.
 module _ (l : ℕ) (cause : DiscardCause) (rows : List Row) where
@@ -117,7 +112,7 @@ module _ (l : ℕ) (cause : DiscardCause) (rows : List Row) where
         let i = changed_there test (Discarded cause) rows in
         let in_order = i.before (is_unacked l) (is_waiting l) (λ f e u. grind arith) (λ f e w. grind arith) in
         let held_last = i.before (λ f. is_unacked l f || is_waiting l f) (is_held l) (λ f e u. grind arith) (λ f e h. grind arith) in
-        search (changed_kept, changed_same, on_not_acked l, on_not_parked l, on_not_back l, in_order, held_last, untouched, apart_on l)
+        search (kept_in_place, changed_same, on_not_acked l, on_not_parked l, on_not_back l, in_order, held_last, untouched, apart_on l)
 
   pub sent_given_up : ChangesOn l rows (changed (is_unacked l) (Discarded cause) rows)
   sent_given_up = given_up (is_unacked l) (unacked_on l) (unacked_not_held l l)

@@ -19,7 +19,7 @@ use Rattle.set_model.proofs.Lists.{get_set_same, get_set_other, within, target_o
 use Rattle.set_model.proofs.Places.{apart, not_on_waiting, back_not_on, home_back, code_back}
 use Rattle.set_model.proofs.Ranging.{offered_out, not_sent}
 use Rattle.set_model.proofs.SoundBack.{up_not_held, down_not_waiting, alternative_up}
-use Rattle.set_model.proofs.Walk.{step_walks, brought_by}
+use Rattle.set_model.proofs.Walk.{step_walks}
 
 -- ALONE: a link has the messages that it had, and more behind them.
 alone_more : (n : ℕ) (s t : State) (come : List Row) → slice_get t.links n ≡ slice_get s.links n → unack n t.rows ≡ unack n s.rows → wait n t.rows ≡ wait n s.rows ++ wait n come → held n t.rows ≡ held n s.rows ++ held n come → (is_up n s ≡ false → wait n come ≡ []) → (is_up n s ≡ true → held n come ≡ []) → LeavesAlone n s t
@@ -75,7 +75,7 @@ window_sent n link _ rows order = grind arith
 
 none_brought : (unit : SignalUnit) → ((about : ℕ) → BringsAbout about unit → ⊥) → (accept : Bool) (t : State) (body : Option (List ℕ)) → brought accept unit ≡ body → ((takes body t).state.links ≡ t.links) × ((takes body t).state.rows ≡ t.rows)
 none_brought unit none accept t None e = (refl, refl)
-none_brought unit none accept t (Some body) e = let no = λ (o : Order) (f : order_of body ≡ Some o). none (link_of o) (brought_by accept unit body e o f (link_of o) refl) in grind (arith, no)
+none_brought unit none accept t (Some body) e = let no = λ (o : Order) (f : order_of body ≡ Some o). none (link_of o) (grind arith) in grind (arith, no)
 
 pub window_moves : (n : ℕ) (link : LinkState) (s : State) → IsSound s → slice_get s.links n ≡ Some link → link.phase ≡ Up → MovesAsItsControl n link s
 window_moves n link s t there up =

@@ -28,11 +28,6 @@ set_same xs n x there = ap (slice_set xs n) (sym (get_or_from_slice_get xs n x x
 pub length_set : {X : Type 0} (xs : List X) (n : ℕ) (x : X) → length (slice_set xs n x) ≡ length xs
 length_set xs n x = length-set xs n x
 
-pub set_twice : {X : Type 0} (xs : List X) (n : ℕ) (x y : X) → slice_set (slice_set xs n x) n y ≡ slice_set xs n y
-set_twice [] n x y = refl
-set_twice (z ∷ xs) zero x y = refl
-set_twice (z ∷ xs) (suc n) x y = ap (λ rest. z ∷ rest) (set_twice xs n x y)
-
 -- only what is in the list is found
 pub within : {X : Type 0} (xs : List X) (n : ℕ) (x : X) → slice_get xs n ≡ Some x → n < length xs
 within xs n x there = slice_get_within xs n x there
@@ -56,10 +51,6 @@ map_set_same f xs n x y there same = map-set_same f xs n y x (same ∙ ap f (sym
 
 pub same_at : {X : Type 0} (xs : List X) (n : ℕ) (x y : X) → slice_get xs n ≡ Some x → slice_get xs n ≡ Some y → y ≡ x
 same_at xs n x y a b = same_Some y x (sym b ∙ a)
-
--- what is read at a place of the list
-pub here : {X : Type 0} (xs : List X) (i n : ℕ) (x : X) → i ≡ n → n < length xs → x ≡ slice_index_or xs i x → slice_get xs n ≡ Some x
-here xs i n x same few is = slice_get-get_or xs n x few ∙ ap Some (ap (λ k. slice_index_or xs k x) (sym same) ∙ sym is)
 
 -- what is found in a list of images is the image of something there
 pub at_map : {X Y : Type 0} (f : X → Y) (xs : List X) (n : ℕ) (y : Y) → slice_get (map f xs) n ≡ Some y → (x : X) × (slice_get xs n ≡ Some x) × (f x ≡ y)
@@ -89,12 +80,9 @@ none_up links n link e there = let is = subst (IsTarget (ups links)) e (target_i
 pub target_off : (links : List LinkState) (n : ℕ) → link_is_up (slice_get links n) ≡ false → is_on n (fate_on (target links)) ≡ false
 target_off links n down = grind (arith, nat_tests, target_up)
 
--- it isn't acknowledged then, nor held, nor does it stand back, and it's parked only where there is no target
+-- it isn't acknowledged then, nor held, and it's parked only where there is no target
 pub target_open : (to : Option ℕ) → was_acked (fate_on to) ≡ false
 target_open to = grind arith
 
 pub target_unheld : (to : Option ℕ) (n : ℕ) → is_held n (fate_on to) ≡ false
 target_unheld to n = grind arith
-
-pub target_elsewhere : (to : Option ℕ) → stands_back (fate_on to) ≡ false
-target_elsewhere to = grind arith

@@ -25,8 +25,7 @@ filter_apart p q w [] = refl
 filter_apart p q w (x ∷ xs) = grind (arith, filter_apart p q w xs)
 
 pub fewer_filter : (p : Row → Bool) (rows : List Row) → length (filter p rows) ≤ length rows
-fewer_filter p [] = omega arith
-fewer_filter p (x ∷ rows) = grind (arith, fewer_filter p rows)
+fewer_filter p rows = omega (arith, length-filter_both p (λ row. not (p row)) (λ row. refl) rows)
 
 -- Rows that all got their fates.
 pub filter_fated : (p : Row → Bool) (fate : Row → Fate) → ((x : Row) → p (fated fate x) ≡ p x) → (xs : List Row) → filter p (map (fated fate) xs) ≡ map (fated fate) (filter p xs)

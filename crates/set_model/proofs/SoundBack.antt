@@ -14,7 +14,7 @@ use Rattle.set_route.proofs.Alone.{alone, codes_alone}
 use Rattle.set_route.proofs.Places.{raised_sound, settled_sound, left_sound, asked_sound, back_sound}
 use Rattle.set_model.proofs.Order.{coded_at, backs_moved, back_order_moved, backs_kept, before_none, gone_none, none_standing, ascends_appended}
 use Rattle.set_model.proofs.Events.{apart_on, left, unparked, untouched_self}
-use Rattle.set_model.proofs.Lists.{get_set_same, get_set_other, within, each_set, target_up, target_off, target_open, target_unheld, target_elsewhere, none_up}
+use Rattle.set_model.proofs.Lists.{get_set_same, get_set_other, within, each_set, target_up, target_off, target_open, target_unheld, none_up}
 use Rattle.set_model.proofs.Rows.{moved_numbered, moved_fit, moved_same, moved_more, moved_nothing, fated_none, numbered_appended, fit_appended}
 use Rattle.set_model.proofs.Places.{false_true, not_on_waiting, back_not_on, back_not_parked, code_back, home_back}
 use Rattle.set_model.proofs.Ranging.{not_sent, offered_out}
@@ -82,7 +82,7 @@ module _ (n : ℕ) (link : LinkState) (s : State) (at : IsAt n link Down s) (t :
   moves_off_sound =
       let stays : has_phase_up link.phase ≡ true → has_phase_up (settled_link link).phase ≡ true = false_true (has_phase_up link.phase) (ap has_phase_up at.phase_is) in
       let below : IfSome (target s.links) (λ r. r < s.routing.links) = grind (arith, target_up, within) in
-      moved_sound s _ (settled n to_link s.routing) (is_on n) (all_with (fate_on to_link)) t (length-set s.links n (settled_link link)) (settled_sound n to_link s.routing below t.routing) refl (fated_none stands_back (all_with (fate_on to_link)) (λ x. target_elsewhere to_link) (standing (is_on n) s.rows))
+      moved_sound s _ (settled n to_link s.routing) (is_on n) (all_with (fate_on to_link)) t (length-set s.links n (settled_link link)) (settled_sound n to_link s.routing below t.routing) refl (fated_none stands_back (all_with (fate_on to_link)) (λ x. grind arith) (standing (is_on n) s.rows))
       (λ k few. over_follows to_link refl (place_of k s.routing) (λ home code via e none. grind (arith, nat_tests, coded_at, none_up)) (t.placed k few) (λ j old here up. t.all_run j old here up k few) _ ((alone s.routing k t.routing few).settled_place n to_link)) (λ code asked. up_after s.links n link (settled_link link) at.there stays (home_of code) (t.homes_up code asked))
       (up_before s.links n link (settled_link link) at.there (λ e. absurd cc) (λ k old here up. moved_same (is_on n) is_parked (all_with (fate_on to_link)) s.rows (λ x. grind (arith, none_up)) (λ f e. grind arith) ∙ t.none_aside k old here up)) off_links
 

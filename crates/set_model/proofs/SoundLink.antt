@@ -16,7 +16,7 @@ use Rattle.set_model.specs.Step.{SignalUnit, after_control, is_msu, next, rows_s
 use Rattle.set_model.proofs.Order.{backs_same, before_append, before_never, neither, gone_none, coded_at, backs_kept, ascends_appended}
 use Rattle.set_model.proofs.Events.{kept_self, Untouched, untouched_self, sent, acknowledged, ChangesOn, untouched, appended_out}
 use Rattle.set_model.proofs.Rows.{each_append, changed_there, others_stay, new_row, numbered_appended, fit_appended}
-use Rattle.set_model.proofs.Lists.{at_set, each_set, get_set_same, get_set_other, set_same, within, set_at, target_up, target_elsewhere, none_up}
+use Rattle.set_model.proofs.Lists.{at_set, each_set, get_set_same, get_set_other, set_same, within, set_at, target_up, none_up}
 use Rattle.set_model.proofs.Places.{false_true}
 use Rattle.set_model.proofs.Walk.{IsAt}
 use Rattle.l3_orders.specs.Grammar.{text}

@@ -55,10 +55,6 @@ module _ (stream : ℕ) (place : Place) (test : Fate → Bool) (fate : Fate) (fi
 pub stream_appended : (stream : ℕ) (place : Place) (used used' : Bool) (rows : List Row) (body : List ℕ) (fate : Fate) → IsNumbered rows → IsSoundStream stream place used rows → (is_live stream (new_row (length rows) body fate) ≡ true → (stands_at place fate ≡ true) × (used' ≡ true)) → (used' ≡ false → used ≡ false) → IsSoundStream stream place used' (appended rows body fate)
 stream_appended stream place used used' rows body fate numbered t fits grows = grind (arith, filter-append, ascends_appended, fits)
 
--- the same numbers
-pub same_stream : (stream : ℕ) (place place' : Place) (used : Bool) (xs ys : List Row) → numbers (live stream ys) ≡ numbers (live stream xs) → astray stream place' ys ≡ [] → IsSoundStream stream place used xs → IsSoundStream stream place' used ys
-same_stream stream place place' used xs ys same away t = let as_many = ap length same in grind (arith, no_rows, length-map, as_many)
-
 -- ROWS THAT MOVE: all live ones of a stream do, or none.
 module _ (stream : ℕ) (place place' : Place) (test : Fate → Bool) (to : Fate) (goes : Bool) (open_there : (f : Fate) → test f ≡ true → is_unfinished f ≡ true) (open_to : is_unfinished to ≡ true) (all : (f : Fate) → stands_at place f ≡ true → test f ≡ goes) (comes : goes ≡ true → stands_at place' to ≡ true) (stays : goes ≡ false → (f : Fate) → stands_at place f ≡ true → stands_at place' f ≡ true) where
   abbrev kept : List Row → List Row
@@ -89,7 +85,9 @@ module _ (stream : ℕ) (place place' : Place) (test : Fate → Bool) (to : Fate
   pub stream_moves : (used : Bool) (rows : List Row) → IsSoundStream stream place used rows → IsSoundStream stream place' used (moved test (all_with to) rows)
   stream_moves used rows t =
       let g = parts rows t.together in
-      same_stream stream place place' used rows (moved test (all_with to) rows) (grind (arith, filter-append, map-append, append-nil, g)) (grind (arith, filter-append, g)) t
+      let same : numbers (live stream (moved test (all_with to) rows)) ≡ numbers (live stream rows) = grind (arith, filter-append, map-append, append-nil, g) in
+      let as_many = ap length same in
+      record { in_order = rw same t.in_order; together = grind (arith, filter-append, g); unused = grind (arith, no_rows, length-map, as_many, t.unused) }
 
 -- a stream with no live message can run anywhere
 pub stream_empty : (stream : ℕ) (place place' : Place) (used : Bool) (rows : List Row) → live stream rows ≡ [] → IsSoundStream stream place used rows → IsSoundStream stream place' used rows

@@ -51,11 +51,9 @@ module _ (Known : ℕ → Type 0) (May : Type 0) (R : State → State → Type 0
   pub settle_walks : (reached : Reached) (n : ℕ) (link : LinkState) (s : State) → Known n → IsAt n link Down s → R s (settled reached n link s)
   settle_walks Unknown n link s known at = off n link s _ known (k.gives_up_sent Emergency n link s known at) (record { there = at.there; phase_is = at.phase_is })
   settle_walks Unanswered n link s known at = off n link s _ known (given_up NoAnswerCame n link s known at) (record { there = at.there; phase_is = at.phase_is })
-  settle_walks (Upto fsn) n link s known at = go (is_reasonable fsn n link s.rows) refl
-    where
-      go : (b : Bool) → is_reasonable fsn n link s.rows ≡ b → R s (settled (Upto fsn) n link s)
-      go true e = grind (arith, get_set_same, within)
-      go false e = rw e (off n link s _ known (given_up Unreasonable n link s known at) (record { there = at.there; phase_is = at.phase_is }))
+  settle_walks (Upto fsn) n link s known at =
+      let refused = off n link s _ known (given_up Unreasonable n link s known at) (record { there = at.there; phase_is = at.phase_is }) in
+      grind (arith, get_set_same, within, refused)
 
   -- orders
   over_walks : (reached : Reached) (n : ℕ) (link : LinkState) (phase : Phase) (s : State) → Known n → IsAt n link phase s → R s (changed_over reached n link phase s).state
@@ -102,9 +100,6 @@ pub record WalkedBy (s : State) (event : Event) (R : State → State → Type 0)
   pub sends : (n : ℕ) (link : LinkState) → event ≡ Next n → IsAt n link Up s → S (next n s link).state
   pub hears : (n : ℕ) (unit : SignalUnit) (link : LinkState) → event ≡ Heard n unit → IsAt n link Up s → S (after_control (part_of link.control (window_of n link s.rows) (header_in unit) (is_msu unit)) (header_in unit) unit n s link)
   pub rises : (n : ℕ) (link : LinkState) → event ≡ UpEvent n → IsAt n link Settled s → S (rises n s Settled).state
-
-pub brought_by : (accept : Bool) (unit : SignalUnit) (b : List ℕ) → brought accept unit ≡ Some b → (o : Order) → order_of b ≡ Some o → (n : ℕ) → link_of o ≡ n → BringsAbout n unit
-brought_by accept unit b e o f n g = grind arith
 
 brought_either : (accept : Bool) (unit : SignalUnit) (b : List ℕ) → brought accept unit ≡ Some b → (o : Order) → order_of b ≡ Some o → (n : ℕ) → Touches o n → BringsAbout n unit ⊎ BringsBackTo n unit
 brought_either accept unit b e o f n touches = grind arith

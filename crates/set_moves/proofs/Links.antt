@@ -5,7 +5,7 @@ use Rattle.set_moves.specs.Parts.{Link, Parts, link_of, kept_of, AtLink, IsOut}
 use Rattle.std.proofs.lemmas.List.{length-map}
 use Rattle.set_moves.specs.Agreement.{Kept, StandsFor}
 use Rattle.set_model.specs.State.{LinkState, State, link_count, has_phase_up, target}
-use Rattle.set_model.proofs.Lists.{here, map_at, map_set, map_set_same, same_at, at_map, present, target_up}
+use Rattle.set_model.proofs.Lists.{map_at, map_set, map_set_same, same_at, at_map, present, target_up}
 use Rattle.std.proofs.lemmas.Bool.{ne_eqb}
 use Rattle.std.proofs.lemmas.Simd.{map-map}
 use Rattle.set_queues.specs.Buffers.{Fate, Lists, IsKnown}
@@ -16,7 +16,7 @@ use Rattle.set_route.specs.Target.{target_of}
 -- the link that an index of this number read
 module _ (links : List Link) (n i : ℕ) (x : Link) (is : i ≡ n) (known : n < length links) (read : x ≡ slice_index_or links i x) where
   pub found : slice_get links n ≡ Some x
-  found = here links i n x is known read
+  found = slice_get-get_or links n x known ∙ ap Some (ap (λ k. slice_index_or links k x) (sym is) ∙ sym read)
 
   pub stands_for : (ls : List LinkState) (link : LinkState) → map link_of links ≡ ls → slice_get ls n ≡ Some link → link_of x ≡ link
   stands_for ls link all there = same_Some (link_of x) link (sym (map_at link_of links n x found) ∙ ap (λ xs. slice_get xs n) all ∙ there)
