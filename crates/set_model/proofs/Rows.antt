@@ -137,9 +137,6 @@ new_row number body fate = record { number = number; body = body; fate = fate }
 pub numbered_appended : (rows : List Row) (body : List ℕ) (fate : Fate) → IsNumbered rows → IsNumbered (appended rows body fate)
 numbered_appended rows body fate numbered number = grind (arith, nat_tests, filter-append, length-append, length_push)
 
-pub fit_appended : (rows : List Row) (body : List ℕ) (fate : Fate) → AreFit rows → length body ≤ 273 → AreFit (appended rows body fate)
-fit_appended rows body fate a f = each_append _ rows (new_row (length rows) body fate ∷ []) a (f, tt)
-
 -- rows of the same numbers
 pub same_numbers : (rows new : List Row) → length new ≡ length rows → ((number : ℕ) → length (with_number number new) ≡ length (with_number number rows)) → IsNumbered rows → IsNumbered new
 same_numbers rows new long each numbered number = each number ∙ numbered number ∙ ap (λ (n : ℕ). cond (nat_lt number n) 1 0) (sym long)
@@ -199,10 +196,6 @@ changed_left test fate o [] = refl
 changed_left test fate o (x ∷ rows) = grind (arith, changed_left test fate o rows)
 
 -- What is found under a number, before and after a change.
--- the row as such a move leaves it
-abbrev pub moved_row : (Fate → Bool) → (Row → Fate) → Row → Row
-moved_row test fate row = cond (test row.fate) (fated fate row) row
-
 -- a number has one row at most
 pub at_most_one : (number : ℕ) (rows : List Row) → IsNumbered rows → length (with_number number rows) ≤ 1
 at_most_one number rows numbered = grind arith
@@ -214,12 +207,12 @@ row_is_first number (x ∷ rows) = grind (arith, row_is_first number rows)
 
 -- A MOVE: the row of a number is the one that it was, with the fate if it moved.
 module _ (test : Fate → Bool) (fate : Row → Fate) where
-  few_moved : (rows : List Row) → length rows ≤ 1 → slice_get (moved test fate rows) 0 ≡ option_map (moved_row test fate) (slice_get rows 0)
+  few_moved : (rows : List Row) → length rows ≤ 1 → slice_get (moved test fate rows) 0 ≡ option_map (λ row. cond (test row.fate) (fated fate row) row) (slice_get rows 0)
   few_moved [] l = refl
   few_moved (x ∷ []) l = grind arith
   few_moved (x ∷ y ∷ rows) l = absurd (omega (arith, l))
 
-  row_moved : (number : ℕ) (rows : List Row) → IsNumbered rows → row_of number (moved test fate rows) ≡ option_map (moved_row test fate) (row_of number rows)
+  row_moved : (number : ℕ) (rows : List Row) → IsNumbered rows → row_of number (moved test fate rows) ≡ option_map (λ row. cond (test row.fate) (fated fate row) row) (row_of number rows)
   row_moved number rows numbered = grind (arith, row_is_first, filter_moved, few_moved)
 
   pub place_moved : (number : ℕ) (rows : List Row) → IsNumbered rows → place number (moved test fate rows) ≡ option_map (λ r. cond (test r.fate) (fate r) r.fate) (row_of number rows)

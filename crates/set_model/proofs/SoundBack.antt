@@ -12,10 +12,10 @@ use Rattle.set_model.specs.State.{Asked, Place, Nowhere, On, Changing, Down, Set
 use Rattle.set_model.specs.Step.{risen_link, rises}
 use Rattle.set_route.proofs.Alone.{alone, codes_alone}
 use Rattle.set_route.proofs.Places.{raised_sound, settled_sound, left_sound, asked_sound, back_sound}
-use Rattle.set_model.proofs.Order.{coded_at, backs_moved, back_order_moved, backs_kept, before_none, gone_none, none_standing, ascends_appended}
+use Rattle.set_model.proofs.Order.{ascends_filter, backs_of, before_none, coded_at, each_left, gone_none, none_standing, stood}
 use Rattle.set_model.proofs.Events.{apart_on, left, unparked, untouched_self}
 use Rattle.set_model.proofs.Lists.{get_set_same, get_set_other, within, each_set, target_up, target_off, target_open, target_unheld, none_up}
-use Rattle.set_model.proofs.Rows.{moved_numbered, moved_fit, moved_same, moved_more, moved_nothing, fated_none, numbered_appended, fit_appended}
+use Rattle.set_model.proofs.Rows.{each_filter, moved_off, moved_numbered, moved_fit, moved_same, moved_more, moved_nothing, fated_none, numbered_appended}
 use Rattle.set_model.proofs.Places.{false_true, not_on_waiting, back_not_on, back_not_parked, code_back, home_back}
 use Rattle.set_model.proofs.Ranging.{not_sent, offered_out}
 use Rattle.set_model.proofs.Walk.{IsAt}
@@ -38,8 +38,10 @@ moved_sound s links routing test fate t long sound same gone follows homes aside
   none_aside = aside;
   all_run = λ n link there up k few. (follows k few).runs n link there up;
   homes_up = homes;
-  backs = backs_moved test fate s.rows gone s.routing routing (λ k few. (follows k few).stays) t.backs;
-  back_order = back_order_moved test fate s.rows gone t.back_order;
+  backs =
+      let kept = each_left test (λ row. IsBackOf s.routing row row.fate) (λ row. IsBackOf routing row row.fate) (λ x. stood test s.routing routing (λ k few. (follows k few).stays) x x.fate) (back s.rows) (each_filter (λ row. IsBackOf s.routing row row.fate) (λ row. stands_back row.fate) s.rows t.backs) in
+      backs_of routing (moved test fate s.rows) (rw (moved_off test stands_back fate s.rows gone) kept);
+  back_order = rw (moved_off test stands_back fate s.rows gone) (ascends_filter (λ (row : Row). not (test row.fate)) (back s.rows) t.back_order);
 }
 
 -- A LINK COMES UP.
@@ -62,14 +64,6 @@ module _ (n : ℕ) (link : LinkState) (s : State) (at : IsAt n link Down s) (t :
   abbrev off_rows : List Row
   off_rows = moved (is_on n) (all_with (fate_on to_link)) s.rows
 
-  -- it is empty, since the target is another link; and what the others see of it
-  off_links : (k : ℕ) (other : LinkState) → slice_get (slice_set s.links n (settled_link link)) k ≡ Some other → IsSoundLink s.settings.method k other off_rows
-  off_links =
-      let l = t.links n link at.there in
-      let m = left n (fate_on to_link) s.rows (target_off s.links n (grind arith)) (target_open to_link) in
-      each_set (λ k other. IsSoundLink s.settings.method k other off_rows) s.links n (settled_link link) (grind arith) (λ k other d here. let out = λ (is_down : has_phase_up other.phase ≡ false). target_off s.links k (ap link_is_up here ∙ is_down) in link_moved s.settings.method k other (is_on n) (all_with (fate_on to_link)) s.routing s.rows t.backs (apart_on n k d)
-      (λ x. not_sent k to_link) (λ u x. target_unheld to_link k) (λ f x e b. not_on_waiting k (fate_on to_link) (out f)) (λ e x f b. out (grind (arith, e))) (t.links k other here))
-
   -- a link that is up was so before, so there is a target; and a stream on its way back has a home that is up
   over_follows : (to : Option ℕ) → target s.links ≡ to → (place : Place) → ((home code via : ℕ) → place ≡ Changing home code via → to ≡ None → ⊥) → IsPlaced s.links place → ((j : ℕ) (old : LinkState) → slice_get s.links j ≡ Some old → has_phase_up old.phase ≡ true → place ≢ Nowhere) → (is : Place) → is ≡ place_settled n to place → Follows (slice_set s.links n (settled_link link)) (is_on n) place is
   over_follows to e place some p run is a = record {
@@ -80,11 +74,16 @@ module _ (n : ℕ) (link : LinkState) (s : State) (at : IsAt n link Down s) (t :
 
   pub moves_off_sound : IsSound (moved_over n link s)
   moves_off_sound =
+      -- it is empty, since the target is another link
+      let l = t.links n link at.there in
+      let m = left n (fate_on to_link) s.rows (target_off s.links n (grind arith)) (target_open to_link) in
       let stays : has_phase_up link.phase ≡ true → has_phase_up (settled_link link).phase ≡ true = false_true (has_phase_up link.phase) (ap has_phase_up at.phase_is) in
       let below : IfSome (target s.links) (λ r. r < s.routing.links) = grind (arith, target_up, within) in
       moved_sound s _ (settled n to_link s.routing) (is_on n) (all_with (fate_on to_link)) t (length-set s.links n (settled_link link)) (settled_sound n to_link s.routing below t.routing) refl (fated_none stands_back (all_with (fate_on to_link)) (λ x. grind arith) (standing (is_on n) s.rows))
       (λ k few. over_follows to_link refl (place_of k s.routing) (λ home code via e none. grind (arith, nat_tests, coded_at, none_up)) (t.placed k few) (λ j old here up. t.all_run j old here up k few) _ ((alone s.routing k t.routing few).settled_place n to_link)) (λ code asked. up_after s.links n link (settled_link link) at.there stays (home_of code) (t.homes_up code asked))
-      (up_before s.links n link (settled_link link) at.there (λ e. absurd cc) (λ k old here up. moved_same (is_on n) is_parked (all_with (fate_on to_link)) s.rows (λ x. grind (arith, none_up)) (λ f e. grind arith) ∙ t.none_aside k old here up)) off_links
+      (up_before s.links n link (settled_link link) at.there (λ e. absurd cc) (λ k old here up. moved_same (is_on n) is_parked (all_with (fate_on to_link)) s.rows (λ x. grind (arith, none_up)) (λ f e. grind arith) ∙ t.none_aside k old here up))
+      (each_set (λ k other. IsSoundLink s.settings.method k other off_rows) s.links n (settled_link link) (grind arith) (λ k other d here. let out = λ (is_down : has_phase_up other.phase ≡ false). target_off s.links k (ap link_is_up here ∙ is_down) in link_moved s.settings.method k other (is_on n) (all_with (fate_on to_link)) s.routing s.rows t.backs (apart_on n k d)
+      (λ x. not_sent k to_link) (λ u x. target_unheld to_link k) (λ f x e b. not_on_waiting k (fate_on to_link) (out f)) (λ e x f b. out (grind (arith, e))) (t.links k other here)))
 
 -- a code in use is below 256
 in_use_below : (r : Routing) → IsRouting r → (code : ℕ) → code_of code r ≡ Asked → code < 256
@@ -117,25 +116,18 @@ module _ (blind : Bool) (n : ℕ) (link : LinkState) (s : State) (at : IsAt n li
   gone : (other : Fate → Bool) → ((via : ℕ) → IsPlaced mid.links (On via) → other (fate_at (On via) mid) ≡ false) → standing other (map (fated fate) (standing (is_back_to n) s.rows)) ≡ []
   gone other h = gone_none (is_back_to n) fate (λ row. IsBackOf s.routing row row.fate) other (λ x e b. let g = goes x e b in ap (λ (p : Place). other (fate_at p mid)) g.1 ∙ h g.0 g.2) s.rows t.backs
 
-  left_link_sound : (k : ℕ) (other : LinkState) → slice_get mid.links k ≡ Some other → IsSoundLink s.settings.method k other s.rows → IsSoundLink s.settings.method k other (moved (is_back_to n) fate s.rows)
-  left_link_sound k other there was = link_moved s.settings.method k other (is_back_to n) fate s.routing s.rows t.backs (λ f e. back_not_on k f (home_back n f e)) (λ x. offered_out k _ mid) (λ u x. up_not_held mid k (ap link_is_up there ∙ u) _) (λ d x e b. down_not_waiting mid k (ap link_is_up there ∙ d) _) (λ e x f b. grind (arith, nat_tests, goes x f b)) was
-
-  left_follows : (k : ℕ) → k < 16 → Follows mid.links (is_back_to n) (place_of k s.routing) (place_of k mid.routing)
-  left_follows k few =
-      let stays = placed_set s.links n link (left_link blind link) (place_of k s.routing) at.there refl (t.placed k few) in
-      let a = (alone s.routing k t.routing few).left_place n in
-      record {
-        placed = rw a (grind (arith, stays));
-        runs = up_before s.links n link (left_link blind link) at.there (λ e. absurd cc) (λ j old here up. let runs = t.all_run j old here up k few in rw a (grind (arith, runs)));
-        stays = λ code via of f. grind (arith, a);
-      }
-
   pub leaves : IsSound (left_by blind n link s)
   leaves =
       let mid_links = links_set s.settings.method s.links n (left_link blind link) s.rows s.rows (let l = t.links n link at.there in grind arith) (λ k d. untouched_self k s.rows) t.links in
-      moved_sound s mid.links mid.routing (is_back_to n) fate t (length-set s.links n (left_link blind link)) (left_sound n s.routing t.routing) refl (gone stands_back (λ via p. grind arith)) left_follows
+      moved_sound s mid.links mid.routing (is_back_to n) fate t (length-set s.links n (left_link blind link)) (left_sound n s.routing t.routing) refl (gone stands_back (λ via p. grind arith))
+      (λ k few. let stays = placed_set s.links n link (left_link blind link) (place_of k s.routing) at.there refl (t.placed k few) in let a = (alone s.routing k t.routing few).left_place n in record {
+        placed = rw a (grind (arith, stays));
+        runs = up_before s.links n link (left_link blind link) at.there (λ e. absurd cc) (λ j old here up. let runs = t.all_run j old here up k few in rw a (grind (arith, runs)));
+        stays = λ code via of f. grind (arith, a);
+      })
       (λ code e. grind (arith, nat_tests, (codes_alone s.routing code t.routing (in_use_below mid.routing (left_sound n s.routing t.routing) code e)).left_code n, t.homes_up code, get_set_other))
-      (up_before s.links n link (left_link blind link) at.there (λ e. absurd cc) (λ k old here up. grind (arith, nat_tests, moved_more, gone, t.none_aside k old here up))) (λ k other there. left_link_sound k other there (mid_links k other there))
+      (up_before s.links n link (left_link blind link) at.there (λ e. absurd cc) (λ k old here up. grind (arith, nat_tests, moved_more, gone, t.none_aside k old here up)))
+      (λ k other there. link_moved s.settings.method k other (is_back_to n) fate s.routing s.rows t.backs (λ f e. back_not_on k f (home_back n f e)) (λ x. offered_out k _ mid) (λ u x. up_not_held mid k (ap link_is_up there ∙ u) _) (λ d x e b. down_not_waiting mid k (ap link_is_up there ∙ d) _) (λ e x f b. grind (arith, nat_tests, goes x f b)) (mid_links k other there))
 
 -- A DECLARATION.
 -- the link that it goes out on is up

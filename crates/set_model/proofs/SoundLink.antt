@@ -13,9 +13,9 @@ use Rattle.set_model.specs.Changeover.{acknowledged_by, Order, fate_on, queued}
 use Rattle.set_model.specs.Rows.{DiscardCause, Fate, Acked, Discarded, Unacked, Row, back, changed, fated, held, is_held, is_on, is_unacked, is_waiting, moved, octets_in, on, standing, stands_back, unack, wait, Back, Held, Parked, Waiting, appended, parked, service_indicator, stream_of}
 use Rattle.set_model.specs.State.{Asked, is_up, Place, Changing, Nowhere, On, Down, Up, LinkState, State, has_phase_settled, has_phase_up, last_accepted, link_is_up, window_of, fate_at, target}
 use Rattle.set_model.specs.Step.{SignalUnit, after_control, is_msu, next, rows_sent, offer_refusal, offered}
-use Rattle.set_model.proofs.Order.{backs_same, before_append, before_never, neither, gone_none, coded_at, backs_kept, ascends_appended}
+use Rattle.set_model.proofs.Order.{backs_of, stood, before_append, before_never, neither, gone_none, coded_at, ascends_appended}
 use Rattle.set_model.proofs.Events.{kept_self, Untouched, untouched_self, sent, acknowledged, ChangesOn, untouched, appended_out}
-use Rattle.set_model.proofs.Rows.{each_append, changed_there, others_stay, new_row, numbered_appended, fit_appended}
+use Rattle.set_model.proofs.Rows.{each_append, each_filter, each_so, changed_there, others_stay, new_row, numbered_appended}
 use Rattle.set_model.proofs.Lists.{at_set, each_set, get_set_same, get_set_other, set_same, within, set_at, target_up, none_up}
 use Rattle.set_model.proofs.Places.{false_true}
 use Rattle.set_model.proofs.Walk.{IsAt}
@@ -69,7 +69,8 @@ changes n link link' s new t there same unsettled g few counted method range =
     let run = up_before s.links n link link' there (λ e. sym up ∙ e) t.all_run in
     let stays = up_after s.links n link link' there (λ e. up ∙ e) in
     let links = links_set s.settings.method s.links n link' s.rows new one g.others t.links in
-    search (length-set, g.kept.numbered, g.kept.fit, placed_set, t.placed, t.homes_up, backs_same, g.back_same)
+    let backs = backs_of s.routing new (subst (AreBack s.routing) (sym g.back_same) (each_filter (λ row. IsBackOf s.routing row row.fate) (λ row. stands_back row.fate) s.rows t.backs)) in
+    search (length-set, g.kept.numbered, g.kept.fit, placed_set, t.placed, t.homes_up, backs, g.back_same)
 
 -- the inbox is no part of it
 pub with_inbox : (s : State) (inbox : List (List ℕ)) → IsSound s → IsSound (record s { inbox = inbox })
@@ -163,14 +164,14 @@ module _ (s : State) (routing : Routing) (t : IsSound s) (sound : IsRouting rout
       → ((code : ℕ) → code_of code routing ≡ Asked → is_up (home_of code) s ≡ true) → IsSound (record s { rows = appended s.rows body fate; routing = routing })
   appended_sound body fate fits opened is_back follows homes =
       let links = λ (k : ℕ) (other : LinkState) (there : slice_get s.links k ≡ Some other). link_more s.settings.method k other s.rows (new_row (length s.rows) body fate ∷ []) (grind arith) (λ u. grind (arith, nat_tests)) (λ d. grind (arith, nat_tests)) (λ e. grind (arith, nat_tests)) s.rows refl (t.links k other there) in
-      let backs = backs_kept s.routing routing (λ k few. (follows k few).stays) (appended s.rows body fate) (each_append _ s.rows _ t.backs (is_back, tt)) in
+      let backs = each_so (λ row. IsBackOf s.routing row row.fate) (λ row. IsBackOf routing row row.fate) (λ x. stood (λ f. false) s.routing routing (λ k few. (follows k few).stays) x x.fate refl) (appended s.rows body fate) (each_append _ s.rows _ t.backs (is_back, tt)) in
       record {
         managed = t.managed;
         routing = sound;
         routed = same ∙ t.routed;
         count = t.count;
         numbered = numbered_appended s.rows body fate t.numbered;
-        fit = fit_appended s.rows body fate t.fit fits;
+        fit = each_append _ s.rows _ t.fit (fits, tt);
         links = links;
         placed = λ k few. (follows k few).placed;
         none_aside = λ k other there rising. grind (arith, appended_out);

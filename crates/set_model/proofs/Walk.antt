@@ -131,11 +131,6 @@ module _ (s : State) (R : State → State → Type 0) (S : State → Type 0) whe
   fall_walks event blind n link w known at =
       w.rests s _ w.unmoved (w.small.after s (left_by blind n link s) _ (w.small.leaves blind n link s known at) (w.small.queues (leaving_order blind n link) (left_by blind n link s)))
 
-  timeout_walks : (n : ℕ) → WalkedBy s (BackTimeout n) R S → S (runs_out n s).state
-  timeout_walks n w =
-      cond_both (some_in_use (code_for n 0) 16 s) _ _ (λ (o : Outcome). S o.state)
-      (λ e. w.rests s _ w.unmoved (release_walks (λ m. Concerns (BackTimeout n) m s) (BeginsNone (BackTimeout n) → ⊥) R w.small (code_for n 0) 16 s (λ c low high. omega (arith, low, high)))) (λ e. w.unmoved)
-
   pub step_walks : (event : Event) → WalkedBy s event R S → S (step s event).state
   unfolding step
   step_walks (Offer body) w = grind arith
@@ -148,7 +143,9 @@ module _ (s : State) (R : State → State → Type 0) (S : State → Type 0) whe
   step_walks (DownBlind n) w = in_walks n _ w.unmoved (λ link at. fall_walks (DownBlind n) true n link w refl at)
   step_walks (NoAnswer n) w = on_walks n (λ link. gives_up n s link link.phase) w.unmoved (λ link there. give_walks n link link.phase w (record { there = there; phase_is = refl }))
   step_walks (Restore n) w = in_walks n (λ link. comes_back n s) w.unmoved (λ link at. grind (arith, declare_walks))
-  step_walks (BackTimeout n) w = on_walks n (λ link. runs_out n s) w.unmoved (λ link there. timeout_walks n w)
+  step_walks (BackTimeout n) w =
+      on_walks n (λ link. runs_out n s) w.unmoved (λ link there. cond_both (some_in_use (code_for n 0) 16 s) _ _ (λ (o : Outcome). S o.state)
+      (λ e. w.rests s _ w.unmoved (release_walks (λ m. Concerns (BackTimeout n) m s) (BeginsNone (BackTimeout n) → ⊥) R w.small (code_for n 0) 16 s (λ c low high. omega (arith, low, high)))) (λ e. w.unmoved))
 
 -- The sealed step is its cases.
 pub step_is : (s : State) (event : Event) → step s event ≡ stepped s event
