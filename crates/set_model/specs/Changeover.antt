@@ -86,8 +86,7 @@ judged_link (Upto fsn) number link rows =
     if is_reasonable fsn number link rows
     then acknowledged (reached_by fsn number link rows) link
     else link
-judged_link Unknown number link rows = link
-judged_link Unanswered number link rows = link
+judged_link _ number link rows = link
 
 -- then: what stands on the link is moved, in its order, and so are its streams
 abbrev pub settled_link : LinkState → LinkState
@@ -173,26 +172,21 @@ changed_over reached number link Settled s = record { took = TookOrder; state = 
 
 -- (Q.704 5.4.3, 5.6.3) an acknowledgement settles a link that waits for one
 abbrev pub answered : Reached → ℕ → LinkState → Phase → State → Obeyed
-answered reached number link Up s = ignored s
 answered reached number link Down s = record { took = TookOrder; state = settled reached number link s }
-answered reached number link Settled s = ignored s
+answered reached number link _ s = ignored s
 
 -- an order for a link that doesn't exist is ignored
 abbrev pub at_link : ℕ → State → (LinkState → Obeyed) → Option LinkState → Obeyed
 at_link number s obeyed None = ignored s
 at_link number s obeyed (Some link) = obeyed link
 
--- (Q.704 6.3) a declaration is acknowledged, whatever its code
-abbrev pub declaration_heard : ℕ → ℕ → State → Obeyed
-declaration_heard link code s = record { took = TookOrder; state = queued (Cba link code) s }
-
 -- (Q.704 6.3) an acknowledgement of a code in no use is ignored
 abbrev pub acknowledged_back : ℕ → Code → State → Obeyed
 acknowledged_back code Free s = ignored s
-acknowledged_back code Asked s = record { took = TookOrder; state = released code s }
-acknowledged_back code Spent s = record { took = TookOrder; state = released code s }
+acknowledged_back code _ s = record { took = TookOrder; state = released code s }
 
--- the link of the order need not be the one that it was heard on
+-- the link of the order need not be the one that it was heard on; a declaration is acknowledged, whatever its code
+-- (Q.704 6.3)
 abbrev pub order_obeyed : Order → State → Obeyed
 order_obeyed (Coo number fsn) s =
     at_link number s (λ link. changed_over (Upto fsn) number link link.phase s) (slice_get s.links number)
@@ -202,7 +196,7 @@ order_obeyed (Coa number fsn) s =
     at_link number s (λ link. answered (Upto fsn) number link link.phase s) (slice_get s.links number)
 order_obeyed (Eca number) s =
     at_link number s (λ link. answered Unknown number link link.phase s) (slice_get s.links number)
-order_obeyed (Cbd number code) s = declaration_heard number code s
+order_obeyed (Cbd number code) s = record { took = TookOrder; state = queued (Cba number code) s }
 order_obeyed (Cba number code) s = acknowledged_back code (code_of code s.routing) s
 
 -- a body of the management that is no order is ignored

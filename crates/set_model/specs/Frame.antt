@@ -14,16 +14,14 @@ use Rattle.set_model.specs.Sound.{IsSound}
 
 -- the unit brings an order about this link
 abbrev pub BringsAbout : ℕ → SignalUnit → Type 0
-BringsAbout number (Fisu head) = ⊥
-BringsAbout number (Lssu head status) = ⊥
 BringsAbout number (Msu head body) = (order : Order) × (order_of body.items ≡ Some order) × (link_of order ≡ number)
+BringsAbout number _ = ⊥
 
 -- it brings the acknowledgement of a changeback to this link
 abbrev pub BringsBackTo : ℕ → SignalUnit → Type 0
-BringsBackTo number (Fisu head) = ⊥
-BringsBackTo number (Lssu head status) = ⊥
 BringsBackTo number (Msu head body) =
     (link code : ℕ) × (order_of body.items ≡ Some (Cba link code)) × (home_of code ≡ number)
+BringsBackTo number _ = ⊥
 
 -- its own link, that of an order which its unit brings, the home of the code that it acknowledges, or the one on which
 -- the stream of an offered message runs; Restore concerns none
@@ -54,12 +52,11 @@ pub record LeavesAlone (number : ℕ) (old new : State) : Type 0 where
 
 -- What is sent moves the window so.
 abbrev pub window_after : Choice → WindowState → WindowState
-window_after (again place) window = window
 window_after first window = record window {
   unacked = window.unacked ++ take 1 window.unsent;
   unsent = drop 1 window.unsent;
 }
-window_after fill window = window
+window_after _ window = window
 
 -- of a link that is up: what its control does when a unit is sent, and when one is heard, is done to its window
 pub record MovesAsItsControl (number : ℕ) (link : LinkState) (s : State) : Type 0 where

@@ -13,9 +13,8 @@ use Rattle.l2_window.specs.Window.{most_unacked}
 -- the control is of the set's method
 abbrev pub IsOf : Method → Control → Type 0
 IsOf BasicMethod (Basic state) = Unit {0}
-IsOf BasicMethod (Cyclic state) = ⊥
-IsOf (CyclicMethod n1 n2) (Basic state) = ⊥
 IsOf (CyclicMethod n1 n2) (Cyclic state) = (state.n1 ≡ n1) × (state.n2 ≡ n2)
+IsOf _ _ = ⊥
 
 -- with so many messages unacknowledged: the cursor isn't past the last one; the cycle is at one of them, or at its
 -- beginning
@@ -97,12 +96,7 @@ abbrev pub IsBackOf : Routing → Row → Fate → Type 0
 IsBackOf routing row (Back code) =
     (is_users row ≡ true) × (stream_of row.body < 16)
     × (via : ℕ) × (place_of (stream_of row.body) routing ≡ Changing (home_of code) code via)
-IsBackOf routing row (Waiting l) = Unit {0}
-IsBackOf routing row (Unacked l) = Unit {0}
-IsBackOf routing row (Acked l) = Unit {0}
-IsBackOf routing row (Held l) = Unit {0}
-IsBackOf routing row Parked = Unit {0}
-IsBackOf routing row (Discarded cause) = Unit {0}
+IsBackOf routing row _ = Unit {0}
 
 abbrev pub AreBack : Routing → List Row → Type 0
 AreBack routing rows = Each (λ row. IsBackOf routing row row.fate) rows

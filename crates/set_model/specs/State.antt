@@ -82,13 +82,11 @@ with_link number link s = record s { links = slice_set s.links number link }
 
 abbrev pub has_phase_up : Phase → Bool
 has_phase_up Up = true
-has_phase_up Down = false
-has_phase_up Settled = false
+has_phase_up _ = false
 
 abbrev pub has_phase_settled : Phase → Bool
-has_phase_settled Up = false
-has_phase_settled Down = false
 has_phase_settled Settled = true
+has_phase_settled _ = false
 
 abbrev pub link_is_up : Option LinkState → Bool
 link_is_up None = false

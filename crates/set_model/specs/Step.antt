@@ -4,8 +4,6 @@ pub use Rattle.l2_units.specs.declared.unit.Unit.{Unit as SignalUnit}
 pub use Rattle.l2_units.specs.declared.unit.Unit.TheVariants.{Fisu, Lssu, Msu}
 use Rattle.l2_units.specs.Grammar.{head_of as header_in}
 use Rattle.l3_orders.specs.Grammar.{order_of}
-use Rattle.l2_signals.specs.declared.cause.ControlFault.{ControlFault}
-use Rattle.l2_signals.specs.declared.cause.ControlFault.TheVariants.{Bsn, Fib}
 pub use Rattle.set_events.specs.Places.{one_if}
 pub use Rattle.set_events.specs.declared.answer.Took.{Took}
 pub use Rattle.set_events.specs.declared.answer.Took.TheVariants.{Nothing as NothingTaken, Message, Ignored, Order}
@@ -86,9 +84,8 @@ unit_of None head = Fisu head
 
 -- a first sending turns the first waiting message into an unacknowledged one
 abbrev pub rows_sent : Choice → ℕ → List Row → List Row
-rows_sent (again place) number rows = rows
 rows_sent first number rows = turned (is_waiting number) (Unacked number) 1 rows
-rows_sent fill number rows = rows
+rows_sent _ number rows = rows
 
 abbrev pub sends : Choice → ℕ → State → LinkState → Outcome
 sends choice number s link =
@@ -107,15 +104,13 @@ next number s link =
 
 -- HEARD.
 abbrev pub is_msu : SignalUnit → Bool
-is_msu (Fisu head) = false
-is_msu (Lssu head status) = false
 is_msu (Msu head body) = true
+is_msu _ = false
 
 -- the body that the control accepted, if any
 abbrev pub brought : Bool → SignalUnit → Option (List ℕ)
-brought accept (Fisu head) = None
-brought accept (Lssu head status) = None
 brought accept (Msu head body) = if accept then Some body.items else None
+brought accept _ = None
 
 -- where an accepted body goes: a message to the users' inbox; one of the management, of service indicator 0
 -- (Q.704 14.2.1), to the rules of changeover
@@ -126,18 +121,13 @@ takes (Some body) s =
     then obeyed (order_of body) s
     else record { took = Message; state = record s { inbox = s.inbox ++ body ∷ [] } }
 
-abbrev pub fault_of : Option ControlFault → Option ControlFault
-fault_of None = None
-fault_of (Some Bsn) = Some Bsn
-fault_of (Some Fib) = Some Fib
-
 abbrev pub report_of : HeardPart → Took → Report
 report_of part took = record {
   acked = part.acked;
   took = took;
   asked = part.asked;
   resend = part.resend;
-  fault = fault_of part.fault;
+  fault = part.fault;
 }
 
 -- what the control makes of the unit: acknowledged messages are the first ones, and so many
@@ -193,8 +183,7 @@ falls blind number s link = record {
 -- (own).
 abbrev pub gives_up : ℕ → State → LinkState → Phase → Outcome
 gives_up number s link Down = record { answer = Done; state = settled Unanswered number link s }
-gives_up number s link Up = refused s Nothing
-gives_up number s link Settled = refused s Nothing
+gives_up number s link _ = refused s Nothing
 
 -- RESTORE (Q.704 6.2): streams come back from every other link that is up, the lowest-numbered first.
 abbrev pub comes_back : ℕ → State → Outcome
