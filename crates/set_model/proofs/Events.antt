@@ -3,7 +3,7 @@ use Rattle.std.proofs.Common.{refl, arith, ◌≡◌, ◌∙◌, ap, ◌≤◌, 
 use Rattle.std.proofs.lemmas.List.{append-nil, map-append}
 use Rattle.std.proofs.lemmas.List.Elements.{filter-append}
 use Rattle.set_model.specs.Rows.{DiscardCause, Fate, Acked, Discarded, Parked, Unacked, Waiting, AreFit, IsHeldLast, IsInOrder, IsNumbered, Row, all_with, appended, back, body_at, changed, counts_of, fated, held, is_held, is_on, is_parked, is_unacked, is_waiting, moved, numbers, on, parked, standing, total_of, turned, unack, wait, was_acked, with_fate}
-use Rattle.set_model.proofs.Places.{itself, apart_back, unacked_not_waiting, waiting_not_held, unacked_not_held, parked_not_on, on_not_parked, on_not_back, on_not_acked, parked_not_acked, waiting_on, unacked_on, held_on, on_other, not_on_waiting, not_on_unacked, not_on_held}
+use Rattle.set_model.proofs.Places.{itself, apart_back, unacked_not_waiting, waiting_not_held, unacked_not_held, on_not_parked, on_not_back, on_not_acked, parked_not_acked, waiting_on, unacked_on, held_on, on_other, not_on_waiting, not_on_unacked, not_on_held}
 use Rattle.set_model.proofs.Rows.{InPlace, turned_there, changed_there, turned_same, changed_same, turned_left, changed_left, moved_length, moved_fit, moved_numbered, moved_gone, moved_same, moved_joined, filter_moved, filter_comm, filter_within, body_moved, total_is, new_row, same_numbers}
 use Rattle.set_model.proofs.Order.{before_filter, before_never, before_none, before_within, order_sent, sent_joined, on_in_order}
 
@@ -164,4 +164,6 @@ pub record Unparked (l : ℕ) (rows new : List Row) : Type 0 where
   pub others : (n : ℕ) → (l == n) ≡ false → Untouched n rows new
 
 pub unparked : (l : ℕ) (rows : List Row) → Unparked l rows (moved is_parked (all_with (Waiting l)) rows)
-unparked l rows = search (parked_not_on, moved_joined, itself, not_on_waiting, moved_same, not_on_held, moved_kept, parked_not_acked, moved_gone, not_on_unacked, before_never, untouched)
+unparked l rows =
+    let parked_not_on : (n : ℕ) (f : Fate) → is_parked f ≡ true → is_on n f ≡ false = λ n f e. grind arith in
+    search (parked_not_on, moved_joined, itself, not_on_waiting, moved_same, not_on_held, moved_kept, parked_not_acked, moved_gone, not_on_unacked, before_never, untouched)

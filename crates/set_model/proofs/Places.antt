@@ -32,9 +32,6 @@ on_not_parked n f e = grind arith
 pub on_not_back : (n : ℕ) (f : Fate) → is_on n f ≡ true → stands_back f ≡ false
 on_not_back n f e = grind arith
 
-pub parked_not_on : (l : ℕ) (f : Fate) → is_parked f ≡ true → is_on l f ≡ false
-parked_not_on l f e = grind arith
-
 pub on_not_acked : (l : ℕ) (f : Fate) → is_on l f ≡ true → was_acked f ≡ false
 on_not_acked l f e = grind arith
 

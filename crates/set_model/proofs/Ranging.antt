@@ -31,9 +31,6 @@ not_sent m to = grind arith
 pub offered_out : (m : ℕ) (place : Place) (s : State) → is_unacked m (fate_at place s) ≡ false
 offered_out m place s = grind arith
 
-few_appended : (m : ℕ) (rows : List Row) (body : List ℕ) (fate : Fate) → is_unacked m fate ≡ false → length (unack m (appended rows body fate)) ≤ length (unack m rows)
-few_appended m rows body fate none = grind (arith, appended_out)
-
 -- A processed unit acknowledges no more than there are.
 pub acked_few : (n : ℕ) (link : LinkState) (rows : List Row) (head : Header) (msu : Bool) → (part_of link.control (window_of n link rows) head msu).acked ≤ length (unack n rows)
 acked_few n link rows head msu = grind (arith, length-map)
@@ -70,7 +67,7 @@ few_sent _ m n rows = omega arith
 acked_at_most : (more c n count : ℕ) (rows : List Row) → count ≤ length (unack n rows) → c + count + length (unack n (turned (is_unacked n) (Acked n) count rows)) ≤ c + length (unack n rows) + more
 acked_at_most more c n count rows fits = grind (arith, turned_left, length-drop)
 
-ruleset grows = (le_refl, zero-le, grow_then, grow_rows, grow_set, at_most, sum_at_most, one_low, acked_at_most, few_moved, few_appended, not_sent, offered_out, few_sent, acked_few, arith)
+ruleset grows = (le_refl, zero-le, grow_then, grow_rows, grow_set, at_most, sum_at_most, one_low, acked_at_most, few_moved, appended_out, not_sent, offered_out, few_sent, acked_few, arith)
 
 step_grows : (s : State) (event : Event) → GrowBy 1 s (step s event).state
 step_grows s event =

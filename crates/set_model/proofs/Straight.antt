@@ -165,13 +165,11 @@ then_quiet a b c p q sound none r = let m = p sound none r in q m.sound m.none_o
 rests_quiet : (a b : State) → Quiet a → StaysQuiet a b → Quiet b
 rests_quiet a b q then = then q.sound q.none_open q.together
 
-begins_none : (May : Type 0) (s : State) → (May → ⊥) → May → Quiet s
-begins_none May s none may = absurd (none may)
-
 ruleset straight = (then_quiet, rests_quiet, leaves, releases, queues, stream_turned, stream_changed, fits_finished, moves_off, offers, sends, rises)
 
 pub step_straight : (s : State) (event : Event) → IsAsked event → BeginsNone event → IsSound s → RunsStraight s → RunsStraight (step s event).state
 step_straight s event asked begins t r =
     let stood = r.together in
-    let end = step_walks s StaysQuiet Quiet event (search (sounds, straight, begins_none, stood, begins)) in
+    let begins_none : (u : State) → (BeginsNone event → ⊥) → Quiet u = λ u may. absurd (may begins) in
+    let end = step_walks s StaysQuiet Quiet event (search (sounds, straight, begins_none, stood)) in
     record { none_open = end.none_open; together = end.together }

@@ -128,12 +128,10 @@ abbrev pub last_accepted : LinkState → ℕ
 last_accepted link = (link.accepted + fsn_before_first) % fsn_count
 
 -- The message at this place of a link's unacknowledged ones: its number, and its FSN (Q.703 2.2).
-abbrev pub numbered_at : ℕ → LinkState → Row → Numbered
-numbered_at place link row = record { number = row.number; fsn = (link.acked + place) % fsn_count }
-
 abbrev pub unacked_of : Option LinkState → ℕ → ℕ → List Row → Option Numbered
 unacked_of None number place rows = None
-unacked_of (Some link) number place rows = option_map (numbered_at place link) (slice_get (unack number rows) place)
+unacked_of (Some link) number place rows = option_map
+    (λ row. record { number = row.number; fsn = (link.acked + place) % fsn_count }) (slice_get (unack number rows) place)
 
 abbrev pub unacked_in : State → ℕ → ℕ → Option Numbered
 unacked_in s number place = unacked_of (slice_get s.links number) number place s.rows

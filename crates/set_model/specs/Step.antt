@@ -152,9 +152,8 @@ controls unit number s link =
 
 -- a link status signal unit is the terminal's own affair, not the error control's: there is nothing to do
 abbrev pub heard : SignalUnit → ℕ → State → LinkState → Outcome
-heard (Fisu head) number s link = controls (Fisu head) number s link
 heard (Lssu head status) number s link = refused s Nothing
-heard (Msu head body) number s link = controls (Msu head body) number s link
+heard unit number s link = controls unit number s link
 
 -- UP. The error control starts anew; streams move to the link, and what was parked waits for it.
 abbrev pub risen_link : Method → LinkState
