@@ -3,6 +3,8 @@ use Rattle.std.proofs.Common.{refl, arith, ◌≡◌, ◌∙◌, ap, ◌≤◌, 
 use Rattle.std.proofs.lemmas.List.{append-nil, map-append}
 use Rattle.std.proofs.lemmas.List.Elements.{filter-append}
 use Rattle.set_model.specs.Rows.{DiscardCause, Fate, Acked, Discarded, Parked, Unacked, Waiting, AreFit, IsHeldLast, IsInOrder, IsNumbered, Row, all_with, appended, back, body_at, changed, counts_of, fated, held, is_held, is_on, is_parked, is_unacked, is_waiting, moved, numbers, on, parked, standing, total_of, turned, unack, wait, was_acked, with_fate}
+use Rattle.set_model.specs.Control.{Choice, first}
+use Rattle.set_model.specs.Step.{rows_sent}
 use Rattle.set_model.proofs.Places.{itself, apart_back, unacked_not_waiting, waiting_not_held, unacked_not_held, on_not_parked, on_not_back, on_not_acked, parked_not_acked, waiting_on, unacked_on, held_on, on_other, not_on_waiting, not_on_unacked, not_on_held}
 use Rattle.set_model.proofs.Rows.{InPlace, turned_there, changed_there, turned_same, changed_same, turned_left, changed_left, moved_length, moved_fit, moved_numbered, moved_gone, moved_same, moved_joined, filter_moved, filter_comm, filter_within, body_moved, total_is, new_row, same_numbers}
 use Rattle.set_model.proofs.Order.{before_filter, before_never, before_none, before_within, order_sent, sent_joined, on_in_order}
@@ -88,6 +90,11 @@ sent l rows =
     let i = turned_there (is_waiting l) (Unacked l) 1 rows in
     let held_last = i.before (λ f. is_unacked l f || is_waiting l f) (is_held l) (λ f e u. grind arith) (λ f e h. grind arith) in
     search (kept_in_place, on_not_acked l, waiting_on, turned_left, sent_joined, itself, turned_same, waiting_not_held, on_not_parked l, on_not_back l, order_sent, held_last, untouched, apart_on l)
+
+-- what the rows keep where nothing is sent for the first time too
+pub sent_by : (choice : Choice) (n : ℕ) (rows : List Row) → ChangesOn n rows (rows_sent choice n rows)
+sent_by first n rows = (sent n rows).in_place
+sent_by _ n rows = let k = kept_self rows in let u = λ (m : ℕ). untouched_self m rows in search (k, u)
 
 -- AN ACKNOWLEDGEMENT.
 pub record Acknowledged (l count : ℕ) (rows new : List Row) : Type 0 where

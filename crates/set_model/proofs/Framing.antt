@@ -13,7 +13,7 @@ use Rattle.set_model.specs.Frame.{BringsAbout, Concerns, LeavesAlone, MovesAsIts
 use Rattle.set_model.specs.Rows.{DiscardCause, Fate, Waiting, Unacked, IsInOrder, Row, appended, fated, held, is_held, is_on, is_unacked, is_waiting, moved, numbers, standing, unack, wait}
 use Rattle.set_model.specs.Sound.{IsSound}
 use Rattle.set_model.specs.State.{Up, LinkState, State, is_up, link_is_up, target, window_of}
-use Rattle.set_model.proofs.Events.{Untouched, untouched_self, apart_on, sent, acknowledged, sent_given_up, waiting_given_up, unparked, appended_out, numbers_joined}
+use Rattle.set_model.proofs.Events.{Untouched, untouched_self, apart_on, sent, sent_by, acknowledged, sent_given_up, waiting_given_up, unparked, appended_out, numbers_joined}
 use Rattle.set_model.proofs.Rows.{fated_none, new_row, moved_same, moved_more}
 use Rattle.set_model.proofs.Lists.{get_set_same, get_set_other, within, target_off, target_unheld}
 use Rattle.set_model.proofs.Places.{apart, not_on_waiting, back_not_on, home_back, code_back}
@@ -47,20 +47,18 @@ up_waits to n s up down = grind (arith, nat_tests)
 off_waits : (n : ℕ) (links new : List LinkState) → slice_get new n ≡ slice_get links n → link_is_up (slice_get new n) ≡ false → is_waiting n (fate_on (target links)) ≡ false
 off_waits n links new same down = not_on_waiting n (fate_on (target links)) (target_off links n (rw same at down))
 
-sent_alone : (n m : ℕ) (choice : Choice) (rows : List Row) → (m == n) ≡ false → Untouched n rows (rows_sent choice m rows)
-sent_alone n m choice rows d = let first = (sent m rows).others n d in let same = untouched_self n rows in grind arith
-
 concerned : (event by : Event) (m : ℕ) (s : State) → event ≡ by → Concerns by m s → Concerns event m s
 concerned event by m s e known = subst (λ (v : Event). Concerns v m s) (sym e) known
 
 pub leaves_alone : (n : ℕ) (s : State) (event : Event) → (Concerns event n s → ⊥) → LeavesAlone n s (step s event).state
 leaves_alone n s event free =
     let off = λ (m : ℕ) (known : Concerns event m s). apart m n (λ same. free (subst (λ (k : ℕ). Concerns event k s) same known)) in
+    let sends = λ (choice : Choice) (m : ℕ) (rows : List Row). (sent_by choice m rows).others in
     let acked = λ (m count : ℕ) (rows : List Row). (acknowledged m count rows).others in
     let sent_up = λ (m : ℕ) (cause : DiscardCause) (rows : List Row). (sent_given_up m cause rows).others in
     let waiting_up = λ (m : ℕ) (cause : DiscardCause) (rows : List Row). (waiting_given_up m cause rows).others in
     let risen = λ (m : ℕ) (rows : List Row). (unparked m rows).others in
-    step_walks s (LeavesAlone n) (LeavesAlone n s) event (search (up_waits, alternative_up, alone_moved, back_not_on, code_back, home_back, apart_on, not_sent, off_waits, target_unheld, alone_then, alone_by, untouched_self, alone_appended, offered_out, up_not_held, down_not_waiting, off, concerned, inl, get_set_other, eqb-false, sent_alone) depth 7)
+    step_walks s (LeavesAlone n) (LeavesAlone n s) event (search (up_waits, alternative_up, alone_moved, back_not_on, code_back, home_back, apart_on, not_sent, off_waits, target_unheld, alone_then, alone_by, untouched_self, alone_appended, offered_out, up_not_held, down_not_waiting, off, concerned, inl, get_set_other, eqb-false) depth 7)
 
 -- THE WINDOW.
 pub numbers-drop : (d : ℕ) (rows : List Row) → numbers (drop d rows) ≡ drop d (numbers rows)

@@ -7,7 +7,7 @@ use Rattle.std.proofs.lemmas.Bool.Decides.{nat_tests}
 use Rattle.set_model.specs.Laws.{MessagesStay, MovesTheLinksRows, KeepsMessages}
 use Rattle.set_model.specs.Rows.{Fate, IsNumbered, Row, DiscardCause, appended, body_at, counts_of, service_indicator, total_of, was_acked}
 use Rattle.set_model.proofs.Rows.{turned_there, changed_there, moved_length, moved_numbered, is_found, numbered_appended, same_numbers, no_rows, body_moved, place_moved, row_is_first, total_is}
-use Rattle.set_model.proofs.Events.{numbers_fated, Kept, kept_self, moved_kept, sent, acknowledged, sent_given_up, waiting_given_up}
+use Rattle.set_model.proofs.Events.{numbers_fated, Kept, kept_self, moved_kept, sent_by, acknowledged, sent_given_up, waiting_given_up}
 use Rattle.std.proofs.lemmas.List.Elements.{filter-append}
 use Rattle.l3_orders.specs.Grammar.{text}
 use Rattle.set_model.specs.Changeover.{Order}
@@ -67,17 +67,14 @@ order_managed order settings m = grind arith
 fate_open : (p : Place) (s : State) → was_acked (fate_at p s) ≡ false
 fate_open p s = grind arith
 
-sent_kept : (choice : Choice) (n : ℕ) (rows : List Row) → Kept rows (rows_sent choice n rows)
-sent_kept first n rows = (sent n rows).kept
-sent_kept _ n rows = kept_self rows
-
 none_offered : (event : Event) (body : List ℕ) → event ≡ Offer body → is_offer event ≡ false → (service_indicator body == 0) ≡ true
 none_offered event body e other = absurd (let no : true ≡ false = sym (ap is_offer e) ∙ other in cc)
 
-ruleset grows = (grows_then, grows_kept, grows_appended, order_managed, moved_kept, sent_kept, kept_self, on_not_acked, target_open, parked_not_acked, back_not_acked, home_back, code_back, fate_open, none_offered)
+ruleset grows = (grows_then, grows_kept, grows_appended, order_managed, moved_kept, kept_self, on_not_acked, target_open, parked_not_acked, back_not_acked, home_back, code_back, fate_open, none_offered)
 
 pub step_grows : (s : State) (event : Event) → Grows (is_offer event ≡ false) s (step s event).state
 step_grows s event =
+    let sends = λ (choice : Choice) (n : ℕ) (rows : List Row). (sent_by choice n rows).kept in
     let acks = λ (n count : ℕ) (rows : List Row). (acknowledged n count rows).kept in
     let sent_up = λ (n : ℕ) (cause : DiscardCause) (rows : List Row). (sent_given_up n cause rows).kept in
     let waiting_up = λ (n : ℕ) (cause : DiscardCause) (rows : List Row). (waiting_given_up n cause rows).kept in

@@ -120,13 +120,6 @@ module _ (s : State) (R : State → State → Type 0) (S : State → Type 0) whe
       w.rests _ (controls unit n s link).state (w.hears n unit link refl at)
       (takes_walks (λ m. Concerns (Heard n unit) m s) (BeginsNone (Heard n unit) → ⊥) R w.small (brought part.accept unit) _ (λ b e o f m g. inr (brought_either part.accept unit b e o f m g)))
 
-  rise_walks : (n : ℕ) (link : LinkState) (phase : Phase) → WalkedBy s (UpEvent n) R S → IsAt n link phase s → S (rises n s phase).state
-  rise_walks n link phase w at = grind arith
-
-  give_walks : (n : ℕ) (link : LinkState) (phase : Phase) → WalkedBy s (NoAnswer n) R S → IsAt n link phase s → S (gives_up n s link phase).state
-  give_walks n link Down w at = w.rests s (settled Unanswered n link s) w.unmoved (settle_walks (λ m. Concerns (NoAnswer n) m s) (BeginsNone (NoAnswer n) → ⊥) R w.small Unanswered n link s refl at)
-  give_walks n link _ w at = w.unmoved
-
   fall_walks : (event : Event) (blind : Bool) (n : ℕ) (link : LinkState) → WalkedBy s event R S → Concerns event n s → IsAt n link Up s → S (queued (leaving_order blind n link) (left_by blind n link s))
   fall_walks event blind n link w known at =
       w.rests s _ w.unmoved (w.small.after s (left_by blind n link s) _ (w.small.leaves blind n link s known at) (w.small.queues (leaving_order blind n link) (left_by blind n link s)))
@@ -138,10 +131,10 @@ module _ (s : State) (R : State → State → Type 0) (S : State → Type 0) whe
   step_walks (Find number) w = grind arith
   step_walks (Next n) w = in_walks n (next n s) w.unmoved (λ link at. w.sends n link refl at)
   step_walks (Heard n unit) w = in_walks n (heard unit n s) w.unmoved (λ link at. grind (arith, hear_walks))
-  step_walks (UpEvent n) w = on_walks n (λ link. rises n s link.phase) w.unmoved (λ link there. rise_walks n link link.phase w (record { there = there; phase_is = refl }))
+  step_walks (UpEvent n) w = on_walks n (λ link. rises n s link.phase) w.unmoved (λ link there. let rise = w.rises n link refl in grind (arith, rise))
   step_walks (DownEvent n) w = in_walks n _ w.unmoved (λ link at. fall_walks (DownEvent n) false n link w refl at)
   step_walks (DownBlind n) w = in_walks n _ w.unmoved (λ link at. fall_walks (DownBlind n) true n link w refl at)
-  step_walks (NoAnswer n) w = on_walks n (λ link. gives_up n s link link.phase) w.unmoved (λ link there. give_walks n link link.phase w (record { there = there; phase_is = refl }))
+  step_walks (NoAnswer n) w = on_walks n (λ link. gives_up n s link link.phase) w.unmoved (λ link there. let settle = λ (at : IsAt n link Down s). w.rests s (settled Unanswered n link s) w.unmoved (settle_walks (λ m. Concerns (NoAnswer n) m s) (BeginsNone (NoAnswer n) → ⊥) R w.small Unanswered n link s refl at) in grind (arith, settle))
   step_walks (Restore n) w = in_walks n (λ link. comes_back n s) w.unmoved (λ link at. grind (arith, declare_walks))
   step_walks (BackTimeout n) w =
       on_walks n (λ link. runs_out n s) w.unmoved (λ link there. cond_both (some_in_use (code_for n 0) 16 s) _ _ (λ (o : Outcome). S o.state)
