@@ -6,8 +6,8 @@ use Rattle.std.proofs.lemmas.Bool.{and_parts}
 use Rattle.std.proofs.lemmas.List.{length-set}
 use Rattle.set_route.specs.Routing.{settled, IsRouting, Routing, asked, code_for, code_of, given_back, home_of, place_of, raised, place_settled}
 use Rattle.set_model.specs.Changeover.{Cbd, can_declare, declared, fate_on, left_by, left_link, moved_over, out_of_service, released, settled_link}
-use Rattle.set_model.specs.Rows.{Fate, Waiting, Back, Row, all_with, back, fated, is_back, is_back_to, is_held, is_on, is_parked, is_waiting, moved, parked, standing, stands_back, stream_of}
-use Rattle.set_model.specs.Sound.{AreBack, IsBackOf, IsPlaced, IsSound, IsSoundLink}
+use Rattle.set_model.specs.Rows.{Fate, Waiting, Back, Row, all_with, back, fated, is_back, is_back_to, is_held, is_on, is_parked, is_waiting, moved, numbers, parked, standing, stands_back, stream_of}
+use Rattle.set_model.specs.Sound.{AreBack, IsAscending, IsBackOf, IsPlaced, IsSound, IsSoundLink}
 use Rattle.set_model.specs.State.{Asked, Place, Nowhere, On, Changing, Down, Settled, Up, LinkState, State, fate_at, has_phase_up, is_up, link_is_up, target}
 use Rattle.set_model.specs.Step.{risen_link, rises}
 use Rattle.set_route.proofs.Alone.{alone, codes_alone}
@@ -26,23 +26,15 @@ use Rattle.set_model.proofs.Settling.{settled_empty}
 moved_sound : (s : State) (links : List LinkState) (routing : Routing) (test : Fate → Bool) (fate : Row → Fate) → IsSound s → length links ≡ length s.links → IsRouting routing → routing.links ≡ s.routing.links → back (map (fated fate) (standing test s.rows)) ≡ []
     → ((k : ℕ) → k < 16 → Follows links test (place_of k s.routing) (place_of k routing)) → ((code : ℕ) → code_of code routing ≡ Asked → link_is_up (slice_get links (home_of code)) ≡ true) → ((k : ℕ) (other : LinkState) → slice_get links k ≡ Some other → has_phase_up other.phase ≡ true → parked (moved test fate s.rows) ≡ [])
     → ((k : ℕ) (other : LinkState) → slice_get links k ≡ Some other → IsSoundLink s.settings.method k other (moved test fate s.rows)) → IsSound (record s { links = links; routing = routing; rows = moved test fate s.rows })
-moved_sound s links routing test fate t long sound same gone follows homes aside each = record {
-  managed = t.managed;
-  routing = sound;
-  routed = same ∙ t.routed;
-  count = long ∙ t.count;
-  numbered = moved_numbered test fate s.rows t.numbered;
-  fit = moved_fit test fate s.rows t.fit;
-  links = each;
-  placed = λ k few. (follows k few).placed;
-  none_aside = aside;
-  all_run = λ n link there up k few. (follows k few).runs n link there up;
-  homes_up = homes;
-  backs =
-      let kept = each_left test (λ row. IsBackOf s.routing row row.fate) (λ row. IsBackOf routing row row.fate) (λ x. stood test s.routing routing (λ k few. (follows k few).stays) x x.fate) (back s.rows) (each_filter (λ row. IsBackOf s.routing row row.fate) (λ row. stands_back row.fate) s.rows t.backs) in
-      backs_of routing (moved test fate s.rows) (rw (moved_off test stands_back fate s.rows gone) kept);
-  back_order = rw (moved_off test stands_back fate s.rows gone) (ascends_filter (λ (row : Row). not (test row.fate)) (back s.rows) t.back_order);
-}
+moved_sound s links routing test fate t long sound same gone follows homes aside each =
+    let kept = each_left test (λ row. IsBackOf s.routing row row.fate) (λ row. IsBackOf routing row row.fate) (λ x. stood test s.routing routing (λ k few. (follows k few).stays) x x.fate) (back s.rows) (each_filter (λ row. IsBackOf s.routing row row.fate) (λ row. stands_back row.fate) s.rows t.backs) in
+    let backs : AreBack routing (moved test fate s.rows) = backs_of routing (moved test fate s.rows) (rw (moved_off test stands_back fate s.rows gone) kept) in
+    let order : IsAscending (numbers (back (moved test fate s.rows))) = rw (moved_off test stands_back fate s.rows gone) (ascends_filter (λ (row : Row). not (test row.fate)) (back s.rows) t.back_order) in
+    let placed = λ (k : ℕ) (few : k < 16). (follows k few).placed in
+    let runs = λ (n : ℕ) (link : LinkState) (there : slice_get links n ≡ Some link) (up : has_phase_up link.phase ≡ true) (k : ℕ) (few : k < 16). (follows k few).runs n link there up in
+    let routed = same ∙ t.routed in
+    let count = long ∙ t.count in
+    search (moved_numbered, moved_fit)
 
 -- A LINK COMES UP.
 pub rises_sound : (n : ℕ) (link : LinkState) (s : State) → IsAt n link Settled s → IsSound s → IsSound (rises n s Settled).state

@@ -10,7 +10,7 @@ use Rattle.std.proofs.lemmas.List.Elements.{filter-append}
 use Rattle.l2_units.specs.Grammar.{head_of as header_in}
 use Rattle.set_route.specs.Routing.{IsRouting, Routing, accepted, code_of, home_of, place_of}
 use Rattle.set_model.specs.Changeover.{acknowledged_by, Order, fate_on, queued}
-use Rattle.set_model.specs.Rows.{DiscardCause, Fate, Acked, Discarded, Unacked, Row, back, changed, fated, held, is_held, is_on, is_unacked, is_waiting, moved, octets_in, on, standing, stands_back, unack, wait, Back, Held, Parked, Waiting, appended, parked, service_indicator, stream_of}
+use Rattle.set_model.specs.Rows.{AreFit, DiscardCause, Fate, Acked, Discarded, Unacked, Row, back, changed, fated, held, is_held, is_on, is_unacked, is_waiting, moved, octets_in, on, standing, stands_back, unack, wait, Back, Held, Parked, Waiting, appended, parked, service_indicator, stream_of}
 use Rattle.set_model.specs.State.{Asked, is_up, Place, Changing, Nowhere, On, Down, Up, LinkState, State, has_phase_settled, has_phase_up, last_accepted, link_is_up, window_of, fate_at, target}
 use Rattle.set_model.specs.Step.{SignalUnit, after_control, is_msu, next, rows_sent, offer_refusal, offered}
 use Rattle.set_model.proofs.Order.{backs_of, stood, before_append, before_never, neither, gone_none, coded_at, ascends_appended}
@@ -161,21 +161,12 @@ module _ (s : State) (routing : Routing) (t : IsSound s) (sound : IsRouting rout
   appended_sound body fate fits opened is_back follows homes =
       let links = λ (k : ℕ) (other : LinkState) (there : slice_get s.links k ≡ Some other). link_more s.settings.method k other s.rows (new_row (length s.rows) body fate ∷ []) (grind arith) (λ u. grind (arith, nat_tests)) (λ d. grind (arith, nat_tests)) (λ e. grind (arith, nat_tests)) s.rows refl (t.links k other there) in
       let backs = each_so (λ row. IsBackOf s.routing row row.fate) (λ row. IsBackOf routing row row.fate) (λ x. stood (λ f. false) s.routing routing (λ k few. (follows k few).stays) x x.fate refl) (appended s.rows body fate) (each_append _ s.rows _ t.backs (is_back, tt)) in
-      record {
-        managed = t.managed;
-        routing = sound;
-        routed = same ∙ t.routed;
-        count = t.count;
-        numbered = numbered_appended s.rows body fate t.numbered;
-        fit = each_append _ s.rows _ t.fit (fits, tt);
-        links = links;
-        placed = λ k few. (follows k few).placed;
-        none_aside = λ k other there rising. grind (arith, appended_out);
-        all_run = λ k other there rising stream low. (follows stream low).runs k other there rising;
-        homes_up = homes;
-        backs = backs;
-        back_order = ascends_appended (λ row. stands_back row.fate) s.rows body fate t.numbered t.back_order;
-      }
+      let runs = λ (n : ℕ) (link : LinkState) (there : slice_get s.links n ≡ Some link) (up : has_phase_up link.phase ≡ true) (k : ℕ) (few : k < 16). (follows k few).runs n link there up in
+      let placed = λ (k : ℕ) (few : k < 16). (follows k few).placed in
+      let aside : (k : ℕ) (other : LinkState) → slice_get s.links k ≡ Some other → has_phase_up other.phase ≡ true → parked (appended s.rows body fate) ≡ [] = λ k other there rising. grind (arith, appended_out) in
+      let fit : AreFit (appended s.rows body fate) = each_append _ s.rows _ t.fit (fits, tt) in
+      let routed = same ∙ t.routed in
+      search (numbered_appended, ascends_appended)
 
 -- AN ORDER goes to the target, and is of no stream.
 pub order_fits : (order : Order) (s : State) → length (text order s.settings.sio s.settings.dpc s.settings.opc) ≤ 273

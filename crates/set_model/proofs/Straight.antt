@@ -89,10 +89,6 @@ module _ (stream : ℕ) (place place' : Place) (test : Fate → Bool) (to : Fate
       let as_many = ap length same in
       record { in_order = rw same t.in_order; together = grind (arith, filter-append, g); unused = grind (arith, no_rows, length-map, as_many, t.unused) }
 
--- a stream with no live message can run anywhere
-pub stream_empty : (stream : ℕ) (place place' : Place) (used : Bool) (rows : List Row) → live stream rows ≡ [] → IsSoundStream stream place used rows → IsSoundStream stream place' used rows
-stream_empty stream place place' used rows none t = let away = filter_within (is_astray stream place') (is_live stream) (λ x e. grind arith) rows in grind (arith, away)
-
 -- NOTHING STANDS BACK, so leaving a link turns nothing back.
 module _ (s : State) (t : IsSound s) (none : NoneOpen s.routing) where
   none_for : (test : Fate → Bool) → ((f : Fate) → test f ≡ true → stands_back f ≡ true) → standing test s.rows ≡ []
@@ -136,7 +132,9 @@ module _ (n : ℕ) (rows : List Row) where
   stream_risen k home used (Changing to code via) away p = absurd (away to code via refl)
   stream_risen k home used (On l) away p =
       let remains = stream_moves k (On l) (On l) is_parked (Waiting n) false (λ f e. grind arith) refl (λ f e. grind arith) (λ e. absurd cc) (λ e f h. h) used rows p in
-      cond_both ((home == n) && not used) (On n) (On l) (λ (at : Place). IsSoundStream k at used risen) (λ e. stream_empty k (On l) (On n) used risen (remains.unused (grind arith)) remains) (λ e. remains)
+      cond_both ((home == n) && not used) (On n) (On l) (λ (at : Place). IsSoundStream k at used risen)
+      -- one with no live message can run anywhere
+      (λ e. let away = filter_within (is_astray k (On n)) (is_live k) (λ x e. grind arith) risen in let none = remains.unused (grind arith) in grind (arith, away, none)) (λ e. remains)
 
 -- A LINK IS LEFT BY ITS MESSAGES.
 moves_off : (n : ℕ) (s : State) → IsSound s → NoneOpen s.routing → AreTogether s → (k : ℕ) → k < 16 → IsSoundStream k (place_of k (settled n (target s.links) s.routing)) (has_messages k (settled n (target s.links) s.routing)) (moved (is_on n) (all_with (fate_on (target s.links))) s.rows)

@@ -1,6 +1,6 @@
 -- One link of the list changes, and what the list stands for with it.
 use Rattle.std.proofs.Common.{arith, ◌≡◌, ◌∙◌, ap, sym, ◌<◌, ℕ, List, map, length, slice_get, slice_set, slice_index_or, Some, ◌≢◌, false, Option, ◌==◌, IfSome}
-use Rattle.std.proofs.lemmas.Option.{same_Some}
+use Rattle.std.proofs.lemmas.Option.{same_Some, slice_get-get_or}
 use Rattle.set_moves.specs.Parts.{Link, Parts, link_of, kept_of, AtLink, IsOut}
 use Rattle.std.proofs.lemmas.List.{length-map}
 use Rattle.set_moves.specs.Agreement.{Kept, StandsFor}
