@@ -6,7 +6,7 @@ use Rattle.std.proofs.lemmas.List.{length-set, map-set, set-get_or, get_or-set_s
 use Rattle.std.proofs.Math.Seq.{map-set_same}
 use Rattle.set_route.specs.Target.{IsTarget}
 use Rattle.set_model.specs.Changeover.{fate_on}
-use Rattle.set_model.specs.Rows.{is_held, is_on, stands_back, was_acked}
+use Rattle.set_model.specs.Rows.{is_held, is_on, was_acked}
 use Rattle.set_model.specs.State.{LinkState, has_phase_up, link_is_up, target}
 use Rattle.set_route.proofs.Lowest.{target_is}
 

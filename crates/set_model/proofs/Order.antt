@@ -1,10 +1,10 @@
 -- FACTS OF EACH ROW, and what changes of rows do to them.
-use Rattle.std.proofs.Common.{arith, refl, ◌≡◌, ◌<◌, ℕ, suc, Bool, true, false, not, ◌||◌, List, [], ◌∷◌, ◌++◌, length, map, slice_get, Some, filter, sym, subst, ◌==◌, take}
+use Rattle.std.proofs.Common.{arith, refl, ◌≡◌, ◌<◌, ℕ, suc, Bool, true, false, not, ◌||◌, List, [], ◌∷◌, ◌++◌, length, map, slice_get, Some, filter, subst, ◌==◌, take}
 use Rattle.std.proofs.lemmas.List.{append-nil, map-append}
 use Rattle.std.proofs.lemmas.List.Elements.{filter-append}
-use Rattle.set_model.specs.Rows.{is_unacked, Fate, AreBefore, Each, IsNumbered, Row, appended, fated, numbers, standing, Back, back, moved, stands_back, Unacked, IsHeldLast, IsInOrder, held, is_waiting, on, turned, unack, wait, with_fate}
+use Rattle.set_model.specs.Rows.{is_unacked, Fate, AreBefore, Each, IsNumbered, Row, appended, fated, numbers, standing, Back, back, Unacked, IsHeldLast, IsInOrder, held, is_waiting, on, turned, unack, wait, with_fate}
 use Rattle.set_model.specs.Sound.{AreAbove, IsAscending, AreBack, IsBackOf}
-use Rattle.set_model.proofs.Rows.{each_so, each_filter, found_by_number, moved_off, filter_comm, filter_within, none_within}
+use Rattle.set_model.proofs.Rows.{found_by_number, filter_comm, filter_within, none_within}
 use Rattle.set_route.specs.Routing.{IsCoded, IsRouting, Routing, code_of, home_of, place_of}
 use Rattle.set_model.specs.State.{Asked, Changing}
 use Rattle.set_route.proofs.Quiet.{at_place}

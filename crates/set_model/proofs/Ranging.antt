@@ -7,7 +7,7 @@ use Rattle.set_route.specs.Routing.{Routing}
 use Rattle.set_model.specs.Step.{Event, step, one_if, rows_sent}
 use Rattle.set_model.specs.Changeover.{fate_on}
 use Rattle.set_model.specs.Control.{Header, Choice, first, part_of}
-use Rattle.set_model.specs.Rows.{DiscardCause, Discarded, Fate, Acked, Unacked, Row, appended, is_unacked, is_waiting, moved, standing, turned, unack}
+use Rattle.set_model.specs.Rows.{DiscardCause, Discarded, Fate, Acked, Unacked, Row, is_unacked, is_waiting, moved, standing, turned, unack}
 use Rattle.set_model.specs.Sound.{AreAtMost, AreFew, WholeNumbers, one_more}
 use Rattle.set_model.specs.State.{Place, Phase, LinkState, State, fate_at, window_of}
 use Rattle.set_model.proofs.Events.{appended_out}

@@ -12,8 +12,8 @@ use Rattle.std.proofs.lemmas.List.Elements.{filter-append}
 use Rattle.l3_orders.specs.Grammar.{text}
 use Rattle.set_model.specs.Changeover.{Order}
 use Rattle.set_route.specs.Routing.{Routing}
-use Rattle.set_model.specs.Step.{Event, Offer, step, rows_sent, Answer, Find, Take, Gains, messages_in, octets_of}
-use Rattle.set_model.specs.Control.{Choice, first}
+use Rattle.set_model.specs.Step.{Event, Offer, step, Answer, Gains, messages_in, octets_of}
+use Rattle.set_model.specs.Control.{Choice}
 use Rattle.set_model.specs.Sound.{IsManaged}
 use Rattle.set_model.specs.State.{Place, Settings, State, fate_at}
 use Rattle.set_model.proofs.Places.{on_not_acked, parked_not_acked, back_not_acked, home_back, code_back}
