@@ -40,15 +40,13 @@ alone_moved : (n : ℕ) (test : Fate → Bool) (fate : Row → Fate) (s : State)
     → (link_is_up (slice_get links n) ≡ false → (x : Row) → is_waiting n (fate x) ≡ false) → (link_is_up (slice_get links n) ≡ true → (x : Row) → is_held n (fate x) ≡ false) → LeavesAlone n s (record s { links = links; rows = moved test fate s.rows; routing = routing })
 alone_moved n test fate s links routing same off unsent waits holds = alone_more n s _ (map (fated fate) (standing test s.rows)) same (grind (arith, moved_same)) (grind (arith, moved_more)) (grind (arith, moved_more)) (λ e. grind (arith, fated_none, waits)) (λ e. grind (arith, fated_none, holds))
 
-off_waits : (n : ℕ) (links new : List LinkState) → slice_get new n ≡ slice_get links n → link_is_up (slice_get new n) ≡ false → is_waiting n (fate_on (target links)) ≡ false
-off_waits n links new same down = not_on_waiting n (fate_on (target links)) (target_off links n (rw same at down))
-
 pub leaves_alone : (n : ℕ) (s : State) (event : Event) → (Concerns event n s → ⊥) → LeavesAlone n s (step s event).state
 leaves_alone n s event free =
     let off = λ (m : ℕ) (known : Concerns event m s). apart m n (λ same. free (subst (λ (k : ℕ). Concerns event k s) same known)) in
     let concerned = λ (by : Event) (m : ℕ) (u : State) (e : event ≡ by) (known : Concerns by m u). subst (λ (v : Event). Concerns v m u) (sym e) known in
     -- what waits for a link that is up waits for no other
     let up_waits : (to m : ℕ) (u : State) → is_up to u ≡ true → is_up m u ≡ false → is_waiting m (Waiting to) ≡ false = λ to m u up down. grind (arith, nat_tests) in
+    let off_waits = λ (links new : List LinkState) (same : slice_get new n ≡ slice_get links n) (down : link_is_up (slice_get new n) ≡ false). not_on_waiting n (fate_on (target links)) (target_off links n (rw same at down)) in
     let sends = λ (choice : Choice) (m : ℕ) (rows : List Row). (sent_by choice m rows).others in
     let acked = λ (m count : ℕ) (rows : List Row). (acknowledged m count rows).others in
     let sent_up = λ (m : ℕ) (cause : DiscardCause) (rows : List Row). (sent_given_up m cause rows).others in

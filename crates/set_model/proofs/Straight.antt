@@ -157,17 +157,13 @@ sends _ n s r stream low = r stream low
 abbrev StaysQuiet : State → State → Type 0
 StaysQuiet s t = IsSound s → NoneOpen s.routing → AreTogether s → Quiet t
 
-then_quiet : (a b c : State) → StaysQuiet a b → StaysQuiet b c → StaysQuiet a c
-then_quiet a b c p q sound none r = let m = p sound none r in q m.sound m.none_open m.together
-
-rests_quiet : (a b : State) → Quiet a → StaysQuiet a b → Quiet b
-rests_quiet a b q then = then q.sound q.none_open q.together
-
-ruleset straight = (then_quiet, rests_quiet, leaves, releases, queues, stream_turned, stream_changed, fits_finished, moves_off, offers, sends, rises)
+ruleset straight = (leaves, releases, queues, stream_turned, stream_changed, fits_finished, moves_off, offers, sends, rises)
 
 pub step_straight : (s : State) (event : Event) → IsAsked event → BeginsNone event → IsSound s → RunsStraight s → RunsStraight (step s event).state
 step_straight s event asked begins t r =
     let stood = r.together in
+    let rests_quiet : (a b : State) → Quiet a → StaysQuiet a b → Quiet b = λ a b q then. then q.sound q.none_open q.together in
+    let then_quiet : (a b c : State) → StaysQuiet a b → StaysQuiet b c → StaysQuiet a c = λ a b c p q sound none r. rests_quiet b c (p sound none r) q in
     let begins_none : (u : State) → (BeginsNone event → ⊥) → Quiet u = λ u may. absurd (may begins) in
-    let end = step_walks s StaysQuiet Quiet event (search (sounds, straight, begins_none, stood)) in
+    let end = step_walks s StaysQuiet Quiet event (search (sounds, straight, then_quiet, rests_quiet, begins_none, stood)) in
     record { none_open = end.none_open; together = end.together }
