@@ -113,13 +113,12 @@ acknowledged l count rows =
 
 -- MESSAGES THAT ARE GIVEN UP.
 module _ (l : ℕ) (cause : DiscardCause) (rows : List Row) where
-  module _ (test : Fate → Bool) (on_link : (f : Fate) → test f ≡ true → is_on l f ≡ true) (not_held : (f : Fate) → test f ≡ true → is_held l f ≡ false) where
-    pub given_up : ChangesOn l rows (changed test (Discarded cause) rows)
-    given_up =
-        let i = changed_there test (Discarded cause) rows in
-        let in_order = i.before (is_unacked l) (is_waiting l) (λ f e u. grind arith) (λ f e w. grind arith) in
-        let held_last = i.before (λ f. is_unacked l f || is_waiting l f) (is_held l) (λ f e u. grind arith) (λ f e h. grind arith) in
-        search (kept_in_place, changed_same, on_not_acked l, on_not_parked l, on_not_back l, in_order, held_last, untouched, apart_on l)
+  given_up : (test : Fate → Bool) → ((f : Fate) → test f ≡ true → is_on l f ≡ true) → ((f : Fate) → test f ≡ true → is_held l f ≡ false) → ChangesOn l rows (changed test (Discarded cause) rows)
+  given_up test on_link not_held =
+      let i = changed_there test (Discarded cause) rows in
+      let in_order = i.before (is_unacked l) (is_waiting l) (λ f e u. grind arith) (λ f e w. grind arith) in
+      let held_last = i.before (λ f. is_unacked l f || is_waiting l f) (is_held l) (λ f e u. grind arith) (λ f e h. grind arith) in
+      search (kept_in_place, changed_same, on_not_acked l, on_not_parked l, on_not_back l, in_order, held_last, untouched, apart_on l)
 
   pub sent_given_up : ChangesOn l rows (changed (is_unacked l) (Discarded cause) rows)
   sent_given_up = given_up (is_unacked l) (unacked_on l) (unacked_not_held l l)
