@@ -131,7 +131,8 @@ last_accepted link = (link.accepted + fsn_before_first) % fsn_count
 abbrev pub unacked_of : Option LinkState → ℕ → ℕ → List Row → Option Numbered
 unacked_of None number place rows = None
 unacked_of (Some link) number place rows = option_map
-    (λ row. record { number = row.number; fsn = (link.acked + place) % fsn_count }) (slice_get (unack number rows) place)
+    (λ row. record { number = row.number; fsn = (link.acked + place) % fsn_count })
+    (slice_get (unack number rows) place)
 
 abbrev pub unacked_in : State → ℕ → ℕ → Option Numbered
 unacked_in s number place = unacked_of (slice_get s.links number) number place s.rows
