@@ -3,7 +3,6 @@ ghost use Rattle.std.specs.Prelude.{◌≡◌, ◌+◌, ◌<◌, ℕ, slice_inde
 ghost use Rattle.set_queues.specs.Buffers.{IsQueued, same_fate};
 ghost use Rattle.set_queues.specs.Settling.{fate_on};
 
-use super::backs::older;
 use super::buffers::Buffers;
 use super::message::Message;
 use super::messages::{Messages, pass, weigh};
@@ -125,10 +124,7 @@ impl Queues {
     pub fn fate_of(&self, number: u64) -> Option<Fate>
         ensures { result ≡ fate_at number self.now.messages }
     {
-        match self.message(number) {
-            Some(message) => Some(message.fate),
-            None => None,
-        }
+        Some(self.message(number)?.fate)
     }
 
     /// How many of the users' messages stand in each place.
@@ -209,14 +205,18 @@ impl Queues {
         requires { home < 16 }
         ensures { IsOldestOf home result self.now.lists }
     {
-        let mut oldest = None;
+        let mut oldest: Option<(u8, u64)> = None;
         for place in 0..16u8 {
-            oldest = older(&self.buffers, oldest, home, place);
+            let code = 16 * home + place;
+            let Some(number) = self.buffers.at(Fate::Back { code }, 0) else {
+                continue;
+            };
+            match oldest {
+                Some((_, least)) if least < number => (),
+                _ => oldest = Some((code, number)),
+            }
         }
-        match oldest {
-            Some((code, _)) => Some(code),
-            None => None,
-        }
+        Some(oldest?.0)
     }
 
     /// Makes room for so many new messages.
@@ -338,6 +338,7 @@ impl Queues {
     ///
     /// Refusal: 3 [`WindowFault::Unreasonable`], where the FSN is neither that last acknowledged nor
     /// that of an unacknowledged message.
+    #[tactic(auto, using(crate::proofs::Linked::of_link))]
     pub fn acknowledge(&mut self, link: u8, fsn: u8) -> Result<u8, WindowFault>
         requires known { link < length self.old.lists.links }
         requires fsn { fsn < 128 }
@@ -355,18 +356,16 @@ impl Queues {
         let Some(count) = self.window(link).distance(fsn) else {
             return Err(WindowFault::Unreasonable);
         };
-        let from = Fate::Unacked { link };
+        let (from, to) = (Fate::Unacked { link }, Fate::Acked { link });
+        let moved = usize::from(count);
         let octets = weigh(&self.buffers, &self.messages, link, count);
-        pass(
-            &mut self.buffers,
-            &mut self.messages,
-            from,
-            usize::from(count),
-            Fate::Acked { link },
-        );
+        pass(&mut self.buffers, &mut self.messages, from, moved, to);
         self.octets[usize::from(link)] -= octets;
-        self.buffers.ack(link, fsn);
-        Ok(count)
+        let buffers = &mut self.buffers;
+        match buffers.links[usize::from(link)].window.ack(fsn) {
+            Ok(_) => Ok(count),
+            Err(_) => unreachable!(),
+        }
     }
 
     /// All that stand in one queue stand last in the other from now on, in their order. It wants no
