@@ -20,22 +20,11 @@ back_found fields value i c x v b n e = grind (arith, length-map, slice_get_read
 
 -- THE QUEUES OF ONE LINK: its lists, and when it's set to another
 
-pub list_there : (list : LinkLists → List ℕ) (xs : List Link) (l : ℕ) (x : Link) → slice_get xs l ≡ Some x → list_in list (slice_get (map lists_of xs) l) ≡ list (lists_of x)
-list_there list xs l x e = grind (arith, slice_get-map)
-
-pub last_there : (xs : List Link) (l : ℕ) (x : Link) → slice_get xs l ≡ Some x → number_in (slice_get (map lists_of xs) l) ≡ x.window.last
-last_there xs l x e = grind (arith, slice_get-map)
-
 pub lists_set : (f : LinkLists → LinkLists) (xs : List Link) (l : ℕ) (x y : Link) → slice_get xs l ≡ Some x → lists_of y ≡ f (lists_of x) → map lists_of (slice_set xs l y) ≡ updated l f (map lists_of xs)
 lists_set f xs l x y e h = map_set_updated lists_of f xs l x y e h
 
 pub lists_same : (xs : List Link) (l : ℕ) (x y : Link) → slice_get xs l ≡ Some x → lists_of y ≡ lists_of x → map lists_of (slice_set xs l y) ≡ map lists_of xs
 lists_same xs l x y e h = map_set_same lists_of xs l x y e h
-
--- its rooms
-
-pub rooms_there : (room : LinkRooms → ℕ) (xs : List Link) (l : ℕ) (x : Link) → slice_get xs l ≡ Some x → room_in room (slice_get (map rooms_of xs) l) ≡ room (rooms_of x)
-rooms_there room xs l x e = grind (arith, slice_get-map)
 
 -- what is told of a link whose window an index reads
 pub record IsRead (x : Link) (l : ℕ) (value : BuffersState) : Type 0 where
@@ -47,7 +36,7 @@ pub record IsRead (x : Link) (l : ℕ) (value : BuffersState) : Type 0 where
 pub is_read : (fields : Inside) (value : BuffersState) (i l : ℕ) (x : Link) → state_of fields ≡ value → l < length value.lists.links → i ≡ l → x ≡ get_or fields.links.items i x → IsRead x l value
 is_read fields value i l x v b n e =
     let there = found fields value i l x v b n e in
-    rw (← v) (record { last = last_there _ l x there; unacked = list_there (λ y. y.unacked) _ l x there; unsent = list_there (λ y. y.unsent) _ l x there; room = rooms_there (λ y. y.unsent) _ l x there })
+    rw (← v) (record { last = grind (arith, slice_get-map); unacked = grind (arith, slice_get-map); unsent = grind (arith, slice_get-map); room = grind (arith, slice_get-map) })
 
 pub rooms_set : (room : LinkRooms → ℕ) (xs : List Link) (l k : ℕ) (x y : Link) → slice_get xs l ≡ Some x → room_in room (slice_get (map rooms_of (slice_set xs l y)) k) ≡ cond (l == k) (room (rooms_of y)) (room_in room (slice_get (map rooms_of xs) k))
 rooms_set room xs l k x y e = rw (map_set_updated rooms_of (λ (z : LinkRooms). rooms_of y) xs l x y e refl) (grind (arith, updated_there, updated_other, slice_get-map))
@@ -56,7 +45,7 @@ abbrev rooms : List Link → ℕ → List ℕ → Rooms
 rooms xs parked back = record { links = map rooms_of xs; parked = parked; back = back }
 
 pub keeps : (xs : List Link) (l : ℕ) (x y : Link) (parked : ℕ) (back : List ℕ) → slice_get xs l ≡ Some x → x.window.room ≤ y.window.room → x.held.room ≤ y.held.room → KeepsRoom (rooms xs parked back) (rooms (slice_set xs l y) parked back)
-keeps xs l x y parked back e u h fate = grind (arith, rooms_set, rooms_there)
+keeps xs l x y parked back e u h fate = grind (arith, rooms_set, slice_get-map)
 
 -- one link more has room
 pub room_each : (l n : ℕ) (old mid new : Rooms) → HaveRoom l n old → KeepsRoom old mid → n ≤ room_at (Waiting l) mid → KeepsRoom mid new → n ≤ room_at (Held l) new → HaveRoom (l + 1) n new
@@ -80,6 +69,6 @@ pub room_read : (xs : List QueueState) (c k : ℕ) (x y : QueueState) → slice_
 room_read xs c k x y e = rw (map_set_updated room_of (λ (r : ℕ). y.room) xs c x y e refl) (read_set y.room (map room_of xs) c k 0 (omega (arith, slice_get_within xs c x e, length-map xs room_of)))
 
 -- what a call on a queue of a link is for the set; and one on a code's
-pub ruleset of_link = (found, length-map, list_there, last_there, lists_set, lists_same, rooms_there, rooms_set, keeps, updated_twice, eq-eqb)
+pub ruleset of_link = (found, length-map, slice_get-map, lists_set, lists_same, rooms_set, keeps, updated_twice, eq-eqb)
 
 pub ruleset of_code = (back_found, length-map, back_there, back_set, back_same, room_there, room_read, eq-eqb)
