@@ -5,7 +5,7 @@ use Rattle.std.proofs.lemmas.Bool.Decides.{nat_tests}
 use Rattle.set_queues.specs.Buffers.{Fate, Waiting, Unacked, Held, Lists, TakesRoom, same_fate, with_queue, room_at, is_standing, queue_at, IsKnown}
 use Rattle.set_queues.specs.Backs.{back_count}
 use Rattle.set_queues.specs.Settling.{on}
-use Rattle.set_queues.proofs.Passing.{queue_other, queued_stands, queue_set}
+use Rattle.set_queues.proofs.Passing.{queue_away, queue_set}
 use Rattle.set_queues.proofs.Settling.{IsAside, room_left, on_length}
 use Rattle.set_model.specs.Changeover.{fate_on}
 use Rattle.set_model.specs.State.{target, has_phase_up}
@@ -42,10 +42,9 @@ has_room n parts fate r e = grind arith
 -- what stands on a link isn't touched by what waits elsewhere
 pub on_same : (n : ℕ) (to : Fate) (xs : List ℕ) (q new : Lists) → IsAside n to q → new ≡ with_queue to xs q → on n new ≡ on n q
 on_same n to xs q new a e =
-    let stands = queued_stands to a.queued in
     let queued = a.queued in
     let sent : same_fate to (Unacked n) ≡ false = grind arith in
-    rw (e, queue_other to (Unacked n) xs q stands a.other sent, queue_other to (Waiting n) xs q stands a.other a.unsent, queue_other to (Held n) xs q stands a.other a.held) refl
+    rw (queue_away to (Unacked n) xs q new e a.other sent, queue_away to (Waiting n) xs q new e a.other a.unsent, queue_away to (Held n) xs q new e a.other a.held) refl
 
 -- THE WHOLE NUMBERS of a list in which one link changed otherwise
 pub counted_set : (bound : ℕ) (links new : List Link) (n : ℕ) (link : Link) → AreCounted bound links → new ≡ slice_set links n link → IsCounted bound link → AreCounted bound new

@@ -57,7 +57,7 @@ shifts_stand {q} {q'} {ms} {rows} {new} {test} {to} {ns} {xs} {left} {joined} s 
   where
     fate : (n k : ℕ) → occurs n ns ≡ k → fate_at n (restood ns to ms) ≡ place n new
     fate n zero e = fate_stays n ns to ms e ∙ s.fates n ∙ sym ((shifts.goes n).stays e)
-    fate n (suc k) e = fate_moves n ns to ms (given_all ns to ms rows new shifts.messages.numbered (s.count ∙ sym shifts.messages.count) shifts.goes) (omega (arith, e)) ∙ sym ((shifts.goes n).goes (omega (arith, e)))
+    fate n (suc k) e = fate_moves n ns to ms (given_all ns to ms rows new shifts.messages.numbered (s.count ∙ sym shifts.messages.count) shifts.goes n (omega (arith, e))) (omega (arith, e)) ∙ sym ((shifts.goes n).goes (omega (arith, e)))
 
 -- A NEW MESSAGE
 pub get_push : {X : Type 0} (xs : List X) (x : X) (n : ℕ) → slice_get (xs ++ x ∷ []) n ≡ cond (length xs == n) (Some x) (slice_get xs n)
@@ -179,7 +179,7 @@ passed_moves : (from to : Fate) (test : Fate → Bool) (q : Lists) (ms : List Me
     → Moves (passed from to q) (restood (queue_at from q) to ms) rows (moved test (all_with to) rows)
 passed_moves from to test q ms rows s stood known other queued there off is same =
     let ns : queue_at from q ≡ numbers (standing test rows) = s.queues from ∙ ap numbers same in
-    shifts_stand s (moved_shifts test to rows s.numbered off there) (λ g t. grind (arith, nat_tests, passed_replaces q from to stood known other queued g t, is g t, s.queues to, ns)) ns
+    shifts_stand s (moved_shifts test to rows s.numbered off there) (λ g t. grind (arith, nat_tests, passed_replaces q from to stood known other g t, is g t, s.queues to, ns)) ns
 
 -- a link comes up, and what was parked waits for it
 pub risen_for : (k : Kept) (s : State) (n : ℕ) (link link' : LinkState) (routing : Routing) → StandsFor k s → slice_get s.links n ≡ Some link → link'.acked ≡ 0

@@ -1,20 +1,15 @@
 -- A queue is replaced by another list.
 use Rattle.std.proofs.Common.{refl, arith, ◌≡◌, ◌∙◌, ap, ◌<◌, ◌+◌, [], ◌∷◌, ◌++◌, length, take, append_assoc, ℕ, zero, suc, Bool, true, false, ◌==◌, List, Option, Some, cond, slice_get}
 use Rattle.std.proofs.lemmas.Bool.{eq-eqb}
-use Rattle.std.proofs.lemmas.Option.{get_or_from_slice_get}
+use Rattle.std.proofs.lemmas.Option.{slice_get-get_or, slice_get_cases}
 use Rattle.set_queues.specs.Messages.{Message, restood_one, restood}
 use Rattle.set_queues.specs.Buffers.{Fate, Waiting, Unacked, Held, Parked, Back, Lists, is_standing, same_fate, queue_at, with_queue, IsKnown, IsQueued, Rooms, CanTake, TakesRoom}
-use Rattle.set_queues.proofs.Updates.{there, length-updated, updated_there, updated_other, updated_twice, updated_id, read_set}
+use Rattle.set_queues.proofs.Updates.{length-updated, updated_there, updated_other, updated_twice, updated_id, read_set}
 use Rattle.std.proofs.lemmas.List.{append-nil}
 use Rattle.set_queues.proofs.Standing.{same_self, take_get, given_at, none_past, room_sum, length-restood, restood-append}
 
 pub queue_set : (g f : Fate) (numbers : List ℕ) (q : Lists) → is_standing g ≡ true → IsKnown g q → queue_at f (with_queue g numbers q) ≡ cond (same_fate g f) numbers (queue_at f q)
-queue_set (Waiting l) f ns q s h = let x = there q.links l h in grind (arith, updated_there, updated_other)
-queue_set (Unacked l) f ns q s h = let x = there q.links l h in grind (arith, updated_there, updated_other)
-queue_set (Held l) f ns q s h = let x = there q.links l h in grind (arith, updated_there, updated_other)
-queue_set Parked f ns q s h = grind arith
-queue_set (Back c) f ns q s h = grind (arith, read_set)
-queue_set _ f ns q s h = absurd (cc)
+queue_set g f ns q s h = grind (arith, updated_there, updated_other, slice_get_cases, read_set)
 
 -- the links stay as many
 pub links_stay : (g : Fate) (numbers : List ℕ) (q : Lists) → length (with_queue g numbers q).links ≡ length q.links
@@ -36,34 +31,25 @@ pub queue_twice : (g : Fate) (xs ys : List ℕ) (q : Lists) → with_queue g xs 
 queue_twice g xs ys q = grind (arith, updated_twice)
 
 pub queue_id : (g : Fate) (q : Lists) → IsKnown g q → with_queue g (queue_at g q) q ≡ q
-queue_id (Waiting l) q h = let x = there q.links l h in grind (arith, updated_id)
-queue_id (Unacked l) q h = let x = there q.links l h in grind (arith, updated_id)
-queue_id (Held l) q h = let x = there q.links l h in grind (arith, updated_id)
-queue_id (Back c) q h = let x = there q.back c h in grind (arith, updated_id, get_or_from_slice_get)
-queue_id _ q h = refl
+queue_id (Back c) q h = let x = slice_get-get_or q.back c [] h in grind (arith, updated_id)
+queue_id g q h = grind (arith, updated_id, slice_get_cases)
 
 pub queued_stands : (f : Fate) → IsQueued f → is_standing f ≡ true
 queued_stands f h = grind arith
-
-pub queue_same : (g : Fate) (xs : List ℕ) (q : Lists) → is_standing g ≡ true → IsKnown g q → queue_at g (with_queue g xs q) ≡ xs
-queue_same g xs q s h = queue_set g g xs q s h ∙ ap (λ (b : Bool). cond b xs (queue_at g q)) (same_self g s)
-
-pub queue_other : (g f : Fate) (xs : List ℕ) (q : Lists) → is_standing g ≡ true → IsKnown g q → same_fate g f ≡ false → queue_at f (with_queue g xs q) ≡ queue_at f q
-queue_other g f xs q s h n = queue_set g f xs q s h ∙ ap (λ (b : Bool). cond b xs (queue_at f q)) n
 
 -- a queue in which messages stand, when one is replaced that may be no queue
 pub queue_any : (g f : Fate) (xs : List ℕ) (q : Lists) → is_standing f ≡ true → IsKnown g q → queue_at f (with_queue g xs q) ≡ cond (same_fate g f) xs (queue_at f q)
 queue_any g f xs q s h = grind (arith, queue_set)
 
 pub queue_away : (g f : Fate) (xs : List ℕ) (q now : Lists) → now ≡ with_queue g xs q → IsKnown g q → same_fate g f ≡ false → queue_at f now ≡ queue_at f q
-queue_away g f xs q now e h n = grind (arith, queue_other)
+queue_away g f xs q now e h n = grind (arith, queue_set)
 
 pub known_with : (f g : Fate) (xs : List ℕ) (q now : Lists) → now ≡ with_queue g xs q → IsKnown f q → IsKnown f now
 known_with f g xs q now e h = rw e (known_on f q _ (size_stays g xs q) h)
 
 -- one more stands last in a queue that was replaced
 queue_more : (g : Fate) (xs : List ℕ) (m : ℕ) (q now : Lists) → IsKnown g q → now ≡ with_queue g xs q → with_queue g (queue_at g now ++ m ∷ []) now ≡ with_queue g (xs ++ m ∷ []) q
-queue_more g xs m q now h e = grind (arith, queue_same, queue_twice)
+queue_more g xs m q now h e = grind (arith, queue_set, same_self, queue_twice)
 
 -- the next of a list does
 pub queue_next : (g : Fate) (xs ys : List ℕ) (i m : ℕ) (q now new : Lists) → IsKnown g q → now ≡ with_queue g (xs ++ take i ys) q → slice_get ys i ≡ Some m → new ≡ with_queue g (queue_at g now ++ m ∷ []) now → new ≡ with_queue g (xs ++ take (i + 1) ys) q

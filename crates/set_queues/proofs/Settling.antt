@@ -23,18 +23,14 @@ aside_of target link to q e k o a = grind arith
 pub aside_passed : (link : ℕ) (from to : Fate) (q : Lists) → IsAside link to q → IsAside link to (passed from to q)
 aside_passed link from to q a = grind (arith, passed_size, known_on)
 
--- where all of a queue went to the place
-at_passed : (link : ℕ) (from to : Fate) (q : Lists) → IsAside link to q → is_standing from ≡ true → IsKnown from q → (f : Fate) → is_standing f ≡ true → queue_at f (passed from to q) ≡ cond (same_fate from f) [] (cond (same_fate to f) (queue_at to q ++ queue_at from q) (queue_at f q))
-at_passed link from to q a s k f t = passed_replaces q from to s k a.other a.queued f t
-
 pub waits_on : (link : ℕ) (to : Fate) (q : Lists) → IsAside link to q → queue_at (Waiting link) (passed (Unacked link) to q) ≡ queue_at (Waiting link) q
-waits_on link to q a = let now = at_passed link (Unacked link) to q a refl a.known (Waiting link) refl in let unsent = a.unsent in cc
+waits_on link to q a = let now = passed_replaces q (Unacked link) to refl a.known a.other (Waiting link) refl in let unsent = a.unsent in cc
 
 pub held_last : (link : ℕ) (to : Fate) (q : Lists) → IsAside link to q → queue_at (Held link) (passed (Waiting link) to (passed (Unacked link) to q)) ≡ queue_at (Held link) q
 held_last link to q a =
     let a1 = aside_passed link (Unacked link) to q a in
-    let mid = at_passed link (Unacked link) to q a refl a.known (Held link) refl in
-    let now = at_passed link (Waiting link) to (passed (Unacked link) to q) a1 refl a1.known (Held link) refl in
+    let mid = passed_replaces q (Unacked link) to refl a.known a.other (Held link) refl in
+    let now = passed_replaces (passed (Unacked link) to q) (Waiting link) to refl a1.known a1.other (Held link) refl in
     let held = a.held in
     cc
 
@@ -51,9 +47,9 @@ pub settling : (link : ℕ) (to : Fate) (q : Lists) → IsAside link to q → Se
 settling link to q a =
     let a1 = aside_passed link (Unacked link) to q a in
     let a2 = aside_passed link (Waiting link) to (passed (Unacked link) to q) a1 in
-    let one = at_passed link (Unacked link) to q a refl a.known in
-    let two = at_passed link (Waiting link) to (passed (Unacked link) to q) a1 refl a1.known in
-    let three = at_passed link (Held link) to (passed (Waiting link) to (passed (Unacked link) to q)) a2 refl a2.known in
+    let one = passed_replaces q (Unacked link) to refl a.known a.other in
+    let two = passed_replaces (passed (Unacked link) to q) (Waiting link) to refl a1.known a1.other in
+    let three = passed_replaces (passed (Waiting link) to (passed (Unacked link) to q)) (Held link) to refl a2.known a2.other in
     let there = queued_stands to a.queued in
     record {
       unacked = grind (arith, unqueued, eq-eqb, one (Unacked link) refl, two (Unacked link) refl, three (Unacked link) refl);

@@ -7,7 +7,7 @@ use Rattle.set_queues.specs.Sending.{first_sent, acknowledged, reach}
 use Rattle.set_queues.specs.Buffers.{Fate, Waiting, Unacked, Acked, no_lists, AreEmpty, LinkLists, Lists, is_standing, same_fate, queue_at, with_queue, with_last, list_in, IsKnown, IsQueued, Rooms, CanTake}
 use Rattle.set_queues.specs.Queues.{occurs, stands, passed, AreTied, AreGiven, AreSound, AreNarrow, AreWeighed, AreKept}
 use Rattle.set_queues.proofs.Updates.{length-updated, updated_same, updated_other, get_push}
-use Rattle.set_queues.proofs.Standing.{Moves, moved_tie, given_queue, take_get, same_is, occurs-append, occurs-split}
+use Rattle.set_queues.proofs.Standing.{Moves, moved_tie, given_queue, take_get, same_is, occurs-append, occurs-split, occurs_here}
 use Rattle.set_queues.proofs.Tallies.{fit_push, fit_restood, octets-append, octets-split, octets_stay}
 use Rattle.std.proofs.lemmas.Bool.Decides.{nat_tests}
 use Rattle.std.proofs.lemmas.List.{drop_all, take_all, get_or-replicate, get_or-set_same, get_or-set_other, get_or_past, length-replicate, length-append, length-take, length-drop}
@@ -27,14 +27,14 @@ both_size q from to left joined =
 pub both_replaced : (q : Lists) (from to : Fate) (left joined : List ℕ) → IsKnown from q → IsKnown to q → Replaces q (with_queue from left (with_queue to joined q)) from to left joined
 both_replaced q from to left joined k o f s = search (queue_any, known_on, size_stays)
 
-pub passed_replaces : (q : Lists) (from to : Fate) → is_standing from ≡ true → IsKnown from q → IsKnown to q → IsQueued to → Replaces q (passed from to q) from to [] (queue_at to q ++ queue_at from q)
-passed_replaces q from to s k o u = both_replaced q from to [] (queue_at to q ++ queue_at from q) k o
+pub passed_replaces : (q : Lists) (from to : Fate) → is_standing from ≡ true → IsKnown from q → IsKnown to q → Replaces q (passed from to q) from to [] (queue_at to q ++ queue_at from q)
+passed_replaces q from to s k o = both_replaced q from to [] (queue_at to q ++ queue_at from q) k o
 
 pub passed_size : (q : Lists) (from to : Fate) → SameSize q (passed from to q)
 passed_size q from to = both_size q from to [] (queue_at to q ++ queue_at from q)
 
 pub given_all : (q : Lists) (ms : List Message) (from : Fate) → AreSound q ms → is_standing from ≡ true → AreGiven (queue_at from q) ms
-given_all q ms from h s = given_queue q ms from h.tied s (queue_at from q) (λ m. omega arith)
+given_all q ms from h s = given_queue q ms from h.tied s
 
 -- of as many links and codes
 sound_on : (q q' : Lists) (ms ms' : List Message) → AreSound q ms → SameSize q q' → AreNarrow q' → AreTied q' ms' → AreFit ms' → AreSound q' ms'
@@ -83,7 +83,7 @@ module _ (k : ℕ) (from to : Fate) (q : Lists) (ms : List Message) (c : CanMove
   kept_moved octets octets' h n w =
       let s = h.sound in
       let within : (m : ℕ) → occurs m (take k (queue_at from q)) ≤ occurs m (queue_at from q) = λ m. omega (arith, occurs-split m k (queue_at from q)) in
-      let tied = moved_tie q (moved k from to q) ms (take k (queue_at from q)) from to s.tied c.standing (given_queue q ms from s.tied c.standing _ within) within moved_moves in
+      let tied = moved_tie q (moved k from to q) ms (take k (queue_at from q)) from to s.tied c.standing within moved_moves in
       record {
         sound = sound_on q _ ms _ s (both_size q from to _ _) (narrow_moved s.narrow n) tied (fit_restood (take k (queue_at from q)) to ms s.fit);
         weighed = weighed_moved octets octets' h.weighed w;
@@ -128,7 +128,7 @@ added_tie q ms x tie k f s m =
 
 octets_push : (ns : List ℕ) (ms : List Message) (x : Message) → AreGiven ns ms → octets_of ns (ms ++ x ∷ []) ≡ octets_of ns ms
 octets_push [] ms x g = refl
-octets_push (n ∷ ns) ms x g = grind (arith, get_push, octets_push ns ms x g.1)
+octets_push (n ∷ ns) ms x g = let below = g n (omega (arith, occurs_here n n refl)) in grind (arith, get_push, octets_push ns ms x (λ m h. g m (omega (arith, h))))
 
 pub kept_added : (q : Lists) (ms : List Message) (octets : List ℕ) (x : Message) → AreKept q ms octets → IsFit x → IsKnown x.fate q → IsQueued x.fate → AreKept (with_queue x.fate (queue_at x.fate q ++ length ms ∷ []) q) (ms ++ x ∷ []) octets
 kept_added q ms octets x h fit k u =

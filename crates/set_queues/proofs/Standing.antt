@@ -2,14 +2,14 @@
 use Rattle.std.proofs.Common.{refl, arith, ◌≡◌, ◌∙◌, ap, ◌+◌, ◌≤◌, ◌<◌, [], ◌∷◌, ◌++◌, length, ℕ, zero, suc, Bool, true, false, ◌==◌, List, Option, Some, None, cond, take, drop, slice_get}
 use Rattle.std.proofs.lemmas.Bool.Decides.{nat_tests}
 use Rattle.std.proofs.lemmas.Bool.{eq-eqb, ne_eqb}
-use Rattle.std.proofs.lemmas.Option.{slice_get_within, slice_get_past, slice_get-get_or, get_or_from_slice_get}
+use Rattle.std.proofs.lemmas.Option.{slice_get_cases, slice_get_within, slice_get_past, slice_get-get_or, get_or_from_slice_get}
 use Rattle.std.proofs.lemmas.List.{take-append-drop}
 use Rattle.std.proofs.lemmas.Grind.{take_at_read}
 use Rattle.set_queues.specs.Counts.{one_if}
 use Rattle.set_queues.specs.Messages.{Message, with_fate, restood_one, restood, fate_at}
 use Rattle.set_queues.specs.Buffers.{Fate, Lists, is_standing, same_fate, queue_at}
 use Rattle.set_queues.specs.Queues.{occurs, has_fate, AreTied, AreGiven}
-use Rattle.set_queues.proofs.Updates.{there, length-updated, updated_same, updated_other}
+use Rattle.set_queues.proofs.Updates.{length-updated, updated_same, updated_other}
 
 -- of a fate that isn't final
 pub same_is : (f g : Fate) → is_standing g ≡ true → same_fate f g ≡ true → f ≡ g
@@ -41,14 +41,10 @@ restood-append [] ys f ms = refl
 restood-append (x ∷ xs) ys f ms = restood-append xs ys f (restood_one x f ms)
 
 pub fate_same : (n : ℕ) (f : Fate) (ms : List Message) → n < length ms → fate_at n (restood_one n f ms) ≡ Some f
-fate_same n f ms h = let t = there ms n h in grind (arith, updated_same)
+fate_same n f ms h = grind (arith, updated_same, slice_get_cases)
 
 pub fate_other : (n k : ℕ) (f : Fate) (ms : List Message) → (n ≡ k → ⊥) → fate_at k (restood_one n f ms) ≡ fate_at k ms
 fate_other n k f ms ne = grind (arith, updated_other)
-
-given_on : (ns : List ℕ) (ms ms' : List Message) → length ms' ≡ length ms → AreGiven ns ms → AreGiven ns ms'
-given_on [] ms ms' e g = tt
-given_on (n ∷ ns) ms ms' e g = (omega (arith, g.0), given_on ns ms ms' e g.1)
 
 -- one that isn't among them stays where it stood
 pub fate_stays : (m : ℕ) (ns : List ℕ) (f : Fate) (ms : List Message) → occurs m ns ≡ 0 → fate_at m (restood ns f ms) ≡ fate_at m ms
@@ -58,12 +54,12 @@ fate_stays m (n ∷ ns) f ms z =
     fate_stays m ns f (restood_one n f ms) (omega arith) ∙ fate_other n m f ms ne
 
 -- one that is has the new fate
-pub fate_moves : (m : ℕ) (ns : List ℕ) (f : Fate) (ms : List Message) → AreGiven ns ms → 0 < occurs m ns → fate_at m (restood ns f ms) ≡ Some f
-fate_moves m [] f ms g z = absurd (omega arith)
-fate_moves m (n ∷ ns) f ms g z =
-    let again = fate_moves m ns f (restood_one n f ms) (given_on ns ms (restood_one n f ms) (length-updated (with_fate f) ms n) g.1) in
+pub fate_moves : (m : ℕ) (ns : List ℕ) (f : Fate) (ms : List Message) → m < length ms → 0 < occurs m ns → fate_at m (restood ns f ms) ≡ Some f
+fate_moves m [] f ms b z = absurd (omega arith)
+fate_moves m (n ∷ ns) f ms b z =
+    let again = fate_moves m ns f (restood_one n f ms) (omega (arith, length-updated (with_fate f) ms n)) in
     let stays = fate_stays m ns f (restood_one n f ms) in
-    let now = fate_same n f ms g.0 in
+    let now = fate_same m f ms b in
     grind (arith, nat_tests)
 
 -- THE TIE, when messages move from one queue to another, or to none
@@ -80,16 +76,12 @@ one_true b h = grind arith
 pub same_self : (f : Fate) → is_standing f ≡ true → same_fate f f ≡ true
 same_self f s = grind arith
 
-pub moved_tie : (q q' : Lists) (ms : List Message) (ns : List ℕ) (from to : Fate) → AreTied q ms → is_standing from ≡ true → AreGiven ns ms → ((m : ℕ) → occurs m ns ≤ occurs m (queue_at from q)) → Moves ns from to q q' → AreTied q' (restood ns to ms)
-moved_tie q q' ms ns from to tie s given within moves f sf m = grind (arith, fate_stays, has_of, one_true, fate_moves)
-
 -- what stands in a queue has been given out
-pub given_queue : (q : Lists) (ms : List Message) (f : Fate) → AreTied q ms → is_standing f ≡ true → (ns : List ℕ) → ((m : ℕ) → occurs m ns ≤ occurs m (queue_at f q)) → AreGiven ns ms
-given_queue q ms f tie s [] within = tt
-given_queue q ms f tie s (n ∷ ns) within =
-    let stood = tie f s n in
-    let most = within n in
-    (grind (arith, slice_get_past, occurs_here), given_queue q ms f tie s ns (λ m. omega (arith, within m)))
+pub given_queue : (q : Lists) (ms : List Message) (f : Fate) → AreTied q ms → is_standing f ≡ true → AreGiven (queue_at f q) ms
+given_queue q ms f tie s n h = let stood = tie f s n in grind (arith, slice_get_past)
+
+pub moved_tie : (q q' : Lists) (ms : List Message) (ns : List ℕ) (from to : Fate) → AreTied q ms → is_standing from ≡ true → ((m : ℕ) → occurs m ns ≤ occurs m (queue_at from q)) → Moves ns from to q q' → AreTied q' (restood ns to ms)
+moved_tie q q' ms ns from to tie s within moves f sf m = let given = given_queue q ms from tie s m in grind (arith, fate_stays, has_of, one_true, fate_moves)
 
 -- the first so many, one after another
 
@@ -98,8 +90,8 @@ take_get xs i x h = rw (get_or_from_slice_get xs i x x h) at (take_at_read xs i 
 
 pub given_at : (ns : List ℕ) (ms : List Message) (i n : ℕ) → AreGiven ns ms → slice_get ns i ≡ Some n → n < length ms
 given_at [] ms i n g e = absurd (cc)
-given_at (x ∷ ns) ms zero n g e = let f : x ≡ n = cc in omega (arith, g.0)
-given_at (x ∷ ns) ms (suc i) n g e = given_at ns ms i n g.1 e
+given_at (x ∷ ns) ms zero n g e = let f : x ≡ n = cc in g n (omega (arith, occurs_here x n f))
+given_at (x ∷ ns) ms (suc i) n g e = given_at ns ms i n (λ k h. g k (omega (arith, h))) e
 
 pub none_past : (xs : List ℕ) (i : ℕ) → slice_get xs i ≡ None → i < length xs → ⊥
 none_past xs i e h = let some = slice_get-get_or xs i 0 h in absurd (cc)

@@ -93,18 +93,15 @@ octets_few (n ∷ ns) ms f = omega (arith, fit_octets ms n (slice_get ms n) refl
 
 -- a message that comes to stand elsewhere keeps its octets
 
-octets_after_one : (ns : List ℕ) (k : ℕ) (f : Fate) (ms : List Message) → octets_of ns (restood_one k f ms) ≡ octets_of ns ms
-octets_after_one [] k f ms = refl
-octets_after_one (n ∷ ns) k f ms = grind (arith, updated_same, updated_other, octets_after_one ns k f ms)
+pub octets_kept : (n : ℕ) (ks : List ℕ) (f : Fate) (ms : List Message) → octets_at n (restood ks f ms) ≡ octets_at n ms
+octets_kept n [] f ms = refl
+octets_kept n (k ∷ ks) f ms = grind (arith, updated_same, updated_other, octets_kept n ks f (restood_one k f ms))
 
 pub octets_stay : (ns ks : List ℕ) (f : Fate) (ms : List Message) → octets_of ns (restood ks f ms) ≡ octets_of ns ms
-octets_stay ns [] f ms = refl
-octets_stay ns (k ∷ ks) f ms = octets_stay ns ks f (restood_one k f ms) ∙ octets_after_one ns k f ms
+octets_stay [] ks f ms = refl
+octets_stay (n ∷ ns) ks f ms = omega (arith, octets_kept n ks f ms, octets_stay ns ks f ms)
 
 pub octets_more : (xs : List ℕ) (i n : ℕ) (ms : List Message) → slice_get xs i ≡ Some n → octets_of (take (i + 1) xs) ms ≡ octets_of (take i xs) ms + octets_at n ms
 octets_more xs i n ms e = omega (arith, ap (λ (ns : List ℕ). octets_of ns ms) (take_get xs i n e), octets-append (take i xs) (n ∷ []) ms)
-
-pub octets_kept : (n : ℕ) (ks : List ℕ) (f : Fate) (ms : List Message) → octets_at n (restood ks f ms) ≡ octets_at n ms
-octets_kept n ks f ms = omega (arith, octets_stay (n ∷ []) ks f ms)
 
 pub ruleset laws = (octets_kept, fate_moves, fate_stays, length-restood)

@@ -5,12 +5,6 @@ use Rattle.std.proofs.lemmas.List.{map-append, replicate_more, map-set}
 use Rattle.std.proofs.lemmas.Option.{slice_get-map, get_or_from_slice_get}
 use Rattle.set_queues.specs.Messages.{updated}
 
--- the element at this place
-pub there : {X : Type 0} (xs : List X) (n : ℕ) → n < length xs → (x : X) × (slice_get xs n ≡ Some x)
-there [] n h = absurd (omega arith)
-there (x ∷ xs) zero h = (x, refl)
-there (x ∷ xs) (suc n) h = there xs n (omega arith)
-
 module _ {X : Type 0} where
   pub set_updated : (f : X → X) (xs : List X) (n : ℕ) (x : X) → slice_get xs n ≡ Some x → slice_set xs n (f x) ≡ updated n f xs
   set_updated f [] n x e = refl

@@ -42,8 +42,7 @@ AreWeighed octets q messages = (link : ℕ) → link < length q.links → slice_
 
 -- all of these numbers were given out
 abbrev pub AreGiven : List ℕ → List Message → Type 0
-AreGiven [] messages = Unit {0}
-AreGiven (n ∷ ns) messages = (n < length messages) × AreGiven ns messages
+AreGiven numbers messages = (number : ℕ) → 0 < occurs number numbers → number < length messages
 
 -- all of a queue go to another, in their order
 abbrev pub passed : Fate → Fate → Lists → Lists

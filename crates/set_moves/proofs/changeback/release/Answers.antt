@@ -14,7 +14,7 @@ returns-clause-stands c = λ s f. rw (← c.home_of_code-home.ensures.value) (be
 pub returns-clause-others : goal.returns-clause-others
 returns-clause-others c = λ other d.
     ap (queue_at (Back other)) c.divert.ensures.lists
-    ∙ passed_replaces c.args.parts.now.queues.lists (Back c.args.code) (Waiting c.home_of_code-home.result) refl (omega arith) (omega arith) tt (Back other) refl
+    ∙ passed_replaces c.args.parts.now.queues.lists (Back c.args.code) (Waiting c.home_of_code-home.result) refl (omega arith) (omega arith) (Back other) refl
     ∙ ap (λ (b : Bool). cond b [] (queue_at (Back other) c.args.parts.now.queues.lists)) (ne_eqb c.args.code other (λ e. d (sym e)))
 
 pub returns-clause-rooms : goal.returns-clause-rooms
