@@ -1,19 +1,18 @@
 -- How many of the users' messages stand in each place.
-use Rattle.std.specs.Prelude.{◌≡◌, ℕ, ◌+◌, Bool}
+use Rattle.std.specs.Prelude.{ℕ, Bool}
 use Rattle.set_events.specs.declared.answer.Fate.{Fate}
 use Rattle.set_events.specs.declared.answer.Fate.TheVariants.{Waiting, Unacked, Acked, Held, Parked, Back, Discarded}
-use Rattle.set_events.specs.declared.answer.Counts.{Counts}
 pub use Rattle.set_events.specs.Places.{waits, was_sent, was_acked, was_held, is_parked, stands_back, was_discarded, is_unsent, one_if}
 
--- the count of the place
-abbrev pub count_at : Fate → Counts → ℕ
-count_at (Waiting l) c = c.waiting
-count_at (Unacked l) c = c.unacked
-count_at (Acked l) c = c.acked
-count_at (Held l) c = c.held
-count_at Parked c = c.parked
-count_at (Back code) c = c.back
-count_at (Discarded cause) c = c.discarded
+-- the place of the count
+abbrev pub place_of : Fate → ℕ
+place_of (Waiting l) = 0
+place_of (Unacked l) = 1
+place_of (Acked l) = 2
+place_of (Held l) = 3
+place_of Parked = 4
+place_of (Back code) = 5
+place_of (Discarded cause) = 6
 
 -- whether a message of a fate stands there
 abbrev pub stands_at : Fate → Fate → Bool
@@ -24,8 +23,3 @@ stands_at (Held l) = was_held
 stands_at Parked = is_parked
 stands_at (Back c) = stands_back
 stands_at (Discarded cause) = was_discarded
-
--- one more stands there
-abbrev pub IsOneMore : Fate → Counts → Counts → Type 0
-IsOneMore fate old new = (place : Fate) → count_at place new ≡ count_at place old
-    + one_if (stands_at place fate)

@@ -4,7 +4,7 @@ use Rattle.set_events.specs.declared.answer.Fate.{Fate}
 use Rattle.set_events.specs.declared.answer.Counts.{Counts}
 pub use Rattle.set_queues.specs.declared.message.Message.{Message}
 use Rattle.set_queues.specs.Kind.{is_users, is_of, is_kind}
-use Rattle.set_queues.specs.Counts.{waits, was_sent, was_acked, was_held, is_parked, stands_back, was_discarded, is_unsent, one_if, count_at, stands_at}
+use Rattle.set_queues.specs.Counts.{waits, was_sent, was_acked, was_held, is_parked, stands_back, was_discarded, is_unsent, one_if, place_of, stands_at}
 pub use Rattle.set_queues.specs.declared.tally.Tally.{Tally}
 
 -- the element at this place changes
@@ -79,25 +79,25 @@ AreFit messages = (number : ℕ) (m : Message) → slice_get messages number ≡
 
 -- each count is the length of its filter, and every message is fit
 pub record IsTally (tally : Tally) (messages : List Message) : Type 0 where
-  pub counts : (place : Fate) → count_at place tally.counts ≡ count_of (stands_at place) messages
+  pub counts : (place : Fate) → slice_index tally.counts (place_of place) ≡ count_of (stands_at place) messages
   pub unsent : (stream : ℕ) → stream < 16 → slice_index tally.unsent stream
       ≡ unsent_of stream messages
   pub fit : AreFit messages
 
 -- new counts this message too
 pub record IsMore (m : Message) (old new : Tally) : Type 0 where
-  pub counts : (place : Fate) → count_at place new.counts ≡ count_at place old.counts
+  pub counts : (place : Fate) → slice_index new.counts (place_of place) ≡ slice_index old.counts (place_of place)
       + one_if (is_there (stands_at place) m)
   pub unsent : (stream : ℕ) → stream < 16 → slice_index new.unsent stream
       ≡ slice_index old.unsent stream + one_if (is_queued stream m)
 
 -- the message is counted
 pub record IsAmong (m : Message) (tally : Tally) : Type 0 where
-  pub counts : (place : Fate) → one_if (is_there (stands_at place) m) ≤ count_at place tally.counts
+  pub counts : (place : Fate) → one_if (is_there (stands_at place) m) ≤ slice_index tally.counts (place_of place)
   pub unsent : (stream : ℕ) → stream < 16 → one_if (is_queued stream m)
       ≤ slice_index tally.unsent stream
 
 -- far from the end of their range
 pub record AreFew (tally : Tally) : Type 0 where
-  pub counts : (place : Fate) → count_at place tally.counts < 2 ^ 63
+  pub counts : (place : Fate) → slice_index tally.counts (place_of place) < 2 ^ 63
   pub unsent : (stream : ℕ) → stream < 16 → slice_index tally.unsent stream < 2 ^ 63

@@ -72,15 +72,7 @@ impl Queues {
             messages: Messages {
                 all: Vec::new(alloc),
                 tally: Tally {
-                    counts: Counts {
-                        waiting: 0,
-                        unacked: 0,
-                        acked: 0,
-                        held: 0,
-                        parked: 0,
-                        back: 0,
-                        discarded: 0,
-                    },
+                    counts: [0; 7],
                     unsent: [0; 16],
                 },
             },
@@ -131,7 +123,16 @@ impl Queues {
     pub fn counts(&self) -> Counts
         ensures { result ≡ counts_of self.now.messages }
     {
-        self.messages.tally.counts
+        let [waiting, unacked, acked, held, parked, back, discarded] = self.messages.tally.counts;
+        Counts {
+            waiting,
+            unacked,
+            acked,
+            held,
+            parked,
+            back,
+            discarded,
+        }
     }
 
     /// How many of the users' messages of this stream aren't sent yet.
