@@ -275,10 +275,8 @@ impl Queues {
         let sent = self.buffers.len(Fate::Unacked { link });
         let unsent = self.buffers.len(Fate::Waiting { link });
         let held = self.buffers.len(Fate::Held { link });
-        match sum_of(sent, unsent, held, more) {
-            Some(messages) => self.buffers.reserve(fate, messages),
-            None => Err(AllocError),
-        }
+        let messages = sum_of(sent, unsent, held, more).ok_or(AllocError)?;
+        self.buffers.reserve(fate, messages)
     }
 
     /// A new message stands last in the queue that its fate names: its number.

@@ -18,9 +18,3 @@ loop-place-preserved c =
 
 pub restand-requires-clause-given : goal.restand-requires-clause-given
 restand-requires-clause-given c = grind (arith, queue_away, given_at, length-restood)
-
-pub push-requires : goal.push-requires
-push-requires c = record {
-  known = known_with c.args.to c.args.to _ _ _ c.loop-place.invariant.lists c.requires.other;
-  room = takes_one c.args.to c.args.count c.loop-place.place _ _ c.requires.room c.loop-place.invariant.rooms c.loop-place-test.true;
-}

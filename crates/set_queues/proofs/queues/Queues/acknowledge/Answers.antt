@@ -8,11 +8,6 @@ use Rattle.set_queues.proofs.queues.Queues.acknowledge.Goals as goal
 pub pass-requires-clause-given : goal.pass-requires-clause-given
 pass-requires-clause-given c = given_all _ _ (Unacked c.args.link) c.self.invariant.0.sound refl
 
-pub unreachable-requires : goal.unreachable-requires
-unreachable-requires c =
-    let link = is_read c.buffers.inside _ _ c.args.link c.index_mut.result.now c.buffers.view_is (rw c.pass.ensures.lists (rw (← c.self.view_is) at c.requires.known)) c.from-2.ensures c.index_mut.ensures.value in
-    c.in-Err.ensures.acked (grind arith)
-
 pub invariant_of-self : goal.invariant_of-self
 invariant_of-self c =
     let known : c.args.link < length c.self.inside.buffers.lists.links = rw (← c.self.view_is) at c.requires.known in (
@@ -23,6 +18,3 @@ invariant_of-self c =
 
 pub overflow_sub-self : goal.overflow_sub-self
 overflow_sub-self c = let weighed = c.self.invariant.0.weighed c.args.link (rw (← c.self.view_is) at c.requires.known) in grind (arith, octets-split)
-
-pub weigh-octets-requires : goal.weigh-octets-requires
-weigh-octets-requires c = record { known = rw (← c.self.view_is) at c.requires.known; few = grind arith; fit = c.self.invariant.0.sound.fit }

@@ -2,9 +2,6 @@ use Rattle.set_queues.proofs.Passing.{known_with}
 use Rattle.set_queues.proofs.Soundness.{given_all, untaken, kept_passed, moved_whole}
 use Rattle.set_queues.proofs.queues.Queues.pass_all.Goals as goal
 
-pub pass-requires-clause-given : goal.pass-requires-clause-given
-pass-requires-clause-given c = given_all _ _ c.args.from c.self.invariant.0.sound c.requires.standing
-
 pub clear-requires : goal.clear-requires
 clear-requires c = record { known = known_with c.args.from c.args.to _ _ _ c.pass.ensures.lists (rw (← c.self.view_is) at c.requires.known) }
 
