@@ -26,18 +26,6 @@ lists_set f xs l x y e h = map_set_updated lists_of f xs l x y e h
 pub lists_same : (xs : List Link) (l : ℕ) (x y : Link) → slice_get xs l ≡ Some x → lists_of y ≡ lists_of x → map lists_of (slice_set xs l y) ≡ map lists_of xs
 lists_same xs l x y e h = map_set_same lists_of xs l x y e h
 
--- what is told of a link whose window an index reads
-pub record IsRead (x : Link) (l : ℕ) (value : BuffersState) : Type 0 where
-  pub last : last_at l value.lists ≡ x.window.last
-  pub unacked : queue_at (Unacked l) value.lists ≡ x.window.unacked
-  pub unsent : queue_at (Waiting l) value.lists ≡ x.window.unsent
-  pub room : room_at (Waiting l) value.rooms ≡ x.window.room
-
-pub is_read : (fields : Inside) (value : BuffersState) (i l : ℕ) (x : Link) → state_of fields ≡ value → l < length value.lists.links → i ≡ l → x ≡ get_or fields.links.items i x → IsRead x l value
-is_read fields value i l x v b n e =
-    let there = found fields value i l x v b n e in
-    rw (← v) (record { last = grind (arith, slice_get-map); unacked = grind (arith, slice_get-map); unsent = grind (arith, slice_get-map); room = grind (arith, slice_get-map) })
-
 pub rooms_set : (room : LinkRooms → ℕ) (xs : List Link) (l k : ℕ) (x y : Link) → slice_get xs l ≡ Some x → room_in room (slice_get (map rooms_of (slice_set xs l y)) k) ≡ cond (l == k) (room (rooms_of y)) (room_in room (slice_get (map rooms_of xs) k))
 rooms_set room xs l k x y e = rw (map_set_updated rooms_of (λ (z : LinkRooms). rooms_of y) xs l x y e refl) (grind (arith, updated_there, updated_other, slice_get-map))
 
@@ -46,10 +34,6 @@ rooms xs parked back = record { links = map rooms_of xs; parked = parked; back =
 
 pub keeps : (xs : List Link) (l : ℕ) (x y : Link) (parked : ℕ) (back : List ℕ) → slice_get xs l ≡ Some x → x.window.room ≤ y.window.room → x.held.room ≤ y.held.room → KeepsRoom (rooms xs parked back) (rooms (slice_set xs l y) parked back)
 keeps xs l x y parked back e u h fate = grind (arith, rooms_set, slice_get-map)
-
--- one link more has room
-pub room_each : (l n : ℕ) (old mid new : Rooms) → HaveRoom l n old → KeepsRoom old mid → n ≤ room_at (Waiting l) mid → KeepsRoom mid new → n ≤ room_at (Held l) new → HaveRoom (l + 1) n new
-room_each l n old mid new each kept w still h k b = grind (arith, each k, kept (Waiting k), still (Waiting k), kept (Held k), still (Held k))
 
 -- THE QUEUE OF A CHANGEBACK'S CODE
 

@@ -6,7 +6,7 @@ use Rattle.set_queues.specs.Messages.{Message, restood_one, restood}
 use Rattle.set_queues.specs.Buffers.{Fate, Waiting, Unacked, Held, Parked, Back, Lists, is_standing, same_fate, queue_at, with_queue, IsKnown, IsQueued, Rooms, CanTake, TakesRoom}
 use Rattle.set_queues.proofs.Updates.{length-updated, updated_there, updated_other, updated_twice, updated_id, read_set}
 use Rattle.std.proofs.lemmas.List.{append-nil}
-use Rattle.set_queues.proofs.Standing.{same_self, take_get, given_at, none_past, room_sum, length-restood, restood-append}
+use Rattle.set_queues.proofs.Standing.{same_self, take_get, given_at, none_past, length-restood, restood-append}
 
 pub queue_set : (g f : Fate) (numbers : List ℕ) (q : Lists) → is_standing g ≡ true → IsKnown g q → queue_at f (with_queue g numbers q) ≡ cond (same_fate g f) numbers (queue_at f q)
 queue_set g f ns q s h = grind (arith, updated_there, updated_other, slice_get_cases, read_set)

@@ -5,7 +5,7 @@ use Rattle.std.proofs.lemmas.List.{length-append}
 use Rattle.set_queues.specs.Buffers.{Fate, Waiting, Unacked, Held, Lists, Rooms, is_standing, same_fate, queue_at, room_at, IsKnown, IsQueued, TakesRoom}
 use Rattle.set_queues.specs.Queues.{passed}
 use Rattle.set_queues.specs.Settling.{fate_on, on, Settles}
-use Rattle.set_queues.proofs.Standing.{restood-append, room_sum, same_self}
+use Rattle.set_queues.proofs.Standing.{restood-append, same_self}
 use Rattle.set_queues.proofs.Passing.{queued_stands, known_on}
 use Rattle.set_queues.proofs.Soundness.{passed_replaces, passed_size, unqueued}
 

@@ -89,18 +89,15 @@ module _ (k : ℕ) (from to : Fate) (q : Lists) (ms : List Message) (c : CanMove
         weighed = weighed_moved octets octets' h.weighed w;
       }
 
-pub unqueued : (to : Fate) (l : ℕ) → IsQueued to → same_fate to (Unacked l) ≡ false
+pub unqueued : (to : Fate) (l : ℕ) → (is_standing to ≡ true → IsQueued to) → same_fate to (Unacked l) ≡ false
 unqueued to l h = grind arith
 
-pub untaken : (to : Fate) (n l : ℕ) (r : Rooms) → CanTake to n r → same_fate to (Unacked l) ≡ false
-untaken to n l r h = grind arith
-
 -- to where messages come otherwise than by being sent; all of a queue, where its octets are counted
-pub kept_passed : (k : ℕ) (from to : Fate) (q : Lists) (ms : List Message) (octets octets' : List ℕ) → AreKept q ms octets → CanMove from to q → ((l : ℕ) → same_fate to (Unacked l) ≡ false) → ((l : ℕ) → same_fate from (Unacked l) ≡ true → k ≡ length (queue_at from q)) → ((l : ℕ) → l < 16 → slice_index octets' l ≡ cond (same_fate from (Unacked l)) 0 (slice_index octets l)) → AreKept (moved k from to q) (restood (take k (queue_at from q)) to ms) octets'
-kept_passed k from to q ms octets octets' h c n all w = kept_moved k from to q ms c octets octets' h (λ l f. let no = n l in absurd (cc)) (λ l b.
+pub kept_passed : (k : ℕ) (from to : Fate) (q : Lists) (ms : List Message) (octets octets' : List ℕ) → AreKept q ms octets → CanMove from to q → (is_standing to ≡ true → IsQueued to) → ((l : ℕ) → same_fate from (Unacked l) ≡ true → k ≡ length (queue_at from q)) → ((l : ℕ) → l < 16 → slice_index octets' l ≡ cond (same_fate from (Unacked l)) 0 (slice_index octets l)) → AreKept (moved k from to q) (restood (take k (queue_at from q)) to ms) octets'
+kept_passed k from to q ms octets octets' h c n all w = kept_moved k from to q ms c octets octets' h (λ l f. let no = unqueued to l n in absurd (cc)) (λ l b.
     let was = h.weighed l b in
     let now = w l (omega (arith, b, h.sound.few)) in
-    let not = n l in
+    let not = unqueued to l n in
     let full = all l in
     grind (arith, same_is, take_all))
 
@@ -134,7 +131,7 @@ pub kept_added : (q : Lists) (ms : List Message) (octets : List ℕ) (x : Messag
 kept_added q ms octets x h fit k u =
     let s = h.sound in
     let size = size_stays x.fate (queue_at x.fate q ++ length ms ∷ []) q in
-    let same : (l : ℕ) → queue_at (Unacked l) (with_queue x.fate (queue_at x.fate q ++ length ms ∷ []) q) ≡ queue_at (Unacked l) q = λ l. queue_away x.fate (Unacked l) _ q _ refl k (unqueued x.fate l u) in
+    let same : (l : ℕ) → queue_at (Unacked l) (with_queue x.fate (queue_at x.fate q ++ length ms ∷ []) q) ≡ queue_at (Unacked l) q = λ l. queue_away x.fate (Unacked l) _ q _ refl k (unqueued x.fate l (λ s. u)) in
     record {
       sound = sound_on q _ ms _ s size (λ l. rw (same l) (s.narrow l)) (added_tie q ms x s.tied k) (fit_push ms x s.fit fit);
       weighed = λ l b. rw (same l, octets_push (queue_at (Unacked l) q) ms x (given_all q ms (Unacked l) s refl)) (h.weighed l (omega (arith, b, size.links)));

@@ -43,15 +43,13 @@ restood-append (x ∷ xs) ys f ms = restood-append xs ys f (restood_one x f ms)
 pub fate_same : (n : ℕ) (f : Fate) (ms : List Message) → n < length ms → fate_at n (restood_one n f ms) ≡ Some f
 fate_same n f ms h = grind (arith, updated_same, slice_get_cases)
 
-pub fate_other : (n k : ℕ) (f : Fate) (ms : List Message) → (n ≡ k → ⊥) → fate_at k (restood_one n f ms) ≡ fate_at k ms
-fate_other n k f ms ne = grind (arith, updated_other)
-
 -- one that isn't among them stays where it stood
 pub fate_stays : (m : ℕ) (ns : List ℕ) (f : Fate) (ms : List Message) → occurs m ns ≡ 0 → fate_at m (restood ns f ms) ≡ fate_at m ms
 fate_stays m [] f ms z = refl
 fate_stays m (n ∷ ns) f ms z =
     let ne : n ≡ m → ⊥ = λ (e : n ≡ m). omega (arith, occurs_here n m e, z) in
-    fate_stays m ns f (restood_one n f ms) (omega arith) ∙ fate_other n m f ms ne
+    let rest = fate_stays m ns f (restood_one n f ms) (omega arith) in
+    grind (arith, updated_other)
 
 -- one that is has the new fate
 pub fate_moves : (m : ℕ) (ns : List ℕ) (f : Fate) (ms : List Message) → m < length ms → 0 < occurs m ns → fate_at m (restood ns f ms) ≡ Some f
@@ -95,9 +93,6 @@ given_at (x ∷ ns) ms (suc i) n g e = given_at ns ms i n (λ k h. g k (omega (a
 
 pub none_past : (xs : List ℕ) (i : ℕ) → slice_get xs i ≡ None → i < length xs → ⊥
 none_past xs i e h = let some = slice_get-get_or xs i 0 h in absurd (cc)
-
-pub room_sum : (b : Bool) (r0 r1 r2 i k : ℕ) → r0 ≤ r1 + cond b i 0 → r1 ≤ r2 + cond b k 0 → r0 ≤ r2 + cond b (i + k) 0
-room_sum b r0 r1 r2 i k g h = grind arith
 
 pub apart : (f g : Fate) → is_standing g ≡ true → (f ≡ g → ⊥) → same_fate f g ≡ false
 apart f g s ne = grind arith

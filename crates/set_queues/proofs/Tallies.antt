@@ -65,14 +65,10 @@ tally_set t u v xs n x fate h e i j = record {
   fit = rw (set_updated (with_fate fate) xs n x e) (fit_one n fate xs h.fit);
 }
 
--- the message that an index of this number reads
-pub read_there : (xs : List Message) (i : ℕ) (x : Message) → i < length xs → x ≡ get_or xs i x → slice_get xs i ≡ Some x
-read_there xs i x b e = slice_get_read xs _ i x refl b e
-
 pub restood_set : (xs : List Message) (i : ℕ) (x : Message) (fate : Fate) → slice_get xs i ≡ Some x → slice_set xs i (record { fate = fate; kind = x.kind; octets = x.octets }) ≡ restood_one i fate xs
 restood_set xs i x fate e = set_updated (with_fate fate) xs i x e
 
-pub ruleset restands = (read_there, restood_set)
+pub ruleset restands = (slice_get_read, restood_set)
 
 -- THE OCTETS of the bodies
 

@@ -1,7 +1,7 @@
 use Rattle.std.proofs.Common.{arith, refl, sym, ◌<◌, length}
 use Rattle.set_queues.specs.Buffers.{Unacked}
 use Rattle.set_queues.proofs.Tallies.{octets-split}
-use Rattle.set_queues.proofs.Linked.{of_link, is_read}
+use Rattle.set_queues.proofs.Linked.{of_link}
 use Rattle.set_queues.proofs.Soundness.{given_all, kept_as, kept_acked}
 use Rattle.set_queues.proofs.queues.Queues.acknowledge.Goals as goal
 

@@ -1,5 +1,5 @@
 use Rattle.std.proofs.Common.{arith, sym, ◌∙◌}
-use Rattle.set_queues.proofs.Linked.{is_read, found, lists_set}
+use Rattle.set_queues.proofs.Linked.{found, lists_set}
 use Rattle.set_queues.proofs.Soundness.{kept_as, kept_with_last}
 use Rattle.set_queues.proofs.queues.Queues.reset.Goals as goal
 
