@@ -5,8 +5,7 @@ use Rattle.std.proofs.lemmas.Bool.Decides.{nat_tests}
 use Rattle.std.proofs.lemmas.Map.Steps.{length-le_from_distinct_below}
 use Rattle.std.proofs.lemmas.List.{length-append}
 use Rattle.std.proofs.lemmas.Option.{slice_get_past}
-use Rattle.set_queues.specs.Counts.{one_if}
-use Rattle.set_queues.specs.Messages.{Message, fate_at}
+use Rattle.set_queues.specs.Messages.{one_if, Message, fate_at}
 use Rattle.set_queues.specs.Buffers.{Fate, Back, Lists, queue_at}
 use Rattle.set_queues.specs.Queues.{occurs, has_fate, AreTied}
 use Rattle.set_queues.specs.Backs.{back_from}

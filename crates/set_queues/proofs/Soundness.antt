@@ -1,7 +1,6 @@
 -- What holds of every set's queues goes on holding.
 use Rattle.std.proofs.Common.{refl, arith, ◌≡◌, ◌∙◌, ap, ◌+◌, ◌-◌, ◌≤◌, ◌<◌, [], ◌∷◌, ◌++◌, length, ℕ, zero, suc, Bool, true, false, ◌==◌, List, Some, cond, get_or, take, drop, replicate, slice_get, slice_set, slice_index}
-use Rattle.set_queues.specs.Counts.{one_if}
-use Rattle.set_queues.specs.Messages.{Message, restood_one, restood, octets_at, octets_of, IsFit, AreFit}
+use Rattle.set_queues.specs.Messages.{one_if, Message, restood_one, restood, octets_at, octets_of, IsFit, AreFit}
 use Rattle.set_queues.specs.Backs.{passed_first}
 use Rattle.set_queues.specs.Sending.{first_sent, acknowledged, reach}
 use Rattle.set_queues.specs.Buffers.{Fate, Waiting, Unacked, Acked, no_lists, AreEmpty, LinkLists, Lists, is_standing, same_fate, queue_at, with_queue, with_last, list_in, IsKnown, IsQueued, Rooms, CanTake}

@@ -5,8 +5,7 @@ use Rattle.std.proofs.lemmas.Bool.{eq-eqb, ne_eqb}
 use Rattle.std.proofs.lemmas.Option.{slice_get_cases, slice_get_within, slice_get_past, slice_get-get_or, get_or_from_slice_get}
 use Rattle.std.proofs.lemmas.List.{take-append-drop}
 use Rattle.std.proofs.lemmas.Grind.{take_at_read}
-use Rattle.set_queues.specs.Counts.{one_if}
-use Rattle.set_queues.specs.Messages.{Message, with_fate, restood_one, restood, fate_at}
+use Rattle.set_queues.specs.Messages.{one_if, Message, with_fate, restood_one, restood, fate_at}
 use Rattle.set_queues.specs.Buffers.{Fate, Lists, is_standing, same_fate, queue_at}
 use Rattle.set_queues.specs.Queues.{occurs, has_fate, AreTied, AreGiven}
 use Rattle.set_queues.proofs.Updates.{length-updated, updated_same, updated_other}

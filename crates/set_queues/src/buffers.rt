@@ -1,5 +1,9 @@
 //! The queues in which messages stand: of each link those of its window and the held ones, the parked
 //! ones, and of each changeback code those that wait for its acknowledgement.
+ghost use Rattle.set_queues.specs.Buffers.{AreEmpty, IsKnown, IsQueued, CanTake, KeepsRoom, TakesRoom, HaveRoom, queue_at, with_queue, last_at, room_at};
+ghost use Rattle.std.specs.Prelude.{◌≡◌, ◌≢◌, ◌↔◌, ◌+◌, ◌%◌, ◌<◌, ◌≤◌, ◌++◌, [], ◌∷◌, IsOk, IfOk, OnOk, OnErr, length, replicate, drop, slice_get};
+ghost use Rattle.set_queues.specs.Sending.{IsSending};
+
 use l2_window::{Queue, Window, WindowFault};
 use set_events::Fate;
 use std::alloc::{AllocError, Global};
@@ -32,10 +36,6 @@ impl Model for Buffers {
 }
 
 impl Buffers {
-    ghost use Rattle.std.specs.Prelude.{◌≡◌, ◌≢◌, ◌↔◌, ◌+◌, ◌%◌, ◌<◌, ◌≤◌, ◌++◌, [], ◌∷◌, IsOk, IfOk, OnOk, OnErr, length, replicate, drop, slice_get};
-    ghost use Rattle.set_queues.specs.Buffers.{AreEmpty, IsKnown, IsQueued, CanTake, KeepsRoom, TakesRoom, HaveRoom, queue_at, with_queue, last_at, room_at};
-    ghost use Rattle.set_queues.specs.Sending.{IsSending};
-
     /// The queues of so many links, all empty.
     pub(crate) fn new(alloc: Global, links: u8) -> Result<Buffers, AllocError>
         ensures { IfOk result (λ buffers. AreEmpty links 256 buffers.lists) }

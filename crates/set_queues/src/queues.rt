@@ -1,7 +1,12 @@
 //! Where every message of a set stands, with what the counts need.
-ghost use Rattle.std.specs.Prelude.{◌≡◌, ◌+◌, ◌<◌, ℕ, slice_index, if◌then◌else◌, IfSome};
-ghost use Rattle.set_queues.specs.Buffers.{IsQueued, same_fate};
-ghost use Rattle.set_queues.specs.Settling.{fate_on};
+ghost use Rattle.std.specs.Prelude.{◌≡◌, ◌+◌, ◌<◌, ℕ, slice_index, if◌then◌else◌, IfSome, ◌-◌, vec_len, vec_capacity, ◌≢◌, ◌↔◌, ◌%◌, ◌≤◌, ◌^◌, ◌++◌, [], ◌∷◌, Some, true, false, IsOk, IfOk, OnOk, OnErr, length, replicate, take, slice_get};
+ghost use Rattle.set_queues.specs.Buffers.{IsQueued, same_fate, IsKnown, CanTake, KeepsRoom, TakesRoom, HaveRoom, is_standing, queue_at, with_queue, last_at, with_last, room_at};
+ghost use Rattle.set_queues.specs.Settling.{fate_on, on, settled};
+ghost use Rattle.set_queues.specs.Queues.{QueuesState, AreKept, AreSound, passed};
+ghost use Rattle.set_queues.specs.Messages.{IsTally, restood, fate_at, octets_of, counts_of, unsent_of, IsFit};
+ghost use Rattle.std.specs.Result.{OkIff};
+ghost use Rattle.set_queues.specs.Backs.{IsOldestOf, back_count, passed_first};
+ghost use Rattle.set_queues.specs.Sending.{IsSending, acknowledged, reach};
 
 use super::buffers::Buffers;
 use super::message::Message;
@@ -29,10 +34,6 @@ pub struct Queues {
 }
 
 impl Model for Queues {
-    ghost use Rattle.std.specs.Prelude.{◌-◌, vec_len, vec_capacity};
-    ghost use Rattle.set_queues.specs.Queues.{QueuesState, AreKept};
-    ghost use Rattle.set_queues.specs.Messages.{IsTally};
-
     ghost Value = { QueuesState };
 
     ghost view = { λ q. record {
@@ -47,16 +48,6 @@ impl Model for Queues {
 }
 
 impl Queues {
-    ghost use Rattle.std.specs.Prelude.{◌≡◌, ◌≢◌, ◌↔◌, ◌+◌, ◌%◌, ◌<◌, ◌≤◌, ◌^◌, ◌++◌, [], ◌∷◌, Some, true, false, IsOk, IfOk, IfSome, OnOk, OnErr, length, replicate, take, slice_get};
-    ghost use Rattle.std.specs.Option.{option_map};
-    ghost use Rattle.std.specs.Result.{OkIff};
-    ghost use Rattle.set_queues.specs.Messages.{restood, fate_at, octets_of, counts_of, unsent_of, IsFit};
-    ghost use Rattle.set_queues.specs.Buffers.{IsKnown, IsQueued, CanTake, KeepsRoom, TakesRoom, HaveRoom, is_standing, same_fate, queue_at, with_queue, last_at, with_last, room_at};
-    ghost use Rattle.set_queues.specs.Queues.{AreSound, passed};
-    ghost use Rattle.set_queues.specs.Backs.{IsOldestOf, back_count, passed_first};
-    ghost use Rattle.set_queues.specs.Sending.{IsSending, acknowledged, reach};
-    ghost use Rattle.set_queues.specs.Settling.{fate_on, on, settled};
-
     /// The queues of so many links, with no message. A link has had no life yet: FSN 127 counts as
     /// acknowledged on it (Q.703 5.2.1).
     pub fn new(alloc: Global, links: u8) -> Result<Queues, AllocError>

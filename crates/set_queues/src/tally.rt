@@ -1,8 +1,6 @@
 //! How many of the users' messages stand in each place, and how many of each stream aren't sent yet.
 ghost use Rattle.std.specs.Prelude.{◌≡◌, true};
-ghost use Rattle.set_queues.specs.Kind.{is_kind};
-ghost use Rattle.set_queues.specs.Counts.{place_of, is_unsent};
-ghost use Rattle.set_queues.specs.Messages.{IsAmong, IsMore, AreFew};
+ghost use Rattle.set_queues.specs.Messages.{is_kind, place_of, is_unsent, IsAmong, IsMore, AreFew};
 
 use super::message::{Kind, Message};
 use set_events::Fate;
