@@ -5,8 +5,8 @@ use Rattle.std.proofs.lemmas.Bool.Decides.{nat_tests}
 use Rattle.set_queues.specs.Buffers.{Fate, Waiting, Unacked, Held, Lists, TakesRoom, same_fate, with_queue, room_at, is_standing, queue_at, IsKnown}
 use Rattle.set_queues.specs.Backs.{back_count}
 use Rattle.set_queues.specs.Settling.{on}
-use Rattle.set_queues.proofs.Passing.{queue_away, queue_set}
-use Rattle.set_queues.proofs.Settling.{IsAside, room_left, on_length}
+use Rattle.set_queues.proofs.Standing.{queue_away, queue_set}
+use Rattle.set_queues.proofs.Soundness.{IsAside, room_left, on_length, queue_last}
 use Rattle.set_model.specs.Changeover.{fate_on}
 use Rattle.set_model.specs.State.{target, has_phase_up}
 use Rattle.set_model.proofs.Lists.{map_at, map_set, set_same, present, same_at, at_set, get_set_same, length_set}
@@ -17,7 +17,6 @@ use Rattle.set_moves.specs.Turning.{TakesTurns}
 use Rattle.set_moves.proofs.Admitting.{IsHere, out_at}
 use Rattle.set_moves.proofs.Links.{ups}
 use Rattle.set_queues.specs.Sending.{acknowledged, reach}
-use Rattle.set_queues.proofs.Soundness.{queue_last}
 
 ups_of : List Link → List Bool
 ups_of links = map (λ (link : Link). has_phase_up link.phase) links

@@ -6,10 +6,10 @@ use Rattle.std.proofs.lemmas.Option.{slice_get-map, slice_get_read, slice_get_wi
 use Rattle.l2_window.specs.Queue.{QueueState}
 use Rattle.set_queues.specs.declared.buffers.Link.{Link}
 use Rattle.set_queues.specs.Messages.{updated}
-use Rattle.set_queues.specs.Buffers.{Waiting, Unacked, Held, LinkLists, LinkRooms, Rooms, BuffersState, queue_at, last_at, room_at, room_in, list_in, number_in, KeepsRoom, HaveRoom}
+use Rattle.set_queues.specs.Buffers.{LinkLists, LinkRooms, Rooms, BuffersState, room_in, KeepsRoom}
 use Rattle.set_queues.specs.Kept.{lists_of, rooms_of, messages_of, room_of, state_of}
 use Rattle.set_queues.specs.declared.buffers.Buffers.TheInside.{Inside}
-use Rattle.set_queues.proofs.Updates.{updated_there, updated_other, updated_twice, map_set_updated, map_set_same, read_set}
+use Rattle.set_queues.proofs.Standing.{updated_there, updated_other, updated_twice, map_set_updated, map_set_same, read_set}
 
 -- the link that an index of this number reads, or the queue
 pub found : (fields : Inside) (value : BuffersState) (i l : ℕ) (x : Link) → state_of fields ≡ value → l < length value.lists.links → i ≡ l → x ≡ get_or fields.links.items i x → slice_get fields.links.items l ≡ Some x

@@ -1,13 +1,12 @@
 -- The running counts of a list of messages, when one of them changes or joins, and the octets of their bodies.
-use Rattle.std.proofs.Common.{◌^◌, arith, ◌≡◌, ◌+◌, ◌≤◌, ◌<◌, [], ◌∷◌, ◌++◌, length, ℕ, zero, suc, Bool, List, Option, Some, None, get_or, refl, ◌∙◌, ap, ◌*◌, take, drop, filter, slice_get, slice_set}
+use Rattle.std.proofs.Common.{◌^◌, arith, ◌≡◌, ◌+◌, ◌≤◌, ◌<◌, [], ◌∷◌, ◌++◌, length, ℕ, zero, suc, Bool, List, Option, Some, None, refl, ap, ◌*◌, take, drop, filter, slice_get, slice_set}
 use Rattle.std.proofs.lemmas.List.{take-append-drop, length-append}
 use Rattle.std.proofs.lemmas.List.Elements.{filter-append}
 use Rattle.std.proofs.lemmas.List.Sums.{length-filter, count_by-le-length}
 use Rattle.std.proofs.lemmas.Option.{slice_get_read}
 use Rattle.set_queues.specs.Buffers.{Fate}
 use Rattle.set_queues.specs.Messages.{Message, Tally, with_fate, restood_one, restood, octets_in, octets_at, octets_of, is_there, is_queued, IsTally, IsMore, IsAmong, AreFew, IsFit, AreFit, one_if, stands_at}
-use Rattle.set_queues.proofs.Updates.{set_updated, updated_same, updated_other, get_push}
-use Rattle.set_queues.proofs.Standing.{take_get, fate_moves, fate_stays, length-restood}
+use Rattle.set_queues.proofs.Standing.{set_updated, updated_same, updated_other, get_push, take_get, fate_moves, fate_stays, length-restood}
 
 pub count_set : (p : Message → Bool) (xs : List Message) (n : ℕ) (x y : Message) → slice_get xs n ≡ Some x → length (filter p (slice_set xs n y)) + one_if (p x) ≡ length (filter p xs) + one_if (p y)
 count_set p [] n x y e = absurd (cc)

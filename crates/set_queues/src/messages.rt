@@ -51,7 +51,7 @@ impl Messages {
 
 /// The first `count` that stand in one queue have another fate from now on, and stand last there too, in
 /// their order, if it isn't final.
-#[tactic(auto, using(crate::proofs::Passing::passing))]
+#[tactic(auto, using(crate::proofs::Standing::passing))]
 pub(crate) fn pass(
     buffers: &mut Buffers,
     messages: &mut Messages,

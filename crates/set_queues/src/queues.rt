@@ -439,7 +439,7 @@ impl Queues {
     /// waited, then those that were held, each in their order. It wants no memory.
     ///
     /// Conditions: links of the set, the target another one, with room for those that move.
-    #[tactic(auto, using(crate::proofs::Settling::settles))]
+    #[tactic(auto, using(crate::proofs::Soundness::settles))]
     pub fn settle(&mut self, link: u8, target: Option<u8>)
         requires known { link < length self.old.lists.links }
         requires other { IsKnown (fate_on target) self.old.lists }

@@ -1,7 +1,6 @@
 use Rattle.std.proofs.Common.{arith, ◌≡◌, ◌∙◌, ap, sym, List, ℕ, Some, slice_get}
-use Rattle.set_queues.specs.Buffers.{queue_at, same_fate}
-use Rattle.set_queues.proofs.Standing.{given_at, length-restood}
-use Rattle.set_queues.proofs.Passing.{queue_away, queue_next, restood_next, known_with, takes_one}
+use Rattle.set_queues.specs.Buffers.{queue_at}
+use Rattle.set_queues.proofs.Standing.{given_at, length-restood, queue_away, queue_next, restood_next}
 use Rattle.set_queues.proofs.messages.pass.Goals as goal
 
 pub loop-place-preserved : goal.loop-place-preserved

@@ -1,4 +1,4 @@
-use Rattle.std.proofs.Common.{arith, refl, sym, ◌<◌, length}
+use Rattle.std.proofs.Common.{arith, refl, ◌<◌, length}
 use Rattle.set_queues.specs.Buffers.{Unacked}
 use Rattle.set_queues.proofs.Tallies.{octets-split}
 use Rattle.set_queues.proofs.Linked.{of_link}

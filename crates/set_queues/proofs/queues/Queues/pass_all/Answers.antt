@@ -1,4 +1,4 @@
-use Rattle.set_queues.proofs.Passing.{known_with}
+use Rattle.set_queues.proofs.Standing.{known_with}
 use Rattle.set_queues.proofs.Soundness.{kept_passed, moved_whole}
 use Rattle.set_queues.proofs.queues.Queues.pass_all.Goals as goal
 

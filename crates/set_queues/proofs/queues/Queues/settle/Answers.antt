@@ -1,7 +1,6 @@
-use Rattle.std.proofs.Common.{arith, ◌∙◌, ap, length}
-use Rattle.set_queues.specs.Buffers.{Waiting, Unacked, Held, Lists, queue_at}
-use Rattle.set_queues.specs.Queues.{passed}
-use Rattle.set_queues.proofs.Settling.{known_passed, settles}
+use Rattle.std.proofs.Common.{arith}
+use Rattle.set_queues.specs.Buffers.{Waiting, Unacked, Held}
+use Rattle.set_queues.proofs.Soundness.{known_passed, settles}
 use Rattle.set_queues.proofs.queues.Queues.settle.Goals as goal
 
 pub pass_all-requires-2-clause-known : goal.pass_all-requires-2-clause-known

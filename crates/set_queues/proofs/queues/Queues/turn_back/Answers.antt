@@ -1,6 +1,6 @@
 use Rattle.std.proofs.Common.{arith, refl}
 use Rattle.set_queues.specs.Buffers.{Back, IsKnown}
-use Rattle.set_queues.proofs.Passing.{known_with}
+use Rattle.set_queues.proofs.Standing.{known_with}
 use Rattle.set_queues.proofs.Soundness.{given_all, kept_passed, moved_one}
 use Rattle.set_queues.proofs.queues.Queues.turn_back.Goals as goal
 
