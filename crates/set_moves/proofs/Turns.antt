@@ -20,7 +20,7 @@ use Rattle.set_moves.proofs.RowsAt.{Shifts, is_there, rows_as, shifted, shifted_
 use Rattle.set_moves.specs.Parts.{Parts, Up, IsWhole, kept_of, AtLink, OfStates}
 use Rattle.set_queues.specs.Queues.{QueuesState}
 use Rattle.set_queues.specs.Settling.{on as on_lists}
-use Rattle.set_queues.proofs.CodeQueues.{back_none}
+use Rattle.set_queues.proofs.Tallies.{back_none}
 use Rattle.set_queues.proofs.Soundness.{on_length, both_replaced}
 use Rattle.std.proofs.lemmas.Option.{same_Some}
 use Rattle.set_queues.specs.declared.message.Kind.TheVariants.{User}

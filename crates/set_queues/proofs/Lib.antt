@@ -1,4 +1,3 @@
-pub mod CodeQueues
 pub mod Linked
 pub mod Soundness
 pub mod Standing

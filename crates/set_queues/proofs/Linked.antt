@@ -37,8 +37,8 @@ keeps xs l x y parked back e u h fate = grind (arith, rooms_set, slice_get-map)
 
 -- THE QUEUE OF A CHANGEBACK'S CODE
 
-pub back_there : (xs : List QueueState) (c : ℕ) (x : QueueState) → slice_get xs c ≡ Some x → get_or (map messages_of xs) c [] ≡ x.messages
-back_there xs c x e = get_or_from_slice_get (map messages_of xs) c (messages_of x) [] (slice_get-map messages_of xs c ∙ ap (option_map messages_of) e)
+pub back_there : {X : Type 0} (v : QueueState → X) (xs : List QueueState) (c : ℕ) (x : QueueState) (d : X) → slice_get xs c ≡ Some x → get_or (map v xs) c d ≡ v x
+back_there v xs c x d e = get_or_from_slice_get (map v xs) c (v x) d (slice_get-map v xs c ∙ ap (option_map v) e)
 
 pub back_set : (ns : List ℕ) (xs : List QueueState) (c : ℕ) (x y : QueueState) → slice_get xs c ≡ Some x → y.messages ≡ ns → map messages_of (slice_set xs c y) ≡ updated c (λ (z : List ℕ). ns) (map messages_of xs)
 back_set ns xs c x y e h = map_set_updated messages_of (λ (z : List ℕ). ns) xs c x y e h
@@ -46,13 +46,10 @@ back_set ns xs c x y e h = map_set_updated messages_of (λ (z : List ℕ). ns) x
 pub back_same : (xs : List QueueState) (c : ℕ) (x y : QueueState) → slice_get xs c ≡ Some x → y.messages ≡ x.messages → map messages_of (slice_set xs c y) ≡ map messages_of xs
 back_same xs c x y e h = map_set_same messages_of xs c x y e h
 
-pub room_there : (xs : List QueueState) (c : ℕ) (x : QueueState) → slice_get xs c ≡ Some x → get_or (map room_of xs) c 0 ≡ x.room
-room_there xs c x e = get_or_from_slice_get (map room_of xs) c (room_of x) 0 (slice_get-map room_of xs c ∙ ap (option_map room_of) e)
-
 pub room_read : (xs : List QueueState) (c k : ℕ) (x y : QueueState) → slice_get xs c ≡ Some x → get_or (map room_of (slice_set xs c y)) k 0 ≡ cond (c == k) y.room (get_or (map room_of xs) k 0)
 room_read xs c k x y e = rw (map_set_updated room_of (λ (r : ℕ). y.room) xs c x y e refl) (read_set y.room (map room_of xs) c k 0 (omega (arith, slice_get_within xs c x e, length-map xs room_of)))
 
 -- what a call on a queue of a link is for the set; and one on a code's
 pub ruleset of_link = (found, length-map, slice_get-map, lists_set, lists_same, rooms_set, keeps, updated_twice, eq-eqb)
 
-pub ruleset of_code = (back_found, length-map, back_there, back_set, back_same, room_there, room_read, eq-eqb)
+pub ruleset of_code = (back_found, length-map, back_there, back_set, back_same, room_read, eq-eqb)

@@ -174,7 +174,7 @@ impl Queues {
 
     /// How many messages wait for the acknowledgement of a changeback of this home, 0 to 15: for one of
     /// the codes 16 * home to 16 * home + 15.
-    #[tactic(auto, using(crate::proofs::CodeQueues::backs))]
+    #[tactic(auto, using(crate::proofs::Tallies::backs))]
     pub fn back_count(&self, home: u8) -> usize
         requires { home < 16 }
         ensures value { result ≡ back_count home self.now.lists }
@@ -266,7 +266,8 @@ impl Queues {
         let sent = self.buffers.len(Fate::Unacked { link });
         let unsent = self.buffers.len(Fate::Waiting { link });
         let held = self.buffers.len(Fate::Held { link });
-        let messages = sum_of(sent, unsent, held, more).ok_or(AllocError)?;
+        let messages = sent as u128 + unsent as u128 + held as u128 + more as u128;
+        let messages = usize::try_from(messages).ok().ok_or(AllocError)?;
         self.buffers.reserve(fate, messages)
     }
 
@@ -484,13 +485,6 @@ fn weigh_none(octets: &mut [u32; 16], fate: Fate)
     if let Fate::Unacked { link } = fate {
         octets[usize::from(link)] = 0;
     }
-}
-
-/// The sum of four numbers, where it's in range.
-fn sum_of(a: usize, b: usize, c: usize, d: usize) -> Option<usize>
-    ensures { IfSome result (λ sum. sum ≡ a + b + c + d) }
-{
-    a.checked_add(b)?.checked_add(c)?.checked_add(d)
 }
 
 /// Where a message goes that is moved: it waits for the target, or is parked where there is none.
