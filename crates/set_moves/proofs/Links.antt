@@ -9,7 +9,7 @@ use Rattle.set_model.proofs.Lists.{map_at, map_set, map_set_same, same_at, at_ma
 use Rattle.std.proofs.lemmas.Bool.{ne_eqb}
 use Rattle.std.proofs.lemmas.Simd.{map-map}
 use Rattle.set_queues.specs.Buffers.{Fate, Lists, IsKnown}
-use Rattle.set_queues.proofs.Settling.{IsAside, aside_of}
+use Rattle.set_queues.proofs.Soundness.{IsAside, aside_of}
 use Rattle.set_model.specs.Changeover.{fate_on}
 use Rattle.set_route.specs.Target.{target_of}
 

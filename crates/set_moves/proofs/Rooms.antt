@@ -5,8 +5,8 @@ use Rattle.std.proofs.lemmas.Bool.Decides.{nat_tests}
 use Rattle.set_queues.specs.Buffers.{Fate, Waiting, Unacked, Held, Lists, TakesRoom, same_fate, with_queue, room_at, is_standing, queue_at, IsKnown}
 use Rattle.set_queues.specs.Backs.{back_count}
 use Rattle.set_queues.specs.Settling.{on}
-use Rattle.set_queues.proofs.Passing.{queue_other, queued_stands, queue_set}
-use Rattle.set_queues.proofs.Settling.{IsAside, room_left, on_length}
+use Rattle.set_queues.proofs.Standing.{queue_away, queue_set}
+use Rattle.set_queues.proofs.Soundness.{IsAside, room_left, on_length, queue_last}
 use Rattle.set_model.specs.Changeover.{fate_on}
 use Rattle.set_model.specs.State.{target, has_phase_up}
 use Rattle.set_model.proofs.Lists.{map_at, map_set, set_same, present, same_at, at_set, get_set_same, length_set}
@@ -17,7 +17,6 @@ use Rattle.set_moves.specs.Turning.{TakesTurns}
 use Rattle.set_moves.proofs.Admitting.{IsHere, out_at}
 use Rattle.set_moves.proofs.Links.{ups}
 use Rattle.set_queues.specs.Sending.{acknowledged, reach}
-use Rattle.set_queues.proofs.Soundness.{queue_last}
 
 ups_of : List Link → List Bool
 ups_of links = map (λ (link : Link). has_phase_up link.phase) links
@@ -42,10 +41,9 @@ has_room n parts fate r e = grind arith
 -- what stands on a link isn't touched by what waits elsewhere
 pub on_same : (n : ℕ) (to : Fate) (xs : List ℕ) (q new : Lists) → IsAside n to q → new ≡ with_queue to xs q → on n new ≡ on n q
 on_same n to xs q new a e =
-    let stands = queued_stands to a.queued in
     let queued = a.queued in
     let sent : same_fate to (Unacked n) ≡ false = grind arith in
-    rw (e, queue_other to (Unacked n) xs q stands a.other sent, queue_other to (Waiting n) xs q stands a.other a.unsent, queue_other to (Held n) xs q stands a.other a.held) refl
+    rw (queue_away to (Unacked n) xs q new e a.other sent, queue_away to (Waiting n) xs q new e a.other a.unsent, queue_away to (Held n) xs q new e a.other a.held) refl
 
 -- THE WHOLE NUMBERS of a list in which one link changed otherwise
 pub counted_set : (bound : ℕ) (links new : List Link) (n : ℕ) (link : Link) → AreCounted bound links → new ≡ slice_set links n link → IsCounted bound link → AreCounted bound new

@@ -53,12 +53,8 @@ module _ (test : Fate → Bool) (to : Fate) where
 pub none_at : (n : ℕ) (rows : List Row) → IsNumbered rows → length rows ≤ n → row_of n rows ≡ None
 none_at n rows numbered far = let none = no_rows (with_number n rows) in grind (arith, nat_tests, row_is_first, none, numbered)
 
-given_where : (ns : List ℕ) (ms : List Message) → ((n : ℕ) → 0 < occurs n ns → n < length ms) → AreGiven ns ms
-given_where [] ms below = tt
-given_where (n ∷ ns) ms below = (below n (omega (arith, occurs_here n n refl)), given_where ns ms (λ m h. below m (omega (arith, h))))
-
 pub given_all : (ns : List ℕ) (to : Fate) (ms : List Message) (rows new : List Row) → IsNumbered new → length ms ≡ length new → ((n : ℕ) → GoesTo ns to n rows new) → AreGiven ns ms
-given_all ns to ms rows new numbered many goes = given_where ns ms (λ n h. let there = (goes n).goes h in grind (arith, nat_tests, cases_lt, none_at n new))
+given_all ns to ms rows new numbered many goes n h = let there = (goes n).goes h in grind (arith, nat_tests, cases_lt, none_at n new)
 
 -- BY FATE
 pub waits_there : (l : ℕ) (fate : Fate) → is_waiting l fate ≡ same_fate fate (Waiting l)

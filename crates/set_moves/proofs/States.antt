@@ -9,11 +9,8 @@ use Rattle.set_queues.specs.Messages.{restood_one, restood, fate_at}
 use Rattle.set_queues.specs.Sending.{first_sent, acknowledged as acked_lists, reach}
 use Rattle.set_queues.specs.Queues.{occurs, passed}
 use Rattle.set_queues.specs.Settling.{on as on_lists, settled}
-use Rattle.set_queues.proofs.Updates.{updated_same, updated_other, updated_there}
-use Rattle.set_queues.proofs.Standing.{same_is, length-restood, fate_stays, fate_moves}
-use Rattle.set_queues.proofs.Passing.{queue_set, links_stay}
-use Rattle.set_queues.proofs.Soundness.{both_replaced, passed_replaces, queue_last, passed_links, sent_links, acked_links, last_links}
-use Rattle.set_queues.proofs.Settling.{IsAside, settling}
+use Rattle.set_queues.proofs.Standing.{length-updated, updated_same, updated_other, updated_there, same_is, length-restood, fate_stays, fate_moves, queue_set, links_stay}
+use Rattle.set_queues.proofs.Soundness.{both_replaced, passed_replaces, queue_last, last_links, IsAside, settling}
 use Rattle.set_model.specs.Rows.{Fate, Waiting, Unacked, Acked, Held, Parked, Back, Discarded, DiscardCause, Emergency, Unreasonable, NoAnswer, Row, standing, is_waiting, is_unacked, is_on, is_parked, is_back, wait, on, numbers, turned, changed, moved, all_with, appended, row_of, place, IsNumbered, IsInOrder, IsHeldLast, unack}
 use Rattle.set_model.specs.Changeover.{fate_on, reached_by, is_reasonable, judged, judged_link}
 use Rattle.set_model.specs.Laws.{SameMessages}
@@ -57,7 +54,7 @@ shifts_stand {q} {q'} {ms} {rows} {new} {test} {to} {ns} {xs} {left} {joined} s 
   where
     fate : (n k : ℕ) → occurs n ns ≡ k → fate_at n (restood ns to ms) ≡ place n new
     fate n zero e = fate_stays n ns to ms e ∙ s.fates n ∙ sym ((shifts.goes n).stays e)
-    fate n (suc k) e = fate_moves n ns to ms (given_all ns to ms rows new shifts.messages.numbered (s.count ∙ sym shifts.messages.count) shifts.goes) (omega (arith, e)) ∙ sym ((shifts.goes n).goes (omega (arith, e)))
+    fate n (suc k) e = fate_moves n ns to ms (given_all ns to ms rows new shifts.messages.numbered (s.count ∙ sym shifts.messages.count) shifts.goes n (omega (arith, e))) (omega (arith, e)) ∙ sym ((shifts.goes n).goes (omega (arith, e)))
 
 -- A NEW MESSAGE
 pub get_push : {X : Type 0} (xs : List X) (x : X) (n : ℕ) → slice_get (xs ++ x ∷ []) n ≡ cond (length xs == n) (Some x) (slice_get xs n)
@@ -131,7 +128,7 @@ sent_for k s n message f order known first =
     let sent = f.stands.queues (Unacked n) in
     let taken : message ∷ [] ≡ take 1 (numbers (wait n s.rows)) = grind arith in
     queues_for k s f _ _ _ (shifts_stand f.stands (sent_shifts n s.rows f.stands.numbered order)
-    (λ g t. both_replaced k.lists (Waiting n) (Unacked n) (drop 1 (queue_at (Waiting n) k.lists)) (queue_at (Unacked n) k.lists ++ message ∷ []) known known g t ∙ grind (arith, nat_tests, waits, sent, taken)) taken) (sent_links k.lists n message) _ _ f.routing (λ m. search last_stays)
+    (λ g t. both_replaced k.lists (Waiting n) (Unacked n) (drop 1 (queue_at (Waiting n) k.lists)) (queue_at (Unacked n) k.lists ++ message ∷ []) known known g t ∙ grind (arith, nat_tests, waits, sent, taken)) taken) (simp length-updated) _ _ f.routing (λ m. search last_stays)
 
 -- AN ACKNOWLEDGEMENT, under a link that counts it.
 pub acked_for : (k : Kept) (s : State) (n fsn : ℕ) (link link' : LinkState) → StandsFor k s → slice_get s.links n ≡ Some link → fsn < 128 → link'.acked ≡ link.acked + reach n fsn k.lists
@@ -145,7 +142,7 @@ acked_for k s n fsn link link' f there h e =
     let inner : n < length mid.links = omega (arith, known, links_stay (Unacked n) left k.lists) in
     let counted : (link'.acked + 127) % 128 ≡ fsn = omega (arith, h, e, f.fsns n link there) in
     link_and_queues_for k s f _ _ _ (shifts_stand f.stands (turned_shifts (is_unacked n) (Acked n) s.rows f.stands.numbered refl count refl (λ f g s e. grind (arith, nat_tests)))
-    (λ g t. queue_last g n fsn mid ∙ queue_set (Unacked n) g left k.lists refl known ∙ grind (arith, nat_tests, f.stands)) (ap (take count) (f.stands.queues (Unacked n)))) (acked_links k.lists n fsn) _ _ f.routing n link'
+    (λ g t. queue_last g n fsn mid ∙ queue_set (Unacked n) g left k.lists refl known ∙ grind (arith, nat_tests, f.stands)) (ap (take count) (f.stands.queues (Unacked n)))) (simp length-updated) _ _ f.routing n link'
     (λ m ne. last_there n fsn mid m ne ∙ last_stays (Unacked n) left k.lists m) (last_here n fsn mid inner ∙ sym counted)
 
 -- ALL OF A QUEUE of a link are given up.
@@ -171,7 +168,7 @@ settled_for k s n target link link' routing f order last there e aside apart =
     let off : is_on n to ≡ false = grind (arith, nat_tests) in
     let stood : is_standing to ≡ true = grind arith in
     let ns = on_numbers n k.lists k.messages s.rows f.stands order last in
-    link_and_queues_for k s f _ _ _ (shifts_stand f.stands (moved_shifts (is_on n) to s.rows f.stands.numbered off stood) (λ g t. grind (arith, nat_tests, settled_at n to k.lists aside g t, f.stands.queues to, ns)) ns) (search passed_links) routing routing refl n link'
+    link_and_queues_for k s f _ _ _ (shifts_stand f.stands (moved_shifts (is_on n) to s.rows f.stands.numbered off stood) (λ g t. grind (arith, nat_tests, settled_at n to k.lists aside g t, f.stands.queues to, ns)) ns) (simp (length-updated, links_stay)) routing routing refl n link'
     (λ m ne. last_settled n to k.lists m) (last_settled n to k.lists n ∙ still k s n link link' f there e)
 
 -- ALL OF A PLACE WAIT FOR A LINK: what was parked, or stood back by a code.
@@ -179,7 +176,7 @@ passed_moves : (from to : Fate) (test : Fate → Bool) (q : Lists) (ms : List Me
     → Moves (passed from to q) (restood (queue_at from q) to ms) rows (moved test (all_with to) rows)
 passed_moves from to test q ms rows s stood known other queued there off is same =
     let ns : queue_at from q ≡ numbers (standing test rows) = s.queues from ∙ ap numbers same in
-    shifts_stand s (moved_shifts test to rows s.numbered off there) (λ g t. grind (arith, nat_tests, passed_replaces q from to stood known other queued g t, is g t, s.queues to, ns)) ns
+    shifts_stand s (moved_shifts test to rows s.numbered off there) (λ g t. grind (arith, nat_tests, passed_replaces q from to stood known other g t, is g t, s.queues to, ns)) ns
 
 -- a link comes up, and what was parked waits for it
 pub risen_for : (k : Kept) (s : State) (n : ℕ) (link link' : LinkState) (routing : Routing) → StandsFor k s → slice_get s.links n ≡ Some link → link'.acked ≡ 0
@@ -190,14 +187,14 @@ risen_for k s n link link' routing f there e =
     let known = has_queues k s n link f there in
     let inner : n < length reset.links = omega (arith, known, last_links n 127 k.lists) in
     let stands : Stands reset k.messages s.rows = record { queues = λ g. queue_last g n 127 k.lists ∙ f.stands.queues g; fates = f.stands.fates; labels = f.stands.labels; count = f.stands.count; numbered = f.stands.numbered } in
-    link_and_queues_for k s f _ _ _ (passed_moves Parked (Waiting n) is_parked reset k.messages s.rows stands refl tt inner tt refl refl (λ g t. grind arith) refl) (passed_links reset Parked (Waiting n) ∙ last_links n 127 k.lists) routing routing refl n link'
+    link_and_queues_for k s f _ _ _ (passed_moves Parked (Waiting n) is_parked reset k.messages s.rows stands refl tt inner tt refl refl (λ g t. grind arith) refl) (simp length-updated) routing routing refl n link'
     (λ m ne. last_passed Parked (Waiting n) reset m ∙ last_there n 127 k.lists m ne) (last_passed Parked (Waiting n) reset n ∙ last_here n 127 k.lists known ∙ sym (ap (λ (a : ℕ). (a + 127) % 128) e))
 
 -- what stood back by a code waits for its home
 pub released_for : (k : Kept) (s : State) (c l : ℕ) (routing : Routing) → StandsFor k s → c < length k.lists.back → l < length k.lists.links
     → StandsFor (record k { lists = passed (Back c) (Waiting l) k.lists; messages = restood (queue_at (Back c) k.lists) (Waiting l) k.messages; routing = routing }) (record s { rows = moved (is_back c) (all_with (Waiting l)) s.rows; routing = routing })
 released_for k s c l routing f code known =
-    queues_for k s f _ _ _ (passed_moves (Back c) (Waiting l) (is_back c) k.lists k.messages s.rows f.stands refl code known tt refl refl (λ g t. grind (arith, nat_tests)) refl) (passed_links k.lists (Back c) (Waiting l)) routing routing refl (λ m. last_passed (Back c) (Waiting l) k.lists m)
+    queues_for k s f _ _ _ (passed_moves (Back c) (Waiting l) (is_back c) k.lists k.messages s.rows f.stands refl code known tt refl refl (λ g t. grind (arith, nat_tests)) refl) (simp length-updated) routing routing refl (λ m. last_passed (Back c) (Waiting l) k.lists m)
 
 -- What is kept after a call stands for what became of the state.
 

@@ -6,7 +6,7 @@ use Rattle.std.proofs.lemmas.List.{append-nil, map-append, length-append, get_or
 use Rattle.set_queues.specs.Backs.{passed_first, IsOldest, back_from, NoneBack}
 use Rattle.set_queues.specs.Buffers.{Lists, is_standing, same_fate, queue_at, HaveRoom, TakesRoom}
 use Rattle.set_queues.specs.Messages.{restood}
-use Rattle.set_queues.proofs.Standing.{same_is}
+use Rattle.set_queues.proofs.Standing.{same_is, links_stay}
 use Rattle.set_route.specs.Routing.{home_of, place_of}
 use Rattle.set_model.specs.Rows.{Fate, Waiting, Held, Back, Unacked, Row, standing, is_back, is_back_to, numbers, moved, stream_of, body_at, service_indicator, Each, stands_back, is_users, back}
 use Rattle.set_model.specs.Sound.{IsAscending, AreAbove, IsBackOf}
@@ -20,13 +20,11 @@ use Rattle.set_moves.proofs.RowsAt.{Shifts, is_there, rows_as, shifted, shifted_
 use Rattle.set_moves.specs.Parts.{Parts, Up, IsWhole, kept_of, AtLink, OfStates}
 use Rattle.set_queues.specs.Queues.{QueuesState}
 use Rattle.set_queues.specs.Settling.{on as on_lists}
-use Rattle.set_queues.proofs.CodeQueues.{back_none}
-use Rattle.set_queues.proofs.Passing.{links_stay}
-use Rattle.set_queues.proofs.Settling.{on_length}
+use Rattle.set_queues.proofs.Tallies.{back_none}
+use Rattle.set_queues.proofs.Soundness.{on_length, both_replaced}
 use Rattle.std.proofs.lemmas.Option.{same_Some}
 use Rattle.set_queues.specs.declared.message.Kind.TheVariants.{User}
-use Rattle.set_model.proofs.Order.{ascends_filter}
-use Rattle.set_queues.proofs.Soundness.{both_replaced}
+use Rattle.set_model.proofs.Order.{each_filter, each_so, ascends_filter}
 use Rattle.set_model.proofs.Lists.{within, present, same_at}
 use Rattle.set_model.proofs.Places.{home_back}
 use Rattle.set_model.proofs.SoundBack.{goes}

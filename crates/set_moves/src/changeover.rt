@@ -22,7 +22,7 @@ use set_model::{Phase, Reached};
 use set_queues::fate_on;
 
 /// An order stands last, for the target.
-#[tactic(auto, using(set_queues::proofs::Passing::links_stay))]
+#[tactic(auto, using(set_queues::proofs::Standing::links_stay))]
 pub fn queue(parts: &mut Parts, order: Order)
     requires whole { IsWhole parts.old }
     requires order { IsOrder order }

@@ -1,9 +1,5 @@
-pub mod CodeQueues
 pub mod Linked
-pub mod Passing
-pub mod Settling
 pub mod Soundness
 pub mod Standing
 pub mod Storing
 pub mod Tallies
-pub mod Updates

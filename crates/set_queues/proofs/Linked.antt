@@ -6,10 +6,10 @@ use Rattle.std.proofs.lemmas.Option.{slice_get-map, slice_get_read, slice_get_wi
 use Rattle.l2_window.specs.Queue.{QueueState}
 use Rattle.set_queues.specs.declared.buffers.Link.{Link}
 use Rattle.set_queues.specs.Messages.{updated}
-use Rattle.set_queues.specs.Buffers.{Waiting, Unacked, Held, LinkLists, LinkRooms, Rooms, BuffersState, queue_at, last_at, room_at, room_in, list_in, number_in, KeepsRoom, HaveRoom}
+use Rattle.set_queues.specs.Buffers.{LinkLists, LinkRooms, Rooms, BuffersState, room_in, KeepsRoom}
 use Rattle.set_queues.specs.Kept.{lists_of, rooms_of, messages_of, room_of, state_of}
 use Rattle.set_queues.specs.declared.buffers.Buffers.TheInside.{Inside}
-use Rattle.set_queues.proofs.Updates.{updated_there, updated_other, updated_twice, map_set_updated, map_set_same, read_set}
+use Rattle.set_queues.proofs.Standing.{updated_there, updated_other, updated_twice, map_set_updated, map_set_same, read_set}
 
 -- the link that an index of this number reads, or the queue
 pub found : (fields : Inside) (value : BuffersState) (i l : ℕ) (x : Link) → state_of fields ≡ value → l < length value.lists.links → i ≡ l → x ≡ get_or fields.links.items i x → slice_get fields.links.items l ≡ Some x
@@ -20,34 +20,11 @@ back_found fields value i c x v b n e = grind (arith, length-map, slice_get_read
 
 -- THE QUEUES OF ONE LINK: its lists, and when it's set to another
 
-pub list_there : (list : LinkLists → List ℕ) (xs : List Link) (l : ℕ) (x : Link) → slice_get xs l ≡ Some x → list_in list (slice_get (map lists_of xs) l) ≡ list (lists_of x)
-list_there list xs l x e = grind (arith, slice_get-map)
-
-pub last_there : (xs : List Link) (l : ℕ) (x : Link) → slice_get xs l ≡ Some x → number_in (slice_get (map lists_of xs) l) ≡ x.window.last
-last_there xs l x e = grind (arith, slice_get-map)
-
 pub lists_set : (f : LinkLists → LinkLists) (xs : List Link) (l : ℕ) (x y : Link) → slice_get xs l ≡ Some x → lists_of y ≡ f (lists_of x) → map lists_of (slice_set xs l y) ≡ updated l f (map lists_of xs)
 lists_set f xs l x y e h = map_set_updated lists_of f xs l x y e h
 
 pub lists_same : (xs : List Link) (l : ℕ) (x y : Link) → slice_get xs l ≡ Some x → lists_of y ≡ lists_of x → map lists_of (slice_set xs l y) ≡ map lists_of xs
 lists_same xs l x y e h = map_set_same lists_of xs l x y e h
-
--- its rooms
-
-pub rooms_there : (room : LinkRooms → ℕ) (xs : List Link) (l : ℕ) (x : Link) → slice_get xs l ≡ Some x → room_in room (slice_get (map rooms_of xs) l) ≡ room (rooms_of x)
-rooms_there room xs l x e = grind (arith, slice_get-map)
-
--- what is told of a link whose window an index reads
-pub record IsRead (x : Link) (l : ℕ) (value : BuffersState) : Type 0 where
-  pub last : last_at l value.lists ≡ x.window.last
-  pub unacked : queue_at (Unacked l) value.lists ≡ x.window.unacked
-  pub unsent : queue_at (Waiting l) value.lists ≡ x.window.unsent
-  pub room : room_at (Waiting l) value.rooms ≡ x.window.room
-
-pub is_read : (fields : Inside) (value : BuffersState) (i l : ℕ) (x : Link) → state_of fields ≡ value → l < length value.lists.links → i ≡ l → x ≡ get_or fields.links.items i x → IsRead x l value
-is_read fields value i l x v b n e =
-    let there = found fields value i l x v b n e in
-    rw (← v) (record { last = last_there _ l x there; unacked = list_there (λ y. y.unacked) _ l x there; unsent = list_there (λ y. y.unsent) _ l x there; room = rooms_there (λ y. y.unsent) _ l x there })
 
 pub rooms_set : (room : LinkRooms → ℕ) (xs : List Link) (l k : ℕ) (x y : Link) → slice_get xs l ≡ Some x → room_in room (slice_get (map rooms_of (slice_set xs l y)) k) ≡ cond (l == k) (room (rooms_of y)) (room_in room (slice_get (map rooms_of xs) k))
 rooms_set room xs l k x y e = rw (map_set_updated rooms_of (λ (z : LinkRooms). rooms_of y) xs l x y e refl) (grind (arith, updated_there, updated_other, slice_get-map))
@@ -56,16 +33,12 @@ abbrev rooms : List Link → ℕ → List ℕ → Rooms
 rooms xs parked back = record { links = map rooms_of xs; parked = parked; back = back }
 
 pub keeps : (xs : List Link) (l : ℕ) (x y : Link) (parked : ℕ) (back : List ℕ) → slice_get xs l ≡ Some x → x.window.room ≤ y.window.room → x.held.room ≤ y.held.room → KeepsRoom (rooms xs parked back) (rooms (slice_set xs l y) parked back)
-keeps xs l x y parked back e u h fate = grind (arith, rooms_set, rooms_there)
-
--- one link more has room
-pub room_each : (l n : ℕ) (old mid new : Rooms) → HaveRoom l n old → KeepsRoom old mid → n ≤ room_at (Waiting l) mid → KeepsRoom mid new → n ≤ room_at (Held l) new → HaveRoom (l + 1) n new
-room_each l n old mid new each kept w still h k b = grind (arith, each k, kept (Waiting k), still (Waiting k), kept (Held k), still (Held k))
+keeps xs l x y parked back e u h fate = grind (arith, rooms_set, slice_get-map)
 
 -- THE QUEUE OF A CHANGEBACK'S CODE
 
-pub back_there : (xs : List QueueState) (c : ℕ) (x : QueueState) → slice_get xs c ≡ Some x → get_or (map messages_of xs) c [] ≡ x.messages
-back_there xs c x e = get_or_from_slice_get (map messages_of xs) c (messages_of x) [] (slice_get-map messages_of xs c ∙ ap (option_map messages_of) e)
+pub back_there : {X : Type 0} (v : QueueState → X) (xs : List QueueState) (c : ℕ) (x : QueueState) (d : X) → slice_get xs c ≡ Some x → get_or (map v xs) c d ≡ v x
+back_there v xs c x d e = get_or_from_slice_get (map v xs) c (v x) d (slice_get-map v xs c ∙ ap (option_map v) e)
 
 pub back_set : (ns : List ℕ) (xs : List QueueState) (c : ℕ) (x y : QueueState) → slice_get xs c ≡ Some x → y.messages ≡ ns → map messages_of (slice_set xs c y) ≡ updated c (λ (z : List ℕ). ns) (map messages_of xs)
 back_set ns xs c x y e h = map_set_updated messages_of (λ (z : List ℕ). ns) xs c x y e h
@@ -73,13 +46,10 @@ back_set ns xs c x y e h = map_set_updated messages_of (λ (z : List ℕ). ns) x
 pub back_same : (xs : List QueueState) (c : ℕ) (x y : QueueState) → slice_get xs c ≡ Some x → y.messages ≡ x.messages → map messages_of (slice_set xs c y) ≡ map messages_of xs
 back_same xs c x y e h = map_set_same messages_of xs c x y e h
 
-pub room_there : (xs : List QueueState) (c : ℕ) (x : QueueState) → slice_get xs c ≡ Some x → get_or (map room_of xs) c 0 ≡ x.room
-room_there xs c x e = get_or_from_slice_get (map room_of xs) c (room_of x) 0 (slice_get-map room_of xs c ∙ ap (option_map room_of) e)
-
 pub room_read : (xs : List QueueState) (c k : ℕ) (x y : QueueState) → slice_get xs c ≡ Some x → get_or (map room_of (slice_set xs c y)) k 0 ≡ cond (c == k) y.room (get_or (map room_of xs) k 0)
 room_read xs c k x y e = rw (map_set_updated room_of (λ (r : ℕ). y.room) xs c x y e refl) (read_set y.room (map room_of xs) c k 0 (omega (arith, slice_get_within xs c x e, length-map xs room_of)))
 
 -- what a call on a queue of a link is for the set; and one on a code's
-pub ruleset of_link = (found, length-map, list_there, last_there, lists_set, lists_same, rooms_there, rooms_set, keeps, updated_twice, eq-eqb)
+pub ruleset of_link = (found, length-map, slice_get-map, lists_set, lists_same, rooms_set, keeps, updated_twice, eq-eqb)
 
-pub ruleset of_code = (back_found, length-map, back_there, back_set, back_same, room_there, room_read, eq-eqb)
+pub ruleset of_code = (back_found, length-map, back_there, back_set, back_same, room_read, eq-eqb)

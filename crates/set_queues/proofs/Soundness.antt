@@ -1,18 +1,17 @@
 -- What holds of every set's queues goes on holding.
-use Rattle.std.proofs.Common.{refl, arith, ◌≡◌, ◌∙◌, ap, ◌+◌, ◌-◌, ◌≤◌, ◌<◌, [], ◌∷◌, ◌++◌, length, ℕ, zero, suc, Bool, true, false, ◌==◌, List, Some, cond, get_or, take, drop, replicate, slice_get, slice_set, slice_index}
-use Rattle.set_queues.specs.Counts.{one_if}
-use Rattle.set_queues.specs.Messages.{Message, restood_one, restood, octets_at, octets_of, IsFit, AreFit}
+use Rattle.std.proofs.Common.{refl, arith, ◌≡◌, ◌∙◌, ap, ◌+◌, ◌-◌, ◌≤◌, ◌<◌, [], ◌∷◌, ◌++◌, length, ℕ, zero, suc, Bool, true, false, ◌==◌, List, Some, cond, get_or, take, drop, replicate, slice_get, slice_set, slice_index, ◌≢◌, subst, Option, append_assoc, IfSome}
+use Rattle.set_queues.specs.Messages.{one_if, Message, restood_one, restood, octets_at, octets_of, IsFit, AreFit}
 use Rattle.set_queues.specs.Backs.{passed_first}
-use Rattle.set_queues.specs.Sending.{first_sent, acknowledged, reach}
-use Rattle.set_queues.specs.Buffers.{Fate, Waiting, Unacked, Acked, no_lists, AreEmpty, LinkLists, Lists, is_standing, same_fate, queue_at, with_queue, with_last, list_in, IsKnown, IsQueued, Rooms, CanTake}
+use Rattle.set_queues.specs.Sending.{first_sent}
+use Rattle.set_queues.specs.Buffers.{Fate, Waiting, Unacked, Acked, no_lists, AreEmpty, LinkLists, Lists, is_standing, same_fate, queue_at, with_queue, with_last, list_in, IsKnown, IsQueued, Rooms, Held, room_at, TakesRoom}
 use Rattle.set_queues.specs.Queues.{occurs, stands, passed, AreTied, AreGiven, AreSound, AreNarrow, AreWeighed, AreKept}
-use Rattle.set_queues.proofs.Updates.{length-updated, updated_same, updated_other, get_push}
-use Rattle.set_queues.proofs.Standing.{Moves, moved_tie, given_queue, take_get, same_is, occurs-append, occurs-split}
+use Rattle.set_queues.proofs.Standing.{length-updated, updated_same, updated_other, get_push, Moves, moved_tie, given_queue, take_get, same_is, occurs-append, occurs-split, occurs_here, queue_any, links_stay, queue_away, SameSize, size_stays, known_on, restood-append, same_self, queued_stands}
 use Rattle.set_queues.proofs.Tallies.{fit_push, fit_restood, octets-append, octets-split, octets_stay}
 use Rattle.std.proofs.lemmas.Bool.Decides.{nat_tests}
 use Rattle.std.proofs.lemmas.List.{drop_all, take_all, get_or-replicate, get_or-set_same, get_or-set_other, get_or_past, length-replicate, length-append, length-take, length-drop}
 use Rattle.std.proofs.lemmas.Option.{slice_get_past}
-use Rattle.set_queues.proofs.Passing.{queue_any, links_stay, queue_away, SameSize, size_stays, known_on}
+use Rattle.std.proofs.lemmas.Bool.{eq-eqb}
+use Rattle.set_queues.specs.Settling.{fate_on, on, Settles}
 
 -- two queues change: messages leave the one and join the other
 abbrev pub Replaces : Lists → Lists → Fate → Fate → List ℕ → List ℕ → Type 0
@@ -27,14 +26,14 @@ both_size q from to left joined =
 pub both_replaced : (q : Lists) (from to : Fate) (left joined : List ℕ) → IsKnown from q → IsKnown to q → Replaces q (with_queue from left (with_queue to joined q)) from to left joined
 both_replaced q from to left joined k o f s = search (queue_any, known_on, size_stays)
 
-pub passed_replaces : (q : Lists) (from to : Fate) → is_standing from ≡ true → IsKnown from q → IsKnown to q → IsQueued to → Replaces q (passed from to q) from to [] (queue_at to q ++ queue_at from q)
-passed_replaces q from to s k o u = both_replaced q from to [] (queue_at to q ++ queue_at from q) k o
+pub passed_replaces : (q : Lists) (from to : Fate) → is_standing from ≡ true → IsKnown from q → IsKnown to q → Replaces q (passed from to q) from to [] (queue_at to q ++ queue_at from q)
+passed_replaces q from to s k o = both_replaced q from to [] (queue_at to q ++ queue_at from q) k o
 
 pub passed_size : (q : Lists) (from to : Fate) → SameSize q (passed from to q)
 passed_size q from to = both_size q from to [] (queue_at to q ++ queue_at from q)
 
 pub given_all : (q : Lists) (ms : List Message) (from : Fate) → AreSound q ms → is_standing from ≡ true → AreGiven (queue_at from q) ms
-given_all q ms from h s = given_queue q ms from h.tied s (queue_at from q) (λ m. omega arith)
+given_all q ms from h s = given_queue q ms from h.tied s
 
 -- of as many links and codes
 sound_on : (q q' : Lists) (ms ms' : List Message) → AreSound q ms → SameSize q q' → AreNarrow q' → AreTied q' ms' → AreFit ms' → AreSound q' ms'
@@ -83,24 +82,21 @@ module _ (k : ℕ) (from to : Fate) (q : Lists) (ms : List Message) (c : CanMove
   kept_moved octets octets' h n w =
       let s = h.sound in
       let within : (m : ℕ) → occurs m (take k (queue_at from q)) ≤ occurs m (queue_at from q) = λ m. omega (arith, occurs-split m k (queue_at from q)) in
-      let tied = moved_tie q (moved k from to q) ms (take k (queue_at from q)) from to s.tied c.standing (given_queue q ms from s.tied c.standing _ within) within moved_moves in
+      let tied = moved_tie q (moved k from to q) ms (take k (queue_at from q)) from to s.tied c.standing within moved_moves in
       record {
         sound = sound_on q _ ms _ s (both_size q from to _ _) (narrow_moved s.narrow n) tied (fit_restood (take k (queue_at from q)) to ms s.fit);
         weighed = weighed_moved octets octets' h.weighed w;
       }
 
-pub unqueued : (to : Fate) (l : ℕ) → IsQueued to → same_fate to (Unacked l) ≡ false
+pub unqueued : (to : Fate) (l : ℕ) → (is_standing to ≡ true → IsQueued to) → same_fate to (Unacked l) ≡ false
 unqueued to l h = grind arith
 
-pub untaken : (to : Fate) (n l : ℕ) (r : Rooms) → CanTake to n r → same_fate to (Unacked l) ≡ false
-untaken to n l r h = grind arith
-
 -- to where messages come otherwise than by being sent; all of a queue, where its octets are counted
-pub kept_passed : (k : ℕ) (from to : Fate) (q : Lists) (ms : List Message) (octets octets' : List ℕ) → AreKept q ms octets → CanMove from to q → ((l : ℕ) → same_fate to (Unacked l) ≡ false) → ((l : ℕ) → same_fate from (Unacked l) ≡ true → k ≡ length (queue_at from q)) → ((l : ℕ) → l < 16 → slice_index octets' l ≡ cond (same_fate from (Unacked l)) 0 (slice_index octets l)) → AreKept (moved k from to q) (restood (take k (queue_at from q)) to ms) octets'
-kept_passed k from to q ms octets octets' h c n all w = kept_moved k from to q ms c octets octets' h (λ l f. let no = n l in absurd (cc)) (λ l b.
+pub kept_passed : (k : ℕ) (from to : Fate) (q : Lists) (ms : List Message) (octets octets' : List ℕ) → AreKept q ms octets → CanMove from to q → (is_standing to ≡ true → IsQueued to) → ((l : ℕ) → same_fate from (Unacked l) ≡ true → k ≡ length (queue_at from q)) → ((l : ℕ) → l < 16 → slice_index octets' l ≡ cond (same_fate from (Unacked l)) 0 (slice_index octets l)) → AreKept (moved k from to q) (restood (take k (queue_at from q)) to ms) octets'
+kept_passed k from to q ms octets octets' h c n all w = kept_moved k from to q ms c octets octets' h (λ l f. let no = unqueued to l n in absurd (cc)) (λ l b.
     let was = h.weighed l b in
     let now = w l (omega (arith, b, h.sound.few)) in
-    let not = n l in
+    let not = unqueued to l n in
     let full = all l in
     grind (arith, same_is, take_all))
 
@@ -128,13 +124,13 @@ added_tie q ms x tie k f s m =
 
 octets_push : (ns : List ℕ) (ms : List Message) (x : Message) → AreGiven ns ms → octets_of ns (ms ++ x ∷ []) ≡ octets_of ns ms
 octets_push [] ms x g = refl
-octets_push (n ∷ ns) ms x g = grind (arith, get_push, octets_push ns ms x g.1)
+octets_push (n ∷ ns) ms x g = let below = g n (omega (arith, occurs_here n n refl)) in grind (arith, get_push, octets_push ns ms x (λ m h. g m (omega (arith, h))))
 
 pub kept_added : (q : Lists) (ms : List Message) (octets : List ℕ) (x : Message) → AreKept q ms octets → IsFit x → IsKnown x.fate q → IsQueued x.fate → AreKept (with_queue x.fate (queue_at x.fate q ++ length ms ∷ []) q) (ms ++ x ∷ []) octets
 kept_added q ms octets x h fit k u =
     let s = h.sound in
     let size = size_stays x.fate (queue_at x.fate q ++ length ms ∷ []) q in
-    let same : (l : ℕ) → queue_at (Unacked l) (with_queue x.fate (queue_at x.fate q ++ length ms ∷ []) q) ≡ queue_at (Unacked l) q = λ l. queue_away x.fate (Unacked l) _ q _ refl k (unqueued x.fate l u) in
+    let same : (l : ℕ) → queue_at (Unacked l) (with_queue x.fate (queue_at x.fate q ++ length ms ∷ []) q) ≡ queue_at (Unacked l) q = λ l. queue_away x.fate (Unacked l) _ q _ refl k (unqueued x.fate l (λ s. u)) in
     record {
       sound = sound_on q _ ms _ s size (λ l. rw (same l) (s.narrow l)) (added_tie q ms x s.tied k) (fit_push ms x s.fit fit);
       weighed = λ l b. rw (same l, octets_push (queue_at (Unacked l) q) ms x (given_all q ms (Unacked l) s refl)) (h.weighed l (omega (arith, b, size.links)));
@@ -201,13 +197,59 @@ kept_acked q ms octets l k fsn long h b = kept_with_last _ _ _ l fsn (kept_moved
     let all = octets-split k (queue_at (Unacked l) q) ms in
     grind (arith, nat_tests)))
 
--- THE LINKS STAY AS MANY
+-- A LINK SETTLES: what stands on it goes elsewhere, first what was sent, then what waited, then what was held
 
-pub passed_links : (q : Lists) (from to : Fate) → length (passed from to q).links ≡ length q.links
-passed_links q from to = (passed_size q from to).links
+-- a place for what leaves the link
+pub record IsAside (link : ℕ) (to : Fate) (q : Lists) : Type 0 where
+  pub known : link < length q.links
+  pub other : IsKnown to q
+  pub queued : IsQueued to
+  pub unsent : same_fate to (Waiting link) ≡ false
+  pub held : same_fate to (Held link) ≡ false
 
-pub sent_links : (q : Lists) (l n : ℕ) → length (first_sent l n q).links ≡ length q.links
-sent_links q l n = (both_size q (Waiting l) (Unacked l) (drop 1 (queue_at (Waiting l) q)) (queue_at (Unacked l) q ++ n ∷ [])).links
+pub aside_of : (target : Option ℕ) (link : ℕ) (to : Fate) (q : Lists) → to ≡ fate_on target → link < length q.links → IsKnown (fate_on target) q → IfSome target (λ t. t ≢ link) → IsAside link to q
+aside_of target link to q e k o a = grind arith
 
-pub acked_links : (q : Lists) (l fsn : ℕ) → length (acknowledged l fsn q).links ≡ length q.links
-acked_links q l fsn = last_links l fsn (with_queue (Unacked l) (drop (reach l fsn q) (queue_at (Unacked l) q)) q) ∙ links_stay (Unacked l) (drop (reach l fsn q) (queue_at (Unacked l) q)) q
+pub aside_passed : (link : ℕ) (from to : Fate) (q : Lists) → IsAside link to q → IsAside link to (passed from to q)
+aside_passed link from to q a = grind (arith, passed_size, known_on)
+
+pub waits_on : (link : ℕ) (to : Fate) (q : Lists) → IsAside link to q → queue_at (Waiting link) (passed (Unacked link) to q) ≡ queue_at (Waiting link) q
+waits_on link to q a = let now = passed_replaces q (Unacked link) to refl a.known a.other (Waiting link) refl in let unsent = a.unsent in cc
+
+pub held_last : (link : ℕ) (to : Fate) (q : Lists) → IsAside link to q → queue_at (Held link) (passed (Waiting link) to (passed (Unacked link) to q)) ≡ queue_at (Held link) q
+held_last link to q a =
+    let a1 = aside_passed link (Unacked link) to q a in
+    let mid = passed_replaces q (Unacked link) to refl a.known a.other (Held link) refl in
+    let now = passed_replaces (passed (Unacked link) to q) (Waiting link) to refl a1.known a1.other (Held link) refl in
+    let held = a.held in
+    cc
+
+-- the room that is left
+pub room_left : (to : Fate) (count : ℕ) (old new : Rooms) → IsQueued to → TakesRoom to count old new → room_at to old ≤ room_at to new + count
+room_left to count old new u t = subst (λ (b : Bool). room_at to old ≤ room_at to new + cond b count 0) (same_self to (queued_stands to u)) (t to)
+
+pub on_length : (link : ℕ) (q : Lists) → length (on link q) ≡ length (queue_at (Unacked link) q) + length (queue_at (Waiting link) q) + length (queue_at (Held link) q)
+on_length link q = omega (arith, length-append (queue_at (Unacked link) q ++ queue_at (Waiting link) q) (queue_at (Held link) q), length-append (queue_at (Unacked link) q) (queue_at (Waiting link) q))
+
+pub settling : (link : ℕ) (to : Fate) (q : Lists) → IsAside link to q → Settles link to q
+settling link to q a =
+    let a1 = aside_passed link (Unacked link) to q a in
+    let a2 = aside_passed link (Waiting link) to (passed (Unacked link) to q) a1 in
+    let one = passed_replaces q (Unacked link) to refl a.known a.other in
+    let two = passed_replaces (passed (Unacked link) to q) (Waiting link) to refl a1.known a1.other in
+    let three = passed_replaces (passed (Waiting link) to (passed (Unacked link) to q)) (Held link) to refl a2.known a2.other in
+    let there = queued_stands to a.queued in
+    record {
+      unacked = grind (arith, unqueued, eq-eqb, one (Unacked link) refl, two (Unacked link) refl, three (Unacked link) refl);
+      unsent = grind (arith, eq-eqb, two (Waiting link) refl, three (Waiting link) refl);
+      held = grind (arith, eq-eqb, three (Held link) refl);
+      there = grind (arith, eq-eqb, append_assoc, waits_on, held_last, one to there, two to there, three to there);
+      elsewhere = λ f s t u w h. grind (arith, one f s, two f s, three f s);
+    }
+
+-- a place is known still
+
+pub known_passed : (f from to : Fate) (q now : Lists) → now ≡ passed from to q → IsKnown f q → IsKnown f now
+known_passed f from to q now e k = rw e (known_on f q _ (passed_size q from to) k)
+
+pub ruleset settles = (aside_of, waits_on, held_last, on_length, restood-append)

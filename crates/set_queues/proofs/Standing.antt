@@ -1,15 +1,83 @@
 -- Messages that come to stand elsewhere, and the queues that name them.
-use Rattle.std.proofs.Common.{refl, arith, ◌≡◌, ◌∙◌, ap, ◌+◌, ◌≤◌, ◌<◌, [], ◌∷◌, ◌++◌, length, ℕ, zero, suc, Bool, true, false, ◌==◌, List, Option, Some, None, cond, take, drop, slice_get}
+use Rattle.std.proofs.Common.{refl, arith, ◌≡◌, ◌∙◌, ap, sym, ◌<◌, ◌+◌, ◌==◌, [], ◌∷◌, ◌++◌, length, map, replicate, ℕ, zero, suc, cond, get_or, List, Some, slice_get, slice_set, option_map, ◌≤◌, Bool, true, false, Option, None, take, drop, append_assoc}
+use Rattle.std.proofs.Math.Seq.{map-set_same}
+use Rattle.std.proofs.lemmas.List.{map-append, replicate_more, map-set, take-append-drop, append-nil}
+use Rattle.std.proofs.lemmas.Option.{slice_get-map, get_or_from_slice_get, slice_get_cases, slice_get_within, slice_get_past, slice_get-get_or}
+use Rattle.set_queues.specs.Messages.{updated, one_if, Message, with_fate, restood_one, restood, fate_at}
 use Rattle.std.proofs.lemmas.Bool.Decides.{nat_tests}
 use Rattle.std.proofs.lemmas.Bool.{eq-eqb, ne_eqb}
-use Rattle.std.proofs.lemmas.Option.{slice_get_within, slice_get_past, slice_get-get_or, get_or_from_slice_get}
-use Rattle.std.proofs.lemmas.List.{take-append-drop}
 use Rattle.std.proofs.lemmas.Grind.{take_at_read}
-use Rattle.set_queues.specs.Counts.{one_if}
-use Rattle.set_queues.specs.Messages.{Message, with_fate, restood_one, restood, fate_at}
-use Rattle.set_queues.specs.Buffers.{Fate, Lists, is_standing, same_fate, queue_at}
+use Rattle.set_queues.specs.Buffers.{Fate, Lists, is_standing, same_fate, queue_at, Back, with_queue, IsKnown, IsQueued, Rooms, CanTake, TakesRoom}
 use Rattle.set_queues.specs.Queues.{occurs, has_fate, AreTied, AreGiven}
-use Rattle.set_queues.proofs.Updates.{there, length-updated, updated_same, updated_other}
+
+-- LISTS of which the element at one place changes
+
+module _ {X : Type 0} where
+  pub set_updated : (f : X → X) (xs : List X) (n : ℕ) (x : X) → slice_get xs n ≡ Some x → slice_set xs n (f x) ≡ updated n f xs
+  set_updated f [] n x e = refl
+  set_updated f (y ∷ xs) zero x e = let g : y ≡ x = cc in ap (λ (z : X). f z ∷ xs) (cc)
+  set_updated f (y ∷ xs) (suc n) x e = ap (λ (zs : List X). y ∷ zs) (set_updated f xs n x e)
+
+  pub length-updated : (f : X → X) (xs : List X) (n : ℕ) → length (updated n f xs) ≡ length xs
+  length-updated f [] n = refl
+  length-updated f (y ∷ xs) zero = refl
+  length-updated f (y ∷ xs) (suc n) = ap suc (length-updated f xs n)
+
+  pub updated_same : (f : X → X) (xs : List X) (n : ℕ) → slice_get (updated n f xs) n ≡ option_map f (slice_get xs n)
+  updated_same f [] n = refl
+  updated_same f (y ∷ xs) zero = refl
+  updated_same f (y ∷ xs) (suc n) = updated_same f xs n
+
+  pub updated_other : (f : X → X) (xs : List X) (n k : ℕ) → (n ≡ k → ⊥) → slice_get (updated n f xs) k ≡ slice_get xs k
+  updated_other f [] n k ne = refl
+  updated_other f (y ∷ xs) zero zero ne = absurd (ne refl)
+  updated_other f (y ∷ xs) zero (suc k) ne = refl
+  updated_other f (y ∷ xs) (suc n) zero ne = refl
+  updated_other f (y ∷ xs) (suc n) (suc k) ne = updated_other f xs n k (λ e. ne (ap suc e))
+
+  pub updated_there : (f : X → X) (xs : List X) (n : ℕ) (x : X) → slice_get xs n ≡ Some x → slice_get (updated n f xs) n ≡ Some (f x)
+  updated_there f xs n x e = updated_same f xs n ∙ ap (option_map f) e
+
+module _ {X Y : Type 0} where
+  -- a changed element is seen as a changed view
+  pub map_set_updated : (v : X → Y) (f : Y → Y) (xs : List X) (n : ℕ) (x y : X) → slice_get xs n ≡ Some x → v y ≡ f (v x) → map v (slice_set xs n y) ≡ updated n f (map v xs)
+  map_set_updated v f xs n x y e h = map-set v xs n y ∙ ap (slice_set (map v xs) n) h ∙ set_updated f (map v xs) n (v x) (slice_get-map v xs n ∙ ap (option_map v) e)
+
+  pub map_set_same : (v : X → Y) (xs : List X) (n : ℕ) (x y : X) → slice_get xs n ≡ Some x → v y ≡ v x → map v (slice_set xs n y) ≡ map v xs
+  map_set_same v xs n x y e h = map-set_same v xs n y x (h ∙ ap v (sym (get_or_from_slice_get xs n x x e)))
+
+module _ {X : Type 0} where
+  pub updated_twice : (f g : X → X) (xs : List X) (n : ℕ) → updated n f (updated n g xs) ≡ updated n (λ (x : X). f (g x)) xs
+  updated_twice f g [] n = refl
+  updated_twice f g (x ∷ xs) zero = refl
+  updated_twice f g (x ∷ xs) (suc n) = ap (λ (zs : List X). x ∷ zs) (updated_twice f g xs n)
+
+  pub updated_id : (f : X → X) (xs : List X) (n : ℕ) (x : X) → slice_get xs n ≡ Some x → f x ≡ x → updated n f xs ≡ xs
+  updated_id f [] n x e h = refl
+  updated_id f (y ∷ xs) zero x e h = let g : y ≡ x = cc in ap (λ (z : X). z ∷ xs) (ap f g ∙ h ∙ sym g)
+  updated_id f (y ∷ xs) (suc n) x e h = ap (λ (zs : List X). y ∷ zs) (updated_id f xs n x e h)
+
+  -- one element is set: what an index reads
+  pub read_set : (x : X) (xs : List X) (n k : ℕ) (d : X) → n < length xs → get_or (updated n (λ (y : X). x) xs) k d ≡ cond (n == k) x (get_or xs k d)
+  read_set x [] n k d h = absurd (omega arith)
+  read_set x (y ∷ xs) zero zero d h = refl
+  read_set x (y ∷ xs) zero (suc k) d h = grind arith
+  read_set x (y ∷ xs) (suc n) zero d h = grind arith
+  read_set x (y ∷ xs) (suc n) (suc k) d h = let again = read_set x xs n k d (omega arith) in grind arith
+
+  -- one more at the end
+  pub get_push : (xs : List X) (y : X) (k : ℕ) → slice_get (xs ++ y ∷ []) k ≡ cond (length xs == k) (Some y) (slice_get xs k)
+  get_push [] y zero = refl
+  get_push [] y (suc k) = grind arith
+  get_push (x ∷ xs) y zero = grind arith
+  get_push (x ∷ xs) y (suc k) = let again = get_push xs y k in grind arith
+
+module _ {X Y : Type 0} where
+  -- one more that is seen alike
+  pub map_push_same : (v : X → Y) (xs : List X) (x : X) (n : ℕ) (y : Y) → map v xs ≡ replicate n y → v x ≡ y → map v (xs ++ x ∷ []) ≡ replicate (n + 1) y
+  map_push_same v xs x n y e h = map-append v xs (x ∷ []) ∙ ap (λ (zs : List Y). zs ++ v x ∷ []) e ∙ ap (λ (z : Y). replicate n y ++ z ∷ []) h ∙ replicate_more n y
+
+-- MESSAGES that come to stand elsewhere
 
 -- of a fate that isn't final
 pub same_is : (f g : Fate) → is_standing g ≡ true → same_fate f g ≡ true → f ≡ g
@@ -30,8 +98,6 @@ occurs_here x m e = ap one_if (eq-eqb x m e)
 pub occurs_not : (x m : ℕ) → (x ≡ m → ⊥) → one_if (x == m) ≡ 0
 occurs_not x m ne = ap one_if (ne_eqb x m ne)
 
--- messages that come to stand elsewhere
-
 pub length-restood : (ns : List ℕ) (f : Fate) (ms : List Message) → length (restood ns f ms) ≡ length ms
 length-restood [] f ms = refl
 length-restood (n ∷ ns) f ms = length-restood ns f (restood_one n f ms) ∙ length-updated (with_fate f) ms n
@@ -41,29 +107,23 @@ restood-append [] ys f ms = refl
 restood-append (x ∷ xs) ys f ms = restood-append xs ys f (restood_one x f ms)
 
 pub fate_same : (n : ℕ) (f : Fate) (ms : List Message) → n < length ms → fate_at n (restood_one n f ms) ≡ Some f
-fate_same n f ms h = let t = there ms n h in grind (arith, updated_same)
-
-pub fate_other : (n k : ℕ) (f : Fate) (ms : List Message) → (n ≡ k → ⊥) → fate_at k (restood_one n f ms) ≡ fate_at k ms
-fate_other n k f ms ne = grind (arith, updated_other)
-
-given_on : (ns : List ℕ) (ms ms' : List Message) → length ms' ≡ length ms → AreGiven ns ms → AreGiven ns ms'
-given_on [] ms ms' e g = tt
-given_on (n ∷ ns) ms ms' e g = (omega (arith, g.0), given_on ns ms ms' e g.1)
+fate_same n f ms h = grind (arith, updated_same, slice_get_cases)
 
 -- one that isn't among them stays where it stood
 pub fate_stays : (m : ℕ) (ns : List ℕ) (f : Fate) (ms : List Message) → occurs m ns ≡ 0 → fate_at m (restood ns f ms) ≡ fate_at m ms
 fate_stays m [] f ms z = refl
 fate_stays m (n ∷ ns) f ms z =
     let ne : n ≡ m → ⊥ = λ (e : n ≡ m). omega (arith, occurs_here n m e, z) in
-    fate_stays m ns f (restood_one n f ms) (omega arith) ∙ fate_other n m f ms ne
+    let rest = fate_stays m ns f (restood_one n f ms) (omega arith) in
+    grind (arith, updated_other)
 
 -- one that is has the new fate
-pub fate_moves : (m : ℕ) (ns : List ℕ) (f : Fate) (ms : List Message) → AreGiven ns ms → 0 < occurs m ns → fate_at m (restood ns f ms) ≡ Some f
-fate_moves m [] f ms g z = absurd (omega arith)
-fate_moves m (n ∷ ns) f ms g z =
-    let again = fate_moves m ns f (restood_one n f ms) (given_on ns ms (restood_one n f ms) (length-updated (with_fate f) ms n) g.1) in
+pub fate_moves : (m : ℕ) (ns : List ℕ) (f : Fate) (ms : List Message) → m < length ms → 0 < occurs m ns → fate_at m (restood ns f ms) ≡ Some f
+fate_moves m [] f ms b z = absurd (omega arith)
+fate_moves m (n ∷ ns) f ms b z =
+    let again = fate_moves m ns f (restood_one n f ms) (omega (arith, length-updated (with_fate f) ms n)) in
     let stays = fate_stays m ns f (restood_one n f ms) in
-    let now = fate_same n f ms g.0 in
+    let now = fate_same m f ms b in
     grind (arith, nat_tests)
 
 -- THE TIE, when messages move from one queue to another, or to none
@@ -80,16 +140,12 @@ one_true b h = grind arith
 pub same_self : (f : Fate) → is_standing f ≡ true → same_fate f f ≡ true
 same_self f s = grind arith
 
-pub moved_tie : (q q' : Lists) (ms : List Message) (ns : List ℕ) (from to : Fate) → AreTied q ms → is_standing from ≡ true → AreGiven ns ms → ((m : ℕ) → occurs m ns ≤ occurs m (queue_at from q)) → Moves ns from to q q' → AreTied q' (restood ns to ms)
-moved_tie q q' ms ns from to tie s given within moves f sf m = grind (arith, fate_stays, has_of, one_true, fate_moves)
-
 -- what stands in a queue has been given out
-pub given_queue : (q : Lists) (ms : List Message) (f : Fate) → AreTied q ms → is_standing f ≡ true → (ns : List ℕ) → ((m : ℕ) → occurs m ns ≤ occurs m (queue_at f q)) → AreGiven ns ms
-given_queue q ms f tie s [] within = tt
-given_queue q ms f tie s (n ∷ ns) within =
-    let stood = tie f s n in
-    let most = within n in
-    (grind (arith, slice_get_past, occurs_here), given_queue q ms f tie s ns (λ m. omega (arith, within m)))
+pub given_queue : (q : Lists) (ms : List Message) (f : Fate) → AreTied q ms → is_standing f ≡ true → AreGiven (queue_at f q) ms
+given_queue q ms f tie s n h = let stood = tie f s n in grind (arith, slice_get_past)
+
+pub moved_tie : (q q' : Lists) (ms : List Message) (ns : List ℕ) (from to : Fate) → AreTied q ms → is_standing from ≡ true → ((m : ℕ) → occurs m ns ≤ occurs m (queue_at from q)) → Moves ns from to q q' → AreTied q' (restood ns to ms)
+moved_tie q q' ms ns from to tie s within moves f sf m = let given = given_queue q ms from tie s m in grind (arith, fate_stays, has_of, one_true, fate_moves)
 
 -- the first so many, one after another
 
@@ -98,16 +154,73 @@ take_get xs i x h = rw (get_or_from_slice_get xs i x x h) at (take_at_read xs i 
 
 pub given_at : (ns : List ℕ) (ms : List Message) (i n : ℕ) → AreGiven ns ms → slice_get ns i ≡ Some n → n < length ms
 given_at [] ms i n g e = absurd (cc)
-given_at (x ∷ ns) ms zero n g e = let f : x ≡ n = cc in omega (arith, g.0)
-given_at (x ∷ ns) ms (suc i) n g e = given_at ns ms i n g.1 e
+given_at (x ∷ ns) ms zero n g e = let f : x ≡ n = cc in g n (omega (arith, occurs_here x n f))
+given_at (x ∷ ns) ms (suc i) n g e = given_at ns ms i n (λ k h. g k (omega (arith, h))) e
 
 pub none_past : (xs : List ℕ) (i : ℕ) → slice_get xs i ≡ None → i < length xs → ⊥
 none_past xs i e h = let some = slice_get-get_or xs i 0 h in absurd (cc)
-
-pub room_sum : (b : Bool) (r0 r1 r2 i k : ℕ) → r0 ≤ r1 + cond b i 0 → r1 ≤ r2 + cond b k 0 → r0 ≤ r2 + cond b (i + k) 0
-room_sum b r0 r1 r2 i k g h = grind arith
 
 pub apart : (f g : Fate) → is_standing g ≡ true → (f ≡ g → ⊥) → same_fate f g ≡ false
 apart f g s ne = grind arith
 
 pub ruleset laws = (apart, same_self, slice_get_past)
+
+-- A QUEUE is replaced by another list
+
+pub queue_set : (g f : Fate) (numbers : List ℕ) (q : Lists) → is_standing g ≡ true → IsKnown g q → queue_at f (with_queue g numbers q) ≡ cond (same_fate g f) numbers (queue_at f q)
+queue_set g f ns q s h = grind (arith, updated_there, updated_other, slice_get_cases, read_set)
+
+-- the links stay as many
+pub links_stay : (g : Fate) (numbers : List ℕ) (q : Lists) → length (with_queue g numbers q).links ≡ length q.links
+links_stay g ns q = grind (arith, length-updated)
+
+pub ruleset links = (links_stay, length-updated)
+
+-- as many links, and as many codes
+pub record SameSize (q q' : Lists) : Type 0 where
+  pub links : length q'.links ≡ length q.links
+  pub back : length q'.back ≡ length q.back
+
+pub size_stays : (g : Fate) (numbers : List ℕ) (q : Lists) → SameSize q (with_queue g numbers q)
+size_stays g ns q = record { links = links_stay g ns q; back = grind (arith, length-updated) }
+
+pub known_on : (f : Fate) (q q' : Lists) → SameSize q q' → IsKnown f q → IsKnown f q'
+known_on f q q' e h = grind arith
+
+-- replaced twice; by itself
+pub queue_twice : (g : Fate) (xs ys : List ℕ) (q : Lists) → with_queue g xs (with_queue g ys q) ≡ with_queue g xs q
+queue_twice g xs ys q = grind (arith, updated_twice)
+
+pub queue_id : (g : Fate) (q : Lists) → IsKnown g q → with_queue g (queue_at g q) q ≡ q
+queue_id (Back c) q h = let x = slice_get-get_or q.back c [] h in grind (arith, updated_id)
+queue_id g q h = grind (arith, updated_id, slice_get_cases)
+
+pub queued_stands : (f : Fate) → IsQueued f → is_standing f ≡ true
+queued_stands f h = grind arith
+
+-- a queue in which messages stand, when one is replaced that may be no queue
+pub queue_any : (g f : Fate) (xs : List ℕ) (q : Lists) → is_standing f ≡ true → IsKnown g q → queue_at f (with_queue g xs q) ≡ cond (same_fate g f) xs (queue_at f q)
+queue_any g f xs q s h = grind (arith, queue_set)
+
+pub queue_away : (g f : Fate) (xs : List ℕ) (q now : Lists) → now ≡ with_queue g xs q → IsKnown g q → same_fate g f ≡ false → queue_at f now ≡ queue_at f q
+queue_away g f xs q now e h n = grind (arith, queue_set)
+
+pub known_with : (f g : Fate) (xs : List ℕ) (q now : Lists) → now ≡ with_queue g xs q → IsKnown f q → IsKnown f now
+known_with f g xs q now e h = rw e (known_on f q _ (size_stays g xs q) h)
+
+-- one more stands last in a queue that was replaced
+queue_more : (g : Fate) (xs : List ℕ) (m : ℕ) (q now : Lists) → IsKnown g q → now ≡ with_queue g xs q → with_queue g (queue_at g now ++ m ∷ []) now ≡ with_queue g (xs ++ m ∷ []) q
+queue_more g xs m q now h e = grind (arith, queue_set, same_self, queue_twice)
+
+-- the next of a list does
+pub queue_next : (g : Fate) (xs ys : List ℕ) (i m : ℕ) (q now new : Lists) → IsKnown g q → now ≡ with_queue g (xs ++ take i ys) q → slice_get ys i ≡ Some m → new ≡ with_queue g (queue_at g now ++ m ∷ []) now → new ≡ with_queue g (xs ++ take (i + 1) ys) q
+queue_next g xs ys i m q now new h e f n = rw (n, queue_more g _ m q now h e, take_get ys i m f) (simp append_assoc)
+
+pub restood_next : (ys : List ℕ) (i m : ℕ) (f : Fate) (ms now new : List Message) → now ≡ restood (take i ys) f ms → slice_get ys i ≡ Some m → new ≡ restood_one m f now → new ≡ restood (take (i + 1) ys) f ms
+restood_next ys i m f ms now new e g n = rw (n, e, take_get ys i m g, restood-append) refl
+
+-- there is room for one more as long as not all came
+pub takes_one : (f : Fate) (n i : ℕ) (old now : Rooms) → CanTake f n old → TakesRoom f i old now → i < n → CanTake f 1 now
+takes_one f n i old now c t h = let there = t f in grind (arith, eq-eqb)
+
+pub ruleset passing = (queue_id, queue_away, known_with, none_past, append-nil)

@@ -1,14 +1,17 @@
 -- The running counts of a list of messages, when one of them changes or joins, and the octets of their bodies.
-use Rattle.std.proofs.Common.{◌^◌, arith, ◌≡◌, ◌+◌, ◌≤◌, ◌<◌, [], ◌∷◌, ◌++◌, length, ℕ, zero, suc, Bool, List, Option, Some, None, get_or, refl, ◌∙◌, ap, ◌*◌, take, drop, filter, slice_get, slice_set}
+use Rattle.std.proofs.Common.{◌^◌, arith, ◌≡◌, ◌+◌, ◌≤◌, ◌<◌, [], ◌∷◌, ◌++◌, length, ℕ, zero, suc, Bool, List, Option, Some, None, refl, ap, ◌*◌, take, drop, filter, slice_get, slice_set, sym, ◌-◌, true, false, ◌&&◌, nat_le, nat_lt, ◌==◌, add-one}
 use Rattle.std.proofs.lemmas.List.{take-append-drop, length-append}
 use Rattle.std.proofs.lemmas.List.Elements.{filter-append}
 use Rattle.std.proofs.lemmas.List.Sums.{length-filter, count_by-le-length}
-use Rattle.std.proofs.lemmas.Option.{slice_get_read}
-use Rattle.set_queues.specs.Buffers.{Fate}
-use Rattle.set_queues.specs.Messages.{Message, Tally, with_fate, restood_one, restood, octets_in, octets_at, octets_of, is_there, is_queued, IsTally, IsMore, IsAmong, AreFew, IsFit, AreFit}
-use Rattle.set_queues.proofs.Updates.{set_updated, updated_same, updated_other, get_push}
-use Rattle.set_queues.specs.Counts.{one_if, stands_at}
-use Rattle.set_queues.proofs.Standing.{take_get, fate_moves, fate_stays, length-restood}
+use Rattle.std.proofs.lemmas.Option.{slice_get_read, slice_get_past}
+use Rattle.set_queues.specs.Buffers.{Fate, Back, Lists, queue_at}
+use Rattle.set_queues.specs.Messages.{Message, Tally, with_fate, restood_one, restood, octets_in, octets_at, octets_of, is_there, is_queued, IsTally, IsMore, IsAmong, AreFew, IsFit, AreFit, one_if, stands_at, fate_at}
+use Rattle.set_queues.proofs.Standing.{set_updated, updated_same, updated_other, get_push, take_get, fate_moves, fate_stays, length-restood, occurs-append, occurs_here}
+use Rattle.std.specs.List.{AllByRecursion, IsDistinct, list_any}
+use Rattle.std.proofs.lemmas.Bool.Decides.{nat_tests}
+use Rattle.std.proofs.lemmas.Map.Steps.{length-le_from_distinct_below}
+use Rattle.set_queues.specs.Queues.{occurs, has_fate, AreTied}
+use Rattle.set_queues.specs.Backs.{back_from}
 
 pub count_set : (p : Message → Bool) (xs : List Message) (n : ℕ) (x y : Message) → slice_get xs n ≡ Some x → length (filter p (slice_set xs n y)) + one_if (p x) ≡ length (filter p xs) + one_if (p y)
 count_set p [] n x y e = absurd (cc)
@@ -65,14 +68,10 @@ tally_set t u v xs n x fate h e i j = record {
   fit = rw (set_updated (with_fate fate) xs n x e) (fit_one n fate xs h.fit);
 }
 
--- the message that an index of this number reads
-pub read_there : (xs : List Message) (i : ℕ) (x : Message) → i < length xs → x ≡ get_or xs i x → slice_get xs i ≡ Some x
-read_there xs i x b e = slice_get_read xs _ i x refl b e
-
 pub restood_set : (xs : List Message) (i : ℕ) (x : Message) (fate : Fate) → slice_get xs i ≡ Some x → slice_set xs i (record { fate = fate; kind = x.kind; octets = x.octets }) ≡ restood_one i fate xs
 restood_set xs i x fate e = set_updated (with_fate fate) xs i x e
 
-pub ruleset restands = (read_there, restood_set)
+pub ruleset restands = (slice_get_read, restood_set)
 
 -- THE OCTETS of the bodies
 
@@ -93,18 +92,86 @@ octets_few (n ∷ ns) ms f = omega (arith, fit_octets ms n (slice_get ms n) refl
 
 -- a message that comes to stand elsewhere keeps its octets
 
-octets_after_one : (ns : List ℕ) (k : ℕ) (f : Fate) (ms : List Message) → octets_of ns (restood_one k f ms) ≡ octets_of ns ms
-octets_after_one [] k f ms = refl
-octets_after_one (n ∷ ns) k f ms = grind (arith, updated_same, updated_other, octets_after_one ns k f ms)
+pub octets_kept : (n : ℕ) (ks : List ℕ) (f : Fate) (ms : List Message) → octets_at n (restood ks f ms) ≡ octets_at n ms
+octets_kept n [] f ms = refl
+octets_kept n (k ∷ ks) f ms = grind (arith, updated_same, updated_other, octets_kept n ks f (restood_one k f ms))
 
 pub octets_stay : (ns ks : List ℕ) (f : Fate) (ms : List Message) → octets_of ns (restood ks f ms) ≡ octets_of ns ms
-octets_stay ns [] f ms = refl
-octets_stay ns (k ∷ ks) f ms = octets_stay ns ks f (restood_one k f ms) ∙ octets_after_one ns k f ms
+octets_stay [] ks f ms = refl
+octets_stay (n ∷ ns) ks f ms = omega (arith, octets_kept n ks f ms, octets_stay ns ks f ms)
 
 pub octets_more : (xs : List ℕ) (i n : ℕ) (ms : List Message) → slice_get xs i ≡ Some n → octets_of (take (i + 1) xs) ms ≡ octets_of (take i xs) ms + octets_at n ms
 octets_more xs i n ms e = omega (arith, ap (λ (ns : List ℕ). octets_of ns ms) (take_get xs i n e), octets-append (take i xs) (n ∷ []) ms)
 
-pub octets_kept : (n : ℕ) (ks : List ℕ) (f : Fate) (ms : List Message) → octets_at n (restood ks f ms) ≡ octets_at n ms
-octets_kept n ks f ms = omega (arith, octets_stay (n ∷ []) ks f ms)
-
 pub ruleset laws = (octets_kept, fate_moves, fate_stays, length-restood)
+
+-- HOW MANY WAIT for the acknowledgements of the changebacks of a home's codes
+
+pub back_none : (code : ℕ) (q : Lists) → back_from code 0 q ≡ 0
+unfolding back_from
+back_none code q = refl
+
+back_suc : (code n : ℕ) (q : Lists) → back_from code (suc n) q ≡ back_from code n q + length (queue_at (Back (code + n)) q)
+unfolding back_from
+back_suc code n q = refl
+
+pub back_more : (code n : ℕ) (q : Lists) → back_from code (n + 1) q ≡ back_from code n q + length (queue_at (Back (code + n)) q)
+back_more code n q = rw add-one (back_suc code n q)
+
+pub back_grows : (code n k m : ℕ) (q : Lists) → n + k ≡ m → back_from code n q ≤ back_from code m q
+back_grows code n zero m q e = grind arith
+back_grows code n (suc k) m q e = grind (arith, back_grows code n k (n + k) q refl, back_suc code (n + k) q)
+
+pub back_below : (code n : ℕ) (q : Lists) → n < 16 → back_from code n q + length (queue_at (Back (code + n)) q) ≤ back_from code 16 q
+back_below code n q h = omega (arith, back_more code n q, back_grows code (n + 1) (15 - n) 16 q (omega arith))
+
+-- a list in which each number stands once at most, all of them below a bound, is no longer than it
+
+none_alike : (x : ℕ) (xs : List ℕ) → occurs x xs ≡ 0 → AllByRecursion (λ y. (x == y) ≡ false) xs
+none_alike x [] h = tt
+none_alike x (y ∷ ys) h = (grind (arith, nat_tests), none_alike x ys (omega arith))
+
+distinct : (xs : List ℕ) → ((m : ℕ) → occurs m xs ≤ 1) → IsDistinct ◌==◌ xs
+unfolding IsDistinct
+distinct [] once = tt
+distinct (x ∷ xs) once = (none_alike x xs (omega (arith, once x, occurs_here x x refl)), distinct xs (λ m. omega (arith, once m)))
+
+occurs_in : (m : ℕ) (xs : List ℕ) → list_any (λ x. m == x) xs ≡ true → 0 < occurs m xs
+occurs_in m [] h = absurd (cc)
+occurs_in m (x ∷ xs) h = grind (arith, nat_tests, occurs_in m xs)
+
+few_in : (n : ℕ) (xs : List ℕ) → ((m : ℕ) → occurs m xs ≤ 1) → ((m : ℕ) → n ≤ m → occurs m xs ≡ 0) → length xs ≤ n
+few_in n xs once none = length-le_from_distinct_below xs n (distinct xs once) (λ m h. let some = occurs_in m xs h in grind (arith, none))
+
+-- all that wait for so many codes: each stands once at most, and was given out
+
+abbrev all_back : ℕ → ℕ → Lists → List ℕ
+all_back code zero q = []
+all_back code (suc n) q = all_back code n q ++ queue_at (Back (code + n)) q
+
+abbrev is_in : ℕ → ℕ → Option Fate → Bool
+is_in code n (Some (Back d)) = nat_le code d && nat_lt d (code + n)
+is_in code n _ = false
+
+in_more : (code n : ℕ) (fate : Option Fate) → one_if (is_in code (suc n) fate) ≡ one_if (is_in code n fate) + one_if (has_fate (Back (code + n)) fate)
+in_more code n fate = grind (arith, nat_tests)
+
+all_length : (code n : ℕ) (q : Lists) → length (all_back code n q) ≡ back_from code n q
+all_length code zero q = sym (back_none code q)
+all_length code (suc n) q = omega (arith, length-append (all_back code n q) (queue_at (Back (code + n)) q), all_length code n q, back_suc code n q)
+
+all_occur : (code n m : ℕ) (q : Lists) (ms : List Message) → AreTied q ms → occurs m (all_back code n q) ≡ one_if (is_in code n (fate_at m ms))
+all_occur code zero m q ms tie = grind (arith, nat_tests)
+all_occur code (suc n) m q ms tie = omega (arith, occurs-append m (all_back code n q) (queue_at (Back (code + n)) q), all_occur code n m q ms tie, tie (Back (code + n)) refl m, in_more code n (fate_at m ms))
+
+pub back_few : (code n : ℕ) (q : Lists) (ms : List Message) → AreTied q ms → back_from code n q ≤ length ms
+back_few code n q ms tie =
+    omega (
+      arith,
+      all_length code n q,
+      few_in (length ms) (all_back code n q)
+          (λ m. grind (arith, all_occur code n m q ms tie))
+          (λ m b. rw (all_occur code n m q ms tie, slice_get_past ms m b) refl),
+    )
+
+pub ruleset backs = (back_none, back_more, back_below, back_few)

@@ -1,9 +1,7 @@
 pub mod Backs
 pub mod Bodies
 pub mod Buffers
-pub mod Counts
 pub mod Kept
-pub mod Kind
 pub mod Messages
 pub mod Queues
 pub mod Sending

@@ -1,11 +1,53 @@
--- The messages of a set by their numbers: where each stands, whose it is, and its octets.
-use Rattle.std.specs.Prelude.{ℕ, zero, suc, ◌+◌, Bool, ◌&&◌, List, [], ◌∷◌, length, filter, slice_get, Option, Some, None, ◌≡◌, ◌<◌, ◌≤◌, ◌^◌, true, slice_index, option_map}
+-- The messages of a set by their numbers: whose each is, where it stands, and its octets.
+use Rattle.std.specs.Prelude.{ℕ, Bool, true, false, nat_lt, ◌==◌, zero, suc, ◌+◌, ◌&&◌, List, [], ◌∷◌, length, filter, slice_get, Option, Some, None, ◌≡◌, ◌<◌, ◌≤◌, ◌^◌, slice_index, option_map}
+use Rattle.set_queues.specs.declared.message.Kind.{Kind}
+use Rattle.set_queues.specs.declared.message.Kind.TheVariants.{User, Order}
 use Rattle.set_events.specs.declared.answer.Fate.{Fate}
+use Rattle.set_events.specs.declared.answer.Fate.TheVariants.{Waiting, Unacked, Acked, Held, Parked, Back, Discarded}
+pub use Rattle.set_events.specs.Places.{waits, was_sent, was_acked, was_held, is_parked, stands_back, was_discarded, is_unsent, one_if}
 use Rattle.set_events.specs.declared.answer.Counts.{Counts}
 pub use Rattle.set_queues.specs.declared.message.Message.{Message}
-use Rattle.set_queues.specs.Kind.{is_users, is_of, is_kind}
-use Rattle.set_queues.specs.Counts.{waits, was_sent, was_acked, was_held, is_parked, stands_back, was_discarded, is_unsent, one_if, count_at, stands_at}
 pub use Rattle.set_queues.specs.declared.tally.Tally.{Tally}
+
+-- WHOSE a message is
+
+-- an SLS has four bits (Q.704 15.2)
+abbrev pub is_kind : Kind → Bool
+is_kind (User stream) = nat_lt stream 16
+is_kind Order = true
+
+abbrev pub is_users : Kind → Bool
+is_users (User stream) = true
+is_users Order = false
+
+-- a user's, of this stream
+abbrev pub is_of : ℕ → Kind → Bool
+is_of stream (User s) = s == stream
+is_of stream Order = false
+
+-- THE PLACES in which messages are counted
+
+-- the place of a fate
+abbrev pub place_of : Fate → ℕ
+place_of (Waiting l) = 0
+place_of (Unacked l) = 1
+place_of (Acked l) = 2
+place_of (Held l) = 3
+place_of Parked = 4
+place_of (Back code) = 5
+place_of (Discarded cause) = 6
+
+-- whether a message of a fate stands there
+abbrev pub stands_at : Fate → Fate → Bool
+stands_at (Waiting l) = waits
+stands_at (Unacked l) = was_sent
+stands_at (Acked l) = was_acked
+stands_at (Held l) = was_held
+stands_at Parked = is_parked
+stands_at (Back c) = stands_back
+stands_at (Discarded cause) = was_discarded
+
+-- THE MESSAGES
 
 -- the element at this place changes
 abbrev pub updated : {X : Type 0} → ℕ → (X → X) → List X → List X
@@ -79,25 +121,25 @@ AreFit messages = (number : ℕ) (m : Message) → slice_get messages number ≡
 
 -- each count is the length of its filter, and every message is fit
 pub record IsTally (tally : Tally) (messages : List Message) : Type 0 where
-  pub counts : (place : Fate) → count_at place tally.counts ≡ count_of (stands_at place) messages
+  pub counts : (place : Fate) → slice_index tally.counts (place_of place) ≡ count_of (stands_at place) messages
   pub unsent : (stream : ℕ) → stream < 16 → slice_index tally.unsent stream
       ≡ unsent_of stream messages
   pub fit : AreFit messages
 
 -- new counts this message too
 pub record IsMore (m : Message) (old new : Tally) : Type 0 where
-  pub counts : (place : Fate) → count_at place new.counts ≡ count_at place old.counts
+  pub counts : (place : Fate) → slice_index new.counts (place_of place) ≡ slice_index old.counts (place_of place)
       + one_if (is_there (stands_at place) m)
   pub unsent : (stream : ℕ) → stream < 16 → slice_index new.unsent stream
       ≡ slice_index old.unsent stream + one_if (is_queued stream m)
 
 -- the message is counted
 pub record IsAmong (m : Message) (tally : Tally) : Type 0 where
-  pub counts : (place : Fate) → one_if (is_there (stands_at place) m) ≤ count_at place tally.counts
+  pub counts : (place : Fate) → one_if (is_there (stands_at place) m) ≤ slice_index tally.counts (place_of place)
   pub unsent : (stream : ℕ) → stream < 16 → one_if (is_queued stream m)
       ≤ slice_index tally.unsent stream
 
 -- far from the end of their range
 pub record AreFew (tally : Tally) : Type 0 where
-  pub counts : (place : Fate) → count_at place tally.counts < 2 ^ 63
+  pub counts : (place : Fate) → slice_index tally.counts (place_of place) < 2 ^ 63
   pub unsent : (stream : ℕ) → stream < 16 → slice_index tally.unsent stream < 2 ^ 63

@@ -1,7 +1,6 @@
 -- Where every message of a set stands.
 use Rattle.std.specs.Prelude.{◌≡◌, ℕ, ◌+◌, ◌<◌, ◌≤◌, ◌==◌, Bool, true, false, List, [], ◌∷◌, ◌++◌, length, slice_index, Option, Some, None}
-use Rattle.set_queues.specs.Counts.{one_if}
-use Rattle.set_queues.specs.Messages.{Message, AreFit, fate_at, octets_of, restood, octets_at}
+use Rattle.set_queues.specs.Messages.{one_if, Message, AreFit, fate_at, octets_of, restood, octets_at}
 use Rattle.set_queues.specs.Buffers.{Fate, Unacked, Lists, Rooms, is_standing, same_fate, queue_at, with_queue}
 use Rattle.l2_window.specs.Window.{most_unacked}
 use Rattle.set_events.specs.Config.{most_links}
@@ -42,8 +41,7 @@ AreWeighed octets q messages = (link : ℕ) → link < length q.links → slice_
 
 -- all of these numbers were given out
 abbrev pub AreGiven : List ℕ → List Message → Type 0
-AreGiven [] messages = Unit {0}
-AreGiven (n ∷ ns) messages = (n < length messages) × AreGiven ns messages
+AreGiven numbers messages = (number : ℕ) → 0 < occurs number numbers → number < length messages
 
 -- all of a queue go to another, in their order
 abbrev pub passed : Fate → Fate → Lists → Lists

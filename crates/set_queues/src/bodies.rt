@@ -1,5 +1,6 @@
 //! The bodies of the messages.
-ghost use Rattle.std.specs.Prelude.{◌≡◌, ◌<◌, ◌∷◌, length, slice_index};
+ghost use Rattle.std.specs.Prelude.{◌≡◌, ◌<◌, ◌∷◌, length, slice_index, ◌-◌, vec_len, vec_capacity, ◌+◌, ◌≤◌, ◌++◌, ℕ, [], slice_get, Some, OnOk};
+ghost use Rattle.set_queues.specs.Bodies.{BodiesState, bodies_in, AreAll, CanHold};
 
 use l2_units::LONGEST_BODY;
 use std::alloc::{AllocError, Global};
@@ -18,9 +19,6 @@ pub struct Bodies {
 }
 
 impl Model for Bodies {
-    ghost use Rattle.std.specs.Prelude.{◌-◌, vec_len, vec_capacity};
-    ghost use Rattle.set_queues.specs.Bodies.{BodiesState, bodies_in, AreAll};
-
     ghost Value = { BodiesState };
 
     ghost view = { λ b. record {
@@ -33,9 +31,6 @@ impl Model for Bodies {
 }
 
 impl Bodies {
-    ghost use Rattle.std.specs.Prelude.{◌≡◌, ◌+◌, ◌<◌, ◌≤◌, ◌++◌, ℕ, [], ◌∷◌, length, slice_get, Some, OnOk};
-    ghost use Rattle.set_queues.specs.Bodies.{CanHold};
-
     /// No bodies, and no room.
     pub fn new(alloc: Global) -> Bodies
         ensures { result.items ≡ [] }

@@ -1,5 +1,9 @@
 //! The queues in which messages stand: of each link those of its window and the held ones, the parked
 //! ones, and of each changeback code those that wait for its acknowledgement.
+ghost use Rattle.set_queues.specs.Buffers.{AreEmpty, IsKnown, IsQueued, CanTake, KeepsRoom, TakesRoom, HaveRoom, queue_at, with_queue, last_at, room_at};
+ghost use Rattle.std.specs.Prelude.{◌≡◌, ◌≢◌, ◌↔◌, ◌+◌, ◌%◌, ◌<◌, ◌≤◌, ◌++◌, [], ◌∷◌, IsOk, IfOk, OnOk, OnErr, length, replicate, drop, slice_get};
+ghost use Rattle.set_queues.specs.Sending.{IsSending};
+
 use l2_window::{Queue, Window, WindowFault};
 use set_events::Fate;
 use std::alloc::{AllocError, Global};
@@ -32,10 +36,6 @@ impl Model for Buffers {
 }
 
 impl Buffers {
-    ghost use Rattle.std.specs.Prelude.{◌≡◌, ◌≢◌, ◌↔◌, ◌+◌, ◌%◌, ◌<◌, ◌≤◌, ◌++◌, [], ◌∷◌, IsOk, IfOk, OnOk, OnErr, length, replicate, drop, slice_get};
-    ghost use Rattle.set_queues.specs.Buffers.{AreEmpty, IsKnown, IsQueued, CanTake, KeepsRoom, TakesRoom, HaveRoom, queue_at, with_queue, last_at, room_at};
-    ghost use Rattle.set_queues.specs.Sending.{IsSending, acknowledged, reach};
-
     /// The queues of so many links, all empty.
     pub(crate) fn new(alloc: Global, links: u8) -> Result<Buffers, AllocError>
         ensures { IfOk result (λ buffers. AreEmpty links 256 buffers.lists) }
@@ -181,21 +181,5 @@ impl Buffers {
         ensures err { OnErr result (self.new ≡ self.old) }
     {
         self.links[usize::from(link)].window.send()
-    }
-
-    /// The messages of the link up to this FSN leave the unacknowledged ones.
-    #[tactic(auto, using(crate::proofs::Linked::of_link))]
-    pub(crate) fn ack(&mut self, link: u8, fsn: u8)
-        requires known { link < length self.old.lists.links }
-        requires fsn { fsn < 128 }
-        requires reasonable { reach link fsn self.old.lists ≤ length (queue_at
-            (Fate.Unacked link) self.old.lists) }
-        ensures lists { self.new.lists ≡ acknowledged link fsn self.old.lists }
-        ensures room { KeepsRoom self.old.rooms self.new.rooms }
-    {
-        match self.links[usize::from(link)].window.ack(fsn) {
-            Ok(_) => (),
-            Err(_) => unreachable!(),
-        }
     }
 }

@@ -41,11 +41,9 @@
 //! caller's to know. It reads no clock, does no IO and takes no lock.
 //!
 //! The files: `message` what is kept of one; `messages` all of them with their counts (`tally`), and the
-//! first of a queue that go elsewhere; `buffers` the queues; `backs` the oldest that waits for a changeback of one
-//! home; `queues` the whole; `bodies` the bodies.
+//! first of a queue that go elsewhere; `buffers` the queues; `queues` the whole; `bodies` the bodies.
 #![tactic(auto)]
 
-mod backs;
 mod bodies;
 mod buffers;
 mod laws;

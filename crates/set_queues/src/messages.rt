@@ -1,6 +1,6 @@
 //! Where each message stands, with the counts of all of them, and what is done with the first of a queue.
 ghost use Rattle.std.specs.Prelude.{◌≡◌, ◌-◌, ◌<◌, ◌≤◌, ◌++◌, false, length, take, vec_len, vec_capacity};
-ghost use Rattle.set_queues.specs.Messages.{octets_of, AreFit, restood, IsTally};
+ghost use Rattle.set_queues.specs.Messages.{octets_of, AreFit, restood, IsTally, restood_one, octets_at};
 ghost use Rattle.set_queues.specs.Buffers.{IsKnown, CanTake, TakesRoom, queue_at, with_queue, same_fate};
 ghost use Rattle.set_queues.specs.Queues.{AreGiven};
 
@@ -17,9 +17,6 @@ pub(crate) struct Messages {
 }
 
 impl Messages {
-    ghost use Rattle.std.specs.Prelude.{◌≡◌, ◌-◌, ◌<◌, ◌≤◌, length, vec_len, vec_capacity};
-    ghost use Rattle.set_queues.specs.Messages.{restood_one, octets_at, IsTally};
-
     /// The octets of the body of the message of this number, 0 where there is none.
     pub(crate) fn octets(&self, number: u64) -> u16
         ensures { result ≡ octets_at number self.now.all.items }
@@ -54,7 +51,7 @@ impl Messages {
 
 /// The first `count` that stand in one queue have another fate from now on, and stand last there too, in
 /// their order, if it isn't final.
-#[tactic(auto, using(crate::proofs::Passing::passing))]
+#[tactic(auto, using(crate::proofs::Standing::passing))]
 pub(crate) fn pass(
     buffers: &mut Buffers,
     messages: &mut Messages,

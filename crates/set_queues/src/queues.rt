@@ -1,9 +1,13 @@
 //! Where every message of a set stands, with what the counts need.
-ghost use Rattle.std.specs.Prelude.{◌≡◌, ◌+◌, ◌<◌, ℕ, slice_index, if◌then◌else◌, IfSome};
-ghost use Rattle.set_queues.specs.Buffers.{IsQueued, same_fate};
-ghost use Rattle.set_queues.specs.Settling.{fate_on};
+ghost use Rattle.std.specs.Prelude.{◌≡◌, ◌+◌, ◌<◌, ℕ, slice_index, if◌then◌else◌, IfSome, ◌-◌, vec_len, vec_capacity, ◌≢◌, ◌↔◌, ◌%◌, ◌≤◌, ◌^◌, ◌++◌, [], ◌∷◌, Some, true, false, IsOk, IfOk, OnOk, OnErr, length, replicate, take, slice_get};
+ghost use Rattle.set_queues.specs.Buffers.{IsQueued, same_fate, IsKnown, CanTake, KeepsRoom, TakesRoom, HaveRoom, is_standing, queue_at, with_queue, last_at, with_last, room_at};
+ghost use Rattle.set_queues.specs.Settling.{fate_on, on, settled};
+ghost use Rattle.set_queues.specs.Queues.{QueuesState, AreKept, AreSound, passed};
+ghost use Rattle.set_queues.specs.Messages.{IsTally, restood, fate_at, octets_of, counts_of, unsent_of, IsFit};
+ghost use Rattle.std.specs.Result.{OkIff};
+ghost use Rattle.set_queues.specs.Backs.{IsOldestOf, back_count, passed_first};
+ghost use Rattle.set_queues.specs.Sending.{IsSending, acknowledged, reach};
 
-use super::backs::older;
 use super::buffers::Buffers;
 use super::message::Message;
 use super::messages::{Messages, pass, weigh};
@@ -30,10 +34,6 @@ pub struct Queues {
 }
 
 impl Model for Queues {
-    ghost use Rattle.std.specs.Prelude.{◌-◌, vec_len, vec_capacity};
-    ghost use Rattle.set_queues.specs.Queues.{QueuesState, AreKept};
-    ghost use Rattle.set_queues.specs.Messages.{IsTally};
-
     ghost Value = { QueuesState };
 
     ghost view = { λ q. record {
@@ -48,16 +48,6 @@ impl Model for Queues {
 }
 
 impl Queues {
-    ghost use Rattle.std.specs.Prelude.{◌≡◌, ◌≢◌, ◌↔◌, ◌+◌, ◌%◌, ◌<◌, ◌≤◌, ◌^◌, ◌++◌, [], ◌∷◌, Some, true, false, IsOk, IfOk, IfSome, OnOk, OnErr, length, replicate, take, slice_get};
-    ghost use Rattle.std.specs.Option.{option_map};
-    ghost use Rattle.std.specs.Result.{OkIff};
-    ghost use Rattle.set_queues.specs.Messages.{restood, fate_at, octets_of, counts_of, unsent_of, IsFit};
-    ghost use Rattle.set_queues.specs.Buffers.{IsKnown, IsQueued, CanTake, KeepsRoom, TakesRoom, HaveRoom, is_standing, same_fate, queue_at, with_queue, last_at, with_last, room_at};
-    ghost use Rattle.set_queues.specs.Queues.{AreSound, passed};
-    ghost use Rattle.set_queues.specs.Backs.{IsOldestOf, back_count, passed_first};
-    ghost use Rattle.set_queues.specs.Sending.{IsSending, acknowledged, reach};
-    ghost use Rattle.set_queues.specs.Settling.{fate_on, on, settled};
-
     /// The queues of so many links, with no message. A link has had no life yet: FSN 127 counts as
     /// acknowledged on it (Q.703 5.2.1).
     pub fn new(alloc: Global, links: u8) -> Result<Queues, AllocError>
@@ -73,15 +63,7 @@ impl Queues {
             messages: Messages {
                 all: Vec::new(alloc),
                 tally: Tally {
-                    counts: Counts {
-                        waiting: 0,
-                        unacked: 0,
-                        acked: 0,
-                        held: 0,
-                        parked: 0,
-                        back: 0,
-                        discarded: 0,
-                    },
+                    counts: [0; 7],
                     unsent: [0; 16],
                 },
             },
@@ -125,17 +107,23 @@ impl Queues {
     pub fn fate_of(&self, number: u64) -> Option<Fate>
         ensures { result ≡ fate_at number self.now.messages }
     {
-        match self.message(number) {
-            Some(message) => Some(message.fate),
-            None => None,
-        }
+        Some(self.message(number)?.fate)
     }
 
     /// How many of the users' messages stand in each place.
     pub fn counts(&self) -> Counts
         ensures { result ≡ counts_of self.now.messages }
     {
-        self.messages.tally.counts
+        let [waiting, unacked, acked, held, parked, back, discarded] = self.messages.tally.counts;
+        Counts {
+            waiting,
+            unacked,
+            acked,
+            held,
+            parked,
+            back,
+            discarded,
+        }
     }
 
     /// How many of the users' messages of this stream aren't sent yet.
@@ -186,7 +174,7 @@ impl Queues {
 
     /// How many messages wait for the acknowledgement of a changeback of this home, 0 to 15: for one of
     /// the codes 16 * home to 16 * home + 15.
-    #[tactic(auto, using(crate::proofs::CodeQueues::backs))]
+    #[tactic(auto, using(crate::proofs::Tallies::backs))]
     pub fn back_count(&self, home: u8) -> usize
         requires { home < 16 }
         ensures value { result ≡ back_count home self.now.lists }
@@ -209,14 +197,18 @@ impl Queues {
         requires { home < 16 }
         ensures { IsOldestOf home result self.now.lists }
     {
-        let mut oldest = None;
+        let mut oldest: Option<(u8, u64)> = None;
         for place in 0..16u8 {
-            oldest = older(&self.buffers, oldest, home, place);
+            let code = 16 * home + place;
+            let Some(number) = self.buffers.at(Fate::Back { code }, 0) else {
+                continue;
+            };
+            match oldest {
+                Some((_, least)) if least < number => (),
+                _ => oldest = Some((code, number)),
+            }
         }
-        match oldest {
-            Some((code, _)) => Some(code),
-            None => None,
-        }
+        Some(oldest?.0)
     }
 
     /// Makes room for so many new messages.
@@ -274,10 +266,9 @@ impl Queues {
         let sent = self.buffers.len(Fate::Unacked { link });
         let unsent = self.buffers.len(Fate::Waiting { link });
         let held = self.buffers.len(Fate::Held { link });
-        match sum_of(sent, unsent, held, more) {
-            Some(messages) => self.buffers.reserve(fate, messages),
-            None => Err(AllocError),
-        }
+        let messages = sent as u128 + unsent as u128 + held as u128 + more as u128;
+        let messages = usize::try_from(messages).ok().ok_or(AllocError)?;
+        self.buffers.reserve(fate, messages)
     }
 
     /// A new message stands last in the queue that its fate names: its number.
@@ -338,6 +329,7 @@ impl Queues {
     ///
     /// Refusal: 3 [`WindowFault::Unreasonable`], where the FSN is neither that last acknowledged nor
     /// that of an unacknowledged message.
+    #[tactic(auto, using(crate::proofs::Linked::of_link))]
     pub fn acknowledge(&mut self, link: u8, fsn: u8) -> Result<u8, WindowFault>
         requires known { link < length self.old.lists.links }
         requires fsn { fsn < 128 }
@@ -355,18 +347,16 @@ impl Queues {
         let Some(count) = self.window(link).distance(fsn) else {
             return Err(WindowFault::Unreasonable);
         };
-        let from = Fate::Unacked { link };
+        let (from, to) = (Fate::Unacked { link }, Fate::Acked { link });
+        let moved = usize::from(count);
         let octets = weigh(&self.buffers, &self.messages, link, count);
-        pass(
-            &mut self.buffers,
-            &mut self.messages,
-            from,
-            usize::from(count),
-            Fate::Acked { link },
-        );
+        pass(&mut self.buffers, &mut self.messages, from, moved, to);
         self.octets[usize::from(link)] -= octets;
-        self.buffers.ack(link, fsn);
-        Ok(count)
+        let buffers = &mut self.buffers;
+        match buffers.links[usize::from(link)].window.ack(fsn) {
+            Ok(_) => Ok(count),
+            Err(_) => unreachable!(),
+        }
     }
 
     /// All that stand in one queue stand last in the other from now on, in their order. It wants no
@@ -450,7 +440,7 @@ impl Queues {
     /// waited, then those that were held, each in their order. It wants no memory.
     ///
     /// Conditions: links of the set, the target another one, with room for those that move.
-    #[tactic(auto, using(crate::proofs::Settling::settles))]
+    #[tactic(auto, using(crate::proofs::Soundness::settles))]
     pub fn settle(&mut self, link: u8, target: Option<u8>)
         requires known { link < length self.old.lists.links }
         requires other { IsKnown (fate_on target) self.old.lists }
@@ -495,13 +485,6 @@ fn weigh_none(octets: &mut [u32; 16], fate: Fate)
     if let Fate::Unacked { link } = fate {
         octets[usize::from(link)] = 0;
     }
-}
-
-/// The sum of four numbers, where it's in range.
-fn sum_of(a: usize, b: usize, c: usize, d: usize) -> Option<usize>
-    ensures { IfSome result (λ sum. sum ≡ a + b + c + d) }
-{
-    a.checked_add(b)?.checked_add(c)?.checked_add(d)
 }
 
 /// Where a message goes that is moved: it waits for the target, or is parked where there is none.

@@ -1,17 +1,15 @@
 //! How many of the users' messages stand in each place, and how many of each stream aren't sent yet.
-ghost use Rattle.std.specs.Prelude.{◌≡◌, ◌<◌, ◌^◌, true};
-ghost use Rattle.set_queues.specs.Kind.{is_kind};
-ghost use Rattle.set_queues.specs.Counts.{IsOneMore, count_at, is_unsent};
-ghost use Rattle.set_queues.specs.Messages.{IsAmong, IsMore, AreFew};
+ghost use Rattle.std.specs.Prelude.{◌≡◌, true};
+ghost use Rattle.set_queues.specs.Messages.{is_kind, place_of, is_unsent, IsAmong, IsMore, AreFew};
 
 use super::message::{Kind, Message};
-use set_events::{Counts, Fate};
+use set_events::Fate;
 
 /// The running counts of a list of messages.
 #[derive(Drop)]
 pub(crate) struct Tally {
-    /// Of the users' messages, how many stand in each place.
-    pub(crate) counts: Counts,
+    /// Of the users' messages, how many stand in each place, by [`place_of`].
+    pub(crate) counts: [u64; 7],
     /// Of each stream's, how many aren't sent yet.
     pub(crate) unsent: [u64; 16],
 }
@@ -23,7 +21,7 @@ pub(crate) fn enter(tally: &mut Tally, message: Message)
     ensures { IsMore message tally.old tally.new }
 {
     if let Kind::User { stream } = message.kind {
-        count(&mut tally.counts, message.fate);
+        tally.counts[place_of(message.fate)] += 1;
         if counts_as_unsent(message.fate) {
             tally.unsent[usize::from(stream)] += 1;
         }
@@ -37,42 +35,25 @@ pub(crate) fn leave(tally: &mut Tally, message: Message)
     ensures { IsMore message tally.new tally.old }
 {
     if let Kind::User { stream } = message.kind {
-        uncount(&mut tally.counts, message.fate);
+        tally.counts[place_of(message.fate)] -= 1;
         if counts_as_unsent(message.fate) {
             tally.unsent[usize::from(stream)] -= 1;
         }
     }
 }
 
-/// One more stands there.
-fn count(counts: &mut Counts, fate: Fate)
-    requires { count_at fate counts.old < 2 ^ 63 }
-    ensures { IsOneMore fate counts.old counts.new }
+/// The place of the count of those that stand there.
+fn place_of(fate: Fate) -> usize
+    ensures { result ≡ place_of fate }
 {
     match fate {
-        Fate::Waiting { .. } => counts.waiting += 1,
-        Fate::Unacked { .. } => counts.unacked += 1,
-        Fate::Acked { .. } => counts.acked += 1,
-        Fate::Held { .. } => counts.held += 1,
-        Fate::Parked => counts.parked += 1,
-        Fate::Back { .. } => counts.back += 1,
-        Fate::Discarded { .. } => counts.discarded += 1,
-    }
-}
-
-/// One fewer stands there.
-fn uncount(counts: &mut Counts, fate: Fate)
-    requires { 0 < count_at fate counts.old }
-    ensures { IsOneMore fate counts.new counts.old }
-{
-    match fate {
-        Fate::Waiting { .. } => counts.waiting -= 1,
-        Fate::Unacked { .. } => counts.unacked -= 1,
-        Fate::Acked { .. } => counts.acked -= 1,
-        Fate::Held { .. } => counts.held -= 1,
-        Fate::Parked => counts.parked -= 1,
-        Fate::Back { .. } => counts.back -= 1,
-        Fate::Discarded { .. } => counts.discarded -= 1,
+        Fate::Waiting { .. } => 0,
+        Fate::Unacked { .. } => 1,
+        Fate::Acked { .. } => 2,
+        Fate::Held { .. } => 3,
+        Fate::Parked => 4,
+        Fate::Back { .. } => 5,
+        Fate::Discarded { .. } => 6,
     }
 }
 

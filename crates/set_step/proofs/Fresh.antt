@@ -6,6 +6,7 @@ use Rattle.std.proofs.lemmas.Bool.Decides.{nat_tests}
 use Rattle.set_events.specs.declared.config.SetConfig.{SetConfig}
 use Rattle.set_queues.specs.Buffers.{Lists, no_lists, queue_at}
 use Rattle.set_queues.specs.Queues.{AreGiven, AreSound}
+use Rattle.set_queues.proofs.Standing.{occurs_here}
 use Rattle.set_queues.proofs.Soundness.{given_all}
 use Rattle.set_route.specs.Routing.{new_routing}
 use Rattle.set_model.specs.Rows.{Fate, numbers}
@@ -29,7 +30,7 @@ replicated (suc n) (suc k) x = grind (arith, nat_tests, replicated n k x)
 -- of no messages none stands in a queue
 none_given : (ns : List ℕ) → AreGiven ns [] → ns ≡ []
 none_given [] given = refl
-none_given (n ∷ ns) given = absurd (omega (arith, given.0))
+none_given (n ∷ ns) given = absurd (omega (arith, given n (omega (arith, occurs_here n n refl))))
 
 none_stands : (q : Lists) → AreSound q [] → (fate : Fate) → queue_at fate q ≡ numbers (rows_at fate [])
 none_stands q sound fate = grind (arith, none_given (queue_at fate q), given_all q [] fate sound)

@@ -3,9 +3,7 @@ use Rattle.std.proofs.Common.{refl, arith, ◌≡◌, ◌∙◌, ap, sym, ◌≤
 use Rattle.std.proofs.Math.Nat.{zero-add}
 use Rattle.std.proofs.lemmas.Bool.Decides.{nat_tests}
 use Rattle.set_queues.specs.Buffers.{Lists, queue_at, last_at}
-use Rattle.set_queues.specs.Counts.{one_if}
-use Rattle.set_queues.specs.Kind.{is_of, is_users}
-use Rattle.set_queues.specs.Messages.{unsent_of, count_of, counts_of}
+use Rattle.set_queues.specs.Messages.{one_if, is_of, is_users, unsent_of, count_of, counts_of}
 use Rattle.set_model.specs.Rows.{Fate, Unacked, Row, row_of, unsent, is_unsent, IsNumbered, standing, users, counts_of as counts_in}
 use Rattle.set_model.proofs.Rows.{with_number, row_is_first}
 use Rattle.set_moves.specs.Agreement.{Message, Label, Stands, kind_of, label_in, label_of, Kept, StandsFor}

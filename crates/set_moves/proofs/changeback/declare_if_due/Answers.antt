@@ -1,6 +1,6 @@
 use Rattle.std.proofs.Common.{arith, length, ◌++◌, [], ◌∷◌}
 use Rattle.set_queues.specs.Buffers.{Waiting, queue_at}
-use Rattle.set_queues.proofs.Passing.{links_stay}
+use Rattle.set_queues.proofs.Standing.{links_stay}
 use Rattle.set_moves.proofs.Declaring.{room_after}
 use Rattle.set_moves.proofs.changeback.declare_if_due.Goals as goal
 

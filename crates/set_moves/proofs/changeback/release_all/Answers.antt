@@ -1,7 +1,7 @@
 use Rattle.std.proofs.Common.{arith, refl, ◌≡◌, ◌≤◌, ◌∙◌, ap, ℕ, ◌+◌, ◌*◌, ◌-◌, length}
 use Rattle.set_queues.specs.Backs.{back_from, back_count}
 use Rattle.set_queues.specs.Buffers.{Waiting, Back, Lists, queue_at, room_at}
-use Rattle.set_queues.proofs.CodeQueues.{back_more, back_grows}
+use Rattle.set_queues.proofs.Tallies.{back_more, back_grows}
 use Rattle.set_route.specs.Routing.{code_for, home_of}
 use Rattle.set_model.specs.Changeover.{released_from, released}
 use Rattle.set_moves.proofs.Declaring.{becomes_next}

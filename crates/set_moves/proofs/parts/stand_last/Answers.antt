@@ -1,5 +1,5 @@
 use Rattle.std.proofs.Common.{rules}
-use Rattle.set_queues.proofs.Passing.{queued_stands}
+use Rattle.set_queues.proofs.Standing.{queued_stands}
 use Rattle.set_moves.specs.Parts.{kept_of}
 use Rattle.set_moves.proofs.States.{becomes, appended_for}
 use Rattle.set_moves.proofs.parts.stand_last.Goals as goal

@@ -1,5 +1,5 @@
 use Rattle.std.proofs.Common.{rules, refl, arith, []}
-use Rattle.set_queues.proofs.Passing.{links_stay}
+use Rattle.set_queues.proofs.Standing.{links_stay}
 use Rattle.set_moves.specs.Parts.{kept_of}
 use Rattle.set_model.specs.Rows.{Unacked, Waiting, is_unacked, is_waiting}
 use Rattle.set_moves.proofs.RowsAt.{sent_there, waits_there}

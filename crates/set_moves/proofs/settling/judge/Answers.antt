@@ -1,6 +1,6 @@
 use Rattle.std.proofs.Common.{rules, refl, arith, ◌≡◌, ◌∙◌, sym, subst, ◌+◌, [], ℕ}
 use Rattle.set_queues.specs.Sending.{reach}
-use Rattle.set_queues.proofs.Passing.{links_stay}
+use Rattle.set_queues.proofs.Standing.{links_stay}
 use Rattle.set_model.specs.Changeover.{acknowledged}
 use Rattle.set_model.specs.State.{LinkState}
 use Rattle.set_moves.specs.Agreement.{StandsFor}

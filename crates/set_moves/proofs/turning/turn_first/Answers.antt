@@ -1,5 +1,5 @@
 use Rattle.std.proofs.Common.{rules, arith, ◌≡◌, length}
-use Rattle.set_queues.proofs.Passing.{links_stay}
+use Rattle.set_queues.proofs.Standing.{links_stay}
 use Rattle.set_moves.specs.Parts.{kept_of}
 use Rattle.set_moves.proofs.Turns.{turned_first, turns_one, fewer_back}
 use Rattle.set_moves.proofs.turning.turn_first.Goals as goal

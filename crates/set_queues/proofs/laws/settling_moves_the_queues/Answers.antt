@@ -1,4 +1,4 @@
-use Rattle.set_queues.proofs.Settling.{settling}
+use Rattle.set_queues.proofs.Soundness.{settling}
 use Rattle.set_queues.proofs.laws.settling_moves_the_queues.Goals as goal
 
 pub returns : goal.returns

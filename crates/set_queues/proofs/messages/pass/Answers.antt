@@ -1,7 +1,6 @@
 use Rattle.std.proofs.Common.{arith, ◌≡◌, ◌∙◌, ap, sym, List, ℕ, Some, slice_get}
-use Rattle.set_queues.specs.Buffers.{queue_at, same_fate}
-use Rattle.set_queues.proofs.Standing.{room_sum, given_at, length-restood}
-use Rattle.set_queues.proofs.Passing.{queue_away, queue_next, restood_next, known_with, takes_one}
+use Rattle.set_queues.specs.Buffers.{queue_at}
+use Rattle.set_queues.proofs.Standing.{given_at, length-restood, queue_away, queue_next, restood_next}
 use Rattle.set_queues.proofs.messages.pass.Goals as goal
 
 pub loop-place-preserved : goal.loop-place-preserved
@@ -11,16 +10,10 @@ loop-place-preserved c =
     record {
       lists = queue_next c.args.to _ _ _ _ _ _ _ c.requires.other c.loop-place.invariant.lists got c.push.ensures.lists;
       messages = restood_next (queue_at c.args.from c.args.buffers.now.lists) c.loop-place.place c.in-Some.number c.args.to c.args.messages.now.all.items _ _ c.loop-place.invariant.messages got c.restand.ensures.messages;
-      rooms = λ fate. room_sum (same_fate c.args.to fate) _ _ _ c.loop-place.place 1 (c.loop-place.invariant.rooms fate) (c.push.ensures.room fate);
+      rooms = λ fate. let before = c.loop-place.invariant.rooms fate in let one = c.push.ensures.room fate in grind arith;
       counted = c.restand.ensures.counted;
       room = c.restand.ensures.room ∙ c.loop-place.invariant.room;
     }
 
 pub restand-requires-clause-given : goal.restand-requires-clause-given
 restand-requires-clause-given c = grind (arith, queue_away, given_at, length-restood)
-
-pub push-requires : goal.push-requires
-push-requires c = record {
-  known = known_with c.args.to c.args.to _ _ _ c.loop-place.invariant.lists c.requires.other;
-  room = takes_one c.args.to c.args.count c.loop-place.place _ _ c.requires.room c.loop-place.invariant.rooms c.loop-place-test.true;
-}

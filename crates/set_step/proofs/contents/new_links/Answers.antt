@@ -1,4 +1,4 @@
-use Rattle.set_queues.proofs.Updates.{map_push_same}
+use Rattle.set_queues.proofs.Standing.{map_push_same}
 use Rattle.set_model.specs.State.{new_link}
 use Rattle.set_moves.specs.Parts.{link_of}
 use Rattle.set_step.proofs.contents.new_links.Goals as goal

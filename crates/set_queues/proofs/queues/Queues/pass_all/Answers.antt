@@ -1,9 +1,6 @@
-use Rattle.set_queues.proofs.Passing.{known_with}
-use Rattle.set_queues.proofs.Soundness.{given_all, untaken, kept_passed, moved_whole}
+use Rattle.set_queues.proofs.Standing.{known_with}
+use Rattle.set_queues.proofs.Soundness.{kept_passed, moved_whole}
 use Rattle.set_queues.proofs.queues.Queues.pass_all.Goals as goal
-
-pub pass-requires-clause-given : goal.pass-requires-clause-given
-pass-requires-clause-given c = given_all _ _ c.args.from c.self.invariant.0.sound c.requires.standing
 
 pub clear-requires : goal.clear-requires
 clear-requires c = record { known = known_with c.args.from c.args.to _ _ _ c.pass.ensures.lists (rw (← c.self.view_is) at c.requires.known) }
@@ -13,6 +10,6 @@ invariant_of-self c = (
   rw (moved_whole _ c.args.from c.args.to _ _ _ c.len-count.ensures.value c.pass.ensures.lists c.clear.ensures.lists, c.pass.ensures.messages) (
       kept_passed c.len-count.result c.args.from c.args.to _ _ _ _ c.self.invariant.0
       (record { standing = c.requires.standing; known = rw (← c.self.view_is) at c.requires.known; other = rw (← c.self.view_is) at c.requires.other; apart = c.requires.apart })
-      (λ l. untaken _ _ l _ c.requires.room) (λ l t. c.len-count.ensures.value) c.weigh_none.ensures),
+      (λ s. (c.requires.room s).0) (λ l t. c.len-count.ensures.value) c.weigh_none.ensures),
   c.pass.ensures.counted,
 )

@@ -1,5 +1,5 @@
 use Rattle.std.proofs.Common.{arith}
-use Rattle.set_queues.proofs.Linked.{room_each}
+use Rattle.set_queues.specs.Buffers.{Waiting, Held}
 use Rattle.set_queues.proofs.queues.Queues.reserve_each.Goals as goal
 
 pub loop-link-preserved : goal.loop-link-preserved
@@ -7,6 +7,6 @@ loop-link-preserved c = record {
   lists = cc;
   messages = cc;
   left = cc;
-  room = room_each c.loop-link.link c.args.messages c.loop-link.self.rooms c.reserve_at.new.self.rooms c.reserve_at-in-loop-link.new.self.rooms c.loop-link.invariant.room c.reserve_at.ensures.kept c.in_ok-reserve_at.ensures.room c.reserve_at-in-loop-link.ensures.kept c.in_ok-reserve_at-2.ensures.room;
+  room = λ k b. let had = c.loop-link.invariant.room k in let waits = c.reserve_at.ensures.kept (Waiting k) in let waits-2 = c.reserve_at-in-loop-link.ensures.kept (Waiting k) in let held = c.reserve_at.ensures.kept (Held k) in let held-2 = c.reserve_at-in-loop-link.ensures.kept (Held k) in grind arith;
   kept = λ fate. omega (arith, c.loop-link.invariant.kept fate, c.reserve_at.ensures.kept fate, c.reserve_at-in-loop-link.ensures.kept fate);
 }

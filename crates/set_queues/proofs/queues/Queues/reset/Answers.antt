@@ -1,13 +1,7 @@
-use Rattle.std.proofs.Common.{arith, sym, ◌∙◌}
-use Rattle.set_queues.proofs.Linked.{is_read, found, lists_set}
+use Rattle.std.proofs.Common.{arith}
+use Rattle.set_queues.proofs.Linked.{found, lists_set}
 use Rattle.set_queues.proofs.Soundness.{kept_as, kept_with_last}
 use Rattle.set_queues.proofs.queues.Queues.reset.Goals as goal
-
-pub reset-requires : goal.reset-requires
-reset-requires c =
-    let link = is_read c.buffers.inside _ _ c.args.link c.index_mut.result.now c.buffers.view_is (rw (← c.self.view_is) at c.requires.known) c.from.ensures c.index_mut.ensures.value in
-    let empty = rw (← c.self.view_is) at c.requires in
-    record { unacked = sym link.unacked ∙ empty.unacked; unsent = sym link.unsent ∙ empty.unsent }
 
 pub invariant_of-self : goal.invariant_of-self
 invariant_of-self c = (kept_as _ _ _ _ (grind (arith, found, lists_set)) (kept_with_last _ _ _ c.args.link 127 c.self.invariant.0), c.self.invariant.1)

@@ -1,7 +1,6 @@
-use Rattle.std.proofs.Common.{arith, ◌∙◌, ap, length}
-use Rattle.set_queues.specs.Buffers.{Waiting, Unacked, Held, Lists, queue_at}
-use Rattle.set_queues.specs.Queues.{passed}
-use Rattle.set_queues.proofs.Settling.{IsAside, aside_of, known_passed, waits_on, held_last, on_length}
+use Rattle.std.proofs.Common.{arith}
+use Rattle.set_queues.specs.Buffers.{Waiting, Unacked, Held}
+use Rattle.set_queues.proofs.Soundness.{known_passed, settles}
 use Rattle.set_queues.proofs.queues.Queues.settle.Goals as goal
 
 pub pass_all-requires-2-clause-known : goal.pass_all-requires-2-clause-known
@@ -21,12 +20,4 @@ pass_all-requires-3-clause-other c =
     (known_passed c.fate_on-to.result (Unacked c.args.link) c.fate_on-to.result c.args.self.now.lists _ c.pass_all.ensures.lists (rw c.fate_on-to.ensures.value c.requires.other))
 
 pub returns-clause-rooms : goal.returns-clause-rooms
-returns-clause-rooms c =
-    let aside : IsAside c.args.link c.fate_on-to.result c.args.self.now.lists = aside_of c.args.target c.args.link _ c.args.self.now.lists c.fate_on-to.ensures.value c.requires.known c.requires.other c.requires.apart in
-    let waits = ap (λ (q : Lists). length (queue_at (Waiting c.args.link) q)) c.pass_all.ensures.lists ∙ ap length (waits_on c.args.link c.fate_on-to.result c.args.self.now.lists aside) in
-    let held = ap (λ (q : Lists). length (queue_at (Held c.args.link) q)) (c.pass_all-2.ensures.lists ∙ ap (passed (Waiting c.args.link) c.fate_on-to.result) c.pass_all.ensures.lists) ∙ ap length (held_last c.args.link c.fate_on-to.result c.args.self.now.lists aside) in
-    λ fate.
-    let one = c.pass_all.ensures.rooms fate in
-    let two = c.pass_all-2.ensures.rooms fate in
-    let three = c.pass_all-3.ensures.rooms fate in
-    grind (arith, on_length)
+returns-clause-rooms c = λ fate. grind (arith, settles, c.pass_all.ensures.rooms fate, c.pass_all-2.ensures.rooms fate, c.pass_all-3.ensures.rooms fate)

@@ -1,7 +1,7 @@
 use Rattle.std.proofs.Common.{arith, refl}
 use Rattle.set_queues.specs.Buffers.{Back, IsKnown}
-use Rattle.set_queues.proofs.Passing.{known_with}
-use Rattle.set_queues.proofs.Soundness.{given_all, unqueued, kept_passed, moved_one}
+use Rattle.set_queues.proofs.Standing.{known_with}
+use Rattle.set_queues.proofs.Soundness.{given_all, kept_passed, moved_one}
 use Rattle.set_queues.proofs.queues.Queues.turn_back.Goals as goal
 
 pub pass-requires-clause-given : goal.pass-requires-clause-given
@@ -16,7 +16,7 @@ invariant_of-self c =
     let other : IsKnown c.args.to c.self.inside.buffers.lists = rw (← c.self.view_is) at c.requires.other in (
       rw (moved_one (Back c.args.code) c.args.to _ _ _ other c.requires.apart c.pass.ensures.lists c.drop_back.ensures.lists, c.pass.ensures.messages) (
           kept_passed 1 (Back c.args.code) c.args.to _ _ _ _ c.self.invariant.0 (record { standing = refl; known = known; other = other; apart = c.requires.apart })
-          (λ l. unqueued c.args.to l c.requires.queued) (λ l t. absurd (cc)) (λ l h. refl)),
+          (λ s. c.requires.queued) (λ l t. absurd (cc)) (λ l h. refl)),
       c.pass.ensures.counted,
     )
 
