@@ -37,7 +37,7 @@ pub use control::Control;
 pub use inbox::{HeardBody, Inbox};
 pub use link::Link;
 pub use parts::{
-    Parts, fate_of_new, make_room, make_room_beside, make_room_parked, phase_of, service_indicator,
-    stand_last, stream_of_body, target_of, unserved,
+    Parts, fate_of_new, make_room, make_room_beside, make_room_parked, phase_of, stand_last,
+    target_of, unserved,
 };
 pub use settling::settle;

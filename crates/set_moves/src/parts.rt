@@ -2,7 +2,7 @@
 ghost use Rattle.std.specs.Prelude.{◌≡◌, ◌+◌, ◌*◌, ◌<◌, ◌≤◌, ◌++◌, ℕ, [], ◌∷◌, map, length, IfNone, IfSome, OnOk, slice_get, true, false, option_map};
 ghost use Rattle.set_queues.specs.Buffers.{IsKnown, IsQueued, TakesRoom, queue_at, room_at, with_queue};
 ghost use Rattle.set_queues.specs.Bodies.{CanHold};
-ghost use Rattle.set_model.specs.Rows.{appended, service_indicator, stream_of};
+ghost use Rattle.set_model.specs.Rows.{appended};
 ghost use Rattle.set_route.specs.Routing.{place_of};
 ghost use Rattle.set_model.specs.State.{State, LinkState, fate_at, target, has_phase_up};
 ghost use Rattle.set_model.specs.Step.{Outcome, in_service};
@@ -14,7 +14,7 @@ use super::inbox::Inbox;
 use super::link::Link;
 use arrayvec::ArrayVec;
 use set_events::{Answer, Fate, Refusal, SetConfig};
-use set_model::Phase;
+use set_model::{Phase, service_indicator, stream_of_body};
 use set_queues::{Bodies, Kind, Message, Queues, fate_on};
 use set_route::{Place, Routes};
 use std::alloc::AllocError;
@@ -172,27 +172,6 @@ pub fn stand_last(parts: &mut Parts, body: &[u8], fate: Fate) -> u64
     };
     parts.bodies.add(body);
     parts.queues.add(message)
-}
-
-/// The service indicator of a body: the low four bits of its SIO (Q.704 14.2.1), 0 where there is none.
-pub fn service_indicator(body: &[u8]) -> u8
-    ensures { result ≡ service_indicator body.now }
-{
-    match body.first() {
-        Some(sio) => *sio % 16,
-        None => 0,
-    }
-}
-
-/// The stream of a body: the high four bits of its fifth octet, 0 where there is none.
-pub fn stream_of_body(body: &[u8]) -> u8
-    ensures value { result ≡ stream_of body.now }
-    ensures few { result < 16 }
-{
-    match body.get(4) {
-        Some(octet) => *octet / 16,
-        None => 0,
-    }
 }
 
 /// Where a new message of this stream stands.

@@ -18,10 +18,10 @@ use super::admitting::{unraised, unwaited};
 use l2_units::LONGEST_BODY;
 use l3_orders::Order;
 use set_events::{Answer, Body, Event, Fate, Refusal};
-use set_model::Reached;
+use set_model::{Reached, service_indicator, stream_of_body};
 use set_moves::{
     Link, Parts, fate_of_new, leave, make_room, make_room_beside, make_room_parked, queue, restore,
-    service_indicator, settle, stand_last, stream_of_body, time_out, unserved,
+    settle, stand_last, time_out, unserved,
 };
 use set_queues::Queues;
 use set_traffic::{hear, send_next};
