@@ -1,17 +1,26 @@
 -- One link of the list changes, and what the list stands for with it.
-use Rattle.std.proofs.Common.{arith, ◌≡◌, ◌∙◌, ap, sym, ◌<◌, ℕ, List, map, length, slice_get, slice_set, slice_index_or, Some, ◌≢◌, false, Option, ◌==◌, IfSome}
-use Rattle.std.proofs.lemmas.Option.{same_Some, slice_get-get_or}
-use Rattle.set_moves.specs.Parts.{Link, Parts, link_of, kept_of, AtLink, IsOut}
-use Rattle.std.proofs.lemmas.List.{length-map}
-use Rattle.set_moves.specs.Agreement.{Kept, StandsFor}
+use Rattle.std.proofs.Common.{arith, ◌≡◌, ◌∙◌, ap, sym, ◌<◌, ℕ, List, map, length, slice_get, slice_set, slice_index_or, Some, ◌≢◌, false, Option, ◌==◌, IfSome, refl, subst, ◌≤◌, None, Bool, option_map, true, [], drop}
+use Rattle.std.proofs.lemmas.Option.{same_Some, slice_get-get_or, slice_get_past, slice_get-map}
+use Rattle.set_moves.specs.Parts.{Link, Parts, link_of, kept_of, AtLink, IsOut, Gives, Obeys, Phase, Down, IsWhole, IsCounted, AreCounted}
+use Rattle.std.proofs.lemmas.List.{length-map, length-drop}
+use Rattle.set_moves.specs.Agreement.{Kept, StandsFor, Agrees, Holds}
 use Rattle.set_model.specs.State.{LinkState, State, link_count, has_phase_up, target}
-use Rattle.set_model.proofs.Lists.{map_at, map_set, map_set_same, same_at, at_map, present, target_up}
+use Rattle.set_model.proofs.Lists.{map_at, map_set, map_set_same, same_at, at_map, present, target_up, within, set_same, at_set, get_set_same, length_set}
 use Rattle.std.proofs.lemmas.Bool.{ne_eqb}
 use Rattle.std.proofs.lemmas.Simd.{map-map}
-use Rattle.set_queues.specs.Buffers.{Fate, Lists, IsKnown}
-use Rattle.set_queues.proofs.Soundness.{IsAside, aside_of}
-use Rattle.set_model.specs.Changeover.{fate_on}
+use Rattle.set_queues.specs.Buffers.{Fate, Lists, IsKnown, Waiting, Unacked, Held, TakesRoom, same_fate, with_queue, room_at, is_standing, queue_at}
+use Rattle.set_queues.proofs.Soundness.{IsAside, aside_of, room_left, on_length, queue_last}
+use Rattle.set_model.specs.Changeover.{fate_on, Obeyed, ignored, at_link, settled, answered}
 use Rattle.set_route.specs.Target.{target_of}
+use Rattle.set_moves.specs.Room.{SameButRoom, HasRoom, IsReady, target_beside}
+pub use Rattle.set_moves.specs.Parts.{Link, Parts, Phase, Up, Down, Settled, Unanswered, Reached, IsHere}
+use Rattle.set_model.specs.Step.{Answer, Refused, Done, SetRefusal, NoSuchLink, Took, Ignored, Outcome, refused, with_known, on_link, in_service, rises, falls, gives_up}
+use Rattle.std.proofs.lemmas.Bool.Decides.{nat_tests}
+use Rattle.set_queues.specs.Backs.{back_count}
+use Rattle.set_queues.specs.Settling.{on}
+use Rattle.set_queues.proofs.Standing.{queue_away, queue_set}
+use Rattle.set_moves.specs.Turning.{TakesTurns}
+use Rattle.set_queues.specs.Sending.{acknowledged, reach}
 
 -- the link that an index of this number read
 module _ (links : List Link) (n i : ℕ) (x : Link) (is : i ≡ n) (known : n < length links) (read : x ≡ slice_index_or links i x) where
@@ -65,3 +74,176 @@ place_for {links} {read} n o to q same is below there many known out =
 -- a link of a list with the same phases
 pub phase_at : (old new : List Link) (n : ℕ) (link : Link) → map (λ (l : Link). l.phase) new ≡ map (λ (l : Link). l.phase) old → slice_get new n ≡ Some link → (x : Link) × (slice_get old n ≡ Some x) × (x.phase ≡ link.phase)
 phase_at old new n link e there = at_map (λ (l : Link). l.phase) old n link.phase (ap (λ phases. slice_get phases n) (sym e) ∙ map_at (λ (l : Link). l.phase) new n link there)
+
+-- What an event of a link does where the link is there, and as the event needs it.
+-- A link that an event needs as it is.
+is_here : (links : List Link) (n : ℕ) (phase : Phase) (link : Link) → slice_get links n ≡ Some link → link.phase ≡ phase → IsHere links n phase
+is_here links n phase link e p = record { link = link; there = e; phase_is = p; known = within links n link e }
+
+-- The same of the state that the links stand for.
+pub record IsIn (s : State) (n : ℕ) (phase : Phase) : Type 0 where
+  pub link : LinkState
+  pub there : slice_get s.links n ≡ Some link
+  pub phase_is : link.phase ≡ phase
+
+-- what the state has at a number
+pub links_at : (parts : Parts) (s : State) (n : ℕ) → Agrees (kept_of parts) s → slice_get s.links n ≡ option_map link_of (slice_get parts.links.items n)
+links_at parts s n a = ap (λ links. slice_get links n) (sym a.stands.links) ∙ slice_get-map link_of parts.links.items n
+
+pub is_in : (parts : Parts) (s : State) (n : ℕ) (phase : Phase) → Agrees (kept_of parts) s → IsHere parts.links.items n phase → IsIn s n phase
+is_in parts s n phase a h = record {
+  link = link_of h.link;
+  there = links_at parts s n a ∙ ap (option_map link_of) h.there;
+  phase_is = h.phase_is;
+}
+
+-- What is answered there.
+pub served : (s : State) (n : ℕ) (outcome : LinkState → Outcome) (answer : Answer) (parts : Parts) (i : IsIn s n Up) → Gives (outcome i.link) answer parts → Gives (in_service n s outcome) answer parts
+served s n outcome answer parts i g = rw i.there (rw (ap has_phase_up i.phase_is) g)
+
+-- what is answered, where the link is there
+pub known_here : (old parts : Parts) (s : State) (n : ℕ) (answer : Answer) (outcome : Outcome) → Agrees (kept_of old) s → n < length old.links.items → Gives outcome answer parts → Gives (on_link n s (λ link. outcome)) answer parts
+known_here old parts s n answer outcome a known g = rw (links_at old s n a ∙ ap (option_map link_of) (present old.links.items n known).1) g
+
+-- A refusal changes nothing.
+module _ (parts : Parts) (s : State) (a : Agrees (kept_of parts) s) (n : ℕ) (outcome : LinkState → Outcome) where
+  refuses : (why : SetRefusal) → with_known (option_map link_of (slice_get parts.links.items n)) s outcome ≡ refused s why → Gives (on_link n s outcome) (Refused why) parts
+  refuses why e = rw (links_at parts s n a, e) (record { answer_is = refl; stands = a.stands })
+
+  pub unknown : length parts.links.items ≤ n → Gives (on_link n s outcome) (Refused NoSuchLink) parts
+  unknown few = refuses NoSuchLink (rw (slice_get_past parts.links.items n few) refl)
+
+-- An order changes nothing at a link that it isn't for, as its phase or that there is none tells,
+pub ignores : {o : Option Phase} (parts : Parts) (n : ℕ) (obeyed : LinkState → Phase → State → Obeyed) → o ≡ option_map (λ (l : Link). l.phase) (slice_get parts.links.items n) → ((phase : Phase) → o ≡ Some phase → (link : LinkState) (s : State) → obeyed link phase s ≡ ignored s)
+    → (s : State) → Agrees (kept_of parts) s → Obeys (at_link n s (λ link. obeyed link link.phase s) (slice_get s.links n)) Ignored parts
+ignores parts n obeyed is none s a = rw (links_at parts s n a) (rw (nothing (slice_get parts.links.items n) (λ link e. none link.phase (is ∙ ap (option_map (λ (l : Link). l.phase)) e) (link_of link) s)) (record { took_is = refl; stands = a.stands }))
+  where
+    nothing : (o : Option Link) → ((link : Link) → o ≡ Some link → obeyed (link_of link) link.phase s ≡ ignored s) → at_link n s (λ link. obeyed link link.phase s) (option_map link_of o) ≡ ignored s
+    nothing None h = refl
+    nothing (Some link) h = h link refl
+
+-- as at one for which no acknowledgement is waited for,
+pub unanswered : (reached : Reached) (n : ℕ) (o : Option Phase) → (o ≡ Some Down → ⊥) → (phase : Phase) → o ≡ Some phase → (link : LinkState) (s : State) → answered reached n link phase s ≡ ignored s
+unanswered reached n o other phase is link s = grind arith
+
+-- and is obeyed at one in its phase
+pub obeyed_at : {new : Parts} {n : ℕ} {phase : Phase} {took : Took} (parts : Parts) (obeyed : LinkState → Phase → State → Obeyed) → IsHere parts.links.items n phase
+    → ((s : State) (link : LinkState) → slice_get s.links n ≡ Some link → link.phase ≡ phase → Agrees (kept_of parts) s → Obeys (obeyed link phase s) took new)
+    → (s : State) → Agrees (kept_of parts) s → Obeys (at_link n s (λ link. obeyed link link.phase s) (slice_get s.links n)) took new
+obeyed_at {new} {n} {phase} {took} parts obeyed h done s a =
+    let i = is_in parts s n phase a h in
+    rw i.there (subst (λ p. Obeys (obeyed i.link p s) took new) (sym i.phase_is) (done s i.link i.there i.phase_is a))
+
+pub phase_here : (links : List Link) (n : ℕ) (o : Option Link) → slice_get links n ≡ o → IfSome (option_map (λ (l : Link). l.phase) o) (IsHere links n)
+phase_here links n None e = tt
+phase_here links n (Some link) e = is_here links n link.phase link e refl
+
+-- a link that is out
+pub out_at : (links : List Link) (n : ℕ) (phase : Phase) → IsHere links n phase → has_phase_up phase ≡ false → AtLink n links IsOut
+out_at links n phase h e link there = ap (λ (l : Link). has_phase_up l.phase) (same_at links n h.link link h.there there) ∙ ap has_phase_up h.phase_is ∙ e
+
+-- After room was taken.
+pub agrees_same : (old new : Parts) (s : State) → SameButRoom old new → Agrees (kept_of old) s → Agrees (kept_of new) s
+agrees_same old new s same a = subst (λ k. Agrees k s) (sym same.kept) a
+
+pub here_same : (old new : Parts) (n : ℕ) (phase : Phase) → SameButRoom old new → IsHere old.links.items n phase → IsHere new.links.items n phase
+here_same old new n phase same h = rw same.links h
+
+-- What is done at a link in its phase.
+pub given_done : (s : State) (n : ℕ) (parts : Parts) (i : IsIn s n Down) → StandsFor (kept_of parts) (settled Unanswered n i.link s) → Gives (on_link n s (λ link. gives_up n s link link.phase)) Done parts
+given_done s n parts i stands = rw (i.there, i.phase_is) (record { answer_is = refl; stands = stands })
+
+pub risen_done : (s : State) (n : ℕ) (parts : Parts) (i : IsIn s n Settled) → StandsFor (kept_of parts) (rises n s Settled).state → Gives (on_link n s (λ link. rises n s link.phase)) Done parts
+risen_done s n parts i stands = rw (i.there, i.phase_is) (record { answer_is = refl; stands = stands })
+
+pub fallen_done : (blind : Bool) (s : State) (n : ℕ) (parts : Parts) (i : IsIn s n Up) → StandsFor (kept_of parts) (falls blind n s i.link).state → Gives (in_service n s (falls blind n s)) Done parts
+fallen_done blind s n parts i stands = served s n (falls blind n s) Done parts i (record { answer_is = refl; stands = stands })
+
+-- Room that was taken, as orders and moved messages need it.
+ups_of : List Link → List Bool
+ups_of links = map (λ (link : Link). has_phase_up link.phase) links
+
+-- THE TARGET beside a link that is out, and once it's left
+pub beside_out : (links : List Link) (n : ℕ) → n < length links → AtLink n links IsOut → target_beside n links ≡ target (map link_of links)
+unfolding ups_of
+beside_out links n known out =
+    let x = present links n known in
+    let down = out x.0 x.1 in
+    let there = map_at (λ (link : Link). has_phase_up link.phase) links n x.0 x.1 in
+    grind (arith, set_same, ups)
+
+pub beside_left : (links new : List Link) (n : ℕ) (link : Link) → new ≡ slice_set links n link → has_phase_up link.phase ≡ false → target (map link_of new) ≡ target_beside n links
+unfolding ups_of
+beside_left links new n link e out = grind (arith, map_set, ups, ups_of)
+
+-- ROOM for an order, and then for all that stand on the link
+pub has_room : (n : ℕ) (parts : Parts) (fate : Fate) → IsReady n 1 parts → fate ≡ fate_on (target_beside n parts.links.items) → HasRoom fate parts
+has_room n parts fate r e = grind arith
+
+-- what stands on a link isn't touched by what waits elsewhere
+pub on_same : (n : ℕ) (to : Fate) (xs : List ℕ) (q new : Lists) → IsAside n to q → new ≡ with_queue to xs q → on n new ≡ on n q
+on_same n to xs q new a e =
+    let queued = a.queued in
+    let sent : same_fate to (Unacked n) ≡ false = grind arith in
+    rw (queue_away to (Unacked n) xs q new e a.other sent, queue_away to (Waiting n) xs q new e a.other a.unsent, queue_away to (Held n) xs q new e a.other a.held) refl
+
+-- THE WHOLE NUMBERS of a list in which one link changed otherwise
+pub counted_set : (bound : ℕ) (links new : List Link) (n : ℕ) (link : Link) → AreCounted bound links → new ≡ slice_set links n link → IsCounted bound link → AreCounted bound new
+counted_set bound links new n link all e one m other there = grind (arith, nat_tests, at_set)
+
+-- A SET IS WHOLE that stands for a state.
+pub whole_of : (parts : Parts) → Holds (kept_of parts) → IsWhole parts
+whole_of parts h = grind (arith, length-map)
+
+pub here_room : (parts : Parts) (n orders : ℕ) (phase : Phase) → IsHere parts.links.items n phase → has_phase_up phase ≡ false → IsReady n orders parts → length (on n parts.queues.lists) ≤ room_at (fate_on (target (map link_of parts.links.items))) parts.queues.rooms
+here_room parts n orders phase h down r = grind (arith, beside_out, out_at)
+
+-- room for an order once the link is left, and what stood back for it turned
+pub has_room_left : (n : ℕ) (old new : Parts) → IsReady n 1 old → TakesTurns (back_count n old.queues.lists) old.queues new.queues → new.bodies ≡ old.bodies → target (map link_of new.links.items) ≡ target_beside n old.links.items → HasRoom (fate_on (target (map link_of new.links.items))) new
+has_room_left n old new r turns bodies same = grind arith
+
+-- A LINK THAT IS LEFT is out, and the whole numbers stay
+pub record IsLeft (n : ℕ) (old new : Parts) : Type 0 where
+  pub many : length new.links.items ≡ length old.links.items
+  pub out : AtLink n new.links.items IsOut
+  pub target_is : target (map link_of new.links.items) ≡ target_beside n old.links.items
+  pub counted : (bound : ℕ) → AreCounted bound old.links.items → AreCounted bound new.links.items
+
+pub is_left : (blind : Bool) (n : ℕ) (old new : Parts) → n < length old.links.items → AtLink n old.links.items (λ link. new.links.items ≡ slice_set old.links.items n (record link { phase = Down; blind = blind })) → IsLeft n old new
+is_left blind n old new known links =
+    let x = present old.links.items n known in
+    let is = links x.0 x.1 in
+    record {
+      many = ap length is ∙ length_set old.links.items n _;
+      out = λ link there. grind (arith, same_at new.links.items n _ link (ap (λ (ls : List Link). slice_get ls n) is ∙ get_set_same old.links.items n _ known) there);
+      target_is = beside_left old.links.items new.links.items n _ is refl;
+      counted = λ bound all. let one = all n x.0 x.1 in counted_set bound old.links.items new.links.items n _ all is (record { acked = one.acked; accepted = one.accepted });
+    }
+
+-- room for all that stand on a link, once it's left and the order stands
+pub room_after : (n : ℕ) (old left new : Parts) → n < length old.queues.lists.links → IsReady n 1 old → TakesTurns (back_count n old.queues.lists) old.queues left.queues → target (map link_of left.links.items) ≡ target_beside n old.links.items → target (map link_of new.links.items) ≡ target (map link_of left.links.items)
+    → on n new.queues.lists ≡ on n left.queues.lists → TakesRoom (fate_on (target (map link_of left.links.items))) 1 left.queues.rooms new.queues.rooms
+    → length (on n new.queues.lists) ≤ room_at (fate_on (target (map link_of new.links.items))) new.queues.rooms
+room_after n old left new low r turns beside same elsewhere takes = grind (arith, room_left)
+
+pub wider : (bound more : ℕ) (links : List Link) → bound ≤ more → AreCounted bound links → AreCounted more links
+wider bound more links h all n link there = let k = all n link there in record { acked = let low = k.acked in omega (arith, h, low); accepted = let low = k.accepted in omega (arith, h, low) }
+
+-- Queues that got no longer.
+
+abbrev pub NoLonger : Lists → Lists → Type 0
+NoLonger q q' = (f : Fate) → length (queue_at f q') ≤ length (queue_at f q)
+
+-- a queue is replaced by one that is no longer
+replaced_less : (g : Fate) (xs : List ℕ) (q : Lists) → is_standing g ≡ true → IsKnown g q → length xs ≤ length (queue_at g q) → NoLonger q (with_queue g xs q)
+replaced_less g xs q s h few f = grind (arith, nat_tests, queue_set g f xs q s h)
+
+pub cleared_less : (g : Fate) (q q' : Lists) → q' ≡ with_queue g [] q → is_standing g ≡ true → IsKnown g q → NoLonger q q'
+cleared_less g q q' e s h f = rw e (replaced_less g [] q s h (omega arith) f)
+
+pub acked_less : (l fsn : ℕ) (q : Lists) → l < length q.links → NoLonger q (acknowledged l fsn q)
+acked_less l fsn q h f = rw (queue_last f l fsn _) (replaced_less (Unacked l) (drop (reach l fsn q) (queue_at (Unacked l) q)) q refl h (omega (arith, length-drop (reach l fsn q) (queue_at (Unacked l) q))) f)
+
+-- so does what stands on a link
+pub on_less : (n : ℕ) (q q' : Lists) → NoLonger q q' → length (on n q') ≤ length (on n q)
+on_less n q q' less = let u = less (Unacked n) in let w = less (Waiting n) in let h = less (Held n) in omega (arith, u, w, h, on_length n q, on_length n q')

@@ -29,7 +29,7 @@ use Rattle.set_model.proofs.Lists.{within, present, same_at}
 use Rattle.set_model.proofs.Places.{home_back}
 use Rattle.set_model.proofs.SoundBack.{goes}
 use Rattle.set_model.proofs.Walk.{IsAt}
-use Rattle.set_moves.proofs.Admitting.{IsHere, is_in}
+use Rattle.set_moves.proofs.Links.{IsHere, is_in}
 
 -- LISTS
 

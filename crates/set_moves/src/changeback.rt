@@ -22,7 +22,7 @@ const MOST_LINKS: usize = 16;
 
 /// Streams whose home this link is are to come back to it: a declaration on every other link that is up,
 /// the lowest-numbered first, where streams of this home run and its code is free.
-#[tactic(auto, using(crate::proofs::Rooms::whole_of))]
+#[tactic(auto, using(crate::proofs::Links::whole_of))]
 pub fn restore(parts: &mut Parts, number: u8, answer: &mut Answer) -> Result<(), AllocError>
     requires holds { Holds (kept_of parts.old) }
     ensures ok { OnOk result (Answers parts.old parts.new answer.new
@@ -47,7 +47,7 @@ pub fn restore(parts: &mut Parts, number: u8, answer: &mut Answer) -> Result<(),
 
 /// No acknowledgement came: what stands back for this link waits for it, code by code, and all its codes
 /// are free (own).
-#[tactic(auto, using(crate::proofs::Rooms::whole_of))]
+#[tactic(auto, using(crate::proofs::Links::whole_of))]
 pub fn time_out(parts: &mut Parts, number: u8, answer: &mut Answer) -> Result<(), AllocError>
     requires holds { Holds (kept_of parts.old) }
     ensures ok { OnOk result (Answers parts.old parts.new answer.new
@@ -205,7 +205,7 @@ fn release(parts: &mut Parts, code: u8)
 
 /// An acknowledgement of a changeback brings home what stood back by its code; of a code in no use it's
 /// ignored (Q.704 6.3).
-#[tactic(auto, using(crate::proofs::Declaring::in_use, crate::proofs::Rooms::whole_of))]
+#[tactic(auto, using(crate::proofs::Declaring::in_use, crate::proofs::Links::whole_of))]
 pub(crate) fn acknowledge_back(parts: &mut Parts, code: u8) -> Took
     requires holds { Holds (kept_of parts.old) }
     requires room { home_of code < length parts.old.links.items

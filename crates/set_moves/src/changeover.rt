@@ -89,7 +89,7 @@ pub fn obey(parts: &mut Parts, order: Order) -> Took
 
 /// A changeover order: a link that is up is left and answered for; a link that was left settles, with
 /// no answer (own); for one that settled already the answer of its last life goes out again (own).
-#[tactic(auto, using(crate::proofs::Rooms::whole_of))]
+#[tactic(auto, using(crate::proofs::Links::whole_of))]
 fn change_over(parts: &mut Parts, number: u8, reached: Reached) -> Took
     requires holds { Holds (kept_of parts.old) }
     requires counted { AreCounted (2 ^ 61) parts.old.links.items }
@@ -135,7 +135,7 @@ fn answer_and_settle(parts: &mut Parts, number: u8, reached: Reached)
 }
 
 /// A link that settled is answered for again, as its last life would have been (own).
-#[tactic(auto, using(crate::proofs::Links::stands_for, crate::proofs::Rooms::has_room, crate::proofs::Rooms::beside_out))]
+#[tactic(auto, using(crate::proofs::Links::stands_for, crate::proofs::Links::has_room, crate::proofs::Links::beside_out))]
 fn reply_again(parts: &mut Parts, number: u8)
     requires whole { IsWhole parts.old }
     requires counted { AreCounted (2 ^ 61) parts.old.links.items }
@@ -159,7 +159,7 @@ fn reply_again(parts: &mut Parts, number: u8)
 }
 
 /// An acknowledgement settles a link that waits for one (Q.704 5.4.3, 5.6.3).
-#[tactic(auto, using(crate::proofs::Rooms::whole_of))]
+#[tactic(auto, using(crate::proofs::Links::whole_of))]
 fn answer(parts: &mut Parts, number: u8, reached: Reached) -> Took
     requires holds { Holds (kept_of parts.old) }
     requires counted { AreCounted (2 ^ 61) parts.old.links.items }

@@ -71,7 +71,7 @@ fn up_links(links: &[Link]) -> ArrayVec<bool, 16>
 }
 
 /// Where the link of this number stands in its life, if there is one.
-#[tactic(auto, using(crate::proofs::Admitting::phase_here))]
+#[tactic(auto, using(crate::proofs::Links::phase_here))]
 pub fn phase_of(parts: &Parts, number: u8) -> Option<Phase>
     ensures value { result ≡ option_map (λ link. link.phase)
         (slice_get parts.now.links.items number) }

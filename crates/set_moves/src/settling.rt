@@ -33,7 +33,7 @@ pub fn settle(parts: &mut Parts, number: u8, reached: Reached)
 }
 
 /// What reached the far end is acknowledged, or what might be doubled is discarded (own).
-#[tactic(auto, using(crate::proofs::Rooms::acked_less, crate::proofs::Rooms::on_less, crate::proofs::Links::set_view, set_model::proofs::Lists::length_set, set_queues::proofs::Standing::links))]
+#[tactic(auto, using(crate::proofs::Links::acked_less, crate::proofs::Links::on_less, crate::proofs::Links::set_view, set_model::proofs::Lists::length_set, set_queues::proofs::Standing::links))]
 fn judge(parts: &mut Parts, number: u8, reached: Reached)
     requires whole { IsWhole parts.old }
     requires counted { AreCounted (2 ^ 61) parts.old.links.items }

@@ -14,8 +14,7 @@ use Rattle.set_moves.specs.declared.link.Link.{Link}
 use Rattle.set_moves.specs.declared.parts.Parts.{Parts}
 use Rattle.set_moves.specs.Agreement.{Holds, StandsFor}
 use Rattle.set_moves.specs.Parts.{kept_of, Gives}
-use Rattle.set_moves.proofs.Links.{stands_for}
-use Rattle.set_moves.proofs.Rooms.{whole_of}
+use Rattle.set_moves.proofs.Links.{stands_for, whole_of}
 use Rattle.set_traffic.specs.Hearing.{ReachesTo}
 use Rattle.set_traffic.specs.Sending.{choice_in}
 

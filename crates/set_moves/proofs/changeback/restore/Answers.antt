@@ -1,7 +1,7 @@
 use Rattle.std.proofs.Common.{refl, ◌∙◌, sym}
 use Rattle.set_model.specs.Step.{Refused, Done, Nothing, comes_back}
 use Rattle.set_moves.specs.Parts.{Up}
-use Rattle.set_moves.proofs.Admitting.{served, is_in, agrees_same}
+use Rattle.set_moves.proofs.Links.{served, is_in, agrees_same}
 use Rattle.set_moves.proofs.Declaring.{count_is}
 use Rattle.set_moves.proofs.changeback.restore.Goals as goal
 

@@ -1,7 +1,7 @@
 use Rattle.std.proofs.Common.{refl, rules, arith, ◌∙◌, sym}
 use Rattle.set_model.specs.Step.{runs_out}
 use Rattle.set_moves.specs.Parts.{kept_of}
-use Rattle.set_moves.proofs.Admitting.{unknown, known_here}
+use Rattle.set_moves.proofs.Links.{unknown, known_here}
 use Rattle.set_moves.proofs.States.{becomes}
 use Rattle.set_moves.proofs.changeback.time_out.Goals as goal
 

@@ -1,8 +1,7 @@
 use Rattle.std.proofs.Common.{rules, refl, ◌≡◌, Some}
 use Rattle.set_moves.specs.Parts.{Down}
 use Rattle.set_model.specs.Changeover.{answered}
-use Rattle.set_moves.proofs.Admitting.{ignores, obeyed_at, unanswered}
-use Rattle.set_moves.proofs.Rooms.{here_room}
+use Rattle.set_moves.proofs.Links.{ignores, obeyed_at, unanswered, here_room}
 use Rattle.set_moves.proofs.changeover.answer.Goals as goal
 
 pub returns-then-ne : goal.returns-then-ne

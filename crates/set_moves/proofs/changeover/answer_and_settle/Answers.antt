@@ -7,8 +7,7 @@ use Rattle.set_model.proofs.SoundLink.{queues}
 use Rattle.set_model.proofs.Walk.{IsAt}
 use Rattle.set_moves.specs.Agreement.{StandsFor}
 use Rattle.set_moves.specs.Parts.{Up, link_of, kept_of}
-use Rattle.set_moves.proofs.Links.{found, stands_for}
-use Rattle.set_moves.proofs.Rooms.{whole_of, has_room_left, room_after, is_left}
+use Rattle.set_moves.proofs.Links.{found, stands_for, whole_of, has_room_left, room_after, is_left}
 use Rattle.set_moves.proofs.changeover.answer_and_settle.Goals as goal
 
 pub last_accepted-requires : goal.last_accepted-requires

@@ -1,8 +1,7 @@
 use Rattle.std.proofs.Common.{refl}
 use Rattle.set_moves.specs.Parts.{Down}
 use Rattle.set_model.specs.Changeover.{changed_over}
-use Rattle.set_moves.proofs.Admitting.{ignores, obeyed_at}
-use Rattle.set_moves.proofs.Rooms.{here_room}
+use Rattle.set_moves.proofs.Links.{ignores, obeyed_at, here_room}
 use Rattle.set_moves.proofs.changeover.change_over.Goals as goal
 
 pub returns-in-None : goal.returns-in-None

@@ -1,5 +1,4 @@
-use Rattle.set_moves.proofs.Rooms.{on_same}
-use Rattle.set_moves.proofs.Links.{place_for}
+use Rattle.set_moves.proofs.Links.{on_same, place_for}
 use Rattle.set_moves.proofs.changeover.queue.Goals as goal
 
 pub returns-clause-elsewhere : goal.returns-clause-elsewhere

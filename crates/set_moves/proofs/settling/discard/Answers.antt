@@ -4,7 +4,7 @@ use Rattle.set_moves.specs.Parts.{kept_of}
 use Rattle.set_model.specs.Rows.{Unacked, Waiting, is_unacked, is_waiting}
 use Rattle.set_moves.proofs.RowsAt.{sent_there, waits_there}
 use Rattle.set_moves.proofs.States.{becomes, given_up_for}
-use Rattle.set_moves.proofs.Rooms.{cleared_less, on_less}
+use Rattle.set_moves.proofs.Links.{cleared_less, on_less}
 use Rattle.set_moves.proofs.settling.discard.Goals as goal
 
 pub returns-clause-stands : goal.returns-clause-stands

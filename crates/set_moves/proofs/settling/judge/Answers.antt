@@ -8,8 +8,7 @@ use Rattle.set_model.specs.Rows.{Unacked, Emergency, is_unacked}
 use Rattle.set_moves.proofs.RowsAt.{sent_there}
 use Rattle.set_moves.specs.Parts.{kept_of}
 use Rattle.set_moves.proofs.States.{becomes, reach_is, is_reached, is_unreached, acked_for, given_up_for}
-use Rattle.set_moves.proofs.Links.{link_set}
-use Rattle.set_moves.proofs.Rooms.{cleared_less, on_less}
+use Rattle.set_moves.proofs.Links.{link_set, cleared_less, on_less}
 use Rattle.set_moves.proofs.settling.judge.Goals as goal
 
 more : (link link' : LinkState) (d count : ℕ) → link' ≡ link → d ≡ count → record link' { acked = link'.acked + d } ≡ acknowledged count link

@@ -1,5 +1,5 @@
 use Rattle.set_moves.specs.Parts.{Settled}
-use Rattle.set_moves.proofs.Admitting.{agrees_same, is_in, risen_done}
+use Rattle.set_moves.proofs.Links.{agrees_same, is_in, risen_done}
 use Rattle.set_step.proofs.step.bring_up.Goals as goal
 
 pub returns-clause-ok : goal.returns-clause-ok

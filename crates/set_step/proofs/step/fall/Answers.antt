@@ -2,8 +2,7 @@ use Rattle.std.proofs.Common.{refl, arith, ◌∙◌, ap, subst}
 use Rattle.set_model.specs.Changeover.{leaving_order, left_by, queued}
 use Rattle.set_moves.specs.Agreement.{StandsFor}
 use Rattle.set_moves.specs.Parts.{kept_of}
-use Rattle.set_moves.proofs.Links.{found, stands_for}
-use Rattle.set_moves.proofs.Rooms.{has_room_left, beside_left}
+use Rattle.set_moves.proofs.Links.{found, stands_for, has_room_left, beside_left}
 use Rattle.set_step.proofs.step.fall.Goals as goal
 
 pub order_on_leaving-order-requires-clause-counted : goal.order_on_leaving-order-requires-clause-counted

@@ -1,7 +1,6 @@
 use Rattle.std.proofs.Common.{refl}
 use Rattle.set_moves.specs.Parts.{Down}
-use Rattle.set_moves.proofs.Admitting.{agrees_same, here_same, is_in, given_done}
-use Rattle.set_moves.proofs.Rooms.{here_room, whole_of}
+use Rattle.set_moves.proofs.Links.{agrees_same, here_same, is_in, given_done, here_room, whole_of}
 use Rattle.set_step.proofs.step.give_up.Goals as goal
 
 pub returns-clause-ok : goal.returns-clause-ok

@@ -7,9 +7,8 @@ use Rattle.set_model.specs.Step.{Accepted, offer_refusal}
 use Rattle.set_moves.specs.Agreement.{Kept, StandsFor}
 use Rattle.set_step.specs.Refusing.{refusal_by}
 use Rattle.set_moves.specs.Parts.{kept_of}
-use Rattle.set_moves.proofs.Admitting.{agrees_same}
+use Rattle.set_moves.proofs.Links.{agrees_same, whole_of}
 use Rattle.set_step.proofs.Reading.{unsent_is}
-use Rattle.set_moves.proofs.Rooms.{whole_of}
 use Rattle.set_step.proofs.step.offer.Goals as goal
 
 pub fate_of_new-fate-requires-clause-whole : goal.fate_of_new-fate-requires-clause-whole

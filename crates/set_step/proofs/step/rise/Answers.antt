@@ -10,9 +10,8 @@ use Rattle.set_model.proofs.Settling.{settled_empty}
 use Rattle.set_moves.specs.declared.parts.Parts.{Parts}
 use Rattle.set_moves.specs.Agreement.{Holds}
 use Rattle.set_moves.specs.Parts.{Settled, IsHere, kept_of}
-use Rattle.set_moves.proofs.Admitting.{is_in}
+use Rattle.set_moves.proofs.Links.{is_in, whole_of}
 use Rattle.set_moves.proofs.States.{risen_then}
-use Rattle.set_moves.proofs.Rooms.{whole_of}
 use Rattle.set_traffic.proofs.Controls.{queue_there}
 use Rattle.set_step.proofs.step.rise.Goals as goal
 

@@ -1,6 +1,5 @@
 use Rattle.set_moves.specs.Parts.{Up}
-use Rattle.set_moves.proofs.Admitting.{agrees_same, is_in, fallen_done}
-use Rattle.set_moves.proofs.Rooms.{whole_of}
+use Rattle.set_moves.proofs.Links.{agrees_same, is_in, fallen_done, whole_of}
 use Rattle.set_step.proofs.step.take_down.Goals as goal
 
 pub returns-clause-ok : goal.returns-clause-ok

@@ -1,6 +1,6 @@
 use Rattle.std.proofs.Common.{arith, ◌∙◌, ap, ◌+◌, ℕ}
 use Rattle.std.proofs.lemmas.Bool.Decides.{nat_tests}
-use Rattle.set_moves.proofs.Rooms.{acked_less, on_less}
+use Rattle.set_moves.proofs.Links.{acked_less, on_less}
 use Rattle.set_moves.proofs.States.{acked_for, link_for}
 use Rattle.set_traffic.proofs.hearing.acknowledge.Goals as goal
 

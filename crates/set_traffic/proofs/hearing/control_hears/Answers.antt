@@ -7,8 +7,7 @@ use Rattle.set_moves.specs.declared.link.Link.{Link}
 use Rattle.set_moves.specs.Agreement.{StandsFor}
 use Rattle.set_moves.specs.Parts.{kept_of}
 use Rattle.set_traffic.proofs.Controls.{TellsAs, told, part_reaches}
-use Rattle.set_moves.proofs.Links.{found, link_set, set_view}
-use Rattle.set_moves.proofs.Rooms.{counted_set, wider}
+use Rattle.set_moves.proofs.Links.{found, link_set, set_view, counted_set, wider}
 use Rattle.set_traffic.proofs.hearing.control_hears.Goals as goal
 use Rattle.set_traffic.proofs.hearing.control_hears.Goals.{After-hear_at-part}
 

@@ -8,8 +8,7 @@ use Rattle.set_model.specs.Step.{SignalUnit, Lssu, HeardBack, Refused, Nothing, 
 use Rattle.set_moves.specs.Agreement.{StandsFor, Agrees}
 use Rattle.set_traffic.specs.Hearing.{message_brought}
 use Rattle.set_moves.specs.Parts.{Up, kept_of}
-use Rattle.set_moves.proofs.Rooms.{whole_of}
-use Rattle.set_moves.proofs.Admitting.{IsIn, is_in, served}
+use Rattle.set_moves.proofs.Links.{whole_of, IsIn, is_in, served}
 use Rattle.set_model.proofs.SoundLink.{hears_sound}
 use Rattle.set_traffic.proofs.Controls.{queue_there}
 use Rattle.set_traffic.proofs.Told.{place_still, spacious_still}

@@ -1,6 +1,6 @@
 use Rattle.set_model.specs.Step.{next as next_of}
 use Rattle.set_moves.specs.Parts.{Up}
-use Rattle.set_moves.proofs.Admitting.{is_in, served}
+use Rattle.set_moves.proofs.Links.{is_in, served}
 use Rattle.set_traffic.proofs.sending.send_next.Goals as goal
 
 pub returns : goal.returns
