@@ -24,7 +24,7 @@ use Rattle.set_queues.proofs.Tallies.{back_none}
 use Rattle.set_queues.proofs.Soundness.{on_length, both_replaced}
 use Rattle.std.proofs.lemmas.Option.{same_Some}
 use Rattle.set_queues.specs.declared.message.Kind.TheVariants.{User}
-use Rattle.set_model.proofs.Order.{each_filter, each_so, ascends_filter}
+use Rattle.set_model.proofs.Order.{ascends_filter}
 use Rattle.set_model.proofs.Lists.{within, present, same_at}
 use Rattle.set_model.proofs.Places.{home_back}
 use Rattle.set_model.proofs.SoundBack.{goes}
