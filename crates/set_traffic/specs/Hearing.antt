@@ -1,6 +1,7 @@
 -- What a heard unit brings, and the space that it may want.
 use Rattle.std.specs.Prelude.{◌≡◌, ℕ, Bool, ◌+◌, ◌==◌, ◌<◌, ◌≤◌, if◌then◌else◌, Option, Some, None, List, length, map, slice_get, slice_set}
 use Rattle.std.specs.VecDeque.{deque_len, deque_capacity}
+use Rattle.std.specs.declared.collections.VecDeque.{VecDeque}
 use Rattle.l2_window.specs.Window.{WindowState}
 use Rattle.set_model.specs.Changeover.{Order}
 use Rattle.l3_orders.specs.Grammar.{order_of}
@@ -30,9 +31,9 @@ message_brought (Lssu head status) = None
 message_brought (Msu head body) = if service_indicator body.items == 0 then None else Some body.items
 
 -- there is a place in the inbox for it
-abbrev pub HasPlace : Option (List ℕ) → Parts → Type 0
-HasPlace None parts = Unit {0}
-HasPlace (Some body) parts = deque_len parts.inbox < deque_capacity parts.inbox
+abbrev pub HasPlace : {X Z : Type 0} → Option (List ℕ) → VecDeque X Z → Type 0
+HasPlace None inbox = Unit {0}
+HasPlace (Some body) inbox = deque_len inbox < deque_capacity inbox
 
 -- there is room for what it moves, and for the order that answers it
 abbrev pub IsSpacious : Option Order → Parts → Type 0

@@ -63,7 +63,7 @@ pub fn hear(
 /// Takes a place in the inbox for the message that the unit brings users, if it brings one, and memory for its body.
 fn make_message_space(parts: &mut Parts, unit: &Unit) -> Result<Option<HeardBody>, AllocError>
     ensures message { IfOk result (λ message. message ≡ message_brought unit.now) }
-    ensures inbox { OnOk result (HasPlace (message_brought unit.now) parts.new) }
+    ensures inbox { OnOk result (HasPlace (message_brought unit.now) parts.new.inbox) }
     ensures same { kept_of parts.new ≡ kept_of parts.old }
     ensures parts { parts.new ≡ record parts.old { inbox = parts.new.inbox } }
     ensures none { is_msu unit.now ≡ false → IsOk result }
@@ -201,7 +201,7 @@ fn take_in(
     requires holds { Holds (kept_of parts.old) }
     requires counted { AreCounted (2 ^ 61) parts.old.links.items }
     requires message { message ≡ message_brought unit.now }
-    requires inbox { HasPlace (message_brought unit.now) parts.old }
+    requires inbox { HasPlace (message_brought unit.now) parts.old.inbox }
     requires room { IsSpacious order parts.old }
     ensures { (s : State) → Agrees (kept_of parts.old) s
         → Obeys (takes (brought accept unit.now) s) result parts.new }

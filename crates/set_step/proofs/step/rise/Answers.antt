@@ -13,7 +13,7 @@ use Rattle.set_moves.specs.Parts.{Settled, IsHere, kept_of}
 use Rattle.set_moves.proofs.Admitting.{is_in}
 use Rattle.set_moves.proofs.States.{risen_then}
 use Rattle.set_moves.proofs.Rooms.{whole_of}
-use Rattle.set_traffic.proofs.Controls.{queue_there}
+use Rattle.set_traffic.proofs.Traffic.{queue_there}
 use Rattle.set_step.proofs.step.rise.Goals as goal
 
 -- nothing stands on a link that settled

@@ -11,8 +11,7 @@ use Rattle.set_moves.specs.Parts.{Up, kept_of}
 use Rattle.set_moves.proofs.Rooms.{whole_of}
 use Rattle.set_moves.proofs.Admitting.{IsIn, is_in, served}
 use Rattle.set_model.proofs.SoundLink.{hears_sound}
-use Rattle.set_traffic.proofs.Controls.{queue_there}
-use Rattle.set_traffic.proofs.Told.{place_still, spacious_still}
+use Rattle.set_traffic.proofs.Traffic.{queue_there, spacious_still}
 use Rattle.set_traffic.proofs.hearing.hear.Goals as goal
 use Rattle.set_traffic.proofs.hearing.hear.Goals.{After-control_hears-part}
 
@@ -43,7 +42,7 @@ pub take_in-took-requires-clause-holds : goal.take_in-took-requires-clause-holds
 take_in-took-requires-clause-holds c = (_, after (goal.at.take_in-took-requires-clause-holds c).After-control_hears-part c.requires.holds.0 c.requires.holds.1)
 
 pub take_in-took-requires-clause-inbox : goal.take_in-took-requires-clause-inbox
-take_in-took-requires-clause-inbox c = place_still (message_brought c.args.unit.now) c.make_message_space.new.parts c.control_hears-part.new.parts (c.control_hears-part.ensures.keeps.inbox ∙ c.in_ok-make_room_for.ensures.same.inbox) c.in_ok-message.ensures.inbox
+take_in-took-requires-clause-inbox c = rw (c.control_hears-part.ensures.keeps.inbox, c.in_ok-make_room_for.ensures.same.inbox) c.in_ok-message.ensures.inbox
 
 pub take_in-took-requires-clause-room : goal.take_in-took-requires-clause-room
 take_in-took-requires-clause-room c = spacious_still c.make_room_for.new.parts c.control_hears-part.new.parts c.control_hears-part.ensures.keeps c.order_in-order.result c.in_ok-make_room_for.ensures.room
