@@ -1,16 +1,14 @@
 //! What an event does to a set. Each function is a case of the set's step.
 ghost use Rattle.std.specs.Prelude.{◌≡◌, ◌<◌, ◌≤◌, ◌^◌, length, Some, true, IsOk, OnOk, OnErr};
 ghost use Rattle.l3_orders.specs.Grammar.{IsOrder};
-ghost use Rattle.set_queues.specs.Buffers.{room_at};
 ghost use Rattle.set_queues.specs.Messages.{unsent_of};
-ghost use Rattle.set_model.specs.Changeover.{leaving_order, left_by, queued};
+ghost use Rattle.set_model.specs.Changeover.{leaving_order};
 ghost use Rattle.set_model.specs.Sound.{IsAsked};
 ghost use Rattle.set_model.specs.Step.{offer_refusal, offered, on_link, in_service, rises, falls, gives_up, taken, found, stepped};
 ghost use Rattle.set_model.specs.Rows.{place, stream_of};
 ghost use Rattle.set_moves.specs.Agreement.{Holds};
 ghost use Rattle.set_step.specs.Answering.{wants_none, refusal_by};
-ghost use Rattle.set_moves.specs.Parts.{Up, Settled, Answers, AreCounted, BecomesAt, AgreedBecomes, IsHere, link_of, kept_of};
-ghost use Rattle.set_moves.specs.Room.{IsReady};
+ghost use Rattle.set_moves.specs.Parts.{Answers, AreCounted, link_of, kept_of};
 
 use super::admitting::{unraised, unwaited};
 use l2_units::LONGEST_BODY;
@@ -172,24 +170,12 @@ fn take_down(
         *answer = Answer::Refused { why };
         return Ok(());
     }
-    make_room_beside(parts, number, 1)?;
-    fall(parts, number, blind);
-    *answer = Answer::Done;
-    Ok(())
-}
-
-/// The link is left, and an order tells the far end.
-fn fall(parts: &mut Parts, number: u8, blind: bool)
-    requires holds { Holds (kept_of parts.old) }
-    requires counted { AreCounted (2 ^ 60) parts.old.links.items }
-    requires here { IsHere parts.old.links.items number Up }
-    requires room { IsReady number 1 parts.old }
-    ensures stands { AgreedBecomes number parts.old parts.new (λ link s.
-        queued (leaving_order blind number link) (left_by blind number link s)) }
-{
     let order = order_on_leaving(&parts.links[usize::from(number)], number, blind);
+    make_room_beside(parts, number, 1)?;
     leave(parts, number, blind);
     queue(parts, order);
+    *answer = Answer::Done;
+    Ok(())
 }
 
 /// The order with which a link is left.
@@ -223,26 +209,14 @@ fn bring_up(parts: &mut Parts, number: u8, answer: &mut Answer) -> Result<(), Al
         return Ok(());
     }
     make_room_parked(parts, number)?;
-    rise(parts, number);
-    *answer = Answer::Done;
-    Ok(())
-}
-
-/// The settled link is in service from now on.
-fn rise(parts: &mut Parts, number: u8)
-    requires holds { Holds (kept_of parts.old) }
-    requires here { IsHere parts.old.links.items number Settled }
-    requires room { length parts.old.queues.lists.parked ≤ room_at (Fate.Waiting number)
-        parts.old.queues.rooms }
-    ensures stands { BecomesAt number parts.old parts.new
-        (λ link s. (rises number s Settled).state) }
-{
     parts.queues.reset(number);
     parts
         .queues
         .divert(Fate::Parked, Fate::Waiting { link: number });
     parts.links[usize::from(number)].rise(parts.config.method);
     parts.routes.raise(number);
+    *answer = Answer::Done;
+    Ok(())
 }
 
 /// A law: the octets of a label tell one of 16 streams.
