@@ -16,8 +16,7 @@ use Rattle.set_moves.specs.Agreement.{Holds, StandsFor, Message, Kept, rows_at}
 use Rattle.set_moves.specs.Parts.{kept_of, Gives, Obeys, link_of as link_kept}
 use Rattle.set_moves.proofs.Links.{stands_for, same_ups, same_target}
 use Rattle.set_moves.proofs.Rooms.{whole_of}
-use Rattle.set_traffic.specs.Hearing.{ReachesTo, HasPlace, IsSpacious, KeepsSpace, order_brought, message_brought}
-use Rattle.set_traffic.specs.Sending.{choice_in}
+use Rattle.set_traffic.specs.Traffic.{ReachesTo, HasPlace, IsSpacious, KeepsSpace, order_brought, message_brought, choice_in}
 use Rattle.set_queues.specs.Messages.{octets_at, octets_of}
 use Rattle.set_model.proofs.Rows.{Found, found_by_number, row_in_filter}
 use Rattle.set_moves.proofs.RowsAt.{is_there, rows_as}

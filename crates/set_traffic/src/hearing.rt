@@ -6,7 +6,7 @@ ghost use Rattle.set_model.specs.Control.{part_of};
 ghost use Rattle.set_model.specs.State.{State, window_of};
 ghost use Rattle.set_model.specs.Step.{in_service, heard, is_msu, brought, takes, after_control, report_of};
 ghost use Rattle.set_moves.specs.Agreement.{Agrees, Holds};
-ghost use Rattle.set_traffic.specs.Hearing.{Acknowledges, HasPlace, IsSpacious, KeepsQueues, KeepsSpace, ReachesTo, counted_at, order_brought, message_brought};
+ghost use Rattle.set_traffic.specs.Traffic.{Acknowledges, HasPlace, IsSpacious, KeepsQueues, KeepsSpace, ReachesTo, counted_at, order_brought, message_brought};
 ghost use Rattle.set_moves.specs.Parts.{Answers, AreCounted, IsCounted, IsWhole, OfStates, BecomesAt, Obeys, kept_of};
 ghost use Rattle.set_moves.specs.Room.{SameButRoom};
 

@@ -1,7 +1,7 @@
 use Rattle.std.proofs.Common.{refl}
 use Rattle.l2_window.specs.declared.control.Choice.TheVariants.{First}
 use Rattle.set_moves.specs.Parts.{kept_of}
-use Rattle.set_traffic.specs.Sending.{goes_on}
+use Rattle.set_traffic.specs.Traffic.{goes_on}
 use Rattle.set_traffic.proofs.Traffic.{given, with_body, queue_there}
 use Rattle.set_traffic.proofs.sending.unit_of.Goals as goal
 

@@ -1,22 +1,41 @@
--- What a heard unit brings, and the space that it may want.
-use Rattle.std.specs.Prelude.{◌≡◌, ℕ, Bool, ◌+◌, ◌==◌, ◌<◌, ◌≤◌, if◌then◌else◌, Option, Some, None, List, length, map, slice_get, slice_set}
+-- What is chosen to be sent, what a heard unit brings, and the space that it may want.
+use Rattle.std.specs.Prelude.{ℕ, ◌<◌, length, ◌≡◌, Bool, ◌+◌, ◌==◌, ◌≤◌, if◌then◌else◌, Option, Some, None, List, map, slice_get, slice_set}
+use Rattle.l2_window.specs.declared.control.Choice.{Choice}
+use Rattle.l2_window.specs.declared.control.Choice.TheVariants.{Again, First, Fill}
+use Rattle.set_queues.specs.Buffers.{Lists, queue_at, KeepsRoom}
+use Rattle.set_model.specs.Control.{choice_of, control_after, Header, HeardPart, control_heard}
+use Rattle.set_model.specs.Rows.{Waiting, Unacked, octets_in, unack, Acked, Back, is_unacked, service_indicator, turned}
+use Rattle.set_model.specs.State.{LinkState, State, window_of, with_link}
+use Rattle.l2_window.specs.Window.{most_unacked, WindowState}
 use Rattle.std.specs.VecDeque.{deque_len, deque_capacity}
 use Rattle.std.specs.declared.collections.VecDeque.{VecDeque}
-use Rattle.l2_window.specs.Window.{WindowState}
 use Rattle.set_model.specs.Changeover.{Order}
 use Rattle.l3_orders.specs.Grammar.{order_of}
-use Rattle.set_queues.specs.Buffers.{Lists, KeepsRoom, queue_at}
 use Rattle.set_queues.specs.Queues.{QueuesState}
 use Rattle.set_queues.specs.Sending.{reach}
 use Rattle.set_queues.specs.Settling.{on}
-use Rattle.set_model.specs.Control.{Header, HeardPart, control_heard}
 use Rattle.set_model.specs.Step.{SignalUnit, Fisu, Lssu, Msu, one_if}
 use Rattle.set_moves.specs.declared.link.Link.{Link}
-use Rattle.set_model.specs.Rows.{Unacked, Acked, Back, is_unacked, service_indicator, turned}
-use Rattle.set_model.specs.State.{LinkState, State, with_link}
 use Rattle.set_moves.specs.Agreement.{Kept, StandsFor}
 use Rattle.set_moves.specs.declared.parts.Parts.{Parts}
 use Rattle.set_moves.specs.Room.{IsSpaciousFor}
+
+-- what the link's control chooses
+abbrev pub choice_in : ℕ → LinkState → State → Choice
+choice_in number link s = choice_of (octets_in (unack number s.rows)) link.control (window_of number link s.rows)
+
+-- the link's control goes on as that is sent
+abbrev pub goes_on : ℕ → Choice → LinkState → State → State
+goes_on number choice link s = with_link number (record link {
+  control = control_after choice (octets_in (unack number s.rows)) link.control (window_of number link s.rows);
+}) s
+
+-- what is chosen is there
+abbrev pub IsThere : Choice → ℕ → Lists → Type 0
+IsThere (Again place) number q = place < length (queue_at (Unacked number) q)
+IsThere First number q =
+    (0 < length (queue_at (Waiting number) q)) × (length (queue_at (Unacked number) q) < most_unacked)
+IsThere Fill number q = Unit {0}
 
 -- the order that a unit brings, if it brings one
 abbrev pub order_brought : SignalUnit → Option Order
