@@ -59,14 +59,6 @@ abbrev pub IsSpacious : Option Order → Parts → Type 0
 IsSpacious None parts = Unit {0}
 IsSpacious (Some order) parts = IsSpaciousFor order parts
 
--- the link when its control heard, by the kept window, what this header tells
-abbrev pub counted_at : HeardPart → WindowState → Header → Bool → Link → Link
-counted_at part window head is_msu link = record link {
-  acked = link.acked + part.acked;
-  accepted = link.accepted + one_if part.accept;
-  control = control_heard link.control window head is_msu;
-}
-
 -- so many stand unacknowledged on the link up to this FSN
 pub record ReachesTo (fsn count number : ℕ) (q : Lists) : Type 0 where
   pub count_is : count ≡ reach number fsn q

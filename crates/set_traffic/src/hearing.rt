@@ -6,16 +6,16 @@ ghost use Rattle.set_model.specs.Control.{part_of};
 ghost use Rattle.set_model.specs.State.{State, window_of};
 ghost use Rattle.set_model.specs.Step.{in_service, heard, is_msu, brought, takes, after_control, report_of};
 ghost use Rattle.set_moves.specs.Agreement.{Agrees, Holds};
-ghost use Rattle.set_traffic.specs.Traffic.{Acknowledges, HasPlace, IsSpacious, KeepsQueues, KeepsSpace, ReachesTo, counted_at, order_brought, message_brought};
-ghost use Rattle.set_moves.specs.Parts.{Answers, AreCounted, IsCounted, IsWhole, OfStates, BecomesAt, Obeys, kept_of};
+ghost use Rattle.set_traffic.specs.Traffic.{Acknowledges, HasPlace, IsSpacious, KeepsQueues, KeepsSpace, ReachesTo, order_brought, message_brought};
+ghost use Rattle.set_moves.specs.Parts.{Answers, AreCounted, IsWhole, OfStates, BecomesAt, Obeys, kept_of};
 ghost use Rattle.set_moves.specs.Room.{SameButRoom};
 
 use l2_units::{Header, Unit, header_in};
-use l2_window::{HeardPart, Window};
+use l2_window::HeardPart;
 use l3_orders::{Order, read_order};
 use set_events::{Answer, Fate, Refusal, Report, Took};
 use set_moves::{
-    HeardBody, Link, Parts, make_room, make_room_beside, obey, service_indicator, target_of,
+    HeardBody, Parts, make_room, make_room_beside, obey, service_indicator, target_of,
     unserved,
 };
 use set_queues::{Queues, fate_on};
@@ -129,7 +129,7 @@ fn order_in(unit: &Unit) -> Option<Order>
     }
 }
 
-/// The control hears the unit: acknowledged messages are the first ones, and so many.
+/// The control hears the unit, and the link counts: acknowledged messages are the first ones, and so many.
 fn control_hears(parts: &mut Parts, number: u8, unit: &Unit) -> HeardPart
     requires counted { AreCounted (2 ^ 60) parts.old.links.items }
     requires known { number < length parts.old.links.items }
@@ -145,21 +145,10 @@ fn control_hears(parts: &mut Parts, number: u8, unit: &Unit) -> HeardPart
     let window = parts.queues.window(number);
     let head = header_in(unit);
     let link = &mut parts.links[usize::from(number)];
-    let part = hear_at(link, window, head, has_message(unit));
-    acknowledge(&mut parts.queues, number, head.bsn, part.acked);
-    part
-}
-
-/// The link's control hears the unit, and the link counts.
-fn hear_at(link: &mut Link, window: &Window, head: Header, is_msu: bool) -> HeardPart
-    requires { IsCounted (2 ^ 60) link.old }
-    ensures part { result ≡ part_of link.old.control window.now head is_msu }
-    ensures link { link.new ≡ counted_at result window.now head is_msu link.old }
-    ensures counted { IsCounted (2 ^ 61) link.new }
-{
-    let part = link.control.hear(window, head, is_msu);
+    let part = link.control.hear(window, head, has_message(unit));
     link.acked += u64::from(part.acked);
     link.accepted += u64::from(part.accept);
+    acknowledge(&mut parts.queues, number, head.bsn, part.acked);
     part
 }
 

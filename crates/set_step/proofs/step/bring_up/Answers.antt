@@ -34,17 +34,11 @@ is_empty old parts n holds h same =
     let low = here.known in
     record { known = queue_there parts n (holds.0, a) low; routed = omega (arith, routed, low); unacked = a.stands.stands.queues (Unacked n) ∙ ap numbers e.unack_none; unsent = a.stands.stands.queues (Waiting n) ∙ ap numbers e.wait_none }
 
-pub reset-requires-clause-known : goal.reset-requires-clause-known
-reset-requires-clause-known c = (is_empty c.args.parts.now _ c.args.number c.requires.holds c.in_default.ensures.here c.in_ok-make_room_parked.ensures.same).known
+pub reset-requires : goal.reset-requires
+reset-requires c = let e = is_empty c.args.parts.now _ c.args.number c.requires.holds c.in_default.ensures.here c.in_ok-make_room_parked.ensures.same in record { known = e.known; unacked = e.unacked; unsent = e.unsent }
 
 pub raise-requires : goal.raise-requires
 raise-requires c = (is_empty c.args.parts.now _ c.args.number c.requires.holds c.in_default.ensures.here c.in_ok-make_room_parked.ensures.same).routed
-
-pub reset-requires-clause-unacked : goal.reset-requires-clause-unacked
-reset-requires-clause-unacked c = (is_empty c.args.parts.now _ c.args.number c.requires.holds c.in_default.ensures.here c.in_ok-make_room_parked.ensures.same).unacked
-
-pub reset-requires-clause-unsent : goal.reset-requires-clause-unsent
-reset-requires-clause-unsent c = (is_empty c.args.parts.now _ c.args.number c.requires.holds c.in_default.ensures.here c.in_ok-make_room_parked.ensures.same).unsent
 
 pub divert-requires-clause-other : goal.divert-requires-clause-other
 divert-requires-clause-other c =
