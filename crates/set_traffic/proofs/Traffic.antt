@@ -1,5 +1,5 @@
 -- What is sent and heard, by what is kept and by the state that it stands for.
-use Rattle.std.proofs.Common.{refl, arith, ◌≡◌, ap, sym, subst, ◌<◌, ◌+◌, ◌-◌, ◌%◌, ℕ, Bool, length, Option, Some, slice_get, slice_index_or, option_map, ◌∙◌, ◌≤◌, [], ◌∷◌, List, suc, true, ◌&&◌, ◌*◌, ◌++◌, zero, false, map, None, slice_set}
+use Rattle.std.proofs.Common.{refl, arith, IfSome, ◌≡◌, ap, sym, subst, ◌<◌, ◌+◌, ◌-◌, ◌%◌, ℕ, Bool, length, Option, Some, slice_get, slice_index_or, option_map, ◌∙◌, ◌≤◌, [], ◌∷◌, List, suc, true, ◌&&◌, ◌*◌, ◌++◌, zero, false, map, None, slice_set}
 use Rattle.std.proofs.lemmas.Bool.Decides.{nat_tests}
 use Rattle.arrayvec.specs.declared.array_vec.ArrayVec.{ArrayVec}
 use Rattle.l2_window.specs.Window.{WindowState}
@@ -16,7 +16,7 @@ use Rattle.set_moves.specs.Agreement.{Holds, StandsFor, Message, Kept, rows_at}
 use Rattle.set_moves.specs.Parts.{kept_of, Gives, Obeys, link_of as link_kept}
 use Rattle.set_moves.proofs.Links.{stands_for, same_ups, same_target}
 use Rattle.set_moves.proofs.Rooms.{whole_of}
-use Rattle.set_traffic.specs.Traffic.{ReachesTo, HasPlace, IsSpacious, KeepsSpace, order_brought, message_brought, choice_in}
+use Rattle.set_traffic.specs.Traffic.{ReachesTo, HasPlace, KeepsSpace, order_brought, message_brought, choice_in}
 use Rattle.set_queues.specs.Messages.{octets_at, octets_of}
 use Rattle.set_model.proofs.Rows.{Found, found_by_number, row_in_filter}
 use Rattle.set_moves.proofs.RowsAt.{is_there, rows_as}
@@ -25,7 +25,7 @@ use Rattle.set_queues.specs.Backs.{back_from}
 use Rattle.set_route.specs.Routing.{home_of}
 use Rattle.set_route.specs.Target.{target_of}
 use Rattle.set_model.specs.Changeover.{Order, Coo, Coa, Cbd, Cba, Eco, Eca, fate_on, obeyed}
-use Rattle.set_moves.specs.Room.{IsReady, target_beside}
+use Rattle.set_moves.specs.Room.{IsSpaciousFor, IsReady, target_beside}
 
 -- The queue of a link that is there.
 pub queue_there : (parts : Parts) (n : ℕ) → Holds (kept_of parts) → n < length parts.links.items → n < length parts.queues.lists.links
@@ -111,7 +111,7 @@ module _ (old new : Parts) (k : KeepsSpace old new) where
     each = λ link low. grind (arith, as_many, same_from (16 * n) 16, k.queues.rooms (Waiting link), k.queues.rooms (Held link), r.each link);
   }
 
-  pub spacious_still : (order : Option Order) → IsSpacious order old → IsSpacious order new
+  pub spacious_still : (order : Option Order) → IfSome order (λ o. IsSpaciousFor o old) → IfSome order (λ o. IsSpaciousFor o new)
   spacious_still None r = tt
   spacious_still (Some (Coo link number)) r = ready_still link r
   spacious_still (Some (Coa link number)) r = ready_still link r

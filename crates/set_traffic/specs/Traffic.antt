@@ -54,11 +54,6 @@ abbrev pub HasPlace : {X Z : Type 0} → Option (List ℕ) → VecDeque X Z → 
 HasPlace None inbox = Unit {0}
 HasPlace (Some body) inbox = deque_len inbox < deque_capacity inbox
 
--- there is room for what it moves, and for the order that answers it
-abbrev pub IsSpacious : Option Order → Parts → Type 0
-IsSpacious None parts = Unit {0}
-IsSpacious (Some order) parts = IsSpaciousFor order parts
-
 -- so many stand unacknowledged on the link up to this FSN
 pub record ReachesTo (fsn count number : ℕ) (q : Lists) : Type 0 where
   pub count_is : count ≡ reach number fsn q

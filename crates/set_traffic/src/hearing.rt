@@ -6,9 +6,9 @@ ghost use Rattle.set_model.specs.Control.{part_of};
 ghost use Rattle.set_model.specs.State.{State, window_of};
 ghost use Rattle.set_model.specs.Step.{in_service, heard, is_msu, brought, takes, after_control, report_of};
 ghost use Rattle.set_moves.specs.Agreement.{Agrees, Holds};
-ghost use Rattle.set_traffic.specs.Traffic.{Acknowledges, HasPlace, IsSpacious, KeepsQueues, KeepsSpace, ReachesTo, order_brought, message_brought};
+ghost use Rattle.set_traffic.specs.Traffic.{Acknowledges, HasPlace, KeepsQueues, KeepsSpace, ReachesTo, order_brought, message_brought};
 ghost use Rattle.set_moves.specs.Parts.{Answers, AreCounted, IsWhole, OfStates, BecomesAt, Obeys, kept_of};
-ghost use Rattle.set_moves.specs.Room.{SameButRoom};
+ghost use Rattle.set_moves.specs.Room.{IsSpaciousFor, SameButRoom};
 
 use l2_units::{Header, Unit, header_in};
 use l2_window::HeardPart;
@@ -83,7 +83,7 @@ fn make_message_space(parts: &mut Parts, unit: &Unit) -> Result<Option<HeardBody
 /// where memory is refused.
 fn make_room_for(parts: &mut Parts, order: Option<Order>) -> Result<(), AllocError>
     requires whole { IsWhole parts.old }
-    ensures room { OnOk result (IsSpacious order parts.new) }
+    ensures room { OnOk result (IfSome order (λ order. IsSpaciousFor order parts.new)) }
     ensures same { SameButRoom parts.old parts.new }
     ensures none { order ≡ None → IsOk result }
 {
@@ -191,7 +191,7 @@ fn take_in(
     requires counted { AreCounted (2 ^ 61) parts.old.links.items }
     requires message { message ≡ message_brought unit.now }
     requires inbox { HasPlace (message_brought unit.now) parts.old.inbox }
-    requires room { IsSpacious order parts.old }
+    requires room { IfSome order (λ order. IsSpaciousFor order parts.old) }
     ensures { (s : State) → Agrees (kept_of parts.old) s
         → Obeys (takes (brought accept unit.now) s) result parts.new }
 {
