@@ -4,7 +4,7 @@ ghost use Rattle.l2_units.specs.Grammar.{head_of as header_of};
 ghost use Rattle.l3_orders.specs.Grammar.{IsOrder};
 ghost use Rattle.set_model.specs.Control.{part_of};
 ghost use Rattle.set_model.specs.State.{State, window_of};
-ghost use Rattle.set_model.specs.Step.{in_service, heard, is_msu, brought, takes, after_control, report_of};
+ghost use Rattle.set_model.specs.Step.{in_service, heard, is_msu, brought, takes, after_control};
 ghost use Rattle.set_moves.specs.Agreement.{Agrees, Holds};
 ghost use Rattle.set_traffic.specs.Traffic.{Acknowledges, HasPlace, KeepsQueues, KeepsSpace, ReachesTo, order_brought, message_brought};
 ghost use Rattle.set_moves.specs.Parts.{Answers, AreCounted, IsWhole, OfStates, BecomesAt, Obeys, kept_of};
@@ -54,9 +54,14 @@ pub fn hear(
     make_room_for(parts, order)?;
     let part = control_hears(parts, number, unit);
     let took = take_in(parts, part.accept, unit, order, message);
-    *answer = Answer::Heard {
-        report: report_on(part, took),
+    let report = Report {
+        acked: part.acked,
+        took,
+        asked: part.asked,
+        resend: part.resend,
+        fault: part.fault,
     };
+    *answer = Answer::Heard { report };
     Ok(())
 }
 
@@ -208,18 +213,5 @@ fn take_in(
     match order {
         Some(order) => obey(parts, order),
         None => Took::Ignored,
-    }
-}
-
-/// The report of what the control found, with what became of the body.
-fn report_on(part: HeardPart, took: Took) -> Report
-    ensures { result ≡ report_of part took }
-{
-    Report {
-        acked: part.acked,
-        took,
-        asked: part.asked,
-        resend: part.resend,
-        fault: part.fault,
     }
 }
