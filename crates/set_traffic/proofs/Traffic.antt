@@ -1,13 +1,13 @@
 -- What is sent and heard, by what is kept and by the state that it stands for.
-use Rattle.std.proofs.Common.{refl, arith, IfSome, ◌≡◌, ap, sym, subst, ◌<◌, ◌+◌, ◌-◌, ◌%◌, ℕ, Bool, length, Option, Some, slice_get, slice_index_or, option_map, ◌∙◌, ◌≤◌, [], ◌∷◌, List, suc, true, ◌&&◌, ◌*◌, ◌++◌, zero, false, map, None, slice_set}
+use Rattle.std.proofs.Common.{refl, arith, IfSome, ◌≡◌, ap, sym, ◌<◌, ◌+◌, ℕ, Bool, length, Option, Some, slice_get, slice_index_or, option_map, ◌∙◌, ◌≤◌, [], ◌∷◌, List, suc, true, ◌&&◌, ◌*◌, ◌++◌, zero, false, map, None, slice_set}
 use Rattle.std.proofs.lemmas.Bool.Decides.{nat_tests}
 use Rattle.arrayvec.specs.declared.array_vec.ArrayVec.{ArrayVec}
 use Rattle.l2_window.specs.Window.{WindowState}
-use Rattle.l2_window.specs.Control.{fsn_of, acked_where}
+use Rattle.l2_window.specs.Control.{fsn_of}
 use Rattle.l2_window.specs.declared.control.Choice.{Choice}
 use Rattle.set_queues.specs.Buffers.{queue_at, last_at, Lists, is_standing}
 use Rattle.set_model.specs.Rows.{Waiting, Unacked, Row, Fate, is_unacked, unack, numbers, octets_in, body_at, AreFit, Held}
-use Rattle.set_model.specs.Control.{Header, Control, choice_of, head_of, control_after, part_of, control_heard}
+use Rattle.set_model.specs.Control.{Header, Control, head_of, part_of}
 use Rattle.set_model.specs.State.{LinkState, State, window_of, target}
 use Rattle.set_model.specs.Step.{SignalUnit, Msu, Sent, next as next_of, sends, chosen, unit_of, Took, Message as MessageTaken, NothingTaken as Nothing, takes, brought, is_msu}
 use Rattle.set_moves.specs.declared.link.Link.{Link}
@@ -16,7 +16,7 @@ use Rattle.set_moves.specs.Agreement.{Holds, StandsFor, Message, Kept, rows_at}
 use Rattle.set_moves.specs.Parts.{kept_of, Gives, Obeys, link_of as link_kept}
 use Rattle.set_moves.proofs.Links.{stands_for, same_ups, same_target}
 use Rattle.set_moves.proofs.Rooms.{whole_of}
-use Rattle.set_traffic.specs.Traffic.{ReachesTo, HasPlace, KeepsSpace, order_brought, message_brought, choice_in}
+use Rattle.set_traffic.specs.Traffic.{ReachesTo, KeepsSpace, order_brought, message_brought, choice_in}
 use Rattle.set_queues.specs.Messages.{octets_at, octets_of}
 use Rattle.set_model.proofs.Rows.{Found, found_by_number, row_in_filter}
 use Rattle.set_moves.proofs.RowsAt.{is_there, rows_as}

@@ -1,12 +1,12 @@
 -- What is chosen to be sent, what a heard unit brings, and the space that it may want.
-use Rattle.std.specs.Prelude.{ℕ, ◌<◌, length, ◌≡◌, Bool, ◌+◌, ◌==◌, ◌≤◌, if◌then◌else◌, Option, Some, None, List, map, slice_get, slice_set}
+use Rattle.std.specs.Prelude.{ℕ, ◌<◌, length, ◌≡◌, ◌+◌, ◌==◌, ◌≤◌, if◌then◌else◌, Option, Some, None, List, map, slice_get, slice_set}
 use Rattle.l2_window.specs.declared.control.Choice.{Choice}
 use Rattle.l2_window.specs.declared.control.Choice.TheVariants.{Again, First, Fill}
 use Rattle.set_queues.specs.Buffers.{Lists, queue_at, KeepsRoom}
-use Rattle.set_model.specs.Control.{choice_of, control_after, Header, HeardPart, control_heard}
+use Rattle.set_model.specs.Control.{choice_of, control_after}
 use Rattle.set_model.specs.Rows.{Waiting, Unacked, octets_in, unack, Acked, Back, is_unacked, service_indicator, turned}
 use Rattle.set_model.specs.State.{LinkState, State, window_of, with_link}
-use Rattle.l2_window.specs.Window.{most_unacked, WindowState}
+use Rattle.l2_window.specs.Window.{most_unacked}
 use Rattle.std.specs.VecDeque.{deque_len, deque_capacity}
 use Rattle.std.specs.declared.collections.VecDeque.{VecDeque}
 use Rattle.set_model.specs.Changeover.{Order}
@@ -14,11 +14,9 @@ use Rattle.l3_orders.specs.Grammar.{order_of}
 use Rattle.set_queues.specs.Queues.{QueuesState}
 use Rattle.set_queues.specs.Sending.{reach}
 use Rattle.set_queues.specs.Settling.{on}
-use Rattle.set_model.specs.Step.{SignalUnit, Fisu, Lssu, Msu, one_if}
-use Rattle.set_moves.specs.declared.link.Link.{Link}
+use Rattle.set_model.specs.Step.{SignalUnit, Fisu, Lssu, Msu}
 use Rattle.set_moves.specs.Agreement.{Kept, StandsFor}
 use Rattle.set_moves.specs.declared.parts.Parts.{Parts}
-use Rattle.set_moves.specs.Room.{IsSpaciousFor}
 
 -- what the link's control chooses
 abbrev pub choice_in : ℕ → LinkState → State → Choice

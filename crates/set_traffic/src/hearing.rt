@@ -15,8 +15,7 @@ use l2_window::HeardPart;
 use l3_orders::{Order, read_order};
 use set_events::{Answer, Fate, Refusal, Report, Took};
 use set_moves::{
-    HeardBody, Parts, make_room, make_room_beside, obey, service_indicator, target_of,
-    unserved,
+    HeardBody, Parts, make_room, make_room_beside, obey, service_indicator, target_of, unserved,
 };
 use set_queues::{Queues, fate_on};
 use set_route::home_of_code;

@@ -6,7 +6,6 @@ use Rattle.set_model.specs.Sound.{IsSound}
 use Rattle.set_model.specs.State.{LinkState, State, window_of}
 use Rattle.set_model.specs.Step.{SignalUnit, Took, Lssu, HeardBack, Refused, Nothing, heard as heard_of, controls, after_control, report_of, is_msu}
 use Rattle.set_moves.specs.Agreement.{StandsFor, Agrees}
-use Rattle.set_traffic.specs.Traffic.{message_brought}
 use Rattle.set_moves.specs.Parts.{Up, kept_of}
 use Rattle.set_moves.proofs.Rooms.{whole_of}
 use Rattle.set_moves.proofs.Admitting.{IsIn, is_in, served}

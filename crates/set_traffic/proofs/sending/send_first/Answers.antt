@@ -1,5 +1,4 @@
-use Rattle.std.proofs.Common.{arith, ◌≡◌, ◌≢◌, ap, ◌<◌, List, ℕ, [], length, true, false}
-use Rattle.set_queues.specs.Buffers.{Waiting, queue_at}
+use Rattle.std.proofs.Common.{arith}
 use Rattle.set_model.proofs.Lists.{present}
 use Rattle.set_moves.specs.Parts.{kept_of}
 use Rattle.set_moves.proofs.States.{sent_then}
