@@ -58,12 +58,15 @@ returns-clause-ok c = λ s a.
     let roomy = c.make_room_parked.new.parts in
     let f = (agrees_same c.args.parts.now roomy s c.in_ok-make_room_parked.ensures.same a).stands in
     let i = is_in c.args.parts.now s n Settled a c.in_default.ensures.here in
-    rw (i.there, i.phase_is) (record { answer_is = refl; stands = risen_then (kept_of roomy) _ s n i.link (risen_link s.settings.method) (raised n s.routing) f i.there refl (record {
-      settings_same = refl;
-      lists_are = c.divert.ensures.lists ∙ ap (passed Parked (Waiting n)) c.reset.ensures.lists;
-      messages_are = rw (c.divert.ensures.messages, c.reset.ensures.lists, c.reset.ensures.same.0) refl;
-      bodies_are = refl;
-      links_are = rw (map_set, f.links, c.from.ensures, c.rise.ensures, ← f.settings) refl;
-      routing_is = c.raise.ensures ∙ ap (raised n) f.routing;
-      inbox_same = refl;
-    }) })
+    rw (i.there, i.phase_is) (record {
+      answer_is = refl;
+      stands = risen_then (kept_of roomy) _ s n i.link (risen_link s.settings.method) (raised n s.routing) f i.there refl (record {
+        settings_same = refl;
+        lists_are = c.divert.ensures.lists ∙ ap (passed Parked (Waiting n)) c.reset.ensures.lists;
+        messages_are = rw (c.divert.ensures.messages, c.reset.ensures.lists, c.reset.ensures.same.0) refl;
+        bodies_are = refl;
+        links_are = rw (map_set, f.links, c.from.ensures, c.rise.ensures, ← f.settings) refl;
+        routing_is = c.raise.ensures ∙ ap (raised n) f.routing;
+        inbox_same = refl;
+      });
+    })
