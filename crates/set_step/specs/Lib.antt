@@ -1,3 +1,1 @@
 pub mod Answering
-pub mod Faults
-pub mod Refusing

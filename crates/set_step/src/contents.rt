@@ -45,8 +45,7 @@ impl Core {
     ghost use Rattle.set_model.specs.History.{longest_history};
     ghost use Rattle.set_model.specs.Step.{step};
     ghost use Rattle.set_moves.specs.Agreement.{Agrees, StandsFor, Holds, HoldsFew};
-    ghost use Rattle.set_step.specs.Answering.{AnswersFor};
-    ghost use Rattle.set_step.specs.Faults.{wants_none};
+    ghost use Rattle.set_step.specs.Answering.{AnswersFor, wants_none};
 
     /// A set as this configuration has it: no messages, no link up.
     ///

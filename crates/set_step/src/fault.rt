@@ -2,7 +2,7 @@
 ghost use Rattle.std.specs.Prelude.{◌≡◌};
 ghost use Rattle.set_step.specs.declared.fault.SetFault.TheVariants.{NoMemory};
 
-use std::alloc::{AllocError, AllocFailed};
+use std::alloc::AllocError;
 use thiserror::Error;
 
 /// Why an event couldn't be carried out. The set is then as it was, with no entry made.
@@ -17,7 +17,7 @@ pub enum SetFault {
 }
 
 impl SetFault {
-    ghost use Rattle.set_step.specs.Faults.{fault_number};
+    ghost use Rattle.set_step.specs.Answering.{fault_number};
 
     /// The fault's number: 1 memory is wanted, 2 the history is full.
     pub fn number(self) -> u8
@@ -31,14 +31,6 @@ impl From<AllocError> for SetFault {
     ghost from_gives = { λ _ fault. fault ≡ NoMemory };
 
     fn from(_error: AllocError) -> SetFault {
-        SetFault::NoMemory
-    }
-}
-
-impl<T: Drop> From<AllocFailed<T>> for SetFault {
-    ghost from_gives = { λ _ fault. fault ≡ NoMemory };
-
-    fn from(_error: AllocFailed<T>) -> SetFault {
         SetFault::NoMemory
     }
 }

@@ -1,18 +1,14 @@
 //! What an event does to a set. Each function is a case of the set's step.
 ghost use Rattle.std.specs.Prelude.{◌≡◌, ◌<◌, ◌≤◌, ◌^◌, length, Some, true, IsOk, OnOk, OnErr};
 ghost use Rattle.l3_orders.specs.Grammar.{IsOrder};
-ghost use Rattle.set_queues.specs.Buffers.{IsKnown, IsQueued, room_at};
 ghost use Rattle.set_queues.specs.Messages.{unsent_of};
-ghost use Rattle.set_route.specs.Routing.{accepted};
-ghost use Rattle.set_model.specs.Changeover.{leaving_order, left_by, queued};
+ghost use Rattle.set_model.specs.Changeover.{leaving_order};
 ghost use Rattle.set_model.specs.Sound.{IsAsked};
 ghost use Rattle.set_model.specs.Step.{offer_refusal, offered, on_link, in_service, rises, falls, gives_up, taken, found, stepped};
-ghost use Rattle.set_model.specs.Rows.{appended, place, stream_of};
+ghost use Rattle.set_model.specs.Rows.{place, stream_of};
 ghost use Rattle.set_moves.specs.Agreement.{Holds};
-ghost use Rattle.set_step.specs.Faults.{wants_none};
-ghost use Rattle.set_step.specs.Refusing.{refusal_by};
-ghost use Rattle.set_moves.specs.Parts.{Up, Settled, Answers, AreCounted, Becomes, BecomesAt, AgreedBecomes, IsHere, link_of, kept_of};
-ghost use Rattle.set_moves.specs.Room.{HasRoom, IsReady};
+ghost use Rattle.set_step.specs.Answering.{wants_none, refusal_by};
+ghost use Rattle.set_moves.specs.Parts.{Answers, AreCounted, link_of, kept_of};
 
 use super::admitting::{unraised, unwaited};
 use l2_units::LONGEST_BODY;
@@ -29,7 +25,7 @@ use std::alloc::AllocError;
 
 /// What is answered to an event is put into `answer`: an answer has room for a unit, and one that is handed on by value is
 /// copied each time. On a fault nothing of the parts has changed.
-#[tactic(auto, using(crate::proofs::Fresh::may_want))]
+#[tactic(auto, using(crate::proofs::Kept::may_want))]
 pub(crate) fn carry_out(
     parts: &mut Parts,
     event: &Event,
@@ -84,29 +80,13 @@ fn offer(parts: &mut Parts, body: &Body, answer: &mut Answer) -> Result<(), Allo
         return Ok(());
     }
     let octets = body.octets();
-    let fate = fate_of_new(parts, stream_of_body(octets));
+    let stream = stream_of_body(octets);
+    let fate = fate_of_new(parts, stream);
     make_room(parts, fate)?;
-    let number = accept(parts, octets, fate);
+    let number = stand_last(parts, octets, fate);
+    parts.routes.accept(stream);
     *answer = Answer::Accepted { number };
     Ok(())
-}
-
-/// The offered message is the last of its queue from now on: its number.
-fn accept(parts: &mut Parts, body: &[u8], fate: Fate) -> u64
-    requires fits { length body.now ≤ 273 }
-    requires known { IsKnown fate parts.old.queues.lists }
-    requires queued { IsQueued fate }
-    requires room { HasRoom fate parts.old }
-    ensures number { result ≡ length parts.old.queues.messages }
-    ensures stands { Becomes parts.old parts.new (λ s. record s {
-      rows = appended s.rows body.now fate;
-      routing = accepted (stream_of body.now) s.routing;
-    }) }
-{
-    let stream = stream_of_body(body);
-    let number = stand_last(parts, body, fate);
-    parts.routes.accept(stream);
-    number
 }
 
 /// Why an offer is refused, if it is: the first reason in the order of the refusals.
@@ -190,24 +170,12 @@ fn take_down(
         *answer = Answer::Refused { why };
         return Ok(());
     }
-    make_room_beside(parts, number, 1)?;
-    fall(parts, number, blind);
-    *answer = Answer::Done;
-    Ok(())
-}
-
-/// The link is left, and an order tells the far end.
-fn fall(parts: &mut Parts, number: u8, blind: bool)
-    requires holds { Holds (kept_of parts.old) }
-    requires counted { AreCounted (2 ^ 60) parts.old.links.items }
-    requires here { IsHere parts.old.links.items number Up }
-    requires room { IsReady number 1 parts.old }
-    ensures stands { AgreedBecomes number parts.old parts.new (λ link s.
-        queued (leaving_order blind number link) (left_by blind number link s)) }
-{
     let order = order_on_leaving(&parts.links[usize::from(number)], number, blind);
+    make_room_beside(parts, number, 1)?;
     leave(parts, number, blind);
     queue(parts, order);
+    *answer = Answer::Done;
+    Ok(())
 }
 
 /// The order with which a link is left.
@@ -241,26 +209,14 @@ fn bring_up(parts: &mut Parts, number: u8, answer: &mut Answer) -> Result<(), Al
         return Ok(());
     }
     make_room_parked(parts, number)?;
-    rise(parts, number);
-    *answer = Answer::Done;
-    Ok(())
-}
-
-/// The settled link is in service from now on.
-fn rise(parts: &mut Parts, number: u8)
-    requires holds { Holds (kept_of parts.old) }
-    requires here { IsHere parts.old.links.items number Settled }
-    requires room { length parts.old.queues.lists.parked ≤ room_at (Fate.Waiting number)
-        parts.old.queues.rooms }
-    ensures stands { BecomesAt number parts.old parts.new
-        (λ link s. (rises number s Settled).state) }
-{
     parts.queues.reset(number);
     parts
         .queues
         .divert(Fate::Parked, Fate::Waiting { link: number });
     parts.links[usize::from(number)].rise(parts.config.method);
     parts.routes.raise(number);
+    *answer = Answer::Done;
+    Ok(())
 }
 
 /// A law: the octets of a label tell one of 16 streams.

@@ -1,3 +1,1 @@
-pub mod Bodies
-pub mod Controls
-pub mod Told
+pub mod Traffic

@@ -4,18 +4,19 @@ ghost use Rattle.l2_units.specs.Grammar.{head_of as header_of};
 ghost use Rattle.l3_orders.specs.Grammar.{IsOrder};
 ghost use Rattle.set_model.specs.Control.{part_of};
 ghost use Rattle.set_model.specs.State.{State, window_of};
-ghost use Rattle.set_model.specs.Step.{in_service, heard, is_msu, brought, takes, after_control, report_of};
+ghost use Rattle.set_model.specs.Step.{in_service, heard, is_msu, brought, takes, after_control};
 ghost use Rattle.set_moves.specs.Agreement.{Agrees, Holds};
-ghost use Rattle.set_traffic.specs.Hearing.{Acknowledges, HasPlace, IsSpacious, KeepsQueues, KeepsSpace, ReachesTo, counted_at, order_brought, message_brought};
-ghost use Rattle.set_moves.specs.Parts.{Answers, AreCounted, IsCounted, IsWhole, OfStates, BecomesAt, Obeys, kept_of};
-ghost use Rattle.set_moves.specs.Room.{SameButRoom};
+ghost use Rattle.set_traffic.specs.Traffic.{Acknowledges, HasPlace, KeepsQueues, KeepsSpace, ReachesTo, order_brought, message_brought};
+ghost use Rattle.set_moves.specs.Parts.{Answers, AreCounted, IsWhole, OfStates, BecomesAt, Obeys, kept_of};
+ghost use Rattle.set_moves.specs.Room.{IsSpaciousFor, SameButRoom};
 
 use l2_units::{Header, Unit, header_in};
-use l2_window::{HeardPart, Window};
+use l2_window::HeardPart;
 use l3_orders::{Order, read_order};
 use set_events::{Answer, Fate, Refusal, Report, Took};
-use set_model::service_indicator;
-use set_moves::{HeardBody, Link, Parts, make_room, make_room_beside, obey, target_of, unserved};
+use set_moves::{
+    HeardBody, Parts, make_room, make_room_beside, obey, service_indicator, target_of, unserved,
+};
 use set_queues::{Queues, fate_on};
 use set_route::home_of_code;
 use std::alloc::AllocError;
@@ -52,16 +53,21 @@ pub fn hear(
     make_room_for(parts, order)?;
     let part = control_hears(parts, number, unit);
     let took = take_in(parts, part.accept, unit, order, message);
-    *answer = Answer::Heard {
-        report: report_on(part, took),
+    let report = Report {
+        acked: part.acked,
+        took,
+        asked: part.asked,
+        resend: part.resend,
+        fault: part.fault,
     };
+    *answer = Answer::Heard { report };
     Ok(())
 }
 
 /// Takes a place in the inbox for the message that the unit brings users, if it brings one, and memory for its body.
 fn make_message_space(parts: &mut Parts, unit: &Unit) -> Result<Option<HeardBody>, AllocError>
     ensures message { IfOk result (λ message. message ≡ message_brought unit.now) }
-    ensures inbox { OnOk result (HasPlace (message_brought unit.now) parts.new) }
+    ensures inbox { OnOk result (HasPlace (message_brought unit.now) parts.new.inbox) }
     ensures same { kept_of parts.new ≡ kept_of parts.old }
     ensures parts { parts.new ≡ record parts.old { inbox = parts.new.inbox } }
     ensures none { is_msu unit.now ≡ false → IsOk result }
@@ -81,7 +87,7 @@ fn make_message_space(parts: &mut Parts, unit: &Unit) -> Result<Option<HeardBody
 /// where memory is refused.
 fn make_room_for(parts: &mut Parts, order: Option<Order>) -> Result<(), AllocError>
     requires whole { IsWhole parts.old }
-    ensures room { OnOk result (IsSpacious order parts.new) }
+    ensures room { OnOk result (IfSome order (λ order. IsSpaciousFor order parts.new)) }
     ensures same { SameButRoom parts.old parts.new }
     ensures none { order ≡ None → IsOk result }
 {
@@ -127,7 +133,7 @@ fn order_in(unit: &Unit) -> Option<Order>
     }
 }
 
-/// The control hears the unit: acknowledged messages are the first ones, and so many.
+/// The control hears the unit, and the link counts: acknowledged messages are the first ones, and so many.
 fn control_hears(parts: &mut Parts, number: u8, unit: &Unit) -> HeardPart
     requires counted { AreCounted (2 ^ 60) parts.old.links.items }
     requires known { number < length parts.old.links.items }
@@ -143,21 +149,10 @@ fn control_hears(parts: &mut Parts, number: u8, unit: &Unit) -> HeardPart
     let window = parts.queues.window(number);
     let head = header_in(unit);
     let link = &mut parts.links[usize::from(number)];
-    let part = hear_at(link, window, head, has_message(unit));
-    acknowledge(&mut parts.queues, number, head.bsn, part.acked);
-    part
-}
-
-/// The link's control hears the unit, and the link counts.
-fn hear_at(link: &mut Link, window: &Window, head: Header, is_msu: bool) -> HeardPart
-    requires { IsCounted (2 ^ 60) link.old }
-    ensures part { result ≡ part_of link.old.control window.now head is_msu }
-    ensures link { link.new ≡ counted_at result window.now head is_msu link.old }
-    ensures counted { IsCounted (2 ^ 61) link.new }
-{
-    let part = link.control.hear(window, head, is_msu);
+    let part = link.control.hear(window, head, has_message(unit));
     link.acked += u64::from(part.acked);
     link.accepted += u64::from(part.accept);
+    acknowledge(&mut parts.queues, number, head.bsn, part.acked);
     part
 }
 
@@ -199,8 +194,8 @@ fn take_in(
     requires holds { Holds (kept_of parts.old) }
     requires counted { AreCounted (2 ^ 61) parts.old.links.items }
     requires message { message ≡ message_brought unit.now }
-    requires inbox { HasPlace (message_brought unit.now) parts.old }
-    requires room { IsSpacious order parts.old }
+    requires inbox { HasPlace (message_brought unit.now) parts.old.inbox }
+    requires room { IfSome order (λ order. IsSpaciousFor order parts.old) }
     ensures { (s : State) → Agrees (kept_of parts.old) s
         → Obeys (takes (brought accept unit.now) s) result parts.new }
 {
@@ -217,18 +212,5 @@ fn take_in(
     match order {
         Some(order) => obey(parts, order),
         None => Took::Ignored,
-    }
-}
-
-/// The report of what the control found, with what became of the body.
-fn report_on(part: HeardPart, took: Took) -> Report
-    ensures { result ≡ report_of part took }
-{
-    Report {
-        acked: part.acked,
-        took,
-        asked: part.asked,
-        resend: part.resend,
-        fault: part.fault,
     }
 }

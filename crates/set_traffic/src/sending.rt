@@ -8,7 +8,7 @@ ghost use Rattle.set_model.specs.State.{State, LinkState, window_of};
 ghost use Rattle.set_model.specs.Step.{next, in_service};
 ghost use Rattle.set_moves.specs.Agreement.{Holds, StandsFor, rows_at};
 ghost use Rattle.set_moves.specs.Parts.{Answers, AnswersAt, OfStates, BecomesAt, kept_of};
-ghost use Rattle.set_traffic.specs.Sending.{IsThere, choice_in, goes_on};
+ghost use Rattle.set_traffic.specs.Traffic.{IsThere, choice_in, goes_on};
 
 use arrayvec::ArrayVec;
 use l2_units::{Header, LONGEST_BODY, Unit, body_of};

@@ -1,14 +1,14 @@
-use Rattle.std.proofs.Common.{refl, ◌≡◌, ◌∙◌, ap, List, ℕ}
+use Rattle.std.proofs.Common.{refl, arith, ◌≡◌, ◌∙◌, ap, List, ℕ}
 use Rattle.set_queues.specs.Messages.{unsent_of}
 use Rattle.set_route.specs.Routing.{place_of}
 use Rattle.set_model.specs.Rows.{stream_of}
 use Rattle.set_model.specs.State.{State, fate_at}
 use Rattle.set_model.specs.Step.{Accepted, offer_refusal}
 use Rattle.set_moves.specs.Agreement.{Kept, StandsFor}
-use Rattle.set_step.specs.Refusing.{refusal_by}
+use Rattle.set_step.specs.Answering.{refusal_by}
 use Rattle.set_moves.specs.Parts.{kept_of}
 use Rattle.set_moves.proofs.Links.{agrees_same, whole_of}
-use Rattle.set_step.proofs.Reading.{unsent_is}
+use Rattle.set_step.proofs.Kept.{unsent_is}
 use Rattle.set_step.proofs.step.offer.Goals as goal
 
 pub fate_of_new-fate-requires-clause-whole : goal.fate_of_new-fate-requires-clause-whole
@@ -23,11 +23,12 @@ returns-in-Some-clause-ok c = λ s a. rw (← same_refusal (kept_of c.args.parts
 pub returns-clause-ok : goal.returns-clause-ok
 returns-clause-ok c = λ s a.
     let now = agrees_same c.args.parts.now c.make_room.new.parts s c.in_ok-make_room.ensures.same a in
-    let fate = c.fate_of_new-fate.ensures.value s a.stands ∙ ap (λ stream. fate_at (place_of stream s.routing) s) c.stream_of_body.ensures.value in
+    let fate = c.fate_of_new-fate.ensures.value s a.stands ∙ ap (λ stream. fate_at (place_of stream s.routing) s) c.stream_of_body-stream.ensures.value in
+    let stands = rw (fate, c.octets-octets.ensures) at (c.stand_last-number.ensures.stands s now.stands) in
     rw (← same_refusal (kept_of c.args.parts.now) s c.args.body.now a.stands, ← c.refusal_of.ensures, c.in_default.is) (record {
-      answer_is = ap Accepted (c.accept-number.ensures.number ∙ now.stands.stands.count);
-      stands = rw (fate, c.octets-octets.ensures) at (c.accept-number.ensures.stands s now.stands);
+      answer_is = ap Accepted (c.stand_last-number.ensures.number ∙ now.stands.stands.count);
+      stands = grind (arith, stands, c.accept.ensures, c.stream_of_body-stream.ensures.value, c.octets-octets.ensures);
     })
 
-pub accept-number-requires-clause-known : goal.accept-number-requires-clause-known
-accept-number-requires-clause-known c = rw (ap (λ (k : Kept). k.lists) c.make_room.ensures.same.kept) c.fate_of_new-fate.ensures.known
+pub stand_last-number-requires-clause-known : goal.stand_last-number-requires-clause-known
+stand_last-number-requires-clause-known c = rw (ap (λ (k : Kept). k.lists) c.make_room.ensures.same.kept) c.fate_of_new-fate.ensures.known

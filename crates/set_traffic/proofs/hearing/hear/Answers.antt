@@ -1,17 +1,15 @@
 use Rattle.std.proofs.Common.{refl, arith, ◌≡◌, ◌∙◌, ap, sym, subst, ℕ}
 use Rattle.l2_signals.specs.declared.status.Status.{Status}
 use Rattle.l2_units.specs.Grammar.{head_of as header_in}
-use Rattle.set_model.specs.Control.{Header, part_of}
+use Rattle.set_model.specs.Control.{Header, HeardPart, part_of}
 use Rattle.set_model.specs.Sound.{IsSound}
 use Rattle.set_model.specs.State.{LinkState, State, window_of}
-use Rattle.set_model.specs.Step.{SignalUnit, Lssu, HeardBack, Refused, Nothing, heard as heard_of, controls, after_control, report_of, is_msu}
+use Rattle.set_model.specs.Step.{SignalUnit, Took, Lssu, HeardBack, Refused, Nothing, heard as heard_of, controls, after_control, report_of, is_msu}
 use Rattle.set_moves.specs.Agreement.{StandsFor, Agrees}
-use Rattle.set_traffic.specs.Hearing.{message_brought}
 use Rattle.set_moves.specs.Parts.{Up, kept_of}
 use Rattle.set_moves.proofs.Links.{whole_of, IsIn, is_in, served}
 use Rattle.set_model.proofs.SoundLink.{hears_sound}
-use Rattle.set_traffic.proofs.Controls.{queue_there}
-use Rattle.set_traffic.proofs.Told.{place_still, spacious_still}
+use Rattle.set_traffic.proofs.Traffic.{queue_there, spacious_still}
 use Rattle.set_traffic.proofs.hearing.hear.Goals as goal
 use Rattle.set_traffic.proofs.hearing.hear.Goals.{After-control_hears-part}
 
@@ -42,7 +40,7 @@ pub take_in-took-requires-clause-holds : goal.take_in-took-requires-clause-holds
 take_in-took-requires-clause-holds c = (_, after (goal.at.take_in-took-requires-clause-holds c).After-control_hears-part c.requires.holds.0 c.requires.holds.1)
 
 pub take_in-took-requires-clause-inbox : goal.take_in-took-requires-clause-inbox
-take_in-took-requires-clause-inbox c = place_still (message_brought c.args.unit.now) c.make_message_space.new.parts c.control_hears-part.new.parts (c.control_hears-part.ensures.keeps.inbox ∙ c.in_ok-make_room_for.ensures.same.inbox) c.in_ok-message.ensures.inbox
+take_in-took-requires-clause-inbox c = rw (c.control_hears-part.ensures.keeps.inbox, c.in_ok-make_room_for.ensures.same.inbox) c.in_ok-message.ensures.inbox
 
 pub take_in-took-requires-clause-room : goal.take_in-took-requires-clause-room
 take_in-took-requires-clause-room c = spacious_still c.make_room_for.new.parts c.control_hears-part.new.parts c.control_hears-part.ensures.keeps c.order_in-order.result c.in_ok-make_room_for.ensures.room
@@ -51,6 +49,10 @@ take_in-took-requires-clause-room c = spacious_still c.make_room_for.new.parts c
 is_controls : (unit : SignalUnit) (n : ℕ) (s : State) (link : LinkState) → ((head : Header) (status : Status) → unit ≡ Lssu head status → ⊥) → heard_of unit n s link ≡ controls unit n s link
 is_controls unit n s link other = grind arith
 
+-- a report says of the fault what the control found
+reported : (part : HeardPart) (took : Took) → record { acked = part.acked; took = took; asked = part.asked; resend = part.resend; fault = part.fault } ≡ report_of part took
+reported part took = grind arith
+
 pub returns-clause-ok : goal.returns-clause-ok
 returns-clause-ok c = λ s a.
     let n = c.args.number in
@@ -58,8 +60,8 @@ returns-clause-ok c = λ s a.
     let so = (goal.at.returns-clause-ok c).After-control_hears-part in
     let i = at so s a in
     let o = c.take_in-took.ensures _ (after so s a) in
-    served s n (heard_of unit n s) (HeardBack c.report_on.result) c.take_in-took.new.parts i
-    (rw (is_controls unit n s i.link (λ head status e. c.in_default-unit.not-Lssu head status e), ← told so s a) (record { answer_is = ap HeardBack (c.report_on.ensures ∙ ap (report_of c.control_hears-part.result) o.took_is); stands = o.stands }))
+    served s n (heard_of unit n s) _ c.take_in-took.new.parts i
+    (rw (is_controls unit n s i.link (λ head status e. c.in_default-unit.not-Lssu head status e), ← told so s a) (record { answer_is = ap HeardBack (reported c.control_hears-part.result c.take_in-took.result ∙ ap (report_of c.control_hears-part.result) o.took_is); stands = o.stands }))
 
 pub returns-in-Lssu-clause-ok : goal.returns-in-Lssu-clause-ok
 returns-in-Lssu-clause-ok c = λ s a.

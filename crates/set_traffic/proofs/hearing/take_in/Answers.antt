@@ -1,7 +1,7 @@
 use Rattle.std.proofs.Common.{◌∙◌, refl, sym}
 use Rattle.set_model.specs.Step.{Ignored}
 use Rattle.set_moves.specs.Parts.{kept_of}
-use Rattle.set_traffic.proofs.Told.{delivered, message_taken, nothing_taken, for_management}
+use Rattle.set_traffic.proofs.Traffic.{delivered, message_taken, nothing_taken, for_management}
 use Rattle.set_traffic.proofs.hearing.take_in.Goals as goal
 
 pub returns-then-not-accept : goal.returns-then-not-accept

@@ -2,7 +2,7 @@ use Rattle.std.proofs.Common.{arith, ◌∙◌, ap, sym, Some}
 use Rattle.set_queues.proofs.Standing.{none_past}
 use Rattle.set_queues.specs.Buffers.{queue_at}
 use Rattle.set_moves.specs.Parts.{kept_of}
-use Rattle.set_traffic.proofs.Bodies.{fit_at, found_at, body_is}
+use Rattle.set_traffic.proofs.Traffic.{fit_at, found_at, body_is}
 use Rattle.set_traffic.proofs.sending.body_at.Goals as goal
 
 pub unreachable-requires : goal.unreachable-requires

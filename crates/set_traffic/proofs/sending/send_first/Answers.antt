@@ -1,15 +1,11 @@
-use Rattle.std.proofs.Common.{arith, ◌≡◌, ◌≢◌, ap, ◌<◌, List, ℕ, [], length, true, false}
-use Rattle.set_queues.specs.Buffers.{Waiting, queue_at}
+use Rattle.std.proofs.Common.{arith}
 use Rattle.set_model.proofs.Lists.{present}
 use Rattle.set_moves.specs.Parts.{kept_of}
 use Rattle.set_moves.proofs.States.{sent_then}
 use Rattle.set_traffic.proofs.sending.send_first.Goals as goal
 
-some : (xs : List ℕ) → 0 < length xs → xs ≢ []
-some xs h e = let none : length xs ≡ 0 = ap length e in omega (arith, h, none)
-
 pub unreachable-requires : goal.unreachable-requires
-unreachable-requires c = let no : false ≡ true = c.in-Err.ensures.succeeds (some (queue_at (Waiting c.args.number) c.args.parts.now.queues.lists) c.requires.some) c.requires.few in absurd (cc)
+unreachable-requires c = grind (arith, c.in-Err.ensures.succeeds)
 
 pub returns : goal.returns
 returns c = λ s f order.

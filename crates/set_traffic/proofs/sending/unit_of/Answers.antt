@@ -1,8 +1,8 @@
 use Rattle.std.proofs.Common.{refl}
 use Rattle.l2_window.specs.declared.control.Choice.TheVariants.{First}
 use Rattle.set_moves.specs.Parts.{kept_of}
-use Rattle.set_traffic.specs.Sending.{goes_on}
-use Rattle.set_traffic.proofs.Controls.{given, with_body, queue_there}
+use Rattle.set_traffic.specs.Traffic.{goes_on}
+use Rattle.set_traffic.proofs.Traffic.{given, with_body, queue_there}
 use Rattle.set_traffic.proofs.sending.unit_of.Goals as goal
 
 pub go_on-choice-requires-clause-queue : goal.go_on-choice-requires-clause-queue

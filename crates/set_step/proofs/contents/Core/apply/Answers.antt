@@ -1,6 +1,6 @@
 use Rattle.std.proofs.Common.{subst, sym}
 use Rattle.set_moves.specs.Agreement.{Agrees}
-use Rattle.set_step.proofs.Fresh.{answers_for, holds_after, counted_of}
+use Rattle.set_step.proofs.Kept.{answers_for, holds_after, counted_of}
 use Rattle.set_step.proofs.contents.Core.apply.Goals as goal
 
 pub carry_out-requires-clause-counted : goal.carry_out-requires-clause-counted

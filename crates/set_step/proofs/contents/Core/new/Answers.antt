@@ -3,7 +3,7 @@ use Rattle.set_model.specs.State.{new_state}
 use Rattle.set_moves.specs.declared.parts.Parts.{Parts}
 use Rattle.set_moves.specs.Agreement.{Agrees}
 use Rattle.set_moves.specs.Parts.{kept_of}
-use Rattle.set_step.proofs.Fresh.{opened}
+use Rattle.set_step.proofs.Kept.{opened}
 use Rattle.set_step.proofs.contents.Core.new.Goals as goal
 use Rattle.set_step.proofs.contents.Core.new.Goals.{After-new-4}
 

@@ -6,7 +6,7 @@ use Rattle.set_model.specs.State.{State, unacked_in}
 use Rattle.set_moves.specs.Agreement.{StandsFor}
 use Rattle.set_model.proofs.Lists.{within}
 use Rattle.set_moves.specs.Parts.{kept_of, link_of}
-use Rattle.set_step.proofs.Reading.{unacked_is, unacked_past}
+use Rattle.set_step.proofs.Kept.{unacked_is, unacked_past}
 use Rattle.set_moves.proofs.Links.{whole_of}
 use Rattle.set_step.proofs.contents.Core.unacked_at.Goals as goal
 use Rattle.set_step.proofs.contents.Core.unacked_at.Goals.{After-number_at}

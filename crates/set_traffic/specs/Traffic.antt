@@ -1,21 +1,39 @@
--- What a heard unit brings, and the space that it may want.
-use Rattle.std.specs.Prelude.{◌≡◌, ℕ, Bool, ◌+◌, ◌==◌, ◌<◌, ◌≤◌, if◌then◌else◌, Option, Some, None, List, length, map, slice_get, slice_set}
+-- What is chosen to be sent, what a heard unit brings, and the space that it may want.
+use Rattle.std.specs.Prelude.{ℕ, ◌<◌, length, ◌≡◌, ◌+◌, ◌==◌, ◌≤◌, if◌then◌else◌, Option, Some, None, List, map, slice_get, slice_set}
+use Rattle.l2_window.specs.declared.control.Choice.{Choice}
+use Rattle.l2_window.specs.declared.control.Choice.TheVariants.{Again, First, Fill}
+use Rattle.set_queues.specs.Buffers.{Lists, queue_at, KeepsRoom}
+use Rattle.set_model.specs.Control.{choice_of, control_after}
+use Rattle.set_model.specs.Rows.{Waiting, Unacked, octets_in, unack, Acked, Back, is_unacked, service_indicator, turned}
+use Rattle.set_model.specs.State.{LinkState, State, window_of, with_link}
+use Rattle.l2_window.specs.Window.{most_unacked}
 use Rattle.std.specs.VecDeque.{deque_len, deque_capacity}
-use Rattle.l2_window.specs.Window.{WindowState}
+use Rattle.std.specs.declared.collections.VecDeque.{VecDeque}
 use Rattle.set_model.specs.Changeover.{Order}
 use Rattle.l3_orders.specs.Grammar.{order_of}
-use Rattle.set_queues.specs.Buffers.{Lists, KeepsRoom, queue_at}
 use Rattle.set_queues.specs.Queues.{QueuesState}
 use Rattle.set_queues.specs.Sending.{reach}
 use Rattle.set_queues.specs.Settling.{on}
-use Rattle.set_model.specs.Control.{Header, HeardPart, control_heard}
-use Rattle.set_model.specs.Step.{SignalUnit, Fisu, Lssu, Msu, one_if}
-use Rattle.set_moves.specs.declared.link.Link.{Link}
-use Rattle.set_model.specs.Rows.{Unacked, Acked, Back, is_unacked, service_indicator, turned}
-use Rattle.set_model.specs.State.{LinkState, State, with_link}
+use Rattle.set_model.specs.Step.{SignalUnit, Fisu, Lssu, Msu}
 use Rattle.set_moves.specs.Agreement.{Kept, StandsFor}
 use Rattle.set_moves.specs.declared.parts.Parts.{Parts}
-use Rattle.set_moves.specs.Room.{IsSpaciousFor}
+
+-- what the link's control chooses
+abbrev pub choice_in : ℕ → LinkState → State → Choice
+choice_in number link s = choice_of (octets_in (unack number s.rows)) link.control (window_of number link s.rows)
+
+-- the link's control goes on as that is sent
+abbrev pub goes_on : ℕ → Choice → LinkState → State → State
+goes_on number choice link s = with_link number (record link {
+  control = control_after choice (octets_in (unack number s.rows)) link.control (window_of number link s.rows);
+}) s
+
+-- what is chosen is there
+abbrev pub IsThere : Choice → ℕ → Lists → Type 0
+IsThere (Again place) number q = place < length (queue_at (Unacked number) q)
+IsThere First number q =
+    (0 < length (queue_at (Waiting number) q)) × (length (queue_at (Unacked number) q) < most_unacked)
+IsThere Fill number q = Unit {0}
 
 -- the order that a unit brings, if it brings one
 abbrev pub order_brought : SignalUnit → Option Order
@@ -30,22 +48,9 @@ message_brought (Lssu head status) = None
 message_brought (Msu head body) = if service_indicator body.items == 0 then None else Some body.items
 
 -- there is a place in the inbox for it
-abbrev pub HasPlace : Option (List ℕ) → Parts → Type 0
-HasPlace None parts = Unit {0}
-HasPlace (Some body) parts = deque_len parts.inbox < deque_capacity parts.inbox
-
--- there is room for what it moves, and for the order that answers it
-abbrev pub IsSpacious : Option Order → Parts → Type 0
-IsSpacious None parts = Unit {0}
-IsSpacious (Some order) parts = IsSpaciousFor order parts
-
--- the link when its control heard, by the kept window, what this header tells
-abbrev pub counted_at : HeardPart → WindowState → Header → Bool → Link → Link
-counted_at part window head is_msu link = record link {
-  acked = link.acked + part.acked;
-  accepted = link.accepted + one_if part.accept;
-  control = control_heard link.control window head is_msu;
-}
+abbrev pub HasPlace : {X Z : Type 0} → Option (List ℕ) → VecDeque X Z → Type 0
+HasPlace None inbox = Unit {0}
+HasPlace (Some body) inbox = deque_len inbox < deque_capacity inbox
 
 -- so many stand unacknowledged on the link up to this FSN
 pub record ReachesTo (fsn count number : ℕ) (q : Lists) : Type 0 where

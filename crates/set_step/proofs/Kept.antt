@@ -1,16 +1,28 @@
--- What is read of a set: how many messages there are of a kind and in each place, and the unacknowledged ones of a link.
-use Rattle.std.proofs.Common.{refl, arith, ◌≡◌, ◌∙◌, ap, sym, ◌≤◌, ◌+◌, [], ◌∷◌, List, ℕ, suc, length, ◌&&◌, Bool, nat_le, Option, Some, None, ◌<◌, ◌%◌, slice_get, filter, option_map}
+-- What is read of a set, a set of which nothing was asked, and what holds after each event.
+use Rattle.std.proofs.Common.{refl, arith, ◌≡◌, ◌∙◌, ap, sym, ◌≤◌, ◌+◌, [], ◌∷◌, List, ℕ, suc, length, ◌&&◌, Bool, nat_le, Option, Some, None, ◌<◌, ◌%◌, slice_get, filter, option_map, true, false, IsOk, Result, subst, zero, ◌^◌, map, nat_lt, if◌then◌else◌, replicate}
 use Rattle.std.proofs.Math.Nat.{zero-add}
 use Rattle.std.proofs.lemmas.Bool.Decides.{nat_tests}
-use Rattle.set_queues.specs.Buffers.{Lists, queue_at, last_at}
+use Rattle.set_queues.specs.Buffers.{Lists, queue_at, last_at, no_lists}
 use Rattle.set_queues.specs.Messages.{one_if, is_of, is_users, unsent_of, count_of, counts_of}
-use Rattle.set_model.specs.Rows.{Fate, Unacked, Row, row_of, unsent, is_unsent, IsNumbered, standing, users, counts_of as counts_in}
+use Rattle.set_model.specs.Rows.{Fate, Unacked, Row, row_of, unsent, is_unsent, IsNumbered, standing, users, counts_of as counts_in, numbers}
 use Rattle.set_model.proofs.Rows.{with_number, row_is_first}
-use Rattle.set_moves.specs.Agreement.{Message, Label, Stands, kind_of, label_in, label_of, Kept, StandsFor}
+use Rattle.set_moves.specs.Agreement.{Message, Label, Stands, kind_of, label_in, label_of, Kept, StandsFor, Agrees, Holds, HoldsFew, rows_at}
 use Rattle.std.proofs.lemmas.Option.{slice_get_past, slice_get-map}
 use Rattle.std.proofs.lemmas.List.Elements.{filter_agree}
-use Rattle.set_model.specs.State.{State, LinkState, unacked_of, unacked_in}
-use Rattle.set_model.proofs.Lists.{present}
+use Rattle.set_model.specs.State.{State, LinkState, unacked_of, unacked_in, settings_of, new_link, new_state}
+use Rattle.set_model.proofs.Lists.{present, map_at}
+use Rattle.std.proofs.lemmas.List.{length-replicate}
+use Rattle.set_events.specs.declared.config.SetConfig.{SetConfig}
+use Rattle.set_queues.specs.Queues.{AreGiven, AreSound}
+use Rattle.set_queues.proofs.Soundness.{given_all}
+use Rattle.set_route.specs.Routing.{new_routing}
+use Rattle.set_model.specs.Sound.{IsAsked}
+use Rattle.set_model.specs.Step.{Event, Answer, step, stepped}
+use Rattle.set_model.proofs.Soundness.{opened_sound, step_sound}
+use Rattle.set_model.proofs.Walk.{step_is}
+use Rattle.set_moves.specs.declared.parts.Parts.{Parts}
+use Rattle.set_step.specs.Answering.{AnswersFor, wants_none}
+use Rattle.set_moves.specs.Parts.{Answers, AreCounted, kept_of, link_of}
 
 -- rows that pass a test, of this number or a later one
 abbrev from : (Row → Bool) → ℕ → List Row → ℕ
@@ -70,3 +82,42 @@ unacked_is k s n place o f low at =
 -- there is none on a link that isn't there
 pub unacked_past : (k : Kept) (s : State) (n place : ℕ) → StandsFor k s → length k.links ≤ n → unacked_in s n place ≡ None
 unacked_past k s n place f past = ap (λ (o : Option LinkState). unacked_of o n place s.rows) (slice_get_past s.links n (omega (arith, past, ap length f.links)))
+
+-- NO MESSAGE
+replicated : {X : Type 0} (n k : ℕ) (x : X) → slice_get (replicate n x) k ≡ (if nat_lt k n then Some x else None)
+replicated zero k x = grind (arith, nat_tests)
+replicated (suc n) zero x = grind (arith, nat_tests)
+replicated (suc n) (suc k) x = grind (arith, nat_tests, replicated n k x)
+
+-- of no messages none stands in a queue
+none_given : (ns : List ℕ) → AreGiven ns [] → ns ≡ []
+none_given [] given = refl
+none_given (n ∷ ns) given = absurd (omega (arith, given n (omega (arith, occurs_here n n refl))))
+
+none_stands : (q : Lists) → AreSound q [] → (fate : Fate) → queue_at fate q ≡ numbers (rows_at fate [])
+none_stands q sound fate = grind (arith, none_given (queue_at fate q), given_all q [] fate sound)
+
+-- links that stand for new ones, sound queues with nothing, and nothing else
+pub opened : (config : SetConfig) (parts : Parts) → parts.config ≡ config → map link_of parts.links.items ≡ replicate config.links (new_link config.method) → parts.queues.lists.links ≡ replicate config.links no_lists → AreSound parts.queues.lists parts.queues.messages → parts.queues.messages ≡ [] → parts.bodies.items ≡ [] → parts.routes ≡ new_routing config.links → parts.inbox.items ≡ []
+    → Agrees (kept_of parts) (new_state config)
+opened config parts c links lists sound messages bodies routes inbox = grind (arith, nat_tests, none_stands parts.queues.lists (rw messages at sound), length-replicate, replicated, opened_sound (settings_of config))
+
+-- AFTER AN EVENT
+
+-- an event that may want memory is no other
+pub may_want : {E : Type 0} (result : Result (Unit {0}) E) (event known : Event) → event ≡ known → wants_none known ≡ false → wants_none event ≡ true → IsOk result
+may_want result event known is wants none = cc
+
+pub answers_for : (old new : Parts) (event : Event) (answer : Answer) → IsAsked event → Answers old new answer (λ s. stepped s event) → (s : State) → Agrees (kept_of old) s → AnswersFor (step s event) answer (kept_of new)
+answers_for old new event answer asked ok s a = grind (arith, nat_tests, step_is, step_sound, a.sound)
+
+pub holds_after : (old new : Parts) (event : Event) (answer : Answer) → IsAsked event → Answers old new answer (λ s. stepped s event) → Holds (kept_of old) → Holds (kept_of new)
+holds_after old new event answer asked answers h = ((step h.0 event).state, (answers_for old new event answer asked answers h.0 h.1).agrees)
+
+-- whole numbers of a set are far from the end of their range
+pub counted_of : (parts : Parts) → HoldsFew (2 ^ 48) (kept_of parts) → AreCounted (2 ^ 60) parts.links.items
+counted_of parts h number link there =
+    let few = h.2 number (link_of link) (subst (λ (ls : List LinkState). slice_get ls number ≡ Some (link_of link)) h.1.stands.links (map_at link_of parts.links.items number link there)) in
+    let sent = few.sent in
+    let accepted = few.accepted in
+    record { acked = omega (arith, sent); accepted = omega (arith, accepted) }

@@ -1,0 +1,120 @@
+-- What is sent and heard, by what is kept and by the state that it stands for.
+use Rattle.std.proofs.Common.{refl, arith, IfSome, ◌≡◌, ap, sym, ◌<◌, ◌+◌, ℕ, Bool, length, Option, Some, slice_get, slice_index_or, option_map, ◌∙◌, ◌≤◌, [], ◌∷◌, List, suc, true, ◌&&◌, ◌*◌, ◌++◌, zero, false, map, None, slice_set}
+use Rattle.std.proofs.lemmas.Bool.Decides.{nat_tests}
+use Rattle.arrayvec.specs.declared.array_vec.ArrayVec.{ArrayVec}
+use Rattle.l2_window.specs.Window.{WindowState}
+use Rattle.l2_window.specs.Control.{fsn_of}
+use Rattle.l2_window.specs.declared.control.Choice.{Choice}
+use Rattle.set_queues.specs.Buffers.{queue_at, last_at, Lists, is_standing}
+use Rattle.set_model.specs.Rows.{Waiting, Unacked, Row, Fate, is_unacked, unack, numbers, octets_in, body_at, AreFit, Held}
+use Rattle.set_model.specs.Control.{Header, Control, head_of, part_of}
+use Rattle.set_model.specs.State.{LinkState, State, window_of, target}
+use Rattle.set_model.specs.Step.{SignalUnit, Msu, Sent, next as next_of, sends, chosen, unit_of, Took, Message as MessageTaken, NothingTaken as Nothing, takes, brought, is_msu}
+use Rattle.set_moves.specs.declared.link.Link.{Link}
+use Rattle.set_moves.specs.declared.parts.Parts.{Parts}
+use Rattle.set_moves.specs.Agreement.{Holds, StandsFor, Message, Kept, rows_at}
+use Rattle.set_moves.specs.Parts.{kept_of, Gives, Obeys, link_of as link_kept}
+use Rattle.set_moves.proofs.Links.{stands_for, same_ups, same_target, whole_of}
+use Rattle.set_traffic.specs.Traffic.{ReachesTo, KeepsSpace, order_brought, message_brought, choice_in}
+use Rattle.set_queues.specs.Messages.{octets_at, octets_of}
+use Rattle.set_model.proofs.Rows.{Found, found_by_number, row_in_filter}
+use Rattle.set_moves.proofs.RowsAt.{is_there, rows_as}
+use Rattle.std.proofs.lemmas.List.{length-map}
+use Rattle.set_queues.specs.Backs.{back_from}
+use Rattle.set_route.specs.Routing.{home_of}
+use Rattle.set_route.specs.Target.{target_of}
+use Rattle.set_model.specs.Changeover.{Order, Coo, Coa, Cbd, Cba, Eco, Eca, fate_on, obeyed}
+use Rattle.set_moves.specs.Room.{IsSpaciousFor, IsReady, target_beside}
+
+-- The queue of a link that is there.
+pub queue_there : (parts : Parts) (n : ℕ) → Holds (kept_of parts) → n < length parts.links.items → n < length parts.queues.lists.links
+queue_there parts n holds known = let many = (whole_of parts holds).as_many in omega (arith, many, known)
+
+-- WHAT A CONTROL TELLS A TERMINAL by the kept window, it tells by the rows' window: the room alone is another.
+pub told : (parts : Parts) (s : State) (n i : ℕ) (x : Link) (w : WindowState) (link : LinkState) → i ≡ n → n < length parts.links.items → x ≡ slice_index_or parts.links.items i x → w.last ≡ last_at n parts.queues.lists → w.unacked ≡ queue_at (Unacked n) parts.queues.lists → w.unsent ≡ queue_at (Waiting n) parts.queues.lists
+    → slice_get s.links n ≡ Some link → StandsFor (kept_of parts) s → (x.control ≡ link.control) × (w ≡ record (window_of n link s.rows) { room = w.room })
+told parts s n i x w link is known read last unacked unsent there f =
+    (ap (λ (l : LinkState). l.control) (stands_for parts.links.items n i x is known read s.links link f.links there), grind (arith, f.fsns n link there, f.stands.queues (Unacked n), f.stands.queues (Waiting n)))
+
+-- WHAT A HEARD UNIT TELLS: so many are acknowledged as the BSN reaches, or none.
+pub part_reaches : (c : Control) (w : WindowState) (head : Header) (msu : Bool) (q : Lists) (n : ℕ) → w.last ≡ last_at n q → w.unacked ≡ queue_at (Unacked n) q → 0 < (part_of c w head msu).acked → ReachesTo head.bsn (part_of c w head msu).acked n q
+part_reaches c w head msu q n last unacked h = record { count_is = grind (arith, nat_tests); there = grind (arith, nat_tests) }
+
+-- WHAT IS SENT, as the step has it
+pub given : (n : ℕ) (link : LinkState) (s : State) (parts : Parts) (choice : Choice) (head : Header) (unit : SignalUnit) → choice ≡ choice_in n link s → head ≡ head_of link.control (fsn_of choice (window_of n link s.rows)) → unit ≡ unit_of (chosen choice n s.rows) head → StandsFor (kept_of parts) (sends choice n s link).state
+    → Gives (next_of n s link) (Sent unit) parts
+given n link s parts choice head unit is heads sent stands = rw (← is) (record { answer_is = rw (sent, heads) refl; stands = stands })
+
+pub with_body : (o : Option Row) (head : Header) (body : ArrayVec ℕ 273 (Unit {0})) → option_map (λ (row : Row). row.body) o ≡ Some body.items → Msu head body ≡ unit_of o head
+with_body o head body e = grind arith
+
+-- THE BODIES that the queues name, and their octets.
+pub fit_at : (number : ℕ) (rows : List Row) (body : List ℕ) → AreFit rows → body_at number rows ≡ Some body → length body ≤ 273
+fit_at number [] body fit e = absurd (cc)
+fit_at number (x ∷ rows) body fit e = grind (arith, fit_at number rows body fit.1)
+
+sum_of : (xs : List Row) (ms : List Message) → ((i : ℕ) (row : Row) → slice_get xs i ≡ Some row → octets_at row.number ms ≡ length row.body) → octets_of (numbers xs) ms ≡ octets_in xs
+sum_of [] ms h = refl
+sum_of (x ∷ xs) ms h = let here = h 0 x refl in let rest = sum_of xs ms (λ i row e. h (suc i) row e) in omega (arith, here, rest)
+
+module _ (k : Kept) (s : State) (f : StandsFor k s) where
+  -- at a place of a queue stands the row that the number there finds, with its body
+  pub found_at : (fate : Fate) (i message : ℕ) → is_standing fate ≡ true → slice_get (queue_at fate k.lists) i ≡ Some message → Found (λ (row : Row). is_there fate row.fate) s.rows i message
+  found_at fate i message stands e = found_by_number _ s.rows i message f.stands.numbered (ap (λ (ns : List ℕ). slice_get ns i) (sym (f.stands.queues fate ∙ ap numbers (rows_as fate s.rows stands))) ∙ e)
+
+  pub body_is : (fate : Fate) (i message : ℕ) → is_standing fate ≡ true → slice_get (queue_at fate k.lists) i ≡ Some message → option_map (λ (row : Row). row.body) (slice_get (rows_at fate s.rows) i) ≡ slice_get k.bodies message
+  body_is fate i message stands e = let at = found_at fate i message stands e in rw (rows_as fate s.rows stands, at.there) (sym (f.bodies message ∙ at.body_is))
+
+  -- the octets that are kept are the rows'
+  pub weight_is : (n : ℕ) → octets_of (queue_at (Unacked n) k.lists) k.messages ≡ octets_in (unack n s.rows)
+  weight_is n =
+      ap (λ (ns : List ℕ). octets_of ns k.messages) (f.stands.queues (Unacked n))
+      ∙ sum_of (unack n s.rows) k.messages (λ i row e. let found = row_in_filter (λ (r : Row). is_unacked n r.fate) s.rows i row.number row f.stands.numbered e refl in let label = f.stands.labels row.number in grind arith)
+
+-- THE INBOX
+pub delivered : (k : Kept) (s : State) (inbox : List (List ℕ)) (message : List ℕ) → StandsFor k s → inbox ≡ k.inbox ++ message ∷ [] → StandsFor (record k { inbox = inbox }) (record s { inbox = s.inbox ++ message ∷ [] })
+delivered k s inbox message f is = record { settings = f.settings; stands = f.stands; bodies = f.bodies; held_bodies = f.held_bodies; links = f.links; as_many = f.as_many; fsns = f.fsns; routing = f.routing; inbox = is ∙ ap (λ (i : List (List ℕ)). i ++ message ∷ []) f.inbox }
+
+-- WHAT A UNIT BRINGS
+module _ (parts : Parts) (s : State) (unit : SignalUnit) where
+  pub message_taken : (message : List ℕ) → message_brought unit ≡ Some message → StandsFor (kept_of parts) (record s { inbox = s.inbox ++ message ∷ [] }) → Obeys (takes (brought true unit) s) MessageTaken parts
+  message_taken message e stands = grind arith
+
+  -- nothing where it has no body or isn't accepted
+  pub nothing_taken : (accept : Bool) → accept && is_msu unit ≡ false → StandsFor (kept_of parts) s → Obeys (takes (brought accept unit) s) Nothing parts
+  nothing_taken accept other stands = grind arith
+
+  -- a body that is no message of users is the management's
+  pub for_management : (took : Took) → is_msu unit ≡ true → message_brought unit ≡ None → Obeys (obeyed (order_brought unit) s) took parts → Obeys (takes (brought true unit) s) took parts
+  for_management took msu none o = grind (arith, nat_tests)
+
+-- ROOM is kept.
+module _ (old new : Parts) (k : KeepsSpace old new) where
+  as_many : length new.links.items ≡ length old.links.items
+  as_many = sym (length-map new.links.items (λ (l : Link). l.phase)) ∙ ap length k.phases ∙ length-map old.links.items (λ (l : Link). l.phase)
+
+  same_beside : (n : ℕ) → target_beside n new.links.items ≡ target_beside n old.links.items
+  same_beside n = ap (λ ups. target_of (slice_set ups n false)) (same_ups old.links.items new.links.items k.phases)
+
+  -- as much stands back
+  same_from : (code n : ℕ) → back_from code n new.queues.lists ≡ back_from code n old.queues.lists
+  unfolding back_from
+  same_from code zero = refl
+  same_from code (suc n) = omega (arith, same_from code n, ap length (k.queues.backs (code + n)))
+
+  ready_still : (n : ℕ) → (n < length old.links.items → IsReady n 1 old) → n < length new.links.items → IsReady n 1 new
+  ready_still n ready low = let r = ready (rw as_many at low) in record {
+    message = rw k.queues.message r.message;
+    body = rw k.bodies r.body;
+    place = grind (arith, same_beside n, same_from (16 * n) 16, k.queues.fewer n, k.queues.rooms (fate_on (target_beside n old.links.items)), r.place);
+    each = λ link low. grind (arith, as_many, same_from (16 * n) 16, k.queues.rooms (Waiting link), k.queues.rooms (Held link), r.each link);
+  }
+
+  pub spacious_still : (order : Option Order) → IfSome order (λ o. IsSpaciousFor o old) → IfSome order (λ o. IsSpaciousFor o new)
+  spacious_still None r = tt
+  spacious_still (Some (Coo link number)) r = ready_still link r
+  spacious_still (Some (Coa link number)) r = ready_still link r
+  spacious_still (Some (Eco link)) r = ready_still link r
+  spacious_still (Some (Eca link)) r = ready_still link r
+  spacious_still (Some (Cbd link code)) r = grind (arith, same_target old.links.items new.links.items k.phases, k.queues.message, k.bodies, k.queues.rooms (fate_on (target (map link_kept old.links.items))), r.message, r.body, r.place)
+  spacious_still (Some (Cba link code)) r = λ low. grind (arith, r, as_many, k.queues.rooms (Waiting (home_of code)), k.queues.backs code)
