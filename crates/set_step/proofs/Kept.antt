@@ -23,6 +23,7 @@ use Rattle.set_model.proofs.Walk.{step_is}
 use Rattle.set_moves.specs.declared.parts.Parts.{Parts}
 use Rattle.set_step.specs.Answering.{AnswersFor, wants_none}
 use Rattle.set_moves.specs.Parts.{Answers, AreCounted, kept_of, link_of}
+use Rattle.set_queues.proofs.Standing.{occurs_here}
 
 -- rows that pass a test, of this number or a later one
 abbrev from : (Row → Bool) → ℕ → List Row → ℕ

@@ -14,9 +14,8 @@ use l2_units::{Header, Unit, header_in};
 use l2_window::HeardPart;
 use l3_orders::{Order, read_order};
 use set_events::{Answer, Fate, Refusal, Report, Took};
-use set_moves::{
-    HeardBody, Parts, make_room, make_room_beside, obey, service_indicator, target_of, unserved,
-};
+use set_model::service_indicator;
+use set_moves::{HeardBody, Parts, make_room, make_room_beside, obey, target_of, unserved};
 use set_queues::{Queues, fate_on};
 use set_route::home_of_code;
 use std::alloc::AllocError;
