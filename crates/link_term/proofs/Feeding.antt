@@ -9,7 +9,7 @@ use Rattle.l2_bits.specs.LineBits.{bits_of, line_bits}
 use Rattle.l2_bits.specs.Marks.{AreMarks}
 use Rattle.l2_bits.proofs.MarkLemmas.{marks-append}
 use Rattle.set_events.specs.declared.history.Entry.{Entry}
-use Rattle.set_step.specs.declared.fault.SetFault.{SetFault}
+use Rattle.set_events.specs.declared.fault.SetFault.{SetFault}
 use Rattle.term_model.specs.Hearing.{marked, all_marked}
 use Rattle.term_model.specs.Terminal.{Terminal}
 use Rattle.link_term.specs.declared.counts.MarkCounts.{MarkCounts}

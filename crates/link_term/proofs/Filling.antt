@@ -2,7 +2,7 @@
 use Rattle.std.proofs.Common.{refl, sym, subst, ap, ◌≡◌, ◌∙◌, true, false, nat_lt, length, List, [], ◌∷◌, ◌++◌, Some, None, Result, Ok, Err, if◌then◌else◌}
 use Rattle.l2_units.specs.declared.unit.Unit.{Unit as SignalUnit}
 use Rattle.l2_units.specs.Grammar.{head_of}
-use Rattle.set_step.specs.declared.fault.SetFault.{SetFault}
+use Rattle.set_events.specs.declared.fault.SetFault.{SetFault}
 use Rattle.set_events.specs.declared.history.Entry.{Entry}
 use Rattle.term_model.specs.Choosing.{Filled, chosen, filled, sends}
 use Rattle.term_model.specs.OctetOut.{Appends}

@@ -2,7 +2,7 @@
 use Rattle.std.proofs.Common.{refl, sym, subst, ◌≡◌, List, [], ◌∷◌, ◌++◌, map, Result, Ok}
 use Rattle.std.specs.Result.{IsErrAnd}
 use Rattle.set_events.specs.declared.history.Entry.{Entry}
-use Rattle.set_step.specs.declared.fault.SetFault.{SetFault}
+use Rattle.set_events.specs.declared.fault.SetFault.{SetFault}
 use Rattle.term_model.specs.Talk.{Talk, in_turn}
 use Rattle.term_model.specs.Terminal.{Terminal, no_commands}
 use Rattle.term_model.specs.declared.command.Commands.{Commands}

@@ -5,7 +5,7 @@ use Rattle.std.specs.Option.{option_to_list}
 use Rattle.std.specs.Result.{IsErrAnd}
 use Rattle.l2_bits.specs.LineBits.{line_bits}
 use Rattle.set_events.specs.declared.history.Entry.{Entry}
-use Rattle.set_step.specs.declared.fault.SetFault.{SetFault}
+use Rattle.set_events.specs.declared.fault.SetFault.{SetFault}
 use Rattle.term_model.specs.Choosing.{filled}
 use Rattle.term_model.specs.Hearing.{all_marked}
 use Rattle.term_model.specs.Obeying.{commanded}

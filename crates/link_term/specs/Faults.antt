@@ -1,6 +1,6 @@
 -- FAULTS of a terminal, and those of its set that it hands on.
 use Rattle.std.specs.Prelude.{ℕ, ◌==◌, List, if◌then◌else◌, map}
-use Rattle.set_step.specs.declared.fault.SetFault.{SetFault}
+use Rattle.set_events.specs.declared.fault.SetFault.{SetFault}
 use Rattle.link_term.specs.declared.fault.TermFault.{TermFault}
 
 -- the fault's number

@@ -3,7 +3,7 @@ use Rattle.std.specs.Prelude.{◌≡◌, Bool, true, false, List, ◌∷◌, [],
 use Rattle.l2_units.specs.declared.unit.Unit.{Unit as SignalUnit}
 use Rattle.set_events.specs.declared.event.Event.{Event}
 use Rattle.set_events.specs.declared.history.Entry.{Entry}
-use Rattle.set_step.specs.declared.fault.SetFault.{SetFault}
+use Rattle.set_events.specs.declared.fault.SetFault.{SetFault}
 use Rattle.term_model.specs.Choosing.{Filled, counts_sent, held_back, sends, sent_by, serves, up_first}
 use Rattle.term_model.specs.OctetOut.{Appends}
 use Rattle.term_model.specs.Talk.{Talk, ask, and_then}

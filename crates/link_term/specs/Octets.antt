@@ -5,7 +5,7 @@ use Rattle.l2_bits.specs.declared.marks.Mark.{Mark}
 use Rattle.l2_bits.specs.Deframing.{StandsFor}
 use Rattle.l2_bits.specs.Marks.{AreMarks}
 use Rattle.set_events.specs.declared.history.Entry.{Entry}
-use Rattle.set_step.specs.declared.fault.SetFault.{SetFault}
+use Rattle.set_events.specs.declared.fault.SetFault.{SetFault}
 use Rattle.term_model.specs.Hearing.{all_marked}
 use Rattle.term_model.specs.Runs.{counted, is_good, is_bad, is_sixteen}
 use Rattle.term_model.specs.Terminal.{Terminal}

@@ -2,7 +2,7 @@
 use Rattle.std.specs.Prelude.{◌≡◌, List, [], ◌∷◌, ◌++◌, Result, MatchResult}
 use Rattle.set_events.specs.declared.event.Event.{Event}
 use Rattle.set_events.specs.declared.history.Entry.{Entry}
-use Rattle.set_step.specs.declared.fault.SetFault.{SetFault}
+use Rattle.set_events.specs.declared.fault.SetFault.{SetFault}
 use Rattle.term_model.specs.Talk.{Talk, Went, BrokeOff}
 
 -- the door made the entries by which the talk went, and this came of it

@@ -6,7 +6,7 @@ use Rattle.l2_bits.specs.LineBits.{line_bits}
 use Rattle.l2_bits.specs.Marks.{AreMarks}
 use Rattle.set_events.specs.declared.event.Event.{Event}
 use Rattle.set_events.specs.declared.history.Entry.{Entry}
-use Rattle.set_step.specs.declared.fault.SetFault.{SetFault}
+use Rattle.set_events.specs.declared.fault.SetFault.{SetFault}
 use Rattle.term_model.specs.Choosing.{Filled, filled}
 use Rattle.term_model.specs.Hearing.{all_marked}
 use Rattle.term_model.specs.OctetIn.{GivesMarks}

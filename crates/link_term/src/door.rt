@@ -10,7 +10,7 @@ use set_shared::SetFault;
 pub trait Door {
     ghost use Rattle.std.specs.Prelude.{ℕ, List};
     ghost use Rattle.set_events.specs.declared.history.Entry.{Entry};
-    ghost use Rattle.set_step.specs.declared.fault.SetFault.{SetFault};
+    ghost use Rattle.set_events.specs.declared.fault.SetFault.{SetFault};
 
     /// The number of its link. It never changes.
     ghost number: { Self → ℕ };

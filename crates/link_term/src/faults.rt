@@ -15,7 +15,7 @@ pub struct Faults {
 
 impl Model for Faults {
     ghost use Rattle.std.specs.Prelude.{List};
-    ghost use Rattle.set_step.specs.declared.fault.SetFault.{SetFault};
+    ghost use Rattle.set_events.specs.declared.fault.SetFault.{SetFault};
 
     ghost Value = { List SetFault };
 

@@ -7,7 +7,7 @@ use Rattle.set_events.specs.declared.answer.Answer.{Answer}
 use Rattle.set_events.specs.declared.event.Actor.{Actor}
 use Rattle.set_model.specs.History.{LinkSet, IsStep}
 use Rattle.set_model.specs.State.{State, link_count}
-use Rattle.set_step.specs.declared.fault.SetFault.{SetFault}
+use Rattle.set_events.specs.declared.fault.SetFault.{SetFault}
 use Rattle.set_model.proofs.Walk.{link_count_stays}
 use Rattle.std.proofs.lemmas.Option.{same_Some}
 use Rattle.world_steps.specs.declared.step.End.{End}

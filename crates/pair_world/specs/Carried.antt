@@ -4,8 +4,8 @@ use Rattle.set_events.specs.declared.config.SetConfig.{SetConfig}
 use Rattle.set_events.specs.declared.event.Event.{Event}
 use Rattle.set_model.specs.History.{LinkSet, new_set}
 use Rattle.link_lines.specs.Lines.{without}
-use Rattle.set_step.specs.declared.fault.SetFault.{SetFault}
-use Rattle.set_step.specs.declared.fault.SetFault.TheVariants.{NoMemory as SetNoMemory, Exhausted as SetExhausted}
+use Rattle.set_events.specs.declared.fault.SetFault.{SetFault}
+use Rattle.set_events.specs.declared.fault.SetFault.TheVariants.{NoMemory as SetNoMemory, Exhausted as SetExhausted}
 use Rattle.l2_units.specs.declared.unit.Unit.{Unit as SignalUnit}
 use Rattle.pair_world.specs.declared.fault.PlayFault.{PlayFault}
 use Rattle.pair_world.specs.declared.fault.PlayFault.TheVariants.{NoMemory, Impossible, Exhausted, Links}

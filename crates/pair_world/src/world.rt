@@ -2,7 +2,7 @@
 ghost use Rattle.std.specs.Prelude.{◌≡◌, ◌<◌, ◌↔◌, IfErr, IfOk, IsTrue, MatchResult, Ok};
 ghost use Rattle.set_model.specs.History.{IsActor, new_set};
 ghost use Rattle.set_model.specs.State.{link_count};
-ghost use Rattle.set_step.specs.declared.fault.SetFault.TheVariants.{NoMemory};
+ghost use Rattle.set_events.specs.declared.fault.SetFault.TheVariants.{NoMemory};
 ghost use Rattle.pair_model.specs.World.{actor_of, has_own_step};
 ghost use Rattle.pair_model.specs.Promises.{AreSteps, IsAskedStep};
 ghost use Rattle.pair_world.specs.Carried.{Applies, IsAnAnswer};

@@ -5,8 +5,8 @@ use Rattle.set_events.specs.declared.event.Event.{Event}
 use Rattle.set_events.specs.declared.history.Entry.{Entry}
 use Rattle.std.proofs.lemmas.Bool.{cases_lt}
 use Rattle.set_events.specs.declared.books.Books.{Books}
-use Rattle.set_step.specs.declared.fault.SetFault.{SetFault}
-use Rattle.set_step.specs.declared.fault.SetFault.TheVariants.{Exhausted}
+use Rattle.set_events.specs.declared.fault.SetFault.{SetFault}
+use Rattle.set_events.specs.declared.fault.SetFault.TheVariants.{Exhausted}
 use Rattle.set_core.proofs.Keeping.{messages_few}
 use Rattle.set_crew.specs.declared.end.SetEnd.{SetEnd}
 use Rattle.run_text.specs.Running.{IsAnEnd}

@@ -6,6 +6,8 @@ use Rattle.set_events.specs.declared.answer.DiscardCause.{DiscardCause}
 use Rattle.set_events.specs.declared.answer.DiscardCause.TheVariants.{Emergency, Unreasonable, NoAnswer}
 use Rattle.set_events.specs.declared.config.ConfigFault.{ConfigFault}
 use Rattle.set_events.specs.declared.config.ConfigFault.TheVariants.{Links, PointCode, Sio, Cyclic}
+use Rattle.set_events.specs.declared.fault.SetFault.{SetFault}
+use Rattle.set_events.specs.declared.fault.SetFault.TheVariants.{NoMemory, Exhausted}
 -- the causes of a failed link that a heard unit can show
 pub use Rattle.l2_signals.specs.declared.cause.ControlFault.{ControlFault}
 pub use Rattle.l2_signals.specs.Numbers.{fault_number}
@@ -33,3 +35,7 @@ config_fault_number Links = 1
 config_fault_number PointCode = 2
 config_fault_number Sio = 3
 config_fault_number Cyclic = 4
+
+abbrev pub set_fault_number : SetFault → ℕ
+set_fault_number NoMemory = 1
+set_fault_number Exhausted = 2

@@ -10,6 +10,7 @@ mod body;
 mod books;
 mod config;
 mod event;
+mod fault;
 mod history;
 
 pub use answer::{Answer, Counts, DiscardCause, Fate, Refusal, Report, Took};
@@ -17,5 +18,6 @@ pub use body::Body;
 pub use books::Books;
 pub use config::{ConfigFault, Method, SetConfig};
 pub use event::{Actor, Event};
+pub use fault::SetFault;
 pub use history::Entry;
 pub use l2_signals::ControlFault;

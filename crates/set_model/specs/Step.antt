@@ -29,14 +29,17 @@ pub record Outcome : Type 0 where
 abbrev pub refused : State → SetRefusal → Outcome
 refused s why = record { answer = Refused why; state = s }
 
--- OFFER. The first refusal that holds, in the order of their numbers.
-abbrev pub offer_refusal : List Row → List ℕ → Option SetRefusal
-offer_refusal rows body =
+-- OFFER. The first refusal that holds, in the order of their numbers, by how many of the stream aren't sent yet.
+abbrev pub refusal_by : ℕ → List ℕ → Option SetRefusal
+refusal_by unsent body =
     if nat_lt (length body) 5 then Some TooShort
     else (if nat_lt 273 (length body) then Some TooLong
     else (if service_indicator body == 0 then Some Reserved
-    else (if nat_le 1024 (length (unsent (stream_of body) rows)) then Some StreamFull
+    else (if nat_le 1024 unsent then Some StreamFull
     else None)))
+
+abbrev pub offer_refusal : List Row → List ℕ → Option SetRefusal
+offer_refusal rows body = refusal_by (length (unsent (stream_of body) rows)) body
 
 -- a new row stands at the end, where its stream runs
 abbrev pub offered : Option SetRefusal → State → List ℕ → Outcome

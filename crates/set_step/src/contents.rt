@@ -1,12 +1,7 @@
 //! What a set keeps, as one event after another changes it.
-ghost use Rattle.std.specs.Prelude.{◌≡◌, IfOk, map, replicate};
-ghost use Rattle.set_model.specs.State.{new_link};
-ghost use Rattle.set_moves.specs.Parts.{link_of};
-
-use super::fault::SetFault;
 use super::step::{carry_out, is_asked};
 use l2_window::number_after;
-use set_events::{Answer, Counts, Event, Fate, SetConfig};
+use set_events::{Answer, Counts, Event, Fate, SetConfig, SetFault};
 use set_model::{Numbered, Phase};
 use set_moves::{Link, Parts, phase_of};
 use set_queues::{Bodies, Queues};
@@ -54,7 +49,12 @@ impl Core {
         ensures ok { IfOk result (λ core. Agrees core (new_state config.now)) }
         ensures fault { IfErr result (λ fault. fault ≡ SetFault.NoMemory) }
     {
-        let links = new_links(alloc, config)?;
+        let mut links = Vec::new(alloc);
+        for _ in 0..config.links {
+            if let Err(failed) = links.push(Link::new(config.method)) {
+                return Err(AllocError::from(failed).into());
+            }
+        }
         let queues = Queues::new(alloc, config.links)?;
         // with no message, each is empty
         queues.is_sound();
@@ -148,17 +148,4 @@ impl Core {
         let fsn = number_after(last, usize::from(place) + 1);
         Some(Numbered { number, fsn })
     }
-}
-
-/// The links of a set, none of which was up.
-fn new_links(alloc: Global, config: &SetConfig) -> Result<Vec<Link>, AllocError>
-    ensures { IfOk result
-        (λ links. map link_of links.items ≡ replicate config.now.links
-        (new_link config.now.method)) }
-{
-    let mut links = Vec::new(alloc);
-    for _ in 0..config.links {
-        links.push(Link::new(config.method))?;
-    }
-    Ok(links)
 }

@@ -17,18 +17,16 @@
 //! What is kept, and the moves of changeover and changeback, stand in `set_moves`; the units that are sent and heard in
 //! `set_traffic`. [`is_asked`] is the law by which whatever is offered is of one of the 16 streams, as the model asks of an event.
 //!
-//! The files: `admitting` why a link doesn't come up or isn't given up; `step` the case of each event; `contents` the whole.
+//! The files: `step` the case of each event; `contents` the whole.
 //!
 //! This crate reads no clock, waits for nothing, takes no lock and does no IO. A call that may want memory
 //! takes it before it changes anything.
 #![tactic(auto)]
 
-mod admitting;
 mod contents;
-mod fault;
 mod step;
 
 pub use contents::Core;
-pub use fault::SetFault;
+pub use set_events::SetFault;
 pub use set_model::Numbered;
 pub use step::is_asked;

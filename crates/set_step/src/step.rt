@@ -1,23 +1,20 @@
 //! What an event does to a set. Each function is a case of the set's step.
-ghost use Rattle.std.specs.Prelude.{◌≡◌, ◌<◌, ◌≤◌, ◌^◌, length, Some, true, IsOk, OnOk, OnErr};
-ghost use Rattle.l3_orders.specs.Grammar.{IsOrder};
+ghost use Rattle.std.specs.Prelude.{◌≡◌, ◌^◌, true, IsOk, OnOk, OnErr};
 ghost use Rattle.set_queues.specs.Messages.{unsent_of};
-ghost use Rattle.set_model.specs.Changeover.{leaving_order};
 ghost use Rattle.set_model.specs.Sound.{IsAsked};
-ghost use Rattle.set_model.specs.Step.{offer_refusal, offered, on_link, in_service, rises, falls, gives_up, taken, found, stepped};
-ghost use Rattle.set_model.specs.Rows.{place, stream_of};
+ghost use Rattle.set_model.specs.Step.{refusal_by, offer_refusal, offered, on_link, in_service, rises, falls, gives_up};
+ghost use Rattle.set_model.specs.Rows.{stream_of};
 ghost use Rattle.set_moves.specs.Agreement.{Holds};
-ghost use Rattle.set_step.specs.Answering.{wants_none, refusal_by};
-ghost use Rattle.set_moves.specs.Parts.{Answers, AreCounted, link_of, kept_of};
+ghost use Rattle.set_step.specs.Answering.{wants_none, stepped_by};
+ghost use Rattle.set_moves.specs.Parts.{Answers, AreCounted, kept_of};
 
-use super::admitting::{unraised, unwaited};
 use l2_units::LONGEST_BODY;
 use l3_orders::Order;
 use set_events::{Answer, Body, Event, Fate, Refusal};
-use set_model::{Reached, service_indicator, stream_of_body};
+use set_model::{Phase, Reached, service_indicator, stream_of_body};
 use set_moves::{
-    Link, Parts, fate_of_new, leave, make_room, make_room_beside, make_room_parked, queue, restore,
-    settle, stand_last, time_out, unserved,
+    Parts, fate_of_new, leave, make_room, make_room_beside, make_room_parked, phase_of, queue,
+    restore, settle, stand_last, time_out, unserved,
 };
 use set_queues::Queues;
 use set_traffic::{hear, send_next};
@@ -33,19 +30,28 @@ pub(crate) fn carry_out(
 ) -> Result<(), AllocError>
     requires holds { Holds (kept_of parts.old) }
     requires counted { AreCounted (2 ^ 60) parts.old.links.items }
-    ensures ok { OnOk result
-        (Answers parts.old parts.new answer.new (λ s. stepped s event.now)) }
+    ensures ok { OnOk result (Answers parts.old parts.new answer.new (stepped_by event.now)) }
     ensures err { OnErr result (kept_of parts.new ≡ kept_of parts.old) }
     ensures none { wants_none event.now ≡ true → IsOk result }
 {
     match event {
         Event::Offer { body } => offer(parts, body, answer),
         Event::Take => {
-            take(parts, answer);
+            *answer = match parts.inbox.pop_front() {
+                Some(heard) => Answer::Taken { body: heard.body() },
+                None => Answer::Refused {
+                    why: Refusal::Nothing,
+                },
+            };
             Ok(())
         }
         Event::Find { number } => {
-            find(parts, *number, answer);
+            *answer = match parts.queues.fate_of(*number) {
+                Some(fate) => Answer::Found { fate },
+                None => Answer::Refused {
+                    why: Refusal::UnknownNumber,
+                },
+            };
             Ok(())
         }
         Event::Next { link } => {
@@ -109,30 +115,6 @@ fn refusal_of(queues: &Queues, body: &Body) -> Option<Refusal>
     None
 }
 
-/// The oldest message of the inbox is taken.
-fn take(parts: &mut Parts, answer: &mut Answer)
-    ensures { Answers parts.old parts.new answer.new (λ s. taken s.inbox s) }
-{
-    *answer = match parts.inbox.pop_front() {
-        Some(heard) => Answer::Taken { body: heard.body() },
-        None => Answer::Refused {
-            why: Refusal::Nothing,
-        },
-    };
-}
-
-/// A message is looked for by its number.
-fn find(parts: &Parts, number: u64, answer: &mut Answer)
-    ensures { Answers parts.now parts.now answer.new (λ s. found (place number s.rows) s) }
-{
-    *answer = match parts.queues.fate_of(number) {
-        Some(fate) => Answer::Found { fate },
-        None => Answer::Refused {
-            why: Refusal::UnknownNumber,
-        },
-    };
-}
-
 /// No answer came from the far end: a link that was left settles, and what was sent on it or waited
 /// is discarded (own).
 fn give_up(parts: &mut Parts, number: u8, answer: &mut Answer) -> Result<(), AllocError>
@@ -142,13 +124,19 @@ fn give_up(parts: &mut Parts, number: u8, answer: &mut Answer) -> Result<(), All
         (λ s. on_link number s (λ link. gives_up number s link link.phase))) }
     ensures err { OnErr result (kept_of parts.new ≡ kept_of parts.old) }
 {
-    if let Some(why) = unwaited(parts, number) {
-        *answer = Answer::Refused { why };
-        return Ok(());
-    }
-    make_room_beside(parts, number, 0)?;
-    settle(parts, number, Reached::Unanswered);
-    *answer = Answer::Done;
+    *answer = match phase_of(parts, number) {
+        None => Answer::Refused {
+            why: Refusal::NoSuchLink,
+        },
+        Some(Phase::Down) => {
+            make_room_beside(parts, number, 0)?;
+            settle(parts, number, Reached::Unanswered);
+            Answer::Done
+        }
+        Some(Phase::Up | Phase::Settled) => Answer::Refused {
+            why: Refusal::Nothing,
+        },
+    };
     Ok(())
 }
 
@@ -170,28 +158,19 @@ fn take_down(
         *answer = Answer::Refused { why };
         return Ok(());
     }
-    let order = order_on_leaving(&parts.links[usize::from(number)], number, blind);
+    let order = if blind {
+        Order::Eco { link: number }
+    } else {
+        Order::Coo {
+            link: number,
+            number: parts.links[usize::from(number)].last_accepted(),
+        }
+    };
     make_room_beside(parts, number, 1)?;
     leave(parts, number, blind);
     queue(parts, order);
     *answer = Answer::Done;
     Ok(())
-}
-
-/// The order with which a link is left.
-fn order_on_leaving(link: &Link, number: u8, blind: bool) -> Order
-    requires number { number < 16 }
-    requires counted { link.now.accepted < 2 ^ 62 }
-    ensures order { result ≡ leaving_order blind number (link_of link.now) }
-    ensures fits { IsOrder result }
-{
-    if blind {
-        return Order::Eco { link: number };
-    }
-    Order::Coo {
-        link: number,
-        number: link.last_accepted(),
-    }
 }
 
 /// The link is in service from now on: its error control starts anew, streams move to it, and what
@@ -204,18 +183,27 @@ fn bring_up(parts: &mut Parts, number: u8, answer: &mut Answer) -> Result<(), Al
         (λ s. on_link number s (λ link. rises number s link.phase))) }
     ensures err { OnErr result (kept_of parts.new ≡ kept_of parts.old) }
 {
-    if let Some(why) = unraised(parts, number) {
-        *answer = Answer::Refused { why };
-        return Ok(());
-    }
-    make_room_parked(parts, number)?;
-    parts.queues.reset(number);
-    parts
-        .queues
-        .divert(Fate::Parked, Fate::Waiting { link: number });
-    parts.links[usize::from(number)].rise(parts.config.method);
-    parts.routes.raise(number);
-    *answer = Answer::Done;
+    *answer = match phase_of(parts, number) {
+        None => Answer::Refused {
+            why: Refusal::NoSuchLink,
+        },
+        Some(Phase::Up) => Answer::Refused {
+            why: Refusal::NotDown,
+        },
+        Some(Phase::Down) => Answer::Refused {
+            why: Refusal::Unsettled,
+        },
+        Some(Phase::Settled) => {
+            make_room_parked(parts, number)?;
+            parts.queues.reset(number);
+            parts
+                .queues
+                .divert(Fate::Parked, Fate::Waiting { link: number });
+            parts.links[usize::from(number)].rise(parts.config.method);
+            parts.routes.raise(number);
+            Answer::Done
+        }
+    };
     Ok(())
 }
 

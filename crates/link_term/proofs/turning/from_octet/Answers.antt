@@ -1,5 +1,5 @@
 use Rattle.std.proofs.Common.{ap, ◌∙◌, List, [], ◌∷◌, ◌++◌}
-use Rattle.set_step.specs.declared.fault.SetFault.{SetFault}
+use Rattle.set_events.specs.declared.fault.SetFault.{SetFault}
 use Rattle.link_term.proofs.SixSteps.{steps_broken, broken_marks, broken_timers, broken_choice, steps_went}
 use Rattle.link_term.proofs.turning.from_octet.Goals as goal
 

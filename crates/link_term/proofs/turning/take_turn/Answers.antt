@@ -1,5 +1,5 @@
 use Rattle.std.proofs.Common.{ap, ◌∙◌, List, [], ◌∷◌, ◌++◌}
-use Rattle.set_step.specs.declared.fault.SetFault.{SetFault}
+use Rattle.set_events.specs.declared.fault.SetFault.{SetFault}
 use Rattle.link_term.proofs.SixSteps.{turn_broken, breaks_at_command, breaks_after, turn_went, took, none_waited}
 use Rattle.link_term.proofs.turning.take_turn.Goals as goal
 

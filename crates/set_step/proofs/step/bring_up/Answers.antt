@@ -34,29 +34,29 @@ is_empty old parts n holds h same =
     record { known = queue_there parts n (holds.0, a) low; routed = omega (arith, routed, low); unacked = a.stands.stands.queues (Unacked n) ∙ ap numbers e.unack_none; unsent = a.stands.stands.queues (Waiting n) ∙ ap numbers e.wait_none }
 
 pub reset-requires : goal.reset-requires
-reset-requires c = let e = is_empty c.args.parts.now _ c.args.number c.requires.holds c.in_default.ensures.here c.in_ok-make_room_parked.ensures.same in record { known = e.known; unacked = e.unacked; unsent = e.unsent }
+reset-requires c = let e = is_empty c.args.parts.now _ c.args.number c.requires.holds (rw c.in-Some-Settled.field-0-is at c.in-Some-Settled.ensures.here) c.in_ok-make_room_parked-in-Some-Settled.ensures.same in record { known = e.known; unacked = e.unacked; unsent = e.unsent }
 
 pub raise-requires : goal.raise-requires
-raise-requires c = (is_empty c.args.parts.now _ c.args.number c.requires.holds c.in_default.ensures.here c.in_ok-make_room_parked.ensures.same).routed
+raise-requires c = (is_empty c.args.parts.now _ c.args.number c.requires.holds (rw c.in-Some-Settled.field-0-is at c.in-Some-Settled.ensures.here) c.in_ok-make_room_parked-in-Some-Settled.ensures.same).routed
 
 pub divert-requires-clause-other : goal.divert-requires-clause-other
 divert-requires-clause-other c =
-    let known = (is_empty c.args.parts.now _ c.args.number c.requires.holds c.in_default.ensures.here c.in_ok-make_room_parked.ensures.same).known in
+    let known = (is_empty c.args.parts.now _ c.args.number c.requires.holds (rw c.in-Some-Settled.field-0-is at c.in-Some-Settled.ensures.here) c.in_ok-make_room_parked-in-Some-Settled.ensures.same).known in
     omega (arith, known, ap (λ (q : Lists). length q.links) c.reset.ensures.lists, last_links c.args.number 127 c.make_room_parked.new.parts.queues.lists)
 
 pub divert-requires-clause-room : goal.divert-requires-clause-room
 divert-requires-clause-room c =
     let same = ap (λ (q : Lists). length q.parked) c.reset.ensures.lists in
     let room = c.reset.ensures.rooms (Waiting c.args.number) in
-    let enough = c.in_ok-make_room_parked.ensures.room in
+    let enough = c.in_ok-make_room_parked-in-Some-Settled.ensures.room in
     omega (arith, same, room, enough)
 
-pub returns-clause-ok : goal.returns-clause-ok
-returns-clause-ok c = λ s a.
+pub returns-in_ok-make_room_parked-in-Some-Settled-clause-ok : goal.returns-in_ok-make_room_parked-in-Some-Settled-clause-ok
+returns-in_ok-make_room_parked-in-Some-Settled-clause-ok c = λ s a.
     let n = c.args.number in
     let roomy = c.make_room_parked.new.parts in
-    let f = (agrees_same c.args.parts.now roomy s c.in_ok-make_room_parked.ensures.same a).stands in
-    let i = is_in c.args.parts.now s n Settled a c.in_default.ensures.here in
+    let f = (agrees_same c.args.parts.now roomy s c.in_ok-make_room_parked-in-Some-Settled.ensures.same a).stands in
+    let i = is_in c.args.parts.now s n Settled a (rw c.in-Some-Settled.field-0-is at c.in-Some-Settled.ensures.here) in
     rw (i.there, i.phase_is) (record {
       answer_is = refl;
       stands = risen_then (kept_of roomy) _ s n i.link (risen_link s.settings.method) (raised n s.routing) f i.there refl (record {

@@ -3,9 +3,8 @@ use Rattle.set_queues.specs.Messages.{unsent_of}
 use Rattle.set_route.specs.Routing.{place_of}
 use Rattle.set_model.specs.Rows.{stream_of}
 use Rattle.set_model.specs.State.{State, fate_at}
-use Rattle.set_model.specs.Step.{Accepted, offer_refusal}
+use Rattle.set_model.specs.Step.{Accepted, offer_refusal, refusal_by}
 use Rattle.set_moves.specs.Agreement.{Kept, StandsFor}
-use Rattle.set_step.specs.Answering.{refusal_by}
 use Rattle.set_moves.specs.Parts.{kept_of}
 use Rattle.set_moves.proofs.Links.{agrees_same, whole_of}
 use Rattle.set_step.proofs.Kept.{unsent_is}

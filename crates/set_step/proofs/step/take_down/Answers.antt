@@ -1,31 +1,39 @@
-use Rattle.std.proofs.Common.{refl, arith, ◌∙◌, ap, subst}
-use Rattle.set_model.specs.Changeover.{leaving_order, left_by, queued}
+use Rattle.std.proofs.Common.{refl, arith, ◌≡◌, ◌<◌, ap, subst}
+use Rattle.set_model.specs.Changeover.{Coo, leaving_order, left_by, queued}
+use Rattle.set_model.specs.State.{last_accepted}
 use Rattle.set_moves.specs.Agreement.{StandsFor}
 use Rattle.set_moves.specs.Parts.{Up, kept_of}
 use Rattle.set_moves.proofs.Links.{agrees_same, is_in, fallen_done, found, stands_for, whole_of, has_room_left, beside_left}
 use Rattle.set_step.proofs.step.take_down.Goals as goal
+use Rattle.set_step.proofs.step.take_down.Goals.{then-blind, else-blind}
 
-pub order_on_leaving-order-requires-clause-number : goal.order_on_leaving-order-requires-clause-number
-order_on_leaving-order-requires-clause-number c = omega (arith, (whole_of c.args.parts.now c.requires.holds).few, c.in_default.ensures.here.known)
-
-pub order_on_leaving-order-requires-clause-counted : goal.order_on_leaving-order-requires-clause-counted
-order_on_leaving-order-requires-clause-counted c = let few = (c.requires.counted c.args.number _ (found c.args.parts.now.links.items c.args.number c.from.result c.index.result.now c.from.ensures c.in_default.ensures.here.known c.index.ensures)).accepted in omega (arith, few)
+pub last_accepted-requires : goal.last_accepted-requires
+last_accepted-requires c = let few = (c.requires.counted c.args.number _ (found c.args.parts.now.links.items c.args.number c.from.result c.index.result.now c.from.ensures c.in_default.ensures.here.known c.index.ensures)).accepted in omega (arith, few)
 
 pub make_room_beside-requires-clause-whole : goal.make_room_beside-requires-clause-whole
 make_room_beside-requires-clause-whole c = whole_of c.args.parts.now c.requires.holds
 
+pub queue-requires-clause-order : goal.queue-requires-clause-order
+queue-requires-clause-order c =
+    let low : c.args.number < 16 = omega (arith, (whole_of c.args.parts.now c.requires.holds).few, c.in_default.ensures.here.known) in
+    elim c.if-blind.branch [ then-blind w ↦ rw w.order-is low | else-blind w ↦ rw w.order-is (low, w.last_accepted.ensures.few) ]
+
 pub queue-requires-clause-room : goal.queue-requires-clause-room
 queue-requires-clause-room c =
     let roomy = c.make_room_beside.new.parts in
-    let left = c.leave.ensures.links c.index.result.now (rw c.in_ok-make_room_beside.ensures.same.links (found c.args.parts.now.links.items c.args.number c.from.result c.index.result.now c.from.ensures c.in_default.ensures.here.known c.index.ensures)) in
+    let here = c.in_default.ensures.here in
+    let left = c.leave.ensures.links here.link (rw c.in_ok-make_room_beside.ensures.same.links here.there) in
     has_room_left c.args.number roomy c.leave.new.parts c.in_ok-make_room_beside.ensures.room c.leave.ensures.turns c.leave.ensures.bodies (beside_left roomy.links.items c.leave.new.parts.links.items c.args.number _ left refl)
 
 pub returns-clause-ok : goal.returns-clause-ok
 returns-clause-ok c = λ s a.
     let n = c.args.number in
-    let i = is_in c.args.parts.now s n Up a c.in_default.ensures.here in
-    let same = stands_for c.args.parts.now.links.items n c.from.result c.index.result.now c.from.ensures c.in_default.ensures.here.known c.index.ensures s.links i.link a.stands.links i.there in
-    let order = c.order_on_leaving-order.ensures.order ∙ ap (leaving_order c.args.blind n) same in
+    let here = c.in_default.ensures.here in
+    let i = is_in c.args.parts.now s n Up a here in
+    let order : c.if-blind.order ≡ leaving_order c.args.blind n i.link = elim c.if-blind.branch [
+      | then-blind w ↦ rw (w.order-is, w.if-blind.true) refl
+      | else-blind w ↦ rw (w.order-is, w.if-blind.false, w.last_accepted.ensures.value) (ap (λ link. Coo n (last_accepted link)) (stands_for c.args.parts.now.links.items n w.from.result w.index.result.now w.from.ensures here.known w.index.ensures s.links i.link a.stands.links i.there))
+    ] in
     let left = left_by c.args.blind n i.link s in
     fallen_done c.args.blind s n c.queue.new.parts i
     (subst (λ o. StandsFor (kept_of c.queue.new.parts) (queued o left)) order (c.queue.ensures.stands left (c.leave.ensures.stands s i.link i.there (agrees_same c.args.parts.now _ s c.in_ok-make_room_beside.ensures.same a))))

@@ -1,17 +1,19 @@
-use Rattle.std.proofs.Common.{refl}
+use Rattle.std.proofs.Common.{refl, arith, ◌≡◌}
 use Rattle.set_model.specs.State.{new_state}
 use Rattle.set_moves.specs.declared.parts.Parts.{Parts}
 use Rattle.set_moves.specs.Agreement.{Agrees}
 use Rattle.set_moves.specs.Parts.{kept_of}
 use Rattle.set_step.proofs.Kept.{opened}
 use Rattle.set_step.proofs.contents.Core.new.Goals as goal
-use Rattle.set_step.proofs.contents.Core.new.Goals.{After-new-4}
+use Rattle.set_step.proofs.contents.Core.new.Goals.{After-new-5}
 
-abbrev parts_of : After-new-4 → Parts
-parts_of c = record { config = c.args.config.now; links = c.in_ok-links.links; queues = c.in_ok-queues.queues; bodies = c.new-2.result; routes = c.new-3.result; inbox = c.new-4.result }
+abbrev parts_of : After-new-5 → Parts
+parts_of c = record { config = c.args.config.now; links = c.loop.links; queues = c.in_ok-queues.queues; bodies = c.new-3.result; routes = c.new-4.result; inbox = c.new-5.result }
 
-agrees : (c : After-new-4) → Agrees (kept_of (parts_of c)) (new_state c.args.config.now)
-agrees c = opened c.args.config.now (parts_of c) refl c.in_ok-links.ensures c.in_ok-queues.ensures.links c.is_sound.ensures c.in_ok-queues.ensures.messages c.new-2.ensures c.new-3.ensures c.new-4.ensures.items
+agrees : (c : After-new-5) → Agrees (kept_of (parts_of c)) (new_state c.args.config.now)
+agrees c =
+    let all : c.loop.counter ≡ c.args.config.now.links = omega arith in
+    opened c.args.config.now (parts_of c) refl (rw all at c.loop.invariant) c.in_ok-queues.ensures.links c.is_sound.ensures c.in_ok-queues.ensures.messages c.new-3.ensures c.new-4.ensures c.new-5.ensures.items
 
 pub invariant_of-result : goal.invariant_of-result
 invariant_of-result c = (new_state c.args.config.now, agrees c)

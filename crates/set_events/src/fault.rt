@@ -1,6 +1,6 @@
 //! Why an event couldn't be carried out.
 ghost use Rattle.std.specs.Prelude.{◌≡◌};
-ghost use Rattle.set_step.specs.declared.fault.SetFault.TheVariants.{NoMemory};
+ghost use Rattle.set_events.specs.declared.fault.SetFault.TheVariants.{NoMemory};
 
 use std::alloc::AllocError;
 use thiserror::Error;
@@ -17,11 +17,11 @@ pub enum SetFault {
 }
 
 impl SetFault {
-    ghost use Rattle.set_step.specs.Answering.{fault_number};
+    ghost use Rattle.set_events.specs.Numbers.{set_fault_number};
 
     /// The fault's number: 1 memory is wanted, 2 the history is full.
     pub fn number(self) -> u8
-        ensures { result ≡ fault_number self }
+        ensures { result ≡ set_fault_number self }
     {
         self as u8
     }
