@@ -16,7 +16,9 @@
 #![tactic(auto)]
 
 mod hearing;
+mod offering;
 mod sending;
 
 pub use hearing::hear;
+pub use offering::offer;
 pub use sending::send_next;

@@ -4,7 +4,7 @@ use Rattle.set_model.proofs.Rows.{total_is, fewer_filter}
 use Rattle.set_model.specs.State.{State}
 use Rattle.set_moves.specs.Agreement.{StandsFor}
 use Rattle.set_moves.specs.Parts.{kept_of}
-use Rattle.set_step.proofs.Kept.{counts_are}
+use Rattle.set_traffic.proofs.Counts.{counts_are}
 use Rattle.set_step.proofs.contents.Core.counts.Goals as goal
 use Rattle.set_step.proofs.contents.Core.counts.Goals.{After-counts}
 

@@ -7,8 +7,8 @@ use Rattle.set_model.specs.Step.{Accepted, offer_refusal, refusal_by}
 use Rattle.set_moves.specs.Agreement.{Kept, StandsFor}
 use Rattle.set_moves.specs.Parts.{kept_of}
 use Rattle.set_moves.proofs.Links.{agrees_same, whole_of}
-use Rattle.set_step.proofs.Kept.{unsent_is}
-use Rattle.set_step.proofs.step.offer.Goals as goal
+use Rattle.set_traffic.proofs.Counts.{unsent_is}
+use Rattle.set_traffic.proofs.offering.offer.Goals as goal
 
 pub fate_of_new-fate-requires-clause-whole : goal.fate_of_new-fate-requires-clause-whole
 fate_of_new-fate-requires-clause-whole c = whole_of c.args.parts.now c.requires.holds

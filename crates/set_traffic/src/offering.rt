@@ -1,0 +1,61 @@
+//! A message that a user offers.
+ghost use Rattle.std.specs.Prelude.{◌≡◌, OnOk, OnErr};
+ghost use Rattle.set_queues.specs.Messages.{unsent_of};
+ghost use Rattle.set_model.specs.Rows.{stream_of};
+ghost use Rattle.set_model.specs.Step.{refusal_by, offer_refusal, offered};
+ghost use Rattle.set_moves.specs.Agreement.{Holds};
+ghost use Rattle.set_moves.specs.Parts.{Answers, kept_of};
+
+use l2_units::LONGEST_BODY;
+use set_events::{Answer, Body, Refusal};
+use set_model::{service_indicator, stream_of_body};
+use set_moves::{Parts, fate_of_new, make_room, stand_last};
+use set_queues::Queues;
+use std::alloc::AllocError;
+
+/// The fewest octets of an offered body: the SIO and a label (own).
+const SHORTEST_OFFER: usize = 5;
+
+/// How many unsent messages of a stream close it for offers.
+const STREAM_LIMIT: u64 = 1024;
+
+/// A message is offered: refused, or the last of its queue from now on.
+pub fn offer(parts: &mut Parts, body: &Body, answer: &mut Answer) -> Result<(), AllocError>
+    requires holds { Holds (kept_of parts.old) }
+    ensures ok { OnOk result (Answers parts.old parts.new answer.new (λ s. offered
+        (offer_refusal s.rows body.now) s body.now)) }
+    ensures err { OnErr result (kept_of parts.new ≡ kept_of parts.old) }
+{
+    if let Some(why) = refusal_of(&parts.queues, body) {
+        *answer = Answer::Refused { why };
+        return Ok(());
+    }
+    let octets = body.octets();
+    let stream = stream_of_body(octets);
+    let fate = fate_of_new(parts, stream);
+    make_room(parts, fate)?;
+    let number = stand_last(parts, octets, fate);
+    parts.routes.accept(stream);
+    *answer = Answer::Accepted { number };
+    Ok(())
+}
+
+/// Why an offer is refused, if it is: the first reason in the order of the refusals.
+fn refusal_of(queues: &Queues, body: &Body) -> Option<Refusal>
+    ensures { result ≡ refusal_by (unsent_of (stream_of body.now) queues.now.messages) body.now }
+{
+    let octets = body.octets();
+    if octets.len() < SHORTEST_OFFER {
+        return Some(Refusal::TooShort);
+    }
+    if octets.len() > LONGEST_BODY {
+        return Some(Refusal::TooLong);
+    }
+    if service_indicator(octets) == 0 {
+        return Some(Refusal::Reserved);
+    }
+    if queues.unsent(stream_of_body(octets)) >= STREAM_LIMIT {
+        return Some(Refusal::StreamFull);
+    }
+    None
+}
