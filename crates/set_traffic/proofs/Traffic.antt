@@ -9,12 +9,12 @@ use Rattle.set_queues.specs.Buffers.{queue_at, last_at, Lists, is_standing}
 use Rattle.set_model.specs.Rows.{Waiting, Unacked, Row, Fate, is_unacked, unack, numbers, octets_in, body_at, AreFit, Held}
 use Rattle.set_model.specs.Control.{Header, Control, head_of, part_of}
 use Rattle.set_model.specs.State.{LinkState, State, window_of, target}
-use Rattle.set_model.specs.Step.{SignalUnit, Msu, Sent, next as next_of, sends, chosen, unit_of, Took, Message as MessageTaken, NothingTaken as Nothing, takes, brought, is_msu}
+use Rattle.set_model.specs.Step.{SignalUnit, Msu, Sent, next as next_of, sends, chosen, unit_of, in_service, Took, Message as MessageTaken, NothingTaken as Nothing, takes, brought, is_msu}
 use Rattle.set_moves.specs.declared.link.Link.{Link}
 use Rattle.set_moves.specs.declared.parts.Parts.{Parts}
 use Rattle.set_moves.specs.Agreement.{Holds, StandsFor, Message, Kept, rows_at}
-use Rattle.set_moves.specs.Parts.{kept_of, Gives, Obeys, link_of as link_kept}
-use Rattle.set_moves.proofs.Links.{stands_for, same_ups, same_target, whole_of}
+use Rattle.set_moves.specs.Parts.{Up, kept_of, Gives, Obeys, link_of as link_kept}
+use Rattle.set_moves.proofs.Links.{IsIn, served, stands_for, same_ups, same_target, whole_of}
 use Rattle.set_traffic.specs.Traffic.{ReachesTo, KeepsSpace, order_brought, message_brought, choice_in}
 use Rattle.set_queues.specs.Messages.{octets_at, octets_of}
 use Rattle.set_model.proofs.Rows.{Found, found_by_number, row_in_filter}
@@ -41,9 +41,9 @@ pub part_reaches : (c : Control) (w : WindowState) (head : Header) (msu : Bool) 
 part_reaches c w head msu q n last unacked h = record { count_is = grind (arith, nat_tests); there = grind (arith, nat_tests) }
 
 -- WHAT IS SENT, as the step has it
-pub given : (n : ℕ) (link : LinkState) (s : State) (parts : Parts) (choice : Choice) (head : Header) (unit : SignalUnit) → choice ≡ choice_in n link s → head ≡ head_of link.control (fsn_of choice (window_of n link s.rows)) → unit ≡ unit_of (chosen choice n s.rows) head → StandsFor (kept_of parts) (sends choice n s link).state
-    → Gives (next_of n s link) (Sent unit) parts
-given n link s parts choice head unit is heads sent stands = rw (← is) (record { answer_is = rw (sent, heads) refl; stands = stands })
+pub given : (n : ℕ) (s : State) (parts : Parts) (i : IsIn s n Up) (choice : Choice) (head : Header) (unit : SignalUnit) → choice ≡ choice_in n i.link s → head ≡ head_of i.link.control (fsn_of choice (window_of n i.link s.rows)) → unit ≡ unit_of (chosen choice n s.rows) head → StandsFor (kept_of parts) (sends choice n s i.link).state
+    → Gives (in_service n s (next_of n s)) (Sent unit) parts
+given n s parts i choice head unit is heads sent stands = served s n (next_of n s) (Sent unit) parts i (rw (← is) (record { answer_is = rw (sent, heads) refl; stands = stands }))
 
 pub with_body : (o : Option Row) (head : Header) (body : ArrayVec ℕ 273 (Unit {0})) → option_map (λ (row : Row). row.body) o ≡ Some body.items → Msu head body ≡ unit_of o head
 with_body o head body e = grind arith

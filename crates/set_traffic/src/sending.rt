@@ -7,7 +7,7 @@ ghost use Rattle.set_model.specs.Control.{head_of};
 ghost use Rattle.set_model.specs.State.{State, LinkState, window_of};
 ghost use Rattle.set_model.specs.Step.{next, in_service};
 ghost use Rattle.set_moves.specs.Agreement.{Holds, StandsFor, rows_at};
-ghost use Rattle.set_moves.specs.Parts.{Answers, AnswersAt, OfStates, BecomesAt, kept_of};
+ghost use Rattle.set_moves.specs.Parts.{Answers, OfStates, BecomesAt, kept_of};
 ghost use Rattle.set_traffic.specs.Traffic.{IsThere, choice_in, goes_on};
 
 use arrayvec::ArrayVec;
@@ -25,31 +25,23 @@ pub fn send_next(parts: &mut Parts, number: u8, answer: &mut Answer)
         *answer = Answer::Refused { why };
         return;
     }
-    *answer = Answer::Sent {
-        unit: unit_of(parts, number),
-    };
-}
-
-/// The next unit of a link that is in service.
-fn unit_of(parts: &mut Parts, number: u8) -> Unit
-    requires holds { Holds (kept_of parts.old) }
-    requires known { number < length parts.old.links.items }
-    ensures { AnswersAt number parts.old parts.new (Answer.Sent result)
-        (λ link s. next number s link) }
-{
     let (choice, head) = go_on(parts, number);
-    match choice {
+    *answer = match choice {
         Choice::Again { place } => {
             let body = body_at(parts, Fate::Unacked { link: number }, place);
-            Unit::Msu { head, body }
+            let unit = Unit::Msu { head, body };
+            Answer::Sent { unit }
         }
         Choice::First => {
             let body = body_at(parts, Fate::Waiting { link: number }, 0);
             send_first(parts, number);
-            Unit::Msu { head, body }
+            let unit = Unit::Msu { head, body };
+            Answer::Sent { unit }
         }
-        Choice::Fill => Unit::Fisu { head },
-    }
+        Choice::Fill => Answer::Sent {
+            unit: Unit::Fisu { head },
+        },
+    };
 }
 
 /// The link's control chooses, and goes on as that is sent, before the message moves: the choice and the unit's header.

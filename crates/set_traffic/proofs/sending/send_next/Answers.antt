@@ -1,10 +1,35 @@
-use Rattle.set_model.specs.Step.{next as next_of}
-use Rattle.set_moves.specs.Parts.{Up}
-use Rattle.set_moves.proofs.Links.{is_in, served}
+use Rattle.std.proofs.Common.{refl}
+use Rattle.l2_window.specs.declared.control.Choice.TheVariants.{First}
+use Rattle.set_moves.specs.Parts.{Up, kept_of}
+use Rattle.set_moves.proofs.Links.{is_in}
+use Rattle.set_traffic.specs.Traffic.{goes_on}
+use Rattle.set_traffic.proofs.Traffic.{given, with_body, queue_there}
 use Rattle.set_traffic.proofs.sending.send_next.Goals as goal
 
-pub returns : goal.returns
-returns c = λ s a.
-    let n = c.args.number in
-    let i = is_in c.args.parts.now s n Up a c.in_default.ensures.here in
-    served s n (next_of n s) _ c.unit_of.new.parts i (c.unit_of.ensures s i.link i.there a)
+pub go_on-choice-requires-clause-queue : goal.go_on-choice-requires-clause-queue
+go_on-choice-requires-clause-queue c = queue_there c.args.parts.now c.args.number c.requires c.in_default.ensures.here.known
+
+pub returns-in-Again : goal.returns-in-Again
+returns-in-Again c = λ s a.
+    let i = is_in c.args.parts.now s c.args.number Up a c.in_default.ensures.here in
+    let stands = c.go_on-choice.ensures.stands s i.link i.there a.stands in
+    given c.args.number s _ i c.go_on-choice.result.0 c.go_on-choice.result.1 _ (c.go_on-choice.ensures.chosen s i.link i.there a.stands) (c.go_on-choice.ensures.head s i.link i.there a.stands)
+    (rw c.in-Again.is (with_body _ _ c.body_at-body.result (c.body_at-body.ensures _ stands))) (rw c.in-Again.is (rw c.in-Again.is at stands))
+
+pub returns-in-First : goal.returns-in-First
+returns-in-First c = λ s a.
+    let i = is_in c.args.parts.now s c.args.number Up a c.in_default.ensures.here in
+    let stands = rw c.in-First.is at (c.go_on-choice.ensures.stands s i.link i.there a.stands) in
+    given c.args.number s _ i c.go_on-choice.result.0 c.go_on-choice.result.1 _ (c.go_on-choice.ensures.chosen s i.link i.there a.stands) (c.go_on-choice.ensures.head s i.link i.there a.stands)
+    (rw c.in-First.is (with_body _ _ c.body_at-body-in-First.result (c.body_at-body-in-First.ensures _ stands))) (rw c.in-First.is (c.send_first.ensures (goes_on c.args.number First i.link s) stands (a.sound.links c.args.number i.link i.there).in_order))
+
+pub returns-in-Fill : goal.returns-in-Fill
+returns-in-Fill c = λ s a.
+    let i = is_in c.args.parts.now s c.args.number Up a c.in_default.ensures.here in
+    given c.args.number s _ i c.go_on-choice.result.0 c.go_on-choice.result.1 _ (c.go_on-choice.ensures.chosen s i.link i.there a.stands) (c.go_on-choice.ensures.head s i.link i.there a.stands) (rw c.in-Fill.is refl) (rw c.in-Fill.is (rw c.in-Fill.is at (c.go_on-choice.ensures.stands s i.link i.there a.stands)))
+
+pub body_at-body-requires-clause-holds : goal.body_at-body-requires-clause-holds
+body_at-body-requires-clause-holds c = ((kept_of c.args.parts.now).links, rw c.go_on-choice.ensures.same c.requires)
+
+pub body_at-body-requires-in-First-clause-holds : goal.body_at-body-requires-in-First-clause-holds
+body_at-body-requires-in-First-clause-holds c = ((kept_of c.args.parts.now).links, rw c.go_on-choice.ensures.same c.requires)
