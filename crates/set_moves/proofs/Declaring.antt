@@ -10,7 +10,7 @@ use Rattle.set_model.specs.Changeover.{acknowledged_back, released}
 use Rattle.set_model.specs.State.{Code, State, link_count}
 use Rattle.set_moves.specs.Agreement.{StandsFor}
 use Rattle.set_moves.specs.Room.{HasRoomFrom}
-use Rattle.set_moves.specs.Parts.{Parts, Becomes, Obeys, kept_of, link_of}
+use Rattle.set_moves.specs.Parts.{Parts, Becomes, Obeys, kept_of}
 
 -- SO MANY STEPS, from one on: the last of them comes last
 module _ (run : ℕ → ℕ → State → State) (step : ℕ → State → State) (none : (from : ℕ) (s : State) → run from 0 s ≡ s) (next : (from n : ℕ) (s : State) → run from (suc n) s ≡ run (suc from) n (step from s)) where
@@ -42,7 +42,7 @@ room_after n old new r links takes message body low = record {
 }
 
 pub count_is : (parts : Parts) (s : State) → StandsFor (kept_of parts) s → link_count s ≡ length parts.links.items
-count_is parts s f = sym (ap length f.links) ∙ length-map parts.links.items link_of
+count_is parts s f = sym (ap length f.links)
 
 -- an acknowledgement of a code that is in use
 pub in_use : (code : ℕ) (x : Code) (s : State) (parts : Parts) → is_free x ≡ false → StandsFor (kept_of parts) (released code s) → Obeys (acknowledged_back code x s) Order parts

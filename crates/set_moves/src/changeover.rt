@@ -8,7 +8,7 @@ ghost use Rattle.set_queues.specs.Settling.{on};
 ghost use Rattle.set_model.specs.Changeover.{queued, left_by, settled, left_link, order_obeyed, changed_over, answered, reply_of, at_link};
 ghost use Rattle.set_model.specs.State.{State, LinkState, last_accepted};
 ghost use Rattle.set_moves.specs.Agreement.{StandsFor, Agrees, Holds};
-ghost use Rattle.set_moves.specs.Parts.{Up, Down, IsWhole, AreCounted, AtLink, IsOut, IsReach, Becomes, BecomesAt, AgreedBecomes, Obeys, link_of, kept_of};
+ghost use Rattle.set_moves.specs.Parts.{Up, Down, IsWhole, AreCounted, AtLink, IsOut, IsReach, Becomes, BecomesAt, AgreedBecomes, Obeys, kept_of};
 ghost use Rattle.set_moves.specs.Room.{HasRoom, IsReady, IsSpaciousFor, CanTurnBack, order_fate};
 ghost use Rattle.set_moves.specs.Turning.{TakesTurns};
 

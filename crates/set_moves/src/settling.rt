@@ -6,7 +6,7 @@ ghost use Rattle.set_model.specs.Changeover.{settled, judged, discarded, moved_o
 ghost use Rattle.set_model.specs.Rows.{IsInOrder, IsHeldLast};
 ghost use Rattle.set_model.specs.State.{State, LinkState, target};
 ghost use Rattle.set_moves.specs.Agreement.{StandsFor, Agrees};
-ghost use Rattle.set_moves.specs.Parts.{Down, IsWhole, AreCounted, AtLink, IsOut, IsReach, Becomes, BecomesAt, link_of, kept_of};
+ghost use Rattle.set_moves.specs.Parts.{Down, IsWhole, AreCounted, AtLink, IsOut, IsReach, Becomes, BecomesAt, kept_of};
 
 use super::parts::{Parts, target_of};
 use set_events::{DiscardCause, Fate};
@@ -23,7 +23,7 @@ pub fn settle(parts: &mut Parts, number: u8, reached: Reached)
     requires known { number < length parts.old.links.items }
     requires out { AtLink number parts.old.links.items IsOut }
     requires room { length (on number parts.old.queues.lists) ≤ room_at (fate_on
-        (target (map link_of parts.old.links.items))) parts.old.queues.rooms }
+        (target parts.old.links.items)) parts.old.queues.rooms }
     ensures stands { (s : State) (link : LinkState) → slice_get s.links number ≡ Some link
         → link.phase ≡ Down → Agrees (kept_of parts.old) s
         → StandsFor (kept_of parts.new) (settled reached number link s) }
@@ -80,7 +80,7 @@ fn move_all(parts: &mut Parts, number: u8)
     requires known { number < length parts.old.links.items }
     requires out { AtLink number parts.old.links.items IsOut }
     requires room { length (on number parts.old.queues.lists) ≤ room_at (fate_on
-        (target (map link_of parts.old.links.items))) parts.old.queues.rooms }
+        (target parts.old.links.items)) parts.old.queues.rooms }
     ensures stands { (s : State) (link : LinkState) → slice_get s.links number ≡ Some link
         → IsInOrder number s.rows → IsHeldLast number s.rows → StandsFor (kept_of parts.old) s
         → StandsFor (kept_of parts.new) (moved_over number link s) }

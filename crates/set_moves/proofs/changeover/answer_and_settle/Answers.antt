@@ -6,7 +6,7 @@ use Rattle.set_model.proofs.SoundBack.{leaves}
 use Rattle.set_model.proofs.SoundLink.{queues}
 use Rattle.set_model.proofs.Walk.{IsAt}
 use Rattle.set_moves.specs.Agreement.{StandsFor}
-use Rattle.set_moves.specs.Parts.{Up, link_of, kept_of}
+use Rattle.set_moves.specs.Parts.{Up, kept_of}
 use Rattle.set_moves.proofs.Links.{found, stands_for, whole_of, has_room_left, room_after, is_left}
 use Rattle.set_moves.proofs.changeover.answer_and_settle.Goals as goal
 
@@ -24,7 +24,7 @@ settle-requires c =
     let left = is_left false n c.args.parts.now c.leave.new.parts c.requires.known c.leave.ensures.links in
     let whole = whole_of c.args.parts.now c.requires.holds in
     let elsewhere = c.queue.ensures.elsewhere n (rw left.many c.requires.known) left.out in
-    let same = ap (λ ls. target (map link_of ls.items)) c.queue.ensures.links in
+    let same = ap (λ ls. target ls.items) c.queue.ensures.links in
     record {
       whole = c.queue.ensures.whole;
       counted = rw c.queue.ensures.links (left.counted _ c.requires.counted);

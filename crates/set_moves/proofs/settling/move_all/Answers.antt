@@ -1,8 +1,8 @@
-use Rattle.std.proofs.Common.{rules, refl, ◌≡◌, ◌∙◌, ap, map}
+use Rattle.std.proofs.Common.{rules, refl, ◌≡◌, ◌∙◌, ap}
 use Rattle.set_route.specs.Routing.{Routing, settled as streams_settled}
 use Rattle.set_model.specs.Changeover.{settled_link, fate_on}
 use Rattle.set_model.specs.State.{target}
-use Rattle.set_moves.specs.Parts.{link_of, kept_of}
+use Rattle.set_moves.specs.Parts.{kept_of}
 use Rattle.set_moves.proofs.States.{becomes, settled_for}
 use Rattle.set_moves.proofs.Links.{link_set, place_for}
 use Rattle.set_moves.proofs.settling.move_all.Goals as goal
@@ -16,9 +16,9 @@ returns c = record {
       let n = c.args.number in
       let q = c.args.parts.now.queues in
       let o = c.target_of-target.result in
-      let is : o ≡ target s.links = c.target_of-target.ensures.value ∙ ap (λ links. target (map link_of links)) c.deref.ensures.value ∙ ap target f.links in
+      let is : o ≡ target s.links = c.target_of-target.ensures.value ∙ ap (λ links. target links) c.deref.ensures.value ∙ ap target f.links in
       let place = place_for n o (fate_on o) q.lists c.deref.ensures.value c.target_of-target.ensures.value c.target_of-target.ensures.below refl c.requires.whole.as_many c.requires.known c.requires.out in
-      let set = link_set c.args.parts.now.links.items n c.from.result c.index_mut.result.now c.from.ensures c.requires.known c.index_mut.ensures.value _ s.links link (settled_link link) f.links there (λ e. ap settled_link e) in
+      let set = link_set c.args.parts.now.links.items n c.from.result c.index_mut.result.now c.from.ensures c.requires.known c.index_mut.ensures.value settled_link _ s.links link c.behind-parts.view_is f.links there in
       let routes = c.settle-2.ensures ∙ ap (λ (r : Routing). streams_settled n o r) f.routing in
       rw (← is) (becomes (kept_of c.args.parts.now) _ _ _ _ _ _ _ (search (rules, c.settle.ensures.lists, c.settle.ensures.messages, set, routes)) (settled_for (kept_of c.args.parts.now) s n o link (settled_link link) (streams_settled n o s.routing) f order last there refl place.aside place.off));
 }
