@@ -1,7 +1,6 @@
 //! What a set keeps, as one event after another changes it.
 ghost use Rattle.std.specs.Prelude.{◌≡◌, IfOk, map, replicate};
 ghost use Rattle.set_model.specs.State.{new_link};
-ghost use Rattle.set_moves.specs.Parts.{link_of};
 
 use super::fault::SetFault;
 use super::step::{carry_out, is_asked};
@@ -95,7 +94,6 @@ impl Core {
     }
 
     /// How many links the set has.
-    #[tactic(auto, using(set_moves::proofs::Links::length_links))]
     pub fn links(&self) -> u8
         ensures { (s : State) → StandsFor self.now s → result ≡ link_count s }
     {
@@ -153,7 +151,7 @@ impl Core {
 /// The links of a set, none of which was up.
 fn new_links(alloc: Global, config: &SetConfig) -> Result<Vec<Link>, AllocError>
     ensures { IfOk result
-        (λ links. map link_of links.items ≡ replicate config.now.links
+        (λ links. links.items ≡ replicate config.now.links
         (new_link config.now.method)) }
 {
     let mut links = Vec::new(alloc);

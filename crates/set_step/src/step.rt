@@ -8,7 +8,7 @@ ghost use Rattle.set_model.specs.Step.{offer_refusal, offered, on_link, in_servi
 ghost use Rattle.set_model.specs.Rows.{place, stream_of};
 ghost use Rattle.set_moves.specs.Agreement.{Holds};
 ghost use Rattle.set_step.specs.Answering.{wants_none, refusal_by};
-ghost use Rattle.set_moves.specs.Parts.{Answers, AreCounted, link_of, kept_of};
+ghost use Rattle.set_moves.specs.Parts.{Answers, AreCounted, kept_of};
 
 use super::admitting::{unraised, unwaited};
 use l2_units::LONGEST_BODY;
@@ -182,7 +182,7 @@ fn take_down(
 fn order_on_leaving(link: &Link, number: u8, blind: bool) -> Order
     requires number { number < 16 }
     requires counted { link.now.accepted < 2 ^ 62 }
-    ensures order { result ≡ leaving_order blind number (link_of link.now) }
+    ensures order { result ≡ leaving_order blind number link.now }
     ensures fits { IsOrder result }
 {
     if blind {
