@@ -1,11 +1,10 @@
 -- WHAT STOOD BACK FOR A LINK THAT IS LEFT turns back.
-use Rattle.std.specs.Prelude.{◌≡◌, ◌≤◌, ◌<◌, ◌+◌, ℕ, true, length}
+use Rattle.std.specs.Prelude.{◌≡◌, ◌≤◌, ◌<◌, ◌+◌, ℕ, true, length, slice_get, Some}
 use Rattle.set_queues.specs.Buffers.{room_at}
 use Rattle.set_queues.specs.Queues.{QueuesState}
 use Rattle.set_queues.specs.Settling.{on}
 use Rattle.set_route.specs.Routing.{place_of}
-use Rattle.set_model.specs.Rows.{Fate, Row, is_users, is_back_to, standing, stream_of, numbers, Each}
-use Rattle.set_model.specs.Changeover.{turned_back}
+use Rattle.set_model.specs.Rows.{Fate, Row, is_users, is_back, is_back_to, standing, stream_of, numbers, Each}
 use Rattle.set_model.specs.Sound.{IsAscending}
 use Rattle.set_model.specs.State.{On, State, link_count}
 use Rattle.set_moves.specs.Agreement.{Kept, StandsFor}
@@ -24,12 +23,17 @@ pub record IsTurning (number : ℕ) (s : State) : Type 0 where
 abbrev pub CanTurn : ℕ → Kept → Type 0
 CanTurn number k = (s : State) × StandsFor k s × IsTurning number s
 
--- what is kept stands for a state in which what is left to turn makes the same of it
-pub record TurnsOn (number : ℕ) (s : State) (k : Kept) : Type 0 where
+-- the first that waits for the code's acknowledgement is a user's, and its stream runs on a link
+pub record HasWay (code : ℕ) (k : Kept) : Type 0 where
   pub state : State
   pub stands : StandsFor k state
-  pub turning : IsTurning number state
-  pub same : turned_back number state ≡ turned_back number s
+  pub row : Row
+  pub first : slice_get (standing (is_back code) state.rows) 0 ≡ Some row
+  pub users : is_users row ≡ true
+  pub few : stream_of row.body < 16
+  pub via : ℕ
+  pub place_is : place_of (stream_of row.body) state.routing ≡ On via
+  pub known : via < link_count state
 
 -- so many turns take so much room of each queue, and put at most so many on a link
 pub record TakesTurns (count : ℕ) (old new : QueuesState) : Type 0 where
