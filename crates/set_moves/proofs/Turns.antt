@@ -63,6 +63,11 @@ IsOnLink links to = (via : ℕ) × (via < links) × ((to ≡ Waiting via) ⊎ (t
 pub on_way : (links via : ℕ) (to : Fate) (s : State) → link_count s ≡ links → via < link_count s → to ≡ fate_at (On via) s → IsOnLink links to
 on_way links via to s many low e = (via, omega (arith, many, low), grind arith)
 
+-- THE KIND that is kept of a user's message
+users_label : (body : List ℕ) (o : Option Message) → option_map label_in o ≡ Some (label_of body) → (service_indicator body == 0) ≡ false → (m : Message) × (o ≡ Some m) × (m.kind ≡ User (stream_of body))
+users_label body None e users = absurd cc
+users_label body (Some m) e users = (m, refl, ap (λ l. l.kind) (same_Some (label_in m) (label_of body) e) ∙ rw users refl)
+
 -- WHAT IS LEFT TO TURN stands behind all else, in the order of its numbers; moved all at once, it makes the same of the state
 abbrev way_in : State → Row → Fate
 way_in s row = fate_at (place_of (stream_of row.body) s.routing) s
@@ -142,30 +147,25 @@ module _ (home : ℕ) (s : State) (k : Kept) (t : TurnsOn home s k) where
     it_turns = (subst (Each (IsLeft home s)) it.rest_is t.left).0
 
     pub way : HasWay code k
-    way = let turns = it_turns.1 it_turns.0 in record {
-      state = record s { rows = t.gone ++ t.rest };
-      stands = t.stands;
-      row = it.row;
-      first = ap (λ (rows : List Row). slice_get (standing (is_back code) (t.gone ++ rows)) 0) it.rest_is ∙ grind (arith, filter-append, none_gone code o.of_home, it.on);
-      users = turns.0;
-      few = turns.1;
-      via = turns.2;
-      place_is = turns.3;
-      known = turns.4;
-    }
+    way =
+        let turns = it_turns.1 it_turns.0 in
+        let first = ap (λ (rows : List Row). slice_get (standing (is_back code) (t.gone ++ rows)) 0) it.rest_is ∙ grind (arith, filter-append, none_gone code o.of_home, it.on) in
+        let found = row_in_filter (λ (row : Row). is_back code row.fate) (t.gone ++ t.rest) 0 it.row.number it.row t.stands.stands.numbered first refl in
+        let label = users_label it.row.body (slice_get k.messages it.row.number) (t.stands.stands.labels it.row.number ∙ ap (option_map label_of) (ap (option_map (λ (row : Row). row.body)) found)) (not-true (service_indicator it.row.body == 0) turns.0) in
+        record { number = it.row.number; first = o.first ∙ ap Some (sym it.number_is); message = label.0; message_is = label.1; stream = stream_of it.row.body; kind_is = label.2; few = turns.1; via = turns.2; place_is = ap (place_of (stream_of it.row.body)) t.stands.routing ∙ turns.3; known = subst (λ (n : ℕ). turns.2 < n) (ap length (sym t.stands.links)) turns.4 }
 
     -- and turns
-    pub turned_first : (to : Fate) (new : Kept) → IsOnLink (length k.lists.links) to → to ≡ fate_at (On way.via) way.state → Becoming k new (passed_first (Back code) to k.lists) (restood (take 1 (queue_at (Back code) k.lists)) to k.messages) k.bodies k.links k.routing → TurnsOn home s new
+    pub turned_first : (to : Fate) (new : Kept) → IsOnLink (length k.lists.links) to → to ≡ fate_at (On way.via) s → Becoming k new (passed_first (Back code) to k.lists) (restood (take 1 (queue_at (Back code) k.lists)) to k.messages) k.bodies k.links k.routing → TurnsOn home s new
     unfolding way
     turned_first to new on is b =
         let to_link = on.2 in
         let off : is_back_to home to ≡ false = grind arith in
-        let way_is : to ≡ way_in s it.row = is ∙ rw way.place_is refl in
+        let way_is : to ≡ way_in s it.row = is ∙ ap (λ place. fate_at place s) (sym (it_turns.1 it_turns.0).3) in
         let rows_are : turned (is_back code) to 1 (t.gone ++ t.rest) ≡ (t.gone ++ with_fate to it.row ∷ []) ++ it.after = ap (λ (rows : List Row). turned (is_back code) to 1 (t.gone ++ rows)) it.rest_is ∙ turned_one (is_back code) to it.row it.after t.gone (none_gone code o.of_home) it.on in
         let unlike = none_standing (IsLeft home s) (is_there to) (λ x e l. absurd (let here = l.0 in grind (arith, same_is, off))) t.rest t.left in
         let order : AreBefore (is_there to) (is_back code) (t.gone ++ t.rest) = before_append (is_there to) (is_back code) t.gone t.rest (before_never (is_there to) (is_back code) t.gone (none_gone code o.of_home)) unlike in
         let known : code < length k.lists.back = let first = o.first in grind (arith, nat_tests, cases_lt, get_or_past) in
-        let stands = first_for k way.state (Back code) to (is_back code) (is_there to) t.stands refl (grind arith) known (let low = on.1 in grind arith) (λ g. grind arith) (λ g. refl) (grind arith) refl order in
+        let stands = first_for k (record s { rows = t.gone ++ t.rest }) (Back code) to (is_back code) (is_there to) t.stands refl (grind arith) known (let low = on.1 in grind arith) (λ g. grind arith) (λ g. refl) (grind arith) refl order in
         record {
           gone = t.gone ++ with_fate to it.row ∷ [];
           rest = it.after;
@@ -175,24 +175,6 @@ module _ (home : ℕ) (s : State) (k : Kept) (t : TurnsOn home s k) where
           order = (subst (λ (rows : List Row). IsAscending (numbers rows)) it.rest_is t.order).1;
           same = t.same ∙ ap (λ (rows : List Row). record s { rows = rows }) (ap (λ (rows : List Row). t.gone ++ map (fated (way_in s)) rows) it.rest_is ∙ ap (λ (f : Fate). t.gone ++ with_fate f it.row ∷ map (fated (way_in s)) it.after) (sym way_is) ∙ sym (append_assoc t.gone (with_fate to it.row ∷ []) (map (fated (way_in s)) it.after)));
         }
-
--- THE KIND that is kept of a user's message
-users_label : (body : List ℕ) (o : Option Message) → option_map label_in o ≡ Some (label_of body) → (service_indicator body == 0) ≡ false → (m : Message) × (o ≡ Some m) × (m.kind ≡ User (stream_of body))
-users_label body None e users = absurd cc
-users_label body (Some m) e users = (m, refl, ap (λ l. l.kind) (same_Some (label_in m) (label_of body) e) ∙ rw users refl)
-
--- the first that waits for the code, as its queue and the messages have it
-pub record IsKept (code : ℕ) (k : Kept) (w : HasWay code k) : Type 0 where
-  pub first : slice_get (queue_at (Back code) k.lists) 0 ≡ Some w.row.number
-  pub message : Message
-  pub message_is : slice_get k.messages w.row.number ≡ Some message
-  pub kind_is : message.kind ≡ User (stream_of w.row.body)
-
-pub is_kept : {code : ℕ} {k : Kept} (w : HasWay code k) → IsKept code k w
-is_kept {code} {k} w =
-    let found = row_in_filter (λ (row : Row). is_back code row.fate) w.state.rows 0 w.row.number w.row w.stands.stands.numbered w.first refl in
-    let label = users_label w.row.body (slice_get k.messages w.row.number) (w.stands.stands.labels w.row.number ∙ ap (option_map label_of) (ap (option_map (λ (row : Row). row.body)) found)) (not-true (service_indicator w.row.body == 0) w.users) in
-    record { first = ap (λ (ns : List ℕ). slice_get ns 0) (w.stands.stands.queues (Back code)) ∙ slice_get-map (λ (row : Row). row.number) (standing (is_back code) w.state.rows) 0 ∙ ap (option_map (λ (row : Row). row.number)) w.first; message = label.0; message_is = label.1; kind_is = label.2 }
 
 back_suc : (code n : ℕ) (q : Lists) → back_from code (suc n) q ≡ back_from code n q + length (queue_at (Back (code + n)) q)
 unfolding back_from
@@ -269,8 +251,12 @@ module _ (home : ℕ) (old now : Parts) (g : Turning home old now) (code : ℕ) 
   pub its_way : CanTurn home (kept_of old) → HasWay code (kept_of now)
   its_way turning = way home turning.0 (kept_of now) (g.so_far turning.0 turning.1 turning.2) code o
 
-  pub goes_on_link : (to : Fate) (w : HasWay code (kept_of now)) → to ≡ fate_at (On w.via) w.state → IsOnLink (length now.queues.lists.links) to
-  goes_on_link to w is = on_way _ w.via to w.state (sym w.stands.as_many) w.known is
+  -- where it goes
+  pub goes_on_link : (turning : CanTurn home (kept_of old)) (to : Fate) → ((w : HasWay code (kept_of now)) (s : State) → StandsFor (kept_of now) s → to ≡ fate_at (On w.via) s) → IsOnLink (length now.queues.lists.links) to
+  goes_on_link turning to is =
+      let so = g.so_far turning.0 turning.1 turning.2 in
+      let w = its_way turning in
+      on_way _ w.via to (record turning.0 { rows = so.gone ++ so.rest }) (sym so.stands.as_many) (subst (λ (n : ℕ). w.via < n) (ap length so.stands.links) w.known) (is w _ so.stands)
 
 -- A LINK THAT IS LEFT: what stood back for it can turn.
 pub here_up : (parts : Parts) (n : ℕ) → n < length parts.links.items → AtLink n parts.links.items (λ link. link.phase ≡ Up) → IsHere parts.links.items n Up

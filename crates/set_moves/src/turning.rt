@@ -39,7 +39,8 @@ pub(crate) fn turn_back(parts: &mut Parts, number: u8)
 fn way_of(parts: &Parts, code: u8) -> Fate
     requires whole { IsWhole parts.now }
     requires way { HasWay code (kept_of parts.now) }
-    ensures { (way : HasWay code (kept_of parts.now)) → result ≡ fate_at (On way.via) way.state }
+    ensures { (way : HasWay code (kept_of parts.now)) (s : State) → StandsFor (kept_of parts.now) s
+        → result ≡ fate_at (On way.via) s }
 {
     parts.queues.is_sound();
     let Some(first) = parts.queues.number_at(Fate::Back { code }, 0) else {

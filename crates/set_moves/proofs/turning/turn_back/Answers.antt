@@ -13,8 +13,7 @@ way_of-to-requires-clause-way c = its_way c.args.number c.args.parts.now c.loop-
 pub turn_back-requires : goal.turn_back-requires
 turn_back-requires c =
     let inv = c.loop-code.invariant in
-    let w = its_way c.args.number c.args.parts.now c.loop-code.parts inv c.in-Some.code c.in-Some.ensures c.requires.turning in
-    let on = goes_on_link c.args.number c.args.parts.now c.loop-code.parts inv c.in-Some.code c.in-Some.ensures c.way_of-to.result w (c.way_of-to.ensures w) in
+    let on = goes_on_link c.args.number c.args.parts.now c.loop-code.parts inv c.in-Some.code c.in-Some.ensures c.requires.turning c.way_of-to.result c.way_of-to.ensures in
     let low = on.1 in
     let to = on.2 in
     let room = room_for_one c.args.number c.args.parts.now c.loop-code.parts inv c.in-Some.code c.in-Some.ensures c.requires.room on.0 (rw (← inv.whole.as_many) low) in
@@ -23,8 +22,7 @@ turn_back-requires c =
 pub loop-code-preserved : goal.loop-code-preserved
 loop-code-preserved c =
     let inv = c.loop-code.invariant in
-    let w = its_way c.args.number c.args.parts.now c.loop-code.parts inv c.in-Some.code c.in-Some.ensures c.requires.turning in
-    let on = goes_on_link c.args.number c.args.parts.now c.loop-code.parts inv c.in-Some.code c.in-Some.ensures c.way_of-to.result w (c.way_of-to.ensures w) in
+    let on = goes_on_link c.args.number c.args.parts.now c.loop-code.parts inv c.in-Some.code c.in-Some.ensures c.requires.turning c.way_of-to.result c.way_of-to.ensures in
     let many : length c.turn_back.new.self.lists.links ≡ length c.loop-code.parts.queues.lists.links = rw c.turn_back.ensures.lists (search links_stay) in
     record {
       whole = grind arith;
@@ -32,7 +30,7 @@ loop-code-preserved c =
       bodies = inv.bodies;
       so_far = λ s f t.
           let mid = inv.so_far s f t in
-          turned_first c.args.number s (kept_of c.loop-code.parts) mid c.in-Some.code c.in-Some.ensures c.way_of-to.result _ on (c.way_of-to.ensures (way c.args.number s (kept_of c.loop-code.parts) mid c.in-Some.code c.in-Some.ensures)) (search rules);
+          turned_first c.args.number s (kept_of c.loop-code.parts) mid c.in-Some.code c.in-Some.ensures c.way_of-to.result _ on (c.way_of-to.ensures (way c.args.number s (kept_of c.loop-code.parts) mid c.in-Some.code c.in-Some.ensures) _ mid.stands) (search rules);
       turned = inv.turned + 1;
       turns = turns_then inv.turned 1 c.args.parts.now.queues c.loop-code.parts.queues c.turn_back.new.self (inv.whole.as_many ∙ ap (λ links. length links.items) inv.links ∙ sym c.requires.whole.as_many) inv.turns (turns_one c.args.number c.in-Some.code c.way_of-to.result c.loop-code.parts.queues _ c.in-Some.ensures on c.turn_back.ensures.lists c.turn_back.ensures.rooms c.turn_back.ensures.room);
       fewer = let less = fewer_back c.args.number c.in-Some.code c.way_of-to.result c.loop-code.parts.queues.lists c.in-Some.ensures on in rw c.turn_back.ensures.lists (omega (arith, inv.fewer, less));
@@ -41,8 +39,7 @@ loop-code-preserved c =
 pub loop-code-smaller : goal.loop-code-smaller
 loop-code-smaller c =
     let inv = c.loop-code.invariant in
-    let w = its_way c.args.number c.args.parts.now c.loop-code.parts inv c.in-Some.code c.in-Some.ensures c.requires.turning in
-    let on = goes_on_link c.args.number c.args.parts.now c.loop-code.parts inv c.in-Some.code c.in-Some.ensures c.way_of-to.result w (c.way_of-to.ensures w) in
+    let on = goes_on_link c.args.number c.args.parts.now c.loop-code.parts inv c.in-Some.code c.in-Some.ensures c.requires.turning c.way_of-to.result c.way_of-to.ensures in
     let less = fewer_back c.args.number c.in-Some.code c.way_of-to.result c.loop-code.parts.queues.lists c.in-Some.ensures on in
     rw c.turn_back.ensures.lists (omega (arith, less))
 
