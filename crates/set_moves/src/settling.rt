@@ -29,7 +29,10 @@ pub fn settle(parts: &mut Parts, number: u8, reached: Reached)
         → StandsFor (kept_of parts.new) (settled reached number link s) }
 {
     judge(parts, number, reached);
-    move_all(parts, number);
+    let target = target_of(&parts.links);
+    parts.queues.settle(number, target);
+    parts.links[usize::from(number)].phase = Phase::Settled;
+    parts.routes.settle(number, target);
 }
 
 /// What reached the far end is acknowledged, or what might be doubled is discarded (own).
@@ -72,21 +75,4 @@ fn discard(parts: &mut Parts, number: u8, cause: DiscardCause)
 {
     parts.queues.discard(Fate::Unacked { link: number }, cause);
     parts.queues.discard(Fate::Waiting { link: number }, cause);
-}
-
-/// What stands on the link is moved to the target, or parked, and so are its streams.
-fn move_all(parts: &mut Parts, number: u8)
-    requires whole { IsWhole parts.old }
-    requires known { number < length parts.old.links.items }
-    requires out { AtLink number parts.old.links.items IsOut }
-    requires room { length (on number parts.old.queues.lists) ≤ room_at (fate_on
-        (target parts.old.links.items)) parts.old.queues.rooms }
-    ensures stands { (s : State) (link : LinkState) → slice_get s.links number ≡ Some link
-        → IsInOrder number s.rows → IsHeldLast number s.rows → StandsFor (kept_of parts.old) s
-        → StandsFor (kept_of parts.new) (moved_over number link s) }
-{
-    let target = target_of(&parts.links);
-    parts.queues.settle(number, target);
-    parts.links[usize::from(number)].phase = Phase::Settled;
-    parts.routes.settle(number, target);
 }
