@@ -103,59 +103,22 @@ fn change_over(parts: &mut Parts, number: u8, reached: Reached) -> Took
 {
     match phase_of(parts, number) {
         None => return Took::Ignored,
-        Some(Phase::Up) => answer_and_settle(parts, number, reached),
+        Some(Phase::Up) => {
+            let order = Order::Coa {
+                link: number,
+                number: parts.links[usize::from(number)].last_accepted(),
+            };
+            leave(parts, number, false);
+            queue(parts, order);
+            settle(parts, number, reached);
+        }
         Some(Phase::Down) => settle(parts, number, reached),
-        Some(Phase::Settled) => reply_again(parts, number),
+        Some(Phase::Settled) => {
+            let order = parts.links[usize::from(number)].reply(number);
+            queue(parts, order);
+        }
     }
     Took::Order
-}
-
-/// A link that is up is left; the far end's order is acknowledged, and the link settles.
-fn answer_and_settle(parts: &mut Parts, number: u8, reached: Reached)
-    requires holds { Holds (kept_of parts.old) }
-    requires counted { AreCounted (2 ^ 61) parts.old.links.items }
-    requires reached { IsReach reached }
-    requires number { number < 16 }
-    requires known { number < length parts.old.links.items }
-    requires up { AtLink number parts.old.links.items (λ link. link.phase ≡ Up) }
-    requires room { IsReady number 1 parts.old }
-    ensures stands { (s : State) (link : LinkState) → slice_get s.links number ≡ Some link
-        → link.phase ≡ Up
-        → Agrees (kept_of parts.old) s
-        → StandsFor (kept_of parts.new) (settled reached number (left_link false link)
-        (queued (Order.Coa number (last_accepted link)) (left_by false number link s))) }
-{
-    let order = Order::Coa {
-        link: number,
-        number: parts.links[usize::from(number)].last_accepted(),
-    };
-    leave(parts, number, false);
-    queue(parts, order);
-    settle(parts, number, reached);
-}
-
-/// A link that settled is answered for again, as its last life would have been (own).
-#[tactic(auto, using(crate::proofs::Links::stands_for, crate::proofs::Links::has_room, crate::proofs::Links::beside_out))]
-fn reply_again(parts: &mut Parts, number: u8)
-    requires whole { IsWhole parts.old }
-    requires counted { AreCounted (2 ^ 61) parts.old.links.items }
-    requires number { number < 16 }
-    requires known { number < length parts.old.links.items }
-    requires out { AtLink number parts.old.links.items IsOut }
-    requires room { IsReady number 1 parts.old }
-    ensures stands { BecomesAt number parts.old parts.new
-        (λ link s. queued (reply_of number link) s) }
-{
-    let link = &parts.links[usize::from(number)];
-    if link.blind {
-        queue(parts, Order::Eca { link: number });
-        return;
-    }
-    let order = Order::Coa {
-        link: number,
-        number: link.last_accepted(),
-    };
-    queue(parts, order);
 }
 
 /// An acknowledgement settles a link that waits for one (Q.704 5.4.3, 5.6.3).

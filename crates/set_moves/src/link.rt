@@ -1,9 +1,12 @@
 //! What a set keeps of one of its links beside the queues of its messages.
 ghost use Rattle.std.specs.Prelude.{◌≡◌, ◌<◌, ◌^◌, false};
+ghost use Rattle.l3_orders.specs.Grammar.{IsOrder};
+ghost use Rattle.set_model.specs.Changeover.{reply_of};
 ghost use Rattle.set_model.specs.Control.{start_of};
 ghost use Rattle.set_model.specs.State.{new_link, last_accepted};
 
 use super::control::Control;
+use l3_orders::Order;
 use set_events::Method;
 use set_model::Phase;
 use std::marker::Model;
@@ -64,5 +67,21 @@ impl Link {
         ensures few { result < 128 }
     {
         ((self.accepted + 127) % 128) as u8
+    }
+
+    /// How a late changeover order is answered once the link settled: as its last life would have been (own).
+    pub(crate) fn reply(&self, number: u8) -> Order
+        requires number { number < 16 }
+        requires counted { self.now.accepted < 2 ^ 63 }
+        ensures order { result ≡ reply_of number self.now }
+        ensures fits { IsOrder result }
+    {
+        if self.blind {
+            return Order::Eca { link: number };
+        }
+        Order::Coa {
+            link: number,
+            number: self.last_accepted(),
+        }
     }
 }
