@@ -1,7 +1,6 @@
 -- A declaration goes out on each link from which streams come back.
-use Rattle.std.proofs.Common.{arith, ◌≡◌, ◌∙◌, ap, sym, subst, ◌≤◌, ◌<◌, ◌+◌, ◌-◌, ◌||◌, ℕ, zero, suc, true, false, Bool, length}
+use Rattle.std.proofs.Common.{arith, ◌≡◌, ap, sym, subst, ◌≤◌, ◌<◌, ◌+◌, ◌-◌, ◌||◌, ℕ, zero, suc, true, false, Bool, length}
 use Rattle.std.proofs.lemmas.Bool.Decides.{nat_tests}
-use Rattle.std.proofs.lemmas.List.{length-map}
 use Rattle.set_queues.specs.Bodies.{CanHold}
 use Rattle.set_queues.specs.Buffers.{Waiting, TakesRoom}
 use Rattle.set_model.specs.Step.{Order}
@@ -40,6 +39,10 @@ room_after n old new r links takes message body low = record {
   body = body (16 - (n + 1)) (subst (λ (more : ℕ). CanHold more old.bodies) (let same : 16 - n ≡ 16 - (n + 1) + 1 = omega (arith, low) in same) r.body);
   each = λ link far low. let kept = takes (Waiting link) in grind (arith, nat_tests, r.each link);
 }
+
+-- or none was
+pub room_later : (n : ℕ) (parts : Parts) → HasRoomFrom n parts → HasRoomFrom (n + 1) parts
+room_later n parts r = record { message = let m = r.message in omega (arith, m); body = let b = r.body in (omega (arith, b.0), omega (arith, b.1)); each = λ link far low. r.each link (omega (arith, far)) low }
 
 pub count_is : (parts : Parts) (s : State) → StandsFor (kept_of parts) s → link_count s ≡ length parts.links.items
 count_is parts s f = sym (ap length f.links)

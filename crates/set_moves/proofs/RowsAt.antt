@@ -1,20 +1,19 @@
 -- WHAT STANDS IN EACH PLACE after rows came to stand elsewhere, queue after queue, and where each number stands then.
-use Rattle.std.proofs.Common.{arith, refl, ◌≡◌, ◌∙◌, ap, sym, ◌≤◌, ◌<◌, [], ◌∷◌, length, ℕ, zero, suc, Bool, true, false, List, ◌++◌, Option, Some, None, take, drop, cond, not, ◌==◌, slice_get, filter, map, option_map}
+use Rattle.std.proofs.Common.{arith, refl, ◌≡◌, ◌∙◌, ap, sym, ◌≤◌, ◌<◌, [], ◌∷◌, length, ℕ, zero, suc, Bool, true, false, List, ◌++◌, Option, Some, None, take, drop, cond, not, slice_get, filter, map, option_map}
 use Rattle.std.specs.List.{drop-map}
 use Rattle.std.proofs.lemmas.Bool.Decides.{nat_tests}
-use Rattle.std.proofs.lemmas.List.{map-append, take-map, append-nil, append_assoc, length-append}
+use Rattle.std.proofs.lemmas.List.{map-append, take-map, append-nil}
 use Rattle.set_queues.specs.Buffers.{is_standing, same_fate}
-use Rattle.set_model.specs.Rows.{Fate, Waiting, Unacked, Acked, Held, Parked, Back, Discarded, Row, standing, is_waiting, is_unacked, is_held, is_parked, is_back, unack, wait, numbers, turned, changed, moved, all_with, appended, IsNumbered, AreBefore, row_of, place, with_fate}
+use Rattle.set_model.specs.Rows.{Fate, Waiting, Unacked, Acked, Held, Parked, Back, Discarded, Row, standing, is_waiting, is_unacked, is_held, is_parked, is_back, numbers, turned, changed, moved, all_with, appended, IsNumbered, AreBefore, row_of, place, with_fate}
 use Rattle.set_model.specs.Laws.{SameMessages}
-use Rattle.set_model.proofs.Events.{numbers_joined, appended_in, appended_out, sent}
-use Rattle.set_model.proofs.Rows.{each_append, each_filter, turned_same, turned_left, changed_same, changed_left, moved_same, moved_gone, moved_joined, fewer_filter, filter_comm, filter_within, filter_apart, with_number, same_numbers, at_most_one, row_is_first, place_moved, no_rows}
+use Rattle.set_model.proofs.Events.{numbers_joined, appended_in, appended_out}
+use Rattle.set_model.proofs.Rows.{turned_same, turned_left, changed_same, changed_left, moved_same, moved_gone, moved_joined, fewer_filter, filter_within, filter_apart, with_number, at_most_one, row_is_first, place_moved, no_rows}
 use Rattle.set_model.proofs.Staying.{messages_stay}
 use Rattle.set_moves.specs.Agreement.{Message, rows_at}
 use Rattle.std.proofs.lemmas.List.Elements.{filter_agree, filter-append}
 use Rattle.set_queues.specs.Queues.{occurs, AreGiven}
-use Rattle.set_queues.proofs.Standing.{same_is, occurs-split, occurs_here, occurs_not}
-use Rattle.std.proofs.lemmas.Bool.{cases_eq, cases_lt, eq-eqb, eqb-true, not_from_true}
-use Rattle.std.proofs.lemmas.List.Filters.{length-filter_both}
+use Rattle.set_queues.proofs.Standing.{same_is, occurs-split}
+use Rattle.std.proofs.lemmas.Bool.{cases_lt}
 
 -- a number occurs among the rows that a test picks as often as its row is picked
 occurs_picked : (p : Row → Bool) (n : ℕ) (rows : List Row) → occurs n (numbers (filter p rows)) ≡ length (filter p (with_number n rows))

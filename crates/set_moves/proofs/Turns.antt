@@ -7,14 +7,14 @@ use Rattle.std.proofs.lemmas.List.{append_assoc, length-append, get_or_past}
 use Rattle.set_queues.specs.Backs.{passed_first, IsOldest, back_from, NoneBack}
 use Rattle.set_queues.specs.Buffers.{Lists, is_standing, same_fate, queue_at, HaveRoom, TakesRoom}
 use Rattle.set_queues.specs.Messages.{restood}
-use Rattle.set_queues.proofs.Standing.{same_is, links_stay}
+use Rattle.set_queues.proofs.Standing.{same_is}
 use Rattle.set_route.specs.Routing.{home_of, place_of}
-use Rattle.set_model.specs.Rows.{turned, with_fate, fated, AreBefore, Fate, Waiting, Held, Back, Unacked, Row, standing, is_back, is_back_to, numbers, moved, stream_of, body_at, service_indicator, Each, stands_back, is_users, back}
+use Rattle.set_model.specs.Rows.{turned, with_fate, fated, AreBefore, Fate, Waiting, Held, Back, Unacked, Row, standing, is_back, is_back_to, numbers, moved, stream_of, service_indicator, Each, stands_back, is_users, back}
 use Rattle.set_model.specs.Sound.{IsAscending, AreAbove, IsBackOf}
 use Rattle.set_model.specs.State.{On, State, fate_at, link_count, LinkState}
 use Rattle.set_model.specs.Changeover.{turned_back, out_of_service}
 use Rattle.set_model.proofs.Rows.{each_so, filter_within, filter_apart, none_within, row_in_filter}
-use Rattle.set_moves.specs.Agreement.{Message, Kept, Stands, StandsFor, rows_at, label_in, label_of, Agrees, Holds}
+use Rattle.set_moves.specs.Agreement.{Message, Kept, StandsFor, label_in, label_of, Agrees, Holds}
 use Rattle.set_moves.specs.Turning.{IsTurning, IsTurningRow, HasWay, TakesTurns, CanTurn}
 use Rattle.set_moves.proofs.States.{Becoming, becomes, first_for, parted_for}
 use Rattle.set_moves.proofs.RowsAt.{is_there}
@@ -23,7 +23,7 @@ use Rattle.set_queues.specs.Queues.{QueuesState}
 use Rattle.set_queues.specs.Settling.{on as on_lists}
 use Rattle.set_queues.proofs.Tallies.{back_none}
 use Rattle.set_queues.proofs.Soundness.{on_length, both_replaced}
-use Rattle.std.proofs.lemmas.Option.{same_Some, slice_get-map}
+use Rattle.std.proofs.lemmas.Option.{same_Some}
 use Rattle.set_queues.specs.declared.message.Kind.TheVariants.{User}
 use Rattle.set_model.proofs.Order.{ascends_filter, none_standing, before_append, before_never}
 use Rattle.set_model.proofs.Lists.{within, present, same_at}

@@ -1,18 +1,18 @@
 //! Changeover: a link is left, orders tell the far end, and the link settles (Q.704 5). Orders of changeback are
 //! carried out here too (Q.704 6).
-ghost use Rattle.std.specs.Prelude.{◌≡◌, ◌<◌, ◌≤◌, ◌^◌, ℕ, false, length, slice_get, slice_set, Some};
+ghost use Rattle.std.specs.Prelude.{◌≡◌, ◌<◌, ◌^◌, ℕ, false, length, slice_get, slice_set, Some};
 ghost use Rattle.l3_orders.specs.Grammar.{IsOrder};
 ghost use Rattle.set_queues.specs.Backs.{back_count};
 ghost use Rattle.set_queues.specs.Buffers.{TakesRoom};
 ghost use Rattle.set_queues.specs.Settling.{on};
-ghost use Rattle.set_model.specs.Changeover.{queued, left_by, settled, left_link, order_obeyed, changed_over, answered, reply_of, at_link};
-ghost use Rattle.set_model.specs.State.{State, LinkState, last_accepted};
-ghost use Rattle.set_moves.specs.Agreement.{StandsFor, Agrees, Holds};
-ghost use Rattle.set_moves.specs.Parts.{Up, Down, IsWhole, AreCounted, AtLink, IsOut, IsReach, Becomes, BecomesAt, AgreedBecomes, Obeys, kept_of};
+ghost use Rattle.set_model.specs.Changeover.{queued, left_by, settled, order_obeyed, changed_over, answered, at_link};
+ghost use Rattle.set_model.specs.State.{State, last_accepted};
+ghost use Rattle.set_moves.specs.Agreement.{Agrees, Holds};
+ghost use Rattle.set_moves.specs.Parts.{Up, Down, IsWhole, AreCounted, AtLink, IsOut, IsReach, Becomes, AgreedBecomes, Obeys, kept_of};
 ghost use Rattle.set_moves.specs.Room.{HasRoom, IsReady, IsSpaciousFor, CanTurnBack, order_fate};
 ghost use Rattle.set_moves.specs.Turning.{TakesTurns};
 
-use super::changeback::acknowledge_back;
+use super::changeback::release;
 use super::parts::{Parts, phase_of, stand_last, target_of};
 use super::settling::settle;
 use super::turning::turn_back;
@@ -20,6 +20,7 @@ use l3_orders::{Order, write_order};
 use set_events::Took;
 use set_model::{Phase, Reached};
 use set_queues::fate_on;
+use set_route::Code;
 
 /// An order stands last, for the target.
 #[tactic(auto, using(set_queues::proofs::Standing::links_stay))]
@@ -65,7 +66,8 @@ pub fn leave(parts: &mut Parts, number: u8, blind: bool)
     turn_back(parts, number);
 }
 
-/// An order is carried out (Q.704 5.4, 5.6).
+/// An order is carried out (Q.704 5.4, 5.6, 6.3).
+#[tactic(auto, using(crate::proofs::Declaring::in_use, crate::proofs::Links::whole_of))]
 pub fn obey(parts: &mut Parts, order: Order) -> Took
     requires holds { Holds (kept_of parts.old) }
     requires counted { AreCounted (2 ^ 61) parts.old.links.items }
@@ -83,7 +85,15 @@ pub fn obey(parts: &mut Parts, order: Order) -> Took
             queue(parts, Order::Cba { link, code });
             Took::Order
         }
-        Order::Cba { code, .. } => acknowledge_back(parts, code),
+        // of a code in no use it's ignored (Q.704 6.3)
+        Order::Cba { code, .. } => {
+            parts.routes.is_sound();
+            if parts.routes.code(code) == Code::Free {
+                return Took::Ignored;
+            }
+            release(parts, code);
+            Took::Order
+        }
     }
 }
 

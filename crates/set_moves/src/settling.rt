@@ -2,8 +2,7 @@
 ghost use Rattle.std.specs.Prelude.{◌≡◌, ◌<◌, ◌≤◌, ◌^◌, length, map, slice_get, Some};
 ghost use Rattle.set_queues.specs.Buffers.{KeepsRoom, room_at};
 ghost use Rattle.set_queues.specs.Settling.{on};
-ghost use Rattle.set_model.specs.Changeover.{settled, judged, discarded, moved_over, fate_on};
-ghost use Rattle.set_model.specs.Rows.{IsInOrder, IsHeldLast};
+ghost use Rattle.set_model.specs.Changeover.{settled, judged, discarded, fate_on};
 ghost use Rattle.set_model.specs.State.{State, LinkState, target};
 ghost use Rattle.set_moves.specs.Agreement.{StandsFor, Agrees};
 ghost use Rattle.set_moves.specs.Parts.{Down, IsWhole, AreCounted, AtLink, IsOut, IsReach, Becomes, BecomesAt, kept_of};

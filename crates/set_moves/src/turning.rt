@@ -1,10 +1,7 @@
 //! What stood back for a link that is left turns back: it goes where its streams run (Q.704 6).
-ghost use Rattle.std.specs.Prelude.{◌≡◌, ◌+◌, ◌<◌, ℕ, ◌⊎◌, Some, length, slice_get};
-ghost use Rattle.set_queues.specs.Backs.{IsOldest, back_count};
-ghost use Rattle.set_queues.specs.Buffers.{HaveRoom};
+ghost use Rattle.std.specs.Prelude.{◌≡◌, ◌<◌, Some, length};
+ghost use Rattle.set_queues.specs.Backs.{back_count};
 ghost use Rattle.set_model.specs.Changeover.{turned_back};
-ghost use Rattle.set_route.specs.Routing.{place_of};
-ghost use Rattle.set_model.specs.Rows.{Row, is_back, standing, stream_of};
 ghost use Rattle.set_model.specs.State.{On, State, fate_at};
 ghost use Rattle.set_moves.specs.Agreement.{StandsFor};
 ghost use Rattle.set_moves.specs.Parts.{IsWhole, kept_of};

@@ -1,6 +1,4 @@
-use Rattle.std.proofs.Common.{arith, ◌≡◌, ◌∙◌, ap, sym, ℕ}
-use Rattle.set_route.specs.Routing.{place_of}
-use Rattle.set_model.specs.State.{Place, fate_at}
+use Rattle.std.proofs.Common.{arith, ◌≡◌, ◌∙◌}
 use Rattle.set_moves.proofs.turning.way_of.Goals as goal
 
 pub fate_of_new-requires-clause-stream : goal.fate_of_new-requires-clause-stream
