@@ -1,7 +1,6 @@
 -- A declaration goes out on each link from which streams come back.
-use Rattle.std.proofs.Common.{arith, ◌≡◌, ◌∙◌, ap, sym, subst, ◌≤◌, ◌<◌, ◌+◌, ◌-◌, ◌||◌, ℕ, zero, suc, true, false, Bool, length}
+use Rattle.std.proofs.Common.{arith, ◌≡◌, ap, sym, subst, ◌≤◌, ◌<◌, ◌+◌, ◌-◌, ◌||◌, ℕ, zero, suc, true, false, Bool, length}
 use Rattle.std.proofs.lemmas.Bool.Decides.{nat_tests}
-use Rattle.std.proofs.lemmas.List.{length-map}
 use Rattle.set_queues.specs.Bodies.{CanHold}
 use Rattle.set_queues.specs.Buffers.{Waiting, TakesRoom}
 use Rattle.set_model.specs.Step.{Order}
@@ -10,7 +9,7 @@ use Rattle.set_model.specs.Changeover.{acknowledged_back, released}
 use Rattle.set_model.specs.State.{Code, State, link_count}
 use Rattle.set_moves.specs.Agreement.{StandsFor}
 use Rattle.set_moves.specs.Room.{HasRoomFrom}
-use Rattle.set_moves.specs.Parts.{Parts, Becomes, Obeys, kept_of, link_of}
+use Rattle.set_moves.specs.Parts.{Parts, Becomes, Obeys, kept_of}
 
 -- SO MANY STEPS, from one on: the last of them comes last
 module _ (run : ℕ → ℕ → State → State) (step : ℕ → State → State) (none : (from : ℕ) (s : State) → run from 0 s ≡ s) (next : (from n : ℕ) (s : State) → run from (suc n) s ≡ run (suc from) n (step from s)) where
@@ -41,8 +40,12 @@ room_after n old new r links takes message body low = record {
   each = λ link far low. let kept = takes (Waiting link) in grind (arith, nat_tests, r.each link);
 }
 
+-- or none was
+pub room_later : (n : ℕ) (parts : Parts) → HasRoomFrom n parts → HasRoomFrom (n + 1) parts
+room_later n parts r = record { message = let m = r.message in omega (arith, m); body = let b = r.body in (omega (arith, b.0), omega (arith, b.1)); each = λ link far low. r.each link (omega (arith, far)) low }
+
 pub count_is : (parts : Parts) (s : State) → StandsFor (kept_of parts) s → link_count s ≡ length parts.links.items
-count_is parts s f = sym (ap length f.links) ∙ length-map parts.links.items link_of
+count_is parts s f = sym (ap length f.links)
 
 -- an acknowledgement of a code that is in use
 pub in_use : (code : ℕ) (x : Code) (s : State) (parts : Parts) → is_free x ≡ false → StandsFor (kept_of parts) (released code s) → Obeys (acknowledged_back code x s) Order parts

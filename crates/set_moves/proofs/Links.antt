@@ -1,10 +1,10 @@
 -- One link of the list changes, and what the list stands for with it.
 use Rattle.std.proofs.Common.{arith, ◌≡◌, ◌∙◌, ap, sym, ◌<◌, ℕ, List, map, length, slice_get, slice_set, slice_index_or, Some, ◌≢◌, false, Option, ◌==◌, IfSome, refl, subst, ◌≤◌, None, Bool, option_map, true, [], drop}
-use Rattle.std.proofs.lemmas.Option.{same_Some, slice_get-get_or, slice_get_past, slice_get-map}
-use Rattle.set_moves.specs.Parts.{Link, Parts, link_of, kept_of, AtLink, IsOut, Gives, Obeys, Phase, Down, IsWhole, IsCounted, AreCounted}
+use Rattle.std.proofs.lemmas.Option.{slice_get-get_or, slice_get_past}
+use Rattle.set_moves.specs.Parts.{Link, Parts, kept_of, AtLink, IsOut, Gives, Obeys, Phase, Down, IsWhole, IsCounted, AreCounted}
 use Rattle.std.proofs.lemmas.List.{length-map, length-drop}
-use Rattle.set_moves.specs.Agreement.{Kept, StandsFor, Agrees, Holds}
-use Rattle.set_model.specs.State.{LinkState, State, link_count, has_phase_up, target}
+use Rattle.set_moves.specs.Agreement.{StandsFor, Agrees, Holds}
+use Rattle.set_model.specs.State.{LinkState, State, has_phase_up, target}
 use Rattle.set_model.proofs.Lists.{map_at, map_set, map_set_same, same_at, at_map, present, target_up, within, set_same, at_set, get_set_same, length_set}
 use Rattle.std.proofs.lemmas.Bool.{ne_eqb}
 use Rattle.std.proofs.lemmas.Simd.{map-map}
@@ -14,7 +14,7 @@ use Rattle.set_model.specs.Changeover.{fate_on, Obeyed, ignored, at_link, settle
 use Rattle.set_route.specs.Target.{target_of}
 use Rattle.set_moves.specs.Room.{SameButRoom, HasRoom, IsReady, target_beside}
 pub use Rattle.set_moves.specs.Parts.{Link, Parts, Phase, Up, Down, Settled, Unanswered, Reached, IsHere}
-use Rattle.set_model.specs.Step.{Answer, Refused, Done, SetRefusal, NoSuchLink, Took, Ignored, Outcome, refused, with_known, on_link, in_service, rises, falls, gives_up}
+use Rattle.set_model.specs.Step.{Answer, Refused, Done, NoSuchLink, Took, Ignored, Outcome, on_link, in_service, rises, falls, gives_up}
 use Rattle.std.proofs.lemmas.Bool.Decides.{nat_tests}
 use Rattle.set_queues.specs.Backs.{back_count}
 use Rattle.set_queues.specs.Settling.{on}
@@ -27,32 +27,26 @@ module _ (links : List Link) (n i : ℕ) (x : Link) (is : i ≡ n) (known : n < 
   pub found : slice_get links n ≡ Some x
   found = slice_get-get_or links n x known ∙ ap Some (ap (λ k. slice_index_or links k x) (sym is) ∙ sym read)
 
-  pub stands_for : (ls : List LinkState) (link : LinkState) → map link_of links ≡ ls → slice_get ls n ≡ Some link → link_of x ≡ link
-  stands_for ls link all there = same_Some (link_of x) link (sym (map_at link_of links n x found) ∙ ap (λ xs. slice_get xs n) all ∙ there)
+  -- what the state has there
+  pub stands_for : (ls : List Link) (link : Link) → links ≡ ls → slice_get ls n ≡ Some link → x ≡ link
+  stands_for ls link all there = same_at ls n link x there (ap (λ xs. slice_get xs n) (sym all) ∙ found)
 
   -- it changes
-  pub link_set : (y : Link) (ls : List LinkState) (link link' : LinkState) → map link_of links ≡ ls → slice_get ls n ≡ Some link → (link_of x ≡ link → link_of y ≡ link') → map link_of (slice_set links i y) ≡ slice_set ls n link'
-  link_set y ls link link' all there e = grind (arith, map_set, stands_for)
+  pub link_set : (change : Link → Link) (y : Link) (ls : List Link) (link : Link) → y ≡ x → links ≡ ls → slice_get ls n ≡ Some link → slice_set links i (change y) ≡ slice_set ls n (change link)
+  link_set change y ls link same all there = rw (is, same ∙ stands_for ls link all there, all) refl
 
   -- and nothing that this tells of it
   pub set_view : {Y : Type 0} (f : Link → Y) (y : Link) → f y ≡ f x → map f (slice_set links i y) ≡ map f links
   set_view f y e = ap (λ k. map f (slice_set links k y)) is ∙ map_set_same f links n x y found e
 
--- how many there are
-pub length_links : (value : Kept) (s : State) (parts : Parts) (n : ℕ) → n ≡ length parts.links.items → kept_of parts ≡ value → StandsFor value s → n ≡ link_count s
-length_links value s parts n e v st = e ∙ sym (length-map parts.links.items link_of) ∙ ap (λ (k : Kept). length k.links) v ∙ ap length st.links
-
 -- The link that messages are moved to.
-
-pub ups : (links : List Link) → map (λ (link : LinkState). has_phase_up link.phase) (map link_of links) ≡ map (λ (link : Link). has_phase_up link.phase) links
-ups links = map-map (λ (link : LinkState). has_phase_up link.phase) link_of links
 
 -- links of the same phases have the same target
 pub same_ups : (old new : List Link) → map (λ (link : Link). link.phase) new ≡ map (λ (link : Link). link.phase) old → map (λ (link : Link). has_phase_up link.phase) new ≡ map (λ (link : Link). has_phase_up link.phase) old
 same_ups old new e = sym (map-map has_phase_up (λ (link : Link). link.phase) new) ∙ ap (map has_phase_up) e ∙ map-map has_phase_up (λ (link : Link). link.phase) old
 
-pub same_target : (old new : List Link) → map (λ (link : Link). link.phase) new ≡ map (λ (link : Link). link.phase) old → target (map link_of new) ≡ target (map link_of old)
-same_target old new e = ap target_of (ups new ∙ same_ups old new e ∙ sym (ups old))
+pub same_target : (old new : List Link) → map (λ (link : Link). link.phase) new ≡ map (λ (link : Link). link.phase) old → target new ≡ target old
+same_target old new e = ap target_of (same_ups old new e)
 
 -- the place of what leaves a link that is out of service: it's known, and no queue of the link
 pub record IsPlace (n : ℕ) (o : Option ℕ) (to : Fate) (q : Lists) : Type 0 where
@@ -60,10 +54,9 @@ pub record IsPlace (n : ℕ) (o : Option ℕ) (to : Fate) (q : Lists) : Type 0 w
   pub apart : IfSome o (λ t. t ≢ n)
   pub off : (t : ℕ) → o ≡ Some t → (n == t) ≡ false
 
-pub place_for : {links read : List Link} (n : ℕ) (o : Option ℕ) (to : Fate) (q : Lists) → read ≡ links → o ≡ target (map link_of read) → IfSome o (λ t. t < length read) → to ≡ fate_on o → length q.links ≡ length links → n < length links → AtLink n links IsOut → IsPlace n o to q
+pub place_for : {links read : List Link} (n : ℕ) (o : Option ℕ) (to : Fate) (q : Lists) → read ≡ links → o ≡ target read → IfSome o (λ t. t < length read) → to ≡ fate_on o → length q.links ≡ length links → n < length links → AtLink n links IsOut → IsPlace n o to q
 place_for {links} {read} n o to q same is below there many known out =
     let x = present links n known in
-    let there_is = map_at link_of links n x.0 x.1 in
     let down = out x.0 x.1 in
     let other : (t : ℕ) → o ≡ Some t → n ≢ t = λ t e. grind (arith, same_at, target_up) in
     let apart : IfSome o (λ t. t ≢ n) = grind arith in
@@ -80,45 +73,28 @@ phase_at old new n link e there = at_map (λ (l : Link). l.phase) old n link.pha
 is_here : (links : List Link) (n : ℕ) (phase : Phase) (link : Link) → slice_get links n ≡ Some link → link.phase ≡ phase → IsHere links n phase
 is_here links n phase link e p = record { link = link; there = e; phase_is = p; known = within links n link e }
 
--- The same of the state that the links stand for.
-pub record IsIn (s : State) (n : ℕ) (phase : Phase) : Type 0 where
-  pub link : LinkState
-  pub there : slice_get s.links n ≡ Some link
-  pub phase_is : link.phase ≡ phase
-
--- what the state has at a number
-pub links_at : (parts : Parts) (s : State) (n : ℕ) → Agrees (kept_of parts) s → slice_get s.links n ≡ option_map link_of (slice_get parts.links.items n)
-links_at parts s n a = ap (λ links. slice_get links n) (sym a.stands.links) ∙ slice_get-map link_of parts.links.items n
-
-pub is_in : (parts : Parts) (s : State) (n : ℕ) (phase : Phase) → Agrees (kept_of parts) s → IsHere parts.links.items n phase → IsIn s n phase
-is_in parts s n phase a h = record {
-  link = link_of h.link;
-  there = links_at parts s n a ∙ ap (option_map link_of) h.there;
-  phase_is = h.phase_is;
-}
+-- the same of the state that the links stand for
+pub is_in : (parts : Parts) (s : State) (n : ℕ) (phase : Phase) → Agrees (kept_of parts) s → IsHere parts.links.items n phase → IsHere s.links n phase
+is_in parts s n phase a h = rw (← a.stands.links) h
 
 -- What is answered there.
-pub served : (s : State) (n : ℕ) (outcome : LinkState → Outcome) (answer : Answer) (parts : Parts) (i : IsIn s n Up) → Gives (outcome i.link) answer parts → Gives (in_service n s outcome) answer parts
+pub served : (s : State) (n : ℕ) (outcome : LinkState → Outcome) (answer : Answer) (parts : Parts) (i : IsHere s.links n Up) → Gives (outcome i.link) answer parts → Gives (in_service n s outcome) answer parts
 served s n outcome answer parts i g = rw i.there (rw (ap has_phase_up i.phase_is) g)
 
 -- what is answered, where the link is there
 pub known_here : (old parts : Parts) (s : State) (n : ℕ) (answer : Answer) (outcome : Outcome) → Agrees (kept_of old) s → n < length old.links.items → Gives outcome answer parts → Gives (on_link n s (λ link. outcome)) answer parts
-known_here old parts s n answer outcome a known g = rw (links_at old s n a ∙ ap (option_map link_of) (present old.links.items n known).1) g
+known_here old parts s n answer outcome a known g = rw (← a.stands.links, (present old.links.items n known).1) g
 
 -- A refusal changes nothing.
-module _ (parts : Parts) (s : State) (a : Agrees (kept_of parts) s) (n : ℕ) (outcome : LinkState → Outcome) where
-  refuses : (why : SetRefusal) → with_known (option_map link_of (slice_get parts.links.items n)) s outcome ≡ refused s why → Gives (on_link n s outcome) (Refused why) parts
-  refuses why e = rw (links_at parts s n a, e) (record { answer_is = refl; stands = a.stands })
-
-  pub unknown : length parts.links.items ≤ n → Gives (on_link n s outcome) (Refused NoSuchLink) parts
-  unknown few = refuses NoSuchLink (rw (slice_get_past parts.links.items n few) refl)
+pub unknown : (parts : Parts) (s : State) (a : Agrees (kept_of parts) s) (n : ℕ) (outcome : LinkState → Outcome) → length parts.links.items ≤ n → Gives (on_link n s outcome) (Refused NoSuchLink) parts
+unknown parts s a n outcome few = rw (ap (λ links. slice_get links n) (sym a.stands.links) ∙ slice_get_past parts.links.items n few) (record { answer_is = refl; stands = a.stands })
 
 -- An order changes nothing at a link that it isn't for, as its phase or that there is none tells,
 pub ignores : {o : Option Phase} (parts : Parts) (n : ℕ) (obeyed : LinkState → Phase → State → Obeyed) → o ≡ option_map (λ (l : Link). l.phase) (slice_get parts.links.items n) → ((phase : Phase) → o ≡ Some phase → (link : LinkState) (s : State) → obeyed link phase s ≡ ignored s)
     → (s : State) → Agrees (kept_of parts) s → Obeys (at_link n s (λ link. obeyed link link.phase s) (slice_get s.links n)) Ignored parts
-ignores parts n obeyed is none s a = rw (links_at parts s n a) (rw (nothing (slice_get parts.links.items n) (λ link e. none link.phase (is ∙ ap (option_map (λ (l : Link). l.phase)) e) (link_of link) s)) (record { took_is = refl; stands = a.stands }))
+ignores parts n obeyed is none s a = rw (ap (λ links. slice_get links n) (sym a.stands.links)) (rw (nothing (slice_get parts.links.items n) (λ link e. none link.phase (is ∙ ap (option_map (λ (l : Link). l.phase)) e) link s)) (record { took_is = refl; stands = a.stands }))
   where
-    nothing : (o : Option Link) → ((link : Link) → o ≡ Some link → obeyed (link_of link) link.phase s ≡ ignored s) → at_link n s (λ link. obeyed link link.phase s) (option_map link_of o) ≡ ignored s
+    nothing : (o : Option Link) → ((link : Link) → o ≡ Some link → obeyed link link.phase s ≡ ignored s) → at_link n s (λ link. obeyed link link.phase s) (o) ≡ ignored s
     nothing None h = refl
     nothing (Some link) h = h link refl
 
@@ -150,13 +126,13 @@ pub here_same : (old new : Parts) (n : ℕ) (phase : Phase) → SameButRoom old 
 here_same old new n phase same h = rw same.links h
 
 -- What is done at a link in its phase.
-pub given_done : (s : State) (n : ℕ) (parts : Parts) (i : IsIn s n Down) → StandsFor (kept_of parts) (settled Unanswered n i.link s) → Gives (on_link n s (λ link. gives_up n s link link.phase)) Done parts
+pub given_done : (s : State) (n : ℕ) (parts : Parts) (i : IsHere s.links n Down) → StandsFor (kept_of parts) (settled Unanswered n i.link s) → Gives (on_link n s (λ link. gives_up n s link link.phase)) Done parts
 given_done s n parts i stands = rw (i.there, i.phase_is) (record { answer_is = refl; stands = stands })
 
-pub risen_done : (s : State) (n : ℕ) (parts : Parts) (i : IsIn s n Settled) → StandsFor (kept_of parts) (rises n s Settled).state → Gives (on_link n s (λ link. rises n s link.phase)) Done parts
+pub risen_done : (s : State) (n : ℕ) (parts : Parts) (i : IsHere s.links n Settled) → StandsFor (kept_of parts) (rises n s Settled).state → Gives (on_link n s (λ link. rises n s link.phase)) Done parts
 risen_done s n parts i stands = rw (i.there, i.phase_is) (record { answer_is = refl; stands = stands })
 
-pub fallen_done : (blind : Bool) (s : State) (n : ℕ) (parts : Parts) (i : IsIn s n Up) → StandsFor (kept_of parts) (falls blind n s i.link).state → Gives (in_service n s (falls blind n s)) Done parts
+pub fallen_done : (blind : Bool) (s : State) (n : ℕ) (parts : Parts) (i : IsHere s.links n Up) → StandsFor (kept_of parts) (falls blind n s i.link).state → Gives (in_service n s (falls blind n s)) Done parts
 fallen_done blind s n parts i stands = served s n (falls blind n s) Done parts i (record { answer_is = refl; stands = stands })
 
 -- Room that was taken, as orders and moved messages need it.
@@ -164,17 +140,17 @@ ups_of : List Link → List Bool
 ups_of links = map (λ (link : Link). has_phase_up link.phase) links
 
 -- THE TARGET beside a link that is out, and once it's left
-pub beside_out : (links : List Link) (n : ℕ) → n < length links → AtLink n links IsOut → target_beside n links ≡ target (map link_of links)
+pub beside_out : (links : List Link) (n : ℕ) → n < length links → AtLink n links IsOut → target_beside n links ≡ target links
 unfolding ups_of
 beside_out links n known out =
     let x = present links n known in
     let down = out x.0 x.1 in
     let there = map_at (λ (link : Link). has_phase_up link.phase) links n x.0 x.1 in
-    grind (arith, set_same, ups)
+    grind (arith, set_same)
 
-pub beside_left : (links new : List Link) (n : ℕ) (link : Link) → new ≡ slice_set links n link → has_phase_up link.phase ≡ false → target (map link_of new) ≡ target_beside n links
+pub beside_left : (links new : List Link) (n : ℕ) (link : Link) → new ≡ slice_set links n link → has_phase_up link.phase ≡ false → target new ≡ target_beside n links
 unfolding ups_of
-beside_left links new n link e out = grind (arith, map_set, ups, ups_of)
+beside_left links new n link e out = grind (arith, map_set, ups_of)
 
 -- ROOM for an order, and then for all that stand on the link
 pub has_room : (n : ℕ) (parts : Parts) (fate : Fate) → IsReady n 1 parts → fate ≡ fate_on (target_beside n parts.links.items) → HasRoom fate parts
@@ -195,18 +171,18 @@ counted_set bound links new n link all e one m other there = grind (arith, nat_t
 pub whole_of : (parts : Parts) → Holds (kept_of parts) → IsWhole parts
 whole_of parts h = grind (arith, length-map)
 
-pub here_room : (parts : Parts) (n orders : ℕ) (phase : Phase) → IsHere parts.links.items n phase → has_phase_up phase ≡ false → IsReady n orders parts → length (on n parts.queues.lists) ≤ room_at (fate_on (target (map link_of parts.links.items))) parts.queues.rooms
+pub here_room : (parts : Parts) (n orders : ℕ) (phase : Phase) → IsHere parts.links.items n phase → has_phase_up phase ≡ false → IsReady n orders parts → length (on n parts.queues.lists) ≤ room_at (fate_on (target parts.links.items)) parts.queues.rooms
 here_room parts n orders phase h down r = grind (arith, beside_out, out_at)
 
 -- room for an order once the link is left, and what stood back for it turned
-pub has_room_left : (n : ℕ) (old new : Parts) → IsReady n 1 old → TakesTurns (back_count n old.queues.lists) old.queues new.queues → new.bodies ≡ old.bodies → target (map link_of new.links.items) ≡ target_beside n old.links.items → HasRoom (fate_on (target (map link_of new.links.items))) new
+pub has_room_left : (n : ℕ) (old new : Parts) → IsReady n 1 old → TakesTurns (back_count n old.queues.lists) old.queues new.queues → new.bodies ≡ old.bodies → target new.links.items ≡ target_beside n old.links.items → HasRoom (fate_on (target new.links.items)) new
 has_room_left n old new r turns bodies same = grind arith
 
 -- A LINK THAT IS LEFT is out, and the whole numbers stay
 pub record IsLeft (n : ℕ) (old new : Parts) : Type 0 where
   pub many : length new.links.items ≡ length old.links.items
   pub out : AtLink n new.links.items IsOut
-  pub target_is : target (map link_of new.links.items) ≡ target_beside n old.links.items
+  pub target_is : target new.links.items ≡ target_beside n old.links.items
   pub counted : (bound : ℕ) → AreCounted bound old.links.items → AreCounted bound new.links.items
 
 pub is_left : (blind : Bool) (n : ℕ) (old new : Parts) → n < length old.links.items → AtLink n old.links.items (λ link. new.links.items ≡ slice_set old.links.items n (record link { phase = Down; blind = blind })) → IsLeft n old new
@@ -221,9 +197,9 @@ is_left blind n old new known links =
     }
 
 -- room for all that stand on a link, once it's left and the order stands
-pub room_after : (n : ℕ) (old left new : Parts) → n < length old.queues.lists.links → IsReady n 1 old → TakesTurns (back_count n old.queues.lists) old.queues left.queues → target (map link_of left.links.items) ≡ target_beside n old.links.items → target (map link_of new.links.items) ≡ target (map link_of left.links.items)
-    → on n new.queues.lists ≡ on n left.queues.lists → TakesRoom (fate_on (target (map link_of left.links.items))) 1 left.queues.rooms new.queues.rooms
-    → length (on n new.queues.lists) ≤ room_at (fate_on (target (map link_of new.links.items))) new.queues.rooms
+pub room_after : (n : ℕ) (old left new : Parts) → n < length old.queues.lists.links → IsReady n 1 old → TakesTurns (back_count n old.queues.lists) old.queues left.queues → target left.links.items ≡ target_beside n old.links.items → target new.links.items ≡ target left.links.items
+    → on n new.queues.lists ≡ on n left.queues.lists → TakesRoom (fate_on (target left.links.items)) 1 left.queues.rooms new.queues.rooms
+    → length (on n new.queues.lists) ≤ room_at (fate_on (target new.links.items)) new.queues.rooms
 room_after n old left new low r turns beside same elsewhere takes = grind (arith, room_left)
 
 pub wider : (bound more : ℕ) (links : List Link) → bound ≤ more → AreCounted bound links → AreCounted more links

@@ -1,20 +1,19 @@
 -- WHAT STANDS IN EACH PLACE after rows came to stand elsewhere, queue after queue, and where each number stands then.
-use Rattle.std.proofs.Common.{arith, refl, ◌≡◌, ◌∙◌, ap, sym, ◌≤◌, ◌<◌, [], ◌∷◌, length, ℕ, zero, suc, Bool, true, false, List, ◌++◌, Option, Some, None, take, drop, cond, not, ◌==◌, slice_get, filter, option_map}
+use Rattle.std.proofs.Common.{arith, refl, ◌≡◌, ◌∙◌, ap, sym, ◌≤◌, ◌<◌, [], ◌∷◌, length, ℕ, zero, suc, Bool, true, false, List, ◌++◌, Option, Some, None, take, drop, cond, not, slice_get, filter, map, option_map}
 use Rattle.std.specs.List.{drop-map}
 use Rattle.std.proofs.lemmas.Bool.Decides.{nat_tests}
-use Rattle.std.proofs.lemmas.List.{map-append, take-map, append-nil, append_assoc, length-append}
+use Rattle.std.proofs.lemmas.List.{map-append, take-map, append-nil}
 use Rattle.set_queues.specs.Buffers.{is_standing, same_fate}
-use Rattle.set_model.specs.Rows.{Fate, Waiting, Unacked, Acked, Held, Parked, Back, Discarded, Row, standing, is_waiting, is_unacked, is_held, is_parked, is_back, unack, wait, numbers, turned, changed, moved, all_with, appended, IsNumbered, IsInOrder, row_of, place, with_fate, fated, Each}
+use Rattle.set_model.specs.Rows.{Fate, Waiting, Unacked, Acked, Held, Parked, Back, Discarded, Row, standing, is_waiting, is_unacked, is_held, is_parked, is_back, numbers, turned, changed, moved, all_with, appended, IsNumbered, AreBefore, row_of, place, with_fate}
 use Rattle.set_model.specs.Laws.{SameMessages}
-use Rattle.set_model.proofs.Events.{numbers_joined, appended_in, appended_out, sent}
-use Rattle.set_model.proofs.Rows.{each_append, each_filter, turned_same, turned_left, changed_same, changed_left, moved_same, moved_gone, moved_joined, fewer_filter, filter_comm, filter_within, filter_apart, with_number, same_numbers, at_most_one, row_is_first, place_moved, no_rows}
+use Rattle.set_model.proofs.Events.{numbers_joined, appended_in, appended_out}
+use Rattle.set_model.proofs.Rows.{turned_same, turned_left, changed_same, changed_left, moved_same, moved_gone, moved_joined, fewer_filter, filter_within, filter_apart, with_number, at_most_one, row_is_first, place_moved, no_rows}
 use Rattle.set_model.proofs.Staying.{messages_stay}
 use Rattle.set_moves.specs.Agreement.{Message, rows_at}
 use Rattle.std.proofs.lemmas.List.Elements.{filter_agree, filter-append}
 use Rattle.set_queues.specs.Queues.{occurs, AreGiven}
-use Rattle.set_queues.proofs.Standing.{same_is, occurs-split, occurs_here, occurs_not}
-use Rattle.std.proofs.lemmas.Bool.{cases_eq, cases_lt, eq-eqb, eqb-true, not_from_true}
-use Rattle.std.proofs.lemmas.List.Filters.{length-filter_both}
+use Rattle.set_queues.proofs.Standing.{same_is, occurs-split}
+use Rattle.std.proofs.lemmas.Bool.{cases_lt}
 
 -- a number occurs among the rows that a test picks as often as its row is picked
 occurs_picked : (p : Row → Bool) (n : ℕ) (rows : List Row) → occurs n (numbers (filter p rows)) ≡ length (filter p (with_number n rows))
@@ -131,91 +130,34 @@ module _ (test : Fate → Bool) (to : Fate) (rows : List Row) (numbered : IsNumb
     goes = λ k. told test to k rows _ numbered (place_moved test (all_with to) k rows numbered);
   }
 
--- the first that waits is sent: it stands last among the unacknowledged
-module _ (l : ℕ) (rows : List Row) (numbered : IsNumbered rows) (order : IsInOrder l rows) where
-  abbrev after : List Row
-  after = turned (is_waiting l) (Unacked l) 1 rows
+-- THE FIRST OF ONE PLACE goes to another behind those that stand there, where none of them stands behind one of the first place
+module _ (test there : Fate → Bool) (to : Fate) (same : (f : Fate) → there f ≡ is_there to f) (off : test to ≡ false) (apart : (f : Fate) → test f ≡ true → there f ≡ false) (one : IsOfOne test) (rows : List Row) (numbered : IsNumbered rows) (order : AreBefore there test rows) where
+  joined : (own : there to ≡ true) (xs : List Row) → AreBefore there test xs → standing there (turned test to 1 xs) ≡ standing there xs ++ map (with_fate to) (take 1 (standing test xs))
+  joined own [] o = refl
+  joined own (x ∷ xs) o = here (joined own xs o.1) (test x.fate) refl
+    where
+      here : standing there (turned test to 1 xs) ≡ standing there xs ++ map (with_fate to) (take 1 (standing test xs)) → (b : Bool) → test x.fate ≡ b → standing there (turned test to 1 (x ∷ xs)) ≡ standing there (x ∷ xs) ++ map (with_fate to) (take 1 (standing test (x ∷ xs)))
+      here rest true e = rw (e, own, apart x.fate e, o.0 e) refl
+      here rest false e = grind (arith, e, rest)
 
-  sent_place : (f : Fate) → is_standing f ≡ true → (b d : Bool) → is_waiting l f ≡ b → same_fate (Unacked l) f ≡ d → numbers (rows_at f after) ≡ cond b (drop 1 (numbers (wait l rows))) (cond d (numbers (unack l rows) ++ take 1 (numbers (wait l rows))) (numbers (rows_at f rows)))
-  sent_place f s true d e h = let left = (sent l rows).wait_is in let here : Waiting l ≡ f = grind (arith, nat_tests) in rw (← here) (ap numbers left ∙ rw (drop-map (λ (row : Row). row.number) 1 (wait l rows)) refl)
-  sent_place f s false true e h = let joined = (sent l rows).unack_is order in let here : Unacked l ≡ f = same_is (Unacked l) f s h in rw (← here) (ap numbers joined ∙ numbers_joined (all_with (Unacked l)) (unack l rows) (take 1 (wait l rows)) ∙ ap (λ (ns : List ℕ). numbers (unack l rows) ++ ns) (sym (take-map (λ (row : Row). row.number) 1 (wait l rows))))
-  sent_place f s false false e h = ap numbers (rows_as f after s ∙ turned_same (is_waiting l) (is_there f) (Unacked l) h (elsewhere (is_waiting l) f s e) 1 rows ∙ sym (rows_as f rows s))
+  first_place : (f : Fate) → is_standing f ≡ true → (b d : Bool) → test f ≡ b → same_fate to f ≡ d → numbers (rows_at f (turned test to 1 rows)) ≡ cond b (drop 1 (numbers (standing test rows))) (cond d (numbers (rows_at to rows) ++ take 1 (numbers (standing test rows))) (numbers (rows_at f rows)))
+  first_place f s true d e h = ap numbers (rows_as f _ s ∙ sym (standing_as test (is_there f) (λ g. one f g s e) _) ∙ turned_left test to off 1 rows) ∙ rw (drop-map (λ (row : Row). row.number) 1 (standing test rows)) refl
+  first_place f s false true e h =
+      let here : to ≡ f = same_is to f s h in
+      rw (← here) (ap numbers (rows_as to _ (rw here s) ∙ sym (standing_as there (is_there to) same _) ∙ joined (same to ∙ rw (← here) at h) rows order) ∙ numbers_joined (all_with to) (standing there rows) (take 1 (standing test rows)) ∙ grind (arith, rows_as, standing_as there (is_there to), same, take-map))
+  first_place f s false false e h = ap numbers (rows_as f _ s ∙ turned_same test (is_there f) to h (elsewhere test f s e) 1 rows ∙ sym (rows_as f rows s))
 
-  pub sent_shifts : Shifts (is_waiting l) (Unacked l) (take 1 (numbers (wait l rows))) (drop 1 (numbers (wait l rows))) (numbers (unack l rows) ++ take 1 (numbers (wait l rows))) rows after
-  sent_shifts = record {
-    places = λ f s. sent_place f s (is_waiting l f) (same_fate (Unacked l) f) refl refl;
-    messages = (messages_stay (is_waiting l) (Unacked l) (all_with (Unacked l)) rows numbered).turned_stay 1;
-    goes = λ k. goes_first (is_waiting l) (Unacked l) k 1 rows (at_most_one k rows numbered);
+  pub first_shifts : Shifts test to (take 1 (numbers (standing test rows))) (drop 1 (numbers (standing test rows))) (numbers (rows_at to rows) ++ take 1 (numbers (standing test rows))) rows (turned test to 1 rows)
+  first_shifts = record {
+    places = λ f s. first_place f s (test f) (same_fate to f) refl refl;
+    messages = (messages_stay test to (all_with to) rows numbered).turned_stay 1;
+    goes = λ k. goes_first test to k 1 rows (at_most_one k rows numbered);
   }
 
--- ONE ROW leaves its place and stands at the end, with another fate.
--- all but those of this number
-abbrev pub without : ℕ → List Row → List Row
-without k rows = filter (λ row. not (row.number == k)) rows
+-- ROWS THAT STAND LAST FROM NOW ON, each with its fate: what stands in each place stays
+abbrev pub parted : (Fate → Bool) → List Row → List Row
+parted test rows = standing (λ f. not (test f)) rows ++ standing test rows
 
-abbrev pub shifted : Fate → Row → List Row → List Row
-shifted to x rows = without x.number rows ++ with_fate to x ∷ []
-
--- A filter that drops nothing
-pub none_dropped : (p : Row → Bool) (xs : List Row) → filter p xs ≡ [] → filter (λ x. not (p x)) xs ≡ xs
-none_dropped p [] e = refl
-none_dropped p (x ∷ xs) e = grind (arith, none_dropped p xs)
-
--- one that drops the first alone
-first_dropped : (x : Row) (rest : List Row) → with_number x.number (x ∷ rest) ≡ x ∷ [] → without x.number (x ∷ rest) ≡ rest
-first_dropped x rest one = let none = none_dropped (λ (row : Row). row.number == x.number) rest in grind (arith, nat_tests)
-
-module _ (to : Fate) (x : Row) (rows : List Row) (one : with_number x.number rows ≡ x ∷ []) where
-  abbrev k : ℕ
-  k = x.number
-
-  abbrev y : Row
-  y = with_fate to x
-
-  abbrev new : List Row
-  new = shifted to x rows
-
-  -- BY NUMBER
-  with_own : with_number k new ≡ y ∷ []
-  with_own = grind (arith, nat_tests, filter-append, k, without, y, with_number, filter_apart, not_from_true, eq-eqb)
-
-  with_other : (n : ℕ) → (k ≡ n → ⊥) → with_number n new ≡ with_number n rows
-  with_other n ne = grind (arith, nat_tests, filter-append, without, k, y, with_number, filter_within, append-nil, eqb-true)
-
-  count : length new ≡ length rows
-  count = omega (arith, ap length one, length-filter_both (λ (row : Row). row.number == k) (λ (row : Row). not (row.number == k)) (λ row. refl) rows, length-append (without k rows) (y ∷ []))
-
-  pub shifted_messages : IsNumbered rows → SameMessages rows new
-  shifted_messages numbered = grind (arith, cases_eq, count, row_is_first, one, same_numbers, with_number, with_other, with_own)
-
-  pub shifted_goes : (n : ℕ) → GoesTo (k ∷ []) to n rows new
-  shifted_goes n = grind (arith, nat_tests, cases_eq, k, GoesTo, new, occurs_here, row_is_first, with_own, with_other, occurs_not)
-
-  -- BY FATE: it's gone where it stood first, and comes behind the others
-  picked : (test : Fate → Bool) → with_number k (standing test rows) ≡ cond (test x.fate) (x ∷ []) []
-  picked test = filter_comm (λ (row : Row). row.number == k) (λ (row : Row). test row.fate) rows ∙ ap (standing test) one ∙ grind arith
-
-  left : (test : Fate → Bool) (rest : List Row) (b : Bool) → test x.fate ≡ b → (b ≡ true → standing test rows ≡ x ∷ rest) → without k (standing test rows) ≡ cond b rest (standing test rows)
-  left test rest true is first = rw (first refl) (first_dropped x rest (ap (with_number k) (sym (first refl)) ∙ picked test ∙ rw is refl))
-  left test rest false is first = none_dropped (λ (row : Row). row.number == k) (standing test rows) (picked test ∙ rw is refl)
-
-  pub shifted_stands : (test : Fate → Bool) (rest : List Row) → (test x.fate ≡ true → standing test rows ≡ x ∷ rest) → standing test new ≡ cond (test x.fate) rest (standing test rows) ++ cond (test to) (y ∷ []) []
-  shifted_stands test rest first = grind (arith, filter-append, filter_comm, left)
-
-  pub shifted_each : (P : Row → Type 0) → Each P rows → P y → Each P new
-  shifted_each P a p = each_append P (without k rows) (y ∷ []) (each_filter P (λ (row : Row). not (row.number == k)) rows a) (p, tt)
-
--- THE FIRST OF THOSE THAT MOVE, moved before the others
-module _ (test : Fate → Bool) (fate : Row → Fate) (to : Fate) (x : Row) (rest rows : List Row) (way : to ≡ fate x) (one : with_number x.number rows ≡ x ∷ []) (first : standing test rows ≡ x ∷ rest) (on : test x.fate ≡ true) (off : test to ≡ false) where
-  pub rest_stands : standing test (shifted to x rows) ≡ rest
-  rest_stands = shifted_stands to x rows one test rest (λ h. first) ∙ rw (on, off) (append-nil rest)
-
-  others_stand : standing (λ f. not (test f)) (shifted to x rows) ≡ standing (λ f. not (test f)) rows ++ fated fate x ∷ []
-  others_stand = shifted_stands to x rows one (λ f. not (test f)) rest (λ h. absurd (let no : false ≡ true = rw on at h in cc)) ∙ rw (on, off, way) refl
-
-  pub moved_rest : moved test fate (shifted to x rows) ≡ moved test fate rows
-  moved_rest = grind (arith, append_assoc, others_stand, rest_stands)
-
--- a move as other functions tell the fates
-pub moved_as : (test : Fate → Bool) (fate other : Row → Fate) → ((x : Row) → fate x ≡ other x) → (rows : List Row) → moved test fate rows ≡ moved test other rows
-moved_as test fate other same rows = grind arith
+pub parted_at : (test : Fate → Bool) (f : Fate) (rows : List Row) → is_standing f ≡ true → (b : Bool) → test f ≡ b → standing (is_there f) (parted test rows) ≡ standing (is_there f) rows
+parted_at test f rows s true e = grind (arith, filter-append, filter_apart, filter_within, same_is)
+parted_at test f rows s false e = grind (arith, filter-append, append-nil, filter_apart, filter_within, same_is)

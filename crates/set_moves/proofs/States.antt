@@ -1,5 +1,5 @@
 -- WHAT IS KEPT STANDS FOR THE STATE, before and after each small change.
-use Rattle.std.proofs.Common.{refl, arith, ◌≡◌, ◌∙◌, ap, sym, subst, ◌<◌, [], ◌∷◌, length, ℕ, zero, suc, ◌==◌, Bool, true, false, List, ◌++◌, Option, Some, take, drop, cond, ◌≢◌, ◌+◌, ◌%◌, ◌≤◌, slice_get, slice_set, ◌-◌, option_map}
+use Rattle.std.proofs.Common.{refl, arith, ◌≡◌, ◌∙◌, ap, sym, subst, ◌<◌, [], ◌∷◌, length, ℕ, zero, suc, ◌==◌, Bool, true, false, List, ◌++◌, Option, Some, take, drop, cond, ◌≢◌, ◌+◌, ◌%◌, ◌≤◌, slice_get, slice_set, ◌-◌, option_map, not, map-id}
 use Rattle.std.proofs.lemmas.Bool.{cases_eq, le-leb, lt-leb}
 use Rattle.std.proofs.lemmas.List.{length-append, map-append, length-map}
 use Rattle.std.proofs.lemmas.List.Folds.{find-append}
@@ -7,17 +7,19 @@ use Rattle.std.proofs.lemmas.Bool.Decides.{nat_tests}
 use Rattle.set_queues.specs.Buffers.{Lists, is_standing, same_fate, queue_at, with_queue, IsKnown, LinkLists, last_at, with_last, number_in, IsQueued}
 use Rattle.set_queues.specs.Messages.{restood_one, restood, fate_at}
 use Rattle.set_queues.specs.Sending.{first_sent, acknowledged as acked_lists, reach}
+use Rattle.set_queues.specs.Backs.{passed_first}
 use Rattle.set_queues.specs.Queues.{occurs, passed}
 use Rattle.set_queues.specs.Settling.{on as on_lists, settled}
 use Rattle.set_queues.proofs.Standing.{length-updated, updated_same, updated_other, updated_there, same_is, length-restood, fate_stays, fate_moves, queue_set, links_stay}
 use Rattle.set_queues.proofs.Soundness.{both_replaced, passed_replaces, queue_last, last_links, IsAside, settling}
-use Rattle.set_model.specs.Rows.{Fate, Waiting, Unacked, Acked, Held, Parked, Back, Discarded, DiscardCause, Emergency, Unreasonable, NoAnswer, Row, standing, is_waiting, is_unacked, is_on, is_parked, is_back, wait, on, numbers, turned, changed, moved, all_with, appended, row_of, place, IsNumbered, IsInOrder, IsHeldLast, unack}
+use Rattle.set_model.specs.Rows.{Fate, Waiting, Unacked, Acked, Held, Parked, Back, Discarded, DiscardCause, Emergency, Unreasonable, NoAnswer, Row, standing, is_waiting, is_unacked, is_on, is_parked, is_back, on, numbers, turned, changed, moved, all_with, appended, row_of, place, IsNumbered, IsInOrder, IsHeldLast, AreBefore, unack}
 use Rattle.set_model.specs.Changeover.{fate_on, reached_by, is_reasonable, judged, judged_link}
 use Rattle.set_model.specs.Laws.{SameMessages}
-use Rattle.set_model.proofs.Rows.{new_row, numbered_appended, is_found}
+use Rattle.set_model.proofs.Rows.{place_moved, new_row, numbered_appended, is_found}
 use Rattle.set_model.proofs.Order.{on_in_order}
+use Rattle.set_model.proofs.Staying.{messages_stay}
 use Rattle.set_moves.specs.Agreement.{Message, Stands, rows_at, label_in, label_of, kind_of, Kept, StandsFor}
-use Rattle.set_moves.proofs.RowsAt.{given_all, none_at, final_none, Shifts, appended_at, sent_shifts, turned_shifts, changed_shifts, moved_shifts, is_there}
+use Rattle.set_moves.proofs.RowsAt.{given_all, none_at, final_none, Shifts, appended_at, first_shifts, waits_there, sent_there, parted, parted_at, turned_shifts, changed_shifts, moved_shifts, is_there, rows_as}
 use Rattle.set_route.specs.Routing.{Routing}
 use Rattle.set_model.specs.State.{LinkState, State, with_link}
 use Rattle.set_model.proofs.Lists.{at_set, length_set, within, present, get_set_same}
@@ -105,6 +107,23 @@ module _ (k : Kept) (s : State) (f : StandsFor k s) (lists : Lists) (messages : 
       → StandsFor (record k { lists = lists; messages = messages; links = slice_set s.links n link'; routing = routing }) (record s { rows = new; links = slice_set s.links n link'; routing = routing' })
   link_and_queues_for n link' others own = moved_for (slice_set s.links n link') (length_set s.links n link') (λ m link there. grind (arith, nat_tests, at_set, f.fsns))
 
+-- ROWS THAT STAND LAST FROM NOW ON: what is kept tells nothing of it.
+pub parted_for : (k : Kept) (s : State) (test : Fate → Bool) → StandsFor k s → StandsFor k (record s { rows = parted test s.rows })
+parted_for k s test f =
+    let own : moved test (λ row. row.fate) s.rows ≡ parted test s.rows = ap (λ (xs : List Row). standing (λ g. not (test g)) s.rows ++ xs) (map-id (standing test s.rows)) in
+    let stay = rw own at (messages_stay test Parked (λ row. row.fate) s.rows f.stands.numbered).moved_stay in
+    let places = λ (n : ℕ). rw own at (place_moved test (λ row. row.fate) n s.rows f.stands.numbered) in
+    queues_for k s f k.lists k.messages (parted test s.rows) (record {
+      stands = record {
+        queues = only_standing k.lists _ (λ g t. f.stands.queues g ∙ ap numbers (rows_as g s.rows t ∙ sym (parted_at test g s.rows t (test g) refl) ∙ sym (rows_as g _ t)));
+        fates = λ n. f.stands.fates n ∙ grind (arith, places n);
+        labels = λ n. f.stands.labels n ∙ ap (option_map label_of) (sym (stay.bodies n));
+        count = f.stands.count ∙ sym stay.count;
+        numbered = stay.numbered;
+      };
+      same = stay;
+    }) refl _ _ f.routing (λ m. refl)
+
 -- a link on which nothing more was acknowledged
 pub still : (k : Kept) (s : State) (n : ℕ) (link link' : LinkState) → StandsFor k s → slice_get s.links n ≡ Some link → link'.acked ≡ link.acked → last_at n k.lists ≡ (link'.acked + 127) % 128
 still k s n link link' f there e = f.fsns n link there ∙ ap (λ (a : ℕ). (a + 127) % 128) (sym e)
@@ -120,15 +139,20 @@ link_for k s n link link' routing f there e =
 pub has_queues : (k : Kept) (s : State) (n : ℕ) (link : LinkState) → StandsFor k s → slice_get s.links n ≡ Some link → n < length k.lists.links
 has_queues k s n link f there = let low = within s.links n link there in let many = f.as_many in omega (arith, low, many)
 
+-- THE FIRST OF A QUEUE stands last in another, where none of those stands behind one of it
+pub first_for : (k : Kept) (s : State) (from to : Fate) (test there : Fate → Bool) → StandsFor k s → is_standing from ≡ true → is_standing to ≡ true → IsKnown from k.lists → IsKnown to k.lists → ((g : Fate) → test g ≡ is_there from g) → ((g : Fate) → there g ≡ is_there to g) → test to ≡ false → rows_at from s.rows ≡ standing test s.rows → AreBefore there test s.rows
+    → StandsFor (record k { lists = passed_first from to k.lists; messages = restood (take 1 (queue_at from k.lists)) to k.messages }) (record s { rows = turned test to 1 s.rows })
+first_for k s from to test there f stood own known other is same off rows order =
+    let ns : queue_at from k.lists ≡ numbers (standing test s.rows) = f.stands.queues from ∙ ap numbers rows in
+    queues_for k s f _ _ _ (shifts_stand f.stands (first_shifts test there to same off (λ h e. same h ∙ grind (arith, is h, same_is)) (λ g h t e. is h ∙ grind (arith, same_is)) s.rows f.stands.numbered order)
+    (λ g t. both_replaced k.lists from to (drop 1 (queue_at from k.lists)) (queue_at to k.lists ++ take 1 (queue_at from k.lists)) known other g t ∙ grind (arith, nat_tests, is g, f.stands.queues to, ns)) (ap (take 1) ns)) (simp (length-updated, links_stay)) _ _ f.routing (λ m. search last_stays)
+
 -- A FIRST SENDING: the first that waits stands last among the unacknowledged.
 pub sent_for : (k : Kept) (s : State) (n message : ℕ) → StandsFor k s → IsInOrder n s.rows → n < length k.lists.links → slice_get (queue_at (Waiting n) k.lists) 0 ≡ Some message
     → StandsFor (record k { lists = first_sent n message k.lists; messages = restood (message ∷ []) (Unacked n) k.messages }) (record s { rows = turned (is_waiting n) (Unacked n) 1 s.rows })
 sent_for k s n message f order known first =
-    let waits = f.stands.queues (Waiting n) in
-    let sent = f.stands.queues (Unacked n) in
-    let taken : message ∷ [] ≡ take 1 (numbers (wait n s.rows)) = grind arith in
-    queues_for k s f _ _ _ (shifts_stand f.stands (sent_shifts n s.rows f.stands.numbered order)
-    (λ g t. both_replaced k.lists (Waiting n) (Unacked n) (drop 1 (queue_at (Waiting n) k.lists)) (queue_at (Unacked n) k.lists ++ message ∷ []) known known g t ∙ grind (arith, nat_tests, waits, sent, taken)) taken) (simp length-updated) _ _ f.routing (λ m. search last_stays)
+    let taken : take 1 (queue_at (Waiting n) k.lists) ≡ message ∷ [] = grind arith in
+    subst (λ (ns : List ℕ). StandsFor (record k { lists = with_queue (Waiting n) (drop 1 (queue_at (Waiting n) k.lists)) (with_queue (Unacked n) (queue_at (Unacked n) k.lists ++ ns) k.lists); messages = restood ns (Unacked n) k.messages }) (record s { rows = turned (is_waiting n) (Unacked n) 1 s.rows })) taken (first_for k s (Waiting n) (Unacked n) (is_waiting n) (is_unacked n) f refl refl known known (waits_there n) (sent_there n) refl refl order)
 
 -- AN ACKNOWLEDGEMENT, under a link that counts it.
 pub acked_for : (k : Kept) (s : State) (n fsn : ℕ) (link link' : LinkState) → StandsFor k s → slice_get s.links n ≡ Some link → fsn < 128 → link'.acked ≡ link.acked + reach n fsn k.lists

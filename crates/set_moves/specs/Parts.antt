@@ -1,5 +1,5 @@
 -- THE PARTS OF A SET as contracts see them.
-use Rattle.std.specs.Prelude.{◌≡◌, ℕ, false, ◌<◌, ◌≤◌, List, length, map, Some, slice_get}
+use Rattle.std.specs.Prelude.{◌≡◌, ℕ, false, ◌<◌, ◌≤◌, List, length, Some, slice_get}
 pub use Rattle.set_model.specs.declared.phase.Phase.{Phase}
 pub use Rattle.set_model.specs.declared.reached.Reached.{Reached}
 pub use Rattle.set_model.specs.declared.reached.Reached.TheVariants.{Upto, Unknown, Unanswered}
@@ -13,23 +13,13 @@ use Rattle.l2_window.specs.Window.{fsn_count}
 use Rattle.set_route.specs.Routing.{most_links}
 pub use Rattle.set_model.specs.declared.phase.Phase.TheVariants.{Up, Down, Settled}
 
--- what the kept link stands for
-abbrev pub link_of : Link → LinkState
-link_of link = record {
-  phase = link.phase;
-  blind = link.blind;
-  acked = link.acked;
-  accepted = link.accepted;
-  control = link.control;
-}
-
 abbrev pub kept_of : Parts → Kept
 kept_of parts = record {
   settings = settings_of parts.config;
   lists = parts.queues.lists;
   messages = parts.queues.messages;
   bodies = parts.bodies.items;
-  links = map link_of parts.links.items;
+  links = parts.links.items;
   routing = parts.routes;
   inbox = parts.inbox.items;
 }

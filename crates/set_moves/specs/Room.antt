@@ -8,7 +8,7 @@ use Rattle.set_route.specs.Routing.{home_of}
 use Rattle.set_route.specs.Target.{target_of}
 use Rattle.set_model.specs.Changeover.{Order, Coo, Coa, Cbd, Cba, Eco, Eca, fate_on}
 use Rattle.set_model.specs.State.{has_phase_up, target}
-use Rattle.set_moves.specs.Parts.{Link, Parts, kept_of, link_of}
+use Rattle.set_moves.specs.Parts.{Link, Parts, kept_of}
 
 -- the link that messages go to once this one is out of service
 abbrev pub target_beside : ℕ → List Link → Option ℕ
@@ -16,7 +16,7 @@ target_beside number links = target_of (slice_set (map (λ link. has_phase_up li
 
 -- where an order stands
 abbrev pub order_fate : Parts → Fate
-order_fate parts = fate_on (target (map link_of parts.links.items))
+order_fate parts = fate_on (target parts.links.items)
 
 -- what stands back by this code, and the room in the queue of its home
 abbrev pub back_at : ℕ → Parts → List ℕ

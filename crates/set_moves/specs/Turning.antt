@@ -1,14 +1,14 @@
 -- WHAT STOOD BACK FOR A LINK THAT IS LEFT turns back.
-use Rattle.std.specs.Prelude.{◌≡◌, ◌≤◌, ◌<◌, ◌+◌, ℕ, true, length}
-use Rattle.set_queues.specs.Buffers.{room_at}
+use Rattle.std.specs.Prelude.{◌≡◌, ◌≤◌, ◌<◌, ◌+◌, ℕ, true, length, slice_get, Some}
+use Rattle.set_queues.specs.Buffers.{Fate, Back, queue_at, room_at}
+use Rattle.set_queues.specs.declared.message.Kind.TheVariants.{User}
 use Rattle.set_queues.specs.Queues.{QueuesState}
 use Rattle.set_queues.specs.Settling.{on}
 use Rattle.set_route.specs.Routing.{place_of}
-use Rattle.set_model.specs.Rows.{Fate, Row, is_users, is_back_to, standing, stream_of, numbers, Each}
-use Rattle.set_model.specs.Changeover.{turned_back}
+use Rattle.set_model.specs.Rows.{Row, is_users, is_back_to, standing, stream_of, numbers, Each}
 use Rattle.set_model.specs.Sound.{IsAscending}
 use Rattle.set_model.specs.State.{On, State, link_count}
-use Rattle.set_moves.specs.Agreement.{Kept, StandsFor}
+use Rattle.set_moves.specs.Agreement.{Kept, Message, StandsFor}
 
 -- what stands back for the link is a user's, and its stream runs on a link of the set
 abbrev pub IsTurningRow : ℕ → State → Row → Type 0
@@ -24,12 +24,18 @@ pub record IsTurning (number : ℕ) (s : State) : Type 0 where
 abbrev pub CanTurn : ℕ → Kept → Type 0
 CanTurn number k = (s : State) × StandsFor k s × IsTurning number s
 
--- what is kept stands for a state in which what is left to turn makes the same of it
-pub record TurnsOn (number : ℕ) (s : State) (k : Kept) : Type 0 where
-  pub state : State
-  pub stands : StandsFor k state
-  pub turning : IsTurning number state
-  pub same : turned_back number state ≡ turned_back number s
+-- the first that waits for the code's acknowledgement is a user's, and its stream runs on a link
+pub record HasWay (code : ℕ) (k : Kept) : Type 0 where
+  pub number : ℕ
+  pub first : slice_get (queue_at (Back code) k.lists) 0 ≡ Some number
+  pub message : Message
+  pub message_is : slice_get k.messages number ≡ Some message
+  pub stream : ℕ
+  pub kind_is : message.kind ≡ User stream
+  pub few : stream < 16
+  pub via : ℕ
+  pub place_is : place_of stream k.routing ≡ On via
+  pub known : via < length k.links
 
 -- so many turns take so much room of each queue, and put at most so many on a link
 pub record TakesTurns (count : ℕ) (old new : QueuesState) : Type 0 where

@@ -2,17 +2,17 @@
 ghost use Rattle.std.specs.Prelude.{◌≡◌, ◌≢◌, ◌+◌, ◌*◌, ◌<◌, ◌≤◌, ℕ, true, length, Some, OnErr, OnOk};
 ghost use Rattle.set_queues.specs.Buffers.{room_at};
 ghost use Rattle.set_queues.specs.Backs.{back_count};
-ghost use Rattle.set_route.specs.Routing.{code_for, code_of, home_of};
-ghost use Rattle.set_model.specs.Changeover.{released, released_from, acknowledged_back, can_declare, declared_if, declared_from, some_declare, some_in_use};
+ghost use Rattle.set_route.specs.Routing.{code_for, home_of};
+ghost use Rattle.set_model.specs.Changeover.{released, released_from, can_declare, declared_from, some_declare, some_in_use};
 ghost use Rattle.set_model.specs.State.{State, link_count};
 ghost use Rattle.set_model.specs.Step.{on_link, in_service, comes_back, runs_out};
-ghost use Rattle.set_moves.specs.Agreement.{Agrees, Holds, StandsFor};
-ghost use Rattle.set_moves.specs.Parts.{Answers, Becomes, IsWhole, Obeys, kept_of};
-ghost use Rattle.set_moves.specs.Room.{HasRoomFrom, SameButRoom, back_at, home_room};
+ghost use Rattle.set_moves.specs.Agreement.{Holds, StandsFor};
+ghost use Rattle.set_moves.specs.Parts.{Answers, Becomes, IsWhole, kept_of};
+ghost use Rattle.set_moves.specs.Room.{HasRoomFrom, back_at, home_room};
 
 use super::parts::{Parts, phase_of, stand_last, unserved};
 use l3_orders::{Order, write_order};
-use set_events::{Answer, Fate, Refusal, Took};
+use set_events::{Answer, Fate, Refusal};
 use set_model::Phase;
 use set_route::{Code, changeback_code, home_of_code};
 use std::alloc::AllocError;
@@ -39,7 +39,9 @@ pub fn restore(parts: &mut Parts, number: u8, answer: &mut Answer) -> Result<(),
         };
         return Ok(());
     }
-    make_room_declared(parts)?;
+    parts.bodies.reserve(MOST_LINKS)?;
+    parts.queues.reserve(MOST_LINKS)?;
+    parts.queues.reserve_each(1)?;
     declare_all(parts, number);
     *answer = Answer::Done;
     Ok(())
@@ -103,19 +105,8 @@ fn may_declare(parts: &Parts, home: u8, alternative: u8) -> bool
         && parts.routes.can_ask(home, alternative)
 }
 
-/// Takes room for a declaration on each link. Nothing else changes, also where memory is refused.
-fn make_room_declared(parts: &mut Parts) -> Result<(), AllocError>
-    requires whole { IsWhole parts.old }
-    ensures room { OnOk result (HasRoomFrom 0 parts.new) }
-    ensures same { SameButRoom parts.old parts.new }
-{
-    parts.bodies.reserve(MOST_LINKS)?;
-    parts.queues.reserve(MOST_LINKS)?;
-    parts.queues.reserve_each(1)
-}
-
 /// A declaration goes out on each link from which streams of this home can come back, the lowest-numbered
-/// first.
+/// first: they are on their way back then.
 fn declare_all(parts: &mut Parts, home: u8)
     requires whole { IsWhole parts.old }
     requires home { home < length parts.old.links.items }
@@ -124,33 +115,18 @@ fn declare_all(parts: &mut Parts, home: u8)
         (declared_from home 0 (length parts.old.links.items)) }
 {
     for alternative in 0..parts.links.len() as u8 {
-        declare_if_due(parts, home, alternative);
+        if !may_declare(parts, home, alternative) {
+            continue;
+        }
+        let declaration = Order::Cbd {
+            link: home,
+            code: changeback_code(home, alternative),
+        };
+        let config = &parts.config;
+        let body = write_order(&declaration, config.sio, config.dpc, config.opc);
+        stand_last(parts, body.as_slice(), Fate::Waiting { link: alternative });
+        parts.routes.ask(home, alternative);
     }
-}
-
-/// A declaration goes out on that link, if streams of this home can come back from it: they are on their way
-/// back then.
-fn declare_if_due(parts: &mut Parts, home: u8, alternative: u8)
-    requires whole { IsWhole parts.old }
-    requires home { home < length parts.old.links.items }
-    requires alternative { alternative < length parts.old.links.items }
-    requires room { HasRoomFrom alternative parts.old }
-    ensures stands { Becomes parts.old parts.new (declared_if home alternative) }
-    ensures room { HasRoomFrom (alternative + 1) parts.new }
-    ensures links { parts.new.links ≡ parts.old.links }
-    ensures whole { IsWhole parts.new }
-{
-    if !may_declare(parts, home, alternative) {
-        return;
-    }
-    let declaration = Order::Cbd {
-        link: home,
-        code: changeback_code(home, alternative),
-    };
-    let config = &parts.config;
-    let body = write_order(&declaration, config.sio, config.dpc, config.opc);
-    stand_last(parts, body.as_slice(), Fate::Waiting { link: alternative });
-    parts.routes.ask(home, alternative);
 }
 
 /// Whether a code of this home is open or spent.
@@ -183,7 +159,7 @@ fn release_all(parts: &mut Parts, home: u8)
 
 /// What waits for the code's acknowledgement waits for its home from now on, and its streams run there;
 /// the code is free.
-fn release(parts: &mut Parts, code: u8)
+pub(crate) fn release(parts: &mut Parts, code: u8)
     requires whole { IsWhole parts.old }
     requires known { home_of code < length parts.old.links.items }
     requires room { length (back_at code parts.old) ≤ home_room code parts.old }
@@ -201,22 +177,4 @@ fn release(parts: &mut Parts, code: u8)
         .queues
         .divert(Fate::Back { code }, Fate::Waiting { link: home });
     parts.routes.give_back(code);
-}
-
-/// An acknowledgement of a changeback brings home what stood back by its code; of a code in no use it's
-/// ignored (Q.704 6.3).
-#[tactic(auto, using(crate::proofs::Declaring::in_use, crate::proofs::Links::whole_of))]
-pub(crate) fn acknowledge_back(parts: &mut Parts, code: u8) -> Took
-    requires holds { Holds (kept_of parts.old) }
-    requires room { home_of code < length parts.old.links.items
-        → length (back_at code parts.old) ≤ home_room code parts.old }
-    ensures stands { (s : State) → Agrees (kept_of parts.old) s
-        → Obeys (acknowledged_back code (code_of code s.routing) s) result parts.new }
-{
-    parts.routes.is_sound();
-    if parts.routes.code(code) == Code::Free {
-        return Took::Ignored;
-    }
-    release(parts, code);
-    Took::Order
 }

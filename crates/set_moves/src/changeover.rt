@@ -1,18 +1,18 @@
 //! Changeover: a link is left, orders tell the far end, and the link settles (Q.704 5). Orders of changeback are
 //! carried out here too (Q.704 6).
-ghost use Rattle.std.specs.Prelude.{◌≡◌, ◌<◌, ◌≤◌, ◌^◌, ℕ, false, length, slice_get, slice_set, Some};
+ghost use Rattle.std.specs.Prelude.{◌≡◌, ◌<◌, ◌^◌, ℕ, false, length, slice_get, slice_set, Some};
 ghost use Rattle.l3_orders.specs.Grammar.{IsOrder};
 ghost use Rattle.set_queues.specs.Backs.{back_count};
 ghost use Rattle.set_queues.specs.Buffers.{TakesRoom};
 ghost use Rattle.set_queues.specs.Settling.{on};
-ghost use Rattle.set_model.specs.Changeover.{queued, left_by, settled, left_link, order_obeyed, changed_over, answered, reply_of, at_link};
-ghost use Rattle.set_model.specs.State.{State, LinkState, last_accepted};
-ghost use Rattle.set_moves.specs.Agreement.{StandsFor, Agrees, Holds};
-ghost use Rattle.set_moves.specs.Parts.{Up, Down, IsWhole, AreCounted, AtLink, IsOut, IsReach, Becomes, BecomesAt, AgreedBecomes, Obeys, link_of, kept_of};
+ghost use Rattle.set_model.specs.Changeover.{queued, left_by, settled, order_obeyed, changed_over, answered, at_link};
+ghost use Rattle.set_model.specs.State.{State, last_accepted};
+ghost use Rattle.set_moves.specs.Agreement.{Agrees, Holds};
+ghost use Rattle.set_moves.specs.Parts.{Up, Down, IsWhole, AreCounted, AtLink, IsOut, IsReach, Becomes, AgreedBecomes, Obeys, kept_of};
 ghost use Rattle.set_moves.specs.Room.{HasRoom, IsReady, IsSpaciousFor, CanTurnBack, order_fate};
 ghost use Rattle.set_moves.specs.Turning.{TakesTurns};
 
-use super::changeback::acknowledge_back;
+use super::changeback::release;
 use super::parts::{Parts, phase_of, stand_last, target_of};
 use super::settling::settle;
 use super::turning::turn_back;
@@ -20,6 +20,7 @@ use l3_orders::{Order, write_order};
 use set_events::Took;
 use set_model::{Phase, Reached};
 use set_queues::fate_on;
+use set_route::Code;
 
 /// An order stands last, for the target.
 #[tactic(auto, using(set_queues::proofs::Standing::links_stay))]
@@ -65,7 +66,8 @@ pub fn leave(parts: &mut Parts, number: u8, blind: bool)
     turn_back(parts, number);
 }
 
-/// An order is carried out (Q.704 5.4, 5.6).
+/// An order is carried out (Q.704 5.4, 5.6, 6.3).
+#[tactic(auto, using(crate::proofs::Declaring::in_use, crate::proofs::Links::whole_of))]
 pub fn obey(parts: &mut Parts, order: Order) -> Took
     requires holds { Holds (kept_of parts.old) }
     requires counted { AreCounted (2 ^ 61) parts.old.links.items }
@@ -83,7 +85,15 @@ pub fn obey(parts: &mut Parts, order: Order) -> Took
             queue(parts, Order::Cba { link, code });
             Took::Order
         }
-        Order::Cba { code, .. } => acknowledge_back(parts, code),
+        // of a code in no use it's ignored (Q.704 6.3)
+        Order::Cba { code, .. } => {
+            parts.routes.is_sound();
+            if parts.routes.code(code) == Code::Free {
+                return Took::Ignored;
+            }
+            release(parts, code);
+            Took::Order
+        }
     }
 }
 
@@ -103,59 +113,22 @@ fn change_over(parts: &mut Parts, number: u8, reached: Reached) -> Took
 {
     match phase_of(parts, number) {
         None => return Took::Ignored,
-        Some(Phase::Up) => answer_and_settle(parts, number, reached),
+        Some(Phase::Up) => {
+            let order = Order::Coa {
+                link: number,
+                number: parts.links[usize::from(number)].last_accepted(),
+            };
+            leave(parts, number, false);
+            queue(parts, order);
+            settle(parts, number, reached);
+        }
         Some(Phase::Down) => settle(parts, number, reached),
-        Some(Phase::Settled) => reply_again(parts, number),
+        Some(Phase::Settled) => {
+            let order = parts.links[usize::from(number)].reply(number);
+            queue(parts, order);
+        }
     }
     Took::Order
-}
-
-/// A link that is up is left; the far end's order is acknowledged, and the link settles.
-fn answer_and_settle(parts: &mut Parts, number: u8, reached: Reached)
-    requires holds { Holds (kept_of parts.old) }
-    requires counted { AreCounted (2 ^ 61) parts.old.links.items }
-    requires reached { IsReach reached }
-    requires number { number < 16 }
-    requires known { number < length parts.old.links.items }
-    requires up { AtLink number parts.old.links.items (λ link. link.phase ≡ Up) }
-    requires room { IsReady number 1 parts.old }
-    ensures stands { (s : State) (link : LinkState) → slice_get s.links number ≡ Some link
-        → link.phase ≡ Up
-        → Agrees (kept_of parts.old) s
-        → StandsFor (kept_of parts.new) (settled reached number (left_link false link)
-        (queued (Order.Coa number (last_accepted link)) (left_by false number link s))) }
-{
-    let order = Order::Coa {
-        link: number,
-        number: parts.links[usize::from(number)].last_accepted(),
-    };
-    leave(parts, number, false);
-    queue(parts, order);
-    settle(parts, number, reached);
-}
-
-/// A link that settled is answered for again, as its last life would have been (own).
-#[tactic(auto, using(crate::proofs::Links::stands_for, crate::proofs::Links::has_room, crate::proofs::Links::beside_out))]
-fn reply_again(parts: &mut Parts, number: u8)
-    requires whole { IsWhole parts.old }
-    requires counted { AreCounted (2 ^ 61) parts.old.links.items }
-    requires number { number < 16 }
-    requires known { number < length parts.old.links.items }
-    requires out { AtLink number parts.old.links.items IsOut }
-    requires room { IsReady number 1 parts.old }
-    ensures stands { BecomesAt number parts.old parts.new
-        (λ link s. queued (reply_of number link) s) }
-{
-    let link = &parts.links[usize::from(number)];
-    if link.blind {
-        queue(parts, Order::Eca { link: number });
-        return;
-    }
-    let order = Order::Coa {
-        link: number,
-        number: link.last_accepted(),
-    };
-    queue(parts, order);
 }
 
 /// An acknowledgement settles a link that waits for one (Q.704 5.4.3, 5.6.3).

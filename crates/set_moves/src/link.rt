@@ -1,12 +1,15 @@
 //! What a set keeps of one of its links beside the queues of its messages.
 ghost use Rattle.std.specs.Prelude.{◌≡◌, ◌<◌, ◌^◌, false};
-ghost use Rattle.set_moves.specs.Parts.{link_of};
+ghost use Rattle.l3_orders.specs.Grammar.{IsOrder};
+ghost use Rattle.set_model.specs.Changeover.{reply_of};
 ghost use Rattle.set_model.specs.Control.{start_of};
 ghost use Rattle.set_model.specs.State.{new_link, last_accepted};
 
 use super::control::Control;
+use l3_orders::Order;
 use set_events::Method;
 use set_model::Phase;
+use std::marker::Model;
 
 /// A link in its present life, or its last one.
 #[derive(Drop)]
@@ -23,10 +26,18 @@ pub struct Link {
     pub control: Control,
 }
 
+impl Model for Link {
+    ghost use Rattle.set_model.specs.State.{LinkState};
+
+    ghost Value = { LinkState };
+
+    ghost view = { λ l. record { phase = l.phase; blind = l.blind; acked = l.acked; accepted = l.accepted; control = l.control } };
+}
+
 impl Link {
     /// A link that never was up.
     pub fn new(method: Method) -> Link
-        ensures { link_of result ≡ new_link method }
+        ensures { result ≡ new_link method }
     {
         Link {
             phase: Phase::Settled,
@@ -52,9 +63,25 @@ impl Link {
     /// The FSN last accepted in its present life, or its last one; 127 if it had none.
     pub fn last_accepted(&self) -> u8
         requires { self.now.accepted < 2 ^ 63 }
-        ensures value { result ≡ last_accepted (link_of self.now) }
+        ensures value { result ≡ last_accepted self.now }
         ensures few { result < 128 }
     {
         ((self.accepted + 127) % 128) as u8
+    }
+
+    /// How a late changeover order is answered once the link settled: as its last life would have been (own).
+    pub(crate) fn reply(&self, number: u8) -> Order
+        requires number { number < 16 }
+        requires counted { self.now.accepted < 2 ^ 63 }
+        ensures order { result ≡ reply_of number self.now }
+        ensures fits { IsOrder result }
+    {
+        if self.blind {
+            return Order::Eca { link: number };
+        }
+        Order::Coa {
+            link: number,
+            number: self.last_accepted(),
+        }
     }
 }

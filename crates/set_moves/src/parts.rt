@@ -1,13 +1,13 @@
 //! What a set keeps, and what is common to all events: the target, room, and a new message.
-ghost use Rattle.std.specs.Prelude.{◌≡◌, ◌+◌, ◌*◌, ◌<◌, ◌≤◌, ◌++◌, ℕ, [], ◌∷◌, map, length, IfNone, IfSome, OnOk, slice_get, true, false, option_map};
+ghost use Rattle.std.specs.Prelude.{◌≡◌, ◌+◌, ◌<◌, ◌≤◌, ◌++◌, ℕ, [], ◌∷◌, map, length, IfNone, IfSome, OnOk, slice_get, false, option_map};
 ghost use Rattle.set_queues.specs.Buffers.{IsKnown, IsQueued, TakesRoom, queue_at, room_at, with_queue};
 ghost use Rattle.set_queues.specs.Bodies.{CanHold};
 ghost use Rattle.set_model.specs.Rows.{appended};
 ghost use Rattle.set_route.specs.Routing.{place_of};
 ghost use Rattle.set_model.specs.State.{State, LinkState, fate_at, target, has_phase_up};
 ghost use Rattle.set_model.specs.Step.{Outcome, in_service};
-ghost use Rattle.set_moves.specs.Agreement.{StandsFor, Agrees, Holds};
-ghost use Rattle.set_moves.specs.Parts.{Up, IsWhole, IsHere, Gives, Becomes, link_of, kept_of};
+ghost use Rattle.set_moves.specs.Agreement.{StandsFor, Agrees};
+ghost use Rattle.set_moves.specs.Parts.{Up, IsWhole, IsHere, Gives, Becomes, kept_of};
 ghost use Rattle.set_moves.specs.Room.{HasRoom, IsReady, SameButRoom, target_beside};
 
 use super::inbox::Inbox;
@@ -37,10 +37,9 @@ pub struct Parts {
 }
 
 /// The lowest-numbered link that is up, if any (own).
-#[tactic(auto, using(crate::proofs::Links::ups))]
 pub fn target_of(links: &[Link]) -> Option<u8>
     requires { length links.now ≤ 16 }
-    ensures value { result ≡ target (map link_of links.now) }
+    ensures value { result ≡ target links.now }
     ensures below { IfSome result (λ to. to < length links.now) }
 {
     set_route::target(up_links(links).as_slice())

@@ -2,11 +2,10 @@
 ghost use Rattle.std.specs.Prelude.{◌≡◌, ◌<◌, ◌≤◌, ◌^◌, length, map, slice_get, Some};
 ghost use Rattle.set_queues.specs.Buffers.{KeepsRoom, room_at};
 ghost use Rattle.set_queues.specs.Settling.{on};
-ghost use Rattle.set_model.specs.Changeover.{settled, judged, discarded, moved_over, fate_on};
-ghost use Rattle.set_model.specs.Rows.{IsInOrder, IsHeldLast};
+ghost use Rattle.set_model.specs.Changeover.{settled, judged, discarded, fate_on};
 ghost use Rattle.set_model.specs.State.{State, LinkState, target};
 ghost use Rattle.set_moves.specs.Agreement.{StandsFor, Agrees};
-ghost use Rattle.set_moves.specs.Parts.{Down, IsWhole, AreCounted, AtLink, IsOut, IsReach, Becomes, BecomesAt, link_of, kept_of};
+ghost use Rattle.set_moves.specs.Parts.{Down, IsWhole, AreCounted, AtLink, IsOut, IsReach, Becomes, BecomesAt, kept_of};
 
 use super::parts::{Parts, target_of};
 use set_events::{DiscardCause, Fate};
@@ -23,13 +22,16 @@ pub fn settle(parts: &mut Parts, number: u8, reached: Reached)
     requires known { number < length parts.old.links.items }
     requires out { AtLink number parts.old.links.items IsOut }
     requires room { length (on number parts.old.queues.lists) ≤ room_at (fate_on
-        (target (map link_of parts.old.links.items))) parts.old.queues.rooms }
+        (target parts.old.links.items)) parts.old.queues.rooms }
     ensures stands { (s : State) (link : LinkState) → slice_get s.links number ≡ Some link
         → link.phase ≡ Down → Agrees (kept_of parts.old) s
         → StandsFor (kept_of parts.new) (settled reached number link s) }
 {
     judge(parts, number, reached);
-    move_all(parts, number);
+    let target = target_of(&parts.links);
+    parts.queues.settle(number, target);
+    parts.links[usize::from(number)].phase = Phase::Settled;
+    parts.routes.settle(number, target);
 }
 
 /// What reached the far end is acknowledged, or what might be doubled is discarded (own).
@@ -72,21 +74,4 @@ fn discard(parts: &mut Parts, number: u8, cause: DiscardCause)
 {
     parts.queues.discard(Fate::Unacked { link: number }, cause);
     parts.queues.discard(Fate::Waiting { link: number }, cause);
-}
-
-/// What stands on the link is moved to the target, or parked, and so are its streams.
-fn move_all(parts: &mut Parts, number: u8)
-    requires whole { IsWhole parts.old }
-    requires known { number < length parts.old.links.items }
-    requires out { AtLink number parts.old.links.items IsOut }
-    requires room { length (on number parts.old.queues.lists) ≤ room_at (fate_on
-        (target (map link_of parts.old.links.items))) parts.old.queues.rooms }
-    ensures stands { (s : State) (link : LinkState) → slice_get s.links number ≡ Some link
-        → IsInOrder number s.rows → IsHeldLast number s.rows → StandsFor (kept_of parts.old) s
-        → StandsFor (kept_of parts.new) (moved_over number link s) }
-{
-    let target = target_of(&parts.links);
-    parts.queues.settle(number, target);
-    parts.links[usize::from(number)].phase = Phase::Settled;
-    parts.routes.settle(number, target);
 }

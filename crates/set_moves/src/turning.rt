@@ -1,14 +1,11 @@
 //! What stood back for a link that is left turns back: it goes where its streams run (Q.704 6).
-ghost use Rattle.std.specs.Prelude.{◌≡◌, ◌+◌, ◌<◌, ℕ, ◌⊎◌, Some, length, slice_get};
-ghost use Rattle.set_queues.specs.Backs.{IsOldest, back_count};
-ghost use Rattle.set_queues.specs.Buffers.{HaveRoom};
+ghost use Rattle.std.specs.Prelude.{◌≡◌, ◌<◌, Some, length};
+ghost use Rattle.set_queues.specs.Backs.{back_count};
 ghost use Rattle.set_model.specs.Changeover.{turned_back};
-ghost use Rattle.set_route.specs.Routing.{place_of};
-ghost use Rattle.set_model.specs.Rows.{Row, is_back, standing, stream_of};
-ghost use Rattle.set_model.specs.State.{State, fate_at};
+ghost use Rattle.set_model.specs.State.{On, State, fate_at};
 ghost use Rattle.set_moves.specs.Agreement.{StandsFor};
 ghost use Rattle.set_moves.specs.Parts.{IsWhole, kept_of};
-ghost use Rattle.set_moves.specs.Turning.{IsTurning, CanTurn, TurnsOn, TakesTurns};
+ghost use Rattle.set_moves.specs.Turning.{IsTurning, CanTurn, HasWay, TakesTurns};
 ghost use Rattle.set_moves.specs.Room.{CanTurnBack};
 
 use super::parts::{Parts, fate_of_new};
@@ -30,40 +27,19 @@ pub(crate) fn turn_back(parts: &mut Parts, number: u8)
     ensures whole { IsWhole parts.new }
 {
     while let Some(code) = parts.queues.oldest_back(number) {
-        turn_first(parts, number, code);
+        let to = way_of(parts, code);
+        parts.queues.turn_back(code, to);
     }
 }
 
-/// The oldest of what stands back for this link goes where its stream runs; its code is this one.
-fn turn_first(parts: &mut Parts, number: u8, code: u8)
-    requires whole { IsWhole parts.old }
-    requires oldest { IsOldest number code parts.old.queues.lists }
-    requires turning { CanTurn number (kept_of parts.old) }
-    requires room { HaveRoom (length parts.old.links.items) 1 parts.old.queues.rooms }
-    ensures stands { (s : State) → StandsFor (kept_of parts.old) s → IsTurning number s
-        → TurnsOn number s (kept_of parts.new) }
-    ensures turns { TakesTurns 1 parts.old.queues parts.new.queues }
-    ensures fewer { back_count number parts.new.queues.lists + 1 ≡ back_count number
-        parts.old.queues.lists }
-    ensures links { parts.new.links ≡ parts.old.links }
-    ensures bodies { parts.new.bodies ≡ parts.old.bodies }
-    ensures whole { IsWhole parts.new }
-{
-    let to = way_of(parts, number, code);
-    parts.queues.turn_back(code, to);
-}
-
 /// Where the first goes that waits for this code's acknowledgement: the link on which its stream runs.
-fn way_of(parts: &Parts, number: u8, code: u8) -> Fate
+fn way_of(parts: &Parts, code: u8) -> Fate
     requires whole { IsWhole parts.now }
-    requires oldest { IsOldest number code parts.now.queues.lists }
-    requires turning { CanTurn number (kept_of parts.now) }
-    ensures value { (s : State) (row : Row) → StandsFor (kept_of parts.now) s → IsTurning number s
-        → slice_get (standing (is_back code) s.rows) 0 ≡ Some row
-        → result ≡ fate_at (place_of (stream_of row.body) s.routing) s }
-    ensures on_link { (via : ℕ) × (via < length parts.now.queues.lists.links)
-        × ((result ≡ Fate.Waiting via) ⊎ (result ≡ Fate.Held via)) }
+    requires way { HasWay code (kept_of parts.now) }
+    ensures { (way : HasWay code (kept_of parts.now)) (s : State) → StandsFor (kept_of parts.now) s
+        → result ≡ fate_at (On way.via) s }
 {
+    parts.queues.is_sound();
     let Some(first) = parts.queues.number_at(Fate::Back { code }, 0) else {
         unreachable!()
     };

@@ -6,7 +6,7 @@ use Rattle.set_model.specs.Rows.{Fate, Unacked, numbers}
 use Rattle.set_moves.specs.Agreement.{Kept, StandsFor, Agrees, Holds, HoldsFew, rows_at}
 use Rattle.std.proofs.lemmas.Option.{slice_get_past, slice_get-map}
 use Rattle.set_model.specs.State.{State, LinkState, unacked_of, unacked_in, settings_of, new_link, new_state}
-use Rattle.set_model.proofs.Lists.{present, map_at}
+use Rattle.set_model.proofs.Lists.{present}
 use Rattle.std.proofs.lemmas.List.{length-replicate}
 use Rattle.set_events.specs.declared.config.SetConfig.{SetConfig}
 use Rattle.set_queues.specs.Queues.{AreGiven, AreSound}
@@ -18,7 +18,7 @@ use Rattle.set_model.proofs.Soundness.{opened_sound, step_sound}
 use Rattle.set_model.proofs.Walk.{step_is}
 use Rattle.set_moves.specs.declared.parts.Parts.{Parts}
 use Rattle.set_step.specs.Answering.{AnswersFor, wants_none}
-use Rattle.set_moves.specs.Parts.{Answers, AreCounted, kept_of, link_of}
+use Rattle.set_moves.specs.Parts.{Answers, AreCounted, kept_of}
 use Rattle.set_queues.proofs.Standing.{occurs_here}
 
 -- THE UNACKNOWLEDGED MESSAGE at a place of a link, if there is one: its number is the queue's, and its FSN follows the last one
@@ -46,7 +46,7 @@ none_stands : (q : Lists) → AreSound q [] → (fate : Fate) → queue_at fate 
 none_stands q sound fate = grind (arith, none_given (queue_at fate q), given_all q [] fate sound)
 
 -- links that stand for new ones, sound queues with nothing, and nothing else
-pub opened : (config : SetConfig) (parts : Parts) → parts.config ≡ config → map link_of parts.links.items ≡ replicate config.links (new_link config.method) → parts.queues.lists.links ≡ replicate config.links no_lists → AreSound parts.queues.lists parts.queues.messages → parts.queues.messages ≡ [] → parts.bodies.items ≡ [] → parts.routes ≡ new_routing config.links → parts.inbox.items ≡ []
+pub opened : (config : SetConfig) (parts : Parts) → parts.config ≡ config → parts.links.items ≡ replicate config.links (new_link config.method) → parts.queues.lists.links ≡ replicate config.links no_lists → AreSound parts.queues.lists parts.queues.messages → parts.queues.messages ≡ [] → parts.bodies.items ≡ [] → parts.routes ≡ new_routing config.links → parts.inbox.items ≡ []
     → Agrees (kept_of parts) (new_state config)
 opened config parts c links lists sound messages bodies routes inbox = grind (arith, nat_tests, none_stands parts.queues.lists (rw messages at sound), length-replicate, replicated, opened_sound (settings_of config))
 
@@ -65,7 +65,7 @@ holds_after old new event answer asked answers h = ((step h.0 event).state, (ans
 -- whole numbers of a set are far from the end of their range
 pub counted_of : (parts : Parts) → HoldsFew (2 ^ 48) (kept_of parts) → AreCounted (2 ^ 60) parts.links.items
 counted_of parts h number link there =
-    let few = h.2 number (link_of link) (subst (λ (ls : List LinkState). slice_get ls number ≡ Some (link_of link)) h.1.stands.links (map_at link_of parts.links.items number link there)) in
+    let few = h.2 number link (subst (λ (ls : List LinkState). slice_get ls number ≡ Some link) h.1.stands.links there) in
     let sent = few.sent in
     let accepted = few.accepted in
     record { acked = omega (arith, sent); accepted = omega (arith, accepted) }

@@ -95,7 +95,6 @@ impl Core {
     }
 
     /// How many links the set has.
-    #[tactic(auto, using(set_moves::proofs::Links::length_links))]
     pub fn links(&self) -> u8
         ensures { (s : State) → StandsFor self.now s → result ≡ link_count s }
     {

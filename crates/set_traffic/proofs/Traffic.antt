@@ -13,8 +13,8 @@ use Rattle.set_model.specs.Step.{SignalUnit, Msu, Sent, next as next_of, sends, 
 use Rattle.set_moves.specs.declared.link.Link.{Link}
 use Rattle.set_moves.specs.declared.parts.Parts.{Parts}
 use Rattle.set_moves.specs.Agreement.{Holds, StandsFor, Message, Kept, rows_at}
-use Rattle.set_moves.specs.Parts.{Up, kept_of, Gives, Obeys, link_of as link_kept}
-use Rattle.set_moves.proofs.Links.{IsIn, served, stands_for, same_ups, same_target, whole_of}
+use Rattle.set_moves.specs.Parts.{Up, kept_of, Gives, Obeys}
+use Rattle.set_moves.proofs.Links.{IsHere, served, stands_for, same_ups, same_target, whole_of}
 use Rattle.set_traffic.specs.Traffic.{ReachesTo, KeepsSpace, order_brought, message_brought, choice_in}
 use Rattle.set_queues.specs.Messages.{octets_at, octets_of}
 use Rattle.set_model.proofs.Rows.{Found, found_by_number, row_in_filter}
@@ -31,17 +31,17 @@ pub queue_there : (parts : Parts) (n : ℕ) → Holds (kept_of parts) → n < le
 queue_there parts n holds known = let many = (whole_of parts holds).as_many in omega (arith, many, known)
 
 -- WHAT A CONTROL TELLS A TERMINAL by the kept window, it tells by the rows' window: the room alone is another.
-pub told : (parts : Parts) (s : State) (n i : ℕ) (x : Link) (w : WindowState) (link : LinkState) → i ≡ n → n < length parts.links.items → x ≡ slice_index_or parts.links.items i x → w.last ≡ last_at n parts.queues.lists → w.unacked ≡ queue_at (Unacked n) parts.queues.lists → w.unsent ≡ queue_at (Waiting n) parts.queues.lists
-    → slice_get s.links n ≡ Some link → StandsFor (kept_of parts) s → (x.control ≡ link.control) × (w ≡ record (window_of n link s.rows) { room = w.room })
-told parts s n i x w link is known read last unacked unsent there f =
-    (ap (λ (l : LinkState). l.control) (stands_for parts.links.items n i x is known read s.links link f.links there), grind (arith, f.fsns n link there, f.stands.queues (Unacked n), f.stands.queues (Waiting n)))
+pub told : (parts : Parts) (s : State) (n i : ℕ) (x : Link) (control : Control) (w : WindowState) (link : LinkState) → i ≡ n → n < length parts.links.items → x ≡ slice_index_or parts.links.items i x → control ≡ x.control → w.last ≡ last_at n parts.queues.lists → w.unacked ≡ queue_at (Unacked n) parts.queues.lists → w.unsent ≡ queue_at (Waiting n) parts.queues.lists
+    → slice_get s.links n ≡ Some link → StandsFor (kept_of parts) s → (control ≡ link.control) × (w ≡ record (window_of n link s.rows) { room = w.room })
+told parts s n i x control w link is known read same last unacked unsent there f =
+    (same ∙ ap (λ (l : LinkState). l.control) (stands_for parts.links.items n i x is known read s.links link f.links there), grind (arith, f.fsns n link there, f.stands.queues (Unacked n), f.stands.queues (Waiting n)))
 
 -- WHAT A HEARD UNIT TELLS: so many are acknowledged as the BSN reaches, or none.
 pub part_reaches : (c : Control) (w : WindowState) (head : Header) (msu : Bool) (q : Lists) (n : ℕ) → w.last ≡ last_at n q → w.unacked ≡ queue_at (Unacked n) q → 0 < (part_of c w head msu).acked → ReachesTo head.bsn (part_of c w head msu).acked n q
 part_reaches c w head msu q n last unacked h = record { count_is = grind (arith, nat_tests); there = grind (arith, nat_tests) }
 
 -- WHAT IS SENT, as the step has it
-pub given : (n : ℕ) (s : State) (parts : Parts) (i : IsIn s n Up) (choice : Choice) (head : Header) (unit : SignalUnit) → choice ≡ choice_in n i.link s → head ≡ head_of i.link.control (fsn_of choice (window_of n i.link s.rows)) → unit ≡ unit_of (chosen choice n s.rows) head → StandsFor (kept_of parts) (sends choice n s i.link).state
+pub given : (n : ℕ) (s : State) (parts : Parts) (i : IsHere s.links n Up) (choice : Choice) (head : Header) (unit : SignalUnit) → choice ≡ choice_in n i.link s → head ≡ head_of i.link.control (fsn_of choice (window_of n i.link s.rows)) → unit ≡ unit_of (chosen choice n s.rows) head → StandsFor (kept_of parts) (sends choice n s i.link).state
     → Gives (in_service n s (next_of n s)) (Sent unit) parts
 given n s parts i choice head unit is heads sent stands = served s n (next_of n s) (Sent unit) parts i (rw (← is) (record { answer_is = rw (sent, heads) refl; stands = stands }))
 
@@ -116,5 +116,5 @@ module _ (old new : Parts) (k : KeepsSpace old new) where
   spacious_still (Some (Coa link number)) r = ready_still link r
   spacious_still (Some (Eco link)) r = ready_still link r
   spacious_still (Some (Eca link)) r = ready_still link r
-  spacious_still (Some (Cbd link code)) r = grind (arith, same_target old.links.items new.links.items k.phases, k.queues.message, k.bodies, k.queues.rooms (fate_on (target (map link_kept old.links.items))), r.message, r.body, r.place)
+  spacious_still (Some (Cbd link code)) r = grind (arith, same_target old.links.items new.links.items k.phases, k.queues.message, k.bodies, k.queues.rooms (fate_on (target old.links.items)), r.message, r.body, r.place)
   spacious_still (Some (Cba link code)) r = λ low. grind (arith, r, as_many, k.queues.rooms (Waiting (home_of code)), k.queues.backs code)

@@ -1,12 +1,30 @@
-use Rattle.std.proofs.Common.{arith, ◌∙◌, refl}
+use Rattle.std.proofs.Common.{arith, ◌∙◌, refl, length, ◌++◌, [], ◌∷◌}
+use Rattle.set_queues.specs.Buffers.{Waiting, queue_at}
+use Rattle.set_queues.proofs.Standing.{links_stay}
 use Rattle.set_model.specs.Changeover.{declared_from, declared_if}
-use Rattle.set_moves.proofs.Declaring.{becomes_next}
+use Rattle.set_moves.proofs.Declaring.{becomes_next, room_after, room_later}
 use Rattle.set_moves.proofs.changeback.declare_all.Goals as goal
 
 pub loop-alternative-preserved : goal.loop-alternative-preserved
-loop-alternative-preserved c = record {
-  stands = becomes_next (declared_from c.args.home) (declared_if c.args.home) (λ from s. refl) (λ from n s. refl) c.loop-alternative.alternative 0 c.loop-alternative.alternative c.args.parts.now c.loop-alternative.parts c.declare_if_due.new.parts (omega arith) c.loop-alternative.invariant.stands c.declare_if_due.ensures.stands;
-  whole = c.declare_if_due.ensures.whole;
-  links = c.declare_if_due.ensures.links ∙ c.loop-alternative.invariant.links;
-  room = c.declare_if_due.ensures.room;
-}
+loop-alternative-preserved c =
+    let n = c.loop-alternative.alternative in
+    let inv = c.loop-alternative.invariant in
+    let many = links_stay (Waiting n) (queue_at (Waiting n) c.loop-alternative.parts.queues.lists ++ length c.loop-alternative.parts.queues.messages ∷ []) c.loop-alternative.parts.queues.lists in
+    let change = c.ask.ensures.change in
+    record {
+      stands = becomes_next (declared_from c.args.home) (declared_if c.args.home) (λ from s. refl) (λ from n s. refl) n 0 n c.args.parts.now c.loop-alternative.parts (record c.stand_last.new.parts { routes = c.ask.new.self }) (omega arith) inv.stands (λ s f. rw (← c.may_declare.ensures s f, c.if-not-may_declare.false) (let stands = c.stand_last.ensures.stands s f in grind (arith, stands, change, f.settings, c.changeback_code.ensures, c.write_order-body.ensures, c.as_slice.ensures)));
+      whole = grind arith;
+      links = c.stand_last.ensures.links ∙ inv.links;
+      room = room_after n c.loop-alternative.parts _ inv.room c.stand_last.ensures.links c.stand_last.ensures.rooms c.stand_last.ensures.message c.stand_last.ensures.body (omega arith);
+    }
+
+pub loop-alternative-preserved-then-not-may_declare : goal.loop-alternative-preserved-then-not-may_declare
+loop-alternative-preserved-then-not-may_declare c =
+    let n = c.loop-alternative.alternative in
+    let inv = c.loop-alternative.invariant in
+    record {
+      stands = becomes_next (declared_from c.args.home) (declared_if c.args.home) (λ from s. refl) (λ from n s. refl) n 0 n c.args.parts.now c.loop-alternative.parts c.loop-alternative.parts (omega arith) inv.stands (λ s f. rw (← c.may_declare.ensures s f, c.if-not-may_declare.true) f);
+      whole = inv.whole;
+      links = inv.links;
+      room = room_later n c.loop-alternative.parts inv.room;
+    }

@@ -1,7 +1,8 @@
-use Rattle.std.proofs.Common.{refl, ◌∙◌, sym}
+use Rattle.std.proofs.Common.{refl, rules, ◌∙◌, sym}
 use Rattle.set_model.specs.Step.{Refused, Done, Nothing, comes_back}
-use Rattle.set_moves.specs.Parts.{Up}
-use Rattle.set_moves.proofs.Links.{served, is_in, agrees_same}
+use Rattle.set_moves.specs.Parts.{Up, kept_of}
+use Rattle.set_moves.proofs.Links.{served, is_in}
+use Rattle.set_moves.proofs.States.{becomes}
 use Rattle.set_moves.proofs.Declaring.{count_is}
 use Rattle.set_moves.proofs.changeback.restore.Goals as goal
 
@@ -11,8 +12,7 @@ returns-then-not-has_alternative-clause-ok c = λ s a.
 
 pub returns-clause-ok : goal.returns-clause-ok
 returns-clause-ok c = λ s a.
-    let now = agrees_same c.args.parts.now c.make_room_declared.new.parts s c.make_room_declared.ensures.same a in
     served s c.args.number (λ link. comes_back c.args.number s) Done c.declare_all.new.parts (is_in c.args.parts.now s c.args.number Up a c.in_default.ensures.here) (rw (sym (c.has_alternative.ensures s a.stands) ∙ c.if-not-has_alternative.false) (record {
       answer_is = refl;
-      stands = rw (count_is c.make_room_declared.new.parts s now.stands) (c.declare_all.ensures.stands s now.stands);
+      stands = rw (count_is c.args.parts.now s a.stands) (c.declare_all.ensures.stands s (becomes (kept_of c.args.parts.now) _ _ _ _ _ _ s (search rules) a.stands));
     }))

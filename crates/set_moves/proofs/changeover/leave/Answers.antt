@@ -1,29 +1,28 @@
-use Rattle.std.proofs.Common.{length, ℕ, ◌≡◌, ap, ◌<◌, Bool, refl, map, slice_set, slice_index_or}
+use Rattle.std.proofs.Common.{length, ℕ, ◌≡◌, ◌<◌, Bool, refl, slice_set, slice_index_or}
 use Rattle.set_model.specs.Changeover.{out_of_service, left_link}
 use Rattle.set_route.specs.Routing.{left as streams_left}
 use Rattle.set_model.proofs.Lists.{length_set}
 use Rattle.set_moves.specs.Agreement.{StandsFor}
-use Rattle.set_moves.specs.Parts.{Down, Parts, Link, OfStates, kept_of, link_of}
+use Rattle.set_moves.specs.Parts.{Parts, Link, OfStates, kept_of}
 use Rattle.set_moves.proofs.Links.{link_set}
 use Rattle.set_moves.proofs.States.{link_for}
 use Rattle.set_moves.proofs.Turns.{here_up, turning_of, can_turn}
 use Rattle.set_moves.proofs.changeover.leave.Goals as goal
 
 -- the link is out of service, and streams on their way back to it run where they came from
-taken : (blind : Bool) (n i : ℕ) (x : Link) (old : Parts) → i ≡ n → n < length old.links.items → x ≡ slice_index_or old.links.items i x
-    → OfStates n old (λ link s. StandsFor (record (kept_of old) { links = map link_of (slice_set old.links.items i (record x { phase = Down; blind = blind })); routing = streams_left n old.routes }) (out_of_service blind n link s))
-taken blind n i x old is known read s link there f =
-    let set = link_set old.links.items n i x is known read (record x { phase = Down; blind = blind }) s.links link (left_link blind link) f.links there (λ e. ap (left_link blind) e) in
-    rw (set, f.routing) (link_for (kept_of old) s n link (left_link blind link) (streams_left n s.routing) f there refl)
+taken : (blind : Bool) (n i : ℕ) (x y : Link) (old : Parts) → i ≡ n → n < length old.links.items → x ≡ slice_index_or old.links.items i x → y ≡ x
+    → OfStates n old (λ link s. StandsFor (record (kept_of old) { links = slice_set old.links.items i (left_link blind y); routing = streams_left n old.routes }) (out_of_service blind n link s))
+taken blind n i x y old is known read same s link there f =
+    rw (link_set old.links.items n i x is known read (left_link blind) y s.links link same f.links there, f.routing) (link_for (kept_of old) s n link (left_link blind link) (streams_left n s.routing) f there refl)
 
 pub turn_back-requires-clause-turning : goal.turn_back-requires-clause-turning
 turn_back-requires-clause-turning c = can_turn c.args.blind c.args.number c.args.parts.now _ (here_up c.args.parts.now c.args.number c.requires.known c.requires.up) c.requires.holds
-    (λ s link there f. rw c.divert.ensures (taken c.args.blind c.args.number c.from.result c.index_mut-link.result.now c.args.parts.now c.from.ensures c.requires.known c.index_mut-link.ensures.value s link there f))
+    (λ s link there f. rw c.divert.ensures (taken c.args.blind c.args.number c.from.result c.index_mut-link.result.now _ c.args.parts.now c.from.ensures c.requires.known c.index_mut-link.ensures.value c.link.view_is s link there f))
 
 pub turn_back-requires-clause-room : goal.turn_back-requires-clause-room
 turn_back-requires-clause-room c = rw (length_set c.args.parts.now.links.items c.from.result _) c.requires.room
 
 pub returns-clause-stands : goal.returns-clause-stands
 returns-clause-stands c = λ s link there a.
-    let out = taken c.args.blind c.args.number c.from.result c.index_mut-link.result.now c.args.parts.now c.from.ensures c.requires.known c.index_mut-link.ensures.value s link there a.stands in
+    let out = taken c.args.blind c.args.number c.from.result c.index_mut-link.result.now _ c.args.parts.now c.from.ensures c.requires.known c.index_mut-link.ensures.value c.link.view_is s link there a.stands in
     c.turn_back.ensures.stands (out_of_service c.args.blind c.args.number link s) (rw c.divert.ensures out) (turning_of c.args.blind c.args.number c.args.parts.now link s (here_up c.args.parts.now c.args.number c.requires.known c.requires.up) there a)

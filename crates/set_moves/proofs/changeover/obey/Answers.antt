@@ -15,6 +15,3 @@ returns-in-Eca c = record { stands = λ s a. rw c.in-Eca.is (c.answer-in-Eca.ens
 
 pub returns-in-Cbd : goal.returns-in-Cbd
 returns-in-Cbd c = record { stands = λ s a. rw c.in-Cbd.is (record { took_is = refl; stands = c.queue.ensures.stands s a.stands }) }
-
-pub returns-in-Cba : goal.returns-in-Cba
-returns-in-Cba c = record { stands = λ s a. rw c.in-Cba.is (c.acknowledge_back.ensures.stands s a) }

@@ -1,8 +1,7 @@
-use Rattle.std.proofs.Common.{rules, refl, arith, ◌≡◌, ◌∙◌, sym, subst, ◌+◌, [], ℕ}
+use Rattle.std.proofs.Common.{rules, refl, arith, ◌≡◌, ◌∙◌, ap, sym, subst, [], slice_set}
 use Rattle.set_queues.specs.Sending.{reach}
 use Rattle.set_queues.proofs.Standing.{links_stay}
 use Rattle.set_model.specs.Changeover.{acknowledged}
-use Rattle.set_model.specs.State.{LinkState}
 use Rattle.set_moves.specs.Agreement.{StandsFor}
 use Rattle.set_model.specs.Rows.{Unacked, Emergency, is_unacked}
 use Rattle.set_moves.proofs.RowsAt.{sent_there}
@@ -11,14 +10,12 @@ use Rattle.set_moves.proofs.States.{becomes, reach_is, is_reached, is_unreached,
 use Rattle.set_moves.proofs.Links.{link_set, cleared_less, on_less}
 use Rattle.set_moves.proofs.settling.judge.Goals as goal
 
-more : (link link' : LinkState) (d count : ℕ) → link' ≡ link → d ≡ count → record link' { acked = link'.acked + d } ≡ acknowledged count link
-more link link' d count e f = rw (e, f) refl
-
 pub returns-in-Ok-clause-stands : goal.returns-in-Ok-clause-stands
 returns-in-Ok-clause-stands c = λ s link there f.
-    let set = link_set c.args.parts.now.links.items c.args.number c.from-in-Ok.result c.index_mut.result.now c.from-in-Ok.ensures c.requires.known c.index_mut.ensures.value _ s.links link (acknowledged (reach c.args.number c.in-Upto.fsn c.args.parts.now.queues.lists) link) f.links there (λ e. more link _ c.from.result _ e (c.from.ensures ∙ c.in-Ok.ensures.acked.1)) in
     rw (c.in-Upto.is, is_reached (kept_of c.args.parts.now) s c.args.number c.in-Upto.fsn link f there c.in-Ok.ensures.acked.0, ← reach_is (kept_of c.args.parts.now) s c.args.number c.in-Upto.fsn link f there)
-    (becomes (kept_of c.args.parts.now) _ _ _ _ _ _ _ (search (rules, c.in-Ok.ensures.lists, c.in-Ok.ensures.messages, set)) (acked_for (kept_of c.args.parts.now) s c.args.number c.in-Upto.fsn link (acknowledged (reach c.args.number c.in-Upto.fsn c.args.parts.now.queues.lists) link) f there (rw c.in-Upto.is at c.requires.reached) refl))
+    (let count : c.from.result ≡ reach c.args.number c.in-Upto.fsn c.args.parts.now.queues.lists = c.from.ensures ∙ c.in-Ok.ensures.acked.1 in
+    let set = link_set c.args.parts.now.links.items c.args.number c.from-in-Ok.result c.index_mut.result.now c.from-in-Ok.ensures c.requires.known c.index_mut.ensures.value (acknowledged c.from.result) _ s.links link c.behind-parts.view_is f.links there ∙ ap (λ n. slice_set s.links c.args.number (acknowledged n link)) count in
+    becomes (kept_of c.args.parts.now) _ _ _ _ _ _ _ (search (rules, c.in-Ok.ensures.lists, c.in-Ok.ensures.messages, set)) (acked_for (kept_of c.args.parts.now) s c.args.number c.in-Upto.fsn link _ f there (rw c.in-Upto.is at c.requires.reached) refl))
 
 pub returns-in-Err-clause-stands : goal.returns-in-Err-clause-stands
 returns-in-Err-clause-stands c = λ s link there f.

@@ -1,25 +1,47 @@
-use Rattle.std.proofs.Common.{arith, ◌+◌, ◌∙◌, ap, sym, length}
-use Rattle.set_moves.proofs.Turns.{turns_then, room_for_one, turned_all}
+use Rattle.std.proofs.Common.{refl, rules, arith, ◌+◌, ◌∙◌, ◌≡◌, ap, sym, length, None, Some, List, ℕ, slice_get}
+use Rattle.set_queues.proofs.Standing.{links_stay}
+use Rattle.set_moves.specs.Parts.{kept_of}
+use Rattle.set_moves.proofs.Turns.{turns_then, turns_one, room_for_one, its_way, goes_on_link, fewer_back, turned_first, starts, all_turned, way}
 use Rattle.set_moves.proofs.turning.turn_back.Goals as goal
 
-pub turn_first-requires-clause-room : goal.turn_first-requires-clause-room
-turn_first-requires-clause-room c = room_for_one c.args.number c.args.parts.now c.loop-code.parts c.loop-code.invariant c.in-Some.code c.in-Some.ensures c.requires.room
+pub loop-code-init : goal.loop-code-init
+loop-code-init c = record { whole = c.requires.whole; links = refl; bodies = refl; so_far = λ s. starts c.args.number s _; turned = 0; turns = grind arith; fewer = omega arith }
+
+pub way_of-to-requires-clause-way : goal.way_of-to-requires-clause-way
+way_of-to-requires-clause-way c = its_way c.args.number c.args.parts.now c.loop-code.parts c.loop-code.invariant c.in-Some.code c.in-Some.ensures c.requires.turning
+
+pub turn_back-requires : goal.turn_back-requires
+turn_back-requires c =
+    let inv = c.loop-code.invariant in
+    let on = goes_on_link c.args.number c.args.parts.now c.loop-code.parts inv c.in-Some.code c.in-Some.ensures c.requires.turning c.way_of-to.result c.way_of-to.ensures in
+    let low = on.1 in
+    let to = on.2 in
+    let room = room_for_one c.args.number c.args.parts.now c.loop-code.parts inv c.in-Some.code c.in-Some.ensures c.requires.room on.0 (rw (← inv.whole.as_many) low) in
+    record { some = λ e. let no : None ≡ Some c.in-Some.ensures.number = sym (ap (λ (ns : List ℕ). slice_get ns 0) e) ∙ c.in-Some.ensures.first in absurd cc; other = grind arith; queued = grind arith; apart = grind arith; room = grind arith }
 
 pub loop-code-preserved : goal.loop-code-preserved
 loop-code-preserved c =
-    let so = c.loop-code.invariant in
+    let inv = c.loop-code.invariant in
+    let on = goes_on_link c.args.number c.args.parts.now c.loop-code.parts inv c.in-Some.code c.in-Some.ensures c.requires.turning c.way_of-to.result c.way_of-to.ensures in
+    let many : length c.turn_back.new.self.lists.links ≡ length c.loop-code.parts.queues.lists.links = rw c.turn_back.ensures.lists (search links_stay) in
     record {
-      whole = c.turn_first.ensures.whole;
-      links = c.turn_first.ensures.links ∙ so.links;
-      bodies = c.turn_first.ensures.bodies ∙ so.bodies;
+      whole = grind arith;
+      links = inv.links;
+      bodies = inv.bodies;
       so_far = λ s f t.
-          let mid = so.so_far s f t in
-          let on = c.turn_first.ensures.stands mid.state mid.stands mid.turning in
-          record { state = on.state; stands = on.stands; turning = on.turning; same = on.same ∙ mid.same };
-      turned = so.turned + 1;
-      turns = turns_then so.turned 1 c.args.parts.now.queues c.loop-code.parts.queues c.turn_first.new.parts.queues (so.whole.as_many ∙ ap (λ links. length links.items) so.links ∙ sym c.requires.whole.as_many) so.turns c.turn_first.ensures.turns;
-      fewer = omega (arith, so.fewer, c.turn_first.ensures.fewer);
+          let mid = inv.so_far s f t in
+          turned_first c.args.number s (kept_of c.loop-code.parts) mid c.in-Some.code c.in-Some.ensures c.way_of-to.result _ on (c.way_of-to.ensures (way c.args.number s (kept_of c.loop-code.parts) mid c.in-Some.code c.in-Some.ensures) _ mid.stands) (search rules);
+      turned = inv.turned + 1;
+      turns = turns_then inv.turned 1 c.args.parts.now.queues c.loop-code.parts.queues c.turn_back.new.self (inv.whole.as_many ∙ ap (λ links. length links.items) inv.links ∙ sym c.requires.whole.as_many) inv.turns (turns_one c.args.number c.in-Some.code c.way_of-to.result c.loop-code.parts.queues _ c.in-Some.ensures on c.turn_back.ensures.lists c.turn_back.ensures.rooms c.turn_back.ensures.room);
+      fewer = let less = fewer_back c.args.number c.in-Some.code c.way_of-to.result c.loop-code.parts.queues.lists c.in-Some.ensures on in rw c.turn_back.ensures.lists (omega (arith, inv.fewer, less));
     }
 
+pub loop-code-smaller : goal.loop-code-smaller
+loop-code-smaller c =
+    let inv = c.loop-code.invariant in
+    let on = goes_on_link c.args.number c.args.parts.now c.loop-code.parts inv c.in-Some.code c.in-Some.ensures c.requires.turning c.way_of-to.result c.way_of-to.ensures in
+    let less = fewer_back c.args.number c.in-Some.code c.way_of-to.result c.loop-code.parts.queues.lists c.in-Some.ensures on in
+    rw c.turn_back.ensures.lists (omega (arith, less))
+
 pub returns-clause-stands : goal.returns-clause-stands
-returns-clause-stands c = turned_all c.args.number c.args.parts.now c.loop-code.parts c.loop-code.invariant c.in_default.ensures
+returns-clause-stands c = λ s f t. all_turned c.args.number s (kept_of c.loop-code.parts) (c.loop-code.invariant.so_far s f t) c.in_default.ensures

@@ -5,7 +5,6 @@ use Rattle.set_queues.proofs.Soundness.{last_links}
 use Rattle.set_route.specs.Routing.{raised}
 use Rattle.set_model.specs.Rows.{Unacked, Waiting, Parked, numbers}
 use Rattle.set_model.specs.Step.{risen_link}
-use Rattle.set_model.proofs.Lists.{map_set}
 use Rattle.set_model.proofs.Settling.{settled_empty}
 use Rattle.set_moves.specs.declared.parts.Parts.{Parts}
 use Rattle.set_moves.specs.Agreement.{Holds}
@@ -64,7 +63,7 @@ returns-in_ok-make_room_parked-in-Some-Settled-clause-ok c = λ s a.
         lists_are = c.divert.ensures.lists ∙ ap (passed Parked (Waiting n)) c.reset.ensures.lists;
         messages_are = rw (c.divert.ensures.messages, c.reset.ensures.lists, c.reset.ensures.same.0) refl;
         bodies_are = refl;
-        links_are = rw (map_set, f.links, c.from.ensures, c.rise.ensures, ← f.settings) refl;
+        links_are = rw (f.links, c.from.ensures, c.rise.ensures, ← f.settings) refl;
         routing_is = c.raise.ensures ∙ ap (raised n) f.routing;
         inbox_same = refl;
       });

@@ -7,7 +7,7 @@ use Rattle.set_model.specs.State.{LinkState, State, window_of}
 use Rattle.set_model.specs.Step.{SignalUnit, Took, Lssu, HeardBack, Refused, Nothing, heard as heard_of, controls, after_control, report_of, is_msu}
 use Rattle.set_moves.specs.Agreement.{StandsFor, Agrees}
 use Rattle.set_moves.specs.Parts.{Up, kept_of}
-use Rattle.set_moves.proofs.Links.{whole_of, IsIn, is_in, served}
+use Rattle.set_moves.proofs.Links.{whole_of, IsHere, is_in, served}
 use Rattle.set_model.proofs.SoundLink.{hears_sound}
 use Rattle.set_traffic.proofs.Traffic.{queue_there, spacious_still}
 use Rattle.set_traffic.proofs.hearing.hear.Goals as goal
@@ -15,7 +15,7 @@ use Rattle.set_traffic.proofs.hearing.hear.Goals.{After-control_hears-part}
 
 -- the link of a state that agreed, what its control told, and the state after it, which the parts agree with
 module _ (c : After-control_hears-part) (s : State) (a : Agrees (kept_of c.args.parts.now) s) where
-  at : IsIn s c.args.number Up
+  at : IsHere s.links c.args.number Up
   at = is_in c.args.parts.now s c.args.number Up a c.in_default.ensures.here
 
   stood : StandsFor (kept_of c.make_room_for.new.parts) s

@@ -1,7 +1,6 @@
-use Rattle.std.proofs.Common.{◌≡◌, map, replicate}
+use Rattle.std.proofs.Common.{◌≡◌, replicate}
 use Rattle.set_model.specs.State.{new_link}
-use Rattle.set_moves.specs.Parts.{link_of}
 use Rattle.set_step.proofs.contents.Core.new.Given as goal
 
 abbrev pub invariant-loop : goal.invariant-loop
-invariant-loop l = map link_of l.links.items ≡ replicate l.counter (new_link l.config.method)
+invariant-loop l = l.links.items ≡ replicate l.counter (new_link l.config.method)

@@ -1,11 +1,10 @@
 use Rattle.std.proofs.Common.{arith, ◌≡◌, ◌∙◌, ap, sym, ℕ, ◌+◌, ◌%◌, slice_get, option_map}
 use Rattle.std.proofs.lemmas.Bool.Decides.{nat_tests}
-use Rattle.std.proofs.lemmas.List.{length-map}
 use Rattle.set_queues.specs.Buffers.{Unacked, queue_at, last_at}
 use Rattle.set_model.specs.State.{State, unacked_in}
 use Rattle.set_moves.specs.Agreement.{StandsFor}
 use Rattle.set_model.proofs.Lists.{within}
-use Rattle.set_moves.specs.Parts.{kept_of, link_of}
+use Rattle.set_moves.specs.Parts.{kept_of}
 use Rattle.set_step.proofs.Kept.{unacked_is, unacked_past}
 use Rattle.set_moves.proofs.Links.{whole_of}
 use Rattle.set_step.proofs.contents.Core.unacked_at.Goals as goal
@@ -17,7 +16,7 @@ at_place c = ap (λ (i : ℕ). slice_get (queue_at (Unacked c.args.link) c.self.
 
 -- what the state has there
 is : (c : After-number_at) (s : State) → StandsFor (kept_of c.self.inside.parts) s → unacked_in s c.args.link c.args.place ≡ option_map (λ number. record { number = number; fsn = (last_at c.args.link c.self.inside.parts.queues.lists + 1 + c.args.place) % 128 }) c.number_at.result
-is c s f = let size = length-map c.self.inside.parts.links.items link_of in unacked_is (kept_of c.self.inside.parts) s c.args.link c.args.place c.number_at.result f (omega (arith, size, c.if-from-len.false, c.len.ensures, c.from.ensures)) (at_place c)
+is c s f = unacked_is (kept_of c.self.inside.parts) s c.args.link c.args.place c.number_at.result f (omega (arith, c.if-from-len.false, c.len.ensures, c.from.ensures)) (at_place c)
 
 pub returns-in_err-number : goal.returns-in_err-number
 returns-in_err-number c = grind (arith, nat_tests, is, c.from_residual.ensures, c.in_err-number.was)
@@ -35,4 +34,4 @@ pub window-requires : goal.window-requires
 window-requires c = grind (arith, nat_tests, whole_of, c.self.invariant, c.if-from-len.false, c.len.ensures, c.from.ensures)
 
 pub returns-then-from-len : goal.returns-then-from-len
-returns-then-from-len c = rw (← c.self.view_is) (λ s st. sym (unacked_past (kept_of c.self.inside.parts) s c.args.link c.args.place st (let size = length-map c.self.inside.parts.links.items link_of in omega (arith, size, c.if-from-len.true, c.len.ensures, c.from.ensures, c.self.inside.parts.links.ok.0))))
+returns-then-from-len c = rw (← c.self.view_is) (λ s st. sym (unacked_past (kept_of c.self.inside.parts) s c.args.link c.args.place st (omega (arith, c.if-from-len.true, c.len.ensures, c.from.ensures, c.self.inside.parts.links.ok.0))))
