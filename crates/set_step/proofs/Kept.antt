@@ -1,5 +1,5 @@
 -- What is read of a set, a set of which nothing was asked, and what holds after each event.
-use Rattle.std.proofs.Common.{refl, arith, ◌≡◌, ap, ◌≤◌, ◌+◌, [], ◌∷◌, List, ℕ, suc, length, Option, Some, None, ◌<◌, ◌%◌, slice_get, option_map, true, false, IsOk, Result, subst, zero, ◌^◌, map, nat_lt, if◌then◌else◌, replicate}
+use Rattle.std.proofs.Common.{refl, arith, ◌≡◌, ap, ◌≤◌, ◌+◌, [], ◌∷◌, List, ℕ, suc, length, Option, Some, None, ◌<◌, ◌%◌, slice_get, option_map, true, false, IsOk, Result, subst, zero, ◌^◌, nat_lt, if◌then◌else◌, replicate}
 use Rattle.std.proofs.lemmas.Bool.Decides.{nat_tests}
 use Rattle.set_queues.specs.Buffers.{Lists, queue_at, last_at, no_lists}
 use Rattle.set_model.specs.Rows.{Fate, Unacked, numbers}

@@ -1,5 +1,5 @@
 -- What is sent and heard, by what is kept and by the state that it stands for.
-use Rattle.std.proofs.Common.{refl, arith, IfSome, ◌≡◌, ap, sym, ◌<◌, ◌+◌, ℕ, Bool, length, Option, Some, slice_get, slice_index_or, option_map, ◌∙◌, ◌≤◌, [], ◌∷◌, List, suc, true, ◌&&◌, ◌*◌, ◌++◌, zero, false, map, None, slice_set}
+use Rattle.std.proofs.Common.{refl, arith, IfSome, ◌≡◌, ap, sym, ◌<◌, ◌+◌, ℕ, Bool, length, Option, Some, slice_get, slice_index_or, option_map, ◌∙◌, ◌≤◌, [], ◌∷◌, List, suc, true, ◌&&◌, ◌*◌, ◌++◌, zero, false, None, slice_set}
 use Rattle.std.proofs.lemmas.Bool.Decides.{nat_tests}
 use Rattle.arrayvec.specs.declared.array_vec.ArrayVec.{ArrayVec}
 use Rattle.l2_window.specs.Window.{WindowState}
