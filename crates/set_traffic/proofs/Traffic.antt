@@ -1,21 +1,22 @@
 -- What is sent and heard, by what is kept and by the state that it stands for.
-use Rattle.std.proofs.Common.{refl, arith, IfSome, ◌≡◌, ap, sym, ◌<◌, ◌+◌, ℕ, Bool, length, Option, Some, slice_get, slice_index_or, option_map, ◌∙◌, ◌≤◌, [], ◌∷◌, List, suc, true, ◌&&◌, ◌*◌, ◌++◌, zero, false, None, slice_set}
+use Rattle.std.proofs.Common.{refl, arith, ◌≡◌, ◌==◌, ap, sym, ◌<◌, ◌+◌, ℕ, Bool, length, Option, Some, slice_get, slice_index_or, option_map, ◌∙◌, ◌≤◌, [], ◌∷◌, List, suc, true, ◌*◌, ◌++◌, zero, false, slice_set}
 use Rattle.std.proofs.lemmas.Bool.Decides.{nat_tests}
 use Rattle.arrayvec.specs.declared.array_vec.ArrayVec.{ArrayVec}
 use Rattle.l2_window.specs.Window.{WindowState}
 use Rattle.l2_window.specs.Control.{fsn_of}
 use Rattle.l2_window.specs.declared.control.Choice.{Choice}
 use Rattle.set_queues.specs.Buffers.{queue_at, last_at, Lists, is_standing}
-use Rattle.set_model.specs.Rows.{Waiting, Unacked, Row, Fate, is_unacked, unack, numbers, octets_in, body_at, AreFit, Held}
+use Rattle.set_model.specs.Rows.{Waiting, Unacked, Row, Fate, is_unacked, unack, numbers, octets_in, body_at, AreFit, Held, service_indicator}
+use Rattle.l3_orders.specs.Grammar.{order_of}
 use Rattle.set_model.specs.Control.{Header, Control, head_of, part_of}
 use Rattle.set_model.specs.State.{LinkState, State, window_of, target}
-use Rattle.set_model.specs.Step.{SignalUnit, Msu, Sent, next as next_of, sends, chosen, unit_of, in_service, Took, Message as MessageTaken, NothingTaken as Nothing, takes, brought, is_msu}
+use Rattle.set_model.specs.Step.{SignalUnit, Msu, Sent, next as next_of, sends, chosen, unit_of, in_service, Took, Ignored, Message as MessageTaken, NothingTaken, takes, brought as accepted_body}
 use Rattle.set_moves.specs.declared.link.Link.{Link}
 use Rattle.set_moves.specs.declared.parts.Parts.{Parts}
-use Rattle.set_moves.specs.Agreement.{Holds, StandsFor, Message, Kept, rows_at}
+use Rattle.set_moves.specs.Agreement.{Holds, StandsFor, Message as KeptMessage, Kept, rows_at}
 use Rattle.set_moves.specs.Parts.{Up, kept_of, Gives, Obeys}
 use Rattle.set_moves.proofs.Links.{IsHere, served, stands_for, same_ups, same_target, whole_of}
-use Rattle.set_traffic.specs.Traffic.{ReachesTo, KeepsSpace, order_brought, message_brought, choice_in}
+use Rattle.set_traffic.specs.Traffic.{ReachesTo, KeepsSpace, Brought, Nothing, Message, OrderBrought, Unread, brought_by, HasSpaceFor, choice_in}
 use Rattle.set_queues.specs.Messages.{octets_at, octets_of}
 use Rattle.set_model.proofs.Rows.{Found, found_by_number, row_in_filter}
 use Rattle.set_moves.proofs.RowsAt.{is_there, rows_as}
@@ -23,7 +24,7 @@ use Rattle.std.proofs.lemmas.List.{length-map}
 use Rattle.set_queues.specs.Backs.{back_from}
 use Rattle.set_route.specs.Routing.{home_of}
 use Rattle.set_route.specs.Target.{target_of}
-use Rattle.set_model.specs.Changeover.{Order, Coo, Coa, Cbd, Cba, Eco, Eca, fate_on, obeyed}
+use Rattle.set_model.specs.Changeover.{Order, Coo, Coa, Cbd, Cba, Eco, Eca, fate_on, order_obeyed as obeyed_by}
 use Rattle.set_moves.specs.Room.{IsSpaciousFor, IsReady, target_beside}
 
 -- The queue of a link that is there.
@@ -53,7 +54,7 @@ pub fit_at : (number : ℕ) (rows : List Row) (body : List ℕ) → AreFit rows 
 fit_at number [] body fit e = absurd (cc)
 fit_at number (x ∷ rows) body fit e = grind (arith, fit_at number rows body fit.1)
 
-sum_of : (xs : List Row) (ms : List Message) → ((i : ℕ) (row : Row) → slice_get xs i ≡ Some row → octets_at row.number ms ≡ length row.body) → octets_of (numbers xs) ms ≡ octets_in xs
+sum_of : (xs : List Row) (ms : List KeptMessage) → ((i : ℕ) (row : Row) → slice_get xs i ≡ Some row → octets_at row.number ms ≡ length row.body) → octets_of (numbers xs) ms ≡ octets_in xs
 sum_of [] ms h = refl
 sum_of (x ∷ xs) ms h = let here = h 0 x refl in let rest = sum_of xs ms (λ i row e. h (suc i) row e) in omega (arith, here, rest)
 
@@ -75,18 +76,24 @@ module _ (k : Kept) (s : State) (f : StandsFor k s) where
 pub delivered : (k : Kept) (s : State) (inbox : List (List ℕ)) (message : List ℕ) → StandsFor k s → inbox ≡ k.inbox ++ message ∷ [] → StandsFor (record k { inbox = inbox }) (record s { inbox = s.inbox ++ message ∷ [] })
 delivered k s inbox message f is = record { settings = f.settings; stands = f.stands; bodies = f.bodies; held_bodies = f.held_bodies; links = f.links; as_many = f.as_many; fsns = f.fsns; routing = f.routing; inbox = is ∙ ap (λ (i : List (List ℕ)). i ++ message ∷ []) f.inbox }
 
--- WHAT A UNIT BRINGS
+-- WHAT A UNIT BRINGS, if it's accepted
 module _ (parts : Parts) (s : State) (unit : SignalUnit) where
-  pub message_taken : (message : List ℕ) → message_brought unit ≡ Some message → StandsFor (kept_of parts) (record s { inbox = s.inbox ++ message ∷ [] }) → Obeys (takes (brought true unit) s) MessageTaken parts
+  pub unaccepted : StandsFor (kept_of parts) s → Obeys (takes (accepted_body false unit) s) NothingTaken parts
+  unaccepted stands = grind arith
+
+  pub nothing_brought : (accept : Bool) → Nothing ≡ brought_by unit → StandsFor (kept_of parts) s → Obeys (takes (accepted_body accept unit) s) NothingTaken parts
+  nothing_brought accept e stands = grind arith
+
+  pub message_taken : (message : List ℕ) → Message message ≡ brought_by unit → StandsFor (kept_of parts) (record s { inbox = s.inbox ++ message ∷ [] }) → Obeys (takes (accepted_body true unit) s) MessageTaken parts
   message_taken message e stands = grind arith
 
-  -- nothing where it has no body or isn't accepted
-  pub nothing_taken : (accept : Bool) → accept && is_msu unit ≡ false → StandsFor (kept_of parts) s → Obeys (takes (brought accept unit) s) Nothing parts
-  nothing_taken accept other stands = grind arith
+  pub order_obeyed : (order : Order) (took : Took) → OrderBrought order ≡ brought_by unit → Obeys (obeyed_by order s) took parts → Obeys (takes (accepted_body true unit) s) took parts
+  order_obeyed order took e o =
+      let is : (body : List ℕ) × (accepted_body true unit ≡ Some body) × ((service_indicator body == 0) ≡ true) × (order_of body ≡ Some order) = grind (arith, nat_tests) in
+      rw (is.1, is.2, is.3) o
 
-  -- a body that is no message of users is the management's
-  pub for_management : (took : Took) → is_msu unit ≡ true → message_brought unit ≡ None → Obeys (obeyed (order_brought unit) s) took parts → Obeys (takes (brought true unit) s) took parts
-  for_management took msu none o = grind (arith, nat_tests)
+  pub unread : Unread ≡ brought_by unit → StandsFor (kept_of parts) s → Obeys (takes (accepted_body true unit) s) Ignored parts
+  unread e stands = grind (arith, nat_tests)
 
 -- ROOM is kept.
 module _ (old new : Parts) (k : KeepsSpace old new) where
@@ -110,11 +117,13 @@ module _ (old new : Parts) (k : KeepsSpace old new) where
     each = λ link low. grind (arith, as_many, same_from (16 * n) 16, k.queues.rooms (Waiting link), k.queues.rooms (Held link), r.each link);
   }
 
-  pub spacious_still : (order : Option Order) → IfSome order (λ o. IsSpaciousFor o old) → IfSome order (λ o. IsSpaciousFor o new)
-  spacious_still None r = tt
-  spacious_still (Some (Coo link number)) r = ready_still link r
-  spacious_still (Some (Coa link number)) r = ready_still link r
-  spacious_still (Some (Eco link)) r = ready_still link r
-  spacious_still (Some (Eca link)) r = ready_still link r
-  spacious_still (Some (Cbd link code)) r = grind (arith, same_target old.links.items new.links.items k.phases, k.queues.message, k.bodies, k.queues.rooms (fate_on (target old.links.items)), r.message, r.body, r.place)
-  spacious_still (Some (Cba link code)) r = λ low. grind (arith, r, as_many, k.queues.rooms (Waiting (home_of code)), k.queues.backs code)
+  spacious_still : (order : Order) → IsSpaciousFor order old → IsSpaciousFor order new
+  spacious_still (Coo link number) r = ready_still link r
+  spacious_still (Coa link number) r = ready_still link r
+  spacious_still (Eco link) r = ready_still link r
+  spacious_still (Eca link) r = ready_still link r
+  spacious_still (Cbd link code) r = grind (arith, same_target old.links.items new.links.items k.phases, k.queues.message, k.bodies, k.queues.rooms (fate_on (target old.links.items)), r.message, r.body, r.place)
+  spacious_still (Cba link code) r = λ low. grind (arith, r, as_many, k.queues.rooms (Waiting (home_of code)), k.queues.backs code)
+
+  pub space_still : (brought : Brought) → HasSpaceFor brought old → HasSpaceFor brought new
+  space_still brought r = grind (arith, spacious_still, k.inbox)

@@ -1,5 +1,5 @@
 -- What is chosen to be sent, what a heard unit brings, and the space that it may want.
-use Rattle.std.specs.Prelude.{ℕ, ◌<◌, length, ◌≡◌, ◌+◌, ◌==◌, ◌≤◌, if◌then◌else◌, Option, Some, None, List, map, slice_get, slice_set}
+use Rattle.std.specs.Prelude.{ℕ, ◌<◌, length, ◌≡◌, ◌+◌, ◌==◌, ◌≤◌, if◌then◌else◌, Option, Some, None, map, slice_get, slice_set}
 use Rattle.l2_window.specs.declared.control.Choice.{Choice}
 use Rattle.l2_window.specs.declared.control.Choice.TheVariants.{Again, First, Fill}
 use Rattle.set_queues.specs.Buffers.{Lists, queue_at, KeepsRoom}
@@ -8,13 +8,15 @@ use Rattle.set_model.specs.Rows.{Waiting, Unacked, octets_in, unack, Acked, Back
 use Rattle.set_model.specs.State.{LinkState, State, window_of, with_link}
 use Rattle.l2_window.specs.Window.{most_unacked}
 use Rattle.std.specs.VecDeque.{deque_len, deque_capacity}
-use Rattle.std.specs.declared.collections.VecDeque.{VecDeque}
 use Rattle.set_model.specs.Changeover.{Order}
-use Rattle.l3_orders.specs.Grammar.{order_of}
+use Rattle.set_moves.specs.Room.{IsSpaciousFor}
+pub use Rattle.set_traffic.specs.declared.hearing.Brought.{Brought}
+pub use Rattle.set_traffic.specs.declared.hearing.Brought.TheVariants.{Nothing, Message, Order as OrderBrought, Unread}
+use Rattle.l3_orders.specs.Grammar.{IsOrder, order_of}
 use Rattle.set_queues.specs.Queues.{QueuesState}
 use Rattle.set_queues.specs.Sending.{reach}
 use Rattle.set_queues.specs.Settling.{on}
-use Rattle.set_model.specs.Step.{SignalUnit, Fisu, Lssu, Msu}
+use Rattle.set_model.specs.Step.{SignalUnit, Msu}
 use Rattle.set_moves.specs.Agreement.{Kept, StandsFor}
 use Rattle.set_moves.specs.declared.parts.Parts.{Parts}
 
@@ -35,22 +37,22 @@ IsThere First number q =
     (0 < length (queue_at (Waiting number) q)) × (length (queue_at (Unacked number) q) < most_unacked)
 IsThere Fill number q = Unit {0}
 
--- the order that a unit brings, if it brings one
-abbrev pub order_brought : SignalUnit → Option Order
-order_brought (Fisu head) = None
-order_brought (Lssu head status) = None
-order_brought (Msu head body) = order_of body.items
+-- what a body of the management is
+abbrev pub management_brought : Option Order → Brought
+management_brought (Some order) = OrderBrought order
+management_brought None = Unread
 
--- the body that a unit brings for users, if it brings one
-abbrev pub message_brought : SignalUnit → Option (List ℕ)
-message_brought (Fisu head) = None
-message_brought (Lssu head status) = None
-message_brought (Msu head body) = if service_indicator body.items == 0 then None else Some body.items
+-- what a unit brings
+abbrev pub brought_by : SignalUnit → Brought
+brought_by (Msu head body) =
+    if service_indicator body.items == 0 then management_brought (order_of body.items) else Message body.items
+brought_by _ = Nothing
 
--- there is a place in the inbox for it
-abbrev pub HasPlace : {X Z : Type 0} → Option (List ℕ) → VecDeque X Z → Type 0
-HasPlace None inbox = Unit {0}
-HasPlace (Some body) inbox = deque_len inbox < deque_capacity inbox
+-- there is space for it: a place in the inbox, or room for what it moves
+abbrev pub HasSpaceFor : Brought → Parts → Type 0
+HasSpaceFor (Message body) parts = deque_len parts.inbox < deque_capacity parts.inbox
+HasSpaceFor (OrderBrought order) parts = (IsOrder order) × (IsSpaciousFor order parts)
+HasSpaceFor _ parts = Unit {0}
 
 -- so many stand unacknowledged on the link up to this FSN
 pub record ReachesTo (fsn count number : ℕ) (q : Lists) : Type 0 where

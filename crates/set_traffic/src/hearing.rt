@@ -1,12 +1,11 @@
 //! What a heard unit does to a set.
 ghost use Rattle.std.specs.Prelude.{◌≡◌, ◌<◌, ◌^◌, false, length, None, IsOk, IfOk, IfSome, OnErr, OnOk};
 ghost use Rattle.l2_units.specs.Grammar.{head_of as header_of};
-ghost use Rattle.l3_orders.specs.Grammar.{IsOrder};
 ghost use Rattle.set_model.specs.Control.{part_of};
 ghost use Rattle.set_model.specs.State.{State, window_of};
-ghost use Rattle.set_model.specs.Step.{in_service, heard, is_msu, brought, takes, after_control};
+ghost use Rattle.set_model.specs.Step.{SignalUnit, in_service, heard, is_msu, brought as accepted_body, takes, after_control};
 ghost use Rattle.set_moves.specs.Agreement.{Agrees, Holds};
-ghost use Rattle.set_traffic.specs.Traffic.{Acknowledges, HasPlace, KeepsQueues, KeepsSpace, ReachesTo, order_brought, message_brought};
+ghost use Rattle.set_traffic.specs.Traffic.{Acknowledges, HasSpaceFor, KeepsQueues, KeepsSpace, ReachesTo, brought_by};
 ghost use Rattle.set_moves.specs.Parts.{Answers, AreCounted, IsWhole, OfStates, BecomesAt, Obeys, kept_of};
 ghost use Rattle.set_moves.specs.Room.{IsSpaciousFor, SameButRoom};
 
@@ -47,11 +46,9 @@ pub fn hear(
         };
         return Ok(());
     }
-    let order = order_in(unit);
-    let message = make_message_space(parts, unit)?;
-    make_room_for(parts, order)?;
+    let brought = make_space(parts, unit)?;
     let part = control_hears(parts, number, unit);
-    let took = take_in(parts, part.accept, unit, order, message);
+    let took = take_in(parts, part.accept, brought);
     let report = Report {
         acked: part.acked,
         took,
@@ -63,41 +60,57 @@ pub fn hear(
     Ok(())
 }
 
-/// Takes a place in the inbox for the message that the unit brings users, if it brings one, and memory for its body.
-fn make_message_space(parts: &mut Parts, unit: &Unit) -> Result<Option<HeardBody>, AllocError>
-    ensures message { IfOk result (λ message. message ≡ message_brought unit.now) }
-    ensures inbox { OnOk result (HasPlace (message_brought unit.now) parts.new.inbox) }
+/// What a unit brings.
+#[derive(Drop)]
+pub(crate) enum Brought {
+    /// No body.
+    Nothing,
+    /// A message for users, as the inbox keeps it.
+    Message(HeardBody),
+    /// An order of the management.
+    Order(Order),
+    /// A body of the management that is no order.
+    Unread,
+}
+
+/// What the unit brings, once there is space for it: a message has its memory and a place in the inbox, an order room
+/// for what it moves. Nothing else changes, also where memory is refused.
+fn make_space(parts: &mut Parts, unit: &Unit) -> Result<Brought, AllocError>
+    requires whole { IsWhole parts.old }
+    ensures brought { IfOk result (λ brought. brought ≡ brought_by unit.now) }
+    ensures space { IfOk result (λ brought. HasSpaceFor brought parts.new) }
     ensures same { kept_of parts.new ≡ kept_of parts.old }
-    ensures parts { parts.new ≡ record parts.old { inbox = parts.new.inbox } }
+    ensures links { parts.new.links ≡ parts.old.links }
     ensures none { is_msu unit.now ≡ false → IsOk result }
 {
     let Unit::Msu { body, .. } = unit else {
-        return Ok(None);
+        return Ok(Brought::Nothing);
     };
-    if service_indicator(body.as_slice()) == 0 {
-        return Ok(None);
+    if service_indicator(body.as_slice()) != 0 {
+        parts.inbox.reserve(1)?;
+        let message = HeardBody::new(*parts.links.allocator(), body)?;
+        return Ok(Brought::Message(message));
     }
-    parts.inbox.reserve(1)?;
-    let message = HeardBody::new(*parts.links.allocator(), body)?;
-    Ok(Some(message))
+    let Ok(order) = read_order(body.as_slice()) else {
+        return Ok(Brought::Unread);
+    };
+    make_room_for(parts, order)?;
+    Ok(Brought::Order(order))
 }
 
-/// Takes room for what an order moves, if there is one, and for the one that answers it. Nothing else changes, also
-/// where memory is refused.
-fn make_room_for(parts: &mut Parts, order: Option<Order>) -> Result<(), AllocError>
+/// Takes room for what an order moves, and for the one that answers it. Nothing else changes, also where memory is refused.
+fn make_room_for(parts: &mut Parts, order: Order) -> Result<(), AllocError>
     requires whole { IsWhole parts.old }
-    ensures room { OnOk result (IfSome order (λ order. IsSpaciousFor order parts.new)) }
+    ensures room { OnOk result (IsSpaciousFor order parts.new) }
     ensures same { SameButRoom parts.old parts.new }
-    ensures none { order ≡ None → IsOk result }
 {
     match order {
-        None => Ok(()),
-        Some(Order::Cbd { .. }) => {
+        Order::Cbd { .. } => {
             let fate = fate_on(target_of(&parts.links));
             make_room(parts, fate)
         }
         // what waits for the code's acknowledgement goes home, if there is such a link
-        Some(Order::Cba { code, .. }) => {
+        Order::Cba { code, .. } => {
             let home = home_of_code(code);
             if usize::from(home) >= parts.links.len() {
                 return Ok(());
@@ -107,28 +120,15 @@ fn make_room_for(parts: &mut Parts, order: Option<Order>) -> Result<(), AllocErr
             parts.queues.reserve_at(Fate::Waiting { link: home }, back)
         }
         // what stands on the link goes elsewhere, if there is such a link, and an order with it
-        Some(
-            Order::Coo { link, .. }
-            | Order::Coa { link, .. }
-            | Order::Eco { link }
-            | Order::Eca { link },
-        ) => {
+        Order::Coo { link, .. }
+        | Order::Coa { link, .. }
+        | Order::Eco { link }
+        | Order::Eca { link } => {
             if usize::from(link) >= parts.links.len() {
                 return Ok(());
             }
             make_room_beside(parts, link, 1)
         }
-    }
-}
-
-/// The order that the unit's body stands for, if it brings one.
-fn order_in(unit: &Unit) -> Option<Order>
-    ensures value { result ≡ order_brought unit.now }
-    ensures fits { IfSome result IsOrder }
-{
-    match unit {
-        Unit::Msu { body, .. } => read_order(body.as_slice()).ok(),
-        _ => None,
     }
 }
 
@@ -179,37 +179,24 @@ fn has_message(unit: &Unit) -> bool
     matches!(unit, Unit::Msu { .. })
 }
 
-/// Where the unit's body goes, if it's accepted: to the users' inbox, or if it's the management's, to
-/// the rules of changeover. `message` is the body that the inbox keeps, and `order` is what it stands for in the rules.
-fn take_in(
-    parts: &mut Parts,
-    accept: bool,
-    unit: &Unit,
-    order: Option<Order>,
-    message: Option<HeardBody>,
-) -> Took
-    requires order { order ≡ order_brought unit.now }
-    requires fits { IfSome order IsOrder }
+/// Where what a unit brought goes, if it's accepted: to the users' inbox, or to the rules of changeover.
+fn take_in(parts: &mut Parts, accept: bool, brought: Brought) -> Took
     requires holds { Holds (kept_of parts.old) }
     requires counted { AreCounted (2 ^ 61) parts.old.links.items }
-    requires message { message ≡ message_brought unit.now }
-    requires inbox { HasPlace (message_brought unit.now) parts.old.inbox }
-    requires room { IfSome order (λ order. IsSpaciousFor order parts.old) }
-    ensures { (s : State) → Agrees (kept_of parts.old) s
-        → Obeys (takes (brought accept unit.now) s) result parts.new }
+    requires space { HasSpaceFor brought parts.old }
+    ensures { (unit : SignalUnit) (s : State) → brought ≡ brought_by unit → Agrees
+        (kept_of parts.old) s → Obeys (takes (accepted_body accept unit) s) result parts.new }
 {
     if !accept {
         return Took::Nothing;
     }
-    if !has_message(unit) {
-        return Took::Nothing;
-    }
-    if let Some(message) = message {
-        parts.inbox.push_back_reserved(message);
-        return Took::Message;
-    }
-    match order {
-        Some(order) => obey(parts, order),
-        None => Took::Ignored,
+    match brought {
+        Brought::Nothing => Took::Nothing,
+        Brought::Message(message) => {
+            parts.inbox.push_back_reserved(message);
+            Took::Message
+        }
+        Brought::Order(order) => obey(parts, order),
+        Brought::Unread => Took::Ignored,
     }
 }

@@ -9,7 +9,7 @@ use Rattle.set_moves.specs.Agreement.{StandsFor, Agrees}
 use Rattle.set_moves.specs.Parts.{Up, kept_of}
 use Rattle.set_moves.proofs.Links.{whole_of, IsHere, is_in, served}
 use Rattle.set_model.proofs.SoundLink.{hears_sound}
-use Rattle.set_traffic.proofs.Traffic.{queue_there, spacious_still}
+use Rattle.set_traffic.proofs.Traffic.{queue_there, space_still}
 use Rattle.set_traffic.proofs.hearing.hear.Goals as goal
 use Rattle.set_traffic.proofs.hearing.hear.Goals.{After-control_hears-part}
 
@@ -18,8 +18,8 @@ module _ (c : After-control_hears-part) (s : State) (a : Agrees (kept_of c.args.
   at : IsHere s.links c.args.number Up
   at = is_in c.args.parts.now s c.args.number Up a c.in_default.ensures.here
 
-  stood : StandsFor (kept_of c.make_room_for.new.parts) s
-  stood = rw (c.in_ok-make_room_for.ensures.same.kept, c.in_ok-message.ensures.same) a.stands
+  stood : StandsFor (kept_of c.make_space.new.parts) s
+  stood = rw c.in_ok-brought.ensures.same a.stands
 
   told : c.control_hears-part.result ≡ part_of at.link.control (window_of c.args.number at.link s.rows) (header_in c.args.unit.now) (is_msu c.args.unit.now)
   told = c.control_hears-part.ensures.part s at.link at.there stood
@@ -30,20 +30,17 @@ module _ (c : After-control_hears-part) (s : State) (a : Agrees (kept_of c.args.
     sound = subst (λ part. IsSound (after_control part (header_in c.args.unit.now) c.args.unit.now c.args.number s at.link)) (sym told) (hears_sound c.args.number at.link s (record { there = at.there; phase_is = at.phase_is }) a.sound c.args.unit.now);
   }
 
-pub make_room_for-requires : goal.make_room_for-requires
-make_room_for-requires c = record { whole = whole_of c.make_message_space.new.parts (rw c.in_ok-message.ensures.same c.requires.holds) }
+pub make_space-requires : goal.make_space-requires
+make_space-requires c = record { whole = whole_of c.args.parts.now c.requires.holds }
 
 pub control_hears-part-requires-clause-queue : goal.control_hears-part-requires-clause-queue
-control_hears-part-requires-clause-queue c = queue_there c.make_room_for.new.parts c.args.number (rw (c.in_ok-make_room_for.ensures.same.kept, c.in_ok-message.ensures.same) c.requires.holds) (rw (c.in_ok-make_room_for.ensures.same.links, c.in_ok-message.ensures.parts) c.in_default.ensures.here.known)
+control_hears-part-requires-clause-queue c = queue_there c.make_space.new.parts c.args.number (rw c.in_ok-brought.ensures.same c.requires.holds) (rw c.in_ok-brought.ensures.links c.in_default.ensures.here.known)
 
 pub take_in-took-requires-clause-holds : goal.take_in-took-requires-clause-holds
 take_in-took-requires-clause-holds c = (_, after (goal.at.take_in-took-requires-clause-holds c).After-control_hears-part c.requires.holds.0 c.requires.holds.1)
 
-pub take_in-took-requires-clause-inbox : goal.take_in-took-requires-clause-inbox
-take_in-took-requires-clause-inbox c = rw (c.control_hears-part.ensures.keeps.inbox, c.in_ok-make_room_for.ensures.same.inbox) c.in_ok-message.ensures.inbox
-
-pub take_in-took-requires-clause-room : goal.take_in-took-requires-clause-room
-take_in-took-requires-clause-room c = spacious_still c.make_room_for.new.parts c.control_hears-part.new.parts c.control_hears-part.ensures.keeps c.order_in-order.result c.in_ok-make_room_for.ensures.room
+pub take_in-took-requires-clause-space : goal.take_in-took-requires-clause-space
+take_in-took-requires-clause-space c = space_still c.make_space.new.parts c.control_hears-part.new.parts c.control_hears-part.ensures.keeps c.in_ok-brought.brought c.in_ok-brought.ensures.space
 
 -- a unit that is no LSSU is the control's
 is_controls : (unit : SignalUnit) (n : ℕ) (s : State) (link : LinkState) → ((head : Header) (status : Status) → unit ≡ Lssu head status → ⊥) → heard_of unit n s link ≡ controls unit n s link
@@ -59,7 +56,7 @@ returns-clause-ok c = λ s a.
     let unit = c.args.unit.now in
     let so = (goal.at.returns-clause-ok c).After-control_hears-part in
     let i = at so s a in
-    let o = c.take_in-took.ensures _ (after so s a) in
+    let o = c.take_in-took.ensures unit _ c.in_ok-brought.ensures.brought (after so s a) in
     served s n (heard_of unit n s) _ c.take_in-took.new.parts i
     (rw (is_controls unit n s i.link (λ head status e. c.in_default-unit.not-Lssu head status e), ← told so s a) (record { answer_is = ap HeardBack (reported c.control_hears-part.result c.take_in-took.result ∙ ap (report_of c.control_hears-part.result) o.took_is); stands = o.stands }))
 
