@@ -20,6 +20,13 @@ use Rattle.set_moves.specs.declared.parts.Parts.{Parts}
 use Rattle.set_step.specs.Answering.{AnswersFor, wants_none}
 use Rattle.set_moves.specs.Parts.{Answers, AreCounted, kept_of}
 use Rattle.set_queues.proofs.Standing.{occurs_here}
+use Rattle.std.proofs.Common.{◌∙◌}
+use Rattle.set_model.specs.Rows.{Waiting}
+use Rattle.set_model.proofs.Settling.{settled_empty}
+use Rattle.set_moves.specs.Parts.{Settled, IsHere}
+use Rattle.set_moves.specs.Room.{SameButRoom}
+use Rattle.set_moves.proofs.Links.{agrees_same, is_in, whole_of}
+use Rattle.set_traffic.proofs.Traffic.{queue_there}
 
 -- THE UNACKNOWLEDGED MESSAGE at a place of a link, if there is one: its number is the queue's, and its FSN follows the last one
 pub unacked_is : (k : Kept) (s : State) (n place : ℕ) (o : Option ℕ) → StandsFor k s → n < length k.links → slice_get (queue_at (Unacked n) k.lists) place ≡ o → unacked_in s n place ≡ option_map (λ number. record { number = number; fsn = (last_at n k.lists + 1 + place) % 128 }) o
@@ -49,6 +56,24 @@ none_stands q sound fate = grind (arith, none_given (queue_at fate q), given_all
 pub opened : (config : SetConfig) (parts : Parts) → parts.config ≡ config → parts.links.items ≡ replicate config.links (new_link config.method) → parts.queues.lists.links ≡ replicate config.links no_lists → AreSound parts.queues.lists parts.queues.messages → parts.queues.messages ≡ [] → parts.bodies.items ≡ [] → parts.routes ≡ new_routing config.links → parts.inbox.items ≡ []
     → Agrees (kept_of parts) (new_state config)
 opened config parts c links lists sound messages bodies routes inbox = grind (arith, nat_tests, none_stands parts.queues.lists (rw messages at sound), length-replicate, replicated, opened_sound (settings_of config))
+
+-- A LINK THAT COMES UP
+-- a settled link is there, and nothing stands on it, once room was taken
+pub record IsEmpty (parts : Parts) (n : ℕ) : Type 0 where
+  pub known : n < length parts.queues.lists.links
+  pub routed : n < parts.routes.links
+  pub unacked : queue_at (Unacked n) parts.queues.lists ≡ []
+  pub unsent : queue_at (Waiting n) parts.queues.lists ≡ []
+
+pub is_empty : (old parts : Parts) (n : ℕ) → Holds (kept_of old) → IsHere old.links.items n Settled → SameButRoom old parts → IsEmpty parts n
+is_empty old parts n holds h same =
+    let a = agrees_same old parts holds.0 same holds.1 in
+    let here : IsHere parts.links.items n Settled = rw same.links h in
+    let i = is_in parts holds.0 n Settled a here in
+    let e = settled_empty holds.0 n i.link a.sound i.there i.phase_is in
+    let routed = (whole_of parts (holds.0, a)).routed in
+    let low = here.known in
+    record { known = queue_there parts n (holds.0, a) low; routed = omega (arith, routed, low); unacked = a.stands.stands.queues (Unacked n) ∙ ap numbers e.unack_none; unsent = a.stands.stands.queues (Waiting n) ∙ ap numbers e.wait_none }
 
 -- AFTER AN EVENT
 

@@ -126,6 +126,7 @@ fn take_down(
 /// was parked waits for it.
 ///
 /// Room in its queue is taken first, so a fault leaves everything as it was.
+#[tactic(auto, using(crate::proofs::Kept::is_empty, set_queues::proofs::Soundness::last_links))]
 fn bring_up(parts: &mut Parts, number: u8, answer: &mut Answer) -> Result<(), AllocError>
     requires holds { Holds (kept_of parts.old) }
     ensures ok { OnOk result (Answers parts.old parts.new answer.new
