@@ -1,4 +1,4 @@
-//! What is asked of a link set, what it answers, and the entries of its history.
+//! What is asked of a link set, what it answers, why it can't, and the entries of its history.
 //!
 //! Plain data: this crate decides nothing, waits for nothing and knows no rule of the standard but
 //! the lengths and ranges that its types keep. A body is a list of octets to every contract, so two
