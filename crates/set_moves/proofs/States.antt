@@ -1,6 +1,6 @@
 -- WHAT IS KEPT STANDS FOR THE STATE, before and after each small change.
-use Rattle.std.proofs.Common.{refl, arith, ◌≡◌, ◌∙◌, ap, sym, subst, ◌<◌, [], ◌∷◌, length, ℕ, zero, suc, ◌==◌, Bool, true, false, List, ◌++◌, Option, Some, take, drop, cond, ◌≢◌, ◌+◌, ◌%◌, ◌≤◌, slice_get, slice_set, ◌-◌, option_map, not, map-id}
-use Rattle.std.proofs.lemmas.Bool.{cases_eq, le-leb, lt-leb}
+use Rattle.std.proofs.Common.{refl, arith, ◌≡◌, ◌∙◌, ap, sym, subst, ◌<◌, [], ◌∷◌, length, ℕ, zero, suc, ◌==◌, Bool, true, false, List, ◌++◌, Option, Some, take, drop, cond, ◌≢◌, ◌+◌, ◌%◌, ◌≤◌, slice_get, slice_set, ◌-◌, option_map, not, map-id, nat_le}
+use Rattle.std.proofs.lemmas.Bool.{cases_eq}
 use Rattle.std.proofs.lemmas.List.{length-append, map-append, length-map}
 use Rattle.std.proofs.lemmas.List.Folds.{find-append}
 use Rattle.std.proofs.lemmas.Bool.Decides.{nat_tests}
@@ -236,19 +236,15 @@ module _ (old new : Kept) (lists : Lists) (messages : List Message) (bodies : Li
   pub becomes : Becoming old new lists messages bodies links routing → StandsFor (record old { lists = lists; messages = messages; bodies = bodies; links = links; routing = routing }) s → StandsFor new s
   becomes b f = grind arith
 
--- WHAT REACHED THE FAR END: how far an FSN reaches, as the queues and as the rows tell it
-module _ (k : Kept) (s : State) (n fsn : ℕ) (link : LinkState) (f : StandsFor k s) (there : slice_get s.links n ≡ Some link) where
+-- WHAT REACHED THE FAR END, as the queues and as the rows tell it
+pub record Reaches (k : Kept) (s : State) (n fsn : ℕ) (link : LinkState) : Type 0 where
   pub reach_is : reach n fsn k.lists ≡ reached_by fsn n link s.rows
-  reach_is = ap (λ (last : ℕ). (fsn + 128 - last) % 128) (f.fsns n link there)
+  pub reasonable : nat_le (reach n fsn k.lists) (length (queue_at (Unacked n) k.lists)) ≡ is_reasonable fsn n link s.rows
 
-  pub sent_count : length (queue_at (Unacked n) k.lists) ≡ length (unack n s.rows)
-  sent_count = ap length (f.stands.queues (Unacked n)) ∙ length-map (unack n s.rows) (λ (row : Row). row.number)
-
-  pub is_reached : reach n fsn k.lists ≤ length (queue_at (Unacked n) k.lists) → is_reasonable fsn n link s.rows ≡ true
-  is_reached h = le-leb (reached_by fsn n link s.rows) (length (unack n s.rows)) (let a = reach_is in let b = sent_count in omega (arith, a, b, h))
-
-  pub is_unreached : (reach n fsn k.lists ≤ length (queue_at (Unacked n) k.lists) → ⊥) → is_reasonable fsn n link s.rows ≡ false
-  is_unreached h = lt-leb (reached_by fsn n link s.rows) (length (unack n s.rows)) (let a = reach_is in let b = sent_count in omega (arith, a, b, h))
+pub reaches : (k : Kept) (s : State) (n fsn : ℕ) (link : LinkState) → StandsFor k s → slice_get s.links n ≡ Some link → Reaches k s n fsn link
+reaches k s n fsn link f there =
+    let is : reach n fsn k.lists ≡ reached_by fsn n link s.rows = ap (λ (last : ℕ). (fsn + 128 - last) % 128) (f.fsns n link there) in
+    record { reach_is = is; reasonable = ap (λ (r : ℕ). nat_le r (length (queue_at (Unacked n) k.lists))) is ∙ ap (nat_le (reached_by fsn n link s.rows)) (ap length (f.stands.queues (Unacked n)) ∙ length-map (unack n s.rows) (λ (row : Row). row.number)) }
 
 abbrev pub IsOrdered : ℕ → List Row → Type 0
 IsOrdered n rows = IsInOrder n rows × IsHeldLast n rows
@@ -269,21 +265,3 @@ module _ (n : ℕ) (link : LinkState) (s : State) (there : slice_get s.links n �
   is_judged Unknown = record { ordered = sent_up Emergency; there = there }
   is_judged Unanswered = record { ordered = both_up NoAnswer; there = there }
   is_judged (Upto fsn) = let g = acked_rows n (reached_by fsn n link s.rows) s.rows in let given_up = both_up Unreasonable in grind (arith, get_set_same, within, g.order_kept o.0, g.last_kept o.1)
-
--- A LINK'S CONTROL GOES ON
-pub link_then : (old new : Kept) (s : State) (n : ℕ) (link link' : LinkState) → StandsFor old s → slice_get s.links n ≡ Some link → link'.acked ≡ link.acked → Becoming old new old.lists old.messages old.bodies (slice_set s.links n link') s.routing
-    → StandsFor new (with_link n link' s)
-link_then old new s n link link' f there e b = becomes old new _ _ _ _ _ _ b (link_for old s n link link' s.routing f there e)
-
--- A FIRST SENDING
-pub sent_then : (old new : Kept) (s : State) (n message : ℕ) (link : LinkState) → StandsFor old s → IsInOrder n s.rows → slice_get s.links n ≡ Some link → slice_get (queue_at (Waiting n) old.lists) 0 ≡ Some message
-    → Becoming old new (first_sent n message old.lists) (restood (message ∷ []) (Unacked n) old.messages) old.bodies s.links old.routing
-    → StandsFor new (record s { rows = turned (is_waiting n) (Unacked n) 1 s.rows })
-sent_then old new s n message link f order there first b =
-    becomes old new _ _ _ _ _ _ b (subst (λ links. StandsFor (record old { lists = first_sent n message old.lists; messages = restood (message ∷ []) (Unacked n) old.messages; links = links }) (record s { rows = turned (is_waiting n) (Unacked n) 1 s.rows })) f.links (sent_for old s n message f order (has_queues old s n link f there) first))
-
--- A LINK COMES UP
-pub risen_then : (old new : Kept) (s : State) (n : ℕ) (link link' : LinkState) (routing : Routing) → StandsFor old s → slice_get s.links n ≡ Some link → link'.acked ≡ 0
-    → Becoming old new (passed Parked (Waiting n) (with_last n 127 old.lists)) (restood (queue_at Parked old.lists) (Waiting n) old.messages) old.bodies (slice_set s.links n link') routing
-    → StandsFor new (record s { rows = moved is_parked (all_with (Waiting n)) s.rows; links = slice_set s.links n link'; routing = routing })
-risen_then old new s n link link' routing f there e b = becomes old new _ _ _ _ _ _ b (risen_for old s n link link' routing f there e)

@@ -7,7 +7,7 @@ use Rattle.set_model.proofs.SoundLink.{queues}
 use Rattle.set_model.proofs.Walk.{IsAt}
 use Rattle.set_moves.specs.Agreement.{StandsFor}
 use Rattle.set_moves.specs.Parts.{Up, Down, Settled, kept_of}
-use Rattle.set_moves.proofs.Links.{IsHere, IsLeft, ignores, obeyed_at, here_room, found, stands_for, whole_of, has_room, has_room_left, beside_out, out_at, room_after, is_left}
+use Rattle.set_moves.proofs.Links.{IsHere, IsLeft, ignores, obeyed_at, here_room, found, stands_for, whole_of, has_room_left, beside_out, out_at, room_after, is_left}
 use Rattle.set_moves.proofs.changeover.change_over.Goals as goal
 use Rattle.set_moves.proofs.changeover.change_over.Goals.{After-leave}
 
@@ -78,7 +78,8 @@ reply-order-requires-clause-counted c =
 pub queue-requires-in-Some-Settled-clause-room : goal.queue-requires-in-Some-Settled-clause-room
 queue-requires-in-Some-Settled-clause-room c =
     let h = rw c.in-Some-Settled.field-0-is at c.in-Some-Settled.ensures.here in
-    has_room c.args.number c.args.parts.now _ (c.requires.room h.known) (grind (arith, beside_out, out_at c.args.parts.now.links.items c.args.number Settled h refl, h.known))
+    let room = c.requires.room h.known in
+    grind (arith, beside_out, out_at c.args.parts.now.links.items c.args.number Settled h refl, h.known, room)
 
 pub returns-in-Some-Settled : goal.returns-in-Some-Settled
 returns-in-Some-Settled c =

@@ -11,7 +11,7 @@ use Rattle.set_moves.specs.Agreement.{Holds}
 use Rattle.set_moves.specs.Parts.{Settled, IsHere, kept_of}
 use Rattle.set_moves.specs.Room.{SameButRoom}
 use Rattle.set_moves.proofs.Links.{agrees_same, is_in, whole_of}
-use Rattle.set_moves.proofs.States.{risen_then}
+use Rattle.set_moves.proofs.States.{becomes, risen_for}
 use Rattle.set_traffic.proofs.Traffic.{queue_there}
 use Rattle.set_step.proofs.step.bring_up.Goals as goal
 
@@ -58,7 +58,7 @@ returns-clause-ok c = λ s a.
     let i = is_in c.args.parts.now s n Settled a c.in_default.ensures.here in
     rw (i.there, i.phase_is) (record {
       answer_is = refl;
-      stands = risen_then (kept_of roomy) _ s n i.link (risen_link s.settings.method) (raised n s.routing) f i.there refl (record {
+      stands = becomes (kept_of roomy) _ _ _ _ _ _ _ (record {
         settings_same = refl;
         lists_are = c.divert.ensures.lists ∙ ap (passed Parked (Waiting n)) c.reset.ensures.lists;
         messages_are = rw (c.divert.ensures.messages, c.reset.ensures.lists, c.reset.ensures.same.0) refl;
@@ -66,5 +66,5 @@ returns-clause-ok c = λ s a.
         links_are = rw (f.links, c.from.ensures, c.rise.ensures, ← f.settings) refl;
         routing_is = c.raise.ensures ∙ ap (raised n) f.routing;
         inbox_same = refl;
-      });
+      }) (risen_for (kept_of roomy) s n i.link (risen_link s.settings.method) (raised n s.routing) f i.there refl);
     })
