@@ -75,12 +75,6 @@ message_of body fate = record { fate = fate; kind = kind_of body; octets = lengt
 pub last_stays : (f : Fate) (xs : List ℕ) (q : Lists) (n : ℕ) → last_at n (with_queue f xs q) ≡ last_at n q
 last_stays f xs q n = grind (arith, nat_tests, cases_eq, updated_same, updated_other)
 
-last_passed : (from to : Fate) (q : Lists) (n : ℕ) → last_at n (passed from to q) ≡ last_at n q
-last_passed from to q n = search last_stays
-
-last_settled : (l : ℕ) (to : Fate) (q : Lists) (n : ℕ) → last_at n (settled l to q) ≡ last_at n q
-last_settled l to q n = search last_passed
-
 last_here : (l fsn : ℕ) (q : Lists) → l < length q.links → last_at l (with_last l fsn q) ≡ fsn
 last_here l fsn q h = let x = present q.links l h in ap number_in (updated_there (λ (z : LinkLists). record z { last = fsn }) q.links l x.0 x.1)
 
@@ -193,7 +187,7 @@ settled_for k s n target link link' routing f order last there e aside apart =
     let stood : is_standing to ≡ true = grind arith in
     let ns = on_numbers n k.lists k.messages s.rows f.stands order last in
     link_and_queues_for k s f _ _ _ (shifts_stand f.stands (moved_shifts (is_on n) to s.rows f.stands.numbered off stood) (λ g t. grind (arith, nat_tests, settled_at n to k.lists aside g t, f.stands.queues to, ns)) ns) (simp (length-updated, links_stay)) routing routing refl n link'
-    (λ m ne. last_settled n to k.lists m) (last_settled n to k.lists n ∙ still k s n link link' f there e)
+    (λ m ne. search last_stays) (search last_stays ∙ still k s n link link' f there e)
 
 -- ALL OF A PLACE WAIT FOR A LINK: what was parked, or stood back by a code.
 passed_moves : (from to : Fate) (test : Fate → Bool) (q : Lists) (ms : List Message) (rows : List Row) → Stands q ms rows → is_standing from ≡ true → IsKnown from q → IsKnown to q → IsQueued to → is_standing to ≡ true → test to ≡ false → ((g : Fate) → is_standing g ≡ true → test g ≡ same_fate from g) → rows_at from rows ≡ standing test rows
@@ -212,13 +206,13 @@ risen_for k s n link link' routing f there e =
     let inner : n < length reset.links = omega (arith, known, last_links n 127 k.lists) in
     let stands : Stands reset k.messages s.rows = record { queues = λ g. queue_last g n 127 k.lists ∙ f.stands.queues g; fates = f.stands.fates; labels = f.stands.labels; count = f.stands.count; numbered = f.stands.numbered } in
     link_and_queues_for k s f _ _ _ (passed_moves Parked (Waiting n) is_parked reset k.messages s.rows stands refl tt inner tt refl refl (λ g t. grind arith) refl) (simp length-updated) routing routing refl n link'
-    (λ m ne. last_passed Parked (Waiting n) reset m ∙ last_there n 127 k.lists m ne) (last_passed Parked (Waiting n) reset n ∙ last_here n 127 k.lists known ∙ sym (ap (λ (a : ℕ). (a + 127) % 128) e))
+    (λ m ne. search last_stays ∙ last_there n 127 k.lists m ne) (search last_stays ∙ last_here n 127 k.lists known ∙ sym (ap (λ (a : ℕ). (a + 127) % 128) e))
 
 -- what stood back by a code waits for its home
 pub released_for : (k : Kept) (s : State) (c l : ℕ) (routing : Routing) → StandsFor k s → c < length k.lists.back → l < length k.lists.links
     → StandsFor (record k { lists = passed (Back c) (Waiting l) k.lists; messages = restood (queue_at (Back c) k.lists) (Waiting l) k.messages; routing = routing }) (record s { rows = moved (is_back c) (all_with (Waiting l)) s.rows; routing = routing })
 released_for k s c l routing f code known =
-    queues_for k s f _ _ _ (passed_moves (Back c) (Waiting l) (is_back c) k.lists k.messages s.rows f.stands refl code known tt refl refl (λ g t. grind (arith, nat_tests)) refl) (simp length-updated) routing routing refl (λ m. last_passed (Back c) (Waiting l) k.lists m)
+    queues_for k s f _ _ _ (passed_moves (Back c) (Waiting l) (is_back c) k.lists k.messages s.rows f.stands refl code known tt refl refl (λ g t. grind (arith, nat_tests)) refl) (simp length-updated) routing routing refl (λ m. search last_stays)
 
 -- What is kept after a call stands for what became of the state.
 

@@ -30,6 +30,3 @@ returns-in-Unknown-clause-stands c = λ s link there f. rw c.in-Unknown.is (beco
 
 pub returns-in-Unknown-clause-fewer : goal.returns-in-Unknown-clause-fewer
 returns-in-Unknown-clause-fewer c = search (rules, cleared_less, on_less)
-
-pub returns-in-Unknown-clause-whole : goal.returns-in-Unknown-clause-whole
-returns-in-Unknown-clause-whole c = let many = links_stay (Unacked c.args.number) [] c.args.parts.now.queues.lists in grind arith
