@@ -3,18 +3,18 @@ use Rattle.std.proofs.Common.{arith, ◌≡◌, ◌∙◌, ap, sym, ◌<◌, ℕ
 use Rattle.std.proofs.lemmas.Option.{slice_get-get_or, slice_get_past}
 use Rattle.set_moves.specs.Parts.{Link, Parts, kept_of, AtLink, IsOut, Gives, Obeys, Phase, Down, IsWhole, IsCounted, AreCounted}
 use Rattle.std.proofs.lemmas.List.{length-map, length-drop}
-use Rattle.set_moves.specs.Agreement.{StandsFor, Agrees, Holds}
+use Rattle.set_moves.specs.Agreement.{Agrees, Holds}
 use Rattle.set_model.specs.State.{LinkState, State, has_phase_up, target}
 use Rattle.set_model.proofs.Lists.{map_at, map_set, map_set_same, same_at, at_map, present, target_up, within, set_same, at_set, get_set_same, length_set}
 use Rattle.std.proofs.lemmas.Bool.{ne_eqb}
 use Rattle.std.proofs.lemmas.Simd.{map-map}
 use Rattle.set_queues.specs.Buffers.{Fate, Lists, IsKnown, Waiting, Unacked, Held, TakesRoom, same_fate, with_queue, room_at, is_standing, queue_at}
 use Rattle.set_queues.proofs.Soundness.{IsAside, aside_of, room_left, on_length, queue_last}
-use Rattle.set_model.specs.Changeover.{fate_on, Obeyed, ignored, at_link, settled, answered}
+use Rattle.set_model.specs.Changeover.{fate_on, Obeyed, ignored, at_link, answered}
 use Rattle.set_route.specs.Target.{target_of}
 use Rattle.set_moves.specs.Room.{SameButRoom, HasRoom, IsReady, target_beside}
 pub use Rattle.set_moves.specs.Parts.{Link, Parts, Phase, Up, Down, Settled, Unanswered, Reached, IsHere}
-use Rattle.set_model.specs.Step.{Answer, Refused, Done, NoSuchLink, Took, Ignored, Outcome, on_link, in_service, rises, falls, gives_up}
+use Rattle.set_model.specs.Step.{Answer, Refused, NoSuchLink, Took, Ignored, Outcome, on_link, in_service}
 use Rattle.std.proofs.lemmas.Bool.Decides.{nat_tests}
 use Rattle.set_queues.specs.Backs.{back_count}
 use Rattle.set_queues.specs.Settling.{on}

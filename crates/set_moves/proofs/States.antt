@@ -1,5 +1,5 @@
 -- WHAT IS KEPT STANDS FOR THE STATE, before and after each small change.
-use Rattle.std.proofs.Common.{refl, arith, ◌≡◌, ◌∙◌, ap, sym, subst, ◌<◌, [], ◌∷◌, length, ℕ, zero, suc, ◌==◌, Bool, true, false, List, ◌++◌, Option, Some, take, drop, cond, ◌≢◌, ◌+◌, ◌%◌, ◌≤◌, slice_get, slice_set, ◌-◌, option_map, not, map-id, nat_le}
+use Rattle.std.proofs.Common.{refl, arith, ◌≡◌, ◌∙◌, ap, sym, subst, ◌<◌, [], ◌∷◌, length, ℕ, zero, suc, ◌==◌, Bool, true, false, List, ◌++◌, Option, Some, take, drop, cond, ◌≢◌, ◌+◌, ◌%◌, slice_get, slice_set, ◌-◌, option_map, not, map-id, nat_le}
 use Rattle.std.proofs.lemmas.Bool.{cases_eq}
 use Rattle.std.proofs.lemmas.List.{length-append, map-append, length-map}
 use Rattle.std.proofs.lemmas.List.Folds.{find-append}
@@ -21,7 +21,7 @@ use Rattle.set_model.proofs.Staying.{messages_stay}
 use Rattle.set_moves.specs.Agreement.{Message, Stands, rows_at, label_in, label_of, kind_of, Kept, StandsFor}
 use Rattle.set_moves.proofs.RowsAt.{given_all, none_at, final_none, Shifts, appended_at, first_shifts, waits_there, sent_there, parted, parted_at, turned_shifts, changed_shifts, moved_shifts, is_there, rows_as}
 use Rattle.set_route.specs.Routing.{Routing}
-use Rattle.set_model.specs.State.{LinkState, State, with_link}
+use Rattle.set_model.specs.State.{LinkState, State}
 use Rattle.set_model.proofs.Lists.{at_set, length_set, within, present, get_set_same}
 use Rattle.set_moves.specs.Parts.{Reached, Upto, Unknown, Unanswered}
 use Rattle.set_model.proofs.Events.{acknowledged as acked_rows, sent_given_up, waiting_given_up}

@@ -11,14 +11,14 @@ use Rattle.set_queues.proofs.Standing.{same_is}
 use Rattle.set_route.specs.Routing.{home_of, place_of}
 use Rattle.set_model.specs.Rows.{turned, with_fate, fated, AreBefore, Fate, Waiting, Held, Back, Unacked, Row, standing, is_back, is_back_to, numbers, moved, stream_of, service_indicator, Each, stands_back, is_users, back}
 use Rattle.set_model.specs.Sound.{IsSound, IsAscending, AreAbove, IsBackOf}
-use Rattle.set_model.specs.State.{On, State, fate_at, link_count, LinkState}
+use Rattle.set_model.specs.State.{On, State, fate_at, LinkState}
 use Rattle.set_model.specs.Changeover.{turned_back, out_of_service}
 use Rattle.set_model.proofs.Rows.{each_so, filter_within, filter_apart, none_within, row_in_filter}
-use Rattle.set_moves.specs.Agreement.{Message, Kept, StandsFor, label_in, label_of, Agrees, Holds}
+use Rattle.set_moves.specs.Agreement.{Message, Kept, StandsFor, label_in, label_of}
 use Rattle.set_moves.specs.Turning.{IsTurning, IsTurningRow, HasWay, TakesTurns, CanTurn}
 use Rattle.set_moves.proofs.States.{Becoming, becomes, first_for, parted_for}
 use Rattle.set_moves.proofs.RowsAt.{is_there}
-use Rattle.set_moves.specs.Parts.{Parts, Up, IsWhole, kept_of, AtLink, OfStates}
+use Rattle.set_moves.specs.Parts.{Parts, Up, IsWhole, kept_of}
 use Rattle.set_queues.specs.Queues.{QueuesState}
 use Rattle.set_queues.specs.Settling.{on as on_lists}
 use Rattle.set_queues.proofs.Tallies.{back_none}
@@ -26,11 +26,10 @@ use Rattle.set_queues.proofs.Soundness.{on_length, both_replaced}
 use Rattle.std.proofs.lemmas.Option.{same_Some}
 use Rattle.set_queues.specs.declared.message.Kind.TheVariants.{User}
 use Rattle.set_model.proofs.Order.{ascends_filter, none_standing, before_append, before_never}
-use Rattle.set_model.proofs.Lists.{within, present, same_at}
+use Rattle.set_model.proofs.Lists.{within}
 use Rattle.set_model.proofs.Places.{home_back}
 use Rattle.set_model.proofs.SoundBack.{goes}
 use Rattle.set_model.proofs.Walk.{IsAt}
-use Rattle.set_moves.proofs.Links.{IsHere, is_in}
 
 -- FATES
 

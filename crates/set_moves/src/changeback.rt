@@ -1,14 +1,13 @@
 //! Changeback: streams come back to a link, and their messages with them (Q.704 6).
 ghost use Rattle.std.specs.Prelude.{◌≡◌, ◌≢◌, ◌+◌, ◌*◌, ◌<◌, ◌≤◌, ℕ, true, length, Some, OnErr, OnOk};
-ghost use Rattle.set_queues.specs.Buffers.{room_at};
 ghost use Rattle.set_queues.specs.Backs.{back_count};
 ghost use Rattle.set_route.specs.Routing.{code_for, home_of};
-ghost use Rattle.set_model.specs.Changeover.{released, released_from, can_declare, declared_from, some_declare, some_in_use};
+ghost use Rattle.set_model.specs.Changeover.{released, can_declare, some_declare, some_in_use};
 ghost use Rattle.set_model.specs.State.{State, link_count};
 ghost use Rattle.set_model.specs.Step.{on_link, in_service, comes_back, runs_out};
 ghost use Rattle.set_moves.specs.Agreement.{Holds, StandsFor};
 ghost use Rattle.set_moves.specs.Parts.{Answers, Becomes, IsWhole, kept_of};
-ghost use Rattle.set_moves.specs.Room.{HasRoomFrom, back_at, home_room};
+ghost use Rattle.set_moves.specs.Room.{back_at, home_room};
 
 use super::parts::{Parts, phase_of, stand_last, unserved};
 use l3_orders::{Order, write_order};

@@ -1,4 +1,4 @@
-use Rattle.std.proofs.Common.{arith, ◌∙◌, ap, sym, length, Result, OnOk}
+use Rattle.std.proofs.Common.{arith, ◌∙◌, ap, sym, length}
 use Rattle.set_queues.specs.Backs.{back_count}
 use Rattle.set_queues.specs.Buffers.{Waiting, Held, Lists}
 use Rattle.set_queues.specs.Settling.{on}

@@ -1,8 +1,7 @@
-use Rattle.std.proofs.Common.{rules, refl, arith, ◌≡◌, ◌∙◌, ap, sym, subst, [], slice_set, length}
+use Rattle.std.proofs.Common.{rules, refl, arith, ◌≡◌, ◌∙◌, ap, sym, subst, slice_set, length}
 use Rattle.std.proofs.lemmas.Bool.{le-leb, lt-leb}
 use Rattle.set_queues.specs.Buffers.{queue_at}
 use Rattle.set_queues.specs.Sending.{reach}
-use Rattle.set_queues.proofs.Standing.{links_stay}
 use Rattle.set_model.specs.Changeover.{acknowledged}
 use Rattle.set_moves.specs.Agreement.{StandsFor}
 use Rattle.set_model.specs.Rows.{Unacked, Emergency, is_unacked}
