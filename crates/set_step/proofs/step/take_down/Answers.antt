@@ -28,5 +28,7 @@ returns-clause-ok c = λ s a.
     let same = stands_for c.args.parts.now.links.items n c.from.result c.index.result.now c.from.ensures c.in_default.ensures.here.known c.index.ensures s.links i.link a.stands.links i.there in
     let order = c.order_on_leaving-order.ensures.order ∙ ap (leaving_order c.args.blind n) same in
     let left = left_by c.args.blind n i.link s in
-    served s n (falls c.args.blind n s) Done c.queue.new.parts i (record { answer_is = refl; stands =
-    subst (λ o. StandsFor (kept_of c.queue.new.parts) (queued o left)) order (c.queue.ensures.stands left (c.leave.ensures.stands s i.link i.there (agrees_same c.args.parts.now _ s c.in_ok-make_room_beside.ensures.same a))) })
+    served s n (falls c.args.blind n s) Done c.queue.new.parts i (record {
+      answer_is = refl;
+      stands = subst (λ o. StandsFor (kept_of c.queue.new.parts) (queued o left)) order (c.queue.ensures.stands left (c.leave.ensures.stands s i.link i.there (agrees_same c.args.parts.now _ s c.in_ok-make_room_beside.ensures.same a)));
+    })
