@@ -3,18 +3,18 @@ use Rattle.std.proofs.Common.{arith, ◌≡◌, ◌∙◌, ap, sym, ◌<◌, ℕ
 use Rattle.std.proofs.lemmas.Option.{slice_get-get_or, slice_get_past}
 use Rattle.set_moves.specs.Parts.{Link, Parts, kept_of, AtLink, IsOut, Gives, Obeys, Phase, Down, IsWhole, IsCounted, AreCounted}
 use Rattle.std.proofs.lemmas.List.{length-map, length-drop}
-use Rattle.set_moves.specs.Agreement.{StandsFor, Agrees, Holds}
+use Rattle.set_moves.specs.Agreement.{Agrees, Holds}
 use Rattle.set_model.specs.State.{LinkState, State, has_phase_up, target}
 use Rattle.set_model.proofs.Lists.{map_at, map_set, map_set_same, same_at, at_map, present, target_up, within, set_same, at_set, get_set_same, length_set}
 use Rattle.std.proofs.lemmas.Bool.{ne_eqb}
 use Rattle.std.proofs.lemmas.Simd.{map-map}
 use Rattle.set_queues.specs.Buffers.{Fate, Lists, IsKnown, Waiting, Unacked, Held, TakesRoom, same_fate, with_queue, room_at, is_standing, queue_at}
 use Rattle.set_queues.proofs.Soundness.{IsAside, aside_of, room_left, on_length, queue_last}
-use Rattle.set_model.specs.Changeover.{fate_on, Obeyed, ignored, at_link, settled, answered}
+use Rattle.set_model.specs.Changeover.{fate_on, Obeyed, ignored, at_link, answered}
 use Rattle.set_route.specs.Target.{target_of}
 use Rattle.set_moves.specs.Room.{SameButRoom, HasRoom, IsReady, target_beside}
 pub use Rattle.set_moves.specs.Parts.{Link, Parts, Phase, Up, Down, Settled, Unanswered, Reached, IsHere}
-use Rattle.set_model.specs.Step.{Answer, Refused, Done, NoSuchLink, Took, Ignored, Outcome, on_link, in_service, rises, falls, gives_up}
+use Rattle.set_model.specs.Step.{Answer, Refused, NoSuchLink, Took, Ignored, Outcome, on_link, in_service}
 use Rattle.std.proofs.lemmas.Bool.Decides.{nat_tests}
 use Rattle.set_queues.specs.Backs.{back_count}
 use Rattle.set_queues.specs.Settling.{on}
@@ -69,10 +69,6 @@ pub phase_at : (old new : List Link) (n : ℕ) (link : Link) → map (λ (l : Li
 phase_at old new n link e there = at_map (λ (l : Link). l.phase) old n link.phase (ap (λ phases. slice_get phases n) (sym e) ∙ map_at (λ (l : Link). l.phase) new n link there)
 
 -- What an event of a link does where the link is there, and as the event needs it.
--- A link that an event needs as it is.
-is_here : (links : List Link) (n : ℕ) (phase : Phase) (link : Link) → slice_get links n ≡ Some link → link.phase ≡ phase → IsHere links n phase
-is_here links n phase link e p = record { link = link; there = e; phase_is = p; known = within links n link e }
-
 -- the same of the state that the links stand for
 pub is_in : (parts : Parts) (s : State) (n : ℕ) (phase : Phase) → Agrees (kept_of parts) s → IsHere parts.links.items n phase → IsHere s.links n phase
 is_in parts s n phase a h = rw (← a.stands.links) h
@@ -112,7 +108,7 @@ obeyed_at {new} {n} {phase} {took} parts obeyed h done s a =
 
 pub phase_here : (links : List Link) (n : ℕ) (o : Option Link) → slice_get links n ≡ o → IfSome (option_map (λ (l : Link). l.phase) o) (IsHere links n)
 phase_here links n None e = tt
-phase_here links n (Some link) e = is_here links n link.phase link e refl
+phase_here links n (Some link) e = record { link = link; there = e; phase_is = refl; known = within links n link e }
 
 -- a link that is out
 pub out_at : (links : List Link) (n : ℕ) (phase : Phase) → IsHere links n phase → has_phase_up phase ≡ false → AtLink n links IsOut
@@ -121,19 +117,6 @@ out_at links n phase h e link there = ap (λ (l : Link). has_phase_up l.phase) (
 -- After room was taken.
 pub agrees_same : (old new : Parts) (s : State) → SameButRoom old new → Agrees (kept_of old) s → Agrees (kept_of new) s
 agrees_same old new s same a = subst (λ k. Agrees k s) (sym same.kept) a
-
-pub here_same : (old new : Parts) (n : ℕ) (phase : Phase) → SameButRoom old new → IsHere old.links.items n phase → IsHere new.links.items n phase
-here_same old new n phase same h = rw same.links h
-
--- What is done at a link in its phase.
-pub given_done : (s : State) (n : ℕ) (parts : Parts) (i : IsHere s.links n Down) → StandsFor (kept_of parts) (settled Unanswered n i.link s) → Gives (on_link n s (λ link. gives_up n s link link.phase)) Done parts
-given_done s n parts i stands = rw (i.there, i.phase_is) (record { answer_is = refl; stands = stands })
-
-pub risen_done : (s : State) (n : ℕ) (parts : Parts) (i : IsHere s.links n Settled) → StandsFor (kept_of parts) (rises n s Settled).state → Gives (on_link n s (λ link. rises n s link.phase)) Done parts
-risen_done s n parts i stands = rw (i.there, i.phase_is) (record { answer_is = refl; stands = stands })
-
-pub fallen_done : (blind : Bool) (s : State) (n : ℕ) (parts : Parts) (i : IsHere s.links n Up) → StandsFor (kept_of parts) (falls blind n s i.link).state → Gives (in_service n s (falls blind n s)) Done parts
-fallen_done blind s n parts i stands = served s n (falls blind n s) Done parts i (record { answer_is = refl; stands = stands })
 
 -- Room that was taken, as orders and moved messages need it.
 ups_of : List Link → List Bool
@@ -151,10 +134,6 @@ beside_out links n known out =
 pub beside_left : (links new : List Link) (n : ℕ) (link : Link) → new ≡ slice_set links n link → has_phase_up link.phase ≡ false → target new ≡ target_beside n links
 unfolding ups_of
 beside_left links new n link e out = grind (arith, map_set, ups_of)
-
--- ROOM for an order, and then for all that stand on the link
-pub has_room : (n : ℕ) (parts : Parts) (fate : Fate) → IsReady n 1 parts → fate ≡ fate_on (target_beside n parts.links.items) → HasRoom fate parts
-has_room n parts fate r e = grind arith
 
 -- what stands on a link isn't touched by what waits elsewhere
 pub on_same : (n : ℕ) (to : Fate) (xs : List ℕ) (q new : Lists) → IsAside n to q → new ≡ with_queue to xs q → on n new ≡ on n q

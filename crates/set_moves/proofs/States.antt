@@ -1,6 +1,6 @@
 -- WHAT IS KEPT STANDS FOR THE STATE, before and after each small change.
-use Rattle.std.proofs.Common.{refl, arith, ◌≡◌, ◌∙◌, ap, sym, subst, ◌<◌, [], ◌∷◌, length, ℕ, zero, suc, ◌==◌, Bool, true, false, List, ◌++◌, Option, Some, take, drop, cond, ◌≢◌, ◌+◌, ◌%◌, ◌≤◌, slice_get, slice_set, ◌-◌, option_map, not, map-id}
-use Rattle.std.proofs.lemmas.Bool.{cases_eq, le-leb, lt-leb}
+use Rattle.std.proofs.Common.{refl, arith, ◌≡◌, ◌∙◌, ap, sym, subst, ◌<◌, [], ◌∷◌, length, ℕ, zero, suc, ◌==◌, Bool, true, false, List, ◌++◌, Option, Some, take, drop, cond, ◌≢◌, ◌+◌, ◌%◌, slice_get, slice_set, ◌-◌, option_map, not, map-id, nat_le}
+use Rattle.std.proofs.lemmas.Bool.{cases_eq}
 use Rattle.std.proofs.lemmas.List.{length-append, map-append, length-map}
 use Rattle.std.proofs.lemmas.List.Folds.{find-append}
 use Rattle.std.proofs.lemmas.Bool.Decides.{nat_tests}
@@ -21,7 +21,7 @@ use Rattle.set_model.proofs.Staying.{messages_stay}
 use Rattle.set_moves.specs.Agreement.{Message, Stands, rows_at, label_in, label_of, kind_of, Kept, StandsFor}
 use Rattle.set_moves.proofs.RowsAt.{given_all, none_at, final_none, Shifts, appended_at, first_shifts, waits_there, sent_there, parted, parted_at, turned_shifts, changed_shifts, moved_shifts, is_there, rows_as}
 use Rattle.set_route.specs.Routing.{Routing}
-use Rattle.set_model.specs.State.{LinkState, State, with_link}
+use Rattle.set_model.specs.State.{LinkState, State}
 use Rattle.set_model.proofs.Lists.{at_set, length_set, within, present, get_set_same}
 use Rattle.set_moves.specs.Parts.{Reached, Upto, Unknown, Unanswered}
 use Rattle.set_model.proofs.Events.{acknowledged as acked_rows, sent_given_up, waiting_given_up}
@@ -74,12 +74,6 @@ message_of body fate = record { fate = fate; kind = kind_of body; octets = lengt
 -- THE FSN LAST ACKNOWLEDGED on each link.
 pub last_stays : (f : Fate) (xs : List ℕ) (q : Lists) (n : ℕ) → last_at n (with_queue f xs q) ≡ last_at n q
 last_stays f xs q n = grind (arith, nat_tests, cases_eq, updated_same, updated_other)
-
-last_passed : (from to : Fate) (q : Lists) (n : ℕ) → last_at n (passed from to q) ≡ last_at n q
-last_passed from to q n = search last_stays
-
-last_settled : (l : ℕ) (to : Fate) (q : Lists) (n : ℕ) → last_at n (settled l to q) ≡ last_at n q
-last_settled l to q n = search last_passed
 
 last_here : (l fsn : ℕ) (q : Lists) → l < length q.links → last_at l (with_last l fsn q) ≡ fsn
 last_here l fsn q h = let x = present q.links l h in ap number_in (updated_there (λ (z : LinkLists). record z { last = fsn }) q.links l x.0 x.1)
@@ -193,7 +187,7 @@ settled_for k s n target link link' routing f order last there e aside apart =
     let stood : is_standing to ≡ true = grind arith in
     let ns = on_numbers n k.lists k.messages s.rows f.stands order last in
     link_and_queues_for k s f _ _ _ (shifts_stand f.stands (moved_shifts (is_on n) to s.rows f.stands.numbered off stood) (λ g t. grind (arith, nat_tests, settled_at n to k.lists aside g t, f.stands.queues to, ns)) ns) (simp (length-updated, links_stay)) routing routing refl n link'
-    (λ m ne. last_settled n to k.lists m) (last_settled n to k.lists n ∙ still k s n link link' f there e)
+    (λ m ne. search last_stays) (search last_stays ∙ still k s n link link' f there e)
 
 -- ALL OF A PLACE WAIT FOR A LINK: what was parked, or stood back by a code.
 passed_moves : (from to : Fate) (test : Fate → Bool) (q : Lists) (ms : List Message) (rows : List Row) → Stands q ms rows → is_standing from ≡ true → IsKnown from q → IsKnown to q → IsQueued to → is_standing to ≡ true → test to ≡ false → ((g : Fate) → is_standing g ≡ true → test g ≡ same_fate from g) → rows_at from rows ≡ standing test rows
@@ -212,13 +206,13 @@ risen_for k s n link link' routing f there e =
     let inner : n < length reset.links = omega (arith, known, last_links n 127 k.lists) in
     let stands : Stands reset k.messages s.rows = record { queues = λ g. queue_last g n 127 k.lists ∙ f.stands.queues g; fates = f.stands.fates; labels = f.stands.labels; count = f.stands.count; numbered = f.stands.numbered } in
     link_and_queues_for k s f _ _ _ (passed_moves Parked (Waiting n) is_parked reset k.messages s.rows stands refl tt inner tt refl refl (λ g t. grind arith) refl) (simp length-updated) routing routing refl n link'
-    (λ m ne. last_passed Parked (Waiting n) reset m ∙ last_there n 127 k.lists m ne) (last_passed Parked (Waiting n) reset n ∙ last_here n 127 k.lists known ∙ sym (ap (λ (a : ℕ). (a + 127) % 128) e))
+    (λ m ne. search last_stays ∙ last_there n 127 k.lists m ne) (search last_stays ∙ last_here n 127 k.lists known ∙ sym (ap (λ (a : ℕ). (a + 127) % 128) e))
 
 -- what stood back by a code waits for its home
 pub released_for : (k : Kept) (s : State) (c l : ℕ) (routing : Routing) → StandsFor k s → c < length k.lists.back → l < length k.lists.links
     → StandsFor (record k { lists = passed (Back c) (Waiting l) k.lists; messages = restood (queue_at (Back c) k.lists) (Waiting l) k.messages; routing = routing }) (record s { rows = moved (is_back c) (all_with (Waiting l)) s.rows; routing = routing })
 released_for k s c l routing f code known =
-    queues_for k s f _ _ _ (passed_moves (Back c) (Waiting l) (is_back c) k.lists k.messages s.rows f.stands refl code known tt refl refl (λ g t. grind (arith, nat_tests)) refl) (simp length-updated) routing routing refl (λ m. last_passed (Back c) (Waiting l) k.lists m)
+    queues_for k s f _ _ _ (passed_moves (Back c) (Waiting l) (is_back c) k.lists k.messages s.rows f.stands refl code known tt refl refl (λ g t. grind (arith, nat_tests)) refl) (simp length-updated) routing routing refl (λ m. search last_stays)
 
 -- What is kept after a call stands for what became of the state.
 
@@ -236,19 +230,15 @@ module _ (old new : Kept) (lists : Lists) (messages : List Message) (bodies : Li
   pub becomes : Becoming old new lists messages bodies links routing → StandsFor (record old { lists = lists; messages = messages; bodies = bodies; links = links; routing = routing }) s → StandsFor new s
   becomes b f = grind arith
 
--- WHAT REACHED THE FAR END: how far an FSN reaches, as the queues and as the rows tell it
-module _ (k : Kept) (s : State) (n fsn : ℕ) (link : LinkState) (f : StandsFor k s) (there : slice_get s.links n ≡ Some link) where
+-- WHAT REACHED THE FAR END, as the queues and as the rows tell it
+pub record Reaches (k : Kept) (s : State) (n fsn : ℕ) (link : LinkState) : Type 0 where
   pub reach_is : reach n fsn k.lists ≡ reached_by fsn n link s.rows
-  reach_is = ap (λ (last : ℕ). (fsn + 128 - last) % 128) (f.fsns n link there)
+  pub reasonable : nat_le (reach n fsn k.lists) (length (queue_at (Unacked n) k.lists)) ≡ is_reasonable fsn n link s.rows
 
-  pub sent_count : length (queue_at (Unacked n) k.lists) ≡ length (unack n s.rows)
-  sent_count = ap length (f.stands.queues (Unacked n)) ∙ length-map (unack n s.rows) (λ (row : Row). row.number)
-
-  pub is_reached : reach n fsn k.lists ≤ length (queue_at (Unacked n) k.lists) → is_reasonable fsn n link s.rows ≡ true
-  is_reached h = le-leb (reached_by fsn n link s.rows) (length (unack n s.rows)) (let a = reach_is in let b = sent_count in omega (arith, a, b, h))
-
-  pub is_unreached : (reach n fsn k.lists ≤ length (queue_at (Unacked n) k.lists) → ⊥) → is_reasonable fsn n link s.rows ≡ false
-  is_unreached h = lt-leb (reached_by fsn n link s.rows) (length (unack n s.rows)) (let a = reach_is in let b = sent_count in omega (arith, a, b, h))
+pub reaches : (k : Kept) (s : State) (n fsn : ℕ) (link : LinkState) → StandsFor k s → slice_get s.links n ≡ Some link → Reaches k s n fsn link
+reaches k s n fsn link f there =
+    let is : reach n fsn k.lists ≡ reached_by fsn n link s.rows = ap (λ (last : ℕ). (fsn + 128 - last) % 128) (f.fsns n link there) in
+    record { reach_is = is; reasonable = ap (λ (r : ℕ). nat_le r (length (queue_at (Unacked n) k.lists))) is ∙ ap (nat_le (reached_by fsn n link s.rows)) (ap length (f.stands.queues (Unacked n)) ∙ length-map (unack n s.rows) (λ (row : Row). row.number)) }
 
 abbrev pub IsOrdered : ℕ → List Row → Type 0
 IsOrdered n rows = IsInOrder n rows × IsHeldLast n rows
@@ -269,21 +259,3 @@ module _ (n : ℕ) (link : LinkState) (s : State) (there : slice_get s.links n �
   is_judged Unknown = record { ordered = sent_up Emergency; there = there }
   is_judged Unanswered = record { ordered = both_up NoAnswer; there = there }
   is_judged (Upto fsn) = let g = acked_rows n (reached_by fsn n link s.rows) s.rows in let given_up = both_up Unreasonable in grind (arith, get_set_same, within, g.order_kept o.0, g.last_kept o.1)
-
--- A LINK'S CONTROL GOES ON
-pub link_then : (old new : Kept) (s : State) (n : ℕ) (link link' : LinkState) → StandsFor old s → slice_get s.links n ≡ Some link → link'.acked ≡ link.acked → Becoming old new old.lists old.messages old.bodies (slice_set s.links n link') s.routing
-    → StandsFor new (with_link n link' s)
-link_then old new s n link link' f there e b = becomes old new _ _ _ _ _ _ b (link_for old s n link link' s.routing f there e)
-
--- A FIRST SENDING
-pub sent_then : (old new : Kept) (s : State) (n message : ℕ) (link : LinkState) → StandsFor old s → IsInOrder n s.rows → slice_get s.links n ≡ Some link → slice_get (queue_at (Waiting n) old.lists) 0 ≡ Some message
-    → Becoming old new (first_sent n message old.lists) (restood (message ∷ []) (Unacked n) old.messages) old.bodies s.links old.routing
-    → StandsFor new (record s { rows = turned (is_waiting n) (Unacked n) 1 s.rows })
-sent_then old new s n message link f order there first b =
-    becomes old new _ _ _ _ _ _ b (subst (λ links. StandsFor (record old { lists = first_sent n message old.lists; messages = restood (message ∷ []) (Unacked n) old.messages; links = links }) (record s { rows = turned (is_waiting n) (Unacked n) 1 s.rows })) f.links (sent_for old s n message f order (has_queues old s n link f there) first))
-
--- A LINK COMES UP
-pub risen_then : (old new : Kept) (s : State) (n : ℕ) (link link' : LinkState) (routing : Routing) → StandsFor old s → slice_get s.links n ≡ Some link → link'.acked ≡ 0
-    → Becoming old new (passed Parked (Waiting n) (with_last n 127 old.lists)) (restood (queue_at Parked old.lists) (Waiting n) old.messages) old.bodies (slice_set s.links n link') routing
-    → StandsFor new (record s { rows = moved is_parked (all_with (Waiting n)) s.rows; links = slice_set s.links n link'; routing = routing })
-risen_then old new s n link link' routing f there e b = becomes old new _ _ _ _ _ _ b (risen_for old s n link link' routing f there e)

@@ -10,15 +10,15 @@ use Rattle.set_queues.specs.Messages.{restood}
 use Rattle.set_queues.proofs.Standing.{same_is}
 use Rattle.set_route.specs.Routing.{home_of, place_of}
 use Rattle.set_model.specs.Rows.{turned, with_fate, fated, AreBefore, Fate, Waiting, Held, Back, Unacked, Row, standing, is_back, is_back_to, numbers, moved, stream_of, service_indicator, Each, stands_back, is_users, back}
-use Rattle.set_model.specs.Sound.{IsAscending, AreAbove, IsBackOf}
-use Rattle.set_model.specs.State.{On, State, fate_at, link_count, LinkState}
+use Rattle.set_model.specs.Sound.{IsSound, IsAscending, AreAbove, IsBackOf}
+use Rattle.set_model.specs.State.{On, State, fate_at, LinkState}
 use Rattle.set_model.specs.Changeover.{turned_back, out_of_service}
 use Rattle.set_model.proofs.Rows.{each_so, filter_within, filter_apart, none_within, row_in_filter}
-use Rattle.set_moves.specs.Agreement.{Message, Kept, StandsFor, label_in, label_of, Agrees, Holds}
+use Rattle.set_moves.specs.Agreement.{Message, Kept, StandsFor, label_in, label_of}
 use Rattle.set_moves.specs.Turning.{IsTurning, IsTurningRow, HasWay, TakesTurns, CanTurn}
 use Rattle.set_moves.proofs.States.{Becoming, becomes, first_for, parted_for}
 use Rattle.set_moves.proofs.RowsAt.{is_there}
-use Rattle.set_moves.specs.Parts.{Parts, Up, IsWhole, kept_of, AtLink, OfStates}
+use Rattle.set_moves.specs.Parts.{Parts, Up, IsWhole, kept_of}
 use Rattle.set_queues.specs.Queues.{QueuesState}
 use Rattle.set_queues.specs.Settling.{on as on_lists}
 use Rattle.set_queues.proofs.Tallies.{back_none}
@@ -26,11 +26,10 @@ use Rattle.set_queues.proofs.Soundness.{on_length, both_replaced}
 use Rattle.std.proofs.lemmas.Option.{same_Some}
 use Rattle.set_queues.specs.declared.message.Kind.TheVariants.{User}
 use Rattle.set_model.proofs.Order.{ascends_filter, none_standing, before_append, before_never}
-use Rattle.set_model.proofs.Lists.{within, present, same_at}
+use Rattle.set_model.proofs.Lists.{within}
 use Rattle.set_model.proofs.Places.{home_back}
 use Rattle.set_model.proofs.SoundBack.{goes}
 use Rattle.set_model.proofs.Walk.{IsAt}
-use Rattle.set_moves.proofs.Links.{IsHere, is_in}
 
 -- FATES
 
@@ -59,9 +58,6 @@ turned_one test to x rest (y ∷ rows) none on = grind (arith, turned_one test t
 -- it waits for a link, or is held for it
 abbrev pub IsOnLink : ℕ → Fate → Type 0
 IsOnLink links to = (via : ℕ) × (via < links) × ((to ≡ Waiting via) ⊎ (to ≡ Held via))
-
-pub on_way : (links via : ℕ) (to : Fate) (s : State) → link_count s ≡ links → via < link_count s → to ≡ fate_at (On via) s → IsOnLink links to
-on_way links via to s many low e = (via, omega (arith, many, low), grind arith)
 
 -- THE KIND that is kept of a user's message
 users_label : (body : List ℕ) (o : Option Message) → option_map label_in o ≡ Some (label_of body) → (service_indicator body == 0) ≡ false → (m : Message) × (o ≡ Some m) × (m.kind ≡ User (stream_of body))
@@ -256,28 +252,14 @@ module _ (home : ℕ) (old now : Parts) (g : Turning home old now) (code : ℕ) 
   goes_on_link turning to is =
       let so = g.so_far turning.0 turning.1 turning.2 in
       let w = its_way turning in
-      on_way _ w.via to (record turning.0 { rows = so.gone ++ so.rest }) (sym so.stands.as_many) (subst (λ (n : ℕ). w.via < n) (ap length so.stands.links) w.known) (is w _ so.stands)
+      (w.via, subst (λ (n : ℕ). w.via < n) (ap length so.stands.links ∙ sym so.stands.as_many) w.known, let place = is w _ so.stands in grind arith)
 
 -- A LINK THAT IS LEFT: what stood back for it can turn.
-pub here_up : (parts : Parts) (n : ℕ) → n < length parts.links.items → AtLink n parts.links.items (λ link. link.phase ≡ Up) → IsHere parts.links.items n Up
-here_up parts n known up = let x = present parts.links.items n known in record { link = x.0; there = x.1; phase_is = up x.0 x.1; known = known }
-
-pub turning_of : (blind : Bool) (n : ℕ) (parts : Parts) (link : LinkState) (s : State) → IsHere parts.links.items n Up → slice_get s.links n ≡ Some link → Agrees (kept_of parts) s → IsTurning n (out_of_service blind n link s)
-turning_of blind n parts link s here there a =
-    let i = is_in parts s n Up a here in
-    let same : link ≡ i.link = same_at s.links n i.link link i.there there in
-    let at : IsAt n link Up s = record { there = there; phase_is = ap (λ (l : LinkState). l.phase) same ∙ i.phase_is } in
-    record {
-      each = each_so (λ row. IsBackOf s.routing row row.fate) (IsTurningRow n (out_of_service blind n link s)) (λ x b e.
-          let g = goes blind n link s at a.sound x e b in
-          let users : (is_users x ≡ true) × (stream_of x.body < 16) = grind arith in
-          (users.0, users.1, g.0, g.1, within (out_of_service blind n link s).links g.0 g.2.0 g.2.1)) s.rows a.sound.backs;
-      order = subst (λ (xs : List Row). IsAscending (numbers xs)) (filter_within (λ (row : Row). is_back_to n row.fate) (λ (row : Row). stands_back row.fate) (λ x e. home_back n x.fate e) s.rows) (ascends_filter (λ (row : Row). is_back_to n row.fate) (back s.rows) a.sound.back_order);
-    }
-
-pub can_turn : (blind : Bool) (n : ℕ) (old : Parts) (new : Kept) → IsHere old.links.items n Up → Holds (kept_of old) → OfStates n old (λ link s. StandsFor new (out_of_service blind n link s)) → CanTurn n new
-can_turn blind n old new here h stands =
-    let s = h.0 in
-    let a = h.1 in
-    let i = is_in old s n Up a here in
-    (out_of_service blind n i.link s, stands s i.link i.there a.stands, turning_of blind n old i.link s here i.there a)
+pub turning_of : (blind : Bool) (n : ℕ) (link : LinkState) (s : State) → IsAt n link Up s → IsSound s → IsTurning n (out_of_service blind n link s)
+turning_of blind n link s at sound = record {
+  each = each_so (λ row. IsBackOf s.routing row row.fate) (IsTurningRow n (out_of_service blind n link s)) (λ x b e.
+      let g = goes blind n link s at sound x e b in
+      let users : (is_users x ≡ true) × (stream_of x.body < 16) = grind arith in
+      (users.0, users.1, g.0, g.1, within (out_of_service blind n link s).links g.0 g.2.0 g.2.1)) s.rows sound.backs;
+  order = subst (λ (xs : List Row). IsAscending (numbers xs)) (filter_within (λ (row : Row). is_back_to n row.fate) (λ (row : Row). stands_back row.fate) (λ x e. home_back n x.fate e) s.rows) (ascends_filter (λ (row : Row). is_back_to n row.fate) (back s.rows) sound.back_order);
+}

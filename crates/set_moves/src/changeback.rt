@@ -1,14 +1,13 @@
 //! Changeback: streams come back to a link, and their messages with them (Q.704 6).
 ghost use Rattle.std.specs.Prelude.{◌≡◌, ◌≢◌, ◌+◌, ◌*◌, ◌<◌, ◌≤◌, ℕ, true, length, Some, OnErr, OnOk};
-ghost use Rattle.set_queues.specs.Buffers.{room_at};
 ghost use Rattle.set_queues.specs.Backs.{back_count};
 ghost use Rattle.set_route.specs.Routing.{code_for, home_of};
-ghost use Rattle.set_model.specs.Changeover.{released, released_from, can_declare, declared_from, some_declare, some_in_use};
+ghost use Rattle.set_model.specs.Changeover.{released, can_declare, some_declare, some_in_use};
 ghost use Rattle.set_model.specs.State.{State, link_count};
 ghost use Rattle.set_model.specs.Step.{on_link, in_service, comes_back, runs_out};
 ghost use Rattle.set_moves.specs.Agreement.{Holds, StandsFor};
 ghost use Rattle.set_moves.specs.Parts.{Answers, Becomes, IsWhole, kept_of};
-ghost use Rattle.set_moves.specs.Room.{HasRoomFrom, back_at, home_room};
+ghost use Rattle.set_moves.specs.Room.{back_at, home_room};
 
 use super::parts::{Parts, phase_of, stand_last, unserved};
 use l3_orders::{Order, write_order};
@@ -42,7 +41,19 @@ pub fn restore(parts: &mut Parts, number: u8, answer: &mut Answer) -> Result<(),
     parts.bodies.reserve(MOST_LINKS)?;
     parts.queues.reserve(MOST_LINKS)?;
     parts.queues.reserve_each(1)?;
-    declare_all(parts, number);
+    for alternative in 0..parts.links.len() as u8 {
+        if !may_declare(parts, number, alternative) {
+            continue;
+        }
+        let declaration = Order::Cbd {
+            link: number,
+            code: changeback_code(number, alternative),
+        };
+        let config = &parts.config;
+        let body = write_order(&declaration, config.sio, config.dpc, config.opc);
+        stand_last(parts, body.as_slice(), Fate::Waiting { link: alternative });
+        parts.routes.ask(number, alternative);
+    }
     *answer = Answer::Done;
     Ok(())
 }
@@ -72,7 +83,10 @@ pub fn time_out(parts: &mut Parts, number: u8, answer: &mut Answer) -> Result<()
     parts
         .queues
         .reserve_at(Fate::Waiting { link: number }, back)?;
-    release_all(parts, number);
+    // the lowest code first
+    for alternative in 0..16u8 {
+        release(parts, changeback_code(number, alternative));
+    }
     *answer = Answer::Done;
     Ok(())
 }
@@ -105,30 +119,6 @@ fn may_declare(parts: &Parts, home: u8, alternative: u8) -> bool
         && parts.routes.can_ask(home, alternative)
 }
 
-/// A declaration goes out on each link from which streams of this home can come back, the lowest-numbered
-/// first: they are on their way back then.
-fn declare_all(parts: &mut Parts, home: u8)
-    requires whole { IsWhole parts.old }
-    requires home { home < length parts.old.links.items }
-    requires room { HasRoomFrom 0 parts.old }
-    ensures stands { Becomes parts.old parts.new
-        (declared_from home 0 (length parts.old.links.items)) }
-{
-    for alternative in 0..parts.links.len() as u8 {
-        if !may_declare(parts, home, alternative) {
-            continue;
-        }
-        let declaration = Order::Cbd {
-            link: home,
-            code: changeback_code(home, alternative),
-        };
-        let config = &parts.config;
-        let body = write_order(&declaration, config.sio, config.dpc, config.opc);
-        stand_last(parts, body.as_slice(), Fate::Waiting { link: alternative });
-        parts.routes.ask(home, alternative);
-    }
-}
-
 /// Whether a code of this home is open or spent.
 fn has_code_in_use(parts: &Parts, home: u8) -> bool
     requires { home < 16 }
@@ -141,20 +131,6 @@ fn has_code_in_use(parts: &Parts, home: u8) -> bool
         }
     }
     false
-}
-
-/// What stands back for this link waits for it, the lowest code first, and all its codes are free.
-fn release_all(parts: &mut Parts, home: u8)
-    requires whole { IsWhole parts.old }
-    requires known { home < length parts.old.links.items }
-    requires room { back_count home parts.old.queues.lists ≤ room_at (Fate.Waiting home)
-        parts.old.queues.rooms }
-    ensures stands { Becomes parts.old parts.new
-        (released_from (code_for home 0) 16) }
-{
-    for alternative in 0..16u8 {
-        release(parts, changeback_code(home, alternative));
-    }
 }
 
 /// What waits for the code's acknowledgement waits for its home from now on, and its streams run there;

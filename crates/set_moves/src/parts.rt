@@ -123,7 +123,8 @@ pub fn make_room_beside(parts: &mut Parts, number: u8, orders: usize) -> Result<
     parts.bodies.reserve(orders)?;
     parts.queues.reserve(orders)?;
     parts.queues.reserve_each(back)?;
-    parts.queues.reserve_all(fate, number, more)
+    parts.queues.reserve_all(fate, number, more)?;
+    Ok(())
 }
 
 /// Takes room in the link's queue for all that is parked. Nothing else changes, also where memory is

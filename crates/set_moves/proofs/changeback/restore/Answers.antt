@@ -1,9 +1,11 @@
-use Rattle.std.proofs.Common.{refl, rules, ◌∙◌, sym}
 use Rattle.set_model.specs.Step.{Refused, Done, Nothing, comes_back}
-use Rattle.set_moves.specs.Parts.{Up, kept_of}
-use Rattle.set_moves.proofs.Links.{served, is_in}
-use Rattle.set_moves.proofs.States.{becomes}
-use Rattle.set_moves.proofs.Declaring.{count_is}
+use Rattle.set_moves.specs.Parts.{Up}
+use Rattle.set_moves.proofs.Links.{served, is_in, whole_of}
+use Rattle.std.proofs.Common.{arith, ◌≡◌, ◌∙◌, refl, sym, length, ◌++◌, [], ◌∷◌}
+use Rattle.set_queues.specs.Buffers.{Waiting, queue_at}
+use Rattle.set_queues.proofs.Standing.{links_stay}
+use Rattle.set_model.specs.Changeover.{declared_from, declared_if}
+use Rattle.set_moves.proofs.Declaring.{count_is, becomes_next, room_after, room_later}
 use Rattle.set_moves.proofs.changeback.restore.Goals as goal
 
 pub returns-then-not-has_alternative-clause-ok : goal.returns-then-not-has_alternative-clause-ok
@@ -11,8 +13,32 @@ returns-then-not-has_alternative-clause-ok c = λ s a.
     served s c.args.number (λ link. comes_back c.args.number s) (Refused Nothing) c.args.parts.now (is_in c.args.parts.now s c.args.number Up a c.in_default.ensures.here) (rw (sym (c.has_alternative.ensures s a.stands) ∙ c.if-not-has_alternative.true) (record { answer_is = refl; stands = a.stands }))
 
 pub returns-clause-ok : goal.returns-clause-ok
-returns-clause-ok c = λ s a.
-    served s c.args.number (λ link. comes_back c.args.number s) Done c.declare_all.new.parts (is_in c.args.parts.now s c.args.number Up a c.in_default.ensures.here) (rw (sym (c.has_alternative.ensures s a.stands) ∙ c.if-not-has_alternative.false) (record {
+returns-clause-ok c = λ s a. let end : c.loop-alternative.alternative ≡ length c.args.parts.now.links.items = omega (arith, (whole_of c.args.parts.now c.requires.holds).few) in
+    served s c.args.number (λ link. comes_back c.args.number s) Done c.loop-alternative.parts (is_in c.args.parts.now s c.args.number Up a c.in_default.ensures.here) (rw (sym (c.has_alternative.ensures s a.stands) ∙ c.if-not-has_alternative.false) (record {
       answer_is = refl;
-      stands = rw (count_is c.args.parts.now s a.stands) (c.declare_all.ensures.stands s (becomes (kept_of c.args.parts.now) _ _ _ _ _ _ s (search rules) a.stands));
+      stands = rw (count_is c.args.parts.now s a.stands, ← end) (c.loop-alternative.invariant.stands s a.stands);
     }))
+
+pub loop-alternative-preserved : goal.loop-alternative-preserved
+loop-alternative-preserved c =
+    let n = c.loop-alternative.alternative in
+    let inv = c.loop-alternative.invariant in
+    let many = links_stay (Waiting n) (queue_at (Waiting n) c.loop-alternative.parts.queues.lists ++ length c.loop-alternative.parts.queues.messages ∷ []) c.loop-alternative.parts.queues.lists in
+    let change = c.ask.ensures.change in
+    record {
+      stands = becomes_next (declared_from c.args.number) (declared_if c.args.number) (λ from s. refl) (λ from n s. refl) n 0 n c.args.parts.now c.loop-alternative.parts (record c.stand_last.new.parts { routes = c.ask.new.self }) (omega arith) inv.stands (λ s f. rw (← c.may_declare.ensures s f, c.if-not-may_declare.false) (let stands = c.stand_last.ensures.stands s f in grind (arith, stands, change, f.settings, c.changeback_code.ensures, c.write_order-body.ensures, c.as_slice.ensures)));
+      whole = grind arith;
+      links = c.stand_last.ensures.links ∙ inv.links;
+      room = room_after n c.loop-alternative.parts _ inv.room c.stand_last.ensures.links c.stand_last.ensures.rooms c.stand_last.ensures.message c.stand_last.ensures.body (omega (arith, (whole_of c.args.parts.now c.requires.holds).few));
+    }
+
+pub loop-alternative-preserved-then-not-may_declare : goal.loop-alternative-preserved-then-not-may_declare
+loop-alternative-preserved-then-not-may_declare c =
+    let n = c.loop-alternative.alternative in
+    let inv = c.loop-alternative.invariant in
+    record {
+      stands = becomes_next (declared_from c.args.number) (declared_if c.args.number) (λ from s. refl) (λ from n s. refl) n 0 n c.args.parts.now c.loop-alternative.parts c.loop-alternative.parts (omega arith) inv.stands (λ s f. rw (← c.may_declare.ensures s f, c.if-not-may_declare.true) f);
+      whole = inv.whole;
+      links = inv.links;
+      room = room_later n c.loop-alternative.parts inv.room;
+    }

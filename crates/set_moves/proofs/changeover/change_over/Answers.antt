@@ -7,7 +7,7 @@ use Rattle.set_model.proofs.SoundLink.{queues}
 use Rattle.set_model.proofs.Walk.{IsAt}
 use Rattle.set_moves.specs.Agreement.{StandsFor}
 use Rattle.set_moves.specs.Parts.{Up, Down, Settled, kept_of}
-use Rattle.set_moves.proofs.Links.{IsHere, IsLeft, ignores, obeyed_at, here_room, found, stands_for, whole_of, has_room, has_room_left, beside_out, out_at, room_after, is_left}
+use Rattle.set_moves.proofs.Links.{IsHere, IsLeft, ignores, obeyed_at, here_room, found, stands_for, whole_of, has_room_left, beside_out, out_at, room_after, is_left}
 use Rattle.set_moves.proofs.changeover.change_over.Goals as goal
 use Rattle.set_moves.proofs.changeover.change_over.Goals.{After-leave}
 
@@ -51,14 +51,16 @@ pub returns-in-Some-Up : goal.returns-in-Some-Up
 returns-in-Some-Up c =
     let n = c.args.number in
     let h = is_here (goal.at.returns-in-Some-Up c).After-leave in
-    record { stands = obeyed_at c.args.parts.now (changed_over c.args.reached n) h (λ s link there up a.
-      let at : IsAt n link Up s = record { there = there; phase_is = up } in
-      let same = stands_for c.args.parts.now.links.items n c.from.result c.index.result.now c.from.ensures h.known c.index.ensures s.links link a.stands.links there in
-      let fsn = c.last_accepted.ensures.value ∙ ap last_accepted same in
-      let mid = left_by false n link s in
-      let told = subst (λ (f : ℕ). StandsFor (kept_of c.queue.new.parts) (queued (Coa n f) mid)) fsn (c.queue.ensures.stands mid (c.leave.ensures.stands s link there a)) in
-      let sound = queues (Coa n (last_accepted link)) mid (leaves false n link s at a.sound) in
-      record { took_is = refl; stands = c.settle.ensures.stands (queued (Coa n (last_accepted link)) mid) (left_link false link) (get_set_same s.links n (left_link false link) (within s.links n link there)) refl (record { stands = told; sound = sound }) }) }
+    record {
+      stands = obeyed_at c.args.parts.now (changed_over c.args.reached n) h (λ s link there up a.
+          let at : IsAt n link Up s = record { there = there; phase_is = up } in
+          let same = stands_for c.args.parts.now.links.items n c.from.result c.index.result.now c.from.ensures h.known c.index.ensures s.links link a.stands.links there in
+          let fsn = c.last_accepted.ensures.value ∙ ap last_accepted same in
+          let mid = left_by false n link s in
+          let told = subst (λ (f : ℕ). StandsFor (kept_of c.queue.new.parts) (queued (Coa n f) mid)) fsn (c.queue.ensures.stands mid (c.leave.ensures.stands s link there a)) in
+          let sound = queues (Coa n (last_accepted link)) mid (leaves false n link s at a.sound) in
+          record { took_is = refl; stands = c.settle.ensures.stands (queued (Coa n (last_accepted link)) mid) (left_link false link) (get_set_same s.links n (left_link false link) (within s.links n link there)) refl (record { stands = told; sound = sound }) });
+    }
 
 -- one that was left settles
 pub settle-requires-in-Some-Down-clause-room : goal.settle-requires-in-Some-Down-clause-room
@@ -78,11 +80,14 @@ reply-order-requires-clause-counted c =
 pub queue-requires-in-Some-Settled-clause-room : goal.queue-requires-in-Some-Settled-clause-room
 queue-requires-in-Some-Settled-clause-room c =
     let h = rw c.in-Some-Settled.field-0-is at c.in-Some-Settled.ensures.here in
-    has_room c.args.number c.args.parts.now _ (c.requires.room h.known) (grind (arith, beside_out, out_at c.args.parts.now.links.items c.args.number Settled h refl, h.known))
+    let room = c.requires.room h.known in
+    grind (arith, beside_out, out_at c.args.parts.now.links.items c.args.number Settled h refl, h.known, room)
 
 pub returns-in-Some-Settled : goal.returns-in-Some-Settled
 returns-in-Some-Settled c =
     let h = rw c.in-Some-Settled.field-0-is at c.in-Some-Settled.ensures.here in
-    record { stands = obeyed_at c.args.parts.now (changed_over c.args.reached c.args.number) h (λ s link there is a.
-      let same = stands_for c.args.parts.now.links.items c.args.number c.from-in-Some-Settled.result c.index-in-Some-Settled.result.now c.from-in-Some-Settled.ensures h.known c.index-in-Some-Settled.ensures s.links link a.stands.links there in
-      record { took_is = refl; stands = rw (c.reply-order.ensures.order, same) at (c.queue-in-Some-Settled.ensures.stands s a.stands) }) }
+    record {
+      stands = obeyed_at c.args.parts.now (changed_over c.args.reached c.args.number) h (λ s link there is a.
+          let same = stands_for c.args.parts.now.links.items c.args.number c.from-in-Some-Settled.result c.index-in-Some-Settled.result.now c.from-in-Some-Settled.ensures h.known c.index-in-Some-Settled.ensures s.links link a.stands.links there in
+          record { took_is = refl; stands = rw (c.reply-order.ensures.order, same) at (c.queue-in-Some-Settled.ensures.stands s a.stands) });
+    }

@@ -1,4 +1,4 @@
-use Rattle.std.proofs.Common.{arith, ◌∙◌, ap, sym, length, Result, OnOk}
+use Rattle.std.proofs.Common.{arith, ◌∙◌, ap, sym, length}
 use Rattle.set_queues.specs.Backs.{back_count}
 use Rattle.set_queues.specs.Buffers.{Waiting, Held, Lists}
 use Rattle.set_queues.specs.Settling.{on}
@@ -6,20 +6,17 @@ use Rattle.set_model.specs.Changeover.{fate_on}
 use Rattle.set_moves.specs.Room.{target_beside}
 use Rattle.set_moves.proofs.parts.make_room_beside.Goals as goal
 
-on_ok : {A E : Type 0} {P Q : Type 0} (r : Result A E) → (P → Q) → OnOk r P → OnOk r Q
-on_ok r h0 h1 = grind arith
-
 pub returns-clause-room : goal.returns-clause-room
-returns-clause-room c = on_ok c.reserve_all.result (λ enough.
+returns-clause-room c =
     let n = c.args.number in
     let before = c.in_ok-reserve_each.ensures.same.0 ∙ c.in_ok-reserve-2.ensures.same.0 in
-    let back = c.back_count-back.ensures.value ∙ sym (ap (back_count n) (c.reserve_all.ensures.same.0 ∙ before)) in
+    let back = c.back_count-back.ensures.value ∙ sym (ap (back_count n) (c.in_ok-reserve_all.ensures.same.0 ∙ before)) in
     let fate = c.fate_on-fate.ensures.value ∙ ap fate_on (c.other_target.ensures.value ∙ ap (target_beside n) c.deref.ensures.value) in
     record {
-      message = omega (arith, c.in_ok-reserve-2.ensures.room, c.reserve_all.ensures.same.2, c.in_ok-reserve_each.ensures.same.2);
+      message = omega (arith, c.in_ok-reserve-2.ensures.room, c.in_ok-reserve_all.ensures.same.2, c.in_ok-reserve_each.ensures.same.2);
       body = c.in_ok-reserve.ensures.room;
-      place = rw (← fate) (grind (arith, enough, c.ok_or.ensures, c.checked_mul.ensures, c.ok_or-2.ensures, c.checked_add.ensures, c.in_ok-turns.is, c.in_ok-more.is, back, ap (λ (l : Lists). length (on n l)) c.reserve_all.ensures.same.0));
+      place = rw (← fate) (grind (arith, c.in_ok-reserve_all.ensures.room, c.ok_or.ensures, c.checked_mul.ensures, c.ok_or-2.ensures, c.checked_add.ensures, c.in_ok-turns.is, c.in_ok-more.is, back, ap (λ (l : Lists). length (on n l)) c.in_ok-reserve_all.ensures.same.0));
       each = λ link low.
           let had = c.in_ok-reserve_each.ensures.room link (omega (arith, low, ap (λ (l : Lists). length l.links) before ∙ c.requires.whole.as_many)) in
-          omega (arith, had, back, c.reserve_all.ensures.kept (Waiting link), c.reserve_all.ensures.kept (Held link));
-    }) c.reserve_all.ensures.room
+          omega (arith, had, back, c.in_ok-reserve_all.ensures.kept (Waiting link), c.in_ok-reserve_all.ensures.kept (Held link));
+    }

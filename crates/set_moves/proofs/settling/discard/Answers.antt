@@ -26,7 +26,4 @@ pub discard-requires-2-clause-known : goal.discard-requires-2-clause-known
 discard-requires-2-clause-known c = let many = links_stay (Unacked c.args.number) [] c.args.parts.now.queues.lists in grind arith
 
 pub returns-clause-whole : goal.returns-clause-whole
-returns-clause-whole c =
-    let mid = links_stay (Unacked c.args.number) [] c.args.parts.now.queues.lists in
-    let many = links_stay (Waiting c.args.number) [] c.discard.new.self.lists in
-    grind arith
+returns-clause-whole c = grind (arith, c.discard.ensures.lists, c.discard-2.ensures.lists, links_stay (Unacked c.args.number) [], links_stay (Waiting c.args.number) [])

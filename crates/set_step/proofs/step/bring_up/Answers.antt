@@ -6,7 +6,7 @@ use Rattle.set_model.specs.Rows.{Waiting, Parked}
 use Rattle.set_model.specs.Step.{risen_link}
 use Rattle.set_moves.specs.Parts.{Settled, kept_of}
 use Rattle.set_moves.proofs.Links.{agrees_same, is_in}
-use Rattle.set_moves.proofs.States.{risen_then}
+use Rattle.set_moves.proofs.States.{becomes, risen_for}
 use Rattle.set_step.proofs.Kept.{is_empty}
 use Rattle.set_step.proofs.step.bring_up.Goals as goal
 
@@ -28,7 +28,7 @@ returns-in_ok-make_room_parked-in-Some-Settled-clause-ok c = λ s a.
     let i = is_in c.args.parts.now s n Settled a (rw c.in-Some-Settled.field-0-is at c.in-Some-Settled.ensures.here) in
     rw (i.there, i.phase_is) (record {
       answer_is = refl;
-      stands = risen_then (kept_of roomy) _ s n i.link (risen_link s.settings.method) (raised n s.routing) f i.there refl (record {
+      stands = becomes (kept_of roomy) _ _ _ _ _ _ _ (record {
         settings_same = refl;
         lists_are = c.divert.ensures.lists ∙ ap (passed Parked (Waiting n)) c.reset.ensures.lists;
         messages_are = rw (c.divert.ensures.messages, c.reset.ensures.lists, c.reset.ensures.same.0) refl;
@@ -36,5 +36,5 @@ returns-in_ok-make_room_parked-in-Some-Settled-clause-ok c = λ s a.
         links_are = rw (f.links, c.from.ensures, c.rise.ensures, ← f.settings) refl;
         routing_is = c.raise.ensures ∙ ap (raised n) f.routing;
         inbox_same = refl;
-      });
+      }) (risen_for (kept_of roomy) s n i.link (risen_link s.settings.method) (raised n s.routing) f i.there refl);
     })

@@ -1,9 +1,10 @@
 use Rattle.std.proofs.Common.{refl, arith, ◌≡◌, ◌<◌, ap, subst}
 use Rattle.set_model.specs.Changeover.{Coo, leaving_order, left_by, queued}
 use Rattle.set_model.specs.State.{last_accepted}
+use Rattle.set_model.specs.Step.{Done, falls}
 use Rattle.set_moves.specs.Agreement.{StandsFor}
 use Rattle.set_moves.specs.Parts.{Up, kept_of}
-use Rattle.set_moves.proofs.Links.{agrees_same, is_in, fallen_done, found, stands_for, whole_of, has_room_left, beside_left}
+use Rattle.set_moves.proofs.Links.{agrees_same, is_in, served, found, stands_for, whole_of, has_room_left, beside_left}
 use Rattle.set_step.proofs.step.take_down.Goals as goal
 use Rattle.set_step.proofs.step.take_down.Goals.{then-blind, else-blind}
 
@@ -35,5 +36,7 @@ returns-clause-ok c = λ s a.
       | else-blind w ↦ rw (w.order-is, w.if-blind.false, w.last_accepted.ensures.value) (ap (λ link. Coo n (last_accepted link)) (stands_for c.args.parts.now.links.items n w.from.result w.index.result.now w.from.ensures here.known w.index.ensures s.links i.link a.stands.links i.there))
     ] in
     let left = left_by c.args.blind n i.link s in
-    fallen_done c.args.blind s n c.queue.new.parts i
-    (subst (λ o. StandsFor (kept_of c.queue.new.parts) (queued o left)) order (c.queue.ensures.stands left (c.leave.ensures.stands s i.link i.there (agrees_same c.args.parts.now _ s c.in_ok-make_room_beside.ensures.same a))))
+    served s n (falls c.args.blind n s) Done c.queue.new.parts i (record {
+      answer_is = refl;
+      stands = subst (λ o. StandsFor (kept_of c.queue.new.parts) (queued o left)) order (c.queue.ensures.stands left (c.leave.ensures.stands s i.link i.there (agrees_same c.args.parts.now _ s c.in_ok-make_room_beside.ensures.same a)));
+    })

@@ -2,11 +2,11 @@ use Rattle.std.proofs.Common.{◌≡◌}
 use Rattle.set_model.specs.Changeover.{declared_from}
 use Rattle.set_moves.specs.Room.{HasRoomFrom}
 use Rattle.set_moves.specs.Parts.{Becomes, IsWhole}
-use Rattle.set_moves.proofs.changeback.declare_all.Given as goal
+use Rattle.set_moves.proofs.changeback.restore.Given as goal
 
 abbrev pub invariant-loop-alternative : goal.invariant-loop-alternative
 invariant-loop-alternative l = record {
-  stands : Becomes l.fn.parts l.parts (declared_from l.home 0 l.alternative);
+  stands : Becomes l.fn.parts l.parts (declared_from l.number 0 l.alternative);
   whole : IsWhole l.parts;
   links : l.parts.links ≡ l.fn.parts.links;
   room : HasRoomFrom l.alternative l.parts;
