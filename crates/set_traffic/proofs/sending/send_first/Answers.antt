@@ -1,5 +1,4 @@
 use Rattle.std.proofs.Common.{arith}
-use Rattle.set_model.proofs.Lists.{present}
 use Rattle.set_moves.specs.Parts.{kept_of}
 use Rattle.set_moves.proofs.States.{becomes, sent_for}
 use Rattle.set_traffic.proofs.sending.send_first.Goals as goal
