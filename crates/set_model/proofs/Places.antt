@@ -1,17 +1,14 @@
 -- Fates and links: what stands in one place stands in no other.
 use Rattle.std.proofs.Common.{arith, refl, ◌≡◌, ◌≢◌, ◌∙◌, sym, ℕ, Bool, true, false, ◌==◌}
-use Rattle.std.proofs.lemmas.Bool.{eq-eqb, ne_eqb, eqb-false}
+pub use Rattle.std.proofs.lemmas.Bool.{ne_eqb as apart}
+use Rattle.std.proofs.lemmas.Bool.{eq-eqb, eqb-false}
 use Rattle.set_model.specs.Rows.{Fate, is_back, is_back_to, is_held, is_on, is_parked, is_unacked, is_waiting, stands_back, was_acked}
 
 pub false_true : {P : Type 0} (b : Bool) → b ≡ false → b ≡ true → P
 false_true b f t = let no : true ≡ false = sym t ∙ f in absurd cc
 
--- the other way round
-pub apart : (l n : ℕ) → l ≢ n → (l == n) ≡ false
-apart l n d = ne_eqb l n d
-
 pub apart_back : (l n : ℕ) → (l == n) ≡ false → (n == l) ≡ false
-apart_back l n d = ne_eqb n l (λ e. eqb-false l n d (sym e))
+apart_back l n d = apart n l (λ e. eqb-false l n d (sym e))
 
 pub itself : (l : ℕ) → (l == l) ≡ true
 itself l = eq-eqb l l refl

@@ -5,6 +5,7 @@ use Rattle.std.proofs.lemmas.List.{append-nil, length-append, length-map, length
 use Rattle.std.proofs.lemmas.List.Elements.{filter-append}
 use Rattle.std.proofs.lemmas.List.Filters.{length-filter_both}
 use Rattle.std.proofs.lemmas.Bool.Decides.{nat_tests}
+use Rattle.set_model.proofs.Lists.{at_map, present}
 
 -- One filter after another.
 pub filter_comm : (p q : Row → Bool) (xs : List Row) → filter p (filter q xs) ≡ filter q (filter p xs)
@@ -122,14 +123,6 @@ total_is rows = omega (arith, all_counted (users rows))
 abbrev pub with_number : ℕ → List Row → List Row
 with_number number rows = filter (λ row. row.number == number) rows
 
--- a number below the length is found
-pub not_found : (number : ℕ) (rows : List Row) → row_of number rows ≡ None → with_number number rows ≡ []
-not_found number [] e = refl
-not_found number (x ∷ rows) e = grind (arith, not_found number rows)
-
-pub is_found : (number : ℕ) (rows : List Row) → IsNumbered rows → number < length rows → row_of number rows ≡ None → ⊥
-is_found number rows numbered below e = let one = numbered number in grind (arith, nat_tests, not_found, one)
-
 -- A new row has the next number.
 abbrev pub new_row : ℕ → List ℕ → Fate → Row
 new_row number body fate = record { number = number; body = body; fate = fate }
@@ -205,6 +198,10 @@ pub row_is_first : (number : ℕ) (rows : List Row) → row_of number rows ≡ s
 row_is_first number [] = refl
 row_is_first number (x ∷ rows) = grind (arith, row_is_first number rows)
 
+-- a number below the length is found
+pub is_found : (number : ℕ) (rows : List Row) → IsNumbered rows → number < length rows → row_of number rows ≡ None → ⊥
+is_found number rows numbered below e = let one = numbered number in let there = present (with_number number rows) 0 in grind (arith, nat_tests, row_is_first, one, there)
+
 -- A MOVE: the row of a number is the one that it was, with the fate if it moved.
 module _ (test : Fate → Bool) (fate : Row → Fate) where
   few_moved : (rows : List Row) → length rows ≤ 1 → slice_get (moved test fate rows) 0 ≡ option_map (λ row. cond (test row.fate) (fated fate row) row) (slice_get rows 0)
@@ -234,15 +231,6 @@ found_in p (x ∷ rows) (suc i) k row e n l = grind (arith, nat_tests, no_rows (
 pub row_in_filter : (p : Row → Bool) (rows : List Row) (i k : ℕ) (row : Row) → IsNumbered rows → slice_get (filter p rows) i ≡ Some row → row.number ≡ k → row_of k rows ≡ Some row
 row_in_filter p rows i k row numbered e n = let one = found_in p rows i k row e n (at_most_one k rows numbered) in grind (arith, row_is_first)
 
--- the number of a row in a filter is below the length
-pub number_below : (p : Row → Bool) (rows : List Row) (i : ℕ) (row : Row) → IsNumbered rows → slice_get (filter p rows) i ≡ Some row → row.number < length rows
-number_below p rows i row numbered e = let known = numbered row.number in grind (arith, nat_tests, found_in p rows i row.number row e refl (at_most_one row.number rows numbered), known)
-
-pub row_at_number : (rows : List Row) (i number : ℕ) → slice_get (numbers rows) i ≡ Some number → (row : Row) × (slice_get rows i ≡ Some row) × (row.number ≡ number)
-row_at_number [] i number e = absurd cc
-row_at_number (x ∷ rows) zero number e = (x, refl, cc)
-row_at_number (x ∷ rows) (suc i) number e = row_at_number rows i number e
-
 -- Whoever keeps the numbers of a filter, as a window does, finds under each of them the row of that place.
 pub record Found (p : Row → Bool) (rows : List Row) (i number : ℕ) : Type 0 where
   pub row : Row
@@ -254,4 +242,8 @@ pub record Found (p : Row → Bool) (rows : List Row) (i number : ℕ) : Type 0 
   pub below : number < length rows
 
 pub found_by_number : (p : Row → Bool) (rows : List Row) (i number : ℕ) → IsNumbered rows → slice_get (numbers (filter p rows)) i ≡ Some number → Found p rows i number
-found_by_number p rows i number numbered e = grind (arith, row_at_number, row_in_filter, number_below)
+found_by_number p rows i number numbered e =
+    let at = at_map (λ (row : Row). row.number) (filter p rows) i number e in
+    let one = found_in p rows i number at.0 at.1 at.2 (at_most_one number rows numbered) in
+    let known = numbered number in
+    grind (arith, nat_tests, row_is_first, at, one, known)
