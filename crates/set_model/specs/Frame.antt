@@ -80,15 +80,3 @@ pub record MovesAsItsControl (number : ℕ) (link : LinkState) (s : State) : Typ
       let after = after_control part (header_in unit) unit number s link in
       let whole = (controls unit number s link).state in
       (whole.links ≡ after.links) × (whole.rows ≡ after.rows)
-
--- LAW: an event leaves alone what it doesn't concern
-abbrev pub AnEventLeavesTheRestAlone : Type 0
-AnEventLeavesTheRestAlone =
-    (number : ℕ) (s : State) (event : Event) → (Concerns event number s → ⊥)
-    → LeavesAlone number s (step s event).state
-
--- LAW: Next and Heard move a link's window as its control does
-abbrev pub AWindowMovesAsItsControl : Type 0
-AWindowMovesAsItsControl =
-    (number : ℕ) (link : LinkState) (s : State) → IsSound s → slice_get s.links number ≡ Some link → link.phase ≡ Up
-    → MovesAsItsControl number link s
