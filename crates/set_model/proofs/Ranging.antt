@@ -6,7 +6,7 @@ use Rattle.std.proofs.lemmas.List.Elements.{filter-append}
 use Rattle.set_route.specs.Routing.{Routing}
 use Rattle.set_model.specs.Step.{Event, step, one_if, rows_sent}
 use Rattle.set_model.specs.Changeover.{fate_on}
-use Rattle.set_model.specs.Control.{Header, Choice, first, part_of}
+use Rattle.set_model.specs.Control.{Header, Choice, part_of}
 use Rattle.set_model.specs.Rows.{DiscardCause, Discarded, Fate, Acked, Unacked, Row, is_unacked, is_waiting, moved, standing, turned, unack}
 use Rattle.set_model.specs.Sound.{AreAtMost, AreFew, WholeNumbers, one_more}
 use Rattle.set_model.specs.State.{Place, Phase, LinkState, State, fate_at, window_of}
@@ -51,8 +51,7 @@ module _ (more : ℕ) (s : State) (rows : List Row) (routing : Routing) (inbox :
   grow_set n link link' phase at sent accepted = record { each = each_set (λ m new. (old : LinkState) × (slice_get s.links m ≡ Some old) × (new.acked + length (unack m rows) ≤ old.acked + length (unack m s.rows) + more) × (new.accepted ≤ old.accepted + more)) s.links n link' (link, at.there, sent, accepted) (λ m other d there. (other, there, omega (arith, few m), omega arith)) }
 
 few_sent : (choice : Choice) (m n : ℕ) (rows : List Row) → length (unack m (rows_sent choice n rows)) ≤ length (unack m rows) + 1
-few_sent first m n rows = few_turned (is_waiting n) (is_unacked m) (Unacked n) 1 rows
-few_sent _ m n rows = omega arith
+few_sent choice m n rows = grind (arith, few_turned (is_waiting n) (is_unacked m) (Unacked n) 1 rows)
 
 -- what is acknowledged was sent
 acked_at_most : (more c n count : ℕ) (rows : List Row) → count ≤ length (unack n rows) → c + count + length (unack n (turned (is_unacked n) (Acked n) count rows)) ≤ c + length (unack n rows) + more

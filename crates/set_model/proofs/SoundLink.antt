@@ -19,7 +19,6 @@ use Rattle.set_model.proofs.Rows.{each_append, each_filter, each_so, changed_the
 use Rattle.set_model.proofs.Lists.{at_set, each_set, get_set_same, get_set_other, set_same, within, set_at, target_up, none_up}
 use Rattle.set_model.proofs.Places.{false_true}
 use Rattle.set_model.proofs.Walk.{IsAt}
-use Rattle.l3_orders.specs.Grammar.{text}
 use Rattle.set_route.proofs.Alone.{alone}
 use Rattle.set_route.proofs.Places.{accepted_sound}
 
@@ -169,12 +168,9 @@ module _ (s : State) (routing : Routing) (t : IsSound s) (sound : IsRouting rout
       search (numbered_appended, ascends_appended)
 
 -- AN ORDER goes to the target, and is of no stream.
-pub order_fits : (order : Order) (s : State) → length (text order s.settings.sio s.settings.dpc s.settings.opc) ≤ 273
-order_fits order s = grind arith
-
 pub queues : (order : Order) (s : State) → IsSound s → IsSound (queued order s)
 queues order s t =
-    appended_sound s s.routing t t.routing refl _ (fate_on (target s.links)) (order_fits order s) (grind (arith, target_up, none_up)) (grind arith)
+    appended_sound s s.routing t t.routing refl _ (fate_on (target s.links)) (grind arith) (grind (arith, target_up, none_up)) (grind arith)
     (λ k few. record { placed = t.placed k few; runs = λ n link there up. t.all_run n link there up k few; stays = λ code via e is. (via, is) }) t.homes_up
 
 -- AN OFFER goes where its stream runs.

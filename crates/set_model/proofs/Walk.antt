@@ -4,8 +4,8 @@ use Rattle.std.proofs.lemmas.Bool.{cond_both}
 use Rattle.l2_units.specs.Grammar.{head_of as header_in}
 use Rattle.l3_orders.specs.Grammar.{link_of, order_of}
 use Rattle.set_route.specs.Routing.{code_for, home_of}
-use Rattle.set_model.specs.Step.{SignalUnit, Event, BackTimeout, DownEvent, DownBlind, Find, Heard, Next, NoAnswer, Offer, Restore, Take, UpEvent, step, Outcome, after_control, brought, comes_back, controls, gives_up, heard, in_service, is_msu, next, offer_refusal, offered, rises, runs_out, taken, takes, with_known, stepped}
-use Rattle.set_model.specs.Changeover.{Order, Cba, Cbd, Coa, Coo, Eca, Eco, Reached, Unanswered, Unknown, Upto, acknowledged_by, answered, can_declare, changed_over, declared, declared_from, leaving_order, left_by, left_link, moved_over, order_obeyed, queued, released, released_from, reply_of, settled, some_in_use}
+use Rattle.set_model.specs.Step.{SignalUnit, Event, BackTimeout, DownEvent, DownBlind, Heard, Next, NoAnswer, Offer, Restore, Take, UpEvent, step, Outcome, after_control, brought, comes_back, controls, gives_up, heard, in_service, is_msu, next, offer_refusal, offered, rises, runs_out, taken, takes, with_known, stepped}
+use Rattle.set_model.specs.Changeover.{Order, Cba, Cbd, Coa, Reached, Unanswered, Unknown, Upto, acknowledged_by, answered, can_declare, changed_over, declared, declared_from, leaving_order, left_by, left_link, moved_over, order_obeyed, queued, released, released_from, reply_of, settled, some_in_use}
 use Rattle.set_model.specs.Control.{part_of}
 use Rattle.set_model.specs.Frame.{BringsAbout, BringsBackTo, Concerns}
 use Rattle.set_model.specs.Rows.{DiscardCause, Emergency, NoAnswer as NoAnswerCame, Unreasonable, Discarded, changed, is_unacked, is_waiting, unack}
@@ -80,12 +80,9 @@ module _ (Known : ℕ → Type 0) (May : Type 0) (R : State → State → Type 0
       (release_walks (suc code) n (released code s) (λ c low high. known c (omega (arith, low)) (omega (arith, high))))
 
   pub obeys_walks : (order : Order) (s : State) → ((n : ℕ) → Touches order n → Known n) → R s (order_obeyed order s).state
-  obeys_walks (Coo n fsn) s known = grind (arith, over_walks, known)
-  obeys_walks (Eco n) s known = grind (arith, over_walks, known)
-  obeys_walks (Coa n fsn) s known = grind (arith, answer_walks, known)
-  obeys_walks (Eca n) s known = grind (arith, answer_walks, known)
   obeys_walks (Cbd n code) s known = k.queues (Cba n code) s
   obeys_walks (Cba n code) s known = let there = known (home_of code) (inr (n, code, refl, refl)) in grind arith
+  obeys_walks order s known = grind (arith, over_walks, answer_walks, known)
 
   pub takes_walks : (body : Option (List ℕ)) (s : State) → ((b : List ℕ) → body ≡ Some b → (o : Order) → order_of b ≡ Some o → (n : ℕ) → Touches o n → Known n) → R s (takes body s).state
   takes_walks body s known = grind (arith, obeys_walks)
@@ -126,9 +123,7 @@ module _ (s : State) (R : State → State → Type 0) (S : State → Type 0) whe
 
   pub step_walks : (event : Event) → WalkedBy s event R S → S (step s event).state
   unfolding step
-  step_walks (Offer body) w = grind arith
   step_walks Take w = take_walks w s.inbox refl
-  step_walks (Find number) w = grind arith
   step_walks (Next n) w = in_walks n (next n s) w.unmoved (λ link at. w.sends n link refl at)
   step_walks (Heard n unit) w = in_walks n (heard unit n s) w.unmoved (λ link at. grind (arith, hear_walks))
   step_walks (UpEvent n) w = on_walks n (λ link. rises n s link.phase) w.unmoved (λ link there. let rise = w.rises n link refl in grind (arith, rise))
@@ -139,6 +134,7 @@ module _ (s : State) (R : State → State → Type 0) (S : State → Type 0) whe
   step_walks (BackTimeout n) w =
       on_walks n (λ link. runs_out n s) w.unmoved (λ link there. cond_both (some_in_use (code_for n 0) 16 s) _ _ (λ (o : Outcome). S o.state)
       (λ e. w.rests s _ w.unmoved (release_walks (λ m. Concerns (BackTimeout n) m s) (BeginsNone (BackTimeout n) → ⊥) R w.small (code_for n 0) 16 s (λ c low high. omega (arith, low, high)))) (λ e. w.unmoved))
+  step_walks event w = grind arith
 
 -- The sealed step is its cases.
 pub step_is : (s : State) (event : Event) → step s event ≡ stepped s event

@@ -1,11 +1,10 @@
 -- LAWS of the rows and of the step: of every state and every event.
-use Rattle.std.specs.Prelude.{◌≡◌, ℕ, ◌-◌, ◌<◌, ◌≤◌, Bool, true, not, List, [], ◌++◌, length, map, drop, slice_get, Option, Some, None, if◌then◌else◌, option_map}
+use Rattle.std.specs.Prelude.{◌≡◌, ℕ, ◌-◌, ◌<◌, ◌≤◌, Bool, not, List, [], ◌++◌, length, map, drop, Option, Some, None, if◌then◌else◌, option_map}
 use Rattle.set_route.specs.Routing.{NoneOpen}
 use Rattle.set_model.specs.Rows.{Fate, Acked, Row, standing, is_unacked, is_on, unack, wait, held, on, parked, numbers, with_fate, turned, changed, moved, appended, row_of, place, body_at, IsNumbered}
-use Rattle.set_model.specs.State.{Down, Settled, LinkState, State, Settings, opened_with, target}
-use Rattle.set_model.specs.Changeover.{Upto, fate_on, reached_by, is_reasonable, settled}
-use Rattle.set_model.specs.Step.{Event, step, Gains}
-use Rattle.set_model.specs.Sound.{IsSettings, IsSound, AreTogether, BeginsNone, IsAsked, WholeNumbers, one_more, AreAtMost, AreFew, IsManaged}
+use Rattle.set_model.specs.State.{LinkState, State, target}
+use Rattle.set_model.specs.Changeover.{Upto, fate_on, reached_by, settled}
+use Rattle.set_model.specs.Sound.{IsSound, AreTogether, AreFew}
 
 -- THE ROWS.
 
