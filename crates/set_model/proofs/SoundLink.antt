@@ -117,8 +117,7 @@ module _ (n : ℕ) (link : LinkState) (s : State) (at : IsAt n link Up s) (t : I
 
   -- how many are unacknowledged then
   counts : (choice : Choice) → choice_of octets link.control window ≡ choice → (length (unack n s.rows) ≤ length (unack n (rows_sent choice n s.rows))) × (choice ≡ first → length (unack n (rows_sent choice n s.rows)) ≡ length (unack n s.rows) + 1) × (length (unack n (rows_sent choice n s.rows)) ≤ 127)
-  counts first e = grind (arith, first_chosen octets link.control window e, length-map, length-append, length-take, (sent n s.rows).unack_is l.in_order)
-  counts _ e = grind (arith, l.window)
+  counts choice e = grind (arith, first_chosen octets link.control window, length-map, length-append, length-take, (sent n s.rows).unack_is l.in_order, l.window)
 
   pub sends_sound : IsSound (next n s link).state
   sends_sound =
@@ -180,9 +179,5 @@ offers s body low free t =
     let fits : (length body ≤ 273) × ((service_indicator body == 0) ≡ false) = grind (arith, free) in
     let placed = t.placed stream low in
     let same = λ (k : ℕ) (few : k < 16). (alone s.routing k t.routing few).accepted_place stream in
-    appended_sound s (accepted stream s.routing) t (accepted_sound stream s.routing t.routing) refl body (fate_at (place_of stream s.routing) s) fits.0 (grind (arith, placed, t.all_run)) (one_back (place_of stream s.routing) refl)
+    appended_sound s (accepted stream s.routing) t (accepted_sound stream s.routing t.routing) refl body (fate_at (place_of stream s.routing) s) fits.0 (grind (arith, placed, t.all_run)) (grind (arith, free, low, coded_at))
     (λ k few. rw (same k few) (record { placed = t.placed k few; runs = λ n link there up. t.all_run n link there up k few; stays = λ code via e is. (via, is) })) t.homes_up
-  where
-    one_back : (place : Place) → place_of (stream_of body) s.routing ≡ place → IsBackOf s.routing (new_row (length s.rows) body (fate_at place s)) (fate_at place s)
-    one_back (Changing to code via) e = let coded = coded_at s.routing (stream_of body) t.routing to code via e in grind (arith, free, low, coded)
-    one_back _ e = grind arith

@@ -150,8 +150,7 @@ rises n s t none r k low =
 
 -- SENDING.
 sends : (choice : Choice) (n : ℕ) (s : State) → AreTogether s → (stream : ℕ) → stream < 16 → IsSoundStream stream (place_of stream s.routing) (has_messages stream s.routing) (rows_sent choice n s.rows)
-sends first n s r stream low = stream_turned stream (place_of stream s.routing) (is_waiting n) (Unacked n) (λ f e alive. grind arith) (has_messages stream s.routing) 1 s.rows (r stream low)
-sends _ n s r stream low = r stream low
+sends choice n s r stream low = let turns = stream_turned stream (place_of stream s.routing) (is_waiting n) (Unacked n) (λ f e alive. grind arith) (has_messages stream s.routing) 1 s.rows (r stream low) in grind arith
 
 -- THE STEP.
 abbrev StaysQuiet : State → State → Type 0
