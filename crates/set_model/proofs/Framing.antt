@@ -59,11 +59,10 @@ pub numbers-drop : (d : ℕ) (rows : List Row) → numbers (drop d rows) ≡ dro
 numbers-drop d rows = sym (drop-map (λ (row : Row). row.number) d rows)
 
 window_sent : (n : ℕ) (link : LinkState) (choice : Choice) (rows : List Row) → IsInOrder n rows → window_of n link (rows_sent choice n rows) ≡ window_after choice (window_of n link rows)
-window_sent n link first rows order =
+window_sent n link choice rows order =
     let d = sent n rows in
     let unacked = ap numbers (d.unack_is order) ∙ numbers_joined (λ row. Unacked n) (unack n rows) (take 1 (wait n rows)) in
-    grind (arith, take-map, numbers-drop, d.wait_is)
-window_sent n link _ rows order = grind arith
+    grind (arith, take-map, numbers-drop, d.wait_is, unacked)
 
 none_brought : (unit : SignalUnit) → ((about : ℕ) → BringsAbout about unit → ⊥) → (accept : Bool) (t : State) (body : Option (List ℕ)) → brought accept unit ≡ body → ((takes body t).state.links ≡ t.links) × ((takes body t).state.rows ≡ t.rows)
 none_brought unit none accept t None e = (refl, refl)

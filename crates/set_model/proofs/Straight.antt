@@ -7,7 +7,7 @@ use Rattle.std.proofs.lemmas.Bool.Decides.{nat_tests}
 use Rattle.std.proofs.lemmas.Bool.{cond_both}
 use Rattle.set_route.specs.Routing.{settled, runs_on, NoneOpen, has_messages, place_of, place_raised, place_settled, raised}
 use Rattle.set_model.specs.Changeover.{Order, fate_on, left_by, queued, released}
-use Rattle.set_model.specs.Control.{Choice, first}
+use Rattle.set_model.specs.Control.{Choice}
 use Rattle.set_model.specs.Laws.{RunsStraight}
 use Rattle.set_model.specs.Rows.{Fate, Unacked, Waiting, IsNumbered, Row, all_with, appended, changed, fated, is_back, is_back_to, is_on, is_parked, is_waiting, moved, numbers, standing, stands_back, stream_of, turned, with_fate}
 use Rattle.set_model.specs.Sound.{AreAbove, AreTogether, BeginsNone, IsAscending, IsAsked, IsBackOf, IsSound, IsSoundStream, astray, is_astray, is_live, is_unfinished, live, stands_at}
