@@ -8,7 +8,7 @@ use Rattle.l3_orders.specs.Grammar.{order_of, link_of}
 use Rattle.set_route.specs.Routing.{Routing}
 use Rattle.set_model.specs.Step.{SignalUnit, Event, step, brought, rows_sent, takes}
 use Rattle.set_model.specs.Changeover.{Order, fate_on}
-use Rattle.set_model.specs.Control.{Choice, first}
+use Rattle.set_model.specs.Control.{Choice}
 use Rattle.set_model.specs.Frame.{BringsAbout, Concerns, LeavesAlone, MovesAsItsControl, window_after}
 use Rattle.set_model.specs.Rows.{DiscardCause, Fate, Waiting, Unacked, IsInOrder, Row, appended, fated, held, is_held, is_on, is_unacked, is_waiting, moved, numbers, standing, unack, wait}
 use Rattle.set_model.specs.Sound.{IsSound}

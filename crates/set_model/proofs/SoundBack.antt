@@ -129,7 +129,7 @@ declares home alternative s up may t =
     let out = alternative_up home alternative s may in
     let below : (n : ℕ) → is_up n s ≡ true → n < s.routing.links = λ n e. grind (arith, within) in
     let sound = asked_sound home alternative s.routing (below home up) (below alternative out) t.routing in
-    appended_sound s runs t sound refl _ (Waiting alternative) (grind arith) (grind (arith, out)) tt
+    appended_sound s runs t sound refl _ (Waiting alternative) (grind arith) (λ k link there. grind (arith, nat_tests, out)) tt
     (λ k few. let p = t.placed k few in let a = (alone s.routing k t.routing few).asked_place home alternative in record { placed = rw a (grind (arith, p, out)); runs = λ n link at rising. let runs = t.all_run n link at rising k few in rw a (grind (arith, runs)); stays = λ code via of e. grind (arith, nat_tests, a) })
     (λ code e. grind (arith, nat_tests, (codes_alone s.routing code t.routing (in_use_below runs sound code e)).asked_code home alternative, up, t.routing.at_most_16, below home up, below alternative out, t.homes_up code))
 

@@ -1,5 +1,5 @@
 -- What the control chooses to send for the first time, and where its cursor, or its place in the cycle, is after each step.
-use Rattle.std.proofs.Common.{arith, ◌≡◌, ◌≢◌, ◌<◌, ◌≤◌, ℕ, ◌+◌, Bool, length, drop, refl, ◌∙◌, ap, sym, subst, ◌==◌, true, false, List, [], ◌++◌, map, slice_get, slice_set, Some, cond, ◌∷◌, None}
+use Rattle.std.proofs.Common.{arith, ◌||◌, ◌≡◌, ◌≢◌, ◌<◌, ◌≤◌, ℕ, ◌+◌, Bool, length, drop, refl, ◌∙◌, ap, sym, subst, ◌==◌, true, false, List, [], ◌++◌, map, slice_get, slice_set, Some, cond, ◌∷◌, None}
 use Rattle.std.proofs.lemmas.List.{length-drop, append-nil, length-map, length-append, length-set, length-take}
 use Rattle.std.proofs.lemmas.Bool.Decides.{nat_tests}
 use Rattle.l2_pcr.specs.Pcr as cyclic
@@ -10,7 +10,7 @@ use Rattle.std.proofs.lemmas.List.Elements.{filter-append}
 use Rattle.l2_units.specs.Grammar.{head_of as header_in}
 use Rattle.set_route.specs.Routing.{IsRouting, Routing, accepted, code_of, home_of, place_of}
 use Rattle.set_model.specs.Changeover.{acknowledged_by, Order, fate_on, queued}
-use Rattle.set_model.specs.Rows.{AreFit, DiscardCause, Fate, Discarded, Row, changed, fated, held, is_held, is_on, is_unacked, is_waiting, moved, octets_in, on, standing, stands_back, unack, wait, Back, Held, Parked, Waiting, appended, parked, service_indicator, stream_of}
+use Rattle.set_model.specs.Rows.{AreFit, DiscardCause, Fate, Discarded, Row, changed, fated, held, is_held, is_on, is_parked, is_unacked, is_waiting, moved, octets_in, on, standing, stands_back, unack, wait, Back, appended, parked, service_indicator, stream_of}
 use Rattle.set_model.specs.State.{Asked, is_up, Place, Changing, Nowhere, On, Down, Up, LinkState, State, has_phase_settled, has_phase_up, last_accepted, link_is_up, window_of, fate_at, target}
 use Rattle.set_model.specs.Step.{SignalUnit, after_control, is_msu, next, rows_sent, offer_refusal, offered}
 use Rattle.set_model.proofs.Order.{backs_of, stood, before_append, before_never, neither, gone_none, coded_at, ascends_appended}
@@ -137,14 +137,10 @@ module _ (n : ℕ) (link : LinkState) (s : State) (at : IsAt n link Up s) (t : I
         (grind (arith, nat_tests, (header_in unit).fsn, l.counted)) (grind (arith, l.method)) (λ u. grind (arith, range_heard link.control window (header_in unit) (is_msu unit) old_range, a.unack_is, length-drop, length-map))
 
 -- WHAT HOLDS OF EVERY STATE is kept by a new message.
--- A NEW MESSAGE. It waits for a link that is up, is held for one that isn't settled, is parked while none is up, or
--- stands back.
-abbrev pub IsOpen : Fate → List LinkState → Type 0
-IsOpen (Waiting number) links = (link : LinkState) × (slice_get links number ≡ Some link) × (has_phase_up link.phase ≡ true)
-IsOpen (Held number) links = (link : LinkState) × (slice_get links number ≡ Some link) × (has_phase_up link.phase ≡ false) × (has_phase_settled link.phase ≡ false)
-IsOpen Parked links = (number : ℕ) (link : LinkState) → slice_get links number ≡ Some link → has_phase_up link.phase ≡ false
-IsOpen (Back code) links = Unit {0}
-IsOpen _ links = ⊥
+-- A NEW MESSAGE can come to stand there, for all that this link has to do with it: it waits for a link that is up, is held
+-- for one that isn't settled, or parked while none is up.
+abbrev pub IsOpenAt : ℕ → LinkState → Fate → Type 0
+IsOpenAt number link fate = (is_unacked number fate ≡ false) × (has_phase_up link.phase ≡ true → (is_held number fate || is_parked fate) ≡ false) × (has_phase_up link.phase ≡ false → is_waiting number fate ≡ false) × (has_phase_settled link.phase ≡ true → is_on number fate ≡ false)
 
 -- WHERE A STREAM RUNS, as links and streams change, and what stands back by a code of which nothing moves.
 pub record Follows (links : List LinkState) (test : Fate → Bool) (was is : Place) : Type 0 where
@@ -154,14 +150,14 @@ pub record Follows (links : List LinkState) (test : Fate → Bool) (was is : Pla
 
 module _ (s : State) (routing : Routing) (t : IsSound s) (sound : IsRouting routing) (same : routing.links ≡ s.routing.links) where
   -- a new row
-  pub appended_sound : (body : List ℕ) (fate : Fate) → length body ≤ 273 → IsOpen fate s.links → IsBackOf s.routing (new_row (length s.rows) body fate) fate → ((k : ℕ) → k < 16 → Follows s.links (λ f. false) (place_of k s.routing) (place_of k routing))
+  pub appended_sound : (body : List ℕ) (fate : Fate) → length body ≤ 273 → ((k : ℕ) (link : LinkState) → slice_get s.links k ≡ Some link → IsOpenAt k link fate) → IsBackOf s.routing (new_row (length s.rows) body fate) fate → ((k : ℕ) → k < 16 → Follows s.links (λ f. false) (place_of k s.routing) (place_of k routing))
       → ((code : ℕ) → code_of code routing ≡ Asked → is_up (home_of code) s ≡ true) → IsSound (record s { rows = appended s.rows body fate; routing = routing })
   appended_sound body fate fits opened is_back follows homes =
-      let links = λ (k : ℕ) (other : LinkState) (there : slice_get s.links k ≡ Some other). link_more s.settings.method k other s.rows (new_row (length s.rows) body fate ∷ []) (grind arith) (λ u. grind (arith, nat_tests)) (λ d. grind (arith, nat_tests)) (λ e. grind (arith, nat_tests)) s.rows refl (t.links k other there) in
+      let links = λ (k : ℕ) (other : LinkState) (there : slice_get s.links k ≡ Some other). link_more s.settings.method k other s.rows (new_row (length s.rows) body fate ∷ []) (let o = opened k other there in grind arith) (λ u. let o = opened k other there in grind arith) (λ d. let o = opened k other there in grind arith) (λ e. let o = opened k other there in grind arith) s.rows refl (t.links k other there) in
       let backs = each_so (λ row. IsBackOf s.routing row row.fate) (λ row. IsBackOf routing row row.fate) (λ x. stood (λ f. false) s.routing routing (λ k few. (follows k few).stays) x x.fate refl) (appended s.rows body fate) (each_append _ s.rows _ t.backs (is_back, tt)) in
       let runs = λ (n : ℕ) (link : LinkState) (there : slice_get s.links n ≡ Some link) (up : has_phase_up link.phase ≡ true) (k : ℕ) (few : k < 16). (follows k few).runs n link there up in
       let placed = λ (k : ℕ) (few : k < 16). (follows k few).placed in
-      let aside : (k : ℕ) (other : LinkState) → slice_get s.links k ≡ Some other → has_phase_up other.phase ≡ true → parked (appended s.rows body fate) ≡ [] = λ k other there rising. grind (arith, appended_out) in
+      let aside : (k : ℕ) (other : LinkState) → slice_get s.links k ≡ Some other → has_phase_up other.phase ≡ true → parked (appended s.rows body fate) ≡ [] = λ k other there rising. let o = opened k other there in grind (arith, appended_out) in
       let fit : AreFit (appended s.rows body fate) = each_append _ s.rows _ t.fit (fits, tt) in
       let routed = same ∙ t.routed in
       search (numbered_appended, ascends_appended)
@@ -169,7 +165,7 @@ module _ (s : State) (routing : Routing) (t : IsSound s) (sound : IsRouting rout
 -- AN ORDER goes to the target, and is of no stream.
 pub queues : (order : Order) (s : State) → IsSound s → IsSound (queued order s)
 queues order s t =
-    appended_sound s s.routing t t.routing refl _ (fate_on (target s.links)) (grind arith) (grind (arith, target_up, none_up)) (grind arith)
+    appended_sound s s.routing t t.routing refl _ (fate_on (target s.links)) (grind arith) (λ k link there. grind (arith, nat_tests, target_up, none_up)) (grind arith)
     (λ k few. record { placed = t.placed k few; runs = λ n link there up. t.all_run n link there up k few; stays = λ code via e is. (via, is) }) t.homes_up
 
 -- AN OFFER goes where its stream runs.
@@ -179,5 +175,5 @@ offers s body low free t =
     let fits : (length body ≤ 273) × ((service_indicator body == 0) ≡ false) = grind (arith, free) in
     let placed = t.placed stream low in
     let same = λ (k : ℕ) (few : k < 16). (alone s.routing k t.routing few).accepted_place stream in
-    appended_sound s (accepted stream s.routing) t (accepted_sound stream s.routing t.routing) refl body (fate_at (place_of stream s.routing) s) fits.0 (grind (arith, placed, t.all_run)) (grind (arith, free, low, coded_at))
+    appended_sound s (accepted stream s.routing) t (accepted_sound stream s.routing t.routing) refl body (fate_at (place_of stream s.routing) s) fits.0 (λ k link there. grind (arith, nat_tests, placed, t.all_run)) (grind (arith, free, low, coded_at))
     (λ k few. rw (same k few) (record { placed = t.placed k few; runs = λ n link there up. t.all_run n link there up k few; stays = λ code via e is. (via, is) })) t.homes_up

@@ -12,7 +12,7 @@ use Rattle.set_model.specs.Rows.{Waiting, Acked, Discarded, DiscardCause, Emerge
 use Rattle.set_route.specs.Routing.{place_of, code_for, home_of, code_of, is_free, can_ask, asked, given_back, left, settled as streams_settled}
 pub use Rattle.set_model.specs.declared.reached.Reached.{Reached}
 pub use Rattle.set_model.specs.declared.reached.Reached.TheVariants.{Upto, Unknown, Unanswered}
-use Rattle.set_model.specs.State.{Phase, Up, Down, Settled, Code, Free, LinkState, State, is_up, fate_at, target, window_of, last_accepted, Settings}
+use Rattle.set_model.specs.State.{Phase, Up, Down, Settled, Code, Free, LinkState, State, is_up, fate_at, target, window_of, last_accepted}
 
 -- QUEUE: an order stands last, as a row of its own, for the target, in the octets that this set writes
 abbrev pub queued : Order → State → State
