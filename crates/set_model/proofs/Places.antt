@@ -2,7 +2,7 @@
 use Rattle.std.proofs.Common.{arith, refl, ◌≡◌, ◌∙◌, sym, ℕ, Bool, true, false, ◌==◌}
 pub use Rattle.std.proofs.lemmas.Bool.{ne_eqb as apart}
 use Rattle.std.proofs.lemmas.Bool.{eq-eqb, eqb-false}
-use Rattle.set_model.specs.Rows.{Fate, is_back, is_back_to, is_held, is_on, is_parked, is_unacked, is_waiting, stands_back, was_acked}
+use Rattle.set_model.specs.Rows.{Fate, is_back, is_back_to, is_held, is_on, is_parked, is_unacked, is_waiting, stands_back}
 
 pub false_true : {P : Type 0} (b : Bool) → b ≡ false → b ≡ true → P
 false_true b f t = let no : true ≡ false = sym t ∙ f in absurd cc
@@ -28,12 +28,6 @@ on_not_parked n f e = grind arith
 
 pub on_not_back : (n : ℕ) (f : Fate) → is_on n f ≡ true → stands_back f ≡ false
 on_not_back n f e = grind arith
-
-pub on_not_acked : (l : ℕ) (f : Fate) → is_on l f ≡ true → was_acked f ≡ false
-on_not_acked l f e = grind arith
-
-pub parked_not_acked : (f : Fate) → is_parked f ≡ true → was_acked f ≡ false
-parked_not_acked f e = grind arith
 
 -- What stands in one of the three places of a link is on it.
 pub waiting_on : (l : ℕ) (f : Fate) → is_waiting l f ≡ true → is_on l f ≡ true
@@ -64,9 +58,6 @@ back_not_on l f e = grind arith
 
 pub back_not_parked : (f : Fate) → stands_back f ≡ true → is_parked f ≡ false
 back_not_parked f e = grind arith
-
-pub back_not_acked : (f : Fate) → stands_back f ≡ true → was_acked f ≡ false
-back_not_acked f e = grind arith
 
 -- by a code, or by the home of one
 pub code_back : (c : ℕ) (f : Fate) → is_back c f ≡ true → stands_back f ≡ true

@@ -1,6 +1,6 @@
 -- Filters of rows, and of rows with other fates.
 use Rattle.std.proofs.Common.{refl, arith, ◌≡◌, ◌∙◌, ap, sym, [], ◌∷◌, length, ◌≤◌, Bool, true, false, List, ◌++◌, map, filter, not, ◌+◌, ◌<◌, ℕ, nat_lt, ◌==◌, None, cond, zero, suc, drop, Some, slice_get, option_map}
-use Rattle.set_model.specs.Rows.{Fate, Each, AreBefore, AreFit, Row, fated, standing, IsNumbered, moved, counts_of, is_parked, stands_back, total_of, users, waits, was_acked, was_discarded, was_held, was_sent, appended, row_of, body_at, changed, turned, with_fate, numbers, place}
+use Rattle.set_model.specs.Rows.{Acked, Fate, Each, AreBefore, AreFit, Row, fated, standing, IsNumbered, moved, counts_of, is_parked, stands_back, total_of, users, waits, was_acked, was_discarded, was_held, was_sent, appended, row_of, body_at, changed, turned, with_fate, numbers, place}
 use Rattle.std.proofs.lemmas.List.{append-nil, length-append, length-map, length_push}
 use Rattle.std.proofs.lemmas.List.Elements.{filter-append}
 use Rattle.std.proofs.lemmas.List.Filters.{length-filter_both}
@@ -154,7 +154,7 @@ pub record InPlace (test : Fate → Bool) (fate : Fate) (xs ys : List Row) : Typ
   pub as_many : (p : Row → Bool) → ((f : Fate) (x : Row) → p (with_fate f x) ≡ p x) → length (filter p ys) ≡ length (filter p xs)
   pub bodies : (number : ℕ) → body_at number ys ≡ body_at number xs
   -- where no acknowledged one turns
-  pub acked : ((f : Fate) → test f ≡ true → was_acked f ≡ false) → length (standing was_acked (users xs)) ≤ length (standing was_acked (users ys))
+  pub acked : ((l : ℕ) → test (Acked l) ≡ false) → length (standing was_acked (users xs)) ≤ length (standing was_acked (users ys))
   -- a place where none comes has no more than before; and where none turns either it has the same
   pub fewer : (other : Fate → Bool) → other fate ≡ false → length (standing other ys) ≤ length (standing other xs)
   pub same : (other : Fate → Bool) → other fate ≡ false → ((f : Fate) → test f ≡ true → other f ≡ false) → standing other ys ≡ standing other xs

@@ -16,7 +16,6 @@ use Rattle.set_model.specs.Step.{Event, Offer, step, Answer, Gains, messages_in,
 use Rattle.set_model.specs.Control.{Choice}
 use Rattle.set_model.specs.Sound.{IsManaged}
 use Rattle.set_model.specs.State.{Place, Settings, State, fate_at}
-use Rattle.set_model.proofs.Places.{on_not_acked, parked_not_acked, back_not_acked, home_back, code_back}
 use Rattle.set_model.proofs.Lists.{target_open}
 use Rattle.set_model.proofs.Walk.{step_walks}
 
@@ -59,7 +58,7 @@ module _ (Free : Type 0) where
       let stay = λ (numbered : IsNumbered s.rows). (messages_stay (λ f. false) fate (λ row. fate) s.rows numbered).others_stay body in
       grind (arith, length_push, stay, total_is, filter-append, length-append, numbered_appended, order)
 
-ruleset grows = (grows_then, grows_kept, grows_appended, moved_kept, kept_self, on_not_acked, target_open, parked_not_acked, back_not_acked, home_back, code_back)
+ruleset grows = (grows_then, grows_kept, grows_appended, moved_kept, kept_self, target_open)
 
 pub step_grows : (s : State) (event : Event) → Grows (is_offer event ≡ false) s (step s event).state
 step_grows s event =
