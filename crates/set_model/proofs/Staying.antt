@@ -40,9 +40,7 @@ is_offer _ = false
 -- a state with the messages of another one, and new ones or none: where Free, none of a user
 pub record Grows (Free : Type 0) (s t : State) : Type 0 where
   pub settings_same : t.settings ≡ s.settings
-  pub count : length s.rows ≤ length t.rows
-  pub bodies : IsNumbered s.rows → (number : ℕ) → number < length s.rows → body_at number t.rows ≡ body_at number s.rows
-  pub numbered : IsNumbered s.rows → IsNumbered t.rows
+  pub keeps : IsNumbered s.rows → KeepsMessages s.rows t.rows
   pub acked : (counts_of s.rows).acked ≤ (counts_of t.rows).acked
   pub total : Free → IsManaged s.settings → total_of (counts_of t.rows) ≡ total_of (counts_of s.rows)
 
@@ -74,7 +72,7 @@ step_grows s event =
     step_walks s (Grows (is_offer event ≡ false)) (Grows (is_offer event ≡ false) s) event (search (grows, order_managed, fate_open, none_offered))
 
 pub keeps_messages : (s : State) (event : Event) → IsNumbered s.rows → KeepsMessages s.rows (step s event).state.rows
-keeps_messages s event numbered = grind (arith, step_grows)
+keeps_messages s event numbered = (step_grows s event).keeps numbered
 
 -- What a step brings: each accepted message stands in one place more, and what is acknowledged stays so.
 -- only an offer is answered by a message
