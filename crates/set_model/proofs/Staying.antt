@@ -1,11 +1,11 @@
 -- The laws of the list of rows.
-use Rattle.std.proofs.Common.{arith, ℕ, Bool, List, ◌≡◌, ◌∙◌, ap, sym, ◌≤◌, ◌<◌, length, ◌==◌, true, false, refl}
+use Rattle.std.proofs.Common.{arith, ℕ, Bool, List, ◌≡◌, ◌∙◌, ap, sym, ◌≤◌, ◌==◌, true, false, refl}
 use Rattle.std.proofs.lemmas.List.{drop_at, length_push, length-append}
 use Rattle.std.proofs.lemmas.List.Filters.{length-filter_both}
 use Rattle.std.proofs.lemmas.List.Folds.{find-append}
 use Rattle.std.proofs.lemmas.Bool.Decides.{nat_tests}
 use Rattle.set_model.specs.Laws.{MessagesStay, MovesTheLinksRows, KeepsMessages}
-use Rattle.set_model.specs.Rows.{Fate, IsNumbered, Row, DiscardCause, appended, body_at, counts_of, service_indicator, total_of, was_acked}
+use Rattle.set_model.specs.Rows.{Fate, IsNumbered, Row, DiscardCause, appended, counts_of, service_indicator, total_of, was_acked}
 use Rattle.set_model.proofs.Rows.{turned_there, changed_there, moved_length, moved_numbered, is_found, numbered_appended, same_numbers, no_rows, body_moved, place_moved, row_is_first, total_is}
 use Rattle.set_model.proofs.Events.{numbers_fated, Kept, kept_self, moved_kept, sent_by, acknowledged, sent_given_up, waiting_given_up}
 use Rattle.std.proofs.lemmas.List.Elements.{filter-append}
