@@ -96,11 +96,10 @@ module _ (blind : Bool) (n : ℕ) (link : LinkState) (s : State) (at : IsAt n li
 
   -- its stream runs on the link that it came from
   pub goes : (x : Row) → is_back_to n x.fate ≡ true → IsBackOf s.routing x x.fate → (via : ℕ) × (place_of (stream_of x.body) mid.routing ≡ On via) × IsPlaced mid.links (On via)
-  goes x e b = go x.fate e b
-    where
-      go : (f : Fate) → is_back_to n f ≡ true → IsBackOf s.routing x f → (via : ℕ) × (place_of (stream_of x.body) mid.routing ≡ On via) × IsPlaced mid.links (On via)
-      go (Back c) e b = (b.2, grind (arith, (alone s.routing (stream_of x.body) t.routing b.1).left_place n), placed_set s.links n link (left_link blind link) (On b.2) at.there refl (rw b.3 at (t.placed (stream_of x.body) b.1)))
-      go _ e b = absurd cc
+  goes x e b =
+      let placed = λ (via : ℕ). placed_set s.links n link (left_link blind link) (On via) at.there refl in
+      let left = alone s.routing (stream_of x.body) t.routing in
+      grind (arith, placed, left, t.placed)
 
   gone : (other : Fate → Bool) → ((via : ℕ) → IsPlaced mid.links (On via) → other (fate_at (On via) mid) ≡ false) → standing other (map (fated fate) (standing (is_back_to n) s.rows)) ≡ []
   gone other h = gone_none (is_back_to n) fate (λ row. IsBackOf s.routing row row.fate) other (λ x e b. let g = goes x e b in ap (λ (p : Place). other (fate_at p mid)) g.1 ∙ h g.0 g.2) s.rows t.backs

@@ -60,8 +60,7 @@ module _ (Known : ℕ → Type 0) (May : Type 0) (R : State → State → Type 0
   over_walks reached n link Up s known at =
       let told = queued (Coa n (last_accepted link)) (left_by false n link s) in
       k.after s told _ (k.after s _ told (k.leaves false n link s known at) (k.queues (Coa n (last_accepted link)) (left_by false n link s))) (settle_walks reached n (left_link false link) told known (record { there = get_set_same s.links n (left_link false link) (within s.links n link at.there); phase_is = refl }))
-  over_walks reached n link Down s known at = settle_walks reached n link s known at
-  over_walks reached n link Settled s known at = k.queues (reply_of n link) s
+  over_walks reached n link phase s known at = grind (arith, settle_walks)
 
   answer_walks : (reached : Reached) (n : ℕ) (link : LinkState) (phase : Phase) (s : State) → Known n → IsAt n link phase s → R s (answered reached n link phase s).state
   answer_walks reached n link phase s known at = grind (arith, settle_walks)
