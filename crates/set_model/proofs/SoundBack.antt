@@ -53,14 +53,6 @@ module _ (n : ℕ) (link : LinkState) (s : State) (at : IsAt n link Down s) (t :
   abbrev to_link : Option ℕ
   to_link = target s.links
 
-  -- a link that is up was so before, so there is a target; and a stream on its way back has a home that is up
-  over_follows : (to : Option ℕ) → target s.links ≡ to → (place : Place) → ((home code via : ℕ) → place ≡ Changing home code via → to ≡ None → ⊥) → IsPlaced s.links place → ((j : ℕ) (old : LinkState) → slice_get s.links j ≡ Some old → has_phase_up old.phase ≡ true → place ≢ Nowhere) → (is : Place) → is ≡ place_settled n to place → Follows (slice_set s.links n (settled_link link)) (is_on n) place is
-  over_follows to e place some p run is a = record {
-    placed = rw a (grind (arith, nat_tests, target_up, get_set_other));
-    runs = up_before s.links n link (settled_link link) at.there (λ e. absurd cc) (λ j old here up. let runs = run j old here up in rw a (grind (arith, none_up, runs)));
-    stays = λ code via out was. grind arith;
-  }
-
   pub moves_off_sound : IsSound (moved_over n link s)
   moves_off_sound =
       -- it is empty, since the target is another link
@@ -69,7 +61,13 @@ module _ (n : ℕ) (link : LinkState) (s : State) (at : IsAt n link Down s) (t :
       let stays : has_phase_up link.phase ≡ true → has_phase_up (settled_link link).phase ≡ true = false_true (has_phase_up link.phase) (ap has_phase_up at.phase_is) in
       let below : IfSome (target s.links) (λ r. r < s.routing.links) = grind (arith, target_up, within) in
       moved_sound s _ (settled n to_link s.routing) (is_on n) (all_with (fate_on to_link)) t (length-set s.links n (settled_link link)) (settled_sound n to_link s.routing below t.routing) refl (fated_none stands_back (all_with (fate_on to_link)) (λ x. grind arith) (standing (is_on n) s.rows))
-      (λ k few. over_follows to_link refl (place_of k s.routing) (λ home code via e none. grind (arith, nat_tests, coded_at, none_up)) (t.placed k few) (λ j old here up. t.all_run j old here up k few) _ ((alone s.routing k t.routing few).settled_place n to_link)) (λ code asked. up_after s.links n link (settled_link link) at.there stays (home_of code) (t.homes_up code asked))
+      -- a link that is up was so before, so there is a target; and a stream on its way back has a home that is up
+      (λ k few. let a = (alone s.routing k t.routing few).settled_place n to_link in let stood = t.placed k few in let away : (home code via : ℕ) → place_of k s.routing ≡ Changing home code via → to_link ≡ None → ⊥ = λ home code via e none. grind (arith, nat_tests, coded_at, none_up) in record {
+        placed = rw a (grind (arith, nat_tests, target_up, get_set_other, stood, away));
+        runs = up_before s.links n link (settled_link link) at.there (λ e. absurd cc) (λ j old here up. let runs = t.all_run j old here up k few in rw a (grind (arith, none_up, runs)));
+        stays = λ code via out was. grind (arith, a);
+      })
+      (λ code asked. up_after s.links n link (settled_link link) at.there stays (home_of code) (t.homes_up code asked))
       (up_before s.links n link (settled_link link) at.there (λ e. absurd cc) (λ k old here up. moved_same (is_on n) is_parked (all_with (fate_on to_link)) s.rows (λ x. grind (arith, none_up)) (λ f e. grind arith) ∙ t.none_aside k old here up))
       (each_set (λ k other. IsSoundLink s.settings.method k other (moved (is_on n) (all_with (fate_on to_link)) s.rows)) s.links n (settled_link link) (grind arith) (λ k other d here. let out = λ (is_down : has_phase_up other.phase ≡ false). target_off s.links k (ap link_is_up here ∙ is_down) in link_moved s.settings.method k other (is_on n) (all_with (fate_on to_link)) s.routing s.rows t.backs (apart_on n k d)
       (λ x. not_sent k to_link) (λ u x. target_unheld to_link k) (λ f x e b. not_on_waiting k (fate_on to_link) (out f)) (λ e x f b. out (grind (arith, e))) (t.links k other here)))
