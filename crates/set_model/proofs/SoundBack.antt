@@ -1,14 +1,14 @@
 -- WHAT HOLDS OF EVERY STATE is kept when a link comes up, when it is left, and when its messages leave it, and by a
 -- changeback.
 use Rattle.std.proofs.lemmas.Bool.Decides.{nat_tests}
-use Rattle.std.proofs.Common.{length, refl, arith, ◌≡◌, ◌≢◌, ◌∙◌, ap, ◌<◌, ℕ, ◌==◌, true, false, List, [], map, slice_get, slice_set, Option, None, Some, IfSome, Bool, not}
+use Rattle.std.proofs.Common.{length, refl, arith, ◌≡◌, ◌∙◌, ap, ◌<◌, ℕ, ◌==◌, true, false, List, [], map, slice_get, Option, None, Some, IfSome, Bool, not}
 use Rattle.std.proofs.lemmas.Bool.{and_parts}
 use Rattle.std.proofs.lemmas.List.{length-set}
-use Rattle.set_route.specs.Routing.{settled, IsRouting, Routing, asked, code_of, given_back, home_of, place_of, raised, place_settled}
+use Rattle.set_route.specs.Routing.{settled, IsRouting, Routing, asked, code_of, given_back, home_of, place_of, raised}
 use Rattle.set_model.specs.Changeover.{can_declare, declared, fate_on, left_by, left_link, moved_over, out_of_service, released, settled_link}
-use Rattle.set_model.specs.Rows.{Fate, Waiting, Back, Row, all_with, back, fated, is_back, is_back_to, is_held, is_on, is_parked, is_waiting, moved, numbers, parked, standing, stands_back, stream_of}
+use Rattle.set_model.specs.Rows.{Fate, Waiting, Row, all_with, back, fated, is_back, is_back_to, is_held, is_on, is_parked, is_waiting, moved, numbers, parked, standing, stands_back, stream_of}
 use Rattle.set_model.specs.Sound.{AreBack, IsAscending, IsBackOf, IsPlaced, IsSound, IsSoundLink}
-use Rattle.set_model.specs.State.{Asked, Place, Nowhere, On, Changing, Down, Settled, Up, LinkState, State, fate_at, has_phase_up, is_up, link_is_up, target}
+use Rattle.set_model.specs.State.{Asked, Place, On, Changing, Down, Settled, Up, LinkState, State, fate_at, has_phase_up, is_up, link_is_up, target}
 use Rattle.set_model.specs.Step.{risen_link, rises}
 use Rattle.set_route.proofs.Alone.{alone, codes_alone}
 use Rattle.set_route.proofs.Places.{raised_sound, settled_sound, left_sound, asked_sound, back_sound}
