@@ -57,8 +57,6 @@ few_sent choice m n rows = grind (arith, few_turned (is_waiting n) (is_unacked m
 acked_at_most : (more c n count : ℕ) (rows : List Row) → count ≤ length (unack n rows) → c + count + length (unack n (turned (is_unacked n) (Acked n) count rows)) ≤ c + length (unack n rows) + more
 acked_at_most more c n count rows fits = grind (arith, turned_left, length-drop)
 
-ruleset grows = (le_refl, zero-le, grow_then, grow_rows, grow_set, acked_at_most, few_moved, appended_out, not_sent, offered_out, few_sent, acked_few, arith)
-
 step_grows : (s : State) (event : Event) → GrowBy 1 s (step s event).state
 step_grows s event =
     let at_most : (a b more : ℕ) → a ≤ b → a ≤ b + more = λ a b more few. omega arith in
@@ -66,7 +64,7 @@ step_grows s event =
     let one_low : (a more : ℕ) (b : Bool) → 1 ≤ more → a + one_if b ≤ a + more = λ a more b some. grind arith in
     let acked = λ (m n count : ℕ) (rows : List Row). (turned_there (is_unacked n) (Acked n) count rows).fewer (is_unacked m) in
     let given_up = λ (m : ℕ) (test : Fate → Bool) (cause : DiscardCause) (rows : List Row). (changed_there test (Discarded cause) rows).fewer (is_unacked m) in
-    step_walks s (GrowBy 0) (GrowBy 1 s) event (search (grows, at_most, sum_at_most, one_low))
+    step_walks s (GrowBy 0) (GrowBy 1 s) event (search (le_refl, zero-le, grow_then, grow_rows, grow_set, acked_at_most, few_moved, appended_out, not_sent, offered_out, few_sent, acked_few, arith, at_most, sum_at_most, one_low))
 
 pub step_at_most : (s : State) (event : Event) (k : ℕ → WholeNumbers) → AreAtMost k s → AreAtMost (λ n. one_more (k n)) (step s event).state
 step_at_most s event k few n link there = let g = (step_grows s event).each n link there in let f = few n g.0 g.1 in grind (arith, f, g)

@@ -106,9 +106,6 @@ module _ (n : ℕ) (link : LinkState) (s : State) (at : IsAt n link Up s) (t : I
   abbrev window : WindowState
   window = window_of n link s.rows
 
-  abbrev octets : ℕ
-  octets = octets_in (unack n s.rows)
-
   l : IsSoundLink s.settings.method n link s.rows
   l = t.links n link at.there
 
@@ -116,12 +113,12 @@ module _ (n : ℕ) (link : LinkState) (s : State) (at : IsAt n link Up s) (t : I
   old_range = grind (arith, length-map, l.in_range)
 
   -- how many are unacknowledged then
-  counts : (choice : Choice) → choice_of octets link.control window ≡ choice → (length (unack n s.rows) ≤ length (unack n (rows_sent choice n s.rows))) × (choice ≡ first → length (unack n (rows_sent choice n s.rows)) ≡ length (unack n s.rows) + 1) × (length (unack n (rows_sent choice n s.rows)) ≤ 127)
-  counts choice e = grind (arith, first_chosen octets link.control window, length-map, length-append, length-take, (sent n s.rows).unack_is l.in_order, l.window)
+  counts : (choice : Choice) → choice_of (octets_in (unack n s.rows)) link.control window ≡ choice → (length (unack n s.rows) ≤ length (unack n (rows_sent choice n s.rows))) × (choice ≡ first → length (unack n (rows_sent choice n s.rows)) ≡ length (unack n s.rows) + 1) × (length (unack n (rows_sent choice n s.rows)) ≤ 127)
+  counts choice e = grind (arith, first_chosen (octets_in (unack n s.rows)) link.control window, length-map, length-append, length-take, (sent n s.rows).unack_is l.in_order, l.window)
 
   pub sends_sound : IsSound (next n s link).state
   sends_sound =
-      let choice = choice_of octets link.control window in
+      let choice = choice_of (octets_in (unack n s.rows)) link.control window in
       let c = counts choice refl in
       changes n link _ s _ t at.there refl (ap has_phase_settled at.phase_is) (sent_by choice n s.rows) c.2 (grind (arith, l.counted)) (grind (arith, l.method)) (λ u. grind (arith, range_after, c, old_range, length-map))
 

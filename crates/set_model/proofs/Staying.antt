@@ -56,8 +56,6 @@ module _ (Free : Type 0) where
       let stay = λ (numbered : IsNumbered s.rows). (messages_stay (λ f. false) fate (λ row. fate) s.rows numbered).others_stay body in
       grind (arith, length_push, stay, total_is, filter-append, length-append, numbered_appended, order)
 
-ruleset grows = (grows_then, grows_kept, grows_appended, moved_kept, kept_self, target_open)
-
 pub step_grows : (s : State) (event : Event) → Grows (is_offer event ≡ false) s (step s event).state
 step_grows s event =
     let none_offered : (body : List ℕ) → event ≡ Offer body → is_offer event ≡ false → (service_indicator body == 0) ≡ true = λ body e other. absurd (let no : true ≡ false = sym (ap is_offer e) ∙ other in cc) in
@@ -69,7 +67,7 @@ step_grows s event =
     let acks = λ (n count : ℕ) (rows : List Row). (acknowledged n count rows).kept in
     let sent_up = λ (n : ℕ) (cause : DiscardCause) (rows : List Row). (sent_given_up n cause rows).kept in
     let waiting_up = λ (n : ℕ) (cause : DiscardCause) (rows : List Row). (waiting_given_up n cause rows).kept in
-    step_walks s (Grows (is_offer event ≡ false)) (Grows (is_offer event ≡ false) s) event (search (grows, order_managed, fate_open, none_offered))
+    step_walks s (Grows (is_offer event ≡ false)) (Grows (is_offer event ≡ false) s) event (search (grows_then, grows_kept, grows_appended, moved_kept, kept_self, target_open, order_managed, fate_open, none_offered))
 
 pub keeps_messages : (s : State) (event : Event) → IsNumbered s.rows → KeepsMessages s.rows (step s event).state.rows
 keeps_messages s event numbered = (step_grows s event).keeps numbered

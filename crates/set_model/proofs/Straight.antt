@@ -149,12 +149,10 @@ sends choice n s r stream low = let turns = stream_turned stream (place_of strea
 abbrev StaysStraight : State → State → Type 0
 StaysStraight s t = IsSound s → NoneOpen s.routing → AreTogether s → IsSound t × RunsStraight t
 
-ruleset straight = (leaves, releases, queues, stream_turned, stream_changed, fits_finished, moves_off, offers, sends, rises)
-
 pub step_straight : (s : State) (event : Event) → IsAsked event → BeginsNone event → IsSound s → RunsStraight s → RunsStraight (step s event).state
 step_straight s event asked begins t r =
     let stood = r.together in
     let rests : (a b : State) → IsSound a × RunsStraight a → StaysStraight a b → IsSound b × RunsStraight b = λ a b q then. then q.0 q.1.none_open q.1.together in
     let then_straight : (a b c : State) → StaysStraight a b → StaysStraight b c → StaysStraight a c = λ a b c p q sound none r. rests b c (p sound none r) q in
     let begins_none : (u : State) → (BeginsNone event → ⊥) → IsSound u × RunsStraight u = λ u may. absurd (may begins) in
-    (step_walks s StaysStraight (λ u. IsSound u × RunsStraight u) event (search (sounds, straight, then_straight, rests, begins_none, stood))).1
+    (step_walks s StaysStraight (λ u. IsSound u × RunsStraight u) event (search (sounds, leaves, releases, queues, stream_turned, stream_changed, fits_finished, moves_off, offers, sends, rises, then_straight, rests, begins_none, stood))).1
