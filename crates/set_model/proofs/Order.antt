@@ -54,13 +54,8 @@ ascends_appended p rows body fate numbered a =
 pub coded_at : (r : Routing) (stream : ℕ) → IsRouting r → (to code via : ℕ) → place_of stream r ≡ Changing to code via → (home_of code ≡ to) × (code_of code r ≡ Asked)
 coded_at r stream sound to code via e = subst (IsCoded r) e (at_place (IsCoded r) tt r.streams stream sound.coded)
 
--- a stream on its way back by a code of which nothing moves stays on it
-abbrev pub StaysBack : (Fate → Bool) → Routing → Routing → Type 0
-StaysBack test old new =
-    (k : ℕ) → k < 16 → (code via : ℕ) → test (Back code) ≡ false → place_of k old ≡ Changing (home_of code) code via
-    → (via' : ℕ) × (place_of k new ≡ Changing (home_of code) code via')
-
-pub stood : (test : Fate → Bool) (old new : Routing) → StaysBack test old new → (x : Row) (f : Fate) → test f ≡ false → IsBackOf old x f → IsBackOf new x f
+-- where a stream on its way back by a code of which nothing moves stays on it
+pub stood : (test : Fate → Bool) (old new : Routing) → ((k : ℕ) → k < 16 → (code via : ℕ) → test (Back code) ≡ false → place_of k old ≡ Changing (home_of code) code via → (via' : ℕ) × (place_of k new ≡ Changing (home_of code) code via')) → (x : Row) (f : Fate) → test f ≡ false → IsBackOf old x f → IsBackOf new x f
 stood test old new stays x f out b = grind arith
 
 -- of the rows it asks only those that stand back

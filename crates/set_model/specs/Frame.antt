@@ -23,19 +23,17 @@ BringsBackTo number (Msu head body) =
 BringsBackTo number _ = ⊥
 
 -- its own link, that of an order which its unit brings, the home of the code that it acknowledges, or the one on which
--- the stream of an offered message runs; Restore concerns none
+-- the stream of an offered message runs; Take, Find and Restore concern none
 abbrev pub Concerns : Event → ℕ → State → Type 0
 Concerns (Offer body) number s = place_of (stream_of body) s.routing ≡ On number
-Concerns Take number s = ⊥
-Concerns (Find message) number s = ⊥
 Concerns (Next link) number s = link ≡ number
 Concerns (Heard link unit) number s = (link ≡ number) ⊎ (BringsAbout number unit ⊎ BringsBackTo number unit)
 Concerns (UpEvent link) number s = link ≡ number
 Concerns (DownEvent link) number s = link ≡ number
 Concerns (DownBlind link) number s = link ≡ number
 Concerns (NoAnswer link) number s = link ≡ number
-Concerns (Restore link) number s = ⊥
 Concerns (BackTimeout link) number s = link ≡ number
+Concerns _ number s = ⊥
 
 -- nothing of the link changed, but that messages may have come, last: to wait for it if it's up, since it may be the
 -- target or an alternative, and else to be held for it, which turned back from a changeback
