@@ -1,8 +1,8 @@
 -- What a list holds when one place of it is set.
-use Rattle.std.proofs.Common.{refl, arith, ◌≡◌, ◌≢◌, ◌==◌, false, ◌∙◌, ap, sym, ◌<◌, [], ◌∷◌, length, ℕ, zero, suc, List, map, slice_get, slice_set, slice_index_or, Some, ◌⊎◌, cond, option_map, subst, true, Option, None}
+use Rattle.std.proofs.Common.{refl, arith, ◌≡◌, ◌≢◌, ◌==◌, false, ◌∙◌, ap, sym, ◌<◌, [], ◌∷◌, length, ℕ, zero, suc, List, map, slice_get, slice_set, Some, ◌⊎◌, cond, option_map, subst, true, Option, None}
 pub use Rattle.std.proofs.lemmas.Option.{slice_get_within as within}
 pub use Rattle.std.proofs.lemmas.List.{length-set as length_set, map-set as map_set}
-use Rattle.std.proofs.lemmas.Option.{same_Some, get_or_from_slice_get, slice_get-get_or, slice_get-map}
+use Rattle.std.proofs.lemmas.Option.{same_Some, get_or_from_slice_get, slice_get-get_or, slice_get-map, slice_get_cases}
 use Rattle.std.proofs.lemmas.Bool.Decides.{nat_tests}
 use Rattle.std.proofs.lemmas.List.{set-get_or, get_or-set_same}
 use Rattle.std.proofs.Math.Seq.{map-set_same}
@@ -22,7 +22,7 @@ get_set_other (y ∷ xs) (suc n) m x other = grind (arith, get_set_other xs n)
 
 -- a place that is set to what it holds
 pub set_same : {X : Type 0} (xs : List X) (n : ℕ) (x : X) → slice_get xs n ≡ Some x → slice_set xs n x ≡ xs
-set_same xs n x there = ap (slice_set xs n) (sym (get_or_from_slice_get xs n x x there)) ∙ set-get_or xs n x
+set_same xs n x there = grind (arith, set-get_or xs n x, get_or_from_slice_get)
 
 -- where one place is set, each place holds what was set or what it held
 pub at_set : {X : Type 0} (xs : List X) (n m : ℕ) (x y : X) → slice_get (slice_set xs n x) m ≡ Some y → ((m ≡ n) × (y ≡ x)) ⊎ ((m ≢ n) × (slice_get xs m ≡ Some y))
@@ -46,16 +46,13 @@ same_at xs n x y a b = same_Some y x (sym b ∙ a)
 
 -- what is found in a list of images is the image of something there
 pub at_map : {X Y : Type 0} (f : X → Y) (xs : List X) (n : ℕ) (y : Y) → slice_get (map f xs) n ≡ Some y → (x : X) × (slice_get xs n ≡ Some x) × (f x ≡ y)
-at_map f [] n y there = absurd cc
-at_map f (x ∷ xs) zero y there = (x, refl, same_Some (f x) y there)
-at_map f (x ∷ xs) (suc n) y there = at_map f xs n y there
+at_map f xs n y there = grind (arith, slice_get-map f xs n)
 
 pub map_at : {X Y : Type 0} (f : X → Y) (xs : List X) (n : ℕ) (x : X) → slice_get xs n ≡ Some x → slice_get (map f xs) n ≡ Some (f x)
 map_at f xs n x there = slice_get-map f xs n ∙ ap (option_map f) there
 
 pub present : {X : Type 0} (xs : List X) (n : ℕ) → n < length xs → (x : X) × (slice_get xs n ≡ Some x)
-present [] n few = absurd (omega (arith, few))
-present (x ∷ xs) n few = (slice_index_or (x ∷ xs) n x, slice_get-get_or (x ∷ xs) n x few)
+present xs n few = grind (arith, slice_get_cases xs n)
 
 -- The link that messages are moved to.
 pub target_up : (links : List LinkState) (to : ℕ) → target links ≡ Some to → (link : LinkState) × (slice_get links to ≡ Some link) × (has_phase_up link.phase ≡ true)

@@ -1,7 +1,7 @@
 -- WHAT HOLDS OF EVERY STATE is kept when a link comes up, when it is left, and when its messages leave it, and by a
 -- changeback.
 use Rattle.std.proofs.lemmas.Bool.Decides.{nat_tests}
-use Rattle.std.proofs.Common.{length, refl, arith, ◌≡◌, ◌∙◌, ap, ◌<◌, ℕ, ◌==◌, true, false, List, [], map, slice_get, Option, None, Some, IfSome, Bool, not}
+use Rattle.std.proofs.Common.{length, refl, arith, ◌≡◌, ◌∙◌, ap, ◌<◌, ℕ, ◌==◌, true, false, List, [], map, slice_get, None, Some, IfSome, Bool, not}
 use Rattle.std.proofs.lemmas.Bool.{and_parts}
 use Rattle.std.proofs.lemmas.List.{length-set}
 use Rattle.set_route.specs.Routing.{settled, IsRouting, Routing, asked, code_of, given_back, home_of, place_of, raised}

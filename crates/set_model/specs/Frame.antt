@@ -9,7 +9,7 @@ use Rattle.set_route.specs.Routing.{place_of, home_of}
 use Rattle.set_model.specs.Rows.{Row, stream_of, unack, wait, held, octets_in}
 use Rattle.set_model.specs.Control.{Choice, first, choice_of, control_after, window_heard, part_of, control_heard}
 use Rattle.set_model.specs.State.{On, LinkState, State, is_up, window_of}
-use Rattle.set_model.specs.Step.{SignalUnit, Msu, Event, Offer, Take, Find, Next, Heard, UpEvent, DownEvent, DownBlind, NoAnswer, Restore, BackTimeout, next, after_control, controls, is_msu}
+use Rattle.set_model.specs.Step.{SignalUnit, Msu, Event, Offer, Next, Heard, UpEvent, DownEvent, DownBlind, NoAnswer, BackTimeout, next, after_control, controls, is_msu}
 
 -- the unit brings an order about this link
 abbrev pub BringsAbout : ℕ → SignalUnit → Type 0
