@@ -1,10 +1,10 @@
 -- What a list holds when one place of it is set.
-use Rattle.std.proofs.Common.{refl, arith, ◌≡◌, ◌≢◌, ◌==◌, false, ◌∙◌, ap, sym, ◌<◌, [], ◌∷◌, length, ℕ, zero, suc, List, map, slice_get, slice_set, Some, ◌⊎◌, cond, option_map, subst, true, Option, None}
+use Rattle.std.proofs.Common.{arith, ◌≡◌, ◌≢◌, ◌==◌, false, ◌∙◌, ap, sym, ◌<◌, length, ℕ, List, map, slice_get, slice_set, Some, ◌⊎◌, cond, option_map, subst, true, Option, None}
 pub use Rattle.std.proofs.lemmas.Option.{slice_get_within as within}
 pub use Rattle.std.proofs.lemmas.List.{length-set as length_set, map-set as map_set}
-use Rattle.std.proofs.lemmas.Option.{same_Some, get_or_from_slice_get, slice_get-get_or, slice_get-map, slice_get_cases}
+use Rattle.std.proofs.lemmas.Option.{same_Some, get_or_from_slice_get, slice_get-get_or, slice_get-map, slice_get_cases, slice_get_past}
 use Rattle.std.proofs.lemmas.Bool.Decides.{nat_tests}
-use Rattle.std.proofs.lemmas.List.{set-get_or, get_or-set_same}
+use Rattle.std.proofs.lemmas.List.{set-get_or, get_or-set_same, get_or-set_other}
 use Rattle.std.proofs.Math.Seq.{map-set_same}
 use Rattle.set_route.specs.Target.{IsTarget}
 use Rattle.set_model.specs.Changeover.{fate_on}
@@ -16,9 +16,7 @@ pub get_set_same : {X : Type 0} (xs : List X) (n : ℕ) (x : X) → n < length x
 get_set_same xs n x few = slice_get-get_or (slice_set xs n x) n x (omega (arith, few, length_set xs n x)) ∙ ap Some (get_or-set_same xs n x x few)
 
 pub get_set_other : {X : Type 0} (xs : List X) (n m : ℕ) (x : X) → n ≢ m → slice_get (slice_set xs n x) m ≡ slice_get xs m
-get_set_other [] n m x other = refl
-get_set_other (y ∷ xs) zero m x other = grind arith
-get_set_other (y ∷ xs) (suc n) m x other = grind (arith, get_set_other xs n)
+get_set_other xs n m x other = grind (arith, slice_get-get_or (slice_set xs n x) m x, slice_get-get_or xs m x, slice_get_past (slice_set xs n x) m, slice_get_past xs m, get_or-set_other xs n m x x (λ e. other (sym e)), length_set xs n x)
 
 -- a place that is set to what it holds
 pub set_same : {X : Type 0} (xs : List X) (n : ℕ) (x : X) → slice_get xs n ≡ Some x → slice_set xs n x ≡ xs
@@ -26,9 +24,7 @@ set_same xs n x there = grind (arith, set-get_or xs n x, get_or_from_slice_get)
 
 -- where one place is set, each place holds what was set or what it held
 pub at_set : {X : Type 0} (xs : List X) (n m : ℕ) (x y : X) → slice_get (slice_set xs n x) m ≡ Some y → ((m ≡ n) × (y ≡ x)) ⊎ ((m ≢ n) × (slice_get xs m ≡ Some y))
-at_set [] n m x y there = absurd cc
-at_set (z ∷ xs) zero m x y there = grind arith
-at_set (z ∷ xs) (suc n) m x y there = grind (arith, at_set xs n)
+at_set xs n m x y there = grind (arith, get_set_same, get_set_other, within, length_set)
 
 pub set_at : {X : Type 0} (xs : List X) (n m : ℕ) (x y : X) → slice_get xs m ≡ Some y → slice_get (slice_set xs n x) m ≡ Some (cond (n == m) x y)
 set_at xs n m x y there = grind (arith, nat_tests, get_set_same, get_set_other, within)

@@ -1,6 +1,7 @@
 -- EVERY STEP KEEPS WHAT HOLDS OF EVERY SET'S STATE, and a new set has it.
-use Rattle.std.proofs.Common.{refl, arith, ◌≡◌, ◌∙◌, sym, subst, ℕ, ◌<◌, zero, suc, ◌%◌, List, [], ◌∷◌, map, slice_get, Some, replicate, slice_index_or}
-use Rattle.std.proofs.lemmas.List.{length-replicate}
+use Rattle.std.proofs.Common.{refl, arith, ◌≡◌, ◌∙◌, sym, subst, ℕ, ◌<◌, ◌%◌, List, [], ◌∷◌, map, slice_get, Some, replicate, slice_index_or}
+use Rattle.std.proofs.lemmas.List.{get_or-replicate, length-replicate}
+use Rattle.std.proofs.lemmas.Option.{slice_get_cases}
 use Rattle.std.proofs.lemmas.Bool.Decides.{nat_tests}
 use Rattle.set_route.specs.Routing.{new_stream, stream_numbers}
 use Rattle.set_route.specs.declared.stream.Stream.{Stream}
@@ -30,8 +31,7 @@ step_sound s event asked t = step_walks s (λ a b. IsSound a → IsSound b) IsSo
 
 -- A NEW SET.
 new_there : (k n : ℕ) (link other : LinkState) → slice_get (replicate k link) n ≡ Some other → other ≡ link
-new_there zero n link other e = absurd cc
-new_there (suc k) n link other e = grind (arith, new_there k)
+new_there k n link other e = grind (arith, slice_get_cases (replicate k link) n, get_or-replicate, length-replicate)
 
 new_place : (links : ℕ) (numbers : List ℕ) (stream : ℕ) → slice_index_or (map (λ (s : Stream). s.place) (map (λ s. new_stream (s % links)) numbers)) stream Nowhere ≡ Nowhere
 new_place links [] stream = refl
