@@ -119,18 +119,15 @@ pub total_is : (rows : List Row) → total_of (counts_of rows) ≡ length (users
 total_is rows = omega (arith, all_counted (users rows))
 
 -- Rows that are looked up, where each number stands in one row.
--- the rows of a number
 abbrev pub with_number : ℕ → List Row → List Row
 with_number number rows = filter (λ row. row.number == number) rows
 
--- A new row has the next number.
 abbrev pub new_row : ℕ → List ℕ → Fate → Row
 new_row number body fate = record { number = number; body = body; fate = fate }
 
 pub numbered_appended : (rows : List Row) (body : List ℕ) (fate : Fate) → IsNumbered rows → IsNumbered (appended rows body fate)
 numbered_appended rows body fate numbered number = grind (arith, nat_tests, filter-append, length-append, length_push)
 
--- rows of the same numbers
 pub same_numbers : (rows new : List Row) → length new ≡ length rows → ((number : ℕ) → length (with_number number new) ≡ length (with_number number rows)) → IsNumbered rows → IsNumbered new
 same_numbers rows new long each numbered number = each number ∙ numbered number ∙ ap (λ (n : ℕ). cond (nat_lt number n) 1 0) (sym long)
 
@@ -177,23 +174,20 @@ module _ (test other : Fate → Bool) (fate : Fate) (o : other fate ≡ false) (
   pub changed_same : (rows : List Row) → standing other (changed test fate rows) ≡ standing other rows
   changed_same rows = (changed_there test fate rows).same other o w
 
--- those that turned left their place
+-- those that turned, or changed, left their place
 pub turned_left : (test : Fate → Bool) (fate : Fate) → test fate ≡ false → (n : ℕ) (rows : List Row) → standing test (turned test fate n rows) ≡ drop n (standing test rows)
 turned_left test fate o zero rows = refl
 turned_left test fate o (suc n) [] = refl
 turned_left test fate o (suc n) (x ∷ rows) = grind (arith, turned_left test fate o n rows, turned_left test fate o (suc n) rows)
 
--- all that changed left their place
 pub changed_left : (test : Fate → Bool) (fate : Fate) → test fate ≡ false → (rows : List Row) → standing test (changed test fate rows) ≡ []
 changed_left test fate o [] = refl
 changed_left test fate o (x ∷ rows) = grind (arith, changed_left test fate o rows)
 
 -- What is found under a number, before and after a change.
--- a number has one row at most
 pub at_most_one : (number : ℕ) (rows : List Row) → IsNumbered rows → length (with_number number rows) ≤ 1
 at_most_one number rows numbered = grind arith
 
--- the row of a number is the first of its rows
 pub row_is_first : (number : ℕ) (rows : List Row) → row_of number rows ≡ slice_get (with_number number rows) 0
 row_is_first number [] = refl
 row_is_first number (x ∷ rows) = grind (arith, row_is_first number rows)

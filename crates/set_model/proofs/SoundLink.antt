@@ -36,8 +36,7 @@ range_after choice o control w count e more one r = grind (arith, round_in)
 pub range_heard : (control : Control) (w : WindowState) (head : Header) (msu : Bool) → IsInRange control (length w.unacked) → IsInRange (control_heard control w head msu) (length (drop (acked_by control w head) w.unacked))
 range_heard control w head msu r = grind (arith, length-drop, round_in)
 
--- WHAT HOLDS OF EVERY STATE is kept by a change of one link, with rows that change in their places.
--- THE LINK THAT CHANGES, and the others, which don't see how the rows change.
+-- WHAT HOLDS OF EVERY STATE is kept by a change of one link; the others don't see how its rows change.
 pub links_set : (m : Method) (links : List LinkState) (n : ℕ) (link : LinkState) (rows new : List Row) → IsSoundLink m n link new → ((k : ℕ) → (n == k) ≡ false → Untouched k rows new) → ((k : ℕ) (other : LinkState) → slice_get links k ≡ Some other → IsSoundLink m k other rows)
     → (k : ℕ) (other : LinkState) → slice_get (slice_set links n link) k ≡ Some other → IsSoundLink m k other new
 links_set m links n link rows new one others all = each_set (λ k other. IsSoundLink m k other new) links n link one (λ k other d there. let u = others k d in let l = all k other there in grind arith)
@@ -133,7 +132,6 @@ module _ (n : ℕ) (link : LinkState) (s : State) (at : IsAt n link Up s) (t : I
         changes n link _ s _ t at.there refl (ap has_phase_settled at.phase_is) a.in_place (grind (arith, length-drop, a.unack_is, l.window))
         (grind (arith, nat_tests, (header_in unit).fsn, l.counted)) (grind (arith, l.method)) (λ u. grind (arith, range_heard link.control window (header_in unit) (is_msu unit) old_range, a.unack_is, length-drop, length-map))
 
--- WHAT HOLDS OF EVERY STATE is kept by a new message.
 -- A NEW MESSAGE can come to stand there, for all that this link has to do with it: it waits for a link that is up, is held
 -- for one that isn't settled, or parked while none is up.
 abbrev pub IsOpenAt : ℕ → LinkState → Fate → Type 0

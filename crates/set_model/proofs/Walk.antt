@@ -138,6 +138,5 @@ pub step_is : (s : State) (event : Event) → step s event ≡ stepped s event
 unfolding step
 step_is s event = refl
 
--- No event changes how many links a set has.
 pub link_count_stays : (s : State) (event : Event) → length (step s event).state.links ≡ length s.links
 link_count_stays s event = step_walks s (λ t u. length u.links ≡ length t.links) (λ t. length t.links ≡ length s.links) event (grind (arith, length-set))

@@ -132,7 +132,6 @@ appended rows body fate = rows ++ record { number = length rows; body = body; fa
 
 -- What the readers tell.
 
--- the row of this number
 abbrev pub row_of : ℕ → List Row → Option Row
 row_of number rows = find (λ row. row.number == number) rows
 
@@ -155,7 +154,6 @@ counts_of rows = record {
   discarded = length (standing was_discarded (users rows));
 }
 
--- the messages of all places together
 abbrev pub total_of : Counts → ℕ
 total_of c = c.waiting + c.unacked + c.acked + c.held + c.parked + c.back + c.discarded
 

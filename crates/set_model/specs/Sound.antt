@@ -150,7 +150,6 @@ pub record WholeNumbers : Type 0 where
   pub sent : ℕ
   pub accepted : ℕ
 
--- one more of each
 abbrev pub one_more : WholeNumbers → WholeNumbers
 one_more most = record { sent = most.sent + 1; accepted = most.accepted + 1 }
 

@@ -220,7 +220,6 @@ abbrev pub messages_in : Answer → ℕ
 messages_in (Accepted number) = 1
 messages_in _ = 0
 
--- the octets of an offered body
 abbrev pub octets_offered : Event → ℕ
 octets_offered (Offer body) = length body
 octets_offered _ = 0

@@ -37,19 +37,17 @@ pub fn a_settled_link_is_empty()
         → link.phase ≡ Settled → IsEmptyLink number s.rows }
 {}
 
-/// A link that settles by a reasonable FSN of the far end: the messages up to that FSN are acknowledged,
-/// and exactly those past them, what waited, and what was held leave the link in their order, for the
-/// lowest-numbered link that is up. Where none is up they are parked. They stand behind all other
-/// messages, and those stay as they were (Q.704 5.4, 5.5).
+/// Where a link settles by a reasonable FSN of the far end, the messages up to it are acknowledged, and exactly the
+/// others of the link leave it in their order, for the lowest-numbered link that is up, or to be parked. They
+/// stand behind all other messages, and those stay as they were (Q.704 5.4, 5.5).
 pub fn settling_moves_the_rest()
     ensures { (fsn number : ℕ) (link : LinkState) (s : State) → slice_get s.links number ≡ Some link
         → is_reasonable fsn number link s.rows ≡ true → MovesTheRest fsn number link s }
 {}
 
-/// A changeover diverts exactly the messages past those that the far end has, in order: in every set's
-/// state, when a link that was left settles by a reasonable FSN, the rest of what was sent goes first,
-/// then what waited, then what was held. They stand behind all that waited for the target before, or,
-/// where no link is up, behind what was parked (Q.704 5.5).
+/// A changeover diverts exactly the messages past those that the far end has, in order: the rest of what was
+/// sent, then what waited, then what was held, behind all that waited for the target before, or, where no link
+/// is up, behind what was parked (Q.704 5.5).
 #[tactic(auto, using(crate::proofs::Settling::diverts_the_rest))]
 pub fn a_changeover_diverts_the_rest()
     ensures { (fsn number : ℕ) (link : LinkState) (s : State) → IsSound s → slice_get s.links number ≡ Some link
@@ -75,12 +73,8 @@ pub fn a_new_set_is_sound()
     ensures { (settings : Settings) → IsSettings settings → IsNew (opened_with settings) }
 {}
 
-/// Every event keeps what holds of every set's state: numbers stand in one row each; no link has more
-/// than 127 unacknowledged messages, and what was sent on it stands before what waits and what is held;
-/// nothing is held for a link that is up, and nothing stands on one that settled; a stream runs on a link
-/// that isn't settled, or is on its way back from one; nothing is aside while a link is up; the home of an
-/// open changeback code is up, and what waits for its acknowledgement is of streams on their way back by
-/// it, in the order of their numbers.
+/// Every event keeps what holds of every set's state: of its numbers, of each link's window and the order of its
+/// rows, of where streams run, of what is parked, and of what waits for a changeback.
 pub fn every_step_keeps_a_set_sound()
     ensures { (s : State) (event : Event) → IsAsked event → IsSound s → IsSound (step s event).state }
 {}
