@@ -20,14 +20,10 @@ use Rattle.set_model.proofs.Lists.{target_open}
 use Rattle.set_model.proofs.Walk.{step_walks}
 
 pub messages_stay : (test : Fate → Bool) (to : Fate) (fate : Row → Fate) (rows : List Row) → IsNumbered rows → MessagesStay test to fate rows
-messages_stay test to fate rows numbered = record {
-  turned_stay = λ n. let i = turned_there test to n rows in search (i.count, i.bodies, same_numbers, i.as_many, numbered);
-  changed_stay = let i = changed_there test to rows in search (i.count, i.bodies, same_numbers, i.as_many, numbered);
-  moved_stay = search (moved_length, body_moved, moved_numbered);
-  others_stay = λ body number below. grind (arith, is_found, find-append);
-  new_found = λ body. grind (arith, nat_tests, row_is_first, no_rows, find-append, numbered);
-  appended_numbered = λ body. numbered_appended rows body to numbered;
-}
+messages_stay test to fate rows numbered =
+    let turned = turned_there test to in
+    let changed = changed_there test to rows in
+    grind (arith, nat_tests, turned, changed, same_numbers, moved_length, body_moved, moved_numbered, is_found, find-append, row_is_first, no_rows, numbered_appended)
 
 pub moves_rows : (link : ℕ) (fate : Row → Fate) (rows : List Row) → IsNumbered rows → MovesTheLinksRows link fate rows
 moves_rows link fate rows numbered = grind (arith, length-filter_both, drop_at, numbers_fated, place_moved)
