@@ -103,11 +103,8 @@ module _ (blind : Bool) (n : ℕ) (link : LinkState) (s : State) (at : IsAt n li
   leaves =
       let mid_links = links_set s.settings.method s.links n (left_link blind link) s.rows s.rows (let l = t.links n link at.there in grind arith) (λ k d. untouched_self k s.rows) t.links in
       moved_sound s mid.links mid.routing (is_back_to n) fate t (length-set s.links n (left_link blind link)) (left_sound n s.routing t.routing) refl (gone stands_back (λ via p. grind arith))
-      (λ k few. let stays = placed_set s.links n link (left_link blind link) (place_of k s.routing) at.there refl (t.placed k few) in let a = (alone s.routing k t.routing few).left_place n in record {
-        placed = rw a (grind (arith, stays));
-        runs = up_before s.links n link (left_link blind link) at.there (λ e. absurd cc) (λ j old here up. let runs = t.all_run j old here up k few in rw a (grind (arith, runs)));
-        stays = λ code via of f. grind (arith, a);
-      })
+      (λ k few. let stays = placed_set s.links n link (left_link blind link) (place_of k s.routing) at.there refl (t.placed k few) in let a = (alone s.routing k t.routing few).left_place n in
+      let runs = up_before s.links n link (left_link blind link) at.there (λ e. absurd cc) (λ j old here up. t.all_run j old here up k few) in grind (arith, stays, a, runs))
       (λ code e. grind (arith, nat_tests, (codes_alone s.routing code t.routing (in_use_below mid.routing (left_sound n s.routing t.routing) code e)).left_code n, t.homes_up code, get_set_other))
       (up_before s.links n link (left_link blind link) at.there (λ e. absurd cc) (λ k old here up. grind (arith, nat_tests, moved_more, gone, t.none_aside k old here up)))
       (λ k other there. link_moved s.settings.method k other (is_back_to n) fate s.routing s.rows t.backs (λ f e. back_not_on k f (home_back n f e)) (λ x. offered_out k _ mid) (λ u x. up_not_held mid k (ap link_is_up there ∙ u) _) (λ d x e b. down_not_waiting mid k (ap link_is_up there ∙ d) _) (λ e x f b. grind (arith, nat_tests, goes x f b)) (mid_links k other there))
