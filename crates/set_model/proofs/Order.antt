@@ -105,8 +105,4 @@ sent_joined l (x ∷ rows) s o = grind (arith, sent_joined l rows s o.1)
 -- WHAT IS ON A LINK, IN ORDER: first what was sent, then what waits, then what is held.
 pub on_in_order : (l : ℕ) (rows : List Row) → IsInOrder l rows → IsHeldLast l rows → on l rows ≡ unack l rows ++ wait l rows ++ held l rows
 on_in_order l [] o h = refl
-on_in_order l (x ∷ rows) o h =
-    let none = λ (test : Fate → Bool) (w : (f : Fate) → test f ≡ true → (is_unacked l f || is_waiting l f) ≡ true). none_within test (λ f. is_unacked l f || is_waiting l f) w rows in
-    let unsent = none (is_unacked l) (λ f e. grind arith) in
-    let unqueued = none (is_waiting l) (λ f e. grind arith) in
-    grind (arith, on_in_order l rows o.1 h.1, unsent, unqueued)
+on_in_order l (x ∷ rows) o h = grind (arith, none_within, on_in_order l rows o.1 h.1)

@@ -239,5 +239,4 @@ pub found_by_number : (p : Row → Bool) (rows : List Row) (i number : ℕ) → 
 found_by_number p rows i number numbered e =
     let at = at_map (λ (row : Row). row.number) (filter p rows) i number e in
     let one = found_in p rows i number at.0 at.1 at.2 (at_most_one number rows numbered) in
-    let known = numbered number in
-    grind (arith, nat_tests, row_is_first, at, one, known)
+    grind (arith, nat_tests, row_is_first, at, one)

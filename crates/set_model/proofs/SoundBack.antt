@@ -32,8 +32,6 @@ moved_sound s links routing test fate t long sound same gone follows homes aside
     let order : IsAscending (numbers (back (moved test fate s.rows))) = rw (moved_off test stands_back fate s.rows gone) (ascends_filter (λ (row : Row). not (test row.fate)) (back s.rows) t.back_order) in
     let placed = λ (k : ℕ) (few : k < 16). (follows k few).placed in
     let runs = λ (n : ℕ) (link : LinkState) (there : slice_get links n ≡ Some link) (up : has_phase_up link.phase ≡ true) (k : ℕ) (few : k < 16). (follows k few).runs n link there up in
-    let routed = same ∙ t.routed in
-    let count = long ∙ t.count in
     search (moved_numbered, moved_fit)
 
 -- A LINK COMES UP.

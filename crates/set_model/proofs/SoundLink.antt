@@ -154,7 +154,6 @@ module _ (s : State) (routing : Routing) (t : IsSound s) (sound : IsRouting rout
       let placed = λ (k : ℕ) (few : k < 16). (follows k few).placed in
       let aside : (k : ℕ) (other : LinkState) → slice_get s.links k ≡ Some other → has_phase_up other.phase ≡ true → parked (appended s.rows body fate) ≡ [] = λ k other there rising. let o = opened k other there in grind (arith, appended_out) in
       let fit : AreFit (appended s.rows body fate) = each_append _ s.rows _ t.fit (fits, tt) in
-      let routed = same ∙ t.routed in
       search (numbered_appended, ascends_appended)
 
 -- AN ORDER goes to the target, and is of no stream.

@@ -77,8 +77,7 @@ module _ (stream : ℕ) (place place' : Place) (test : Fate → Bool) (to : Fate
       one false true t l g =
           let stood : stands_at place x.fate ≡ true = grind (arith, l) in
           let stay : goes ≡ false = sym (all x.fate stood) ∙ t in
-          let there = stays stay x.fate stood in
-          grind (arith, stay, there)
+          grind (arith, stay)
       one a b t l g = grind arith
 
   pub stream_moves : (used : Bool) (rows : List Row) → IsSoundStream stream place used rows → IsSoundStream stream place' used (moved test (all_with to) rows)
@@ -112,8 +111,7 @@ offers : (s : State) (body : List ℕ) → IsSound s → NoneOpen s.routing → 
 offers s body t none r k few =
     let place = place_of (stream_of body) s.routing in
     let a = alone s.routing k t.routing few in
-    let never = λ (to code via : ℕ). never_changing (stream_of body) to code via s.routing t.routing none in
-    rw (a.accepted_place (stream_of body), a.accepted_messages (stream_of body)) (stream_appended k (place_of k s.routing) (has_messages k s.routing) ((k == stream_of body) || has_messages k s.routing) s.rows body (fate_at place s) t.numbered (r k few) (λ e. grind (arith, nat_tests, never)) (λ e. grind arith))
+    rw (a.accepted_place (stream_of body), a.accepted_messages (stream_of body)) (stream_appended k (place_of k s.routing) (has_messages k s.routing) ((k == stream_of body) || has_messages k s.routing) s.rows body (fate_at place s) t.numbered (r k few) (λ e. grind (arith, nat_tests)) (λ e. grind arith))
 
 -- A LINK COMES UP.
 module _ (n : ℕ) (rows : List Row) where
