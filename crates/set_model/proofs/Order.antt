@@ -2,7 +2,7 @@
 use Rattle.std.proofs.Common.{arith, refl, ◌≡◌, ◌<◌, ℕ, suc, Bool, true, false, not, ◌||◌, List, [], ◌∷◌, ◌++◌, length, map, slice_get, Some, filter, subst, ◌==◌, take}
 use Rattle.std.proofs.lemmas.List.{append-nil, map-append}
 use Rattle.std.proofs.lemmas.List.Elements.{filter-append}
-use Rattle.set_model.specs.Rows.{is_unacked, Fate, AreBefore, Each, IsNumbered, Row, appended, fated, numbers, standing, Back, back, Unacked, IsHeldLast, IsInOrder, held, is_waiting, on, turned, unack, wait, with_fate}
+use Rattle.set_model.specs.Rows.{Fate, AreBefore, Each, IsNumbered, Row, appended, fated, numbers, standing, Back, back, Unacked, IsHeldLast, IsInOrder, held, is_waiting, on, turned, unack, wait, with_fate}
 use Rattle.set_model.specs.Sound.{AreAbove, IsAscending, AreBack, IsBackOf}
 use Rattle.set_model.proofs.Rows.{found_by_number, filter_comm, filter_within, none_within}
 use Rattle.set_route.specs.Routing.{IsCoded, IsRouting, Routing, code_of, home_of, place_of}

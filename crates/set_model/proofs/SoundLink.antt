@@ -2,9 +2,8 @@
 use Rattle.std.proofs.Common.{arith, ◌||◌, ◌≡◌, ◌≢◌, ◌<◌, ◌≤◌, ℕ, ◌+◌, Bool, length, drop, refl, ◌∙◌, ap, sym, subst, ◌==◌, true, false, List, [], ◌++◌, map, slice_get, slice_set, Some, cond, ◌∷◌, None}
 use Rattle.std.proofs.lemmas.List.{length-drop, append-nil, length-map, length-append, length-set, length-take}
 use Rattle.std.proofs.lemmas.Bool.Decides.{nat_tests}
-use Rattle.l2_pcr.specs.Pcr as cyclic
 use Rattle.l2_window.specs.Window.{WindowState}
-use Rattle.set_model.specs.Control.{Header, Choice, Control, acked_by, choice_of, control_after, control_heard, first, HeardPart, Method, accepted_of, part_of}
+use Rattle.set_model.specs.Control.{Header, Choice, Control, acked_by, choice_of, control_heard, first, HeardPart, Method, accepted_of, part_of}
 use Rattle.set_model.specs.Sound.{IsInRange, IsOf, IsPlaced, IsSound, IsSoundLink, AreBack, IsBackOf}
 use Rattle.std.proofs.lemmas.List.Elements.{filter-append}
 use Rattle.l2_units.specs.Grammar.{head_of as header_in}
@@ -26,15 +25,9 @@ use Rattle.set_route.proofs.Places.{accepted_sound}
 pub first_chosen : (o : ℕ) (control : Control) (w : WindowState) → choice_of o control w ≡ first → (0 < length w.unsent) × (length w.unacked < 127)
 first_chosen o control w e = grind (arith, nat_tests)
 
-round_in : (n place : ℕ) → cyclic.round n place ≢ 0 → cyclic.round n place < n
-round_in n place d = grind arith
-
-pub range_after : (choice : Choice) (o : ℕ) (control : Control) (w : WindowState) (count : ℕ) → choice_of o control w ≡ choice → length w.unacked ≤ count → (choice ≡ first → count ≡ length w.unacked + 1) → IsInRange control (length w.unacked) → IsInRange (control_after choice o control w) count
-range_after choice o control w count e more one r = grind (arith, round_in)
-
 -- the cursor, or the place in the cycle
 pub range_heard : (control : Control) (w : WindowState) (head : Header) (msu : Bool) → IsInRange control (length w.unacked) → IsInRange (control_heard control w head msu) (length (drop (acked_by control w head) w.unacked))
-range_heard control w head msu r = grind (arith, length-drop, round_in)
+range_heard control w head msu r = grind (arith, length-drop)
 
 -- WHAT HOLDS OF EVERY STATE is kept by a change of one link; the others don't see how its rows change.
 pub links_set : (m : Method) (links : List LinkState) (n : ℕ) (link : LinkState) (rows new : List Row) → IsSoundLink m n link new → ((k : ℕ) → (n == k) ≡ false → Untouched k rows new) → ((k : ℕ) (other : LinkState) → slice_get links k ≡ Some other → IsSoundLink m k other rows)
@@ -119,7 +112,7 @@ module _ (n : ℕ) (link : LinkState) (s : State) (at : IsAt n link Up s) (t : I
   sends_sound =
       let choice = choice_of (octets_in (unack n s.rows)) link.control window in
       let c = counts choice refl in
-      changes n link _ s _ t at.there refl (ap has_phase_settled at.phase_is) (sent_by choice n s.rows) c.2 (grind (arith, l.counted)) (grind (arith, l.method)) (λ u. grind (arith, range_after, c, old_range, length-map))
+      changes n link _ s _ t at.there refl (ap has_phase_settled at.phase_is) (sent_by choice n s.rows) c.2 (grind (arith, l.counted)) (grind (arith, l.method)) (λ u. grind (arith, c, old_range, length-map))
 
   -- HEARING.
   module _ (unit : SignalUnit) where
