@@ -101,9 +101,6 @@ module _ (n : ℕ) (link : LinkState) (s : State) (at : IsAt n link Up s) (t : I
   l : IsSoundLink s.settings.method n link s.rows
   l = t.links n link at.there
 
-  old_range : IsInRange link.control (length window.unacked)
-  old_range = grind (arith, length-map, l.in_range)
-
   -- how many are unacknowledged then
   counts : (choice : Choice) → choice_of (octets_in (unack n s.rows)) link.control window ≡ choice → (length (unack n s.rows) ≤ length (unack n (rows_sent choice n s.rows))) × (choice ≡ first → length (unack n (rows_sent choice n s.rows)) ≡ length (unack n s.rows) + 1) × (length (unack n (rows_sent choice n s.rows)) ≤ 127)
   counts choice e = grind (arith, first_chosen (octets_in (unack n s.rows)) link.control window, length-map, length-append, length-take, (sent n s.rows).unack_is l.in_order, l.window)
@@ -112,18 +109,14 @@ module _ (n : ℕ) (link : LinkState) (s : State) (at : IsAt n link Up s) (t : I
   sends_sound =
       let choice = choice_of (octets_in (unack n s.rows)) link.control window in
       let c = counts choice refl in
-      changes n link _ s _ t at.there refl (ap has_phase_settled at.phase_is) (sent_by choice n s.rows) c.2 (grind (arith, l.counted)) (grind (arith, l.method)) (λ u. grind (arith, c, old_range, length-map))
+      changes n link _ s _ t at.there refl (ap has_phase_settled at.phase_is) (sent_by choice n s.rows) c.2 (grind (arith, l.counted)) (grind (arith, l.method)) (λ u. grind (arith, c, l.in_range, length-map))
 
   -- HEARING.
-  module _ (unit : SignalUnit) where
-    abbrev part : HeardPart
-    part = part_of link.control window (header_in unit) (is_msu unit)
-
-    pub hears_sound : IsSound (after_control part (header_in unit) unit n s link)
-    hears_sound =
-        let a = acknowledged n part.acked s.rows in
-        changes n link _ s _ t at.there refl (ap has_phase_settled at.phase_is) a.in_place (grind (arith, length-drop, a.unack_is, l.window))
-        (grind (arith, nat_tests, (header_in unit).fsn, l.counted)) (grind (arith, l.method)) (λ u. grind (arith, range_heard link.control window (header_in unit) (is_msu unit) old_range, a.unack_is, length-drop, length-map))
+  pub hears_sound : (unit : SignalUnit) → IsSound (after_control (part_of link.control window (header_in unit) (is_msu unit)) (header_in unit) unit n s link)
+  hears_sound unit =
+      let a = acknowledged n (part_of link.control window (header_in unit) (is_msu unit)).acked s.rows in
+      changes n link _ s _ t at.there refl (ap has_phase_settled at.phase_is) a.in_place (grind (arith, length-drop, a.unack_is, l.window))
+      (grind (arith, nat_tests, (header_in unit).fsn, l.counted)) (grind (arith, l.method)) (λ u. grind (arith, range_heard link.control window (header_in unit) (is_msu unit) (grind (arith, length-map, l.in_range)), a.unack_is, length-drop, length-map))
 
 -- A NEW MESSAGE can come to stand there, for all that this link has to do with it: it waits for a link that is up, is held
 -- for one that isn't settled, or parked while none is up.
