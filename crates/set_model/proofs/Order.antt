@@ -4,7 +4,7 @@ use Rattle.std.proofs.lemmas.List.{append-nil, map-append}
 use Rattle.std.proofs.lemmas.List.Elements.{filter-append}
 use Rattle.set_model.specs.Rows.{Fate, AreBefore, Each, IsNumbered, Row, appended, fated, numbers, standing, Back, back, Unacked, IsHeldLast, IsInOrder, held, is_waiting, on, turned, unack, wait, with_fate}
 use Rattle.set_model.specs.Sound.{AreAbove, IsAscending, AreBack, IsBackOf}
-use Rattle.set_model.proofs.Rows.{found_by_number, filter_comm, filter_within, none_within}
+use Rattle.set_model.proofs.Rows.{each_append, found_by_number, filter_comm, filter_within, none_within}
 use Rattle.set_route.specs.Routing.{IsCoded, IsRouting, Routing, code_of, home_of, place_of}
 use Rattle.set_model.specs.State.{Asked, Changing}
 use Rattle.set_route.proofs.Quiet.{at_place}
@@ -37,11 +37,7 @@ ascends_filter p (x ∷ rows) a = grind (arith, above_filter x.number p rows a.0
 -- a number above all others stands last
 ascends_end : (k : ℕ) (ns : List ℕ) → ((i m : ℕ) → slice_get ns i ≡ Some m → m < k) → IsAscending ns → IsAscending (ns ++ k ∷ [])
 ascends_end k [] below a = (tt, tt)
-ascends_end k (n ∷ ns) below a = (above_end ns a.0, ascends_end k ns (λ i m e. below (suc i) m e) a.1)
-  where
-    above_end : (ms : List ℕ) → AreAbove n ms → AreAbove n (ms ++ k ∷ [])
-    above_end [] b = (below 0 n refl, tt)
-    above_end (m ∷ ms) b = (b.0, above_end ms b.1)
+ascends_end k (n ∷ ns) below a = (each_append (λ m. n < m) ns (k ∷ []) a.0 (below 0 n refl, tt), ascends_end k ns (λ i m e. below (suc i) m e) a.1)
 
 -- as that of a new message does
 pub ascends_appended : (p : Row → Bool) (rows : List Row) (body : List ℕ) (fate : Fate) → IsNumbered rows → IsAscending (numbers (filter p rows)) → IsAscending (numbers (filter p (appended rows body fate)))

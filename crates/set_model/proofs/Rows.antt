@@ -46,7 +46,7 @@ pub each_so : (P Q : Row → Type 0) → ((x : Row) → P x → Q x) → (rows :
 each_so P Q so [] e = tt
 each_so P Q so (x ∷ rows) e = (so x e.0, each_so P Q so rows e.1)
 
-pub each_append : (P : Row → Type 0) (xs ys : List Row) → Each P xs → Each P ys → Each P (xs ++ ys)
+pub each_append : {X : Type 0} (P : X → Type 0) (xs ys : List X) → Each P xs → Each P ys → Each P (xs ++ ys)
 each_append P [] ys a b = b
 each_append P (x ∷ xs) ys a b = (a.0, each_append P xs ys a.1 b)
 

@@ -164,10 +164,10 @@ abbrev pub IsNumbered : List Row → Type 0
 IsNumbered rows =
     (number : ℕ) → length (filter (λ row. row.number == number) rows) ≡ (if nat_lt number (length rows) then 1 else 0)
 
--- a fact of each row
-abbrev pub Each : (Row → Type 0) → List Row → Type 0
+-- a fact of each
+abbrev pub Each : {X : Type 0} → (X → Type 0) → List X → Type 0
 Each fact [] = Unit {0}
-Each fact (row ∷ rows) = fact row × Each fact rows
+Each fact (x ∷ xs) = fact x × Each fact xs
 
 -- no body is longer than a unit's
 abbrev pub AreFit : List Row → Type 0

@@ -62,8 +62,7 @@ abbrev pub astray : ℕ → Place → List Row → List Row
 astray stream place rows = filter (is_astray stream place) rows
 
 abbrev pub AreAbove : ℕ → List ℕ → Type 0
-AreAbove n [] = Unit {0}
-AreAbove n (m ∷ ms) = (n < m) × AreAbove n ms
+AreAbove n ms = Each (λ m. n < m) ms
 
 abbrev pub IsAscending : List ℕ → Type 0
 IsAscending [] = Unit {0}
