@@ -3,7 +3,7 @@ use Rattle.std.proofs.Common.{arith, ◌||◌, ◌≡◌, ◌≢◌, ◌<◌, �
 use Rattle.std.proofs.lemmas.List.{length-drop, append-nil, length-map, length-append, length-set, length-take}
 use Rattle.std.proofs.lemmas.Bool.Decides.{nat_tests}
 use Rattle.l2_window.specs.Window.{WindowState}
-use Rattle.set_model.specs.Control.{Header, Choice, Control, acked_by, choice_of, control_heard, first, HeardPart, Method, accepted_of, part_of}
+use Rattle.set_model.specs.Control.{Header, Choice, Control, acked_by, choice_of, control_heard, first, Method, accepted_of, part_of}
 use Rattle.set_model.specs.Sound.{IsInRange, IsOf, IsPlaced, IsSound, IsSoundLink, AreBack, IsBackOf}
 use Rattle.std.proofs.lemmas.List.Elements.{filter-append}
 use Rattle.l2_units.specs.Grammar.{head_of as header_in}
