@@ -2,7 +2,7 @@
 use Rattle.std.proofs.Common.{arith, refl, ◌≡◌, ◌∙◌, sym, ℕ, Bool, true, false, ◌==◌}
 pub use Rattle.std.proofs.lemmas.Bool.{ne_eqb as apart}
 use Rattle.std.proofs.lemmas.Bool.{eq-eqb, eqb-false}
-use Rattle.set_model.specs.Rows.{Fate, is_back, is_back_to, is_held, is_on, is_parked, is_unacked, is_waiting, stands_back}
+use Rattle.set_model.specs.Rows.{Fate, Held, is_back, is_back_to, is_held, is_on, is_parked, is_unacked, is_waiting, stands_back}
 
 pub false_true : {P : Type 0} (b : Bool) → b ≡ false → b ≡ true → P
 false_true b f t = let no : true ≡ false = sym t ∙ f in absurd cc
@@ -17,11 +17,8 @@ itself l = eq-eqb l l refl
 pub unacked_not_waiting : (l n : ℕ) (f : Fate) → is_unacked n f ≡ true → is_waiting l f ≡ false
 unacked_not_waiting l n f e = grind arith
 
-pub waiting_not_held : (l n : ℕ) (f : Fate) → is_waiting n f ≡ true → is_held l f ≡ false
-waiting_not_held l n f e = grind arith
-
-pub unacked_not_held : (l n : ℕ) (f : Fate) → is_unacked n f ≡ true → is_held l f ≡ false
-unacked_not_held l n f e = grind arith
+pub not_held : (test : Fate → Bool) → ((k : ℕ) → test (Held k) ≡ false) → (l : ℕ) (f : Fate) → test f ≡ true → is_held l f ≡ false
+not_held test none l f e = grind arith
 
 pub on_not_parked : (n : ℕ) (f : Fate) → is_on n f ≡ true → is_parked f ≡ false
 on_not_parked n f e = grind arith
