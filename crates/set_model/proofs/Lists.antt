@@ -1,5 +1,5 @@
 -- What a list holds when one place of it is set.
-use Rattle.std.proofs.Common.{arith, ◌≡◌, ◌≢◌, ◌==◌, false, ◌∙◌, ap, sym, ◌<◌, length, ℕ, List, map, slice_get, slice_set, Some, ◌⊎◌, cond, option_map, subst, true, Option, None}
+use Rattle.std.proofs.Common.{arith, ◌≡◌, ◌≢◌, ◌==◌, false, ◌∙◌, ap, sym, ◌<◌, length, ℕ, List, map, slice_get, slice_set, Some, ◌⊎◌, cond, option_map, subst, true, None}
 pub use Rattle.std.proofs.lemmas.Option.{slice_get_within as within}
 pub use Rattle.std.proofs.lemmas.List.{length-set as length_set, map-set as map_set}
 use Rattle.std.proofs.lemmas.Option.{same_Some, get_or_from_slice_get, slice_get-get_or, slice_get-map, slice_get_cases, slice_get_past}
@@ -8,7 +8,7 @@ use Rattle.std.proofs.lemmas.List.{set-get_or, get_or-set_same, get_or-set_other
 use Rattle.std.proofs.Math.Seq.{map-set_same}
 use Rattle.set_route.specs.Target.{IsTarget}
 use Rattle.set_model.specs.Changeover.{fate_on}
-use Rattle.set_model.specs.Rows.{is_held, is_on, was_acked}
+use Rattle.set_model.specs.Rows.{is_on}
 use Rattle.set_model.specs.State.{LinkState, has_phase_up, link_is_up, target}
 use Rattle.set_route.proofs.Lowest.{target_is}
 
@@ -60,10 +60,3 @@ none_up links n link e there = let is = subst (IsTarget _) e (target_is (map (λ
 -- what goes there goes to no link that isn't up
 pub target_off : (links : List LinkState) (n : ℕ) → link_is_up (slice_get links n) ≡ false → is_on n (fate_on (target links)) ≡ false
 target_off links n down = grind (arith, nat_tests, target_up)
-
--- it isn't acknowledged then, nor held, and it's parked only where there is no target
-pub target_open : (to : Option ℕ) → was_acked (fate_on to) ≡ false
-target_open to = grind arith
-
-pub target_unheld : (to : Option ℕ) (n : ℕ) → is_held n (fate_on to) ≡ false
-target_unheld to n = grind arith

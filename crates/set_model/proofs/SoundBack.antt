@@ -14,7 +14,7 @@ use Rattle.set_route.proofs.Alone.{alone, codes_alone}
 use Rattle.set_route.proofs.Places.{raised_sound, settled_sound, left_sound, asked_sound, back_sound}
 use Rattle.set_model.proofs.Order.{ascends_filter, backs_of, before_none, coded_at, each_left, gone_none, none_standing, stood}
 use Rattle.set_model.proofs.Events.{apart_on, left, unparked, untouched_self}
-use Rattle.set_model.proofs.Lists.{get_set_same, get_set_other, within, each_set, target_up, target_off, target_open, target_unheld, none_up}
+use Rattle.set_model.proofs.Lists.{get_set_same, get_set_other, within, each_set, target_up, target_off, none_up}
 use Rattle.set_model.proofs.Rows.{each_filter, moved_off, moved_numbered, moved_fit, moved_same, moved_more, moved_nothing, fated_none}
 use Rattle.set_model.proofs.Places.{false_true, not_on_waiting, back_not_on, back_not_parked, code_back, home_back}
 use Rattle.set_model.proofs.Ranging.{not_sent, offered_out}
@@ -52,7 +52,7 @@ module _ (n : ℕ) (link : LinkState) (s : State) (at : IsAt n link Down s) (t :
   moves_off_sound =
       -- it is empty, since the target is another link
       let l = t.links n link at.there in
-      let m = left n (fate_on (target s.links)) s.rows (target_off s.links n (grind arith)) (target_open (target s.links)) in
+      let m = left n (fate_on (target s.links)) s.rows (target_off s.links n (grind arith)) (grind arith) in
       let stays : has_phase_up link.phase ≡ true → has_phase_up (settled_link link).phase ≡ true = false_true (has_phase_up link.phase) (ap has_phase_up at.phase_is) in
       let below : IfSome (target s.links) (λ r. r < s.routing.links) = grind (arith, target_up, within) in
       moved_sound s _ (settled n (target s.links) s.routing) (is_on n) (all_with (fate_on (target s.links))) t (length-set s.links n (settled_link link)) (settled_sound n (target s.links) s.routing below t.routing) refl (fated_none stands_back (all_with (fate_on (target s.links))) (λ x. grind arith) (standing (is_on n) s.rows))
@@ -65,7 +65,7 @@ module _ (n : ℕ) (link : LinkState) (s : State) (at : IsAt n link Down s) (t :
       (λ code asked. up_after s.links n link (settled_link link) at.there stays (home_of code) (t.homes_up code asked))
       (up_before s.links n link (settled_link link) at.there (λ e. absurd cc) (λ k old here up. moved_same (is_on n) is_parked (all_with (fate_on (target s.links))) s.rows (λ x. grind (arith, none_up)) (λ f e. grind arith) ∙ t.none_aside k old here up))
       (each_set (λ k other. IsSoundLink s.settings.method k other (moved (is_on n) (all_with (fate_on (target s.links))) s.rows)) s.links n (settled_link link) (grind arith) (λ k other d here. let out = λ (is_down : has_phase_up other.phase ≡ false). target_off s.links k (ap link_is_up here ∙ is_down) in link_moved s.settings.method k other (is_on n) (all_with (fate_on (target s.links))) s.routing s.rows t.backs (apart_on n k d)
-      (λ x. not_sent k (target s.links)) (λ u x. target_unheld (target s.links) k) (λ f x e b. not_on_waiting k (fate_on (target s.links)) (out f)) (λ e x f b. out (grind (arith, e))) (t.links k other here)))
+      (λ x. not_sent k (target s.links)) (λ u x. grind arith) (λ f x e b. not_on_waiting k (fate_on (target s.links)) (out f)) (λ e x f b. out (grind (arith, e))) (t.links k other here)))
 
 -- a code in use is below 256
 in_use_below : (r : Routing) → IsRouting r → (code : ℕ) → code_of code r ≡ Asked → code < 256

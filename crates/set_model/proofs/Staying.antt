@@ -1,5 +1,5 @@
 -- The laws of the list of rows.
-use Rattle.std.proofs.Common.{arith, ℕ, Bool, List, ◌≡◌, ◌∙◌, ap, sym, ◌≤◌, ◌==◌, true, false, refl}
+use Rattle.std.proofs.Common.{arith, ℕ, Bool, List, Option, ◌≡◌, ◌∙◌, ap, sym, ◌≤◌, ◌==◌, true, false, refl}
 use Rattle.std.proofs.lemmas.List.{drop_at, length_push, length-append}
 use Rattle.std.proofs.lemmas.List.Filters.{length-filter_both}
 use Rattle.std.proofs.lemmas.List.Folds.{find-append}
@@ -10,13 +10,12 @@ use Rattle.set_model.proofs.Rows.{turned_there, changed_there, moved_length, mov
 use Rattle.set_model.proofs.Events.{numbers_fated, Kept, kept_self, moved_kept, sent_by, acknowledged, sent_given_up, waiting_given_up}
 use Rattle.std.proofs.lemmas.List.Elements.{filter-append}
 use Rattle.l3_orders.specs.Grammar.{text}
-use Rattle.set_model.specs.Changeover.{Order}
+use Rattle.set_model.specs.Changeover.{Order, fate_on}
 use Rattle.set_route.specs.Routing.{Routing}
 use Rattle.set_model.specs.Step.{Event, Offer, step, Answer, Gains, messages_in, octets_of}
 use Rattle.set_model.specs.Control.{Choice}
 use Rattle.set_model.specs.Sound.{IsManaged}
 use Rattle.set_model.specs.State.{Place, Settings, State, fate_at}
-use Rattle.set_model.proofs.Lists.{target_open}
 use Rattle.set_model.proofs.Walk.{step_walks}
 
 pub messages_stay : (test : Fate → Bool) (to : Fate) (fate : Row → Fate) (rows : List Row) → IsNumbered rows → MessagesStay test to fate rows
@@ -57,7 +56,8 @@ step_grows s event =
     let none_offered : (body : List ℕ) → event ≡ Offer body → is_offer event ≡ false → (service_indicator body == 0) ≡ true = λ body e other. absurd (let no : true ≡ false = sym (ap is_offer e) ∙ other in cc) in
     -- an order is the management's
     let order_managed : (order : Order) (settings : Settings) → IsManaged settings → (service_indicator (text order settings.sio settings.dpc settings.opc) == 0) ≡ true = λ order settings m. grind arith in
-    -- where a message goes whose stream runs there, it isn't acknowledged
+    -- where a message goes that is moved, or whose stream runs there, it isn't acknowledged
+    let target_open : (to : Option ℕ) → was_acked (fate_on to) ≡ false = λ to. grind arith in
     let fate_open : (p : Place) (s : State) → was_acked (fate_at p s) ≡ false = λ p s. grind arith in
     let sends = λ (choice : Choice) (n : ℕ) (rows : List Row). (sent_by choice n rows).kept in
     let acks = λ (n count : ℕ) (rows : List Row). (acknowledged n count rows).kept in
