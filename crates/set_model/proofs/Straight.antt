@@ -34,9 +34,6 @@ Fits place test fate =
     (f : Fate) → test f ≡ true → is_unfinished fate ≡ true
     → (is_unfinished f ≡ true) × (stands_at place f ≡ stands_at place fate)
 
-pub fits_finished : (place : Place) (test : Fate → Bool) (fate : Fate) → is_unfinished fate ≡ false → Fits place test fate
-fits_finished place test fate done f e alive = false_true (is_unfinished fate) done alive
-
 module _ (stream : ℕ) (place : Place) (test : Fate → Bool) (fate : Fate) (fits : Fits place test fate) where
   stays : (x : Row) (xs ys : List Row) → Less stream place xs ys → Less stream place (x ∷ xs) (x ∷ ys)
   stays x xs ys p = record { above = λ k a. grind (arith, p.above k); ascends = λ a. grind (arith, p.above x.number); none = λ e. grind arith; none_away = λ e. grind arith }
@@ -150,6 +147,7 @@ StaysStraight s t = IsSound s → NoneOpen s.routing → AreTogether s → IsSou
 pub step_straight : (s : State) (event : Event) → IsAsked event → BeginsNone event → IsSound s → RunsStraight s → RunsStraight (step s event).state
 step_straight s event asked begins t r =
     let stood = r.together in
+    let fits_finished : (place : Place) (test : Fate → Bool) (fate : Fate) → is_unfinished fate ≡ false → Fits place test fate = λ place test fate done f e alive. false_true (is_unfinished fate) done alive in
     let rests : (a b : State) → IsSound a × RunsStraight a → StaysStraight a b → IsSound b × RunsStraight b = λ a b q then. then q.0 q.1.none_open q.1.together in
     let then_straight : (a b c : State) → StaysStraight a b → StaysStraight b c → StaysStraight a c = λ a b c p q sound none r. rests b c (p sound none r) q in
     let begins_none : (u : State) → (BeginsNone event → ⊥) → IsSound u × RunsStraight u = λ u may. absurd (may begins) in
