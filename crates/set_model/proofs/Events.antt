@@ -5,7 +5,7 @@ use Rattle.std.proofs.lemmas.List.Elements.{filter-append}
 use Rattle.set_model.specs.Rows.{DiscardCause, Fate, Acked, Discarded, Parked, Unacked, Waiting, AreFit, IsHeldLast, IsInOrder, IsNumbered, Row, all_with, appended, back, body_at, changed, counts_of, fated, held, is_held, is_on, is_parked, is_unacked, is_waiting, moved, numbers, on, parked, standing, total_of, turned, unack, wait, was_acked, with_fate}
 use Rattle.set_model.specs.Control.{Choice, first}
 use Rattle.set_model.specs.Step.{rows_sent}
-use Rattle.set_model.proofs.Places.{itself, apart_back, unacked_not_waiting, waiting_not_held, unacked_not_held, on_not_parked, on_not_back, on_not_acked, parked_not_acked, waiting_on, unacked_on, held_on, on_other, not_on_waiting, not_on_unacked, not_on_held}
+use Rattle.set_model.proofs.Places.{itself, apart_back, unacked_not_waiting, not_held, on_not_parked, on_not_back, waiting_on, unacked_on, held_on, on_other, not_on_waiting, not_on_unacked, not_on_held}
 use Rattle.set_model.proofs.Rows.{InPlace, turned_there, changed_there, turned_same, changed_same, turned_left, moved_length, moved_fit, moved_numbered, moved_gone, moved_same, moved_joined, filter_moved, filter_comm, filter_within, body_moved, total_is, new_row, same_numbers}
 use Rattle.set_model.proofs.Order.{before_filter, before_never, before_none, before_within, order_sent, sent_joined, on_in_order}
 
@@ -29,11 +29,11 @@ pub record Kept (rows new : List Row) : Type 0 where
 pub kept_self : (rows : List Row) → Kept rows rows
 kept_self rows = record { fit = λ f. f; numbered = λ f. f; count = refl; bodies = λ f number. refl; total = refl; acked = omega arith }
 
-kept_in_place : (test : Fate → Bool) (to : Fate) (rows new : List Row) → InPlace test to rows new → ((f : Fate) → test f ≡ true → was_acked f ≡ false) → Kept rows new
+kept_in_place : (test : Fate → Bool) (to : Fate) (rows new : List Row) → InPlace test to rows new → ((l : ℕ) → test (Acked l) ≡ false) → Kept rows new
 kept_in_place test to rows new i w = grind (arith, total_is, same_numbers)
 
-pub moved_kept : (test : Fate → Bool) (fate : Row → Fate) (rows : List Row) → ((row : Row) → was_acked (fate row) ≡ false) → ((f : Fate) → test f ≡ true → was_acked f ≡ false) → Kept rows (moved test fate rows)
-moved_kept test fate rows o w = grind (arith, moved_fit, moved_numbered, moved_length, body_moved, total_is, filter_moved, filter_comm, moved_same)
+pub moved_kept : (test : Fate → Bool) (fate : Row → Fate) (rows : List Row) → ((row : Row) → was_acked (fate row) ≡ false) → ((l : ℕ) → test (Acked l) ≡ false) → Kept rows (moved test fate rows)
+moved_kept test fate rows o w = let none : (f : Fate) → test f ≡ true → was_acked f ≡ false = λ f e. grind arith in grind (arith, moved_fit, moved_numbered, moved_length, body_moved, total_is, filter_moved, filter_comm, moved_same)
 
 -- Nothing that link n sees changed.
 pub record Untouched (n : ℕ) (rows new : List Row) : Type 0 where
@@ -89,7 +89,7 @@ pub sent : (l : ℕ) (rows : List Row) → Sent l rows (turned (is_waiting l) (U
 sent l rows =
     let i = turned_there (is_waiting l) (Unacked l) 1 rows in
     let held_last = i.before (λ f. is_unacked l f || is_waiting l f) (is_held l) (λ f e u. grind arith) (λ f e h. grind arith) in
-    search (kept_in_place, on_not_acked l, waiting_on, turned_left, sent_joined, itself, turned_same, waiting_not_held, on_not_parked l, on_not_back l, order_sent, held_last, untouched, apart_on l)
+    search (kept_in_place, waiting_on, turned_left, sent_joined, itself, turned_same, not_held (is_waiting l) (λ k. refl), on_not_parked l, on_not_back l, order_sent, held_last, untouched, apart_on l)
 
 -- what the rows keep where nothing is sent for the first time too
 pub sent_by : (choice : Choice) (n : ℕ) (rows : List Row) → ChangesOn n rows (rows_sent choice n rows)
@@ -109,7 +109,7 @@ acknowledged l count rows =
     let i = turned_there (is_unacked l) (Acked l) count rows in
     let in_order = i.before (is_unacked l) (is_waiting l) (λ f e u. grind arith) (λ f e w. grind arith) in
     let held_last = i.before (λ f. is_unacked l f || is_waiting l f) (is_held l) (λ f e u. grind arith) (λ f e h. grind arith) in
-    search (kept_in_place, on_not_acked l, unacked_on, turned_left, turned_same, unacked_not_waiting, unacked_not_held, on_not_parked l, on_not_back l, on_in_order, in_order, held_last, untouched, apart_on l)
+    search (kept_in_place, unacked_on, turned_left, turned_same, unacked_not_waiting, not_held (is_unacked l) (λ k. refl), on_not_parked l, on_not_back l, on_in_order, in_order, held_last, untouched, apart_on l)
 
 -- MESSAGES THAT ARE GIVEN UP.
 module _ (l : ℕ) (cause : DiscardCause) (rows : List Row) where
@@ -118,13 +118,14 @@ module _ (l : ℕ) (cause : DiscardCause) (rows : List Row) where
       let i = changed_there test (Discarded cause) rows in
       let in_order = i.before (is_unacked l) (is_waiting l) (λ f e u. grind arith) (λ f e w. grind arith) in
       let held_last = i.before (λ f. is_unacked l f || is_waiting l f) (is_held l) (λ f e u. grind arith) (λ f e h. grind arith) in
-      search (kept_in_place, changed_same, on_not_acked l, on_not_parked l, on_not_back l, in_order, held_last, untouched, apart_on l)
+      let unacked : (k : ℕ) → test (Acked k) ≡ false = λ k. grind (arith, on_link (Acked k)) in
+      search (kept_in_place, changed_same, on_not_parked l, on_not_back l, in_order, held_last, untouched, apart_on l)
 
   pub sent_given_up : ChangesOn l rows (changed (is_unacked l) (Discarded cause) rows)
-  sent_given_up = given_up (is_unacked l) (unacked_on l) (unacked_not_held l l)
+  sent_given_up = given_up (is_unacked l) (unacked_on l) (λ f e. grind arith)
 
   pub waiting_given_up : ChangesOn l rows (changed (is_waiting l) (Discarded cause) rows)
-  waiting_given_up = given_up (is_waiting l) (waiting_on l) (waiting_not_held l l)
+  waiting_given_up = given_up (is_waiting l) (waiting_on l) (λ f e. grind arith)
 
 -- A LINK THAT IS LEFT BY ITS MESSAGES.
 pub record Left (l : ℕ) (to : Fate) (rows new : List Row) : Type 0 where
@@ -138,7 +139,7 @@ pub record Left (l : ℕ) (to : Fate) (rows new : List Row) : Type 0 where
   pub others : (n : ℕ) → (l == n) ≡ false → is_on n to ≡ false → Untouched n rows new
 
 pub left : (l : ℕ) (to : Fate) (rows : List Row) → is_on l to ≡ false → was_acked to ≡ false → Left l to rows (moved (is_on l) (all_with to) rows)
-left l to rows o a = search (moved_gone, not_on_unacked, unacked_on, not_on_waiting, waiting_on, moved_kept, on_not_acked, not_on_held, held_on, before_none, before_never, untouched, moved_same, on_other, apart_back)
+left l to rows o a = search (moved_gone, not_on_unacked, unacked_on, not_on_waiting, waiting_on, moved_kept, not_on_held, held_on, before_none, before_never, untouched, moved_same, on_other, apart_back)
 
 -- to another link
 pub record MovedTo (l t : ℕ) (rows new : List Row) : Type 0 where
@@ -172,4 +173,4 @@ pub record Unparked (l : ℕ) (rows new : List Row) : Type 0 where
 pub unparked : (l : ℕ) (rows : List Row) → Unparked l rows (moved is_parked (all_with (Waiting l)) rows)
 unparked l rows =
     let parked_not_on : (n : ℕ) (f : Fate) → is_parked f ≡ true → is_on n f ≡ false = λ n f e. grind arith in
-    search (parked_not_on, moved_joined, itself, not_on_waiting, moved_same, not_on_held, moved_kept, parked_not_acked, moved_gone, not_on_unacked, before_never, untouched)
+    search (parked_not_on, moved_joined, itself, not_on_waiting, moved_same, not_on_held, moved_kept, moved_gone, not_on_unacked, before_never, untouched)

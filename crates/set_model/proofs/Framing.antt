@@ -8,14 +8,14 @@ use Rattle.l3_orders.specs.Grammar.{order_of, link_of}
 use Rattle.set_route.specs.Routing.{Routing}
 use Rattle.set_model.specs.Step.{SignalUnit, Event, step, brought, rows_sent, takes}
 use Rattle.set_model.specs.Changeover.{Order, fate_on}
-use Rattle.set_model.specs.Control.{Choice, first}
+use Rattle.set_model.specs.Control.{Choice}
 use Rattle.set_model.specs.Frame.{BringsAbout, Concerns, LeavesAlone, MovesAsItsControl, window_after}
 use Rattle.set_model.specs.Rows.{DiscardCause, Fate, Waiting, Unacked, IsInOrder, Row, appended, fated, held, is_held, is_on, is_unacked, is_waiting, moved, numbers, standing, unack, wait}
 use Rattle.set_model.specs.Sound.{IsSound}
 use Rattle.set_model.specs.State.{Up, LinkState, State, is_up, link_is_up, target, window_of}
 use Rattle.set_model.proofs.Events.{Untouched, untouched_self, apart_on, sent, sent_by, acknowledged, sent_given_up, waiting_given_up, unparked, appended_out, numbers_joined}
 use Rattle.set_model.proofs.Rows.{fated_none, new_row, moved_same, moved_more}
-use Rattle.set_model.proofs.Lists.{get_set_same, get_set_other, within, target_off, target_unheld}
+use Rattle.set_model.proofs.Lists.{get_set_same, get_set_other, within, target_off}
 use Rattle.set_model.proofs.Places.{apart, not_on_waiting, back_not_on, home_back, code_back}
 use Rattle.set_model.proofs.Ranging.{offered_out, not_sent}
 use Rattle.set_model.proofs.SoundBack.{up_not_held, down_not_waiting, alternative_up}
@@ -47,6 +47,7 @@ leaves_alone n s event free =
     -- what waits for a link that is up waits for no other
     let up_waits : (to m : ℕ) (u : State) → is_up to u ≡ true → is_up m u ≡ false → is_waiting m (Waiting to) ≡ false = λ to m u up down. grind (arith, nat_tests) in
     let off_waits = λ (links new : List LinkState) (same : slice_get new n ≡ slice_get links n) (down : link_is_up (slice_get new n) ≡ false). not_on_waiting n (fate_on (target links)) (target_off links n (rw same at down)) in
+    let target_unheld : (to : Option ℕ) → is_held n (fate_on to) ≡ false = λ to. grind arith in
     let sends = λ (choice : Choice) (m : ℕ) (rows : List Row). (sent_by choice m rows).others in
     let acked = λ (m count : ℕ) (rows : List Row). (acknowledged m count rows).others in
     let sent_up = λ (m : ℕ) (cause : DiscardCause) (rows : List Row). (sent_given_up m cause rows).others in
@@ -59,11 +60,10 @@ pub numbers-drop : (d : ℕ) (rows : List Row) → numbers (drop d rows) ≡ dro
 numbers-drop d rows = sym (drop-map (λ (row : Row). row.number) d rows)
 
 window_sent : (n : ℕ) (link : LinkState) (choice : Choice) (rows : List Row) → IsInOrder n rows → window_of n link (rows_sent choice n rows) ≡ window_after choice (window_of n link rows)
-window_sent n link first rows order =
+window_sent n link choice rows order =
     let d = sent n rows in
     let unacked = ap numbers (d.unack_is order) ∙ numbers_joined (λ row. Unacked n) (unack n rows) (take 1 (wait n rows)) in
-    grind (arith, take-map, numbers-drop, d.wait_is)
-window_sent n link _ rows order = grind arith
+    grind (arith, take-map, numbers-drop, d.wait_is, unacked)
 
 none_brought : (unit : SignalUnit) → ((about : ℕ) → BringsAbout about unit → ⊥) → (accept : Bool) (t : State) (body : Option (List ℕ)) → brought accept unit ≡ body → ((takes body t).state.links ≡ t.links) × ((takes body t).state.rows ≡ t.rows)
 none_brought unit none accept t None e = (refl, refl)

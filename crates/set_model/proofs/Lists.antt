@@ -1,42 +1,29 @@
 -- What a list holds when one place of it is set.
-use Rattle.std.proofs.Common.{refl, arith, ◌≡◌, ◌≢◌, ◌==◌, false, ◌∙◌, ap, sym, ◌<◌, [], ◌∷◌, length, ℕ, zero, suc, List, map, slice_get, slice_set, slice_index_or, Some, ◌⊎◌, cond, option_map, subst, Bool, true, Option, None}
-use Rattle.std.proofs.lemmas.Option.{same_Some, get_or_from_slice_get, slice_get-get_or, slice_get-map, slice_get_within}
+use Rattle.std.proofs.Common.{arith, ◌≡◌, ◌≢◌, ◌==◌, false, ◌∙◌, ap, sym, ◌<◌, length, ℕ, List, map, slice_get, slice_set, Some, ◌⊎◌, cond, option_map, subst, true, None}
+pub use Rattle.std.proofs.lemmas.Option.{slice_get_within as within}
+pub use Rattle.std.proofs.lemmas.List.{length-set as length_set, map-set as map_set}
+use Rattle.std.proofs.lemmas.Option.{same_Some, get_or_from_slice_get, slice_get-get_or, slice_get-map, slice_get_cases, slice_get_past}
 use Rattle.std.proofs.lemmas.Bool.Decides.{nat_tests}
-use Rattle.std.proofs.lemmas.List.{length-set, map-set, set-get_or, get_or-set_same}
+use Rattle.std.proofs.lemmas.List.{set-get_or, get_or-set_same, get_or-set_other}
 use Rattle.std.proofs.Math.Seq.{map-set_same}
 use Rattle.set_route.specs.Target.{IsTarget}
 use Rattle.set_model.specs.Changeover.{fate_on}
-use Rattle.set_model.specs.Rows.{is_held, is_on, was_acked}
+use Rattle.set_model.specs.Rows.{is_on}
 use Rattle.set_model.specs.State.{LinkState, has_phase_up, link_is_up, target}
 use Rattle.set_route.proofs.Lowest.{target_is}
 
 pub get_set_same : {X : Type 0} (xs : List X) (n : ℕ) (x : X) → n < length xs → slice_get (slice_set xs n x) n ≡ Some x
-get_set_same xs n x few = slice_get-get_or (slice_set xs n x) n x (omega (arith, few, length-set xs n x)) ∙ ap Some (get_or-set_same xs n x x few)
+get_set_same xs n x few = slice_get-get_or (slice_set xs n x) n x (omega (arith, few, length_set xs n x)) ∙ ap Some (get_or-set_same xs n x x few)
 
 pub get_set_other : {X : Type 0} (xs : List X) (n m : ℕ) (x : X) → n ≢ m → slice_get (slice_set xs n x) m ≡ slice_get xs m
-get_set_other [] n m x other = refl
-get_set_other (y ∷ xs) zero m x other = grind arith
-get_set_other (y ∷ xs) (suc n) m x other = grind (arith, get_set_other xs n)
+get_set_other xs n m x other = grind (arith, slice_get-get_or (slice_set xs n x) m x, slice_get-get_or xs m x, slice_get_past (slice_set xs n x) m, slice_get_past xs m, get_or-set_other xs n m x x (λ e. other (sym e)), length_set xs n x)
 
-pub map_set : {X Y : Type 0} (f : X → Y) (xs : List X) (n : ℕ) (x : X) → map f (slice_set xs n x) ≡ slice_set (map f xs) n (f x)
-map_set f xs n x = map-set f xs n x
-
--- a place that is set to what it holds
 pub set_same : {X : Type 0} (xs : List X) (n : ℕ) (x : X) → slice_get xs n ≡ Some x → slice_set xs n x ≡ xs
-set_same xs n x there = ap (slice_set xs n) (sym (get_or_from_slice_get xs n x x there)) ∙ set-get_or xs n x
-
-pub length_set : {X : Type 0} (xs : List X) (n : ℕ) (x : X) → length (slice_set xs n x) ≡ length xs
-length_set xs n x = length-set xs n x
-
--- only what is in the list is found
-pub within : {X : Type 0} (xs : List X) (n : ℕ) (x : X) → slice_get xs n ≡ Some x → n < length xs
-within xs n x there = slice_get_within xs n x there
+set_same xs n x there = grind (arith, set-get_or xs n x, get_or_from_slice_get)
 
 -- where one place is set, each place holds what was set or what it held
 pub at_set : {X : Type 0} (xs : List X) (n m : ℕ) (x y : X) → slice_get (slice_set xs n x) m ≡ Some y → ((m ≡ n) × (y ≡ x)) ⊎ ((m ≢ n) × (slice_get xs m ≡ Some y))
-at_set [] n m x y there = absurd cc
-at_set (z ∷ xs) zero m x y there = grind arith
-at_set (z ∷ xs) (suc n) m x y there = grind (arith, at_set xs n)
+at_set xs n m x y there = grind (arith, get_set_same, get_set_other, within, length_set)
 
 pub set_at : {X : Type 0} (xs : List X) (n m : ℕ) (x y : X) → slice_get xs m ≡ Some y → slice_get (slice_set xs n x) m ≡ Some (cond (n == m) x y)
 set_at xs n m x y there = grind (arith, nat_tests, get_set_same, get_set_other, within)
@@ -54,35 +41,22 @@ same_at xs n x y a b = same_Some y x (sym b ∙ a)
 
 -- what is found in a list of images is the image of something there
 pub at_map : {X Y : Type 0} (f : X → Y) (xs : List X) (n : ℕ) (y : Y) → slice_get (map f xs) n ≡ Some y → (x : X) × (slice_get xs n ≡ Some x) × (f x ≡ y)
-at_map f [] n y there = absurd cc
-at_map f (x ∷ xs) zero y there = (x, refl, same_Some (f x) y there)
-at_map f (x ∷ xs) (suc n) y there = at_map f xs n y there
+at_map f xs n y there = grind (arith, slice_get-map f xs n)
 
 pub map_at : {X Y : Type 0} (f : X → Y) (xs : List X) (n : ℕ) (x : X) → slice_get xs n ≡ Some x → slice_get (map f xs) n ≡ Some (f x)
 map_at f xs n x there = slice_get-map f xs n ∙ ap (option_map f) there
 
 pub present : {X : Type 0} (xs : List X) (n : ℕ) → n < length xs → (x : X) × (slice_get xs n ≡ Some x)
-present [] n few = absurd (omega (arith, few))
-present (x ∷ xs) n few = (slice_index_or (x ∷ xs) n x, slice_get-get_or (x ∷ xs) n x few)
+present xs n few = grind (arith, slice_get_cases xs n)
 
 -- The link that messages are moved to.
-abbrev pub ups : List LinkState → List Bool
-ups links = map (λ link. has_phase_up link.phase) links
-
 pub target_up : (links : List LinkState) (to : ℕ) → target links ≡ Some to → (link : LinkState) × (slice_get links to ≡ Some link) × (has_phase_up link.phase ≡ true)
-target_up links to e = at_map (λ (l : LinkState). has_phase_up l.phase) links to true (subst (IsTarget (ups links)) e (target_is (ups links))).0
+target_up links to e = at_map (λ (l : LinkState). has_phase_up l.phase) links to true (subst (IsTarget _) e (target_is (map (λ (l : LinkState). has_phase_up l.phase) links))).0
 
 -- where there is none, no link is up
 pub none_up : (links : List LinkState) (n : ℕ) (link : LinkState) → target links ≡ None → slice_get links n ≡ Some link → has_phase_up link.phase ≡ false
-none_up links n link e there = let is = subst (IsTarget (ups links)) e (target_is (ups links)) n in grind (arith, map_at, is)
+none_up links n link e there = let is = subst (IsTarget _) e (target_is (map (λ (l : LinkState). has_phase_up l.phase) links)) n in grind (arith, map_at, is)
 
 -- what goes there goes to no link that isn't up
 pub target_off : (links : List LinkState) (n : ℕ) → link_is_up (slice_get links n) ≡ false → is_on n (fate_on (target links)) ≡ false
 target_off links n down = grind (arith, nat_tests, target_up)
-
--- it isn't acknowledged then, nor held, and it's parked only where there is no target
-pub target_open : (to : Option ℕ) → was_acked (fate_on to) ≡ false
-target_open to = grind arith
-
-pub target_unheld : (to : Option ℕ) (n : ℕ) → is_held n (fate_on to) ≡ false
-target_unheld to n = grind arith

@@ -2,9 +2,9 @@
 use Rattle.std.proofs.Common.{arith, refl, ◌≡◌, ◌<◌, ℕ, suc, Bool, true, false, not, ◌||◌, List, [], ◌∷◌, ◌++◌, length, map, slice_get, Some, filter, subst, ◌==◌, take}
 use Rattle.std.proofs.lemmas.List.{append-nil, map-append}
 use Rattle.std.proofs.lemmas.List.Elements.{filter-append}
-use Rattle.set_model.specs.Rows.{is_unacked, Fate, AreBefore, Each, IsNumbered, Row, appended, fated, numbers, standing, Back, back, Unacked, IsHeldLast, IsInOrder, held, is_waiting, on, turned, unack, wait, with_fate}
+use Rattle.set_model.specs.Rows.{Fate, AreBefore, Each, IsNumbered, Row, appended, fated, numbers, standing, Back, back, Unacked, IsHeldLast, IsInOrder, held, is_waiting, on, turned, unack, wait, with_fate}
 use Rattle.set_model.specs.Sound.{AreAbove, IsAscending, AreBack, IsBackOf}
-use Rattle.set_model.proofs.Rows.{found_by_number, filter_comm, filter_within, none_within}
+use Rattle.set_model.proofs.Rows.{each_append, found_by_number, filter_comm, filter_within, none_within}
 use Rattle.set_route.specs.Routing.{IsCoded, IsRouting, Routing, code_of, home_of, place_of}
 use Rattle.set_model.specs.State.{Asked, Changing}
 use Rattle.set_route.proofs.Quiet.{at_place}
@@ -37,11 +37,7 @@ ascends_filter p (x ∷ rows) a = grind (arith, above_filter x.number p rows a.0
 -- a number above all others stands last
 ascends_end : (k : ℕ) (ns : List ℕ) → ((i m : ℕ) → slice_get ns i ≡ Some m → m < k) → IsAscending ns → IsAscending (ns ++ k ∷ [])
 ascends_end k [] below a = (tt, tt)
-ascends_end k (n ∷ ns) below a = (above_end ns a.0, ascends_end k ns (λ i m e. below (suc i) m e) a.1)
-  where
-    above_end : (ms : List ℕ) → AreAbove n ms → AreAbove n (ms ++ k ∷ [])
-    above_end [] b = (below 0 n refl, tt)
-    above_end (m ∷ ms) b = (b.0, above_end ms b.1)
+ascends_end k (n ∷ ns) below a = (each_append (λ m. n < m) ns (k ∷ []) a.0 (below 0 n refl, tt), ascends_end k ns (λ i m e. below (suc i) m e) a.1)
 
 -- as that of a new message does
 pub ascends_appended : (p : Row → Bool) (rows : List Row) (body : List ℕ) (fate : Fate) → IsNumbered rows → IsAscending (numbers (filter p rows)) → IsAscending (numbers (filter p (appended rows body fate)))
@@ -54,13 +50,8 @@ ascends_appended p rows body fate numbered a =
 pub coded_at : (r : Routing) (stream : ℕ) → IsRouting r → (to code via : ℕ) → place_of stream r ≡ Changing to code via → (home_of code ≡ to) × (code_of code r ≡ Asked)
 coded_at r stream sound to code via e = subst (IsCoded r) e (at_place (IsCoded r) tt r.streams stream sound.coded)
 
--- a stream on its way back by a code of which nothing moves stays on it
-abbrev pub StaysBack : (Fate → Bool) → Routing → Routing → Type 0
-StaysBack test old new =
-    (k : ℕ) → k < 16 → (code via : ℕ) → test (Back code) ≡ false → place_of k old ≡ Changing (home_of code) code via
-    → (via' : ℕ) × (place_of k new ≡ Changing (home_of code) code via')
-
-pub stood : (test : Fate → Bool) (old new : Routing) → StaysBack test old new → (x : Row) (f : Fate) → test f ≡ false → IsBackOf old x f → IsBackOf new x f
+-- where a stream on its way back by a code of which nothing moves stays on it
+pub stood : (test : Fate → Bool) (old new : Routing) → ((k : ℕ) → k < 16 → (code via : ℕ) → test (Back code) ≡ false → place_of k old ≡ Changing (home_of code) code via → (via' : ℕ) × (place_of k new ≡ Changing (home_of code) code via')) → (x : Row) (f : Fate) → test f ≡ false → IsBackOf old x f → IsBackOf new x f
 stood test old new stays x f out b = grind arith
 
 -- of the rows it asks only those that stand back
@@ -110,8 +101,4 @@ sent_joined l (x ∷ rows) s o = grind (arith, sent_joined l rows s o.1)
 -- WHAT IS ON A LINK, IN ORDER: first what was sent, then what waits, then what is held.
 pub on_in_order : (l : ℕ) (rows : List Row) → IsInOrder l rows → IsHeldLast l rows → on l rows ≡ unack l rows ++ wait l rows ++ held l rows
 on_in_order l [] o h = refl
-on_in_order l (x ∷ rows) o h =
-    let none = λ (test : Fate → Bool) (w : (f : Fate) → test f ≡ true → (is_unacked l f || is_waiting l f) ≡ true). none_within test (λ f. is_unacked l f || is_waiting l f) w rows in
-    let unsent = none (is_unacked l) (λ f e. grind arith) in
-    let unqueued = none (is_waiting l) (λ f e. grind arith) in
-    grind (arith, on_in_order l rows o.1 h.1, unsent, unqueued)
+on_in_order l (x ∷ rows) o h = grind (arith, none_within, on_in_order l rows o.1 h.1)

@@ -1,17 +1,14 @@
 -- Fates and links: what stands in one place stands in no other.
-use Rattle.std.proofs.Common.{arith, refl, ◌≡◌, ◌≢◌, ◌∙◌, sym, ℕ, Bool, true, false, ◌==◌}
-use Rattle.std.proofs.lemmas.Bool.{eq-eqb, ne_eqb, eqb-false}
-use Rattle.set_model.specs.Rows.{Fate, is_back, is_back_to, is_held, is_on, is_parked, is_unacked, is_waiting, stands_back, was_acked}
+use Rattle.std.proofs.Common.{arith, refl, ◌≡◌, ◌∙◌, sym, ℕ, Bool, true, false, ◌==◌}
+pub use Rattle.std.proofs.lemmas.Bool.{ne_eqb as apart}
+use Rattle.std.proofs.lemmas.Bool.{eq-eqb, eqb-false}
+use Rattle.set_model.specs.Rows.{Fate, Held, is_back, is_back_to, is_held, is_on, is_parked, is_unacked, is_waiting, stands_back}
 
 pub false_true : {P : Type 0} (b : Bool) → b ≡ false → b ≡ true → P
 false_true b f t = let no : true ≡ false = sym t ∙ f in absurd cc
 
--- the other way round
-pub apart : (l n : ℕ) → l ≢ n → (l == n) ≡ false
-apart l n d = ne_eqb l n d
-
 pub apart_back : (l n : ℕ) → (l == n) ≡ false → (n == l) ≡ false
-apart_back l n d = ne_eqb n l (λ e. eqb-false l n d (sym e))
+apart_back l n d = apart n l (λ e. eqb-false l n d (sym e))
 
 pub itself : (l : ℕ) → (l == l) ≡ true
 itself l = eq-eqb l l refl
@@ -20,23 +17,14 @@ itself l = eq-eqb l l refl
 pub unacked_not_waiting : (l n : ℕ) (f : Fate) → is_unacked n f ≡ true → is_waiting l f ≡ false
 unacked_not_waiting l n f e = grind arith
 
-pub waiting_not_held : (l n : ℕ) (f : Fate) → is_waiting n f ≡ true → is_held l f ≡ false
-waiting_not_held l n f e = grind arith
-
-pub unacked_not_held : (l n : ℕ) (f : Fate) → is_unacked n f ≡ true → is_held l f ≡ false
-unacked_not_held l n f e = grind arith
+pub not_held : (test : Fate → Bool) → ((k : ℕ) → test (Held k) ≡ false) → (l : ℕ) (f : Fate) → test f ≡ true → is_held l f ≡ false
+not_held test none l f e = grind arith
 
 pub on_not_parked : (n : ℕ) (f : Fate) → is_on n f ≡ true → is_parked f ≡ false
 on_not_parked n f e = grind arith
 
 pub on_not_back : (n : ℕ) (f : Fate) → is_on n f ≡ true → stands_back f ≡ false
 on_not_back n f e = grind arith
-
-pub on_not_acked : (l : ℕ) (f : Fate) → is_on l f ≡ true → was_acked f ≡ false
-on_not_acked l f e = grind arith
-
-pub parked_not_acked : (f : Fate) → is_parked f ≡ true → was_acked f ≡ false
-parked_not_acked f e = grind arith
 
 -- What stands in one of the three places of a link is on it.
 pub waiting_on : (l : ℕ) (f : Fate) → is_waiting l f ≡ true → is_on l f ≡ true
@@ -67,9 +55,6 @@ back_not_on l f e = grind arith
 
 pub back_not_parked : (f : Fate) → stands_back f ≡ true → is_parked f ≡ false
 back_not_parked f e = grind arith
-
-pub back_not_acked : (f : Fate) → stands_back f ≡ true → was_acked f ≡ false
-back_not_acked f e = grind arith
 
 -- by a code, or by the home of one
 pub code_back : (c : ℕ) (f : Fate) → is_back c f ≡ true → stands_back f ≡ true

@@ -6,7 +6,7 @@ use Rattle.std.proofs.lemmas.List.Elements.{filter-append}
 use Rattle.set_route.specs.Routing.{Routing}
 use Rattle.set_model.specs.Step.{Event, step, one_if, rows_sent}
 use Rattle.set_model.specs.Changeover.{fate_on}
-use Rattle.set_model.specs.Control.{Header, Choice, first, part_of}
+use Rattle.set_model.specs.Control.{Header, Choice, part_of}
 use Rattle.set_model.specs.Rows.{DiscardCause, Discarded, Fate, Acked, Unacked, Row, is_unacked, is_waiting, moved, standing, turned, unack}
 use Rattle.set_model.specs.Sound.{AreAtMost, AreFew, WholeNumbers, one_more}
 use Rattle.set_model.specs.State.{Place, Phase, LinkState, State, fate_at, window_of}
@@ -50,24 +50,17 @@ module _ (more : ℕ) (s : State) (rows : List Row) (routing : Routing) (inbox :
   grow_set : (n : ℕ) (link link' : LinkState) (phase : Phase) → IsAt n link phase s → link'.acked + length (unack n rows) ≤ link.acked + length (unack n s.rows) + more → link'.accepted ≤ link.accepted + more → GrowBy more s (record s { links = slice_set s.links n link'; rows = rows; routing = routing })
   grow_set n link link' phase at sent accepted = record { each = each_set (λ m new. (old : LinkState) × (slice_get s.links m ≡ Some old) × (new.acked + length (unack m rows) ≤ old.acked + length (unack m s.rows) + more) × (new.accepted ≤ old.accepted + more)) s.links n link' (link, at.there, sent, accepted) (λ m other d there. (other, there, omega (arith, few m), omega arith)) }
 
-few_sent : (choice : Choice) (m n : ℕ) (rows : List Row) → length (unack m (rows_sent choice n rows)) ≤ length (unack m rows) + 1
-few_sent first m n rows = few_turned (is_waiting n) (is_unacked m) (Unacked n) 1 rows
-few_sent _ m n rows = omega arith
-
--- what is acknowledged was sent
-acked_at_most : (more c n count : ℕ) (rows : List Row) → count ≤ length (unack n rows) → c + count + length (unack n (turned (is_unacked n) (Acked n) count rows)) ≤ c + length (unack n rows) + more
-acked_at_most more c n count rows fits = grind (arith, turned_left, length-drop)
-
-ruleset grows = (le_refl, zero-le, grow_then, grow_rows, grow_set, acked_at_most, few_moved, appended_out, not_sent, offered_out, few_sent, acked_few, arith)
-
 step_grows : (s : State) (event : Event) → GrowBy 1 s (step s event).state
 step_grows s event =
+    let few_sent : (choice : Choice) (m n : ℕ) (rows : List Row) → length (unack m (rows_sent choice n rows)) ≤ length (unack m rows) + 1 = λ choice m n rows. grind (arith, few_turned (is_waiting n) (is_unacked m) (Unacked n) 1 rows) in
+    -- what is acknowledged was sent
+    let acked_at_most : (more c n count : ℕ) (rows : List Row) → count ≤ length (unack n rows) → c + count + length (unack n (turned (is_unacked n) (Acked n) count rows)) ≤ c + length (unack n rows) + more = λ more c n count rows fits. grind (arith, turned_left, length-drop) in
     let at_most : (a b more : ℕ) → a ≤ b → a ≤ b + more = λ a b more few. omega arith in
     let sum_at_most : (d c a b more : ℕ) → d ≤ c → a ≤ b + more → d + a ≤ c + b + more = λ d c a b more e few. omega arith in
     let one_low : (a more : ℕ) (b : Bool) → 1 ≤ more → a + one_if b ≤ a + more = λ a more b some. grind arith in
     let acked = λ (m n count : ℕ) (rows : List Row). (turned_there (is_unacked n) (Acked n) count rows).fewer (is_unacked m) in
     let given_up = λ (m : ℕ) (test : Fate → Bool) (cause : DiscardCause) (rows : List Row). (changed_there test (Discarded cause) rows).fewer (is_unacked m) in
-    step_walks s (GrowBy 0) (GrowBy 1 s) event (search (grows, at_most, sum_at_most, one_low))
+    step_walks s (GrowBy 0) (GrowBy 1 s) event (search (le_refl, zero-le, grow_then, grow_rows, grow_set, acked_at_most, few_moved, appended_out, not_sent, offered_out, few_sent, acked_few, arith, at_most, sum_at_most, one_low))
 
 pub step_at_most : (s : State) (event : Event) (k : ℕ → WholeNumbers) → AreAtMost k s → AreAtMost (λ n. one_more (k n)) (step s event).state
 step_at_most s event k few n link there = let g = (step_grows s event).each n link there in let f = few n g.0 g.1 in grind (arith, f, g)

@@ -1,10 +1,11 @@
 -- Filters of rows, and of rows with other fates.
 use Rattle.std.proofs.Common.{refl, arith, ◌≡◌, ◌∙◌, ap, sym, [], ◌∷◌, length, ◌≤◌, Bool, true, false, List, ◌++◌, map, filter, not, ◌+◌, ◌<◌, ℕ, nat_lt, ◌==◌, None, cond, zero, suc, drop, Some, slice_get, option_map}
-use Rattle.set_model.specs.Rows.{Fate, Each, AreBefore, AreFit, Row, fated, standing, IsNumbered, moved, counts_of, is_parked, stands_back, total_of, users, waits, was_acked, was_discarded, was_held, was_sent, appended, row_of, body_at, changed, turned, with_fate, numbers, place}
+use Rattle.set_model.specs.Rows.{Acked, Fate, Each, AreBefore, AreFit, Row, fated, standing, IsNumbered, moved, counts_of, is_parked, stands_back, total_of, users, waits, was_acked, was_discarded, was_held, was_sent, appended, row_of, body_at, changed, turned, with_fate, numbers, place}
 use Rattle.std.proofs.lemmas.List.{append-nil, length-append, length-map, length_push}
 use Rattle.std.proofs.lemmas.List.Elements.{filter-append}
 use Rattle.std.proofs.lemmas.List.Filters.{length-filter_both}
 use Rattle.std.proofs.lemmas.Bool.Decides.{nat_tests}
+use Rattle.set_model.proofs.Lists.{at_map, present}
 
 -- One filter after another.
 pub filter_comm : (p q : Row → Bool) (xs : List Row) → filter p (filter q xs) ≡ filter q (filter p xs)
@@ -45,7 +46,7 @@ pub each_so : (P Q : Row → Type 0) → ((x : Row) → P x → Q x) → (rows :
 each_so P Q so [] e = tt
 each_so P Q so (x ∷ rows) e = (so x e.0, each_so P Q so rows e.1)
 
-pub each_append : (P : Row → Type 0) (xs ys : List Row) → Each P xs → Each P ys → Each P (xs ++ ys)
+pub each_append : {X : Type 0} (P : X → Type 0) (xs ys : List X) → Each P xs → Each P ys → Each P (xs ++ ys)
 each_append P [] ys a b = b
 each_append P (x ∷ xs) ys a b = (a.0, each_append P xs ys a.1 b)
 
@@ -118,26 +119,15 @@ pub total_is : (rows : List Row) → total_of (counts_of rows) ≡ length (users
 total_is rows = omega (arith, all_counted (users rows))
 
 -- Rows that are looked up, where each number stands in one row.
--- the rows of a number
 abbrev pub with_number : ℕ → List Row → List Row
 with_number number rows = filter (λ row. row.number == number) rows
 
--- a number below the length is found
-pub not_found : (number : ℕ) (rows : List Row) → row_of number rows ≡ None → with_number number rows ≡ []
-not_found number [] e = refl
-not_found number (x ∷ rows) e = grind (arith, not_found number rows)
-
-pub is_found : (number : ℕ) (rows : List Row) → IsNumbered rows → number < length rows → row_of number rows ≡ None → ⊥
-is_found number rows numbered below e = let one = numbered number in grind (arith, nat_tests, not_found, one)
-
--- A new row has the next number.
 abbrev pub new_row : ℕ → List ℕ → Fate → Row
 new_row number body fate = record { number = number; body = body; fate = fate }
 
 pub numbered_appended : (rows : List Row) (body : List ℕ) (fate : Fate) → IsNumbered rows → IsNumbered (appended rows body fate)
 numbered_appended rows body fate numbered number = grind (arith, nat_tests, filter-append, length-append, length_push)
 
--- rows of the same numbers
 pub same_numbers : (rows new : List Row) → length new ≡ length rows → ((number : ℕ) → length (with_number number new) ≡ length (with_number number rows)) → IsNumbered rows → IsNumbered new
 same_numbers rows new long each numbered number = each number ∙ numbered number ∙ ap (λ (n : ℕ). cond (nat_lt number n) 1 0) (sym long)
 
@@ -161,7 +151,7 @@ pub record InPlace (test : Fate → Bool) (fate : Fate) (xs ys : List Row) : Typ
   pub as_many : (p : Row → Bool) → ((f : Fate) (x : Row) → p (with_fate f x) ≡ p x) → length (filter p ys) ≡ length (filter p xs)
   pub bodies : (number : ℕ) → body_at number ys ≡ body_at number xs
   -- where no acknowledged one turns
-  pub acked : ((f : Fate) → test f ≡ true → was_acked f ≡ false) → length (standing was_acked (users xs)) ≤ length (standing was_acked (users ys))
+  pub acked : ((l : ℕ) → test (Acked l) ≡ false) → length (standing was_acked (users xs)) ≤ length (standing was_acked (users ys))
   -- a place where none comes has no more than before; and where none turns either it has the same
   pub fewer : (other : Fate → Bool) → other fate ≡ false → length (standing other ys) ≤ length (standing other xs)
   pub same : (other : Fate → Bool) → other fate ≡ false → ((f : Fate) → test f ≡ true → other f ≡ false) → standing other ys ≡ standing other xs
@@ -184,26 +174,27 @@ module _ (test other : Fate → Bool) (fate : Fate) (o : other fate ≡ false) (
   pub changed_same : (rows : List Row) → standing other (changed test fate rows) ≡ standing other rows
   changed_same rows = (changed_there test fate rows).same other o w
 
--- those that turned left their place
+-- those that turned, or changed, left their place
 pub turned_left : (test : Fate → Bool) (fate : Fate) → test fate ≡ false → (n : ℕ) (rows : List Row) → standing test (turned test fate n rows) ≡ drop n (standing test rows)
 turned_left test fate o zero rows = refl
 turned_left test fate o (suc n) [] = refl
 turned_left test fate o (suc n) (x ∷ rows) = grind (arith, turned_left test fate o n rows, turned_left test fate o (suc n) rows)
 
--- all that changed left their place
 pub changed_left : (test : Fate → Bool) (fate : Fate) → test fate ≡ false → (rows : List Row) → standing test (changed test fate rows) ≡ []
 changed_left test fate o [] = refl
 changed_left test fate o (x ∷ rows) = grind (arith, changed_left test fate o rows)
 
 -- What is found under a number, before and after a change.
--- a number has one row at most
 pub at_most_one : (number : ℕ) (rows : List Row) → IsNumbered rows → length (with_number number rows) ≤ 1
 at_most_one number rows numbered = grind arith
 
--- the row of a number is the first of its rows
 pub row_is_first : (number : ℕ) (rows : List Row) → row_of number rows ≡ slice_get (with_number number rows) 0
 row_is_first number [] = refl
 row_is_first number (x ∷ rows) = grind (arith, row_is_first number rows)
+
+-- a number below the length is found
+pub is_found : (number : ℕ) (rows : List Row) → IsNumbered rows → number < length rows → row_of number rows ≡ None → ⊥
+is_found number rows numbered below e = let one = numbered number in let there = present (with_number number rows) 0 in grind (arith, nat_tests, row_is_first, one, there)
 
 -- A MOVE: the row of a number is the one that it was, with the fate if it moved.
 module _ (test : Fate → Bool) (fate : Row → Fate) where
@@ -234,15 +225,6 @@ found_in p (x ∷ rows) (suc i) k row e n l = grind (arith, nat_tests, no_rows (
 pub row_in_filter : (p : Row → Bool) (rows : List Row) (i k : ℕ) (row : Row) → IsNumbered rows → slice_get (filter p rows) i ≡ Some row → row.number ≡ k → row_of k rows ≡ Some row
 row_in_filter p rows i k row numbered e n = let one = found_in p rows i k row e n (at_most_one k rows numbered) in grind (arith, row_is_first)
 
--- the number of a row in a filter is below the length
-pub number_below : (p : Row → Bool) (rows : List Row) (i : ℕ) (row : Row) → IsNumbered rows → slice_get (filter p rows) i ≡ Some row → row.number < length rows
-number_below p rows i row numbered e = let known = numbered row.number in grind (arith, nat_tests, found_in p rows i row.number row e refl (at_most_one row.number rows numbered), known)
-
-pub row_at_number : (rows : List Row) (i number : ℕ) → slice_get (numbers rows) i ≡ Some number → (row : Row) × (slice_get rows i ≡ Some row) × (row.number ≡ number)
-row_at_number [] i number e = absurd cc
-row_at_number (x ∷ rows) zero number e = (x, refl, cc)
-row_at_number (x ∷ rows) (suc i) number e = row_at_number rows i number e
-
 -- Whoever keeps the numbers of a filter, as a window does, finds under each of them the row of that place.
 pub record Found (p : Row → Bool) (rows : List Row) (i number : ℕ) : Type 0 where
   pub row : Row
@@ -254,4 +236,7 @@ pub record Found (p : Row → Bool) (rows : List Row) (i number : ℕ) : Type 0 
   pub below : number < length rows
 
 pub found_by_number : (p : Row → Bool) (rows : List Row) (i number : ℕ) → IsNumbered rows → slice_get (numbers (filter p rows)) i ≡ Some number → Found p rows i number
-found_by_number p rows i number numbered e = grind (arith, row_at_number, row_in_filter, number_below)
+found_by_number p rows i number numbered e =
+    let at = at_map (λ (row : Row). row.number) (filter p rows) i number e in
+    let one = found_in p rows i number at.0 at.1 at.2 (at_most_one number rows numbered) in
+    grind (arith, nat_tests, row_is_first, at, one)

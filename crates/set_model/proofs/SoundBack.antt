@@ -1,25 +1,25 @@
 -- WHAT HOLDS OF EVERY STATE is kept when a link comes up, when it is left, and when its messages leave it, and by a
 -- changeback.
 use Rattle.std.proofs.lemmas.Bool.Decides.{nat_tests}
-use Rattle.std.proofs.Common.{length, refl, arith, ◌≡◌, ◌≢◌, ◌∙◌, ap, ◌<◌, ℕ, ◌==◌, true, false, List, [], map, slice_get, slice_set, Option, None, Some, IfSome, Bool, not}
+use Rattle.std.proofs.Common.{length, refl, arith, ◌≡◌, ◌∙◌, ap, ◌<◌, ℕ, ◌==◌, true, false, List, [], map, slice_get, None, Some, IfSome, Bool, not}
 use Rattle.std.proofs.lemmas.Bool.{and_parts}
 use Rattle.std.proofs.lemmas.List.{length-set}
-use Rattle.set_route.specs.Routing.{settled, IsRouting, Routing, asked, code_for, code_of, given_back, home_of, place_of, raised, place_settled}
-use Rattle.set_model.specs.Changeover.{Cbd, can_declare, declared, fate_on, left_by, left_link, moved_over, out_of_service, released, settled_link}
-use Rattle.set_model.specs.Rows.{Fate, Waiting, Back, Row, all_with, back, fated, is_back, is_back_to, is_held, is_on, is_parked, is_waiting, moved, numbers, parked, standing, stands_back, stream_of}
+use Rattle.set_route.specs.Routing.{settled, IsRouting, Routing, asked, code_of, given_back, home_of, place_of, raised}
+use Rattle.set_model.specs.Changeover.{can_declare, declared, fate_on, left_by, left_link, moved_over, out_of_service, released, settled_link}
+use Rattle.set_model.specs.Rows.{Fate, Waiting, Row, all_with, back, fated, is_back, is_back_to, is_held, is_on, is_parked, is_waiting, moved, numbers, parked, standing, stands_back, stream_of}
 use Rattle.set_model.specs.Sound.{AreBack, IsAscending, IsBackOf, IsPlaced, IsSound, IsSoundLink}
-use Rattle.set_model.specs.State.{Asked, Place, Nowhere, On, Changing, Down, Settled, Up, LinkState, State, fate_at, has_phase_up, is_up, link_is_up, target}
+use Rattle.set_model.specs.State.{Asked, Place, On, Changing, Down, Settled, Up, LinkState, State, fate_at, has_phase_up, is_up, link_is_up, target}
 use Rattle.set_model.specs.Step.{risen_link, rises}
 use Rattle.set_route.proofs.Alone.{alone, codes_alone}
 use Rattle.set_route.proofs.Places.{raised_sound, settled_sound, left_sound, asked_sound, back_sound}
 use Rattle.set_model.proofs.Order.{ascends_filter, backs_of, before_none, coded_at, each_left, gone_none, none_standing, stood}
 use Rattle.set_model.proofs.Events.{apart_on, left, unparked, untouched_self}
-use Rattle.set_model.proofs.Lists.{get_set_same, get_set_other, within, each_set, target_up, target_off, target_open, target_unheld, none_up}
+use Rattle.set_model.proofs.Lists.{get_set_same, get_set_other, within, each_set, target_up, target_off, none_up}
 use Rattle.set_model.proofs.Rows.{each_filter, moved_off, moved_numbered, moved_fit, moved_same, moved_more, moved_nothing, fated_none}
 use Rattle.set_model.proofs.Places.{false_true, not_on_waiting, back_not_on, back_not_parked, code_back, home_back}
 use Rattle.set_model.proofs.Ranging.{not_sent, offered_out}
 use Rattle.set_model.proofs.Walk.{IsAt}
-use Rattle.set_model.proofs.SoundLink.{link_moved, links_set, placed_set, up_before, up_after, order_fits, Follows, appended_sound}
+use Rattle.set_model.proofs.SoundLink.{link_moved, links_set, placed_set, up_before, up_after, Follows, appended_sound}
 use Rattle.set_model.proofs.Settling.{settled_empty}
 
 -- ROWS THAT MOVE, as links and streams change, where none of them comes to stand back.
@@ -32,8 +32,6 @@ moved_sound s links routing test fate t long sound same gone follows homes aside
     let order : IsAscending (numbers (back (moved test fate s.rows))) = rw (moved_off test stands_back fate s.rows gone) (ascends_filter (λ (row : Row). not (test row.fate)) (back s.rows) t.back_order) in
     let placed = λ (k : ℕ) (few : k < 16). (follows k few).placed in
     let runs = λ (n : ℕ) (link : LinkState) (there : slice_get links n ≡ Some link) (up : has_phase_up link.phase ≡ true) (k : ℕ) (few : k < 16). (follows k few).runs n link there up in
-    let routed = same ∙ t.routed in
-    let count = long ∙ t.count in
     search (moved_numbered, moved_fit)
 
 -- A LINK COMES UP.
@@ -50,32 +48,24 @@ rises_sound n link s at t =
 
 -- A LINK IS LEFT BY ITS MESSAGES.
 module _ (n : ℕ) (link : LinkState) (s : State) (at : IsAt n link Down s) (t : IsSound s) where
-  abbrev to_link : Option ℕ
-  to_link = target s.links
-
-  abbrev off_rows : List Row
-  off_rows = moved (is_on n) (all_with (fate_on to_link)) s.rows
-
-  -- a link that is up was so before, so there is a target; and a stream on its way back has a home that is up
-  over_follows : (to : Option ℕ) → target s.links ≡ to → (place : Place) → ((home code via : ℕ) → place ≡ Changing home code via → to ≡ None → ⊥) → IsPlaced s.links place → ((j : ℕ) (old : LinkState) → slice_get s.links j ≡ Some old → has_phase_up old.phase ≡ true → place ≢ Nowhere) → (is : Place) → is ≡ place_settled n to place → Follows (slice_set s.links n (settled_link link)) (is_on n) place is
-  over_follows to e place some p run is a = record {
-    placed = rw a (grind (arith, nat_tests, target_up, get_set_other));
-    runs = up_before s.links n link (settled_link link) at.there (λ e. absurd cc) (λ j old here up. let runs = run j old here up in rw a (grind (arith, none_up, runs)));
-    stays = λ code via out was. grind arith;
-  }
-
   pub moves_off_sound : IsSound (moved_over n link s)
   moves_off_sound =
       -- it is empty, since the target is another link
       let l = t.links n link at.there in
-      let m = left n (fate_on to_link) s.rows (target_off s.links n (grind arith)) (target_open to_link) in
+      let m = left n (fate_on (target s.links)) s.rows (target_off s.links n (grind arith)) (grind arith) in
       let stays : has_phase_up link.phase ≡ true → has_phase_up (settled_link link).phase ≡ true = false_true (has_phase_up link.phase) (ap has_phase_up at.phase_is) in
       let below : IfSome (target s.links) (λ r. r < s.routing.links) = grind (arith, target_up, within) in
-      moved_sound s _ (settled n to_link s.routing) (is_on n) (all_with (fate_on to_link)) t (length-set s.links n (settled_link link)) (settled_sound n to_link s.routing below t.routing) refl (fated_none stands_back (all_with (fate_on to_link)) (λ x. grind arith) (standing (is_on n) s.rows))
-      (λ k few. over_follows to_link refl (place_of k s.routing) (λ home code via e none. grind (arith, nat_tests, coded_at, none_up)) (t.placed k few) (λ j old here up. t.all_run j old here up k few) _ ((alone s.routing k t.routing few).settled_place n to_link)) (λ code asked. up_after s.links n link (settled_link link) at.there stays (home_of code) (t.homes_up code asked))
-      (up_before s.links n link (settled_link link) at.there (λ e. absurd cc) (λ k old here up. moved_same (is_on n) is_parked (all_with (fate_on to_link)) s.rows (λ x. grind (arith, none_up)) (λ f e. grind arith) ∙ t.none_aside k old here up))
-      (each_set (λ k other. IsSoundLink s.settings.method k other off_rows) s.links n (settled_link link) (grind arith) (λ k other d here. let out = λ (is_down : has_phase_up other.phase ≡ false). target_off s.links k (ap link_is_up here ∙ is_down) in link_moved s.settings.method k other (is_on n) (all_with (fate_on to_link)) s.routing s.rows t.backs (apart_on n k d)
-      (λ x. not_sent k to_link) (λ u x. target_unheld to_link k) (λ f x e b. not_on_waiting k (fate_on to_link) (out f)) (λ e x f b. out (grind (arith, e))) (t.links k other here)))
+      moved_sound s _ (settled n (target s.links) s.routing) (is_on n) (all_with (fate_on (target s.links))) t (length-set s.links n (settled_link link)) (settled_sound n (target s.links) s.routing below t.routing) refl (fated_none stands_back (all_with (fate_on (target s.links))) (λ x. grind arith) (standing (is_on n) s.rows))
+      -- a link that is up was so before, so there is a target; and a stream on its way back has a home that is up
+      (λ k few. let a = (alone s.routing k t.routing few).settled_place n (target s.links) in let stood = t.placed k few in let away : (home code via : ℕ) → place_of k s.routing ≡ Changing home code via → (target s.links) ≡ None → ⊥ = λ home code via e none. grind (arith, nat_tests, coded_at, none_up) in record {
+        placed = rw a (grind (arith, nat_tests, target_up, get_set_other, stood, away));
+        runs = up_before s.links n link (settled_link link) at.there (λ e. absurd cc) (λ j old here up. let runs = t.all_run j old here up k few in rw a (grind (arith, none_up, runs)));
+        stays = λ code via out was. grind (arith, a);
+      })
+      (λ code asked. up_after s.links n link (settled_link link) at.there stays (home_of code) (t.homes_up code asked))
+      (up_before s.links n link (settled_link link) at.there (λ e. absurd cc) (λ k old here up. moved_same (is_on n) is_parked (all_with (fate_on (target s.links))) s.rows (λ x. grind (arith, none_up)) (λ f e. grind arith) ∙ t.none_aside k old here up))
+      (each_set (λ k other. IsSoundLink s.settings.method k other (moved (is_on n) (all_with (fate_on (target s.links))) s.rows)) s.links n (settled_link link) (grind arith) (λ k other d here. let out = λ (is_down : has_phase_up other.phase ≡ false). target_off s.links k (ap link_is_up here ∙ is_down) in link_moved s.settings.method k other (is_on n) (all_with (fate_on (target s.links))) s.routing s.rows t.backs (apart_on n k d)
+      (λ x. not_sent k (target s.links)) (λ u x. grind arith) (λ f x e b. not_on_waiting k (fate_on (target s.links)) (out f)) (λ e x f b. out (grind (arith, e))) (t.links k other here)))
 
 -- a code in use is below 256
 in_use_below : (r : Routing) → IsRouting r → (code : ℕ) → code_of code r ≡ Asked → code < 256
@@ -99,11 +89,10 @@ module _ (blind : Bool) (n : ℕ) (link : LinkState) (s : State) (at : IsAt n li
 
   -- its stream runs on the link that it came from
   pub goes : (x : Row) → is_back_to n x.fate ≡ true → IsBackOf s.routing x x.fate → (via : ℕ) × (place_of (stream_of x.body) mid.routing ≡ On via) × IsPlaced mid.links (On via)
-  goes x e b = go x.fate e b
-    where
-      go : (f : Fate) → is_back_to n f ≡ true → IsBackOf s.routing x f → (via : ℕ) × (place_of (stream_of x.body) mid.routing ≡ On via) × IsPlaced mid.links (On via)
-      go (Back c) e b = (b.2, grind (arith, (alone s.routing (stream_of x.body) t.routing b.1).left_place n), placed_set s.links n link (left_link blind link) (On b.2) at.there refl (rw b.3 at (t.placed (stream_of x.body) b.1)))
-      go _ e b = absurd cc
+  goes x e b =
+      let placed = λ (via : ℕ). placed_set s.links n link (left_link blind link) (On via) at.there refl in
+      let left = alone s.routing (stream_of x.body) t.routing in
+      grind (arith, placed, left, t.placed)
 
   gone : (other : Fate → Bool) → ((via : ℕ) → IsPlaced mid.links (On via) → other (fate_at (On via) mid) ≡ false) → standing other (map (fated fate) (standing (is_back_to n) s.rows)) ≡ []
   gone other h = gone_none (is_back_to n) fate (λ row. IsBackOf s.routing row row.fate) other (λ x e b. let g = goes x e b in ap (λ (p : Place). other (fate_at p mid)) g.1 ∙ h g.0 g.2) s.rows t.backs
@@ -112,11 +101,8 @@ module _ (blind : Bool) (n : ℕ) (link : LinkState) (s : State) (at : IsAt n li
   leaves =
       let mid_links = links_set s.settings.method s.links n (left_link blind link) s.rows s.rows (let l = t.links n link at.there in grind arith) (λ k d. untouched_self k s.rows) t.links in
       moved_sound s mid.links mid.routing (is_back_to n) fate t (length-set s.links n (left_link blind link)) (left_sound n s.routing t.routing) refl (gone stands_back (λ via p. grind arith))
-      (λ k few. let stays = placed_set s.links n link (left_link blind link) (place_of k s.routing) at.there refl (t.placed k few) in let a = (alone s.routing k t.routing few).left_place n in record {
-        placed = rw a (grind (arith, stays));
-        runs = up_before s.links n link (left_link blind link) at.there (λ e. absurd cc) (λ j old here up. let runs = t.all_run j old here up k few in rw a (grind (arith, runs)));
-        stays = λ code via of f. grind (arith, a);
-      })
+      (λ k few. let stays = placed_set s.links n link (left_link blind link) (place_of k s.routing) at.there refl (t.placed k few) in let a = (alone s.routing k t.routing few).left_place n in
+      let runs = up_before s.links n link (left_link blind link) at.there (λ e. absurd cc) (λ j old here up. t.all_run j old here up k few) in grind (arith, stays, a, runs))
       (λ code e. grind (arith, nat_tests, (codes_alone s.routing code t.routing (in_use_below mid.routing (left_sound n s.routing t.routing) code e)).left_code n, t.homes_up code, get_set_other))
       (up_before s.links n link (left_link blind link) at.there (λ e. absurd cc) (λ k old here up. grind (arith, nat_tests, moved_more, gone, t.none_aside k old here up)))
       (λ k other there. link_moved s.settings.method k other (is_back_to n) fate s.routing s.rows t.backs (λ f e. back_not_on k f (home_back n f e)) (λ x. offered_out k _ mid) (λ u x. up_not_held mid k (ap link_is_up there ∙ u) _) (λ d x e b. down_not_waiting mid k (ap link_is_up there ∙ d) _) (λ e x f b. grind (arith, nat_tests, goes x f b)) (mid_links k other there))
@@ -132,25 +118,22 @@ declares home alternative s up may t =
     let out = alternative_up home alternative s may in
     let below : (n : ℕ) → is_up n s ≡ true → n < s.routing.links = λ n e. grind (arith, within) in
     let sound = asked_sound home alternative s.routing (below home up) (below alternative out) t.routing in
-    appended_sound s runs t sound refl _ (Waiting alternative) (order_fits (Cbd home (code_for home alternative)) s) (grind (arith, out)) tt
+    appended_sound s runs t sound refl _ (Waiting alternative) (grind arith) (λ k link there. grind (arith, nat_tests, out)) tt
     (λ k few. let p = t.placed k few in let a = (alone s.routing k t.routing few).asked_place home alternative in record { placed = rw a (grind (arith, p, out)); runs = λ n link at rising. let runs = t.all_run n link at rising k few in rw a (grind (arith, runs)); stays = λ code via of e. grind (arith, nat_tests, a) })
     (λ code e. grind (arith, nat_tests, (codes_alone s.routing code t.routing (in_use_below runs sound code e)).asked_code home alternative, up, t.routing.at_most_16, below home up, below alternative out, t.homes_up code))
 
 -- WHAT STOOD BACK WAITS FOR ITS HOME.
 module _ (code : ℕ) (s : State) (t : IsSound s) where
-  abbrev home : ℕ
-  home = home_of code
-
   -- where its home isn't up nothing stands back by the code
-  pub none_back : is_up home s ≡ false → moved (is_back code) (all_with (Waiting home)) s.rows ≡ s.rows
-  none_back down = moved_nothing (is_back code) (all_with (Waiting home)) s.rows (none_standing (λ row. IsBackOf s.routing row row.fate) (is_back code) (λ x e b. grind (arith, nat_tests, coded_at, t.homes_up)) s.rows t.backs)
+  pub none_back : is_up (home_of code) s ≡ false → moved (is_back code) (all_with (Waiting (home_of code))) s.rows ≡ s.rows
+  none_back down = moved_nothing (is_back code) (all_with (Waiting (home_of code))) s.rows (none_standing (λ row. IsBackOf s.routing row row.fate) (is_back code) (λ x e b. grind (arith, nat_tests, coded_at, t.homes_up)) s.rows t.backs)
 
   -- and none comes to a link that isn't up
   pub releases : IsSound (released code s)
   releases =
       let sound = back_sound code s.routing t.routing in
-      moved_sound s s.links (given_back code s.routing) (is_back code) (all_with (Waiting home)) t refl sound refl (fated_none stands_back (all_with (Waiting home)) (λ x. refl) (standing (is_back code) s.rows))
+      moved_sound s s.links (given_back code s.routing) (is_back code) (all_with (Waiting (home_of code))) t refl sound refl (fated_none stands_back (all_with (Waiting (home_of code))) (λ x. refl) (standing (is_back code) s.rows))
       (λ k few. let there = t.placed k few in let a = (alone s.routing k t.routing few).back_place code in record { placed = rw a (grind (arith, nat_tests, there, coded_at, t.homes_up)); runs = λ n link at up. let runs = t.all_run n link at up k few in rw a (grind (arith, runs)); stays = λ c via of f. grind (arith, a) })
       (λ c e. grind (arith, nat_tests, (codes_alone s.routing c t.routing (in_use_below (given_back code s.routing) sound c e)).back_code code, t.homes_up c))
-      (λ k other there up. moved_same (is_back code) is_parked (all_with (Waiting home)) s.rows (λ x. refl) (λ f e. back_not_parked f (code_back code f e)) ∙ t.none_aside k other there up)
-      (λ k other there. link_moved s.settings.method k other (is_back code) (all_with (Waiting home)) s.routing s.rows t.backs (λ f e. back_not_on k f (code_back code f e)) (λ x. refl) (λ u x. refl) (λ d x e b. grind (arith, nat_tests, coded_at, t.homes_up)) (λ d x e b. grind (arith, nat_tests, coded_at, t.homes_up)) (t.links k other there))
+      (λ k other there up. moved_same (is_back code) is_parked (all_with (Waiting (home_of code))) s.rows (λ x. refl) (λ f e. back_not_parked f (code_back code f e)) ∙ t.none_aside k other there up)
+      (λ k other there. link_moved s.settings.method k other (is_back code) (all_with (Waiting (home_of code))) s.routing s.rows t.backs (λ f e. back_not_on k f (code_back code f e)) (λ x. refl) (λ u x. refl) (λ d x e b. grind (arith, nat_tests, coded_at, t.homes_up)) (λ d x e b. grind (arith, nat_tests, coded_at, t.homes_up)) (t.links k other there))

@@ -1,16 +1,15 @@
 -- What the control chooses to send for the first time, and where its cursor, or its place in the cycle, is after each step.
-use Rattle.std.proofs.Common.{arith, ◌≡◌, ◌≢◌, ◌<◌, ◌≤◌, ℕ, ◌+◌, Bool, length, drop, refl, ◌∙◌, ap, sym, subst, ◌==◌, true, false, List, [], ◌++◌, map, slice_get, slice_set, Some, cond, ◌∷◌, None}
+use Rattle.std.proofs.Common.{arith, ◌||◌, ◌≡◌, ◌≢◌, ◌<◌, ◌≤◌, ℕ, ◌+◌, Bool, length, drop, refl, ◌∙◌, ap, sym, subst, ◌==◌, true, false, List, [], ◌++◌, map, slice_get, slice_set, Some, cond, ◌∷◌, None}
 use Rattle.std.proofs.lemmas.List.{length-drop, append-nil, length-map, length-append, length-set, length-take}
 use Rattle.std.proofs.lemmas.Bool.Decides.{nat_tests}
-use Rattle.l2_pcr.specs.Pcr as cyclic
 use Rattle.l2_window.specs.Window.{WindowState}
-use Rattle.set_model.specs.Control.{Header, Choice, Control, acked_by, choice_of, control_after, control_heard, first, HeardPart, Method, accepted_of, part_of}
+use Rattle.set_model.specs.Control.{Header, Choice, Control, acked_by, choice_of, control_heard, first, Method, accepted_of, part_of}
 use Rattle.set_model.specs.Sound.{IsInRange, IsOf, IsPlaced, IsSound, IsSoundLink, AreBack, IsBackOf}
 use Rattle.std.proofs.lemmas.List.Elements.{filter-append}
 use Rattle.l2_units.specs.Grammar.{head_of as header_in}
 use Rattle.set_route.specs.Routing.{IsRouting, Routing, accepted, code_of, home_of, place_of}
 use Rattle.set_model.specs.Changeover.{acknowledged_by, Order, fate_on, queued}
-use Rattle.set_model.specs.Rows.{AreFit, DiscardCause, Fate, Discarded, Row, changed, fated, held, is_held, is_on, is_unacked, is_waiting, moved, octets_in, on, standing, stands_back, unack, wait, Back, Held, Parked, Waiting, appended, parked, service_indicator, stream_of}
+use Rattle.set_model.specs.Rows.{AreFit, DiscardCause, Fate, Discarded, Row, changed, fated, held, is_held, is_on, is_parked, is_unacked, is_waiting, moved, octets_in, on, standing, stands_back, unack, wait, Back, appended, parked, service_indicator, stream_of}
 use Rattle.set_model.specs.State.{Asked, is_up, Place, Changing, Nowhere, On, Down, Up, LinkState, State, has_phase_settled, has_phase_up, last_accepted, link_is_up, window_of, fate_at, target}
 use Rattle.set_model.specs.Step.{SignalUnit, after_control, is_msu, next, rows_sent, offer_refusal, offered}
 use Rattle.set_model.proofs.Order.{backs_of, stood, before_append, before_never, neither, gone_none, coded_at, ascends_appended}
@@ -19,7 +18,6 @@ use Rattle.set_model.proofs.Rows.{each_append, each_filter, each_so, changed_the
 use Rattle.set_model.proofs.Lists.{at_set, each_set, get_set_same, get_set_other, set_same, within, set_at, target_up, none_up}
 use Rattle.set_model.proofs.Places.{false_true}
 use Rattle.set_model.proofs.Walk.{IsAt}
-use Rattle.l3_orders.specs.Grammar.{text}
 use Rattle.set_route.proofs.Alone.{alone}
 use Rattle.set_route.proofs.Places.{accepted_sound}
 
@@ -27,18 +25,11 @@ use Rattle.set_route.proofs.Places.{accepted_sound}
 pub first_chosen : (o : ℕ) (control : Control) (w : WindowState) → choice_of o control w ≡ first → (0 < length w.unsent) × (length w.unacked < 127)
 first_chosen o control w e = grind (arith, nat_tests)
 
-round_in : (n place : ℕ) → cyclic.round n place ≢ 0 → cyclic.round n place < n
-round_in n place d = grind arith
-
-pub range_after : (choice : Choice) (o : ℕ) (control : Control) (w : WindowState) (count : ℕ) → choice_of o control w ≡ choice → length w.unacked ≤ count → (choice ≡ first → count ≡ length w.unacked + 1) → IsInRange control (length w.unacked) → IsInRange (control_after choice o control w) count
-range_after choice o control w count e more one r = grind (arith, round_in)
-
 -- the cursor, or the place in the cycle
 pub range_heard : (control : Control) (w : WindowState) (head : Header) (msu : Bool) → IsInRange control (length w.unacked) → IsInRange (control_heard control w head msu) (length (drop (acked_by control w head) w.unacked))
-range_heard control w head msu r = grind (arith, length-drop, round_in)
+range_heard control w head msu r = grind (arith, length-drop)
 
--- WHAT HOLDS OF EVERY STATE is kept by a change of one link, with rows that change in their places.
--- THE LINK THAT CHANGES, and the others, which don't see how the rows change.
+-- WHAT HOLDS OF EVERY STATE is kept by a change of one link; the others don't see how its rows change.
 pub links_set : (m : Method) (links : List LinkState) (n : ℕ) (link : LinkState) (rows new : List Row) → IsSoundLink m n link new → ((k : ℕ) → (n == k) ≡ false → Untouched k rows new) → ((k : ℕ) (other : LinkState) → slice_get links k ≡ Some other → IsSoundLink m k other rows)
     → (k : ℕ) (other : LinkState) → slice_get (slice_set links n link) k ≡ Some other → IsSoundLink m k other new
 links_set m links n link rows new one others all = each_set (λ k other. IsSoundLink m k other new) links n link one (λ k other d there. let u = others k d in let l = all k other there in grind arith)
@@ -107,46 +98,30 @@ module _ (n : ℕ) (link : LinkState) (s : State) (at : IsAt n link Up s) (t : I
   abbrev window : WindowState
   window = window_of n link s.rows
 
-  abbrev octets : ℕ
-  octets = octets_in (unack n s.rows)
-
   l : IsSoundLink s.settings.method n link s.rows
   l = t.links n link at.there
 
-  old_range : IsInRange link.control (length window.unacked)
-  old_range = grind (arith, length-map, l.in_range)
-
   -- how many are unacknowledged then
-  counts : (choice : Choice) → choice_of octets link.control window ≡ choice → (length (unack n s.rows) ≤ length (unack n (rows_sent choice n s.rows))) × (choice ≡ first → length (unack n (rows_sent choice n s.rows)) ≡ length (unack n s.rows) + 1) × (length (unack n (rows_sent choice n s.rows)) ≤ 127)
-  counts first e = grind (arith, first_chosen octets link.control window e, length-map, length-append, length-take, (sent n s.rows).unack_is l.in_order)
-  counts _ e = grind (arith, l.window)
+  counts : (choice : Choice) → choice_of (octets_in (unack n s.rows)) link.control window ≡ choice → (length (unack n s.rows) ≤ length (unack n (rows_sent choice n s.rows))) × (choice ≡ first → length (unack n (rows_sent choice n s.rows)) ≡ length (unack n s.rows) + 1) × (length (unack n (rows_sent choice n s.rows)) ≤ 127)
+  counts choice e = grind (arith, first_chosen (octets_in (unack n s.rows)) link.control window, length-map, length-append, length-take, (sent n s.rows).unack_is l.in_order, l.window)
 
   pub sends_sound : IsSound (next n s link).state
   sends_sound =
-      let choice = choice_of octets link.control window in
+      let choice = choice_of (octets_in (unack n s.rows)) link.control window in
       let c = counts choice refl in
-      changes n link _ s _ t at.there refl (ap has_phase_settled at.phase_is) (sent_by choice n s.rows) c.2 (grind (arith, l.counted)) (grind (arith, l.method)) (λ u. grind (arith, range_after, c, old_range, length-map))
+      changes n link _ s _ t at.there refl (ap has_phase_settled at.phase_is) (sent_by choice n s.rows) c.2 (grind (arith, l.counted)) (grind (arith, l.method)) (λ u. grind (arith, c, l.in_range, length-map))
 
   -- HEARING.
-  module _ (unit : SignalUnit) where
-    abbrev part : HeardPart
-    part = part_of link.control window (header_in unit) (is_msu unit)
+  pub hears_sound : (unit : SignalUnit) → IsSound (after_control (part_of link.control window (header_in unit) (is_msu unit)) (header_in unit) unit n s link)
+  hears_sound unit =
+      let a = acknowledged n (part_of link.control window (header_in unit) (is_msu unit)).acked s.rows in
+      changes n link _ s _ t at.there refl (ap has_phase_settled at.phase_is) a.in_place (grind (arith, length-drop, a.unack_is, l.window))
+      (grind (arith, nat_tests, (header_in unit).fsn, l.counted)) (grind (arith, l.method)) (λ u. grind (arith, range_heard link.control window (header_in unit) (is_msu unit) (grind (arith, length-map, l.in_range)), a.unack_is, length-drop, length-map))
 
-    pub hears_sound : IsSound (after_control part (header_in unit) unit n s link)
-    hears_sound =
-        let a = acknowledged n part.acked s.rows in
-        changes n link _ s _ t at.there refl (ap has_phase_settled at.phase_is) a.in_place (grind (arith, length-drop, a.unack_is, l.window))
-        (grind (arith, nat_tests, (header_in unit).fsn, l.counted)) (grind (arith, l.method)) (λ u. grind (arith, range_heard link.control window (header_in unit) (is_msu unit) old_range, a.unack_is, length-drop, length-map))
-
--- WHAT HOLDS OF EVERY STATE is kept by a new message.
--- A NEW MESSAGE. It waits for a link that is up, is held for one that isn't settled, is parked while none is up, or
--- stands back.
-abbrev pub IsOpen : Fate → List LinkState → Type 0
-IsOpen (Waiting number) links = (link : LinkState) × (slice_get links number ≡ Some link) × (has_phase_up link.phase ≡ true)
-IsOpen (Held number) links = (link : LinkState) × (slice_get links number ≡ Some link) × (has_phase_up link.phase ≡ false) × (has_phase_settled link.phase ≡ false)
-IsOpen Parked links = (number : ℕ) (link : LinkState) → slice_get links number ≡ Some link → has_phase_up link.phase ≡ false
-IsOpen (Back code) links = Unit {0}
-IsOpen _ links = ⊥
+-- A NEW MESSAGE can come to stand there, for all that this link has to do with it: it waits for a link that is up, is held
+-- for one that isn't settled, or parked while none is up.
+abbrev pub IsOpenAt : ℕ → LinkState → Fate → Type 0
+IsOpenAt number link fate = (is_unacked number fate ≡ false) × (has_phase_up link.phase ≡ true → (is_held number fate || is_parked fate) ≡ false) × (has_phase_up link.phase ≡ false → is_waiting number fate ≡ false) × (has_phase_settled link.phase ≡ true → is_on number fate ≡ false)
 
 -- WHERE A STREAM RUNS, as links and streams change, and what stands back by a code of which nothing moves.
 pub record Follows (links : List LinkState) (test : Fate → Bool) (was is : Place) : Type 0 where
@@ -156,25 +131,21 @@ pub record Follows (links : List LinkState) (test : Fate → Bool) (was is : Pla
 
 module _ (s : State) (routing : Routing) (t : IsSound s) (sound : IsRouting routing) (same : routing.links ≡ s.routing.links) where
   -- a new row
-  pub appended_sound : (body : List ℕ) (fate : Fate) → length body ≤ 273 → IsOpen fate s.links → IsBackOf s.routing (new_row (length s.rows) body fate) fate → ((k : ℕ) → k < 16 → Follows s.links (λ f. false) (place_of k s.routing) (place_of k routing))
+  pub appended_sound : (body : List ℕ) (fate : Fate) → length body ≤ 273 → ((k : ℕ) (link : LinkState) → slice_get s.links k ≡ Some link → IsOpenAt k link fate) → IsBackOf s.routing (new_row (length s.rows) body fate) fate → ((k : ℕ) → k < 16 → Follows s.links (λ f. false) (place_of k s.routing) (place_of k routing))
       → ((code : ℕ) → code_of code routing ≡ Asked → is_up (home_of code) s ≡ true) → IsSound (record s { rows = appended s.rows body fate; routing = routing })
   appended_sound body fate fits opened is_back follows homes =
-      let links = λ (k : ℕ) (other : LinkState) (there : slice_get s.links k ≡ Some other). link_more s.settings.method k other s.rows (new_row (length s.rows) body fate ∷ []) (grind arith) (λ u. grind (arith, nat_tests)) (λ d. grind (arith, nat_tests)) (λ e. grind (arith, nat_tests)) s.rows refl (t.links k other there) in
+      let links = λ (k : ℕ) (other : LinkState) (there : slice_get s.links k ≡ Some other). link_more s.settings.method k other s.rows (new_row (length s.rows) body fate ∷ []) (let o = opened k other there in grind arith) (λ u. let o = opened k other there in grind arith) (λ d. let o = opened k other there in grind arith) (λ e. let o = opened k other there in grind arith) s.rows refl (t.links k other there) in
       let backs = each_so (λ row. IsBackOf s.routing row row.fate) (λ row. IsBackOf routing row row.fate) (λ x. stood (λ f. false) s.routing routing (λ k few. (follows k few).stays) x x.fate refl) (appended s.rows body fate) (each_append _ s.rows _ t.backs (is_back, tt)) in
       let runs = λ (n : ℕ) (link : LinkState) (there : slice_get s.links n ≡ Some link) (up : has_phase_up link.phase ≡ true) (k : ℕ) (few : k < 16). (follows k few).runs n link there up in
       let placed = λ (k : ℕ) (few : k < 16). (follows k few).placed in
-      let aside : (k : ℕ) (other : LinkState) → slice_get s.links k ≡ Some other → has_phase_up other.phase ≡ true → parked (appended s.rows body fate) ≡ [] = λ k other there rising. grind (arith, appended_out) in
+      let aside : (k : ℕ) (other : LinkState) → slice_get s.links k ≡ Some other → has_phase_up other.phase ≡ true → parked (appended s.rows body fate) ≡ [] = λ k other there rising. let o = opened k other there in grind (arith, appended_out) in
       let fit : AreFit (appended s.rows body fate) = each_append _ s.rows _ t.fit (fits, tt) in
-      let routed = same ∙ t.routed in
       search (numbered_appended, ascends_appended)
 
 -- AN ORDER goes to the target, and is of no stream.
-pub order_fits : (order : Order) (s : State) → length (text order s.settings.sio s.settings.dpc s.settings.opc) ≤ 273
-order_fits order s = grind arith
-
 pub queues : (order : Order) (s : State) → IsSound s → IsSound (queued order s)
 queues order s t =
-    appended_sound s s.routing t t.routing refl _ (fate_on (target s.links)) (order_fits order s) (grind (arith, target_up, none_up)) (grind arith)
+    appended_sound s s.routing t t.routing refl _ (fate_on (target s.links)) (grind arith) (λ k link there. grind (arith, nat_tests, target_up, none_up)) (grind arith)
     (λ k few. record { placed = t.placed k few; runs = λ n link there up. t.all_run n link there up k few; stays = λ code via e is. (via, is) }) t.homes_up
 
 -- AN OFFER goes where its stream runs.
@@ -184,9 +155,5 @@ offers s body low free t =
     let fits : (length body ≤ 273) × ((service_indicator body == 0) ≡ false) = grind (arith, free) in
     let placed = t.placed stream low in
     let same = λ (k : ℕ) (few : k < 16). (alone s.routing k t.routing few).accepted_place stream in
-    appended_sound s (accepted stream s.routing) t (accepted_sound stream s.routing t.routing) refl body (fate_at (place_of stream s.routing) s) fits.0 (grind (arith, placed, t.all_run)) (one_back (place_of stream s.routing) refl)
+    appended_sound s (accepted stream s.routing) t (accepted_sound stream s.routing t.routing) refl body (fate_at (place_of stream s.routing) s) fits.0 (λ k link there. grind (arith, nat_tests, placed, t.all_run)) (grind (arith, free, low, coded_at))
     (λ k few. rw (same k few) (record { placed = t.placed k few; runs = λ n link there up. t.all_run n link there up k few; stays = λ code via e is. (via, is) })) t.homes_up
-  where
-    one_back : (place : Place) → place_of (stream_of body) s.routing ≡ place → IsBackOf s.routing (new_row (length s.rows) body (fate_at place s)) (fate_at place s)
-    one_back (Changing to code via) e = let coded = coded_at s.routing (stream_of body) t.routing to code via e in grind (arith, free, low, coded)
-    one_back _ e = grind arith

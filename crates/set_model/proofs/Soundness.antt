@@ -1,6 +1,7 @@
 -- EVERY STEP KEEPS WHAT HOLDS OF EVERY SET'S STATE, and a new set has it.
-use Rattle.std.proofs.Common.{refl, arith, ◌≡◌, ◌∙◌, sym, subst, ℕ, ◌<◌, zero, suc, ◌%◌, List, [], ◌∷◌, map, slice_get, Some, replicate, slice_index_or}
-use Rattle.std.proofs.lemmas.List.{length-replicate}
+use Rattle.std.proofs.Common.{refl, arith, ◌≡◌, ◌∙◌, sym, subst, ℕ, ◌<◌, ◌%◌, List, [], ◌∷◌, map, slice_get, Some, replicate, slice_index_or}
+use Rattle.std.proofs.lemmas.List.{get_or-replicate, length-replicate}
+use Rattle.std.proofs.lemmas.Option.{slice_get_cases}
 use Rattle.std.proofs.lemmas.Bool.Decides.{nat_tests}
 use Rattle.set_route.specs.Routing.{new_stream, stream_numbers}
 use Rattle.set_route.specs.declared.stream.Stream.{Stream}
@@ -8,8 +9,9 @@ use Rattle.set_model.specs.Step.{Event, Offer, step}
 use Rattle.set_model.specs.Laws.{RunsStraight}
 use Rattle.set_model.specs.Rows.{numbers, stream_of}
 use Rattle.set_model.specs.Sound.{AreFew, IsAsked, IsPlaced, IsSettings, IsSound}
-use Rattle.set_model.specs.State.{Code, Asked, Free, Nowhere, LinkState, Settings, State, new_link, opened_with}
+use Rattle.set_model.specs.State.{Asked, Free, Nowhere, LinkState, Settings, State, new_link, opened_with}
 use Rattle.set_route.proofs.Places.{new_sound}
+use Rattle.set_route.proofs.Codes.{all_free}
 use Rattle.set_model.proofs.Events.{sent_given_up, waiting_given_up}
 use Rattle.set_model.proofs.Walk.{KeptBy, step_walks}
 use Rattle.set_model.proofs.SoundBack.{leaves, declares, releases, rises_sound, moves_off_sound}
@@ -28,13 +30,8 @@ pub step_sound : (s : State) (event : Event) → IsAsked event → IsSound s →
 step_sound s event asked t = step_walks s (λ a b. IsSound a → IsSound b) IsSound event (search (small, sounds, t))
 
 -- A NEW SET.
-get_or_replicate : (n : ℕ) (c : Code) (k : ℕ) → slice_index_or (replicate n c) k c ≡ c
-get_or_replicate zero c k = refl
-get_or_replicate (suc n) c k = grind (arith, get_or_replicate n c)
-
 new_there : (k n : ℕ) (link other : LinkState) → slice_get (replicate k link) n ≡ Some other → other ≡ link
-new_there zero n link other e = absurd cc
-new_there (suc k) n link other e = grind (arith, new_there k)
+new_there k n link other e = grind (arith, slice_get_cases (replicate k link) n, get_or-replicate, length-replicate)
 
 new_place : (links : ℕ) (numbers : List ℕ) (stream : ℕ) → slice_index_or (map (λ (s : Stream). s.place) (map (λ s. new_stream (s % links)) numbers)) stream Nowhere ≡ Nowhere
 new_place links [] stream = refl
@@ -53,14 +50,14 @@ module _ (settings : Settings) (is : IsSettings settings) where
     placed = λ stream low. subst (IsPlaced _) (sym (new_place settings.links stream_numbers stream)) tt;
     none_aside = λ n link there rising. refl;
     all_run = λ n link there rising. grind (arith, new_there);
-    homes_up = λ code e. let no : Free ≡ Asked = sym (get_or_replicate 256 Free code) ∙ e in absurd cc;
+    homes_up = λ code e. let no : Free ≡ Asked = sym (all_free 256 code) ∙ e in absurd cc;
     backs = tt;
     back_order = tt;
   }
 
   -- no changeback is under way
   pub opened_straight : RunsStraight (opened_with settings)
-  opened_straight = search get_or_replicate
+  opened_straight = search all_free
 
   pub opened_few : AreFew 0 (opened_with settings)
   opened_few n link there = grind (arith, new_there)

@@ -1,34 +1,28 @@
 -- The laws of the list of rows.
-use Rattle.std.proofs.Common.{arith, ℕ, Bool, List, ◌≡◌, ◌∙◌, ap, sym, ◌≤◌, ◌<◌, length, ◌==◌, true, false, refl}
+use Rattle.std.proofs.Common.{arith, ℕ, Bool, List, Option, ◌≡◌, ◌∙◌, ap, sym, ◌≤◌, ◌==◌, true, false, refl}
 use Rattle.std.proofs.lemmas.List.{drop_at, length_push, length-append}
 use Rattle.std.proofs.lemmas.List.Filters.{length-filter_both}
 use Rattle.std.proofs.lemmas.List.Folds.{find-append}
 use Rattle.std.proofs.lemmas.Bool.Decides.{nat_tests}
 use Rattle.set_model.specs.Laws.{MessagesStay, MovesTheLinksRows, KeepsMessages}
-use Rattle.set_model.specs.Rows.{Fate, IsNumbered, Row, DiscardCause, appended, body_at, counts_of, service_indicator, total_of, was_acked}
+use Rattle.set_model.specs.Rows.{Fate, IsNumbered, Row, DiscardCause, appended, counts_of, service_indicator, total_of, was_acked}
 use Rattle.set_model.proofs.Rows.{turned_there, changed_there, moved_length, moved_numbered, is_found, numbered_appended, same_numbers, no_rows, body_moved, place_moved, row_is_first, total_is}
 use Rattle.set_model.proofs.Events.{numbers_fated, Kept, kept_self, moved_kept, sent_by, acknowledged, sent_given_up, waiting_given_up}
 use Rattle.std.proofs.lemmas.List.Elements.{filter-append}
 use Rattle.l3_orders.specs.Grammar.{text}
-use Rattle.set_model.specs.Changeover.{Order}
+use Rattle.set_model.specs.Changeover.{Order, fate_on}
 use Rattle.set_route.specs.Routing.{Routing}
 use Rattle.set_model.specs.Step.{Event, Offer, step, Answer, Gains, messages_in, octets_of}
 use Rattle.set_model.specs.Control.{Choice}
 use Rattle.set_model.specs.Sound.{IsManaged}
 use Rattle.set_model.specs.State.{Place, Settings, State, fate_at}
-use Rattle.set_model.proofs.Places.{on_not_acked, parked_not_acked, back_not_acked, home_back, code_back}
-use Rattle.set_model.proofs.Lists.{target_open}
 use Rattle.set_model.proofs.Walk.{step_walks}
 
 pub messages_stay : (test : Fate → Bool) (to : Fate) (fate : Row → Fate) (rows : List Row) → IsNumbered rows → MessagesStay test to fate rows
-messages_stay test to fate rows numbered = record {
-  turned_stay = λ n. let i = turned_there test to n rows in search (i.count, i.bodies, same_numbers, i.as_many, numbered);
-  changed_stay = let i = changed_there test to rows in search (i.count, i.bodies, same_numbers, i.as_many, numbered);
-  moved_stay = search (moved_length, body_moved, moved_numbered);
-  others_stay = λ body number below. grind (arith, is_found, find-append);
-  new_found = λ body. grind (arith, nat_tests, row_is_first, no_rows, find-append, numbered);
-  appended_numbered = λ body. numbered_appended rows body to numbered;
-}
+messages_stay test to fate rows numbered =
+    let turned = turned_there test to in
+    let changed = changed_there test to rows in
+    grind (arith, nat_tests, turned, changed, same_numbers, moved_length, body_moved, moved_numbered, is_found, find-append, row_is_first, no_rows, numbered_appended)
 
 pub moves_rows : (link : ℕ) (fate : Row → Fate) (rows : List Row) → IsNumbered rows → MovesTheLinksRows link fate rows
 moves_rows link fate rows numbered = grind (arith, length-filter_both, drop_at, numbers_fated, place_moved)
@@ -41,9 +35,7 @@ is_offer _ = false
 -- a state with the messages of another one, and new ones or none: where Free, none of a user
 pub record Grows (Free : Type 0) (s t : State) : Type 0 where
   pub settings_same : t.settings ≡ s.settings
-  pub count : length s.rows ≤ length t.rows
-  pub bodies : IsNumbered s.rows → (number : ℕ) → number < length s.rows → body_at number t.rows ≡ body_at number s.rows
-  pub numbered : IsNumbered s.rows → IsNumbered t.rows
+  pub keeps : IsNumbered s.rows → KeepsMessages s.rows t.rows
   pub acked : (counts_of s.rows).acked ≤ (counts_of t.rows).acked
   pub total : Free → IsManaged s.settings → total_of (counts_of t.rows) ≡ total_of (counts_of s.rows)
 
@@ -59,23 +51,22 @@ module _ (Free : Type 0) where
       let stay = λ (numbered : IsNumbered s.rows). (messages_stay (λ f. false) fate (λ row. fate) s.rows numbered).others_stay body in
       grind (arith, length_push, stay, total_is, filter-append, length-append, numbered_appended, order)
 
-ruleset grows = (grows_then, grows_kept, grows_appended, moved_kept, kept_self, on_not_acked, target_open, parked_not_acked, back_not_acked, home_back, code_back)
-
 pub step_grows : (s : State) (event : Event) → Grows (is_offer event ≡ false) s (step s event).state
 step_grows s event =
     let none_offered : (body : List ℕ) → event ≡ Offer body → is_offer event ≡ false → (service_indicator body == 0) ≡ true = λ body e other. absurd (let no : true ≡ false = sym (ap is_offer e) ∙ other in cc) in
     -- an order is the management's
     let order_managed : (order : Order) (settings : Settings) → IsManaged settings → (service_indicator (text order settings.sio settings.dpc settings.opc) == 0) ≡ true = λ order settings m. grind arith in
-    -- where a message goes whose stream runs there, it isn't acknowledged
+    -- where a message goes that is moved, or whose stream runs there, it isn't acknowledged
+    let target_open : (to : Option ℕ) → was_acked (fate_on to) ≡ false = λ to. grind arith in
     let fate_open : (p : Place) (s : State) → was_acked (fate_at p s) ≡ false = λ p s. grind arith in
     let sends = λ (choice : Choice) (n : ℕ) (rows : List Row). (sent_by choice n rows).kept in
     let acks = λ (n count : ℕ) (rows : List Row). (acknowledged n count rows).kept in
     let sent_up = λ (n : ℕ) (cause : DiscardCause) (rows : List Row). (sent_given_up n cause rows).kept in
     let waiting_up = λ (n : ℕ) (cause : DiscardCause) (rows : List Row). (waiting_given_up n cause rows).kept in
-    step_walks s (Grows (is_offer event ≡ false)) (Grows (is_offer event ≡ false) s) event (search (grows, order_managed, fate_open, none_offered))
+    step_walks s (Grows (is_offer event ≡ false)) (Grows (is_offer event ≡ false) s) event (search (grows_then, grows_kept, grows_appended, moved_kept, kept_self, target_open, order_managed, fate_open, none_offered))
 
 pub keeps_messages : (s : State) (event : Event) → IsNumbered s.rows → KeepsMessages s.rows (step s event).state.rows
-keeps_messages s event numbered = grind (arith, step_grows)
+keeps_messages s event numbered = (step_grows s event).keeps numbered
 
 -- What a step brings: each accepted message stands in one place more, and what is acknowledged stays so.
 -- only an offer is answered by a message

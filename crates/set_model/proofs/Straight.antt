@@ -7,20 +7,19 @@ use Rattle.std.proofs.lemmas.Bool.Decides.{nat_tests}
 use Rattle.std.proofs.lemmas.Bool.{cond_both}
 use Rattle.set_route.specs.Routing.{settled, runs_on, NoneOpen, has_messages, place_of, place_raised, place_settled, raised}
 use Rattle.set_model.specs.Changeover.{Order, fate_on, left_by, queued, released}
-use Rattle.set_model.specs.Control.{Choice, first}
+use Rattle.set_model.specs.Control.{Choice}
 use Rattle.set_model.specs.Laws.{RunsStraight}
 use Rattle.set_model.specs.Rows.{Fate, Unacked, Waiting, IsNumbered, Row, all_with, appended, changed, fated, is_back, is_back_to, is_on, is_parked, is_waiting, moved, numbers, standing, stands_back, stream_of, turned, with_fate}
 use Rattle.set_model.specs.Sound.{AreAbove, AreTogether, BeginsNone, IsAscending, IsAsked, IsBackOf, IsSound, IsSoundStream, astray, is_astray, is_live, is_unfinished, live, stands_at}
-use Rattle.set_model.specs.State.{Place, Changing, Nowhere, On, Up, LinkState, State, fate_at, target}
+use Rattle.set_model.specs.State.{Place, Changing, Nowhere, On, LinkState, State, fate_at, target}
 use Rattle.set_model.specs.Step.{Event, step, offered, rows_sent}
 use Rattle.set_route.proofs.Alone.{alone}
 use Rattle.set_route.proofs.Quiet.{left_quiet, back_quiet, never_changing}
 use Rattle.set_model.proofs.Rows.{filter_within, none_within, new_row, where_turned, where_changed, moved_nothing, no_rows}
 use Rattle.set_model.proofs.Order.{ascends_appended, none_standing}
 use Rattle.set_model.proofs.Places.{false_true, itself, code_back, home_back}
-use Rattle.set_model.proofs.SoundBack.{leaves as leaves_sound, releases as releases_sound}
 use Rattle.set_model.proofs.Soundness.{sounds}
-use Rattle.set_model.proofs.Walk.{IsAt, step_walks}
+use Rattle.set_model.proofs.Walk.{step_walks}
 
 -- ROWS THAT CHANGE IN THEIR PLACES: no more are live than before, nor astray.
 record Less (stream : ℕ) (place : Place) (xs ys : List Row) : Type 0 where
@@ -34,9 +33,6 @@ abbrev pub Fits : Place → (Fate → Bool) → Fate → Type 0
 Fits place test fate =
     (f : Fate) → test f ≡ true → is_unfinished fate ≡ true
     → (is_unfinished f ≡ true) × (stands_at place f ≡ stands_at place fate)
-
-pub fits_finished : (place : Place) (test : Fate → Bool) (fate : Fate) → is_unfinished fate ≡ false → Fits place test fate
-fits_finished place test fate done f e alive = false_true (is_unfinished fate) done alive
 
 module _ (stream : ℕ) (place : Place) (test : Fate → Bool) (fate : Fate) (fits : Fits place test fate) where
   stays : (x : Row) (xs ys : List Row) → Less stream place xs ys → Less stream place (x ∷ xs) (x ∷ ys)
@@ -78,8 +74,7 @@ module _ (stream : ℕ) (place place' : Place) (test : Fate → Bool) (to : Fate
       one false true t l g =
           let stood : stands_at place x.fate ≡ true = grind (arith, l) in
           let stay : goes ≡ false = sym (all x.fate stood) ∙ t in
-          let there = stays stay x.fate stood in
-          grind (arith, stay, there)
+          grind (arith, stay)
       one a b t l g = grind arith
 
   pub stream_moves : (used : Bool) (rows : List Row) → IsSoundStream stream place used rows → IsSoundStream stream place' used (moved test (all_with to) rows)
@@ -94,20 +89,14 @@ module _ (s : State) (t : IsSound s) (none : NoneOpen s.routing) where
   none_for : (test : Fate → Bool) → ((f : Fate) → test f ≡ true → stands_back f ≡ true) → standing test s.rows ≡ []
   none_for test w = none_within test stands_back w s.rows (none_standing (λ row. IsBackOf s.routing row row.fate) stands_back (λ x e b. grind (arith, never_changing)) s.rows t.backs)
 
--- a sound set of which that holds, and whose streams are together
-pub record Quiet (s : State) : Type 0 where
-  pub sound : IsSound s
-  pub none_open : NoneOpen s.routing
-  pub together : AreTogether s
+still : (s t : State) → t.rows ≡ s.rows → t.routing ≡ s.routing → RunsStraight s → RunsStraight t
+still s t rows routing r = record { none_open = rw routing r.none_open; together = λ k low. rw (rows, routing) (r.together k low) }
 
-still : (s t : State) → IsSound t → t.rows ≡ s.rows → t.routing ≡ s.routing → NoneOpen s.routing → AreTogether s → Quiet t
-still s t sound rows routing none r = record { sound = sound; none_open = rw routing none; together = λ k low. rw (rows, routing) (r k low) }
+leaves : (blind : Bool) (n : ℕ) (link : LinkState) (s : State) → IsSound s → RunsStraight s → RunsStraight (left_by blind n link s)
+leaves blind n link s t r = still s _ (moved_nothing (is_back_to n) _ s.rows (none_for s t r.none_open (is_back_to n) (home_back n))) (left_quiet n s.routing t.routing r.none_open) r
 
-leaves : (blind : Bool) (n : ℕ) (link : LinkState) (s : State) → IsAt n link Up s → IsSound s → NoneOpen s.routing → AreTogether s → Quiet (left_by blind n link s)
-leaves blind n link s at t none r = still s _ (leaves_sound blind n link s at t) (moved_nothing (is_back_to n) _ s.rows (none_for s t none (is_back_to n) (home_back n))) (left_quiet n s.routing t.routing none) none r
-
-releases : (code : ℕ) (s : State) → IsSound s → NoneOpen s.routing → AreTogether s → Quiet (released code s)
-releases code s t none r = still s _ (releases_sound code s t) (moved_nothing (is_back code) _ s.rows (none_for s t none (is_back code) (code_back code))) (back_quiet code s.routing t.routing none) none r
+releases : (code : ℕ) (s : State) → IsSound s → RunsStraight s → RunsStraight (released code s)
+releases code s t r = still s _ (moved_nothing (is_back code) _ s.rows (none_for s t r.none_open (is_back code) (code_back code))) (back_quiet code s.routing t.routing r.none_open) r
 
 -- AN ORDER is of no stream.
 queues : (order : Order) (s : State) → IsSound s → AreTogether s → AreTogether (queued order s)
@@ -119,8 +108,7 @@ offers : (s : State) (body : List ℕ) → IsSound s → NoneOpen s.routing → 
 offers s body t none r k few =
     let place = place_of (stream_of body) s.routing in
     let a = alone s.routing k t.routing few in
-    let never = λ (to code via : ℕ). never_changing (stream_of body) to code via s.routing t.routing none in
-    rw (a.accepted_place (stream_of body), a.accepted_messages (stream_of body)) (stream_appended k (place_of k s.routing) (has_messages k s.routing) ((k == stream_of body) || has_messages k s.routing) s.rows body (fate_at place s) t.numbered (r k few) (λ e. grind (arith, nat_tests, never)) (λ e. grind arith))
+    rw (a.accepted_place (stream_of body), a.accepted_messages (stream_of body)) (stream_appended k (place_of k s.routing) (has_messages k s.routing) ((k == stream_of body) || has_messages k s.routing) s.rows body (fate_at place s) t.numbered (r k few) (λ e. grind (arith, nat_tests)) (λ e. grind arith))
 
 -- A LINK COMES UP.
 module _ (n : ℕ) (rows : List Row) where
@@ -150,20 +138,17 @@ rises n s t none r k low =
 
 -- SENDING.
 sends : (choice : Choice) (n : ℕ) (s : State) → AreTogether s → (stream : ℕ) → stream < 16 → IsSoundStream stream (place_of stream s.routing) (has_messages stream s.routing) (rows_sent choice n s.rows)
-sends first n s r stream low = stream_turned stream (place_of stream s.routing) (is_waiting n) (Unacked n) (λ f e alive. grind arith) (has_messages stream s.routing) 1 s.rows (r stream low)
-sends _ n s r stream low = r stream low
+sends choice n s r stream low = let turns = stream_turned stream (place_of stream s.routing) (is_waiting n) (Unacked n) (λ f e alive. grind arith) (has_messages stream s.routing) 1 s.rows (r stream low) in grind arith
 
 -- THE STEP.
-abbrev StaysQuiet : State → State → Type 0
-StaysQuiet s t = IsSound s → NoneOpen s.routing → AreTogether s → Quiet t
-
-ruleset straight = (leaves, releases, queues, stream_turned, stream_changed, fits_finished, moves_off, offers, sends, rises)
+abbrev StaysStraight : State → State → Type 0
+StaysStraight s t = IsSound s → NoneOpen s.routing → AreTogether s → IsSound t × RunsStraight t
 
 pub step_straight : (s : State) (event : Event) → IsAsked event → BeginsNone event → IsSound s → RunsStraight s → RunsStraight (step s event).state
 step_straight s event asked begins t r =
     let stood = r.together in
-    let rests_quiet : (a b : State) → Quiet a → StaysQuiet a b → Quiet b = λ a b q then. then q.sound q.none_open q.together in
-    let then_quiet : (a b c : State) → StaysQuiet a b → StaysQuiet b c → StaysQuiet a c = λ a b c p q sound none r. rests_quiet b c (p sound none r) q in
-    let begins_none : (u : State) → (BeginsNone event → ⊥) → Quiet u = λ u may. absurd (may begins) in
-    let end = step_walks s StaysQuiet Quiet event (search (sounds, straight, then_quiet, rests_quiet, begins_none, stood)) in
-    record { none_open = end.none_open; together = end.together }
+    let fits_finished : (place : Place) (test : Fate → Bool) (fate : Fate) → is_unfinished fate ≡ false → Fits place test fate = λ place test fate done f e alive. false_true (is_unfinished fate) done alive in
+    let rests : (a b : State) → IsSound a × RunsStraight a → StaysStraight a b → IsSound b × RunsStraight b = λ a b q then. then q.0 q.1.none_open q.1.together in
+    let then_straight : (a b c : State) → StaysStraight a b → StaysStraight b c → StaysStraight a c = λ a b c p q sound none r. rests b c (p sound none r) q in
+    let begins_none : (u : State) → (BeginsNone event → ⊥) → IsSound u × RunsStraight u = λ u may. absurd (may begins) in
+    (step_walks s StaysStraight (λ u. IsSound u × RunsStraight u) event (search (sounds, leaves, releases, queues, stream_turned, stream_changed, fits_finished, moves_off, offers, sends, rises, then_straight, rests, begins_none, stood))).1

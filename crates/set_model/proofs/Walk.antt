@@ -4,8 +4,8 @@ use Rattle.std.proofs.lemmas.Bool.{cond_both}
 use Rattle.l2_units.specs.Grammar.{head_of as header_in}
 use Rattle.l3_orders.specs.Grammar.{link_of, order_of}
 use Rattle.set_route.specs.Routing.{code_for, home_of}
-use Rattle.set_model.specs.Step.{SignalUnit, Event, BackTimeout, DownEvent, DownBlind, Find, Heard, Next, NoAnswer, Offer, Restore, Take, UpEvent, step, Outcome, after_control, brought, comes_back, controls, gives_up, heard, in_service, is_msu, next, offer_refusal, offered, rises, runs_out, taken, takes, with_known, stepped}
-use Rattle.set_model.specs.Changeover.{Order, Cba, Cbd, Coa, Coo, Eca, Eco, Reached, Unanswered, Unknown, Upto, acknowledged_by, answered, can_declare, changed_over, declared, declared_from, leaving_order, left_by, left_link, moved_over, order_obeyed, queued, released, released_from, reply_of, settled, some_in_use}
+use Rattle.set_model.specs.Step.{SignalUnit, Event, BackTimeout, DownEvent, DownBlind, Heard, Next, NoAnswer, Offer, Take, UpEvent, step, Outcome, after_control, brought, controls, falls, in_service, is_msu, next, offer_refusal, offered, rises, taken, takes, stepped}
+use Rattle.set_model.specs.Changeover.{Order, Cba, Cbd, Coa, Reached, Unanswered, Unknown, Upto, acknowledged_by, answered, can_declare, changed_over, declared, declared_from, leaving_order, left_by, left_link, moved_over, order_obeyed, queued, released, released_from, settled}
 use Rattle.set_model.specs.Control.{part_of}
 use Rattle.set_model.specs.Frame.{BringsAbout, BringsBackTo, Concerns}
 use Rattle.set_model.specs.Rows.{DiscardCause, Emergency, NoAnswer as NoAnswerCame, Unreasonable, Discarded, changed, is_unacked, is_waiting, unack}
@@ -60,8 +60,7 @@ module _ (Known : ℕ → Type 0) (May : Type 0) (R : State → State → Type 0
   over_walks reached n link Up s known at =
       let told = queued (Coa n (last_accepted link)) (left_by false n link s) in
       k.after s told _ (k.after s _ told (k.leaves false n link s known at) (k.queues (Coa n (last_accepted link)) (left_by false n link s))) (settle_walks reached n (left_link false link) told known (record { there = get_set_same s.links n (left_link false link) (within s.links n link at.there); phase_is = refl }))
-  over_walks reached n link Down s known at = settle_walks reached n link s known at
-  over_walks reached n link Settled s known at = k.queues (reply_of n link) s
+  over_walks reached n link phase s known at = grind (arith, settle_walks)
 
   answer_walks : (reached : Reached) (n : ℕ) (link : LinkState) (phase : Phase) (s : State) → Known n → IsAt n link phase s → R s (answered reached n link phase s).state
   answer_walks reached n link phase s known at = grind (arith, settle_walks)
@@ -80,12 +79,9 @@ module _ (Known : ℕ → Type 0) (May : Type 0) (R : State → State → Type 0
       (release_walks (suc code) n (released code s) (λ c low high. known c (omega (arith, low)) (omega (arith, high))))
 
   pub obeys_walks : (order : Order) (s : State) → ((n : ℕ) → Touches order n → Known n) → R s (order_obeyed order s).state
-  obeys_walks (Coo n fsn) s known = grind (arith, over_walks, known)
-  obeys_walks (Eco n) s known = grind (arith, over_walks, known)
-  obeys_walks (Coa n fsn) s known = grind (arith, answer_walks, known)
-  obeys_walks (Eca n) s known = grind (arith, answer_walks, known)
   obeys_walks (Cbd n code) s known = k.queues (Cba n code) s
   obeys_walks (Cba n code) s known = let there = known (home_of code) (inr (n, code, refl, refl)) in grind arith
+  obeys_walks order s known = grind (arith, over_walks, answer_walks, known)
 
   pub takes_walks : (body : Option (List ℕ)) (s : State) → ((b : List ℕ) → body ≡ Some b → (o : Order) → order_of b ≡ Some o → (n : ℕ) → Touches o n → Known n) → R s (takes body s).state
   takes_walks body s known = grind (arith, obeys_walks)
@@ -105,9 +101,6 @@ brought_either : (accept : Bool) (unit : SignalUnit) (b : List ℕ) → brought 
 brought_either accept unit b e o f n touches = grind arith
 
 module _ (s : State) (R : State → State → Type 0) (S : State → Type 0) where
-  on_walks : (n : ℕ) (f : LinkState → Outcome) → S s → ((link : LinkState) → slice_get s.links n ≡ Some link → S (f link).state) → S (with_known (slice_get s.links n) s f).state
-  on_walks n f unmoved all = grind arith
-
   in_walks : (n : ℕ) (f : LinkState → Outcome) → S s → ((link : LinkState) → IsAt n link Up s → S (f link).state) → S (in_service n s f).state
   in_walks n f unmoved all = grind arith
 
@@ -120,31 +113,30 @@ module _ (s : State) (R : State → State → Type 0) (S : State → Type 0) whe
       w.rests _ (controls unit n s link).state (w.hears n unit link refl at)
       (takes_walks (λ m. Concerns (Heard n unit) m s) (BeginsNone (Heard n unit) → ⊥) R w.small (brought part.accept unit) _ (λ b e o f m g. inr (brought_either part.accept unit b e o f m g)))
 
-  fall_walks : (event : Event) (blind : Bool) (n : ℕ) (link : LinkState) → WalkedBy s event R S → Concerns event n s → IsAt n link Up s → S (queued (leaving_order blind n link) (left_by blind n link s))
+  rise_walks : (n : ℕ) (link : LinkState) → WalkedBy s (UpEvent n) R S → slice_get s.links n ≡ Some link → S (rises n s link.phase).state
+  rise_walks n link w there = let rise = w.rises n link refl in grind (arith, rise)
+
+  fall_walks : (event : Event) (blind : Bool) (n : ℕ) (link : LinkState) → WalkedBy s event R S → Concerns event n s → IsAt n link Up s → S (falls blind n s link).state
   fall_walks event blind n link w known at =
       w.rests s _ w.unmoved (w.small.after s (left_by blind n link s) _ (w.small.leaves blind n link s known at) (w.small.queues (leaving_order blind n link) (left_by blind n link s)))
 
   pub step_walks : (event : Event) → WalkedBy s event R S → S (step s event).state
   unfolding step
-  step_walks (Offer body) w = grind arith
   step_walks Take w = take_walks w s.inbox refl
-  step_walks (Find number) w = grind arith
-  step_walks (Next n) w = in_walks n (next n s) w.unmoved (λ link at. w.sends n link refl at)
-  step_walks (Heard n unit) w = in_walks n (heard unit n s) w.unmoved (λ link at. grind (arith, hear_walks))
-  step_walks (UpEvent n) w = on_walks n (λ link. rises n s link.phase) w.unmoved (λ link there. let rise = w.rises n link refl in grind (arith, rise))
+  step_walks (NoAnswer n) w =
+      let settle = λ (link : LinkState) (at : IsAt n link Down s). w.rests s (settled Unanswered n link s) w.unmoved (settle_walks (λ m. Concerns (NoAnswer n) m s) (BeginsNone (NoAnswer n) → ⊥) R w.small Unanswered n link s refl at) in
+      grind (arith, settle)
+  step_walks (BackTimeout n) w =
+      let release = w.rests s _ w.unmoved (release_walks (λ m. Concerns (BackTimeout n) m s) (BeginsNone (BackTimeout n) → ⊥) R w.small (code_for n 0) 16 s (λ c low high. omega (arith, low, high))) in
+      grind (arith, release)
   step_walks (DownEvent n) w = in_walks n _ w.unmoved (λ link at. fall_walks (DownEvent n) false n link w refl at)
   step_walks (DownBlind n) w = in_walks n _ w.unmoved (λ link at. fall_walks (DownBlind n) true n link w refl at)
-  step_walks (NoAnswer n) w = on_walks n (λ link. gives_up n s link link.phase) w.unmoved (λ link there. let settle = λ (at : IsAt n link Down s). w.rests s (settled Unanswered n link s) w.unmoved (settle_walks (λ m. Concerns (NoAnswer n) m s) (BeginsNone (NoAnswer n) → ⊥) R w.small Unanswered n link s refl at) in grind (arith, settle))
-  step_walks (Restore n) w = in_walks n (λ link. comes_back n s) w.unmoved (λ link at. grind (arith, declare_walks))
-  step_walks (BackTimeout n) w =
-      on_walks n (λ link. runs_out n s) w.unmoved (λ link there. cond_both (some_in_use (code_for n 0) 16 s) _ _ (λ (o : Outcome). S o.state)
-      (λ e. w.rests s _ w.unmoved (release_walks (λ m. Concerns (BackTimeout n) m s) (BeginsNone (BackTimeout n) → ⊥) R w.small (code_for n 0) 16 s (λ c low high. omega (arith, low, high)))) (λ e. w.unmoved))
+  step_walks event w = grind (arith, w.sends, hear_walks, rise_walks, declare_walks)
 
 -- The sealed step is its cases.
 pub step_is : (s : State) (event : Event) → step s event ≡ stepped s event
 unfolding step
 step_is s event = refl
 
--- No event changes how many links a set has.
 pub link_count_stays : (s : State) (event : Event) → length (step s event).state.links ≡ length s.links
 link_count_stays s event = step_walks s (λ t u. length u.links ≡ length t.links) (λ t. length t.links ≡ length s.links) event (grind (arith, length-set))

@@ -55,10 +55,6 @@ is_processed (Cyclic state) window head = cyclic.is_processed window head
 abbrev pub acked_by : Control → WindowState → Header → ℕ
 acked_by control window head = acked_where (is_processed control window head) window head
 
-abbrev pub is_accepted : Control → WindowState → Header → Bool → Bool
-is_accepted (Basic state) window head is_msu = basic.is_accepted state window head is_msu
-is_accepted (Cyclic state) window head is_msu = cyclic.is_accepted state window head is_msu
-
 abbrev pub part_of : Control → WindowState → Header → Bool → HeardPart
 part_of (Basic state) window head is_msu = basic.part_of state window head is_msu
 part_of (Cyclic state) window head is_msu = cyclic.part_of state window head is_msu

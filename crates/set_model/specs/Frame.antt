@@ -8,9 +8,8 @@ use Rattle.l3_orders.specs.Grammar.{order_of, link_of}
 use Rattle.set_route.specs.Routing.{place_of, home_of}
 use Rattle.set_model.specs.Rows.{Row, stream_of, unack, wait, held, octets_in}
 use Rattle.set_model.specs.Control.{Choice, first, choice_of, control_after, window_heard, part_of, control_heard}
-use Rattle.set_model.specs.State.{On, Up, LinkState, State, is_up, window_of}
-use Rattle.set_model.specs.Step.{SignalUnit, Msu, Event, Offer, Take, Find, Next, Heard, UpEvent, DownEvent, DownBlind, NoAnswer, Restore, BackTimeout, next, after_control, controls, is_msu, step}
-use Rattle.set_model.specs.Sound.{IsSound}
+use Rattle.set_model.specs.State.{On, LinkState, State, is_up, window_of}
+use Rattle.set_model.specs.Step.{SignalUnit, Msu, Event, Offer, Next, Heard, UpEvent, DownEvent, DownBlind, NoAnswer, BackTimeout, next, after_control, controls, is_msu}
 
 -- the unit brings an order about this link
 abbrev pub BringsAbout : ℕ → SignalUnit → Type 0
@@ -24,19 +23,17 @@ BringsBackTo number (Msu head body) =
 BringsBackTo number _ = ⊥
 
 -- its own link, that of an order which its unit brings, the home of the code that it acknowledges, or the one on which
--- the stream of an offered message runs; Restore concerns none
+-- the stream of an offered message runs; Take, Find and Restore concern none
 abbrev pub Concerns : Event → ℕ → State → Type 0
 Concerns (Offer body) number s = place_of (stream_of body) s.routing ≡ On number
-Concerns Take number s = ⊥
-Concerns (Find message) number s = ⊥
 Concerns (Next link) number s = link ≡ number
 Concerns (Heard link unit) number s = (link ≡ number) ⊎ (BringsAbout number unit ⊎ BringsBackTo number unit)
 Concerns (UpEvent link) number s = link ≡ number
 Concerns (DownEvent link) number s = link ≡ number
 Concerns (DownBlind link) number s = link ≡ number
 Concerns (NoAnswer link) number s = link ≡ number
-Concerns (Restore link) number s = ⊥
 Concerns (BackTimeout link) number s = link ≡ number
+Concerns _ number s = ⊥
 
 -- nothing of the link changed, but that messages may have come, last: to wait for it if it's up, since it may be the
 -- target or an alternative, and else to be held for it, which turned back from a changeback
@@ -80,15 +77,3 @@ pub record MovesAsItsControl (number : ℕ) (link : LinkState) (s : State) : Typ
       let after = after_control part (header_in unit) unit number s link in
       let whole = (controls unit number s link).state in
       (whole.links ≡ after.links) × (whole.rows ≡ after.rows)
-
--- LAW: an event leaves alone what it doesn't concern
-abbrev pub AnEventLeavesTheRestAlone : Type 0
-AnEventLeavesTheRestAlone =
-    (number : ℕ) (s : State) (event : Event) → (Concerns event number s → ⊥)
-    → LeavesAlone number s (step s event).state
-
--- LAW: Next and Heard move a link's window as its control does
-abbrev pub AWindowMovesAsItsControl : Type 0
-AWindowMovesAsItsControl =
-    (number : ℕ) (link : LinkState) (s : State) → IsSound s → slice_get s.links number ≡ Some link → link.phase ≡ Up
-    → MovesAsItsControl number link s

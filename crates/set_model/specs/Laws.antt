@@ -1,11 +1,10 @@
 -- LAWS of the rows and of the step: of every state and every event.
-use Rattle.std.specs.Prelude.{◌≡◌, ℕ, ◌-◌, ◌<◌, ◌≤◌, Bool, true, not, List, [], ◌++◌, length, map, drop, slice_get, Option, Some, None, if◌then◌else◌, option_map}
+use Rattle.std.specs.Prelude.{◌≡◌, ℕ, ◌-◌, ◌<◌, ◌≤◌, Bool, not, List, [], ◌++◌, length, map, drop, Option, Some, None, if◌then◌else◌, option_map}
 use Rattle.set_route.specs.Routing.{NoneOpen}
 use Rattle.set_model.specs.Rows.{Fate, Acked, Row, standing, is_unacked, is_on, unack, wait, held, on, parked, numbers, with_fate, turned, changed, moved, appended, row_of, place, body_at, IsNumbered}
-use Rattle.set_model.specs.State.{Down, Settled, LinkState, State, Settings, opened_with, target}
-use Rattle.set_model.specs.Changeover.{Upto, fate_on, reached_by, is_reasonable, settled}
-use Rattle.set_model.specs.Step.{Event, step, Gains}
-use Rattle.set_model.specs.Sound.{IsSettings, IsSound, AreTogether, BeginsNone, IsAsked, WholeNumbers, one_more, AreAtMost, AreFew, IsManaged}
+use Rattle.set_model.specs.State.{LinkState, State, target}
+use Rattle.set_model.specs.Changeover.{Upto, fate_on, reached_by, settled}
+use Rattle.set_model.specs.Sound.{IsSound, AreTogether, AreFew}
 
 -- THE ROWS.
 
@@ -26,23 +25,13 @@ pub record MessagesStay (test : Fate → Bool) (to : Fate) (fate : Row → Fate)
   pub new_found : (body : List ℕ) → body_at (length rows) (appended rows body to) ≡ Some body
   pub appended_numbered : (body : List ℕ) → IsNumbered (appended rows body to)
 
--- LAW: no change takes a message out, or changes its number or body; each number stands in exactly one row
-abbrev pub NoMessageChanges : Type 0
-NoMessageChanges =
-    (test : Fate → Bool) (to : Fate) (fate : Row → Fate) (rows : List Row) → IsNumbered rows
-    → MessagesStay test to fate rows
-
--- LAW: what leaves a link are just its rows. They are the last ones then, in their old order; each has its new place,
+-- what leaves a link are just its rows: they are the last ones then, in their old order; each has its new place,
 -- and every other message its old one.
 pub record MovesTheLinksRows (link : ℕ) (fate : Row → Fate) (rows : List Row) : Type 0 where
   pub last : numbers (drop (length rows - length (on link rows)) (moved (is_on link) fate rows))
       ≡ numbers (on link rows)
   pub places : (number : ℕ) → place number (moved (is_on link) fate rows)
       ≡ option_map (λ row. if is_on link row.fate then fate row else row.fate) (row_of number rows)
-
-abbrev pub AMoveMovesTheLinksRows : Type 0
-AMoveMovesTheLinksRows =
-    (link : ℕ) (fate : Row → Fate) (rows : List Row) → IsNumbered rows → MovesTheLinksRows link fate rows
 
 -- THE STEP.
 
@@ -52,44 +41,16 @@ pub record KeepsMessages (old new : List Row) : Type 0 where
   pub bodies : (number : ℕ) → number < length old → body_at number new ≡ body_at number old
   pub numbered : IsNumbered new
 
--- LAW: whatever is asked of a set, in whatever state
-abbrev pub NoEventChangesAMessage : Type 0
-NoEventChangesAMessage =
-    (s : State) (event : Event) → IsNumbered s.rows → KeepsMessages s.rows (step s event).state.rows
-
--- LAW: each accepted message stands in one place more, and what is acknowledged stays so
-abbrev pub AStepGains : Type 0
-AStepGains =
-    (s : State) (event : Event) → IsManaged s.settings → Gains s event (step s event).answer (step s event).state
-
--- LAW: an event sends at most one message on each link, and accepts at most one body there
-abbrev pub AStepCounts : Type 0
-AStepCounts =
-    (s : State) (event : Event) (most : ℕ → WholeNumbers) → AreAtMost most s
-    → AreAtMost (λ number. one_more (most number)) (step s event).state
-
--- LAW: every step keeps what holds of every set's state
-abbrev pub EveryStepKeepsASetSound : Type 0
-EveryStepKeepsASetSound = (s : State) (event : Event) → IsAsked event → IsSound s → IsSound (step s event).state
-
 -- no changeback is under way, and the messages of each stream are together
 pub record RunsStraight (s : State) : Type 0 where
   pub none_open : NoneOpen s.routing
   pub together : AreTogether s
 
--- LAW: that stays so until a changeback begins
-abbrev pub StreamsStayTogether : Type 0
-StreamsStayTogether = (s : State) (event : Event) → IsAsked event → BeginsNone event → IsSound s → RunsStraight s
-    → RunsStraight (step s event).state
-
--- LAW: a set that nothing was asked of is sound
+-- what holds of a set that nothing was asked of
 pub record IsNew (s : State) : Type 0 where
   pub sound : IsSound s
   pub few : AreFew 0 s
   pub straight : RunsStraight s
-
-abbrev pub ANewSetIsSound : Type 0
-ANewSetIsSound = (settings : Settings) → IsSettings settings → IsNew (opened_with settings)
 
 -- SETTLING.
 
@@ -98,12 +59,6 @@ pub record IsEmptyLink (number : ℕ) (rows : List Row) : Type 0 where
   pub unack_none : unack number rows ≡ []
   pub wait_none : wait number rows ≡ []
   pub held_none : held number rows ≡ []
-
--- LAW: no message stays on a link that settled
-abbrev pub ASettledLinkIsEmpty : Type 0
-ASettledLinkIsEmpty =
-    (s : State) (number : ℕ) (link : LinkState) → IsSound s → slice_get s.links number ≡ Some link
-    → link.phase ≡ Settled → IsEmptyLink number s.rows
 
 -- the rows where the far end has the first so many messages of the link: they are acknowledged
 abbrev pub arrived : ℕ → ℕ → List Row → List Row
@@ -123,12 +78,6 @@ pub record MovesTheRest (fsn number : ℕ) (link : LinkState) (s : State) : Type
   pub waiting_all : wait number (arrived (reached_by fsn number link s.rows) number s.rows) ≡ wait number s.rows
   pub held_all : held number (arrived (reached_by fsn number link s.rows) number s.rows) ≡ held number s.rows
 
--- LAW: a link that settles by a reasonable FSN (Q.704 5.4, 5.5)
-abbrev pub SettlingMovesTheRest : Type 0
-SettlingMovesTheRest =
-    (fsn number : ℕ) (link : LinkState) (s : State) → slice_get s.links number ≡ Some link
-    → is_reasonable fsn number link s.rows ≡ true → MovesTheRest fsn number link s
-
 -- the numbers of the link's messages past those that the far end has: first those that were sent, then those that
 -- waited, then those that were held
 abbrev pub rest_of : ℕ → ℕ → List Row → List ℕ
@@ -139,12 +88,3 @@ rest_of link count rows =
 abbrev pub DivertsTo : Option ℕ → List ℕ → List Row → List Row → Type 0
 DivertsTo (Some to) rest old new = numbers (wait to new) ≡ numbers (wait to old) ++ rest
 DivertsTo None rest old new = numbers (parked new) ≡ numbers (parked old) ++ rest
-
--- LAW: a changeover diverts exactly the messages past those that the far end has, in order (Q.704 5.5). In every set's
--- state a link that was left, and settles by a reasonable FSN, is so left by its messages.
-abbrev pub AChangeoverDivertsTheRest : Type 0
-AChangeoverDivertsTheRest =
-    (fsn number : ℕ) (link : LinkState) (s : State) → IsSound s → slice_get s.links number ≡ Some link
-    → link.phase ≡ Down → is_reasonable fsn number link s.rows ≡ true
-    → DivertsTo (target s.links) (rest_of number (reached_by fsn number link s.rows) s.rows)
-    s.rows (settled (Upto fsn) number link s).rows

@@ -132,7 +132,6 @@ appended rows body fate = rows ++ record { number = length rows; body = body; fa
 
 -- What the readers tell.
 
--- the row of this number
 abbrev pub row_of : ℕ → List Row → Option Row
 row_of number rows = find (λ row. row.number == number) rows
 
@@ -155,7 +154,6 @@ counts_of rows = record {
   discarded = length (standing was_discarded (users rows));
 }
 
--- the messages of all places together
 abbrev pub total_of : Counts → ℕ
 total_of c = c.waiting + c.unacked + c.acked + c.held + c.parked + c.back + c.discarded
 
@@ -166,10 +164,10 @@ abbrev pub IsNumbered : List Row → Type 0
 IsNumbered rows =
     (number : ℕ) → length (filter (λ row. row.number == number) rows) ≡ (if nat_lt number (length rows) then 1 else 0)
 
--- a fact of each row
-abbrev pub Each : (Row → Type 0) → List Row → Type 0
+-- a fact of each
+abbrev pub Each : {X : Type 0} → (X → Type 0) → List X → Type 0
 Each fact [] = Unit {0}
-Each fact (row ∷ rows) = fact row × Each fact rows
+Each fact (x ∷ xs) = fact x × Each fact xs
 
 -- no body is longer than a unit's
 abbrev pub AreFit : List Row → Type 0

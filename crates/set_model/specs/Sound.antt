@@ -3,7 +3,7 @@ use Rattle.std.specs.Prelude.{◌≡◌, ◌≢◌, ℕ, Bool, true, false, not,
 use Rattle.set_events.specs.declared.event.Event.{Event}
 use Rattle.set_events.specs.declared.event.Event.TheVariants.{Offer, Restore}
 use Rattle.set_route.specs.Routing.{Routing, IsRouting, home_of, code_of, place_of, has_messages, most_links}
-use Rattle.set_model.specs.Rows.{Fate, Waiting, Unacked, Held, Parked, Back, Row, is_on, is_back, is_parked, is_users, stream_of, unack, held, on, back, parked, numbers, Each, IsNumbered, AreFit, IsInOrder, IsHeldLast}
+use Rattle.set_model.specs.Rows.{Fate, Back, Row, was_acked, was_discarded, is_on, is_back, is_parked, is_users, stream_of, unack, held, on, back, parked, numbers, Each, IsNumbered, AreFit, IsInOrder, IsHeldLast}
 use Rattle.set_model.specs.Control.{Method, BasicMethod, CyclicMethod, Control, Basic, Cyclic, accepted_of}
 use Rattle.set_model.specs.State.{Place, On, Changing, Nowhere, Asked, LinkState, State, Settings, is_up, has_phase_up, has_phase_settled, last_accepted}
 use Rattle.l2_window.specs.Window.{most_unacked}
@@ -39,12 +39,7 @@ pub record IsSoundLink (set_method : Method) (number : ℕ) (link : LinkState) (
 
 -- it can still be moved: it isn't acknowledged, nor given up
 abbrev pub is_unfinished : Fate → Bool
-is_unfinished (Waiting l) = true
-is_unfinished (Unacked l) = true
-is_unfinished (Held l) = true
-is_unfinished Parked = true
-is_unfinished (Back c) = true
-is_unfinished _ = false
+is_unfinished fate = not (was_acked fate || was_discarded fate)
 
 -- where messages stand whose stream runs there
 abbrev pub stands_at : Place → Fate → Bool
@@ -67,8 +62,7 @@ abbrev pub astray : ℕ → Place → List Row → List Row
 astray stream place rows = filter (is_astray stream place) rows
 
 abbrev pub AreAbove : ℕ → List ℕ → Type 0
-AreAbove n [] = Unit {0}
-AreAbove n (m ∷ ms) = (n < m) × AreAbove n ms
+AreAbove n ms = Each (λ m. n < m) ms
 
 abbrev pub IsAscending : List ℕ → Type 0
 IsAscending [] = Unit {0}
@@ -155,7 +149,6 @@ pub record WholeNumbers : Type 0 where
   pub sent : ℕ
   pub accepted : ℕ
 
--- one more of each
 abbrev pub one_more : WholeNumbers → WholeNumbers
 one_more most = record { sent = most.sent + 1; accepted = most.accepted + 1 }
 

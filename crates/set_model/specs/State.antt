@@ -72,7 +72,6 @@ opened_with settings = record {
 abbrev pub new_state : SetConfig → State
 new_state config = opened_with (settings_of config)
 
--- how many links a set has
 abbrev pub link_count : State → ℕ
 link_count s = length s.links
 

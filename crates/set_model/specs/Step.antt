@@ -143,15 +143,11 @@ after_control part head unit number s link =
     }) (record s { rows = turned (is_unacked number) (Acked number) part.acked s.rows })
 
 -- then an accepted body goes where it belongs
-abbrev pub hears : HeardPart → Header → SignalUnit → ℕ → State → LinkState → Outcome
-hears part head unit number s link =
-    let after = takes (brought part.accept unit) (after_control part head unit number s link) in
-    record { answer = HeardBack (report_of part after.took); state = after.state }
-
 abbrev pub controls : SignalUnit → ℕ → State → LinkState → Outcome
 controls unit number s link =
     let part = part_of link.control (window_of number link s.rows) (header_in unit) (is_msu unit) in
-    hears part (header_in unit) unit number s link
+    let after = takes (brought part.accept unit) (after_control part (header_in unit) unit number s link) in
+    record { answer = HeardBack (report_of part after.took); state = after.state }
 
 -- a link status signal unit is the terminal's own affair, not the error control's: there is nothing to do
 abbrev pub heard : SignalUnit → ℕ → State → LinkState → Outcome
@@ -227,7 +223,6 @@ abbrev pub messages_in : Answer → ℕ
 messages_in (Accepted number) = 1
 messages_in _ = 0
 
--- the octets of an offered body
 abbrev pub octets_offered : Event → ℕ
 octets_offered (Offer body) = length body
 octets_offered _ = 0

@@ -1,5 +1,3 @@
-//! A message that was sent and isn't acknowledged.
-
 /// A message that was sent and isn't acknowledged.
 #[derive(Clone, Copy, Debug, PartialEq, Eq)]
 pub struct Numbered {
