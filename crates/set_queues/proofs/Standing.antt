@@ -57,6 +57,11 @@ module _ {X : Type 0} where
   updated_id f (y ∷ xs) zero x e h = let g : y ≡ x = cc in ap (λ (z : X). z ∷ xs) (ap f g ∙ h ∙ sym g)
   updated_id f (y ∷ xs) (suc n) x e h = ap (λ (zs : List X). y ∷ zs) (updated_id f xs n x e h)
 
+  pub updated_none : (f : X → X) (xs : List X) (n : ℕ) → length xs ≤ n → updated n f xs ≡ xs
+  updated_none f [] n h = refl
+  updated_none f (y ∷ xs) zero h = absurd (omega (arith, h))
+  updated_none f (y ∷ xs) (suc n) h = ap (λ (zs : List X). y ∷ zs) (updated_none f xs n (omega (arith, h)))
+
   -- one element is set: what an index reads
   pub read_set : (x : X) (xs : List X) (n k : ℕ) (d : X) → n < length xs → get_or (updated n (λ (y : X). x) xs) k d ≡ cond (n == k) x (get_or xs k d)
   read_set x [] n k d h = absurd (omega arith)
@@ -151,11 +156,6 @@ moved_tie q q' ms ns from to tie s within moves f sf m = let given = given_queue
 
 pub take_get : (xs : List ℕ) (i x : ℕ) → slice_get xs i ≡ Some x → take (i + 1) xs ≡ take i xs ++ x ∷ []
 take_get xs i x h = rw (get_or_from_slice_get xs i x x h) at (take_at_read xs i x (slice_get_within xs i x h)).1
-
-pub given_at : (ns : List ℕ) (ms : List Message) (i n : ℕ) → AreGiven ns ms → slice_get ns i ≡ Some n → n < length ms
-given_at [] ms i n g e = absurd (cc)
-given_at (x ∷ ns) ms zero n g e = let f : x ≡ n = cc in g n (omega (arith, occurs_here x n f))
-given_at (x ∷ ns) ms (suc i) n g e = given_at ns ms i n (λ k h. g k (omega (arith, h))) e
 
 pub none_past : (xs : List ℕ) (i : ℕ) → slice_get xs i ≡ None → i < length xs → ⊥
 none_past xs i e h = let some = slice_get-get_or xs i 0 h in absurd (cc)

@@ -10,7 +10,7 @@ ghost use Rattle.set_queues.specs.Sending.{IsSending, acknowledged, reach};
 
 use super::buffers::Buffers;
 use super::message::Message;
-use super::messages::{Messages, pass, weigh};
+use super::messages::{Messages, pass};
 use super::tally::{Tally, enter};
 use l2_window::{Queue, Window, WindowFault};
 use set_events::{Counts, DiscardCause, Fate};
@@ -157,11 +157,20 @@ impl Queues {
     }
 
     /// How many messages stand there.
+    #[tactic(auto, using(crate::proofs::Linked::of_link, crate::proofs::Linked::of_code))]
     pub fn count_at(&self, fate: Fate) -> usize
         requires { IsKnown fate self.now.lists }
         ensures { result ≡ length (queue_at fate self.now.lists) }
     {
-        self.buffers.len(fate)
+        let Buffers { links, parked, back } = &self.buffers;
+        match fate {
+            Fate::Waiting { link } => links[usize::from(link)].window.unsent_len(),
+            Fate::Unacked { link } => links[usize::from(link)].window.unacked_len(),
+            Fate::Held { link } => links[usize::from(link)].held.len(),
+            Fate::Parked => parked.len(),
+            Fate::Back { code } => back[usize::from(code)].len(),
+            Fate::Acked { .. } | Fate::Discarded { .. } => 0,
+        }
     }
 
     /// The number at this place of the queue, the oldest at 0.
@@ -181,11 +190,12 @@ impl Queues {
         ensures few { result < 2 ^ 63 }
     {
         // no count is out of range, since there are fewer than 2^63 messages
+        self.is_sound();
         self.len();
         let mut count = 0;
         for place in 0..16u8 {
             let code = 16 * home + place;
-            count += self.buffers.len(Fate::Back { code });
+            count += self.count_at(Fate::Back { code });
         }
         count
     }
@@ -222,6 +232,7 @@ impl Queues {
     }
 
     /// Makes room for so many more in that queue.
+    #[tactic(auto, using(crate::proofs::Linked::of_link, crate::proofs::Linked::of_code))]
     pub fn reserve_at(&mut self, fate: Fate, messages: usize) -> Result<(), AllocError>
         requires known { IsKnown fate self.old.lists }
         requires queued { IsQueued fate }
@@ -230,7 +241,14 @@ impl Queues {
             ≡ self.old.messages) × (self.new.room ≡ self.old.room) }
         ensures kept { KeepsRoom self.old.rooms self.new.rooms }
     {
-        self.buffers.reserve(fate, messages)
+        let Buffers { links, parked, back } = &mut self.buffers;
+        match fate {
+            Fate::Waiting { link } => links[usize::from(link)].window.reserve(messages),
+            Fate::Held { link } => links[usize::from(link)].held.reserve(messages),
+            Fate::Parked => parked.reserve(messages),
+            Fate::Back { code } => back[usize::from(code)].reserve(messages),
+            Fate::Unacked { .. } | Fate::Acked { .. } | Fate::Discarded { .. } => unreachable!(),
+        }
     }
 
     /// Makes room for so many more that wait for each link, and for as many that are held for it. Nothing
@@ -263,12 +281,12 @@ impl Queues {
             ≡ self.old.messages) × (self.new.room ≡ self.old.room) }
         ensures kept { KeepsRoom self.old.rooms self.new.rooms }
     {
-        let sent = self.buffers.len(Fate::Unacked { link });
-        let unsent = self.buffers.len(Fate::Waiting { link });
-        let held = self.buffers.len(Fate::Held { link });
+        let sent = self.count_at(Fate::Unacked { link });
+        let unsent = self.count_at(Fate::Waiting { link });
+        let held = self.count_at(Fate::Held { link });
         let messages = sent as u128 + unsent as u128 + held as u128 + more as u128;
         let messages = usize::try_from(messages).ok().ok_or(AllocError)?;
-        self.buffers.reserve(fate, messages)
+        self.reserve_at(fate, messages)
     }
 
     /// A new message stands last in the queue that its fate names: its number.
@@ -301,6 +319,7 @@ impl Queues {
     ///
     /// Refusals, in this order: 1 [`WindowFault::Empty`] with none that waits, 2
     /// [`WindowFault::Full`] with 127 unacknowledged.
+    #[tactic(auto, using(crate::proofs::Linked::of_link))]
     pub fn send(&mut self, link: u8) -> Result<(u64, u8), WindowFault>
         requires { link < length self.old.lists.links }
         ensures empty { (result ≡ Err WindowFault.Empty) ↔ (queue_at
@@ -319,7 +338,8 @@ impl Queues {
             ≡ self.old.room)) }
         ensures err { OnErr result (self.new ≡ self.old) }
     {
-        let (number, fsn) = self.buffers.send(link)?;
+        let buffers = &mut self.buffers;
+        let (number, fsn) = buffers.links[usize::from(link)].window.send()?;
         let octets = self.messages.restand(number, Fate::Unacked { link });
         self.octets[usize::from(link)] += u32::from(octets);
         Ok((number, fsn))
@@ -349,9 +369,8 @@ impl Queues {
         };
         let (from, to) = (Fate::Unacked { link }, Fate::Acked { link });
         let moved = usize::from(count);
-        let octets = weigh(&self.buffers, &self.messages, link, count);
-        pass(&mut self.buffers, &mut self.messages, from, moved, to);
-        self.octets[usize::from(link)] -= octets;
+        let octets = pass(&mut self.buffers, &mut self.messages, from, moved, to);
+        self.octets[usize::from(link)] -= octets as u32;
         let buffers = &mut self.buffers;
         match buffers.links[usize::from(link)].window.ack(fsn) {
             Ok(_) => Ok(count),
@@ -429,7 +448,7 @@ impl Queues {
             (queue_at from self.old.lists)) self.old.rooms self.new.rooms }
         ensures room { self.new.room ≡ self.old.room }
     {
-        let count = self.buffers.len(from);
+        let count = self.count_at(from);
         pass(&mut self.buffers, &mut self.messages, from, count, to);
         self.buffers.clear(from);
         weigh_none(&mut self.octets, from);

@@ -7,9 +7,9 @@ clear-requires c = record { known = known_with c.args.from c.args.to _ _ _ c.pas
 
 pub invariant_of-self : goal.invariant_of-self
 invariant_of-self c = (
-  rw (moved_whole _ c.args.from c.args.to _ _ _ c.len-count.ensures.value c.pass.ensures.lists c.clear.ensures.lists, c.pass.ensures.messages) (
-      kept_passed c.len-count.result c.args.from c.args.to _ _ _ _ c.self.invariant.0
+  rw (moved_whole _ c.args.from c.args.to _ _ _ (rw (← c.self.view_is) at c.count_at-count.ensures) c.pass.ensures.lists c.clear.ensures.lists, c.pass.ensures.messages) (
+      kept_passed c.count_at-count.result c.args.from c.args.to _ _ _ _ c.self.invariant.0
       (record { standing = c.requires.standing; known = rw (← c.self.view_is) at c.requires.known; other = rw (← c.self.view_is) at c.requires.other; apart = c.requires.apart })
-      (λ s. (c.requires.room s).0) (λ l t. c.len-count.ensures.value) c.weigh_none.ensures),
+      (λ s. (c.requires.room s).0) (λ l t. (rw (← c.self.view_is) at c.count_at-count.ensures)) c.weigh_none.ensures),
   c.pass.ensures.counted,
 )
