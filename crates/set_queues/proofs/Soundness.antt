@@ -59,13 +59,7 @@ module _ (k : ℕ) (from to : Fate) (q : Lists) (ms : List Message) (c : CanMove
   moved_queue = both_replaced q from to _ _ c.known c.other
 
   moved_moves : Moves (take k (queue_at from q)) from to q (moved k from to q)
-  moved_moves f s m = go (same_fate from f) (same_fate to f) refl refl (moved_queue f s)
-    where
-      go : (a b : Bool) → same_fate from f ≡ a → same_fate to f ≡ b → queue_at f (moved k from to q) ≡ cond a (drop k (queue_at from q)) (cond b (queue_at to q ++ take k (queue_at from q)) (queue_at f q)) → occurs m (queue_at f (moved k from to q)) + cond a (occurs m (take k (queue_at from q))) 0 ≡ occurs m (queue_at f q) + cond b (occurs m (take k (queue_at from q))) 0
-      go true true e d g = absurd (cc (same_is from f s e, c.apart))
-      go true false e d g = omega (arith, occurs-split m k (queue_at from q), ap (occurs m) g, ap (λ (x : Fate). occurs m (queue_at x q)) (same_is from f s e))
-      go false true e d g = omega (arith, ap (occurs m) g, occurs-append m (queue_at to q) (take k (queue_at from q)), ap (λ (x : Fate). occurs m (queue_at x q)) (same_is to f s d))
-      go false false e d g = omega (arith, ap (occurs m) g)
+  moved_moves f s m = let there = moved_queue f s in let left = same_is from f s in let come = same_is to f s in let apart = c.apart in grind (arith, occurs-split, occurs-append)
 
   narrow_moved : AreNarrow q → ((l : ℕ) → same_fate to (Unacked l) ≡ true → length (queue_at to q) + k ≤ 127) → AreNarrow (moved k from to q)
   narrow_moved h n l = let there = moved_queue (Unacked l) refl in let had = h l in let more = n l in grind (arith, same_is, length-append, length-take, length-drop)
@@ -82,9 +76,8 @@ module _ (k : ℕ) (from to : Fate) (q : Lists) (ms : List Message) (c : CanMove
   kept_moved octets octets' h n w =
       let s = h.sound in
       let within : (m : ℕ) → occurs m (take k (queue_at from q)) ≤ occurs m (queue_at from q) = λ m. omega (arith, occurs-split m k (queue_at from q)) in
-      let tied = moved_tie q (moved k from to q) ms (take k (queue_at from q)) from to s.tied c.standing within moved_moves in
       record {
-        sound = sound_on q _ ms _ s (both_size q from to _ _) (narrow_moved s.narrow n) tied (fit_restood (take k (queue_at from q)) to ms s.fit);
+        sound = sound_on q _ ms _ s (both_size q from to _ _) (narrow_moved s.narrow n) (moved_tie q _ ms _ from to s.tied c.standing within moved_moves) (fit_restood (take k (queue_at from q)) to ms s.fit);
         weighed = weighed_moved octets octets' h.weighed w;
       }
 

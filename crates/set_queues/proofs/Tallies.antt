@@ -1,9 +1,9 @@
 -- The running counts of a list of messages, when one of them changes or joins, and the octets of their bodies.
-use Rattle.std.proofs.Common.{◌^◌, arith, ◌≡◌, ◌+◌, ◌≤◌, ◌<◌, [], ◌∷◌, ◌++◌, length, ℕ, zero, suc, Bool, List, Option, Some, None, refl, ap, ◌*◌, take, drop, filter, slice_get, slice_set, sym, ◌-◌, true, false, ◌&&◌, nat_le, nat_lt, ◌==◌, add-one}
+use Rattle.std.proofs.Common.{◌^◌, arith, ◌≡◌, ◌+◌, ◌≤◌, ◌<◌, [], ◌∷◌, ◌++◌, length, ℕ, zero, suc, Bool, List, Option, Some, None, refl, ap, ◌*◌, take, drop, filter, slice_get, slice_set, get_or, sym, ◌-◌, true, false, ◌&&◌, nat_le, nat_lt, ◌==◌, add-one}
 use Rattle.std.proofs.lemmas.List.{take-append-drop, length-append}
 use Rattle.std.proofs.lemmas.List.Elements.{filter-append}
 use Rattle.std.proofs.lemmas.List.Sums.{length-filter, count_by-le-length}
-use Rattle.std.proofs.lemmas.Option.{slice_get_read, slice_get_past}
+use Rattle.std.proofs.lemmas.Option.{slice_get_read, slice_get_past, slice_get-get_or}
 use Rattle.set_queues.specs.Buffers.{Fate, Back, Lists, queue_at}
 use Rattle.set_queues.specs.Messages.{Message, Tally, with_fate, restood_one, restood, octets_in, octets_at, octets_of, is_there, is_queued, IsTally, IsMore, IsAmong, AreFew, IsFit, AreFit, one_if, stands_at, fate_at}
 use Rattle.set_queues.proofs.Standing.{set_updated, updated_none, updated_same, updated_other, get_push, take_get, fate_moves, fate_stays, length-restood, occurs-append, occurs_here}
@@ -44,11 +44,7 @@ pub fit_push : (xs : List Message) (y : Message) → AreFit xs → IsFit y → A
 fit_push xs y h f n m e = let old = h n m in grind (arith, get_push)
 
 pub fit_one : (n : ℕ) (f : Fate) (ms : List Message) → AreFit ms → AreFit (restood_one n f ms)
-fit_one n f ms fit k m e = go (slice_get ms k) refl
-  where
-    go : (o : Option Message) → slice_get ms k ≡ o → IsFit m
-    go None d = grind (arith, updated_same, updated_other)
-    go (Some x) d = let was = fit k x d in grind (arith, updated_same, updated_other)
+fit_one n f ms fit k m e = let was = fit k (get_or ms k m) in let there = slice_get-get_or ms k m in grind (arith, updated_same, updated_other, slice_get_past)
 
 pub fit_restood : (ns : List ℕ) (f : Fate) (ms : List Message) → AreFit ms → AreFit (restood ns f ms)
 fit_restood [] f ms fit = fit
