@@ -159,15 +159,12 @@ kept_new q n e low high =
 
 -- THE FIRST THAT WAITS IS SENT
 
-weight_set : (octets : List ℕ) (l v k : ℕ) → l < length octets → slice_index (slice_set octets l v) k ≡ cond (l == k) v (slice_index octets k)
-weight_set octets l v k h = grind (arith, get_or-set_same, get_or-set_other)
-
 pub kept_sent : (q : Lists) (ms : List Message) (octets : List ℕ) (l n : ℕ) → l < length octets → AreKept q ms octets → l < length q.links → slice_get (queue_at (Waiting l) q) 0 ≡ Some n → length (queue_at (Unacked l) q) < 127 → AreKept (first_sent l n q) (restood_one n (Unacked l) ms) (slice_set octets l (slice_index octets l + octets_at n ms))
 kept_sent q ms octets l n long h b first few =
     let one : take 1 (queue_at (Waiting l) q) ≡ n ∷ [] = take_get _ 0 n first in
     rw one at (kept_moved 1 (Waiting l) (Unacked l) q ms (record { standing = refl; known = b; other = b; apart = refl }) octets (slice_set octets l (slice_index octets l + octets_at n ms)) h
     (λ k t. let same = same_is (Unacked l) (Unacked k) refl t in omega (arith, few))
-    (λ k small. let now = weight_set octets l (slice_index octets l + octets_at n ms) k long in grind (arith, nat_tests)))
+    (λ k small. grind (arith, nat_tests, get_or-set_same, get_or-set_other)))
 
 -- THE FIRST OF THE UNACKNOWLEDGED LEAVE, and a link has a new life
 
@@ -185,10 +182,9 @@ kept_with_last q ms octets l fsn h = record {
 
 pub kept_acked : (q : Lists) (ms : List Message) (octets : List ℕ) (l k fsn : ℕ) → l < length octets → AreKept q ms octets → l < length q.links → AreKept (with_last l fsn (moved k (Unacked l) (Acked l) q)) (restood (take k (queue_at (Unacked l) q)) (Acked l) ms) (slice_set octets l (slice_index octets l - octets_of (take k (queue_at (Unacked l) q)) ms))
 kept_acked q ms octets l k fsn long h b = kept_with_last _ _ _ l fsn (kept_moved k (Unacked l) (Acked l) q ms (record { standing = refl; known = b; other = tt; apart = refl }) octets (slice_set octets l (slice_index octets l - octets_of (take k (queue_at (Unacked l) q)) ms)) h (λ i t. absurd (cc)) (λ i small.
-    let now = weight_set octets l (slice_index octets l - octets_of (take k (queue_at (Unacked l) q)) ms) i long in
     let was = h.weighed i small in
     let all = octets-split k (queue_at (Unacked l) q) ms in
-    grind (arith, nat_tests)))
+    grind (arith, nat_tests, get_or-set_same, get_or-set_other)))
 
 -- A LINK SETTLES: what stands on it goes elsewhere, first what was sent, then what waited, then what was held
 

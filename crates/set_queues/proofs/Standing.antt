@@ -111,9 +111,6 @@ pub restood-append : (xs ys : List ℕ) (f : Fate) (ms : List Message) → resto
 restood-append [] ys f ms = refl
 restood-append (x ∷ xs) ys f ms = restood-append xs ys f (restood_one x f ms)
 
-pub fate_same : (n : ℕ) (f : Fate) (ms : List Message) → n < length ms → fate_at n (restood_one n f ms) ≡ Some f
-fate_same n f ms h = grind (arith, updated_same, slice_get_cases)
-
 -- one that isn't among them stays where it stood
 pub fate_stays : (m : ℕ) (ns : List ℕ) (f : Fate) (ms : List Message) → occurs m ns ≡ 0 → fate_at m (restood ns f ms) ≡ fate_at m ms
 fate_stays m [] f ms z = refl
@@ -128,8 +125,7 @@ fate_moves m [] f ms b z = absurd (omega arith)
 fate_moves m (n ∷ ns) f ms b z =
     let again = fate_moves m ns f (restood_one n f ms) (omega (arith, length-updated (with_fate f) ms n)) in
     let stays = fate_stays m ns f (restood_one n f ms) in
-    let now = fate_same m f ms b in
-    grind (arith, nat_tests)
+    grind (arith, nat_tests, updated_same, slice_get_cases)
 
 -- THE TIE, when messages move from one queue to another, or to none
 
@@ -139,9 +135,6 @@ Moves ns from to q q' = (f : Fate) → is_standing f ≡ true → (m : ℕ) → 
 pub has_of : (f g : Fate) (o : Option Fate) → is_standing g ≡ true → has_fate g o ≡ true → o ≡ Some g
 has_of f g o s e = grind arith
 
-one_true : (b : Bool) → 0 < one_if b → b ≡ true
-one_true b h = grind arith
-
 pub same_self : (f : Fate) → is_standing f ≡ true → same_fate f f ≡ true
 same_self f s = grind arith
 
@@ -150,7 +143,7 @@ pub given_queue : (q : Lists) (ms : List Message) (f : Fate) → AreTied q ms �
 given_queue q ms f tie s n h = let stood = tie f s n in grind (arith, slice_get_past)
 
 pub moved_tie : (q q' : Lists) (ms : List Message) (ns : List ℕ) (from to : Fate) → AreTied q ms → is_standing from ≡ true → ((m : ℕ) → occurs m ns ≤ occurs m (queue_at from q)) → Moves ns from to q q' → AreTied q' (restood ns to ms)
-moved_tie q q' ms ns from to tie s within moves f sf m = let given = given_queue q ms from tie s m in grind (arith, fate_stays, has_of, one_true, fate_moves)
+moved_tie q q' ms ns from to tie s within moves f sf m = let given = given_queue q ms from tie s m in grind (arith, fate_stays, has_of, fate_moves)
 
 -- the first so many, one after another
 
@@ -160,10 +153,7 @@ take_get xs i x h = rw (get_or_from_slice_get xs i x x h) at (take_at_read xs i 
 pub none_past : (xs : List ℕ) (i : ℕ) → slice_get xs i ≡ None → i < length xs → ⊥
 none_past xs i e h = let some = slice_get-get_or xs i 0 h in absurd (cc)
 
-pub apart : (f g : Fate) → is_standing g ≡ true → (f ≡ g → ⊥) → same_fate f g ≡ false
-apart f g s ne = grind arith
-
-pub ruleset laws = (apart, same_self, slice_get_past)
+pub ruleset laws = (same_self, slice_get_past)
 
 -- A QUEUE is replaced by another list
 
@@ -173,8 +163,6 @@ queue_set g f ns q s h = grind (arith, updated_there, updated_other, slice_get_c
 -- the links stay as many
 pub links_stay : (g : Fate) (numbers : List ℕ) (q : Lists) → length (with_queue g numbers q).links ≡ length q.links
 links_stay g ns q = grind (arith, length-updated)
-
-pub ruleset links = (links_stay, length-updated)
 
 -- as many links, and as many codes
 pub record SameSize (q q' : Lists) : Type 0 where
