@@ -1,5 +1,5 @@
 -- What holds of every set's queues goes on holding.
-use Rattle.std.proofs.Common.{refl, arith, ◌≡◌, ◌∙◌, ap, ◌+◌, ◌-◌, ◌≤◌, ◌<◌, [], ◌∷◌, ◌++◌, length, ℕ, zero, suc, Bool, true, false, ◌==◌, List, Some, cond, get_or, take, drop, replicate, slice_get, slice_set, slice_index, ◌≢◌, subst, Option, append_assoc, IfSome}
+use Rattle.std.proofs.Common.{refl, arith, ◌≡◌, ◌∙◌, ap, ◌+◌, ◌-◌, ◌≤◌, ◌<◌, [], ◌∷◌, ◌++◌, length, ℕ, Bool, true, false, ◌==◌, List, Some, cond, get_or, take, drop, replicate, slice_get, slice_set, slice_index, ◌≢◌, subst, Option, append_assoc, IfSome}
 use Rattle.set_queues.specs.Messages.{one_if, Message, restood_one, restood, octets_at, octets_of, IsFit, AreFit}
 use Rattle.set_queues.specs.Backs.{passed_first}
 use Rattle.set_queues.specs.Sending.{first_sent}
@@ -9,7 +9,7 @@ use Rattle.set_queues.proofs.Standing.{length-updated, updated_same, updated_oth
 use Rattle.set_queues.proofs.Tallies.{fit_push, fit_restood, octets-append, octets-split, octets_stay}
 use Rattle.std.proofs.lemmas.Bool.Decides.{nat_tests}
 use Rattle.std.proofs.lemmas.List.{drop_all, take_all, get_or-replicate, get_or-set_same, get_or-set_other, get_or_past, length-replicate, length-append, length-take, length-drop}
-use Rattle.std.proofs.lemmas.Option.{slice_get_past}
+use Rattle.std.proofs.lemmas.Option.{slice_get_past, slice_get_cases}
 use Rattle.std.proofs.lemmas.Bool.{eq-eqb}
 use Rattle.set_queues.specs.Settling.{fate_on, on, Settles}
 
@@ -132,9 +132,7 @@ kept_added q ms octets x h fit k u =
 -- NO MESSAGE
 
 none_in : (list : LinkLists → List ℕ) (n k : ℕ) → list no_lists ≡ [] → list_in list (slice_get (replicate n no_lists) k) ≡ []
-none_in list zero k e = refl
-none_in list (suc n) zero e = e
-none_in list (suc n) (suc k) e = none_in list n k e
+none_in list n k e = grind (arith, slice_get_cases, get_or-replicate, length-replicate)
 
 all_alike : {X : Type 0} (x : X) (n k : ℕ) → get_or (replicate n x) k x ≡ x
 all_alike x n k = grind (arith, get_or-replicate, get_or-set_same, get_or-set_other, get_or_past, length-replicate)

@@ -3,10 +3,10 @@ use Rattle.std.proofs.Common.{◌^◌, arith, ◌≡◌, ◌+◌, ◌≤◌, ◌
 use Rattle.std.proofs.lemmas.List.{take-append-drop, length-append}
 use Rattle.std.proofs.lemmas.List.Elements.{filter-append}
 use Rattle.std.proofs.lemmas.List.Sums.{length-filter, count_by-le-length}
-use Rattle.std.proofs.lemmas.Option.{slice_get_read, slice_get_past, slice_get-get_or}
+use Rattle.std.proofs.lemmas.Option.{slice_get_read, slice_get_past, slice_get-get_or, slice_get_cases}
 use Rattle.set_queues.specs.Buffers.{Fate, Back, Lists, queue_at}
 use Rattle.set_queues.specs.Messages.{Message, Tally, with_fate, restood_one, restood, octets_in, octets_at, octets_of, is_there, is_queued, IsTally, IsMore, IsAmong, AreFew, IsFit, AreFit, one_if, stands_at, fate_at}
-use Rattle.set_queues.proofs.Standing.{set_updated, updated_none, updated_same, updated_other, get_push, take_get, fate_moves, fate_stays, length-restood, occurs-append, occurs_here}
+use Rattle.set_queues.proofs.Standing.{set_updated, updated_none, restood_at, updated_same, updated_other, get_push, take_get, fate_moves, fate_stays, length-restood, occurs-append, occurs_here}
 use Rattle.std.specs.List.{AllByRecursion, IsDistinct, list_any}
 use Rattle.std.proofs.lemmas.Bool.Decides.{nat_tests}
 use Rattle.std.proofs.lemmas.Map.Steps.{length-le_from_distinct_below}
@@ -43,12 +43,8 @@ few_left t u xs x h few i = grind (arith, count_few)
 pub fit_push : (xs : List Message) (y : Message) → AreFit xs → IsFit y → AreFit (xs ++ y ∷ [])
 fit_push xs y h f n m e = let old = h n m in grind (arith, get_push)
 
-pub fit_one : (n : ℕ) (f : Fate) (ms : List Message) → AreFit ms → AreFit (restood_one n f ms)
-fit_one n f ms fit k m e = let was = fit k (get_or ms k m) in let there = slice_get-get_or ms k m in grind (arith, updated_same, updated_other, slice_get_past)
-
 pub fit_restood : (ns : List ℕ) (f : Fate) (ms : List Message) → AreFit ms → AreFit (restood ns f ms)
-fit_restood [] f ms fit = fit
-fit_restood (n ∷ ns) f ms fit = fit_restood ns f (restood_one n f ms) (fit_one n f ms fit)
+fit_restood ns f ms fit k m e = let was = fit k (get_or ms k m) in let there = slice_get-get_or ms k m in grind (arith, restood_at, slice_get_past)
 
 pub tally_push : (t u : Tally) (xs : List Message) (y : Message) → IsTally t xs → IsFit y → IsMore y t u → IsTally u (xs ++ y ∷ [])
 tally_push t u xs y h f i = record {
@@ -61,7 +57,7 @@ pub tally_set : (t u v : Tally) (xs : List Message) (n : ℕ) (x : Message) (fat
 tally_set t u v xs n x fate h e i j = record {
   counts = λ place. omega (arith, h.counts place, i.counts place, j.counts place, count_set (is_there (stands_at place)) xs n x (with_fate fate x) e);
   unsent = λ s b. omega (arith, h.unsent s b, i.unsent s b, j.unsent s b, count_set (is_queued s) xs n x (with_fate fate x) e);
-  fit = rw (set_updated (with_fate fate) xs n x e) (fit_one n fate xs h.fit);
+  fit = rw (set_updated (with_fate fate) xs n x e) (fit_restood (n ∷ []) fate xs h.fit);
 }
 
 pub restood_set : (xs : List Message) (i : ℕ) (x : Message) (fate : Fate) → slice_get xs i ≡ Some x → slice_set xs i (record { fate = fate; kind = x.kind; octets = x.octets }) ≡ restood_one i fate xs
@@ -89,8 +85,7 @@ octets_few (n ∷ ns) ms f = omega (arith, fit_octets ms n (slice_get ms n) refl
 -- a message that comes to stand elsewhere keeps its octets
 
 pub octets_kept : (n : ℕ) (ks : List ℕ) (f : Fate) (ms : List Message) → octets_at n (restood ks f ms) ≡ octets_at n ms
-octets_kept n [] f ms = refl
-octets_kept n (k ∷ ks) f ms = grind (arith, updated_same, updated_other, octets_kept n ks f (restood_one k f ms))
+octets_kept n ks f ms = grind (arith, restood_at, slice_get_cases)
 
 pub octets_stay : (ns ks : List ℕ) (f : Fate) (ms : List Message) → octets_of ns (restood ks f ms) ≡ octets_of ns ms
 octets_stay [] ks f ms = refl
