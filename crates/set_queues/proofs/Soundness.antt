@@ -3,7 +3,7 @@ use Rattle.std.proofs.Common.{refl, arith, ◌≡◌, ◌∙◌, ap, ◌+◌, �
 use Rattle.set_queues.specs.Messages.{one_if, Message, restood_one, restood, octets_at, octets_of, IsFit, AreFit}
 use Rattle.set_queues.specs.Backs.{passed_first}
 use Rattle.set_queues.specs.Sending.{first_sent}
-use Rattle.set_queues.specs.Buffers.{Fate, Waiting, Unacked, Acked, no_lists, AreEmpty, LinkLists, Lists, is_standing, same_fate, queue_at, with_queue, with_last, list_in, IsKnown, IsQueued, Rooms, Held, room_at, TakesRoom}
+use Rattle.set_queues.specs.Buffers.{Fate, Waiting, Unacked, Acked, no_lists, AreEmpty, LinkLists, Lists, is_standing, same_fate, queue_at, with_queue, with_last, IsKnown, IsQueued, Rooms, Held, room_at, TakesRoom}
 use Rattle.set_queues.specs.Queues.{occurs, stands, passed, AreTied, AreGiven, AreSound, AreNarrow, AreWeighed, AreKept}
 use Rattle.set_queues.proofs.Standing.{length-updated, updated_same, updated_other, get_push, Moves, moved_tie, given_queue, take_get, same_is, occurs-append, occurs-split, occurs_here, queue_any, links_stay, queue_away, SameSize, size_stays, known_on, restood-append, same_self, queued_stands}
 use Rattle.set_queues.proofs.Tallies.{fit_push, fit_restood, octets-append, octets-split, octets_stay}
@@ -131,14 +131,11 @@ kept_added q ms octets x h fit k u =
 
 -- NO MESSAGE
 
-none_in : (list : LinkLists → List ℕ) (n k : ℕ) → list no_lists ≡ [] → list_in list (slice_get (replicate n no_lists) k) ≡ []
-none_in list n k e = grind (arith, slice_get_cases, get_or-replicate, length-replicate)
-
 all_alike : {X : Type 0} (x : X) (n k : ℕ) → get_or (replicate n x) k x ≡ x
 all_alike x n k = grind (arith, get_or-replicate, get_or-set_same, get_or-set_other, get_or_past, length-replicate)
 
 pub empty_queue : (q : Lists) (n codes : ℕ) (f : Fate) → AreEmpty n codes q → queue_at f q ≡ []
-empty_queue q n codes f e = grind (arith, none_in, all_alike)
+empty_queue q n codes f e = grind (arith, all_alike, slice_get_cases, get_or-replicate, length-replicate)
 
 pub kept_new : (q : Lists) (n : ℕ) → AreEmpty n 256 q → 1 ≤ n → n ≤ 16 → AreKept q [] (replicate 16 0)
 kept_new q n e low high =
@@ -205,11 +202,10 @@ waits_on link to q a = let now = passed_replaces q (Unacked link) to refl a.know
 
 pub held_last : (link : ℕ) (to : Fate) (q : Lists) → IsAside link to q → queue_at (Held link) (passed (Waiting link) to (passed (Unacked link) to q)) ≡ queue_at (Held link) q
 held_last link to q a =
-    let a1 = aside_passed link (Unacked link) to q a in
     let mid = passed_replaces q (Unacked link) to refl a.known a.other (Held link) refl in
-    let now = passed_replaces (passed (Unacked link) to q) (Waiting link) to refl a1.known a1.other (Held link) refl in
-    let held = a.held in
-    cc
+    let there = aside_passed link (Unacked link) to q a in
+    let now = passed_replaces (passed (Unacked link) to q) (Waiting link) to refl there.known there.other (Held link) refl in
+    grind (arith, a.held)
 
 -- the room that is left
 pub room_left : (to : Fate) (count : ℕ) (old new : Rooms) → IsQueued to → TakesRoom to count old new → room_at to old ≤ room_at to new + count
