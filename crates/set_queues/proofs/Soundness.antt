@@ -230,9 +230,4 @@ settling link to q a =
       elsewhere = λ f s t u w h. grind (arith, one f s, two f s, three f s);
     }
 
--- a place is known still
-
-pub known_passed : (f from to : Fate) (q now : Lists) → now ≡ passed from to q → IsKnown f q → IsKnown f now
-known_passed f from to q now e k = rw e (known_on f q _ (passed_size q from to) k)
-
 pub ruleset settles = (aside_of, waits_on, held_last, on_length, restood-append)

@@ -435,6 +435,7 @@ impl Queues {
 
     /// All that stand in one queue have another fate from now on, and stand last there, in their order, if
     /// it isn't final.
+    #[tactic(auto, using(crate::proofs::Standing::links_stay))]
     fn pass_all(&mut self, from: Fate, to: Fate)
         requires standing { is_standing from ≡ true }
         requires known { IsKnown from self.old.lists }
@@ -442,6 +443,7 @@ impl Queues {
         requires apart { same_fate to from ≡ false }
         requires room { CanTake to (length (queue_at from self.old.lists)) self.old.rooms }
         ensures lists { self.new.lists ≡ passed from to self.old.lists }
+        ensures links { length self.new.lists.links ≡ length self.old.lists.links }
         ensures messages { self.new.messages ≡ restood
             (queue_at from self.old.lists) to self.old.messages }
         ensures rooms { TakesRoom to (length
