@@ -5,7 +5,7 @@ use Rattle.set_queues.specs.Backs.{passed_first}
 use Rattle.set_queues.specs.Sending.{first_sent}
 use Rattle.set_queues.specs.Buffers.{Fate, Waiting, Unacked, Acked, no_lists, AreEmpty, LinkLists, Lists, is_standing, same_fate, queue_at, with_queue, with_last, IsKnown, IsQueued, Rooms, Held, room_at, TakesRoom}
 use Rattle.set_queues.specs.Queues.{occurs, stands, passed, AreTied, AreGiven, AreSound, AreNarrow, AreWeighed, AreKept}
-use Rattle.set_queues.proofs.Standing.{length-updated, updated_same, updated_other, get_push, Moves, moved_tie, given_queue, take_get, same_is, occurs-append, occurs-split, occurs_here, queue_any, links_stay, queue_away, SameSize, size_stays, known_on, restood-append, same_self, queued_stands}
+use Rattle.set_queues.proofs.Standing.{length-updated, updated_same, updated_other, get_push, Moves, moved_tie, given_queue, take_get, same_is, occurs-append, occurs-split, occurs_here, queue_set, links_stay, queue_away, SameSize, size_stays, known_on, restood-append, same_self, queued_stands}
 use Rattle.set_queues.proofs.Tallies.{fit_push, fit_restood, octets-append, octets-split, octets_stay}
 use Rattle.std.proofs.lemmas.Bool.Decides.{nat_tests}
 use Rattle.std.proofs.lemmas.List.{drop_all, take_all, get_or-replicate, get_or-set_same, get_or-set_other, get_or_past, length-replicate, length-append, length-take, length-drop}
@@ -24,7 +24,9 @@ both_size q from to left joined =
     record { links = twice.links ∙ once.links; back = twice.back ∙ once.back }
 
 pub both_replaced : (q : Lists) (from to : Fate) (left joined : List ℕ) → IsKnown from q → IsKnown to q → Replaces q (with_queue from left (with_queue to joined q)) from to left joined
-both_replaced q from to left joined k o f s = search (queue_any, known_on, size_stays)
+both_replaced q from to left joined k o f s =
+    let there = known_on from q _ (size_stays to joined q) k in
+    grind (arith, queue_set)
 
 pub passed_replaces : (q : Lists) (from to : Fate) → is_standing from ≡ true → IsKnown from q → IsKnown to q → Replaces q (passed from to q) from to [] (queue_at to q ++ queue_at from q)
 passed_replaces q from to s k o = both_replaced q from to [] (queue_at to q ++ queue_at from q) k o
@@ -107,10 +109,10 @@ kept_as q q' ms octets e h = rw e h
 stands_push : (ms : List Message) (x : Message) (f : Fate) (m : ℕ) → one_if (stands f m (ms ++ x ∷ [])) ≡ one_if (stands f m ms) + cond (length ms == m) (one_if (same_fate x.fate f)) 0
 stands_push ms x f m = grind (arith, get_push, slice_get_past)
 
-added_tie : (q : Lists) (ms : List Message) (x : Message) → AreTied q ms → IsKnown x.fate q → AreTied (with_queue x.fate (queue_at x.fate q ++ length ms ∷ []) q) (ms ++ x ∷ [])
-added_tie q ms x tie k f s m =
+added_tie : (q : Lists) (ms : List Message) (x : Message) → AreTied q ms → is_standing x.fate ≡ true → IsKnown x.fate q → AreTied (with_queue x.fate (queue_at x.fate q ++ length ms ∷ []) q) (ms ++ x ∷ [])
+added_tie q ms x tie u k f s m =
     let had = tie f s m in
-    let there = queue_any x.fate f (queue_at x.fate q ++ length ms ∷ []) q s k in
+    let there = queue_set x.fate f (queue_at x.fate q ++ length ms ∷ []) q u k in
     let stood = stands_push ms x f m in
     let more = occurs-append m (queue_at x.fate q) (length ms ∷ []) in
     grind (arith, same_is)
@@ -125,7 +127,7 @@ kept_added q ms octets x h fit k u =
     let size = size_stays x.fate (queue_at x.fate q ++ length ms ∷ []) q in
     let same : (l : ℕ) → queue_at (Unacked l) (with_queue x.fate (queue_at x.fate q ++ length ms ∷ []) q) ≡ queue_at (Unacked l) q = λ l. queue_away x.fate (Unacked l) _ q _ refl k (unqueued x.fate l (λ s. u)) in
     record {
-      sound = sound_on q _ ms _ s size (λ l. rw (same l) (s.narrow l)) (added_tie q ms x s.tied k) (fit_push ms x s.fit fit);
+      sound = sound_on q _ ms _ s size (λ l. rw (same l) (s.narrow l)) (added_tie q ms x s.tied (queued_stands x.fate u) k) (fit_push ms x s.fit fit);
       weighed = λ l b. rw (same l, octets_push (queue_at (Unacked l) q) ms x (given_all q ms (Unacked l) s refl)) (h.weighed l (omega (arith, b, size.links)));
     }
 

@@ -177,10 +177,6 @@ queue_id g q h = grind (arith, updated_id, slice_get_cases)
 pub queued_stands : (f : Fate) → IsQueued f → is_standing f ≡ true
 queued_stands f h = grind arith
 
--- a queue in which messages stand, when one is replaced that may be no queue
-pub queue_any : (g f : Fate) (xs : List ℕ) (q : Lists) → is_standing f ≡ true → IsKnown g q → queue_at f (with_queue g xs q) ≡ cond (same_fate g f) xs (queue_at f q)
-queue_any g f xs q s h = grind (arith, queue_set)
-
 pub queue_away : (g f : Fate) (xs : List ℕ) (q now : Lists) → now ≡ with_queue g xs q → IsKnown g q → same_fate g f ≡ false → queue_at f now ≡ queue_at f q
 queue_away g f xs q now e h n = grind (arith, queue_set)
 

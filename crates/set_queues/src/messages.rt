@@ -23,7 +23,6 @@ impl Messages {
         ensures counted { IsTally self.new.tally self.new.all.items }
         ensures messages { self.new.all.items ≡ restood_one number fate self.old.all.items }
         ensures octets { result ≡ octets_at number self.old.all.items }
-        ensures fits { result ≤ 273 }
         ensures room { vec_capacity self.new.all - vec_len self.new.all
             ≡ vec_capacity self.old.all - vec_len self.old.all }
     {
@@ -63,7 +62,7 @@ pub(crate) fn pass(
         (queue_at from buffers.old.lists)) to messages.old.all.items }
     ensures octets { result ≡ octets_of (take count
         (queue_at from buffers.old.lists)) messages.old.all.items }
-    ensures fits { result ≤ 273 * count }
+    ensures fits { result ≤ 65535 * count }
     ensures rooms { TakesRoom to count buffers.old.rooms buffers.new.rooms }
     ensures room { vec_capacity messages.new.all - vec_len messages.new.all
         ≡ vec_capacity messages.old.all - vec_len messages.old.all }

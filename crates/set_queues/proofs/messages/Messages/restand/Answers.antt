@@ -1,10 +1,7 @@
 use Rattle.std.proofs.Common.{arith, refl, rules}
 use Rattle.std.proofs.lemmas.Option.{slice_get_read}
-use Rattle.set_queues.proofs.Tallies.{tally_in, few_left, tally_set}
+use Rattle.set_queues.proofs.Tallies.{few_left, tally_set}
 use Rattle.set_queues.proofs.messages.Messages.restand.Goals as goal
-
-pub leave-requires-clause-among : goal.leave-requires-clause-among
-leave-requires-clause-among c = tally_in _ _ c.args.number _ c.requires.counted (slice_get_read _ _ c.args.number _ refl (omega arith) c.index-was.ensures)
 
 pub enter-requires-clause-few : goal.enter-requires-clause-few
 enter-requires-clause-few c = few_left _ _ _ _ c.requires.counted (search rules) c.leave.ensures
@@ -12,5 +9,3 @@ enter-requires-clause-few c = few_left _ _ _ _ c.requires.counted (search rules)
 pub returns-clause-counted : goal.returns-clause-counted
 returns-clause-counted c = tally_set _ _ _ _ c.args.number _ c.args.fate c.requires.counted (slice_get_read _ _ c.args.number _ refl (omega arith) c.index-was.ensures) c.leave.ensures c.enter.ensures
 
-pub returns-clause-fits : goal.returns-clause-fits
-returns-clause-fits c = (c.requires.counted.fit c.args.number _ (slice_get_read _ _ c.args.number _ refl (omega arith) c.index-was.ensures)).octets
