@@ -63,7 +63,7 @@ tally_set t u v xs n x fate h e i j = record {
 pub restood_set : (xs : List Message) (i : ℕ) (x : Message) (fate : Fate) → slice_get xs i ≡ Some x → slice_set xs i (record { fate = fate; kind = x.kind; octets = x.octets }) ≡ restood_one i fate xs
 restood_set xs i x fate e = set_updated (with_fate fate) xs i x e
 
-pub ruleset restands = (slice_get_read, slice_get_past, restood_set, updated_none, tally_in)
+pub ruleset restands = (slice_get_read, slice_get_past, restood_set, updated_none, tally_in, few_left, tally_set)
 
 -- THE OCTETS of the bodies
 
