@@ -1,14 +1,14 @@
 -- What holds of every set's queues goes on holding.
-use Rattle.std.proofs.Common.{refl, arith, ◌≡◌, ◌∙◌, ap, ◌+◌, ◌-◌, ◌≤◌, ◌<◌, [], ◌∷◌, ◌++◌, length, ℕ, Bool, true, false, ◌==◌, List, Some, cond, get_or, take, drop, replicate, slice_get, slice_set, slice_index, ◌≢◌, subst, Option, append_assoc, IfSome}
+use Rattle.std.proofs.Common.{refl, arith, ◌≡◌, ◌∙◌, ap, ◌+◌, ◌≤◌, ◌<◌, [], ◌∷◌, ◌++◌, length, ℕ, Bool, true, false, ◌==◌, List, Some, cond, get_or, take, drop, replicate, slice_get, slice_set, slice_index, ◌≢◌, subst, Option, append_assoc, IfSome}
 use Rattle.set_queues.specs.Messages.{one_if, Message, restood_one, restood, octets_at, octets_of, IsFit, AreFit}
 use Rattle.set_queues.specs.Backs.{passed_first}
 use Rattle.set_queues.specs.Sending.{first_sent}
-use Rattle.set_queues.specs.Buffers.{Fate, Waiting, Unacked, Acked, no_lists, AreEmpty, LinkLists, Lists, is_standing, same_fate, queue_at, with_queue, with_last, IsKnown, IsQueued, Rooms, Held, room_at, TakesRoom}
+use Rattle.set_queues.specs.Buffers.{Fate, Waiting, Unacked, no_lists, AreEmpty, LinkLists, Lists, is_standing, same_fate, queue_at, with_queue, with_last, IsKnown, IsQueued, Rooms, Held, room_at, TakesRoom}
 use Rattle.set_queues.specs.Queues.{occurs, stands, passed, AreTied, AreGiven, AreSound, AreNarrow, AreWeighed, AreKept}
 use Rattle.set_queues.proofs.Standing.{length-updated, updated_same, updated_other, get_push, Moves, moved_tie, given_queue, take_get, same_is, occurs-append, occurs-split, occurs_here, queue_set, links_stay, queue_away, SameSize, size_stays, known_on, restood-append, same_self, queued_stands}
 use Rattle.set_queues.proofs.Tallies.{fit_push, fit_restood, octets-append, octets-split, octets_stay}
 use Rattle.std.proofs.lemmas.Bool.Decides.{nat_tests}
-use Rattle.std.proofs.lemmas.List.{drop_all, take_all, get_or-replicate, get_or-set_same, get_or-set_other, get_or_past, length-replicate, length-append, length-take, length-drop}
+use Rattle.std.proofs.lemmas.List.{drop_all, get_or-replicate, get_or-set_same, get_or-set_other, get_or_past, length-replicate, length-append, length-take, length-drop}
 use Rattle.std.proofs.lemmas.Option.{slice_get_past, slice_get_cases}
 use Rattle.std.proofs.lemmas.Bool.{eq-eqb}
 use Rattle.set_queues.specs.Settling.{fate_on, on, Settles}
@@ -86,14 +86,18 @@ module _ (k : ℕ) (from to : Fate) (q : Lists) (ms : List Message) (c : CanMove
 pub unqueued : (to : Fate) (l : ℕ) → (is_standing to ≡ true → IsQueued to) → same_fate to (Unacked l) ≡ false
 unqueued to l h = grind arith
 
--- to where messages come otherwise than by being sent; all of a queue, where its octets are counted
-pub kept_passed : (k : ℕ) (from to : Fate) (q : Lists) (ms : List Message) (octets octets' : List ℕ) → AreKept q ms octets → CanMove from to q → (is_standing to ≡ true → IsQueued to) → ((l : ℕ) → same_fate from (Unacked l) ≡ true → k ≡ length (queue_at from q)) → ((l : ℕ) → l < 16 → slice_index octets' l ≡ cond (same_fate from (Unacked l)) 0 (slice_index octets l)) → AreKept (moved k from to q) (restood (take k (queue_at from q)) to ms) octets'
-kept_passed k from to q ms octets octets' h c n all w = kept_moved k from to q ms c octets octets' h (λ l f. let no = unqueued to l n in absurd (cc)) (λ l b.
-    let was = h.weighed l b in
+-- to where messages come otherwise than by being sent
+pub kept_passed : (k : ℕ) (from to : Fate) (q : Lists) (ms : List Message) (octets octets' : List ℕ) → AreKept q ms octets → CanMove from to q → (is_standing to ≡ true → IsQueued to) → ((l : ℕ) → l < 16 → slice_index octets' l + cond (same_fate from (Unacked l)) (octets_of (take k (queue_at from q)) ms) 0 ≡ slice_index octets l) → AreKept (moved k from to q) (restood (take k (queue_at from q)) to ms) octets'
+kept_passed k from to q ms octets octets' h c n w = kept_moved k from to q ms c octets octets' h (λ l f. let no = unqueued to l n in absurd (cc)) (λ l b.
     let now = w l (omega (arith, b, h.sound.few)) in
     let not = unqueued to l n in
-    let full = all l in
-    grind (arith, same_is, take_all))
+    grind arith)
+
+-- no more leaves than is counted
+pub can_leave : (k : ℕ) (from : Fate) (q : Lists) (ms : List Message) (octets : List ℕ) (l : ℕ) → AreKept q ms octets → IsKnown from q → from ≡ Unacked l → octets_of (take k (queue_at from q)) ms ≤ slice_index octets l
+can_leave k from q ms octets l h b e =
+    let was = h.weighed l (rw e at b) in
+    rw e (omega (arith, was, octets-split k (queue_at (Unacked l) q) ms))
 
 pub moved_whole : (k : ℕ) (from to : Fate) (q mid new : Lists) → k ≡ length (queue_at from q) → mid ≡ with_queue to (queue_at to q ++ take k (queue_at from q)) q → new ≡ with_queue from [] mid → new ≡ moved k from to q
 moved_whole k from to q mid new e m n = rw (n, m, drop_all k (queue_at from q) (omega (arith, e))) refl
@@ -176,12 +180,6 @@ kept_with_last q ms octets l fsn h = record {
   sound = sound_on q _ ms ms h.sound (record { links = last_links l fsn q; back = refl }) (λ k. rw (queue_last (Unacked k) l fsn q) (h.sound.narrow k)) (λ f s m. rw (queue_last f l fsn q) (h.sound.tied f s m)) h.sound.fit;
   weighed = λ k b. rw (queue_last (Unacked k) l fsn q) (h.weighed k (omega (arith, b, last_links l fsn q)));
 }
-
-pub kept_acked : (q : Lists) (ms : List Message) (octets : List ℕ) (l k fsn : ℕ) → l < length octets → AreKept q ms octets → l < length q.links → AreKept (with_last l fsn (moved k (Unacked l) (Acked l) q)) (restood (take k (queue_at (Unacked l) q)) (Acked l) ms) (slice_set octets l (slice_index octets l - octets_of (take k (queue_at (Unacked l) q)) ms))
-kept_acked q ms octets l k fsn long h b = kept_with_last _ _ _ l fsn (kept_moved k (Unacked l) (Acked l) q ms (record { standing = refl; known = b; other = tt; apart = refl }) octets (slice_set octets l (slice_index octets l - octets_of (take k (queue_at (Unacked l) q)) ms)) h (λ i t. absurd (cc)) (λ i small.
-    let was = h.weighed i small in
-    let all = octets-split k (queue_at (Unacked l) q) ms in
-    grind (arith, nat_tests, get_or-set_same, get_or-set_other)))
 
 -- A LINK SETTLES: what stands on it goes elsewhere, first what was sent, then what waited, then what was held
 

@@ -62,7 +62,6 @@ pub(crate) fn pass(
         (queue_at from buffers.old.lists)) to messages.old.all.items }
     ensures octets { result ≡ octets_of (take count
         (queue_at from buffers.old.lists)) messages.old.all.items }
-    ensures fits { result ≤ 65535 * count }
     ensures rooms { TakesRoom to count buffers.old.rooms buffers.new.rooms }
     ensures room { vec_capacity messages.new.all - vec_len messages.new.all
         ≡ vec_capacity messages.old.all - vec_len messages.old.all }

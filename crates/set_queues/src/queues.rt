@@ -370,7 +370,7 @@ impl Queues {
         let (from, to) = (Fate::Unacked { link }, Fate::Acked { link });
         let moved = usize::from(count);
         let octets = pass(&mut self.buffers, &mut self.messages, from, moved, to);
-        self.octets[usize::from(link)] -= octets as u32;
+        lighten(&mut self.octets, from, octets);
         let buffers = &mut self.buffers;
         match buffers.links[usize::from(link)].window.ack(fsn) {
             Ok(_) => Ok(count),
@@ -451,9 +451,9 @@ impl Queues {
         ensures room { self.new.room ≡ self.old.room }
     {
         let count = self.count_at(from);
-        pass(&mut self.buffers, &mut self.messages, from, count, to);
+        let octets = pass(&mut self.buffers, &mut self.messages, from, count, to);
         self.buffers.clear(from);
-        weigh_none(&mut self.octets, from);
+        lighten(&mut self.octets, from, octets);
     }
 
     /// The link settles (Q.704 5.5): all that stand on it wait for the target from now on, behind what
@@ -497,14 +497,16 @@ impl Queues {
     }
 }
 
-/// No octets are unacknowledged on the link whose queue of sent messages this is, if it is one.
-fn weigh_none(octets: &mut [u32; 16], fate: Fate)
-    requires { (link : ℕ) → fate ≡ Fate.Unacked link → link < 16 }
-    ensures { (link : ℕ) → link < 16 → slice_index octets.new link ≡ (if same_fate fate
-        (Fate.Unacked link) then 0 else slice_index octets.old link) }
+/// So many octets leave a queue: no longer are they unacknowledged, if it's one of sent messages.
+fn lighten(octets: &mut [u32; 16], from: Fate, by: u128)
+    requires known { (link : ℕ) → from ≡ Fate.Unacked link → link < 16 }
+    requires counted { (link : ℕ) → from ≡ Fate.Unacked link → by ≤ slice_index octets.old link }
+    ensures { (link : ℕ) → link < 16 → slice_index octets.new link + (if same_fate from
+        (Fate.Unacked link) then by else 0) ≡ slice_index octets.old link }
 {
-    if let Fate::Unacked { link } = fate {
-        octets[usize::from(link)] = 0;
+    if let Fate::Unacked { link } = from {
+        let counted = octets[usize::from(link)];
+        octets[usize::from(link)] = counted - by as u32;
     }
 }
 

@@ -13,7 +13,7 @@ invariant_of-self c =
     let other : IsKnown c.args.to c.self.inside.buffers.lists = rw (← c.self.view_is) at c.requires.other in (
       rw (moved_one (Back c.args.code) c.args.to _ _ _ other c.requires.apart c.pass.ensures.lists c.drop_back.ensures.lists, c.pass.ensures.messages) (
           kept_passed 1 (Back c.args.code) c.args.to _ _ _ _ c.self.invariant.0 (record { standing = refl; known = known; other = other; apart = c.requires.apart })
-          (λ s. c.requires.queued) (λ l t. absurd (cc)) (λ l h. refl)),
+          (λ s. c.requires.queued) (λ l h. omega arith)),
       c.pass.ensures.counted,
     )
 
