@@ -5,7 +5,7 @@ use Rattle.std.proofs.lemmas.List.Elements.{filter-append}
 use Rattle.std.proofs.lemmas.List.Sums.{length-filter, count_by-le-length}
 use Rattle.std.proofs.lemmas.Option.{slice_get_read, slice_get_past, slice_get-get_or, slice_get_cases}
 use Rattle.set_queues.specs.Buffers.{Fate, Back, Lists, queue_at}
-use Rattle.set_queues.specs.Messages.{Message, Tally, with_fate, restood_one, restood, octets_in, octets_at, octets_of, is_there, is_queued, IsTally, IsMore, IsAmong, AreFew, IsFit, AreFit, one_if, stands_at, fate_at}
+use Rattle.set_queues.specs.Messages.{Message, Tally, with_fate, restood_one, restood, octets_in, octets_at, octets_of, IsTally, IsMore, IsAmong, AreFew, IsFit, AreFit, one_if, fate_at}
 use Rattle.set_queues.proofs.Standing.{set_updated, updated_none, restood_at, updated_same, updated_other, get_push, take_get, fate_moves, fate_stays, length-restood, occurs-append, occurs_here}
 use Rattle.std.specs.List.{AllByRecursion, IsDistinct, list_any}
 use Rattle.std.proofs.lemmas.Bool.Decides.{nat_tests}
@@ -30,10 +30,7 @@ pub count_few : (p : Message → Bool) (xs : List Message) → length (filter p 
 count_few p xs = rw length-filter (count_by-le-length p xs)
 
 pub tally_in : (t : Tally) (xs : List Message) (n : ℕ) (x : Message) → IsTally t xs → slice_get xs n ≡ Some x → IsAmong x t
-tally_in t xs n x h e = record {
-  counts = λ place. omega (arith, h.counts place, count_in (is_there (stands_at place)) xs n x e);
-  unsent = λ s b. omega (arith, h.unsent s b, count_in (is_queued s) xs n x e);
-}
+tally_in t xs n x h e = let there = λ (p : Message → Bool). count_in p xs n x e in grind arith
 
 -- with one message fewer, each count is far from the end of its range
 pub few_left : (t u : Tally) (xs : List Message) (x : Message) → IsTally t xs → length xs < 2 ^ 63 → IsMore x u t → AreFew u
@@ -47,18 +44,13 @@ pub fit_restood : (ns : List ℕ) (f : Fate) (ms : List Message) → AreFit ms �
 fit_restood ns f ms fit k m e = let was = fit k (get_or ms k m) in let there = slice_get-get_or ms k m in grind (arith, restood_at, slice_get_past)
 
 pub tally_push : (t u : Tally) (xs : List Message) (y : Message) → IsTally t xs → IsFit y → IsMore y t u → IsTally u (xs ++ y ∷ [])
-tally_push t u xs y h f i = record {
-  counts = λ place. grind (arith, count_push, h.counts place, i.counts place);
-  unsent = λ s b. grind (arith, count_push, h.unsent s b, i.unsent s b);
-  fit = fit_push xs y h.fit f;
-}
+tally_push t u xs y h f i = let fit = fit_push xs y h.fit f in grind (arith, count_push)
 
 pub tally_set : (t u v : Tally) (xs : List Message) (n : ℕ) (x : Message) (fate : Fate) → IsTally t xs → slice_get xs n ≡ Some x → IsMore x u t → IsMore (with_fate fate x) u v → IsTally v (slice_set xs n (with_fate fate x))
-tally_set t u v xs n x fate h e i j = record {
-  counts = λ place. omega (arith, h.counts place, i.counts place, j.counts place, count_set (is_there (stands_at place)) xs n x (with_fate fate x) e);
-  unsent = λ s b. omega (arith, h.unsent s b, i.unsent s b, j.unsent s b, count_set (is_queued s) xs n x (with_fate fate x) e);
-  fit = rw (set_updated (with_fate fate) xs n x e) (fit_restood (n ∷ []) fate xs h.fit);
-}
+tally_set t u v xs n x fate h e i j =
+    let fit : AreFit (slice_set xs n (with_fate fate x)) = rw (set_updated (with_fate fate) xs n x e) (fit_restood (n ∷ []) fate xs h.fit) in
+    let there = λ (p : Message → Bool). count_set p xs n x (with_fate fate x) e in
+    grind arith
 
 pub restood_set : (xs : List Message) (i : ℕ) (x : Message) (fate : Fate) → slice_get xs i ≡ Some x → slice_set xs i (record { fate = fate; kind = x.kind; octets = x.octets }) ≡ restood_one i fate xs
 restood_set xs i x fate e = set_updated (with_fate fate) xs i x e

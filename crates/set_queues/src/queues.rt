@@ -20,11 +20,7 @@ use std::marker::Model;
 /// Where every message of a set stands: the queues of 1 to 16 links, the parked messages, and by its
 /// number each message's fate, whose it is, and its octets.
 ///
-/// Contracts see the lists of numbers, the messages, and how much room there is; the counts are those
-/// of the lists. A fate that isn't final names a queue: [`Fate::Waiting`] what waits for a link,
-/// [`Fate::Unacked`] what was sent on it, [`Fate::Held`] what is held for it, [`Fate::Parked`] what no
-/// link can take, [`Fate::Back`] what waits for the acknowledgement of a changeback, one queue for each
-/// of the codes 0 to 255 (Q.704 6.3).
+/// Contracts see the lists of numbers, the messages, and how much room there is; the counts are those of the lists.
 #[derive(Drop)]
 pub struct Queues {
     buffers: Buffers,
