@@ -149,12 +149,8 @@ all_occur code (suc n) m q ms tie = omega (arith, occurs-append m (all_back code
 
 pub back_few : (code n : ℕ) (q : Lists) (ms : List Message) → AreTied q ms → back_from code n q ≤ length ms
 back_few code n q ms tie =
-    omega (
-      arith,
-      all_length code n q,
-      few_in (length ms) (all_back code n q)
-          (λ m. grind (arith, all_occur code n m q ms tie))
-          (λ m b. rw (all_occur code n m q ms tie, slice_get_past ms m b) refl),
-    )
+    let there = λ (m : ℕ). all_occur code n m q ms tie in
+    let few = few_in (length ms) (all_back code n q) (λ m. grind (arith, there m)) (λ m b. rw (there m, slice_get_past ms m b) refl) in
+    omega (arith, all_length code n q, few)
 
 pub ruleset backs = (back_none, back_more, back_below, back_few)

@@ -158,13 +158,13 @@ impl Queues {
         requires { IsKnown fate self.now.lists }
         ensures { result ≡ length (queue_at fate self.now.lists) }
     {
-        let Buffers { links, parked, back } = &self.buffers;
+        let buffers = &self.buffers;
         match fate {
-            Fate::Waiting { link } => links[usize::from(link)].window.unsent_len(),
-            Fate::Unacked { link } => links[usize::from(link)].window.unacked_len(),
-            Fate::Held { link } => links[usize::from(link)].held.len(),
-            Fate::Parked => parked.len(),
-            Fate::Back { code } => back[usize::from(code)].len(),
+            Fate::Waiting { link } => buffers.links[usize::from(link)].window.unsent_len(),
+            Fate::Unacked { link } => buffers.links[usize::from(link)].window.unacked_len(),
+            Fate::Held { link } => buffers.links[usize::from(link)].held.len(),
+            Fate::Parked => buffers.parked.len(),
+            Fate::Back { code } => buffers.back[usize::from(code)].len(),
             Fate::Acked { .. } | Fate::Discarded { .. } => 0,
         }
     }
@@ -237,12 +237,12 @@ impl Queues {
             ≡ self.old.messages) × (self.new.room ≡ self.old.room) }
         ensures kept { KeepsRoom self.old.rooms self.new.rooms }
     {
-        let Buffers { links, parked, back } = &mut self.buffers;
+        let buffers = &mut self.buffers;
         match fate {
-            Fate::Waiting { link } => links[usize::from(link)].window.reserve(messages),
-            Fate::Held { link } => links[usize::from(link)].held.reserve(messages),
-            Fate::Parked => parked.reserve(messages),
-            Fate::Back { code } => back[usize::from(code)].reserve(messages),
+            Fate::Waiting { link } => buffers.links[usize::from(link)].window.reserve(messages),
+            Fate::Held { link } => buffers.links[usize::from(link)].held.reserve(messages),
+            Fate::Parked => buffers.parked.reserve(messages),
+            Fate::Back { code } => buffers.back[usize::from(code)].reserve(messages),
             Fate::Unacked { .. } | Fate::Acked { .. } | Fate::Discarded { .. } => unreachable!(),
         }
     }

@@ -12,6 +12,6 @@ invariant_of-self c =
     let known : c.args.link < length c.self.inside.buffers.lists.links = rw (← c.self.view_is) at c.requires.known in (
       rw (c.pass-octets.ensures.messages, c.from-moved.ensures) (
           kept_as _ _ _ _ (grind (arith, of_link)) (kept_with_last _ _ _ c.args.link c.args.fsn (
-              kept_passed c.in-Some.count (Unacked c.args.link) _ _ _ _ _ c.self.invariant.0 (record { standing = refl; known = known; other = tt; apart = refl }) (λ s. absurd (cc)) (rw (c.pass-octets.ensures.octets, c.from-moved.ensures) at c.lighten.ensures)))),
+          kept_passed c.in-Some.count (Unacked c.args.link) _ _ _ _ _ c.self.invariant.0 (record { standing = refl; known = known; other = tt; apart = refl }) (λ s. absurd (cc)) (rw (c.pass-octets.ensures.octets, c.from-moved.ensures) at c.lighten.ensures)))),
       c.pass-octets.ensures.counted,
     )
