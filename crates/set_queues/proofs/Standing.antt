@@ -52,13 +52,10 @@ module _ {X : Type 0} where
   updated_twice f g (x ∷ xs) zero = refl
   updated_twice f g (x ∷ xs) (suc n) = ap (λ (zs : List X). x ∷ zs) (updated_twice f g xs n)
 
-  pub updated_id : (f : X → X) (xs : List X) (n : ℕ) (x : X) → slice_get xs n ≡ Some x → f x ≡ x → updated n f xs ≡ xs
-  updated_id f xs n x e h = sym (set_updated f xs n x e) ∙ ap (slice_set xs n) (h ∙ sym (get_or_from_slice_get xs n x x e)) ∙ set-get_or xs n x
-
-  pub updated_none : (f : X → X) (xs : List X) (n : ℕ) → length xs ≤ n → updated n f xs ≡ xs
-  updated_none f [] n h = refl
-  updated_none f (y ∷ xs) zero h = absurd (omega (arith, h))
-  updated_none f (y ∷ xs) (suc n) h = ap (λ (zs : List X). y ∷ zs) (updated_none f xs n (omega (arith, h)))
+  pub updated_id : (f : X → X) (xs : List X) (n : ℕ) → ((x : X) → slice_get xs n ≡ Some x → f x ≡ x) → updated n f xs ≡ xs
+  updated_id f [] n h = refl
+  updated_id f (y ∷ xs) zero h = ap (λ (z : X). z ∷ xs) (h y refl)
+  updated_id f (y ∷ xs) (suc n) h = ap (λ (zs : List X). y ∷ zs) (updated_id f xs n h)
 
   -- one element is set: what an index reads
   pub read_set : (x : X) (xs : List X) (n k : ℕ) (d : X) → n < length xs → get_or (updated n (λ (y : X). x) xs) k d ≡ cond (n == k) x (get_or xs k d)

@@ -6,7 +6,7 @@ use Rattle.std.proofs.lemmas.List.Sums.{length-filter, count_by-le-length}
 use Rattle.std.proofs.lemmas.Option.{slice_get_read, slice_get_past, slice_get-get_or, slice_get_cases}
 use Rattle.set_queues.specs.Buffers.{Fate, Back, Lists, queue_at}
 use Rattle.set_queues.specs.Messages.{Message, Tally, with_fate, restood_one, restood, octets_in, octets_at, octets_of, IsTally, IsMore, IsAmong, AreFew, IsFit, AreFit, one_if, fate_at}
-use Rattle.set_queues.proofs.Standing.{set_updated, updated_none, restood_at, updated_same, updated_other, get_push, take_get, fate_moves, fate_stays, length-restood, occurs-append, occurs_here}
+use Rattle.set_queues.proofs.Standing.{set_updated, updated_id, restood_at, updated_same, updated_other, get_push, take_get, fate_moves, fate_stays, length-restood, occurs-append, occurs_here}
 use Rattle.std.specs.List.{AllByRecursion, IsDistinct, list_any}
 use Rattle.std.proofs.lemmas.Bool.Decides.{nat_tests}
 use Rattle.std.proofs.lemmas.Map.Steps.{length-le_from_distinct_below}
@@ -55,7 +55,10 @@ tally_set t u v xs n x fate h e i j =
 pub restood_set : (xs : List Message) (i : ℕ) (x : Message) (fate : Fate) → slice_get xs i ≡ Some x → slice_set xs i (record { fate = fate; kind = x.kind; octets = x.octets }) ≡ restood_one i fate xs
 restood_set xs i x fate e = set_updated (with_fate fate) xs i x e
 
-pub ruleset restands = (slice_get_read, slice_get_past, restood_set, updated_none, tally_in, few_left, tally_set)
+pub restood_past : (xs : List Message) (i : ℕ) (fate : Fate) → length xs ≤ i → restood_one i fate xs ≡ xs
+restood_past xs i fate h = updated_id (with_fate fate) xs i (λ x e. absurd (grind (arith, slice_get_past)))
+
+pub ruleset restands = (slice_get_read, slice_get_past, restood_set, restood_past, tally_in, few_left, tally_set)
 
 -- THE OCTETS of the bodies
 
