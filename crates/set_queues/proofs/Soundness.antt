@@ -31,9 +31,6 @@ both_replaced q from to left joined k o f s =
 pub passed_replaces : (q : Lists) (from to : Fate) → is_standing from ≡ true → IsKnown from q → IsKnown to q → Replaces q (passed from to q) from to [] (queue_at to q ++ queue_at from q)
 passed_replaces q from to s k o = both_replaced q from to [] (queue_at to q ++ queue_at from q) k o
 
-pub passed_size : (q : Lists) (from to : Fate) → SameSize q (passed from to q)
-passed_size q from to = both_size q from to [] (queue_at to q ++ queue_at from q)
-
 pub given_all : (q : Lists) (ms : List Message) (from : Fate) → AreSound q ms → is_standing from ≡ true → AreGiven (queue_at from q) ms
 given_all q ms from h s = given_queue q ms from h.tied s
 
@@ -195,7 +192,7 @@ pub aside_of : (target : Option ℕ) (link : ℕ) (to : Fate) (q : Lists) → to
 aside_of target link to q e k o a = grind arith
 
 pub aside_passed : (link : ℕ) (from to : Fate) (q : Lists) → IsAside link to q → IsAside link to (passed from to q)
-aside_passed link from to q a = grind (arith, passed_size, known_on)
+aside_passed link from to q a = grind (arith, both_size, known_on)
 
 pub waits_on : (link : ℕ) (to : Fate) (q : Lists) → IsAside link to q → queue_at (Waiting link) (passed (Unacked link) to q) ≡ queue_at (Waiting link) q
 waits_on link to q a = let now = passed_replaces q (Unacked link) to refl a.known a.other (Waiting link) refl in let unsent = a.unsent in cc
@@ -226,7 +223,7 @@ settling link to q a =
       unacked = grind (arith, unqueued, eq-eqb, one (Unacked link) refl, two (Unacked link) refl, three (Unacked link) refl);
       unsent = grind (arith, eq-eqb, two (Waiting link) refl, three (Waiting link) refl);
       held = grind (arith, eq-eqb, three (Held link) refl);
-      there = grind (arith, eq-eqb, append_assoc, waits_on, held_last, one to there, two to there, three to there);
+      there = grind (arith, append_assoc, waits_on link to q a, held_last link to q a, same_self to there, one to there, two to there, three to there);
       elsewhere = λ f s t u w h. grind (arith, one f s, two f s, three f s);
     }
 

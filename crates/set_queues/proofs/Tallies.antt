@@ -4,8 +4,9 @@ use Rattle.std.proofs.lemmas.List.{take-append-drop, length-append}
 use Rattle.std.proofs.lemmas.List.Elements.{filter-append}
 use Rattle.std.proofs.lemmas.List.Sums.{length-filter, count_by-le-length}
 use Rattle.std.proofs.lemmas.Option.{slice_get_read, slice_get_past, slice_get-get_or, slice_get_cases}
+use Rattle.std.specs.Option.{option_map_or}
 use Rattle.set_queues.specs.Buffers.{Fate, Back, Lists, queue_at}
-use Rattle.set_queues.specs.Messages.{Message, Tally, with_fate, restood_one, restood, octets_in, octets_at, octets_of, IsTally, IsMore, IsAmong, AreFew, IsFit, AreFit, one_if, fate_at}
+use Rattle.set_queues.specs.Messages.{Message, Tally, with_fate, restood_one, restood, octets_at, octets_of, IsTally, IsMore, IsAmong, AreFew, IsFit, AreFit, one_if, fate_at}
 use Rattle.set_queues.proofs.Standing.{set_updated, updated_id, restood_at, updated_same, updated_other, get_push, take_get, fate_moves, fate_stays, length-restood, occurs-append, occurs_here}
 use Rattle.std.specs.List.{AllByRecursion, IsDistinct, list_any}
 use Rattle.std.proofs.lemmas.Bool.Decides.{nat_tests}
@@ -69,7 +70,7 @@ octets-append (x ∷ xs) ys ms = omega (arith, octets-append xs ys ms)
 pub octets-split : (k : ℕ) (xs : List ℕ) (ms : List Message) → octets_of (take k xs) ms + octets_of (drop k xs) ms ≡ octets_of xs ms
 octets-split k xs ms = omega (arith, octets-append (take k xs) (drop k xs) ms, ap (λ (ns : List ℕ). octets_of ns ms) (take-append-drop k xs))
 
-pub fit_octets : (ms : List Message) (n : ℕ) (o : Option Message) → slice_get ms n ≡ o → AreFit ms → octets_in o ≤ 273
+fit_octets : (ms : List Message) (n : ℕ) (o : Option Message) → slice_get ms n ≡ o → AreFit ms → option_map_or (λ (m : Message). m.octets) o 0 ≤ 273
 fit_octets ms n None e f = omega arith
 fit_octets ms n (Some m) e f = (f n m e).octets
 

@@ -1,5 +1,6 @@
 -- The queues in which messages stand, as lists of their numbers. Read this file first.
 use Rattle.std.specs.Prelude.{◌≡◌, ℕ, ◌+◌, ◌<◌, ◌≤◌, ◌==◌, Bool, true, false, List, [], length, replicate, slice_get, slice_index_or, Option, Some, None, if◌then◌else◌}
+use Rattle.std.specs.Option.{option_map_or}
 use Rattle.l2_window.specs.Window.{fsn_before_first}
 pub use Rattle.set_events.specs.declared.answer.Fate.{Fate}
 pub use Rattle.set_events.specs.declared.answer.Fate.TheVariants.{Waiting, Unacked, Acked, Held, Parked, Back, Discarded}
@@ -56,15 +57,11 @@ same_fate (Back c) (Back d) = c == d
 same_fate (Discarded c) (Discarded d) = same_cause c d
 same_fate _ _ = false
 
--- the list of the link, if there is one
-abbrev pub list_in : (LinkLists → List ℕ) → Option LinkLists → List ℕ
-list_in list None = []
-list_in list (Some link) = list link
-
+-- its numbers, none where there is no such link
 abbrev pub queue_at : Fate → Lists → List ℕ
-queue_at (Waiting l) q = list_in (λ link. link.unsent) (slice_get q.links l)
-queue_at (Unacked l) q = list_in (λ link. link.unacked) (slice_get q.links l)
-queue_at (Held l) q = list_in (λ link. link.held) (slice_get q.links l)
+queue_at (Waiting l) q = option_map_or (λ link. link.unsent) (slice_get q.links l) []
+queue_at (Unacked l) q = option_map_or (λ link. link.unacked) (slice_get q.links l) []
+queue_at (Held l) q = option_map_or (λ link. link.held) (slice_get q.links l) []
 queue_at Parked q = q.parked
 queue_at (Back c) q = slice_index_or q.back c []
 queue_at _ q = []
@@ -120,13 +117,9 @@ pub record Rooms : Type 0 where
   pub parked : ℕ
   pub back : List ℕ
 
-abbrev pub room_in : (LinkRooms → ℕ) → Option LinkRooms → ℕ
-room_in room None = 0
-room_in room (Some link) = room link
-
 abbrev pub room_at : Fate → Rooms → ℕ
-room_at (Waiting l) r = room_in (λ link. link.unsent) (slice_get r.links l)
-room_at (Held l) r = room_in (λ link. link.held) (slice_get r.links l)
+room_at (Waiting l) r = option_map_or (λ link. link.unsent) (slice_get r.links l) 0
+room_at (Held l) r = option_map_or (λ link. link.held) (slice_get r.links l) 0
 room_at Parked r = r.parked
 room_at (Back c) r = slice_index_or r.back c 0
 room_at _ r = 0
