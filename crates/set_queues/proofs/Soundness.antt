@@ -102,9 +102,6 @@ moved_whole k from to q mid new e m n = rw (n, m, drop_all k (queue_at from q) (
 pub moved_one : (from to : Fate) (q mid new : Lists) → IsKnown to q → same_fate to from ≡ false → mid ≡ with_queue to (queue_at to q ++ take 1 (queue_at from q)) q → new ≡ with_queue from (drop 1 (queue_at from mid)) mid → new ≡ passed_first from to q
 moved_one from to q mid new o a m n = rw (n, queue_away to from _ q mid m o a, m) refl
 
-pub kept_as : (q q' : Lists) (ms : List Message) (octets : List ℕ) → q' ≡ q → AreKept q ms octets → AreKept q' ms octets
-kept_as q q' ms octets e h = rw e h
-
 -- A NEW MESSAGE
 
 stands_push : (ms : List Message) (x : Message) (f : Fate) (m : ℕ) → one_if (stands f m (ms ++ x ∷ [])) ≡ one_if (stands f m ms) + cond (length ms == m) (one_if (same_fate x.fate f)) 0
@@ -157,12 +154,12 @@ kept_new q n e low high =
 
 -- THE FIRST THAT WAITS IS SENT
 
-pub kept_sent : (q : Lists) (ms : List Message) (octets : List ℕ) (l n : ℕ) → l < length octets → AreKept q ms octets → l < length q.links → slice_get (queue_at (Waiting l) q) 0 ≡ Some n → length (queue_at (Unacked l) q) < 127 → AreKept (first_sent l n q) (restood_one n (Unacked l) ms) (slice_set octets l (slice_index octets l + octets_at n ms))
-kept_sent q ms octets l n long h b first few =
+pub kept_sent : (q q' : Lists) (ms : List Message) (octets : List ℕ) (l n : ℕ) → l < length octets → AreKept q ms octets → l < length q.links → slice_get (queue_at (Waiting l) q) 0 ≡ Some n → length (queue_at (Unacked l) q) < 127 → q' ≡ first_sent l n q → AreKept q' (restood_one n (Unacked l) ms) (slice_set octets l (slice_index octets l + octets_at n ms))
+kept_sent q q' ms octets l n long h b first few e =
     let one : take 1 (queue_at (Waiting l) q) ≡ n ∷ [] = take_get _ 0 n first in
-    rw one at (kept_moved 1 (Waiting l) (Unacked l) q ms (record { standing = refl; known = b; other = b; apart = refl }) octets (slice_set octets l (slice_index octets l + octets_at n ms)) h
+    rw e (rw one at (kept_moved 1 (Waiting l) (Unacked l) q ms (record { standing = refl; known = b; other = b; apart = refl }) octets (slice_set octets l (slice_index octets l + octets_at n ms)) h
     (λ k t. let same = same_is (Unacked l) (Unacked k) refl t in omega (arith, few))
-    (λ k small. grind (arith, nat_tests, get_or-set_same, get_or-set_other)))
+    (λ k small. grind (arith, nat_tests, get_or-set_same, get_or-set_other))))
 
 -- THE FIRST OF THE UNACKNOWLEDGED LEAVE, and a link has a new life
 
@@ -172,11 +169,11 @@ queue_last f l fsn q = grind (arith, updated_same, updated_other)
 pub last_links : (l fsn : ℕ) (q : Lists) → length (with_last l fsn q).links ≡ length q.links
 last_links l fsn q = length-updated (λ (z : LinkLists). record z { last = fsn }) q.links l
 
-pub kept_with_last : (q : Lists) (ms : List Message) (octets : List ℕ) (l fsn : ℕ) → AreKept q ms octets → AreKept (with_last l fsn q) ms octets
-kept_with_last q ms octets l fsn h = record {
+pub kept_with_last : (q q' : Lists) (ms : List Message) (octets : List ℕ) (l fsn : ℕ) → q' ≡ with_last l fsn q → AreKept q ms octets → AreKept q' ms octets
+kept_with_last q q' ms octets l fsn e h = rw e (record {
   sound = sound_on q _ ms ms h.sound (record { links = last_links l fsn q; back = refl }) (λ k. rw (queue_last (Unacked k) l fsn q) (h.sound.narrow k)) (λ f s m. rw (queue_last f l fsn q) (h.sound.tied f s m)) h.sound.fit;
   weighed = λ k b. rw (queue_last (Unacked k) l fsn q) (h.weighed k (omega (arith, b, last_links l fsn q)));
-}
+})
 
 -- A LINK SETTLES: what stands on it goes elsewhere, first what was sent, then what waited, then what was held
 

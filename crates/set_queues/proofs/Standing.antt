@@ -7,8 +7,9 @@ use Rattle.set_queues.specs.Messages.{updated, one_if, Message, with_fate, resto
 use Rattle.std.proofs.lemmas.Bool.Decides.{nat_tests}
 use Rattle.std.proofs.lemmas.Bool.{eq-eqb, ne_eqb}
 use Rattle.std.proofs.lemmas.Grind.{take_at_read}
+use Rattle.std.specs.Option.{option_map_or}
 use Rattle.set_queues.specs.Buffers.{Fate, Lists, is_standing, same_fate, queue_at, Back, with_queue, IsKnown, IsQueued, Rooms, CanTake, TakesRoom}
-use Rattle.set_queues.specs.Queues.{occurs, has_fate, AreTied, AreGiven}
+use Rattle.set_queues.specs.Queues.{occurs, AreTied, AreGiven}
 
 -- LISTS of which the element at one place changes
 
@@ -118,8 +119,8 @@ fate_moves m ns f ms b z = grind (arith, nat_tests, restood_at, slice_get_cases)
 abbrev pub Moves : List ℕ → Fate → Fate → Lists → Lists → Type 0
 Moves ns from to q q' = (f : Fate) → is_standing f ≡ true → (m : ℕ) → occurs m (queue_at f q') + cond (same_fate from f) (occurs m ns) 0 ≡ occurs m (queue_at f q) + cond (same_fate to f) (occurs m ns) 0
 
-pub has_of : (f g : Fate) (o : Option Fate) → is_standing g ≡ true → has_fate g o ≡ true → o ≡ Some g
-has_of f g o s e = grind arith
+has_of : (g : Fate) (o : Option Fate) → is_standing g ≡ true → option_map_or (λ (f : Fate). same_fate f g) o false ≡ true → o ≡ Some g
+has_of g o s e = grind arith
 
 pub same_self : (f : Fate) → is_standing f ≡ true → same_fate f f ≡ true
 same_self f s = grind arith

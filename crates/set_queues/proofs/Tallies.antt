@@ -5,13 +5,13 @@ use Rattle.std.proofs.lemmas.List.Elements.{filter-append}
 use Rattle.std.proofs.lemmas.List.Sums.{length-filter, count_by-le-length}
 use Rattle.std.proofs.lemmas.Option.{slice_get_read, slice_get_past, slice_get-get_or, slice_get_cases}
 use Rattle.std.specs.Option.{option_map_or}
-use Rattle.set_queues.specs.Buffers.{Fate, Back, Lists, queue_at}
+use Rattle.set_queues.specs.Buffers.{Fate, Back, Lists, queue_at, same_fate}
 use Rattle.set_queues.specs.Messages.{Message, Tally, with_fate, restood_one, restood, octets_at, octets_of, IsTally, IsMore, IsAmong, AreFew, IsFit, AreFit, one_if, fate_at}
 use Rattle.set_queues.proofs.Standing.{set_updated, updated_id, restood_at, updated_same, updated_other, get_push, take_get, fate_moves, fate_stays, length-restood, occurs-append, occurs_here}
 use Rattle.std.specs.List.{AllByRecursion, IsDistinct, list_any}
 use Rattle.std.proofs.lemmas.Bool.Decides.{nat_tests}
 use Rattle.std.proofs.lemmas.Map.Steps.{length-le_from_distinct_below}
-use Rattle.set_queues.specs.Queues.{occurs, has_fate, AreTied}
+use Rattle.set_queues.specs.Queues.{occurs, AreTied}
 use Rattle.set_queues.specs.Backs.{back_from}
 
 pub count_set : (p : Message → Bool) (xs : List Message) (n : ℕ) (x y : Message) → slice_get xs n ≡ Some x → length (filter p (slice_set xs n y)) + one_if (p x) ≡ length (filter p xs) + one_if (p y)
@@ -140,7 +140,7 @@ abbrev is_in : ℕ → ℕ → Option Fate → Bool
 is_in code n (Some (Back d)) = nat_le code d && nat_lt d (code + n)
 is_in code n _ = false
 
-in_more : (code n : ℕ) (fate : Option Fate) → one_if (is_in code (suc n) fate) ≡ one_if (is_in code n fate) + one_if (has_fate (Back (code + n)) fate)
+in_more : (code n : ℕ) (fate : Option Fate) → one_if (is_in code (suc n) fate) ≡ one_if (is_in code n fate) + one_if (option_map_or (λ (f : Fate). same_fate f (Back (code + n))) fate false)
 in_more code n fate = grind (arith, nat_tests)
 
 all_length : (code n : ℕ) (q : Lists) → length (all_back code n q) ≡ back_from code n q
