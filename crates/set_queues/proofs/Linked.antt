@@ -6,7 +6,8 @@ use Rattle.std.proofs.lemmas.Option.{slice_get-map, slice_get_read, slice_get_wi
 use Rattle.l2_window.specs.Queue.{QueueState}
 use Rattle.set_queues.specs.declared.buffers.Link.{Link}
 use Rattle.set_queues.specs.Messages.{updated}
-use Rattle.set_queues.specs.Buffers.{LinkLists, LinkRooms, Rooms, BuffersState, room_in, KeepsRoom}
+use Rattle.set_queues.specs.Buffers.{LinkLists, LinkRooms, Rooms, BuffersState, KeepsRoom}
+use Rattle.std.specs.Option.{option_map_or}
 use Rattle.set_queues.specs.Kept.{lists_of, rooms_of, messages_of, room_of, state_of}
 use Rattle.set_queues.specs.declared.buffers.Buffers.TheInside.{Inside}
 use Rattle.set_queues.proofs.Standing.{updated_there, updated_other, updated_twice, map_set_updated, map_set_same, read_set}
@@ -26,7 +27,7 @@ lists_set f xs l x y e h = map_set_updated lists_of f xs l x y e h
 pub lists_same : (xs : List Link) (l : ℕ) (x y : Link) → slice_get xs l ≡ Some x → lists_of y ≡ lists_of x → map lists_of (slice_set xs l y) ≡ map lists_of xs
 lists_same xs l x y e h = map_set_same lists_of xs l x y e h
 
-pub rooms_set : (room : LinkRooms → ℕ) (xs : List Link) (l k : ℕ) (x y : Link) → slice_get xs l ≡ Some x → room_in room (slice_get (map rooms_of (slice_set xs l y)) k) ≡ cond (l == k) (room (rooms_of y)) (room_in room (slice_get (map rooms_of xs) k))
+pub rooms_set : (room : LinkRooms → ℕ) (xs : List Link) (l k : ℕ) (x y : Link) → slice_get xs l ≡ Some x → option_map_or room (slice_get (map rooms_of (slice_set xs l y)) k) 0 ≡ cond (l == k) (room (rooms_of y)) (option_map_or room (slice_get (map rooms_of xs) k) 0)
 rooms_set room xs l k x y e = rw (map_set_updated rooms_of (λ (z : LinkRooms). rooms_of y) xs l x y e refl) (grind (arith, updated_there, updated_other, slice_get-map))
 
 abbrev rooms : List Link → ℕ → List ℕ → Rooms

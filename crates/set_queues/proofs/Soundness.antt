@@ -1,15 +1,15 @@
 -- What holds of every set's queues goes on holding.
-use Rattle.std.proofs.Common.{refl, arith, ◌≡◌, ◌∙◌, ap, ◌+◌, ◌-◌, ◌≤◌, ◌<◌, [], ◌∷◌, ◌++◌, length, ℕ, zero, suc, Bool, true, false, ◌==◌, List, Some, cond, get_or, take, drop, replicate, slice_get, slice_set, slice_index, ◌≢◌, subst, Option, append_assoc, IfSome}
+use Rattle.std.proofs.Common.{refl, arith, ◌≡◌, ◌∙◌, ap, ◌+◌, ◌≤◌, ◌<◌, [], ◌∷◌, ◌++◌, length, ℕ, Bool, true, false, ◌==◌, List, Some, cond, get_or, take, drop, replicate, slice_get, slice_set, slice_index, ◌≢◌, subst, Option, append_assoc, IfSome}
 use Rattle.set_queues.specs.Messages.{one_if, Message, restood_one, restood, octets_at, octets_of, IsFit, AreFit}
 use Rattle.set_queues.specs.Backs.{passed_first}
 use Rattle.set_queues.specs.Sending.{first_sent}
-use Rattle.set_queues.specs.Buffers.{Fate, Waiting, Unacked, Acked, no_lists, AreEmpty, LinkLists, Lists, is_standing, same_fate, queue_at, with_queue, with_last, list_in, IsKnown, IsQueued, Rooms, Held, room_at, TakesRoom}
+use Rattle.set_queues.specs.Buffers.{Fate, Waiting, Unacked, no_lists, AreEmpty, LinkLists, Lists, is_standing, same_fate, queue_at, with_queue, with_last, IsKnown, IsQueued, Rooms, Held, room_at, TakesRoom}
 use Rattle.set_queues.specs.Queues.{occurs, stands, passed, AreTied, AreGiven, AreSound, AreNarrow, AreWeighed, AreKept}
-use Rattle.set_queues.proofs.Standing.{length-updated, updated_same, updated_other, get_push, Moves, moved_tie, given_queue, take_get, same_is, occurs-append, occurs-split, occurs_here, queue_any, links_stay, queue_away, SameSize, size_stays, known_on, restood-append, same_self, queued_stands}
+use Rattle.set_queues.proofs.Standing.{length-updated, updated_same, updated_other, get_push, Moves, moved_tie, given_queue, take_get, same_is, occurs-append, occurs-split, occurs_here, queue_set, links_stay, queue_away, SameSize, size_stays, known_on, restood-append, same_self, queued_stands}
 use Rattle.set_queues.proofs.Tallies.{fit_push, fit_restood, octets-append, octets-split, octets_stay}
 use Rattle.std.proofs.lemmas.Bool.Decides.{nat_tests}
-use Rattle.std.proofs.lemmas.List.{drop_all, take_all, get_or-replicate, get_or-set_same, get_or-set_other, get_or_past, length-replicate, length-append, length-take, length-drop}
-use Rattle.std.proofs.lemmas.Option.{slice_get_past}
+use Rattle.std.proofs.lemmas.List.{drop_all, get_or-replicate, get_or-set_same, get_or-set_other, get_or_past, length-replicate, length-append, length-take, length-drop}
+use Rattle.std.proofs.lemmas.Option.{slice_get_past, slice_get_cases}
 use Rattle.std.proofs.lemmas.Bool.{eq-eqb}
 use Rattle.set_queues.specs.Settling.{fate_on, on, Settles}
 
@@ -24,13 +24,12 @@ both_size q from to left joined =
     record { links = twice.links ∙ once.links; back = twice.back ∙ once.back }
 
 pub both_replaced : (q : Lists) (from to : Fate) (left joined : List ℕ) → IsKnown from q → IsKnown to q → Replaces q (with_queue from left (with_queue to joined q)) from to left joined
-both_replaced q from to left joined k o f s = search (queue_any, known_on, size_stays)
+both_replaced q from to left joined k o f s =
+    let there = known_on from q _ (size_stays to joined q) k in
+    grind (arith, queue_set)
 
 pub passed_replaces : (q : Lists) (from to : Fate) → is_standing from ≡ true → IsKnown from q → IsKnown to q → Replaces q (passed from to q) from to [] (queue_at to q ++ queue_at from q)
 passed_replaces q from to s k o = both_replaced q from to [] (queue_at to q ++ queue_at from q) k o
-
-pub passed_size : (q : Lists) (from to : Fate) → SameSize q (passed from to q)
-passed_size q from to = both_size q from to [] (queue_at to q ++ queue_at from q)
 
 pub given_all : (q : Lists) (ms : List Message) (from : Fate) → AreSound q ms → is_standing from ≡ true → AreGiven (queue_at from q) ms
 given_all q ms from h s = given_queue q ms from h.tied s
@@ -59,13 +58,7 @@ module _ (k : ℕ) (from to : Fate) (q : Lists) (ms : List Message) (c : CanMove
   moved_queue = both_replaced q from to _ _ c.known c.other
 
   moved_moves : Moves (take k (queue_at from q)) from to q (moved k from to q)
-  moved_moves f s m = go (same_fate from f) (same_fate to f) refl refl (moved_queue f s)
-    where
-      go : (a b : Bool) → same_fate from f ≡ a → same_fate to f ≡ b → queue_at f (moved k from to q) ≡ cond a (drop k (queue_at from q)) (cond b (queue_at to q ++ take k (queue_at from q)) (queue_at f q)) → occurs m (queue_at f (moved k from to q)) + cond a (occurs m (take k (queue_at from q))) 0 ≡ occurs m (queue_at f q) + cond b (occurs m (take k (queue_at from q))) 0
-      go true true e d g = absurd (cc (same_is from f s e, c.apart))
-      go true false e d g = omega (arith, occurs-split m k (queue_at from q), ap (occurs m) g, ap (λ (x : Fate). occurs m (queue_at x q)) (same_is from f s e))
-      go false true e d g = omega (arith, ap (occurs m) g, occurs-append m (queue_at to q) (take k (queue_at from q)), ap (λ (x : Fate). occurs m (queue_at x q)) (same_is to f s d))
-      go false false e d g = omega (arith, ap (occurs m) g)
+  moved_moves f s m = let there = moved_queue f s in let left = same_is from f s in let come = same_is to f s in let apart = c.apart in grind (arith, occurs-split, occurs-append)
 
   narrow_moved : AreNarrow q → ((l : ℕ) → same_fate to (Unacked l) ≡ true → length (queue_at to q) + k ≤ 127) → AreNarrow (moved k from to q)
   narrow_moved h n l = let there = moved_queue (Unacked l) refl in let had = h l in let more = n l in grind (arith, same_is, length-append, length-take, length-drop)
@@ -82,23 +75,26 @@ module _ (k : ℕ) (from to : Fate) (q : Lists) (ms : List Message) (c : CanMove
   kept_moved octets octets' h n w =
       let s = h.sound in
       let within : (m : ℕ) → occurs m (take k (queue_at from q)) ≤ occurs m (queue_at from q) = λ m. omega (arith, occurs-split m k (queue_at from q)) in
-      let tied = moved_tie q (moved k from to q) ms (take k (queue_at from q)) from to s.tied c.standing within moved_moves in
       record {
-        sound = sound_on q _ ms _ s (both_size q from to _ _) (narrow_moved s.narrow n) tied (fit_restood (take k (queue_at from q)) to ms s.fit);
+        sound = sound_on q _ ms _ s (both_size q from to _ _) (narrow_moved s.narrow n) (moved_tie q _ ms _ from to s.tied c.standing within moved_moves) (fit_restood (take k (queue_at from q)) to ms s.fit);
         weighed = weighed_moved octets octets' h.weighed w;
       }
 
 pub unqueued : (to : Fate) (l : ℕ) → (is_standing to ≡ true → IsQueued to) → same_fate to (Unacked l) ≡ false
 unqueued to l h = grind arith
 
--- to where messages come otherwise than by being sent; all of a queue, where its octets are counted
-pub kept_passed : (k : ℕ) (from to : Fate) (q : Lists) (ms : List Message) (octets octets' : List ℕ) → AreKept q ms octets → CanMove from to q → (is_standing to ≡ true → IsQueued to) → ((l : ℕ) → same_fate from (Unacked l) ≡ true → k ≡ length (queue_at from q)) → ((l : ℕ) → l < 16 → slice_index octets' l ≡ cond (same_fate from (Unacked l)) 0 (slice_index octets l)) → AreKept (moved k from to q) (restood (take k (queue_at from q)) to ms) octets'
-kept_passed k from to q ms octets octets' h c n all w = kept_moved k from to q ms c octets octets' h (λ l f. let no = unqueued to l n in absurd (cc)) (λ l b.
-    let was = h.weighed l b in
+-- to where messages come otherwise than by being sent
+pub kept_passed : (k : ℕ) (from to : Fate) (q : Lists) (ms : List Message) (octets octets' : List ℕ) → AreKept q ms octets → CanMove from to q → (is_standing to ≡ true → IsQueued to) → ((l : ℕ) → l < 16 → slice_index octets' l + cond (same_fate from (Unacked l)) (octets_of (take k (queue_at from q)) ms) 0 ≡ slice_index octets l) → AreKept (moved k from to q) (restood (take k (queue_at from q)) to ms) octets'
+kept_passed k from to q ms octets octets' h c n w = kept_moved k from to q ms c octets octets' h (λ l f. let no = unqueued to l n in absurd (cc)) (λ l b.
     let now = w l (omega (arith, b, h.sound.few)) in
     let not = unqueued to l n in
-    let full = all l in
-    grind (arith, same_is, take_all))
+    grind arith)
+
+-- no more leaves than is counted
+pub can_leave : (k : ℕ) (from : Fate) (q : Lists) (ms : List Message) (octets : List ℕ) (l : ℕ) → AreKept q ms octets → IsKnown from q → from ≡ Unacked l → octets_of (take k (queue_at from q)) ms ≤ slice_index octets l
+can_leave k from q ms octets l h b e =
+    let was = h.weighed l (rw e at b) in
+    rw e (omega (arith, was, octets-split k (queue_at (Unacked l) q) ms))
 
 pub moved_whole : (k : ℕ) (from to : Fate) (q mid new : Lists) → k ≡ length (queue_at from q) → mid ≡ with_queue to (queue_at to q ++ take k (queue_at from q)) q → new ≡ with_queue from [] mid → new ≡ moved k from to q
 moved_whole k from to q mid new e m n = rw (n, m, drop_all k (queue_at from q) (omega (arith, e))) refl
@@ -106,18 +102,15 @@ moved_whole k from to q mid new e m n = rw (n, m, drop_all k (queue_at from q) (
 pub moved_one : (from to : Fate) (q mid new : Lists) → IsKnown to q → same_fate to from ≡ false → mid ≡ with_queue to (queue_at to q ++ take 1 (queue_at from q)) q → new ≡ with_queue from (drop 1 (queue_at from mid)) mid → new ≡ passed_first from to q
 moved_one from to q mid new o a m n = rw (n, queue_away to from _ q mid m o a, m) refl
 
-pub kept_as : (q q' : Lists) (ms : List Message) (octets : List ℕ) → q' ≡ q → AreKept q ms octets → AreKept q' ms octets
-kept_as q q' ms octets e h = rw e h
-
 -- A NEW MESSAGE
 
 stands_push : (ms : List Message) (x : Message) (f : Fate) (m : ℕ) → one_if (stands f m (ms ++ x ∷ [])) ≡ one_if (stands f m ms) + cond (length ms == m) (one_if (same_fate x.fate f)) 0
 stands_push ms x f m = grind (arith, get_push, slice_get_past)
 
-added_tie : (q : Lists) (ms : List Message) (x : Message) → AreTied q ms → IsKnown x.fate q → AreTied (with_queue x.fate (queue_at x.fate q ++ length ms ∷ []) q) (ms ++ x ∷ [])
-added_tie q ms x tie k f s m =
+added_tie : (q : Lists) (ms : List Message) (x : Message) → AreTied q ms → is_standing x.fate ≡ true → IsKnown x.fate q → AreTied (with_queue x.fate (queue_at x.fate q ++ length ms ∷ []) q) (ms ++ x ∷ [])
+added_tie q ms x tie u k f s m =
     let had = tie f s m in
-    let there = queue_any x.fate f (queue_at x.fate q ++ length ms ∷ []) q s k in
+    let there = queue_set x.fate f (queue_at x.fate q ++ length ms ∷ []) q u k in
     let stood = stands_push ms x f m in
     let more = occurs-append m (queue_at x.fate q) (length ms ∷ []) in
     grind (arith, same_is)
@@ -132,22 +125,17 @@ kept_added q ms octets x h fit k u =
     let size = size_stays x.fate (queue_at x.fate q ++ length ms ∷ []) q in
     let same : (l : ℕ) → queue_at (Unacked l) (with_queue x.fate (queue_at x.fate q ++ length ms ∷ []) q) ≡ queue_at (Unacked l) q = λ l. queue_away x.fate (Unacked l) _ q _ refl k (unqueued x.fate l (λ s. u)) in
     record {
-      sound = sound_on q _ ms _ s size (λ l. rw (same l) (s.narrow l)) (added_tie q ms x s.tied k) (fit_push ms x s.fit fit);
+      sound = sound_on q _ ms _ s size (λ l. rw (same l) (s.narrow l)) (added_tie q ms x s.tied (queued_stands x.fate u) k) (fit_push ms x s.fit fit);
       weighed = λ l b. rw (same l, octets_push (queue_at (Unacked l) q) ms x (given_all q ms (Unacked l) s refl)) (h.weighed l (omega (arith, b, size.links)));
     }
 
 -- NO MESSAGE
 
-none_in : (list : LinkLists → List ℕ) (n k : ℕ) → list no_lists ≡ [] → list_in list (slice_get (replicate n no_lists) k) ≡ []
-none_in list zero k e = refl
-none_in list (suc n) zero e = e
-none_in list (suc n) (suc k) e = none_in list n k e
-
 all_alike : {X : Type 0} (x : X) (n k : ℕ) → get_or (replicate n x) k x ≡ x
 all_alike x n k = grind (arith, get_or-replicate, get_or-set_same, get_or-set_other, get_or_past, length-replicate)
 
 pub empty_queue : (q : Lists) (n codes : ℕ) (f : Fate) → AreEmpty n codes q → queue_at f q ≡ []
-empty_queue q n codes f e = grind (arith, none_in, all_alike)
+empty_queue q n codes f e = grind (arith, all_alike, slice_get_cases, get_or-replicate, length-replicate)
 
 pub kept_new : (q : Lists) (n : ℕ) → AreEmpty n 256 q → 1 ≤ n → n ≤ 16 → AreKept q [] (replicate 16 0)
 kept_new q n e low high =
@@ -166,15 +154,12 @@ kept_new q n e low high =
 
 -- THE FIRST THAT WAITS IS SENT
 
-weight_set : (octets : List ℕ) (l v k : ℕ) → l < length octets → slice_index (slice_set octets l v) k ≡ cond (l == k) v (slice_index octets k)
-weight_set octets l v k h = grind (arith, get_or-set_same, get_or-set_other)
-
-pub kept_sent : (q : Lists) (ms : List Message) (octets : List ℕ) (l n : ℕ) → l < length octets → AreKept q ms octets → l < length q.links → slice_get (queue_at (Waiting l) q) 0 ≡ Some n → length (queue_at (Unacked l) q) < 127 → AreKept (first_sent l n q) (restood_one n (Unacked l) ms) (slice_set octets l (slice_index octets l + octets_at n ms))
-kept_sent q ms octets l n long h b first few =
+pub kept_sent : (q q' : Lists) (ms : List Message) (octets : List ℕ) (l n : ℕ) → l < length octets → AreKept q ms octets → l < length q.links → slice_get (queue_at (Waiting l) q) 0 ≡ Some n → length (queue_at (Unacked l) q) < 127 → q' ≡ first_sent l n q → AreKept q' (restood_one n (Unacked l) ms) (slice_set octets l (slice_index octets l + octets_at n ms))
+kept_sent q q' ms octets l n long h b first few e =
     let one : take 1 (queue_at (Waiting l) q) ≡ n ∷ [] = take_get _ 0 n first in
-    rw one at (kept_moved 1 (Waiting l) (Unacked l) q ms (record { standing = refl; known = b; other = b; apart = refl }) octets (slice_set octets l (slice_index octets l + octets_at n ms)) h
+    rw e (rw one at (kept_moved 1 (Waiting l) (Unacked l) q ms (record { standing = refl; known = b; other = b; apart = refl }) octets (slice_set octets l (slice_index octets l + octets_at n ms)) h
     (λ k t. let same = same_is (Unacked l) (Unacked k) refl t in omega (arith, few))
-    (λ k small. let now = weight_set octets l (slice_index octets l + octets_at n ms) k long in grind (arith, nat_tests)))
+    (λ k small. grind (arith, nat_tests, get_or-set_same, get_or-set_other))))
 
 -- THE FIRST OF THE UNACKNOWLEDGED LEAVE, and a link has a new life
 
@@ -184,18 +169,11 @@ queue_last f l fsn q = grind (arith, updated_same, updated_other)
 pub last_links : (l fsn : ℕ) (q : Lists) → length (with_last l fsn q).links ≡ length q.links
 last_links l fsn q = length-updated (λ (z : LinkLists). record z { last = fsn }) q.links l
 
-pub kept_with_last : (q : Lists) (ms : List Message) (octets : List ℕ) (l fsn : ℕ) → AreKept q ms octets → AreKept (with_last l fsn q) ms octets
-kept_with_last q ms octets l fsn h = record {
+pub kept_with_last : (q q' : Lists) (ms : List Message) (octets : List ℕ) (l fsn : ℕ) → q' ≡ with_last l fsn q → AreKept q ms octets → AreKept q' ms octets
+kept_with_last q q' ms octets l fsn e h = rw e (record {
   sound = sound_on q _ ms ms h.sound (record { links = last_links l fsn q; back = refl }) (λ k. rw (queue_last (Unacked k) l fsn q) (h.sound.narrow k)) (λ f s m. rw (queue_last f l fsn q) (h.sound.tied f s m)) h.sound.fit;
   weighed = λ k b. rw (queue_last (Unacked k) l fsn q) (h.weighed k (omega (arith, b, last_links l fsn q)));
-}
-
-pub kept_acked : (q : Lists) (ms : List Message) (octets : List ℕ) (l k fsn : ℕ) → l < length octets → AreKept q ms octets → l < length q.links → AreKept (with_last l fsn (moved k (Unacked l) (Acked l) q)) (restood (take k (queue_at (Unacked l) q)) (Acked l) ms) (slice_set octets l (slice_index octets l - octets_of (take k (queue_at (Unacked l) q)) ms))
-kept_acked q ms octets l k fsn long h b = kept_with_last _ _ _ l fsn (kept_moved k (Unacked l) (Acked l) q ms (record { standing = refl; known = b; other = tt; apart = refl }) octets (slice_set octets l (slice_index octets l - octets_of (take k (queue_at (Unacked l) q)) ms)) h (λ i t. absurd (cc)) (λ i small.
-    let now = weight_set octets l (slice_index octets l - octets_of (take k (queue_at (Unacked l) q)) ms) i long in
-    let was = h.weighed i small in
-    let all = octets-split k (queue_at (Unacked l) q) ms in
-    grind (arith, nat_tests)))
+})
 
 -- A LINK SETTLES: what stands on it goes elsewhere, first what was sent, then what waited, then what was held
 
@@ -211,18 +189,17 @@ pub aside_of : (target : Option ℕ) (link : ℕ) (to : Fate) (q : Lists) → to
 aside_of target link to q e k o a = grind arith
 
 pub aside_passed : (link : ℕ) (from to : Fate) (q : Lists) → IsAside link to q → IsAside link to (passed from to q)
-aside_passed link from to q a = grind (arith, passed_size, known_on)
+aside_passed link from to q a = grind (arith, both_size, known_on)
 
 pub waits_on : (link : ℕ) (to : Fate) (q : Lists) → IsAside link to q → queue_at (Waiting link) (passed (Unacked link) to q) ≡ queue_at (Waiting link) q
 waits_on link to q a = let now = passed_replaces q (Unacked link) to refl a.known a.other (Waiting link) refl in let unsent = a.unsent in cc
 
 pub held_last : (link : ℕ) (to : Fate) (q : Lists) → IsAside link to q → queue_at (Held link) (passed (Waiting link) to (passed (Unacked link) to q)) ≡ queue_at (Held link) q
 held_last link to q a =
-    let a1 = aside_passed link (Unacked link) to q a in
     let mid = passed_replaces q (Unacked link) to refl a.known a.other (Held link) refl in
-    let now = passed_replaces (passed (Unacked link) to q) (Waiting link) to refl a1.known a1.other (Held link) refl in
-    let held = a.held in
-    cc
+    let there = aside_passed link (Unacked link) to q a in
+    let now = passed_replaces (passed (Unacked link) to q) (Waiting link) to refl there.known there.other (Held link) refl in
+    grind (arith, a.held)
 
 -- the room that is left
 pub room_left : (to : Fate) (count : ℕ) (old new : Rooms) → IsQueued to → TakesRoom to count old new → room_at to old ≤ room_at to new + count
@@ -243,13 +220,8 @@ settling link to q a =
       unacked = grind (arith, unqueued, eq-eqb, one (Unacked link) refl, two (Unacked link) refl, three (Unacked link) refl);
       unsent = grind (arith, eq-eqb, two (Waiting link) refl, three (Waiting link) refl);
       held = grind (arith, eq-eqb, three (Held link) refl);
-      there = grind (arith, eq-eqb, append_assoc, waits_on, held_last, one to there, two to there, three to there);
+      there = grind (arith, append_assoc, waits_on link to q a, held_last link to q a, same_self to there, one to there, two to there, three to there);
       elsewhere = λ f s t u w h. grind (arith, one f s, two f s, three f s);
     }
-
--- a place is known still
-
-pub known_passed : (f from to : Fate) (q now : Lists) → now ≡ passed from to q → IsKnown f q → IsKnown f now
-known_passed f from to q now e k = rw e (known_on f q _ (passed_size q from to) k)
 
 pub ruleset settles = (aside_of, waits_on, held_last, on_length, restood-append)

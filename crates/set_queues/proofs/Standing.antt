@@ -1,14 +1,15 @@
 -- Messages that come to stand elsewhere, and the queues that name them.
 use Rattle.std.proofs.Common.{refl, arith, ◌≡◌, ◌∙◌, ap, sym, ◌<◌, ◌+◌, ◌==◌, [], ◌∷◌, ◌++◌, length, map, replicate, ℕ, zero, suc, cond, get_or, List, Some, slice_get, slice_set, option_map, ◌≤◌, Bool, true, false, Option, None, take, drop, append_assoc}
 use Rattle.std.proofs.Math.Seq.{map-set_same}
-use Rattle.std.proofs.lemmas.List.{map-append, replicate_more, map-set, take-append-drop, append-nil}
+use Rattle.std.proofs.lemmas.List.{map-append, replicate_more, map-set, take-append-drop, append-nil, set-get_or, get_or-set_same, get_or-set_other}
 use Rattle.std.proofs.lemmas.Option.{slice_get-map, get_or_from_slice_get, slice_get_cases, slice_get_within, slice_get_past, slice_get-get_or}
 use Rattle.set_queues.specs.Messages.{updated, one_if, Message, with_fate, restood_one, restood, fate_at}
 use Rattle.std.proofs.lemmas.Bool.Decides.{nat_tests}
 use Rattle.std.proofs.lemmas.Bool.{eq-eqb, ne_eqb}
 use Rattle.std.proofs.lemmas.Grind.{take_at_read}
+use Rattle.std.specs.Option.{option_map_or}
 use Rattle.set_queues.specs.Buffers.{Fate, Lists, is_standing, same_fate, queue_at, Back, with_queue, IsKnown, IsQueued, Rooms, CanTake, TakesRoom}
-use Rattle.set_queues.specs.Queues.{occurs, has_fate, AreTied, AreGiven}
+use Rattle.set_queues.specs.Queues.{occurs, AreTied, AreGiven}
 
 -- LISTS of which the element at one place changes
 
@@ -52,18 +53,14 @@ module _ {X : Type 0} where
   updated_twice f g (x ∷ xs) zero = refl
   updated_twice f g (x ∷ xs) (suc n) = ap (λ (zs : List X). x ∷ zs) (updated_twice f g xs n)
 
-  pub updated_id : (f : X → X) (xs : List X) (n : ℕ) (x : X) → slice_get xs n ≡ Some x → f x ≡ x → updated n f xs ≡ xs
-  updated_id f [] n x e h = refl
-  updated_id f (y ∷ xs) zero x e h = let g : y ≡ x = cc in ap (λ (z : X). z ∷ xs) (ap f g ∙ h ∙ sym g)
-  updated_id f (y ∷ xs) (suc n) x e h = ap (λ (zs : List X). y ∷ zs) (updated_id f xs n x e h)
+  pub updated_id : (f : X → X) (xs : List X) (n : ℕ) → ((x : X) → slice_get xs n ≡ Some x → f x ≡ x) → updated n f xs ≡ xs
+  updated_id f [] n h = refl
+  updated_id f (y ∷ xs) zero h = ap (λ (z : X). z ∷ xs) (h y refl)
+  updated_id f (y ∷ xs) (suc n) h = ap (λ (zs : List X). y ∷ zs) (updated_id f xs n h)
 
   -- one element is set: what an index reads
   pub read_set : (x : X) (xs : List X) (n k : ℕ) (d : X) → n < length xs → get_or (updated n (λ (y : X). x) xs) k d ≡ cond (n == k) x (get_or xs k d)
-  read_set x [] n k d h = absurd (omega arith)
-  read_set x (y ∷ xs) zero zero d h = refl
-  read_set x (y ∷ xs) zero (suc k) d h = grind arith
-  read_set x (y ∷ xs) (suc n) zero d h = grind arith
-  read_set x (y ∷ xs) (suc n) (suc k) d h = let again = read_set x xs n k d (omega arith) in grind arith
+  read_set x xs n k d h = rw (← set_updated (λ (y : X). x) xs n (get_or xs n x) (slice_get-get_or xs n x h)) (grind (arith, nat_tests, get_or-set_same, get_or-set_other))
 
   -- one more at the end
   pub get_push : (xs : List X) (y : X) (k : ℕ) → slice_get (xs ++ y ∷ []) k ≡ cond (length xs == k) (Some y) (slice_get xs k)
@@ -106,36 +103,24 @@ pub restood-append : (xs ys : List ℕ) (f : Fate) (ms : List Message) → resto
 restood-append [] ys f ms = refl
 restood-append (x ∷ xs) ys f ms = restood-append xs ys f (restood_one x f ms)
 
-pub fate_same : (n : ℕ) (f : Fate) (ms : List Message) → n < length ms → fate_at n (restood_one n f ms) ≡ Some f
-fate_same n f ms h = grind (arith, updated_same, slice_get_cases)
+-- each of them has the new fate, and any other stays as it is
+pub restood_at : (m : ℕ) (ns : List ℕ) (f : Fate) (ms : List Message) → slice_get (restood ns f ms) m ≡ cond (occurs m ns == 0) (slice_get ms m) (option_map (with_fate f) (slice_get ms m))
+restood_at m [] f ms = refl
+restood_at m (n ∷ ns) f ms = let again = restood_at m ns f (restood_one n f ms) in grind (arith, nat_tests, updated_same, updated_other, slice_get_cases)
 
--- one that isn't among them stays where it stood
 pub fate_stays : (m : ℕ) (ns : List ℕ) (f : Fate) (ms : List Message) → occurs m ns ≡ 0 → fate_at m (restood ns f ms) ≡ fate_at m ms
-fate_stays m [] f ms z = refl
-fate_stays m (n ∷ ns) f ms z =
-    let ne : n ≡ m → ⊥ = λ (e : n ≡ m). omega (arith, occurs_here n m e, z) in
-    let rest = fate_stays m ns f (restood_one n f ms) (omega arith) in
-    grind (arith, updated_other)
+fate_stays m ns f ms z = grind (arith, restood_at)
 
--- one that is has the new fate
 pub fate_moves : (m : ℕ) (ns : List ℕ) (f : Fate) (ms : List Message) → m < length ms → 0 < occurs m ns → fate_at m (restood ns f ms) ≡ Some f
-fate_moves m [] f ms b z = absurd (omega arith)
-fate_moves m (n ∷ ns) f ms b z =
-    let again = fate_moves m ns f (restood_one n f ms) (omega (arith, length-updated (with_fate f) ms n)) in
-    let stays = fate_stays m ns f (restood_one n f ms) in
-    let now = fate_same m f ms b in
-    grind (arith, nat_tests)
+fate_moves m ns f ms b z = grind (arith, nat_tests, restood_at, slice_get_cases)
 
 -- THE TIE, when messages move from one queue to another, or to none
 
 abbrev pub Moves : List ℕ → Fate → Fate → Lists → Lists → Type 0
 Moves ns from to q q' = (f : Fate) → is_standing f ≡ true → (m : ℕ) → occurs m (queue_at f q') + cond (same_fate from f) (occurs m ns) 0 ≡ occurs m (queue_at f q) + cond (same_fate to f) (occurs m ns) 0
 
-pub has_of : (f g : Fate) (o : Option Fate) → is_standing g ≡ true → has_fate g o ≡ true → o ≡ Some g
-has_of f g o s e = grind arith
-
-one_true : (b : Bool) → 0 < one_if b → b ≡ true
-one_true b h = grind arith
+has_of : (g : Fate) (o : Option Fate) → is_standing g ≡ true → option_map_or (λ (f : Fate). same_fate f g) o false ≡ true → o ≡ Some g
+has_of g o s e = grind arith
 
 pub same_self : (f : Fate) → is_standing f ≡ true → same_fate f f ≡ true
 same_self f s = grind arith
@@ -145,25 +130,17 @@ pub given_queue : (q : Lists) (ms : List Message) (f : Fate) → AreTied q ms �
 given_queue q ms f tie s n h = let stood = tie f s n in grind (arith, slice_get_past)
 
 pub moved_tie : (q q' : Lists) (ms : List Message) (ns : List ℕ) (from to : Fate) → AreTied q ms → is_standing from ≡ true → ((m : ℕ) → occurs m ns ≤ occurs m (queue_at from q)) → Moves ns from to q q' → AreTied q' (restood ns to ms)
-moved_tie q q' ms ns from to tie s within moves f sf m = let given = given_queue q ms from tie s m in grind (arith, fate_stays, has_of, one_true, fate_moves)
+moved_tie q q' ms ns from to tie s within moves f sf m = let given = given_queue q ms from tie s m in grind (arith, fate_stays, has_of, fate_moves)
 
 -- the first so many, one after another
 
 pub take_get : (xs : List ℕ) (i x : ℕ) → slice_get xs i ≡ Some x → take (i + 1) xs ≡ take i xs ++ x ∷ []
 take_get xs i x h = rw (get_or_from_slice_get xs i x x h) at (take_at_read xs i x (slice_get_within xs i x h)).1
 
-pub given_at : (ns : List ℕ) (ms : List Message) (i n : ℕ) → AreGiven ns ms → slice_get ns i ≡ Some n → n < length ms
-given_at [] ms i n g e = absurd (cc)
-given_at (x ∷ ns) ms zero n g e = let f : x ≡ n = cc in g n (omega (arith, occurs_here x n f))
-given_at (x ∷ ns) ms (suc i) n g e = given_at ns ms i n (λ k h. g k (omega (arith, h))) e
-
 pub none_past : (xs : List ℕ) (i : ℕ) → slice_get xs i ≡ None → i < length xs → ⊥
 none_past xs i e h = let some = slice_get-get_or xs i 0 h in absurd (cc)
 
-pub apart : (f g : Fate) → is_standing g ≡ true → (f ≡ g → ⊥) → same_fate f g ≡ false
-apart f g s ne = grind arith
-
-pub ruleset laws = (apart, same_self, slice_get_past)
+pub ruleset laws = (same_self, slice_get_past)
 
 -- A QUEUE is replaced by another list
 
@@ -198,23 +175,17 @@ queue_id g q h = grind (arith, updated_id, slice_get_cases)
 pub queued_stands : (f : Fate) → IsQueued f → is_standing f ≡ true
 queued_stands f h = grind arith
 
--- a queue in which messages stand, when one is replaced that may be no queue
-pub queue_any : (g f : Fate) (xs : List ℕ) (q : Lists) → is_standing f ≡ true → IsKnown g q → queue_at f (with_queue g xs q) ≡ cond (same_fate g f) xs (queue_at f q)
-queue_any g f xs q s h = grind (arith, queue_set)
-
 pub queue_away : (g f : Fate) (xs : List ℕ) (q now : Lists) → now ≡ with_queue g xs q → IsKnown g q → same_fate g f ≡ false → queue_at f now ≡ queue_at f q
 queue_away g f xs q now e h n = grind (arith, queue_set)
 
 pub known_with : (f g : Fate) (xs : List ℕ) (q now : Lists) → now ≡ with_queue g xs q → IsKnown f q → IsKnown f now
 known_with f g xs q now e h = rw e (known_on f q _ (size_stays g xs q) h)
 
--- one more stands last in a queue that was replaced
-queue_more : (g : Fate) (xs : List ℕ) (m : ℕ) (q now : Lists) → IsKnown g q → now ≡ with_queue g xs q → with_queue g (queue_at g now ++ m ∷ []) now ≡ with_queue g (xs ++ m ∷ []) q
-queue_more g xs m q now h e = grind (arith, queue_set, same_self, queue_twice)
-
--- the next of a list does
+-- the next of a list stands last in a queue that was replaced
 pub queue_next : (g : Fate) (xs ys : List ℕ) (i m : ℕ) (q now new : Lists) → IsKnown g q → now ≡ with_queue g (xs ++ take i ys) q → slice_get ys i ≡ Some m → new ≡ with_queue g (queue_at g now ++ m ∷ []) now → new ≡ with_queue g (xs ++ take (i + 1) ys) q
-queue_next g xs ys i m q now new h e f n = rw (n, queue_more g _ m q now h e, take_get ys i m f) (simp append_assoc)
+queue_next g xs ys i m q now new h e f n =
+    let more : with_queue g (queue_at g now ++ m ∷ []) now ≡ with_queue g ((xs ++ take i ys) ++ m ∷ []) q = grind (arith, queue_set, same_self, queue_twice) in
+    rw (n, more, take_get ys i m f) (simp append_assoc)
 
 pub restood_next : (ys : List ℕ) (i m : ℕ) (f : Fate) (ms now new : List Message) → now ≡ restood (take i ys) f ms → slice_get ys i ≡ Some m → new ≡ restood_one m f now → new ≡ restood (take (i + 1) ys) f ms
 restood_next ys i m f ms now new e g n = rw (n, e, take_get ys i m g, restood-append) refl

@@ -1,16 +1,17 @@
 -- The running counts of a list of messages, when one of them changes or joins, and the octets of their bodies.
-use Rattle.std.proofs.Common.{◌^◌, arith, ◌≡◌, ◌+◌, ◌≤◌, ◌<◌, [], ◌∷◌, ◌++◌, length, ℕ, zero, suc, Bool, List, Option, Some, None, refl, ap, ◌*◌, take, drop, filter, slice_get, slice_set, sym, ◌-◌, true, false, ◌&&◌, nat_le, nat_lt, ◌==◌, add-one}
+use Rattle.std.proofs.Common.{◌^◌, arith, ◌≡◌, ◌+◌, ◌≤◌, ◌<◌, [], ◌∷◌, ◌++◌, length, ℕ, zero, suc, Bool, List, Option, Some, None, refl, ap, ◌*◌, take, drop, filter, slice_get, slice_set, get_or, sym, ◌-◌, true, false, ◌&&◌, nat_le, nat_lt, ◌==◌, add-one}
 use Rattle.std.proofs.lemmas.List.{take-append-drop, length-append}
 use Rattle.std.proofs.lemmas.List.Elements.{filter-append}
 use Rattle.std.proofs.lemmas.List.Sums.{length-filter, count_by-le-length}
-use Rattle.std.proofs.lemmas.Option.{slice_get_read, slice_get_past}
-use Rattle.set_queues.specs.Buffers.{Fate, Back, Lists, queue_at}
-use Rattle.set_queues.specs.Messages.{Message, Tally, with_fate, restood_one, restood, octets_in, octets_at, octets_of, is_there, is_queued, IsTally, IsMore, IsAmong, AreFew, IsFit, AreFit, one_if, stands_at, fate_at}
-use Rattle.set_queues.proofs.Standing.{set_updated, updated_same, updated_other, get_push, take_get, fate_moves, fate_stays, length-restood, occurs-append, occurs_here}
+use Rattle.std.proofs.lemmas.Option.{slice_get_read, slice_get_past, slice_get-get_or, slice_get_cases}
+use Rattle.std.specs.Option.{option_map_or}
+use Rattle.set_queues.specs.Buffers.{Fate, Back, Lists, queue_at, same_fate}
+use Rattle.set_queues.specs.Messages.{Message, Tally, with_fate, restood_one, restood, octets_at, octets_of, IsTally, IsMore, IsAmong, AreFew, IsFit, AreFit, one_if, fate_at}
+use Rattle.set_queues.proofs.Standing.{set_updated, updated_id, restood_at, updated_same, updated_other, get_push, take_get, fate_moves, fate_stays, length-restood, occurs-append, occurs_here}
 use Rattle.std.specs.List.{AllByRecursion, IsDistinct, list_any}
 use Rattle.std.proofs.lemmas.Bool.Decides.{nat_tests}
 use Rattle.std.proofs.lemmas.Map.Steps.{length-le_from_distinct_below}
-use Rattle.set_queues.specs.Queues.{occurs, has_fate, AreTied}
+use Rattle.set_queues.specs.Queues.{occurs, AreTied}
 use Rattle.set_queues.specs.Backs.{back_from}
 
 pub count_set : (p : Message → Bool) (xs : List Message) (n : ℕ) (x y : Message) → slice_get xs n ≡ Some x → length (filter p (slice_set xs n y)) + one_if (p x) ≡ length (filter p xs) + one_if (p y)
@@ -30,10 +31,7 @@ pub count_few : (p : Message → Bool) (xs : List Message) → length (filter p 
 count_few p xs = rw length-filter (count_by-le-length p xs)
 
 pub tally_in : (t : Tally) (xs : List Message) (n : ℕ) (x : Message) → IsTally t xs → slice_get xs n ≡ Some x → IsAmong x t
-tally_in t xs n x h e = record {
-  counts = λ place. omega (arith, h.counts place, count_in (is_there (stands_at place)) xs n x e);
-  unsent = λ s b. omega (arith, h.unsent s b, count_in (is_queued s) xs n x e);
-}
+tally_in t xs n x h e = let there = λ (p : Message → Bool). count_in p xs n x e in grind arith
 
 -- with one message fewer, each count is far from the end of its range
 pub few_left : (t u : Tally) (xs : List Message) (x : Message) → IsTally t xs → length xs < 2 ^ 63 → IsMore x u t → AreFew u
@@ -43,35 +41,25 @@ few_left t u xs x h few i = grind (arith, count_few)
 pub fit_push : (xs : List Message) (y : Message) → AreFit xs → IsFit y → AreFit (xs ++ y ∷ [])
 fit_push xs y h f n m e = let old = h n m in grind (arith, get_push)
 
-pub fit_one : (n : ℕ) (f : Fate) (ms : List Message) → AreFit ms → AreFit (restood_one n f ms)
-fit_one n f ms fit k m e = go (slice_get ms k) refl
-  where
-    go : (o : Option Message) → slice_get ms k ≡ o → IsFit m
-    go None d = grind (arith, updated_same, updated_other)
-    go (Some x) d = let was = fit k x d in grind (arith, updated_same, updated_other)
-
 pub fit_restood : (ns : List ℕ) (f : Fate) (ms : List Message) → AreFit ms → AreFit (restood ns f ms)
-fit_restood [] f ms fit = fit
-fit_restood (n ∷ ns) f ms fit = fit_restood ns f (restood_one n f ms) (fit_one n f ms fit)
+fit_restood ns f ms fit k m e = let was = fit k (get_or ms k m) in let there = slice_get-get_or ms k m in grind (arith, restood_at, slice_get_past)
 
 pub tally_push : (t u : Tally) (xs : List Message) (y : Message) → IsTally t xs → IsFit y → IsMore y t u → IsTally u (xs ++ y ∷ [])
-tally_push t u xs y h f i = record {
-  counts = λ place. grind (arith, count_push, h.counts place, i.counts place);
-  unsent = λ s b. grind (arith, count_push, h.unsent s b, i.unsent s b);
-  fit = fit_push xs y h.fit f;
-}
+tally_push t u xs y h f i = let fit = fit_push xs y h.fit f in grind (arith, count_push)
 
 pub tally_set : (t u v : Tally) (xs : List Message) (n : ℕ) (x : Message) (fate : Fate) → IsTally t xs → slice_get xs n ≡ Some x → IsMore x u t → IsMore (with_fate fate x) u v → IsTally v (slice_set xs n (with_fate fate x))
-tally_set t u v xs n x fate h e i j = record {
-  counts = λ place. omega (arith, h.counts place, i.counts place, j.counts place, count_set (is_there (stands_at place)) xs n x (with_fate fate x) e);
-  unsent = λ s b. omega (arith, h.unsent s b, i.unsent s b, j.unsent s b, count_set (is_queued s) xs n x (with_fate fate x) e);
-  fit = rw (set_updated (with_fate fate) xs n x e) (fit_one n fate xs h.fit);
-}
+tally_set t u v xs n x fate h e i j =
+    let fit : AreFit (slice_set xs n (with_fate fate x)) = rw (set_updated (with_fate fate) xs n x e) (fit_restood (n ∷ []) fate xs h.fit) in
+    let there = λ (p : Message → Bool). count_set p xs n x (with_fate fate x) e in
+    grind arith
 
 pub restood_set : (xs : List Message) (i : ℕ) (x : Message) (fate : Fate) → slice_get xs i ≡ Some x → slice_set xs i (record { fate = fate; kind = x.kind; octets = x.octets }) ≡ restood_one i fate xs
 restood_set xs i x fate e = set_updated (with_fate fate) xs i x e
 
-pub ruleset restands = (slice_get_read, restood_set)
+pub restood_past : (xs : List Message) (i : ℕ) (fate : Fate) → length xs ≤ i → restood_one i fate xs ≡ xs
+restood_past xs i fate h = updated_id (with_fate fate) xs i (λ x e. absurd (grind (arith, slice_get_past)))
+
+pub ruleset restands = (slice_get_read, slice_get_past, restood_set, restood_past, tally_in, few_left, tally_set)
 
 -- THE OCTETS of the bodies
 
@@ -82,7 +70,7 @@ octets-append (x ∷ xs) ys ms = omega (arith, octets-append xs ys ms)
 pub octets-split : (k : ℕ) (xs : List ℕ) (ms : List Message) → octets_of (take k xs) ms + octets_of (drop k xs) ms ≡ octets_of xs ms
 octets-split k xs ms = omega (arith, octets-append (take k xs) (drop k xs) ms, ap (λ (ns : List ℕ). octets_of ns ms) (take-append-drop k xs))
 
-pub fit_octets : (ms : List Message) (n : ℕ) (o : Option Message) → slice_get ms n ≡ o → AreFit ms → octets_in o ≤ 273
+fit_octets : (ms : List Message) (n : ℕ) (o : Option Message) → slice_get ms n ≡ o → AreFit ms → option_map_or (λ (m : Message). m.octets) o 0 ≤ 273
 fit_octets ms n None e f = omega arith
 fit_octets ms n (Some m) e f = (f n m e).octets
 
@@ -93,8 +81,7 @@ octets_few (n ∷ ns) ms f = omega (arith, fit_octets ms n (slice_get ms n) refl
 -- a message that comes to stand elsewhere keeps its octets
 
 pub octets_kept : (n : ℕ) (ks : List ℕ) (f : Fate) (ms : List Message) → octets_at n (restood ks f ms) ≡ octets_at n ms
-octets_kept n [] f ms = refl
-octets_kept n (k ∷ ks) f ms = grind (arith, updated_same, updated_other, octets_kept n ks f (restood_one k f ms))
+octets_kept n ks f ms = grind (arith, restood_at, slice_get_cases)
 
 pub octets_stay : (ns ks : List ℕ) (f : Fate) (ms : List Message) → octets_of ns (restood ks f ms) ≡ octets_of ns ms
 octets_stay [] ks f ms = refl
@@ -153,7 +140,7 @@ abbrev is_in : ℕ → ℕ → Option Fate → Bool
 is_in code n (Some (Back d)) = nat_le code d && nat_lt d (code + n)
 is_in code n _ = false
 
-in_more : (code n : ℕ) (fate : Option Fate) → one_if (is_in code (suc n) fate) ≡ one_if (is_in code n fate) + one_if (has_fate (Back (code + n)) fate)
+in_more : (code n : ℕ) (fate : Option Fate) → one_if (is_in code (suc n) fate) ≡ one_if (is_in code n fate) + one_if (option_map_or (λ (f : Fate). same_fate f (Back (code + n))) fate false)
 in_more code n fate = grind (arith, nat_tests)
 
 all_length : (code n : ℕ) (q : Lists) → length (all_back code n q) ≡ back_from code n q
@@ -166,12 +153,8 @@ all_occur code (suc n) m q ms tie = omega (arith, occurs-append m (all_back code
 
 pub back_few : (code n : ℕ) (q : Lists) (ms : List Message) → AreTied q ms → back_from code n q ≤ length ms
 back_few code n q ms tie =
-    omega (
-      arith,
-      all_length code n q,
-      few_in (length ms) (all_back code n q)
-          (λ m. grind (arith, all_occur code n m q ms tie))
-          (λ m b. rw (all_occur code n m q ms tie, slice_get_past ms m b) refl),
-    )
+    let there = λ (m : ℕ). all_occur code n m q ms tie in
+    let few = few_in (length ms) (all_back code n q) (λ m. grind (arith, there m)) (λ m b. rw (there m, slice_get_past ms m b) refl) in
+    omega (arith, all_length code n q, few)
 
 pub ruleset backs = (back_none, back_more, back_below, back_few)

@@ -24,19 +24,6 @@ pub record IsOldest (home code : ℕ) (q : Lists) : Type 0 where
   pub first : slice_get (queue_at (Back code) q) 0 ≡ Some number
   pub least : (other m : ℕ) → other / 16 ≡ home → slice_get (queue_at (Back other) q) 0 ≡ Some m → number ≤ m
 
--- of what waits for so many codes, from this one on, the oldest: its code and its number
-pub record IsLeast (from n code number : ℕ) (q : Lists) : Type 0 where
-  pub above : from ≤ code
-  pub below : code < from + n
-  pub first : slice_get (queue_at (Back code) q) 0 ≡ Some number
-  pub least : (other m : ℕ) → from ≤ other → other < from + n → slice_get (queue_at (Back other) q) 0 ≡ Some m
-      → number ≤ m
-
--- if anything does
-abbrev pub IsOldestOfSome : ℕ → ℕ → Option (ℕ × ℕ) → Lists → Type 0
-IsOldestOfSome from n (Some head) q = IsLeast from n head.0 head.1 q
-IsOldestOfSome from n None q = (code : ℕ) → from ≤ code → code < from + n → queue_at (Back code) q ≡ []
-
 -- nothing waits for a code of this home
 abbrev pub NoneBack : ℕ → Lists → Type 0
 NoneBack home q = (code : ℕ) → code / 16 ≡ home → queue_at (Back code) q ≡ []

@@ -1,5 +1,6 @@
 -- The queues in which messages stand, as lists of their numbers. Read this file first.
 use Rattle.std.specs.Prelude.{◌≡◌, ℕ, ◌+◌, ◌<◌, ◌≤◌, ◌==◌, Bool, true, false, List, [], length, replicate, slice_get, slice_index_or, Option, Some, None, if◌then◌else◌}
+use Rattle.std.specs.Option.{option_map_or}
 use Rattle.l2_window.specs.Window.{fsn_before_first}
 pub use Rattle.set_events.specs.declared.answer.Fate.{Fate}
 pub use Rattle.set_events.specs.declared.answer.Fate.TheVariants.{Waiting, Unacked, Acked, Held, Parked, Back, Discarded}
@@ -36,13 +37,9 @@ pub record AreEmpty (count codes : ℕ) (q : Lists) : Type 0 where
 -- Each fate that isn't final has its queue.
 
 abbrev pub is_standing : Fate → Bool
-is_standing (Waiting l) = true
-is_standing (Unacked l) = true
-is_standing (Held l) = true
-is_standing Parked = true
-is_standing (Back c) = true
 is_standing (Acked l) = false
 is_standing (Discarded cause) = false
+is_standing _ = true
 
 abbrev pub same_cause : DiscardCause → DiscardCause → Bool
 same_cause Emergency Emergency = true
@@ -60,29 +57,22 @@ same_fate (Back c) (Back d) = c == d
 same_fate (Discarded c) (Discarded d) = same_cause c d
 same_fate _ _ = false
 
--- the list of the link, if there is one
-abbrev pub list_in : (LinkLists → List ℕ) → Option LinkLists → List ℕ
-list_in list None = []
-list_in list (Some link) = list link
-
+-- its numbers, none where there is no such link
 abbrev pub queue_at : Fate → Lists → List ℕ
-queue_at (Waiting l) q = list_in (λ link. link.unsent) (slice_get q.links l)
-queue_at (Unacked l) q = list_in (λ link. link.unacked) (slice_get q.links l)
-queue_at (Held l) q = list_in (λ link. link.held) (slice_get q.links l)
+queue_at (Waiting l) q = option_map_or (λ link. link.unsent) (slice_get q.links l) []
+queue_at (Unacked l) q = option_map_or (λ link. link.unacked) (slice_get q.links l) []
+queue_at (Held l) q = option_map_or (λ link. link.held) (slice_get q.links l) []
 queue_at Parked q = q.parked
 queue_at (Back c) q = slice_index_or q.back c []
-queue_at (Acked l) q = []
-queue_at (Discarded cause) q = []
+queue_at _ q = []
 
 -- there is a link for it, or a queue of its code
 abbrev pub IsKnown : Fate → Lists → Type 0
 IsKnown (Waiting l) q = l < length q.links
 IsKnown (Unacked l) q = l < length q.links
 IsKnown (Held l) q = l < length q.links
-IsKnown Parked q = Unit {0}
 IsKnown (Back c) q = c < length q.back
-IsKnown (Acked l) q = Unit {0}
-IsKnown (Discarded cause) q = Unit {0}
+IsKnown _ q = Unit {0}
 
 -- messages come to stand there otherwise than by being sent
 abbrev pub IsQueued : Fate → Type 0
@@ -90,28 +80,20 @@ IsQueued (Waiting l) = Unit {0}
 IsQueued (Held l) = Unit {0}
 IsQueued Parked = Unit {0}
 IsQueued (Back c) = Unit {0}
-IsQueued (Unacked l) = ⊥
-IsQueued (Acked l) = ⊥
-IsQueued (Discarded cause) = ⊥
+IsQueued _ = ⊥
+
+-- the lists of one link change
+abbrev pub on_link : ℕ → (LinkLists → LinkLists) → Lists → Lists
+on_link l change q = record q { links = updated l change q.links }
 
 -- the queue is this one from now on
 abbrev pub with_queue : Fate → List ℕ → Lists → Lists
-with_queue (Waiting l) numbers q = record q {
-  links = updated l
-      (λ link. record link { unsent = numbers }) q.links;
-}
-with_queue (Unacked l) numbers q = record q {
-  links = updated l
-      (λ link. record link { unacked = numbers }) q.links;
-}
-with_queue (Held l) numbers q = record q {
-  links = updated l
-      (λ link. record link { held = numbers }) q.links;
-}
+with_queue (Waiting l) numbers q = on_link l (λ link. record link { unsent = numbers }) q
+with_queue (Unacked l) numbers q = on_link l (λ link. record link { unacked = numbers }) q
+with_queue (Held l) numbers q = on_link l (λ link. record link { held = numbers }) q
 with_queue Parked numbers q = record q { parked = numbers }
 with_queue (Back c) numbers q = record q { back = updated c (λ _. numbers) q.back }
-with_queue (Acked l) numbers q = q
-with_queue (Discarded cause) numbers q = q
+with_queue _ numbers q = q
 
 -- the FSN last acknowledged on a link
 abbrev pub number_in : Option LinkLists → ℕ
@@ -122,7 +104,7 @@ abbrev pub last_at : ℕ → Lists → ℕ
 last_at l q = number_in (slice_get q.links l)
 
 abbrev pub with_last : ℕ → ℕ → Lists → Lists
-with_last l fsn q = record q { links = updated l (λ link. record link { last = fsn }) q.links }
+with_last l fsn q = on_link l (λ link. record link { last = fsn }) q
 
 -- How much room there is: so many pushes want no memory.
 
@@ -135,18 +117,12 @@ pub record Rooms : Type 0 where
   pub parked : ℕ
   pub back : List ℕ
 
-abbrev pub room_in : (LinkRooms → ℕ) → Option LinkRooms → ℕ
-room_in room None = 0
-room_in room (Some link) = room link
-
 abbrev pub room_at : Fate → Rooms → ℕ
-room_at (Waiting l) r = room_in (λ link. link.unsent) (slice_get r.links l)
-room_at (Held l) r = room_in (λ link. link.held) (slice_get r.links l)
+room_at (Waiting l) r = option_map_or (λ link. link.unsent) (slice_get r.links l) 0
+room_at (Held l) r = option_map_or (λ link. link.held) (slice_get r.links l) 0
 room_at Parked r = r.parked
 room_at (Back c) r = slice_index_or r.back c 0
-room_at (Unacked l) r = 0
-room_at (Acked l) r = 0
-room_at (Discarded cause) r = 0
+room_at _ r = 0
 
 -- no queue has less room
 abbrev pub KeepsRoom : Rooms → Rooms → Type 0

@@ -1,5 +1,6 @@
 -- The messages of a set by their numbers: whose each is, where it stands, and its octets.
-use Rattle.std.specs.Prelude.{ℕ, Bool, true, false, nat_lt, ◌==◌, zero, suc, ◌+◌, ◌&&◌, List, [], ◌∷◌, length, filter, slice_get, Option, Some, None, ◌≡◌, ◌<◌, ◌≤◌, ◌^◌, slice_index, option_map}
+use Rattle.std.specs.Prelude.{ℕ, Bool, true, false, nat_lt, ◌==◌, zero, suc, ◌+◌, ◌&&◌, List, [], ◌∷◌, length, filter, slice_get, Option, Some, ◌≡◌, ◌<◌, ◌≤◌, ◌^◌, slice_index, option_map}
+use Rattle.std.specs.Option.{option_map_or}
 use Rattle.set_queues.specs.declared.message.Kind.{Kind}
 use Rattle.set_queues.specs.declared.message.Kind.TheVariants.{User, Order}
 use Rattle.set_events.specs.declared.answer.Fate.{Fate}
@@ -70,12 +71,8 @@ restood (n ∷ ns) fate messages = restood ns fate (restood_one n fate messages)
 abbrev pub fate_at : ℕ → List Message → Option Fate
 fate_at number messages = option_map (λ m. m.fate) (slice_get messages number)
 
-abbrev pub octets_in : Option Message → ℕ
-octets_in None = 0
-octets_in (Some m) = m.octets
-
 abbrev pub octets_at : ℕ → List Message → ℕ
-octets_at number messages = octets_in (slice_get messages number)
+octets_at number messages = option_map_or (λ m. m.octets) (slice_get messages number) 0
 
 -- the octets of the bodies of these messages
 abbrev pub octets_of : List ℕ → List Message → ℕ

@@ -1,5 +1,6 @@
 -- Where every message of a set stands.
-use Rattle.std.specs.Prelude.{◌≡◌, ℕ, ◌+◌, ◌<◌, ◌≤◌, ◌==◌, Bool, true, false, List, [], ◌∷◌, ◌++◌, length, slice_index, Option, Some, None}
+use Rattle.std.specs.Prelude.{◌≡◌, ℕ, ◌+◌, ◌<◌, ◌≤◌, ◌==◌, Bool, true, false, List, [], ◌∷◌, ◌++◌, length, slice_index, Some}
+use Rattle.std.specs.Option.{option_map_or}
 use Rattle.set_queues.specs.Messages.{one_if, Message, AreFit, fate_at, octets_of, restood, octets_at}
 use Rattle.set_queues.specs.Buffers.{Fate, Unacked, Lists, Rooms, is_standing, same_fate, queue_at, with_queue}
 use Rattle.l2_window.specs.Window.{most_unacked}
@@ -20,14 +21,9 @@ abbrev pub occurs : ℕ → List ℕ → ℕ
 occurs number [] = 0
 occurs number (n ∷ ns) = one_if (n == number) + occurs number ns
 
--- the message has this fate
-abbrev pub has_fate : Fate → Option Fate → Bool
-has_fate fate None = false
-has_fate fate (Some f) = same_fate f fate
-
 -- the message of this number stands there
 abbrev pub stands : Fate → ℕ → List Message → Bool
-stands fate number messages = has_fate fate (fate_at number messages)
+stands fate number messages = option_map_or (λ f. same_fate f fate) (fate_at number messages) false
 
 -- EACH MESSAGE STANDS IN EXACTLY ONE QUEUE, the one that its fate names, or in none if its fate is final
 abbrev pub AreTied : Lists → List Message → Type 0

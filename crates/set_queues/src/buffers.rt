@@ -1,10 +1,9 @@
 //! The queues in which messages stand: of each link those of its window and the held ones, the parked
 //! ones, and of each changeback code those that wait for its acknowledgement.
-ghost use Rattle.set_queues.specs.Buffers.{AreEmpty, IsKnown, IsQueued, CanTake, KeepsRoom, TakesRoom, HaveRoom, queue_at, with_queue, last_at, room_at};
-ghost use Rattle.std.specs.Prelude.{◌≡◌, ◌≢◌, ◌↔◌, ◌+◌, ◌%◌, ◌<◌, ◌≤◌, ◌++◌, [], ◌∷◌, IsOk, IfOk, OnOk, OnErr, length, replicate, drop, slice_get};
-ghost use Rattle.set_queues.specs.Sending.{IsSending};
+ghost use Rattle.set_queues.specs.Buffers.{AreEmpty, IsKnown, CanTake, KeepsRoom, TakesRoom, queue_at, with_queue};
+ghost use Rattle.std.specs.Prelude.{◌≡◌, ◌<◌, ◌++◌, [], ◌∷◌, IfOk, length, drop, slice_get};
 
-use l2_window::{Queue, Window, WindowFault};
+use l2_window::{Queue, Window};
 use set_events::Fate;
 use std::alloc::{AllocError, Global};
 use std::marker::Model;
@@ -13,16 +12,16 @@ use std::marker::Model;
 #[derive(Drop)]
 pub(crate) struct Link {
     pub(crate) window: Window,
-    held: Queue,
+    pub(crate) held: Queue,
 }
 
 /// The queues of a set. A fate that isn't final names one of them.
 #[derive(Drop)]
 pub(crate) struct Buffers {
     pub(crate) links: Vec<Link>,
-    parked: Queue,
+    pub(crate) parked: Queue,
     /// By the changeback's code, 0 to 255.
-    back: Vec<Queue>,
+    pub(crate) back: Vec<Queue>,
 }
 
 impl Model for Buffers {
@@ -59,22 +58,6 @@ impl Buffers {
         })
     }
 
-    /// How many messages stand there.
-    #[tactic(auto, using(crate::proofs::Linked::of_link, crate::proofs::Linked::of_code))]
-    pub(crate) fn len(&self, fate: Fate) -> usize
-        requires { IsKnown fate self.now.lists }
-        ensures value { result ≡ length (queue_at fate self.now.lists) }
-    {
-        match fate {
-            Fate::Waiting { link } => self.links[usize::from(link)].window.unsent_len(),
-            Fate::Unacked { link } => self.links[usize::from(link)].window.unacked_len(),
-            Fate::Held { link } => self.links[usize::from(link)].held.len(),
-            Fate::Parked => self.parked.len(),
-            Fate::Back { code } => self.back[usize::from(code)].len(),
-            Fate::Acked { .. } | Fate::Discarded { .. } => 0,
-        }
-    }
-
     /// The message at this place of those that stand there, the oldest at 0.
     #[tactic(auto, using(crate::proofs::Linked::of_link, crate::proofs::Linked::of_code))]
     pub(crate) fn at(&self, fate: Fate, place: usize) -> Option<u64>
@@ -88,24 +71,6 @@ impl Buffers {
             Fate::Parked => self.parked.at(place),
             Fate::Back { code } => self.back[usize::from(code)].at(place),
             Fate::Acked { .. } | Fate::Discarded { .. } => None,
-        }
-    }
-
-    /// Makes room for so many more there. The messages stay where they stand.
-    #[tactic(auto, using(crate::proofs::Linked::of_link, crate::proofs::Linked::of_code))]
-    pub(crate) fn reserve(&mut self, fate: Fate, messages: usize) -> Result<(), AllocError>
-        requires known { IsKnown fate self.old.lists }
-        requires queued { IsQueued fate }
-        ensures room { OnOk result (messages ≤ room_at fate self.new.rooms) }
-        ensures same { self.new.lists ≡ self.old.lists }
-        ensures kept { KeepsRoom self.old.rooms self.new.rooms }
-    {
-        match fate {
-            Fate::Waiting { link } => self.links[usize::from(link)].window.reserve(messages),
-            Fate::Held { link } => self.links[usize::from(link)].held.reserve(messages),
-            Fate::Parked => self.parked.reserve(messages),
-            Fate::Back { code } => self.back[usize::from(code)].reserve(messages),
-            Fate::Unacked { .. } | Fate::Acked { .. } | Fate::Discarded { .. } => unreachable!(),
         }
     }
 
@@ -157,29 +122,5 @@ impl Buffers {
         ensures room { KeepsRoom self.old.rooms self.new.rooms }
     {
         self.back[usize::from(code)].pop();
-    }
-
-    /// The first message that waits for the link is sent: it stands last among the unacknowledged. The
-    /// message and its FSN.
-    ///
-    /// Refusals, in this order: 1 [`WindowFault::Empty`], 2 [`WindowFault::Full`].
-    #[tactic(auto, using(crate::proofs::Linked::of_link))]
-    pub(crate) fn send(&mut self, link: u8) -> Result<(u64, u8), WindowFault>
-        requires { link < length self.old.lists.links }
-        ensures empty { (result ≡ Err WindowFault.Empty) ↔ (queue_at
-            (Fate.Waiting link) self.old.lists ≡ []) }
-        ensures full { (result ≡ Err WindowFault.Full) ↔ ((queue_at
-            (Fate.Waiting link) self.old.lists ≢ []) × (127 ≤ length (queue_at
-            (Fate.Unacked link) self.old.lists))) }
-        ensures succeeds { queue_at (Fate.Waiting link) self.old.lists ≢ [] → length (queue_at
-            (Fate.Unacked link) self.old.lists) < 127 → IsOk result }
-        ensures few { OnOk result (length (queue_at (Fate.Unacked link) self.old.lists) < 127) }
-        ensures sent { IfOk result (λ sent. IsSending link sent.0 self.old.lists self.new.lists) }
-        ensures fsn { IfOk result (λ sent. sent.1 ≡ (last_at link self.old.lists + 1 + length
-            (queue_at (Fate.Unacked link) self.old.lists)) % 128) }
-        ensures room { OnOk result (KeepsRoom self.old.rooms self.new.rooms) }
-        ensures err { OnErr result (self.new ≡ self.old) }
-    {
-        self.links[usize::from(link)].window.send()
     }
 }

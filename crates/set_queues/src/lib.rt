@@ -18,24 +18,11 @@
 //!      +-------------------------------+---+---- Held(l) ------+---- discard ---> Discarded(cause)
 //! ```
 //!
-//! | call | what it does to the lists |
-//! |---|---|
-//! | [`Queues::add`] | a new number stands last in the queue that its fate names |
-//! | [`Queues::send`] | the first that waits for a link stands last among the unacknowledged |
-//! | [`Queues::acknowledge`] | the first unacknowledged, up to an FSN, are acknowledged |
-//! | [`Queues::discard`] | all of a queue are given up |
-//! | [`Queues::divert`] | all of a queue stand last in another, in their order |
-//! | [`Queues::turn_back`] | the first that waits for a changeback stands last in another queue |
-//! | [`Queues::settle`] | all of a link go to the target or are parked: sent, waiting, held |
-//! | [`Queues::reset`] | a link has a new life: FSN 127 counts as acknowledged |
-//!
-//! Readers: [`Queues::links`], [`Queues::len`], [`Queues::message`], [`Queues::fate_of`], [`Queues::counts`],
-//! [`Queues::unsent`], [`Queues::octets`], [`Queues::window`], [`Queues::count_at`],
-//! [`Queues::number_at`], [`Queues::back_count`], [`Queues::oldest_back`]. Only [`Queues::new`] and the
-//! calls that reserve take memory, here and in [`Bodies`]: a call that adds or moves needs its room reserved
-//! before. Each call costs the same however many messages there ever were; discarding, diverting and settling are
-//! linear in what moves. A number takes 8 octets, and 8 more while it stands in a queue; a queue of a
-//! code takes none for messages until one stands in it. A body takes 8 octets and its own.
+//! [`Queues::settle`] moves all of a link to the target, or parks them: sent, waiting, held; [`Queues::reset`] begins its
+//! new life. Only [`Queues::new`] and the calls that reserve take memory, here and in [`Bodies`]: a call that adds or
+//! moves needs its room reserved before. Each call costs the same however many messages there ever were; discarding,
+//! diverting and settling are linear in what moves. A number takes 8 octets, and 8 more while it stands in a queue; a
+//! queue of a code takes none for messages until one stands in it. A body takes 8 octets and its own.
 //!
 //! This crate decides nothing: which messages are sent, acknowledged or moved, and when, is the
 //! caller's to know. It reads no clock, does no IO and takes no lock.

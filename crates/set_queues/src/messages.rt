@@ -1,8 +1,7 @@
 //! Where each message stands, with the counts of all of them, and what is done with the first of a queue.
-ghost use Rattle.std.specs.Prelude.{◌≡◌, ◌-◌, ◌<◌, ◌≤◌, ◌++◌, false, length, take, vec_len, vec_capacity};
-ghost use Rattle.set_queues.specs.Messages.{octets_of, AreFit, restood, IsTally, restood_one, octets_at};
+ghost use Rattle.std.specs.Prelude.{◌≡◌, ◌-◌, ◌*◌, ◌≤◌, ◌++◌, false, length, take, vec_len, vec_capacity};
+ghost use Rattle.set_queues.specs.Messages.{octets_of, restood, IsTally, restood_one, octets_at};
 ghost use Rattle.set_queues.specs.Buffers.{IsKnown, CanTake, TakesRoom, queue_at, with_queue, same_fate};
-ghost use Rattle.set_queues.specs.Queues.{AreGiven};
 
 use super::buffers::Buffers;
 use super::message::Message;
@@ -17,29 +16,20 @@ pub(crate) struct Messages {
 }
 
 impl Messages {
-    /// The octets of the body of the message of this number, 0 where there is none.
-    pub(crate) fn octets(&self, number: u64) -> u16
-        ensures { result ≡ octets_at number self.now.all.items }
-    {
-        match self.all.get(number as usize) {
-            Some(message) => message.octets,
-            None => 0,
-        }
-    }
-
-    /// The message of this number stands there from now on; the octets of its body.
+    /// The message of this number, if there is one, stands there from now on; the octets of its body.
     #[tactic(auto, using(crate::proofs::Tallies::restands))]
     pub(crate) fn restand(&mut self, number: u64, fate: Fate) -> u16
         requires counted { IsTally self.old.tally self.old.all.items }
-        requires given { number < length self.old.all.items }
         ensures counted { IsTally self.new.tally self.new.all.items }
         ensures messages { self.new.all.items ≡ restood_one number fate self.old.all.items }
         ensures octets { result ≡ octets_at number self.old.all.items }
-        ensures fits { result ≤ 273 }
         ensures room { vec_capacity self.new.all - vec_len self.new.all
             ≡ vec_capacity self.old.all - vec_len self.old.all }
     {
         let place = number as usize;
+        if place >= self.all.len() {
+            return 0;
+        }
         let was = self.all[place];
         let now = Message { fate, ..was };
         leave(&mut self.tally, was);
@@ -50,7 +40,7 @@ impl Messages {
 }
 
 /// The first `count` that stand in one queue have another fate from now on, and stand last there too, in
-/// their order, if it isn't final.
+/// their order, if it isn't final; the octets of their bodies.
 #[tactic(auto, using(crate::proofs::Standing::passing))]
 pub(crate) fn pass(
     buffers: &mut Buffers,
@@ -58,11 +48,10 @@ pub(crate) fn pass(
     from: Fate,
     count: usize,
     to: Fate,
-)
+) -> u128
     requires known { IsKnown from buffers.old.lists }
     requires other { IsKnown to buffers.old.lists }
     requires counted { IsTally messages.old.tally messages.old.all.items }
-    requires given { AreGiven (queue_at from buffers.old.lists) messages.old.all.items }
     requires few { count ≤ length (queue_at from buffers.old.lists) }
     requires apart { same_fate to from ≡ false }
     requires room { CanTake to count buffers.old.rooms }
@@ -71,34 +60,19 @@ pub(crate) fn pass(
     ensures counted { IsTally messages.new.tally messages.new.all.items }
     ensures messages { messages.new.all.items ≡ restood (take count
         (queue_at from buffers.old.lists)) to messages.old.all.items }
+    ensures octets { result ≡ octets_of (take count
+        (queue_at from buffers.old.lists)) messages.old.all.items }
     ensures rooms { TakesRoom to count buffers.old.rooms buffers.new.rooms }
     ensures room { vec_capacity messages.new.all - vec_len messages.new.all
         ≡ vec_capacity messages.old.all - vec_len messages.old.all }
 {
+    let mut octets = 0;
     for place in 0..count {
         match buffers.at(from, place) {
             Some(number) => {
-                messages.restand(number, to);
+                octets += u128::from(messages.restand(number, to));
                 buffers.push(to, number);
             }
-            None => unreachable!(),
-        }
-    }
-}
-
-/// The octets of the first `count` unacknowledged bodies of the link.
-#[tactic(auto, using(crate::proofs::Tallies::fit_octets, crate::proofs::Tallies::octets_more, crate::proofs::Standing::none_past))]
-pub(crate) fn weigh(buffers: &Buffers, messages: &Messages, link: u8, count: u8) -> u32
-    requires known { link < length buffers.now.lists.links }
-    requires few { count ≤ length (queue_at (Fate.Unacked link) buffers.now.lists) }
-    requires fit { AreFit messages.now.all.items }
-    ensures { result ≡ octets_of (take count (queue_at
-        (Fate.Unacked link) buffers.now.lists)) messages.now.all.items }
-{
-    let mut octets = 0;
-    for place in 0..count {
-        match buffers.at(Fate::Unacked { link }, usize::from(place)) {
-            Some(number) => octets += u32::from(messages.octets(number)),
             None => unreachable!(),
         }
     }

@@ -10,7 +10,7 @@ ghost use Rattle.set_queues.specs.Sending.{IsSending, acknowledged, reach};
 
 use super::buffers::Buffers;
 use super::message::Message;
-use super::messages::{Messages, pass, weigh};
+use super::messages::{Messages, pass};
 use super::tally::{Tally, enter};
 use l2_window::{Queue, Window, WindowFault};
 use set_events::{Counts, DiscardCause, Fate};
@@ -20,11 +20,7 @@ use std::marker::Model;
 /// Where every message of a set stands: the queues of 1 to 16 links, the parked messages, and by its
 /// number each message's fate, whose it is, and its octets.
 ///
-/// Contracts see the lists of numbers, the messages, and how much room there is; the counts are those
-/// of the lists. A fate that isn't final names a queue: [`Fate::Waiting`] what waits for a link,
-/// [`Fate::Unacked`] what was sent on it, [`Fate::Held`] what is held for it, [`Fate::Parked`] what no
-/// link can take, [`Fate::Back`] what waits for the acknowledgement of a changeback, one queue for each
-/// of the codes 0 to 255 (Q.704 6.3).
+/// Contracts see the lists of numbers, the messages, and how much room there is; the counts are those of the lists.
 #[derive(Drop)]
 pub struct Queues {
     buffers: Buffers,
@@ -157,11 +153,20 @@ impl Queues {
     }
 
     /// How many messages stand there.
+    #[tactic(auto, using(crate::proofs::Linked::of_link, crate::proofs::Linked::of_code))]
     pub fn count_at(&self, fate: Fate) -> usize
         requires { IsKnown fate self.now.lists }
         ensures { result ≡ length (queue_at fate self.now.lists) }
     {
-        self.buffers.len(fate)
+        let buffers = &self.buffers;
+        match fate {
+            Fate::Waiting { link } => buffers.links[usize::from(link)].window.unsent_len(),
+            Fate::Unacked { link } => buffers.links[usize::from(link)].window.unacked_len(),
+            Fate::Held { link } => buffers.links[usize::from(link)].held.len(),
+            Fate::Parked => buffers.parked.len(),
+            Fate::Back { code } => buffers.back[usize::from(code)].len(),
+            Fate::Acked { .. } | Fate::Discarded { .. } => 0,
+        }
     }
 
     /// The number at this place of the queue, the oldest at 0.
@@ -181,11 +186,12 @@ impl Queues {
         ensures few { result < 2 ^ 63 }
     {
         // no count is out of range, since there are fewer than 2^63 messages
+        self.is_sound();
         self.len();
         let mut count = 0;
         for place in 0..16u8 {
             let code = 16 * home + place;
-            count += self.buffers.len(Fate::Back { code });
+            count += self.count_at(Fate::Back { code });
         }
         count
     }
@@ -222,6 +228,7 @@ impl Queues {
     }
 
     /// Makes room for so many more in that queue.
+    #[tactic(auto, using(crate::proofs::Linked::of_link, crate::proofs::Linked::of_code))]
     pub fn reserve_at(&mut self, fate: Fate, messages: usize) -> Result<(), AllocError>
         requires known { IsKnown fate self.old.lists }
         requires queued { IsQueued fate }
@@ -230,7 +237,14 @@ impl Queues {
             ≡ self.old.messages) × (self.new.room ≡ self.old.room) }
         ensures kept { KeepsRoom self.old.rooms self.new.rooms }
     {
-        self.buffers.reserve(fate, messages)
+        let buffers = &mut self.buffers;
+        match fate {
+            Fate::Waiting { link } => buffers.links[usize::from(link)].window.reserve(messages),
+            Fate::Held { link } => buffers.links[usize::from(link)].held.reserve(messages),
+            Fate::Parked => buffers.parked.reserve(messages),
+            Fate::Back { code } => buffers.back[usize::from(code)].reserve(messages),
+            Fate::Unacked { .. } | Fate::Acked { .. } | Fate::Discarded { .. } => unreachable!(),
+        }
     }
 
     /// Makes room for so many more that wait for each link, and for as many that are held for it. Nothing
@@ -263,12 +277,12 @@ impl Queues {
             ≡ self.old.messages) × (self.new.room ≡ self.old.room) }
         ensures kept { KeepsRoom self.old.rooms self.new.rooms }
     {
-        let sent = self.buffers.len(Fate::Unacked { link });
-        let unsent = self.buffers.len(Fate::Waiting { link });
-        let held = self.buffers.len(Fate::Held { link });
+        let sent = self.count_at(Fate::Unacked { link });
+        let unsent = self.count_at(Fate::Waiting { link });
+        let held = self.count_at(Fate::Held { link });
         let messages = sent as u128 + unsent as u128 + held as u128 + more as u128;
         let messages = usize::try_from(messages).ok().ok_or(AllocError)?;
-        self.buffers.reserve(fate, messages)
+        self.reserve_at(fate, messages)
     }
 
     /// A new message stands last in the queue that its fate names: its number.
@@ -301,6 +315,7 @@ impl Queues {
     ///
     /// Refusals, in this order: 1 [`WindowFault::Empty`] with none that waits, 2
     /// [`WindowFault::Full`] with 127 unacknowledged.
+    #[tactic(auto, using(crate::proofs::Linked::of_link))]
     pub fn send(&mut self, link: u8) -> Result<(u64, u8), WindowFault>
         requires { link < length self.old.lists.links }
         ensures empty { (result ≡ Err WindowFault.Empty) ↔ (queue_at
@@ -319,7 +334,8 @@ impl Queues {
             ≡ self.old.room)) }
         ensures err { OnErr result (self.new ≡ self.old) }
     {
-        let (number, fsn) = self.buffers.send(link)?;
+        let buffers = &mut self.buffers;
+        let (number, fsn) = buffers.links[usize::from(link)].window.send()?;
         let octets = self.messages.restand(number, Fate::Unacked { link });
         self.octets[usize::from(link)] += u32::from(octets);
         Ok((number, fsn))
@@ -349,9 +365,8 @@ impl Queues {
         };
         let (from, to) = (Fate::Unacked { link }, Fate::Acked { link });
         let moved = usize::from(count);
-        let octets = weigh(&self.buffers, &self.messages, link, count);
-        pass(&mut self.buffers, &mut self.messages, from, moved, to);
-        self.octets[usize::from(link)] -= octets;
+        let octets = pass(&mut self.buffers, &mut self.messages, from, moved, to);
+        lighten(&mut self.octets, from, octets);
         let buffers = &mut self.buffers;
         match buffers.links[usize::from(link)].window.ack(fsn) {
             Ok(_) => Ok(count),
@@ -416,6 +431,7 @@ impl Queues {
 
     /// All that stand in one queue have another fate from now on, and stand last there, in their order, if
     /// it isn't final.
+    #[tactic(auto, using(crate::proofs::Standing::links_stay))]
     fn pass_all(&mut self, from: Fate, to: Fate)
         requires standing { is_standing from ≡ true }
         requires known { IsKnown from self.old.lists }
@@ -423,16 +439,17 @@ impl Queues {
         requires apart { same_fate to from ≡ false }
         requires room { CanTake to (length (queue_at from self.old.lists)) self.old.rooms }
         ensures lists { self.new.lists ≡ passed from to self.old.lists }
+        ensures links { length self.new.lists.links ≡ length self.old.lists.links }
         ensures messages { self.new.messages ≡ restood
             (queue_at from self.old.lists) to self.old.messages }
         ensures rooms { TakesRoom to (length
             (queue_at from self.old.lists)) self.old.rooms self.new.rooms }
         ensures room { self.new.room ≡ self.old.room }
     {
-        let count = self.buffers.len(from);
-        pass(&mut self.buffers, &mut self.messages, from, count, to);
+        let count = self.count_at(from);
+        let octets = pass(&mut self.buffers, &mut self.messages, from, count, to);
         self.buffers.clear(from);
-        weigh_none(&mut self.octets, from);
+        lighten(&mut self.octets, from, octets);
     }
 
     /// The link settles (Q.704 5.5): all that stand on it wait for the target from now on, behind what
@@ -476,14 +493,16 @@ impl Queues {
     }
 }
 
-/// No octets are unacknowledged on the link whose queue of sent messages this is, if it is one.
-fn weigh_none(octets: &mut [u32; 16], fate: Fate)
-    requires { (link : ℕ) → fate ≡ Fate.Unacked link → link < 16 }
-    ensures { (link : ℕ) → link < 16 → slice_index octets.new link ≡ (if same_fate fate
-        (Fate.Unacked link) then 0 else slice_index octets.old link) }
+/// So many octets leave a queue: no longer are they unacknowledged, if it's one of sent messages.
+fn lighten(octets: &mut [u32; 16], from: Fate, by: u128)
+    requires known { (link : ℕ) → from ≡ Fate.Unacked link → link < 16 }
+    requires counted { (link : ℕ) → from ≡ Fate.Unacked link → by ≤ slice_index octets.old link }
+    ensures { (link : ℕ) → link < 16 → slice_index octets.new link + (if same_fate from
+        (Fate.Unacked link) then by else 0) ≡ slice_index octets.old link }
 {
-    if let Fate::Unacked { link } = fate {
-        octets[usize::from(link)] = 0;
+    if let Fate::Unacked { link } = from {
+        let counted = octets[usize::from(link)];
+        octets[usize::from(link)] = counted - by as u32;
     }
 }
 

@@ -1,11 +1,8 @@
 use Rattle.std.proofs.Common.{arith, refl}
 use Rattle.set_queues.specs.Buffers.{Back, IsKnown}
 use Rattle.set_queues.proofs.Standing.{known_with}
-use Rattle.set_queues.proofs.Soundness.{given_all, kept_passed, moved_one}
+use Rattle.set_queues.proofs.Soundness.{kept_passed, moved_one}
 use Rattle.set_queues.proofs.queues.Queues.turn_back.Goals as goal
-
-pub pass-requires-clause-given : goal.pass-requires-clause-given
-pass-requires-clause-given c = given_all _ _ (Back c.args.code) c.self.invariant.0.sound refl
 
 pub drop_back-requires : goal.drop_back-requires
 drop_back-requires c = record { known = known_with (Back c.args.code) c.args.to _ _ _ c.pass.ensures.lists (omega (arith, c.ranges.code.fits, c.self.invariant.0.sound.codes)) }
@@ -16,7 +13,7 @@ invariant_of-self c =
     let other : IsKnown c.args.to c.self.inside.buffers.lists = rw (← c.self.view_is) at c.requires.other in (
       rw (moved_one (Back c.args.code) c.args.to _ _ _ other c.requires.apart c.pass.ensures.lists c.drop_back.ensures.lists, c.pass.ensures.messages) (
           kept_passed 1 (Back c.args.code) c.args.to _ _ _ _ c.self.invariant.0 (record { standing = refl; known = known; other = other; apart = c.requires.apart })
-          (λ s. c.requires.queued) (λ l t. absurd (cc)) (λ l h. refl)),
+          (λ s. c.requires.queued) (λ l h. omega arith)),
       c.pass.ensures.counted,
     )
 
