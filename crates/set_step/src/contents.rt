@@ -1,11 +1,12 @@
 //! What a set keeps, as one event after another changes it.
-use super::step::{carry_out, is_asked};
+use super::step::carry_out;
 use l2_window::number_after;
 use set_events::{Answer, Counts, Event, Fate, SetConfig, SetFault};
 use set_model::{Numbered, Phase};
 use set_moves::{Link, Parts, phase_of};
 use set_queues::{Bodies, Queues};
 use set_route::Routes;
+use set_traffic::is_asked;
 use std::alloc::{AllocError, Global};
 use std::collections::VecDeque;
 use std::marker::Model;

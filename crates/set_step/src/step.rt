@@ -1,6 +1,5 @@
 //! What an event does to a set. Each function is a case of the set's step.
 ghost use Rattle.std.specs.Prelude.{◌≡◌, ◌^◌, true, IsOk, OnOk, OnErr};
-ghost use Rattle.set_model.specs.Sound.{IsAsked};
 ghost use Rattle.set_model.specs.Step.{on_link, in_service, rises, falls, gives_up};
 ghost use Rattle.set_moves.specs.Agreement.{Holds};
 ghost use Rattle.set_step.specs.Answering.{wants_none, stepped_by};
@@ -8,7 +7,7 @@ ghost use Rattle.set_moves.specs.Parts.{Answers, AreCounted, kept_of};
 
 use l3_orders::Order;
 use set_events::{Answer, Event, Fate, Refusal};
-use set_model::{Phase, Reached, stream_of_body};
+use set_model::{Phase, Reached};
 use set_moves::{
     Parts, leave, make_room_beside, make_room_parked, phase_of, queue, restore, settle, time_out,
     unserved,
@@ -155,14 +154,4 @@ fn bring_up(parts: &mut Parts, number: u8, answer: &mut Answer) -> Result<(), Al
         }
     };
     Ok(())
-}
-
-/// A law: the octets of a label tell one of 16 streams.
-pub fn is_asked(event: &Event)
-    ensures { IsAsked event.now }
-{
-    if let Event::Offer { body } = event {
-        // a stream is below 16
-        stream_of_body(body.octets());
-    }
 }

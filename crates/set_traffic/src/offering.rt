@@ -2,12 +2,13 @@
 ghost use Rattle.std.specs.Prelude.{◌≡◌, OnOk, OnErr};
 ghost use Rattle.set_queues.specs.Messages.{unsent_of};
 ghost use Rattle.set_model.specs.Rows.{stream_of};
+ghost use Rattle.set_model.specs.Sound.{IsAsked};
 ghost use Rattle.set_model.specs.Step.{refusal_by, offer_refusal, offered};
 ghost use Rattle.set_moves.specs.Agreement.{Holds};
 ghost use Rattle.set_moves.specs.Parts.{Answers, kept_of};
 
 use l2_units::LONGEST_BODY;
-use set_events::{Answer, Body, Refusal};
+use set_events::{Answer, Body, Event, Refusal};
 use set_model::{service_indicator, stream_of_body};
 use set_moves::{Parts, fate_of_new, make_room, stand_last};
 use set_queues::Queues;
@@ -58,4 +59,14 @@ fn refusal_of(queues: &Queues, body: &Body) -> Option<Refusal>
         return Some(Refusal::StreamFull);
     }
     None
+}
+
+/// A law: the octets of a label tell one of 16 streams.
+pub fn is_asked(event: &Event)
+    ensures { IsAsked event.now }
+{
+    if let Event::Offer { body } = event {
+        // a stream is below 16
+        stream_of_body(body.octets());
+    }
 }
