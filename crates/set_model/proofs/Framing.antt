@@ -17,7 +17,7 @@ use Rattle.set_model.proofs.Events.{Untouched, untouched_self, apart_on, sent, s
 use Rattle.set_model.proofs.Rows.{fated_none, new_row, moved_same, moved_more}
 use Rattle.set_model.proofs.Lists.{get_set_same, get_set_other, within, target_off}
 use Rattle.set_model.proofs.Places.{apart, not_on_waiting, back_not_on, home_back, code_back}
-use Rattle.set_model.proofs.Ranging.{offered_out, not_sent}
+use Rattle.set_model.proofs.Staying.{offered_out, not_sent}
 use Rattle.set_model.proofs.SoundBack.{up_not_held, down_not_waiting, alternative_up}
 use Rattle.set_model.proofs.Walk.{step_walks}
 

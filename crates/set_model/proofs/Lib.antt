@@ -3,7 +3,6 @@ pub mod Framing
 pub mod Lists
 pub mod Order
 pub mod Places
-pub mod Ranging
 pub mod Rows
 pub mod Settling
 pub mod SoundBack

@@ -17,7 +17,7 @@ use Rattle.set_model.proofs.Events.{apart_on, left, unparked, untouched_self}
 use Rattle.set_model.proofs.Lists.{get_set_same, get_set_other, within, each_set, target_up, target_off, none_up}
 use Rattle.set_model.proofs.Rows.{each_filter, moved_off, moved_numbered, moved_fit, moved_same, moved_more, moved_nothing, fated_none}
 use Rattle.set_model.proofs.Places.{false_true, not_on_waiting, back_not_on, back_not_parked, code_back, home_back}
-use Rattle.set_model.proofs.Ranging.{not_sent, offered_out}
+use Rattle.set_model.proofs.Staying.{not_sent, offered_out}
 use Rattle.set_model.proofs.Walk.{IsAt}
 use Rattle.set_model.proofs.SoundLink.{link_moved, links_set, placed_set, up_before, up_after, Follows, appended_sound}
 use Rattle.set_model.proofs.Settling.{settled_empty}
