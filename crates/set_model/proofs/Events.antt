@@ -8,7 +8,7 @@ use Rattle.set_model.specs.Sound.{is_unfinished}
 use Rattle.set_model.specs.Step.{rows_sent}
 use Rattle.set_model.proofs.Places.{itself, apart_back, unacked_not_waiting, not_held, on_not_parked, on_not_back, waiting_on, unacked_on, held_on, on_other, not_on_waiting, not_on_unacked, not_on_held}
 use Rattle.set_model.proofs.Rows.{InPlace, turned_there, changed_there, turned_same, changed_same, turned_left, moved_length, moved_fit, moved_numbered, moved_gone, moved_same, moved_joined, filter_moved, filter_comm, filter_within, body_moved, total_is, new_row, same_numbers}
-use Rattle.set_model.proofs.Order.{before_filter, before_never, before_none, before_within, order_sent, sent_joined, on_in_order}
+use Rattle.set_model.proofs.Order.{before_filter, before_never, before_none, before_within, first_sent, on_in_order}
 
 -- Rows that got their fates have the same numbers and octets.
 pub numbers_fated : (fate : Row → Fate) (xs : List Row) → numbers (map (fated fate) xs) ≡ numbers xs
@@ -64,10 +64,6 @@ module _ (rows : List Row) (body : List ℕ) (fate : Fate) where
   pub appended_out : (test : Fate → Bool) → test fate ≡ false → standing test (appended rows body fate) ≡ standing test rows
   appended_out test h = filter-append (λ (row : Row). test row.fate) rows (new_row (length rows) body fate ∷ []) ∙ ap (λ (xs : List Row). standing test rows ++ xs) (rw h refl) ∙ append-nil (standing test rows)
 
--- a row on one link is on no other
-pub apart_on : (l n : ℕ) → (l == n) ≡ false → (f : Fate) → is_on l f ≡ true → is_on n f ≡ false
-apart_on l n d f e = on_other n l (apart_back l n d) f e
-
 -- ROWS OF A LINK THAT CHANGE IN THEIR PLACES: none of them is held, and what stands elsewhere doesn't change.
 pub record ChangesOn (l : ℕ) (rows new : List Row) : Type 0 where
   pub kept : Kept rows new
@@ -99,8 +95,9 @@ pub record Sent (l : ℕ) (rows new : List Row) : Type 0 where
 
 pub sent : (l : ℕ) (rows : List Row) → Sent l rows (turned (is_waiting l) (Unacked l) 1 rows)
 sent l rows =
-    let changed = changes_on l (is_waiting l) (Unacked l) rows _ (turned_there (is_waiting l) (Unacked l) 1 rows) (λ f e. grind arith) (grind arith) (order_sent l rows) in
-    search (changed, turned_left, sent_joined, itself)
+    let first = first_sent l rows (itself l) in
+    let changed = changes_on l (is_waiting l) (Unacked l) rows _ (turned_there (is_waiting l) (Unacked l) 1 rows) (λ f e. grind arith) (grind arith) (λ o. (first o).0) in
+    record { in_place = changed; wait_is = turned_left (is_waiting l) (Unacked l) refl 1 rows; unack_is = λ o. (first o).1 }
 
 -- what the rows keep where nothing is sent for the first time too
 pub sent_by : (choice : Choice) (n : ℕ) (rows : List Row) → ChangesOn n rows (rows_sent choice n rows)
