@@ -9,5 +9,4 @@ pub mod SoundBack
 pub mod SoundLink
 pub mod Soundness
 pub mod Staying
-pub mod Straight
 pub mod Walk
