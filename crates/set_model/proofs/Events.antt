@@ -6,8 +6,8 @@ use Rattle.set_model.specs.Rows.{DiscardCause, Fate, Acked, Discarded, Parked, U
 use Rattle.set_model.specs.Control.{Choice, first}
 use Rattle.set_model.specs.Sound.{is_unfinished}
 use Rattle.set_model.specs.Step.{rows_sent}
-use Rattle.set_model.proofs.Places.{itself, apart_back, unacked_not_waiting, not_held, on_not_parked, on_not_back, waiting_on, unacked_on, held_on, on_other, not_on_waiting, not_on_unacked, not_on_held}
-use Rattle.set_model.proofs.Rows.{InPlace, turned_there, changed_there, turned_same, changed_same, turned_left, moved_length, moved_fit, moved_numbered, moved_gone, moved_same, moved_joined, filter_moved, filter_comm, filter_within, body_moved, total_is, new_row, same_numbers}
+use Rattle.set_model.proofs.Places.{itself, apart_back, unacked_not_waiting, on_not_parked, waiting_on, unacked_on, held_on, on_other, not_on_waiting, not_on_unacked, not_on_held}
+use Rattle.set_model.proofs.Rows.{InPlace, turned_there, changed_there, turned_same, turned_left, moved_length, moved_fit, moved_numbered, moved_gone, moved_same, moved_joined, filter_moved, filter_comm, filter_within, body_moved, total_is, new_row, same_numbers}
 use Rattle.set_model.proofs.Order.{before_filter, before_never, before_none, before_within, first_sent, on_in_order}
 
 -- Rows that got their fates have the same numbers and octets.
