@@ -27,9 +27,6 @@ pub record Kept (rows new : List Row) : Type 0 where
   pub total : total_of (counts_of new) ≡ total_of (counts_of rows)
   pub acked : (counts_of rows).acked ≤ (counts_of new).acked
 
-pub kept_self : (rows : List Row) → Kept rows rows
-kept_self rows = record { fit = λ f. f; numbered = λ f. f; count = refl; bodies = λ f number. refl; total = refl; acked = omega arith }
-
 kept_in_place : (test : Fate → Bool) (to : Fate) (rows new : List Row) → InPlace test to rows new → ((l : ℕ) → test (Acked l) ≡ false) → Kept rows new
 kept_in_place test to rows new i w = grind (arith, total_is, same_numbers)
 
@@ -45,15 +42,15 @@ pub record Untouched (n : ℕ) (rows new : List Row) : Type 0 where
   pub order_kept : IsInOrder n rows → IsInOrder n new
   pub last_kept : IsHeldLast n rows → IsHeldLast n new
 
-pub untouched_self : (n : ℕ) (rows : List Row) → Untouched n rows rows
-untouched_self n rows = record { unack_same = refl; wait_same = refl; held_same = refl; on_same = refl; order_kept = λ o. o; last_kept = λ o. o }
-
 -- where what is on it is the same
 pub untouched : (n : ℕ) (rows new : List Row) → on n new ≡ on n rows → Untouched n rows new
 untouched n rows new same =
     let order = before_within (is_unacked n) (is_waiting n) (is_on n) (unacked_on n) (waiting_on n) new in
     let last = before_within (λ f. is_unacked n f || is_waiting n f) (is_held n) (is_on n) (λ f e. grind arith) (held_on n) new in
     grind (arith, filter_within, order, last, before_filter)
+
+pub untouched_self : (n : ℕ) (rows : List Row) → Untouched n rows rows
+untouched_self n rows = untouched n rows rows refl
 
 -- A NEW MESSAGE.
 module _ (rows : List Row) (body : List ℕ) (fate : Fate) where
@@ -99,11 +96,6 @@ sent l rows =
     let changed = changes_on l (is_waiting l) (Unacked l) rows _ (turned_there (is_waiting l) (Unacked l) 1 rows) (λ f e. grind arith) (grind arith) (λ o. (first o).0) in
     record { in_place = changed; wait_is = turned_left (is_waiting l) (Unacked l) refl 1 rows; unack_is = λ o. (first o).1 }
 
--- what the rows keep where nothing is sent for the first time too
-pub sent_by : (choice : Choice) (n : ℕ) (rows : List Row) → ChangesOn n rows (rows_sent choice n rows)
-sent_by first n rows = (sent n rows).in_place
-sent_by _ n rows = let k = kept_self rows in let u = λ (m : ℕ). untouched_self m rows in search (k, u)
-
 -- AN ACKNOWLEDGEMENT.
 pub record Acknowledged (l count : ℕ) (rows new : List Row) : Type 0 where
   pub in_place : ChangesOn l rows new
@@ -116,6 +108,11 @@ pub acknowledged : (l count : ℕ) (rows : List Row) → Acknowledged l count ro
 acknowledged l count rows =
     let changed = ends_on l (is_unacked l) (Acked l) rows _ (turned_there (is_unacked l) (Acked l) count rows) (λ f e. grind arith) refl in
     search (changed, turned_left, turned_same, unacked_not_waiting, on_in_order, changed.order_kept, changed.last_kept, changed.held_same)
+
+-- what the rows keep where nothing is sent for the first time too
+pub sent_by : (choice : Choice) (n : ℕ) (rows : List Row) → ChangesOn n rows (rows_sent choice n rows)
+sent_by first n rows = (sent n rows).in_place
+sent_by _ n rows = (acknowledged n 0 rows).in_place
 
 -- MESSAGES THAT ARE GIVEN UP.
 module _ (l : ℕ) (cause : DiscardCause) (rows : List Row) where
