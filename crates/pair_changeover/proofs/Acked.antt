@@ -27,7 +27,7 @@ use Rattle.set_model.proofs.Events as events
 use Rattle.set_model.proofs.Rows.{with_number, numbered_appended, turned_there, turned_left, changed_left, changed_same, at_most_one, moved_numbered, moved_same}
 use Rattle.set_model.proofs.Lists.{get_set_same, get_set_other, same_at, within}
 use Rattle.set_model.proofs.Places.{false_true, itself, apart_back, on_other, not_on_unacked, back_not_on, code_back, home_back}
-use Rattle.set_model.proofs.Ranging.{acked_few, not_sent, offered_out}
+use Rattle.set_model.proofs.Staying.{acked_few, not_sent, offered_out}
 use Rattle.set_model.proofs.Settling.{settled_empty}
 use Rattle.set_model.proofs.Walk.{IsAt, KeptBy, settle_walks, takes_walks, step_walks}
 use Rattle.set_route.specs.Routing.{place_of}

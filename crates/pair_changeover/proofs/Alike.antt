@@ -13,7 +13,7 @@ use Rattle.set_model.specs.Changeover.{out_of_service, left_by, left_link}
 use Rattle.set_model.proofs.Rows.{turned_same, moved_more}
 use Rattle.set_model.proofs.Lists.{get_set_same, within}
 use Rattle.set_model.proofs.Places.{home_back}
-use Rattle.set_model.proofs.Ranging.{offered_out}
+use Rattle.set_model.proofs.Staying.{offered_out}
 use Rattle.pair_changeover.specs.Diverted.{as_left}
 use Rattle.pair_changeover.proofs.Changes.{own_then, other_then}
 use Rattle.pair_changeover.proofs.Turning.{unack_same}

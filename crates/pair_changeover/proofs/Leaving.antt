@@ -13,7 +13,7 @@ use Rattle.set_model.specs.State.{LinkState, State, is_up, link_is_up, link_is_s
 use Rattle.set_model.specs.Changeover.{out_of_service, left_by, left_link, released}
 use Rattle.set_model.proofs.Rows.{moved_same}
 use Rattle.set_model.proofs.Places.{code_back, home_back}
-use Rattle.set_model.proofs.Ranging.{offered_out}
+use Rattle.set_model.proofs.Staying.{offered_out}
 use Rattle.set_model.proofs.SoundBack.{up_not_held, down_not_waiting, none_back}
 use Rattle.set_model.proofs.Walk.{IsAt}
 use Rattle.pair_model.specs.Run.{Message}

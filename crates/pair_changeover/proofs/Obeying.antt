@@ -22,7 +22,7 @@ use Rattle.set_model.proofs.Events.{appended_in, appended_out}
 use Rattle.set_model.proofs.Rows.{turned_same, moved_length, moved_same}
 use Rattle.set_model.proofs.Lists.{within, map_set_same, same_at, target_up}
 use Rattle.set_model.proofs.Places.{apart, itself, home_back}
-use Rattle.set_model.proofs.Ranging.{offered_out}
+use Rattle.set_model.proofs.Staying.{offered_out}
 use Rattle.set_model.proofs.Settling.{no_target}
 use Rattle.set_model.proofs.SoundBack.{leaves}
 use Rattle.set_model.proofs.SoundLink as new

@@ -33,7 +33,7 @@ use Rattle.set_model.proofs.Rows.{new_row, moved_same, moved_more}
 use Rattle.set_model.proofs.Framing.{leaves_alone}
 use Rattle.set_model.proofs.Lists.{get_set_same, get_set_other, same_at, within, length_set, target_up}
 use Rattle.set_model.proofs.Places.{false_true, itself, apart, not_on_unacked, not_on_waiting, back_not_on, code_back, home_back}
-use Rattle.set_model.proofs.Ranging.{offered_out}
+use Rattle.set_model.proofs.Staying.{offered_out}
 use Rattle.set_model.proofs.Walk.{IsAt, KeptBy, Touches, settle_walks, declare_walks, obeys_walks}
 
 -- it wasn't settled before; its control, its count and its unacknowledged messages are the same; and messages may have

@@ -16,8 +16,7 @@ use Rattle.set_model.specs.State.{State, new_state, settings_of}
 use Rattle.set_model.specs.Sound.{AreFew}
 use Rattle.set_model.specs.Rows.{counts_of, total_of}
 use Rattle.set_model.specs.Step.{Gains, step, messages_in, octets_of}
-use Rattle.set_model.proofs.Staying.{step_gains, AcceptsNone, accepts_none}
-use Rattle.set_model.proofs.Ranging.{step_few}
+use Rattle.set_model.proofs.Staying.{step_gains, AcceptsNone, accepts_none, step_few}
 use Rattle.set_model.proofs.Soundness.{opened_few}
 use Rattle.set_moves.specs.Agreement.{Kept, Agrees}
 use Rattle.set_step.specs.Answering.{AnswersFor}

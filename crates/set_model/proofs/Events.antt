@@ -1,13 +1,14 @@
 -- WHAT EACH CHANGE DOES TO EACH LINK: the lemmas that a set's step is argued by.
-use Rattle.std.proofs.Common.{refl, arith, ◌≡◌, ◌∙◌, ap, ◌≤◌, [], ◌∷◌, length, ℕ, Bool, true, false, ◌==◌, ◌||◌, List, ◌++◌, map, take, drop}
+use Rattle.std.proofs.Common.{refl, arith, ◌≡◌, ◌∙◌, ap, ◌≤◌, [], ◌∷◌, length, ℕ, Bool, true, false, ◌==◌, ◌||◌, List, ◌++◌, map, take, drop, not}
 use Rattle.std.proofs.lemmas.List.{append-nil, map-append}
 use Rattle.std.proofs.lemmas.List.Elements.{filter-append}
-use Rattle.set_model.specs.Rows.{DiscardCause, Fate, Acked, Discarded, Parked, Unacked, Waiting, AreFit, IsHeldLast, IsInOrder, IsNumbered, Row, all_with, appended, back, body_at, changed, counts_of, fated, held, is_held, is_on, is_parked, is_unacked, is_waiting, moved, numbers, on, parked, standing, total_of, turned, unack, wait, was_acked, with_fate}
+use Rattle.set_model.specs.Rows.{DiscardCause, Fate, Acked, Discarded, Parked, Unacked, Waiting, AreFit, IsHeldLast, IsInOrder, IsNumbered, Row, all_with, appended, back, body_at, changed, counts_of, fated, held, is_held, is_on, is_parked, is_unacked, is_waiting, moved, numbers, on, parked, standing, stands_back, total_of, turned, unack, wait, was_acked, with_fate}
 use Rattle.set_model.specs.Control.{Choice, first}
+use Rattle.set_model.specs.Sound.{is_unfinished}
 use Rattle.set_model.specs.Step.{rows_sent}
-use Rattle.set_model.proofs.Places.{itself, apart_back, unacked_not_waiting, not_held, on_not_parked, on_not_back, waiting_on, unacked_on, held_on, on_other, not_on_waiting, not_on_unacked, not_on_held}
-use Rattle.set_model.proofs.Rows.{InPlace, turned_there, changed_there, turned_same, changed_same, turned_left, moved_length, moved_fit, moved_numbered, moved_gone, moved_same, moved_joined, filter_moved, filter_comm, filter_within, body_moved, total_is, new_row, same_numbers}
-use Rattle.set_model.proofs.Order.{before_filter, before_never, before_none, before_within, order_sent, sent_joined, on_in_order}
+use Rattle.set_model.proofs.Places.{itself, apart_back, unacked_not_waiting, on_not_parked, waiting_on, unacked_on, held_on, on_other, not_on_waiting, not_on_unacked, not_on_held}
+use Rattle.set_model.proofs.Rows.{InPlace, turned_there, changed_there, turned_same, turned_left, moved_length, moved_fit, moved_numbered, moved_gone, moved_same, moved_joined, filter_moved, filter_comm, filter_within, body_moved, total_is, new_row, same_numbers}
+use Rattle.set_model.proofs.Order.{before_filter, before_never, before_none, before_within, first_sent, on_in_order}
 
 -- Rows that got their fates have the same numbers and octets.
 pub numbers_fated : (fate : Row → Fate) (xs : List Row) → numbers (map (fated fate) xs) ≡ numbers xs
@@ -26,9 +27,6 @@ pub record Kept (rows new : List Row) : Type 0 where
   pub total : total_of (counts_of new) ≡ total_of (counts_of rows)
   pub acked : (counts_of rows).acked ≤ (counts_of new).acked
 
-pub kept_self : (rows : List Row) → Kept rows rows
-kept_self rows = record { fit = λ f. f; numbered = λ f. f; count = refl; bodies = λ f number. refl; total = refl; acked = omega arith }
-
 kept_in_place : (test : Fate → Bool) (to : Fate) (rows new : List Row) → InPlace test to rows new → ((l : ℕ) → test (Acked l) ≡ false) → Kept rows new
 kept_in_place test to rows new i w = grind (arith, total_is, same_numbers)
 
@@ -44,15 +42,15 @@ pub record Untouched (n : ℕ) (rows new : List Row) : Type 0 where
   pub order_kept : IsInOrder n rows → IsInOrder n new
   pub last_kept : IsHeldLast n rows → IsHeldLast n new
 
-pub untouched_self : (n : ℕ) (rows : List Row) → Untouched n rows rows
-untouched_self n rows = record { unack_same = refl; wait_same = refl; held_same = refl; on_same = refl; order_kept = λ o. o; last_kept = λ o. o }
-
 -- where what is on it is the same
 pub untouched : (n : ℕ) (rows new : List Row) → on n new ≡ on n rows → Untouched n rows new
 untouched n rows new same =
     let order = before_within (is_unacked n) (is_waiting n) (is_on n) (unacked_on n) (waiting_on n) new in
     let last = before_within (λ f. is_unacked n f || is_waiting n f) (is_held n) (is_on n) (λ f e. grind arith) (held_on n) new in
     grind (arith, filter_within, order, last, before_filter)
+
+pub untouched_self : (n : ℕ) (rows : List Row) → Untouched n rows rows
+untouched_self n rows = untouched n rows rows refl
 
 -- A NEW MESSAGE.
 module _ (rows : List Row) (body : List ℕ) (fate : Fate) where
@@ -62,10 +60,6 @@ module _ (rows : List Row) (body : List ℕ) (fate : Fate) where
 
   pub appended_out : (test : Fate → Bool) → test fate ≡ false → standing test (appended rows body fate) ≡ standing test rows
   appended_out test h = filter-append (λ (row : Row). test row.fate) rows (new_row (length rows) body fate ∷ []) ∙ ap (λ (xs : List Row). standing test rows ++ xs) (rw h refl) ∙ append-nil (standing test rows)
-
--- a row on one link is on no other
-pub apart_on : (l n : ℕ) → (l == n) ≡ false → (f : Fate) → is_on l f ≡ true → is_on n f ≡ false
-apart_on l n d f e = on_other n l (apart_back l n d) f e
 
 -- ROWS OF A LINK THAT CHANGE IN THEIR PLACES: none of them is held, and what stands elsewhere doesn't change.
 pub record ChangesOn (l : ℕ) (rows new : List Row) : Type 0 where
@@ -77,6 +71,17 @@ pub record ChangesOn (l : ℕ) (rows new : List Row) : Type 0 where
   pub last_kept : IsHeldLast l rows → IsHeldLast l new
   pub others : (n : ℕ) → (l == n) ≡ false → Untouched n rows new
 
+-- those that were sent on it, or wait for it, stay sent on it or are done with
+module _ (l : ℕ) (test : Fate → Bool) (to : Fate) (rows new : List Row) (i : InPlace test to rows new) (goes : (f : Fate) → test f ≡ true → (is_unacked l f || is_waiting l f) ≡ true) where
+  changes_on : (is_unacked l to || not (is_unfinished to)) ≡ true → (IsInOrder l rows → IsInOrder l new) → ChangesOn l rows new
+  changes_on comes order =
+      let last = i.before (λ f. is_unacked l f || is_waiting l f) (is_held l) (λ f e u. goes f e) (λ f e h. grind arith) in
+      let none : (other : Fate → Bool) → other to ≡ false → ((f : Fate) → (is_unacked l f || is_waiting l f) ≡ true → other f ≡ false) → standing other new ≡ standing other rows = λ other o w. i.same other o (λ f e. w f (goes f e)) in
+      record { kept = kept_in_place test to rows new i (λ k. grind (arith, goes (Acked k))); held_same = none (is_held l) (grind arith) (λ f e. grind arith); parked_same = none is_parked (grind arith) (λ f e. grind arith); back_same = none stands_back (grind arith) (λ f e. grind arith); order_kept = order; last_kept = last; others = λ n d. untouched n rows new (none (is_on n) (grind arith) (λ f e. grind arith)) }
+
+  ends_on : is_unfinished to ≡ false → ChangesOn l rows new
+  ends_on done = changes_on (grind arith) (i.before (is_unacked l) (is_waiting l) (λ f e u. grind arith) (λ f e w. grind arith))
+
 -- A FIRST SENDING.
 pub record Sent (l : ℕ) (rows new : List Row) : Type 0 where
   pub in_place : ChangesOn l rows new
@@ -87,14 +92,9 @@ pub record Sent (l : ℕ) (rows new : List Row) : Type 0 where
 
 pub sent : (l : ℕ) (rows : List Row) → Sent l rows (turned (is_waiting l) (Unacked l) 1 rows)
 sent l rows =
-    let i = turned_there (is_waiting l) (Unacked l) 1 rows in
-    let held_last = i.before (λ f. is_unacked l f || is_waiting l f) (is_held l) (λ f e u. grind arith) (λ f e h. grind arith) in
-    search (kept_in_place, waiting_on, turned_left, sent_joined, itself, turned_same, not_held (is_waiting l) (λ k. refl), on_not_parked l, on_not_back l, order_sent, held_last, untouched, apart_on l)
-
--- what the rows keep where nothing is sent for the first time too
-pub sent_by : (choice : Choice) (n : ℕ) (rows : List Row) → ChangesOn n rows (rows_sent choice n rows)
-sent_by first n rows = (sent n rows).in_place
-sent_by _ n rows = let k = kept_self rows in let u = λ (m : ℕ). untouched_self m rows in search (k, u)
+    let first = first_sent l rows (itself l) in
+    let changed = changes_on l (is_waiting l) (Unacked l) rows _ (turned_there (is_waiting l) (Unacked l) 1 rows) (λ f e. grind arith) (grind arith) (λ o. (first o).0) in
+    record { in_place = changed; wait_is = turned_left (is_waiting l) (Unacked l) refl 1 rows; unack_is = λ o. (first o).1 }
 
 -- AN ACKNOWLEDGEMENT.
 pub record Acknowledged (l count : ℕ) (rows new : List Row) : Type 0 where
@@ -106,26 +106,21 @@ pub record Acknowledged (l count : ℕ) (rows new : List Row) : Type 0 where
 
 pub acknowledged : (l count : ℕ) (rows : List Row) → Acknowledged l count rows (turned (is_unacked l) (Acked l) count rows)
 acknowledged l count rows =
-    let i = turned_there (is_unacked l) (Acked l) count rows in
-    let in_order = i.before (is_unacked l) (is_waiting l) (λ f e u. grind arith) (λ f e w. grind arith) in
-    let held_last = i.before (λ f. is_unacked l f || is_waiting l f) (is_held l) (λ f e u. grind arith) (λ f e h. grind arith) in
-    search (kept_in_place, unacked_on, turned_left, turned_same, unacked_not_waiting, not_held (is_unacked l) (λ k. refl), on_not_parked l, on_not_back l, on_in_order, in_order, held_last, untouched, apart_on l)
+    let changed = ends_on l (is_unacked l) (Acked l) rows _ (turned_there (is_unacked l) (Acked l) count rows) (λ f e. grind arith) refl in
+    search (changed, turned_left, turned_same, unacked_not_waiting, on_in_order, changed.order_kept, changed.last_kept, changed.held_same)
+
+-- what the rows keep where nothing is sent for the first time too
+pub sent_by : (choice : Choice) (n : ℕ) (rows : List Row) → ChangesOn n rows (rows_sent choice n rows)
+sent_by first n rows = (sent n rows).in_place
+sent_by _ n rows = (acknowledged n 0 rows).in_place
 
 -- MESSAGES THAT ARE GIVEN UP.
 module _ (l : ℕ) (cause : DiscardCause) (rows : List Row) where
-  given_up : (test : Fate → Bool) → ((f : Fate) → test f ≡ true → is_on l f ≡ true) → ((f : Fate) → test f ≡ true → is_held l f ≡ false) → ChangesOn l rows (changed test (Discarded cause) rows)
-  given_up test on_link not_held =
-      let i = changed_there test (Discarded cause) rows in
-      let in_order = i.before (is_unacked l) (is_waiting l) (λ f e u. grind arith) (λ f e w. grind arith) in
-      let held_last = i.before (λ f. is_unacked l f || is_waiting l f) (is_held l) (λ f e u. grind arith) (λ f e h. grind arith) in
-      let unacked : (k : ℕ) → test (Acked k) ≡ false = λ k. grind (arith, on_link (Acked k)) in
-      search (kept_in_place, changed_same, on_not_parked l, on_not_back l, in_order, held_last, untouched, apart_on l)
-
   pub sent_given_up : ChangesOn l rows (changed (is_unacked l) (Discarded cause) rows)
-  sent_given_up = given_up (is_unacked l) (unacked_on l) (λ f e. grind arith)
+  sent_given_up = ends_on l (is_unacked l) (Discarded cause) rows _ (changed_there (is_unacked l) (Discarded cause) rows) (λ f e. grind arith) refl
 
   pub waiting_given_up : ChangesOn l rows (changed (is_waiting l) (Discarded cause) rows)
-  waiting_given_up = given_up (is_waiting l) (waiting_on l) (λ f e. grind arith)
+  waiting_given_up = ends_on l (is_waiting l) (Discarded cause) rows _ (changed_there (is_waiting l) (Discarded cause) rows) (λ f e. grind arith) refl
 
 -- A LINK THAT IS LEFT BY ITS MESSAGES.
 pub record Left (l : ℕ) (to : Fate) (rows new : List Row) : Type 0 where

@@ -3,12 +3,10 @@ pub mod Framing
 pub mod Lists
 pub mod Order
 pub mod Places
-pub mod Ranging
 pub mod Rows
 pub mod Settling
 pub mod SoundBack
 pub mod SoundLink
 pub mod Soundness
 pub mod Staying
-pub mod Straight
 pub mod Walk

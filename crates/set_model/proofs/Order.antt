@@ -88,15 +88,10 @@ module _ (p q : Fate → Bool) where
   before_within r a b [] o = tt
   before_within r a b (x ∷ rows) o = grind (arith, filter_within, a, b, before_within r a b rows)
 
--- THE FIRST MESSAGE THAT WAITS IS SENT.
-pub order_sent : (l : ℕ) (rows : List Row) → IsInOrder l rows → IsInOrder l (turned (is_waiting l) (Unacked l) 1 rows)
-order_sent l [] o = tt
-order_sent l (x ∷ rows) o = grind (arith, order_sent l rows o.1)
-
--- it is then the last one that was sent
-pub sent_joined : (l : ℕ) (rows : List Row) → (l == l) ≡ true → IsInOrder l rows → unack l (turned (is_waiting l) (Unacked l) 1 rows) ≡ unack l rows ++ map (with_fate (Unacked l)) (take 1 (wait l rows))
-sent_joined l [] s o = refl
-sent_joined l (x ∷ rows) s o = grind (arith, sent_joined l rows s o.1)
+-- THE FIRST MESSAGE THAT WAITS IS SENT: it is then the last one that was.
+pub first_sent : (l : ℕ) (rows : List Row) → (l == l) ≡ true → IsInOrder l rows → IsInOrder l (turned (is_waiting l) (Unacked l) 1 rows) × (unack l (turned (is_waiting l) (Unacked l) 1 rows) ≡ unack l rows ++ map (with_fate (Unacked l)) (take 1 (wait l rows)))
+first_sent l [] s o = (tt, refl)
+first_sent l (x ∷ rows) s o = grind (arith, first_sent l rows s o.1)
 
 -- WHAT IS ON A LINK, IN ORDER: first what was sent, then what waits, then what is held.
 pub on_in_order : (l : ℕ) (rows : List Row) → IsInOrder l rows → IsHeldLast l rows → on l rows ≡ unack l rows ++ wait l rows ++ held l rows

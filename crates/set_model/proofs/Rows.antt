@@ -2,6 +2,7 @@
 use Rattle.std.proofs.Common.{refl, arith, ◌≡◌, ◌∙◌, ap, sym, [], ◌∷◌, length, ◌≤◌, Bool, true, false, List, ◌++◌, map, filter, not, ◌+◌, ◌<◌, ℕ, nat_lt, ◌==◌, None, cond, zero, suc, drop, Some, slice_get, option_map}
 use Rattle.set_model.specs.Rows.{Acked, Fate, Each, AreBefore, AreFit, Row, fated, standing, IsNumbered, moved, counts_of, is_parked, stands_back, total_of, users, waits, was_acked, was_discarded, was_held, was_sent, appended, row_of, body_at, changed, turned, with_fate, numbers, place}
 use Rattle.std.proofs.lemmas.List.{append-nil, length-append, length-map, length_push}
+pub use Rattle.std.proofs.lemmas.List.{nil_from_length as no_rows}
 use Rattle.std.proofs.lemmas.List.Elements.{filter-append}
 use Rattle.std.proofs.lemmas.List.Filters.{length-filter_both}
 use Rattle.std.proofs.lemmas.Bool.Decides.{nat_tests}
@@ -213,10 +214,6 @@ module _ (test : Fate → Bool) (fate : Row → Fate) where
   body_moved number rows numbered = grind (arith, row_moved)
 
 -- UNIQUE: a row of a filter is the one that its number finds.
-pub no_rows : (xs : List Row) → length xs ≡ 0 → xs ≡ []
-no_rows [] e = refl
-no_rows (x ∷ xs) e = absurd (omega (arith, e))
-
 found_in : (p : Row → Bool) (rows : List Row) (i k : ℕ) (row : Row) → slice_get (filter p rows) i ≡ Some row → row.number ≡ k → length (with_number k rows) ≤ 1 → with_number k rows ≡ row ∷ []
 found_in p [] i k row e n l = absurd cc
 found_in p (x ∷ rows) zero k row e n l = grind (arith, nat_tests, no_rows (with_number k rows), found_in p rows zero k row)

@@ -13,11 +13,11 @@ use Rattle.set_model.specs.Step.{risen_link, rises}
 use Rattle.set_route.proofs.Alone.{alone, codes_alone}
 use Rattle.set_route.proofs.Places.{raised_sound, settled_sound, left_sound, asked_sound, back_sound}
 use Rattle.set_model.proofs.Order.{ascends_filter, backs_of, before_none, coded_at, each_left, gone_none, none_standing, stood}
-use Rattle.set_model.proofs.Events.{apart_on, left, unparked, untouched_self}
+use Rattle.set_model.proofs.Events.{left, unparked, untouched_self}
 use Rattle.set_model.proofs.Lists.{get_set_same, get_set_other, within, each_set, target_up, target_off, none_up}
 use Rattle.set_model.proofs.Rows.{each_filter, moved_off, moved_numbered, moved_fit, moved_same, moved_more, moved_nothing, fated_none}
-use Rattle.set_model.proofs.Places.{false_true, not_on_waiting, back_not_on, back_not_parked, code_back, home_back}
-use Rattle.set_model.proofs.Ranging.{not_sent, offered_out}
+use Rattle.set_model.proofs.Places.{false_true, apart_back, on_other, not_on_waiting, back_not_on, back_not_parked, code_back, home_back}
+use Rattle.set_model.proofs.Staying.{not_sent, offered_out}
 use Rattle.set_model.proofs.Walk.{IsAt}
 use Rattle.set_model.proofs.SoundLink.{link_moved, links_set, placed_set, up_before, up_after, Follows, appended_sound}
 use Rattle.set_model.proofs.Settling.{settled_empty}
@@ -64,7 +64,7 @@ module _ (n : ℕ) (link : LinkState) (s : State) (at : IsAt n link Down s) (t :
       })
       (λ code asked. up_after s.links n link (settled_link link) at.there stays (home_of code) (t.homes_up code asked))
       (up_before s.links n link (settled_link link) at.there (λ e. absurd cc) (λ k old here up. moved_same (is_on n) is_parked (all_with (fate_on (target s.links))) s.rows (λ x. grind (arith, none_up)) (λ f e. grind arith) ∙ t.none_aside k old here up))
-      (each_set (λ k other. IsSoundLink s.settings.method k other (moved (is_on n) (all_with (fate_on (target s.links))) s.rows)) s.links n (settled_link link) (grind arith) (λ k other d here. let out = λ (is_down : has_phase_up other.phase ≡ false). target_off s.links k (ap link_is_up here ∙ is_down) in link_moved s.settings.method k other (is_on n) (all_with (fate_on (target s.links))) s.routing s.rows t.backs (apart_on n k d)
+      (each_set (λ k other. IsSoundLink s.settings.method k other (moved (is_on n) (all_with (fate_on (target s.links))) s.rows)) s.links n (settled_link link) (grind arith) (λ k other d here. let out = λ (is_down : has_phase_up other.phase ≡ false). target_off s.links k (ap link_is_up here ∙ is_down) in link_moved s.settings.method k other (is_on n) (all_with (fate_on (target s.links))) s.routing s.rows t.backs (on_other k n (apart_back n k d))
       (λ x. not_sent k (target s.links)) (λ u x. grind arith) (λ f x e b. not_on_waiting k (fate_on (target s.links)) (out f)) (λ e x f b. out (grind (arith, e))) (t.links k other here)))
 
 -- a code in use is below 256

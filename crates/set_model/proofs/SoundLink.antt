@@ -3,7 +3,7 @@ use Rattle.std.proofs.Common.{arith, ◌||◌, ◌≡◌, ◌≢◌, ◌<◌, �
 use Rattle.std.proofs.lemmas.List.{length-drop, append-nil, length-map, length-append, length-set, length-take}
 use Rattle.std.proofs.lemmas.Bool.Decides.{nat_tests}
 use Rattle.l2_window.specs.Window.{WindowState}
-use Rattle.set_model.specs.Control.{Header, Choice, Control, acked_by, choice_of, control_heard, first, Method, accepted_of, part_of}
+use Rattle.set_model.specs.Control.{Header, Choice, Control, acked_by, choice_of, control_heard, first, Method, accepted_of}
 use Rattle.set_model.specs.Sound.{IsInRange, IsOf, IsPlaced, IsSound, IsSoundLink, AreBack, IsBackOf}
 use Rattle.std.proofs.lemmas.List.Elements.{filter-append}
 use Rattle.l2_units.specs.Grammar.{head_of as header_in}
@@ -11,7 +11,7 @@ use Rattle.set_route.specs.Routing.{IsRouting, Routing, accepted, code_of, home_
 use Rattle.set_model.specs.Changeover.{acknowledged_by, Order, fate_on, queued}
 use Rattle.set_model.specs.Rows.{AreFit, DiscardCause, Fate, Discarded, Row, changed, fated, held, is_held, is_on, is_parked, is_unacked, is_waiting, moved, octets_in, on, standing, stands_back, unack, wait, Back, appended, parked, service_indicator, stream_of}
 use Rattle.set_model.specs.State.{Asked, is_up, Place, Changing, Nowhere, On, Down, Up, LinkState, State, has_phase_settled, has_phase_up, last_accepted, link_is_up, window_of, fate_at, target}
-use Rattle.set_model.specs.Step.{SignalUnit, after_control, is_msu, next, rows_sent, offer_refusal, offered}
+use Rattle.set_model.specs.Step.{SignalUnit, choice_in, controlled, is_msu, part_in, next, rows_sent, offer_refusal, offered}
 use Rattle.set_model.proofs.Order.{backs_of, stood, before_append, before_never, neither, gone_none, coded_at, ascends_appended}
 use Rattle.set_model.proofs.Events.{Untouched, sent, acknowledged, ChangesOn, sent_by, untouched, appended_out}
 use Rattle.set_model.proofs.Rows.{each_append, each_filter, each_so, changed_there, others_stay, new_row, numbered_appended}
@@ -102,19 +102,19 @@ module _ (n : ℕ) (link : LinkState) (s : State) (at : IsAt n link Up s) (t : I
   l = t.links n link at.there
 
   -- how many are unacknowledged then
-  counts : (choice : Choice) → choice_of (octets_in (unack n s.rows)) link.control window ≡ choice → (length (unack n s.rows) ≤ length (unack n (rows_sent choice n s.rows))) × (choice ≡ first → length (unack n (rows_sent choice n s.rows)) ≡ length (unack n s.rows) + 1) × (length (unack n (rows_sent choice n s.rows)) ≤ 127)
+  counts : (choice : Choice) → choice_in n link s ≡ choice → (length (unack n s.rows) ≤ length (unack n (rows_sent choice n s.rows))) × (choice ≡ first → length (unack n (rows_sent choice n s.rows)) ≡ length (unack n s.rows) + 1) × (length (unack n (rows_sent choice n s.rows)) ≤ 127)
   counts choice e = grind (arith, first_chosen (octets_in (unack n s.rows)) link.control window, length-map, length-append, length-take, (sent n s.rows).unack_is l.in_order, l.window)
 
   pub sends_sound : IsSound (next n s link).state
   sends_sound =
-      let choice = choice_of (octets_in (unack n s.rows)) link.control window in
+      let choice = choice_in n link s in
       let c = counts choice refl in
       changes n link _ s _ t at.there refl (ap has_phase_settled at.phase_is) (sent_by choice n s.rows) c.2 (grind (arith, l.counted)) (grind (arith, l.method)) (λ u. grind (arith, c, l.in_range, length-map))
 
   -- HEARING.
-  pub hears_sound : (unit : SignalUnit) → IsSound (after_control (part_of link.control window (header_in unit) (is_msu unit)) (header_in unit) unit n s link)
+  pub hears_sound : (unit : SignalUnit) → IsSound (controlled unit n s link)
   hears_sound unit =
-      let a = acknowledged n (part_of link.control window (header_in unit) (is_msu unit)).acked s.rows in
+      let a = acknowledged n (part_in unit n link s).acked s.rows in
       changes n link _ s _ t at.there refl (ap has_phase_settled at.phase_is) a.in_place (grind (arith, length-drop, a.unack_is, l.window))
       (grind (arith, nat_tests, (header_in unit).fsn, l.counted)) (grind (arith, l.method)) (λ u. grind (arith, range_heard link.control window (header_in unit) (is_msu unit) (grind (arith, length-map, l.in_range)), a.unack_is, length-drop, length-map))
 

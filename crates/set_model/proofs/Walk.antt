@@ -1,16 +1,14 @@
 -- THE WALK over the cases of the step, once: what each small change keeps, every event keeps.
 use Rattle.std.proofs.Common.{refl, arith, ◌≡◌, ◌<◌, ◌≤◌, length, ℕ, zero, suc, ◌+◌, Bool, true, false, ◌⊎◌, List, [], ◌∷◌, ◌++◌, slice_get, Option, Some, None, inr}
 use Rattle.std.proofs.lemmas.Bool.{cond_both}
-use Rattle.l2_units.specs.Grammar.{head_of as header_in}
 use Rattle.l3_orders.specs.Grammar.{link_of, order_of}
 use Rattle.set_route.specs.Routing.{code_for, home_of}
-use Rattle.set_model.specs.Step.{SignalUnit, Event, BackTimeout, DownEvent, DownBlind, Heard, Next, NoAnswer, Offer, Take, UpEvent, step, Outcome, after_control, brought, controls, falls, in_service, is_msu, next, offer_refusal, offered, rises, taken, takes, stepped}
+use Rattle.set_model.specs.Step.{SignalUnit, Event, BackTimeout, DownEvent, DownBlind, Heard, Next, NoAnswer, Offer, Take, UpEvent, step, Outcome, brought, controlled, controls, falls, in_service, next, offer_refusal, offered, part_in, rises, taken, takes, stepped}
 use Rattle.set_model.specs.Changeover.{Order, Cba, Cbd, Coa, Reached, Unanswered, Unknown, Upto, acknowledged_by, answered, can_declare, changed_over, declared, declared_from, leaving_order, left_by, left_link, moved_over, order_obeyed, queued, released, released_from, settled}
-use Rattle.set_model.specs.Control.{part_of}
 use Rattle.set_model.specs.Frame.{BringsAbout, BringsBackTo, Concerns}
 use Rattle.set_model.specs.Rows.{DiscardCause, Emergency, NoAnswer as NoAnswerCame, Unreasonable, Discarded, changed, is_unacked, is_waiting, unack}
 use Rattle.set_model.specs.Sound.{BeginsNone}
-use Rattle.set_model.specs.State.{Phase, Down, Settled, Up, LinkState, State, is_up, last_accepted, window_of}
+use Rattle.set_model.specs.State.{Phase, Down, Settled, Up, LinkState, State, is_up, last_accepted}
 use Rattle.set_model.proofs.Lists.{within, get_set_same}
 use Rattle.std.proofs.lemmas.List.{length-set}
 
@@ -94,7 +92,7 @@ pub record WalkedBy (s : State) (event : Event) (R : State → State → Type 0)
   pub offers : (body : List ℕ) → event ≡ Offer body → offer_refusal s.rows body ≡ None → S (offered None s body).state
   pub takes : (body : List ℕ) (rest : List (List ℕ)) → event ≡ Take → s.inbox ≡ body ∷ rest → S (record s { inbox = rest })
   pub sends : (n : ℕ) (link : LinkState) → event ≡ Next n → IsAt n link Up s → S (next n s link).state
-  pub hears : (n : ℕ) (unit : SignalUnit) (link : LinkState) → event ≡ Heard n unit → IsAt n link Up s → S (after_control (part_of link.control (window_of n link s.rows) (header_in unit) (is_msu unit)) (header_in unit) unit n s link)
+  pub hears : (n : ℕ) (unit : SignalUnit) (link : LinkState) → event ≡ Heard n unit → IsAt n link Up s → S (controlled unit n s link)
   pub rises : (n : ℕ) (link : LinkState) → event ≡ UpEvent n → IsAt n link Settled s → S (rises n s Settled).state
 
 brought_either : (accept : Bool) (unit : SignalUnit) (b : List ℕ) → brought accept unit ≡ Some b → (o : Order) → order_of b ≡ Some o → (n : ℕ) → Touches o n → BringsAbout n unit ⊎ BringsBackTo n unit
@@ -109,7 +107,7 @@ module _ (s : State) (R : State → State → Type 0) (S : State → Type 0) whe
 
   hear_walks : (n : ℕ) (unit : SignalUnit) (link : LinkState) → WalkedBy s (Heard n unit) R S → IsAt n link Up s → S (controls unit n s link).state
   hear_walks n unit link w at =
-      let part = part_of link.control (window_of n link s.rows) (header_in unit) (is_msu unit) in
+      let part = part_in unit n link s in
       w.rests _ (controls unit n s link).state (w.hears n unit link refl at)
       (takes_walks (λ m. Concerns (Heard n unit) m s) (BeginsNone (Heard n unit) → ⊥) R w.small (brought part.accept unit) _ (λ b e o f m g. inr (brought_either part.accept unit b e o f m g)))
 

@@ -7,9 +7,9 @@ use Rattle.l3_orders.specs.declared.order.Order.TheVariants.{Cba}
 use Rattle.l3_orders.specs.Grammar.{order_of, link_of}
 use Rattle.set_route.specs.Routing.{place_of, home_of}
 use Rattle.set_model.specs.Rows.{Row, stream_of, unack, wait, held, octets_in}
-use Rattle.set_model.specs.Control.{Choice, first, choice_of, control_after, window_heard, part_of, control_heard}
+use Rattle.set_model.specs.Control.{Choice, first, control_after, window_heard, control_heard}
 use Rattle.set_model.specs.State.{On, LinkState, State, is_up, window_of}
-use Rattle.set_model.specs.Step.{SignalUnit, Msu, Event, Offer, Next, Heard, UpEvent, DownEvent, DownBlind, NoAnswer, BackTimeout, next, after_control, controls, is_msu}
+use Rattle.set_model.specs.Step.{SignalUnit, Msu, Event, Offer, Next, Heard, UpEvent, DownEvent, DownBlind, NoAnswer, BackTimeout, choice_in, next, controlled, controls, is_msu}
 
 -- the unit brings an order about this link
 abbrev pub BringsAbout : ℕ → SignalUnit → Type 0
@@ -58,22 +58,19 @@ window_after _ window = window
 -- of a link that is up: what its control does when a unit is sent, and when one is heard, is done to its window
 pub record MovesAsItsControl (number : ℕ) (link : LinkState) (s : State) : Type 0 where
   pub sent : let window = window_of number link s.rows in
-      let octets = octets_in (unack number s.rows) in
-      let choice = choice_of octets link.control window in
+      let choice = choice_in number link s in
       (link' : LinkState) × (slice_get (next number s link).state.links number ≡ Some link')
-      × (link'.control ≡ control_after choice octets link.control window)
+      × (link'.control ≡ control_after choice (octets_in (unack number s.rows)) link.control window)
       × (window_of number link' (next number s link).state.rows ≡ window_after choice window)
   pub heard : (unit : SignalUnit)
       → let window = window_of number link s.rows in
       let head = header_in unit in
-      let part = part_of link.control window head (is_msu unit) in
-      let after = after_control part head unit number s link in
+      let after = controlled unit number s link in
       (link' : LinkState) × (slice_get after.links number ≡ Some link')
       × (link'.control ≡ control_heard link.control window head (is_msu unit))
       × (window_of number link' after.rows ≡ window_heard link.control window head)
   -- and where the unit brings no order that is all
   pub no_more : (unit : SignalUnit) → ((about : ℕ) → BringsAbout about unit → ⊥)
-      → let part = part_of link.control (window_of number link s.rows) (header_in unit) (is_msu unit) in
-      let after = after_control part (header_in unit) unit number s link in
+      → let after = controlled unit number s link in
       let whole = (controls unit number s link).state in
       (whole.links ≡ after.links) × (whole.rows ≡ after.rows)

@@ -101,9 +101,11 @@ sends choice number s link =
     }
 
 -- the control chooses by its state, the window, and the octets of the unacknowledged bodies
+abbrev pub choice_in : ℕ → LinkState → State → Choice
+choice_in number link s = choice_of (octets_in (unack number s.rows)) link.control (window_of number link s.rows)
+
 abbrev pub next : ℕ → State → LinkState → Outcome
-next number s link =
-    sends (choice_of (octets_in (unack number s.rows)) link.control (window_of number link s.rows)) number s link
+next number s link = sends (choice_in number link s) number s link
 
 -- HEARD.
 abbrev pub is_msu : SignalUnit → Bool
@@ -142,11 +144,18 @@ after_control part head unit number s link =
       control = control_heard link.control (window_of number link s.rows) head (is_msu unit);
     }) (record s { rows = turned (is_unacked number) (Acked number) part.acked s.rows })
 
+-- what it finds in the unit, by its state and the window
+abbrev pub part_in : SignalUnit → ℕ → LinkState → State → HeardPart
+part_in unit number link s = part_of link.control (window_of number link s.rows) (header_in unit) (is_msu unit)
+
+abbrev pub controlled : SignalUnit → ℕ → State → LinkState → State
+controlled unit number s link = after_control (part_in unit number link s) (header_in unit) unit number s link
+
 -- then an accepted body goes where it belongs
 abbrev pub controls : SignalUnit → ℕ → State → LinkState → Outcome
 controls unit number s link =
-    let part = part_of link.control (window_of number link s.rows) (header_in unit) (is_msu unit) in
-    let after = takes (brought part.accept unit) (after_control part (header_in unit) unit number s link) in
+    let part = part_in unit number link s in
+    let after = takes (brought part.accept unit) (controlled unit number s link) in
     record { answer = HeardBack (report_of part after.took); state = after.state }
 
 -- a link status signal unit is the terminal's own affair, not the error control's: there is nothing to do

@@ -96,7 +96,7 @@ pub fn a_window_moves_as_its_control()
 
 /// While no changeback is under way, and none begins, the messages of each stream that aren't finished
 /// stand together where the stream runs, in the order of their numbers.
-#[tactic(auto, using(crate::proofs::Straight::step_straight))]
+#[tactic(auto, using(crate::proofs::Soundness::step_straight))]
 pub fn streams_stay_together()
     ensures { (s : State) (event : Event) → IsAsked event → BeginsNone event → IsSound s → RunsStraight s
         → RunsStraight (step s event).state }
