@@ -181,9 +181,9 @@ module _ (code : ℕ) (q q' : Lists) (others : (c : ℕ) → (code ≡ c → ⊥
   back_same from zero low = grind (arith, back_none)
   back_same from (suc n) low = grind (arith, back_suc, back_same from n (omega (arith, low)), others (from + n))
 
-  pub back_less : length (queue_at (Back code) q') + 1 ≡ length (queue_at (Back code) q) → (from n : ℕ) → from ≤ code → code < from + n → back_from from n q' + 1 ≡ back_from from n q
-  back_less less from zero low high = absurd (omega (arith, low, high))
-  back_less less from (suc n) low high = grind (arith, nat_tests, cases_eq, back_suc, back_same, back_less less from n low)
+  pub back_less : (gone : ℕ) → length (queue_at (Back code) q') + gone ≡ length (queue_at (Back code) q) → (from n : ℕ) → from ≤ code → code < from + n → back_from from n q' + gone ≡ back_from from n q
+  back_less gone less from zero low high = absurd (omega (arith, low, high))
+  back_less gone less from (suc n) low high = grind (arith, nat_tests, cases_eq, back_suc, back_same, back_less gone less from n low)
 
 -- THE FIRST OF A CODE'S GOES TO A LINK: it waits for it, or is held for it
 module _ (home code : ℕ) (to : Fate) (q : Lists) (o : IsOldest home code q) (on : IsOnLink (length q.links) to) where
@@ -207,7 +207,7 @@ module _ (home code : ℕ) (to : Fate) (q : Lists) (o : IsOldest home code q) (o
       let of = o.of_home in
       let first = o.first in
       let less : length (queue_at (Back code) gone) + 1 ≡ length (queue_at (Back code) q) = grind (arith, nat_tests, queue_then (Back code) refl) in
-      back_less code q gone (λ c ne. queue_then (Back c) refl ∙ rw (ne_eqb code c ne, apart c) refl) less (16 * home) 16 (omega (arith, of)) (omega (arith, of))
+      back_less code q gone (λ c ne. queue_then (Back c) refl ∙ rw (ne_eqb code c ne, apart c) refl) 1 less (16 * home) 16 (omega (arith, of)) (omega (arith, of))
 
   -- and at most one more stands on a link
   grown : (f : Fate) → is_standing f ≡ true → same_fate (Back code) f ≡ false → length (queue_at f gone) ≤ length (queue_at f q) + cond (same_fate to f) 1 0
