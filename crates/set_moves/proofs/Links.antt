@@ -60,7 +60,6 @@ place_for {links} {read} n o to q same is below there many known out =
     let down = out x.0 x.1 in
     let other : (t : ℕ) → o ≡ Some t → n ≢ t = λ t e. grind (arith, same_at, target_up) in
     let apart : IfSome o (λ t. t ≢ n) = grind arith in
-    let low : IfSome o (λ t. t < length links) = rw same at below in
     let known_to : IsKnown (fate_on o) q = grind arith in
     record { aside = aside_of o n to q there (omega (arith, many, known)) known_to apart; apart = apart; off = λ t e. ne_eqb n t (other t e) }
 
@@ -138,7 +137,6 @@ beside_left links new n link e out = grind (arith, map_set, ups_of)
 -- what stands on a link isn't touched by what waits elsewhere
 pub on_same : (n : ℕ) (to : Fate) (xs : List ℕ) (q new : Lists) → IsAside n to q → new ≡ with_queue to xs q → on n new ≡ on n q
 on_same n to xs q new a e =
-    let queued = a.queued in
     let sent : same_fate to (Unacked n) ≡ false = grind arith in
     rw (queue_away to (Unacked n) xs q new e a.other sent, queue_away to (Waiting n) xs q new e a.other a.unsent, queue_away to (Held n) xs q new e a.other a.held) refl
 

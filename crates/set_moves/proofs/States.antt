@@ -215,20 +215,8 @@ released_for k s c l routing f code known =
     queues_for k s f _ _ _ (passed_moves (Back c) (Waiting l) (is_back c) k.lists k.messages s.rows f.stands refl code known tt refl refl (λ g t. grind (arith, nat_tests)) refl) (simp length-updated) routing routing refl (λ m. search last_stays)
 
 -- What is kept after a call stands for what became of the state.
-
--- new keeps this, and all else as old
-pub record Becoming (old new : Kept) (lists : Lists) (messages : List Message) (bodies : List (List ℕ)) (links : List LinkState) (routing : Routing) : Type 0 where
-  pub settings_same : new.settings ≡ old.settings
-  pub lists_are : new.lists ≡ lists
-  pub messages_are : new.messages ≡ messages
-  pub bodies_are : new.bodies ≡ bodies
-  pub links_are : new.links ≡ links
-  pub routing_is : new.routing ≡ routing
-  pub inbox_same : new.inbox ≡ old.inbox
-
-module _ (old new : Kept) (lists : Lists) (messages : List Message) (bodies : List (List ℕ)) (links : List LinkState) (routing : Routing) (s : State) where
-  pub becomes : Becoming old new lists messages bodies links routing → StandsFor (record old { lists = lists; messages = messages; bodies = bodies; links = links; routing = routing }) s → StandsFor new s
-  becomes b f = grind arith
+pub becomes : {k new : Kept} {s : State} → StandsFor k s → new ≡ k → StandsFor new s
+becomes f e = rw e f
 
 -- WHAT REACHED THE FAR END, as the queues and as the rows tell it
 pub record Reaches (k : Kept) (s : State) (n fsn : ℕ) (link : LinkState) : Type 0 where

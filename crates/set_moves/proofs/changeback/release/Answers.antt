@@ -11,7 +11,7 @@ use Rattle.set_moves.proofs.States.{becomes, released_for}
 use Rattle.set_moves.proofs.changeback.release.Goals as goal
 
 pub returns-clause-stands : goal.returns-clause-stands
-returns-clause-stands c = λ s f. rw (← c.home_of_code-home.ensures.value) (becomes (kept_of c.args.parts.now) _ _ _ _ _ _ _ (search rules) (released_for (kept_of c.args.parts.now) s c.args.code c.home_of_code-home.result (given_back c.args.code s.routing) f (omega arith) (omega arith)))
+returns-clause-stands c = λ s f. rw (← c.home_of_code-home.ensures.value) (becomes (released_for (kept_of c.args.parts.now) s c.args.code c.home_of_code-home.result (given_back c.args.code s.routing) f (omega arith) (omega arith)) (search rules))
 
 pub returns-clause-fits : goal.returns-clause-fits
 returns-clause-fits c = rw (← c.home_of_code-home.ensures.value) (λ fit.

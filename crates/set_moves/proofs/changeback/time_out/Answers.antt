@@ -1,8 +1,6 @@
 use Rattle.set_model.specs.Step.{runs_out}
 use Rattle.set_moves.proofs.Links.{unknown, known_here}
-use Rattle.std.proofs.Common.{arith, refl, sym, ◌≡◌, ◌≤◌, ◌∙◌, ap, ℕ, ◌+◌, ◌*◌, ◌-◌, length}
-use Rattle.set_queues.specs.Backs.{back_from, back_count}
-use Rattle.set_queues.specs.Buffers.{Waiting, Back, Lists, queue_at, room_at}
+use Rattle.std.proofs.Common.{arith, refl, sym, ◌≡◌, ◌∙◌, ◌*◌}
 use Rattle.set_queues.proofs.Tallies.{back_below}
 use Rattle.set_route.specs.Routing.{code_for, home_of}
 use Rattle.set_model.specs.Changeover.{released_from, released}

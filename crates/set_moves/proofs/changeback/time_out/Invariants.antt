@@ -1,6 +1,4 @@
-use Rattle.std.proofs.Common.{◌≡◌, ◌≤◌, ◌+◌, ◌*◌, ℕ}
-use Rattle.set_queues.specs.Backs.{back_from, back_count}
-use Rattle.set_queues.specs.Buffers.{Waiting, Back, queue_at, room_at}
+use Rattle.std.proofs.Common.{◌≡◌}
 use Rattle.set_route.specs.Routing.{code_for}
 use Rattle.set_model.specs.Changeover.{released_from}
 use Rattle.set_moves.specs.Room.{CanComeBack}

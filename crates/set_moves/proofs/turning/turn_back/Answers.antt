@@ -15,7 +15,6 @@ turn_back-requires c =
     let inv = c.loop-code.invariant in
     let on = goes_on_link c.args.number c.args.parts.now c.loop-code.parts inv c.in-Some.code c.in-Some.ensures c.requires.turning c.way_of-to.result c.way_of-to.ensures in
     let low = on.1 in
-    let to = on.2 in
     let room = room_for_one c.args.number c.args.parts.now c.loop-code.parts inv c.in-Some.code c.in-Some.ensures c.requires.room on.0 (rw (← inv.whole.as_many) low) in
     record { some = λ e. let no : None ≡ Some c.in-Some.ensures.number = sym (ap (λ (ns : List ℕ). slice_get ns 0) e) ∙ c.in-Some.ensures.first in absurd cc; other = grind arith; queued = grind arith; apart = grind arith; room = grind arith }
 
