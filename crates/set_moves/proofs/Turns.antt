@@ -153,7 +153,6 @@ module _ (home : ℕ) (s : State) (k : Kept) (t : TurnsOn home s k) where
     pub turned_first : (to : Fate) (new : Kept) → IsOnLink (length k.lists.links) to → to ≡ fate_at (On way.via) s → new ≡ record k { lists = passed_first (Back code) to k.lists; messages = restood (take 1 (queue_at (Back code) k.lists)) to k.messages } → TurnsOn home s new
     unfolding way
     turned_first to new on is b =
-        let to_link = on.2 in
         let off : is_back_to home to ≡ false = grind arith in
         let way_is : to ≡ way_in s it.row = is ∙ ap (λ place. fate_at place s) (sym (it_turns.1 it_turns.0).3) in
         let rows_are : turned (is_back code) to 1 (t.gone ++ t.rest) ≡ (t.gone ++ with_fate to it.row ∷ []) ++ it.after = ap (λ (rows : List Row). turned (is_back code) to 1 (t.gone ++ rows)) it.rest_is ∙ turned_one (is_back code) to it.row it.after t.gone (none_gone code o.of_home) it.on in
@@ -194,7 +193,6 @@ module _ (home code : ℕ) (to : Fate) (q : Lists) (o : IsOldest home code q) (o
 
   pub queue_then : (f : Fate) → is_standing f ≡ true → queue_at f gone ≡ cond (same_fate (Back code) f) (drop 1 (queue_at (Back code) q)) (cond (same_fate to f) (queue_at to q ++ take 1 (queue_at (Back code) q)) (queue_at f q))
   queue_then f s =
-      let to_link = on.2 in
       let first = o.first in
       let known : code < length q.back = grind (arith, nat_tests, cases_lt, get_or_past) in
       both_replaced q (Back code) to _ _ known (grind arith) f s

@@ -98,7 +98,7 @@ pub fn obey(parts: &mut Parts, order: Order) -> Took
 
 /// A changeover order: a link that is up is left and answered for; a link that was left settles, with
 /// no answer (own); for one that settled already the answer of its last life goes out again (own).
-#[tactic(auto, using(crate::proofs::Links::whole_of))]
+#[tactic(auto, using(crate::proofs::Links::whole_of, crate::proofs::Links::found))]
 fn change_over(parts: &mut Parts, number: u8, reached: Reached) -> Took
     requires holds { Holds (kept_of parts.old) }
     requires counted { AreCounted (2 ^ 61) parts.old.links.items }

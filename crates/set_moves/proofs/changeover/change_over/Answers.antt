@@ -15,11 +15,6 @@ pub returns-in-None : goal.returns-in-None
 returns-in-None c = record { stands = ignores c.args.parts.now c.args.number (changed_over c.args.reached c.args.number) c.phase_of.ensures.value (λ phase e link s. let none = c.in-None.is in absurd cc) }
 
 -- A LINK THAT IS UP is left and answered for
-pub last_accepted-requires : goal.last_accepted-requires
-last_accepted-requires c =
-    let h = rw c.in-Some-Up.field-0-is at c.in-Some-Up.ensures.here in
-    let few = (c.requires.counted c.args.number _ (found c.args.parts.now.links.items c.args.number c.from.result c.index.result.now c.from.ensures h.known c.index.ensures)).accepted in omega (arith, few)
-
 is_here : (c : After-leave) → IsHere c.args.parts.now.links.items c.args.number Up
 is_here c = rw c.in-Some-Up.field-0-is at c.in-Some-Up.ensures.here
 
@@ -72,11 +67,6 @@ pub returns-in-Some-Down : goal.returns-in-Some-Down
 returns-in-Some-Down c = record { stands = obeys_at c.args.parts.now (changed_over c.args.reached c.args.number) (rw c.in-Some-Down.field-0-is at c.in-Some-Down.ensures.here) (λ s link there is a. record { took_is = refl; stands = c.settle-in-Some-Down.ensures.stands s link there is a }) }
 
 -- one that settled is answered for again
-pub reply-order-requires-clause-counted : goal.reply-order-requires-clause-counted
-reply-order-requires-clause-counted c =
-    let h = rw c.in-Some-Settled.field-0-is at c.in-Some-Settled.ensures.here in
-    let few = (c.requires.counted c.args.number _ (found c.args.parts.now.links.items c.args.number c.from-in-Some-Settled.result c.index-in-Some-Settled.result.now c.from-in-Some-Settled.ensures h.known c.index-in-Some-Settled.ensures)).accepted in omega (arith, few)
-
 pub queue-requires-in-Some-Settled-clause-room : goal.queue-requires-in-Some-Settled-clause-room
 queue-requires-in-Some-Settled-clause-room c =
     let h = rw c.in-Some-Settled.field-0-is at c.in-Some-Settled.ensures.here in
