@@ -117,15 +117,11 @@ module _ (test : Fate → Bool) (to : Fate) (rows : List Row) (numbered : IsNumb
   }
 
   -- to another place: all of one or more, behind those that stand there
-  moved_place : (f : Fate) → is_standing f ≡ true → (b d : Bool) → test f ≡ b → same_fate to f ≡ d → numbers (rows_at f (moved test (all_with to) rows)) ≡ cond b [] (cond d (numbers (rows_at to rows) ++ numbers (standing test rows)) (numbers (rows_at f rows)))
-  moved_place f s true d e h = let away : same_fate to f ≡ false = grind (arith, same_is) in ap numbers (rows_as f _ s ∙ moved_gone test (is_there f) (all_with to) rows (λ x. away) (λ g h. grind (arith, same_is)))
-  moved_place f s false true e h = let same : to ≡ f = same_is to f s h in
-      ap numbers (rows_as f _ s ∙ moved_joined test (is_there f) (all_with to) rows (λ x. h) (elsewhere test f s e)) ∙ numbers_joined (all_with to) _ (standing test rows) ∙ rw (same, rows_as f rows s) refl
-  moved_place f s false false e h = ap numbers (rows_as f _ s ∙ moved_same test (is_there f) (all_with to) rows (λ x. h) (elsewhere test f s e) ∙ sym (rows_as f rows s))
-
   pub moved_shifts : is_standing to ≡ true → Shifts test to (numbers (standing test rows)) [] (numbers (rows_at to rows) ++ numbers (standing test rows)) rows (moved test (all_with to) rows)
   moved_shifts there = record {
-    places = λ f s. moved_place f s (test f) (same_fate to f) refl refl;
+    places = λ f s.
+        let gone : test f ≡ true → standing (is_there f) (moved test (all_with to) rows) ≡ [] = λ e. let away : same_fate to f ≡ false = grind (arith, same_is) in moved_gone test (is_there f) (all_with to) rows (λ x. away) (λ g h. grind (arith, same_is)) in
+        grind (arith, rows_as, gone, moved_joined test (is_there f) (all_with to) rows, moved_same test (is_there f) (all_with to) rows, numbers_joined (all_with to) (standing (is_there f) rows) (standing test rows), elsewhere test f s, same_is to f s);
     messages = (messages_stay test to (all_with to) rows numbered).moved_stay;
     goes = λ k. told test to k rows _ numbered (place_moved test (all_with to) k rows numbered);
   }

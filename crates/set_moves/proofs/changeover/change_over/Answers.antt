@@ -7,7 +7,7 @@ use Rattle.set_model.proofs.SoundLink.{queues}
 use Rattle.set_model.proofs.Walk.{IsAt}
 use Rattle.set_moves.specs.Agreement.{StandsFor}
 use Rattle.set_moves.specs.Parts.{Up, Down, Settled, kept_of}
-use Rattle.set_moves.proofs.Links.{IsHere, IsLeft, ignores, obeys_at, here_room, found, stands_for, whole_of, has_room_left, beside_out, out_at, room_after, is_left}
+use Rattle.set_moves.proofs.Links.{IsHere, IsLeft, ignores, obeys_at, here_room, stands_for, whole_of, has_room_left, beside_out, out_at, room_after, is_left}
 use Rattle.set_moves.proofs.changeover.change_over.Goals as goal
 use Rattle.set_moves.proofs.changeover.change_over.Goals.{After-leave}
 
