@@ -171,9 +171,6 @@ given_up_for k s from test cause f stood known is same =
     (λ g t. queue_set from g [] k.lists stood known ∙ grind (arith, nat_tests, same_is, is g)) (f.stands.queues from ∙ ap numbers same)) (links_stay from [] k.lists) _ _ f.routing (λ m. last_stays from [] k.lists m)
 
 -- A LINK SETTLES: what stands on it goes to another place.
-on_numbers : (l : ℕ) (q : Lists) (ms : List Message) (rows : List Row) → Stands q ms rows → IsInOrder l rows → IsHeldLast l rows → on_lists l q ≡ numbers (on l rows)
-on_numbers l q ms rows s o last = grind (arith, on_in_order l rows o last, map-append, s.queues (Unacked l), s.queues (Waiting l), s.queues (Held l))
-
 settled_at : (l : ℕ) (to : Fate) (q : Lists) → IsAside l to q → (f : Fate) → is_standing f ≡ true → queue_at f (settled l to q) ≡ cond (is_on l f) [] (cond (same_fate to f) (queue_at to q ++ on_lists l q) (queue_at f q))
 settled_at l to q a f t = let w = settling l to q a in let e = w.elsewhere f t in grind (arith, nat_tests, same_is, w, e)
 
@@ -185,7 +182,7 @@ settled_for k s n target link link' routing f order last there e aside apart =
     let to = fate_on target in
     let off : is_on n to ≡ false = grind (arith, nat_tests) in
     let stood : is_standing to ≡ true = grind arith in
-    let ns = on_numbers n k.lists k.messages s.rows f.stands order last in
+    let ns : on_lists n k.lists ≡ numbers (on n s.rows) = grind (arith, on_in_order n s.rows order last, map-append, f.stands.queues (Unacked n), f.stands.queues (Waiting n), f.stands.queues (Held n)) in
     link_and_queues_for k s f _ _ _ (shifts_stand f.stands (moved_shifts (is_on n) to s.rows f.stands.numbered off stood) (λ g t. grind (arith, nat_tests, settled_at n to k.lists aside g t, f.stands.queues to, ns)) ns) (simp (length-updated, links_stay)) routing routing refl n link'
     (λ m ne. search last_stays) (search last_stays ∙ still k s n link link' f there e)
 

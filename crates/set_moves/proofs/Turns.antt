@@ -213,9 +213,6 @@ module _ (home code : ℕ) (to : Fate) (q : Lists) (o : IsOldest home code q) (o
   on_then m = let to_link = on.2 in grind (arith, nat_tests, on_length m q, on_length m gone, grown (Unacked m) refl refl, grown (Waiting m) refl refl, grown (Held m) refl refl)
 
 -- ROOM
-pub turns_then : (a b : ℕ) (old mid new : QueuesState) → length mid.lists.links ≡ length old.lists.links → TakesTurns a old mid → TakesTurns b mid new → TakesTurns (a + b) old new
-turns_then a b old mid new many t u = grind arith
-
 pub turns_one : (home code : ℕ) (to : Fate) (old new : QueuesState) → IsOldest home code old.lists → IsOnLink (length old.lists.links) to → new.lists ≡ passed_first (Back code) to old.lists → TakesRoom to 1 old.rooms new.rooms → new.room ≡ old.room → TakesTurns 1 old new
 turns_one home code to old new o on e rooms room = record {
   room = room;
