@@ -56,12 +56,6 @@ pub given_all : (ns : List ℕ) (to : Fate) (ms : List Message) (rows new : List
 given_all ns to ms rows new numbered many goes n h = let there = (goes n).goes h in grind (arith, nat_tests, cases_lt, none_at n new)
 
 -- BY FATE
-pub waits_there : (l : ℕ) (fate : Fate) → is_waiting l fate ≡ same_fate fate (Waiting l)
-waits_there l fate = grind arith
-
-pub sent_there : (l : ℕ) (fate : Fate) → is_unacked l fate ≡ same_fate fate (Unacked l)
-sent_there l fate = grind arith
-
 -- the rows of a fate that isn't final are those that have it
 abbrev pub is_there : Fate → Fate → Bool
 is_there f g = same_fate g f
@@ -70,8 +64,8 @@ standing_as : (p q : Fate → Bool) → ((g : Fate) → p g ≡ q g) → (rows :
 standing_as p q e rows = filter_agree (λ (row : Row). p row.fate) (λ (row : Row). q row.fate) (λ row. e row.fate) rows
 
 pub rows_as : (f : Fate) (rows : List Row) → is_standing f ≡ true → rows_at f rows ≡ standing (is_there f) rows
-rows_as (Waiting l) rows s = standing_as (is_waiting l) (is_there (Waiting l)) (waits_there l) rows
-rows_as (Unacked l) rows s = standing_as (is_unacked l) (is_there (Unacked l)) (sent_there l) rows
+rows_as (Waiting l) rows s = standing_as (is_waiting l) (is_there (Waiting l)) (λ fate. grind arith) rows
+rows_as (Unacked l) rows s = standing_as (is_unacked l) (is_there (Unacked l)) (λ fate. grind arith) rows
 rows_as (Held l) rows s = standing_as (is_held l) (is_there (Held l)) (λ fate. grind arith) rows
 rows_as Parked rows s = standing_as is_parked (is_there Parked) (λ fate. grind arith) rows
 rows_as (Back c) rows s = standing_as (is_back c) (is_there (Back c)) (λ fate. grind arith) rows

@@ -19,7 +19,7 @@ use Rattle.set_model.proofs.Rows.{place_moved, new_row, numbered_appended, is_fo
 use Rattle.set_model.proofs.Order.{on_in_order}
 use Rattle.set_model.proofs.Staying.{messages_stay}
 use Rattle.set_moves.specs.Agreement.{Message, Stands, rows_at, label_in, label_of, kind_of, Kept, StandsFor}
-use Rattle.set_moves.proofs.RowsAt.{given_all, none_at, final_none, Shifts, appended_at, first_shifts, waits_there, sent_there, parted, parted_at, turned_shifts, changed_shifts, moved_shifts, is_there, rows_as}
+use Rattle.set_moves.proofs.RowsAt.{given_all, none_at, final_none, Shifts, appended_at, first_shifts, parted, parted_at, turned_shifts, changed_shifts, moved_shifts, is_there, rows_as}
 use Rattle.set_route.specs.Routing.{Routing}
 use Rattle.set_model.specs.State.{LinkState, State}
 use Rattle.set_model.proofs.Lists.{at_set, length_set, within, present, get_set_same}
@@ -146,7 +146,7 @@ pub sent_for : (k : Kept) (s : State) (n message : ℕ) → StandsFor k s → Is
     → StandsFor (record k { lists = first_sent n message k.lists; messages = restood (message ∷ []) (Unacked n) k.messages }) (record s { rows = turned (is_waiting n) (Unacked n) 1 s.rows })
 sent_for k s n message f order known first =
     let taken : take 1 (queue_at (Waiting n) k.lists) ≡ message ∷ [] = grind arith in
-    subst (λ (ns : List ℕ). StandsFor (record k { lists = with_queue (Waiting n) (drop 1 (queue_at (Waiting n) k.lists)) (with_queue (Unacked n) (queue_at (Unacked n) k.lists ++ ns) k.lists); messages = restood ns (Unacked n) k.messages }) (record s { rows = turned (is_waiting n) (Unacked n) 1 s.rows })) taken (first_for k s (Waiting n) (Unacked n) (is_waiting n) (is_unacked n) f refl refl known known (waits_there n) (sent_there n) refl refl order)
+    subst (λ (ns : List ℕ). StandsFor (record k { lists = with_queue (Waiting n) (drop 1 (queue_at (Waiting n) k.lists)) (with_queue (Unacked n) (queue_at (Unacked n) k.lists ++ ns) k.lists); messages = restood ns (Unacked n) k.messages }) (record s { rows = turned (is_waiting n) (Unacked n) 1 s.rows })) taken (first_for k s (Waiting n) (Unacked n) (is_waiting n) (is_unacked n) f refl refl known known (λ fate. grind arith) (λ fate. grind arith) refl refl order)
 
 -- AN ACKNOWLEDGEMENT, under a link that counts it.
 pub acked_for : (k : Kept) (s : State) (n fsn : ℕ) (link link' : LinkState) → StandsFor k s → slice_get s.links n ≡ Some link → fsn < 128 → link'.acked ≡ link.acked + reach n fsn k.lists
