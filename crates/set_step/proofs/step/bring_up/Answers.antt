@@ -1,8 +1,7 @@
-use Rattle.std.proofs.Common.{refl, arith, ◌∙◌, ap, length}
-use Rattle.set_queues.specs.Queues.{passed}
+use Rattle.std.proofs.Common.{refl, arith, ap, length}
 use Rattle.set_queues.specs.Buffers.{Lists}
 use Rattle.set_route.specs.Routing.{raised}
-use Rattle.set_model.specs.Rows.{Waiting, Parked}
+use Rattle.set_model.specs.Rows.{Waiting}
 use Rattle.set_model.specs.Step.{risen_link}
 use Rattle.set_moves.specs.Parts.{Settled, kept_of}
 use Rattle.set_moves.proofs.Links.{agrees_same, is_in}
