@@ -1,7 +1,7 @@
 -- One link of the list changes, and what the list stands for with it.
 use Rattle.std.proofs.Common.{arith, ◌≡◌, ◌∙◌, ap, sym, ◌<◌, ℕ, List, map, length, slice_get, slice_set, slice_index_or, Some, ◌≢◌, false, Option, ◌==◌, IfSome, refl, subst, ◌≤◌, None, Bool, option_map, true, [], drop}
 use Rattle.std.proofs.lemmas.Option.{slice_get-get_or, slice_get_past}
-use Rattle.set_moves.specs.Parts.{Link, Parts, kept_of, AtLink, IsOut, Gives, Obeys, Phase, Down, IsWhole, IsCounted, AreCounted}
+use Rattle.set_moves.specs.Parts.{Link, Parts, kept_of, AtLink, IsOut, Gives, Obeys, AllObey, obeyed_at, Phase, Down, IsWhole, IsCounted, AreCounted}
 use Rattle.std.proofs.lemmas.List.{length-map, length-drop}
 use Rattle.set_moves.specs.Agreement.{Agrees, Holds}
 use Rattle.set_model.specs.State.{LinkState, State, has_phase_up, target}
@@ -60,7 +60,6 @@ place_for {links} {read} n o to q same is below there many known out =
     let down = out x.0 x.1 in
     let other : (t : ℕ) → o ≡ Some t → n ≢ t = λ t e. grind (arith, same_at, target_up) in
     let apart : IfSome o (λ t. t ≢ n) = grind arith in
-    let low : IfSome o (λ t. t < length links) = rw same at below in
     let known_to : IsKnown (fate_on o) q = grind arith in
     record { aside = aside_of o n to q there (omega (arith, many, known)) known_to apart; apart = apart; off = λ t e. ne_eqb n t (other t e) }
 
@@ -87,7 +86,7 @@ unknown parts s a n outcome few = rw (ap (λ links. slice_get links n) (sym a.st
 
 -- An order changes nothing at a link that it isn't for, as its phase or that there is none tells,
 pub ignores : {o : Option Phase} (parts : Parts) (n : ℕ) (obeyed : LinkState → Phase → State → Obeyed) → o ≡ option_map (λ (l : Link). l.phase) (slice_get parts.links.items n) → ((phase : Phase) → o ≡ Some phase → (link : LinkState) (s : State) → obeyed link phase s ≡ ignored s)
-    → (s : State) → Agrees (kept_of parts) s → Obeys (at_link n s (λ link. obeyed link link.phase s) (slice_get s.links n)) Ignored parts
+    → AllObey parts parts Ignored (obeyed_at n obeyed)
 ignores parts n obeyed is none s a = rw (ap (λ links. slice_get links n) (sym a.stands.links)) (rw (nothing (slice_get parts.links.items n) (λ link e. none link.phase (is ∙ ap (option_map (λ (l : Link). l.phase)) e) link s)) (record { took_is = refl; stands = a.stands }))
   where
     nothing : (o : Option Link) → ((link : Link) → o ≡ Some link → obeyed link link.phase s ≡ ignored s) → at_link n s (λ link. obeyed link link.phase s) (o) ≡ ignored s
@@ -99,10 +98,10 @@ pub unanswered : (reached : Reached) (n : ℕ) (o : Option Phase) → (o ≡ Som
 unanswered reached n o other phase is link s = grind arith
 
 -- and is obeyed at one in its phase
-pub obeyed_at : {new : Parts} {n : ℕ} {phase : Phase} {took : Took} (parts : Parts) (obeyed : LinkState → Phase → State → Obeyed) → IsHere parts.links.items n phase
+pub obeys_at : {new : Parts} {n : ℕ} {phase : Phase} {took : Took} (parts : Parts) (obeyed : LinkState → Phase → State → Obeyed) → IsHere parts.links.items n phase
     → ((s : State) (link : LinkState) → slice_get s.links n ≡ Some link → link.phase ≡ phase → Agrees (kept_of parts) s → Obeys (obeyed link phase s) took new)
-    → (s : State) → Agrees (kept_of parts) s → Obeys (at_link n s (λ link. obeyed link link.phase s) (slice_get s.links n)) took new
-obeyed_at {new} {n} {phase} {took} parts obeyed h done s a =
+    → AllObey parts new took (obeyed_at n obeyed)
+obeys_at {new} {n} {phase} {took} parts obeyed h done s a =
     let i = is_in parts s n phase a h in
     rw i.there (subst (λ p. Obeys (obeyed i.link p s) took new) (sym i.phase_is) (done s i.link i.there i.phase_is a))
 
@@ -138,7 +137,6 @@ beside_left links new n link e out = grind (arith, map_set, ups_of)
 -- what stands on a link isn't touched by what waits elsewhere
 pub on_same : (n : ℕ) (to : Fate) (xs : List ℕ) (q new : Lists) → IsAside n to q → new ≡ with_queue to xs q → on n new ≡ on n q
 on_same n to xs q new a e =
-    let queued = a.queued in
     let sent : same_fate to (Unacked n) ≡ false = grind arith in
     rw (queue_away to (Unacked n) xs q new e a.other sent, queue_away to (Waiting n) xs q new e a.other a.unsent, queue_away to (Held n) xs q new e a.other a.held) refl
 

@@ -56,12 +56,6 @@ pub given_all : (ns : List ℕ) (to : Fate) (ms : List Message) (rows new : List
 given_all ns to ms rows new numbered many goes n h = let there = (goes n).goes h in grind (arith, nat_tests, cases_lt, none_at n new)
 
 -- BY FATE
-pub waits_there : (l : ℕ) (fate : Fate) → is_waiting l fate ≡ same_fate fate (Waiting l)
-waits_there l fate = grind arith
-
-pub sent_there : (l : ℕ) (fate : Fate) → is_unacked l fate ≡ same_fate fate (Unacked l)
-sent_there l fate = grind arith
-
 -- the rows of a fate that isn't final are those that have it
 abbrev pub is_there : Fate → Fate → Bool
 is_there f g = same_fate g f
@@ -70,8 +64,8 @@ standing_as : (p q : Fate → Bool) → ((g : Fate) → p g ≡ q g) → (rows :
 standing_as p q e rows = filter_agree (λ (row : Row). p row.fate) (λ (row : Row). q row.fate) (λ row. e row.fate) rows
 
 pub rows_as : (f : Fate) (rows : List Row) → is_standing f ≡ true → rows_at f rows ≡ standing (is_there f) rows
-rows_as (Waiting l) rows s = standing_as (is_waiting l) (is_there (Waiting l)) (waits_there l) rows
-rows_as (Unacked l) rows s = standing_as (is_unacked l) (is_there (Unacked l)) (sent_there l) rows
+rows_as (Waiting l) rows s = standing_as (is_waiting l) (is_there (Waiting l)) (λ fate. grind arith) rows
+rows_as (Unacked l) rows s = standing_as (is_unacked l) (is_there (Unacked l)) (λ fate. grind arith) rows
 rows_as (Held l) rows s = standing_as (is_held l) (is_there (Held l)) (λ fate. grind arith) rows
 rows_as Parked rows s = standing_as is_parked (is_there Parked) (λ fate. grind arith) rows
 rows_as (Back c) rows s = standing_as (is_back c) (is_there (Back c)) (λ fate. grind arith) rows
@@ -117,15 +111,11 @@ module _ (test : Fate → Bool) (to : Fate) (rows : List Row) (numbered : IsNumb
   }
 
   -- to another place: all of one or more, behind those that stand there
-  moved_place : (f : Fate) → is_standing f ≡ true → (b d : Bool) → test f ≡ b → same_fate to f ≡ d → numbers (rows_at f (moved test (all_with to) rows)) ≡ cond b [] (cond d (numbers (rows_at to rows) ++ numbers (standing test rows)) (numbers (rows_at f rows)))
-  moved_place f s true d e h = let away : same_fate to f ≡ false = grind (arith, same_is) in ap numbers (rows_as f _ s ∙ moved_gone test (is_there f) (all_with to) rows (λ x. away) (λ g h. grind (arith, same_is)))
-  moved_place f s false true e h = let same : to ≡ f = same_is to f s h in
-      ap numbers (rows_as f _ s ∙ moved_joined test (is_there f) (all_with to) rows (λ x. h) (elsewhere test f s e)) ∙ numbers_joined (all_with to) _ (standing test rows) ∙ rw (same, rows_as f rows s) refl
-  moved_place f s false false e h = ap numbers (rows_as f _ s ∙ moved_same test (is_there f) (all_with to) rows (λ x. h) (elsewhere test f s e) ∙ sym (rows_as f rows s))
-
   pub moved_shifts : is_standing to ≡ true → Shifts test to (numbers (standing test rows)) [] (numbers (rows_at to rows) ++ numbers (standing test rows)) rows (moved test (all_with to) rows)
   moved_shifts there = record {
-    places = λ f s. moved_place f s (test f) (same_fate to f) refl refl;
+    places = λ f s.
+        let gone : test f ≡ true → standing (is_there f) (moved test (all_with to) rows) ≡ [] = λ e. let away : same_fate to f ≡ false = grind (arith, same_is) in moved_gone test (is_there f) (all_with to) rows (λ x. away) (λ g h. grind (arith, same_is)) in
+        grind (arith, rows_as, gone, moved_joined test (is_there f) (all_with to) rows, moved_same test (is_there f) (all_with to) rows, numbers_joined (all_with to) (standing (is_there f) rows) (standing test rows), elsewhere test f s, same_is to f s);
     messages = (messages_stay test to (all_with to) rows numbered).moved_stay;
     goes = λ k. told test to k rows _ numbered (place_moved test (all_with to) k rows numbered);
   }

@@ -19,7 +19,7 @@ use Rattle.set_model.proofs.Rows.{place_moved, new_row, numbered_appended, is_fo
 use Rattle.set_model.proofs.Order.{on_in_order}
 use Rattle.set_model.proofs.Staying.{messages_stay}
 use Rattle.set_moves.specs.Agreement.{Message, Stands, rows_at, label_in, label_of, kind_of, Kept, StandsFor}
-use Rattle.set_moves.proofs.RowsAt.{given_all, none_at, final_none, Shifts, appended_at, first_shifts, waits_there, sent_there, parted, parted_at, turned_shifts, changed_shifts, moved_shifts, is_there, rows_as}
+use Rattle.set_moves.proofs.RowsAt.{given_all, none_at, final_none, Shifts, appended_at, first_shifts, parted, parted_at, turned_shifts, changed_shifts, moved_shifts, is_there, rows_as}
 use Rattle.set_route.specs.Routing.{Routing}
 use Rattle.set_model.specs.State.{LinkState, State}
 use Rattle.set_model.proofs.Lists.{at_set, length_set, within, present, get_set_same}
@@ -146,7 +146,7 @@ pub sent_for : (k : Kept) (s : State) (n message : ℕ) → StandsFor k s → Is
     → StandsFor (record k { lists = first_sent n message k.lists; messages = restood (message ∷ []) (Unacked n) k.messages }) (record s { rows = turned (is_waiting n) (Unacked n) 1 s.rows })
 sent_for k s n message f order known first =
     let taken : take 1 (queue_at (Waiting n) k.lists) ≡ message ∷ [] = grind arith in
-    subst (λ (ns : List ℕ). StandsFor (record k { lists = with_queue (Waiting n) (drop 1 (queue_at (Waiting n) k.lists)) (with_queue (Unacked n) (queue_at (Unacked n) k.lists ++ ns) k.lists); messages = restood ns (Unacked n) k.messages }) (record s { rows = turned (is_waiting n) (Unacked n) 1 s.rows })) taken (first_for k s (Waiting n) (Unacked n) (is_waiting n) (is_unacked n) f refl refl known known (waits_there n) (sent_there n) refl refl order)
+    subst (λ (ns : List ℕ). StandsFor (record k { lists = with_queue (Waiting n) (drop 1 (queue_at (Waiting n) k.lists)) (with_queue (Unacked n) (queue_at (Unacked n) k.lists ++ ns) k.lists); messages = restood ns (Unacked n) k.messages }) (record s { rows = turned (is_waiting n) (Unacked n) 1 s.rows })) taken (first_for k s (Waiting n) (Unacked n) (is_waiting n) (is_unacked n) f refl refl known known (λ fate. grind arith) (λ fate. grind arith) refl refl order)
 
 -- AN ACKNOWLEDGEMENT, under a link that counts it.
 pub acked_for : (k : Kept) (s : State) (n fsn : ℕ) (link link' : LinkState) → StandsFor k s → slice_get s.links n ≡ Some link → fsn < 128 → link'.acked ≡ link.acked + reach n fsn k.lists
@@ -171,9 +171,6 @@ given_up_for k s from test cause f stood known is same =
     (λ g t. queue_set from g [] k.lists stood known ∙ grind (arith, nat_tests, same_is, is g)) (f.stands.queues from ∙ ap numbers same)) (links_stay from [] k.lists) _ _ f.routing (λ m. last_stays from [] k.lists m)
 
 -- A LINK SETTLES: what stands on it goes to another place.
-on_numbers : (l : ℕ) (q : Lists) (ms : List Message) (rows : List Row) → Stands q ms rows → IsInOrder l rows → IsHeldLast l rows → on_lists l q ≡ numbers (on l rows)
-on_numbers l q ms rows s o last = grind (arith, on_in_order l rows o last, map-append, s.queues (Unacked l), s.queues (Waiting l), s.queues (Held l))
-
 settled_at : (l : ℕ) (to : Fate) (q : Lists) → IsAside l to q → (f : Fate) → is_standing f ≡ true → queue_at f (settled l to q) ≡ cond (is_on l f) [] (cond (same_fate to f) (queue_at to q ++ on_lists l q) (queue_at f q))
 settled_at l to q a f t = let w = settling l to q a in let e = w.elsewhere f t in grind (arith, nat_tests, same_is, w, e)
 
@@ -185,7 +182,7 @@ settled_for k s n target link link' routing f order last there e aside apart =
     let to = fate_on target in
     let off : is_on n to ≡ false = grind (arith, nat_tests) in
     let stood : is_standing to ≡ true = grind arith in
-    let ns = on_numbers n k.lists k.messages s.rows f.stands order last in
+    let ns : on_lists n k.lists ≡ numbers (on n s.rows) = grind (arith, on_in_order n s.rows order last, map-append, f.stands.queues (Unacked n), f.stands.queues (Waiting n), f.stands.queues (Held n)) in
     link_and_queues_for k s f _ _ _ (shifts_stand f.stands (moved_shifts (is_on n) to s.rows f.stands.numbered off stood) (λ g t. grind (arith, nat_tests, settled_at n to k.lists aside g t, f.stands.queues to, ns)) ns) (simp (length-updated, links_stay)) routing routing refl n link'
     (λ m ne. search last_stays) (search last_stays ∙ still k s n link link' f there e)
 
@@ -215,20 +212,8 @@ released_for k s c l routing f code known =
     queues_for k s f _ _ _ (passed_moves (Back c) (Waiting l) (is_back c) k.lists k.messages s.rows f.stands refl code known tt refl refl (λ g t. grind (arith, nat_tests)) refl) (simp length-updated) routing routing refl (λ m. search last_stays)
 
 -- What is kept after a call stands for what became of the state.
-
--- new keeps this, and all else as old
-pub record Becoming (old new : Kept) (lists : Lists) (messages : List Message) (bodies : List (List ℕ)) (links : List LinkState) (routing : Routing) : Type 0 where
-  pub settings_same : new.settings ≡ old.settings
-  pub lists_are : new.lists ≡ lists
-  pub messages_are : new.messages ≡ messages
-  pub bodies_are : new.bodies ≡ bodies
-  pub links_are : new.links ≡ links
-  pub routing_is : new.routing ≡ routing
-  pub inbox_same : new.inbox ≡ old.inbox
-
-module _ (old new : Kept) (lists : Lists) (messages : List Message) (bodies : List (List ℕ)) (links : List LinkState) (routing : Routing) (s : State) where
-  pub becomes : Becoming old new lists messages bodies links routing → StandsFor (record old { lists = lists; messages = messages; bodies = bodies; links = links; routing = routing }) s → StandsFor new s
-  becomes b f = grind arith
+pub becomes : {k new : Kept} {s : State} → StandsFor k s → new ≡ k → StandsFor new s
+becomes f e = rw e f
 
 -- WHAT REACHED THE FAR END, as the queues and as the rows tell it
 pub record Reaches (k : Kept) (s : State) (n fsn : ℕ) (link : LinkState) : Type 0 where

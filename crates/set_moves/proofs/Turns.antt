@@ -9,14 +9,14 @@ use Rattle.set_queues.specs.Buffers.{Lists, is_standing, same_fate, queue_at, Ha
 use Rattle.set_queues.specs.Messages.{restood}
 use Rattle.set_queues.proofs.Standing.{same_is}
 use Rattle.set_route.specs.Routing.{home_of, place_of}
-use Rattle.set_model.specs.Rows.{turned, with_fate, fated, AreBefore, Fate, Waiting, Held, Back, Unacked, Row, standing, is_back, is_back_to, numbers, moved, stream_of, service_indicator, Each, stands_back, is_users, back}
+use Rattle.set_model.specs.Rows.{turned, with_fate, fated, AreBefore, Fate, Waiting, Held, Back, Unacked, Row, standing, is_back, is_back_to, numbers, stream_of, service_indicator, Each, stands_back, is_users, back}
 use Rattle.set_model.specs.Sound.{IsSound, IsAscending, AreAbove, IsBackOf}
 use Rattle.set_model.specs.State.{On, State, fate_at, LinkState}
 use Rattle.set_model.specs.Changeover.{turned_back, out_of_service}
 use Rattle.set_model.proofs.Rows.{each_so, filter_within, filter_apart, none_within, row_in_filter}
 use Rattle.set_moves.specs.Agreement.{Message, Kept, StandsFor, label_in, label_of}
 use Rattle.set_moves.specs.Turning.{IsTurning, IsTurningRow, HasWay, TakesTurns, CanTurn}
-use Rattle.set_moves.proofs.States.{Becoming, becomes, first_for, parted_for}
+use Rattle.set_moves.proofs.States.{becomes, first_for, parted_for}
 use Rattle.set_moves.proofs.RowsAt.{is_there}
 use Rattle.set_moves.specs.Parts.{Parts, Up, IsWhole, kept_of}
 use Rattle.set_queues.specs.Queues.{QueuesState}
@@ -114,7 +114,6 @@ module _ (home : ℕ) (s : State) (k : Kept) (t : TurnsOn home s k) where
   none_left [] e nothing = refl
   none_left (x ∷ xs) e nothing =
       let b = back_of home x.fate (subst (Each (IsLeft home s)) e t.left).0.0 in
-      let none = nothing b.0 b.2 in
       absurd (grind (arith, nat_tests, at_code b.0 b.2))
 
   -- none is left to turn
@@ -151,10 +150,9 @@ module _ (home : ℕ) (s : State) (k : Kept) (t : TurnsOn home s k) where
         record { number = it.row.number; first = o.first ∙ ap Some (sym it.number_is); message = label.0; message_is = label.1; stream = stream_of it.row.body; kind_is = label.2; few = turns.1; via = turns.2; place_is = ap (place_of (stream_of it.row.body)) t.stands.routing ∙ turns.3; known = subst (λ (n : ℕ). turns.2 < n) (ap length (sym t.stands.links)) turns.4 }
 
     -- and turns
-    pub turned_first : (to : Fate) (new : Kept) → IsOnLink (length k.lists.links) to → to ≡ fate_at (On way.via) s → Becoming k new (passed_first (Back code) to k.lists) (restood (take 1 (queue_at (Back code) k.lists)) to k.messages) k.bodies k.links k.routing → TurnsOn home s new
+    pub turned_first : (to : Fate) (new : Kept) → IsOnLink (length k.lists.links) to → to ≡ fate_at (On way.via) s → new ≡ record k { lists = passed_first (Back code) to k.lists; messages = restood (take 1 (queue_at (Back code) k.lists)) to k.messages } → TurnsOn home s new
     unfolding way
     turned_first to new on is b =
-        let to_link = on.2 in
         let off : is_back_to home to ≡ false = grind arith in
         let way_is : to ≡ way_in s it.row = is ∙ ap (λ place. fate_at place s) (sym (it_turns.1 it_turns.0).3) in
         let rows_are : turned (is_back code) to 1 (t.gone ++ t.rest) ≡ (t.gone ++ with_fate to it.row ∷ []) ++ it.after = ap (λ (rows : List Row). turned (is_back code) to 1 (t.gone ++ rows)) it.rest_is ∙ turned_one (is_back code) to it.row it.after t.gone (none_gone code o.of_home) it.on in
@@ -165,7 +163,7 @@ module _ (home : ℕ) (s : State) (k : Kept) (t : TurnsOn home s k) where
         record {
           gone = t.gone ++ with_fate to it.row ∷ [];
           rest = it.after;
-          stands = becomes k new _ _ _ _ _ _ b (rw rows_are at stands);
+          stands = becomes (rw rows_are at stands) b;
           none = grind (arith, filter-append, t.none, off);
           left = (subst (Each (IsLeft home s)) it.rest_is t.left).1;
           order = (subst (λ (rows : List Row). IsAscending (numbers rows)) it.rest_is t.order).1;
@@ -181,9 +179,9 @@ module _ (code : ℕ) (q q' : Lists) (others : (c : ℕ) → (code ≡ c → ⊥
   back_same from zero low = grind (arith, back_none)
   back_same from (suc n) low = grind (arith, back_suc, back_same from n (omega (arith, low)), others (from + n))
 
-  pub back_less : length (queue_at (Back code) q') + 1 ≡ length (queue_at (Back code) q) → (from n : ℕ) → from ≤ code → code < from + n → back_from from n q' + 1 ≡ back_from from n q
-  back_less less from zero low high = absurd (omega (arith, low, high))
-  back_less less from (suc n) low high = grind (arith, nat_tests, cases_eq, back_suc, back_same, back_less less from n low)
+  pub back_less : (gone : ℕ) → length (queue_at (Back code) q') + gone ≡ length (queue_at (Back code) q) → (from n : ℕ) → from ≤ code → code < from + n → back_from from n q' + gone ≡ back_from from n q
+  back_less gone less from zero low high = absurd (omega (arith, low, high))
+  back_less gone less from (suc n) low high = grind (arith, nat_tests, cases_eq, back_suc, back_same, back_less gone less from n low)
 
 -- THE FIRST OF A CODE'S GOES TO A LINK: it waits for it, or is held for it
 module _ (home code : ℕ) (to : Fate) (q : Lists) (o : IsOldest home code q) (on : IsOnLink (length q.links) to) where
@@ -195,8 +193,6 @@ module _ (home code : ℕ) (to : Fate) (q : Lists) (o : IsOldest home code q) (o
 
   pub queue_then : (f : Fate) → is_standing f ≡ true → queue_at f gone ≡ cond (same_fate (Back code) f) (drop 1 (queue_at (Back code) q)) (cond (same_fate to f) (queue_at to q ++ take 1 (queue_at (Back code) q)) (queue_at f q))
   queue_then f s =
-      let to_link = on.2 in
-      let low = on.1 in
       let first = o.first in
       let known : code < length q.back = grind (arith, nat_tests, cases_lt, get_or_past) in
       both_replaced q (Back code) to _ _ known (grind arith) f s
@@ -207,7 +203,7 @@ module _ (home code : ℕ) (to : Fate) (q : Lists) (o : IsOldest home code q) (o
       let of = o.of_home in
       let first = o.first in
       let less : length (queue_at (Back code) gone) + 1 ≡ length (queue_at (Back code) q) = grind (arith, nat_tests, queue_then (Back code) refl) in
-      back_less code q gone (λ c ne. queue_then (Back c) refl ∙ rw (ne_eqb code c ne, apart c) refl) less (16 * home) 16 (omega (arith, of)) (omega (arith, of))
+      back_less code q gone (λ c ne. queue_then (Back c) refl ∙ rw (ne_eqb code c ne, apart c) refl) 1 less (16 * home) 16 (omega (arith, of)) (omega (arith, of))
 
   -- and at most one more stands on a link
   grown : (f : Fate) → is_standing f ≡ true → same_fate (Back code) f ≡ false → length (queue_at f gone) ≤ length (queue_at f q) + cond (same_fate to f) 1 0
@@ -217,9 +213,6 @@ module _ (home code : ℕ) (to : Fate) (q : Lists) (o : IsOldest home code q) (o
   on_then m = let to_link = on.2 in grind (arith, nat_tests, on_length m q, on_length m gone, grown (Unacked m) refl refl, grown (Waiting m) refl refl, grown (Held m) refl refl)
 
 -- ROOM
-pub turns_then : (a b : ℕ) (old mid new : QueuesState) → length mid.lists.links ≡ length old.lists.links → TakesTurns a old mid → TakesTurns b mid new → TakesTurns (a + b) old new
-turns_then a b old mid new many t u = grind arith
-
 pub turns_one : (home code : ℕ) (to : Fate) (old new : QueuesState) → IsOldest home code old.lists → IsOnLink (length old.lists.links) to → new.lists ≡ passed_first (Back code) to old.lists → TakesRoom to 1 old.rooms new.rooms → new.room ≡ old.room → TakesTurns 1 old new
 turns_one home code to old new o on e rooms room = record {
   room = room;

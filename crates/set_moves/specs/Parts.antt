@@ -5,7 +5,7 @@ pub use Rattle.set_model.specs.declared.reached.Reached.{Reached}
 pub use Rattle.set_model.specs.declared.reached.Reached.TheVariants.{Upto, Unknown, Unanswered}
 use Rattle.set_model.specs.State.{LinkState, State, settings_of, has_phase_up}
 use Rattle.set_model.specs.Step.{Answer, Took, Outcome}
-use Rattle.set_model.specs.Changeover.{Obeyed}
+use Rattle.set_model.specs.Changeover.{Obeyed, at_link}
 pub use Rattle.set_moves.specs.declared.link.Link.{Link}
 pub use Rattle.set_moves.specs.declared.parts.Parts.{Parts}
 use Rattle.set_moves.specs.Agreement.{Kept, StandsFor, Agrees}
@@ -71,12 +71,9 @@ abbrev pub BecomesAt : ℕ → Parts → Parts → (LinkState → State → Stat
 BecomesAt number old new change = OfStates number old (λ link s. StandsFor (kept_of new) (change link s))
 
 -- or of one that the old parts agree with, and that has this link
-abbrev pub OfAgreed : ℕ → Parts → (LinkState → State → Type 0) → Type 0
-OfAgreed number parts fact =
-    (s : State) (link : LinkState) → slice_get s.links number ≡ Some link → Agrees (kept_of parts) s → fact link s
-
 abbrev pub AgreedBecomes : ℕ → Parts → Parts → (LinkState → State → State) → Type 0
-AgreedBecomes number old new change = OfAgreed number old (λ link s. StandsFor (kept_of new) (change link s))
+AgreedBecomes number old new change = (s : State) (link : LinkState) → slice_get s.links number ≡ Some link
+    → Agrees (kept_of old) s → StandsFor (kept_of new) (change link s)
 
 -- what is answered to a state, and kept then, are this outcome
 pub record Gives (outcome : Outcome) (answer : Answer) (parts : Parts) : Type 0 where
@@ -87,10 +84,15 @@ pub record Gives (outcome : Outcome) (answer : Answer) (parts : Parts) : Type 0 
 abbrev pub Answers : Parts → Parts → Answer → (State → Outcome) → Type 0
 Answers old new answer outcome = (s : State) → Agrees (kept_of old) s → Gives (outcome s) answer new
 
-abbrev pub AnswersAt : ℕ → Parts → Parts → Answer → (LinkState → State → Outcome) → Type 0
-AnswersAt number old new answer outcome = OfAgreed number old (λ link s. Gives (outcome link s) answer new)
-
 -- what became of an order, and is kept then, are this
 pub record Obeys (obeyed : Obeyed) (took : Took) (parts : Parts) : Type 0 where
   pub took_is : took ≡ obeyed.took
   pub stands : StandsFor (kept_of parts) obeyed.state
+
+-- whatever state the old parts agree with
+abbrev pub AllObey : Parts → Parts → Took → (State → Obeyed) → Type 0
+AllObey old new took obeyed = (s : State) → Agrees (kept_of old) s → Obeys (obeyed s) took new
+
+-- what becomes of an order for this link, if there is one
+abbrev pub obeyed_at : ℕ → (LinkState → Phase → State → Obeyed) → State → Obeyed
+obeyed_at number obeyed s = at_link number s (λ link. obeyed link link.phase s) (slice_get s.links number)

@@ -25,6 +25,10 @@ back_at code parts = queue_at (Back code) parts.queues.lists
 abbrev pub home_room : ℕ → Parts → ℕ
 home_room code parts = room_at (Waiting (home_of code)) parts.queues.rooms
 
+-- all that waits for a code of this home has room where it waits for the home
+abbrev pub CanComeBack : ℕ → Parts → Type 0
+CanComeBack home parts = back_count home parts.queues.lists ≤ room_at (Waiting home) parts.queues.rooms
+
 -- wherever what stands back for this link may turn there is room for it
 abbrev pub CanTurnBack : ℕ → Parts → Type 0
 CanTurnBack number parts =

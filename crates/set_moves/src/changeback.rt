@@ -7,7 +7,7 @@ ghost use Rattle.set_model.specs.State.{State, link_count};
 ghost use Rattle.set_model.specs.Step.{on_link, in_service, comes_back, runs_out};
 ghost use Rattle.set_moves.specs.Agreement.{Holds, StandsFor};
 ghost use Rattle.set_moves.specs.Parts.{Answers, Becomes, IsWhole, kept_of};
-ghost use Rattle.set_moves.specs.Room.{back_at, home_room};
+ghost use Rattle.set_moves.specs.Room.{back_at, home_room, CanComeBack};
 
 use super::parts::{Parts, phase_of, stand_last, unserved};
 use l3_orders::{Order, write_order};
@@ -140,10 +140,7 @@ pub(crate) fn release(parts: &mut Parts, code: u8)
     requires known { home_of code < length parts.old.links.items }
     requires room { length (back_at code parts.old) ≤ home_room code parts.old }
     ensures stands { Becomes parts.old parts.new (released code) }
-    ensures rooms { home_room code parts.old ≤ home_room code parts.new + length
-        (back_at code parts.old) }
-    ensures others { (other : ℕ) → other ≢ code
-        → back_at other parts.new ≡ back_at other parts.old }
+    ensures fits { CanComeBack (home_of code) parts.old → CanComeBack (home_of code) parts.new }
     ensures links { parts.new.links ≡ parts.old.links }
     ensures whole { IsWhole parts.new }
 {

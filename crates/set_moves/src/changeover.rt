@@ -8,7 +8,7 @@ ghost use Rattle.set_queues.specs.Settling.{on};
 ghost use Rattle.set_model.specs.Changeover.{queued, left_by, settled, order_obeyed, changed_over, answered, at_link};
 ghost use Rattle.set_model.specs.State.{State, last_accepted};
 ghost use Rattle.set_moves.specs.Agreement.{Agrees, Holds};
-ghost use Rattle.set_moves.specs.Parts.{Up, Down, IsWhole, AreCounted, AtLink, IsOut, IsReach, Becomes, AgreedBecomes, Obeys, kept_of};
+ghost use Rattle.set_moves.specs.Parts.{Up, Down, IsWhole, AreCounted, AtLink, IsOut, IsReach, Becomes, AgreedBecomes, AllObey, obeyed_at, kept_of};
 ghost use Rattle.set_moves.specs.Room.{HasRoom, IsReady, IsSpaciousFor, CanTurnBack, order_fate};
 ghost use Rattle.set_moves.specs.Turning.{TakesTurns};
 
@@ -73,8 +73,7 @@ pub fn obey(parts: &mut Parts, order: Order) -> Took
     requires counted { AreCounted (2 ^ 61) parts.old.links.items }
     requires order { IsOrder order }
     requires room { IsSpaciousFor order parts.old }
-    ensures stands { (s : State) → Agrees (kept_of parts.old) s
-        → Obeys (order_obeyed order s) result parts.new }
+    ensures stands { AllObey parts.old parts.new result (order_obeyed order) }
 {
     match order {
         Order::Coo { link, number } => change_over(parts, link, Reached::Upto { number }),
@@ -99,17 +98,15 @@ pub fn obey(parts: &mut Parts, order: Order) -> Took
 
 /// A changeover order: a link that is up is left and answered for; a link that was left settles, with
 /// no answer (own); for one that settled already the answer of its last life goes out again (own).
-#[tactic(auto, using(crate::proofs::Links::whole_of))]
+#[tactic(auto, using(crate::proofs::Links::whole_of, crate::proofs::Links::found))]
 fn change_over(parts: &mut Parts, number: u8, reached: Reached) -> Took
     requires holds { Holds (kept_of parts.old) }
     requires counted { AreCounted (2 ^ 61) parts.old.links.items }
     requires reached { IsReach reached }
     requires number { number < 16 }
     requires room { number < length parts.old.links.items → IsReady number 1 parts.old }
-    ensures stands { (s : State) → Agrees (kept_of parts.old) s
-        → Obeys (at_link number s
-        (λ link. changed_over reached number link link.phase s) (slice_get s.links number)) result
-        parts.new }
+    ensures stands { AllObey parts.old parts.new result
+        (obeyed_at number (changed_over reached number)) }
 {
     match phase_of(parts, number) {
         None => return Took::Ignored,
@@ -138,8 +135,7 @@ fn answer(parts: &mut Parts, number: u8, reached: Reached) -> Took
     requires counted { AreCounted (2 ^ 61) parts.old.links.items }
     requires reached { IsReach reached }
     requires room { number < length parts.old.links.items → IsReady number 1 parts.old }
-    ensures stands { (s : State) → Agrees (kept_of parts.old) s → Obeys (at_link number s (λ link.
-        answered reached number link link.phase s) (slice_get s.links number)) result parts.new }
+    ensures stands { AllObey parts.old parts.new result (obeyed_at number (answered reached number)) }
 {
     if phase_of(parts, number) != Some(Phase::Down) {
         return Took::Ignored;

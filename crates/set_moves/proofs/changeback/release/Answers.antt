@@ -1,6 +1,8 @@
-use Rattle.std.proofs.Common.{rules, refl, arith, ◌∙◌, ap, sym, Bool, [], cond}
+use Rattle.std.proofs.Common.{rules, refl, arith, ◌∙◌, ◌≡◌, ◌*◌, ap, Bool, true, [], cond, length}
+use Rattle.set_moves.proofs.Turns.{back_less}
+use Rattle.std.proofs.lemmas.Bool.Decides.{nat_tests}
 use Rattle.std.proofs.lemmas.Bool.{ne_eqb}
-use Rattle.set_queues.specs.Buffers.{Waiting, Back, queue_at}
+use Rattle.set_queues.specs.Buffers.{Fate, is_standing, Waiting, Back, queue_at}
 use Rattle.set_queues.proofs.Standing.{length-updated}
 use Rattle.set_queues.proofs.Soundness.{room_left, passed_replaces}
 use Rattle.set_route.specs.Routing.{given_back}
@@ -9,16 +11,15 @@ use Rattle.set_moves.proofs.States.{becomes, released_for}
 use Rattle.set_moves.proofs.changeback.release.Goals as goal
 
 pub returns-clause-stands : goal.returns-clause-stands
-returns-clause-stands c = λ s f. rw (← c.home_of_code-home.ensures.value) (becomes (kept_of c.args.parts.now) _ _ _ _ _ _ _ (search rules) (released_for (kept_of c.args.parts.now) s c.args.code c.home_of_code-home.result (given_back c.args.code s.routing) f (omega arith) (omega arith)))
+returns-clause-stands c = λ s f. rw (← c.home_of_code-home.ensures.value) (becomes (released_for (kept_of c.args.parts.now) s c.args.code c.home_of_code-home.result (given_back c.args.code s.routing) f (omega arith) (omega arith)) (search rules))
 
-pub returns-clause-others : goal.returns-clause-others
-returns-clause-others c = λ other d.
-    ap (queue_at (Back other)) c.divert.ensures.lists
-    ∙ passed_replaces c.args.parts.now.queues.lists (Back c.args.code) (Waiting c.home_of_code-home.result) refl (omega arith) (omega arith) (Back other) refl
-    ∙ ap (λ (b : Bool). cond b [] (queue_at (Back other) c.args.parts.now.queues.lists)) (ne_eqb c.args.code other (λ e. d (sym e)))
-
-pub returns-clause-rooms : goal.returns-clause-rooms
-returns-clause-rooms c = rw (← c.home_of_code-home.ensures.value) (room_left (Waiting c.home_of_code-home.result) _ _ _ tt c.divert.ensures.rooms)
+pub returns-clause-fits : goal.returns-clause-fits
+returns-clause-fits c = rw (← c.home_of_code-home.ensures.value) (λ fit.
+    let q = c.args.parts.now.queues.lists in
+    let home = c.home_of_code-home.result in
+    let then = λ (f : Fate) (stands : is_standing f ≡ true). ap (queue_at f) c.divert.ensures.lists ∙ passed_replaces q (Back c.args.code) (Waiting home) refl (omega arith) (omega arith) f stands in
+    let less = back_less c.args.code q c.divert.new.self.lists (λ other d. then (Back other) refl ∙ ap (λ (b : Bool). cond b [] (queue_at (Back other) q)) (ne_eqb c.args.code other d)) (length (queue_at (Back c.args.code) q)) (grind (arith, nat_tests, then (Back c.args.code) refl)) (16 * home) 16 (omega arith) (omega arith) in
+    omega (arith, less, fit, room_left (Waiting home) _ _ _ tt c.divert.ensures.rooms))
 
 pub returns-clause-whole : goal.returns-clause-whole
 returns-clause-whole c = grind (arith, length-updated)

@@ -1,9 +1,7 @@
 use Rattle.set_model.specs.Step.{Refused, Done, Nothing, comes_back}
 use Rattle.set_moves.specs.Parts.{Up}
 use Rattle.set_moves.proofs.Links.{served, is_in, whole_of}
-use Rattle.std.proofs.Common.{arith, ◌≡◌, ◌∙◌, refl, sym, length, ◌++◌, [], ◌∷◌}
-use Rattle.set_queues.specs.Buffers.{Waiting, queue_at}
-use Rattle.set_queues.proofs.Standing.{links_stay}
+use Rattle.std.proofs.Common.{arith, ◌≡◌, ◌∙◌, refl, sym, length}
 use Rattle.set_model.specs.Changeover.{declared_from, declared_if}
 use Rattle.set_moves.proofs.Declaring.{count_is, becomes_next, room_after, room_later}
 use Rattle.set_moves.proofs.changeback.restore.Goals as goal
@@ -23,7 +21,6 @@ pub loop-alternative-preserved : goal.loop-alternative-preserved
 loop-alternative-preserved c =
     let n = c.loop-alternative.alternative in
     let inv = c.loop-alternative.invariant in
-    let many = links_stay (Waiting n) (queue_at (Waiting n) c.loop-alternative.parts.queues.lists ++ length c.loop-alternative.parts.queues.messages ∷ []) c.loop-alternative.parts.queues.lists in
     let change = c.ask.ensures.change in
     record {
       stands = becomes_next (declared_from c.args.number) (declared_if c.args.number) (λ from s. refl) (λ from n s. refl) n 0 n c.args.parts.now c.loop-alternative.parts (record c.stand_last.new.parts { routes = c.ask.new.self }) (omega arith) inv.stands (λ s f. rw (← c.may_declare.ensures s f, c.if-not-may_declare.false) (let stands = c.stand_last.ensures.stands s f in grind (arith, stands, change, f.settings, c.changeback_code.ensures, c.write_order-body.ensures, c.as_slice.ensures)));

@@ -1,9 +1,7 @@
 use Rattle.set_model.specs.Step.{runs_out}
 use Rattle.set_moves.proofs.Links.{unknown, known_here}
-use Rattle.std.proofs.Common.{arith, refl, sym, ◌≡◌, ◌≤◌, ◌∙◌, ap, ℕ, ◌+◌, ◌*◌, ◌-◌, length}
-use Rattle.set_queues.specs.Backs.{back_from, back_count}
-use Rattle.set_queues.specs.Buffers.{Waiting, Back, Lists, queue_at, room_at}
-use Rattle.set_queues.proofs.Tallies.{back_more, back_grows}
+use Rattle.std.proofs.Common.{arith, refl, sym, ◌≡◌, ◌∙◌, ◌*◌}
+use Rattle.set_queues.proofs.Tallies.{back_below}
 use Rattle.set_route.specs.Routing.{code_for, home_of}
 use Rattle.set_model.specs.Changeover.{released_from, released}
 use Rattle.set_moves.proofs.Declaring.{becomes_next}
@@ -19,30 +17,19 @@ pub returns-clause-ok : goal.returns-clause-ok
 returns-clause-ok c = λ s a. let end : c.loop-alternative.alternative ≡ 16 = omega arith in
     known_here c.args.parts.now c.loop-alternative.parts s c.args.number _ _ a (omega arith) (rw (sym (c.has_code_in_use.ensures s a.stands) ∙ c.if-not-has_code_in_use.false) (record { answer_is = refl; stands = rw end at (c.loop-alternative.invariant.stands s a.stands) }))
 
--- what waits for one of the codes waits for all
-enough : (home i room : ℕ) (q : Lists) → i + 1 ≤ 16 → back_count home q ≤ room + back_from (16 * home) i q → length (queue_at (Back (16 * home + i)) q) ≤ room
-enough home i room q low had = omega (arith, had, back_more (16 * home) i q, back_grows (16 * home) (i + 1) (15 - i) 16 q (omega (arith, low)))
-
 pub release-requires-clause-room : goal.release-requires-clause-room
 release-requires-clause-room c =
-    let h = c.args.number in
-    let i = c.loop-alternative.alternative in
-    let home : home_of c.changeback_code.result ≡ h = omega arith in
-    let same = ap (λ (k : ℕ). length (queue_at (Back k) c.loop-alternative.parts.queues.lists)) c.changeback_code.ensures ∙ ap length (c.loop-alternative.invariant.later i (omega arith)) in
-    let few = enough h i (room_at (Waiting h) c.loop-alternative.parts.queues.rooms) c.args.parts.now.queues.lists (omega arith) c.loop-alternative.invariant.room in
-    rw (home, same) few
+    let room = c.loop-alternative.invariant.room in
+    let below = back_below (16 * c.args.number) c.loop-alternative.alternative c.loop-alternative.parts.queues.lists (omega arith) in
+    let home : home_of c.changeback_code.result ≡ c.args.number = omega arith in
+    rw (home, c.changeback_code.ensures) (omega (arith, room, below))
 
 pub loop-alternative-preserved : goal.loop-alternative-preserved
 loop-alternative-preserved c =
-    let h = c.args.number in
-    let i = c.loop-alternative.alternative in
-    let is = c.changeback_code.ensures in
-    let home : home_of c.changeback_code.result ≡ h = omega arith in
-    let same = ap (λ (k : ℕ). length (queue_at (Back k) c.loop-alternative.parts.queues.lists)) is ∙ ap length (c.loop-alternative.invariant.later i (omega arith)) in
+    let home : home_of c.changeback_code.result ≡ c.args.number = omega arith in
     record {
       whole = c.release.ensures.whole;
       links = c.release.ensures.links ∙ c.loop-alternative.invariant.links;
-      room = omega (arith, back_more (16 * h) i c.args.parts.now.queues.lists, rw home at c.release.ensures.rooms, same);
-      later = λ j far. c.release.ensures.others (16 * h + j) (λ e. omega (arith, e, far)) ∙ c.loop-alternative.invariant.later j (omega (arith, far));
-      stands = becomes_next released_from released (λ from s. refl) (λ from n s. refl) i (code_for h 0) c.changeback_code.result c.args.parts.now c.loop-alternative.parts c.release.new.parts (omega arith) c.loop-alternative.invariant.stands c.release.ensures.stands;
+      room = rw home at c.release.ensures.fits c.loop-alternative.invariant.room;
+      stands = becomes_next released_from released (λ from s. refl) (λ from n s. refl) c.loop-alternative.alternative (code_for c.args.number 0) c.changeback_code.result c.args.parts.now c.loop-alternative.parts c.release.new.parts (omega arith) c.loop-alternative.invariant.stands c.release.ensures.stands;
     }

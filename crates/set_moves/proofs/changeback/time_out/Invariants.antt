@@ -1,8 +1,7 @@
-use Rattle.std.proofs.Common.{◌≡◌, ◌≤◌, ◌+◌, ◌*◌, ℕ}
-use Rattle.set_queues.specs.Backs.{back_from, back_count}
-use Rattle.set_queues.specs.Buffers.{Waiting, Back, queue_at, room_at}
+use Rattle.std.proofs.Common.{◌≡◌}
 use Rattle.set_route.specs.Routing.{code_for}
 use Rattle.set_model.specs.Changeover.{released_from}
+use Rattle.set_moves.specs.Room.{CanComeBack}
 use Rattle.set_moves.specs.Parts.{IsWhole, Becomes}
 use Rattle.set_moves.proofs.changeback.time_out.Given as goal
 
@@ -10,7 +9,6 @@ abbrev pub invariant-loop-alternative : goal.invariant-loop-alternative
 invariant-loop-alternative l = record {
   whole : IsWhole l.parts;
   links : l.parts.links ≡ l.fn.parts.links;
-  room : back_count l.number l.fn.parts.queues.lists ≤ room_at (Waiting l.number) l.parts.queues.rooms + back_from (16 * l.number) l.alternative l.fn.parts.queues.lists;
-  later : (j : ℕ) → l.alternative ≤ j → queue_at (Back (16 * l.number + j)) l.parts.queues.lists ≡ queue_at (Back (16 * l.number + j)) l.fn.parts.queues.lists;
+  room : CanComeBack l.number l.parts;
   stands : Becomes l.fn.parts l.parts (released_from (code_for l.number 0) l.alternative);
 }

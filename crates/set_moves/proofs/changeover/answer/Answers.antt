@@ -1,7 +1,7 @@
 use Rattle.std.proofs.Common.{rules, refl, ◌≡◌, Some}
 use Rattle.set_moves.specs.Parts.{Down}
 use Rattle.set_model.specs.Changeover.{answered}
-use Rattle.set_moves.proofs.Links.{ignores, obeyed_at, unanswered, here_room}
+use Rattle.set_moves.proofs.Links.{ignores, obeys_at, unanswered, here_room}
 use Rattle.set_moves.proofs.changeover.answer.Goals as goal
 
 pub returns-then-ne : goal.returns-then-ne
@@ -16,4 +16,4 @@ settle-requires-clause-room c =
 pub returns : goal.returns
 returns c =
     let e : c.phase_of.result ≡ Some Down = search rules in
-    record { stands = obeyed_at c.args.parts.now (answered c.args.reached c.args.number) (rw e at c.phase_of.ensures.here) (λ s link there is a. record { took_is = refl; stands = c.settle.ensures.stands s link there is a }) }
+    record { stands = obeys_at c.args.parts.now (answered c.args.reached c.args.number) (rw e at c.phase_of.ensures.here) (λ s link there is a. record { took_is = refl; stands = c.settle.ensures.stands s link there is a }) }

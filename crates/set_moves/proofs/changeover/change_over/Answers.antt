@@ -7,7 +7,7 @@ use Rattle.set_model.proofs.SoundLink.{queues}
 use Rattle.set_model.proofs.Walk.{IsAt}
 use Rattle.set_moves.specs.Agreement.{StandsFor}
 use Rattle.set_moves.specs.Parts.{Up, Down, Settled, kept_of}
-use Rattle.set_moves.proofs.Links.{IsHere, IsLeft, ignores, obeyed_at, here_room, found, stands_for, whole_of, has_room_left, beside_out, out_at, room_after, is_left}
+use Rattle.set_moves.proofs.Links.{IsHere, IsLeft, ignores, obeys_at, here_room, stands_for, whole_of, has_room_left, beside_out, out_at, room_after, is_left}
 use Rattle.set_moves.proofs.changeover.change_over.Goals as goal
 use Rattle.set_moves.proofs.changeover.change_over.Goals.{After-leave}
 
@@ -15,11 +15,6 @@ pub returns-in-None : goal.returns-in-None
 returns-in-None c = record { stands = ignores c.args.parts.now c.args.number (changed_over c.args.reached c.args.number) c.phase_of.ensures.value (λ phase e link s. let none = c.in-None.is in absurd cc) }
 
 -- A LINK THAT IS UP is left and answered for
-pub last_accepted-requires : goal.last_accepted-requires
-last_accepted-requires c =
-    let h = rw c.in-Some-Up.field-0-is at c.in-Some-Up.ensures.here in
-    let few = (c.requires.counted c.args.number _ (found c.args.parts.now.links.items c.args.number c.from.result c.index.result.now c.from.ensures h.known c.index.ensures)).accepted in omega (arith, few)
-
 is_here : (c : After-leave) → IsHere c.args.parts.now.links.items c.args.number Up
 is_here c = rw c.in-Some-Up.field-0-is at c.in-Some-Up.ensures.here
 
@@ -52,7 +47,7 @@ returns-in-Some-Up c =
     let n = c.args.number in
     let h = is_here (goal.at.returns-in-Some-Up c).After-leave in
     record {
-      stands = obeyed_at c.args.parts.now (changed_over c.args.reached n) h (λ s link there up a.
+      stands = obeys_at c.args.parts.now (changed_over c.args.reached n) h (λ s link there up a.
           let at : IsAt n link Up s = record { there = there; phase_is = up } in
           let same = stands_for c.args.parts.now.links.items n c.from.result c.index.result.now c.from.ensures h.known c.index.ensures s.links link a.stands.links there in
           let fsn = c.last_accepted.ensures.value ∙ ap last_accepted same in
@@ -69,14 +64,9 @@ settle-requires-in-Some-Down-clause-room c =
     here_room c.args.parts.now c.args.number 1 Down h refl (c.requires.room h.known)
 
 pub returns-in-Some-Down : goal.returns-in-Some-Down
-returns-in-Some-Down c = record { stands = obeyed_at c.args.parts.now (changed_over c.args.reached c.args.number) (rw c.in-Some-Down.field-0-is at c.in-Some-Down.ensures.here) (λ s link there is a. record { took_is = refl; stands = c.settle-in-Some-Down.ensures.stands s link there is a }) }
+returns-in-Some-Down c = record { stands = obeys_at c.args.parts.now (changed_over c.args.reached c.args.number) (rw c.in-Some-Down.field-0-is at c.in-Some-Down.ensures.here) (λ s link there is a. record { took_is = refl; stands = c.settle-in-Some-Down.ensures.stands s link there is a }) }
 
 -- one that settled is answered for again
-pub reply-order-requires-clause-counted : goal.reply-order-requires-clause-counted
-reply-order-requires-clause-counted c =
-    let h = rw c.in-Some-Settled.field-0-is at c.in-Some-Settled.ensures.here in
-    let few = (c.requires.counted c.args.number _ (found c.args.parts.now.links.items c.args.number c.from-in-Some-Settled.result c.index-in-Some-Settled.result.now c.from-in-Some-Settled.ensures h.known c.index-in-Some-Settled.ensures)).accepted in omega (arith, few)
-
 pub queue-requires-in-Some-Settled-clause-room : goal.queue-requires-in-Some-Settled-clause-room
 queue-requires-in-Some-Settled-clause-room c =
     let h = rw c.in-Some-Settled.field-0-is at c.in-Some-Settled.ensures.here in
@@ -87,7 +77,7 @@ pub returns-in-Some-Settled : goal.returns-in-Some-Settled
 returns-in-Some-Settled c =
     let h = rw c.in-Some-Settled.field-0-is at c.in-Some-Settled.ensures.here in
     record {
-      stands = obeyed_at c.args.parts.now (changed_over c.args.reached c.args.number) h (λ s link there is a.
+      stands = obeys_at c.args.parts.now (changed_over c.args.reached c.args.number) h (λ s link there is a.
           let same = stands_for c.args.parts.now.links.items c.args.number c.from-in-Some-Settled.result c.index-in-Some-Settled.result.now c.from-in-Some-Settled.ensures h.known c.index-in-Some-Settled.ensures s.links link a.stands.links there in
           record { took_is = refl; stands = rw (c.reply-order.ensures.order, same) at (c.queue-in-Some-Settled.ensures.stands s a.stands) });
     }

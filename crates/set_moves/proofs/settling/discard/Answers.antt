@@ -2,17 +2,15 @@ use Rattle.std.proofs.Common.{rules, refl, arith, []}
 use Rattle.set_queues.proofs.Standing.{links_stay}
 use Rattle.set_moves.specs.Parts.{kept_of}
 use Rattle.set_model.specs.Rows.{Unacked, Waiting, is_unacked, is_waiting}
-use Rattle.set_moves.proofs.RowsAt.{sent_there, waits_there}
 use Rattle.set_moves.proofs.States.{becomes, given_up_for}
 use Rattle.set_moves.proofs.Links.{cleared_less, on_less}
 use Rattle.set_moves.proofs.settling.discard.Goals as goal
 
 pub returns-clause-stands : goal.returns-clause-stands
 returns-clause-stands c = λ s f.
-    let many = links_stay (Unacked c.args.number) [] c.args.parts.now.queues.lists in
     let mid = kept_of (record c.args.parts.now { queues = c.discard.new.self }) in
-    let first = becomes (kept_of c.args.parts.now) mid _ _ _ _ _ _ (search rules) (given_up_for (kept_of c.args.parts.now) s (Unacked c.args.number) (is_unacked c.args.number) c.args.cause f refl (omega arith) (sent_there c.args.number) refl) in
-    becomes mid _ _ _ _ _ _ _ (search rules) (given_up_for mid _ (Waiting c.args.number) (is_waiting c.args.number) c.args.cause first refl (grind arith) (waits_there c.args.number) refl)
+    let first = becomes {new = mid} (given_up_for (kept_of c.args.parts.now) s (Unacked c.args.number) (is_unacked c.args.number) c.args.cause f refl (omega arith) (λ fate. grind arith) refl) (search rules) in
+    becomes (given_up_for mid _ (Waiting c.args.number) (is_waiting c.args.number) c.args.cause first refl (grind arith) (λ fate. grind arith) refl) (search rules)
 
 pub returns-clause-fewer : goal.returns-clause-fewer
 returns-clause-fewer c =

@@ -35,5 +35,5 @@ returns c = record {
       let place = to_place (goal.at.returns c).After-target_of-target in
       let set = link_set c.judge.new.parts.links.items n c.from.result c.index_mut.result.now c.from.ensures (known (goal.at.returns c).After-target_of-target) c.index_mut.ensures.value settled_link _ mid.links link' c.behind-parts.view_is f.links j.there in
       let routes = c.settle-2.ensures ∙ ap (λ (r : Routing). streams_settled n o r) f.routing in
-      rw (← is) (becomes (kept_of c.judge.new.parts) _ _ _ _ _ _ _ (search (rules, c.settle.ensures.lists, c.settle.ensures.messages, set, routes)) (settled_for (kept_of c.judge.new.parts) mid n o link' (settled_link link') (streams_settled n o mid.routing) f j.ordered.0 j.ordered.1 j.there refl place.aside place.off));
+      rw (← is) (becomes (settled_for (kept_of c.judge.new.parts) mid n o link' (settled_link link') (streams_settled n o mid.routing) f j.ordered.0 j.ordered.1 j.there refl place.aside place.off) (search (rules, c.settle.ensures.lists, c.settle.ensures.messages, set, routes)));
 }

@@ -1,8 +1,7 @@
-use Rattle.std.proofs.Common.{refl, arith, ◌∙◌, ap, length}
-use Rattle.set_queues.specs.Queues.{passed}
+use Rattle.std.proofs.Common.{refl, arith, ap, length}
 use Rattle.set_queues.specs.Buffers.{Lists}
 use Rattle.set_route.specs.Routing.{raised}
-use Rattle.set_model.specs.Rows.{Waiting, Parked}
+use Rattle.set_model.specs.Rows.{Waiting}
 use Rattle.set_model.specs.Step.{risen_link}
 use Rattle.set_moves.specs.Parts.{Settled, kept_of}
 use Rattle.set_moves.proofs.Links.{agrees_same, is_in}
@@ -28,13 +27,6 @@ returns-in_ok-make_room_parked-in-Some-Settled-clause-ok c = λ s a.
     let i = is_in c.args.parts.now s n Settled a (rw c.in-Some-Settled.field-0-is at c.in-Some-Settled.ensures.here) in
     rw (i.there, i.phase_is) (record {
       answer_is = refl;
-      stands = becomes (kept_of roomy) _ _ _ _ _ _ _ (record {
-        settings_same = refl;
-        lists_are = c.divert.ensures.lists ∙ ap (passed Parked (Waiting n)) c.reset.ensures.lists;
-        messages_are = rw (c.divert.ensures.messages, c.reset.ensures.lists, c.reset.ensures.same.0) refl;
-        bodies_are = refl;
-        links_are = rw (f.links, c.from.ensures, c.rise.ensures, ← f.settings) refl;
-        routing_is = c.raise.ensures ∙ ap (raised n) f.routing;
-        inbox_same = refl;
-      }) (risen_for (kept_of roomy) s n i.link (risen_link s.settings.method) (raised n s.routing) f i.there refl);
+      stands = becomes (risen_for (kept_of roomy) s n i.link (risen_link s.settings.method) (raised n s.routing) f i.there refl)
+          (rw (c.divert.ensures.messages, c.divert.ensures.lists, c.reset.ensures.lists, c.reset.ensures.same.0, f.links, c.from.ensures, c.rise.ensures, ← f.settings, c.raise.ensures, f.routing) refl);
     })

@@ -34,4 +34,4 @@ returns-clause-stands c = λ s link there f.
     let link' = record link { control = control_after c.choice-choice.result (octets_in (unack n s.rows)) link.control (window_of n link s.rows) } in
     let after : c.send-head.new.self ≡ link'.control = c.send-head.ensures.state ∙ rw (same.1, same.0, weighs so s link there f) (grind arith) in
     let links = link_set c.args.parts.now.links.items n c.from.result c.index_mut.result.now c.from.ensures c.requires.known c.index_mut.ensures.value (λ l. record l { control = c.send-head.new.self }) _ s.links link c.behind-parts.view_is f.links there ∙ ap (λ control. slice_set s.links n (record link { control = control })) after in
-    becomes (kept_of c.args.parts.now) _ _ _ _ _ _ _ (search (links, f.routing)) (link_for (kept_of c.args.parts.now) s n link link' s.routing f there refl)
+    becomes (link_for (kept_of c.args.parts.now) s n link link' s.routing f there refl) (search (links, f.routing))
