@@ -1,41 +1,44 @@
 -- The running counts of a list of messages, when one of them changes or joins, and the octets of their bodies.
-use Rattle.std.proofs.Common.{◌^◌, arith, ◌≡◌, ◌+◌, ◌≤◌, ◌<◌, [], ◌∷◌, ◌++◌, length, ℕ, zero, suc, Bool, List, Option, Some, None, refl, ap, ◌*◌, take, drop, filter, slice_get, slice_set, get_or, sym, ◌-◌, true, false, ◌&&◌, nat_le, nat_lt, ◌==◌, add-one}
-use Rattle.std.proofs.lemmas.List.{take-append-drop, length-append}
-use Rattle.std.proofs.lemmas.List.Elements.{filter-append}
-use Rattle.std.proofs.lemmas.List.Sums.{length-filter, count_by-le-length}
-use Rattle.std.proofs.lemmas.Option.{slice_get_read, slice_get_past, slice_get-get_or, slice_get_cases}
+use Rattle.std.proofs.Common.{◌^◌, arith, ◌≡◌, ◌+◌, ◌≤◌, ◌<◌, [], ◌∷◌, ◌++◌, length, ℕ, zero, suc, Bool, List, Option, Some, None, refl, ◌*◌, cond, filter, sum_by, slice_get, slice_set, get_or, sym, ◌-◌, true, false, ◌&&◌, nat_le, nat_lt, ◌==◌, add-one}
+use Rattle.std.proofs.lemmas.List.{length-append}
+use Rattle.std.proofs.lemmas.List.Sums.{length-filter, count_by-le-length, get_or-le-sum_by, sum_by-set, sum_by_push, sum_by-le, sum_by-cons}
+use Rattle.std.proofs.lemmas.Option.{slice_get_read, slice_get_past, slice_get-get_or, slice_get_cases, slice_get_within, get_or_from_slice_get}
 use Rattle.std.specs.Option.{option_map_or}
-use Rattle.set_queues.specs.Buffers.{Fate, Back, Lists, queue_at, same_fate}
-use Rattle.set_queues.specs.Messages.{Message, Tally, with_fate, restood_one, restood, octets_at, octets_of, IsTally, IsMore, IsAmong, AreFew, IsFit, AreFit, one_if, fate_at}
-use Rattle.set_queues.proofs.Standing.{set_updated, updated_id, restood_at, updated_same, updated_other, get_push, take_get, fate_moves, fate_stays, length-restood, occurs-append, occurs_here}
+use Rattle.set_queues.specs.Buffers.{Fate, Unacked, Acked, Back, Lists, queue_at, same_fate}
+use Rattle.set_queues.specs.Messages.{Message, Tally, with_fate, restood_one, restood, octets_at, octets_of, octets_on, is_there, is_queued, stands_at, IsTally, IsMore, IsAmong, AreFew, IsFit, AreFit, one_if, fate_at}
+use Rattle.set_queues.proofs.Standing.{set_updated, updated_id, restood_at, updated_same, updated_other, get_push, fate_moves, fate_stays, length-restood, occurs-append, occurs_here}
 use Rattle.std.specs.List.{AllByRecursion, IsDistinct, list_any}
 use Rattle.std.proofs.lemmas.Bool.Decides.{nat_tests}
 use Rattle.std.proofs.lemmas.Map.Steps.{length-le_from_distinct_below}
-use Rattle.set_queues.specs.Queues.{occurs, AreTied}
+use Rattle.set_queues.specs.Queues.{occurs, stands, AreTied}
 use Rattle.set_queues.specs.Backs.{back_from}
 
-pub count_set : (p : Message → Bool) (xs : List Message) (n : ℕ) (x y : Message) → slice_get xs n ≡ Some x → length (filter p (slice_set xs n y)) + one_if (p x) ≡ length (filter p xs) + one_if (p y)
-count_set p [] n x y e = absurd (cc)
-count_set p (z ∷ xs) zero x y e = grind arith
-count_set p (z ∷ xs) (suc n) x y e = grind (arith, count_set p xs n x y e)
+-- what messages weigh, when one of them changes
+sum_in : (w : Message → ℕ) (xs : List Message) (n : ℕ) (x : Message) → slice_get xs n ≡ Some x → w x ≤ sum_by w xs
+sum_in w xs n x e = rw (get_or_from_slice_get xs n x x e) at (get_or-le-sum_by w xs n x (slice_get_within xs n x e))
 
-pub count_push : (p : Message → Bool) (xs : List Message) (y : Message) → length (filter p (xs ++ y ∷ [])) ≡ length (filter p xs) + one_if (p y)
-count_push p xs y = simp (filter-append, length-append) (grind arith)
+sum_set : (w : Message → ℕ) (xs : List Message) (n : ℕ) (x y : Message) → slice_get xs n ≡ Some x → sum_by w (slice_set xs n y) + w x ≡ sum_by w xs + w y
+sum_set w xs n x y e = rw (get_or_from_slice_get xs n x x e) at (sum_by-set w xs n y x (slice_get_within xs n x e))
 
-pub count_in : (p : Message → Bool) (xs : List Message) (n : ℕ) (x : Message) → slice_get xs n ≡ Some x → one_if (p x) ≤ length (filter p xs)
-count_in p [] n x e = absurd (cc)
-count_in p (z ∷ xs) zero x e = grind arith
-count_in p (z ∷ xs) (suc n) x e = grind (arith, count_in p xs n x e)
-
-pub count_few : (p : Message → Bool) (xs : List Message) → length (filter p xs) ≤ length xs
+count_few : (p : Message → Bool) (xs : List Message) → length (filter p xs) ≤ length xs
 count_few p xs = rw length-filter (count_by-le-length p xs)
 
 pub tally_in : (t : Tally) (xs : List Message) (n : ℕ) (x : Message) → IsTally t xs → slice_get xs n ≡ Some x → IsAmong x t
-tally_in t xs n x h e = let there = λ (p : Message → Bool). count_in p xs n x e in grind arith
+tally_in t xs n x h e =
+    let sums = λ (w : Message → ℕ). sum_in w xs n x e in
+    let counts = λ (p : Message → Bool). rw (← length-filter p) at (sums (λ m. cond (p m) 1 0)) in
+    grind arith
 
--- with one message fewer, each count is far from the end of its range
+-- each count is far from the end of its range, and so with one message fewer
+pub few : (t : Tally) (xs : List Message) → IsTally t xs → length xs < 2 ^ 63 → AreFew t
+few t xs h n = record {
+  counts = λ f. omega (arith, n, h.counts f, count_few (is_there (stands_at f)) xs);
+  unsent = λ s b. omega (arith, n, h.unsent s b, count_few (is_queued s) xs);
+  octets = λ l b. let light = sum_by-le (octets_on l) 273 xs (λ k d w. let fit = h.fit k _ (slice_get-get_or xs k d w) in grind (arith, fit.octets)) in omega (arith, n, h.octets l b, light);
+}
+
 pub few_left : (t u : Tally) (xs : List Message) (x : Message) → IsTally t xs → length xs < 2 ^ 63 → IsMore x u t → AreFew u
-few_left t u xs x h few i = grind (arith, count_few)
+few_left t u xs x h n m = let all = few t xs h n in grind arith
 
 -- every message stays fit
 pub fit_push : (xs : List Message) (y : Message) → AreFit xs → IsFit y → AreFit (xs ++ y ∷ [])
@@ -45,12 +48,17 @@ pub fit_restood : (ns : List ℕ) (f : Fate) (ms : List Message) → AreFit ms �
 fit_restood ns f ms fit k m e = let was = fit k (get_or ms k m) in let there = slice_get-get_or ms k m in grind (arith, restood_at, slice_get_past)
 
 pub tally_push : (t u : Tally) (xs : List Message) (y : Message) → IsTally t xs → IsFit y → IsMore y t u → IsTally u (xs ++ y ∷ [])
-tally_push t u xs y h f i = let fit = fit_push xs y h.fit f in grind (arith, count_push)
+tally_push t u xs y h f i =
+    let fit = fit_push xs y h.fit f in
+    let sums = λ (w : Message → ℕ). sum_by_push w xs y in
+    let counts = λ (p : Message → Bool). rw (← length-filter p xs, ← length-filter p (xs ++ y ∷ [])) at (sums (λ m. cond (p m) 1 0)) in
+    grind arith
 
 pub tally_set : (t u v : Tally) (xs : List Message) (n : ℕ) (x : Message) (fate : Fate) → IsTally t xs → slice_get xs n ≡ Some x → IsMore x u t → IsMore (with_fate fate x) u v → IsTally v (slice_set xs n (with_fate fate x))
 tally_set t u v xs n x fate h e i j =
     let fit : AreFit (slice_set xs n (with_fate fate x)) = rw (set_updated (with_fate fate) xs n x e) (fit_restood (n ∷ []) fate xs h.fit) in
-    let there = λ (p : Message → Bool). count_set p xs n x (with_fate fate x) e in
+    let sums = λ (w : Message → ℕ). sum_set w xs n x (with_fate fate x) e in
+    let counts = λ (p : Message → Bool). rw (← length-filter p xs, ← length-filter p (slice_set xs n (with_fate fate x))) at (sums (λ m. cond (p m) 1 0)) in
     grind arith
 
 pub restood_set : (xs : List Message) (i : ℕ) (x : Message) (fate : Fate) → slice_get xs i ≡ Some x → slice_set xs i (record { fate = fate; kind = x.kind; octets = x.octets }) ≡ restood_one i fate xs
@@ -62,13 +70,6 @@ restood_past xs i fate h = updated_id (with_fate fate) xs i (λ x e. absurd (gri
 pub ruleset restands = (slice_get_read, slice_get_past, restood_set, restood_past, tally_in, few_left, tally_set)
 
 -- THE OCTETS of the bodies
-
-pub octets-append : (xs ys : List ℕ) (ms : List Message) → octets_of (xs ++ ys) ms ≡ octets_of xs ms + octets_of ys ms
-octets-append [] ys ms = omega arith
-octets-append (x ∷ xs) ys ms = omega (arith, octets-append xs ys ms)
-
-pub octets-split : (k : ℕ) (xs : List ℕ) (ms : List Message) → octets_of (take k xs) ms + octets_of (drop k xs) ms ≡ octets_of xs ms
-octets-split k xs ms = omega (arith, octets-append (take k xs) (drop k xs) ms, ap (λ (ns : List ℕ). octets_of ns ms) (take-append-drop k xs))
 
 fit_octets : (ms : List Message) (n : ℕ) (o : Option Message) → slice_get ms n ≡ o → AreFit ms → option_map_or (λ (m : Message). m.octets) o 0 ≤ 273
 fit_octets ms n None e f = omega arith
@@ -87,8 +88,25 @@ pub octets_stay : (ns ks : List ℕ) (f : Fate) (ms : List Message) → octets_o
 octets_stay [] ks f ms = refl
 octets_stay (n ∷ ns) ks f ms = omega (arith, octets_kept n ks f ms, octets_stay ns ks f ms)
 
-pub octets_more : (xs : List ℕ) (i n : ℕ) (ms : List Message) → slice_get xs i ≡ Some n → octets_of (take (i + 1) xs) ms ≡ octets_of (take i xs) ms + octets_at n ms
-octets_more xs i n ms e = omega (arith, ap (λ (ns : List ℕ). octets_of ns ms) (take_get xs i n e), octets-append (take i xs) (n ∷ []) ms)
+-- those of a link are the octets of what stands in its queue, each number once
+
+none_weigh : (l : ℕ) (ms : List Message) → ((m : ℕ) → stands (Unacked l) m ms ≡ false) → sum_by (octets_on l) ms ≡ 0
+none_weigh l [] h = refl
+none_weigh l (x ∷ xs) h = let first = h 0 in rw (sum_by-cons (octets_on l) x xs, none_weigh l xs (λ m. h (suc m))) (grind arith)
+
+-- one of them is acknowledged
+acked_less : (l n : ℕ) (ms : List Message) → stands (Unacked l) n ms ≡ true → sum_by (octets_on l) (restood_one n (Acked l) ms) + octets_at n ms ≡ sum_by (octets_on l) ms
+acked_less l n [] h = absurd (cc)
+acked_less l zero (x ∷ xs) h = grind (arith, sum_by-cons (octets_on l) x xs, sum_by-cons (octets_on l) (with_fate (Acked l) x) xs)
+acked_less l (suc n) (x ∷ xs) h = omega (arith, sum_by-cons (octets_on l) x xs, sum_by-cons (octets_on l) x (restood_one n (Acked l) xs), acked_less l n xs h)
+
+pub weighs : (l : ℕ) (ns : List ℕ) (ms : List Message) → ((m : ℕ) → occurs m ns ≡ one_if (stands (Unacked l) m ms)) → octets_of ns ms ≡ sum_by (octets_on l) ms
+weighs l [] ms h = sym (none_weigh l ms (λ m. let no = h m in grind arith))
+weighs l (n ∷ ns) ms h =
+    let here = h n in
+    let once = occurs_here n n refl in
+    let less : (m : ℕ) → occurs m ns ≡ one_if (stands (Unacked l) m (restood_one n (Acked l) ms)) = λ m. let was = h m in grind (arith, nat_tests, updated_same, updated_other, slice_get_cases) in
+    omega (arith, weighs l ns (restood_one n (Acked l) ms) less, octets_stay ns (n ∷ []) (Acked l) ms, acked_less l n ms (grind arith))
 
 pub ruleset laws = (octets_kept, fate_moves, fate_stays, length-restood)
 
