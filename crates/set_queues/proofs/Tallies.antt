@@ -1,15 +1,13 @@
 -- The running counts of a list of messages, when one of them changes or joins, and the octets of their bodies.
-use Rattle.std.proofs.Common.{◌^◌, arith, ◌≡◌, ◌+◌, ◌≤◌, ◌<◌, [], ◌∷◌, ◌++◌, length, ℕ, zero, suc, Bool, List, Option, Some, None, refl, ◌*◌, cond, filter, sum_by, slice_get, slice_set, get_or, sym, ◌-◌, true, false, ◌&&◌, nat_le, nat_lt, ◌==◌, add-one}
+use Rattle.std.proofs.Common.{◌^◌, arith, ◌≡◌, ◌+◌, ◌≤◌, ◌<◌, [], ◌∷◌, ◌++◌, length, ℕ, zero, suc, Bool, List, Option, Some, None, refl, ◌*◌, cond, filter, sum_by, slice_get, slice_set, get_or, sym, ◌-◌, true, false, ◌&&◌, nat_le, nat_lt, add-one}
 use Rattle.std.proofs.lemmas.List.{length-append}
 use Rattle.std.proofs.lemmas.List.Sums.{length-filter, count_by-le-length, get_or-le-sum_by, sum_by-set, sum_by_push, sum_by-le, sum_by-cons}
 use Rattle.std.proofs.lemmas.Option.{slice_get_read, slice_get_past, slice_get-get_or, slice_get_cases, slice_get_within, get_or_from_slice_get}
 use Rattle.std.specs.Option.{option_map_or}
 use Rattle.set_queues.specs.Buffers.{Fate, Unacked, Acked, Back, Lists, queue_at, same_fate}
-use Rattle.set_queues.specs.Messages.{Message, Tally, with_fate, restood_one, restood, octets_at, octets_of, octets_on, is_there, is_queued, stands_at, IsTally, IsMore, IsAmong, AreFew, IsFit, AreFit, one_if, fate_at}
+use Rattle.set_queues.specs.Messages.{Message, Tally, with_fate, restood_one, restood, octets_at, octets_of, octets_on, is_sent_on, is_there, is_queued, stands_at, IsTally, IsMore, IsAmong, AreFew, IsFit, AreFit, one_if, fate_at}
 use Rattle.set_queues.proofs.Standing.{set_updated, updated_id, restood_at, updated_same, updated_other, get_push, fate_moves, fate_stays, length-restood, occurs-append, occurs_here}
-use Rattle.std.specs.List.{AllByRecursion, IsDistinct, list_any}
 use Rattle.std.proofs.lemmas.Bool.Decides.{nat_tests}
-use Rattle.std.proofs.lemmas.Map.Steps.{length-le_from_distinct_below}
 use Rattle.set_queues.specs.Queues.{occurs, stands, AreTied}
 use Rattle.set_queues.specs.Backs.{back_from}
 
@@ -88,26 +86,6 @@ pub octets_stay : (ns ks : List ℕ) (f : Fate) (ms : List Message) → octets_o
 octets_stay [] ks f ms = refl
 octets_stay (n ∷ ns) ks f ms = omega (arith, octets_kept n ks f ms, octets_stay ns ks f ms)
 
--- those of a link are the octets of what stands in its queue, each number once
-
-none_weigh : (l : ℕ) (ms : List Message) → ((m : ℕ) → stands (Unacked l) m ms ≡ false) → sum_by (octets_on l) ms ≡ 0
-none_weigh l [] h = refl
-none_weigh l (x ∷ xs) h = let first = h 0 in rw (sum_by-cons (octets_on l) x xs, none_weigh l xs (λ m. h (suc m))) (grind arith)
-
--- one of them is acknowledged
-acked_less : (l n : ℕ) (ms : List Message) → stands (Unacked l) n ms ≡ true → sum_by (octets_on l) (restood_one n (Acked l) ms) + octets_at n ms ≡ sum_by (octets_on l) ms
-acked_less l n [] h = absurd (cc)
-acked_less l zero (x ∷ xs) h = grind (arith, sum_by-cons (octets_on l) x xs, sum_by-cons (octets_on l) (with_fate (Acked l) x) xs)
-acked_less l (suc n) (x ∷ xs) h = omega (arith, sum_by-cons (octets_on l) x xs, sum_by-cons (octets_on l) x (restood_one n (Acked l) xs), acked_less l n xs h)
-
-pub weighs : (l : ℕ) (ns : List ℕ) (ms : List Message) → ((m : ℕ) → occurs m ns ≡ one_if (stands (Unacked l) m ms)) → octets_of ns ms ≡ sum_by (octets_on l) ms
-weighs l [] ms h = sym (none_weigh l ms (λ m. let no = h m in grind arith))
-weighs l (n ∷ ns) ms h =
-    let here = h n in
-    let once = occurs_here n n refl in
-    let less : (m : ℕ) → occurs m ns ≡ one_if (stands (Unacked l) m (restood_one n (Acked l) ms)) = λ m. let was = h m in grind (arith, nat_tests, updated_same, updated_other, slice_get_cases) in
-    omega (arith, weighs l ns (restood_one n (Acked l) ms) less, octets_stay ns (n ∷ []) (Acked l) ms, acked_less l n ms (grind arith))
-
 pub ruleset laws = (octets_kept, fate_moves, fate_stays, length-restood)
 
 -- HOW MANY WAIT for the acknowledgements of the changebacks of a home's codes
@@ -130,23 +108,45 @@ back_grows code n (suc k) m q e = grind (arith, back_grows code n k (n + k) q re
 pub back_below : (code n : ℕ) (q : Lists) → n < 16 → back_from code n q + length (queue_at (Back (code + n)) q) ≤ back_from code 16 q
 back_below code n q h = omega (arith, back_more code n q, back_grows code (n + 1) (15 - n) 16 q (omega arith))
 
--- a list in which each number stands once at most, all of them below a bound, is no longer than it
+-- A LIST OF THOSE THAT PASS a test of their fates, each once: what they weigh in all
 
-none_alike : (x : ℕ) (xs : List ℕ) → occurs x xs ≡ 0 → AllByRecursion (λ y. (x == y) ≡ false) xs
-none_alike x [] h = tt
-none_alike x (y ∷ ys) h = (grind (arith, nat_tests), none_alike x ys (omega arith))
+abbrev weight : (Fate → Bool) → (Message → ℕ) → Message → ℕ
+weight p w m = cond (p m.fate) (w m) 0
 
-distinct : (xs : List ℕ) → ((m : ℕ) → occurs m xs ≤ 1) → IsDistinct ◌==◌ xs
-unfolding IsDistinct
-distinct [] once = tt
-distinct (x ∷ xs) once = (none_alike x xs (omega (arith, once x, occurs_here x x refl)), distinct xs (λ m. omega (arith, once m)))
+abbrev AreThose : (Fate → Bool) → List ℕ → List Message → Type 0
+AreThose p ns ms = (m : ℕ) → occurs m ns ≡ one_if (option_map_or p (fate_at m ms) false)
 
-occurs_in : (m : ℕ) (xs : List ℕ) → list_any (λ x. m == x) xs ≡ true → 0 < occurs m xs
-occurs_in m [] h = absurd (cc)
-occurs_in m (x ∷ xs) h = grind (arith, nat_tests, occurs_in m xs)
+none_weigh : (p : Fate → Bool) (w : Message → ℕ) (ms : List Message) → AreThose p [] ms → sum_by (weight p w) ms ≡ 0
+none_weigh p w [] h = refl
+none_weigh p w (x ∷ xs) h = let first = h 0 in rw (sum_by-cons (weight p w) x xs, none_weigh p w xs (λ m. h (suc m))) (grind arith)
 
-few_in : (n : ℕ) (xs : List ℕ) → ((m : ℕ) → occurs m xs ≤ 1) → ((m : ℕ) → n ≤ m → occurs m xs ≡ 0) → length xs ≤ n
-few_in n xs once none = length-le_from_distinct_below xs n (distinct xs once) (λ m h. let some = occurs_in m xs h in grind (arith, none))
+-- one of them passes no longer
+module _ (p : Fate → Bool) (to : Fate) (final : p to ≡ false) where
+  one_less : (w : Message → ℕ) (n : ℕ) (ms : List Message) → option_map_or p (fate_at n ms) false ≡ true → sum_by (weight p w) (restood_one n to ms) + option_map_or w (slice_get ms n) 0 ≡ sum_by (weight p w) ms
+  one_less w n [] h = absurd (cc)
+  one_less w zero (x ∷ xs) h = let no = final in grind (arith, sum_by-cons (weight p w) x xs, sum_by-cons (weight p w) (with_fate to x) xs)
+  one_less w (suc n) (x ∷ xs) h = omega (arith, sum_by-cons (weight p w) x xs, sum_by-cons (weight p w) x (restood_one n to xs), one_less w n xs h)
+
+  rest_pass : (n : ℕ) (ns : List ℕ) (ms : List Message) → AreThose p (n ∷ ns) ms → (option_map_or p (fate_at n ms) false ≡ true) × AreThose p ns (restood_one n to ms)
+  rest_pass n ns ms h =
+      let here = h n in
+      let once = occurs_here n n refl in
+      (grind arith, λ m. let was = h m in let no = final in grind (arith, nat_tests, updated_same, updated_other, slice_get_cases))
+
+  octets_pass : (ns : List ℕ) (ms : List Message) → AreThose p ns ms → octets_of ns ms ≡ sum_by (weight p (λ m. m.octets)) ms
+  octets_pass [] ms h = sym (none_weigh p _ ms h)
+  octets_pass (n ∷ ns) ms h = let rest = rest_pass n ns ms h in omega (arith, octets_pass ns (restood_one n to ms) rest.1, octets_stay ns (n ∷ []) to ms, one_less (λ m. m.octets) n ms rest.0)
+
+  length_pass : (ns : List ℕ) (ms : List Message) → AreThose p ns ms → length ns ≡ sum_by (weight p (λ m. 1)) ms
+  length_pass [] ms h = sym (none_weigh p _ ms h)
+  length_pass (n ∷ ns) ms h =
+      let rest = rest_pass n ns ms h in
+      let one : ◌≡◌ {A = ℕ} (option_map_or (λ m. 1) (slice_get ms n) 0) 1 = let some = rest.0 in grind (arith, slice_get_cases) in
+      omega (arith, length_pass ns (restood_one n to ms) rest.1, one_less (λ m. 1) n ms rest.0, one)
+
+-- the octets of what stands in a link's queue are those that are counted
+pub weighs : (l : ℕ) (ns : List ℕ) (ms : List Message) → ((m : ℕ) → occurs m ns ≡ one_if (stands (Unacked l) m ms)) → octets_of ns ms ≡ sum_by (octets_on l) ms
+weighs l ns ms h = octets_pass (is_sent_on l) (Acked l) refl ns ms (λ m. let was = h m in grind arith)
 
 -- all that wait for so many codes: each stands once at most, and was given out
 
@@ -154,25 +154,24 @@ abbrev all_back : ℕ → ℕ → Lists → List ℕ
 all_back code zero q = []
 all_back code (suc n) q = all_back code n q ++ queue_at (Back (code + n)) q
 
-abbrev is_in : ℕ → ℕ → Option Fate → Bool
-is_in code n (Some (Back d)) = nat_le code d && nat_lt d (code + n)
+abbrev is_in : ℕ → ℕ → Fate → Bool
+is_in code n (Back d) = nat_le code d && nat_lt d (code + n)
 is_in code n _ = false
 
-in_more : (code n : ℕ) (fate : Option Fate) → one_if (is_in code (suc n) fate) ≡ one_if (is_in code n fate) + one_if (option_map_or (λ (f : Fate). same_fate f (Back (code + n))) fate false)
+in_more : (code n : ℕ) (fate : Option Fate) → one_if (option_map_or (is_in code (suc n)) fate false) ≡ one_if (option_map_or (is_in code n) fate false) + one_if (option_map_or (λ (f : Fate). same_fate f (Back (code + n))) fate false)
 in_more code n fate = grind (arith, nat_tests)
 
 all_length : (code n : ℕ) (q : Lists) → length (all_back code n q) ≡ back_from code n q
 all_length code zero q = sym (back_none code q)
 all_length code (suc n) q = omega (arith, length-append (all_back code n q) (queue_at (Back (code + n)) q), all_length code n q, back_suc code n q)
 
-all_occur : (code n m : ℕ) (q : Lists) (ms : List Message) → AreTied q ms → occurs m (all_back code n q) ≡ one_if (is_in code n (fate_at m ms))
+all_occur : (code n m : ℕ) (q : Lists) (ms : List Message) → AreTied q ms → occurs m (all_back code n q) ≡ one_if (option_map_or (is_in code n) (fate_at m ms) false)
 all_occur code zero m q ms tie = grind (arith, nat_tests)
 all_occur code (suc n) m q ms tie = omega (arith, occurs-append m (all_back code n q) (queue_at (Back (code + n)) q), all_occur code n m q ms tie, tie (Back (code + n)) refl m, in_more code n (fate_at m ms))
 
 pub back_few : (code n : ℕ) (q : Lists) (ms : List Message) → AreTied q ms → back_from code n q ≤ length ms
 back_few code n q ms tie =
-    let there = λ (m : ℕ). all_occur code n m q ms tie in
-    let few = few_in (length ms) (all_back code n q) (λ m. grind (arith, there m)) (λ m b. rw (there m, slice_get_past ms m b) refl) in
-    omega (arith, all_length code n q, few)
+    let there = length_pass (is_in code n) (Acked 0) refl (all_back code n q) ms (λ m. all_occur code n m q ms tie) in
+    omega (arith, all_length code n q, there, sum_by-le (weight (is_in code n) (λ m. 1)) 1 ms (λ k d b. grind arith))
 
 pub ruleset backs = (back_none, back_more, back_below, back_few)
