@@ -3,7 +3,7 @@ use Rattle.std.proofs.Common.{refl, arith, ◌≡◌, ◌∙◌, ap, ◌+◌, �
 use Rattle.set_queues.specs.Messages.{one_if, Message, restood_one, restood, IsFit, AreFit}
 use Rattle.set_queues.specs.Backs.{passed_first}
 use Rattle.set_queues.specs.Sending.{first_sent}
-use Rattle.set_queues.specs.Buffers.{Fate, Waiting, Unacked, no_lists, AreEmpty, LinkLists, Lists, is_standing, same_fate, queue_at, with_queue, with_last, IsKnown, IsQueued, Rooms, Held, room_at, TakesRoom}
+use Rattle.set_queues.specs.Buffers.{Fate, Waiting, Unacked, no_lists, empty_lists, LinkLists, Lists, is_standing, same_fate, queue_at, with_queue, with_last, IsKnown, IsQueued, Rooms, Held, room_at, TakesRoom}
 use Rattle.set_queues.specs.Queues.{occurs, stands, passed, AreTied, AreGiven, AreSound, AreNarrow}
 use Rattle.set_queues.proofs.Standing.{length-updated, updated_same, updated_other, get_push, Moves, moved_tie, given_queue, take_get, same_is, occurs-append, occurs-split, occurs_here, queue_set, links_stay, queue_away, SameSize, size_stays, known_on, restood-append, same_self, queued_stands}
 use Rattle.set_queues.proofs.Tallies.{fit_push, fit_restood}
@@ -99,20 +99,18 @@ sound_added q ms x s fit k u =
 all_alike : {X : Type 0} (x : X) (n k : ℕ) → get_or (replicate n x) k x ≡ x
 all_alike x n k = grind (arith, get_or-replicate, get_or-set_same, get_or-set_other, get_or_past, length-replicate)
 
-pub empty_queue : (q : Lists) (n codes : ℕ) (f : Fate) → AreEmpty n codes q → queue_at f q ≡ []
-empty_queue q n codes f e = grind (arith, all_alike, slice_get_cases, get_or-replicate, length-replicate)
+empty_queue : (n codes : ℕ) (f : Fate) → queue_at f (empty_lists n codes) ≡ []
+empty_queue n codes f = grind (arith, all_alike, slice_get_cases, get_or-replicate, length-replicate)
 
-pub sound_new : (q : Lists) (n : ℕ) → AreEmpty n 256 q → 1 ≤ n → n ≤ 16 → AreSound q []
-sound_new q n e low high =
-    let size : length q.links ≡ n = ap length e.links ∙ length-replicate n no_lists in
-    record {
-      one = omega arith;
-      few = omega arith;
-      codes = ap length e.back ∙ length-replicate {A = List ℕ} 256 [];
-      narrow = λ l. omega (arith, ap length (empty_queue q n 256 (Unacked l) e));
-      tied = λ f t i. rw (empty_queue q n 256 f e) refl;
-      fit = λ i x h. absurd (cc);
-    }
+pub sound_new : (q : Lists) (n : ℕ) → q ≡ empty_lists n 256 → 1 ≤ n → n ≤ 16 → AreSound q []
+sound_new q n e low high = rw e (record {
+  one = omega (arith, length-replicate n no_lists);
+  few = omega (arith, length-replicate n no_lists);
+  codes = length-replicate {A = List ℕ} 256 [];
+  narrow = λ l. omega (arith, ap length (empty_queue n 256 (Unacked l)));
+  tied = λ f t i. rw (empty_queue n 256 f) refl;
+  fit = λ i x h. absurd (cc);
+})
 
 -- THE FIRST THAT WAITS IS SENT
 

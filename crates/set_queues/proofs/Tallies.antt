@@ -1,5 +1,5 @@
 -- The running counts of a list of messages, when one of them changes or joins, and the octets of their bodies.
-use Rattle.std.proofs.Common.{◌^◌, arith, ◌≡◌, ◌+◌, ◌≤◌, ◌<◌, [], ◌∷◌, ◌++◌, length, ℕ, zero, suc, Bool, List, Option, Some, None, refl, ◌*◌, cond, filter, sum_by, slice_get, slice_set, get_or, sym, ◌-◌, true, false, ◌&&◌, nat_le, nat_lt, add-one}
+use Rattle.std.proofs.Common.{◌^◌, arith, ◌≡◌, ◌+◌, ◌≤◌, ◌<◌, [], ◌∷◌, ◌++◌, length, ℕ, zero, suc, Bool, List, Option, Some, refl, ◌*◌, cond, filter, sum_by, slice_get, slice_set, get_or, sym, ◌-◌, true, false, ◌&&◌, nat_le, nat_lt, add-one}
 use Rattle.std.proofs.lemmas.List.{length-append}
 use Rattle.std.proofs.lemmas.List.Sums.{length-filter, count_by-le-length, get_or-le-sum_by, sum_by-set, sum_by_push, sum_by-le, sum_by-cons}
 use Rattle.std.proofs.lemmas.Option.{slice_get_read, slice_get_past, slice_get-get_or, slice_get_cases, slice_get_within, get_or_from_slice_get}
@@ -69,13 +69,9 @@ pub ruleset restands = (slice_get_read, slice_get_past, restood_set, restood_pas
 
 -- THE OCTETS of the bodies
 
-fit_octets : (ms : List Message) (n : ℕ) (o : Option Message) → slice_get ms n ≡ o → AreFit ms → option_map_or (λ (m : Message). m.octets) o 0 ≤ 273
-fit_octets ms n None e f = omega arith
-fit_octets ms n (Some m) e f = (f n m e).octets
-
 pub octets_few : (ns : List ℕ) (ms : List Message) → AreFit ms → octets_of ns ms ≤ 273 * length ns
 octets_few [] ms f = omega arith
-octets_few (n ∷ ns) ms f = omega (arith, fit_octets ms n (slice_get ms n) refl f, octets_few ns ms f)
+octets_few (n ∷ ns) ms f = let fit = λ (m : Message) (e : slice_get ms n ≡ Some m). (f n m e).octets in grind (arith, slice_get_cases, fit, octets_few ns ms f)
 
 -- a message that comes to stand elsewhere keeps its octets
 
