@@ -1,13 +1,12 @@
 -- What holds of every set's queues goes on holding.
-use Rattle.std.proofs.Common.{refl, arith, ◌≡◌, ◌∙◌, ap, ◌+◌, ◌≤◌, ◌<◌, [], ◌∷◌, ◌++◌, length, ℕ, Bool, true, false, ◌==◌, List, Some, cond, get_or, take, drop, replicate, slice_get, slice_set, slice_index, ◌≢◌, subst, Option, append_assoc, IfSome}
-use Rattle.set_queues.specs.Messages.{one_if, Message, restood_one, restood, octets_at, octets_of, IsFit, AreFit}
+use Rattle.std.proofs.Common.{refl, arith, ◌≡◌, ◌∙◌, ap, ◌+◌, ◌≤◌, ◌<◌, [], ◌∷◌, ◌++◌, length, ℕ, Bool, true, false, ◌==◌, List, Some, cond, get_or, take, drop, replicate, slice_get, ◌≢◌, subst, Option, append_assoc, IfSome}
+use Rattle.set_queues.specs.Messages.{one_if, Message, restood_one, restood, IsFit, AreFit}
 use Rattle.set_queues.specs.Backs.{passed_first}
 use Rattle.set_queues.specs.Sending.{first_sent}
-use Rattle.set_queues.specs.Buffers.{Fate, Waiting, Unacked, no_lists, AreEmpty, LinkLists, Lists, is_standing, same_fate, queue_at, with_queue, with_last, IsKnown, IsQueued, Rooms, Held, room_at, TakesRoom}
-use Rattle.set_queues.specs.Queues.{occurs, stands, passed, AreTied, AreGiven, AreSound, AreNarrow, AreWeighed, AreKept}
+use Rattle.set_queues.specs.Buffers.{Fate, Waiting, Unacked, no_lists, empty_lists, LinkLists, Lists, is_standing, same_fate, queue_at, with_queue, with_last, IsKnown, IsQueued, Rooms, Held, room_at, TakesRoom}
+use Rattle.set_queues.specs.Queues.{occurs, stands, passed, AreTied, AreGiven, AreSound, AreNarrow}
 use Rattle.set_queues.proofs.Standing.{length-updated, updated_same, updated_other, get_push, Moves, moved_tie, given_queue, take_get, same_is, occurs-append, occurs-split, occurs_here, queue_set, links_stay, queue_away, SameSize, size_stays, known_on, restood-append, same_self, queued_stands}
-use Rattle.set_queues.proofs.Tallies.{fit_push, fit_restood, octets-append, octets-split, octets_stay}
-use Rattle.std.proofs.lemmas.Bool.Decides.{nat_tests}
+use Rattle.set_queues.proofs.Tallies.{fit_push, fit_restood}
 use Rattle.std.proofs.lemmas.List.{drop_all, get_or-replicate, get_or-set_same, get_or-set_other, get_or_past, length-replicate, length-append, length-take, length-drop}
 use Rattle.std.proofs.lemmas.Option.{slice_get_past, slice_get_cases}
 use Rattle.std.proofs.lemmas.Bool.{eq-eqb}
@@ -49,10 +48,6 @@ pub record CanMove (from to : Fate) (q : Lists) : Type 0 where
   pub other : IsKnown to q
   pub apart : same_fate to from ≡ false
 
--- the octets that are counted are those that leave and come
-abbrev pub Weighs : ℕ → Fate → Fate → Lists → List Message → List ℕ → List ℕ → Type 0
-Weighs k from to q ms octets octets' = (l : ℕ) → l < length q.links → slice_index octets' l + cond (same_fate from (Unacked l)) (octets_of (take k (queue_at from q)) ms) 0 ≡ slice_index octets l + cond (same_fate to (Unacked l)) (octets_of (take k (queue_at from q)) ms) 0
-
 module _ (k : ℕ) (from to : Fate) (q : Lists) (ms : List Message) (c : CanMove from to q) where
   moved_queue : Replaces q (moved k from to q) from to (drop k (queue_at from q)) (queue_at to q ++ take k (queue_at from q))
   moved_queue = both_replaced q from to _ _ c.known c.other
@@ -63,38 +58,17 @@ module _ (k : ℕ) (from to : Fate) (q : Lists) (ms : List Message) (c : CanMove
   narrow_moved : AreNarrow q → ((l : ℕ) → same_fate to (Unacked l) ≡ true → length (queue_at to q) + k ≤ 127) → AreNarrow (moved k from to q)
   narrow_moved h n l = let there = moved_queue (Unacked l) refl in let had = h l in let more = n l in grind (arith, same_is, length-append, length-take, length-drop)
 
-  weighed_moved : (octets octets' : List ℕ) → AreWeighed octets q ms → Weighs k from to q ms octets octets' → AreWeighed octets' (moved k from to q) (restood (take k (queue_at from q)) to ms)
-  weighed_moved octets octets' w h l b =
-      let small : l < length q.links = omega (arith, b, (both_size q from to (drop k (queue_at from q)) (queue_at to q ++ take k (queue_at from q))).links) in
-      let there = moved_queue (Unacked l) refl in
-      let was = w l small in
-      let now = h l small in
-      grind (arith, same_is, octets_stay, octets-append, octets-split)
-
-  pub kept_moved : (octets octets' : List ℕ) → AreKept q ms octets → ((l : ℕ) → same_fate to (Unacked l) ≡ true → length (queue_at to q) + k ≤ 127) → Weighs k from to q ms octets octets' → AreKept (moved k from to q) (restood (take k (queue_at from q)) to ms) octets'
-  kept_moved octets octets' h n w =
-      let s = h.sound in
+  pub sound_moved : AreSound q ms → ((l : ℕ) → same_fate to (Unacked l) ≡ true → length (queue_at to q) + k ≤ 127) → AreSound (moved k from to q) (restood (take k (queue_at from q)) to ms)
+  sound_moved s n =
       let within : (m : ℕ) → occurs m (take k (queue_at from q)) ≤ occurs m (queue_at from q) = λ m. omega (arith, occurs-split m k (queue_at from q)) in
-      record {
-        sound = sound_on q _ ms _ s (both_size q from to _ _) (narrow_moved s.narrow n) (moved_tie q _ ms _ from to s.tied c.standing within moved_moves) (fit_restood (take k (queue_at from q)) to ms s.fit);
-        weighed = weighed_moved octets octets' h.weighed w;
-      }
+      sound_on q _ ms _ s (both_size q from to _ _) (narrow_moved s.narrow n) (moved_tie q _ ms _ from to s.tied c.standing within moved_moves) (fit_restood (take k (queue_at from q)) to ms s.fit)
 
 pub unqueued : (to : Fate) (l : ℕ) → (is_standing to ≡ true → IsQueued to) → same_fate to (Unacked l) ≡ false
 unqueued to l h = grind arith
 
 -- to where messages come otherwise than by being sent
-pub kept_passed : (k : ℕ) (from to : Fate) (q : Lists) (ms : List Message) (octets octets' : List ℕ) → AreKept q ms octets → CanMove from to q → (is_standing to ≡ true → IsQueued to) → ((l : ℕ) → l < 16 → slice_index octets' l + cond (same_fate from (Unacked l)) (octets_of (take k (queue_at from q)) ms) 0 ≡ slice_index octets l) → AreKept (moved k from to q) (restood (take k (queue_at from q)) to ms) octets'
-kept_passed k from to q ms octets octets' h c n w = kept_moved k from to q ms c octets octets' h (λ l f. let no = unqueued to l n in absurd (cc)) (λ l b.
-    let now = w l (omega (arith, b, h.sound.few)) in
-    let not = unqueued to l n in
-    grind arith)
-
--- no more leaves than is counted
-pub can_leave : (k : ℕ) (from : Fate) (q : Lists) (ms : List Message) (octets : List ℕ) (l : ℕ) → AreKept q ms octets → IsKnown from q → from ≡ Unacked l → octets_of (take k (queue_at from q)) ms ≤ slice_index octets l
-can_leave k from q ms octets l h b e =
-    let was = h.weighed l (rw e at b) in
-    rw e (omega (arith, was, octets-split k (queue_at (Unacked l) q) ms))
+pub sound_passed : (k : ℕ) (from to : Fate) (q : Lists) (ms : List Message) → AreSound q ms → CanMove from to q → (is_standing to ≡ true → IsQueued to) → AreSound (moved k from to q) (restood (take k (queue_at from q)) to ms)
+sound_passed k from to q ms s c n = sound_moved k from to q ms c s (λ l f. let no = unqueued to l n in absurd (cc))
 
 pub moved_whole : (k : ℕ) (from to : Fate) (q mid new : Lists) → k ≡ length (queue_at from q) → mid ≡ with_queue to (queue_at to q ++ take k (queue_at from q)) q → new ≡ with_queue from [] mid → new ≡ moved k from to q
 moved_whole k from to q mid new e m n = rw (n, m, drop_all k (queue_at from q) (omega (arith, e))) refl
@@ -115,51 +89,36 @@ added_tie q ms x tie u k f s m =
     let more = occurs-append m (queue_at x.fate q) (length ms ∷ []) in
     grind (arith, same_is)
 
-octets_push : (ns : List ℕ) (ms : List Message) (x : Message) → AreGiven ns ms → octets_of ns (ms ++ x ∷ []) ≡ octets_of ns ms
-octets_push [] ms x g = refl
-octets_push (n ∷ ns) ms x g = let below = g n (omega (arith, occurs_here n n refl)) in grind (arith, get_push, octets_push ns ms x (λ m h. g m (omega (arith, h))))
-
-pub kept_added : (q : Lists) (ms : List Message) (octets : List ℕ) (x : Message) → AreKept q ms octets → IsFit x → IsKnown x.fate q → IsQueued x.fate → AreKept (with_queue x.fate (queue_at x.fate q ++ length ms ∷ []) q) (ms ++ x ∷ []) octets
-kept_added q ms octets x h fit k u =
-    let s = h.sound in
-    let size = size_stays x.fate (queue_at x.fate q ++ length ms ∷ []) q in
+pub sound_added : (q : Lists) (ms : List Message) (x : Message) → AreSound q ms → IsFit x → IsKnown x.fate q → IsQueued x.fate → AreSound (with_queue x.fate (queue_at x.fate q ++ length ms ∷ []) q) (ms ++ x ∷ [])
+sound_added q ms x s fit k u =
     let same : (l : ℕ) → queue_at (Unacked l) (with_queue x.fate (queue_at x.fate q ++ length ms ∷ []) q) ≡ queue_at (Unacked l) q = λ l. queue_away x.fate (Unacked l) _ q _ refl k (unqueued x.fate l (λ s. u)) in
-    record {
-      sound = sound_on q _ ms _ s size (λ l. rw (same l) (s.narrow l)) (added_tie q ms x s.tied (queued_stands x.fate u) k) (fit_push ms x s.fit fit);
-      weighed = λ l b. rw (same l, octets_push (queue_at (Unacked l) q) ms x (given_all q ms (Unacked l) s refl)) (h.weighed l (omega (arith, b, size.links)));
-    }
+    sound_on q _ ms _ s (size_stays x.fate _ q) (λ l. rw (same l) (s.narrow l)) (added_tie q ms x s.tied (queued_stands x.fate u) k) (fit_push ms x s.fit fit)
 
 -- NO MESSAGE
 
 all_alike : {X : Type 0} (x : X) (n k : ℕ) → get_or (replicate n x) k x ≡ x
 all_alike x n k = grind (arith, get_or-replicate, get_or-set_same, get_or-set_other, get_or_past, length-replicate)
 
-pub empty_queue : (q : Lists) (n codes : ℕ) (f : Fate) → AreEmpty n codes q → queue_at f q ≡ []
-empty_queue q n codes f e = grind (arith, all_alike, slice_get_cases, get_or-replicate, length-replicate)
+empty_queue : (n codes : ℕ) (f : Fate) → queue_at f (empty_lists n codes) ≡ []
+empty_queue n codes f = grind (arith, all_alike, slice_get_cases, get_or-replicate, length-replicate)
 
-pub kept_new : (q : Lists) (n : ℕ) → AreEmpty n 256 q → 1 ≤ n → n ≤ 16 → AreKept q [] (replicate 16 0)
-kept_new q n e low high =
-    let size : length q.links ≡ n = ap length e.links ∙ length-replicate n no_lists in
-    record {
-      sound = record {
-        one = omega arith;
-        few = omega arith;
-        codes = ap length e.back ∙ length-replicate {A = List ℕ} 256 [];
-        narrow = λ l. omega (arith, ap length (empty_queue q n 256 (Unacked l) e));
-        tied = λ f t i. rw (empty_queue q n 256 f e) refl;
-        fit = λ i x h. absurd (cc);
-      };
-      weighed = λ l b. rw (empty_queue q n 256 (Unacked l) e) (all_alike 0 16 l);
-    }
+pub sound_new : (q : Lists) (n : ℕ) → q ≡ empty_lists n 256 → 1 ≤ n → n ≤ 16 → AreSound q []
+sound_new q n e low high = rw e (record {
+  one = omega (arith, length-replicate n no_lists);
+  few = omega (arith, length-replicate n no_lists);
+  codes = length-replicate {A = List ℕ} 256 [];
+  narrow = λ l. omega (arith, ap length (empty_queue n 256 (Unacked l)));
+  tied = λ f t i. rw (empty_queue n 256 f) refl;
+  fit = λ i x h. absurd (cc);
+})
 
 -- THE FIRST THAT WAITS IS SENT
 
-pub kept_sent : (q q' : Lists) (ms : List Message) (octets : List ℕ) (l n : ℕ) → l < length octets → AreKept q ms octets → l < length q.links → slice_get (queue_at (Waiting l) q) 0 ≡ Some n → length (queue_at (Unacked l) q) < 127 → q' ≡ first_sent l n q → AreKept q' (restood_one n (Unacked l) ms) (slice_set octets l (slice_index octets l + octets_at n ms))
-kept_sent q q' ms octets l n long h b first few e =
+pub sound_sent : (q q' : Lists) (ms : List Message) (l n : ℕ) → AreSound q ms → l < length q.links → slice_get (queue_at (Waiting l) q) 0 ≡ Some n → length (queue_at (Unacked l) q) < 127 → q' ≡ first_sent l n q → AreSound q' (restood_one n (Unacked l) ms)
+sound_sent q q' ms l n s b first few e =
     let one : take 1 (queue_at (Waiting l) q) ≡ n ∷ [] = take_get _ 0 n first in
-    rw e (rw one at (kept_moved 1 (Waiting l) (Unacked l) q ms (record { standing = refl; known = b; other = b; apart = refl }) octets (slice_set octets l (slice_index octets l + octets_at n ms)) h
-    (λ k t. let same = same_is (Unacked l) (Unacked k) refl t in omega (arith, few))
-    (λ k small. grind (arith, nat_tests, get_or-set_same, get_or-set_other))))
+    rw e (rw one at (sound_moved 1 (Waiting l) (Unacked l) q ms (record { standing = refl; known = b; other = b; apart = refl }) s
+    (λ k t. let same = same_is (Unacked l) (Unacked k) refl t in omega (arith, few))))
 
 -- THE FIRST OF THE UNACKNOWLEDGED LEAVE, and a link has a new life
 
@@ -169,11 +128,8 @@ queue_last f l fsn q = grind (arith, updated_same, updated_other)
 pub last_links : (l fsn : ℕ) (q : Lists) → length (with_last l fsn q).links ≡ length q.links
 last_links l fsn q = length-updated (λ (z : LinkLists). record z { last = fsn }) q.links l
 
-pub kept_with_last : (q q' : Lists) (ms : List Message) (octets : List ℕ) (l fsn : ℕ) → q' ≡ with_last l fsn q → AreKept q ms octets → AreKept q' ms octets
-kept_with_last q q' ms octets l fsn e h = rw e (record {
-  sound = sound_on q _ ms ms h.sound (record { links = last_links l fsn q; back = refl }) (λ k. rw (queue_last (Unacked k) l fsn q) (h.sound.narrow k)) (λ f s m. rw (queue_last f l fsn q) (h.sound.tied f s m)) h.sound.fit;
-  weighed = λ k b. rw (queue_last (Unacked k) l fsn q) (h.weighed k (omega (arith, b, last_links l fsn q)));
-})
+pub sound_with_last : (q q' : Lists) (ms : List Message) (l fsn : ℕ) → q' ≡ with_last l fsn q → AreSound q ms → AreSound q' ms
+sound_with_last q q' ms l fsn e s = rw e (sound_on q _ ms ms s (record { links = last_links l fsn q; back = refl }) (λ k. rw (queue_last (Unacked k) l fsn q) (s.narrow k)) (λ f t m. rw (queue_last f l fsn q) (s.tied f t m)) s.fit)
 
 -- A LINK SETTLES: what stands on it goes elsewhere, first what was sent, then what waited, then what was held
 

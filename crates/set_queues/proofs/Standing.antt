@@ -5,10 +5,10 @@ use Rattle.std.proofs.lemmas.List.{map-append, replicate_more, map-set, take-app
 use Rattle.std.proofs.lemmas.Option.{slice_get-map, get_or_from_slice_get, slice_get_cases, slice_get_within, slice_get_past, slice_get-get_or}
 use Rattle.set_queues.specs.Messages.{updated, one_if, Message, with_fate, restood_one, restood, fate_at}
 use Rattle.std.proofs.lemmas.Bool.Decides.{nat_tests}
-use Rattle.std.proofs.lemmas.Bool.{eq-eqb, ne_eqb}
+use Rattle.std.proofs.lemmas.Bool.{eq-eqb}
 use Rattle.std.proofs.lemmas.Grind.{take_at_read}
 use Rattle.std.specs.Option.{option_map_or}
-use Rattle.set_queues.specs.Buffers.{Fate, Lists, is_standing, same_fate, queue_at, Back, with_queue, IsKnown, IsQueued, Rooms, CanTake, TakesRoom}
+use Rattle.set_queues.specs.Buffers.{Fate, Lists, is_standing, same_fate, queue_at, Back, with_queue, IsKnown, IsQueued}
 use Rattle.set_queues.specs.Queues.{occurs, AreTied, AreGiven}
 
 -- LISTS of which the element at one place changes
@@ -69,11 +69,6 @@ module _ {X : Type 0} where
   get_push (x ∷ xs) y zero = grind arith
   get_push (x ∷ xs) y (suc k) = let again = get_push xs y k in grind arith
 
-module _ {X Y : Type 0} where
-  -- one more that is seen alike
-  pub map_push_same : (v : X → Y) (xs : List X) (x : X) (n : ℕ) (y : Y) → map v xs ≡ replicate n y → v x ≡ y → map v (xs ++ x ∷ []) ≡ replicate (n + 1) y
-  map_push_same v xs x n y e h = map-append v xs (x ∷ []) ∙ ap (λ (zs : List Y). zs ++ v x ∷ []) e ∙ ap (λ (z : Y). replicate n y ++ z ∷ []) h ∙ replicate_more n y
-
 -- MESSAGES that come to stand elsewhere
 
 -- of a fate that isn't final
@@ -91,9 +86,6 @@ occurs-split m k xs = omega (arith, occurs-append m (take k xs) (drop k xs), ap 
 
 pub occurs_here : (x m : ℕ) → x ≡ m → one_if (x == m) ≡ 1
 occurs_here x m e = ap one_if (eq-eqb x m e)
-
-pub occurs_not : (x m : ℕ) → (x ≡ m → ⊥) → one_if (x == m) ≡ 0
-occurs_not x m ne = ap one_if (ne_eqb x m ne)
 
 pub length-restood : (ns : List ℕ) (f : Fate) (ms : List Message) → length (restood ns f ms) ≡ length ms
 length-restood [] f ms = refl
@@ -189,9 +181,5 @@ queue_next g xs ys i m q now new h e f n =
 
 pub restood_next : (ys : List ℕ) (i m : ℕ) (f : Fate) (ms now new : List Message) → now ≡ restood (take i ys) f ms → slice_get ys i ≡ Some m → new ≡ restood_one m f now → new ≡ restood (take (i + 1) ys) f ms
 restood_next ys i m f ms now new e g n = rw (n, e, take_get ys i m g, restood-append) refl
-
--- there is room for one more as long as not all came
-pub takes_one : (f : Fate) (n i : ℕ) (old now : Rooms) → CanTake f n old → TakesRoom f i old now → i < n → CanTake f 1 now
-takes_one f n i old now c t h = let there = t f in grind (arith, eq-eqb)
 
 pub ruleset passing = (queue_id, queue_away, known_with, none_past, append-nil)

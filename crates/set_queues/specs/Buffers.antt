@@ -29,10 +29,8 @@ abbrev pub no_lists : LinkLists
 no_lists = record { last = 127; unacked = []; unsent = []; held = [] }
 
 -- of so many links and codes, with nothing in any queue
-pub record AreEmpty (count codes : ℕ) (q : Lists) : Type 0 where
-  pub links : q.links ≡ replicate count no_lists
-  pub parked : q.parked ≡ []
-  pub back : q.back ≡ replicate codes []
+abbrev pub empty_lists : ℕ → ℕ → Lists
+empty_lists count codes = record { links = replicate count no_lists; parked = []; back = replicate codes [] }
 
 -- Each fate that isn't final has its queue.
 

@@ -1,5 +1,5 @@
 -- The messages of a set by their numbers: whose each is, where it stands, and its octets.
-use Rattle.std.specs.Prelude.{ℕ, Bool, true, false, nat_lt, ◌==◌, zero, suc, ◌+◌, ◌&&◌, List, [], ◌∷◌, length, filter, slice_get, Option, Some, ◌≡◌, ◌<◌, ◌≤◌, ◌^◌, slice_index, option_map}
+use Rattle.std.specs.Prelude.{ℕ, Bool, true, false, nat_lt, ◌==◌, zero, suc, ◌+◌, ◌&&◌, List, [], ◌∷◌, length, filter, sum_by, slice_get, Option, Some, ◌≡◌, ◌<◌, ◌≤◌, ◌^◌, slice_index, option_map, if◌then◌else◌}
 use Rattle.std.specs.Option.{option_map_or}
 use Rattle.set_queues.specs.declared.message.Kind.{Kind}
 use Rattle.set_queues.specs.declared.message.Kind.TheVariants.{User, Order}
@@ -47,6 +47,11 @@ stands_at (Held l) = was_held
 stands_at Parked = is_parked
 stands_at (Back c) = stands_back
 stands_at (Discarded cause) = was_discarded
+
+-- whether a message of a fate is unacknowledged on the link
+abbrev pub is_sent_on : ℕ → Fate → Bool
+is_sent_on link (Unacked l) = l == link
+is_sent_on link _ = false
 
 -- THE MESSAGES
 
@@ -108,6 +113,10 @@ is_there test m = is_users m.kind && test m.fate
 abbrev pub is_queued : ℕ → Message → Bool
 is_queued stream m = is_of stream m.kind && is_unsent m.fate
 
+-- the octets of its body, if it's unacknowledged on the link
+abbrev pub octets_on : ℕ → Message → ℕ
+octets_on link m = if is_sent_on link m.fate then m.octets else 0
+
 -- no body is longer than a unit's, and a stream has four bits
 pub record IsFit (m : Message) : Type 0 where
   pub octets : m.octets ≤ 273
@@ -116,11 +125,12 @@ pub record IsFit (m : Message) : Type 0 where
 abbrev pub AreFit : List Message → Type 0
 AreFit messages = (number : ℕ) (m : Message) → slice_get messages number ≡ Some m → IsFit m
 
--- each count is the length of its filter, and every message is fit
+-- each count is the length of its filter, each link's octets are the sum, and every message is fit
 pub record IsTally (tally : Tally) (messages : List Message) : Type 0 where
   pub counts : (place : Fate) → slice_index tally.counts (place_of place) ≡ count_of (stands_at place) messages
   pub unsent : (stream : ℕ) → stream < 16 → slice_index tally.unsent stream
       ≡ unsent_of stream messages
+  pub octets : (link : ℕ) → link < 16 → slice_index tally.octets link ≡ sum_by (octets_on link) messages
   pub fit : AreFit messages
 
 -- new counts this message too
@@ -129,14 +139,17 @@ pub record IsMore (m : Message) (old new : Tally) : Type 0 where
       + one_if (is_there (stands_at place) m)
   pub unsent : (stream : ℕ) → stream < 16 → slice_index new.unsent stream
       ≡ slice_index old.unsent stream + one_if (is_queued stream m)
+  pub octets : (link : ℕ) → link < 16 → slice_index new.octets link ≡ slice_index old.octets link + octets_on link m
 
 -- the message is counted
 pub record IsAmong (m : Message) (tally : Tally) : Type 0 where
   pub counts : (place : Fate) → one_if (is_there (stands_at place) m) ≤ slice_index tally.counts (place_of place)
   pub unsent : (stream : ℕ) → stream < 16 → one_if (is_queued stream m)
       ≤ slice_index tally.unsent stream
+  pub octets : (link : ℕ) → link < 16 → octets_on link m ≤ slice_index tally.octets link
 
 -- far from the end of their range
 pub record AreFew (tally : Tally) : Type 0 where
   pub counts : (place : Fate) → slice_index tally.counts (place_of place) < 2 ^ 63
   pub unsent : (stream : ℕ) → stream < 16 → slice_index tally.unsent stream < 2 ^ 63
+  pub octets : (link : ℕ) → link < 16 → slice_index tally.octets link < 2 ^ 72

@@ -1,7 +1,7 @@
 -- Where every message of a set stands.
-use Rattle.std.specs.Prelude.{◌≡◌, ℕ, ◌+◌, ◌<◌, ◌≤◌, ◌==◌, Bool, true, false, List, [], ◌∷◌, ◌++◌, length, slice_index, Some}
+use Rattle.std.specs.Prelude.{◌≡◌, ℕ, ◌+◌, ◌<◌, ◌≤◌, ◌==◌, Bool, true, false, List, [], ◌∷◌, ◌++◌, length, Some}
 use Rattle.std.specs.Option.{option_map_or}
-use Rattle.set_queues.specs.Messages.{one_if, Message, AreFit, fate_at, octets_of, restood, octets_at}
+use Rattle.set_queues.specs.Messages.{one_if, Message, AreFit, fate_at, restood, octets_at}
 use Rattle.set_queues.specs.Buffers.{Fate, Unacked, Lists, Rooms, is_standing, same_fate, queue_at, with_queue}
 use Rattle.l2_window.specs.Window.{most_unacked}
 use Rattle.set_events.specs.Config.{most_links}
@@ -30,11 +30,6 @@ abbrev pub AreTied : Lists → List Message → Type 0
 AreTied q messages = (fate : Fate) → is_standing fate ≡ true → (number : ℕ) → occurs number
     (queue_at fate q) ≡ one_if (stands fate number messages)
 
--- the octets of the unacknowledged bodies of each link
-abbrev pub AreWeighed : List ℕ → Lists → List Message → Type 0
-AreWeighed octets q messages = (link : ℕ) → link < length q.links → slice_index octets link
-    ≡ octets_of (queue_at (Unacked link) q) messages
-
 -- all of these numbers were given out
 abbrev pub AreGiven : List ℕ → List Message → Type 0
 AreGiven numbers messages = (number : ℕ) → 0 < occurs number numbers → number < length messages
@@ -56,11 +51,6 @@ pub record AreSound (q : Lists) (messages : List Message) : Type 0 where
   pub narrow : AreNarrow q
   pub tied : AreTied q messages
   pub fit : AreFit messages
-
--- and the octets of the unacknowledged bodies are counted: what holds of all that is kept
-pub record AreKept (q : Lists) (messages : List Message) (octets : List ℕ) : Type 0 where
-  pub sound : AreSound q messages
-  pub weighed : AreWeighed octets q messages
 
 -- LAWS of where messages stand
 

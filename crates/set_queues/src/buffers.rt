@@ -1,6 +1,6 @@
 //! The queues in which messages stand: of each link those of its window and the held ones, the parked
 //! ones, and of each changeback code those that wait for its acknowledgement.
-ghost use Rattle.set_queues.specs.Buffers.{AreEmpty, IsKnown, CanTake, KeepsRoom, TakesRoom, queue_at, with_queue};
+ghost use Rattle.set_queues.specs.Buffers.{empty_lists, IsKnown, CanTake, KeepsRoom, TakesRoom, queue_at, with_queue};
 ghost use Rattle.std.specs.Prelude.{◌≡◌, ◌<◌, ◌++◌, [], ◌∷◌, IfOk, length, drop, slice_get};
 
 use l2_window::{Queue, Window};
@@ -37,7 +37,7 @@ impl Model for Buffers {
 impl Buffers {
     /// The queues of so many links, all empty.
     pub(crate) fn new(alloc: Global, links: u8) -> Result<Buffers, AllocError>
-        ensures { IfOk result (λ buffers. AreEmpty links 256 buffers.lists) }
+        ensures { IfOk result (λ buffers. buffers.lists ≡ empty_lists links 256) }
     {
         let mut made = Vec::new(alloc);
         for _ in 0..links {

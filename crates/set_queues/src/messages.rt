@@ -1,6 +1,6 @@
 //! Where each message stands, with the counts of all of them, and what is done with the first of a queue.
 ghost use Rattle.std.specs.Prelude.{◌≡◌, ◌-◌, ◌*◌, ◌≤◌, ◌++◌, false, length, take, vec_len, vec_capacity};
-ghost use Rattle.set_queues.specs.Messages.{octets_of, restood, IsTally, restood_one, octets_at};
+ghost use Rattle.set_queues.specs.Messages.{restood, IsTally, restood_one};
 ghost use Rattle.set_queues.specs.Buffers.{IsKnown, CanTake, TakesRoom, queue_at, with_queue, same_fate};
 
 use super::buffers::Buffers;
@@ -16,31 +16,29 @@ pub(crate) struct Messages {
 }
 
 impl Messages {
-    /// The message of this number, if there is one, stands there from now on; the octets of its body.
+    /// The message of this number, if there is one, stands there from now on.
     #[tactic(auto, using(crate::proofs::Tallies::restands))]
-    pub(crate) fn restand(&mut self, number: u64, fate: Fate) -> u16
+    pub(crate) fn restand(&mut self, number: u64, fate: Fate)
         requires counted { IsTally self.old.tally self.old.all.items }
         ensures counted { IsTally self.new.tally self.new.all.items }
         ensures messages { self.new.all.items ≡ restood_one number fate self.old.all.items }
-        ensures octets { result ≡ octets_at number self.old.all.items }
         ensures room { vec_capacity self.new.all - vec_len self.new.all
             ≡ vec_capacity self.old.all - vec_len self.old.all }
     {
         let place = number as usize;
         if place >= self.all.len() {
-            return 0;
+            return;
         }
         let was = self.all[place];
         let now = Message { fate, ..was };
         leave(&mut self.tally, was);
         enter(&mut self.tally, now);
         self.all[place] = now;
-        was.octets
     }
 }
 
 /// The first `count` that stand in one queue have another fate from now on, and stand last there too, in
-/// their order, if it isn't final; the octets of their bodies.
+/// their order, if it isn't final.
 #[tactic(auto, using(crate::proofs::Standing::passing))]
 pub(crate) fn pass(
     buffers: &mut Buffers,
@@ -48,7 +46,7 @@ pub(crate) fn pass(
     from: Fate,
     count: usize,
     to: Fate,
-) -> u128
+)
     requires known { IsKnown from buffers.old.lists }
     requires other { IsKnown to buffers.old.lists }
     requires counted { IsTally messages.old.tally messages.old.all.items }
@@ -60,21 +58,17 @@ pub(crate) fn pass(
     ensures counted { IsTally messages.new.tally messages.new.all.items }
     ensures messages { messages.new.all.items ≡ restood (take count
         (queue_at from buffers.old.lists)) to messages.old.all.items }
-    ensures octets { result ≡ octets_of (take count
-        (queue_at from buffers.old.lists)) messages.old.all.items }
     ensures rooms { TakesRoom to count buffers.old.rooms buffers.new.rooms }
     ensures room { vec_capacity messages.new.all - vec_len messages.new.all
         ≡ vec_capacity messages.old.all - vec_len messages.old.all }
 {
-    let mut octets = 0;
     for place in 0..count {
         match buffers.at(from, place) {
             Some(number) => {
-                octets += u128::from(messages.restand(number, to));
+                messages.restand(number, to);
                 buffers.push(to, number);
             }
             None => unreachable!(),
         }
     }
-    octets
 }

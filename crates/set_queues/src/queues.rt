@@ -2,7 +2,7 @@
 ghost use Rattle.std.specs.Prelude.{◌≡◌, ◌+◌, ◌<◌, ℕ, slice_index, if◌then◌else◌, IfSome, ◌-◌, vec_len, vec_capacity, ◌≢◌, ◌↔◌, ◌%◌, ◌≤◌, ◌^◌, ◌++◌, [], ◌∷◌, Some, true, false, IsOk, IfOk, OnOk, OnErr, length, replicate, take, slice_get};
 ghost use Rattle.set_queues.specs.Buffers.{IsQueued, same_fate, IsKnown, CanTake, KeepsRoom, TakesRoom, HaveRoom, is_standing, queue_at, with_queue, last_at, with_last, room_at};
 ghost use Rattle.set_queues.specs.Settling.{fate_on, on, settled};
-ghost use Rattle.set_queues.specs.Queues.{QueuesState, AreKept, AreSound, passed};
+ghost use Rattle.set_queues.specs.Queues.{QueuesState, AreSound, passed};
 ghost use Rattle.set_queues.specs.Messages.{IsTally, restood, fate_at, octets_of, counts_of, unsent_of, IsFit};
 ghost use Rattle.std.specs.Result.{OkIff};
 ghost use Rattle.set_queues.specs.Backs.{IsOldestOf, back_count, passed_first};
@@ -25,8 +25,6 @@ use std::marker::Model;
 pub struct Queues {
     buffers: Buffers,
     messages: Messages,
-    /// The octets of the unacknowledged bodies of each link.
-    octets: [u32; 16],
 }
 
 impl Model for Queues {
@@ -39,7 +37,7 @@ impl Model for Queues {
       room = vec_capacity q.messages.all - vec_len q.messages.all;
     } };
 
-    ghost invariant = { λ q. (AreKept q.buffers.lists q.messages.all.items q.octets)
+    ghost invariant = { λ q. (AreSound q.buffers.lists q.messages.all.items)
         × (IsTally q.messages.tally q.messages.all.items) };
 }
 
@@ -61,9 +59,9 @@ impl Queues {
                 tally: Tally {
                     counts: [0; 7],
                     unsent: [0; 16],
+                    octets: [0; 16],
                 },
             },
-            octets: [0; 16],
         })
     }
 
@@ -136,7 +134,7 @@ impl Queues {
         ensures { result ≡ octets_of (queue_at
             (Fate.Unacked link) self.now.lists) self.now.messages }
     {
-        self.octets[usize::from(link)]
+        self.messages.tally.octets[usize::from(link)] as u32
     }
 
     /// The window of the link.
@@ -289,7 +287,7 @@ impl Queues {
     ///
     /// Conditions: that queue is one in which messages can wait; there is room in it, and for one
     /// message more.
-    #[tactic(auto, using(crate::proofs::Tallies::count_few))]
+    #[tactic(auto, using(crate::proofs::Tallies::few))]
     pub fn add(&mut self, message: Message) -> u64
         requires fit { IsFit message }
         requires known { IsKnown message.fate self.old.lists }
@@ -336,8 +334,7 @@ impl Queues {
     {
         let buffers = &mut self.buffers;
         let (number, fsn) = buffers.links[usize::from(link)].window.send()?;
-        let octets = self.messages.restand(number, Fate::Unacked { link });
-        self.octets[usize::from(link)] += u32::from(octets);
+        self.messages.restand(number, Fate::Unacked { link });
         Ok((number, fsn))
     }
 
@@ -365,8 +362,7 @@ impl Queues {
         };
         let (from, to) = (Fate::Unacked { link }, Fate::Acked { link });
         let moved = usize::from(count);
-        let octets = pass(&mut self.buffers, &mut self.messages, from, moved, to);
-        lighten(&mut self.octets, from, octets);
+        pass(&mut self.buffers, &mut self.messages, from, moved, to);
         let buffers = &mut self.buffers;
         match buffers.links[usize::from(link)].window.ack(fsn) {
             Ok(_) => Ok(count),
@@ -447,9 +443,8 @@ impl Queues {
         ensures room { self.new.room ≡ self.old.room }
     {
         let count = self.count_at(from);
-        let octets = pass(&mut self.buffers, &mut self.messages, from, count, to);
+        pass(&mut self.buffers, &mut self.messages, from, count, to);
         self.buffers.clear(from);
-        lighten(&mut self.octets, from, octets);
     }
 
     /// The link settles (Q.704 5.5): all that stand on it wait for the target from now on, behind what
@@ -490,19 +485,6 @@ impl Queues {
     {
         let buffers = &mut self.buffers;
         buffers.links[usize::from(link)].window.reset();
-    }
-}
-
-/// So many octets leave a queue: no longer are they unacknowledged, if it's one of sent messages.
-fn lighten(octets: &mut [u32; 16], from: Fate, by: u128)
-    requires known { (link : ℕ) → from ≡ Fate.Unacked link → link < 16 }
-    requires counted { (link : ℕ) → from ≡ Fate.Unacked link → by ≤ slice_index octets.old link }
-    ensures { (link : ℕ) → link < 16 → slice_index octets.new link + (if same_fate from
-        (Fate.Unacked link) then by else 0) ≡ slice_index octets.old link }
-{
-    if let Fate::Unacked { link } = from {
-        let counted = octets[usize::from(link)];
-        octets[usize::from(link)] = counted - by as u32;
     }
 }
 

@@ -1,4 +1,5 @@
-//! How many of the users' messages stand in each place, and how many of each stream aren't sent yet.
+//! How many of the users' messages stand in each place, how many of each stream aren't sent yet, and the octets
+//! of each link's unacknowledged bodies.
 ghost use Rattle.std.specs.Prelude.{◌≡◌, true};
 ghost use Rattle.set_queues.specs.Messages.{is_kind, place_of, is_unsent, IsAmong, IsMore, AreFew};
 
@@ -12,6 +13,8 @@ pub(crate) struct Tally {
     pub(crate) counts: [u64; 7],
     /// Of each stream's, how many aren't sent yet.
     pub(crate) unsent: [u64; 16],
+    /// Of each link, the octets of the bodies that are sent and not acknowledged.
+    pub(crate) octets: [u128; 16],
 }
 
 /// One more message.
@@ -26,6 +29,9 @@ pub(crate) fn enter(tally: &mut Tally, message: Message)
             tally.unsent[usize::from(stream)] += 1;
         }
     }
+    if let Fate::Unacked { link: link @ 0..16 } = message.fate {
+        tally.octets[usize::from(link)] += u128::from(message.octets);
+    }
 }
 
 /// One message fewer.
@@ -39,6 +45,9 @@ pub(crate) fn leave(tally: &mut Tally, message: Message)
         if counts_as_unsent(message.fate) {
             tally.unsent[usize::from(stream)] -= 1;
         }
+    }
+    if let Fate::Unacked { link: link @ 0..16 } = message.fate {
+        tally.octets[usize::from(link)] -= u128::from(message.octets);
     }
 }
 

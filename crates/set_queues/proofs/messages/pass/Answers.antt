@@ -1,7 +1,6 @@
 use Rattle.std.proofs.Common.{arith, ◌≡◌, ◌∙◌, ap, sym, List, ℕ, Some, slice_get}
 use Rattle.set_queues.specs.Buffers.{queue_at}
 use Rattle.set_queues.proofs.Standing.{queue_away, queue_next, restood_next}
-use Rattle.set_queues.proofs.Tallies.{octets_more, octets_kept}
 use Rattle.set_queues.proofs.messages.pass.Goals as goal
 
 pub loop-place-preserved : goal.loop-place-preserved
@@ -11,8 +10,6 @@ loop-place-preserved c =
     record {
       lists = queue_next c.args.to _ _ _ _ _ _ _ c.requires.other c.loop-place.invariant.lists got c.push.ensures.lists;
       messages = restood_next (queue_at c.args.from c.args.buffers.now.lists) c.loop-place.place c.in-Some.number c.args.to c.args.messages.now.all.items _ _ c.loop-place.invariant.messages got c.restand.ensures.messages;
-      octets = grind (arith, octets_more, octets_kept);
-      fits = omega arith;
       rooms = λ fate. let before = c.loop-place.invariant.rooms fate in let one = c.push.ensures.room fate in grind arith;
       counted = c.restand.ensures.counted;
       room = c.restand.ensures.room ∙ c.loop-place.invariant.room;

@@ -1,5 +1,5 @@
-use Rattle.std.proofs.Common.{◌≡◌, ◌-◌, ◌≤◌, ◌*◌, ◌++◌, take, vec_len, vec_capacity}
-use Rattle.set_queues.specs.Messages.{restood, octets_of, IsTally}
+use Rattle.std.proofs.Common.{◌≡◌, ◌-◌, ◌++◌, take, vec_len, vec_capacity}
+use Rattle.set_queues.specs.Messages.{restood, IsTally}
 use Rattle.set_queues.specs.Buffers.{queue_at, with_queue, TakesRoom}
 use Rattle.set_queues.proofs.messages.pass.Given as goal
 
@@ -7,8 +7,6 @@ abbrev pub invariant-loop-place : goal.invariant-loop-place
 invariant-loop-place l = record {
   lists : l.buffers.lists ≡ with_queue l.to (queue_at l.to l.initial.buffers.lists ++ take l.place (queue_at l.from l.initial.buffers.lists)) l.initial.buffers.lists;
   messages : l.messages.all.items ≡ restood (take l.place (queue_at l.from l.initial.buffers.lists)) l.to l.initial.messages.all.items;
-  octets : l.octets ≡ octets_of (take l.place (queue_at l.from l.initial.buffers.lists)) l.initial.messages.all.items;
-  fits : l.octets ≤ 65535 * l.place;
   rooms : TakesRoom l.to l.place l.initial.buffers.rooms l.buffers.rooms;
   counted : IsTally l.messages.tally l.messages.all.items;
   room : vec_capacity l.messages.all - vec_len l.messages.all ≡ vec_capacity l.initial.messages.all - vec_len l.initial.messages.all;

@@ -1,18 +1,15 @@
 use Rattle.set_queues.proofs.Standing.{known_with}
-use Rattle.set_queues.proofs.Soundness.{can_leave, kept_passed, moved_whole}
+use Rattle.set_queues.proofs.Soundness.{sound_passed, moved_whole}
 use Rattle.set_queues.proofs.queues.Queues.pass_all.Goals as goal
 
 pub clear-requires : goal.clear-requires
-clear-requires c = record { known = known_with c.args.from c.args.to _ _ _ c.pass-octets.ensures.lists (rw (← c.self.view_is) at c.requires.known) }
+clear-requires c = record { known = known_with c.args.from c.args.to _ _ _ c.pass.ensures.lists (rw (← c.self.view_is) at c.requires.known) }
 
 pub invariant_of-self : goal.invariant_of-self
 invariant_of-self c = (
-  rw (moved_whole _ c.args.from c.args.to _ _ _ (rw (← c.self.view_is) at c.count_at-count.ensures) c.pass-octets.ensures.lists c.clear.ensures.lists, c.pass-octets.ensures.messages) (
-      kept_passed c.count_at-count.result c.args.from c.args.to _ _ _ _ c.self.invariant.0
+  rw (moved_whole _ c.args.from c.args.to _ _ _ (rw (← c.self.view_is) at c.count_at-count.ensures) c.pass.ensures.lists c.clear.ensures.lists, c.pass.ensures.messages) (
+      sound_passed c.count_at-count.result c.args.from c.args.to _ _ c.self.invariant.0
       (record { standing = c.requires.standing; known = rw (← c.self.view_is) at c.requires.known; other = rw (← c.self.view_is) at c.requires.other; apart = c.requires.apart })
-      (λ s. (c.requires.room s).0) (rw c.pass-octets.ensures.octets at c.lighten.ensures)),
-  c.pass-octets.ensures.counted,
+      (λ s. (c.requires.room s).0)),
+  c.pass.ensures.counted,
 )
-
-pub lighten-requires-clause-counted : goal.lighten-requires-clause-counted
-lighten-requires-clause-counted c = rw c.pass-octets.ensures.octets (λ l. can_leave _ c.args.from _ _ _ l c.self.invariant.0 (rw (← c.self.view_is) at c.requires.known))

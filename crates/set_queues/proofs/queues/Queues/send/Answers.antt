@@ -1,7 +1,6 @@
 use Rattle.std.proofs.Common.{arith, ◌<◌, length}
-use Rattle.set_queues.proofs.Tallies.{octets_few}
 use Rattle.set_queues.proofs.Linked.{of_link}
-use Rattle.set_queues.proofs.Soundness.{kept_sent}
+use Rattle.set_queues.proofs.Soundness.{sound_sent}
 use Rattle.set_queues.proofs.queues.Queues.send.Goals as goal
 
 pub invariant_of-self-2 : goal.invariant_of-self-2
@@ -9,10 +8,7 @@ invariant_of-self-2 c =
     let sent = c.in_ok-number.ensures.sent in
     let full = c.in_ok-number.ensures.full in
     let known : c.args.link < length c.self.inside.buffers.lists.links = rw (← c.self.view_is) at c.requires in (
-      rw (c.restand-octets.ensures.messages, c.from-3.ensures, c.from-2.ensures, c.restand-octets.ensures.octets) (
-          kept_sent _ _ _ _ c.args.link c.in_ok-number.number (omega (arith, c.self.invariant.0.sound.few)) c.self.invariant.0 known (grind (arith, of_link)) (grind (arith, of_link)) (grind (arith, of_link))),
-      c.restand-octets.ensures.counted,
+      rw c.restand.ensures.messages (
+          sound_sent _ _ _ c.args.link c.in_ok-number.number c.self.invariant.0 known (grind (arith, of_link)) (grind (arith, of_link)) (grind (arith, of_link))),
+      c.restand.ensures.counted,
     )
-
-pub overflow_add-self : goal.overflow_add-self
-overflow_add-self c = let weighed = c.self.invariant.0.weighed c.args.link (rw (← c.self.view_is) at c.requires) in grind (arith, octets_few)
