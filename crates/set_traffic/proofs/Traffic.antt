@@ -10,13 +10,13 @@ use Rattle.set_model.specs.Rows.{Waiting, Unacked, Row, Fate, is_unacked, unack,
 use Rattle.l3_orders.specs.Grammar.{order_of}
 use Rattle.set_model.specs.Control.{Header, Control, head_of, part_of}
 use Rattle.set_model.specs.State.{LinkState, State, window_of, target}
-use Rattle.set_model.specs.Step.{SignalUnit, Msu, Sent, next as next_of, sends, chosen, unit_of, in_service, Took, Ignored, Message as MessageTaken, NothingTaken, takes, brought as accepted_body}
+use Rattle.set_model.specs.Step.{choice_in, SignalUnit, Msu, Sent, next as next_of, sends, chosen, unit_of, in_service, Took, Ignored, Message as MessageTaken, NothingTaken, takes, brought as accepted_body}
 use Rattle.set_moves.specs.declared.link.Link.{Link}
 use Rattle.set_moves.specs.declared.parts.Parts.{Parts}
 use Rattle.set_moves.specs.Agreement.{Holds, StandsFor, Message as KeptMessage, Kept, rows_at}
 use Rattle.set_moves.specs.Parts.{Up, kept_of, Gives, Obeys}
 use Rattle.set_moves.proofs.Links.{IsHere, served, stands_for, same_ups, same_target, whole_of}
-use Rattle.set_traffic.specs.Traffic.{ReachesTo, KeepsSpace, Brought, Nothing, Message, OrderBrought, Unread, brought_by, HasSpaceFor, choice_in}
+use Rattle.set_traffic.specs.Traffic.{ReachesTo, KeepsSpace, Brought, Nothing, Message, OrderBrought, Unread, brought_by, HasSpaceFor}
 use Rattle.set_queues.specs.Messages.{octets_at, octets_of}
 use Rattle.set_model.proofs.Rows.{Found, found_by_number, row_in_filter}
 use Rattle.set_moves.proofs.RowsAt.{is_there, rows_as}

@@ -3,7 +3,7 @@ use Rattle.std.specs.Prelude.{ℕ, ◌<◌, length, ◌≡◌, ◌+◌, ◌==◌
 use Rattle.l2_window.specs.declared.control.Choice.{Choice}
 use Rattle.l2_window.specs.declared.control.Choice.TheVariants.{Again, First, Fill}
 use Rattle.set_queues.specs.Buffers.{Lists, queue_at, KeepsRoom}
-use Rattle.set_model.specs.Control.{choice_of, control_after}
+use Rattle.set_model.specs.Control.{control_after}
 use Rattle.set_model.specs.Rows.{Waiting, Unacked, octets_in, unack, Acked, Back, is_unacked, service_indicator, turned}
 use Rattle.set_model.specs.State.{LinkState, State, window_of, with_link}
 use Rattle.l2_window.specs.Window.{most_unacked}
@@ -19,10 +19,6 @@ use Rattle.set_queues.specs.Settling.{on}
 use Rattle.set_model.specs.Step.{SignalUnit, Msu}
 use Rattle.set_moves.specs.Agreement.{Kept, StandsFor}
 use Rattle.set_moves.specs.declared.parts.Parts.{Parts}
-
--- what the link's control chooses
-abbrev pub choice_in : ℕ → LinkState → State → Choice
-choice_in number link s = choice_of (octets_in (unack number s.rows)) link.control (window_of number link s.rows)
 
 -- the link's control goes on as that is sent
 abbrev pub goes_on : ℕ → Choice → LinkState → State → State

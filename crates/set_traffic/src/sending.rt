@@ -5,10 +5,10 @@ ghost use Rattle.set_queues.specs.Buffers.{IsKnown, is_standing, queue_at};
 ghost use Rattle.set_model.specs.Rows.{IsInOrder, is_waiting, turned};
 ghost use Rattle.set_model.specs.Control.{head_of};
 ghost use Rattle.set_model.specs.State.{State, LinkState, window_of};
-ghost use Rattle.set_model.specs.Step.{next, in_service};
+ghost use Rattle.set_model.specs.Step.{choice_in, next, in_service};
 ghost use Rattle.set_moves.specs.Agreement.{Holds, StandsFor, rows_at};
 ghost use Rattle.set_moves.specs.Parts.{Answers, OfStates, BecomesAt, kept_of};
-ghost use Rattle.set_traffic.specs.Traffic.{IsThere, choice_in, goes_on};
+ghost use Rattle.set_traffic.specs.Traffic.{IsThere, goes_on};
 
 use arrayvec::ArrayVec;
 use l2_units::{Header, LONGEST_BODY, Unit, body_of};
