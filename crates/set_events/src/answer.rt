@@ -1,6 +1,7 @@
 //! What a set answers.
 ghost use Rattle.std.specs.Prelude.{◌≡◌, ◌↔◌, IsTrue};
 ghost use Rattle.set_events.specs.Numbers.{refusal_number, cause_number};
+ghost use Rattle.set_events.specs.declared.answer.Answer.TheVariants.{Refused};
 
 use arrayvec::ArrayVec;
 use l2_signals::ControlFault;
@@ -144,6 +145,14 @@ pub enum Answer {
     Done,
     /// Refused.
     Refused { why: Refusal },
+}
+
+impl From<Refusal> for Answer {
+    ghost from_gives = { λ why answer. answer ≡ Refused why };
+
+    fn from(why: Refusal) -> Answer {
+        Answer::Refused { why }
+    }
 }
 
 impl Answer {

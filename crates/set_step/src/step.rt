@@ -34,18 +34,14 @@ pub(crate) fn carry_out(
         Event::Take => {
             *answer = match parts.inbox.pop_front() {
                 Some(heard) => Answer::Taken { body: heard.body() },
-                None => Answer::Refused {
-                    why: Refusal::Nothing,
-                },
+                None => Refusal::Nothing.into(),
             };
             Ok(())
         }
         Event::Find { number } => {
             *answer = match parts.queues.fate_of(*number) {
                 Some(fate) => Answer::Found { fate },
-                None => Answer::Refused {
-                    why: Refusal::UnknownNumber,
-                },
+                None => Refusal::UnknownNumber.into(),
             };
             Ok(())
         }
@@ -73,17 +69,13 @@ fn give_up(parts: &mut Parts, number: u8, answer: &mut Answer) -> Result<(), All
     ensures err { OnErr result (kept_of parts.new ≡ kept_of parts.old) }
 {
     *answer = match phase_of(parts, number) {
-        None => Answer::Refused {
-            why: Refusal::NoSuchLink,
-        },
+        None => Refusal::NoSuchLink.into(),
         Some(Phase::Down) => {
             make_room_beside(parts, number, 0)?;
             settle(parts, number, Reached::Unanswered);
             Answer::Done
         }
-        Some(Phase::Up | Phase::Settled) => Answer::Refused {
-            why: Refusal::Nothing,
-        },
+        Some(Phase::Up | Phase::Settled) => Refusal::Nothing.into(),
     };
     Ok(())
 }
@@ -103,7 +95,7 @@ fn take_down(
     ensures err { OnErr result (kept_of parts.new ≡ kept_of parts.old) }
 {
     if let Some(why) = unserved(parts, number) {
-        *answer = Answer::Refused { why };
+        *answer = why.into();
         return Ok(());
     }
     let order = if blind {
@@ -133,15 +125,9 @@ fn bring_up(parts: &mut Parts, number: u8, answer: &mut Answer) -> Result<(), Al
     ensures err { OnErr result (kept_of parts.new ≡ kept_of parts.old) }
 {
     *answer = match phase_of(parts, number) {
-        None => Answer::Refused {
-            why: Refusal::NoSuchLink,
-        },
-        Some(Phase::Up) => Answer::Refused {
-            why: Refusal::NotDown,
-        },
-        Some(Phase::Down) => Answer::Refused {
-            why: Refusal::Unsettled,
-        },
+        None => Refusal::NoSuchLink.into(),
+        Some(Phase::Up) => Refusal::NotDown.into(),
+        Some(Phase::Down) => Refusal::Unsettled.into(),
         Some(Phase::Settled) => {
             make_room_parked(parts, number)?;
             parts.queues.reset(number);

@@ -37,13 +37,11 @@ pub fn hear(
     ensures none { is_msu unit.now ≡ false → IsOk result }
 {
     if let Some(why) = unserved(parts, number) {
-        *answer = Answer::Refused { why };
+        *answer = why.into();
         return Ok(());
     }
     if let Unit::Lssu { .. } = unit {
-        *answer = Answer::Refused {
-            why: Refusal::Nothing,
-        };
+        *answer = Refusal::Nothing.into();
         return Ok(());
     }
     let brought = make_space(parts, unit)?;
@@ -166,10 +164,7 @@ fn acknowledge(queues: &mut Queues, number: u8, bsn: u8, acked: u8)
     if acked == 0 {
         return;
     }
-    match queues.acknowledge(number, bsn) {
-        Ok(_) => (),
-        Err(_) => unreachable!(),
-    }
+    queues.acknowledge(number, bsn).unwrap();
 }
 
 /// Whether the unit is an MSU.

@@ -28,7 +28,7 @@ pub fn offer(parts: &mut Parts, body: &Body, answer: &mut Answer) -> Result<(), 
     ensures err { OnErr result (kept_of parts.new ≡ kept_of parts.old) }
 {
     if let Some(why) = refusal_of(&parts.queues, body) {
-        *answer = Answer::Refused { why };
+        *answer = why.into();
         return Ok(());
     }
     let octets = body.octets();

@@ -22,7 +22,7 @@ pub fn send_next(parts: &mut Parts, number: u8, answer: &mut Answer)
     ensures { Answers parts.old parts.new answer.new (λ s. in_service number s (next number s)) }
 {
     if let Some(why) = unserved(parts, number) {
-        *answer = Answer::Refused { why };
+        *answer = why.into();
         return;
     }
     let (choice, head) = go_on(parts, number);
@@ -34,7 +34,7 @@ pub fn send_next(parts: &mut Parts, number: u8, answer: &mut Answer)
         }
         Choice::First => {
             let body = body_at(parts, Fate::Waiting { link: number }, 0);
-            send_first(parts, number);
+            parts.queues.send(number).unwrap();
             let unit = Unit::Msu { head, body };
             Answer::Sent { unit }
         }
@@ -73,23 +73,6 @@ fn body_at(parts: &Parts, fate: Fate, place: usize) -> ArrayVec<u8, LONGEST_BODY
     ensures { (s : State) → StandsFor (kept_of parts.now) s
         → option_map (λ row. row.body) (slice_get (rows_at fate s.rows) place) ≡ Some result.items }
 {
-    match parts.queues.number_at(fate, place) {
-        Some(message) => body_of(parts.bodies.body(message)),
-        None => unreachable!(),
-    }
-}
-
-/// The first message that waits for the link is sent for the first time.
-fn send_first(parts: &mut Parts, number: u8)
-    requires known { number < length parts.old.queues.lists.links }
-    requires some { 0 < length (queue_at (Fate.Waiting number) parts.old.queues.lists) }
-    requires few { length (queue_at (Fate.Unacked number) parts.old.queues.lists) < 127 }
-    ensures { (s : State) → StandsFor (kept_of parts.old) s → IsInOrder number s.rows
-        → StandsFor (kept_of parts.new)
-        (record s { rows = turned (is_waiting number) (Fate.Unacked number) 1 s.rows }) }
-{
-    match parts.queues.send(number) {
-        Ok(_) => (),
-        Err(_) => unreachable!(),
-    }
+    let message = parts.queues.number_at(fate, place).unwrap();
+    body_of(parts.bodies.body(message))
 }

@@ -4,7 +4,7 @@ use Rattle.l2_units.specs.Grammar.{head_of as header_in}
 use Rattle.set_model.specs.Control.{Header, HeardPart, part_of}
 use Rattle.set_model.specs.Sound.{IsSound}
 use Rattle.set_model.specs.State.{LinkState, State, window_of}
-use Rattle.set_model.specs.Step.{SignalUnit, Took, Lssu, HeardBack, Refused, Nothing, heard as heard_of, controls, after_control, report_of, is_msu}
+use Rattle.set_model.specs.Step.{SignalUnit, Took, Lssu, HeardBack, heard as heard_of, controls, after_control, report_of, is_msu}
 use Rattle.set_moves.specs.Agreement.{StandsFor, Agrees}
 use Rattle.set_moves.specs.Parts.{Up, kept_of}
 use Rattle.set_moves.proofs.Links.{whole_of, IsHere, is_in, served}
@@ -64,5 +64,5 @@ pub returns-in-Lssu-clause-ok : goal.returns-in-Lssu-clause-ok
 returns-in-Lssu-clause-ok c = λ s a.
     let n = c.args.number in
     let i = is_in c.args.parts.now s n Up a c.in_default.ensures.here in
-    served s n (heard_of c.args.unit.now n s) (Refused Nothing) c.args.parts.now i
-    (rw c.in-Lssu.is (record { answer_is = refl; stands = a.stands }))
+    served s n (heard_of c.args.unit.now n s) _ c.args.parts.now i
+    (rw (c.in-Lssu.is, c.into-in-Lssu.ensures) (record { answer_is = refl; stands = a.stands }))

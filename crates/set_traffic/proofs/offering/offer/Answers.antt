@@ -1,4 +1,4 @@
-use Rattle.std.proofs.Common.{refl, arith, ◌≡◌, ◌∙◌, ap, List, ℕ}
+use Rattle.std.proofs.Common.{arith, ◌≡◌, ◌∙◌, ap, List, ℕ}
 use Rattle.set_queues.specs.Messages.{unsent_of}
 use Rattle.set_route.specs.Routing.{place_of}
 use Rattle.set_model.specs.Rows.{stream_of}
@@ -17,7 +17,7 @@ same_refusal : (k : Kept) (s : State) (body : List ℕ) → StandsFor k s → re
 same_refusal k s body f = ap (λ n. refusal_by n body) (unsent_is (stream_of body) k.lists k.messages s.rows f.stands)
 
 pub returns-in-Some-clause-ok : goal.returns-in-Some-clause-ok
-returns-in-Some-clause-ok c = λ s a. rw (← same_refusal (kept_of c.args.parts.now) s c.args.body.now a.stands, ← c.refusal_of.ensures, c.in-Some.is) (record { answer_is = refl; stands = a.stands })
+returns-in-Some-clause-ok c = λ s a. rw (← same_refusal (kept_of c.args.parts.now) s c.args.body.now a.stands, ← c.refusal_of.ensures, c.in-Some.is) (record { answer_is = c.into.ensures; stands = a.stands })
 
 pub returns-clause-ok : goal.returns-clause-ok
 returns-clause-ok c = λ s a.

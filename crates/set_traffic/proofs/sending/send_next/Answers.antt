@@ -1,4 +1,5 @@
-use Rattle.std.proofs.Common.{refl}
+use Rattle.std.proofs.Common.{refl, arith}
+use Rattle.set_moves.proofs.States.{becomes, sent_for}
 use Rattle.l2_window.specs.declared.control.Choice.TheVariants.{First}
 use Rattle.set_moves.specs.Parts.{Up, kept_of}
 use Rattle.set_moves.proofs.Links.{is_in}
@@ -19,9 +20,11 @@ returns-in-Again c = λ s a.
 pub returns-in-First : goal.returns-in-First
 returns-in-First c = λ s a.
     let i = is_in c.args.parts.now s c.args.number Up a c.in_default.ensures.here in
+    let sent = rw c.unwrap.ensures at c.send.ensures.sent in
     let stands = rw c.in-First.is at (c.go_on-choice.ensures.stands s i.link i.there a.stands) in
     given c.args.number s _ i c.go_on-choice.result.0 c.go_on-choice.result.1 _ (c.go_on-choice.ensures.chosen s i.link i.there a.stands) (c.go_on-choice.ensures.head s i.link i.there a.stands)
-    (rw c.in-First.is (with_body _ _ c.body_at-body-in-First.result (c.body_at-body-in-First.ensures _ stands))) (rw c.in-First.is (c.send_first.ensures (goes_on c.args.number First i.link s) stands (a.sound.links c.args.number i.link i.there).in_order))
+    (rw c.in-First.is (with_body _ _ c.body_at-body-in-First.result (c.body_at-body-in-First.ensures _ stands)))
+    (rw c.in-First.is (becomes (sent_for (kept_of c.go_on-choice.new.parts) (goes_on c.args.number First i.link s) c.args.number c.unwrap.result.0 stands (a.sound.links c.args.number i.link i.there).in_order c.go_on-choice.ensures.queue sent.first) (grind (arith, sent, rw c.unwrap.ensures at c.send.ensures.messages))))
 
 pub returns-in-Fill : goal.returns-in-Fill
 returns-in-Fill c = λ s a.
